@@ -1,0 +1,69 @@
+-- The attributes of a request: Envoy, "Attributes"; the target's parts by RFC 3986 section 3.
+use Rattle.std.specs.Prelude.{ℕ, ℤ, pos, Bool, ◌==◌, List, Option, Some, option_map, codes}
+use Rattle.std.specs.List.{before_first, after_first}
+use Rattle.attributes.specs.Headers.{Entry, entries_of}
+use Rattle.attributes.specs.Request.{RequestValue, header_of, protocol_of}
+use Rattle.attributes.specs.declared.attribute.AttrId.{AttrId}
+use Rattle.attributes.specs.declared.attribute.AttrValue.{AttrValue}
+use Rattle.attributes.specs.declared.attribute.AttrValue.TheVariants as values
+
+-- the value of an attribute: a text is its bytes, a map its entries by ascending name
+pub data AttrData : Type 0 where
+  text : List ℕ → AttrData
+  int : ℤ → AttrData
+  uint : ℕ → AttrData
+  bool : Bool → AttrData
+  pairs : List Entry → AttrData
+
+-- the value without where it lies in memory
+abbrev pub data_of : AttrValue → AttrData
+data_of (values.Text t) = text t.now
+data_of (values.Int n) = int n
+data_of (values.Uint n) = uint n
+data_of (values.Bool b) = bool b
+data_of (values.Pairs ps) = pairs (entries_of ps.now)
+
+-- the target up to its first `#` (35)
+abbrev pub without_fragment : List ℕ → List ℕ
+without_fragment target = before_first (λ b. b == 35) target
+
+-- of that, what stands before the first `?` (63), or all of it
+abbrev pub url_path_of : List ℕ → List ℕ
+url_path_of target = before_first (λ b. b == 63) (without_fragment target)
+
+-- and what stands after the first `?`, or nothing
+abbrev pub query_of : List ℕ → List ℕ
+query_of target = after_first (λ b. b == 63) (without_fragment target)
+
+-- a header as an attribute
+abbrev pub header_data : RequestValue → List ℕ → Option AttrData
+header_data r name = option_map text (header_of r name)
+
+-- a port as an attribute
+abbrev pub port_data : Option ℕ → Option AttrData
+port_data port = option_map (λ n. int (pos n)) port
+
+-- each attribute as a function of the request; none where it is absent
+abbrev pub attr_of : RequestValue → AttrId → Option AttrData
+attr_of r AttrId.RequestPath = Some (text r.target)
+attr_of r AttrId.RequestUrlPath = Some (text (url_path_of r.target))
+attr_of r AttrId.RequestHost = header_data r (codes ":authority")
+attr_of r AttrId.RequestScheme = Some (text r.facts.scheme)
+attr_of r AttrId.RequestMethod = Some (text r.method)
+attr_of r AttrId.RequestHeaders = Some (pairs r.headers)
+attr_of r AttrId.RequestReferer = header_data r (codes "referer")
+attr_of r AttrId.RequestUseragent = header_data r (codes "user-agent")
+attr_of r AttrId.RequestId = header_data r (codes "x-request-id")
+attr_of r AttrId.RequestProtocol = Some (text (protocol_of r.http11))
+attr_of r AttrId.RequestQuery = Some (text (query_of r.target))
+attr_of r AttrId.SourceAddress = option_map text r.facts.source_address
+attr_of r AttrId.SourcePort = port_data r.facts.source_port
+attr_of r AttrId.DestinationAddress = option_map text r.facts.destination_address
+attr_of r AttrId.DestinationPort = port_data r.facts.destination_port
+attr_of r AttrId.ConnectionMtls = option_map bool r.facts.mtls
+attr_of r AttrId.ConnectionId = option_map uint r.facts.connection_id
+attr_of r AttrId.ConnectionRequestedServerName = option_map text r.facts.requested_server_name
+attr_of r AttrId.ConnectionTlsVersion = option_map text r.facts.tls_version
+attr_of r AttrId.ConnectionSubjectPeerCertificate = option_map text r.facts.subject_peer_certificate
+attr_of r AttrId.ConnectionDnsSanPeerCertificate = option_map text r.facts.dns_san_peer_certificate
+attr_of r AttrId.ConnectionUriSanPeerCertificate = option_map text r.facts.uri_san_peer_certificate

@@ -1,0 +1,6 @@
+pub mod Conn
+pub mod Headers
+pub mod Request
+pub mod Limits
+pub mod Attributes
+pub mod Address

@@ -1,0 +1,87 @@
+-- The limits of a request, and what is within them.
+use Rattle.std.specs.Prelude.{◌≡◌, ℕ, ◌+◌, ◌<◌, ◌≤◌, List, Option, All, IfSome, length}
+use Rattle.attributes.specs.Conn.{Facts}
+use Rattle.attributes.specs.Headers.{Entry}
+use Rattle.attributes.specs.Request.{RequestValue, protocol_of}
+use Rattle.attributes.specs.declared.limits.Limit.{Limit}
+use Rattle.attributes.specs.declared.limits.LimitFault.{LimitFault}
+use Rattle.attributes.specs.declared.limits.LimitFault.TheVariants.{Zero, Above}
+
+-- six limits: of the number of fields, and of bytes of a name, a value, a method, a target and any other text
+pub record LimitsValue : Type 0 where
+  pub fields : ℕ
+  pub name : ℕ
+  pub value : ℕ
+  pub method : ℕ
+  pub target : ℕ
+  pub text : ℕ
+
+-- the greatest limits that may be declared
+abbrev pub largest : LimitsValue
+largest = record { fields = 64; name = 128; value = 4096; method = 32; target = 4096; text = 1024 }
+
+-- the six limits as they are declared, in the order of `Limits::new`
+abbrev pub declared : (fields name value method target text : ℕ) → LimitsValue
+declared fields name value method target text = record {
+  fields = fields;
+  name = name;
+  value = value;
+  method = method;
+  target = target;
+  text = text;
+}
+
+-- one of the six
+abbrev pub limit_of : Limit → LimitsValue → ℕ
+limit_of Limit.Fields l = l.fields
+limit_of Limit.Name l = l.name
+limit_of Limit.Value l = l.value
+limit_of Limit.Method l = l.method
+limit_of Limit.Target l = l.target
+limit_of Limit.Text l = l.text
+
+-- the fault is there: this limit is 0, or above the greatest
+abbrev pub HasLimitFault : LimitsValue → LimitFault → Type 0
+HasLimitFault l (Zero limit) = limit_of limit l ≡ 0
+HasLimitFault l (Above limit) = limit_of limit largest < limit_of limit l
+
+-- the fault of one limit that is declared as n
+abbrev pub IsFaultOf : Limit → ℕ → LimitFault → Type 0
+IsFaultOf limit n (Zero at) = (at ≡ limit) × (n ≡ 0)
+IsFaultOf limit n (Above at) = (at ≡ limit) × (limit_of limit largest < n)
+
+-- no limit is 0 or above the greatest
+abbrev pub AreLimits : LimitsValue → Type 0
+AreLimits l = (limit : Limit) → (1 ≤ limit_of limit l) × (limit_of limit l ≤ limit_of limit largest)
+
+-- the text, if it is there, has at most so many bytes
+abbrev pub IsWithin : ℕ → Option (List ℕ) → Type 0
+IsWithin most text = IfSome text (λ bytes. length bytes ≤ most)
+
+-- each text of the connection is within the limit of texts
+pub record FactsInLimits (f : Facts) (l : LimitsValue) : Type 0 where
+  pub source_address : IsWithin l.text f.source_address
+  pub destination_address : IsWithin l.text f.destination_address
+  pub requested_server_name : IsWithin l.text f.requested_server_name
+  pub tls_version : IsWithin l.text f.tls_version
+  pub subject_peer_certificate : IsWithin l.text f.subject_peer_certificate
+  pub dns_san_peer_certificate : IsWithin l.text f.dns_san_peer_certificate
+  pub uri_san_peer_certificate : IsWithin l.text f.uri_san_peer_certificate
+  pub scheme : length f.scheme ≤ l.text
+
+-- the header's name and value are within their limits
+abbrev pub EntryInLimits : LimitsValue → Entry → Type 0
+EntryInLimits l e = (length e.0 ≤ l.name) × (length e.1 ≤ l.value)
+
+-- the method, the target and the protocol's version are within their limits
+pub record HeadInLimits (r : RequestValue) (l : LimitsValue) : Type 0 where
+  pub method : length r.method ≤ l.method
+  pub target : length r.target ≤ l.target
+  pub protocol : length (protocol_of r.http11) ≤ l.text
+
+-- every count, name and text is within the limits; the three pseudo-headers count as fields
+pub record InLimits (r : RequestValue) (l : LimitsValue) : Type 0 where
+  pub count : r.lines + 3 ≤ l.fields
+  pub headers : All (EntryInLimits l) r.headers
+  pub head : HeadInLimits r l
+  pub facts : FactsInLimits r.facts l

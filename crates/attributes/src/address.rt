@@ -1,0 +1,120 @@
+//! IP addresses as numbers, their text, and ranges of them.
+ghost use Rattle.std.specs.Prelude.{◌≡◌, ◌+◌, ◌*◌, ◌-◌, ◌/◌, ◌^◌, ◌<◌, ◌≤◌, ◌↔◌, IsTrue, MatchOption};
+ghost use Rattle.std.specs.Option.{SomeIff};
+ghost use Rattle.std.specs.Net.Grammar.{IsDotted};
+ghost use Rattle.attributes.specs.Address.{AreColonHex, IsInRange, IsIpText, number_of, width_of};
+
+use std::marker::Model;
+use std::net::{Ipv4Addr, Ipv6Addr};
+
+/// An IP address as a number: the bytes of its standard form, most significant first.
+#[derive(Clone, Copy, Debug, PartialEq, Eq)]
+pub enum Ip {
+    V4(u32),
+    V6(u128),
+}
+
+/// The address that the text spells: four decimal numbers with dots between them, or eight groups of hexadecimal digits
+/// with colons between them, of which one `::` may stand for one zero group or more (RFC 4291 section 2.2). No address is
+/// written in both forms at once, and none has a zone.
+pub fn parse_ip(text: &str) -> Option<Ip>
+    ensures { MatchOption result ((ip : Ip) → ¬ (IsIpText text.now ip)) (IsIpText text.now) }
+{
+    let bytes = text.as_bytes();
+    if bytes.contains(&b'.') {
+        match Ipv4Addr::parse_ascii(bytes) {
+            Ok(address) => Some(Ip::V4(octets_number(address.octets()))),
+            Err(_) => None,
+        }
+    } else {
+        match Ipv6Addr::parse_ascii(bytes) {
+            Ok(address) => Some(Ip::V6(groups_number(address.segments()))),
+            Err(_) => None,
+        }
+    }
+}
+
+fn octets_number(octets: [u8; 4]) -> u32
+    ensures { result ≡ number_of 256 octets }
+{
+    let [a, b, c, d] = octets;
+    a as u32 * 0x100_0000 + b as u32 * 0x1_0000 + c as u32 * 0x100 + d as u32
+}
+
+fn groups_number(groups: [u16; 8]) -> u128
+    ensures { result ≡ number_of 65536 groups }
+{
+    let [a, b, c, d, e, f, g, h] = groups;
+    four_groups(a, b, c, d) as u128 * 0x1_0000_0000_0000_0000 + four_groups(e, f, g, h) as u128
+}
+
+fn four_groups(a: u16, b: u16, c: u16, d: u16) -> u64
+    ensures { result ≡ ((a * 65536 + b) * 65536 + c) * 65536 + d }
+{
+    a as u64 * 0x1_0000_0000_0000 + b as u64 * 0x1_0000_0000 + c as u64 * 0x1_0000 + d as u64
+}
+
+/// A range of addresses of one family: those that begin with the same bits as a given one (RFC 4632 section 3.1).
+#[derive(Clone, Copy, Debug)]
+pub struct Cidr {
+    address: Ip,
+    size: u32,
+}
+
+impl Model for Cidr {
+    ghost use Rattle.std.specs.Prelude.{◌≤◌};
+    ghost use Rattle.attributes.specs.Address.{Range, width_of};
+
+    ghost Value = { Range };
+
+    ghost view = { λ c. record { address = c.address; size = c.size } };
+
+    ghost invariant = { λ c. c.size ≤ width_of c.address };
+
+    ghost inverse = { λ r. record { address = r.address; size = r.size } };
+}
+
+impl Cidr {
+    /// The range of the addresses that have their first `size` bits in common with this one, or `None` where an address of
+    /// the family has fewer bits.
+    pub fn new(address: Ip, size: u32) -> Option<Cidr>
+        ensures { SomeIff result (size ≤ width_of address) (record { address = address; size = size }) }
+    {
+        let width = match address {
+            Ip::V4(_) => 32,
+            Ip::V6(_) => 128,
+        };
+        if size <= width {
+            Some(Cidr { address, size })
+        } else {
+            None
+        }
+    }
+
+    /// Whether the address is in the range; one of the other family is not.
+    pub fn contains(&self, ip: Ip) -> bool
+        ensures { IsTrue result ↔ IsInRange self.now ip }
+    {
+        match (self.address, ip) {
+            (Ip::V4(a), Ip::V4(b)) => share_v4(self.size, a, b),
+            (Ip::V6(a), Ip::V6(b)) => share_v6(self.size, a, b),
+            _ => false,
+        }
+    }
+}
+
+// Whether two addresses of 32 bits begin with the same `size` bits. A shift by all 32 is not one.
+fn share_v4(size: u32, a: u32, b: u32) -> bool
+    requires { size ≤ 32 }
+    ensures { IsTrue result ↔ (a / 2 ^ (32 - size) ≡ b / 2 ^ (32 - size)) }
+{
+    size == 0 || a >> (32 - size) == b >> (32 - size)
+}
+
+// Whether two addresses of 128 bits begin with the same `size` bits.
+fn share_v6(size: u32, a: u128, b: u128) -> bool
+    requires { size ≤ 128 }
+    ensures { IsTrue result ↔ (a / 2 ^ (128 - size) ≡ b / 2 ^ (128 - size)) }
+{
+    size == 0 || a >> (128 - size) == b >> (128 - size)
+}

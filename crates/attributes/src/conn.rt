@@ -1,0 +1,99 @@
+//! What is known of the connection of a request, handed in as it is.
+ghost use Rattle.std.specs.Prelude.{◌≡◌, IfOk};
+ghost use Rattle.std.specs.String.{string_bytes};
+ghost use Rattle.attributes.specs.Conn.{facts_of, only_scheme, text_of};
+
+use crate::address::Ip;
+use std::alloc::AllocError;
+
+/// The facts of a connection. Each may be absent but the scheme.
+#[derive(Debug, Drop)]
+pub struct Conn {
+    /// `source.address`
+    pub source_address: Option<String>,
+    /// `source.port`
+    pub source_port: Option<u16>,
+    /// `destination.address`
+    pub destination_address: Option<String>,
+    /// `destination.port`
+    pub destination_port: Option<u16>,
+    /// `connection.mtls`
+    pub mtls: Option<bool>,
+    /// `connection.id`
+    pub connection_id: Option<u64>,
+    /// `connection.requested_server_name`
+    pub requested_server_name: Option<String>,
+    /// `connection.tls_version`
+    pub tls_version: Option<String>,
+    /// `connection.subject_peer_certificate`
+    pub subject_peer_certificate: Option<String>,
+    /// `connection.dns_san_peer_certificate`
+    pub dns_san_peer_certificate: Option<String>,
+    /// `connection.uri_san_peer_certificate`
+    pub uri_san_peer_certificate: Option<String>,
+    /// The address that the connection comes from, for address ranges.
+    pub direct_remote_ip: Option<Ip>,
+    /// The address that the request comes from, for address ranges.
+    pub remote_ip: Option<Ip>,
+    /// The address that the connection goes to, for address ranges.
+    pub destination_ip: Option<Ip>,
+    /// `request.scheme`
+    pub scheme: String,
+}
+
+impl Conn {
+    /// A connection of which nothing but the scheme is known.
+    pub fn of_scheme(scheme: String) -> Conn
+        ensures { facts_of result ≡ only_scheme (string_bytes scheme) }
+    {
+        Conn {
+            source_address: None,
+            source_port: None,
+            destination_address: None,
+            destination_port: None,
+            mtls: None,
+            connection_id: None,
+            requested_server_name: None,
+            tls_version: None,
+            subject_peer_certificate: None,
+            dns_san_peer_certificate: None,
+            uri_san_peer_certificate: None,
+            direct_remote_ip: None,
+            remote_ip: None,
+            destination_ip: None,
+            scheme,
+        }
+    }
+
+    /// A second connection value with the same facts.
+    pub fn copy(&self) -> Result<Conn, AllocError>
+        ensures { IfOk result (λ copy. facts_of copy ≡ facts_of self.now) }
+    {
+        Ok(Conn {
+            source_address: copy_text(&self.source_address)?,
+            source_port: self.source_port,
+            destination_address: copy_text(&self.destination_address)?,
+            destination_port: self.destination_port,
+            mtls: self.mtls,
+            connection_id: self.connection_id,
+            requested_server_name: copy_text(&self.requested_server_name)?,
+            tls_version: copy_text(&self.tls_version)?,
+            subject_peer_certificate: copy_text(&self.subject_peer_certificate)?,
+            dns_san_peer_certificate: copy_text(&self.dns_san_peer_certificate)?,
+            uri_san_peer_certificate: copy_text(&self.uri_san_peer_certificate)?,
+            direct_remote_ip: self.direct_remote_ip,
+            remote_ip: self.remote_ip,
+            destination_ip: self.destination_ip,
+            scheme: self.scheme.clone()?,
+        })
+    }
+}
+
+fn copy_text(text: &Option<String>) -> Result<Option<String>, AllocError>
+    ensures { IfOk result (λ copy. text_of copy ≡ text_of text.now) }
+{
+    match text {
+        Some(text) => Ok(Some(text.clone()?)),
+        None => Ok(None),
+    }
+}

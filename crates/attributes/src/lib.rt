@@ -1,0 +1,16 @@
+//! Requests as values, with their limits, their attributes and the addresses of their connections.
+#![tactic(auto)]
+
+mod address;
+mod attribute;
+mod conn;
+mod headers;
+mod limits;
+mod request;
+
+pub use address::{Cidr, Ip, parse_ip};
+pub use attribute::{AttrId, AttrValue};
+pub use conn::Conn;
+pub use headers::Header;
+pub use limits::{Limit, LimitFault, Limits};
+pub use request::Request;

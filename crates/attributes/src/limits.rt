@@ -1,0 +1,259 @@
+//! The limits that a request has to keep, and the test whether it does.
+ghost use Rattle.std.specs.Prelude.{◌≡◌, ◌+◌, ◌≤◌, ◌↔◌, IfOk, IfErr, IsOk, IsTrue, OnOk, All};
+ghost use Rattle.attributes.specs.Conn.{facts_of, text_of};
+ghost use Rattle.attributes.specs.Headers.{entry_of};
+ghost use Rattle.attributes.specs.Limits.{AreLimits, FactsInLimits, HasLimitFault, HeadInLimits, InLimits, IsFaultOf, IsWithin, EntryInLimits, declared, largest, limit_of};
+
+use crate::conn::Conn;
+use crate::headers::Header;
+use crate::request::Request;
+use std::error::Error;
+use std::fmt;
+use std::marker::Model;
+
+const MOST_FIELDS: usize = 64;
+
+const MOST_NAME: usize = 128;
+
+const MOST_VALUE: usize = 4096;
+
+const MOST_METHOD: usize = 32;
+
+const MOST_TARGET: usize = 4096;
+
+const MOST_TEXT: usize = 1024;
+
+/// One of the six limits.
+#[derive(Clone, Copy, Debug, PartialEq, Eq)]
+pub enum Limit {
+    /// The number of field lines and the three pseudo-headers.
+    Fields,
+    /// The bytes of a field's name.
+    Name,
+    /// The bytes of a field's value, all its lines joined.
+    Value,
+    /// The bytes of the method.
+    Method,
+    /// The bytes of the target.
+    Target,
+    /// The bytes of any other text.
+    Text,
+}
+
+impl Limit {
+    /// The greatest number that may be declared for it.
+    pub fn largest(self) -> usize
+        ensures { result ≡ limit_of self largest }
+    {
+        match self {
+            Limit::Fields => MOST_FIELDS,
+            Limit::Name => MOST_NAME,
+            Limit::Value => MOST_VALUE,
+            Limit::Method => MOST_METHOD,
+            Limit::Target => MOST_TARGET,
+            Limit::Text => MOST_TEXT,
+        }
+    }
+
+    /// The name by which a configuration declares it.
+    pub fn name(self) -> &'static str {
+        match self {
+            Limit::Fields => "fields",
+            Limit::Name => "name",
+            Limit::Value => "value",
+            Limit::Method => "method",
+            Limit::Target => "target",
+            Limit::Text => "text",
+        }
+    }
+}
+
+/// What is wrong with declared limits.
+#[derive(Clone, Copy, Debug, PartialEq, Eq)]
+pub enum LimitFault {
+    /// This limit is 0.
+    Zero(Limit),
+    /// This limit is above the greatest that may be declared.
+    Above(Limit),
+}
+
+impl fmt::Display for LimitFault {
+    fn fmt<W: fmt::Write>(&self, f: &mut fmt::Formatter<W>) -> fmt::Result {
+        match self {
+            LimitFault::Zero(limit) => {
+                let name = limit.name();
+                write!(f, "the limit {name} is 0")
+            }
+            LimitFault::Above(limit) => {
+                let name = limit.name();
+                let largest = limit.largest();
+                write!(f, "the limit {name} is above {largest}")
+            }
+        }
+    }
+}
+
+impl Error for LimitFault {}
+
+/// Declared limits, none of them 0 or above the greatest.
+#[derive(Clone, Copy, Debug)]
+pub struct Limits {
+    fields: usize,
+    name: usize,
+    value: usize,
+    method: usize,
+    target: usize,
+    text: usize,
+}
+
+impl Model for Limits {
+    ghost use Rattle.attributes.specs.Limits.{LimitsValue, AreLimits};
+
+    ghost Value = { LimitsValue };
+
+    ghost view = { λ l. record { fields = l.fields; name = l.name; value = l.value; method = l.method; target = l.target; text = l.text } };
+
+    ghost invariant = { λ l. AreLimits (record { fields = l.fields; name = l.name; value = l.value; method = l.method; target = l.target; text = l.text }) };
+
+    ghost inverse = { λ v. record { fields = v.fields; name = v.name; value = v.value; method = v.method; target = v.target; text = v.text } };
+}
+
+impl Limits {
+    /// Limits as declared: on the number of fields, and in bytes of a name, a value, a method, a target and any other text.
+    pub fn new(
+        fields: usize,
+        name: usize,
+        value: usize,
+        method: usize,
+        target: usize,
+        text: usize,
+    ) -> Result<Limits, LimitFault>
+        ensures kept { IfOk result (λ l. l ≡ declared fields name value method target text) }
+        ensures allowed { OnOk result (AreLimits (declared fields name value method target text)) }
+        ensures fault { IfErr result (HasLimitFault (declared fields name value method target text)) }
+    {
+        check_limit(Limit::Fields, fields)?;
+        check_limit(Limit::Name, name)?;
+        check_limit(Limit::Value, value)?;
+        check_limit(Limit::Method, method)?;
+        check_limit(Limit::Target, target)?;
+        check_limit(Limit::Text, text)?;
+        Ok(Limits {
+            fields,
+            name,
+            value,
+            method,
+            target,
+            text,
+        })
+    }
+
+    /// The greatest limits that may be declared.
+    pub fn largest() -> Limits
+        ensures { result ≡ largest }
+    {
+        Limits {
+            fields: MOST_FIELDS,
+            name: MOST_NAME,
+            value: MOST_VALUE,
+            method: MOST_METHOD,
+            target: MOST_TARGET,
+            text: MOST_TEXT,
+        }
+    }
+
+    /// The limit of this kind.
+    pub fn get(&self, limit: Limit) -> usize
+        ensures value { result ≡ limit_of limit self.now }
+        ensures sound { AreLimits self.now }
+    {
+        match limit {
+            Limit::Fields => self.fields,
+            Limit::Name => self.name,
+            Limit::Value => self.value,
+            Limit::Method => self.method,
+            Limit::Target => self.target,
+            Limit::Text => self.text,
+        }
+    }
+
+    /// Whether every count, name and text of the request is within the limits.
+    pub fn fits(&self, request: &Request) -> bool
+        ensures { IsTrue result ↔ InLimits request.now self.now }
+    {
+        self.fits_count(request.line_count())
+            && self.fits_headers(request)
+            && self.fits_head(request)
+            && self.fits_conn(request.conn())
+    }
+
+    /// Whether each text of the connection is within the limit of texts.
+    pub fn fits_conn(&self, conn: &Conn) -> bool
+        ensures { IsTrue result ↔ FactsInLimits (facts_of conn.now) self.now }
+    {
+        fits_text(&conn.source_address, self.text)
+            && fits_text(&conn.destination_address, self.text)
+            && fits_text(&conn.requested_server_name, self.text)
+            && fits_text(&conn.tls_version, self.text)
+            && fits_text(&conn.subject_peer_certificate, self.text)
+            && fits_text(&conn.dns_san_peer_certificate, self.text)
+            && fits_text(&conn.uri_san_peer_certificate, self.text)
+            && conn.scheme.len() <= self.text
+    }
+
+    // The field lines and the three pseudo-headers.
+    fn fits_count(&self, lines: usize) -> bool
+        ensures { IsTrue result ↔ (lines + 3 ≤ self.now.fields) }
+    {
+        self.fields >= 3 && lines <= self.fields - 3
+    }
+
+    // The method, the target and the protocol's version, as `HTTP/1.1`.
+    fn fits_head(&self, request: &Request) -> bool
+        ensures { IsTrue result ↔ HeadInLimits request.now self.now }
+    {
+        let protocol = if request.is_http11() {
+            "HTTP/1.1"
+        } else {
+            "HTTP/1.0"
+        };
+        request.method().len() <= self.method
+            && request.target().len() <= self.target
+            && protocol.len() <= self.text
+    }
+
+    // Each header's name and value.
+    fn fits_headers(&self, request: &Request) -> bool
+        ensures { IsTrue result ↔ All (EntryInLimits self.now) request.now.headers }
+    {
+        self.fits_pairs(request.headers())
+    }
+
+    fn fits_pairs(&self, headers: &[Header]) -> bool
+        ensures { IsTrue result ↔ All (λ header. EntryInLimits self.now (entry_of header)) headers.now }
+    {
+        headers.iter().all(|(name, value)| name.len() <= self.name && value.len() <= self.value)
+    }
+}
+
+fn fits_text(text: &Option<String>, most: usize) -> bool
+    ensures { IsTrue result ↔ IsWithin most (text_of text.now) }
+{
+    match text {
+        Some(text) => text.len() <= most,
+        None => true,
+    }
+}
+
+fn check_limit(limit: Limit, declared: usize) -> Result<(), LimitFault>
+    ensures ok { IsOk result ↔ ((1 ≤ declared) × (declared ≤ limit_of limit largest)) }
+    ensures fault { IfErr result (IsFaultOf limit declared) }
+{
+    if declared == 0 {
+        return Err(LimitFault::Zero(limit));
+    }
+    if declared > limit.largest() {
+        return Err(LimitFault::Above(limit));
+    }
+    Ok(())
+}

@@ -1,0 +1,217 @@
+-- The rules over lists of fields: what one field more changes, and what known fields are.
+use Rattle.std.proofs.Common.{◌≡◌, ◌==◌, ◌&&◌, ℕ, Bool, true, false, cond, ◌⊎◌, List, [], ◌∷◌, ◌++◌, Option, Some, None, map, take, get_or, length, ◌<◌, ◌+◌, refl, sym, ap, ◌∙◌, inl, inr}
+use Rattle.std.specs.List.{filter, filter_map, list_all}
+use Rattle.std.proofs.lemmas.Bool.{both_ways, and_parts, and_from, eqb-true, eqb-false, eq-eqb, ne_eqb, cases_Bool}
+use Rattle.std.proofs.lemmas.List.{append-nil, map_more}
+use Rattle.std.proofs.lemmas.List.Elements.{filter_map-append, filter-append}
+use Rattle.std.proofs.lemmas.List.Folds.{list_all-append}
+use Rattle.proto_wire.specs.Fields.{Payload, payload_of, Wire, view}
+use Rattle.proto_wire.specs.Rules.{last_of, is_known, AllKnown, SomeUnknown, trailing_run, member_run, run_with}
+use Rattle.proto_wire.specs.declared.field.Field.{Field}
+use Rattle.proto_wire.specs.declared.rules.Key.{Key}
+
+-- ---- known fields
+
+-- all fields have a key, or some field has none
+pub known_or_unknown : (keys : List Key) (fs : List Wire) → AllKnown keys fs ⊎ SomeUnknown keys fs
+known_or_unknown keys fs = cases_Bool (list_all (is_known keys) fs)
+
+-- never both
+pub known-not-unknown : (keys : List Key) (fs : List Wire) → AllKnown keys fs → SomeUnknown keys fs
+    → ⊥
+known-not-unknown keys fs known unknown = both_ways (list_all (is_known keys) fs) unknown known
+
+-- where all are known, none is left out
+pub filter-all : (keys : List Key) (fs : List Wire) → AllKnown keys fs
+    → filter (is_known keys) fs ≡ fs
+filter-all keys [] known = refl
+filter-all keys (f ∷ fs) known =
+    let both = and_parts (is_known keys f) (list_all (is_known keys) fs) known in
+    rw both.0 (ap (λ (t : List Wire). f ∷ t) (filter-all keys fs both.1))
+
+-- known fields behind known fields
+pub known-append : (keys : List Key) (fs gs : List Wire) → AllKnown keys fs → AllKnown keys gs
+    → AllKnown keys (fs ++ gs)
+known-append keys fs gs a b =
+    list_all-append (is_known keys) fs gs
+    ∙ and_from (list_all (is_known keys) fs) (list_all (is_known keys) gs) a b
+
+-- ---- the last of a list, and what is picked of one
+
+pub last_of-push : {A : Type 0} (xs : List A) (x : A) → last_of (xs ++ x ∷ []) ≡ Some x
+last_of-push [] x = refl
+last_of-push (y ∷ []) x = refl
+last_of-push (y ∷ z ∷ xs) x = last_of-push (z ∷ xs) x
+
+-- what is picked of the payloads of a number's fields
+abbrev pub picked : {B : Type 0} → (Payload → Option B) → ℕ → List Wire → List B
+picked pick k fs = filter_map (λ f. cond (f.number == k) (pick f.payload) None) fs
+
+-- at the next field something is picked
+pub picked_some : {B : Type 0} (pick : Payload → Option B) (k : ℕ) (fields : List Field) (i : ℕ)
+    (d : Field) (y : B)
+    → i < length fields
+    → cond ((get_or fields i d).number == k) (pick (payload_of (get_or fields i d).content)) None
+    ≡ Some y
+    → picked pick k (map view (take (i + 1) fields))
+    ≡ picked pick k (map view (take i fields)) ++ y ∷ []
+picked_some pick k fields i d y within e =
+    let f = view (get_or fields i d) in
+    let one : picked pick k (f ∷ []) ≡ y ∷ [] = rw e refl in
+    ap (picked pick k) (map_more view fields i d within)
+    ∙ filter_map-append (λ g. cond (g.number == k) (pick g.payload) None) (map view (take i fields))
+    (f ∷ [])
+    ∙ ap (λ ys. picked pick k (map view (take i fields)) ++ ys) one
+
+-- at the next field nothing is picked
+pub picked_none : {B : Type 0} (pick : Payload → Option B) (k : ℕ) (fields : List Field) (i : ℕ)
+    (d : Field)
+    → i < length fields
+    → cond ((get_or fields i d).number == k) (pick (payload_of (get_or fields i d).content)) None
+    ≡ None
+    → picked pick k (map view (take (i + 1) fields)) ≡ picked pick k (map view (take i fields))
+picked_none pick k fields i d within e =
+    let f = view (get_or fields i d) in
+    let none : picked pick k (f ∷ []) ≡ [] = rw e refl in
+    ap (picked pick k) (map_more view fields i d within)
+    ∙ filter_map-append (λ g. cond (g.number == k) (pick g.payload) None) (map view (take i fields))
+    (f ∷ [])
+    ∙ ap (λ ys. picked pick k (map view (take i fields)) ++ ys) none
+    ∙ append-nil (picked pick k (map view (take i fields)))
+
+-- a list without a last element is empty
+pub last_of-none : {A : Type 0} (xs : List A) → last_of xs ≡ None → xs ≡ []
+last_of-none [] e = refl
+last_of-none (x ∷ []) e = absurd cc
+last_of-none (x ∷ y ∷ xs) e = let none = last_of-none (y ∷ xs) e in absurd cc
+
+-- ---- the run of a oneof's last member
+
+abbrev HasNumber : ℕ → Wire → Bool
+HasNumber k f = f.number == k
+
+-- fields of one number are a run
+uniform_run : (k : ℕ) (fs : List Wire) → list_all (HasNumber k) fs ≡ true → trailing_run fs ≡ fs
+uniform_run k [] same = refl
+uniform_run k (f ∷ fs) same =
+    let both = and_parts (HasNumber k f) (list_all (HasNumber k) fs) same in
+    let e : f.number ≡ k = eqb-true f.number k both.0 in
+    let all : list_all (HasNumber f.number) fs ≡ true = rw e both.1 in
+    rw all refl
+
+-- a run that another number ends
+run_ends : (k : ℕ) (fs : List Wire) (f : Wire) → list_all (HasNumber k) fs ≡ true
+    → (k == f.number) ≡ false → run_with fs f ≡ f ∷ []
+run_ends k [] f same other = refl
+run_ends k (h ∷ hs) f same other =
+    let both = and_parts (HasNumber k h) (list_all (HasNumber k) hs) same in
+    let e : h.number ≡ k = eqb-true h.number k both.0 in
+    rw (e, other) refl
+
+number_swap : (n m : ℕ) → (n == m) ≡ (m == n)
+number_swap n m =
+    elim (cases_Bool (m == n)) [
+      | inl same ↦ eq-eqb n m (sym (eqb-true m n same)) ∙ sym same
+      | inr other ↦ ne_eqb n m (λ e. eqb-false m n other (sym e)) ∙ sym other
+    ]
+
+-- one case of two
+either_case : {A : Type 0} (b : Bool) (x y z : A) → (b ≡ false → y ≡ z)
+    → cond (true && (b && true)) x y ≡ cond b x z
+either_case true x y z e = refl
+either_case false x y z e = e refl
+
+-- one field more behind the others
+pub run_more : (fs : List Wire) (f : Wire)
+    → trailing_run (fs ++ f ∷ []) ≡ run_with (trailing_run fs) f
+run_more [] f = refl
+run_more (g ∷ fs) f =
+    let joined = list_all-append (HasNumber g.number) fs (f ∷ []) in
+    elim (cases_Bool (list_all (HasNumber g.number) fs)) [
+      | inl same ↦
+          let ends = λ (other : (g.number == f.number) ≡ false).
+          run_more fs f ∙ ap (λ r. run_with r f) (uniform_run g.number fs same)
+          ∙ run_ends g.number fs f same other in
+          rw (joined, same, number_swap f.number g.number)
+          (either_case (g.number == f.number) (g ∷ (fs ++ f ∷ [])) (trailing_run (fs ++ f ∷ []))
+          (f ∷ []) ends)
+      | inr other ↦ rw (joined, other) (run_more fs f)
+    ]
+
+-- at the next field, which has a member's key
+pub member_some : (keys : List Key) (fields : List Field) (i : ℕ) (d : Field) → i < length fields
+    → is_known keys (view (get_or fields i d)) ≡ true
+    → member_run keys (map view (take (i + 1) fields))
+    ≡ run_with (member_run keys (map view (take i fields))) (view (get_or fields i d))
+member_some keys fields i d within known =
+    let before = map view (take i fields) in
+    let f = view (get_or fields i d) in
+    let one : filter (is_known keys) (f ∷ []) ≡ f ∷ [] = rw known refl in
+    ap (member_run keys) (map_more view fields i d within)
+    ∙ ap trailing_run (filter-append (is_known keys) before (f ∷ [])
+    ∙ ap (λ gs. filter (is_known keys) before ++ gs) one)
+    ∙ run_more (filter (is_known keys) before) f
+
+-- at the next field, which has none
+pub member_none : (keys : List Key) (fields : List Field) (i : ℕ) (d : Field) → i < length fields
+    → is_known keys (view (get_or fields i d)) ≡ false
+    → member_run keys (map view (take (i + 1) fields)) ≡ member_run keys (map view (take i fields))
+member_none keys fields i d within unknown =
+    let before = map view (take i fields) in
+    let f = view (get_or fields i d) in
+    let none : filter (is_known keys) (f ∷ []) ≡ [] = rw unknown refl in
+    ap (member_run keys) (map_more view fields i d within)
+    ∙ ap trailing_run (filter-append (is_known keys) before (f ∷ [])
+    ∙ ap (λ gs. filter (is_known keys) before ++ gs) none
+    ∙ append-nil (filter (is_known keys) before))
+
+-- ---- what a run is
+
+-- what holds of all fields holds of their run
+all-of-run : (p : Wire → Bool) (fs : List Wire) → list_all p fs ≡ true
+    → list_all p (trailing_run fs) ≡ true
+all-of-run p [] all = refl
+all-of-run p (f ∷ fs) all =
+    elim (cases_Bool (list_all (HasNumber f.number) fs)) [
+      | inl same ↦ rw same all
+      | inr other ↦ rw other (all-of-run p fs (and_parts (p f) (list_all p fs) all).1)
+    ]
+
+passes-filter : (p : Wire → Bool) (fs : List Wire) → list_all p (filter p fs) ≡ true
+passes-filter p [] = refl
+passes-filter p (f ∷ fs) =
+    elim (cases_Bool (p f)) [
+      | inl passes ↦ rw (passes, passes) (passes-filter p fs)
+      | inr fails ↦ rw fails (passes-filter p fs)
+    ]
+
+-- each field of a member's run has a member's key
+pub run-known : (keys : List Key) (fs : List Wire) → AllKnown keys (member_run keys fs)
+run-known keys fs =
+    all-of-run (is_known keys) (filter (is_known keys) fs) (passes-filter (is_known keys) fs)
+
+-- the fields of a run have one number
+pub run-uniform : (fs : List Wire) (f : Wire) (rest : List Wire) → trailing_run fs ≡ f ∷ rest
+    → list_all (λ g. g.number == f.number) rest ≡ true
+run-uniform [] f rest e = absurd cc
+run-uniform (g ∷ fs) f rest e =
+    elim (cases_Bool (list_all (HasNumber g.number) fs)) [
+      | inl same ↦
+          let whole : g ∷ fs ≡ f ∷ rest = rw same at e in
+          let head : g ≡ f = cc in
+          let tail : fs ≡ rest = cc in
+          rw (← head, ← tail) same
+      | inr other ↦ run-uniform fs f rest (rw other at e)
+    ]
+
+-- only no fields have no run
+pub run-none : (fs : List Wire) → trailing_run fs ≡ [] → fs ≡ []
+run-none [] e = refl
+run-none (g ∷ fs) e =
+    elim (cases_Bool (list_all (HasNumber g.number) fs)) [
+      | inl same ↦ let whole : g ∷ fs ≡ [] = rw same at e in absurd cc
+      | inr other ↦
+          let none = run-none fs (rw other at e) in
+          let all : list_all (HasNumber g.number) fs ≡ true = rw none refl in
+          absurd (both_ways (list_all (HasNumber g.number) fs) other all)
+    ]

@@ -1,0 +1,5 @@
+pub mod Varint
+pub mod Fields
+pub mod Rules
+pub mod Refusal
+pub mod Messages

@@ -1,0 +1,21 @@
+-- A message whose fields must all be known: Protocol Buffers encoding guide, "Message Structure"; an unknown field is a fault here.
+use Rattle.std.specs.Prelude.{◌≡◌, ℕ, List, map}
+use Rattle.std.specs.Borrow.{Bor}
+use Rattle.proto_wire.specs.Fields.{Wire}
+use Rattle.proto_wire.specs.Rules.{AllKnown, SomeUnknown, Merges, Breaks}
+use Rattle.proto_wire.specs.declared.refusal.Refusal.{Refusal}
+use Rattle.proto_wire.specs.declared.refusal.Refusal.TheVariants.{BadWire, UnknownField}
+use Rattle.proto_wire.specs.declared.rules.Key.{Key}
+
+-- the bytes of each slice
+abbrev pub texts : List (Bor (List ℕ)) → List (List ℕ)
+texts slices = map (λ s. s.now) slices
+
+-- the payloads, put one after the other, are these fields, and each field is known
+abbrev pub IsMessage : List Key → List (List ℕ) → List Wire → Type 0
+IsMessage keys parts fs = Merges parts fs × AllKnown keys fs
+
+-- some payload is no list of whole fields, or some field is not known
+pub data MessageFault (keys : List Key) (parts : List (List ℕ)) (e : Refusal) : Type 0 where
+  not_whole : Breaks parts → e ≡ BadWire → MessageFault keys parts e
+  not_known : (fs : List Wire) → Merges parts fs → SomeUnknown keys fs → e ≡ UnknownField → MessageFault keys parts e

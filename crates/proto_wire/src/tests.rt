@@ -1,0 +1,152 @@
+use crate::varint::read_varint;
+use crate::*;
+use std::process::Abort;
+use std::test::Fail;
+
+const VARINTS: [(&[u8], Result<u64, WireError>); 9] = [
+    (b"\x00", Ok(0)),
+    (b"\x7f", Ok(127)),
+    (b"\xac\x02", Ok(300)),
+    (b"\xac\x82\x00", Ok(300)),
+    (b"\xff\xff\xff\xff\xff\xff\xff\xff\xff\x01", Ok(u64::MAX)),
+    (
+        b"\x80\x80\x80\x80\x80\x80\x80\x80\x80\x02",
+        Err(WireError::LongVarint),
+    ),
+    (
+        b"\xff\xff\xff\xff\xff\xff\xff\xff\xff\xff",
+        Err(WireError::LongVarint),
+    ),
+    (
+        b"\xff\xff\xff\xff\xff\xff\xff\xff\xff",
+        Err(WireError::Truncated),
+    ),
+    (b"", Err(WireError::Truncated)),
+];
+
+const MESSAGES: [(&[u8], Result<usize, WireError>); 16] = [
+    (b"", Ok(0)),
+    (
+        b"\x0a\x0f\x12\x0d\x0a\x01p\x12\x08\x0a\x02\x18\x01\x12\x02\x18\x01",
+        Ok(1),
+    ),
+    (
+        b"\x08\xac\x02\x11\x01\x02\x03\x04\x05\x06\x07\x08\x1a\x02hi\x25\x01\x02\x03\x04",
+        Ok(4),
+    ),
+    (b"\xf8\xff\xff\xff\x0f\x00", Ok(1)),
+    (b"\x80\x80\x80\x80\x10\x00", Err(WireError::BadNumber)),
+    (b"\x00", Err(WireError::BadNumber)),
+    (b"\x0b", Err(WireError::BadWireType)),
+    (b"\x0c", Err(WireError::BadWireType)),
+    (b"\x0e", Err(WireError::BadWireType)),
+    (b"\x0f", Err(WireError::BadWireType)),
+    (b"\x08\x01\x08", Err(WireError::Truncated)),
+    (b"\x88", Err(WireError::Truncated)),
+    (
+        b"\x09\x01\x02\x03\x04\x05\x06\x07",
+        Err(WireError::Truncated),
+    ),
+    (b"\x0a\x03hi", Err(WireError::Truncated)),
+    (b"\x0d\x01\x02\x03", Err(WireError::Truncated)),
+    (
+        b"\x0a\x80\x80\x80\x80\x80\x80\x80\x80\x80\x02",
+        Err(WireError::LongVarint),
+    ),
+];
+
+const REFUSALS: [(Refusal, &str); 19] = [
+    (Refusal::BadWire, "1 BadWire"),
+    (Refusal::BadText, "2 BadText"),
+    (Refusal::UnknownField, "3 UnknownField"),
+    (Refusal::Missing, "4 Missing"),
+    (Refusal::OutOfRange, "5 OutOfRange"),
+    (Refusal::Unsupported, "6 Unsupported"),
+    (Refusal::BothConditions, "7 BothConditions"),
+    (Refusal::TooLarge, "8 TooLarge"),
+    (Refusal::UnknownName, "9 UnknownName"),
+    (Refusal::NoOverload, "10 NoOverload"),
+    (Refusal::BadTypeEntry, "11 BadTypeEntry"),
+    (Refusal::BadReference, "12 BadReference"),
+    (Refusal::NotBool, "13 NotBool"),
+    (Refusal::NeedsType, "14 NeedsType"),
+    (Refusal::TooCostly, "15 TooCostly"),
+    (Refusal::DuplicateResource, "16 DuplicateResource"),
+    (Refusal::WrongType, "17 WrongType"),
+    (Refusal::CodeRefused, "18 CodeRefused"),
+    (Refusal::Memory, "19 Memory"),
+];
+
+#[test]
+fn varints(rt: HostRuntime) {
+    for (bytes, want) in &VARINTS {
+        assert!(rt;
+            read_varint(bytes).map(|read| read.0) == *want,
+            "at {bytes:?}"
+        );
+    }
+}
+
+/// How many fields a reader gives before the end, or its error, which has to come again.
+fn outcome(rt: &impl Abort, bytes: &[u8]) -> Result<usize, WireError> {
+    let mut reader = Reader::new(bytes);
+    for count in 0..bytes.len() {
+        match reader.next() {
+            Ok(Some(_)) => {}
+            Ok(None) => return Ok(count),
+            Err(error) => {
+                assert!(rt; matches!(reader.next(), Err(again) if again == error));
+                return Err(error);
+            }
+        }
+    }
+    Ok(0)
+}
+
+#[test]
+fn messages(rt: HostRuntime) {
+    for (bytes, want) in &MESSAGES {
+        assert!(rt; outcome(&rt, bytes) == *want, "at {bytes:?}");
+    }
+}
+
+#[test]
+fn refusals(rt: HostRuntime) -> Result<(), Fail> {
+    for (refusal, want) in &REFUSALS {
+        let text = format!(in rt.alloc(); "{refusal}")?;
+        assert_eq!(rt; text.as_str(), *want);
+    }
+    Ok(())
+}
+
+#[test]
+fn rules(rt: HostRuntime) -> Result<(), Fail> {
+    let alloc = rt.alloc();
+    let first: &[u8] = b"\x08\x01\x12\x01a\x08\x02";
+    let second: &[u8] = b"\x12\x01b\x18\x07\x12\x01c";
+    let parts = [first, second];
+    let fields = read_parts(alloc, &parts)?;
+    assert_eq!(rt; fields.len(), 6);
+    assert_eq!(rt; read_fields(alloc, second)?.len(), 3);
+    assert!(rt; matches!(read_fields(alloc, b"\x0b"), Err(Refusal::BadWire)));
+    assert_eq!(rt; last_varint(&fields, 1), Some(2));
+    assert!(rt; matches!(last_text(&fields, 2), Some(b"c")));
+    assert_eq!(rt; payloads_of(alloc, &fields, 2)?.len(), 3);
+    let one = Key {
+        number: 1,
+        wire_type: WireType::Varint,
+    };
+    let two = Key {
+        number: 2,
+        wire_type: WireType::Text,
+    };
+    let three = Key {
+        number: 3,
+        wire_type: WireType::Varint,
+    };
+    assert!(rt; all_known(&fields, &[one, two, three]));
+    assert!(rt; !all_known(&fields, &[one, two]));
+    assert_eq!(rt; member_run(alloc, &fields, &[one, two])?.len(), 2);
+    assert_eq!(rt; member_run(alloc, &fields, &[one, three])?.len(), 1);
+    Ok(())
+}

@@ -1,0 +1,33 @@
+use Rattle.std.proofs.Common.{◌≡◌, ◌≢◌, ℕ, List, map, Some, inl, inr, refl, sym, ◌∙◌, ap, arith}
+use Rattle.std.proofs.lemmas.Result.{err_from_is_err_and}
+use Rattle.proto_wire.specs.Fields.{view}
+use Rattle.proto_wire.specs.Rules.{payloads}
+use Rattle.proto_wire.specs.Messages.{texts}
+use Rattle.rbac_match.specs.Message.{last_number, SetFault}
+use Rattle.rbac_match.specs.Member.{Never, in_all_of, in_any_of, other_there}
+use Rattle.rbac_match.proofs.member.choose.Goals as goal
+
+pub returns-in_err-read_set-in-Some-eq1-clause-fault : goal.returns-in_err-read_set-in-Some-eq1-clause-fault
+returns-in_err-read_set-in-Some-eq1-clause-fault c =
+    let p = err_from_is_err_and c.from_residual-in_err-read_set-in-Some-eq1.result c.from_residual-in_err-read_set-in-Some-eq1.ensures.1 in
+    rw (p.1, p.2) (elim c.in_err-read_set-in-Some-eq1.ensures.fault [
+      | inl memory ↦ inl memory
+      | inr bad ↦ inr (in_all_of (cc (c.number_of.ensures, c.in-Some-eq1.is, c.in-Some-eq1.field-0-is)) (rw (c.deref.ensures.value, c.in_ok-payloads_of-in-Some-eq1.ensures) at bad))
+    ])
+
+pub returns-in_err-read_set-in-Some-eq2-clause-fault : goal.returns-in_err-read_set-in-Some-eq2-clause-fault
+returns-in_err-read_set-in-Some-eq2-clause-fault c =
+    let p = err_from_is_err_and c.from_residual-in_err-read_set-in-Some-eq2.result c.from_residual-in_err-read_set-in-Some-eq2.ensures.1 in
+    rw (p.1, p.2) (elim c.in_err-read_set-in-Some-eq2.ensures.fault [
+      | inl memory ↦ inl memory
+      | inr bad ↦ inr (in_any_of (cc (c.number_of.ensures, c.in-Some-eq2.is, c.in-Some-eq2.field-0-is)) (rw (c.deref-in-Some-eq2.ensures.value, c.in_ok-payloads_of-in-Some-eq2.ensures) at bad))
+    ])
+
+pub returns-in-Some-clause-fault : goal.returns-in-Some-clause-fault
+returns-in-Some-clause-fault c =
+    let n : ℕ = c.in-Some.field-0 in
+    let not_1 : n ≢ 1 = λ k. omega (arith, k) in
+    let not_2 : n ≢ 2 = λ k. omega (arith, k) in
+    let not_3 : n ≢ 3 = λ k. omega (arith, k) in
+    let not_8 : n ≢ 8 = λ k. omega (arith, k) in
+    inr (other_there n (cc (c.number_of.ensures, c.in-Some.is)) not_1 not_2 not_3 not_8 refl)

@@ -1,0 +1,4 @@
+pub mod Formula
+pub mod Message
+pub mod Member
+pub mod View

@@ -1,0 +1,47 @@
+//! Whether rules match a request.
+
+ghost use Rattle.std.specs.Prelude.{◌≡◌};
+ghost use Rattle.rbac_match.specs.Formula.{holds, all_hold, some_hold};
+ghost use Rattle.rbac_match.specs.View.{rule_view, rules_view};
+
+use crate::rule::Rule;
+use attributes::Request;
+
+/// Whether the rule matches the request. It takes no memory, and looks at each rule once at most.
+#[cycle(matches)]
+pub fn matches(rule: &Rule, request: &Request) -> bool
+    ensures { result ≡ holds request.now (rule_view rule.now) }
+{
+    match rule {
+        Rule::Any => true,
+        Rule::All(rules) => all_match(rules, request),
+        Rule::Either(rules) => some_matches(rules, request),
+        Rule::Not(inner) => !matches(inner, request),
+    }
+}
+
+/// Whether each of the rules matches the request.
+#[cycle(matches)]
+fn all_match(rules: &[Rule], request: &Request) -> bool
+    ensures { result ≡ all_hold request.now (rules_view rules.now) }
+{
+    for rule in rules {
+        if !matches(rule, request) {
+            return false;
+        }
+    }
+    true
+}
+
+/// Whether some of the rules matches the request.
+#[cycle(matches)]
+pub fn some_matches(rules: &[Rule], request: &Request) -> bool
+    ensures { result ≡ some_hold request.now (rules_view rules.now) }
+{
+    for rule in rules {
+        if matches(rule, request) {
+            return true;
+        }
+    }
+    false
+}

@@ -1,0 +1,23 @@
+//! What a permission or a principal says of a request.
+
+/// Which of the two kinds of rule a message is: they name other members by the same numbers.
+#[derive(Clone, Copy, PartialEq, Eq, Debug)]
+pub enum Side {
+    /// What a request wants to do (`envoy.config.rbac.v3.Permission`).
+    Permission,
+    /// Who wants to do it (`envoy.config.rbac.v3.Principal`).
+    Principal,
+}
+
+/// A permission or a principal.
+#[derive(Debug, Drop)]
+pub enum Rule {
+    /// Matches every request.
+    Any,
+    /// Matches where each of its rules does.
+    All(Vec<Rule>),
+    /// Matches where some of its rules do.
+    Either(Vec<Rule>),
+    /// Matches where its rule doesn't.
+    Not(Box<Rule>),
+}

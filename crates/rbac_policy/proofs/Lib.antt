@@ -1,0 +1,7 @@
+pub mod Order
+pub mod HeldPolicies
+pub mod Settled
+pub mod Texts
+pub mod Maps
+pub mod First
+pub mod Read

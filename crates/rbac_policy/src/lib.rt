@@ -1,0 +1,13 @@
+//! An RBAC filter: admission of its message, and decisions by it.
+#![tactic(auto)]
+
+mod admission;
+mod decide;
+mod entries;
+mod filter;
+mod keys;
+pub mod laws;
+mod policy;
+
+pub use admission::{MOST_POLICIES, admit};
+pub use filter::{Action, Admitted, Verdict};

@@ -1,0 +1,105 @@
+//! Policies, and the reading of their messages.
+
+ghost use Rattle.std.specs.Prelude.{◌≡◌, ◌≢◌, ◌⊎◌, [], IfOk, IfErr, OnOk, MatchBool, map};
+ghost use Rattle.std.specs.String.{string_bytes};
+ghost use Rattle.proto_wire.specs.Fields.{view};
+ghost use Rattle.proto_wire.specs.Rules.{payloads};
+ghost use Rattle.proto_wire.specs.declared.refusal.Refusal.TheVariants.{Memory};
+ghost use Rattle.proto_wire.specs.Messages.{texts};
+ghost use Rattle.rbac_match.specs.Message.{IsRule, AreRules, SomeRuleFault};
+ghost use Rattle.rbac_match.specs.View.{rules_view};
+ghost use Rattle.rbac_policy.specs.Message.{IsPolicy, IsUnconditional, HasBothSides, rule_depth};
+ghost use Rattle.rbac_policy.specs.Fault.{PolicyFault, SomePolicyFault, ConditionFault, SideFault};
+ghost use Rattle.rbac_policy.specs.Named.{policy_view, named_views, parts_views, Held};
+
+use crate::entries::PartsByName;
+use crate::keys::policy_keys;
+use proto_wire::{Field, Refusal, last_text, payloads_of, read_message};
+use rbac_match::{RULE_DEPTH, Rule, Side, read_rules};
+use std::alloc::Global;
+
+/// A policy with its name: it matches where some permission and some principal do.
+#[derive(Debug, Drop)]
+pub struct NamedPolicy {
+    pub name: String,
+    pub permissions: Vec<Rule>,
+    pub principals: Vec<Rule>,
+}
+
+const PERMISSIONS: u32 = 1;
+const PRINCIPALS: u32 = 2;
+const CONDITION: u32 = 3;
+const CHECKED_CONDITION: u32 = 4;
+
+/// Reads each policy of the map, in ascending order of names.
+pub fn read_policies(alloc: Global, named: &PartsByName<'_>) -> Result<Vec<NamedPolicy>, Refusal>
+    ensures found { IfOk result (λ policies. Held (parts_views named.now.entries) (named_views policies.items)) }
+    ensures fault { IfErr result (λ e. (e ≡ Memory) ⊎ SomePolicyFault (parts_views named.now.entries) e) }
+{
+    let mut policies = Vec::new(alloc);
+    for (name, parts) in named {
+        policies.push(read_policy(alloc, name, parts)?)?;
+    }
+    Ok(policies)
+}
+
+/// Reads the policy that stands in the parts. Its conditions are not read yet, and refused.
+fn read_policy(alloc: Global, name: &str, parts: &[&[u8]]) -> Result<NamedPolicy, Refusal>
+    ensures named { IfOk result (λ policy. string_bytes policy.name ≡ name.now) }
+    ensures found { IfOk result (λ policy. IsPolicy (texts parts.now) (policy_view policy)) }
+    ensures fault { IfErr result (λ e. (e ≡ Memory) ⊎ PolicyFault (texts parts.now) e) }
+{
+    let fields = read_message(alloc, parts, policy_keys())?;
+    refuse_conditions(&fields)?;
+    require_sides(&fields)?;
+    let permissions = read_side(alloc, Side::Permission, &fields, PERMISSIONS)?;
+    let principals = read_side(alloc, Side::Principal, &fields, PRINCIPALS)?;
+    let name = String::from_str(alloc, name)?;
+    Ok(NamedPolicy { name, permissions, principals })
+}
+
+/// Refuses a policy that has a condition.
+fn refuse_conditions(fields: &[Field<'_>]) -> Result<(), Refusal>
+    ensures found { OnOk result (IsUnconditional (map view fields.now)) }
+    ensures fault { IfErr result (ConditionFault (map view fields.now)) }
+{
+    if has_text(fields, CONDITION) {
+        return Err(Refusal::Unsupported);
+    }
+    if has_text(fields, CHECKED_CONDITION) {
+        return Err(Refusal::Unsupported);
+    }
+    Ok(())
+}
+
+/// Refuses a policy that lacks permissions or principals.
+fn require_sides(fields: &[Field<'_>]) -> Result<(), Refusal>
+    ensures found { OnOk result (HasBothSides (map view fields.now)) }
+    ensures fault { IfErr result (SideFault (map view fields.now)) }
+{
+    if !has_text(fields, PERMISSIONS) {
+        return Err(Refusal::Missing);
+    }
+    if !has_text(fields, PRINCIPALS) {
+        return Err(Refusal::Missing);
+    }
+    Ok(())
+}
+
+/// Reads the rules of one side of a policy.
+fn read_side(alloc: Global, side: Side, fields: &[Field<'_>], number: u32) -> Result<Vec<Rule>, Refusal>
+    ensures found { IfOk result (λ rules.
+        AreRules (IsRule side rule_depth) (payloads number (map view fields.now)) (rules_view rules.items)) }
+    ensures fault { IfErr result (λ e. (e ≡ Memory)
+        ⊎ SomeRuleFault side rule_depth (payloads number (map view fields.now)) e) }
+{
+    let rules = payloads_of(alloc, fields, number)?;
+    read_rules(alloc, side, &rules, RULE_DEPTH)
+}
+
+/// Whether some LEN field has this number.
+pub fn has_text(fields: &[Field<'_>], number: u32) -> bool
+    ensures { MatchBool result (payloads number (map view fields.now) ≢ []) (payloads number (map view fields.now) ≡ []) }
+{
+    last_text(fields, number).is_some()
+}
