@@ -12,7 +12,11 @@ use std::alloc::Global;
 
 /// The fields of a message that stands in several payloads, each of them whole fields by itself: `BadWire` where one
 /// is not, `UnknownField` where some field has none of the keys.
-pub fn read_message<'a>(alloc: Global, parts: &[&'a [u8]], keys: &[Key]) -> Result<Vec<Field<'a>>, Refusal>
+pub fn read_message<'a>(
+    alloc: Global,
+    parts: &[&'a [u8]],
+    keys: &[Key],
+) -> Result<Vec<Field<'a>>, Refusal>
     ensures found { IfOk result (λ v. IsMessage keys.now (texts parts.now) (map view v.items)) }
     ensures fault { IfErr result (λ e. (e ≡ Refusal.Memory) ⊎ MessageFault keys.now (texts parts.now) e) }
 {

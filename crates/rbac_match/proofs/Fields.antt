@@ -1,11 +1,11 @@
 -- The last field's number, and what a fault of a rule's own fields is a fault of.
-use Rattle.std.proofs.Common.{◌≡◌, ℕ, ◌-◌, ◌+◌, suc, List, [], ◌∷◌, map, length, Option, Some, None, slice_get, refl, ap, ◌∙◌, arith}
+use Rattle.std.proofs.Common.{◌≡◌, ℕ, ◌-◌, suc, List, [], ◌∷◌, map, length, Some, None, slice_get, refl, ap, arith}
 use Rattle.proto_wire.specs.Fields.{Wire, view}
 use Rattle.proto_wire.specs.Rules.{payloads, member_run}
 use Rattle.proto_wire.specs.Messages.{IsMessage}
 use Rattle.proto_wire.specs.declared.field.Field.{Field}
 use Rattle.proto_wire.specs.declared.refusal.Refusal.{Refusal}
-use Rattle.rbac_match.specs.Message.{keys_of, last_number, HasRun, SetFault, set_fields, set_empty, in_rule, LevelFault, own_fields, no_member, any_is_false, unsupported, in_all, in_any, in_not}
+use Rattle.rbac_match.specs.Message.{keys_of, last_number, SetFault, set_fields, set_empty, in_rule, LevelFault, own_fields, no_member, any_is_false, unsupported, in_all, in_any, in_not}
 use Rattle.rbac_match.specs.Member.{Never, MemberFault, none_there, false_there, other_there, in_all_of, in_any_of}
 use Rattle.rbac_match.specs.declared.rule.Side.{Side}
 

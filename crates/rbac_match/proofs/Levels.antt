@@ -1,12 +1,11 @@
 -- One level of a rule, from its member and the rules in it.
-use Rattle.std.proofs.Common.{◌≡◌, ℕ, zero, suc, ◌-◌, ◌<◌, List, [], ◌∷◌, ◌++◌, map, refl, sym, ap, subst, rules, arith, ◌∙◌, Contains, Bor, get_or, length}
-use Rattle.proto_wire.specs.Fields.{Wire}
-use Rattle.proto_wire.specs.Rules.{payloads, member_run}
+use Rattle.std.proofs.Common.{◌≡◌, ℕ, zero, suc, ◌-◌, ◌<◌, List, [], ◌∷◌, ◌++◌, refl, subst, rules, arith, Contains, Bor, get_or, length}
+use Rattle.proto_wire.specs.Rules.{member_run}
 use Rattle.proto_wire.specs.Messages.{texts}
 use Rattle.proto_wire.specs.declared.refusal.Refusal.{Refusal}
 use Rattle.rbac_match.specs.Formula.{Formula, anything, all_of, any_of, none_of}
 use Rattle.rbac_match.specs.Message.{keys_of, AreRules, IsLevel, IsRule, in_rule, LevelFault, in_all, in_any, in_not, RuleFault, SomeRuleFault}
-use Rattle.rbac_match.specs.Member.{IsMember, IsSetOf, Never}
+use Rattle.rbac_match.specs.Member.{IsMember, Never}
 use Rattle.std.specs.declared.vec.Vec.{Vec}
 use Rattle.std.specs.declared.alloc.Global.{Global}
 use Rattle.rbac_match.specs.View.{rule_view, rules_view}

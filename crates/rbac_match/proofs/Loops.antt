@@ -1,5 +1,5 @@
 -- What rules say, by the rule at one place and those behind it.
-use Rattle.std.proofs.Common.{◌≡◌, ℕ, ◌+◌, ◌<◌, ◌&&◌, ◌||◌, Bool, true, false, List, drop, length, get_or, ap, sym, ◌∙◌}
+use Rattle.std.proofs.Common.{◌≡◌, ℕ, ◌+◌, ◌<◌, ◌&&◌, ◌||◌, Bool, List, drop, length, get_or, ap, sym, ◌∙◌}
 use Rattle.std.proofs.lemmas.List.{drop_more}
 use Rattle.attributes.specs.Request.{RequestValue}
 use Rattle.rbac_match.specs.Formula.{holds, all_hold, some_hold}

@@ -1,15 +1,15 @@
 -- A rule's payloads are a rule or have a fault, never both, and they say one formula at most.
-use Rattle.std.proofs.Common.{◌≡◌, ◌≢◌, ℕ, zero, suc, ◌<◌, ◌⊎◌, inl, inr, Bool, true, false, List, [], ◌∷◌, ◌++◌, Contains, Option, Some, None, unwrap_or, IsTrue, refl, sym, ap, subst, arith, ◌∙◌}
+use Rattle.std.proofs.Common.{◌≡◌, ◌≢◌, ℕ, zero, suc, ◌<◌, ◌⊎◌, inl, inr, true, false, List, [], ◌∷◌, Contains, Some, None, refl, sym, ap, subst, arith, ◌∙◌}
 use Rattle.std.proofs.Math.Dec.{eqb}
 use Rattle.std.proofs.lemmas.Bool.{eqb-true, eqb-false}
 use Rattle.std.proofs.lemmas.List.Elements.{Contains-append_left, Contains-append_right, Contains-append_cases, Contains-push_cases, Contains-push}
 use Rattle.proto_wire.specs.Fields.{Wire}
 use Rattle.proto_wire.specs.Rules.{payloads, member_run, Merges}
-use Rattle.proto_wire.specs.Messages.{IsMessage, MessageFault}
+use Rattle.proto_wire.specs.Messages.{IsMessage}
 use Rattle.proto_wire.proofs.Unique.{merges-one}
 use Rattle.proto_wire.proofs.Messages.{message_settled, message_apart}
 use Rattle.proto_wire.specs.declared.refusal.Refusal.{Refusal}
-use Rattle.proto_wire.specs.declared.refusal.Refusal.TheVariants.{BadWire, UnknownField, Missing, OutOfRange, Unsupported, TooLarge}
+use Rattle.proto_wire.specs.declared.refusal.Refusal.TheVariants.{Missing, OutOfRange, Unsupported, TooLarge}
 use Rattle.rbac_match.specs.Formula.{Formula, anything, all_of, any_of, none_of, Formulas, end, formula}
 use Rattle.rbac_match.specs.Message.{keys_of, set_keys, last_number, any_value, AreRules, IsSet, Says, IsLevel, IsRule, HasRun, SetFault, set_fields, set_empty, in_rule, LevelFault, own_fields, no_member, any_is_false, unsupported, in_all, in_any, in_not, RuleFault}
 use Rattle.rbac_match.specs.declared.rule.Side.{Side}
@@ -30,9 +30,9 @@ contains_later x y xs h = Contains-append_right (x ∷ []) xs y h
 -- what is in a list is its first, or in its rest
 pub contains_cases : {A : Type 0} (x y : A) (xs : List A) → Contains (x ∷ xs) y → (x ≡ y) ⊎ Contains xs y
 contains_cases x y xs h = elim (Contains-append_cases (x ∷ []) xs y h) [
-    | inl first ↦ elim (Contains-push_cases [] x y first) [ | inl none ↦ absurd (omega arith) | inr same ↦ inl same ]
-    | inr later ↦ inr later
-  ]
+  | inl first ↦ elim (Contains-push_cases [] x y first) [ inl none ↦ absurd (omega arith) | inr same ↦ inl same ]
+  | inr later ↦ inr later
+]
 
 -- two numbers are equal or not
 pub same_or_not : (m n : ℕ) → (m ≡ n) ⊎ (m ≢ n)
@@ -44,24 +44,24 @@ module _ (Below : List (List ℕ) → Formula → Type 0) (Fails : List (List �
     rules_settled : (children : List (List ℕ)) → ((gs : Formulas) × AreRules Below children gs) ⊎ ((child : List ℕ) × Contains children child × (e : Refusal) × Fails (child ∷ []) e)
     rules_settled [] = inl (end, tt)
     rules_settled (child ∷ children) = elim (below_settled (child ∷ [])) [
-        | inr bad ↦ inr (child, contains_first child children, bad.0, bad.1)
-        | inl good ↦ elim (rules_settled children) [
-          | inl others ↦ inl (formula good.0 others.0, (good.1, others.1))
-          | inr bad ↦ inr (bad.0, contains_later child bad.0 children bad.1, bad.2, bad.3)
-        ]
+      | inr bad ↦ inr (child, contains_first child children, bad.0, bad.1)
+      | inl good ↦ elim (rules_settled children) [
+        | inl others ↦ inl (formula good.0 others.0, (good.1, others.1))
+        | inr bad ↦ inr (bad.0, contains_later child bad.0 children bad.1, bad.2, bad.3)
       ]
+    ]
 
     set_settled : (parts : List (List ℕ)) → ((gs : Formulas) × IsSet Below parts gs) ⊎ ((e : Refusal) × SetFault Fails parts e)
     set_settled parts = elim (message_settled set_keys parts) [
-        | inr bad ↦ inr (bad.0, set_fields bad.1)
-        | inl message ↦ elim (nil_or_not (payloads 1 message.0)) [
-          | inl none ↦ inr (Missing, set_empty message.0 message.1 none refl)
-          | inr some ↦ elim (rules_settled (payloads 1 message.0)) [
-            | inl rules ↦ inl (rules.0, (message.0, message.1, some, rules.1))
-            | inr bad ↦ inr (bad.2, in_rule message.0 bad.0 message.1.0 bad.1 bad.3)
-          ]
+      | inr bad ↦ inr (bad.0, set_fields bad.1)
+      | inl message ↦ elim (nil_or_not (payloads 1 message.0)) [
+        | inl none ↦ inr (Missing, set_empty message.0 message.1 none refl)
+        | inr some ↦ elim (rules_settled (payloads 1 message.0)) [
+          | inl rules ↦ inl (rules.0, (message.0, message.1, some, rules.1))
+          | inr bad ↦ inr (bad.2, in_rule message.0 bad.0 message.1.0 bad.1 bad.3)
         ]
       ]
+    ]
 
     module _ (side : Side) (parts : List (List ℕ)) (fs : List Wire) (message : IsMessage (keys_of side) parts fs) where
       -- the last member's run settles the rule, by the member's number
@@ -97,12 +97,12 @@ module _ (Below : List (List ℕ) → Formula → Type 0) (Fails : List (List �
 
     level_settled : (side : Side) (parts : List (List ℕ)) → ((f : Formula) × IsLevel side Below parts f) ⊎ ((e : Refusal) × LevelFault side Fails parts e)
     level_settled side parts = elim (message_settled (keys_of side) parts) [
-        | inr bad ↦ inr (bad.0, own_fields bad.1)
-        | inl message ↦ elim (last_number (member_run (keys_of side) message.0)) as (λ o. last_number (member_run (keys_of side) message.0) ≡ o → ((f : Formula) × IsLevel side Below parts f) ⊎ ((e : Refusal) × LevelFault side Fails parts e)) [
-          | None ↦ λ none. inr (Missing, no_member message.0 message.1 none refl)
-          | Some n ↦ λ at. run_settled side parts message.0 message.1 n at
-        ] refl
-      ]
+      | inr bad ↦ inr (bad.0, own_fields bad.1)
+      | inl message ↦ elim (last_number (member_run (keys_of side) message.0)) as (λ o. last_number (member_run (keys_of side) message.0) ≡ o → ((f : Formula) × IsLevel side Below parts f) ⊎ ((e : Refusal) × LevelFault side Fails parts e)) [
+        | None ↦ λ none. inr (Missing, no_member message.0 message.1 none refl)
+        | Some n ↦ λ at. run_settled side parts message.0 message.1 n at
+      ] refl
+    ]
 
 -- a rule's payloads are a rule, or have a fault
 pub rule_settled : (side : Side) (depth : ℕ) (parts : List (List ℕ)) → ((f : Formula) × IsRule side depth parts f) ⊎ ((e : Refusal) × RuleFault side depth parts e)
@@ -134,9 +134,9 @@ module _ (Below : List (List ℕ) → Formula → Type 0) (Fails : List (List �
     rules_apart [] (formula g gs) child e are here bad = are
     rules_apart (c ∷ children) end child e are here bad = are
     rules_apart (c ∷ children) (formula g gs) child e are here bad = elim (contains_cases c child children here) [
-        | inl same ↦ let P : List ℕ → Type 0 = λ p. Fails (p ∷ []) e in below_apart (c ∷ []) g e are.0 (subst P (sym same) bad)
-        | inr later ↦ rules_apart children gs child e are.1 later bad
-      ]
+      | inl same ↦ let P : List ℕ → Type 0 = λ p. Fails (p ∷ []) e in below_apart (c ∷ []) g e are.0 (subst P (sym same) bad)
+      | inr later ↦ rules_apart children gs child e are.1 later bad
+    ]
 
     set_apart : (parts : List (List ℕ)) (gs : Formulas) (e : Refusal) → IsSet Below parts gs → SetFault Fails parts e → ⊥
     set_apart parts gs e (fs, message, some, are) (set_fields bad) = message_apart set_keys parts fs e message bad

@@ -1,5 +1,5 @@
 -- What a permission or a principal says of a request: Envoy RBAC, "Permission" and "Principal" (config.rbac.v3).
-use Rattle.std.specs.Prelude.{ℕ, Bool, true, false, not, ◌&&◌, ◌||◌, List, [], ◌∷◌}
+use Rattle.std.specs.Prelude.{Bool, true, false, not, ◌&&◌, ◌||◌}
 use Rattle.attributes.specs.Request.{RequestValue}
 
 mutual
@@ -9,6 +9,7 @@ mutual
     all_of : Formulas → Formula
     any_of : Formulas → Formula
     none_of : Formula → Formula
+
   -- rules one after the other
   pub data Formulas : Type 0 where
     end : Formulas
@@ -21,10 +22,12 @@ abbrev mutual
   holds r (all_of fs) = all_hold r fs
   holds r (any_of fs) = some_hold r fs
   holds r (none_of f) = not (holds r f)
+
   -- whether it is as each of the formulas says
   pub all_hold : RequestValue → Formulas → Bool
   all_hold r end = true
   all_hold r (formula f fs) = holds r f && all_hold r fs
+
   -- whether it is as some of the formulas says
   pub some_hold : RequestValue → Formulas → Bool
   some_hold r end = false

@@ -6,7 +6,6 @@ use Rattle.proto_wire.specs.Messages.{IsMessage, MessageFault}
 use Rattle.proto_wire.specs.declared.refusal.Refusal.{Refusal}
 use Rattle.proto_wire.specs.declared.refusal.Refusal.TheVariants.{Missing, OutOfRange, Unsupported, TooLarge}
 use Rattle.proto_wire.specs.declared.rules.Key.{Key}
-use Rattle.proto_wire.specs.declared.field.WireType.{WireType}
 use Rattle.proto_wire.specs.declared.field.WireType.TheVariants.{Varint, Text}
 use Rattle.rbac_match.specs.Formula.{Formula, anything, all_of, any_of, none_of, Formulas, end, formula}
 use Rattle.rbac_match.specs.declared.rule.Side.{Side}

@@ -26,8 +26,11 @@ pub enum Member<'a> {
 }
 
 const ALL: u32 = 1;
+
 const EITHER: u32 = 2;
+
 const ANY: u32 = 3;
+
 const NOT: u32 = 8;
 
 /// Reads a rule's own fields, which stand in the parts.

@@ -37,7 +37,12 @@ pub fn read_rule(alloc: Global, side: Side, parts: &[&[u8]], depth: u32) -> Resu
 
 /// Reads rules of at most `depth` levels, each of which has one payload.
 #[cycle(rule)]
-pub fn read_rules(alloc: Global, side: Side, payloads: &[&[u8]], depth: u32) -> Result<Vec<Rule>, Refusal>
+pub fn read_rules(
+    alloc: Global,
+    side: Side,
+    payloads: &[&[u8]],
+    depth: u32,
+) -> Result<Vec<Rule>, Refusal>
     ensures found { IfOk result (λ rules. AreRules (IsRule side depth) (texts payloads.now) (rules_view rules.items)) }
     ensures fault { IfErr result (λ e. (e ≡ Memory) ⊎ SomeRuleFault side depth (texts payloads.now) e) }
 {

@@ -5,8 +5,7 @@ use Rattle.std.specs.List.{position_from}
 use Rattle.std.specs.Ordering.{eq_by_cmp, is_eq, is_lt}
 use Rattle.std.specs.Cmp.{tied_itself}
 use Rattle.std.specs.Cmp.Lexicographic.{nat_list_cmp_total}
-use Rattle.std.specs.FinMap.{find, is_sorted, get, keys, entries, from_entries, get-from_entries}
-use Rattle.std.specs.FinMap.Entries.{below_all}
+use Rattle.std.specs.FinMap.{find, is_sorted, get, keys, from_entries, get-from_entries}
 use Rattle.attributes.specs.Request.{RequestValue}
 use Rattle.rbac_policy.specs.Filter.{Policy, Filter, name_cmp}
 use Rattle.rbac_policy.specs.Verdict.{policy_matches, SomeMatches, IsLeastMatch, number_of, IsVerdict}
@@ -41,28 +40,27 @@ module _ {X : Type 0} (t : X → Bool) where
   module _ (i : ℕ) (e : List ℕ × X) (es : List (List ℕ × X)) (sorted : T (is_sorted name_cmp (e ∷ es))) where
     least_first : (other : List ℕ) → Passes (e ∷ es) other → is_lt (name_cmp other e.0) ≡ false
     least_first other = elim (eq_by_cmp name_cmp other e.0) as (λ b. eq_by_cmp name_cmp other e.0 ≡ b → IsSomeAnd (cond b (Some e.1) (find name_cmp other es)) (λ x. IsTrue (t x)) → is_lt (name_cmp other e.0) ≡ false) [
-        | true ↦ λ same h. ap (λ q. is_lt (name_cmp q e.0)) (tie other e.0 same) ∙ ap is_lt (tied_itself nat_list_cmp_total e.0)
-        | false ↦ λ apart h. let p = passing (find name_cmp other es) h in not_below e.0 other (above_all e.0 es other p.0 (both_first _ _ sorted) p.1)
-      ] refl
+      | true ↦ λ same h. ap (λ q. is_lt (name_cmp q e.0)) (tie other e.0 same) ∙ ap is_lt (tied_itself nat_list_cmp_total e.0)
+      | false ↦ λ apart h. let p = passing (find name_cmp other es) h in not_below e.0 other (above_all e.0 es other p.0 (both_first _ _ sorted) p.1)
+    ] refl
 
     first_passes : t e.1 ≡ true → Reports i (e ∷ es) (Some i)
     first_passes passes =
         let here : Passes (e ∷ es) e.0 = (let P : Option X → Type 0 = λ o. IsSomeAnd o (λ x. IsTrue (t x)) in subst P (sym (found_itself e es)) passes) in
         let p : List ℕ → Bool = λ n. is_lt (name_cmp n e.0) in
         let none : count_by p (map (λ x. x.0) (e ∷ es)) ≡ 0 =
-            
-            (let rest : count_by p (map (λ x. x.0) es) ≡ 0 = none_below e.0 es (both_first _ _ sorted) in
-            let counted : count_by p (map (λ x. x.0) (e ∷ es)) ≡ 0 + count_by p (map (λ x. x.0) es) =
-                sum_by-cons (λ n. cond (p n) 1 0) e.0 (map (λ x. x.0) es) ∙ ap (λ r. cond (is_lt r) 1 0 + count_by p (map (λ x. x.0) es)) (tied_itself nat_list_cmp_total e.0) in
-            omega (arith, counted, rest)) in
+        (let rest : count_by p (map (λ x. x.0) es) ≡ 0 = none_below e.0 es (both_first _ _ sorted) in
+        let counted : count_by p (map (λ x. x.0) (e ∷ es)) ≡ 0 + count_by p (map (λ x. x.0) es) =
+        sum_by-cons (λ n. cond (p n) 1 0) e.0 (map (λ x. x.0) es) ∙ ap (λ r. cond (is_lt r) 1 0 + count_by p (map (λ x. x.0) es)) (tied_itself nat_list_cmp_total e.0) in
+        omega (arith, counted, rest)) in
         (e.0, (here, least_first), omega (arith, none))
 
     -- a name of the rest, where the first does not pass
     in_rest : t e.1 ≡ false → (name : List ℕ) → Passes (e ∷ es) name → Passes es name
     in_rest fails name = elim (eq_by_cmp name_cmp name e.0) as (λ b. IsSomeAnd (cond b (Some e.1) (find name_cmp name es)) (λ x. IsTrue (t x)) → Passes es name) [
-        | true ↦ λ h. let clash : true ≡ false = sym h ∙ fails in cc
-        | false ↦ λ h. h
-      ]
+      | true ↦ λ h. let clash : true ≡ false = sym h ∙ fails in cc
+      | false ↦ λ h. h
+    ]
 
     later_passes : t e.1 ≡ false → (o : Option ℕ) → Reports (i + 1) es o → Reports i (e ∷ es) o
     later_passes fails None none = λ name h. none name (in_rest fails name h)
@@ -71,15 +69,15 @@ module _ {X : Type 0} (t : X → Bool) where
         let there : Passes (e ∷ es) name = (let P : Option X → Type 0 = λ o. IsSomeAnd o (λ x. IsTrue (t x)) in subst P (sym (found_later e es name p.0 sorted p.1)) p.2) in
         let below : List ℕ → Bool = λ n. is_lt (name_cmp n name) in
         let counted : count_by below (map (λ x. x.0) (e ∷ es)) ≡ 1 + count_by below (map (λ x. x.0) es) =
-            sum_by-cons (λ n. cond (below n) 1 0) e.0 (map (λ x. x.0) es) ∙ ap (λ r. cond (is_lt r) 1 0 + count_by below (map (λ x. x.0) es)) (above_all e.0 es name p.0 (both_first _ _ sorted) p.1) in
+        sum_by-cons (λ n. cond (below n) 1 0) e.0 (map (λ x. x.0) es) ∙ ap (λ r. cond (is_lt r) 1 0 + count_by below (map (λ x. x.0) es)) (above_all e.0 es name p.0 (both_first _ _ sorted) p.1) in
         (name, (there, λ other h. least other (in_rest fails other h)), omega (arith, count, counted))
 
   pub first_reports : (i : ℕ) (es : List (List ℕ × X)) → T (is_sorted name_cmp es) → Reports i es (position_from (λ e. t e.1) i es)
   first_reports i [] sorted = λ name h. h
   first_reports i (e ∷ es) sorted = elim (t e.1) as (λ b. t e.1 ≡ b → Reports i (e ∷ es) (cond b (Some i) (position_from (λ x. t x.1) (i + 1) es))) [
-      | true ↦ λ passes. first_passes i e es sorted passes
-      | false ↦ λ fails. later_passes i e es sorted fails (position_from (λ x. t x.1) (i + 1) es) (first_reports (i + 1) es (both_second _ _ sorted))
-    ] refl
+    | true ↦ λ passes. first_passes i e es sorted passes
+    | false ↦ λ fails. later_passes i e es sorted fails (position_from (λ x. t x.1) (i + 1) es) (first_reports (i + 1) es (both_second _ _ sorted))
+  ] refl
 
 -- the answer of a filter of these policies
 module _ (r : RequestValue) (ps : List (List ℕ × Policy)) (sorted : T (is_sorted name_cmp ps)) where

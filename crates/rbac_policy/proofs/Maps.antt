@@ -1,11 +1,11 @@
 -- The code's map of policies' payloads, and the map of the entries that were read.
-use Rattle.std.proofs.Common.{◌≡◌, ℕ, ◌+◌, ◌<◌, zero, suc, Bool, true, false, cond, List, [], ◌∷◌, ◌++◌, map, reverse, Option, Some, None, Bor, get_or, length, refl, sym, ap, subst, arith, ◌∙◌, Contains}
+use Rattle.std.proofs.Common.{◌≡◌, ℕ, true, false, cond, List, [], ◌∷◌, ◌++◌, map, reverse, Some, None, Bor, refl, ap, ◌∙◌}
 use Rattle.std.proofs.lemmas.List.{reverse-append, map-append}
 use Rattle.std.specs.Ordering.{is_eq, match_ordering, nat_cmp}
 use Rattle.std.specs.Cmp.Lexicographic.{slice_cmp, nat_list_cmp_total}
 use Rattle.std.specs.BTreeMap.{insert_entry}
 use Rattle.std.specs.Map.{lookup}
-use Rattle.std.specs.FinMap.{FinMap, entries, find, from_entries, entries-insert}
+use Rattle.std.specs.FinMap.{entries, find, from_entries, entries-insert}
 use Rattle.std.specs.FinMap.Entries.{put, by_order}
 use Rattle.std.specs.declared.vec.Vec.{Vec}
 use Rattle.std.specs.declared.alloc.Global.{Global}
@@ -26,7 +26,7 @@ pub parts_views-insert : (es : List (Bor (List ℕ) × Vec (Bor (List ℕ)) Glob
 parts_views-insert [] k v = refl
 parts_views-insert (e ∷ es) k v =
     elim (name_cmp k.now e.0.now) as (λ o. parts_views (match_ordering o ((k, v) ∷ e ∷ es) ((e.0, v) ∷ es) (e ∷ insert_entry text_cmp es k v))
-        ≡ by_order o ((k.now, texts v.items) ∷ parts_views (e ∷ es)) ((e.0.now, texts v.items) ∷ parts_views es) ((e.0.now, texts e.1.items) ∷ put name_cmp k.now (texts v.items) (parts_views es))) [
+    ≡ by_order o ((k.now, texts v.items) ∷ parts_views (e ∷ es)) ((e.0.now, texts v.items) ∷ parts_views es) ((e.0.now, texts e.1.items) ∷ put name_cmp k.now (texts v.items) (parts_views es))) [
       | Less ↦ refl
       | Equal ↦ refl
       | Greater ↦ ap (λ xs. (e.0.now, texts e.1.items) ∷ xs) (parts_views-insert es k v)

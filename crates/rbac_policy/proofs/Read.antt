@@ -1,13 +1,9 @@
 -- What was read of a filter's rules, put together.
-use Rattle.std.proofs.Common.{◌≡◌, ◌≢◌, ℕ, ◌<◌, ◌≤◌, T, IsTrue, Bool, true, false, List, [], ◌∷◌, map, length, Option, Some, None, MatchOption, IsSomeAnd, refl, sym, ap, subst, ◌∙◌, arith}
-use Rattle.std.proofs.lemmas.List.{length-map}
-use Rattle.std.specs.FinMap.{FinMap, get, len, entries, entries_sorted, find, is_sorted, from_entries, get-entries, get-from_entries, len-entries}
+use Rattle.std.proofs.Common.{ℕ, T, IsTrue, Bool, true, false, List, refl, subst}
+use Rattle.std.specs.FinMap.{entries, entries_sorted, is_sorted, from_entries, get-entries, get-from_entries}
 use Rattle.std.specs.Cmp.Lexicographic.{nat_list_cmp_total}
-use Rattle.proto_wire.specs.Fields.{Wire}
-use Rattle.proto_wire.specs.Rules.{payloads}
-use Rattle.proto_wire.specs.declared.refusal.Refusal.{Refusal}
-use Rattle.rbac_policy.specs.Filter.{Policy, Filter, name_cmp}
-use Rattle.rbac_policy.specs.Message.{Entry, AreEntries, map_of, IsPolicy, ArePolicies}
+use Rattle.rbac_policy.specs.Filter.{Policy, name_cmp}
+use Rattle.rbac_policy.specs.Message.{Entry, map_of, ArePolicies}
 use Rattle.rbac_policy.specs.Named.{Held}
 use Rattle.rbac_policy.proofs.HeldPolicies.{held_find, sorted_held}
 

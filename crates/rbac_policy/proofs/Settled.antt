@@ -1,14 +1,12 @@
 -- The bytes of a filter are its message or have a fault, and never both.
-use Rattle.std.proofs.Common.{◌≡◌, ◌≢◌, ℕ, ◌+◌, ◌%◌, ◌^◌, ◌<◌, ◌≤◌, ◌⊎◌, inl, inr, Bool, true, false, List, [], ◌∷◌, ◌++◌, Contains, Option, Some, None, IsSomeAnd, MatchOption, IsTrue, refl, sym, ap, subst, arith, ◌∙◌, cond, T, ◌&&◌}
-use Rattle.std.specs.Ordering.{eq_by_cmp, is_eq, is_lt}
-use Rattle.std.specs.declared.cmp.Ordering.TheVariants.{Less, Equal, Greater}
+use Rattle.std.proofs.Common.{◌≡◌, ℕ, ◌<◌, ◌≤◌, ◌⊎◌, inl, inr, true, false, List, [], ◌∷◌, Contains, Option, Some, None, IsSomeAnd, MatchOption, refl, sym, ap, subst, arith, ◌∙◌, cond, T}
+use Rattle.std.specs.Ordering.{is_eq}
 use Rattle.std.specs.Cmp.{tied_itself}
 use Rattle.std.specs.Cmp.Lexicographic.{nat_list_cmp_total}
-use Rattle.std.specs.FinMap.Entries.{below_all}
 use Rattle.std.specs.Str.{IsUtf8, is_utf8}
 use Rattle.std.proofs.lemmas.Bool.{cases_lt}
 use Rattle.std.proofs.lemmas.Str.{IsUtf8-from_is_utf8, is_utf8-from_IsUtf8}
-use Rattle.std.specs.FinMap.{FinMap, get, len, from_entries, entries, entries_sorted, find, is_sorted, get-entries, get-from_entries, IsAntisymmetric, slice_cmp-IsAntisymmetric, nat_cmp-IsAntisymmetric}
+use Rattle.std.specs.FinMap.{FinMap, get, len, from_entries, entries, entries_sorted, find, is_sorted, get-entries, get-from_entries}
 use Rattle.proto_wire.specs.Fields.{Wire}
 use Rattle.proto_wire.specs.Rules.{payloads, Merges}
 use Rattle.proto_wire.specs.Messages.{IsMessage, MessageFault}
@@ -33,29 +31,29 @@ use Rattle.rbac_policy.specs.declared.filter.Action.TheVariants.{Allow, Deny, Lo
 -- bytes are text or not
 utf8_or_not : (bytes : List ℕ) → IsUtf8 bytes ⊎ (IsUtf8 bytes → ⊥)
 utf8_or_not bytes = elim (is_utf8 bytes) as (λ b. is_utf8 bytes ≡ b → IsUtf8 bytes ⊎ (IsUtf8 bytes → ⊥)) [
-    | true ↦ λ e. inl (IsUtf8-from_is_utf8 bytes e)
-    | false ↦ λ e. inr (λ h. let clash : true ≡ false = sym (is_utf8-from_IsUtf8 bytes h) ∙ e in cc)
-  ] refl
+  | true ↦ λ e. inl (IsUtf8-from_is_utf8 bytes e)
+  | false ↦ λ e. inr (λ h. let clash : true ≡ false = sym (is_utf8-from_IsUtf8 bytes h) ∙ e in cc)
+] refl
 
 -- a payload is an entry or has a fault
 entry_settled : (part : List ℕ) → ((entry : Entry) × IsEntry part entry) ⊎ ((e : Refusal) × EntryFault part e)
 entry_settled part = elim (message_settled entry_keys (part ∷ [])) [
-    | inr bad ↦ inr (bad.0, entry_fields bad.1)
-    | inl message ↦ elim (utf8_or_not (name_in message.0)) [
-      | inl text ↦ inl (record { name = name_in message.0; parts = payloads 2 message.0 }, (message.0, message.1, text, refl))
-      | inr bad ↦ inr (BadText, entry_name message.0 message.1.0 bad refl)
-    ]
+  | inr bad ↦ inr (bad.0, entry_fields bad.1)
+  | inl message ↦ elim (utf8_or_not (name_in message.0)) [
+    | inl text ↦ inl (record { name = name_in message.0; parts = payloads 2 message.0 }, (message.0, message.1, text, refl))
+    | inr bad ↦ inr (BadText, entry_name message.0 message.1.0 bad refl)
   ]
+]
 
 entries_settled : (parts : List (List ℕ)) → ((es : List Entry) × AreEntries parts es) ⊎ ((part : List ℕ) × Contains parts part × (e : Refusal) × EntryFault part e)
 entries_settled [] = inl ([], tt)
 entries_settled (part ∷ parts) = elim (entry_settled part) [
-    | inr bad ↦ inr (part, contains_first part parts, bad.0, bad.1)
-    | inl entry ↦ elim (entries_settled parts) [
-      | inl others ↦ inl (entry.0 ∷ others.0, (entry.1, others.1))
-      | inr bad ↦ inr (bad.0, contains_later part bad.0 parts bad.1, bad.2, bad.3)
-    ]
+  | inr bad ↦ inr (part, contains_first part parts, bad.0, bad.1)
+  | inl entry ↦ elim (entries_settled parts) [
+    | inl others ↦ inl (entry.0 ∷ others.0, (entry.1, others.1))
+    | inr bad ↦ inr (bad.0, contains_later part bad.0 parts bad.1, bad.2, bad.3)
   ]
+]
 
 -- an entry has no fault, and is one entry
 entry_apart : (part : List ℕ) (entry : Entry) (e : Refusal) → IsEntry part entry → EntryFault part e → ⊥
@@ -73,9 +71,9 @@ entries_apart : (parts : List (List ℕ)) (es : List Entry) (part : List ℕ) (e
 entries_apart [] es part e are here bad = let lt : here.0 < 0 = here.1 in absurd (omega arith)
 entries_apart (p ∷ parts) [] part e are here bad = are
 entries_apart (p ∷ parts) (x ∷ es) part e are here bad = elim (contains_cases p part parts here) [
-    | inl same ↦ let P : List ℕ → Type 0 = λ q. EntryFault q e in entry_apart p x e are.0 (subst P (sym same) bad)
-    | inr later ↦ entries_apart parts es part e are.1 later bad
-  ]
+  | inl same ↦ let P : List ℕ → Type 0 = λ q. EntryFault q e in entry_apart p x e are.0 (subst P (sym same) bad)
+  | inr later ↦ entries_apart parts es part e are.1 later bad
+]
 
 -- where each payload is an entry, those are the entries that are readable
 pub entries_readable : (parts : List (List ℕ)) (es : List Entry) → AreEntries parts es → Readable parts es
@@ -101,38 +99,46 @@ ruled side fs k = rules_all_settled side rule_depth (payloads k fs)
 -- fields have a condition or none, and both sides or not
 unconditional_settled : (fs : List Wire) → IsUnconditional fs ⊎ ((e : Refusal) × ConditionFault fs e)
 unconditional_settled fs = elim (nil_or_not (payloads 3 fs)) [
-    | inr there ↦ inr (Unsupported, unchecked there refl)
-    | inl plain ↦ elim (nil_or_not (payloads 4 fs)) [ | inr there ↦ inr (Unsupported, checked there refl) | inl none ↦ inl (plain, none) ]
-  ]
+  | inr there ↦ inr (Unsupported, unchecked there refl)
+  | inl plain ↦ elim (nil_or_not (payloads 4 fs)) [ inr there ↦ inr (Unsupported, checked there refl) | inl none ↦ inl (plain, none) ]
+]
 
 sides_settled : (fs : List Wire) → HasBothSides fs ⊎ ((e : Refusal) × SideFault fs e)
 sides_settled fs = elim (nil_or_not (payloads 1 fs)) [
-    | inl none ↦ inr (Missing, no_permission none refl)
-    | inr permission ↦ elim (nil_or_not (payloads 2 fs)) [ | inl none ↦ inr (Missing, no_principal none refl) | inr principal ↦ inl (permission, principal) ]
-  ]
+  | inl none ↦ inr (Missing, no_permission none refl)
+  | inr permission ↦ elim (nil_or_not (payloads 2 fs)) [ inl none ↦ inr (Missing, no_principal none refl) | inr principal ↦ inl (permission, principal) ]
+]
 
 fields_settled : (parts : List (List ℕ)) (fs : List Wire) → IsMessage policy_keys parts fs → IsUnconditional fs → HasBothSides fs → ((policy : Policy) × IsPolicy parts policy) ⊎ ((e : Refusal) × PolicyFault parts e)
 fields_settled parts fs message plain sides = elim (ruled Permission fs 1) [
-    | inr bad ↦ inr (bad.2, in_permission fs message.0 (bad.0, bad.1, bad.3))
-    | inl permissions ↦ elim (ruled Principal fs 2) [
-      | inr bad ↦ inr (bad.2, in_principal fs message.0 (bad.0, bad.1, bad.3))
-      | inl principals ↦ inl (record { permissions = permissions.0; principals = principals.0 }, record {
-          fs = fs; message = message; unconditional = plain; sides = sides; permissions = permissions.1; principals = principals.1
-        })
-    ]
+  | inr bad ↦ inr (bad.2, in_permission fs message.0 (bad.0, bad.1, bad.3))
+  | inl permissions ↦ elim (ruled Principal fs 2) [
+    | inr bad ↦ inr (bad.2, in_principal fs message.0 (bad.0, bad.1, bad.3))
+    | inl principals ↦ inl (
+      record { permissions = permissions.0; principals = principals.0 },
+      record {
+        fs = fs;
+        message = message;
+        unconditional = plain;
+        sides = sides;
+        permissions = permissions.1;
+        principals = principals.1;
+      },
+    )
   ]
+]
 
 policy_settled : (parts : List (List ℕ)) → ((policy : Policy) × IsPolicy parts policy) ⊎ ((e : Refusal) × PolicyFault parts e)
 policy_settled parts = elim (message_settled policy_keys parts) [
-    | inr bad ↦ inr (bad.0, policy_fields bad.1)
-    | inl message ↦ elim (unconditional_settled message.0) [
-      | inr bad ↦ inr (bad.0, conditional message.0 message.1.0 bad.1)
-      | inl plain ↦ elim (sides_settled message.0) [
-        | inr bad ↦ inr (bad.0, lacks_side message.0 message.1 bad.1)
-        | inl sides ↦ fields_settled parts message.0 message.1 plain sides
-      ]
+  | inr bad ↦ inr (bad.0, policy_fields bad.1)
+  | inl message ↦ elim (unconditional_settled message.0) [
+    | inr bad ↦ inr (bad.0, conditional message.0 message.1.0 bad.1)
+    | inl plain ↦ elim (sides_settled message.0) [
+      | inr bad ↦ inr (bad.0, lacks_side message.0 message.1 bad.1)
+      | inl sides ↦ fields_settled parts message.0 message.1 plain sides
     ]
   ]
+]
 
 -- not both of either
 condition_apart : (fs : List Wire) (e : Refusal) → IsUnconditional fs → ConditionFault fs e → ⊥
@@ -161,33 +167,36 @@ held_settled : (ns : List (List ℕ × List (List ℕ))) → T (is_sorted name_c
     → ((ps : List (List ℕ × Policy)) × Held ns ps) ⊎ ((e : Refusal) × SomePolicyFault ns e)
 held_settled [] sorted = inl ([], refl)
 held_settled (n ∷ ns) sorted = elim (policy_settled n.1) [
-    | inr bad ↦ inr (bad.0, (n.0, n.1, ap (λ b. cond b (Some n.1) (find name_cmp n.0 ns)) (ap is_eq (tied_itself nat_list_cmp_total n.0)), bad.1))
-    | inl policy ↦ elim (held_settled ns (both_second _ _ sorted)) [
-      | inl others ↦ inl ((n.0, policy.0) ∷ others.0, (policy.0, others.0, policy.1, others.1, refl))
-      | inr (e, (name, parts, found, bad)) ↦ inr (e, (name, parts, found_later n ns name parts sorted found, bad))
-    ]
+  | inr bad ↦ inr (bad.0, (n.0, n.1, ap (λ b. cond b (Some n.1) (find name_cmp n.0 ns)) (ap is_eq (tied_itself nat_list_cmp_total n.0)), bad.1))
+  | inl policy ↦ elim (held_settled ns (both_second _ _ sorted)) [
+    | inl others ↦ inl ((n.0, policy.0) ∷ others.0, (policy.0, others.0, policy.1, others.1, refl))
+    | inr (e, (name, parts, found, bad)) ↦ inr (e, (name, parts, found_later n ns name parts sorted found, bad))
   ]
+]
 
 policies_settled : (named : FinMap name_cmp (List (List ℕ)))
     → ((policies : FinMap name_cmp Policy) × ArePolicies named policies) ⊎ ((e : Refusal) × SomePolicyFault (entries named) e)
 policies_settled named = elim (held_settled (entries named) (entries_sorted named)) [
-    | inr bad ↦ inr bad
-    | inl held ↦ inl (from_entries held.0, λ name.
-        rw (get-entries named name, get-from_entries nat_list_cmp_total held.0 name) (held_find (entries named) held.0 held.1 name))
-  ]
+  | inr bad ↦ inr bad
+  | inl held ↦ inl (
+    from_entries held.0,
+    λ name.
+        rw (get-entries named name, get-from_entries nat_list_cmp_total held.0 name) (held_find (entries named) held.0 held.1 name),
+  )
+]
 
 -- the number of an action is one of three, or too great
 action_settled : (n : ℕ) → ((action : Action) × (n ≡ action_number action)) ⊎ (2 < n)
 action_settled n = elim (same_or_not n 0) [
-    | inl is ↦ inl (Allow, is)
-    | inr not_0 ↦ elim (same_or_not n 1) [
-      | inl is ↦ inl (Deny, is)
-      | inr not_1 ↦ elim (same_or_not n 2) [
-        | inl is ↦ inl (Log, is)
-        | inr not_2 ↦ inr (omega arith)
-      ]
+  | inl is ↦ inl (Allow, is)
+  | inr not_0 ↦ elim (same_or_not n 1) [
+    | inl is ↦ inl (Deny, is)
+    | inr not_1 ↦ elim (same_or_not n 2) [
+      | inl is ↦ inl (Log, is)
+      | inr not_2 ↦ inr (omega arith)
     ]
   ]
+]
 
 action_small : (n : ℕ) (action : Action) → n ≡ action_number action → 2 < n → ⊥
 action_small n Allow is large = absurd (omega arith)
@@ -198,42 +207,50 @@ action_small n Log is large = absurd (omega arith)
 entries_done : (fs : List Wire) (action : Action) → payloads 3 fs ≡ [] → action_in fs ≡ action_number action → (es : List Entry) → AreEntries (payloads 2 fs) es
     → ((filter : Filter) × AreFilterRules fs filter) ⊎ ((e : Refusal) × RulesFault fs e)
 entries_done fs action unaudited is es are = elim (cases_lt most_policies (len (map_of es))) [
-    | inl many ↦ inr (TooLarge, too_many es (entries_readable (payloads 2 fs) es are) many refl)
-    | inr few ↦ elim (policies_settled (map_of es)) [
-      | inr bad ↦ inr (bad.0, in_policy es (entries_readable (payloads 2 fs) es are) bad.1)
-      | inl held ↦ inl (record { action = action; policies = held.0 }, record {
-          entries = es; unaudited = unaudited; action = is; read = are; few = few; policies = held.1
-        })
-    ]
+  | inl many ↦ inr (TooLarge, too_many es (entries_readable (payloads 2 fs) es are) many refl)
+  | inr few ↦ elim (policies_settled (map_of es)) [
+    | inr bad ↦ inr (bad.0, in_policy es (entries_readable (payloads 2 fs) es are) bad.1)
+    | inl held ↦ inl (
+      record { action = action; policies = held.0 },
+      record {
+        entries = es;
+        unaudited = unaudited;
+        action = is;
+        read = are;
+        few = few;
+        policies = held.1;
+      },
+    )
   ]
+]
 
 rules_fields_settled : (fs : List Wire) → ((filter : Filter) × AreFilterRules fs filter) ⊎ ((e : Refusal) × RulesFault fs e)
 rules_fields_settled fs = elim (nil_or_not (payloads 3 fs)) [
-    | inr there ↦ inr (Unsupported, audited there refl)
-    | inl unaudited ↦ elim (action_settled (action_in fs)) [
-      | inr large ↦ inr (OutOfRange, bad_action large refl)
-      | inl action ↦ elim (entries_settled (payloads 2 fs)) [
-        | inr bad ↦ inr (bad.2, in_entry bad.0 bad.1 bad.3)
-        | inl read ↦ entries_done fs action.0 unaudited action.1 read.0 read.1
-      ]
+  | inr there ↦ inr (Unsupported, audited there refl)
+  | inl unaudited ↦ elim (action_settled (action_in fs)) [
+    | inr large ↦ inr (OutOfRange, bad_action large refl)
+    | inl action ↦ elim (entries_settled (payloads 2 fs)) [
+      | inr bad ↦ inr (bad.2, in_entry bad.0 bad.1 bad.3)
+      | inl read ↦ entries_done fs action.0 unaudited action.1 read.0 read.1
     ]
   ]
+]
 
 -- bytes are the message of a filter or have a fault
 pub filter_settled : (bytes : List ℕ) → ((filter : Filter) × IsFilter bytes filter) ⊎ ((e : Refusal) × FilterFault bytes e)
 filter_settled bytes = elim (message_settled filter_keys (bytes ∷ [])) [
-    | inr bad ↦ inr (bad.0, filter_fields bad.1)
-    | inl top ↦ elim (nil_or_not (payloads 1 top.0)) [
-      | inl none ↦ inr (Missing, no_rules top.0 top.1 none refl)
-      | inr there ↦ elim (message_settled rules_keys (payloads 1 top.0)) [
-        | inr bad ↦ inr (bad.0, rules_fields top.0 top.1.0 there bad.1)
-        | inl inner ↦ elim (rules_fields_settled inner.0) [
-          | inr bad ↦ inr (bad.0, in_rules top.0 inner.0 top.1.0 there inner.1.0 bad.1)
-          | inl rules ↦ inl (rules.0, record { top = top.0; fs = inner.0; message = top.1; there = there; inner = inner.1; rules = rules.1 })
-        ]
+  | inr bad ↦ inr (bad.0, filter_fields bad.1)
+  | inl top ↦ elim (nil_or_not (payloads 1 top.0)) [
+    | inl none ↦ inr (Missing, no_rules top.0 top.1 none refl)
+    | inr there ↦ elim (message_settled rules_keys (payloads 1 top.0)) [
+      | inr bad ↦ inr (bad.0, rules_fields top.0 top.1.0 there bad.1)
+      | inl inner ↦ elim (rules_fields_settled inner.0) [
+        | inr bad ↦ inr (bad.0, in_rules top.0 inner.0 top.1.0 there inner.1.0 bad.1)
+        | inl rules ↦ inl (rules.0, record { top = top.0; fs = inner.0; message = top.1; there = there; inner = inner.1; rules = rules.1 })
       ]
     ]
   ]
+]
 
 -- where a name's payloads are a policy they have no fault
 held_apart : (named : Option (List (List ℕ))) (held : Option Policy) (parts : List (List ℕ)) (e : Refusal) → named ≡ Some parts

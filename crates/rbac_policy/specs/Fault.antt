@@ -1,5 +1,5 @@
 -- What is wrong with bytes that are no admissible filter; each fault names its refusal.
-use Rattle.std.specs.Prelude.{◌≡◌, ◌≢◌, ℕ, ◌<◌, ◌⊎◌, List, [], ◌∷◌, Option, Some, None, Contains}
+use Rattle.std.specs.Prelude.{◌≡◌, ◌≢◌, ℕ, ◌<◌, ◌⊎◌, List, [], ◌∷◌, Some, Contains}
 use Rattle.std.specs.Str.{IsUtf8}
 use Rattle.std.specs.FinMap.{entries, find, len}
 use Rattle.proto_wire.specs.Fields.{Wire}

@@ -1,5 +1,5 @@
 -- The messages of an RBAC filter: Envoy v3 `extensions/filters/http/rbac/v3/rbac.proto` and `config/rbac/v3/rbac.proto`.
-use Rattle.std.specs.Prelude.{◌≡◌, ◌≢◌, ℕ, ◌%◌, ◌^◌, ◌<◌, ◌≤◌, List, [], ◌∷◌, Option, Some, None, unwrap_or, map, reverse, IsSomeAnd, MatchOption}
+use Rattle.std.specs.Prelude.{◌≡◌, ◌≢◌, ℕ, ◌%◌, ◌^◌, ◌≤◌, List, [], ◌∷◌, None, unwrap_or, map, reverse, IsSomeAnd, MatchOption}
 use Rattle.std.specs.Str.{IsUtf8}
 use Rattle.std.specs.FinMap.{FinMap, get, from_entries, len}
 use Rattle.proto_wire.specs.Fields.{Wire}

@@ -21,13 +21,21 @@ use std::alloc::Global;
 pub const MOST_POLICIES: usize = 256;
 
 const RULES: u32 = 1;
+
 const ACTION: u32 = 1;
+
 const POLICIES: u32 = 2;
+
 const AUDIT_LOGGING: u32 = 3;
 
 /// Reads the message of an HTTP RBAC filter (`envoy.extensions.filters.http.rbac.v3.RBAC`), for requests within the
 /// limits and with a budget of steps for its conditions. It is taken whole or refused whole, for a fault that is there.
-pub fn admit(alloc: Global, bytes: &[u8], _limits: &Limits, _budget: u64) -> Result<Admitted, Refusal>
+pub fn admit(
+    alloc: Global,
+    bytes: &[u8],
+    _limits: &Limits,
+    _budget: u64,
+) -> Result<Admitted, Refusal>
     ensures admits { IfOk result (λ a. Admits bytes.now _limits.now _budget (filter_of a)) }
     ensures fault { IfErr result (λ e. (e ≡ Memory) ⊎ Fault e bytes.now _limits.now _budget) }
 {

@@ -25,6 +25,7 @@ pub struct NamedParts<'a> {
 }
 
 const KEY: u32 = 1;
+
 const VALUE: u32 = 2;
 
 /// Reads an entry. An entry without a key has the empty name.

@@ -9,12 +9,10 @@ ghost use Rattle.rbac_policy.specs.Admission.{Admissible, Fault};
 pub fn never_both()
     ensures { (e : Refusal) (bytes : List ℕ) (limits : LimitsValue) (budget : ℕ)
         → Admissible bytes limits budget → Fault e bytes limits budget → ⊥ }
-{
-}
+{}
 
 /// All bytes are admissible or have some fault.
 pub fn always_one()
     ensures { (bytes : List ℕ) (limits : LimitsValue) (budget : ℕ)
         → Admissible bytes limits budget ⊎ ((e : Refusal) × Fault e bytes limits budget) }
-{
-}
+{}

@@ -27,8 +27,11 @@ pub struct NamedPolicy {
 }
 
 const PERMISSIONS: u32 = 1;
+
 const PRINCIPALS: u32 = 2;
+
 const CONDITION: u32 = 3;
+
 const CHECKED_CONDITION: u32 = 4;
 
 /// Reads each policy of the map, in ascending order of names.
@@ -55,7 +58,11 @@ fn read_policy(alloc: Global, name: &str, parts: &[&[u8]]) -> Result<NamedPolicy
     let permissions = read_side(alloc, Side::Permission, &fields, PERMISSIONS)?;
     let principals = read_side(alloc, Side::Principal, &fields, PRINCIPALS)?;
     let name = String::from_str(alloc, name)?;
-    Ok(NamedPolicy { name, permissions, principals })
+    Ok(NamedPolicy {
+        name,
+        permissions,
+        principals,
+    })
 }
 
 /// Refuses a policy that has a condition.
@@ -87,7 +94,12 @@ fn require_sides(fields: &[Field<'_>]) -> Result<(), Refusal>
 }
 
 /// Reads the rules of one side of a policy.
-fn read_side(alloc: Global, side: Side, fields: &[Field<'_>], number: u32) -> Result<Vec<Rule>, Refusal>
+fn read_side(
+    alloc: Global,
+    side: Side,
+    fields: &[Field<'_>],
+    number: u32,
+) -> Result<Vec<Rule>, Refusal>
     ensures found { IfOk result (λ rules.
         AreRules (IsRule side rule_depth) (payloads number (map view fields.now)) (rules_view rules.items)) }
     ensures fault { IfErr result (λ e. (e ≡ Memory)

@@ -1,10 +1,6 @@
-use Rattle.std.proofs.Common.{◌≡◌, ◌≢◌, ℕ, List, map, Some, inl, inr, refl, sym, ◌∙◌, ap, arith}
+use Rattle.std.proofs.Common.{◌≢◌, ℕ, inl, inr, refl, arith}
 use Rattle.std.proofs.lemmas.Result.{err_from_is_err_and}
-use Rattle.proto_wire.specs.Fields.{view}
-use Rattle.proto_wire.specs.Rules.{payloads}
-use Rattle.proto_wire.specs.Messages.{texts}
-use Rattle.rbac_match.specs.Message.{last_number, SetFault}
-use Rattle.rbac_match.specs.Member.{Never, in_all_of, in_any_of, other_there}
+use Rattle.rbac_match.specs.Member.{in_all_of, in_any_of, other_there}
 use Rattle.rbac_match.proofs.member.choose.Goals as goal
 
 pub returns-in_err-read_set-in-Some-eq1-clause-fault : goal.returns-in_err-read_set-in-Some-eq1-clause-fault

@@ -1,5 +1,4 @@
-use Rattle.std.proofs.Common.{◌≡◌, ◌-◌, length, Some, slice_get, sym, ap, ◌∙◌}
-use Rattle.std.specs.Option.{option_copied}
+use Rattle.std.proofs.Common.{sym}
 use Rattle.rbac_match.proofs.Fields.{last_number-view}
 use Rattle.rbac_match.proofs.member.number_of.Goals as goal
 

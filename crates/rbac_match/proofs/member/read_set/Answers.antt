@@ -1,4 +1,4 @@
-use Rattle.std.proofs.Common.{◌≡◌, ℕ, List, [], map, length, inl, inr, refl, sym, ◌∙◌, ap, arith}
+use Rattle.std.proofs.Common.{◌≡◌, [], map, length, inl, inr, refl, sym, ◌∙◌, ap, arith}
 use Rattle.std.proofs.lemmas.Result.{err_from_is_err_and}
 use Rattle.std.proofs.lemmas.Grind.{common_steps}
 use Rattle.std.proofs.lemmas.List.{nil_from_length}
@@ -20,5 +20,5 @@ pub returns-then-is_empty-clause-fault : goal.returns-then-is_empty-clause-fault
 returns-then-is_empty-clause-fault c =
     let none : length c.in_ok-rules.rules.items ≡ 0 = grind (arith, common_steps) in
     let empty : payloads 1 (map view c.in_ok-fields.fields.items) ≡ [] =
-        rw (← c.deref.ensures.value) (sym c.in_ok-rules.ensures ∙ ap texts (nil_from_length c.in_ok-rules.rules.items none)) in
+    rw (← c.deref.ensures.value) (sym c.in_ok-rules.ensures ∙ ap texts (nil_from_length c.in_ok-rules.rules.items none)) in
     inr (set_empty (map view c.in_ok-fields.fields.items) (rw c.set_keys.ensures at c.in_ok-fields.ensures.found) empty refl)

@@ -1,9 +1,8 @@
-use Rattle.std.proofs.Common.{◌≡◌, ◌<◌, ◌++◌, ◌∷◌, [], List, map, inl, inr, refl, sym, ap, subst, arith, Contains, get_or, length, Bor}
+use Rattle.std.proofs.Common.{[], inl, inr, arith}
 use Rattle.std.proofs.lemmas.Result.{err_from_is_err_and}
-use Rattle.std.proofs.lemmas.List.{take_more, take_all}
-use Rattle.std.proofs.lemmas.List.Elements.{Contains-get_or}
+use Rattle.std.proofs.lemmas.List.{take_more}
 use Rattle.proto_wire.specs.Messages.{texts}
-use Rattle.rbac_match.specs.Message.{AreRules, IsRule}
+use Rattle.rbac_match.specs.Message.{IsRule}
 use Rattle.rbac_match.proofs.Levels.{all_view, either_view, all_found, all_fault, either_found, either_fault, not_fault, own_fault, are_rules-push, text_in}
 use Rattle.rbac_match.proofs.read.+rule.Goals as goal
 
@@ -46,13 +45,13 @@ pub read_rule-returns-in_ok-read_rules-in-All-clause-found : goal.read_rule-retu
 read_rule-returns-in_ok-read_rules-in-All-clause-found t c =
     let is = rw c.in-All.is at c.in_ok-read_member.ensures.found in
     rw (all_view c.in_ok-read_rules-in-All.field-0) (all_found c.args.side c.args.depth (texts c.args.parts.now) c.in-All.rules c.in_ok-read_rules-in-All.field-0.items (omega arith) is
-      (rw c.deref.ensures.value at c.in_ok-read_rules-in-All.ensures.found))
+    (rw c.deref.ensures.value at c.in_ok-read_rules-in-All.ensures.found))
 
 pub read_rule-returns-in_ok-read_rules-in-Either-clause-found : goal.read_rule-returns-in_ok-read_rules-in-Either-clause-found
 read_rule-returns-in_ok-read_rules-in-Either-clause-found t c =
     let is = rw c.in-Either.is at c.in_ok-read_member.ensures.found in
     rw (either_view c.in_ok-read_rules-in-Either.field-0) (either_found c.args.side c.args.depth (texts c.args.parts.now) c.in-Either.rules c.in_ok-read_rules-in-Either.field-0.items (omega arith) is
-      (rw c.deref-in-Either.ensures.value at c.in_ok-read_rules-in-Either.ensures.found))
+    (rw c.deref-in-Either.ensures.value at c.in_ok-read_rules-in-Either.ensures.found))
 
 pub read_rules-returns-in_err-rule-clause-fault : goal.read_rules-returns-in_err-rule-clause-fault
 read_rules-returns-in_err-rule-clause-fault t c =

@@ -1,14 +1,13 @@
-use Rattle.std.proofs.Common.{◌≡◌, ◌<◌, ℕ, List, map, length, inl, inr, refl, sym, ap, subst, ◌∙◌, arith}
+use Rattle.std.proofs.Common.{◌≡◌, ◌<◌, List, map, length, inl, inr, refl, sym, ap, ◌∙◌, arith}
 use Rattle.std.proofs.lemmas.Result.{err_from_is_err_and}
 use Rattle.std.proofs.lemmas.List.{length-map}
 use Rattle.std.specs.FinMap.{entries, len, len-entries}
-use Rattle.proto_wire.specs.Fields.{Wire, view}
+use Rattle.proto_wire.specs.Fields.{view}
 use Rattle.proto_wire.specs.Rules.{payloads}
 use Rattle.proto_wire.specs.Messages.{texts}
 use Rattle.rbac_policy.specs.Message.{Entry, AreEntries, map_of, most_policies}
-use Rattle.rbac_policy.specs.Fault.{EntryFault, SomePolicyFault, in_entry, too_many, in_policy}
-use Rattle.rbac_policy.specs.Named.{parts_views, named_views, Held}
-use Rattle.rbac_policy.specs.declared.filter.Action.{Action}
+use Rattle.rbac_policy.specs.Fault.{in_entry, too_many, in_policy}
+use Rattle.rbac_policy.specs.Named.{named_views, Held}
 use Rattle.rbac_policy.proofs.Settled.{entries_readable}
 use Rattle.rbac_policy.proofs.Read.{held_ordered, held_are_policies}
 use Rattle.rbac_policy.proofs.admission.admit_rules.Goals as goal

@@ -20,6 +20,6 @@ pub returns-in_default-clause-fault : goal.returns-in_default-clause-fault
 returns-in_default-clause-fault c =
     let fs : List Wire = map view c.in_ok-fields.fields.items in
     let key : c.unwrap_or-key.result.now ≡ unwrap_or (last_of (payloads 1 (map view c.deref.result.now))) [] =
-        ap (λ k. k.now) c.unwrap_or-key.ensures ∙ text_or_empty c.last_text.result (last_of (payloads 1 (map view c.deref.result.now))) _ refl c.last_text.ensures in
+    ap (λ k. k.now) c.unwrap_or-key.ensures ∙ text_or_empty c.last_text.result (last_of (payloads 1 (map view c.deref.result.now))) _ refl c.last_text.ensures in
     let bad : IsUtf8 (name_in fs) → ⊥ = rw (← c.deref.ensures.value, ← key) c.in_default.ensures.cases.0 in
     inr (entry_name fs c.in_ok-fields.ensures.found.0 bad refl)

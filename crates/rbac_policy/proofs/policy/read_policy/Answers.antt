@@ -1,6 +1,6 @@
-use Rattle.std.proofs.Common.{◌≡◌, List, map, inl, inr, refl, sym}
+use Rattle.std.proofs.Common.{map, inl, inr}
 use Rattle.std.proofs.lemmas.Result.{err_from_is_err_and}
-use Rattle.proto_wire.specs.Fields.{Wire, view}
+use Rattle.proto_wire.specs.Fields.{view}
 use Rattle.proto_wire.specs.Messages.{texts, IsMessage}
 use Rattle.rbac_policy.specs.Message.{policy_keys}
 use Rattle.rbac_policy.specs.Fault.{policy_fields, lacks_side, conditional, in_permission, in_principal}

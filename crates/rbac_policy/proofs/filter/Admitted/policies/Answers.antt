@@ -1,4 +1,4 @@
-use Rattle.std.proofs.Common.{◌≡◌, length, map, sym, ap, ◌∙◌}
+use Rattle.std.proofs.Common.{◌≡◌, length, sym, ap, ◌∙◌}
 use Rattle.std.proofs.lemmas.List.{length-map}
 use Rattle.std.specs.FinMap.{len, from_entries, len-entries}
 use Rattle.rbac_policy.specs.Filter.{name_cmp}
@@ -11,5 +11,5 @@ pub returns : goal.returns
 returns c =
     let items = c.args.self.now.policies.items in
     let held : len (from_entries {R = name_cmp} (named_views items)) ≡ length items =
-        len-entries (from_entries {R = name_cmp} (named_views items)) ∙ ap length (entries-from_entries (named_views items) (t_of _ c.args.self.now.ordered)) ∙ length-map items named_view in
+    len-entries (from_entries {R = name_cmp} (named_views items)) ∙ ap length (entries-from_entries (named_views items) (t_of _ c.args.self.now.ordered)) ∙ length-map items named_view in
     c.len.ensures ∙ c.args.self.now.policies.ok.0 ∙ sym held
