@@ -1,5 +1,5 @@
 -- The first policy that matches, among policies in ascending order of names.
-use Rattle.std.proofs.Common.{◌≡◌, ℕ, ◌+◌, ◌↔◌, Bool, true, false, cond, not, T, IsTrue, List, [], ◌∷◌, Option, Some, None, MatchOption, IsSomeAnd, is_some, is_none, map, count_by, refl, sym, ap, subst, arith, ◌∙◌, zero-add}
+use Rattle.std.proofs.Common.{◌≡◌, ℕ, ◌+◌, ◌↔◌, Bool, true, false, cond, T, IsTrue, List, [], ◌∷◌, Option, Some, None, MatchOption, IsSomeAnd, is_some, map, count_by, refl, sym, ap, subst, arith, ◌∙◌, zero-add}
 use Rattle.std.proofs.lemmas.List.Sums.{sum_by-cons}
 use Rattle.std.specs.List.{position_from}
 use Rattle.std.specs.Ordering.{eq_by_cmp, is_eq, is_lt}
@@ -8,9 +8,10 @@ use Rattle.std.specs.Cmp.Lexicographic.{nat_list_cmp_total}
 use Rattle.std.specs.FinMap.{find, is_sorted, get, keys, from_entries, get-from_entries}
 use Rattle.attributes.specs.Request.{RequestValue}
 use Rattle.rbac_policy.specs.Filter.{Policy, Filter, name_cmp}
-use Rattle.rbac_policy.specs.Verdict.{policy_matches, SomeMatches, IsLeastMatch, number_of, IsVerdict}
+use Rattle.rbac_policy.specs.Verdict.{policy_matches, SomeMatches, IsLeastMatch, number_of, LetsThrough, allows, IsVerdict}
 use Rattle.rbac_policy.specs.Named.{policy_view, named_view, named_views}
 use Rattle.rbac_policy.specs.declared.policy.NamedPolicy.{NamedPolicy}
+use Rattle.rbac_policy.specs.declared.filter.Action.{Action}
 use Rattle.rbac_policy.specs.declared.filter.Action.TheVariants.{Allow, Deny, Log}
 use Rattle.rbac_policy.proofs.Order.{both_first, both_second, tie, found_later, above_all, not_below, none_below, entries-from_entries}
 
@@ -113,33 +114,24 @@ t_of false e = let clash : false ≡ true = e in absurd cc
 
 -- the answer of a filter that has these policies in its order
 module _ (r : RequestValue) (filter : Filter) (items : List NamedPolicy) (sorted : IsTrue (is_sorted name_cmp (named_views items))) (same : filter.policies ≡ from_entries (named_views items)) (o : Option ℕ) (is : o ≡ position_from (λ p. policy_matches r (policy_view p)) 0 items) where
-  reported_first : MatchOption o (SomeMatches r filter → ⊥) (λ k. (name : List ℕ) × IsLeastMatch r filter name × (k ≡ number_of filter name))
+  -- the least name that matches, with its number, or none
+  abbrev Reported : Option ℕ → Type 0
+  Reported x = MatchOption x (SomeMatches r filter → ⊥) (λ k. (name : List ℕ) × IsLeastMatch r filter name × (k ≡ number_of filter name))
+
+  reported_first : Reported o
   reported_first =
       let ps : List (List ℕ × Policy) = named_views items in
       let order : T (is_sorted name_cmp ps) = t_of _ sorted in
       let at : o ≡ position_from (λ e. policy_matches r e.1) 0 ps = is ∙ sym (position-map named_view (λ e. policy_matches r e.1) 0 items) in
       reported r ps order filter same o (rw at (first_reports (policy_matches r) 0 ps order))
 
-  some_reported : (x : Option ℕ) → MatchOption x (SomeMatches r filter → ⊥) (λ k. (name : List ℕ) × IsLeastMatch r filter name × (k ≡ number_of filter name)) → IsTrue (is_some x) ↔ SomeMatches r filter
-  some_reported None none = (λ e. let clash : false ≡ true = e in absurd cc, λ some. absurd (none some))
-  some_reported (Some k) (name, least, count) = (λ e. (name, least.0), λ some. refl)
+  -- each action answers by whether some policy matches
+  answered : (action : Action) (x : Option ℕ) → Reported x → IsTrue (allows action (is_some x)) ↔ LetsThrough action (SomeMatches r filter)
+  answered Allow None none = (λ e. let clash : false ≡ true = e in absurd cc, λ some. absurd (none some))
+  answered Allow (Some k) (name, least, count) = (λ e. (name, least.0), λ some. refl)
+  answered Deny None none = (λ e. none, λ some. refl)
+  answered Deny (Some k) (name, least, count) = (λ e. let clash : false ≡ true = e in absurd cc, λ none. absurd (none (name, least.0)))
+  answered Log x reported = (λ e. tt, λ always. refl)
 
-  none_reported : (x : Option ℕ) → MatchOption x (SomeMatches r filter → ⊥) (λ k. (name : List ℕ) × IsLeastMatch r filter name × (k ≡ number_of filter name)) → IsTrue (is_none x) ↔ (SomeMatches r filter → ⊥)
-  none_reported None none = (λ e. none, λ some. refl)
-  none_reported (Some k) (name, least, count) = (λ e. let clash : false ≡ true = e in absurd cc, λ none. absurd (none (name, least.0)))
-
-  pub allow_verdict : filter.action ≡ Allow → IsVerdict r filter (is_some o) o
-  allow_verdict at = record { lets_through = rw at (some_reported o reported_first); reported = reported_first }
-
-  pub deny_verdict : filter.action ≡ Deny → IsVerdict r filter (is_none o) o
-  deny_verdict at = record { lets_through = rw at (none_reported o reported_first); reported = reported_first }
-
-  pub log_verdict : filter.action ≡ Log → IsVerdict r filter true o
-  log_verdict at = record { lets_through = rw at (λ e. tt, λ always. refl); reported = reported_first }
-
--- what `is_none` answers
-pub none_answer : (o : Option ℕ) (b : Bool) → is_some o ≡ not b → is_none o ≡ b
-none_answer None true e = refl
-none_answer None false e = sym e
-none_answer (Some k) true e = sym e
-none_answer (Some k) false e = refl
+  pub verdict : IsVerdict r filter (allows filter.action (is_some o)) o
+  verdict = record { lets_through = answered filter.action o reported_first; reported = reported_first }

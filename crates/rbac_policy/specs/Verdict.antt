@@ -1,5 +1,5 @@
 -- What a filter decides: Envoy RBAC, "RBAC.Action" and "RBAC.policies" (config.rbac.v3).
-use Rattle.std.specs.Prelude.{◌≡◌, ℕ, ◌&&◌, ◌↔◌, Bool, false, IsTrue, List, Option, IsSomeAnd, MatchOption, count_by}
+use Rattle.std.specs.Prelude.{◌≡◌, ℕ, ◌&&◌, ◌↔◌, Bool, true, false, not, IsTrue, List, Option, IsSomeAnd, MatchOption, count_by}
 use Rattle.std.specs.Ordering.{is_lt}
 use Rattle.std.specs.FinMap.{get, keys}
 use Rattle.attributes.specs.Request.{RequestValue}
@@ -33,6 +33,12 @@ abbrev pub LetsThrough : Action → Type 0 → Type 0
 LetsThrough Allow Match = Match
 LetsThrough Deny Match = Match → ⊥
 LetsThrough Log Match = Unit {0}
+
+-- the same as a test, by whether some policy matches
+abbrev pub allows : Action → Bool → Bool
+allows Allow is_match = is_match
+allows Deny is_match = not is_match
+allows Log is_match = true
 
 -- the answer of the filter: by its action, with the number of the least name that matches
 pub record IsVerdict (r : RequestValue) (filter : Filter) (allowed : Bool) (matched : Option ℕ) : Type 0 where

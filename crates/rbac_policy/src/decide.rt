@@ -6,7 +6,7 @@ ghost use Rattle.rbac_policy.specs.Admitted.{filter_of};
 ghost use Rattle.rbac_policy.specs.Verdict.{IsVerdict, policy_matches};
 ghost use Rattle.rbac_policy.specs.Named.{policy_view};
 
-use crate::filter::{Action, Admitted, Verdict};
+use crate::filter::{Admitted, Verdict};
 use crate::policy::NamedPolicy;
 use attributes::Request;
 use rbac_match::some_matches;
@@ -18,11 +18,7 @@ impl Admitted {
         ensures { IsOkAnd result (λ v. IsVerdict request.now (filter_of self.now) v.allowed v.matched) }
     {
         let matched = first_match(self.named_policies(), request);
-        let allowed = match self.action() {
-            Action::Allow => matched.is_some(),
-            Action::Deny => matched.is_none(),
-            Action::Log => true,
-        };
+        let allowed = self.action().allows(matched.is_some());
         Ok(Verdict { allowed, matched })
     }
 }

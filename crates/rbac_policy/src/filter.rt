@@ -18,6 +18,22 @@ pub enum Action {
     Log,
 }
 
+impl Action {
+    ghost use Rattle.std.specs.Prelude.{◌≡◌};
+    ghost use Rattle.rbac_policy.specs.Verdict.{allows};
+
+    /// Whether it lets a request through, by whether some policy matches.
+    pub fn allows(self, is_match: bool) -> bool
+        ensures { result ≡ allows self is_match }
+    {
+        match self {
+            Action::Allow => is_match,
+            Action::Deny => !is_match,
+            Action::Log => true,
+        }
+    }
+}
+
 /// What a filter answers a request.
 #[derive(Clone, Copy, PartialEq, Eq, Debug)]
 pub struct Verdict {
