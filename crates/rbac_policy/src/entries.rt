@@ -15,11 +15,11 @@ use std::alloc::Global;
 use std::collections::BTreeMap;
 
 /// The payloads of the policies that a map holds, by name.
-pub type PartsByName<'a> = BTreeMap<&'a str, Vec<&'a [u8]>>;
+pub(crate) type PartsByName<'a> = BTreeMap<&'a str, Vec<&'a [u8]>>;
 
 /// An entry of the map: its name, and the payloads of its policy.
 #[derive(Drop)]
-pub struct NamedParts<'a> {
+pub(crate) struct NamedParts<'a> {
     pub name: &'a str,
     pub parts: Vec<&'a [u8]>,
 }
@@ -43,7 +43,7 @@ fn read_entry<'a>(alloc: Global, payload: &'a [u8]) -> Result<NamedParts<'a>, Re
 }
 
 /// Reads the entries of the map: of those with one name the last counts.
-pub fn read_entries<'a>(alloc: Global, payloads: &[&'a [u8]]) -> Result<PartsByName<'a>, Refusal>
+pub(crate) fn read_entries<'a>(alloc: Global, payloads: &[&'a [u8]]) -> Result<PartsByName<'a>, Refusal>
     ensures found { IfOk result (λ m. (es : List Entry) × AreEntries (texts payloads.now) es
         × (parts_views m.entries ≡ entries (map_of es))) }
     ensures fault { IfErr result (λ e. (e ≡ Memory)

@@ -23,7 +23,7 @@ impl Action {
     ghost use Rattle.rbac_policy.specs.Verdict.{allows};
 
     /// Whether it lets a request through, by whether some policy matches.
-    pub fn allows(self, is_match: bool) -> bool
+    pub(crate) fn allows(self, is_match: bool) -> bool
         ensures { result ≡ allows self is_match }
     {
         match self {
@@ -57,7 +57,7 @@ impl Admitted {
     ghost use Rattle.rbac_policy.specs.Admitted.{filter_of, of_parts};
 
     /// A filter of an action and policies, which stand in ascending order of their names.
-    pub fn new(action: Action, policies: Vec<NamedPolicy>) -> Admitted
+    pub(crate) fn new(action: Action, policies: Vec<NamedPolicy>) -> Admitted
         requires { IsTrue (is_sorted name_cmp (named_views policies.items)) }
         ensures { filter_of result ≡ of_parts action policies.items }
     {
@@ -65,14 +65,14 @@ impl Admitted {
     }
 
     /// What the filter does with a request that some policy matches.
-    pub fn action(&self) -> Action
+    pub(crate) fn action(&self) -> Action
         ensures { result ≡ self.now.action }
     {
         self.action
     }
 
     /// The policies in ascending order of their names.
-    pub fn named_policies(&self) -> &[NamedPolicy]
+    pub(crate) fn named_policies(&self) -> &[NamedPolicy]
         ensures { result.now ≡ self.now.policies.items }
     {
         &self.policies

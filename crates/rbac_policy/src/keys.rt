@@ -20,28 +20,28 @@ static ENTRY: [Key; 2] = keys![Text 1, Text 2];
 static POLICY: [Key; 4] = keys![Text 1, Text 2, Text 3, Text 4];
 
 /// The fields of the filter's message: its rules, and what is skipped.
-pub fn filter_keys() -> &'static [Key]
+pub(crate) fn filter_keys() -> &'static [Key]
     ensures { result.now ≡ filter_keys }
 {
     &FILTER
 }
 
 /// The fields of its rules: the action, the policies, and the audit log's options.
-pub fn rules_keys() -> &'static [Key]
+pub(crate) fn rules_keys() -> &'static [Key]
     ensures { result.now ≡ rules_keys }
 {
     &RULES
 }
 
 /// The fields of an entry of the map of policies: its key and its value.
-pub fn entry_keys() -> &'static [Key]
+pub(crate) fn entry_keys() -> &'static [Key]
     ensures { result.now ≡ entry_keys }
 {
     &ENTRY
 }
 
 /// The fields of a policy: permissions, principals and the two conditions.
-pub fn policy_keys() -> &'static [Key]
+pub(crate) fn policy_keys() -> &'static [Key]
     ensures { result.now ≡ policy_keys }
 {
     &POLICY

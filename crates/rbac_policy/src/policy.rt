@@ -20,7 +20,7 @@ use std::alloc::Global;
 
 /// A policy with its name: it matches where some permission and some principal do.
 #[derive(Debug, Drop)]
-pub struct NamedPolicy {
+pub(crate) struct NamedPolicy {
     pub name: String,
     pub permissions: Vec<Rule>,
     pub principals: Vec<Rule>,
@@ -35,7 +35,7 @@ const CONDITION: u32 = 3;
 const CHECKED_CONDITION: u32 = 4;
 
 /// Reads each policy of the map, in ascending order of names.
-pub fn read_policies(alloc: Global, named: &PartsByName<'_>) -> Result<Vec<NamedPolicy>, Refusal>
+pub(crate) fn read_policies(alloc: Global, named: &PartsByName<'_>) -> Result<Vec<NamedPolicy>, Refusal>
     ensures found { IfOk result (λ policies. Held (parts_views named.now.entries) (named_views policies.items)) }
     ensures fault { IfErr result (λ e. (e ≡ Memory) ⊎ SomePolicyFault (parts_views named.now.entries) e) }
 {
@@ -110,7 +110,7 @@ fn read_side(
 }
 
 /// Whether some LEN field has this number.
-pub fn has_text(fields: &[Field<'_>], number: u32) -> bool
+pub(crate) fn has_text(fields: &[Field<'_>], number: u32) -> bool
     ensures { MatchBool result (payloads number (map view fields.now) ≢ []) (payloads number (map view fields.now) ≡ []) }
 {
     last_text(fields, number).is_some()
