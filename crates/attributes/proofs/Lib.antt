@@ -3,3 +3,5 @@ pub mod Joining
 pub mod Sorting
 pub mod Searching
 pub mod AddressText
+pub mod OneAddress
+pub mod Canonical

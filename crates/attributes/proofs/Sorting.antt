@@ -34,11 +34,13 @@ AreSorted-from_sort (x ∷ y ∷ xs) h =
     let first : name_lt y x ≡ false = h 0 x (omega arith) (omega arith) in (
       λ before. cc (first, before),
       AreSorted-from_sort (y ∷ xs) (λ k d low high.
-          let next : suc k + 1 ≡ suc (k + 1) = omega arith in rw next at (h (suc k) d (omega arith) (omega arith))),
+          let next : suc k + 1 ≡ suc (k + 1) =
+          omega arith in rw next at (h (suc k) d (omega arith) (omega arith))),
     )
 
 -- a list whose elements all fail a test keeps none of them
-filter-none : {X : Type 0} (p : X → Bool) (xs : List X) → All (λ x. p x ≡ false) xs → filter p xs ≡ []
+filter-none : {X : Type 0} (p : X → Bool) (xs : List X) → All (λ x. p x ≡ false) xs
+    → filter p xs ≡ []
 filter-none p [] h = refl
 filter-none p (x ∷ xs) h =
     let here : p x ≡ false = h 0 x (omega arith) in
@@ -49,11 +51,16 @@ abbrev pub has_name : List ℕ → Pair → Bool
 has_name name x = bytes_eq (string_bytes x.0) name
 
 values_of-pairs : (name : List ℕ) (xs : List Pair)
-    → values_of name (entries_of xs) ≡ map (λ (x : Pair). string_bytes x.1) (filter (has_name name) xs)
+    → values_of name (entries_of xs)
+    ≡ map (λ (x : Pair). string_bytes x.1) (filter (has_name name) xs)
 values_of-pairs name [] = refl
 values_of-pairs name (x ∷ xs) =
-    elim (has_name name x) as (λ b. map (λ (e : Entry). e.1) (cond b (entry_of x ∷ filter (λ e. bytes_eq e.0 name) (entries_of xs)) (filter (λ e. bytes_eq e.0 name) (entries_of xs)))
-    ≡ map (λ (y : Pair). string_bytes y.1) (cond b (x ∷ filter (has_name name) xs) (filter (has_name name) xs))) [
+    elim (has_name name x) as
+    (λ b. map (λ (e : Entry). e.1)
+    (cond b (entry_of x ∷ filter (λ e. bytes_eq e.0 name) (entries_of xs))
+    (filter (λ e. bytes_eq e.0 name) (entries_of xs)))
+    ≡ map (λ (y : Pair). string_bytes y.1)
+    (cond b (x ∷ filter (has_name name) xs) (filter (has_name name) xs))) [
       | true ↦ ap (λ vs. string_bytes x.1 ∷ vs) (values_of-pairs name xs)
       | false ↦ values_of-pairs name xs
     ]
@@ -64,14 +71,16 @@ named_or_not : (name : List ℕ) (xs : List Pair)
 named_or_not name [] = inr (All-nil (λ y. has_name name y ≡ false))
 named_or_not name (x ∷ xs) = elim (named_or_not name xs) [
   | inl found ↦ inl found
-  | inr none ↦ elim (has_name name x) as (λ b. has_name name x ≡ b → ((y : Pair) × (has_name name y ≡ true)) ⊎ All (λ y. has_name name y ≡ false) (x ∷ xs)) [
-    | true ↦ λ e. inl (x, e)
-    | false ↦ λ e. inr (All-cons (λ y. has_name name y ≡ false) x xs e none)
-  ] refl
+  | inr none ↦ elim (has_name name x) as (λ b. has_name name x ≡ b
+      → ((y : Pair) × (has_name name y ≡ true)) ⊎ All (λ y. has_name name y ≡ false) (x ∷ xs)) [
+        | true ↦ λ e. inl (x, e)
+        | false ↦ λ e. inr (All-cons (λ y. has_name name y ≡ false) x xs e none)
+      ] refl
 ]
 
 -- a stable sort keeps the values of each name, in order
-pub values_of-stable : (name : List ℕ) (xs ys : List Pair) → IsPermutation xs ys → IsStableBy name_lt xs ys
+pub values_of-stable : (name : List ℕ) (xs ys : List Pair) → IsPermutation xs ys
+    → IsStableBy name_lt xs ys
     → values_of name (entries_of ys) ≡ values_of name (entries_of xs)
 values_of-stable name xs ys moved stable = values_of-pairs name ys
     ∙ ap (map (λ (x : Pair). string_bytes x.1)) kept ∙ sym (values_of-pairs name xs)
@@ -79,15 +88,21 @@ values_of-stable name xs ys moved stable = values_of-pairs name ys
     kept : filter (has_name name) ys ≡ filter (has_name name) xs
     kept = elim (named_or_not name xs) [
       | inl found ↦ same found
-      | inr none ↦ filter-none (has_name name) ys (All-permutation (λ x. has_name name x ≡ false) xs ys moved none) ∙ sym (filter-none (has_name name) xs none)
+      | inr none ↦ filter-none (has_name name) ys
+          (All-permutation (λ x. has_name name x ≡ false) xs ys moved none)
+          ∙ sym (filter-none (has_name name) xs none)
     ]
       where
-        same : (x : Pair) × (has_name name x ≡ true) → filter (has_name name) ys ≡ filter (has_name name) xs
+        same : (x : Pair) × (has_name name x ≡ true)
+            → filter (has_name name) ys ≡ filter (has_name name) xs
         same found =
-            let name_is : string_bytes found.0.0 ≡ name = same_from_test (string_bytes found.0.0) name found.1 in
+            let name_is : string_bytes found.0.0 ≡ name =
+            same_from_test (string_bytes found.0.0) name found.1 in
             let agree : (y : Pair) → has_name name y ≡ ties name_lt found.0 y =
-            λ y. rw (← name_is) (sym (neither_is_same (string_bytes found.0.0) (string_bytes y.0))) in
-            filter_agree (has_name name) (ties name_lt found.0) agree ys ∙ stable found.0 ∙ sym (filter_agree (has_name name) (ties name_lt found.0) agree xs)
+            λ y. rw (← name_is)
+            (sym (neither_is_same (string_bytes found.0.0) (string_bytes y.0))) in
+            filter_agree (has_name name) (ties name_lt found.0) agree ys ∙ stable found.0
+            ∙ sym (filter_agree (has_name name) (ties name_lt found.0) agree xs)
 
 -- what the closure that `sort_by` is given answers
 module _ {F : Type 0} {g : Mut F (Bor Pair × (Bor Pair × Unit {0})) Ordering} {f : F}
@@ -105,6 +120,8 @@ module _ {F : Type 0} {g : Mut F (Bor Pair × (Bor Pair × Unit {0})) Ordering} 
   AreSorted-from_clause (Ok u) xs up = AreSorted-from_sort xs (up name_lt ranks by_name)
   AreSorted-from_clause (Err e) xs up = tt
 
-  pub values_of-from_clause : (name : List ℕ) (xs ys : List Pair) → IsPermutation xs ys → IsStableByClosure g f xs ys
+  pub values_of-from_clause : (name : List ℕ) (xs ys : List Pair) → IsPermutation xs ys
+      → IsStableByClosure g f xs ys
       → values_of name (entries_of ys) ≡ values_of name (entries_of xs)
-  values_of-from_clause name xs ys moved stable = values_of-stable name xs ys moved (stable name_lt ranks by_name)
+  values_of-from_clause name xs ys moved stable =
+      values_of-stable name xs ys moved (stable name_lt ranks by_name)

@@ -24,12 +24,15 @@ before-trans a b c = nat_list_cmp_total.trans a b c
 pub before-differs : (a b : List ℕ) → IsBefore a b → bytes_eq a b ≡ false
 before-differs a b h = sym (is_eq-slice_cmp a b) ∙ ap is_eq h
 
--- of two texts that are not one, the first is before the second if the second is not before the first
+-- of two texts that are not one, the first is before the second if the second is not before the
+-- first
 pub before_from_not : (a b : List ℕ) → ¬ (IsBefore b a) → bytes_eq b a ≡ false → IsBefore a b
 before_from_not a b h differ =
-    let back : slice_cmp nat_cmp a b ≡ ordering_reverse (slice_cmp nat_cmp b a) = nat_list_cmp_total.antisymm a b in
+    let back : slice_cmp nat_cmp a b ≡ ordering_reverse (slice_cmp nat_cmp b a) =
+    nat_list_cmp_total.antisymm a b in
     let apart : is_eq (slice_cmp nat_cmp b a) ≡ false = is_eq-slice_cmp b a ∙ differ in
-    rw back (elim (slice_cmp nat_cmp b a) as (λ o. (o ≡ Less → ⊥) → is_eq o ≡ false → ordering_reverse o ≡ Less) [
+    rw back (elim (slice_cmp nat_cmp b a) as (λ o. (o ≡ Less → ⊥) → is_eq o ≡ false
+    → ordering_reverse o ≡ Less) [
       | Less ↦ λ no e. absurd (no refl)
       | Equal ↦ λ no e. cc
       | Greater ↦ λ no e. refl
@@ -39,7 +42,8 @@ before_from_not a b h differ =
 pub neither_is_same : (a b : List ℕ) →
     (not (is_lt (slice_cmp nat_cmp a b)) && not (is_lt (slice_cmp nat_cmp b a))) ≡ bytes_eq b a
 neither_is_same a b =
-    let back : slice_cmp nat_cmp a b ≡ ordering_reverse (slice_cmp nat_cmp b a) = nat_list_cmp_total.antisymm a b in
+    let back : slice_cmp nat_cmp a b ≡ ordering_reverse (slice_cmp nat_cmp b a) =
+    nat_list_cmp_total.antisymm a b in
     rw (back, ← is_eq-slice_cmp b a) (elim (slice_cmp nat_cmp b a) as
     (λ o. (not (is_lt (ordering_reverse o)) && not (is_lt o)) ≡ is_eq o) [
       | Less ↦ refl

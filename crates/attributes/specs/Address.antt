@@ -1,5 +1,7 @@
--- IP addresses as text and as numbers: RFC 4291 sections 2.2 and 2.3, RFC 4632 section 3.1 (ranges); IPv4 as in RFC 3986 section 3.2.2.
-use Rattle.std.specs.Prelude.{◌≡◌, ℕ, ◌+◌, ◌-◌, ◌*◌, ◌/◌, ◌^◌, ◌<◌, ◌⊎◌, List, [], ◌∷◌, ◌++◌, length, replicate, codes}
+-- IP addresses as text and as numbers: RFC 4291 sections 2.2 and 2.3, RFC 4632 section 3.1
+-- (ranges); IPv4 as in RFC 3986 section 3.2.2.
+use Rattle.std.specs.Prelude.{◌≡◌, ℕ, ◌+◌, ◌-◌, ◌*◌, ◌/◌, ◌^◌, ◌<◌, ◌⊎◌, List, [], ◌∷◌, ◌++◌, length, replicate, codes, Bool, ◌==◌}
+use Rattle.std.specs.List.{list_any}
 use Rattle.std.specs.Net.Grammar.{IsDotted, IsGroup}
 use Rattle.attributes.specs.declared.address.Ip.{Ip}
 use Rattle.attributes.specs.declared.address.Ip.TheVariants.{V4, V6}
@@ -17,7 +19,8 @@ number_of base ds = number_after base 0 ds
 abbrev pub AreGroupsAfter : List ℕ → List ℕ → List ℕ → Type 0
 AreGroupsAfter lead text [] = text ≡ []
 AreGroupsAfter lead text (g ∷ groups) =
-    (group rest : List ℕ) × (text ≡ lead ++ group ++ rest) × IsGroup group g × AreGroupsAfter (codes ":") rest groups
+    (group rest : List ℕ) × (text ≡ lead ++ group ++ rest) × IsGroup group g
+    × AreGroupsAfter (codes ":") rest groups
 
 -- groups with colons between them, or nothing
 abbrev pub AreGroups : List ℕ → List ℕ → Type 0
@@ -43,6 +46,10 @@ AreColonHex text groups = (AreGroups text groups × (length groups ≡ 8)) ⊎ A
 abbrev pub IsIpText : List ℕ → Ip → Type 0
 IsIpText text (V4 n) = (octets : List ℕ) × IsDotted text octets × (n ≡ number_of 256 octets)
 IsIpText text (V6 n) = (groups : List ℕ) × AreColonHex text groups × (n ≡ number_of 65536 groups)
+
+-- a dot (46) stands in the text
+abbrev pub has_dot : List ℕ → Bool
+has_dot text = list_any (λ b. b == 46) text
 
 -- the bits of an address of the family
 abbrev pub width_of : Ip → ℕ

@@ -1,4 +1,5 @@
--- What is known of a connection: the connection attributes of Envoy, "Attributes", and the addresses for CIDR ranges.
+-- What is known of a connection: the connection attributes of Envoy, "Attributes", and the
+-- addresses for CIDR ranges.
 use Rattle.std.specs.Prelude.{ℕ, Bool, Option, None, List, option_map}
 use Rattle.std.specs.String.{string_bytes}
 use Rattle.std.specs.declared.string.String.{String}

@@ -1,7 +1,8 @@
--- The headers of a request, one value for each name: RFC 9110 sections 5.2 and 5.3, and Envoy, "Attributes" (`request.headers`).
+-- The headers of a request, one value for each name: RFC 9110 sections 5.2 and 5.3, and Envoy,
+-- "Attributes" (`request.headers`).
 use Rattle.std.specs.Prelude.{◌≡◌, ℕ, ◌≤◌, List, [], ◌∷◌, ◌++◌, Option, Some, None, if◌then◌else◌, codes, filter, length, map}
 use Rattle.std.specs.List.{join_with_byte}
-use Rattle.std.specs.Ordering.{nat_cmp}
+use Rattle.std.specs.Ordering.{match_ordering, nat_cmp}
 use Rattle.std.specs.Cmp.Lexicographic.{slice_cmp}
 use Rattle.std.specs.Str.{bytes_eq}
 use Rattle.std.specs.declared.cmp.Ordering.TheVariants.{Less}
@@ -69,3 +70,20 @@ abbrev pub AreSorted : List Entry → Type 0
 AreSorted [] = Unit {0}
 AreSorted (e ∷ []) = Unit {0}
 AreSorted (e ∷ d ∷ es) = ¬ (IsBefore d.0 e.0) × AreSorted (d ∷ es)
+
+-- one more entry in its place among headers by ascending name, joined to the value of its name
+abbrev pub put_entry : Entry → List Entry → List Entry
+put_entry e [] = e ∷ []
+put_entry e (h ∷ hs) = match_ordering (slice_cmp nat_cmp e.0 h.0)
+    (e ∷ h ∷ hs)
+    ((h.0, h.1 ++ 44 ∷ e.1) ∷ hs)
+    (h ∷ put_entry e hs)
+
+-- the headers of entries: each entry put in its place in turn
+abbrev pub headers_after : List Entry → List Entry → List Entry
+headers_after hs [] = hs
+headers_after hs (e ∷ es) = headers_after (put_entry e hs) es
+
+-- the joined headers of entries, computed
+unfoldable pub headers_of : List Entry → List Entry
+headers_of es = headers_after [] es

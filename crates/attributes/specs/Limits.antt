@@ -1,5 +1,5 @@
 -- The limits of a request, and what is within them.
-use Rattle.std.specs.Prelude.{◌≡◌, ℕ, ◌+◌, ◌<◌, ◌≤◌, List, Option, All, IfSome, length}
+use Rattle.std.specs.Prelude.{◌≡◌, ℕ, ◌+◌, ◌<◌, ◌≤◌, List, Option, All, IfSome, codes, decimal, length, ◌++◌}
 use Rattle.attributes.specs.Conn.{Facts}
 use Rattle.attributes.specs.Headers.{Entry}
 use Rattle.attributes.specs.Request.{RequestValue, protocol_of}
@@ -7,7 +7,8 @@ use Rattle.attributes.specs.declared.limits.Limit.{Limit}
 use Rattle.attributes.specs.declared.limits.LimitFault.{LimitFault}
 use Rattle.attributes.specs.declared.limits.LimitFault.TheVariants.{Zero, Above}
 
--- six limits: of the number of fields, and of bytes of a name, a value, a method, a target and any other text
+-- six limits: of the number of fields, and of bytes of a name, a value, a method, a target and
+-- any other text
 pub record LimitsValue : Type 0 where
   pub fields : ℕ
   pub name : ℕ
@@ -31,6 +32,15 @@ declared fields name value method target text = record {
   text = text;
 }
 
+-- the name by which a limit is declared
+abbrev pub name_of : Limit → List ℕ
+name_of Limit.Fields = codes "fields"
+name_of Limit.Name = codes "name"
+name_of Limit.Value = codes "value"
+name_of Limit.Method = codes "method"
+name_of Limit.Target = codes "target"
+name_of Limit.Text = codes "text"
+
 -- one of the six
 abbrev pub limit_of : Limit → LimitsValue → ℕ
 limit_of Limit.Fields l = l.fields
@@ -49,6 +59,12 @@ HasLimitFault l (Above limit) = limit_of limit largest < limit_of limit l
 abbrev pub IsFaultOf : Limit → ℕ → LimitFault → Type 0
 IsFaultOf limit n (Zero at) = (at ≡ limit) × (n ≡ 0)
 IsFaultOf limit n (Above at) = (at ≡ limit) × (limit_of limit largest < n)
+
+-- what a fault prints
+abbrev pub fault_text : LimitFault → List ℕ
+fault_text (Zero limit) = codes "the limit " ++ name_of limit ++ codes " is 0"
+fault_text (Above limit) =
+    codes "the limit " ++ name_of limit ++ codes " is above " ++ decimal (limit_of limit largest)
 
 -- no limit is 0 or above the greatest
 abbrev pub AreLimits : LimitsValue → Type 0

@@ -1,8 +1,7 @@
 //! IP addresses as numbers, their text, and ranges of them.
-ghost use Rattle.std.specs.Prelude.{◌≡◌, ◌+◌, ◌*◌, ◌-◌, ◌/◌, ◌^◌, ◌<◌, ◌≤◌, ◌↔◌, IsTrue, MatchOption};
+ghost use Rattle.std.specs.Prelude.{◌≡◌, ◌+◌, ◌*◌, ◌-◌, ◌/◌, ◌^◌, ◌<◌, ◌≤◌, ◌↔◌, IsTrue, MatchOption, false, true};
 ghost use Rattle.std.specs.Option.{SomeIff};
-ghost use Rattle.std.specs.Net.Grammar.{IsDotted};
-ghost use Rattle.attributes.specs.Address.{AreColonHex, IsInRange, IsIpText, number_of, width_of};
+ghost use Rattle.attributes.specs.Address.{IsInRange, IsIpText, has_dot, number_of, width_of};
 
 use std::marker::Model;
 use std::net::{Ipv4Addr, Ipv6Addr};
@@ -14,23 +13,41 @@ pub enum Ip {
     V6(u128),
 }
 
-/// The address that the text spells: four decimal numbers with dots between them, or eight groups of hexadecimal digits
-/// with colons between them, of which one `::` may stand for one zero group or more (RFC 4291 section 2.2). No address is
-/// written in both forms at once, and none has a zone.
+/// The address that the text spells: four decimal numbers with dots between them, or eight groups
+/// of hexadecimal digits with colons between them, where one `::` may stand for one zero group or
+/// more (RFC 4291 section 2.2). No text mixes the two forms, and none has a zone.
 pub fn parse_ip(text: &str) -> Option<Ip>
-    ensures { MatchOption result ((ip : Ip) → ¬ (IsIpText text.now ip)) (IsIpText text.now) }
+    ensures spelled { MatchOption result ((ip : Ip) → ¬ (IsIpText text.now ip))
+        (IsIpText text.now) }
+    ensures exact { (ip : Ip) → (result ≡ Some ip) ↔ IsIpText text.now ip }
 {
     let bytes = text.as_bytes();
     if bytes.contains(&b'.') {
-        match Ipv4Addr::parse_ascii(bytes) {
-            Ok(address) => Some(Ip::V4(octets_number(address.octets()))),
-            Err(_) => None,
-        }
+        parse_dotted(bytes)
     } else {
-        match Ipv6Addr::parse_ascii(bytes) {
-            Ok(address) => Some(Ip::V6(groups_number(address.segments()))),
-            Err(_) => None,
-        }
+        parse_colons(bytes)
+    }
+}
+
+// A text with a dot spells no address but one of four decimal numbers.
+fn parse_dotted(text: &[u8]) -> Option<Ip>
+    requires { has_dot text.now ≡ true }
+    ensures { MatchOption result ((ip : Ip) → ¬ (IsIpText text.now ip)) (IsIpText text.now) }
+{
+    match Ipv4Addr::parse_ascii(text) {
+        Ok(address) => Some(Ip::V4(octets_number(address.octets()))),
+        Err(_) => None,
+    }
+}
+
+// Without a dot the library's form is ours: with one it would read a dotted end as two groups.
+fn parse_colons(text: &[u8]) -> Option<Ip>
+    requires { has_dot text.now ≡ false }
+    ensures { MatchOption result ((ip : Ip) → ¬ (IsIpText text.now ip)) (IsIpText text.now) }
+{
+    match Ipv6Addr::parse_ascii(text) {
+        Ok(address) => Some(Ip::V6(groups_number(address.segments()))),
+        Err(_) => None,
     }
 }
 
@@ -54,7 +71,8 @@ fn four_groups(a: u16, b: u16, c: u16, d: u16) -> u64
     a as u64 * 0x1_0000_0000_0000 + b as u64 * 0x1_0000_0000 + c as u64 * 0x1_0000 + d as u64
 }
 
-/// A range of addresses of one family: those that begin with the same bits as a given one (RFC 4632 section 3.1).
+/// A range of addresses of one family: those that begin with the same bits as a given one
+/// (RFC 4632 section 3.1).
 #[derive(Clone, Copy, Debug)]
 pub struct Cidr {
     address: Ip,
@@ -75,10 +93,11 @@ impl Model for Cidr {
 }
 
 impl Cidr {
-    /// The range of the addresses that have their first `size` bits in common with this one, or `None` where an address of
-    /// the family has fewer bits.
+    /// The range of the addresses that have their first `size` bits in common with this one, or
+    /// `None` where an address of the family has fewer bits.
     pub fn new(address: Ip, size: u32) -> Option<Cidr>
-        ensures { SomeIff result (size ≤ width_of address) (record { address = address; size = size }) }
+        ensures { SomeIff result (size ≤ width_of address)
+            (record { address = address; size = size }) }
     {
         let width = match address {
             Ip::V4(_) => 32,

@@ -94,7 +94,8 @@ impl Request {
         before(before(self.target(), '#'), '?')
     }
 
-    /// What stands between the target's first `?` and its first `#` after that; empty where no `?` stands before the first `#`.
+    /// What stands between the target's first `?` and the first `#`; empty where no `?` stands
+    /// before the first `#`.
     pub fn query(&self) -> &str
         ensures { result.now ≡ query_of self.now.target }
     {

@@ -18,7 +18,8 @@ pub fn join_headers(
     lines: Vec<Header>,
 ) -> Result<Vec<Header>, AllocError>
     ensures { IfOk result (λ headers. AreJoined
-        (all_entries method.now target.now scheme.now (entries_of lines.items)) (entries_of headers.items)) }
+        (all_entries method.now target.now scheme.now (entries_of lines.items))
+        (entries_of headers.items)) }
 {
     let mut entries = list_entries(alloc, method, target, scheme, lines)?;
     sort_by_name(&mut entries)?;
@@ -45,7 +46,8 @@ fn list_entries(
 
 // The lines under their names in the headers.
 fn name_entries(alloc: Global, lines: Vec<Header>) -> Result<Vec<Header>, AllocError>
-    ensures { IfOk result (λ entries. entries_of entries.items ≡ map line_entry (entries_of lines.items)) }
+    ensures { IfOk result (λ entries.
+        entries_of entries.items ≡ map line_entry (entries_of lines.items)) }
 {
     let mut entries = Vec::new(alloc);
     for (name, value) in lines {
@@ -76,7 +78,8 @@ fn text_pair(alloc: Global, name: &str, value: &str) -> Result<Header, AllocErro
 // Sorts by name; entries of one name keep their order.
 fn sort_by_name(entries: &mut Vec<Header>) -> Result<(), AllocError>
     ensures sorted { OnOk result (AreSorted (entries_of entries.new.items)) }
-    ensures stable { (name : List ℕ) → values_of name (entries_of entries.new.items) ≡ values_of name (entries_of entries.old.items) }
+    ensures stable { (name : List ℕ) → values_of name (entries_of entries.new.items)
+        ≡ values_of name (entries_of entries.old.items) }
     ensures len { length entries.new.items ≡ length entries.old.items }
 {
     entries.sort_by(|a, b| a.0.as_str().cmp(b.0.as_str()))
@@ -85,7 +88,8 @@ fn sort_by_name(entries: &mut Vec<Header>) -> Result<(), AllocError>
 // Joins neighbours of one name.
 fn join_sorted(alloc: Global, entries: Vec<Header>) -> Result<Vec<Header>, AllocError>
     requires { AreSorted (entries_of entries.items) }
-    ensures { IfOk result (λ headers. AreJoined (entries_of entries.items) (entries_of headers.items)) }
+    ensures { IfOk result (λ headers.
+        AreJoined (entries_of entries.items) (entries_of headers.items)) }
 {
     let mut headers = Vec::new(alloc);
     let mut entries = entries.into_iter();

@@ -7,6 +7,8 @@ mod conn;
 mod headers;
 mod limits;
 mod request;
+#[cfg(test)]
+mod tests;
 
 pub use address::{Cidr, Ip, parse_ip};
 pub use attribute::{AttrId, AttrValue};

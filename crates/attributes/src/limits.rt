@@ -2,7 +2,7 @@
 ghost use Rattle.std.specs.Prelude.{◌≡◌, ◌+◌, ◌≤◌, ◌↔◌, IfOk, IfErr, IsOk, IsTrue, OnOk, All};
 ghost use Rattle.attributes.specs.Conn.{facts_of, text_of};
 ghost use Rattle.attributes.specs.Headers.{entry_of};
-ghost use Rattle.attributes.specs.Limits.{AreLimits, FactsInLimits, HasLimitFault, HeadInLimits, InLimits, IsFaultOf, IsWithin, EntryInLimits, declared, largest, limit_of};
+ghost use Rattle.attributes.specs.Limits.{AreLimits, FactsInLimits, HasLimitFault, HeadInLimits, InLimits, IsFaultOf, IsWithin, EntryInLimits, declared, largest, limit_of, name_of};
 
 use crate::conn::Conn;
 use crate::headers::Header;
@@ -56,7 +56,9 @@ impl Limit {
     }
 
     /// The name by which a configuration declares it.
-    pub fn name(self) -> &'static str {
+    pub fn name(self) -> &'static str
+        ensures { result.now ≡ name_of self }
+    {
         match self {
             Limit::Fields => "fields",
             Limit::Name => "name",
@@ -78,6 +80,11 @@ pub enum LimitFault {
 }
 
 impl fmt::Display for LimitFault {
+    ghost use Rattle.std.specs.Prelude.{Some};
+    ghost use Rattle.attributes.specs.Limits.{fault_text};
+
+    ghost output = { λ fault. Some (fault_text fault) };
+
     fn fmt<W: fmt::Write>(&self, f: &mut fmt::Formatter<W>) -> fmt::Result {
         match self {
             LimitFault::Zero(limit) => {
@@ -107,19 +114,28 @@ pub struct Limits {
 }
 
 impl Model for Limits {
-    ghost use Rattle.attributes.specs.Limits.{LimitsValue, AreLimits};
+    ghost use Rattle.attributes.specs.Limits.{LimitsValue, AreLimits, declared};
 
     ghost Value = { LimitsValue };
 
-    ghost view = { λ l. record { fields = l.fields; name = l.name; value = l.value; method = l.method; target = l.target; text = l.text } };
+    ghost view = { λ l. declared l.fields l.name l.value l.method l.target l.text };
 
-    ghost invariant = { λ l. AreLimits (record { fields = l.fields; name = l.name; value = l.value; method = l.method; target = l.target; text = l.text }) };
+    ghost invariant = { λ l.
+        AreLimits (declared l.fields l.name l.value l.method l.target l.text) };
 
-    ghost inverse = { λ v. record { fields = v.fields; name = v.name; value = v.value; method = v.method; target = v.target; text = v.text } };
+    ghost inverse = { λ v. record {
+      fields = v.fields;
+      name = v.name;
+      value = v.value;
+      method = v.method;
+      target = v.target;
+      text = v.text;
+    } };
 }
 
 impl Limits {
-    /// Limits as declared: on the number of fields, and in bytes of a name, a value, a method, a target and any other text.
+    /// Limits as declared: on the number of fields, and in bytes of a name, a value, a method, a
+    /// target and any other text.
     pub fn new(
         fields: usize,
         name: usize,
@@ -130,7 +146,8 @@ impl Limits {
     ) -> Result<Limits, LimitFault>
         ensures kept { IfOk result (λ l. l ≡ declared fields name value method target text) }
         ensures allowed { OnOk result (AreLimits (declared fields name value method target text)) }
-        ensures fault { IfErr result (HasLimitFault (declared fields name value method target text)) }
+        ensures fault { IfErr result
+            (HasLimitFault (declared fields name value method target text)) }
     {
         check_limit(Limit::Fields, fields)?;
         check_limit(Limit::Name, name)?;
@@ -230,7 +247,8 @@ impl Limits {
     }
 
     fn fits_pairs(&self, headers: &[Header]) -> bool
-        ensures { IsTrue result ↔ All (λ header. EntryInLimits self.now (entry_of header)) headers.now }
+        ensures { IsTrue result
+            ↔ All (λ header. EntryInLimits self.now (entry_of header)) headers.now }
     {
         headers.iter().all(|(name, value)| name.len() <= self.name && value.len() <= self.value)
     }

@@ -3,7 +3,7 @@ ghost use Rattle.std.specs.Prelude.{◌≡◌, ℕ, ◌+◌, IfOk, option_copied
 ghost use Rattle.std.specs.String.{string_bytes};
 ghost use Rattle.attributes.specs.Conn.{facts_of};
 ghost use Rattle.attributes.specs.Headers.{AreJoined, all_entries, entries_of};
-ghost use Rattle.attributes.specs.Request.{IsRequest, header_of};
+ghost use Rattle.attributes.specs.Request.{IsRequest, header_of, request_of};
 
 use crate::conn::Conn;
 use crate::headers::{Header, find_header, join_headers};
@@ -29,15 +29,31 @@ impl Model for Request {
 
     ghost Value = { RequestValue };
 
-    ghost view = { λ r. record { method = string_bytes r.method; target = string_bytes r.target; http11 = r.http11; lines = r.lines; headers = entries_of r.headers.items; facts = facts_of r.conn } };
+    ghost view = { λ r. record {
+      method = string_bytes r.method;
+      target = string_bytes r.target;
+      http11 = r.http11;
+      lines = r.lines;
+      headers = entries_of r.headers.items;
+      facts = facts_of r.conn;
+    } };
 
-    ghost invariant = { λ r. IsRequest (record { method = string_bytes r.method; target = string_bytes r.target; http11 = r.http11; lines = r.lines; headers = entries_of r.headers.items; facts = facts_of r.conn }) };
+    ghost invariant = { λ r. IsRequest (record {
+      method = string_bytes r.method;
+      target = string_bytes r.target;
+      http11 = r.http11;
+      lines = r.lines;
+      headers = entries_of r.headers.items;
+      facts = facts_of r.conn;
+    }) };
 }
 
 impl Request {
-    /// A request of HTTP/1.1, or else of HTTP/1.0, with these field lines in order of arrival, each a name in lower case
-    /// and a value. The values of one name are joined with `,` (RFC 9110 section 5.3), the Host field stands as
-    /// `:authority`, and `:method`, `:path` and `:scheme` stand besides.
+    /// A request of HTTP/1.1, or else of HTTP/1.0, with these field lines in order of arrival, each
+    /// a name in lower case and a value. The values of one name are joined with `,` (RFC 9110
+    /// section 5.3), the Host field stands as `:authority`, and `:method`, `:path` and `:scheme`
+    /// besides. Names are given without a colon and Host at most once: no name stands in the way of
+    /// a pseudo-header then.
     pub fn new(
         alloc: Global,
         method: String,
@@ -46,11 +62,13 @@ impl Request {
         lines: Vec<Header>,
         conn: Conn,
     ) -> Result<Request, AllocError>
-        ensures parts { IfOk result (λ r. (r.method ≡ string_bytes method) × (r.target ≡ string_bytes target)
-            × (r.http11 ≡ http11) × (r.facts ≡ facts_of conn)) }
+        ensures parts { IfOk result (λ r. (r.method ≡ string_bytes method)
+            × (r.target ≡ string_bytes target) × (r.http11 ≡ http11) × (r.facts ≡ facts_of conn)) }
         ensures count { IfOk result (λ r. r.lines ≡ vec_len lines) }
-        ensures headers { IfOk result (λ r. AreJoined (all_entries (string_bytes method) (string_bytes target)
-            (string_bytes conn.scheme) (entries_of lines.items)) r.headers) }
+        ensures value { IfOk result (λ r. r ≡ request_of (string_bytes method) (string_bytes target)
+            http11 (entries_of lines.items) (facts_of conn)) }
+        ensures headers { IfOk result (λ r. AreJoined (all_entries (string_bytes method)
+            (string_bytes target) (string_bytes conn.scheme) (entries_of lines.items)) r.headers) }
     {
         let count = lines.len();
         let headers = join_headers(

@@ -4,8 +4,10 @@ use Rattle.attributes.proofs.Sorting.{AreSorted-from_clause, values_of-from_clau
 use Rattle.attributes.proofs.headers.sort_by_name.Goals as goal
 
 pub returns-clause-sorted : goal.returns-clause-sorted
-returns-clause-sorted c = AreSorted-from_clause (λ a r f' k. search rules) _ _ c.sort_by.ensures.sorted
+returns-clause-sorted c =
+    AreSorted-from_clause (λ a r f' k. search rules) _ _ c.sort_by.ensures.sorted
 
 pub returns-clause-stable : goal.returns-clause-stable
 returns-clause-stable c =
-    λ name. values_of-from_clause (λ a r f' k. search rules) name _ _ c.sort_by.ensures.permutation c.sort_by.ensures.stable
+    λ name. values_of-from_clause
+    (λ a r f' k. search rules) name _ _ c.sort_by.ensures.permutation c.sort_by.ensures.stable

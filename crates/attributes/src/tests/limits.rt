@@ -1,0 +1,234 @@
+//! The borders of declared limits, and of requests within them.
+use crate::{Conn, Header, Limit, LimitFault, Limits, Request};
+use std::alloc::{AllocError, Global};
+use std::test::Fail;
+
+// Six declared limits, in the order of `Limits::new`, and the fault that is there.
+const DECLARED: [([usize; 6], Option<LimitFault>); 14] = [
+    ([64, 128, 4096, 32, 4096, 1024], None),
+    ([1, 1, 1, 1, 1, 1], None),
+    (
+        [0, 128, 4096, 32, 4096, 1024],
+        Some(LimitFault::Zero(Limit::Fields)),
+    ),
+    (
+        [64, 0, 4096, 32, 4096, 1024],
+        Some(LimitFault::Zero(Limit::Name)),
+    ),
+    (
+        [64, 128, 0, 32, 4096, 1024],
+        Some(LimitFault::Zero(Limit::Value)),
+    ),
+    (
+        [64, 128, 4096, 0, 4096, 1024],
+        Some(LimitFault::Zero(Limit::Method)),
+    ),
+    (
+        [64, 128, 4096, 32, 0, 1024],
+        Some(LimitFault::Zero(Limit::Target)),
+    ),
+    (
+        [64, 128, 4096, 32, 4096, 0],
+        Some(LimitFault::Zero(Limit::Text)),
+    ),
+    (
+        [65, 128, 4096, 32, 4096, 1024],
+        Some(LimitFault::Above(Limit::Fields)),
+    ),
+    (
+        [64, 129, 4096, 32, 4096, 1024],
+        Some(LimitFault::Above(Limit::Name)),
+    ),
+    (
+        [64, 128, 4097, 32, 4096, 1024],
+        Some(LimitFault::Above(Limit::Value)),
+    ),
+    (
+        [64, 128, 4096, 33, 4096, 1024],
+        Some(LimitFault::Above(Limit::Method)),
+    ),
+    (
+        [64, 128, 4096, 32, 4097, 1024],
+        Some(LimitFault::Above(Limit::Target)),
+    ),
+    (
+        [64, 128, 4096, 32, 4096, 1025],
+        Some(LimitFault::Above(Limit::Text)),
+    ),
+];
+
+const LIMITS: [Limit; 6] = [
+    Limit::Fields,
+    Limit::Name,
+    Limit::Value,
+    Limit::Method,
+    Limit::Target,
+    Limit::Text,
+];
+
+fn declare(numbers: [usize; 6]) -> Result<Limits, LimitFault> {
+    let [fields, name, value, method, target, text] = numbers;
+    Limits::new(fields, name, value, method, target, text)
+}
+
+#[test]
+fn declares_limits(rt: HostRuntime) -> Result<(), Fail> {
+    for (numbers, fault) in DECLARED {
+        assert_eq!(rt; declare(numbers).err(), fault, "{numbers:?}");
+    }
+    Ok(())
+}
+
+#[test]
+fn keeps_limits(rt: HostRuntime) -> Result<(), Fail> {
+    let limits = Limits::new(6, 5, 4, 3, 2, 1)?;
+    for (limit, number) in LIMITS.iter().zip([6usize, 5, 4, 3, 2, 1]) {
+        assert_eq!(rt; limits.get(*limit), number, "{limit:?}");
+    }
+    for (limit, number) in LIMITS.iter().zip([64usize, 128, 4096, 32, 4096, 1024]) {
+        assert_eq!(rt; Limits::largest().get(*limit), number, "{limit:?}");
+        assert_eq!(rt; limit.largest(), number, "{limit:?}");
+    }
+    Ok(())
+}
+
+#[test]
+fn names_limits(rt: HostRuntime) -> Result<(), Fail> {
+    let alloc = rt.alloc();
+    let zero = LimitFault::Zero(Limit::Fields).to_string(alloc)?;
+    assert_eq!(rt; zero.as_str(), "the limit fields is 0");
+    let above = LimitFault::Above(Limit::Text).to_string(alloc)?;
+    assert_eq!(rt; above.as_str(), "the limit text is above 1024");
+    let names = ["fields", "name", "value", "method", "target", "text"];
+    for (limit, name) in LIMITS.iter().zip(names) {
+        assert_eq!(rt; limit.name(), name);
+    }
+    Ok(())
+}
+
+// A head: the method, the target, the scheme, the field lines, and the least limits that it keeps.
+struct Head {
+    method: &'static str,
+    target: &'static str,
+    scheme: &'static str,
+    lines: &'static [(&'static str, &'static str)],
+    least: [usize; 6],
+}
+
+// In turn the longest name is a field's, `:authority` and `:method`, the longest value joined, the
+// scheme, the target and the method, and the longest text the protocol's version and the scheme.
+const HEADS: [Head; 5] = [
+    Head {
+        method: "PATCH",
+        target: "/abcdefgh",
+        scheme: "https",
+        lines: &[
+            ("host", "h"),
+            ("accept-encoding", "x"),
+            ("x", "1234567890"),
+            ("x", "12"),
+        ],
+        least: [7, 15, 13, 5, 9, 8],
+    },
+    Head {
+        method: "GET",
+        target: "/",
+        scheme: "http",
+        lines: &[("host", "h")],
+        least: [4, 10, 4, 3, 1, 8],
+    },
+    Head {
+        method: "GET",
+        target: "/12345",
+        scheme: "http",
+        lines: &[],
+        least: [3, 7, 6, 3, 6, 8],
+    },
+    Head {
+        method: "OPTIONS",
+        target: "/",
+        scheme: "http",
+        lines: &[],
+        least: [3, 7, 7, 7, 1, 8],
+    },
+    Head {
+        method: "GET",
+        target: "/",
+        scheme: "long-scheme",
+        lines: &[("a", ""), ("a", ""), ("a", "")],
+        least: [6, 7, 11, 3, 1, 11],
+    },
+];
+
+fn request_of(alloc: Global, head: &Head) -> Result<Request, AllocError> {
+    let mut lines: Vec<Header> = Vec::new(alloc);
+    for (name, value) in head.lines {
+        lines.push((
+            String::from_str(alloc, name)?,
+            String::from_str(alloc, value)?,
+        ))?;
+    }
+    let method = String::from_str(alloc, head.method)?;
+    let target = String::from_str(alloc, head.target)?;
+    let conn = Conn::of_scheme(String::from_str(alloc, head.scheme)?);
+    Request::new(alloc, method, target, true, lines, conn)
+}
+
+#[test]
+fn fits_at_each_border(rt: HostRuntime) -> Result<(), Fail> {
+    for head in &HEADS {
+        let request = request_of(rt.alloc(), head)?;
+        let target = head.target;
+        assert!(rt; declare(head.least)?.fits(&request), "{target}");
+        assert!(rt; Limits::largest().fits(&request), "{target}");
+        for place in 0..6usize {
+            let mut less = head.least;
+            less[place] = less[place].saturating_sub(1);
+            let within = match declare(less) {
+                Ok(limits) => limits.fits(&request),
+                Err(_) => false,
+            };
+            assert!(rt; !within, "{target} {place}");
+        }
+    }
+    Ok(())
+}
+
+// A connection of which one text is known, beside the scheme.
+fn conn_with(alloc: Global, fact: usize, text: &str) -> Result<Conn, AllocError> {
+    let mut conn = Conn::of_scheme(String::from_str(alloc, "http")?);
+    let text = String::from_str(alloc, text)?;
+    match fact {
+        0 => conn.source_address = Some(text),
+        1 => conn.destination_address = Some(text),
+        2 => conn.requested_server_name = Some(text),
+        3 => conn.tls_version = Some(text),
+        4 => conn.subject_peer_certificate = Some(text),
+        5 => conn.dns_san_peer_certificate = Some(text),
+        6 => conn.uri_san_peer_certificate = Some(text),
+        _ => conn.scheme = text,
+    }
+    Ok(conn)
+}
+
+#[test]
+fn fits_each_text_of_a_connection(rt: HostRuntime) -> Result<(), Fail> {
+    let alloc = rt.alloc();
+    let limits = Limits::new(3, 7, 9, 3, 1, 9)?;
+    let less = Limits::new(3, 7, 9, 3, 1, 8)?;
+    let small_value = Limits::new(3, 7, 8, 3, 1, 9)?;
+    for fact in 0..8usize {
+        let conn = conn_with(alloc, fact, "123456789")?;
+        assert!(rt; limits.fits_conn(&conn), "{fact}");
+        assert!(rt; small_value.fits_conn(&conn), "{fact}");
+        assert!(rt; !less.fits_conn(&conn), "{fact}");
+        let method = String::from_str(alloc, "GET")?;
+        let target = String::from_str(alloc, "/")?;
+        let request = Request::new(alloc, method, target, true, Vec::new(alloc), conn)?;
+        assert!(rt; limits.fits(&request), "{fact}");
+        assert!(rt; !less.fits(&request), "{fact}");
+        // The scheme is a header's value too.
+        assert_eq!(rt; small_value.fits(&request), fact < 7, "{fact}");
+    }
+    Ok(())
+}

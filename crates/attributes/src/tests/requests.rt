@@ -1,0 +1,222 @@
+//! Attributes and headers of two requests, and copies of connections.
+use crate::{AttrId, AttrValue, Conn, Header, Request, parse_ip};
+use std::alloc::{AllocError, Global};
+use std::test::Fail;
+
+const LINES: [(&str, &str); 9] = [
+    ("host", "h:8080"),
+    ("accept", "a"),
+    ("x-request-id", "7"),
+    ("user-agent", "u"),
+    ("accept", "b, c"),
+    ("!first", "0"),
+    ("referer", "r"),
+    ("cookie", ""),
+    ("accept", ""),
+];
+
+// The attributes of `GET /a/b?x=1#f?y` in HTTP/1.1 with these lines, on a connection of which all
+// is known.
+const FULL: [(AttrId, &str); 22] = [
+    (AttrId::RequestPath, "text /a/b?x=1#f?y"),
+    (AttrId::RequestUrlPath, "text /a/b"),
+    (AttrId::RequestHost, "text h:8080"),
+    (AttrId::RequestScheme, "text https"),
+    (AttrId::RequestMethod, "text GET"),
+    (
+        AttrId::RequestHeaders,
+        "pairs !first=0;:authority=h:8080;:method=GET;:path=/a/b?x=1#f?y;:scheme=https;\
+         accept=a,b, c,;cookie=;referer=r;user-agent=u;x-request-id=7;",
+    ),
+    (AttrId::RequestReferer, "text r"),
+    (AttrId::RequestUseragent, "text u"),
+    (AttrId::RequestId, "text 7"),
+    (AttrId::RequestProtocol, "text HTTP/1.1"),
+    (AttrId::RequestQuery, "text x=1"),
+    (AttrId::SourceAddress, "text 10.0.0.1:1"),
+    (AttrId::SourcePort, "int 1"),
+    (AttrId::DestinationAddress, "text 10.0.0.2:65535"),
+    (AttrId::DestinationPort, "int 65535"),
+    (AttrId::ConnectionMtls, "bool true"),
+    (AttrId::ConnectionId, "uint 18446744073709551615"),
+    (AttrId::ConnectionRequestedServerName, "text server"),
+    (AttrId::ConnectionTlsVersion, "text TLSv1.3"),
+    (AttrId::ConnectionSubjectPeerCertificate, "text subject"),
+    (AttrId::ConnectionDnsSanPeerCertificate, "text dns"),
+    (AttrId::ConnectionUriSanPeerCertificate, "text uri"),
+];
+
+// The attributes of `POST /p#q?z` in HTTP/1.0 without a line, on a connection of which the scheme
+// alone is known.
+const BARE: [(AttrId, &str); 22] = [
+    (AttrId::RequestPath, "text /p#q?z"),
+    (AttrId::RequestUrlPath, "text /p"),
+    (AttrId::RequestHost, "absent"),
+    (AttrId::RequestScheme, "text http"),
+    (AttrId::RequestMethod, "text POST"),
+    (
+        AttrId::RequestHeaders,
+        "pairs :method=POST;:path=/p#q?z;:scheme=http;",
+    ),
+    (AttrId::RequestReferer, "absent"),
+    (AttrId::RequestUseragent, "absent"),
+    (AttrId::RequestId, "absent"),
+    (AttrId::RequestProtocol, "text HTTP/1.0"),
+    (AttrId::RequestQuery, "text "),
+    (AttrId::SourceAddress, "absent"),
+    (AttrId::SourcePort, "absent"),
+    (AttrId::DestinationAddress, "absent"),
+    (AttrId::DestinationPort, "absent"),
+    (AttrId::ConnectionMtls, "absent"),
+    (AttrId::ConnectionId, "absent"),
+    (AttrId::ConnectionRequestedServerName, "absent"),
+    (AttrId::ConnectionTlsVersion, "absent"),
+    (AttrId::ConnectionSubjectPeerCertificate, "absent"),
+    (AttrId::ConnectionDnsSanPeerCertificate, "absent"),
+    (AttrId::ConnectionUriSanPeerCertificate, "absent"),
+];
+
+// Targets with their `url_path` and `query`.
+const TARGETS: [(&str, &str, &str); 14] = [
+    ("/", "/", ""),
+    ("/?", "/", ""),
+    ("/#", "/", ""),
+    ("/?#", "/", ""),
+    ("/#?", "/", ""),
+    ("/a", "/a", ""),
+    ("/a?b", "/a", "b"),
+    ("/a?b?c", "/a", "b?c"),
+    ("/a#b", "/a", ""),
+    ("/a#b?c", "/a", ""),
+    ("/a?b#c", "/a", "b"),
+    ("/a?b#c?d#e", "/a", "b"),
+    ("/\u{e9}?\u{fc}#\u{df}", "/\u{e9}", "\u{fc}"),
+    ("/a/b/../c?/d?/e", "/a/b/../c", "/d?/e"),
+];
+
+fn lines_of(alloc: Global, lines: &[(&str, &str)]) -> Result<Vec<Header>, AllocError> {
+    let mut made = Vec::new(alloc);
+    for (name, value) in lines {
+        made.push((
+            String::from_str(alloc, name)?,
+            String::from_str(alloc, value)?,
+        ))?;
+    }
+    Ok(made)
+}
+
+fn full_conn(alloc: Global) -> Result<Conn, AllocError> {
+    Ok(Conn {
+        source_address: Some(String::from_str(alloc, "10.0.0.1:1")?),
+        source_port: Some(1),
+        destination_address: Some(String::from_str(alloc, "10.0.0.2:65535")?),
+        destination_port: Some(65535),
+        mtls: Some(true),
+        connection_id: Some(u64::MAX),
+        requested_server_name: Some(String::from_str(alloc, "server")?),
+        tls_version: Some(String::from_str(alloc, "TLSv1.3")?),
+        subject_peer_certificate: Some(String::from_str(alloc, "subject")?),
+        dns_san_peer_certificate: Some(String::from_str(alloc, "dns")?),
+        uri_san_peer_certificate: Some(String::from_str(alloc, "uri")?),
+        direct_remote_ip: parse_ip("10.0.0.1"),
+        remote_ip: parse_ip("::1"),
+        destination_ip: parse_ip("10.0.0.2"),
+        scheme: String::from_str(alloc, "https")?,
+    })
+}
+
+fn full_request(alloc: Global) -> Result<Request, AllocError> {
+    let method = String::from_str(alloc, "GET")?;
+    let target = String::from_str(alloc, "/a/b?x=1#f?y")?;
+    let lines = lines_of(alloc, &LINES)?;
+    Request::new(alloc, method, target, true, lines, full_conn(alloc)?)
+}
+
+fn bare_request(alloc: Global, target: &str) -> Result<Request, AllocError> {
+    let method = String::from_str(alloc, "POST")?;
+    let target = String::from_str(alloc, target)?;
+    let conn = Conn::of_scheme(String::from_str(alloc, "http")?);
+    Request::new(alloc, method, target, false, Vec::new(alloc), conn)
+}
+
+// An attribute's value in words.
+fn shown(alloc: Global, value: Option<AttrValue<'_>>) -> Result<String, AllocError> {
+    match value {
+        None => String::from_str(alloc, "absent"),
+        Some(AttrValue::Text(text)) => format!(in alloc; "text {text}"),
+        Some(AttrValue::Int(number)) => format!(in alloc; "int {number}"),
+        Some(AttrValue::Uint(number)) => format!(in alloc; "uint {number}"),
+        Some(AttrValue::Bool(answer)) => format!(in alloc; "bool {answer}"),
+        Some(AttrValue::Pairs(pairs)) => {
+            let mut words = String::from_str(alloc, "pairs ")?;
+            for (name, value) in pairs {
+                words.push_str(name.as_str())?;
+                words.push_str("=")?;
+                words.push_str(value.as_str())?;
+                words.push_str(";")?;
+            }
+            Ok(words)
+        }
+    }
+}
+
+#[test]
+fn gives_each_attribute(rt: HostRuntime) -> Result<(), Fail> {
+    let full = full_request(rt.alloc())?;
+    for (id, value) in FULL {
+        assert_eq!(rt; shown(rt.alloc(), full.attr(id))?.as_str(), value, "{id:?}");
+    }
+    let bare = bare_request(rt.alloc(), "/p#q?z")?;
+    for (id, value) in BARE {
+        assert_eq!(rt; shown(rt.alloc(), bare.attr(id))?.as_str(), value, "{id:?}");
+    }
+    Ok(())
+}
+
+#[test]
+fn cuts_targets(rt: HostRuntime) -> Result<(), Fail> {
+    for (target, path, query) in TARGETS {
+        let request = bare_request(rt.alloc(), target)?;
+        let found = request.url_path();
+        assert_eq!(rt; found, path, "{target}");
+        let found = request.query();
+        assert_eq!(rt; found, query, "{target}");
+    }
+    Ok(())
+}
+
+#[test]
+fn finds_headers(rt: HostRuntime) -> Result<(), Fail> {
+    let full = full_request(rt.alloc())?;
+    assert_eq!(rt; full.header("accept"), Some("a,b, c,"));
+    assert_eq!(rt; full.header(":authority"), Some("h:8080"));
+    assert_eq!(rt; full.header("host"), None);
+    assert_eq!(rt; full.header("cookie"), Some(""));
+    assert_eq!(rt; full.header("!first"), Some("0"));
+    assert_eq!(rt; full.header("x-request-id"), Some("7"));
+    assert_eq!(rt; full.header("x-request-ie"), None);
+    assert_eq!(rt; full.header(""), None);
+    assert_eq!(rt; full.headers().len(), 10);
+    assert_eq!(rt; full.line_count(), 9);
+    assert_eq!(rt; full.method(), "GET");
+    assert_eq!(rt; full.target(), "/a/b?x=1#f?y");
+    assert!(rt; full.is_http11());
+    assert_eq!(rt; full.protocol(), "HTTP/1.1");
+    assert_eq!(rt; full.conn().remote_ip, parse_ip("::1"));
+    Ok(())
+}
+
+#[test]
+fn copies_connections(rt: HostRuntime) -> Result<(), Fail> {
+    let alloc = rt.alloc();
+    let bare = Conn::of_scheme(String::from_str(alloc, "http")?);
+    for conn in [full_conn(alloc)?, bare] {
+        let copy = conn.copy()?;
+        assert_eq!(rt; copy.source_port, conn.source_port);
+        assert_eq!(rt; copy.direct_remote_ip, conn.direct_remote_ip);
+        let before = format!(in alloc; "{conn:?}")?;
+        let after = format!(in alloc; "{copy:?}")?;
+        assert_eq!(rt; after.as_str(), before.as_str());
+    }
+    Ok(())
+}
