@@ -5,8 +5,9 @@ use Rattle.proto_wire.specs.Rules.{payloads, member_run}
 use Rattle.proto_wire.specs.Messages.{IsMessage}
 use Rattle.proto_wire.specs.declared.field.Field.{Field}
 use Rattle.proto_wire.specs.declared.refusal.Refusal.{Refusal}
-use Rattle.rbac_match.specs.Message.{keys_of, last_number, SetFault, set_fields, set_empty, in_rule, LevelFault, own_fields, no_member, any_is_false, unsupported, in_all, in_any, in_not}
-use Rattle.rbac_match.specs.Member.{Never, MemberFault, none_there, false_there, other_there, in_all_of, in_any_of}
+use Rattle.rbac_match.specs.Message.{keys_of, last_number}
+use Rattle.rbac_match.specs.Rules.{SetFault, set_fields, set_empty, in_rule, LevelFault, own_fields, no_member, any_is_false, unsupported, in_all, in_any, in_leaf, in_not}
+use Rattle.rbac_match.specs.Member.{Never, MemberFault, none_there, false_there, other_there, in_all_of, in_any_of, in_leaf_of}
 use Rattle.rbac_match.specs.declared.rule.Side.{Side}
 
 -- the last field's number, where it stands
@@ -29,15 +30,19 @@ pub level_weaker : (side : Side) (Below : List (List ℕ) → Refusal → Type 0
 level_weaker side Below parts e (own_fields bad) = own_fields bad
 level_weaker side Below parts e (no_member fs message none is) = no_member fs message none is
 level_weaker side Below parts e (any_is_false run has at none is) = any_is_false run has at none is
-level_weaker side Below parts e (unsupported run n has at a b c d is) = unsupported run n has at a b c d is
+level_weaker side Below parts e (unsupported run n has at a b c d none is) = unsupported run n has at a b c d none is
 level_weaker side Below parts e (in_all run has at bad) = in_all run has at (set_weaker Below (payloads 1 run) e bad)
 level_weaker side Below parts e (in_any run has at bad) = in_any run has at (set_weaker Below (payloads 2 run) e bad)
+level_weaker side Below parts e (in_leaf run n leaf has at is bad) = in_leaf run n leaf has at is bad
 level_weaker side Below parts e (in_not run has at bad) = absurd bad
 
 -- what is wrong with the last member's run is wrong with the rule
-pub member_fault : (side : Side) (parts : List (List ℕ)) (fs : List Wire) (e : Refusal) → IsMessage (keys_of side) parts fs → MemberFault (member_run (keys_of side) fs) e → LevelFault side Never parts e
+pub member_fault : (side : Side) (parts : List (List ℕ)) (fs : List Wire) (e : Refusal) → IsMessage (keys_of side) parts fs → MemberFault side (member_run (keys_of side) fs) e → LevelFault side Never parts e
 member_fault side parts fs e message (none_there none is) = no_member fs message none is
 member_fault side parts fs e message (false_there at none is) = any_is_false (member_run (keys_of side) fs) (fs, message.0, refl) at none is
-member_fault side parts fs e message (other_there n at a b c d is) = unsupported (member_run (keys_of side) fs) n (fs, message.0, refl) at a b c d is
+member_fault side parts fs e message (other_there n at a b c d none is) =
+    unsupported (member_run (keys_of side) fs) n (fs, message.0, refl) at a b c d none is
+member_fault side parts fs e message (in_leaf_of n leaf at is bad) =
+    in_leaf (member_run (keys_of side) fs) n leaf (fs, message.0, refl) at is bad
 member_fault side parts fs e message (in_all_of at bad) = in_all (member_run (keys_of side) fs) (fs, message.0, refl) at bad
 member_fault side parts fs e message (in_any_of at bad) = in_any (member_run (keys_of side) fs) (fs, message.0, refl) at bad

@@ -4,7 +4,8 @@ use Rattle.proto_wire.specs.Rules.{member_run}
 use Rattle.proto_wire.specs.Messages.{texts}
 use Rattle.proto_wire.specs.declared.refusal.Refusal.{Refusal}
 use Rattle.rbac_match.specs.Formula.{Formula, anything, all_of, any_of, none_of}
-use Rattle.rbac_match.specs.Message.{keys_of, AreRules, IsLevel, IsRule, in_rule, LevelFault, in_all, in_any, in_not, RuleFault, SomeRuleFault}
+use Rattle.rbac_match.specs.Message.{keys_of}
+use Rattle.rbac_match.specs.Rules.{AreRules, IsLevel, IsRule, in_rule, LevelFault, in_all, in_any, in_not, RuleFault, SomeRuleFault}
 use Rattle.rbac_match.specs.Member.{IsMember, Never}
 use Rattle.std.specs.declared.vec.Vec.{Vec}
 use Rattle.std.specs.declared.alloc.Global.{Global}
@@ -13,7 +14,7 @@ use Rattle.rbac_match.specs.declared.member.Member.TheVariants as members
 use Rattle.rbac_match.specs.declared.rule.Rule.{Rule, the_lemmas, All, Either}
 use Rattle.rbac_match.specs.declared.rule.Side.{Side}
 use Rattle.rbac_match.proofs.Fields.{level_weaker}
-use Rattle.rbac_match.proofs.Settled.{contains_first, contains_later}
+use Rattle.rbac_match.proofs.Basics.{contains_first, contains_later}
 
 -- a level, where there is one more
 rule_deeper : (side : Side) (depth : ℕ) (parts : List (List ℕ)) (f : Formula) → 0 < depth → IsLevel side (IsRule side (depth - 1)) parts f → IsRule side depth parts f

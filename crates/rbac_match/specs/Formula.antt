@@ -1,6 +1,7 @@
 -- What a permission or a principal says of a request: Envoy RBAC, "Permission" and "Principal" (config.rbac.v3).
 use Rattle.std.specs.Prelude.{Bool, true, false, not, ◌&&◌, ◌||◌}
 use Rattle.attributes.specs.Request.{RequestValue}
+use Rattle.rbac_match.specs.Matcher.{Matcher, matcher_holds}
 
 mutual
   -- a rule as a formula over facts of the request
@@ -9,6 +10,7 @@ mutual
     all_of : Formulas → Formula
     any_of : Formulas → Formula
     none_of : Formula → Formula
+    matches : Matcher → Formula
 
   -- rules one after the other
   pub data Formulas : Type 0 where
@@ -22,6 +24,7 @@ abbrev mutual
   holds r (all_of fs) = all_hold r fs
   holds r (any_of fs) = some_hold r fs
   holds r (none_of f) = not (holds r f)
+  holds r (matches m) = matcher_holds m r
 
   -- whether it is as each of the formulas says
   pub all_hold : RequestValue → Formulas → Bool

@@ -1,4 +1,16 @@
-pub mod Formula
 pub mod Message
+pub mod Text
+pub mod Path
+pub mod Authenticated
+pub mod Decimal
+pub mod Int64Range
+pub mod Header
+pub mod Integers
+pub mod Network
+pub mod Ports
+pub mod Matcher
+pub mod Leaves
+pub mod Formula
+pub mod Rules
 pub mod Member
 pub mod View

@@ -1,6 +1,7 @@
 -- The formula that a `Rule` stands for.
 use Rattle.std.specs.Prelude.{List, [], ◌∷◌, map}
-use Rattle.rbac_match.specs.Formula.{Formula, anything, all_of, any_of, none_of, Formulas, end, formula}
+use Rattle.rbac_match.specs.Formula.{Formula, anything, all_of, any_of, none_of, matches, Formulas, end, formula}
+use Rattle.rbac_match.specs.Matcher.{matcher_view}
 use Rattle.rbac_match.specs.declared.rule.Rule.{Rule, fold-Rule}
 use Rattle.rbac_match.specs.declared.rule.Rule.TheOpen.{Rule-F}
 
@@ -15,6 +16,7 @@ view_step Rule-F.Any = anything
 view_step (Rule-F.All v) = all_of (formulas_of v.items)
 view_step (Rule-F.Either v) = any_of (formulas_of v.items)
 view_step (Rule-F.Not b) = none_of b.value
+view_step (Rule-F.Matches m) = matches (matcher_view m)
 
 -- the formula that the rule stands for
 abbrev pub rule_view : Rule → Formula

@@ -4,6 +4,7 @@ ghost use Rattle.std.specs.Prelude.{◌≡◌};
 ghost use Rattle.rbac_match.specs.Formula.{holds, all_hold, some_hold};
 ghost use Rattle.rbac_match.specs.View.{rule_view, rules_view};
 
+use crate::matcher::passes;
 use crate::rule::Rule;
 use attributes::Request;
 
@@ -17,6 +18,7 @@ pub fn matches(rule: &Rule, request: &Request) -> bool
         Rule::All(rules) => all_match(rules, request),
         Rule::Either(rules) => some_matches(rules, request),
         Rule::Not(inner) => !matches(inner, request),
+        Rule::Matches(matcher) => passes(matcher, request),
     }
 }
 

@@ -3,11 +3,14 @@
 ghost use Rattle.std.specs.Prelude.{◌≡◌, ◌⊎◌, IfOk, IfErr, map};
 ghost use Rattle.proto_wire.specs.Fields.{view};
 ghost use Rattle.proto_wire.specs.declared.refusal.Refusal.TheVariants.{Memory};
-ghost use Rattle.rbac_match.specs.Message.{last_number, SetFault, LevelFault};
+ghost use Rattle.rbac_match.specs.Message.{last_number};
+ghost use Rattle.rbac_match.specs.Rules.{SetFault, LevelFault};
 ghost use Rattle.proto_wire.specs.Messages.{texts};
 ghost use Rattle.rbac_match.specs.Member.{IsMember, MemberSays, MemberFault, IsSetOf, Never};
 
 use crate::keys::{keys_of, set_keys};
+use crate::leaf::{leaf_at, read_leaf};
+use crate::matcher::Matcher;
 use crate::rule::Side;
 use proto_wire::{Field, Refusal, last_varint, member_run, payloads_of, read_message};
 use std::alloc::Global;
@@ -23,6 +26,8 @@ pub enum Member<'a> {
     Either(Vec<&'a [u8]>),
     /// `not_rule` or `not_id`: the payloads that merge to its rule.
     Not(Vec<&'a [u8]>),
+    /// A leaf, which is read.
+    Matches(Matcher),
 }
 
 const ALL: u32 = 1;
@@ -40,13 +45,13 @@ pub fn read_member<'a>(alloc: Global, side: Side, parts: &[&'a [u8]]) -> Result<
 {
     let fields = read_message(alloc, parts, keys_of(side))?;
     let run = member_run(alloc, &fields, keys_of(side))?;
-    choose(alloc, &run)
+    choose(alloc, side, &run)
 }
 
 /// Reads the last member's run.
-fn choose<'a>(alloc: Global, run: &[Field<'a>]) -> Result<Member<'a>, Refusal>
-    ensures found { IfOk result (λ m. MemberSays (map view run.now) m) }
-    ensures fault { IfErr result (λ e. (e ≡ Memory) ⊎ MemberFault (map view run.now) e) }
+fn choose<'a>(alloc: Global, side: Side, run: &[Field<'a>]) -> Result<Member<'a>, Refusal>
+    ensures found { IfOk result (λ m. MemberSays side (map view run.now) m) }
+    ensures fault { IfErr result (λ e. (e ≡ Memory) ⊎ MemberFault side (map view run.now) e) }
 {
     match number_of(run) {
         None => Err(Refusal::Missing),
@@ -57,7 +62,10 @@ fn choose<'a>(alloc: Global, run: &[Field<'a>]) -> Result<Member<'a>, Refusal>
             Some(_) => Ok(Member::Any),
         },
         Some(NOT) => Ok(Member::Not(payloads_of(alloc, run, NOT)?)),
-        Some(_) => Err(Refusal::Unsupported),
+        Some(number) => match leaf_at(side, number) {
+            Some(leaf) => Ok(Member::Matches(read_leaf(alloc, leaf, run, number)?)),
+            None => Err(Refusal::Unsupported),
+        },
     }
 }
 

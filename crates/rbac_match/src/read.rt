@@ -2,7 +2,7 @@
 
 ghost use Rattle.std.specs.Prelude.{◌≡◌, ◌⊎◌, IfOk, IfErr};
 ghost use Rattle.proto_wire.specs.declared.refusal.Refusal.TheVariants.{Memory};
-ghost use Rattle.rbac_match.specs.Message.{IsRule, AreRules, RuleFault, SomeRuleFault};
+ghost use Rattle.rbac_match.specs.Rules.{IsRule, AreRules, RuleFault, SomeRuleFault};
 ghost use Rattle.proto_wire.specs.Messages.{texts};
 ghost use Rattle.rbac_match.specs.View.{rule_view, rules_view};
 
@@ -28,6 +28,7 @@ pub fn read_rule(alloc: Global, side: Side, parts: &[&[u8]], depth: u32) -> Resu
         Member::Any => Ok(Rule::Any),
         Member::All(rules) => Ok(Rule::All(read_rules(alloc, side, &rules, depth - 1)?)),
         Member::Either(rules) => Ok(Rule::Either(read_rules(alloc, side, &rules, depth - 1)?)),
+        Member::Matches(matcher) => Ok(Rule::Matches(matcher)),
         Member::Not(inner) => {
             let rule = read_rule(alloc, side, &inner, depth - 1)?;
             Ok(Rule::Not(Box::new(alloc, rule)?))

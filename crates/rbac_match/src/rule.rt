@@ -1,5 +1,7 @@
 //! What a permission or a principal says of a request.
 
+use crate::matcher::Matcher;
+
 /// Which of the two kinds of rule a message is: they name other members by the same numbers.
 #[derive(Clone, Copy, PartialEq, Eq, Debug)]
 pub enum Side {
@@ -20,4 +22,6 @@ pub enum Rule {
     Either(Vec<Rule>),
     /// Matches where its rule doesn't.
     Not(Box<Rule>),
+    /// Matches where the request passes the test.
+    Matches(Matcher),
 }

@@ -14,11 +14,12 @@ use Rattle.proto_wire.proofs.Unique.{merges-one}
 use Rattle.proto_wire.proofs.Messages.{message_settled, message_apart}
 use Rattle.proto_wire.specs.declared.refusal.Refusal.{Refusal}
 use Rattle.proto_wire.specs.declared.refusal.Refusal.TheVariants.{BadText, Missing, OutOfRange, Unsupported, TooLarge}
-use Rattle.rbac_match.specs.Message.{IsRule, AreRules, RuleFault}
+use Rattle.rbac_match.specs.Rules.{IsRule, AreRules, RuleFault}
 use Rattle.rbac_match.specs.Formula.{Formulas}
 use Rattle.rbac_match.specs.declared.rule.Side.{Side}
 use Rattle.rbac_match.specs.declared.rule.Side.TheVariants.{Permission, Principal}
-use Rattle.rbac_match.proofs.Settled.{nil_or_not, same_or_not, contains_first, contains_later, contains_cases, rules_all_settled, rules_all_apart}
+use Rattle.rbac_match.proofs.Basics.{nil_or_not, same_or_not, contains_first, contains_later, contains_cases}
+use Rattle.rbac_match.proofs.Settled.{rules_all_settled, rules_all_apart}
 use Rattle.rbac_policy.specs.Filter.{Policy, Filter, name_cmp}
 use Rattle.rbac_policy.specs.Message.{filter_keys, rules_keys, entry_keys, policy_keys, rule_depth, most_policies, Entry, name_in, IsEntry, AreEntries, map_of, IsUnconditional, HasBothSides, IsPolicy, ArePolicies, action_in, action_number, AreFilterRules, IsFilter}
 use Rattle.rbac_policy.specs.Named.{Held}

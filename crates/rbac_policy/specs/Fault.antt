@@ -7,7 +7,7 @@ use Rattle.proto_wire.specs.Rules.{payloads, Merges}
 use Rattle.proto_wire.specs.Messages.{IsMessage, MessageFault}
 use Rattle.proto_wire.specs.declared.refusal.Refusal.{Refusal}
 use Rattle.proto_wire.specs.declared.refusal.Refusal.TheVariants.{BadText, Missing, OutOfRange, Unsupported, TooLarge}
-use Rattle.rbac_match.specs.Message.{SomeRuleFault}
+use Rattle.rbac_match.specs.Rules.{SomeRuleFault}
 use Rattle.rbac_match.specs.declared.rule.Side.TheVariants.{Permission, Principal}
 use Rattle.rbac_policy.specs.Filter.{name_cmp}
 use Rattle.rbac_policy.specs.Message.{filter_keys, rules_keys, entry_keys, policy_keys, rule_depth, most_policies, Entry, name_in, IsEntry, map_of, action_in}

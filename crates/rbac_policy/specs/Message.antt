@@ -6,7 +6,8 @@ use Rattle.proto_wire.specs.Fields.{Wire}
 use Rattle.proto_wire.specs.Rules.{varints, payloads, last_of}
 use Rattle.proto_wire.specs.Messages.{IsMessage}
 use Rattle.proto_wire.specs.declared.rules.Key.{Key}
-use Rattle.rbac_match.specs.Message.{text_key, varint_key, AreRules, IsRule}
+use Rattle.rbac_match.specs.Message.{text_key, varint_key}
+use Rattle.rbac_match.specs.Rules.{AreRules, IsRule}
 use Rattle.rbac_match.specs.declared.rule.Side.TheVariants.{Permission, Principal}
 use Rattle.rbac_policy.specs.Filter.{Policy, Filter, name_cmp}
 use Rattle.rbac_policy.specs.declared.filter.Action.{Action}

@@ -43,7 +43,10 @@ fn read_entry<'a>(alloc: Global, payload: &'a [u8]) -> Result<NamedParts<'a>, Re
 }
 
 /// Reads the entries of the map: of those with one name the last counts.
-pub(crate) fn read_entries<'a>(alloc: Global, payloads: &[&'a [u8]]) -> Result<PartsByName<'a>, Refusal>
+pub(crate) fn read_entries<'a>(
+    alloc: Global,
+    payloads: &[&'a [u8]],
+) -> Result<PartsByName<'a>, Refusal>
     ensures found { IfOk result (λ m. (es : List Entry) × AreEntries (texts payloads.now) es
         × (parts_views m.entries ≡ entries (map_of es))) }
     ensures fault { IfErr result (λ e. (e ≡ Memory)

@@ -6,7 +6,7 @@ ghost use Rattle.proto_wire.specs.Fields.{view};
 ghost use Rattle.proto_wire.specs.Rules.{payloads};
 ghost use Rattle.proto_wire.specs.declared.refusal.Refusal.TheVariants.{Memory};
 ghost use Rattle.proto_wire.specs.Messages.{texts};
-ghost use Rattle.rbac_match.specs.Message.{IsRule, AreRules, SomeRuleFault};
+ghost use Rattle.rbac_match.specs.Rules.{IsRule, AreRules, SomeRuleFault};
 ghost use Rattle.rbac_match.specs.View.{rules_view};
 ghost use Rattle.rbac_policy.specs.Message.{IsPolicy, IsUnconditional, HasBothSides, rule_depth};
 ghost use Rattle.rbac_policy.specs.Fault.{PolicyFault, SomePolicyFault, ConditionFault, SideFault};
@@ -35,7 +35,10 @@ const CONDITION: u32 = 3;
 const CHECKED_CONDITION: u32 = 4;
 
 /// Reads each policy of the map, in ascending order of names.
-pub(crate) fn read_policies(alloc: Global, named: &PartsByName<'_>) -> Result<Vec<NamedPolicy>, Refusal>
+pub(crate) fn read_policies(
+    alloc: Global,
+    named: &PartsByName<'_>,
+) -> Result<Vec<NamedPolicy>, Refusal>
     ensures found { IfOk result (λ policies. Held (parts_views named.now.entries) (named_views policies.items)) }
     ensures fault { IfErr result (λ e. (e ≡ Memory) ⊎ SomePolicyFault (parts_views named.now.entries) e) }
 {

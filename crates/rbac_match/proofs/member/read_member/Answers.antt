@@ -3,7 +3,8 @@ use Rattle.std.proofs.lemmas.Result.{err_from_is_err_and, MatchResult-weaker}
 use Rattle.proto_wire.specs.Fields.{view}
 use Rattle.proto_wire.specs.Messages.{texts, IsMessage}
 use Rattle.proto_wire.specs.Rules.{member_run}
-use Rattle.rbac_match.specs.Message.{keys_of, own_fields}
+use Rattle.rbac_match.specs.Message.{keys_of}
+use Rattle.rbac_match.specs.Rules.{own_fields}
 use Rattle.rbac_match.proofs.Fields.{member_fault}
 use Rattle.rbac_match.proofs.member.read_member.Goals as goal
 

@@ -5,7 +5,7 @@ use Rattle.std.proofs.lemmas.List.{nil_from_length}
 use Rattle.proto_wire.specs.Fields.{view}
 use Rattle.proto_wire.specs.Rules.{payloads}
 use Rattle.proto_wire.specs.Messages.{texts}
-use Rattle.rbac_match.specs.Message.{set_fields, set_empty}
+use Rattle.rbac_match.specs.Rules.{set_fields, set_empty}
 use Rattle.rbac_match.proofs.member.read_set.Goals as goal
 
 pub returns-in_err-fields-clause-fault : goal.returns-in_err-fields-clause-fault

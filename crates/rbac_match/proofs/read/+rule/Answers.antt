@@ -2,7 +2,7 @@ use Rattle.std.proofs.Common.{[], inl, inr, arith}
 use Rattle.std.proofs.lemmas.Result.{err_from_is_err_and}
 use Rattle.std.proofs.lemmas.List.{take_more}
 use Rattle.proto_wire.specs.Messages.{texts}
-use Rattle.rbac_match.specs.Message.{IsRule}
+use Rattle.rbac_match.specs.Rules.{IsRule}
 use Rattle.rbac_match.proofs.Levels.{all_view, either_view, all_found, all_fault, either_found, either_fault, not_fault, own_fault, are_rules-push, text_in}
 use Rattle.rbac_match.proofs.read.+rule.Goals as goal
 

@@ -1,6 +1,6 @@
 use Rattle.std.proofs.Common.{◌+◌, ◌*◌, take}
 use Rattle.proto_wire.specs.Messages.{texts}
-use Rattle.rbac_match.specs.Message.{IsRule, AreRules}
+use Rattle.rbac_match.specs.Rules.{IsRule, AreRules}
 use Rattle.rbac_match.specs.View.{rules_view}
 use Rattle.rbac_match.proofs.read.+rule.Given as goal
 

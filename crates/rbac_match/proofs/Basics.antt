@@ -1,0 +1,29 @@
+-- Small facts on lists and numbers: empty or not, in a list or not, equal or not.
+use Rattle.std.proofs.Common.{◌≡◌, ◌≢◌, ℕ, ◌⊎◌, inl, inr, true, false, List, [], ◌∷◌, Contains, refl, arith}
+use Rattle.std.proofs.Math.Dec.{eqb}
+use Rattle.std.proofs.lemmas.Bool.{eqb-true, eqb-false}
+use Rattle.std.proofs.lemmas.List.Elements.{Contains-append_left, Contains-append_right, Contains-append_cases, Contains-push_cases, Contains-push}
+
+-- a list is empty or has a first element
+pub nil_or_not : {A : Type 0} (xs : List A) → (xs ≡ []) ⊎ (xs ≢ [])
+nil_or_not [] = inl refl
+nil_or_not (x ∷ xs) = inr (λ e. cc)
+
+-- the first of a list is in it
+pub contains_first : {A : Type 0} (x : A) (xs : List A) → Contains (x ∷ xs) x
+contains_first x xs = Contains-append_left (x ∷ []) xs x (Contains-push [] x)
+
+-- what is in the rest of a list is in it
+pub contains_later : {A : Type 0} (x y : A) (xs : List A) → Contains xs y → Contains (x ∷ xs) y
+contains_later x y xs h = Contains-append_right (x ∷ []) xs y h
+
+-- what is in a list is its first, or in its rest
+pub contains_cases : {A : Type 0} (x y : A) (xs : List A) → Contains (x ∷ xs) y → (x ≡ y) ⊎ Contains xs y
+contains_cases x y xs h = elim (Contains-append_cases (x ∷ []) xs y h) [
+  | inl first ↦ elim (Contains-push_cases [] x y first) [ inl none ↦ absurd (omega arith) | inr same ↦ inl same ]
+  | inr later ↦ inr later
+]
+
+-- two numbers are equal or not
+pub same_or_not : (m n : ℕ) → (m ≡ n) ⊎ (m ≢ n)
+same_or_not m n = elim (eqb m n) as (λ b. eqb m n ≡ b → (m ≡ n) ⊎ (m ≢ n)) [ true ↦ λ e. inl (eqb-true m n e) | false ↦ λ e. inr (eqb-false m n e) ] refl

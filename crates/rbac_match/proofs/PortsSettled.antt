@@ -1,0 +1,69 @@
+-- A port's run and the payloads of a range of ports are one or have a fault, never both; and they mean one at most.
+use Rattle.std.proofs.Common.{◌≡◌, ℕ, ℤ, pos, negsuc, ◌⊎◌, inl, inr, List, refl, sym, ◌∙◌, subst, arith}
+use Rattle.std.proofs.lemmas.Bool.{cases_lt}
+use Rattle.std.proofs.lemmas.Int.{ints}
+use Rattle.proto_wire.specs.Fields.{Wire}
+use Rattle.proto_wire.proofs.Unique.{merges-one}
+use Rattle.proto_wire.proofs.Messages.{message_settled, message_apart}
+use Rattle.proto_wire.specs.declared.refusal.Refusal.{Refusal}
+use Rattle.proto_wire.specs.declared.refusal.Refusal.TheVariants.{OutOfRange}
+use Rattle.rbac_match.specs.Integers.{uint32_in, int32_in}
+use Rattle.rbac_match.specs.Ports.{PortSpan, IsPort, PortFault, range_keys, AreBounds, AreNoBounds, IsPortRange, PortRangeFault, range_fields, no_bounds}
+
+-- a run says a port, or a number that is none
+pub port_settled : (run : List Wire) → ((port : ℕ) × IsPort run port) ⊎ ((e : Refusal) × PortFault run e)
+port_settled run = elim (cases_lt 65535 (uint32_in 6 run)) [
+  | inl above ↦ inr (OutOfRange, (above, refl))
+  | inr within ↦ inl (uint32_in 6 run, (refl, within))
+]
+
+-- not both
+pub port_apart : (run : List Wire) (port : ℕ) (e : Refusal) → IsPort run port → PortFault run e → ⊥
+port_apart run port e is bad = omega (arith, is.0, is.1, bad.0)
+
+-- and one at most
+pub port_one : (run : List Wire) (m n : ℕ) → IsPort run m → IsPort run n → m ≡ n
+port_one run m n a b = a.0 ∙ sym b.0
+
+-- two bounds are those of some ports, or of none
+bounds_settled : (fs : List Wire) (s e : ℤ) → int32_in 1 fs ≡ s → int32_in 2 fs ≡ e → ((span : PortSpan) × AreBounds fs span) ⊎ AreNoBounds fs
+bounds_settled fs (negsuc m) e start end = inr (inl (omega (arith, ints, start)))
+bounds_settled fs (pos m) (negsuc n) start end = inr (inr (inr (omega (arith, ints, start, end))))
+bounds_settled fs (pos m) (pos n) start end = elim (cases_lt 65536 n) [
+  | inl above ↦ inr (inr (inl (omega (arith, ints, end, above))))
+  | inr within ↦ elim (cases_lt m n) [
+    | inl some ↦ inl (record { start = m; end = n }, (start, end, some, within))
+    | inr none ↦ inr (inr (inr (omega (arith, ints, start, end, none))))
+  ]
+]
+
+-- never both
+bounds_apart : (fs : List Wire) (span : PortSpan) → AreBounds fs span → AreNoBounds fs → ⊥
+bounds_apart fs span are (inl below) = omega (arith, ints, are.0, below)
+bounds_apart fs span are (inr (inl above)) = omega (arith, ints, are.1, are.3, above)
+bounds_apart fs span are (inr (inr none)) = omega (arith, ints, are.0, are.1, are.2, none)
+
+-- a range of ports, or a fault
+pub port_range_settled : (parts : List (List ℕ)) → ((span : PortSpan) × IsPortRange parts span) ⊎ ((e : Refusal) × PortRangeFault parts e)
+port_range_settled parts = elim (message_settled range_keys parts) [
+  | inr bad ↦ inr (bad.0, range_fields bad.1)
+  | inl (fs, message) ↦ elim (bounds_settled fs _ _ refl refl) [
+    | inl some ↦ inl (some.0, (fs, message, some.1))
+    | inr none ↦ inr (OutOfRange, no_bounds fs message.0 none refl)
+  ]
+]
+
+-- not both
+pub port_range_apart : (parts : List (List ℕ)) (span : PortSpan) (e : Refusal) → IsPortRange parts span → PortRangeFault parts e → ⊥
+port_range_apart parts span e (fs, message, are) (range_fields bad) = message_apart range_keys parts fs e message bad
+port_range_apart parts span e (fs, message, are) (no_bounds gs merged none is) =
+    bounds_apart fs span are (subst AreNoBounds (merges-one parts gs fs merged message.0) none)
+
+-- one range at most
+pub port_range_one : (parts : List (List ℕ)) (v w : PortSpan) → IsPortRange parts v → IsPortRange parts w → v ≡ w
+port_range_one parts v w (fs, message, are) (gs, also, are') =
+    let same : gs ≡ fs = merges-one parts gs fs also.0 message.0 in
+    let others : AreBounds fs w = (let P : List Wire → Type 0 = λ xs. AreBounds xs w in subst P same are') in
+    let start : v.start ≡ w.start = omega (arith, ints, are.0, others.0) in
+    let end : v.end ≡ w.end = omega (arith, ints, are.1, others.1) in
+    λ i. record { start = start i; end = end i }

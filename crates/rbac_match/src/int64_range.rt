@@ -1,0 +1,71 @@
+//! Ranges of whole numbers, and how their messages are read.
+
+ghost use Rattle.std.specs.Prelude.{◌≡◌, ◌⊎◌, IfOk, IfErr, map};
+ghost use Rattle.proto_wire.specs.Fields.{view};
+ghost use Rattle.proto_wire.specs.Messages.{texts};
+ghost use Rattle.proto_wire.specs.declared.refusal.Refusal.TheVariants.{Memory};
+ghost use Rattle.rbac_match.specs.Int64Range.{RangeFault, IsRange, int64_at, is_within, range_holds, range_keys, range_view};
+
+use crate::decimal::parse_int64;
+use proto_wire::{Field, Key, Refusal, WireType, last_varint, read_message};
+use std::alloc::Global;
+
+/// The numbers from `start` on that are below `end`; none where `start` is not below `end`.
+#[derive(Clone, Copy, PartialEq, Eq, Debug)]
+pub struct Int64Range {
+    start: i64,
+    end: i64,
+}
+
+impl Int64Range {
+    /// Whether the number is in the range.
+    pub fn contains(&self, number: i64) -> bool
+        ensures { result ≡ is_within (range_view self.now) number }
+    {
+        self.start <= number && number < self.end
+    }
+
+    /// Whether the whole text is a decimal number of 64 bits that is in the range.
+    pub fn matches(&self, text: &str) -> bool
+        ensures { result ≡ range_holds (range_view self.now) text.now }
+    {
+        match parse_int64(text) {
+            Some(number) => self.contains(number),
+            None => false,
+        }
+    }
+}
+
+const START: u32 = 1;
+
+const END: u32 = 2;
+
+static KEYS: [Key; 2] = [
+    Key {
+        number: START,
+        wire_type: WireType::Varint,
+    },
+    Key {
+        number: END,
+        wire_type: WireType::Varint,
+    },
+];
+
+/// Reads an Int64Range, whose message stands in the parts (`envoy.type.v3.Int64Range`).
+pub fn read_int64_range(alloc: Global, parts: &[&[u8]]) -> Result<Int64Range, Refusal>
+    ensures found { IfOk result (λ range. IsRange (texts parts.now) (range_view range)) }
+    ensures fault { IfErr result (λ e. (e ≡ Memory) ⊎ RangeFault (texts parts.now) e) }
+{
+    let fields = read_message(alloc, parts, &KEYS)?;
+    Ok(Int64Range {
+        start: int64_of(&fields, START),
+        end: int64_of(&fields, END),
+    })
+}
+
+/// The value of an int64 field: 0 where there is none.
+fn int64_of(fields: &[Field<'_>], number: u32) -> i64
+    ensures { result ≡ int64_at number (map view fields.now) }
+{
+    last_varint(fields, number).unwrap_or(0).cast_signed()
+}
