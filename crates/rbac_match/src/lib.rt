@@ -2,8 +2,6 @@
 #![tactic(auto)]
 
 pub mod address_laws;
-#[cfg(test)]
-mod address_tests;
 mod authenticated;
 pub mod authenticated_laws;
 mod decide;

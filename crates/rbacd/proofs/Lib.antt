@@ -1,0 +1,6 @@
+pub mod FieldLists
+pub mod InputLemmas
+pub mod LineFeeds
+pub mod OneRequest
+pub mod Rooms
+pub mod WordLemmas

@@ -1,0 +1,21 @@
+use Rattle.std.proofs.Common.{◌∙◌, sym, codes, Some, ap}
+use Rattle.clap.specs.Words.{found_of}
+use Rattle.clap.proofs.WalkLemmas.{first_value-rows}
+use Rattle.rbacd.proofs.words.judge_job.Goals as goal
+
+pub returns-clause-job : goal.returns-clause-job
+returns-clause-job c = (
+  sym (first_value-rows (found_of c.args.matches.now) (codes "policy"))
+      ∙ sym c.in-Some.ensures ∙ ap Some (sym c.in_ok-policy.ensures.ok),
+  c.in_ok-facts.ensures,
+  c.in-Some-budget_of.ensures.budget,
+)
+
+pub returns-in_default-clause-none : goal.returns-in_default-clause-none
+returns-in_default-clause-none c policy facts budget held =
+    let first = first_value-rows (found_of c.args.matches.now) (codes "policy") ∙ held.0 in
+    let none = c.in_default.ensures in cc
+
+pub returns-in_default-budget_of-clause-none : goal.returns-in_default-budget_of-clause-none
+returns-in_default-budget_of-clause-none c policy facts budget held =
+    c.in_default-budget_of.ensures.none budget held.2

@@ -1,0 +1,51 @@
+-- Which outcome one head has under one policy file.
+use Rattle.std.specs.Prelude.{◌≡◌, ◌⊎◌, ⊤, true, false, ℕ, suc, List, codes, take}
+use Rattle.attributes.specs.Conn.{Facts, only_scheme}
+use Rattle.attributes.specs.Limits.{largest}
+use Rattle.attributes.specs.Request.{RequestValue}
+use Rattle.proto_wire.specs.declared.refusal.Refusal.TheVariants.{Memory}
+use Rattle.rbac_policy.specs.Admission.{Admissible, Admits, Fault}
+use Rattle.rbac_policy.specs.Filter.{Filter}
+use Rattle.rbac_policy.specs.Verdict.{IsVerdict}
+use Rattle.rbacd.specs.declared.outcome.Outcome.{Outcome}
+use Rattle.rbacd.specs.declared.outcome.Outcome.TheVariants as outcomes
+use Rattle.rbacd.specs.Head.{Asks, HasFault, head_room}
+
+-- a connection of which nothing but the scheme `http` is known
+abbrev pub plain_facts : Facts
+plain_facts = only_scheme (codes "http")
+
+-- as many bytes of an input as decide what its head asks: the room of a head and one byte
+unfoldable pub first_bytes : List ℕ → List ℕ
+first_bytes bytes = take (suc head_room) bytes
+
+-- the policy is admitted as this filter, and the bytes begin with a head that asks for this request on a
+-- connection of these facts
+pub record IsJudged (policy : List ℕ) (budget : ℕ) (facts : Facts) (bytes : List ℕ) : Type 0 where
+  pub filter : Filter
+  pub admitted : Admits policy largest budget filter
+  pub request : RequestValue
+  pub asks : Asks bytes largest facts request
+
+-- a condition of the filter runs out of its steps at the request: a filter has no conditions
+abbrev pub RunsOut : Filter → RequestValue → Type 0
+RunsOut filter request = ⊥
+
+-- the outcome is what the policy, the facts and the bytes give
+abbrev pub IsOutcomeOf : List ℕ → ℕ → Facts → List ℕ → Outcome → Type 0
+IsOutcomeOf policy budget facts bytes (outcomes.Allowed matched) =
+    (judged : IsJudged policy budget facts bytes) × IsVerdict judged.request judged.filter true matched
+IsOutcomeOf policy budget facts bytes (outcomes.Denied matched) =
+    (judged : IsJudged policy budget facts bytes) × IsVerdict judged.request judged.filter false matched
+IsOutcomeOf policy budget facts bytes outcomes.OutOfSteps =
+    (judged : IsJudged policy budget facts bytes) × RunsOut judged.filter judged.request
+IsOutcomeOf policy budget facts bytes (outcomes.Refused reason) =
+    (reason ≡ Memory) ⊎ Fault reason policy largest budget
+IsOutcomeOf policy budget facts bytes (outcomes.Fault fault) =
+    Admissible policy largest budget × HasFault bytes largest facts fault
+IsOutcomeOf policy budget facts bytes outcomes.Memory = ⊤
+
+-- the outcome is what each policy that is admitted as this filter gives with the facts and the bytes
+abbrev pub IsOutcomeUnder : Filter → Facts → List ℕ → Outcome → Type 0
+IsOutcomeUnder filter facts bytes outcome = (policy : List ℕ) (budget : ℕ)
+    → Admits policy largest budget filter → IsOutcomeOf policy budget facts bytes outcome

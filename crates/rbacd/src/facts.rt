@@ -1,0 +1,264 @@
+//! What is known of a connection, as a JSON object.
+ghost use Rattle.std.specs.Prelude.{◌≡◌, ◌↔◌, ◌++◌, ◌∷◌, [], ℕ, Bool, List, Option, IsTrue, IfOk, IfErr, IfNone, IfSome, OnSome, codes};
+ghost use Rattle.std.specs.Io.KnownBytes.{Appends};
+ghost use Rattle.std.specs.String.{string_bytes};
+ghost use Rattle.attributes.specs.Conn.{Facts, facts_of, text_of};
+ghost use Rattle.attributes.specs.Limits.{FactsInLimits, largest};
+ghost use Rattle.attributes.specs.declared.address.Ip.{Ip};
+ghost use Rattle.serde_json.specs.Find.{get};
+ghost use Rattle.serde_json.specs.View.{members_view, view};
+ghost use Rattle.rbacd.specs.Facts.{AreFacts, AreNamed, HasFactNames, IsAddress, IsAnswer, IsFactName, IsFactsText, IsNumber, IsPort, IsScheme, IsText, Tells, TellsNone};
+ghost use Rattle.rbacd.specs.declared.facts.FactsFault.TheVariants.{Bad, Memory};
+
+use attributes::{Conn, Ip, Limits, parse_ip};
+use serde_json::{Map, Value};
+use std::alloc::{AllocError, Global};
+use std::error::Error;
+use std::fmt;
+use std::io::{self, ErrorKind, Write};
+
+#[cfg(test)]
+mod tests;
+
+/// Why facts are not read.
+#[derive(Clone, Copy, Debug, PartialEq, Eq)]
+pub enum FactsFault {
+    /// The text is no JSON object of facts.
+    Bad,
+    /// Memory ran out.
+    Memory,
+}
+
+impl fmt::Display for FactsFault {
+    ghost use Rattle.rbacd.specs.Facts.{fault_text};
+    ghost use Rattle.std.specs.Prelude.{Some};
+
+    ghost output = { λ fault. Some (fault_text fault) };
+
+    fn fmt<W: fmt::Write>(&self, f: &mut fmt::Formatter<W>) -> fmt::Result {
+        f.write_str(match self {
+            FactsFault::Bad => "bad facts",
+            FactsFault::Memory => "memory",
+        })
+    }
+}
+
+impl Error for FactsFault {}
+
+impl From<AllocError> for FactsFault {
+    ghost use Rattle.std.specs.Prelude.{◌≡◌};
+    ghost use Rattle.rbacd.specs.declared.facts.FactsFault.TheVariants.{Memory};
+
+    ghost from_gives = { λ _ e. e ≡ Memory };
+
+    fn from(_refused: AllocError) -> FactsFault {
+        FactsFault::Memory
+    }
+}
+
+impl From<serde_json::Error> for FactsFault {
+    ghost use Rattle.std.specs.Prelude.{◌≡◌, ◌⊎◌};
+    ghost use Rattle.serde_json.specs.Errors.{IsMemory};
+    ghost use Rattle.rbacd.specs.declared.facts.FactsFault.TheVariants.{Bad, Memory};
+
+    ghost from_gives = { λ error e. ((e ≡ Memory) × IsMemory error) ⊎ ((e ≡ Bad) × ¬ IsMemory error) };
+
+    fn from(error: serde_json::Error) -> FactsFault {
+        if error.is_memory() {
+            FactsFault::Memory
+        } else {
+            FactsFault::Bad
+        }
+    }
+}
+
+/// The facts that a JSON text tells (RFC 8259): an object whose members have the names of the facts in
+/// `Conn`. Texts are strings, addresses strings that `parse_ip` reads, ports integers below 65,536, the
+/// connection's number an integer below 2^64, and `connection.mtls` is `true` or `false`. Each may be
+/// absent, and `request.scheme` is then `http`. Of two members of one name the last counts.
+pub fn read_facts(alloc: Global, text: &[u8]) -> Result<Conn, FactsFault>
+    ensures found { IfOk result (λ conn. IsFactsText text.now (facts_of conn)) }
+    ensures fault { IfErr result (λ e. e ≡ Bad → (f : Facts) → ¬ IsFactsText text.now f) }
+{
+    let value = Value::from_slice(alloc, text)?;
+    conn_of(alloc, &value)
+}
+
+/// The connection that the text of a facts file tells of. Where it tells of none within the limits,
+/// `errors` is told so and there is none.
+pub fn read_conn<W: Write>(alloc: Global, text: &[u8], errors: &mut W) -> io::Result<Option<Conn>>
+    ensures found { IfOk result (λ told. IfSome told (λ conn. IsFactsText text.now (facts_of conn)
+        × FactsInLimits (facts_of conn) largest)) }
+    ensures none { IfOk result (λ told. IfNone told (TellsNone text.now)) }
+    ensures told { IfOk result (λ told. IfNone told (Appends (W.contents errors.old)
+        (W.contents errors.new) (codes "bad facts" ++ 10 ∷ []))) }
+    ensures quiet { IfOk result (λ told. OnSome told (errors.new ≡ errors.old)) }
+{
+    match read_limited_facts(alloc, text) {
+        Ok(conn) => Ok(Some(conn)),
+        Err(FactsFault::Memory) => Err(io::Error::from(ErrorKind::OutOfMemory)),
+        Err(FactsFault::Bad) => {
+            writeln!(errors, "bad facts")?;
+            Ok(None)
+        }
+    }
+}
+
+// The facts that a text tells, as in `read_facts`, where they are within the limits.
+fn read_limited_facts(alloc: Global, text: &[u8]) -> Result<Conn, FactsFault>
+    ensures found { IfOk result (λ conn. IsFactsText text.now (facts_of conn)
+        × FactsInLimits (facts_of conn) largest) }
+    ensures fault { IfErr result (λ e. e ≡ Bad → TellsNone text.now) }
+{
+    let conn = read_facts(alloc, text)?;
+    if !Limits::largest().fits_conn(&conn) {
+        return Err(FactsFault::Bad);
+    }
+    Ok(conn)
+}
+
+/// The facts that a JSON value tells, as in `read_facts`.
+pub fn conn_of(alloc: Global, value: &Value) -> Result<Conn, FactsFault>
+    ensures found { IfOk result (λ conn. AreFacts (view value.now) (facts_of conn)) }
+    ensures fault { IfErr result (λ e. e ≡ Bad → (f : Facts) → ¬ AreFacts (view value.now) f) }
+{
+    if !has_fact_names(value) {
+        return Err(FactsFault::Bad);
+    }
+    Ok(Conn {
+        source_address: text_at(alloc, value, "source.address")?,
+        source_port: port_at(value, "source.port")?,
+        destination_address: text_at(alloc, value, "destination.address")?,
+        destination_port: port_at(value, "destination.port")?,
+        mtls: answer_at(value, "connection.mtls")?,
+        connection_id: number_at(value, "connection.id")?,
+        requested_server_name: text_at(alloc, value, "connection.requested_server_name")?,
+        tls_version: text_at(alloc, value, "connection.tls_version")?,
+        subject_peer_certificate: text_at(alloc, value, "connection.subject_peer_certificate")?,
+        dns_san_peer_certificate: text_at(alloc, value, "connection.dns_san_peer_certificate")?,
+        uri_san_peer_certificate: text_at(alloc, value, "connection.uri_san_peer_certificate")?,
+        direct_remote_ip: address_at(value, "direct_remote_ip")?,
+        remote_ip: address_at(value, "remote_ip")?,
+        destination_ip: address_at(value, "destination_ip")?,
+        scheme: scheme_of(alloc, value)?,
+    })
+}
+
+// Whether the value is an object without a name that no fact has.
+fn has_fact_names(value: &Value) -> bool
+    ensures { IsTrue result ↔ HasFactNames (view value.now) }
+{
+    match value.as_object() {
+        Some(members) => are_fact_names(members),
+        None => false,
+    }
+}
+
+fn are_fact_names(members: &Map<String, Value>) -> bool
+    ensures { IsTrue result ↔ AreNamed (members_view members.now.entries) }
+{
+    members.keys().all(|name| is_fact_name(name.as_str()))
+}
+
+fn is_fact_name(name: &str) -> bool
+    ensures { IsTrue result ↔ IsFactName name.now }
+{
+    matches!(
+        name,
+        "source.address"
+            | "source.port"
+            | "destination.address"
+            | "destination.port"
+            | "connection.mtls"
+            | "connection.id"
+            | "connection.requested_server_name"
+            | "connection.tls_version"
+            | "connection.subject_peer_certificate"
+            | "connection.dns_san_peer_certificate"
+            | "connection.uri_san_peer_certificate"
+            | "direct_remote_ip"
+            | "remote_ip"
+            | "destination_ip"
+            | "request.scheme"
+    )
+}
+
+fn text_at(alloc: Global, object: &Value, name: &str) -> Result<Option<String>, FactsFault>
+    ensures found { IfOk result
+        (λ text. Tells IsText (get name.now (view object.now)) (text_of text)) }
+    ensures fault { IfErr result (λ e. e ≡ Bad
+        → (text : Option (List ℕ)) → ¬ Tells IsText (get name.now (view object.now)) text) }
+{
+    let Some(value) = object.get(name) else {
+        return Ok(None);
+    };
+    match value.as_str() {
+        Some(text) => Ok(Some(String::from_str(alloc, text)?)),
+        None => Err(FactsFault::Bad),
+    }
+}
+
+fn number_at(object: &Value, name: &str) -> Result<Option<u64>, FactsFault>
+    ensures found { IfOk result (λ n. Tells IsNumber (get name.now (view object.now)) n) }
+    ensures fault { IfErr result (λ e. (e ≡ Bad)
+        × ((n : Option ℕ) → ¬ Tells IsNumber (get name.now (view object.now)) n)) }
+{
+    let Some(value) = object.get(name) else {
+        return Ok(None);
+    };
+    match value.as_u64() {
+        Some(number) => Ok(Some(number)),
+        None => Err(FactsFault::Bad),
+    }
+}
+
+fn port_at(object: &Value, name: &str) -> Result<Option<u16>, FactsFault>
+    ensures found { IfOk result (λ port. Tells IsPort (get name.now (view object.now)) port) }
+    ensures fault { IfErr result (λ e. (e ≡ Bad)
+        × ((port : Option ℕ) → ¬ Tells IsPort (get name.now (view object.now)) port)) }
+{
+    match number_at(object, name)? {
+        None => Ok(None),
+        Some(number) if number <= u16::MAX as u64 => Ok(Some(number as u16)),
+        Some(_) => Err(FactsFault::Bad),
+    }
+}
+
+fn answer_at(object: &Value, name: &str) -> Result<Option<bool>, FactsFault>
+    ensures found { IfOk result (λ b. Tells IsAnswer (get name.now (view object.now)) b) }
+    ensures fault { IfErr result (λ e. (e ≡ Bad)
+        × ((b : Option Bool) → ¬ Tells IsAnswer (get name.now (view object.now)) b)) }
+{
+    let Some(value) = object.get(name) else {
+        return Ok(None);
+    };
+    match value.as_bool() {
+        Some(answer) => Ok(Some(answer)),
+        None => Err(FactsFault::Bad),
+    }
+}
+
+fn address_at(object: &Value, name: &str) -> Result<Option<Ip>, FactsFault>
+    ensures found { IfOk result (λ ip. Tells IsAddress (get name.now (view object.now)) ip) }
+    ensures fault { IfErr result (λ e. (e ≡ Bad)
+        × ((ip : Option Ip) → ¬ Tells IsAddress (get name.now (view object.now)) ip)) }
+{
+    let Some(value) = object.get(name) else {
+        return Ok(None);
+    };
+    match value.as_str().and_then(|text| parse_ip(text)) {
+        Some(ip) => Ok(Some(ip)),
+        None => Err(FactsFault::Bad),
+    }
+}
+
+fn scheme_of(alloc: Global, object: &Value) -> Result<String, FactsFault>
+    ensures found { IfOk result (λ scheme. IsScheme (view object.now) (string_bytes scheme)) }
+    ensures fault { IfErr result (λ e. e ≡ Bad
+        → (scheme : List ℕ) → ¬ IsScheme (view object.now) scheme) }
+{
+    match text_at(alloc, object, "request.scheme")? {
+        Some(scheme) => Ok(scheme),
+        None => Ok(String::from_str(alloc, "http")?),
+    }
+}

@@ -1,0 +1,9 @@
+//! What no contract says: that calls succeed, the answers at given bytes, and printed texts.
+mod addresses;
+mod filters;
+mod headers;
+mod heads;
+mod judging;
+mod rows;
+mod texts;
+mod words;

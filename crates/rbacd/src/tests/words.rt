@@ -1,0 +1,117 @@
+//! Command lines, good and bad, and the statuses of the bad ones.
+use crate::words::{Job, read_words};
+use clap::error::ErrorKind;
+use std::test::Fail;
+
+/// Words behind `rbacd judge --policy f`, with the budget that they declare.
+const BUDGETS: [(&[&str], Option<u64>); 11] = [
+    (&[], Some(1_000_000)),
+    (&["--budget", "1"], Some(1)),
+    (&["--budget=100000000"], Some(100_000_000)),
+    (&["--budget", "0"], None),
+    (&["--budget", "100000001"], None),
+    (&["--budget", "18446744073709551616"], None),
+    (&["--budget=-1"], None),
+    (&["--budget", "many"], None),
+    (&["--budget="], None),
+    (&["--budget"], None),
+    (&["--budget", "1", "--budget", "1"], None),
+];
+
+#[test]
+fn reads_budgets(rt: HostRuntime) -> Result<(), Fail> {
+    for (more, expected) in BUDGETS {
+        let mut words = Vec::from_slice(rt.alloc(), &["rbacd", "judge", "--policy", "f"])?;
+        words.extend_from_slice(more)?;
+        match read_words(rt.alloc(), words.as_slice()) {
+            Ok(
+                Job::Judge {
+                    policy,
+                    facts,
+                    budget,
+                },
+            ) => {
+                assert_eq!(rt; policy.as_str(), "f");
+                assert!(rt; facts.is_none());
+                assert_eq!(rt; Some(budget), expected);
+            }
+            Err(error) => {
+                assert_eq!(rt; error.exit_code(), 2);
+                assert_eq!(rt; expected, None);
+            }
+        }
+    }
+    Ok(())
+}
+
+#[test]
+fn reads_the_facts_file(rt: HostRuntime) -> Result<(), Fail> {
+    let words = ["rbacd", "judge", "--facts", "g", "--policy", "f"];
+    let Ok(Job::Judge { policy, facts, .. }) = read_words(rt.alloc(), &words) else {
+        return Err(Fail::from("a job"));
+    };
+    assert_eq!(rt; policy.as_str(), "f");
+    assert_eq!(rt; facts.as_ref().map(|path| path.as_str()), Some("g"));
+    Ok(())
+}
+
+const MISTAKES: [&[&str]; 9] = [
+    &["rbacd"],
+    &["rbacd", "judge"],
+    &["rbacd", "judge", "--policy"],
+    &["rbacd", "judge", "f"],
+    &["rbacd", "judge", "--policy", "f", "g"],
+    &["rbacd", "judge", "--policy", "f", "--facts"],
+    &[
+        "rbacd", "judge", "--policy", "f", "--facts", "g", "--facts", "g",
+    ],
+    &["rbacd", "decide", "--policy", "f"],
+    &["rbacd", "--policy", "f"],
+];
+
+#[test]
+fn refuses_mistakes(rt: HostRuntime) {
+    for words in MISTAKES {
+        match read_words(rt.alloc(), words) {
+            Ok(_) => panic!(rt; "a job"),
+            Err(error) => assert_eq!(rt; error.exit_code(), 2),
+        }
+    }
+}
+
+#[test]
+fn shows_help(rt: HostRuntime) -> Result<(), Fail> {
+    let Err(help) = read_words(rt.alloc(), &["rbacd", "judge", "--help"]) else {
+        return Err(Fail::from("a help text"));
+    };
+    assert_eq!(rt; help.kind(), ErrorKind::DisplayHelp);
+    assert_eq!(rt; help.exit_code(), 0);
+    let expected = "Judges the request head on standard input
+
+Usage: rbacd judge [OPTIONS] --policy <FILE>
+
+Options:
+      --policy <FILE>  The policy: one HTTP RBAC filter message
+      --facts <FILE>   What is known of the connection: one JSON object
+      --budget <N>     What the policy's conditions may cost, from 1 to 100000000 [default: 1000000]
+  -h, --help           Print help
+";
+    assert_eq!(rt; help.to_string(rt.alloc())?.as_str(), expected);
+    Ok(())
+}
+
+#[test]
+fn tells_of_a_budget(rt: HostRuntime) -> Result<(), Fail> {
+    let words = ["rbacd", "judge", "--policy", "f", "--budget", "0"];
+    let Err(error) = read_words(rt.alloc(), &words) else {
+        return Err(Fail::from("a fault"));
+    };
+    let expected = "error: a budget is a number from 1 to 100000000
+
+Usage: rbacd <COMMAND>
+
+For more information, try '--help'.
+";
+    assert_eq!(rt; error.to_string(rt.alloc())?.as_str(), expected);
+    Ok(())
+}

@@ -1,0 +1,159 @@
+//! The command line: which job its words name.
+ghost use Rattle.std.specs.Prelude.{◌≡◌, ◌⊎◌, ℕ, IfErr, IfNone, IfOk, IfSome, Option, codes, false, map, option_map, string_bytes};
+ghost use Rattle.clap.specs.Words.{Text, app_of, first_of, found_of, kind_of, rows_of, rule_of, subcommand_rows_of};
+ghost use Rattle.clap.specs.declared.builder.command.Command.TheViews.{out-Command};
+ghost use Rattle.rbacd.specs.Words.{AreMistaken, HoldJudge, IsBudgetOf, IsJobOf, IsJobOfNamed, IsJobOfRows, NamesNoJob, budget_rule, facts_rule, judge_app, policy_rule, rbacd_app};
+
+use clap::error::ErrorKind;
+use clap::{Arg, ArgMatches, Command, Error, value_parser};
+use std::alloc::{AllocError, Global};
+use std::convert::AsStr;
+
+/// The most that the conditions of one filter may cost.
+pub const MOST_BUDGET: u64 = 100_000_000;
+
+/// What the program is asked to do.
+#[derive(Debug, Drop)]
+pub enum Job {
+    /// `judge --policy FILE [--facts FILE] [--budget N]`: to judge the head on standard input by a
+    /// policy file.
+    Judge {
+        /// The path of the policy file.
+        policy: String,
+        /// The path of the file with what is known of the connection, if there is one.
+        facts: Option<String>,
+        /// What the policy's conditions may cost, from 1 to `MOST_BUDGET`.
+        budget: u64,
+    },
+}
+
+/// The job that the words name, the program's own name first. An error holds the text that its user
+/// reads: the fault, or the help that was asked for.
+pub fn read_words<S: AsStr>(alloc: Global, words: &[S]) -> Result<Job, Error>
+    ensures job { IfOk result (IsJobOf (map S.text words.now)) }
+    ensures mistaken { IfErr result (λ e. (kind_of e ≡ ErrorKind.OutOfMemory)
+        ⊎ AreMistaken (map S.text words.now)) }
+{
+    let matches = command(alloc)?.try_get_matches_from(words)?;
+    match named_job(alloc, &matches)? {
+        Some(job) => Ok(job),
+        None => Err(budget_fault(alloc)?),
+    }
+}
+
+/// What is wrong with words that the command takes and that name no job.
+fn budget_fault(alloc: Global) -> Result<Error, AllocError>
+    ensures { IfOk result (λ e. kind_of e ≡ ErrorKind.ValueValidation) }
+{
+    let fault = "a budget is a number from 1 to 100000000";
+    command(alloc)?.error(ErrorKind::ValueValidation, fault)
+}
+
+/// The job of the subcommand that was met, if its values are there and allowed.
+fn named_job(alloc: Global, matches: &ArgMatches<'_>) -> Result<Option<Job>, AllocError>
+    ensures job { IfOk result (λ job. IfSome job (IsJobOfNamed (subcommand_rows_of matches.now))) }
+    ensures none { IfOk result (λ job. IfNone job (NamesNoJob (subcommand_rows_of matches.now))) }
+{
+    match matches.subcommand_matches("judge") {
+        Some(judge) => judge_job(alloc, judge),
+        None => Ok(None),
+    }
+}
+
+/// The program's command, with a subcommand for each job.
+fn command<'a>(alloc: Global) -> Result<Command<'a>, AllocError>
+    ensures { IfOk result (λ c. app_of c ≡ rbacd_app) }
+{
+    let judge = judge_command(alloc)?;
+    Command::new(alloc, "rbacd")
+        .about("Judges requests by a role-based access policy")
+        .subcommand_required(true)
+        .subcommand(judge)
+}
+
+fn judge_command<'a>(alloc: Global) -> Result<Command<'a>, AllocError>
+    ensures app { IfOk result (λ c. app_of c ≡ judge_app) }
+    ensures local { IfOk result (λ c. (out-Command c).has_globals ≡ false) }
+{
+    Command::new(alloc, "judge")
+        .about("Judges the request head on standard input")
+        .arg(policy_arg(alloc))?
+        .arg(facts_arg(alloc))?
+        .arg(budget_arg(alloc))
+}
+
+fn policy_arg<'a>(alloc: Global) -> Arg<'a>
+    ensures rule { rule_of result ≡ policy_rule }
+    ensures local { result.global ≡ false }
+{
+    Arg::new(alloc, "policy")
+        .long("policy")
+        .value_name("FILE")
+        .required(true)
+        .help("The policy: one HTTP RBAC filter message")
+}
+
+fn facts_arg<'a>(alloc: Global) -> Arg<'a>
+    ensures rule { rule_of result ≡ facts_rule }
+    ensures local { result.global ≡ false }
+{
+    Arg::new(alloc, "facts")
+        .long("facts")
+        .value_name("FILE")
+        .help("What is known of the connection: one JSON object")
+}
+
+fn budget_arg<'a>(alloc: Global) -> Arg<'a>
+    ensures rule { rule_of result ≡ budget_rule }
+    ensures local { result.global ≡ false }
+{
+    Arg::new(alloc, "budget")
+        .long("budget")
+        .value_name("N")
+        .value_parser(value_parser!(u64))
+        .default_value("1000000")
+        .help("What the policy's conditions may cost, from 1 to 100000000")
+}
+
+/// The job of the subcommand `judge`, if its values are there and its budget is allowed.
+fn judge_job(alloc: Global, matches: &ArgMatches<'_>) -> Result<Option<Job>, AllocError>
+    ensures job { IfOk result (λ job. IfSome job (IsJobOfRows (rows_of (found_of matches.now)))) }
+    ensures none { IfOk result (λ job. IfNone job ((policy : Text) (facts : Option Text) (budget : ℕ)
+        → ¬ (HoldJudge (rows_of (found_of matches.now)) policy facts budget))) }
+{
+    let Some(policy) = matches.get_str("policy") else {
+        return Ok(None);
+    };
+    let Some(budget) = budget_of(matches) else {
+        return Ok(None);
+    };
+    let policy = String::from_str(alloc, policy)?;
+    let facts = facts_of(alloc, matches)?;
+    Ok(Some(Job::Judge {
+        policy,
+        facts,
+        budget,
+    }))
+}
+
+fn facts_of(alloc: Global, matches: &ArgMatches<'_>) -> Result<Option<String>, AllocError>
+    ensures { IfOk result (λ facts.
+        first_of (codes "facts") (rows_of (found_of matches.now)) ≡ option_map string_bytes facts) }
+{
+    match matches.get_str("facts") {
+        Some(path) => Ok(Some(String::from_str(alloc, path)?)),
+        None => Ok(None),
+    }
+}
+
+fn budget_of(matches: &ArgMatches<'_>) -> Option<u64>
+    ensures budget { IfSome result (IsBudgetOf (rows_of (found_of matches.now))) }
+    ensures none { IfNone result ((budget : ℕ)
+        → ¬ (IsBudgetOf (rows_of (found_of matches.now)) budget)) }
+{
+    let budget = matches.get_one::<u64>("budget")?;
+    if budget == 0 || budget > MOST_BUDGET {
+        return None;
+    }
+    Some(budget)
+}
