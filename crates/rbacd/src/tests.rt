@@ -4,6 +4,7 @@ mod filters;
 mod headers;
 mod heads;
 mod judging;
+mod memory;
 mod rows;
 mod texts;
 mod words;
