@@ -35,13 +35,15 @@ fn plain_filter(rt: HostRuntime) -> Result<(), Fail> {
 /// Policies `b` and `a`, of which `a` does not match.
 #[test]
 fn nested_filter(rt: HostRuntime) -> Result<(), Fail> {
-    let filter = "0a42080012230a0162121e0a02180112180a160a0c120a0a04420218010a0218010a0642044202180112190a016112140a0e120c0a04420218010a044202180112021801";
+    let filter =
+        "0a42080012230a0162121e0a02180112180a160a0c120a0a04420218010a0218010a0642044202180112190a016112140a0e120c0a04420218010a044202180112021801";
     judge_once(&rt, rt.alloc(), filter, "allow 1")
 }
 
 /// Policies `x` and `y`: a path that begins with `/x`; one that begins with `/`, with a header that has a `b`, and GET.
 #[test]
 fn matching_filter(rt: HostRuntime) -> Result<(), Fail> {
-    let filter = "0a4d080012130a0178120e0a0852060a0412022f781202180112340a0179122f0a290a270a0752050a0312012f0a0a22080a03782d616201620a10220e0a073a6d6574686f64220347455412021801";
+    let filter =
+        "0a4d080012130a0178120e0a0852060a0412022f781202180112340a0179122f0a290a270a0752050a0312012f0a0a22080a03782d616201620a10220e0a073a6d6574686f64220347455412021801";
     judge_once(&rt, rt.alloc(), filter, "allow 1")
 }
