@@ -1,4 +1,4 @@
-use Rattle.std.proofs.Common.{◌≡◌, inl, inr, true}
+use Rattle.std.proofs.Common.{inl, inr}
 use Rattle.std.proofs.lemmas.Result.{err_from_is_err_and}
 use Rattle.attributes.specs.Conn.{facts_of}
 use Rattle.rbacd.proofs.facts.read_limited_facts.Goals as goal

@@ -1,7 +1,5 @@
 use Rattle.std.proofs.Common.{◌≡◌, ◌∙◌, ap, rules, Some}
-use Rattle.clap.specs.Words.{rule_of}
 use Rattle.clap.specs.declared.builder.value_parser.ValueParser.TheVariants as parsers
-use Rattle.rbacd.specs.Words.{budget_rule}
 use Rattle.rbacd.proofs.words.budget_arg.Goals as goal
 
 pub returns-clause-rule : goal.returns-clause-rule
