@@ -1,6 +1,7 @@
 //! Judges requests by a role-based access policy.
 #![tactic(auto)]
 
+use attributes::Conn;
 use clap::error::ErrorKind;
 use facts::read_conn;
 use judge::{judge, plain_conn, read_file};
@@ -40,32 +41,42 @@ fn run(rt: &HostRuntime) -> io::Result<u8> {
             policy,
             facts,
             budget,
-        } => {
-            let Some(bytes) = read_file(rt, &policy, &mut rt.stderr())? else {
-                return Ok(MISTAKE);
-            };
-            let conn = match facts {
-                None => plain_conn(alloc)?,
-                Some(path) => {
-                    let Some(text) = read_file(rt, &path, &mut rt.stderr())? else {
-                        return Ok(MISTAKE);
-                    };
-                    let Some(conn) = read_conn(alloc, &text, &mut rt.stderr())? else {
-                        return Ok(BAD_JSON);
-                    };
-                    conn
-                }
-            };
-            let outcome = judge(
-                alloc,
-                &bytes,
-                budget,
-                conn,
-                rt.reader(),
-                &mut io::writer(rt),
-            )?;
-            Ok(outcome.status())
-        }
+        } => run_judge(rt, &policy, facts, budget),
+    }
+}
+
+/// Judges the head on standard input; the status that the program ends with.
+fn run_judge(rt: &HostRuntime, policy: &str, facts: Option<String>, budget: u64) -> io::Result<u8> {
+    let alloc = rt.alloc();
+    let Some(bytes) = read_file(rt, policy, &mut rt.stderr())? else {
+        return Ok(MISTAKE);
+    };
+    let conn = match facts {
+        None => plain_conn(alloc)?,
+        Some(path) => match read_facts_file(rt, &path)? {
+            Ok(conn) => conn,
+            Err(status) => return Ok(status),
+        },
+    };
+    let outcome = judge(
+        alloc,
+        &bytes,
+        budget,
+        conn,
+        rt.reader(),
+        &mut io::writer(rt),
+    )?;
+    Ok(outcome.status())
+}
+
+/// The connection that a facts file tells of, or the status where it tells of none.
+fn read_facts_file(rt: &HostRuntime, path: &str) -> io::Result<Result<Conn, u8>> {
+    let Some(text) = read_file(rt, path, &mut rt.stderr())? else {
+        return Ok(Err(MISTAKE));
+    };
+    match read_conn(rt.alloc(), &text, &mut rt.stderr())? {
+        Some(conn) => Ok(Ok(conn)),
+        None => Ok(Err(BAD_JSON)),
     }
 }
 

@@ -31,7 +31,7 @@ const ANY_LONG: [u8; 18] = [
 /// An ALLOW filter without policies.
 const EMPTY_RULES: [u8; 2] = [0x0a, 0x00];
 
-const PLAIN: &[u8] = b"GET / HTTP/1.1\r\nHost: h\r\n\r\n";
+pub const PLAIN: &[u8] = b"GET / HTTP/1.1\r\nHost: h\r\n\r\n";
 
 const CASES: [(&[u8], &[u8], &str, u8); 8] = [
     (&ANY_ANY, PLAIN, "allow 0\n", 0),
