@@ -15,6 +15,14 @@ pub struct Key {
     pub wire_type: WireType,
 }
 
+/// An array of keys, each a wire type and a number, as `keys![Varint 1, Text 2]`.
+#[macro_export]
+macro_rules! keys {
+    ($($wire_type:ident $number:expr),+) => {
+        [$($crate::Key { number: $number, wire_type: $crate::WireType::$wire_type }),+]
+    };
+}
+
 /// The value of a singular scalar: that of the last VARINT field of this number.
 pub fn last_varint(fields: &[Field<'_>], number: u32) -> Option<u64>
     ensures { result ≡ last_of (varints number (map view fields.now)) }

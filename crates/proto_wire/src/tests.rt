@@ -132,21 +132,15 @@ fn rules(rt: HostRuntime) -> Result<(), Fail> {
     assert_eq!(rt; last_varint(&fields, 1), Some(2));
     assert!(rt; matches!(last_text(&fields, 2), Some(b"c")));
     assert_eq!(rt; payloads_of(alloc, &fields, 2)?.len(), 3);
-    let one = Key {
-        number: 1,
-        wire_type: WireType::Varint,
-    };
-    let two = Key {
-        number: 2,
-        wire_type: WireType::Text,
-    };
-    let three = Key {
-        number: 3,
-        wire_type: WireType::Varint,
-    };
-    assert!(rt; all_known(&fields, &[one, two, three]));
-    assert!(rt; !all_known(&fields, &[one, two]));
-    assert_eq!(rt; member_run(alloc, &fields, &[one, two])?.len(), 2);
-    assert_eq!(rt; member_run(alloc, &fields, &[one, three])?.len(), 1);
+    assert!(rt; all_known(&fields, &keys![Varint 1, Text 2, Varint 3]));
+    assert!(rt; !all_known(&fields, &keys![Varint 1, Text 2]));
+    assert_eq!(rt;
+        member_run(alloc, &fields, &keys![Varint 1, Text 2])?.len(),
+        2
+    );
+    assert_eq!(rt;
+        member_run(alloc, &fields, &keys![Varint 1, Varint 3])?.len(),
+        1
+    );
     Ok(())
 }

@@ -9,15 +9,12 @@ ghost use Rattle.rbac_match.specs.Text.{text_view};
 
 use crate::text::{TextMatcher, read_text_matcher};
 use attributes::{Conn, Request};
-use proto_wire::{Key, Refusal, WireType, payloads_of, read_message};
+use proto_wire::{Key, Refusal, keys, payloads_of, read_message};
 use std::alloc::Global;
 
 const PRINCIPAL_NAME: u32 = 2;
 
-static AUTHENTICATED_KEYS: [Key; 1] = [Key {
-    number: PRINCIPAL_NAME,
-    wire_type: WireType::Text,
-}];
+static AUTHENTICATED_KEYS: [Key; 1] = keys![Text PRINCIPAL_NAME];
 
 /// Reads an Authenticated, which stands in the parts: the test of the peer's name, or none where every name will do.
 pub fn read_authenticated(alloc: Global, parts: &[&[u8]]) -> Result<Option<TextMatcher>, Refusal>

@@ -13,7 +13,7 @@ ghost use Rattle.rbac_match.specs.Header.{HeaderFault, IsHeader, SayingFault, Sa
 use crate::int64_range::{Int64Range, read_int64_range};
 use crate::text::{Pattern, TextMatcher, is_set, read_filled, read_text, read_text_matcher};
 use attributes::Request;
-use proto_wire::{Field, Key, Refusal, WireType, last_text, member_run, payloads_of, read_message};
+use proto_wire::{Field, Key, Refusal, keys, last_text, member_run, payloads_of, read_message};
 use std::alloc::Global;
 
 /// What is asked of a header.
@@ -58,12 +58,6 @@ const CONTAINS: u32 = 12;
 const MATCHER: u32 = 13;
 
 const MISSING_IS_EMPTY: u32 = 14;
-
-macro_rules! keys {
-    ($($wire_type:ident $number:literal),+) => {
-        [$(Key { number: $number, wire_type: WireType::$wire_type }),+]
-    };
-}
 
 static FIELDS: [Key; 11] = keys![
     Text 1, Text 4, Text 6, Varint 7, Varint 8, Text 9, Text 10, Text 11, Text 12, Text 13,

@@ -7,7 +7,7 @@ ghost use Rattle.proto_wire.specs.declared.refusal.Refusal.TheVariants.{Memory};
 ghost use Rattle.rbac_match.specs.Int64Range.{RangeFault, IsRange, int64_at, is_within, range_holds, range_keys, range_view};
 
 use crate::decimal::parse_int64;
-use proto_wire::{Field, Key, Refusal, WireType, last_varint, read_message};
+use proto_wire::{Field, Key, Refusal, keys, last_varint, read_message};
 use std::alloc::Global;
 
 /// The numbers from `start` on that are below `end`; none where `start` is not below `end`.
@@ -40,16 +40,7 @@ const START: u32 = 1;
 
 const END: u32 = 2;
 
-static KEYS: [Key; 2] = [
-    Key {
-        number: START,
-        wire_type: WireType::Varint,
-    },
-    Key {
-        number: END,
-        wire_type: WireType::Varint,
-    },
-];
+static KEYS: [Key; 2] = keys![Varint START, Varint END];
 
 /// Reads an Int64Range, whose message stands in the parts (`envoy.type.v3.Int64Range`).
 pub fn read_int64_range(alloc: Global, parts: &[&[u8]]) -> Result<Int64Range, Refusal>

@@ -4,13 +4,7 @@ ghost use Rattle.std.specs.Prelude.{◌≡◌};
 ghost use Rattle.rbac_match.specs.Message.{keys_of, set_keys};
 
 use crate::rule::Side;
-use proto_wire::{Key, WireType};
-
-macro_rules! keys {
-    ($($wire_type:ident $number:literal),+) => {
-        [$(Key { number: $number, wire_type: WireType::$wire_type }),+]
-    };
-}
+use proto_wire::{Key, keys};
 
 static PERMISSION: [Key; 12] = keys![
     Text 1, Text 2, Varint 3, Text 4, Text 5, Varint 6, Text 7, Text 8, Text 9, Text 10, Text 11, Text 12

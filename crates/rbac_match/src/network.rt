@@ -10,7 +10,7 @@ ghost use Rattle.rbac_match.specs.Network.{IsCidr, IsLength, IsNoIpText, CidrFau
 
 use crate::integers::uint32_of;
 use attributes::{Cidr, Conn, Ip, Request, parse_ip};
-use proto_wire::{Field, Key, Refusal, WireType, last_text, payloads_of, read_message};
+use proto_wire::{Field, Key, Refusal, keys, last_text, payloads_of, read_message};
 use std::alloc::Global;
 
 /// Which address of a request a rule looks at.
@@ -42,21 +42,9 @@ const LENGTH: u32 = 2;
 
 const VALUE: u32 = 1;
 
-static CIDR: [Key; 2] = [
-    Key {
-        number: ADDRESS,
-        wire_type: WireType::Text,
-    },
-    Key {
-        number: LENGTH,
-        wire_type: WireType::Text,
-    },
-];
+static CIDR: [Key; 2] = keys![Text ADDRESS, Text LENGTH];
 
-static UINT32_VALUE: [Key; 1] = [Key {
-    number: VALUE,
-    wire_type: WireType::Varint,
-}];
+static UINT32_VALUE: [Key; 1] = keys![Varint VALUE];
 
 /// Reads a range of addresses (`envoy.config.core.v3.CidrRange`), which stands in the parts: `BadText` where its address is
 /// not UTF-8, `OutOfRange` where that spells no address or has fewer bits than the prefix. No prefix length is 0.

@@ -8,15 +8,12 @@ ghost use Rattle.rbac_match.specs.Text.{text_view};
 
 use crate::text::{TextMatcher, read_text_matcher};
 use attributes::Request;
-use proto_wire::{Key, Refusal, WireType, payloads_of, read_message};
+use proto_wire::{Key, Refusal, keys, payloads_of, read_message};
 use std::alloc::Global;
 
 const PATH: u32 = 1;
 
-static PATH_KEYS: [Key; 1] = [Key {
-    number: PATH,
-    wire_type: WireType::Text,
-}];
+static PATH_KEYS: [Key; 1] = keys![Text PATH];
 
 /// Reads a PathMatcher, which stands in the parts: `Missing` without a path, and what `read_text_matcher` refuses of it.
 pub fn read_path_matcher(alloc: Global, parts: &[&[u8]]) -> Result<TextMatcher, Refusal>

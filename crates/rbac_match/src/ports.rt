@@ -8,7 +8,7 @@ ghost use Rattle.rbac_match.specs.Ports.{AreBounds, AreNoBounds, IsPort, IsPortR
 
 use crate::integers::{int32_of, uint32_of};
 use attributes::Request;
-use proto_wire::{Field, Key, Refusal, WireType, read_message};
+use proto_wire::{Field, Key, Refusal, keys, read_message};
 use std::alloc::Global;
 use std::marker::Model;
 
@@ -22,16 +22,7 @@ const END: u32 = 2;
 /// One more than the greatest port.
 const PORTS: i32 = 65_536;
 
-static RANGE: [Key; 2] = [
-    Key {
-        number: START,
-        wire_type: WireType::Varint,
-    },
-    Key {
-        number: END,
-        wire_type: WireType::Varint,
-    },
-];
+static RANGE: [Key; 2] = keys![Varint START, Varint END];
 
 /// Some ports in a row: `start` is the first, and `end` the one after the last.
 #[derive(Clone, Copy, Debug)]

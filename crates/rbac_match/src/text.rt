@@ -11,7 +11,7 @@ ghost use Rattle.proto_wire.specs.declared.refusal.Refusal.TheVariants.{Memory, 
 ghost use Rattle.rbac_match.specs.Text.{text_view, pattern_view, text_holds, pattern_holds, stands_in, string_keys, pattern_keys, flag_of, pattern_field, IsFilled, text_of, IsTextMatcher, PatternFault, TextFault};
 
 use memchr::memmem;
-use proto_wire::{Content, Field, Key, Refusal, WireType, last_varint, member_run, read_message};
+use proto_wire::{Content, Field, Key, Refusal, keys, last_varint, member_run, read_message};
 use std::alloc::Global;
 
 /// What a text is compared with.
@@ -43,12 +43,6 @@ const SUFFIX: u32 = 3;
 const IGNORE_CASE: u32 = 6;
 
 const CONTAINS: u32 = 7;
-
-macro_rules! keys {
-    ($($wire_type:ident $number:literal),+) => {
-        [$(Key { number: $number, wire_type: WireType::$wire_type }),+]
-    };
-}
 
 static STRING: [Key; 6] = keys![Text 1, Text 2, Text 3, Text 5, Varint 6, Text 7];
 

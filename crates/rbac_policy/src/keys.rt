@@ -3,13 +3,7 @@
 ghost use Rattle.std.specs.Prelude.{◌≡◌};
 ghost use Rattle.rbac_policy.specs.Message.{filter_keys, rules_keys, entry_keys, policy_keys};
 
-use proto_wire::{Key, WireType};
-
-macro_rules! keys {
-    ($($wire_type:ident $number:literal),+) => {
-        [$(Key { number: $number, wire_type: WireType::$wire_type }),+]
-    };
-}
+use proto_wire::{Key, keys};
 
 static FILTER: [Key; 3] = keys![Text 1, Text 2, Text 3];
 
