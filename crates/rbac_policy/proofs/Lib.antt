@@ -5,3 +5,4 @@ pub mod Texts
 pub mod Maps
 pub mod First
 pub mod Read
+pub mod OneFilter

@@ -83,7 +83,7 @@ entries_readable [] (x ∷ es) are = absurd are
 entries_readable (p ∷ parts) [] are = absurd are
 entries_readable (p ∷ parts) (x ∷ es) are = inl (x, es, are.0, entries_readable parts es are.1, refl)
 
-readable_one : (parts : List (List ℕ)) (es fs : List Entry) → AreEntries parts es → Readable parts fs → fs ≡ es
+pub readable_one : (parts : List (List ℕ)) (es fs : List Entry) → AreEntries parts es → Readable parts fs → fs ≡ es
 readable_one [] [] fs are reads = reads
 readable_one [] (x ∷ es) fs are reads = absurd are
 readable_one (p ∷ parts) [] fs are reads = absurd are
