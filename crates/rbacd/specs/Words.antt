@@ -1,9 +1,11 @@
 -- The program's command line and the job that its words name.
-use Rattle.std.specs.Prelude.{◌≡◌, ◌≤◌, ⊤, ℕ, List, [], ◌∷◌, true, Ok, Option, Some, option_map, codes, string_bytes}
+use Rattle.std.specs.Prelude.{◌≡◌, ◌≤◌, ◌⊎◌, ⊤, ℕ, List, [], ◌∷◌, true, Ok, Option, Some, option_map, codes, string_bytes}
 use Rattle.std.specs.Str.Parse.{ParsesUnsigned}
-use Rattle.clap.specs.Words.{App, Row, Rule, Text, first_of, one_of, new_app, new_rule, subcommand_of, takes, with_rule, with_subcommand}
+use Rattle.clap.specs.Words.{App, IsAmong, Row, Rule, Text, fault_of, first_of, one_of, new_app, new_rule, subcommand_of, with_rule, with_subcommand}
 use Rattle.clap.specs.Simple.{on_top}
 use Rattle.clap.specs.declared.builder.value_parser.ValueParser.TheVariants as parsers
+use Rattle.clap.specs.declared.error.kind.ErrorKind.{ErrorKind}
+use Rattle.clap.specs.declared.error.kind.ErrorKind.TheVariants.{ValueValidation}
 use Rattle.rbacd.specs.declared.words.Job.{Job}
 use Rattle.rbacd.specs.declared.words.Job.TheVariants.{Judge}
 
@@ -70,10 +72,16 @@ NamesNoJob named = (rows : List Row) (policy : Text) (facts : Option Text) (budg
     → named ≡ Some (codes "judge", rows)
     → ¬ (HoldJudge rows policy facts budget)
 
--- the words name the job
-abbrev pub IsJobOf : List Text → Job → Type 0
-IsJobOf words job = IsJobOfNamed (subcommand_of rbacd_app words) job
+-- a parse takes the words: none of its steps fails
+abbrev pub AreTaken : List Text → Type 0
+AreTaken words = fault_of rbacd_app words ≡ []
 
--- the words are not taken, or name no job
-abbrev pub AreMistaken : List Text → Type 0
-AreMistaken words = takes rbacd_app words ≡ true → NamesNoJob (subcommand_of rbacd_app words)
+-- the words are taken and name the job
+abbrev pub IsJobOf : List Text → Job → Type 0
+IsJobOf words job = AreTaken words × IsJobOfNamed (subcommand_of rbacd_app words) job
+
+-- what is wrong with the words: the first step of a parse that fails does so in this way, or they are taken and name no
+-- job, since the budget is not allowed
+abbrev pub AreMistaken : List Text → ErrorKind → Type 0
+AreMistaken words kind = IsAmong kind (fault_of rbacd_app words)
+    ⊎ ((kind ≡ ValueValidation) × AreTaken words × NamesNoJob (subcommand_of rbacd_app words))

@@ -1,6 +1,7 @@
 //! What is known of a connection, as a JSON object.
-ghost use Rattle.std.specs.Prelude.{◌≡◌, ◌↔◌, ◌++◌, ◌∷◌, [], ℕ, Bool, List, Option, IsTrue, IfOk, IfErr, IfNone, IfSome, OnSome, codes};
+ghost use Rattle.std.specs.Prelude.{◌≡◌, ◌⊎◌, ◌↔◌, ◌++◌, ◌∷◌, [], ℕ, Bool, List, Option, IsTrue, IfOk, IfErr, IfNone, IfSome, OnSome, codes};
 ghost use Rattle.std.specs.Io.KnownBytes.{Appends};
+ghost use Rattle.std.specs.IoError.{error_kind};
 ghost use Rattle.std.specs.String.{string_bytes};
 ghost use Rattle.attributes.specs.Conn.{Facts, facts_of, text_of};
 ghost use Rattle.attributes.specs.Limits.{FactsInLimits, largest};
@@ -93,12 +94,13 @@ pub fn read_conn<W: Write>(alloc: Global, text: &[u8], errors: &mut W) -> io::Re
     ensures told { IfOk result (λ told. IfNone told (Appends (W.contents errors.old)
         (W.contents errors.new) (codes "bad facts" ++ 10 ∷ []))) }
     ensures quiet { IfOk result (λ told. OnSome told (errors.new ≡ errors.old)) }
+    ensures fault { IfErr result (λ e. (error_kind e ≡ ErrorKind.OutOfMemory) ⊎ TellsNone text.now) }
 {
     match read_limited_facts(alloc, text) {
         Ok(conn) => Ok(Some(conn)),
         Err(FactsFault::Memory) => Err(io::Error::from(ErrorKind::OutOfMemory)),
         Err(FactsFault::Bad) => {
-            writeln!(errors, "bad facts")?;
+            writeln!(errors, "{}", FactsFault::Bad)?;
             Ok(None)
         }
     }

@@ -32,7 +32,7 @@ pub enum Job {
 pub fn read_words<S: AsStr>(alloc: Global, words: &[S]) -> Result<Job, Error>
     ensures job { IfOk result (IsJobOf (map S.text words.now)) }
     ensures mistaken { IfErr result (λ e. (kind_of e ≡ ErrorKind.OutOfMemory)
-        ⊎ AreMistaken (map S.text words.now)) }
+        ⊎ AreMistaken (map S.text words.now) (kind_of e)) }
 {
     let matches = command(alloc)?.try_get_matches_from(words)?;
     match named_job(alloc, &matches)? {
