@@ -17,7 +17,7 @@ mod stop;
 /// A head has at most so many bytes.
 pub const HEAD_ROOM: usize = 65_536;
 
-/// What is wrong with a head, by the status that answers it (RFC 9110, section 15).
+/// What is wrong with a head, by the status that answers it (RFC 9110, section 15; 431 is RFC 6585, section 5).
 #[derive(Clone, Copy, Debug, PartialEq, Eq)]
 pub enum HeadFault {
     /// No head can come of the bytes, or its fields break a rule.
