@@ -28,12 +28,13 @@ impl<'a> Reader<'a> {
         Reader { rest: bytes }
     }
 
-    /// The next field, and `None` exactly at the end. After an error the reader stands where it
-    /// stood, so the same error comes again.
+    /// The next field, and `None` exactly at the end, where the reader stays. After an error the
+    /// reader stands where it stood, so the same error comes again.
     pub fn next(&mut self) -> Result<Option<Field<'a>>, WireError>
         ensures field { IfOk result (λ found.
             IfSome found (λ f. StartsField self.old (view f) self.new)) }
         ensures none { (result ≡ Ok None) ↔ (self.old ≡ []) }
+        ensures end { self.old ≡ [] → self.new ≡ [] }
         ensures fault { IfErr result (λ e.
             (self.old ≢ []) × FailsField self.old e × (self.new ≡ self.old)) }
         ensures reads { (f : Wire) (rest : List ℕ) → StartsField self.old f rest
