@@ -1,7 +1,7 @@
 -- The rules over lists of fields: what one field more changes, and what known fields are.
 use Rattle.std.proofs.Common.{◌≡◌, ◌==◌, ◌&&◌, ℕ, Bool, true, false, cond, ◌⊎◌, List, [], ◌∷◌, ◌++◌, Option, Some, None, map, take, get_or, length, ◌<◌, ◌+◌, refl, sym, ap, ◌∙◌, inl, inr}
 use Rattle.std.specs.List.{filter, filter_map, list_all}
-use Rattle.std.proofs.lemmas.Bool.{both_ways, and_parts, and_from, eqb-true, eqb-false, eq-eqb, ne_eqb, cases_Bool}
+use Rattle.std.proofs.lemmas.Bool.{both_ways, and_parts, eqb-true, eqb-false, eq-eqb, ne_eqb, cases_Bool}
 use Rattle.std.proofs.lemmas.List.{append-nil, map_more}
 use Rattle.std.proofs.lemmas.List.Elements.{filter_map-append, filter-append}
 use Rattle.std.proofs.lemmas.List.Folds.{list_all-append}
@@ -20,21 +20,6 @@ known_or_unknown keys fs = cases_Bool (list_all (is_known keys) fs)
 pub known-not-unknown : (keys : List Key) (fs : List Wire) → AllKnown keys fs → SomeUnknown keys fs
     → ⊥
 known-not-unknown keys fs known unknown = both_ways (list_all (is_known keys) fs) unknown known
-
--- where all are known, none is left out
-pub filter-all : (keys : List Key) (fs : List Wire) → AllKnown keys fs
-    → filter (is_known keys) fs ≡ fs
-filter-all keys [] known = refl
-filter-all keys (f ∷ fs) known =
-    let both = and_parts (is_known keys f) (list_all (is_known keys) fs) known in
-    rw both.0 (ap (λ (t : List Wire). f ∷ t) (filter-all keys fs both.1))
-
--- known fields behind known fields
-pub known-append : (keys : List Key) (fs gs : List Wire) → AllKnown keys fs → AllKnown keys gs
-    → AllKnown keys (fs ++ gs)
-known-append keys fs gs a b =
-    list_all-append (is_known keys) fs gs
-    ∙ and_from (list_all (is_known keys) fs) (list_all (is_known keys) gs) a b
 
 -- ---- the last of a list, and what is picked of one
 
@@ -189,29 +174,3 @@ passes-filter p (f ∷ fs) =
 pub run-known : (keys : List Key) (fs : List Wire) → AllKnown keys (member_run keys fs)
 run-known keys fs =
     all-of-run (is_known keys) (filter (is_known keys) fs) (passes-filter (is_known keys) fs)
-
--- the fields of a run have one number
-pub run-uniform : (fs : List Wire) (f : Wire) (rest : List Wire) → trailing_run fs ≡ f ∷ rest
-    → list_all (λ g. g.number == f.number) rest ≡ true
-run-uniform [] f rest e = absurd cc
-run-uniform (g ∷ fs) f rest e =
-    elim (cases_Bool (list_all (HasNumber g.number) fs)) [
-      | inl same ↦
-          let whole : g ∷ fs ≡ f ∷ rest = rw same at e in
-          let head : g ≡ f = cc in
-          let tail : fs ≡ rest = cc in
-          rw (← head, ← tail) same
-      | inr other ↦ run-uniform fs f rest (rw other at e)
-    ]
-
--- only no fields have no run
-pub run-none : (fs : List Wire) → trailing_run fs ≡ [] → fs ≡ []
-run-none [] e = refl
-run-none (g ∷ fs) e =
-    elim (cases_Bool (list_all (HasNumber g.number) fs)) [
-      | inl same ↦ let whole : g ∷ fs ≡ [] = rw same at e in absurd cc
-      | inr other ↦
-          let none = run-none fs (rw other at e) in
-          let all : list_all (HasNumber g.number) fs ≡ true = rw none refl in
-          absurd (both_ways (list_all (HasNumber g.number) fs) other all)
-    ]
