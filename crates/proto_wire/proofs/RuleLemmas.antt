@@ -6,7 +6,7 @@ use Rattle.std.proofs.lemmas.List.{append-nil, map_more}
 use Rattle.std.proofs.lemmas.List.Elements.{filter_map-append, filter-append}
 use Rattle.std.proofs.lemmas.List.Folds.{list_all-append}
 use Rattle.proto_wire.specs.Fields.{Payload, payload_of, Wire, view}
-use Rattle.proto_wire.specs.Rules.{last_of, is_known, AllKnown, SomeUnknown, trailing_run, member_run, run_with}
+use Rattle.proto_wire.specs.Rules.{last_of, is_known, last_member, AllKnown, SomeUnknown, trailing_run, member_run, run_with}
 use Rattle.proto_wire.specs.declared.field.Field.{Field}
 use Rattle.proto_wire.specs.declared.rules.Key.{Key}
 
@@ -123,32 +123,48 @@ run_more (g ∷ fs) f =
       | inr other ↦ rw (joined, other) (run_more fs f)
     ]
 
--- at the next field, which has a member's key
+-- the known fields at the next field, which is known
+pub known_some : (keys : List Key) (fields : List Field) (i : ℕ) (d : Field) → i < length fields
+    → is_known keys (view (get_or fields i d)) ≡ true
+    → filter (is_known keys) (map view (take (i + 1) fields))
+    ≡ filter (is_known keys) (map view (take i fields)) ++ view (get_or fields i d) ∷ []
+known_some keys fields i d within known =
+    let before = map view (take i fields) in
+    let f = view (get_or fields i d) in
+    let one : filter (is_known keys) (f ∷ []) ≡ f ∷ [] = rw known refl in
+    ap (filter (is_known keys)) (map_more view fields i d within)
+    ∙ filter-append (is_known keys) before (f ∷ [])
+    ∙ ap (λ gs. filter (is_known keys) before ++ gs) one
+
+-- the known fields at the next field, which is not
+pub known_none : (keys : List Key) (fields : List Field) (i : ℕ) (d : Field) → i < length fields
+    → is_known keys (view (get_or fields i d)) ≡ false
+    → filter (is_known keys) (map view (take (i + 1) fields))
+    ≡ filter (is_known keys) (map view (take i fields))
+known_none keys fields i d within unknown =
+    let before = map view (take i fields) in
+    let f = view (get_or fields i d) in
+    let none : filter (is_known keys) (f ∷ []) ≡ [] = rw unknown refl in
+    ap (filter (is_known keys)) (map_more view fields i d within)
+    ∙ filter-append (is_known keys) before (f ∷ [])
+    ∙ ap (λ gs. filter (is_known keys) before ++ gs) none
+    ∙ append-nil (filter (is_known keys) before)
+
+-- the run at the next field, which is known
 pub member_some : (keys : List Key) (fields : List Field) (i : ℕ) (d : Field) → i < length fields
     → is_known keys (view (get_or fields i d)) ≡ true
     → member_run keys (map view (take (i + 1) fields))
     ≡ run_with (member_run keys (map view (take i fields))) (view (get_or fields i d))
 member_some keys fields i d within known =
-    let before = map view (take i fields) in
-    let f = view (get_or fields i d) in
-    let one : filter (is_known keys) (f ∷ []) ≡ f ∷ [] = rw known refl in
-    ap (member_run keys) (map_more view fields i d within)
-    ∙ ap trailing_run (filter-append (is_known keys) before (f ∷ [])
-    ∙ ap (λ gs. filter (is_known keys) before ++ gs) one)
-    ∙ run_more (filter (is_known keys) before) f
+    ap trailing_run (known_some keys fields i d within known)
+    ∙ run_more (filter (is_known keys) (map view (take i fields))) (view (get_or fields i d))
 
--- at the next field, which has none
+-- the run at the next field, which is not
 pub member_none : (keys : List Key) (fields : List Field) (i : ℕ) (d : Field) → i < length fields
     → is_known keys (view (get_or fields i d)) ≡ false
     → member_run keys (map view (take (i + 1) fields)) ≡ member_run keys (map view (take i fields))
 member_none keys fields i d within unknown =
-    let before = map view (take i fields) in
-    let f = view (get_or fields i d) in
-    let none : filter (is_known keys) (f ∷ []) ≡ [] = rw unknown refl in
-    ap (member_run keys) (map_more view fields i d within)
-    ∙ ap trailing_run (filter-append (is_known keys) before (f ∷ [])
-    ∙ ap (λ gs. filter (is_known keys) before ++ gs) none
-    ∙ append-nil (filter (is_known keys) before))
+    ap trailing_run (known_none keys fields i d within unknown)
 
 -- ---- what a run is
 
@@ -174,3 +190,18 @@ passes-filter p (f ∷ fs) =
 pub run-known : (keys : List Key) (fs : List Wire) → AllKnown keys (member_run keys fs)
 run-known keys fs =
     all-of-run (is_known keys) (filter (is_known keys) fs) (passes-filter (is_known keys) fs)
+
+-- the last of a run is the last of all
+pub last_of-run : (fs : List Wire) → last_of (trailing_run fs) ≡ last_of fs
+last_of-run [] = refl
+last_of-run (f ∷ []) = refl
+last_of-run (f ∷ g ∷ fs) =
+    elim (cases_Bool (list_all (HasNumber f.number) (g ∷ fs))) [
+      | inl same ↦ rw same refl
+      | inr other ↦ rw other (last_of-run (g ∷ fs))
+    ]
+
+-- the last field of the last member's run is the last member
+pub last_member-run : (keys : List Key) (fs : List Wire)
+    → last_of (member_run keys fs) ≡ last_member keys fs
+last_member-run keys fs = last_of-run (filter (is_known keys) fs)

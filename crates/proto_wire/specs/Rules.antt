@@ -59,6 +59,10 @@ AllKnown keys fs = IsTrue (list_all (is_known keys) fs)
 abbrev pub SomeUnknown : List Key → List Wire → Type 0
 SomeUnknown keys fs = list_all (is_known keys) fs ≡ false
 
+-- the last field that has one of the keys: of a oneof the last member
+abbrev pub last_member : List Key → List Wire → Option Wire
+last_member keys fs = last_of (filter (is_known keys) fs)
+
 -- the longest end of a list whose fields all have one number: of a oneof, the occurrences of its
 -- last member that merge
 abbrev pub trailing_run : List Wire → List Wire

@@ -18,7 +18,7 @@ pub use known::read_message;
 pub use message::{read_fields, read_parts};
 pub use reader::Reader;
 pub use refusal::Refusal;
-pub use rules::{Key, all_known, last_text, last_varint, member_run, payloads_of};
+pub use rules::{Key, all_known, last_member, last_text, last_varint, member_run, payloads_of};
 
 #[cfg(test)]
 mod tests;

@@ -1,9 +1,10 @@
 //! The rules by which a message's fields make its value.
 
 ghost use Rattle.std.specs.Prelude.{◌≡◌, ◌==◌, cond, List, map, Some, None, IfOk, OnOk, MatchOption};
+ghost use Rattle.std.specs.Option.{option_map};
 ghost use Rattle.std.specs.List.{list_all};
 ghost use Rattle.proto_wire.specs.Fields.{payload_of, view};
-ghost use Rattle.proto_wire.specs.Rules.{varint_in, text_in, varints, payloads, last_of, has_key, is_known, run_with, member_run};
+ghost use Rattle.proto_wire.specs.Rules.{varint_in, text_in, varints, payloads, last_of, has_key, is_known, last_member, run_with, member_run};
 
 use crate::field::{Content, Field, WireType};
 use std::alloc::{AllocError, Global};
@@ -72,6 +73,19 @@ pub fn all_known(fields: &[Field<'_>], keys: &[Key]) -> bool
     ensures { result ≡ list_all (is_known keys.now) (map view fields.now) }
 {
     fields.iter().all(|field| is_known(field, keys))
+}
+
+/// Of a oneof of scalars the last member: the last field that has a member's key. It takes no memory.
+pub fn last_member<'a>(fields: &[Field<'a>], keys: &[Key]) -> Option<Field<'a>>
+    ensures { option_map view result ≡ last_member keys.now (map view fields.now) }
+{
+    let mut last = None;
+    for candidate in fields {
+        if is_known(candidate, keys) {
+            last = Some(*candidate);
+        }
+    }
+    last
 }
 
 /// Of a oneof the occurrences of its last member that merge: the last run of fields of one number,

@@ -142,5 +142,12 @@ fn rules(rt: HostRuntime) -> Result<(), Fail> {
         member_run(alloc, &fields, &keys![Varint 1, Varint 3])?.len(),
         1
     );
+    assert_eq!(rt;
+        last_member(&fields, &keys![Varint 1, Varint 3]),
+        Some(Field {
+            number: 3,
+            content: Content::Varint(7)
+        })
+    );
     Ok(())
 }
