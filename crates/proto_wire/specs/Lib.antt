@@ -3,3 +3,4 @@ pub mod Fields
 pub mod Rules
 pub mod Refusal
 pub mod Messages
+pub mod Scalars

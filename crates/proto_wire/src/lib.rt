@@ -9,6 +9,7 @@ mod message;
 mod reader;
 mod refusal;
 mod rules;
+mod scalars;
 mod spelling;
 mod varint;
 
@@ -19,6 +20,7 @@ pub use message::{read_fields, read_parts};
 pub use reader::Reader;
 pub use refusal::Refusal;
 pub use rules::{Key, all_known, last_member, last_text, last_varint, member_run, payloads_of};
+pub use scalars::{bool_of, int32_of, int64_of, uint32_of};
 
 #[cfg(test)]
 mod tests;

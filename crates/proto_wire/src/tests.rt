@@ -151,3 +151,18 @@ fn rules(rt: HostRuntime) -> Result<(), Fail> {
     );
     Ok(())
 }
+
+/// The last varint of field 1 is 2^64 - 1, that of field 2 is 2^32, and there is no field 3.
+#[test]
+fn scalars(rt: HostRuntime) -> Result<(), Fail> {
+    let bytes = b"\x08\x05\x08\xff\xff\xff\xff\xff\xff\xff\xff\xff\x01\x10\x80\x80\x80\x80\x10";
+    let fields = read_fields(rt.alloc(), bytes)?;
+    assert_eq!(rt; uint32_of(&fields, 1), u32::MAX);
+    assert_eq!(rt; int32_of(&fields, 1), -1);
+    assert_eq!(rt; int64_of(&fields, 1), -1);
+    assert_eq!(rt; uint32_of(&fields, 2), 0);
+    assert_eq!(rt; int64_of(&fields, 2), 4_294_967_296);
+    assert!(rt; bool_of(&fields, 1) && bool_of(&fields, 2) && !bool_of(&fields, 3));
+    assert_eq!(rt; int64_of(&fields, 3), 0);
+    Ok(())
+}
