@@ -3,7 +3,7 @@ use Rattle.std.proofs.Common.{◌≡◌, ℕ, zero, suc, ◌-◌, ◌<◌, List,
 use Rattle.proto_wire.specs.Rules.{member_run}
 use Rattle.proto_wire.specs.Messages.{texts}
 use Rattle.proto_wire.specs.declared.refusal.Refusal.{Refusal}
-use Rattle.rbac_match.specs.Formula.{Formula, anything, all_of, any_of, none_of}
+use Rattle.rbac_match.specs.Formula.{Formula, all_of, any_of}
 use Rattle.rbac_match.specs.Message.{keys_of}
 use Rattle.rbac_match.specs.Rules.{AreRules, IsLevel, IsRule, in_rule, LevelFault, in_all, in_any, in_not, RuleFault, SomeRuleFault}
 use Rattle.rbac_match.specs.Member.{IsMember, Never}
@@ -59,22 +59,11 @@ either_fault side depth parts rules e more (fs, message, (number, (gs, set, some
     let P : List (List ℕ) → Type 0 = λ children. Contains children child in
     fault_deeper side depth parts e more (in_any (member_run (keys_of side) fs) (fs, message.0, refl) number (in_rule gs child set.0 (subst P same here) bad))
 
--- a rule that is not another
-pub not_found : (side : Side) (depth : ℕ) (parts : List (List ℕ)) (inner : Vec (Bor (List ℕ)) Global) (f : Formula) → 0 < depth → IsMember side parts (members.Not inner)
-    → IsRule side (depth - 1) (texts inner.items) f → IsRule side depth parts (none_of f)
-not_found side depth parts inner f more (fs, message, (number, same)) is =
-    let P : List (List ℕ) → Type 0 = λ given. IsRule side (depth - 1) given f in
-    rule_deeper side depth parts _ more (fs, message, (number, subst P same is))
-
 pub not_fault : (side : Side) (depth : ℕ) (parts : List (List ℕ)) (inner : Vec (Bor (List ℕ)) Global) (e : Refusal) → 0 < depth → IsMember side parts (members.Not inner)
     → RuleFault side (depth - 1) (texts inner.items) e → RuleFault side depth parts e
 not_fault side depth parts inner e more (fs, message, (number, same)) bad =
     let P : List (List ℕ) → Type 0 = λ given. RuleFault side (depth - 1) given e in
     fault_deeper side depth parts e more (in_not (member_run (keys_of side) fs) (fs, message.0, refl) number (subst P same bad))
-
--- a rule that is any
-pub any_found : (side : Side) (depth : ℕ) (parts : List (List ℕ)) → 0 < depth → IsMember side parts members.Any → IsRule side depth parts anything
-any_found side depth parts more is = rule_deeper side depth parts anything more is
 
 -- a fault of a rule's own fields
 pub own_fault : (side : Side) (depth : ℕ) (parts : List (List ℕ)) (e : Refusal) → 0 < depth → LevelFault side Never parts e → RuleFault side depth parts e

@@ -13,7 +13,6 @@ pub mod Texts
 pub mod Decimals
 pub mod Headers
 pub mod HeaderSettled
-pub mod AddressLemmas
 pub mod IpSettled
 pub mod NetworkSettled
 pub mod PortsSettled

@@ -62,10 +62,6 @@ cidr_apart parts range e (fs, message, utf8, spelled, length, within) (too_long 
     let one : ls ≡ length.0 = merges-one (payloads 2 fs) ls length.0 (subst Q same joined) length.1.0 in
     omega (arith, ap width_of address, ap (uint32_in 1) one, length.2)
 
--- a range of this address and size
-range_of : Ip → ℕ → Range
-range_of ip size = record { address = ip; size = size }
-
 -- one range at most
 pub cidr_one : (parts : List (List ℕ)) (v w : Range) → IsCidr parts v → IsCidr parts w → v ≡ w
 cidr_one parts v w (fs, message, utf8, spelled, length, within) (gs, also, utf8', spelled', length', within') =

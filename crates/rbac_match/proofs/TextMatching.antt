@@ -1,5 +1,5 @@
 -- How the searches of the code answer the tests of a text.
-use Rattle.std.proofs.Common.{◌≡◌, ℕ, zero, suc, ◌+◌, ◌-◌, ◌≤◌, Bool, true, false, ◌||◌, nat_eq, List, [], ◌∷◌, length, take, drop, take_all, Option, Some, None, inl, inr, sym, ap, ◌∙◌, arith}
+use Rattle.std.proofs.Common.{◌≡◌, ℕ, zero, suc, ◌+◌, ◌-◌, ◌≤◌, Bool, true, ◌||◌, nat_eq, List, [], ◌∷◌, length, take, drop, take_all, Option, Some, None, inl, inr, sym, ap, ◌∙◌, arith}
 use Rattle.std.specs.Bool.{Decides}
 use Rattle.std.specs.Option.{is_some}
 use Rattle.std.specs.List.{starts_with, ends_with, slice_index}
@@ -39,20 +39,6 @@ stands_later b bytes part later = elim (cases_Bool (starts_with nat_eq (b ∷ by
   | inl starts ↦ stands_first (b ∷ bytes) part starts
   | inr other ↦ ap (λ t. t || stands_in bytes part) other ∙ later
 ]
-
--- what does not begin them stands in the rest
-pub stands_rest : (bytes rest part : List ℕ) (b : ℕ) → bytes ≡ b ∷ rest
-    → starts_with nat_eq bytes part ≡ false → stands_in bytes part ≡ stands_in rest part
-stands_rest [] rest part b is other = absurd cc
-stands_rest (x ∷ xs) rest part b is other =
-    let same : xs ≡ rest = cc in
-    ap (λ t. t || stands_in xs part) other ∙ ap (λ l. stands_in l part) same
-
--- and in no bytes stands what does not begin them
-pub stands_nowhere : (bytes part : List ℕ) → length bytes ≡ 0
-    → starts_with nat_eq bytes part ≡ false → stands_in bytes part ≡ false
-stands_nowhere [] part none other = other
-stands_nowhere (b ∷ bytes) part none other = absurd (omega arith)
 
 -- what begins the bytes occurs at their front
 at_front : (bytes part : List ℕ) → starts_with nat_eq bytes part ≡ true
