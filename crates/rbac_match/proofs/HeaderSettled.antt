@@ -11,9 +11,9 @@ use Rattle.proto_wire.proofs.Unique.{merges-one}
 use Rattle.proto_wire.proofs.Messages.{message_settled, message_apart}
 use Rattle.proto_wire.specs.declared.refusal.Refusal.{Refusal}
 use Rattle.proto_wire.specs.declared.refusal.Refusal.TheVariants.{BadText, Missing, OutOfRange, Unsupported}
-use Rattle.rbac_match.specs.Message.{last_number}
+use Rattle.rbac_match.specs.Message.{last_number, range_keys}
 use Rattle.rbac_match.specs.Text.{TextPattern, exact, prefix, suffix, contains, TextTest, IsFilled, flag_of, IsTextMatcher}
-use Rattle.rbac_match.specs.Int64Range.{RangeValue, range_keys, int64_at, IsRange, RangeFault}
+use Rattle.rbac_match.specs.Int64Range.{RangeValue, int64_at, IsRange, RangeFault}
 use Rattle.rbac_match.specs.Header.{Specifier, present, passes, within, HeaderValue, text_at, header_keys, specifier_keys, pattern_number, IsMemberOf, SaysPattern, plain_test, SaysSpecifier, says_nothing, says_present, says_range, says_matcher, says_pattern, IsHeader, SayingFault, no_text, not_filled, no_pattern_member, SpecifierFault, in_range, in_matcher, in_member, HeaderFault, header_fields, name_unreadable, name_missing, in_specifier}
 use Rattle.rbac_match.proofs.Basics.{nil_or_not, same_or_not}
 use Rattle.rbac_match.proofs.TextSettled.{utf8_or_not, text_settled, text_apart, text_one}

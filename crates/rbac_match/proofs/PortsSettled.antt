@@ -8,7 +8,8 @@ use Rattle.proto_wire.proofs.Messages.{message_settled, message_apart}
 use Rattle.proto_wire.specs.declared.refusal.Refusal.{Refusal}
 use Rattle.proto_wire.specs.declared.refusal.Refusal.TheVariants.{OutOfRange}
 use Rattle.rbac_match.specs.Integers.{uint32_in, int32_in}
-use Rattle.rbac_match.specs.Ports.{PortSpan, IsPort, PortFault, range_keys, AreBounds, AreNoBounds, IsPortRange, PortRangeFault, range_fields, no_bounds}
+use Rattle.rbac_match.specs.Message.{range_keys}
+use Rattle.rbac_match.specs.Ports.{PortSpan, IsPort, PortFault, AreBounds, AreNoBounds, IsPortRange, PortRangeFault, range_fields, no_bounds}
 
 -- a run says a port, or a number that is none
 pub port_settled : (run : List Wire) → ((port : ℕ) × IsPort run port) ⊎ ((e : Refusal) × PortFault run e)

@@ -1,13 +1,12 @@
 -- Ranges of whole numbers: Envoy v3 `type/v3/range.proto`, Int64Range (start is in, end is not).
-use Rattle.std.specs.Prelude.{◌≡◌, ℕ, Bool, false, not, ◌&&◌, List, [], ◌∷◌, unwrap_or, ℤ, int_lt, ◌≤ℤ◌, ◌<ℤ◌}
+use Rattle.std.specs.Prelude.{◌≡◌, ℕ, Bool, false, not, ◌&&◌, List, unwrap_or, ℤ, int_lt, ◌≤ℤ◌, ◌<ℤ◌}
 use Rattle.std.specs.Option.{option_map_or}
 use Rattle.std.specs.Int.{cast_signed, w64}
 use Rattle.proto_wire.specs.Fields.{Wire}
 use Rattle.proto_wire.specs.Rules.{varints, last_of}
 use Rattle.proto_wire.specs.Messages.{IsMessage, MessageFault}
 use Rattle.proto_wire.specs.declared.refusal.Refusal.{Refusal}
-use Rattle.proto_wire.specs.declared.rules.Key.{Key}
-use Rattle.rbac_match.specs.Message.{varint_key}
+use Rattle.rbac_match.specs.Message.{range_keys}
 use Rattle.rbac_match.specs.Decimal.{int64_in}
 use Rattle.rbac_match.specs.declared.int64_range.Int64Range.{Int64Range}
 
@@ -19,10 +18,6 @@ pub record RangeValue : Type 0 where
 -- what a range in memory says
 abbrev pub range_view : Int64Range → RangeValue
 range_view r = record { first = r.start; past = r.end }
-
--- the fields of an Int64Range: start 1 and end 2
-abbrev pub range_keys : List Key
-range_keys = varint_key 1 ∷ varint_key 2 ∷ []
 
 -- an int64 field's value: the last varint, or 0, as two's complement of 64 bits
 abbrev pub int64_at : ℕ → List Wire → ℤ

@@ -1,4 +1,5 @@
--- The fields of Permission, Principal and their Sets by number: Envoy v3 `config/rbac/v3/rbac.proto`.
+-- The fields of Permission, Principal, their Sets and of ranges of integers by number: Envoy v3
+-- `config/rbac/v3/rbac.proto`, `type/v3/range.proto`.
 use Rattle.std.specs.Prelude.{ℕ, List, [], ◌∷◌, Option, Some, None, unwrap_or}
 use Rattle.proto_wire.specs.Fields.{Wire}
 use Rattle.proto_wire.specs.Rules.{varints, last_of}
@@ -23,6 +24,10 @@ keys_of Principal = text_key 1 ∷ text_key 2 ∷ varint_key 3 ∷ text_key 4 �
 -- the fields of a Set: its rules
 abbrev pub set_keys : List Key
 set_keys = text_key 1 ∷ []
+
+-- the fields of an Int32Range and of an Int64Range: start 1 and end 2
+abbrev pub range_keys : List Key
+range_keys = varint_key 1 ∷ varint_key 2 ∷ []
 
 -- the number of the last of the fields
 abbrev pub last_number : List Wire → Option ℕ

@@ -1,6 +1,6 @@
 -- Ports and ranges of them: Envoy v3 `config/rbac/v3/rbac.proto` (`destination_port`, `destination_port_range`),
 -- `type/v3/range.proto` (Int32Range: its start is in it, and its end is not).
-use Rattle.std.specs.Prelude.{◌≡◌, ℕ, pos, ◌<◌, ◌≤◌, ◌<ℤ◌, ◌≤ℤ◌, ◌⊎◌, ◌==◌, ◌&&◌, nat_lt, nat_le, Bool, false, List, [], ◌∷◌}
+use Rattle.std.specs.Prelude.{◌≡◌, ℕ, pos, ◌<◌, ◌≤◌, ◌<ℤ◌, ◌≤ℤ◌, ◌⊎◌, ◌==◌, ◌&&◌, nat_lt, nat_le, Bool, false, List}
 use Rattle.std.specs.Option.{option_map_or}
 use Rattle.attributes.specs.Request.{RequestValue}
 use Rattle.proto_wire.specs.Fields.{Wire}
@@ -8,9 +8,8 @@ use Rattle.proto_wire.specs.Rules.{Merges}
 use Rattle.proto_wire.specs.Messages.{IsMessage, MessageFault}
 use Rattle.proto_wire.specs.declared.refusal.Refusal.{Refusal}
 use Rattle.proto_wire.specs.declared.refusal.Refusal.TheVariants.{OutOfRange}
-use Rattle.proto_wire.specs.declared.rules.Key.{Key}
 use Rattle.rbac_match.specs.Integers.{uint32_in, int32_in}
-use Rattle.rbac_match.specs.Message.{varint_key}
+use Rattle.rbac_match.specs.Message.{range_keys}
 
 -- ports from `start` up to the one before `end`
 pub record PortSpan : Type 0 where
@@ -24,10 +23,6 @@ IsPort run port = (port ≡ uint32_in 6 run) × (port ≤ 65535)
 -- the run says a number that no port has
 abbrev pub PortFault : List Wire → Refusal → Type 0
 PortFault run e = (65535 < uint32_in 6 run) × (e ≡ OutOfRange)
-
--- the fields of an Int32Range: start 1 and end 2
-abbrev pub range_keys : List Key
-range_keys = varint_key 1 ∷ varint_key 2 ∷ []
 
 -- the fields' bounds are those of the ports: there is some port, and each is from 0 to 65,535
 abbrev pub AreBounds : List Wire → PortSpan → Type 0

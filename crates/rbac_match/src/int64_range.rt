@@ -4,10 +4,11 @@ ghost use Rattle.std.specs.Prelude.{◌≡◌, ◌⊎◌, IfOk, IfErr, map};
 ghost use Rattle.proto_wire.specs.Fields.{view};
 ghost use Rattle.proto_wire.specs.Messages.{texts};
 ghost use Rattle.proto_wire.specs.declared.refusal.Refusal.TheVariants.{Memory};
-ghost use Rattle.rbac_match.specs.Int64Range.{RangeFault, IsRange, int64_at, is_within, range_holds, range_keys, range_view};
+ghost use Rattle.rbac_match.specs.Int64Range.{RangeFault, IsRange, int64_at, is_within, range_holds, range_view};
 
 use crate::decimal::parse_int64;
-use proto_wire::{Field, Key, Refusal, keys, last_varint, read_message};
+use crate::keys::{END, RANGE, START};
+use proto_wire::{Field, Refusal, last_varint, read_message};
 use std::alloc::Global;
 
 /// The numbers from `start` on that are below `end`; none where `start` is not below `end`.
@@ -36,18 +37,12 @@ impl Int64Range {
     }
 }
 
-const START: u32 = 1;
-
-const END: u32 = 2;
-
-static KEYS: [Key; 2] = keys![Varint START, Varint END];
-
 /// Reads an Int64Range, whose message stands in the parts (`envoy.type.v3.Int64Range`).
 pub fn read_int64_range(alloc: Global, parts: &[&[u8]]) -> Result<Int64Range, Refusal>
     ensures found { IfOk result (λ range. IsRange (texts parts.now) (range_view range)) }
     ensures fault { IfErr result (λ e. (e ≡ Memory) ⊎ RangeFault (texts parts.now) e) }
 {
-    let fields = read_message(alloc, parts, &KEYS)?;
+    let fields = read_message(alloc, parts, &RANGE)?;
     Ok(Int64Range {
         start: int64_of(&fields, START),
         end: int64_of(&fields, END),

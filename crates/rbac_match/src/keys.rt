@@ -16,6 +16,15 @@ static PRINCIPAL: [Key; 12] = keys![
 
 static SET: [Key; 1] = keys![Text 1];
 
+/// The number of the first integer of a range, which is in it.
+pub const START: u32 = 1;
+
+/// The number of the integer after its last.
+pub const END: u32 = 2;
+
+/// The fields of a range of integers.
+pub static RANGE: [Key; 2] = keys![Varint START, Varint END];
+
 /// The members of the oneof of a permission or of a principal.
 pub fn keys_of(side: Side) -> &'static [Key]
     ensures { result.now ≡ keys_of side }

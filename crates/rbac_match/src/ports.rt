@@ -7,22 +7,17 @@ ghost use Rattle.proto_wire.specs.declared.refusal.Refusal.TheVariants.{Memory};
 ghost use Rattle.rbac_match.specs.Ports.{AreBounds, AreNoBounds, IsPort, IsPortRange, PortFault, PortRangeFault, port_holds, port_range_holds};
 
 use crate::integers::{int32_of, uint32_of};
+use crate::keys::{END, RANGE, START};
 use attributes::Request;
-use proto_wire::{Field, Key, Refusal, keys, read_message};
+use proto_wire::{Field, Refusal, read_message};
 use std::alloc::Global;
 use std::marker::Model;
 
 /// The number of a permission's `destination_port`.
 const DESTINATION_PORT: u32 = 6;
 
-const START: u32 = 1;
-
-const END: u32 = 2;
-
 /// One more than the greatest port.
 const PORTS: i32 = 65_536;
-
-static RANGE: [Key; 2] = keys![Varint START, Varint END];
 
 /// Some ports in a row: `start` is the first, and `end` the one after the last.
 #[derive(Clone, Copy, Debug)]
