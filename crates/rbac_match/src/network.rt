@@ -71,10 +71,7 @@ fn address_of(fields: &[Field<'_>]) -> Result<Ip, Refusal>
     let Ok(text) = std::str::from_utf8(bytes) else {
         return Err(Refusal::BadText);
     };
-    match parse_ip(text) {
-        Some(ip) => Ok(ip),
-        None => Err(Refusal::OutOfRange),
-    }
+    parse_ip(text).ok_or(Refusal::OutOfRange)
 }
 
 /// Reads a uint32 in a message of its own (`google.protobuf.UInt32Value`), which stands in the parts.
