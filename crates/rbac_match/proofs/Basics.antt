@@ -1,7 +1,6 @@
 -- Small facts on lists and numbers: empty or not, in a list or not, equal or not.
-use Rattle.std.proofs.Common.{◌≡◌, ◌≢◌, ℕ, ◌⊎◌, inl, inr, true, false, List, [], ◌∷◌, Contains, refl, arith}
-use Rattle.std.proofs.Math.Dec.{eqb}
-use Rattle.std.proofs.lemmas.Bool.{eqb-true, eqb-false}
+use Rattle.std.proofs.Common.{◌≡◌, ◌≢◌, ◌⊎◌, inl, inr, List, [], ◌∷◌, Contains, refl, arith}
+pub use Rattle.std.proofs.lemmas.Bool.{cases_eq as same_or_not}
 use Rattle.std.proofs.lemmas.List.Elements.{Contains-append_left, Contains-append_right, Contains-append_cases, Contains-push_cases, Contains-push}
 
 -- a list is empty or has a first element
@@ -23,7 +22,3 @@ contains_cases x y xs h = elim (Contains-append_cases (x ∷ []) xs y h) [
   | inl first ↦ elim (Contains-push_cases [] x y first) [ inl none ↦ absurd (omega arith) | inr same ↦ inl same ]
   | inr later ↦ inr later
 ]
-
--- two numbers are equal or not
-pub same_or_not : (m n : ℕ) → (m ≡ n) ⊎ (m ≢ n)
-same_or_not m n = elim (eqb m n) as (λ b. eqb m n ≡ b → (m ≡ n) ⊎ (m ≢ n)) [ true ↦ λ e. inl (eqb-true m n e) | false ↦ λ e. inr (eqb-false m n e) ] refl

@@ -1,5 +1,7 @@
 -- The last field's number, and what a fault of a rule's own fields is a fault of.
-use Rattle.std.proofs.Common.{◌≡◌, ℕ, ◌-◌, suc, List, [], ◌∷◌, map, length, Some, None, slice_get, refl, ap, arith}
+use Rattle.std.proofs.Common.{◌≡◌, ℕ, ◌-◌, suc, false, List, [], ◌∷◌, map, length, Some, None, slice_get, refl, sym, ap, arith, ◌∙◌}
+use Rattle.std.proofs.Math.Dec.{eqb}
+use Rattle.std.proofs.lemmas.Bool.{eqb-false}
 use Rattle.proto_wire.specs.Fields.{Wire, view}
 use Rattle.proto_wire.specs.Rules.{payloads, member_run}
 use Rattle.proto_wire.specs.Messages.{IsMessage}
@@ -18,6 +20,18 @@ last_number-view (g ∷ h ∷ fs) f at =
     let longer : suc (suc (length fs)) - 1 ≡ suc (length fs) = omega arith in
     let shorter : suc (length fs) - 1 ≡ length fs = omega arith in
     last_number-view (h ∷ fs) f (rw shorter (rw longer at at))
+
+-- a run has one last number
+pub numbers_agree : (run : List Wire) (i j : ℕ) → last_number run ≡ Some i → last_number run ≡ Some j → i ≡ j
+numbers_agree run i j a b = let e : Some i ≡ Some j = sym a ∙ b in cc
+
+-- and not two
+pub numbers_differ : (run : List Wire) (i j : ℕ) → last_number run ≡ Some i → last_number run ≡ Some j → eqb i j ≡ false → ⊥
+numbers_differ run i j a b apart = eqb-false i j apart (numbers_agree run i j a b)
+
+-- and where there is one, not none
+pub number_there : (run : List Wire) (i : ℕ) → last_number run ≡ None → last_number run ≡ Some i → ⊥
+number_there run i none at = let e : None ≡ Some i = sym none ∙ at in cc
 
 -- what is wrong with a set's own fields is wrong, whatever is wrong with its rules
 pub set_weaker : (Below : List (List ℕ) → Refusal → Type 0) (parts : List (List ℕ)) (e : Refusal) → SetFault Never parts e → SetFault Below parts e

@@ -1,9 +1,7 @@
 -- A HeaderMatcher's payloads are a test of a header or have a fault, never both, and they mean one
 -- test at most.
-use Rattle.std.proofs.Common.{◌≡◌, ◌≢◌, ◌==◌, ℕ, ◌⊎◌, inl, inr, Bool, true, false, if◌then◌else◌, List, [], Some, None, ℤ, refl, sym, ap, subst, ◌∙◌}
-use Rattle.std.proofs.Math.Dec.{eqb}
+use Rattle.std.proofs.Common.{◌≡◌, ◌≢◌, ◌==◌, ℕ, ◌⊎◌, inl, inr, Bool, true, if◌then◌else◌, List, [], Some, None, ℤ, refl, sym, ap, subst, ◌∙◌}
 use Rattle.std.proofs.Math.Path.{ap₂}
-use Rattle.std.proofs.lemmas.Bool.{eqb-false}
 use Rattle.std.specs.Str.{IsUtf8, str_to_ascii_lowercase}
 use Rattle.proto_wire.specs.Fields.{Wire}
 use Rattle.proto_wire.specs.Rules.{payloads, member_run}
@@ -17,7 +15,8 @@ use Rattle.rbac_match.specs.Int64Range.{RangeValue, int64_at, IsRange, RangeFaul
 use Rattle.rbac_match.specs.Header.{Specifier, present, passes, within, HeaderValue, text_at, header_keys, specifier_keys, pattern_number, IsMemberOf, SaysPattern, plain_test, SaysSpecifier, says_nothing, says_present, says_range, says_matcher, says_pattern, IsHeader, SayingFault, no_text, not_filled, no_pattern_member, SpecifierFault, in_range, in_matcher, in_member, HeaderFault, header_fields, name_unreadable, name_missing, in_specifier}
 use Rattle.rbac_match.proofs.Basics.{nil_or_not, same_or_not}
 use Rattle.rbac_match.proofs.TextSettled.{utf8_or_not, text_settled, text_apart, text_one}
-use Rattle.rbac_match.proofs.Headers.{pattern-number, number-one, member-reads}
+use Rattle.rbac_match.proofs.Fields.{numbers_agree, numbers_differ, number_there}
+use Rattle.rbac_match.proofs.Headers.{pattern-number, member-reads}
 
 -- ---- ranges
 
@@ -153,59 +152,50 @@ specifier_settled run = elim (last_number run) as (λ o. last_number run ≡ o
       | Some n ↦ λ at. number_settled run n at
     ] refl
 
--- a run has one last number
-clash : (run : List Wire) (m n : ℕ) → last_number run ≡ Some m → last_number run ≡ Some n
-    → eqb m n ≡ false → ⊥
-clash run m n a b apart = eqb-false m n apart (number-one run m n a b)
-
--- and where there is one, not none
-there : (run : List Wire) (n : ℕ) → last_number run ≡ None → last_number run ≡ Some n → ⊥
-there run n none at = let e : None ≡ Some n = sym none ∙ at in cc
-
 -- a member that says a pattern is neither range_match nor present_match nor string_match
 other_6 : (run : List Wire) (n : ℕ) (p : TextPattern) → last_number run ≡ Some n
     → last_number run ≡ Some 6 → SaysPattern n (text_at n run) p → ⊥
-other_6 run n p at six says = (pattern-number n p says.0.0).0 (number-one run n 6 at six)
+other_6 run n p at six says = (pattern-number n p says.0.0).0 (numbers_agree run n 6 at six)
 
 other_7 : (run : List Wire) (n : ℕ) (p : TextPattern) → last_number run ≡ Some n
     → last_number run ≡ Some 7 → SaysPattern n (text_at n run) p → ⊥
-other_7 run n p at seven says = (pattern-number n p says.0.0).1 (number-one run n 7 at seven)
+other_7 run n p at seven says = (pattern-number n p says.0.0).1 (numbers_agree run n 7 at seven)
 
 other_13 : (run : List Wire) (n : ℕ) (p : TextPattern) → last_number run ≡ Some n
     → last_number run ≡ Some 13 → SaysPattern n (text_at n run) p → ⊥
 other_13 run n p at thirteen says =
-    (pattern-number n p says.0.0).2 (number-one run n 13 at thirteen)
+    (pattern-number n p says.0.0).2 (numbers_agree run n 13 at thirteen)
 
 -- a run that says what is asked has no fault
 specifier_apart : (run : List Wire) (s : Specifier) (e : Refusal) → SaysSpecifier run s
     → SpecifierFault run e → ⊥
-specifier_apart run s e (says_nothing none is) (in_range atf bad) = there run 6 none atf
-specifier_apart run s e (says_nothing none is) (in_matcher atf bad) = there run 13 none atf
+specifier_apart run s e (says_nothing none is) (in_range atf bad) = number_there run 6 none atf
+specifier_apart run s e (says_nothing none is) (in_matcher atf bad) = number_there run 13 none atf
 specifier_apart run s e (says_nothing none is) (in_member m atf not_6 not_7 not_13 bad) =
-    there run m none atf
-specifier_apart run s e (says_present at is) (in_range atf bad) = clash run 7 6 at atf refl
-specifier_apart run s e (says_present at is) (in_matcher atf bad) = clash run 7 13 at atf refl
+    number_there run m none atf
+specifier_apart run s e (says_present at is) (in_range atf bad) = numbers_differ run 7 6 at atf refl
+specifier_apart run s e (says_present at is) (in_matcher atf bad) = numbers_differ run 7 13 at atf refl
 specifier_apart run s e (says_present at is) (in_member m atf not_6 not_7 not_13 bad) =
-    not_7 (number-one run m 7 atf at)
+    not_7 (numbers_agree run m 7 atf at)
 specifier_apart run s e (says_range range at reads is) (in_range atf bad) =
     range_apart (payloads 6 run) range e reads bad
 specifier_apart run s e (says_range range at reads is) (in_matcher atf bad) =
-    clash run 6 13 at atf refl
+    numbers_differ run 6 13 at atf refl
 specifier_apart run s e (says_range range at reads is) (in_member m atf not_6 not_7 not_13 bad) =
-    not_6 (number-one run m 6 atf at)
+    not_6 (numbers_agree run m 6 atf at)
 specifier_apart run s e (says_matcher test at reads is) (in_range atf bad) =
-    clash run 13 6 at atf refl
+    numbers_differ run 13 6 at atf refl
 specifier_apart run s e (says_matcher test at reads is) (in_matcher atf bad) =
     text_apart (payloads 13 run) test e reads bad
 specifier_apart run s e (says_matcher test at reads is) (in_member m atf not_6 not_7 not_13 bad) =
-    not_13 (number-one run m 13 atf at)
+    not_13 (numbers_agree run m 13 atf at)
 specifier_apart run s e (says_pattern n p at says is) (in_range atf bad) =
     other_6 run n p at atf says
 specifier_apart run s e (says_pattern n p at says is) (in_matcher atf bad) =
     other_13 run n p at atf says
 specifier_apart run s e (says_pattern n p at says is) (in_member m atf not_6 not_7 not_13 bad) =
     let P : ℕ → Type 0 = λ k. SayingFault k (text_at k run) e in
-    saying_apart n (text_at n run) p e says (subst P (number-one run m n atf at) bad)
+    saying_apart n (text_at n run) p e says (subst P (numbers_agree run m n atf at) bad)
 
 -- patterns that one member says are one
 says_one : (run : List Wire) (n m : ℕ) (p q : TextPattern) → last_number run ≡ Some n
@@ -213,45 +203,45 @@ says_one : (run : List Wire) (n m : ℕ) (p q : TextPattern) → last_number run
     → p ≡ q
 says_one run n m p q a b says also =
     let P : ℕ → Type 0 = λ k. SaysPattern k (text_at k run) q in
-    pattern_one n (text_at n run) p q says.0 (subst P (number-one run m n b a) also).0
+    pattern_one n (text_at n run) p q says.0 (subst P (numbers_agree run m n b a) also).0
 
 -- a run without a member asks that the header is there
 asks_there : (run : List Wire) (t : Specifier) → last_number run ≡ None → SaysSpecifier run t
     → t ≡ present true
 asks_there run t none (says_nothing also is) = is
-asks_there run t none (says_present at is) = absurd (there run 7 none at)
-asks_there run t none (says_range range at reads is) = absurd (there run 6 none at)
-asks_there run t none (says_matcher test at reads is) = absurd (there run 13 none at)
-asks_there run t none (says_pattern m q at says is) = absurd (there run m none at)
+asks_there run t none (says_present at is) = absurd (number_there run 7 none at)
+asks_there run t none (says_range range at reads is) = absurd (number_there run 6 none at)
+asks_there run t none (says_matcher test at reads is) = absurd (number_there run 13 none at)
+asks_there run t none (says_pattern m q at says is) = absurd (number_there run m none at)
 
 -- a run of present_match asks by its flag
 asks_present : (run : List Wire) (t : Specifier) → last_number run ≡ Some 7 → SaysSpecifier run t
     → t ≡ present (flag_of 7 run)
-asks_present run t here (says_nothing none is) = absurd (there run 7 none here)
+asks_present run t here (says_nothing none is) = absurd (number_there run 7 none here)
 asks_present run t here (says_present at is) = is
-asks_present run t here (says_range range at reads is) = absurd (clash run 7 6 here at refl)
-asks_present run t here (says_matcher test at reads is) = absurd (clash run 7 13 here at refl)
+asks_present run t here (says_range range at reads is) = absurd (numbers_differ run 7 6 here at refl)
+asks_present run t here (says_matcher test at reads is) = absurd (numbers_differ run 7 13 here at refl)
 asks_present run t here (says_pattern m q at says is) = absurd (other_7 run m q at here says)
 
 -- a run of range_match asks by its range
 asks_range : (run : List Wire) (t : Specifier) (range : RangeValue) → last_number run ≡ Some 6
     → IsRange (payloads 6 run) range → SaysSpecifier run t → t ≡ within range
-asks_range run t range here means (says_nothing none is) = absurd (there run 6 none here)
-asks_range run t range here means (says_present at is) = absurd (clash run 6 7 here at refl)
+asks_range run t range here means (says_nothing none is) = absurd (number_there run 6 none here)
+asks_range run t range here means (says_present at is) = absurd (numbers_differ run 6 7 here at refl)
 asks_range run t range here means (says_range other at reads is) =
     is ∙ ap within (range_one (payloads 6 run) other range reads means)
 asks_range run t range here means (says_matcher test at reads is) =
-    absurd (clash run 6 13 here at refl)
+    absurd (numbers_differ run 6 13 here at refl)
 asks_range run t range here means (says_pattern m q at says is) =
     absurd (other_6 run m q at here says)
 
 -- a run of string_match asks by its test
 asks_matcher : (run : List Wire) (t : Specifier) (test : TextTest) → last_number run ≡ Some 13
     → IsTextMatcher (payloads 13 run) test → SaysSpecifier run t → t ≡ passes test
-asks_matcher run t test here means (says_nothing none is) = absurd (there run 13 none here)
-asks_matcher run t test here means (says_present at is) = absurd (clash run 13 7 here at refl)
+asks_matcher run t test here means (says_nothing none is) = absurd (number_there run 13 none here)
+asks_matcher run t test here means (says_present at is) = absurd (numbers_differ run 13 7 here at refl)
 asks_matcher run t test here means (says_range range at reads is) =
-    absurd (clash run 13 6 here at refl)
+    absurd (numbers_differ run 13 6 here at refl)
 asks_matcher run t test here means (says_matcher other at reads is) =
     is ∙ ap passes (text_one (payloads 13 run) other test reads means)
 asks_matcher run t test here means (says_pattern m q at says is) =
@@ -261,7 +251,7 @@ asks_matcher run t test here means (says_pattern m q at says is) =
 asks_pattern : (run : List Wire) (t : Specifier) (n : ℕ) (p : TextPattern)
     → last_number run ≡ Some n → SaysPattern n (text_at n run) p → SaysSpecifier run t
     → t ≡ passes (plain_test p)
-asks_pattern run t n p here means (says_nothing none is) = absurd (there run n none here)
+asks_pattern run t n p here means (says_nothing none is) = absurd (number_there run n none here)
 asks_pattern run t n p here means (says_present at is) = absurd (other_7 run n p here at means)
 asks_pattern run t n p here means (says_range range at reads is) =
     absurd (other_6 run n p here at means)

@@ -10,7 +10,7 @@ use Rattle.proto_wire.specs.declared.refusal.Refusal.TheVariants.{Memory, BadTex
 use Rattle.rbac_match.specs.Message.{last_number}
 use Rattle.rbac_match.specs.Text.{TextPattern, exact, prefix, suffix, contains, IsFilled}
 use Rattle.rbac_match.specs.Header.{Specifier, text_at, header_keys, specifier_keys, pattern_number, IsMemberOf, SaysSpecifier, says_nothing, says_present, says_range, says_matcher, says_pattern, MemberReads, HasSpecifier, SayingFault, no_text, not_filled, HeaderFault, name_unreadable, name_missing}
-use Rattle.rbac_match.proofs.Fields.{last_number-view}
+use Rattle.rbac_match.proofs.Fields.{last_number-view, numbers_agree}
 
 -- the last field's number, where that is known
 pub last_number-at : (run : List Field) (f : Field) (n : ℕ)
@@ -37,23 +37,18 @@ pattern-number n (prefix start) e = (λ k. omega arith, λ k. omega arith, λ k.
 pattern-number n (suffix end) e = (λ k. omega arith, λ k. omega arith, λ k. omega arith)
 pattern-number n (contains part) e = (λ k. omega arith, λ k. omega arith, λ k. omega arith)
 
--- a run has one last number
-pub number-one : (run : List Wire) (m n : ℕ) → last_number run ≡ Some m → last_number run ≡ Some n
-    → m ≡ n
-number-one run m n a b = let e : Some m ≡ Some n = sym a ∙ b in cc
-
 -- of a run that says what is asked, the member's own text is UTF-8
 pub member-reads : (run : List Wire) (s : Specifier) → SaysSpecifier run s → MemberReads run
 member-reads run s (says_nothing none is) n p at of =
     let e : None ≡ Some n = sym none ∙ at in absurd cc
 member-reads run s (says_present seven is) n p at of =
-    absurd ((pattern-number n p of.0).1 (number-one run n 7 at seven))
+    absurd ((pattern-number n p of.0).1 (numbers_agree run n 7 at seven))
 member-reads run s (says_range range six is means) n p at of =
-    absurd ((pattern-number n p of.0).0 (number-one run n 6 at six))
+    absurd ((pattern-number n p of.0).0 (numbers_agree run n 6 at six))
 member-reads run s (says_matcher test thirteen is means) n p at of =
-    absurd ((pattern-number n p of.0).2 (number-one run n 13 at thirteen))
+    absurd ((pattern-number n p of.0).2 (numbers_agree run n 13 at thirteen))
 member-reads run s (says_pattern m q at_m says means) n p at of =
-    let P : ℕ → Type 0 = λ k. IsUtf8 (text_at k run) in subst P (number-one run m n at_m at) says.1
+    let P : ℕ → Type 0 = λ k. IsUtf8 (text_at k run) in subst P (numbers_agree run m n at_m at) says.1
 
 -- the parts' last member has this run
 pub has_specifier : (parts : List (List ℕ)) (fs run : List Wire) → IsMessage header_keys parts fs

@@ -1,9 +1,8 @@
 -- A rule's payloads are a rule or have a fault, never both, and they say one formula at most.
-use Rattle.std.proofs.Common.{◌≡◌, ◌≢◌, ℕ, zero, suc, ◌<◌, ◌⊎◌, inl, inr, false, List, [], ◌∷◌, Contains, Some, None, refl, sym, ap, subst, arith, ◌∙◌}
-use Rattle.std.proofs.Math.Dec.{eqb}
-use Rattle.std.proofs.lemmas.Bool.{eqb-false}
+use Rattle.std.proofs.Common.{◌≡◌, ◌≢◌, ℕ, zero, suc, ◌<◌, ◌⊎◌, inl, inr, List, [], ◌∷◌, Contains, Some, None, refl, sym, ap, subst, arith, ◌∙◌}
 use Rattle.proto_wire.specs.Fields.{Wire}
 use Rattle.rbac_match.proofs.Basics.{nil_or_not, contains_first, contains_later, contains_cases, same_or_not}
+use Rattle.rbac_match.proofs.Fields.{numbers_agree, numbers_differ, number_there}
 use Rattle.proto_wire.specs.Rules.{payloads, member_run, Merges}
 use Rattle.proto_wire.specs.Messages.{IsMessage}
 use Rattle.proto_wire.proofs.Unique.{merges-one}
@@ -100,18 +99,6 @@ pub rules_all_settled : (side : Side) (depth : ℕ) (children : List (List ℕ))
     → ((gs : Formulas) × AreRules (IsRule side depth) children gs) ⊎ ((child : List ℕ) × Contains children child × (e : Refusal) × RuleFault side depth (child ∷ []) e)
 rules_all_settled side depth = rules_settled (IsRule side depth) (RuleFault side depth) (rule_settled side depth)
 
--- a run has one last number
-numbers_agree : (run : List Wire) (i j : ℕ) → last_number run ≡ Some i → last_number run ≡ Some j → i ≡ j
-numbers_agree run i j a b = let e : Some i ≡ Some j = sym a ∙ b in cc
-
--- and not two
-numbers_differ : (run : List Wire) (i j : ℕ) → last_number run ≡ Some i → last_number run ≡ Some j → eqb i j ≡ false → ⊥
-numbers_differ run i j a b apart = eqb-false i j apart (numbers_agree run i j a b)
-
--- and where there is one, not none
-number_there : (run : List Wire) (i : ℕ) → last_number run ≡ Some i → last_number run ≡ None → ⊥
-number_there run i a b = let e : Some i ≡ None = sym a ∙ b in cc
-
 -- a number is no leaf's and a leaf's at once
 leaf_clash : (side : Side) (run : List Wire) (i n : ℕ) (leaf : Leaf) → last_number run ≡ Some i → leaf_at side i ≡ None → last_number run ≡ Some n → leaf_at side n ≡ Some leaf → ⊥
 leaf_clash side run i n leaf at none at' is =
@@ -192,11 +179,11 @@ module _ (Below : List (List ℕ) → Formula → Type 0) (Fails : List (List �
 
     -- what the run says has a member
     some_number : (side : Side) (run : List Wire) (f : Formula) → Says side Below run f → last_number run ≡ None → ⊥
-    some_number side run anything says none = number_there run 3 says.0 none
-    some_number side run (all_of gs) says none = number_there run 1 says.0 none
-    some_number side run (any_of gs) says none = number_there run 2 says.0 none
-    some_number side run (none_of g) says none = number_there run 8 says.0 none
-    some_number side run (matches m) (n, leaf, at, is, read) none = number_there run n at none
+    some_number side run anything says none = number_there run 3 none says.0
+    some_number side run (all_of gs) says none = number_there run 1 none says.0
+    some_number side run (any_of gs) says none = number_there run 2 none says.0
+    some_number side run (none_of g) says none = number_there run 8 none says.0
+    some_number side run (matches m) (n, leaf, at, is, read) none = number_there run n none at
 
     module _ (side : Side) (parts : List (List ℕ)) (fs : List Wire) (merged : Merges parts fs) where
       -- the parts have one run
