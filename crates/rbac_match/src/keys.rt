@@ -16,10 +16,10 @@ static PRINCIPAL: [Key; 12] = keys![
 
 static SET: [Key; 1] = keys![Text 1];
 
-/// The number of the first integer of a range, which is in it.
+/// The field of a range's first integer, by number.
 pub const START: u32 = 1;
 
-/// The number of the integer after its last.
+/// The field of the integer after its last.
 pub const END: u32 = 2;
 
 /// The fields of a range of integers.
