@@ -3,6 +3,7 @@
 use Rattle.std.proofs.Common.{◌≡◌, ◌≢◌, ◌==◌, ℕ, ◌⊎◌, inl, inr, Bool, true, if◌then◌else◌, List, [], Some, None, ℤ, refl, sym, ap, subst, ◌∙◌}
 use Rattle.std.proofs.Math.Path.{ap₂}
 use Rattle.std.specs.Str.{IsUtf8, str_to_ascii_lowercase}
+use Rattle.proto_wire.specs.Scalars.{bool_at, int64_at}
 use Rattle.proto_wire.specs.Fields.{Wire}
 use Rattle.proto_wire.specs.Rules.{payloads, member_run}
 use Rattle.proto_wire.proofs.Unique.{merges-one}
@@ -10,8 +11,8 @@ use Rattle.proto_wire.proofs.Messages.{message_settled, message_apart}
 use Rattle.proto_wire.specs.declared.refusal.Refusal.{Refusal}
 use Rattle.proto_wire.specs.declared.refusal.Refusal.TheVariants.{BadText, Missing, OutOfRange, Unsupported}
 use Rattle.rbac_match.specs.Message.{last_number, range_keys}
-use Rattle.rbac_match.specs.Text.{TextPattern, exact, prefix, suffix, contains, TextTest, IsFilled, flag_of, IsTextMatcher}
-use Rattle.rbac_match.specs.Int64Range.{RangeValue, int64_at, IsRange, RangeFault}
+use Rattle.rbac_match.specs.Text.{TextPattern, exact, prefix, suffix, contains, TextTest, IsFilled, IsTextMatcher}
+use Rattle.rbac_match.specs.Int64Range.{RangeValue, IsRange, RangeFault}
 use Rattle.rbac_match.specs.Header.{Specifier, present, passes, within, HeaderValue, text_at, header_keys, specifier_keys, pattern_number, IsMemberOf, SaysPattern, plain_test, SaysSpecifier, says_nothing, says_present, says_range, says_matcher, says_pattern, IsHeader, SayingFault, no_text, not_filled, no_pattern_member, SpecifierFault, in_range, in_matcher, in_member, HeaderFault, header_fields, name_unreadable, name_missing, in_specifier}
 use Rattle.rbac_match.proofs.Basics.{nil_or_not, same_or_not}
 use Rattle.rbac_match.proofs.TextSettled.{utf8_or_not, text_settled, text_apart, text_one}
@@ -124,7 +125,7 @@ saying_apart n bytes p e (of, utf8, filled) (no_pattern_member a b c d err) =
 number_settled : (run : List Wire) (n : ℕ) → last_number run ≡ Some n
     → ((s : Specifier) × SaysSpecifier run s) ⊎ ((e : Refusal) × SpecifierFault run e)
 number_settled run n at = elim (same_or_not n 7) [
-  | inl is ↦ inl (present (flag_of 7 run), says_present (at ∙ ap Some is) refl)
+  | inl is ↦ inl (present (bool_at 7 run), says_present (at ∙ ap Some is) refl)
   | inr not_7 ↦ elim (same_or_not n 6) [
     | inl is ↦ elim (range_settled (payloads 6 run)) [
       | inl (range, reads) ↦ inl (within range, says_range range (at ∙ ap Some is) reads refl)
@@ -216,7 +217,7 @@ asks_there run t none (says_pattern m q at says is) = absurd (number_there run m
 
 -- a run of present_match asks by its flag
 asks_present : (run : List Wire) (t : Specifier) → last_number run ≡ Some 7 → SaysSpecifier run t
-    → t ≡ present (flag_of 7 run)
+    → t ≡ present (bool_at 7 run)
 asks_present run t here (says_nothing none is) = absurd (number_there run 7 none here)
 asks_present run t here (says_present at is) = is
 asks_present run t here (says_range range at reads is) = absurd (numbers_differ run 7 6 here at refl)
@@ -304,7 +305,7 @@ header_settled parts = elim (message_settled header_keys parts) [
             inr (Missing, name_missing fs message none reads refl)
         | inr some ↦
             inl (
-              header (str_to_ascii_lowercase (text_at 1 fs)) s (flag_of 8 fs) (flag_of 14 fs),
+              header (str_to_ascii_lowercase (text_at 1 fs)) s (bool_at 8 fs) (bool_at 14 fs),
               record {
                 fields = fs;
                 message = message;
@@ -349,5 +350,5 @@ header_one parts h k a b =
     (a.lowered ∙ ap (λ fs. str_to_ascii_lowercase (text_at 1 fs)) same ∙ sym b.lowered)
     (specifier_one (member_run specifier_keys b.fields) h.specifier k.specifier
     (subst P same a.asked) b.asked)
-    (a.inverted ∙ ap (flag_of 8) same ∙ sym b.inverted)
-    (a.emptied ∙ ap (flag_of 14) same ∙ sym b.emptied)
+    (a.inverted ∙ ap (bool_at 8) same ∙ sym b.inverted)
+    (a.emptied ∙ ap (bool_at 14) same ∙ sym b.emptied)

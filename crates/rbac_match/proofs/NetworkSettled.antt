@@ -3,6 +3,7 @@ use Rattle.std.proofs.Common.{◌≡◌, ℕ, ◌⊎◌, inl, inr, List, IsUtf8,
 use Rattle.std.proofs.lemmas.Bool.{cases_lt}
 use Rattle.attributes.specs.Address.{IsIpText, Range, width_of}
 use Rattle.attributes.specs.declared.address.Ip.{Ip}
+use Rattle.proto_wire.specs.Scalars.{uint32_at}
 use Rattle.proto_wire.specs.Fields.{Wire}
 use Rattle.proto_wire.specs.Rules.{payloads, Merges}
 use Rattle.proto_wire.specs.Messages.{IsMessage, MessageFault}
@@ -10,7 +11,6 @@ use Rattle.proto_wire.proofs.Unique.{merges-one}
 use Rattle.proto_wire.proofs.Messages.{message_settled, message_apart}
 use Rattle.proto_wire.specs.declared.refusal.Refusal.{Refusal}
 use Rattle.proto_wire.specs.declared.refusal.Refusal.TheVariants.{BadText, OutOfRange}
-use Rattle.rbac_match.specs.Integers.{uint32_in}
 use Rattle.rbac_match.specs.Network.{cidr_keys, length_keys, address_text, IsCidr, CidrFault, cidr_fields, address_not_utf8, no_address, in_length, too_long}
 use Rattle.rbac_match.proofs.TextSettled.{utf8_or_not}
 use Rattle.rbac_match.proofs.IpSettled.{ip_settled, ip_one}
@@ -20,9 +20,9 @@ module _ (parts : List (List ℕ)) (fs : List Wire) (message : IsMessage cidr_ke
   length_settles : IsUtf8 (address_text fs) → (ip : Ip) → IsIpText (address_text fs) ip → ((range : Range) × IsCidr parts range) ⊎ ((e : Refusal) × CidrFault parts e)
   length_settles utf8 ip spelled = elim (message_settled length_keys (payloads 2 fs)) [
     | inr bad ↦ inr (bad.0, in_length fs message.0 bad.1)
-    | inl (ls, length) ↦ elim (cases_lt (width_of ip) (uint32_in 1 ls)) [
+    | inl (ls, length) ↦ elim (cases_lt (width_of ip) (uint32_at 1 ls)) [
       | inl long ↦ inr (OutOfRange, too_long fs ls ip message.0 spelled length.0 long refl)
-      | inr within ↦ inl (record { address = ip; size = uint32_in 1 ls }, (fs, message, utf8, spelled, (ls, length, refl), within))
+      | inr within ↦ inl (record { address = ip; size = uint32_at 1 ls }, (fs, message, utf8, spelled, (ls, length, refl), within))
     ]
   ]
 
@@ -60,7 +60,7 @@ cidr_apart parts range e (fs, message, utf8, spelled, length, within) (too_long 
     let Q : List Wire → Type 0 = λ xs. Merges (payloads 2 xs) ls in
     let address : ip ≡ range.address = ip_one (address_text fs) ip range.address (subst P same also) spelled in
     let one : ls ≡ length.0 = merges-one (payloads 2 fs) ls length.0 (subst Q same joined) length.1.0 in
-    omega (arith, ap width_of address, ap (uint32_in 1) one, length.2)
+    omega (arith, ap width_of address, ap (uint32_at 1) one, length.2)
 
 -- one range at most
 pub cidr_one : (parts : List (List ℕ)) (v w : Range) → IsCidr parts v → IsCidr parts w → v ≡ w
@@ -70,5 +70,5 @@ cidr_one parts v w (fs, message, utf8, spelled, length, within) (gs, also, utf8'
     let Q : List Wire → Type 0 = λ xs. IsMessage length_keys (payloads 2 xs) length'.0 in
     let address : v.address ≡ w.address = ip_one (address_text fs) v.address w.address spelled (subst P same spelled') in
     let one : length.0 ≡ length'.0 = merges-one (payloads 2 fs) length.0 length'.0 length.1.0 (subst Q same length'.1).0 in
-    let size : v.size ≡ w.size = length.2 ∙ ap (uint32_in 1) one ∙ sym length'.2 in
+    let size : v.size ≡ w.size = length.2 ∙ ap (uint32_at 1) one ∙ sym length'.2 in
     λ i. record { address = address i; size = size i }

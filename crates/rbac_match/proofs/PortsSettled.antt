@@ -2,20 +2,20 @@
 use Rattle.std.proofs.Common.{◌≡◌, ℕ, ℤ, pos, negsuc, ◌⊎◌, inl, inr, List, refl, sym, ◌∙◌, subst, arith}
 use Rattle.std.proofs.lemmas.Bool.{cases_lt}
 use Rattle.std.proofs.lemmas.Int.{ints}
+use Rattle.proto_wire.specs.Scalars.{uint32_at, int32_at}
 use Rattle.proto_wire.specs.Fields.{Wire}
 use Rattle.proto_wire.proofs.Unique.{merges-one}
 use Rattle.proto_wire.proofs.Messages.{message_settled, message_apart}
 use Rattle.proto_wire.specs.declared.refusal.Refusal.{Refusal}
 use Rattle.proto_wire.specs.declared.refusal.Refusal.TheVariants.{OutOfRange}
-use Rattle.rbac_match.specs.Integers.{uint32_in, int32_in}
 use Rattle.rbac_match.specs.Message.{range_keys}
 use Rattle.rbac_match.specs.Ports.{PortSpan, IsPort, PortFault, AreBounds, AreNoBounds, IsPortRange, PortRangeFault, range_fields, no_bounds}
 
 -- a run says a port, or a number that is none
 pub port_settled : (run : List Wire) → ((port : ℕ) × IsPort run port) ⊎ ((e : Refusal) × PortFault run e)
-port_settled run = elim (cases_lt 65535 (uint32_in 6 run)) [
+port_settled run = elim (cases_lt 65535 (uint32_at 6 run)) [
   | inl above ↦ inr (OutOfRange, (above, refl))
-  | inr within ↦ inl (uint32_in 6 run, (refl, within))
+  | inr within ↦ inl (uint32_at 6 run, (refl, within))
 ]
 
 -- not both
@@ -27,7 +27,7 @@ pub port_one : (run : List Wire) (m n : ℕ) → IsPort run m → IsPort run n �
 port_one run m n a b = a.0 ∙ sym b.0
 
 -- two bounds are those of some ports, or of none
-bounds_settled : (fs : List Wire) (s e : ℤ) → int32_in 1 fs ≡ s → int32_in 2 fs ≡ e → ((span : PortSpan) × AreBounds fs span) ⊎ AreNoBounds fs
+bounds_settled : (fs : List Wire) (s e : ℤ) → int32_at 1 fs ≡ s → int32_at 2 fs ≡ e → ((span : PortSpan) × AreBounds fs span) ⊎ AreNoBounds fs
 bounds_settled fs (negsuc m) e start end = inr (inl (omega (arith, ints, start)))
 bounds_settled fs (pos m) (negsuc n) start end = inr (inr (inr (omega (arith, ints, start, end))))
 bounds_settled fs (pos m) (pos n) start end = elim (cases_lt 65536 n) [

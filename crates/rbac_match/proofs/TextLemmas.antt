@@ -1,19 +1,18 @@
 -- The member of a StringMatcher that counts, and what is wrong with its text.
-use Rattle.std.proofs.Common.{◌≡◌, ◌≢◌, ◌⊎◌, inl, inr, ℕ, suc, ◌-◌, ◌<◌, Bool, true, false, cond, List, [], ◌∷◌, length, map, filter, Option, Some, slice_get, option_map, Bor, refl, sym, ap, arith, ◌∙◌}
+use Rattle.std.proofs.Common.{◌≡◌, ◌≢◌, ◌⊎◌, inl, inr, ℕ, ◌<◌, Bool, true, List, [], ◌∷◌, length, Some, Bor, refl, sym, ap, arith, ◌∙◌}
 use Rattle.std.specs.Str.{IsUtf8}
 use Rattle.std.specs.List.{list_all}
-use Rattle.std.proofs.Math.Dec.{eqb}
 use Rattle.proto_wire.specs.Fields.{Wire, text, view}
-use Rattle.proto_wire.specs.Rules.{last_of, is_known, trailing_run, member_run}
+use Rattle.proto_wire.specs.Rules.{last_member, last_of, is_known, member_run}
 use Rattle.proto_wire.specs.Messages.{texts}
-use Rattle.proto_wire.proofs.RuleLemmas.{run-known}
+use Rattle.proto_wire.proofs.RuleLemmas.{last_member-run, run-known}
 use Rattle.std.specs.Cmp.{first_so, second_so}
 use Rattle.proto_wire.specs.declared.field.Content.TheVariants as contents
 use Rattle.proto_wire.specs.declared.field.Field.{Field}
 use Rattle.proto_wire.specs.declared.refusal.Refusal.{Refusal}
 use Rattle.proto_wire.specs.declared.refusal.Refusal.TheVariants.{BadText, OutOfRange}
 use Rattle.proto_wire.specs.declared.rules.Key.{Key}
-use Rattle.rbac_match.specs.Text.{TextPattern, last_member, pattern_field, text_of, IsFilled, PatternFault, bad_text, empty_text}
+use Rattle.rbac_match.specs.Text.{TextPattern, pattern_field, text_of, IsFilled, PatternFault, bad_text, empty_text}
 
 -- a field that holds a text
 pub field_is : (f : Field) (b : Bor (List ℕ)) (n : ℕ) → f.content ≡ contents.Text b → f.number ≡ n
@@ -29,40 +28,6 @@ filled_fault f p e is filled bad = elim bad [
   | inl other ↦ bad_text p is other.1 other.0
   | inr empty ↦ empty_text p is (λ full. filled full empty.1) empty.0
 ]
-
--- the last of a list of fields, by its place
-pub last_of-view : (fs : List Field)
-    → last_of (map view fs) ≡ option_map view (slice_get fs (length fs - 1))
-last_of-view [] = refl
-last_of-view (g ∷ []) = refl
-last_of-view (g ∷ h ∷ fs) =
-    let longer : suc (suc (length fs)) - 1 ≡ suc (length fs) = omega arith in
-    let shorter : suc (length fs) - 1 ≡ length fs = omega arith in
-    rw longer (rw shorter at (last_of-view (h ∷ fs)))
-
--- the last of a run is the last of all
-pub last_of-run : (fs : List Wire) → last_of (trailing_run fs) ≡ last_of fs
-last_of-run [] = refl
-last_of-run (f ∷ []) = refl
-last_of-run (f ∷ g ∷ fs) =
-    elim (list_all (λ h. eqb h.number f.number) (g ∷ fs)) as (λ b.
-    last_of (cond b (f ∷ g ∷ fs) (trailing_run (g ∷ fs))) ≡ last_of (g ∷ fs)) [
-      | true ↦ refl
-      | false ↦ last_of-run (g ∷ fs)
-    ]
-
--- the last field of the last member's run is the member that counts
-pub last_member-run : (keys : List Key) (fs : List Wire)
-    → last_of (member_run keys fs) ≡ last_member keys fs
-last_member-run keys fs = last_of-run (filter (is_known keys) fs)
-
--- it is the last field of the code's run
-pub member_that_counts : (keys : List Key) (fs : List Wire) (run : List Field) (o : Option Field)
-    → map view run ≡ member_run keys fs → o ≡ slice_get run (length run - 1)
-    → last_member keys fs ≡ option_map view o
-member_that_counts keys fs run o is at =
-    sym (last_member-run keys fs) ∙ ap last_of (sym is) ∙ last_of-view run
-    ∙ ap (option_map view) (sym at)
 
 -- what each of a list is, the last is
 all-last : {A : Type 0} (p : A → Bool) (xs : List A) (x : A) → list_all p xs ≡ true

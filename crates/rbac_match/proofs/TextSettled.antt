@@ -6,8 +6,9 @@ use Rattle.std.specs.Cmp.{first_so, second_so}
 use Rattle.std.specs.Str.{IsUtf8, is_utf8}
 use Rattle.std.proofs.lemmas.Bool.{cases_Bool, or_cases, both_ways, eqb-true, eqb-false}
 use Rattle.std.proofs.lemmas.Str.{IsUtf8-from_is_utf8, is_utf8-from_IsUtf8}
+use Rattle.proto_wire.specs.Scalars.{bool_at}
 use Rattle.proto_wire.specs.Fields.{Wire, Payload, varint, eight, text, four}
-use Rattle.proto_wire.specs.Rules.{Merges, is_known, has_key, is_of_type}
+use Rattle.proto_wire.specs.Rules.{last_member, Merges, is_known, has_key, is_of_type}
 use Rattle.proto_wire.specs.Messages.{IsMessage}
 use Rattle.proto_wire.proofs.Unique.{merges-one}
 use Rattle.proto_wire.proofs.Messages.{message_settled, message_apart}
@@ -15,7 +16,7 @@ use Rattle.proto_wire.specs.declared.field.WireType.TheVariants as wire_types
 use Rattle.proto_wire.specs.declared.refusal.Refusal.{Refusal}
 use Rattle.proto_wire.specs.declared.refusal.Refusal.TheVariants.{BadText, Missing, OutOfRange, Unsupported}
 use Rattle.rbac_match.specs.Message.{text_key}
-use Rattle.rbac_match.specs.Text.{TextPattern, exact, prefix, suffix, contains, TextTest, string_keys, pattern_keys, last_member, flag_of, number_of, text_of, pattern_field, IsFilled, IsTextMatcher, PatternFault, bad_text, empty_text, is_regex, TextFault, text_fields, no_pattern, in_pattern}
+use Rattle.rbac_match.specs.Text.{TextPattern, exact, prefix, suffix, contains, TextTest, string_keys, pattern_keys, number_of, text_of, pattern_field, IsFilled, IsTextMatcher, PatternFault, bad_text, empty_text, is_regex, TextFault, text_fields, no_pattern, in_pattern}
 use Rattle.rbac_match.proofs.Basics.{nil_or_not}
 use Rattle.rbac_match.proofs.TextLemmas.{member-known}
 
@@ -89,7 +90,7 @@ member_settled parts fs f message at =
         | inl utf8 ↦ elim (filled_or_not p) [
           | inr empty ↦ inr (OutOfRange, in_pattern f (fs, message.0, at) (empty_text p is empty refl))
           | inl filled ↦ inl (
-            record { pattern = p; ignore_case = flag_of 6 fs },
+            record { pattern = p; ignore_case = bool_at 6 fs },
             (fs, message, at ∙ ap Some is, utf8, filled, refl),
           )
         ]
@@ -189,4 +190,4 @@ text_one parts t u (fs, a, at, _, _, flag) (gs, b, also, _, _, other) =
     member_one parts fs gs t.pattern _ a.0 b.0 at also in
     let fields : pattern_field t.pattern ≡ pattern_field u.pattern = cc in
     ap₂ make (field_one t.pattern u.pattern fields)
-    (flag ∙ ap (flag_of 6) (merges-one parts fs gs a.0 b.0) ∙ sym other)
+    (flag ∙ ap (bool_at 6) (merges-one parts fs gs a.0 b.0) ∙ sym other)

@@ -4,6 +4,7 @@ use Rattle.std.specs.Option.{is_some, option_or, option_map_or}
 use Rattle.std.specs.Str.{IsUtf8, str_to_ascii_lowercase}
 use Rattle.std.specs.String.{string_bytes}
 use Rattle.attributes.specs.Request.{RequestValue, header_of}
+use Rattle.proto_wire.specs.Scalars.{bool_at}
 use Rattle.proto_wire.specs.Fields.{Wire}
 use Rattle.proto_wire.specs.Rules.{payloads, last_of, member_run, Merges}
 use Rattle.proto_wire.specs.Messages.{IsMessage, MessageFault}
@@ -11,7 +12,7 @@ use Rattle.proto_wire.specs.declared.refusal.Refusal.{Refusal}
 use Rattle.proto_wire.specs.declared.refusal.Refusal.TheVariants.{BadText, Missing, OutOfRange, Unsupported}
 use Rattle.proto_wire.specs.declared.rules.Key.{Key}
 use Rattle.rbac_match.specs.Message.{text_key, varint_key, last_number}
-use Rattle.rbac_match.specs.Text.{TextPattern, exact, prefix, suffix, contains, TextTest, text_holds, text_view, text_of, IsFilled, flag_of, IsTextMatcher, TextFault}
+use Rattle.rbac_match.specs.Text.{TextPattern, exact, prefix, suffix, contains, TextTest, text_holds, text_view, text_of, IsFilled, IsTextMatcher, TextFault}
 use Rattle.rbac_match.specs.Int64Range.{RangeValue, range_holds, range_view, IsRange, RangeFault}
 use Rattle.rbac_match.specs.declared.header.HeaderMatcher.{HeaderMatcher}
 use Rattle.rbac_match.specs.declared.header.HeaderTest.{HeaderTest}
@@ -113,7 +114,7 @@ plain_test p = record { pattern = p; ignore_case = false }
 -- the run of the last member says what is asked; without a member it is that the header is there
 pub data SaysSpecifier (run : List Wire) (s : Specifier) : Type 0 where
   says_nothing : last_number run ≡ None → s ≡ present true → SaysSpecifier run s
-  says_present : last_number run ≡ Some 7 → s ≡ present (flag_of 7 run) → SaysSpecifier run s
+  says_present : last_number run ≡ Some 7 → s ≡ present (bool_at 7 run) → SaysSpecifier run s
   says_range : (range : RangeValue) → last_number run ≡ Some 6 → IsRange (payloads 6 run) range
       → s ≡ within range → SaysSpecifier run s
   says_matcher : (test : TextTest) → last_number run ≡ Some 13
@@ -129,8 +130,8 @@ pub record IsHeader (parts : List (List ℕ)) (h : HeaderValue) : Type 0 where
   pub named : text_at 1 fields ≢ []
   pub lowered : h.name ≡ str_to_ascii_lowercase (text_at 1 fields)
   pub asked : SaysSpecifier (member_run specifier_keys fields) h.specifier
-  pub inverted : h.invert ≡ flag_of 8 fields
-  pub emptied : h.missing_is_empty ≡ flag_of 14 fields
+  pub inverted : h.invert ≡ bool_at 8 fields
+  pub emptied : h.missing_is_empty ≡ bool_at 14 fields
 
 -- ---- its faults
 

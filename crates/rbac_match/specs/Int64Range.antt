@@ -1,9 +1,8 @@
 -- Ranges of whole numbers: Envoy v3 `type/v3/range.proto`, Int64Range (start is in, end is not).
-use Rattle.std.specs.Prelude.{◌≡◌, ℕ, Bool, false, not, ◌&&◌, List, unwrap_or, ℤ, int_lt, ◌≤ℤ◌, ◌<ℤ◌}
+use Rattle.std.specs.Prelude.{◌≡◌, ℕ, Bool, false, not, ◌&&◌, List, ℤ, int_lt, ◌≤ℤ◌, ◌<ℤ◌}
 use Rattle.std.specs.Option.{option_map_or}
-use Rattle.std.specs.Int.{cast_signed, w64}
+use Rattle.proto_wire.specs.Scalars.{int64_at}
 use Rattle.proto_wire.specs.Fields.{Wire}
-use Rattle.proto_wire.specs.Rules.{varints, last_of}
 use Rattle.proto_wire.specs.Messages.{IsMessage, MessageFault}
 use Rattle.proto_wire.specs.declared.refusal.Refusal.{Refusal}
 use Rattle.rbac_match.specs.Message.{range_keys}
@@ -18,10 +17,6 @@ pub record RangeValue : Type 0 where
 -- what a range in memory says
 abbrev pub range_view : Int64Range → RangeValue
 range_view r = record { first = r.start; past = r.end }
-
--- an int64 field's value: the last varint, or 0, as two's complement of 64 bits
-abbrev pub int64_at : ℕ → List Wire → ℤ
-int64_at k fs = cast_signed w64 (unwrap_or (last_of (varints k fs)) 0)
 
 -- the parts merge to an Int64Range of these bounds
 abbrev pub IsRange : List (List ℕ) → RangeValue → Type 0

@@ -5,7 +5,6 @@ pub mod Authenticated
 pub mod Decimal
 pub mod Int64Range
 pub mod Header
-pub mod Integers
 pub mod Network
 pub mod Ports
 pub mod Matcher

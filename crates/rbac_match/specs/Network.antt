@@ -6,13 +6,13 @@ use Rattle.attributes.specs.Conn.{Facts}
 use Rattle.attributes.specs.Request.{RequestValue}
 use Rattle.attributes.specs.declared.address.Ip.{Ip}
 use Rattle.attributes.specs.declared.address.Ip.TheVariants.{V4, V6}
+use Rattle.proto_wire.specs.Scalars.{uint32_at}
 use Rattle.proto_wire.specs.Fields.{Wire}
 use Rattle.proto_wire.specs.Rules.{payloads, last_of, Merges}
 use Rattle.proto_wire.specs.Messages.{IsMessage, MessageFault}
 use Rattle.proto_wire.specs.declared.refusal.Refusal.{Refusal}
 use Rattle.proto_wire.specs.declared.refusal.Refusal.TheVariants.{BadText, OutOfRange}
 use Rattle.proto_wire.specs.declared.rules.Key.{Key}
-use Rattle.rbac_match.specs.Integers.{uint32_in}
 use Rattle.rbac_match.specs.Message.{text_key, varint_key}
 use Rattle.rbac_match.specs.declared.network.AddressSource.{AddressSource}
 use Rattle.rbac_match.specs.declared.network.AddressSource.TheVariants.{Destination, DirectRemote, Remote}
@@ -31,7 +31,7 @@ address_text fs = unwrap_or (last_of (payloads 1 fs)) []
 
 -- the parts merge to a UInt32Value of this value; no parts are 0
 abbrev pub IsLength : List (List ℕ) → ℕ → Type 0
-IsLength parts n = (fs : List Wire) × IsMessage length_keys parts fs × (n ≡ uint32_in 1 fs)
+IsLength parts n = (fs : List Wire) × IsMessage length_keys parts fs × (n ≡ uint32_at 1 fs)
 
 -- the parts merge to a CidrRange that means these addresses
 abbrev pub IsCidr : List (List ℕ) → Range → Type 0
@@ -49,7 +49,7 @@ pub data CidrFault (parts : List (List ℕ)) (e : Refusal) : Type 0 where
   address_not_utf8 : (fs : List Wire) → Merges parts fs → ¬ IsUtf8 (address_text fs) → e ≡ BadText → CidrFault parts e
   no_address : (fs : List Wire) → Merges parts fs → IsUtf8 (address_text fs) → IsNoIpText (address_text fs) → e ≡ OutOfRange → CidrFault parts e
   in_length : (fs : List Wire) → Merges parts fs → MessageFault length_keys (payloads 2 fs) e → CidrFault parts e
-  too_long : (fs ls : List Wire) (ip : Ip) → Merges parts fs → IsIpText (address_text fs) ip → Merges (payloads 2 fs) ls → width_of ip < uint32_in 1 ls → e ≡ OutOfRange → CidrFault parts e
+  too_long : (fs ls : List Wire) (ip : Ip) → Merges parts fs → IsIpText (address_text fs) ip → Merges (payloads 2 fs) ls → width_of ip < uint32_at 1 ls → e ≡ OutOfRange → CidrFault parts e
 
 -- whether the addresses are of one family and have their first `size` bits in common
 abbrev pub share_prefix : ℕ → Ip → Ip → Bool

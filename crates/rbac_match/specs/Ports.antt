@@ -3,12 +3,12 @@
 use Rattle.std.specs.Prelude.{◌≡◌, ℕ, pos, ◌<◌, ◌≤◌, ◌<ℤ◌, ◌≤ℤ◌, ◌⊎◌, ◌==◌, ◌&&◌, nat_lt, nat_le, Bool, false, List}
 use Rattle.std.specs.Option.{option_map_or}
 use Rattle.attributes.specs.Request.{RequestValue}
+use Rattle.proto_wire.specs.Scalars.{uint32_at, int32_at}
 use Rattle.proto_wire.specs.Fields.{Wire}
 use Rattle.proto_wire.specs.Rules.{Merges}
 use Rattle.proto_wire.specs.Messages.{IsMessage, MessageFault}
 use Rattle.proto_wire.specs.declared.refusal.Refusal.{Refusal}
 use Rattle.proto_wire.specs.declared.refusal.Refusal.TheVariants.{OutOfRange}
-use Rattle.rbac_match.specs.Integers.{uint32_in, int32_in}
 use Rattle.rbac_match.specs.Message.{range_keys}
 
 -- ports from `start` up to the one before `end`
@@ -18,20 +18,20 @@ pub record PortSpan : Type 0 where
 
 -- the run of a permission's `destination_port` says this port
 abbrev pub IsPort : List Wire → ℕ → Type 0
-IsPort run port = (port ≡ uint32_in 6 run) × (port ≤ 65535)
+IsPort run port = (port ≡ uint32_at 6 run) × (port ≤ 65535)
 
 -- the run says a number that no port has
 abbrev pub PortFault : List Wire → Refusal → Type 0
-PortFault run e = (65535 < uint32_in 6 run) × (e ≡ OutOfRange)
+PortFault run e = (65535 < uint32_at 6 run) × (e ≡ OutOfRange)
 
 -- the fields' bounds are those of the ports: there is some port, and each is from 0 to 65,535
 abbrev pub AreBounds : List Wire → PortSpan → Type 0
-AreBounds fs span = (int32_in 1 fs ≡ pos span.start) × (int32_in 2 fs ≡ pos span.end)
+AreBounds fs span = (int32_at 1 fs ≡ pos span.start) × (int32_at 2 fs ≡ pos span.end)
     × (span.start < span.end) × (span.end ≤ 65536)
 
 -- the bounds are those of no ports: the first is below 0, the last above 65,535, or there is none
 abbrev pub AreNoBounds : List Wire → Type 0
-AreNoBounds fs = (int32_in 1 fs <ℤ pos 0) ⊎ (pos 65536 <ℤ int32_in 2 fs) ⊎ (int32_in 2 fs ≤ℤ int32_in 1 fs)
+AreNoBounds fs = (int32_at 1 fs <ℤ pos 0) ⊎ (pos 65536 <ℤ int32_at 2 fs) ⊎ (int32_at 2 fs ≤ℤ int32_at 1 fs)
 
 -- the parts merge to an Int32Range of these ports
 abbrev pub IsPortRange : List (List ℕ) → PortSpan → Type 0

@@ -1,10 +1,11 @@
 -- Tests of a text: Envoy v3 `type/matcher/v3/string.proto`, StringMatcher.
-use Rattle.std.specs.Prelude.{◌≡◌, ◌≢◌, ℕ, Bool, not, nat_eq, ◌==◌, ◌||◌, if◌then◌else◌, List, [], ◌∷◌, Option, Some, None, unwrap_or, filter}
+use Rattle.std.specs.Prelude.{◌≡◌, ◌≢◌, ℕ, Bool, nat_eq, ◌||◌, if◌then◌else◌, List, [], ◌∷◌, Some, None}
 use Rattle.std.specs.List.{starts_with, ends_with}
 use Rattle.std.specs.Str.{IsUtf8, bytes_eq, str_to_ascii_lowercase}
 use Rattle.std.specs.String.{string_bytes}
+use Rattle.proto_wire.specs.Scalars.{bool_at}
 use Rattle.proto_wire.specs.Fields.{Wire, text}
-use Rattle.proto_wire.specs.Rules.{varints, last_of, is_known, Merges}
+use Rattle.proto_wire.specs.Rules.{last_member, Merges}
 use Rattle.proto_wire.specs.Messages.{IsMessage, MessageFault}
 use Rattle.proto_wire.specs.declared.refusal.Refusal.{Refusal}
 use Rattle.proto_wire.specs.declared.refusal.Refusal.TheVariants.{BadText, Missing, OutOfRange, Unsupported}
@@ -76,14 +77,6 @@ pattern_keys = text_key 1 ∷ text_key 2 ∷ text_key 3 ∷ text_key 5 ∷ text_
 abbrev pub string_keys : List Key
 string_keys = text_key 1 ∷ text_key 2 ∷ text_key 3 ∷ text_key 5 ∷ varint_key 6 ∷ text_key 7 ∷ []
 
--- the last field that has one of the keys: of a oneof it is the one that counts
-abbrev pub last_member : List Key → List Wire → Option Wire
-last_member keys fs = last_of (filter (is_known keys) fs)
-
--- the value of a bool: its last occurrence, and every value but 0 is true
-abbrev pub flag_of : ℕ → List Wire → Bool
-flag_of k fs = not (unwrap_or (last_of (varints k fs)) 0 == 0)
-
 -- the number of the member that says the pattern
 abbrev pub number_of : TextPattern → ℕ
 number_of (exact whole) = 1
@@ -114,7 +107,7 @@ abbrev pub IsTextMatcher : List (List ℕ) → TextTest → Type 0
 IsTextMatcher parts test =
     (fs : List Wire) × IsMessage string_keys parts fs
     × (last_member pattern_keys fs ≡ Some (pattern_field test.pattern))
-    × IsUtf8 (text_of test.pattern) × IsFilled test.pattern × (test.ignore_case ≡ flag_of 6 fs)
+    × IsUtf8 (text_of test.pattern) × IsFilled test.pattern × (test.ignore_case ≡ bool_at 6 fs)
 
 -- the payloads merge to fields of which this is the member that counts
 abbrev pub HasMember : List (List ℕ) → Wire → Type 0

@@ -11,9 +11,9 @@ ghost use Rattle.rbac_match.specs.Text.{pattern_view};
 ghost use Rattle.rbac_match.specs.Header.{HeaderFault, IsHeader, SayingFault, SaysPattern, SaysSpecifier, SpecifierFault, header_holds, header_keys, header_view, specifier_holds, specifier_keys, test_view, text_at};
 
 use crate::int64_range::{Int64Range, read_int64_range};
-use crate::text::{Pattern, TextMatcher, is_set, read_filled, read_text, read_text_matcher};
+use crate::text::{Pattern, TextMatcher, read_filled, read_text, read_text_matcher};
 use attributes::Request;
-use proto_wire::{Field, Key, Refusal, keys, last_text, member_run, payloads_of, read_message};
+use proto_wire::{Field, Key, Refusal, bool_of, keys, last_text, member_run, payloads_of, read_message};
 use std::alloc::Global;
 
 /// What is asked of a header.
@@ -119,8 +119,8 @@ pub fn read_header_matcher(alloc: Global, parts: &[&[u8]]) -> Result<HeaderMatch
     Ok(HeaderMatcher {
         name,
         test,
-        invert: is_set(&fields, INVERT),
-        missing_is_empty: is_set(&fields, MISSING_IS_EMPTY),
+        invert: bool_of(&fields, INVERT),
+        missing_is_empty: bool_of(&fields, MISSING_IS_EMPTY),
     })
 }
 
@@ -150,7 +150,7 @@ fn read_test(alloc: Global, run: &[Field<'_>]) -> Result<HeaderTest, Refusal>
         return Ok(HeaderTest::Present(true));
     };
     match last.number {
-        PRESENT => Ok(HeaderTest::Present(is_set(run, PRESENT))),
+        PRESENT => Ok(HeaderTest::Present(bool_of(run, PRESENT))),
         RANGE => Ok(HeaderTest::Range(read_int64_range(alloc, &payloads_of(alloc, run, RANGE)?)?)),
         MATCHER => Ok(HeaderTest::Text(read_text_matcher(
             alloc,

@@ -4,11 +4,11 @@ ghost use Rattle.std.specs.Prelude.{◌≡◌, ◌⊎◌, IfOk, IfErr, map};
 ghost use Rattle.proto_wire.specs.Fields.{view};
 ghost use Rattle.proto_wire.specs.Messages.{texts};
 ghost use Rattle.proto_wire.specs.declared.refusal.Refusal.TheVariants.{Memory};
-ghost use Rattle.rbac_match.specs.Int64Range.{RangeFault, IsRange, int64_at, is_within, range_holds, range_view};
+ghost use Rattle.rbac_match.specs.Int64Range.{RangeFault, IsRange, is_within, range_holds, range_view};
 
 use crate::decimal::parse_int64;
 use crate::keys::{END, RANGE, START};
-use proto_wire::{Field, Refusal, last_varint, read_message};
+use proto_wire::{Refusal, int64_of, read_message};
 use std::alloc::Global;
 
 /// The numbers from `start` on that are below `end`; none where `start` is not below `end`.
@@ -47,11 +47,4 @@ pub fn read_int64_range(alloc: Global, parts: &[&[u8]]) -> Result<Int64Range, Re
         start: int64_of(&fields, START),
         end: int64_of(&fields, END),
     })
-}
-
-/// The value of an int64 field: 0 where there is none.
-fn int64_of(fields: &[Field<'_>], number: u32) -> i64
-    ensures { result ≡ int64_at number (map view fields.now) }
-{
-    last_varint(fields, number).unwrap_or(0).cast_signed()
 }

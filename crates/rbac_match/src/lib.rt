@@ -9,7 +9,6 @@ mod decimal;
 mod header;
 pub mod header_laws;
 mod int64_range;
-mod integers;
 mod keys;
 mod leaf;
 mod matcher;

@@ -8,9 +8,8 @@ ghost use Rattle.proto_wire.specs.Messages.{texts, MessageFault};
 ghost use Rattle.proto_wire.specs.declared.refusal.Refusal.TheVariants.{BadText, Memory, OutOfRange};
 ghost use Rattle.rbac_match.specs.Network.{IsCidr, IsLength, IsNoIpText, CidrFault, address_text, address_holds, length_keys, source_ip};
 
-use crate::integers::uint32_of;
 use attributes::{Cidr, Conn, Ip, Request, parse_ip};
-use proto_wire::{Field, Key, Refusal, keys, last_text, payloads_of, read_message};
+use proto_wire::{Field, Key, Refusal, keys, last_text, payloads_of, read_message, uint32_of};
 use std::alloc::Global;
 
 /// Which address of a request a rule looks at.

@@ -6,10 +6,9 @@ ghost use Rattle.proto_wire.specs.Messages.{texts};
 ghost use Rattle.proto_wire.specs.declared.refusal.Refusal.TheVariants.{Memory};
 ghost use Rattle.rbac_match.specs.Ports.{AreBounds, AreNoBounds, IsPort, IsPortRange, PortFault, PortRangeFault, port_holds, port_range_holds};
 
-use crate::integers::{int32_of, uint32_of};
 use crate::keys::{END, RANGE, START};
 use attributes::Request;
-use proto_wire::{Field, Refusal, read_message};
+use proto_wire::{Field, Refusal, int32_of, read_message, uint32_of};
 use std::alloc::Global;
 use std::marker::Model;
 

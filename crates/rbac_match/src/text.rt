@@ -1,6 +1,6 @@
 //! Tests of a text (`envoy.type.matcher.v3.StringMatcher`): how they are read, and which texts pass.
 
-ghost use Rattle.std.specs.Prelude.{◌≡◌, ◌≢◌, ◌⊎◌, [], true, false, nat_eq, map, IfOk, IfErr, IsTrue};
+ghost use Rattle.std.specs.Prelude.{◌≡◌, ◌≢◌, ◌⊎◌, [], true, false, nat_eq, IfOk, IfErr, IsTrue};
 ghost use Rattle.std.specs.List.{starts_with, ends_with};
 ghost use Rattle.std.specs.Str.{IsUtf8, str_to_ascii_lowercase};
 ghost use Rattle.std.specs.String.{string_bytes};
@@ -8,10 +8,10 @@ ghost use Rattle.proto_wire.specs.Fields.{view};
 ghost use Rattle.proto_wire.specs.Rules.{is_known};
 ghost use Rattle.proto_wire.specs.Messages.{texts};
 ghost use Rattle.proto_wire.specs.declared.refusal.Refusal.TheVariants.{Memory, BadText, OutOfRange};
-ghost use Rattle.rbac_match.specs.Text.{text_view, pattern_view, text_holds, pattern_holds, stands_in, string_keys, pattern_keys, flag_of, pattern_field, IsFilled, text_of, IsTextMatcher, PatternFault, TextFault};
+ghost use Rattle.rbac_match.specs.Text.{text_view, pattern_view, text_holds, pattern_holds, stands_in, string_keys, pattern_keys, pattern_field, IsFilled, text_of, IsTextMatcher, PatternFault, TextFault};
 
 use memchr::memmem;
-use proto_wire::{Content, Field, Key, Refusal, keys, last_varint, member_run, read_message};
+use proto_wire::{Content, Field, Key, Refusal, bool_of, keys, last_member, read_message};
 use std::alloc::Global;
 
 /// What a text is compared with.
@@ -55,14 +55,13 @@ pub fn read_text_matcher(alloc: Global, parts: &[&[u8]]) -> Result<TextMatcher, 
     ensures fault { IfErr result (λ e. (e ≡ Memory) ⊎ TextFault (texts parts.now) e) }
 {
     let fields = read_message(alloc, parts, string_keys())?;
-    let run = member_run(alloc, &fields, pattern_keys())?;
-    let Some(member) = run.last() else {
+    let Some(member) = last_member(&fields, pattern_keys()) else {
         return Err(Refusal::Missing);
     };
-    let pattern = read_pattern(alloc, member)?;
+    let pattern = read_pattern(alloc, &member)?;
     Ok(TextMatcher {
         pattern,
-        ignore_case: is_set(&fields, IGNORE_CASE),
+        ignore_case: bool_of(&fields, IGNORE_CASE),
     })
 }
 
@@ -111,16 +110,6 @@ pub fn read_filled(alloc: Global, bytes: &[u8]) -> Result<String, Refusal>
         return Err(Refusal::OutOfRange);
     }
     read_text(alloc, bytes)
-}
-
-/// Whether the bool of this number is true.
-pub fn is_set(fields: &[Field<'_>], number: u32) -> bool
-    ensures { result ≡ flag_of number (map view fields.now) }
-{
-    match last_varint(fields, number) {
-        None | Some(0) => false,
-        Some(_) => true,
-    }
 }
 
 fn string_keys() -> &'static [Key]

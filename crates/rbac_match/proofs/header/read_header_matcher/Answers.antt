@@ -65,6 +65,6 @@ returns-clause-found c =
       named = name.2;
       lowered = name.0;
       asked = rw run at c.in_ok-test.ensures.found;
-      inverted = rw c.deref-4.ensures.value at c.is_set.ensures;
-      emptied = rw c.deref-5.ensures.value at c.is_set-2.ensures;
+      inverted = rw c.deref-4.ensures.value at c.bool_of.ensures;
+      emptied = rw c.deref-5.ensures.value at c.bool_of-2.ensures;
     }

@@ -52,7 +52,7 @@ pub returns-in-7-clause-found : goal.returns-in-7-clause-found
 returns-in-7-clause-found c =
     let number : last_number (map view c.args.run.now) ≡ Some 7 = last_number-at c.args.run.now
     c.in-Some.last.now 7 (sym c.in-Some.ensures.value) c.in-7.is in
-    says_present number (rw c.is_set.ensures refl)
+    says_present number (rw c.bool_of.ensures refl)
 
 pub returns-in_ok-read_int64_range-in-6-clause-found : goal.returns-in_ok-read_int64_range-in-6-clause-found
 returns-in_ok-read_int64_range-in-6-clause-found c =

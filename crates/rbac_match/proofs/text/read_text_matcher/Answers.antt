@@ -1,10 +1,10 @@
-use Rattle.std.proofs.Common.{◌≡◌, List, map, Some, None, inl, inr, refl, ap, ◌∙◌}
+use Rattle.std.proofs.Common.{◌≡◌, List, map, Some, None, inl, inr, refl, sym, ap, ◌∙◌}
 use Rattle.std.proofs.lemmas.Result.{err_from_is_err_and}
 use Rattle.proto_wire.specs.Fields.{Wire, view}
 use Rattle.proto_wire.specs.Messages.{texts, IsMessage}
-use Rattle.proto_wire.specs.Rules.{member_run}
-use Rattle.rbac_match.specs.Text.{string_keys, pattern_keys, last_member, text_fields, no_pattern, in_pattern}
-use Rattle.rbac_match.proofs.TextLemmas.{member_that_counts, member-known}
+use Rattle.proto_wire.specs.Rules.{last_member}
+use Rattle.rbac_match.specs.Text.{string_keys, pattern_keys, text_fields, no_pattern, in_pattern}
+use Rattle.rbac_match.proofs.TextLemmas.{member-known}
 use Rattle.rbac_match.proofs.text.read_text_matcher.Goals as goal
 
 pub returns-in_err-fields-clause-fault : goal.returns-in_err-fields-clause-fault
@@ -20,9 +20,9 @@ returns-in_default-clause-fault c =
     let fs : List Wire = map view c.in_ok-fields.fields.items in
     let message : IsMessage string_keys (texts c.args.parts.now) fs =
     rw c.string_keys.ensures at c.in_ok-fields.ensures.found in
-    let run : map view c.deref-2.result.now ≡ member_run pattern_keys fs =
-    rw c.deref-2.ensures.value (rw (c.pattern_keys.ensures, c.deref.ensures.value) at c.in_ok-run.ensures) in
-    inr (no_pattern fs message (member_that_counts pattern_keys fs c.deref-2.result.now None run c.in_default.ensures.value) refl)
+    let none : None ≡ last_member pattern_keys fs =
+    rw (c.pattern_keys.ensures, c.deref.ensures.value) at c.in_default.ensures in
+    inr (no_pattern fs message (sym none) refl)
 
 pub returns-in_err-pattern-clause-fault : goal.returns-in_err-pattern-clause-fault
 returns-in_err-pattern-clause-fault c =
@@ -31,13 +31,11 @@ returns-in_err-pattern-clause-fault c =
     let fs : List Wire = map view c.in_ok-fields.fields.items in
     let message : IsMessage string_keys (texts c.args.parts.now) fs =
     rw c.string_keys.ensures at c.in_ok-fields.ensures.found in
-    let run : map view c.deref-2.result.now ≡ member_run pattern_keys fs =
-    rw c.deref-2.ensures.value (rw (c.pattern_keys.ensures, c.deref.ensures.value) at c.in_ok-run.ensures) in
-    let counts : last_member pattern_keys fs ≡ Some (view c.in-Some.member.now) =
-    member_that_counts pattern_keys fs c.deref-2.result.now (Some c.in-Some.member.now) run c.in-Some.ensures.value in
-    rw (p.1, p.2) (elim (c.in_err-pattern.ensures.fault (member-known pattern_keys fs _ counts)) [
+    let counts : Some (view c.in-Some.member) ≡ last_member pattern_keys fs =
+    rw (c.pattern_keys.ensures, c.deref.ensures.value) at c.in-Some.ensures in
+    rw (p.1, p.2) (elim (c.in_err-pattern.ensures.fault (member-known pattern_keys fs _ (sym counts))) [
       | inl memory ↦ inl memory
-      | inr bad ↦ inr (in_pattern (view c.in-Some.member.now) (fs, message.0, counts) bad)
+      | inr bad ↦ inr (in_pattern (view c.in-Some.member) (fs, message.0, sym counts) bad)
     ])
 
 pub returns-clause-found : goal.returns-clause-found
@@ -45,9 +43,7 @@ returns-clause-found c =
     let fs : List Wire = map view c.in_ok-fields.fields.items in
     let message : IsMessage string_keys (texts c.args.parts.now) fs =
     rw c.string_keys.ensures at c.in_ok-fields.ensures.found in
-    let run : map view c.deref-2.result.now ≡ member_run pattern_keys fs =
-    rw c.deref-2.ensures.value (rw (c.pattern_keys.ensures, c.deref.ensures.value) at c.in_ok-run.ensures) in
-    let counts : last_member pattern_keys fs ≡ Some (view c.in-Some.member.now) =
-    member_that_counts pattern_keys fs c.deref-2.result.now (Some c.in-Some.member.now) run c.in-Some.ensures.value in
+    let counts : Some (view c.in-Some.member) ≡ last_member pattern_keys fs =
+    rw (c.pattern_keys.ensures, c.deref.ensures.value) at c.in-Some.ensures in
     let is = c.in_ok-pattern.ensures.found in
-    (fs, message, counts ∙ ap Some is.0, is.1, is.2, (rw c.deref-3.ensures.value at c.is_set.ensures))
+    (fs, message, sym counts ∙ ap Some is.0, is.1, is.2, (rw c.deref-2.ensures.value at c.bool_of.ensures))
