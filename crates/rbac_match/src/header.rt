@@ -13,7 +13,9 @@ ghost use Rattle.rbac_match.specs.Header.{HeaderFault, IsHeader, SayingFault, Sa
 use crate::int64_range::{Int64Range, read_int64_range};
 use crate::text::{Pattern, TextMatcher, read_filled, read_text, read_text_matcher};
 use attributes::Request;
-use proto_wire::{Field, Key, Refusal, bool_of, keys, last_text, member_run, payloads_of, read_message};
+use proto_wire::{
+    Field, Key, Refusal, bool_of, keys, last_text, member_run, payloads_of, read_message,
+};
 use std::alloc::Global;
 
 /// What is asked of a header.

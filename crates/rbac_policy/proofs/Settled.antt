@@ -1,11 +1,10 @@
 -- The bytes of a filter are its message or have a fault, and never both.
-use Rattle.std.proofs.Common.{◌≡◌, ℕ, ◌<◌, ◌≤◌, ◌⊎◌, inl, inr, true, false, List, [], ◌∷◌, Contains, Option, Some, None, IsSomeAnd, MatchOption, refl, sym, ap, subst, arith, ◌∙◌, cond, T}
+use Rattle.std.proofs.Common.{◌≡◌, ℕ, ◌<◌, ◌≤◌, ◌⊎◌, inl, inr, List, [], ◌∷◌, Contains, Option, Some, None, IsSomeAnd, MatchOption, refl, sym, ap, subst, arith, ◌∙◌, cond, T}
 use Rattle.std.specs.Ordering.{is_eq}
 use Rattle.std.specs.Cmp.{tied_itself}
 use Rattle.std.specs.Cmp.Lexicographic.{nat_list_cmp_total}
-use Rattle.std.specs.Str.{IsUtf8, is_utf8}
+use Rattle.std.specs.Str.{IsUtf8}
 use Rattle.std.proofs.lemmas.Bool.{cases_lt}
-use Rattle.std.proofs.lemmas.Str.{IsUtf8-from_is_utf8, is_utf8-from_IsUtf8}
 use Rattle.std.specs.FinMap.{FinMap, get, len, from_entries, entries, entries_sorted, find, is_sorted, get-entries, get-from_entries}
 use Rattle.proto_wire.specs.Fields.{Wire}
 use Rattle.proto_wire.specs.Rules.{payloads, Merges}
@@ -20,6 +19,7 @@ use Rattle.rbac_match.specs.declared.rule.Side.{Side}
 use Rattle.rbac_match.specs.declared.rule.Side.TheVariants.{Permission, Principal}
 use Rattle.rbac_match.proofs.Basics.{nil_or_not, same_or_not, contains_first, contains_later, contains_cases}
 use Rattle.rbac_match.proofs.Settled.{rules_all_settled, rules_all_apart}
+use Rattle.rbac_match.proofs.TextSettled.{utf8_or_not}
 use Rattle.rbac_policy.specs.Filter.{Policy, Filter, name_cmp}
 use Rattle.rbac_policy.specs.Message.{filter_keys, rules_keys, entry_keys, policy_keys, rule_depth, most_policies, Entry, name_in, IsEntry, AreEntries, map_of, IsUnconditional, HasBothSides, IsPolicy, ArePolicies, action_in, action_number, AreFilterRules, IsFilter}
 use Rattle.rbac_policy.specs.Named.{Held}
@@ -28,13 +28,6 @@ use Rattle.rbac_policy.proofs.HeldPolicies.{held_find}
 use Rattle.rbac_policy.specs.Fault.{SomePolicyFault, EntryFault, entry_fields, entry_name, Readable, PolicyFault, policy_fields, lacks_side, conditional, SideFault, no_permission, no_principal, ConditionFault, unchecked, checked, in_permission, in_principal, RulesFault, bad_action, audited, in_entry, too_many, in_policy, FilterFault, filter_fields, no_rules, rules_fields, in_rules}
 use Rattle.rbac_policy.specs.declared.filter.Action.{Action}
 use Rattle.rbac_policy.specs.declared.filter.Action.TheVariants.{Allow, Deny, Log}
-
--- bytes are text or not
-utf8_or_not : (bytes : List ℕ) → IsUtf8 bytes ⊎ (IsUtf8 bytes → ⊥)
-utf8_or_not bytes = elim (is_utf8 bytes) as (λ b. is_utf8 bytes ≡ b → IsUtf8 bytes ⊎ (IsUtf8 bytes → ⊥)) [
-  | true ↦ λ e. inl (IsUtf8-from_is_utf8 bytes e)
-  | false ↦ λ e. inr (λ h. let clash : true ≡ false = sym (is_utf8-from_IsUtf8 bytes h) ∙ e in cc)
-] refl
 
 -- a payload is an entry or has a fault
 entry_settled : (part : List ℕ) → ((entry : Entry) × IsEntry part entry) ⊎ ((e : Refusal) × EntryFault part e)

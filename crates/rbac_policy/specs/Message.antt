@@ -1,9 +1,10 @@
 -- The messages of an RBAC filter: Envoy v3 `extensions/filters/http/rbac/v3/rbac.proto` and `config/rbac/v3/rbac.proto`.
-use Rattle.std.specs.Prelude.{◌≡◌, ◌≢◌, ℕ, ◌%◌, ◌^◌, ◌≤◌, List, [], ◌∷◌, None, unwrap_or, map, reverse, IsSomeAnd, MatchOption}
+use Rattle.std.specs.Prelude.{◌≡◌, ◌≢◌, ℕ, ◌≤◌, List, [], ◌∷◌, None, unwrap_or, map, reverse, IsSomeAnd, MatchOption}
 use Rattle.std.specs.Str.{IsUtf8}
 use Rattle.std.specs.FinMap.{FinMap, get, from_entries, len}
 use Rattle.proto_wire.specs.Fields.{Wire}
-use Rattle.proto_wire.specs.Rules.{varints, payloads, last_of}
+use Rattle.proto_wire.specs.Rules.{payloads, last_of}
+use Rattle.proto_wire.specs.Scalars.{uint32_at}
 use Rattle.proto_wire.specs.Messages.{IsMessage}
 use Rattle.proto_wire.specs.declared.rules.Key.{Key}
 use Rattle.rbac_match.specs.Message.{text_key, varint_key}
@@ -82,9 +83,9 @@ pub record IsPolicy (parts : List (List ℕ)) (policy : Policy) : Type 0 where
 abbrev pub ArePolicies : FinMap name_cmp (List (List ℕ)) → FinMap name_cmp Policy → Type 0
 ArePolicies named policies = (name : List ℕ) → MatchOption (get named name) (get policies name ≡ None) (λ parts. IsSomeAnd (get policies name) (IsPolicy parts))
 
--- the number of the action: the low 32 bits of the last value, 0 where there is none
+-- the number of the action, an enum
 abbrev pub action_in : List Wire → ℕ
-action_in fs = unwrap_or (last_of (varints 1 fs)) 0 % 2 ^ 32
+action_in fs = uint32_at 1 fs
 
 -- the number of each action
 abbrev pub action_number : Action → ℕ

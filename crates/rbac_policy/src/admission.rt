@@ -14,7 +14,7 @@ use crate::filter::{Action, Admitted};
 use crate::keys::{filter_keys, rules_keys};
 use crate::policy::{has_text, read_policies};
 use attributes::Limits;
-use proto_wire::{Field, Refusal, last_varint, payloads_of, read_message};
+use proto_wire::{Field, Refusal, payloads_of, read_message, uint32_of};
 use std::alloc::Global;
 
 /// How many policies a filter may have.
@@ -71,7 +71,7 @@ fn read_action(fields: &[Field<'_>]) -> Result<Action, Refusal>
     ensures { MatchResult result (λ action. action_in (map view fields.now) ≡ action_number action)
         (λ e. (e ≡ OutOfRange) × (2 < action_in (map view fields.now))) }
 {
-    match last_varint(fields, ACTION).unwrap_or(0) % (1 << 32) {
+    match uint32_of(fields, ACTION) {
         0 => Ok(Action::Allow),
         1 => Ok(Action::Deny),
         2 => Ok(Action::Log),

@@ -7,7 +7,7 @@ use Rattle.proto_wire.specs.Rules.{payloads}
 use Rattle.proto_wire.specs.Messages.{texts, IsMessage}
 use Rattle.rbac_policy.specs.Message.{filter_keys, rules_keys}
 use Rattle.rbac_policy.specs.Fault.{filter_fields, no_rules, rules_fields, in_rules}
-use Rattle.rbac_policy.proofs.Texts.{texts_some}
+use Rattle.rbac_match.proofs.TextLemmas.{payloads_some}
 use Rattle.rbac_policy.proofs.admission.admit.Goals as goal
 
 pub returns-in_err-top-clause-fault : goal.returns-in_err-top-clause-fault
@@ -30,7 +30,7 @@ returns-in_err-fields-clause-fault c =
     let p = err_from_is_err_and c.from_residual-in_err-fields.result c.from_residual-in_err-fields.ensures.1 in
     let parts : texts c.deref-2.result.now ≡ payloads 1 (map view c.in_ok-top.top.items) = ap texts c.deref-2.ensures.value ∙ (rw c.deref.ensures.value at c.in_ok-parts.ensures) in
     let there : payloads 1 (map view c.in_ok-top.top.items) ≢ [] =
-    texts_some c.in_ok-parts.parts.items _ (grind (arith, common_steps)) (rw c.deref.ensures.value at c.in_ok-parts.ensures) in
+    payloads_some c.in_ok-parts.parts.items _ (rw c.deref.ensures.value at c.in_ok-parts.ensures) (grind (arith, common_steps)) in
     rw (p.1, p.2) (elim c.in_err-fields.ensures.fault [
       | inl memory ↦ inl memory
       | inr bad ↦ inr (rules_fields (map view c.in_ok-top.top.items) c.in_ok-top.ensures.found.0 there (rw (parts, c.rules_keys.ensures) at bad))
@@ -40,7 +40,7 @@ pub returns-clause-admits : goal.returns-clause-admits
 returns-clause-admits c =
     let parts : texts c.deref-2.result.now ≡ payloads 1 (map view c.in_ok-top.top.items) = ap texts c.deref-2.ensures.value ∙ (rw c.deref.ensures.value at c.in_ok-parts.ensures) in
     let there : payloads 1 (map view c.in_ok-top.top.items) ≢ [] =
-    texts_some c.in_ok-parts.parts.items _ (grind (arith, common_steps)) (rw c.deref.ensures.value at c.in_ok-parts.ensures) in
+    payloads_some c.in_ok-parts.parts.items _ (rw c.deref.ensures.value at c.in_ok-parts.ensures) (grind (arith, common_steps)) in
     let top : IsMessage filter_keys (c.args.bytes.now ∷ []) (map view c.in_ok-top.top.items) = rw c.filter_keys.ensures at c.in_ok-top.ensures.found in
     let inner : IsMessage rules_keys (payloads 1 (map view c.in_ok-top.top.items)) (map view c.in_ok-fields.fields.items) = rw (parts, c.rules_keys.ensures) at c.in_ok-fields.ensures.found in
     MatchResult-weaker c.admit_rules.result c.admit_rules.ensures.admits (λ a h. record {
@@ -56,7 +56,7 @@ pub returns-clause-fault : goal.returns-clause-fault
 returns-clause-fault c =
     let parts : texts c.deref-2.result.now ≡ payloads 1 (map view c.in_ok-top.top.items) = ap texts c.deref-2.ensures.value ∙ (rw c.deref.ensures.value at c.in_ok-parts.ensures) in
     let there : payloads 1 (map view c.in_ok-top.top.items) ≢ [] =
-    texts_some c.in_ok-parts.parts.items _ (grind (arith, common_steps)) (rw c.deref.ensures.value at c.in_ok-parts.ensures) in
+    payloads_some c.in_ok-parts.parts.items _ (rw c.deref.ensures.value at c.in_ok-parts.ensures) (grind (arith, common_steps)) in
     let inner : IsMessage rules_keys (payloads 1 (map view c.in_ok-top.top.items)) (map view c.in_ok-fields.fields.items) = rw (parts, c.rules_keys.ensures) at c.in_ok-fields.ensures.found in
     MatchResult-weaker c.admit_rules.result c.admit_rules.ensures.fault (λ _ _. tt) (λ e h. elim h [
       | inl memory ↦ inl memory
