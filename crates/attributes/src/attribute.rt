@@ -1,6 +1,7 @@
 //! The attributes of a request, each a function of its parts.
-ghost use Rattle.std.specs.Prelude.{◌≡◌, ◌<◌, ◌==◌, option_copied, option_map};
+ghost use Rattle.std.specs.Prelude.{◌≡◌, ◌<◌, ◌==◌, option_copied, option_map, take};
 ghost use Rattle.std.specs.List.{after_first, before_first};
+ghost use Rattle.std.specs.Str.{IsCharBoundary};
 ghost use Rattle.attributes.specs.Attributes.{attr_of, data_of, port_data, query_of, text, url_path_of};
 ghost use Rattle.attributes.specs.Conn.{facts_of, text_of};
 ghost use Rattle.attributes.specs.Request.{IsRequest, header_of, protocol_of};
@@ -87,13 +88,6 @@ impl Request {
         }
     }
 
-    /// The target before its first `#` and the first `?`.
-    pub fn url_path(&self) -> &str
-        ensures { result.now ≡ url_path_of self.now.target }
-    {
-        before(before(self.target(), '#'), '?')
-    }
-
     /// What stands between the target's first `?` and the first `#`; empty where no `?` stands
     /// before the first `#`.
     pub fn query(&self) -> &str
@@ -112,6 +106,14 @@ impl Request {
             "HTTP/1.0"
         }
     }
+}
+
+// How many bytes come before the first `#` and the first `?`.
+pub(crate) fn path_length(target: &str) -> usize
+    ensures boundary { IsCharBoundary target.now result }
+    ensures path { take result target.now ≡ url_path_of target.now }
+{
+    before(before(target, '#'), '?').len()
 }
 
 // The text before the first such character, or all of it.

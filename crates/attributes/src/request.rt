@@ -1,10 +1,12 @@
 //! A request as values, and what its limits and its policies read of it.
 ghost use Rattle.std.specs.Prelude.{◌≡◌, ℕ, ◌+◌, IfOk, option_copied, vec_len};
 ghost use Rattle.std.specs.String.{string_bytes};
+ghost use Rattle.attributes.specs.Attributes.{url_path_of};
 ghost use Rattle.attributes.specs.Conn.{facts_of};
 ghost use Rattle.attributes.specs.Headers.{AreJoined, all_entries, entries_of};
 ghost use Rattle.attributes.specs.Request.{IsRequest, header_of, request_of};
 
+use crate::attribute::path_length;
 use crate::conn::Conn;
 use crate::headers::{Header, find_header, join_headers};
 use std::alloc::{AllocError, Global};
@@ -15,6 +17,8 @@ use std::marker::Model;
 pub struct Request {
     method: String,
     target: String,
+    // how many bytes of the target come before its first `#` and the first `?`
+    path_length: usize,
     http11: bool,
     lines: usize,
     headers: Vec<Header>,
@@ -22,6 +26,9 @@ pub struct Request {
 }
 
 impl Model for Request {
+    ghost use Rattle.std.specs.Prelude.{◌≡◌, take};
+    ghost use Rattle.std.specs.Str.{IsCharBoundary};
+    ghost use Rattle.attributes.specs.Attributes.{url_path_of};
     ghost use Rattle.attributes.specs.Headers.{entries_of};
     ghost use Rattle.attributes.specs.Request.{RequestValue, IsRequest};
     ghost use Rattle.attributes.specs.Conn.{facts_of};
@@ -45,7 +52,8 @@ impl Model for Request {
       lines = r.lines;
       headers = entries_of r.headers.items;
       facts = facts_of r.conn;
-    }) };
+    }) × IsCharBoundary (string_bytes r.target) r.path_length
+        × (take r.path_length (string_bytes r.target) ≡ url_path_of (string_bytes r.target)) };
 }
 
 impl Request {
@@ -78,9 +86,11 @@ impl Request {
             conn.scheme.as_str(),
             lines,
         )?;
+        let path_length = path_length(target.as_str());
         Ok(Request {
             method,
             target,
+            path_length,
             http11,
             lines: count,
             headers,
@@ -100,6 +110,13 @@ impl Request {
         ensures { result.now ≡ self.now.target }
     {
         self.target.as_str()
+    }
+
+    /// The target before its first `#` and the first `?`.
+    pub fn url_path(&self) -> &str
+        ensures { result.now ≡ url_path_of self.now.target }
+    {
+        &self.target[..self.path_length]
     }
 
     /// Whether the version is HTTP/1.1; else it is HTTP/1.0.
