@@ -229,14 +229,9 @@ impl Limits {
     fn fits_head(&self, request: &Request) -> bool
         ensures { IsTrue result ↔ HeadInLimits request.now self.now }
     {
-        let protocol = if request.is_http11() {
-            "HTTP/1.1"
-        } else {
-            "HTTP/1.0"
-        };
         request.method().len() <= self.method
             && request.target().len() <= self.target
-            && protocol.len() <= self.text
+            && request.protocol().len() <= self.text
     }
 
     // Each header's name and value.
