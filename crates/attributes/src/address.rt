@@ -9,7 +9,9 @@ use std::net::{Ipv4Addr, Ipv6Addr};
 /// An IP address as a number: the bytes of its standard form, most significant first.
 #[derive(Clone, Copy, Debug, PartialEq, Eq)]
 pub enum Ip {
+    /// An address of IPv4, of 4 bytes.
     V4(u32),
+    /// An address of IPv6, of 16 bytes.
     V6(u128),
 }
 

@@ -12,36 +12,62 @@ use crate::request::Request;
 /// An attribute, by its name with a dot: `RequestUrlPath` is `request.url_path`.
 #[derive(Clone, Copy, Debug, PartialEq, Eq)]
 pub enum AttrId {
+    /// The whole target.
     RequestPath,
+    /// The target before its first `#` and the first `?`.
     RequestUrlPath,
+    /// The header `:authority`: the Host field's value.
     RequestHost,
+    /// The scheme that the connection's facts give.
     RequestScheme,
+    /// The method, as it was sent.
     RequestMethod,
+    /// All headers by ascending name, pseudo-headers included.
     RequestHeaders,
+    /// The header `referer`.
     RequestReferer,
+    /// The header `user-agent`.
     RequestUseragent,
+    /// The header `x-request-id`.
     RequestId,
+    /// `HTTP/1.1` or `HTTP/1.0`.
     RequestProtocol,
+    /// What stands between the target's first `?` and the first `#`.
     RequestQuery,
+    /// The address that the connection comes from.
     SourceAddress,
+    /// The port that the connection comes from.
     SourcePort,
+    /// The address that the connection goes to.
     DestinationAddress,
+    /// The port that the connection goes to.
     DestinationPort,
+    /// Whether TLS is used and the client showed a certificate.
     ConnectionMtls,
+    /// The number of the connection.
     ConnectionId,
+    /// The server name that the client asked for.
     ConnectionRequestedServerName,
+    /// The version of TLS.
     ConnectionTlsVersion,
+    /// The subject of the peer certificate.
     ConnectionSubjectPeerCertificate,
+    /// The first DNS entry of the peer certificate's SAN field.
     ConnectionDnsSanPeerCertificate,
+    /// The first URI entry of the peer certificate's SAN field.
     ConnectionUriSanPeerCertificate,
 }
 
 /// The value of an attribute, lent by the request.
 #[derive(Clone, Copy, Debug)]
 pub enum AttrValue<'a> {
+    /// A text.
     Text(&'a str),
+    /// A number with a sign: a port.
     Int(i64),
+    /// A number without a sign: the connection's.
     Uint(u64),
+    /// Yes or no.
     Bool(bool),
     /// Entries of a map by ascending name.
     Pairs(&'a [Header]),
