@@ -1,39 +1,17 @@
 -- A text spells one address or none.
-use Rattle.std.proofs.Common.{◌≡◌, ℕ, ◌⊎◌, inl, inr, true, false, List, [], ◌∷◌, Option, Some, None, refl, sym, ap, ◌∙◌, subst, append-nil, lit≤}
+use Rattle.std.proofs.Common.{◌≡◌, ℕ, ◌⊎◌, inl, inr, true, false, List, [], ◌∷◌, Option, Some, None, refl, sym, ◌∙◌, subst, append-nil}
 use Rattle.std.specs.Net.Grammar.{IsDotted}
 use Rattle.std.specs.Net.Grammar as Std
 use Rattle.std.specs.Net.Reader.{read_ipv4, read_ipv6}
 use Rattle.std.proofs.NetLemmas.Options.{same_parts}
-use Rattle.std.proofs.NetLemmas.Ipv4.{read_ipv4_complete, read_ipv4_sound}
-use Rattle.std.proofs.NetLemmas.Ipv6.{read_ipv6_complete, read_ipv6_sound, EndsGroups-nil}
-use Rattle.attributes.specs.Address.{has_dot, AreColonHex, IsIpText, number_of}
+use Rattle.std.proofs.NetLemmas.Ipv4.{read_ipv4_sound}
+use Rattle.std.proofs.NetLemmas.Ipv6.{read_ipv6_sound}
+use Rattle.attributes.specs.Address.{has_dot, IsIpText, number_of}
 use Rattle.attributes.specs.declared.address.Ip.{Ip}
 use Rattle.attributes.specs.declared.address.Ip.TheVariants.{V4, V6}
-use Rattle.attributes.proofs.AddressText.{has_dot-dotted, no_dot-whole, to_library-whole, from_library-whole}
+use Rattle.attributes.proofs.OneAddress.{dotted_read, groups_read}
+use Rattle.attributes.proofs.AddressText.{has_dot-dotted, no_dot-whole, from_library-whole}
 use Rattle.rbac_match.specs.Network.{IsNoIpText}
-
--- four numbers are read as they are, to the end of the text
-dotted_read : (text octets : List ℕ) → IsDotted text octets → read_ipv4 text ≡ Some (octets, [])
-dotted_read text octets h = ap read_ipv4 (sym (append-nil text)) ∙ read_ipv4_complete text octets [] h (lit≤ tt)
-
--- eight groups likewise
-groups_read : (text groups : List ℕ) → AreColonHex text groups → read_ipv6 text ≡ Some (groups, [])
-groups_read text groups h = ap read_ipv6 (sym (append-nil text)) ∙ read_ipv6_complete text groups [] (to_library-whole text groups h) EndsGroups-nil
-
--- a text with a dot has no groups, and one without has no four numbers
-dot_or_not : (text octets groups : List ℕ) → IsDotted text octets → AreColonHex text groups → ⊥
-dot_or_not text octets groups four eight = cc (has_dot-dotted text octets four, no_dot-whole text groups eight)
-
--- a text spells one address
-pub ip_one : (text : List ℕ) (a b : Ip) → IsIpText text a → IsIpText text b → a ≡ b
-ip_one text (V4 m) (V4 n) a b =
-    let same : a.0 ≡ b.0 = (same_parts _ _ _ _ (sym (dotted_read text a.0 a.1) ∙ dotted_read text b.0 b.1)).0 in
-    ap V4 (a.2 ∙ ap (number_of 256) same ∙ sym b.2)
-ip_one text (V4 m) (V6 n) a b = absurd (dot_or_not text a.0 b.0 a.1 b.1)
-ip_one text (V6 m) (V4 n) a b = absurd (dot_or_not text b.0 a.0 b.1 a.1)
-ip_one text (V6 m) (V6 n) a b =
-    let same : a.0 ≡ b.0 = (same_parts _ _ _ _ (sym (groups_read text a.0 a.1) ∙ groups_read text b.0 b.1)).0 in
-    ap V6 (a.2 ∙ ap (number_of 65536) same ∙ sym b.2)
 
 -- a text with a dot that is not four numbers spells nothing
 no_dotted : (text : List ℕ) → has_dot text ≡ true → ((octets : List ℕ) → read_ipv4 text ≡ Some (octets, []) → ⊥) → IsNoIpText text

@@ -13,7 +13,8 @@ use Rattle.proto_wire.specs.declared.refusal.Refusal.{Refusal}
 use Rattle.proto_wire.specs.declared.refusal.Refusal.TheVariants.{BadText, OutOfRange}
 use Rattle.rbac_match.specs.Network.{cidr_keys, length_keys, address_text, IsCidr, CidrFault, cidr_fields, address_not_utf8, no_address, in_length, too_long}
 use Rattle.rbac_match.proofs.TextSettled.{utf8_or_not}
-use Rattle.rbac_match.proofs.IpSettled.{ip_settled, ip_one}
+use Rattle.attributes.proofs.OneAddress.{one_address}
+use Rattle.rbac_match.proofs.IpSettled.{ip_settled}
 
 -- of a message whose fields are known, and whose address is spelled
 module _ (parts : List (List ℕ)) (fs : List Wire) (message : IsMessage cidr_keys parts fs) where
@@ -58,7 +59,7 @@ cidr_apart parts range e (fs, message, utf8, spelled, length, within) (too_long 
     let same : gs ≡ fs = merges-one parts gs fs merged message.0 in
     let P : List Wire → Type 0 = λ xs. IsIpText (address_text xs) ip in
     let Q : List Wire → Type 0 = λ xs. Merges (payloads 2 xs) ls in
-    let address : ip ≡ range.address = ip_one (address_text fs) ip range.address (subst P same also) spelled in
+    let address : ip ≡ range.address = one_address (address_text fs) ip range.address (subst P same also) spelled in
     let one : ls ≡ length.0 = merges-one (payloads 2 fs) ls length.0 (subst Q same joined) length.1.0 in
     omega (arith, ap width_of address, ap (uint32_at 1) one, length.2)
 
@@ -68,7 +69,7 @@ cidr_one parts v w (fs, message, utf8, spelled, length, within) (gs, also, utf8'
     let same : gs ≡ fs = merges-one parts gs fs also.0 message.0 in
     let P : List Wire → Type 0 = λ xs. IsIpText (address_text xs) w.address in
     let Q : List Wire → Type 0 = λ xs. IsMessage length_keys (payloads 2 xs) length'.0 in
-    let address : v.address ≡ w.address = ip_one (address_text fs) v.address w.address spelled (subst P same spelled') in
+    let address : v.address ≡ w.address = one_address (address_text fs) v.address w.address spelled (subst P same spelled') in
     let one : length.0 ≡ length'.0 = merges-one (payloads 2 fs) length.0 length'.0 length.1.0 (subst Q same length'.1).0 in
     let size : v.size ≡ w.size = length.2 ∙ ap (uint32_at 1) one ∙ sym length'.2 in
     λ i. record { address = address i; size = size i }
