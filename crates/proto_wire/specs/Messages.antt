@@ -1,4 +1,5 @@
--- A message whose fields must all be known: Protocol Buffers encoding guide, "Message Structure"; an unknown field is a fault here.
+-- A message whose fields must all be known: Protocol Buffers encoding guide, "Message Structure"; an
+-- unknown field is a fault here.
 use Rattle.std.specs.Prelude.{◌≡◌, ℕ, List, map}
 use Rattle.std.specs.Borrow.{Bor}
 use Rattle.proto_wire.specs.Fields.{Wire}
@@ -18,4 +19,5 @@ IsMessage keys parts fs = Merges parts fs × AllKnown keys fs
 -- some payload is no list of whole fields, or some field is not known
 pub data MessageFault (keys : List Key) (parts : List (List ℕ)) (e : Refusal) : Type 0 where
   not_whole : Breaks parts → e ≡ BadWire → MessageFault keys parts e
-  not_known : (fs : List Wire) → Merges parts fs → SomeUnknown keys fs → e ≡ UnknownField → MessageFault keys parts e
+  not_known : (fs : List Wire) → Merges parts fs → SomeUnknown keys fs → e ≡ UnknownField
+      → MessageFault keys parts e

@@ -1,4 +1,5 @@
--- Scalars as fields: Protocol Buffers encoding guide, "Base 128 Varints", "Signed Integers" and "Last One Wins".
+-- Scalars as fields: Protocol Buffers encoding guide, "Base 128 Varints", "Signed Integers" and "Last
+-- One Wins".
 use Rattle.std.specs.Prelude.{ℕ, ℤ, Bool, not, ◌==◌, ◌%◌, ◌^◌, List, unwrap_or}
 use Rattle.std.specs.Int.{cast_signed, w32, w64}
 use Rattle.proto_wire.specs.Fields.{Wire}

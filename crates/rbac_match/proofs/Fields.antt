@@ -13,7 +13,8 @@ use Rattle.rbac_match.specs.Member.{Never, MemberFault, none_there, false_there,
 use Rattle.rbac_match.specs.declared.rule.Side.{Side}
 
 -- the last field's number, where it stands
-pub last_number-view : (fs : List Field) (f : Field) → slice_get fs (length fs - 1) ≡ Some f → last_number (map view fs) ≡ Some f.number
+pub last_number-view : (fs : List Field) (f : Field) → slice_get fs (length fs - 1) ≡ Some f
+    → last_number (map view fs) ≡ Some f.number
 last_number-view [] f at = let clash : None ≡ Some f = at in cc
 last_number-view (g ∷ []) f at = let same : g ≡ f = (let e : Some g ≡ Some f = at in cc) in ap (λ x. Some x.number) same
 last_number-view (g ∷ h ∷ fs) f at =
@@ -26,7 +27,8 @@ pub numbers_agree : (run : List Wire) (i j : ℕ) → last_number run ≡ Some i
 numbers_agree run i j a b = let e : Some i ≡ Some j = sym a ∙ b in cc
 
 -- and not two
-pub numbers_differ : (run : List Wire) (i j : ℕ) → last_number run ≡ Some i → last_number run ≡ Some j → eqb i j ≡ false → ⊥
+pub numbers_differ : (run : List Wire) (i j : ℕ) → last_number run ≡ Some i → last_number run ≡ Some j
+    → eqb i j ≡ false → ⊥
 numbers_differ run i j a b apart = eqb-false i j apart (numbers_agree run i j a b)
 
 -- and where there is one, not none
@@ -34,13 +36,15 @@ pub number_there : (run : List Wire) (i : ℕ) → last_number run ≡ None → 
 number_there run i none at = let e : None ≡ Some i = sym none ∙ at in cc
 
 -- what is wrong with a set's own fields is wrong, whatever is wrong with its rules
-pub set_weaker : (Below : List (List ℕ) → Refusal → Type 0) (parts : List (List ℕ)) (e : Refusal) → SetFault Never parts e → SetFault Below parts e
+pub set_weaker : (Below : List (List ℕ) → Refusal → Type 0) (parts : List (List ℕ)) (e : Refusal)
+    → SetFault Never parts e → SetFault Below parts e
 set_weaker Below parts e (set_fields bad) = set_fields bad
 set_weaker Below parts e (set_empty fs message none is) = set_empty fs message none is
 set_weaker Below parts e (in_rule fs child merged here bad) = absurd bad
 
 -- the same of a rule's own fields
-pub level_weaker : (side : Side) (Below : List (List ℕ) → Refusal → Type 0) (parts : List (List ℕ)) (e : Refusal) → LevelFault side Never parts e → LevelFault side Below parts e
+pub level_weaker : (side : Side) (Below : List (List ℕ) → Refusal → Type 0) (parts : List (List ℕ)) (e : Refusal)
+    → LevelFault side Never parts e → LevelFault side Below parts e
 level_weaker side Below parts e (own_fields bad) = own_fields bad
 level_weaker side Below parts e (no_member fs message none is) = no_member fs message none is
 level_weaker side Below parts e (any_is_false run has at none is) = any_is_false run has at none is
@@ -51,7 +55,9 @@ level_weaker side Below parts e (in_leaf run n leaf has at is bad) = in_leaf run
 level_weaker side Below parts e (in_not run has at bad) = absurd bad
 
 -- what is wrong with the last member's run is wrong with the rule
-pub member_fault : (side : Side) (parts : List (List ℕ)) (fs : List Wire) (e : Refusal) → IsMessage (keys_of side) parts fs → MemberFault side (member_run (keys_of side) fs) e → LevelFault side Never parts e
+pub member_fault : (side : Side) (parts : List (List ℕ)) (fs : List Wire) (e : Refusal)
+    → IsMessage (keys_of side) parts fs → MemberFault side (member_run (keys_of side) fs) e
+    → LevelFault side Never parts e
 member_fault side parts fs e message (none_there none is) = no_member fs message none is
 member_fault side parts fs e message (false_there at none is) = any_is_false (member_run (keys_of side) fs) (fs, message.0, refl) at none is
 member_fault side parts fs e message (other_there n at a b c d none is) =

@@ -14,21 +14,25 @@ use Rattle.attributes.proofs.AddressText.{has_dot-dotted, no_dot-whole, from_lib
 use Rattle.rbac_match.specs.Network.{IsNoIpText}
 
 -- a text with a dot that is not four numbers spells nothing
-no_dotted : (text : List ℕ) → has_dot text ≡ true → ((octets : List ℕ) → read_ipv4 text ≡ Some (octets, []) → ⊥) → IsNoIpText text
+no_dotted : (text : List ℕ) → has_dot text ≡ true
+    → ((octets : List ℕ) → read_ipv4 text ≡ Some (octets, []) → ⊥) → IsNoIpText text
 no_dotted text dot never (V4 n) spelled = never spelled.0 (dotted_read text spelled.0 spelled.1)
 no_dotted text dot never (V6 n) spelled = cc (dot, no_dot-whole text spelled.0 spelled.1)
 
 -- nor does one without that is not groups
-no_groups : (text : List ℕ) → has_dot text ≡ false → ((groups : List ℕ) → read_ipv6 text ≡ Some (groups, []) → ⊥) → IsNoIpText text
+no_groups : (text : List ℕ) → has_dot text ≡ false
+    → ((groups : List ℕ) → read_ipv6 text ≡ Some (groups, []) → ⊥) → IsNoIpText text
 no_groups text none never (V4 n) spelled = cc (none, has_dot-dotted text spelled.0 spelled.1)
 no_groups text none never (V6 n) spelled = never spelled.0 (groups_read text spelled.0 spelled.1)
 
 -- what leaves a rest is no reading of the whole
-leaves : (read : Option (List ℕ × List ℕ)) (value whole : List ℕ) (c : ℕ) (rest : List ℕ) → read ≡ Some (value, c ∷ rest) → read ≡ Some (whole, []) → ⊥
+leaves : (read : Option (List ℕ × List ℕ)) (value whole : List ℕ) (c : ℕ) (rest : List ℕ)
+    → read ≡ Some (value, c ∷ rest) → read ≡ Some (whole, []) → ⊥
 leaves read value whole c rest a b = let empty : c ∷ rest ≡ [] = (same_parts _ _ _ _ (sym a ∙ b)).1 in cc
 
 -- a text with a dot, by what reading four numbers comes to
-with_dot : (text : List ℕ) → has_dot text ≡ true → (read : Option (List ℕ × List ℕ)) → read_ipv4 text ≡ read → ((ip : Ip) × IsIpText text ip) ⊎ IsNoIpText text
+with_dot : (text : List ℕ) → has_dot text ≡ true → (read : Option (List ℕ × List ℕ))
+    → read_ipv4 text ≡ read → ((ip : Ip) × IsIpText text ip) ⊎ IsNoIpText text
 with_dot text dot None is = inr (no_dotted text dot (λ octets e. cc))
 with_dot text dot (Some (octets, [])) is =
     let (front, split, spelled) = read_ipv4_sound text octets [] is in
@@ -37,7 +41,8 @@ with_dot text dot (Some (octets, [])) is =
 with_dot text dot (Some (octets, c ∷ rest)) is = inr (no_dotted text dot (λ whole e. leaves _ octets whole c rest is e))
 
 -- and one without, by what reading groups comes to
-without_dot : (text : List ℕ) → has_dot text ≡ false → (read : Option (List ℕ × List ℕ)) → read_ipv6 text ≡ read → ((ip : Ip) × IsIpText text ip) ⊎ IsNoIpText text
+without_dot : (text : List ℕ) → has_dot text ≡ false → (read : Option (List ℕ × List ℕ))
+    → read_ipv6 text ≡ read → ((ip : Ip) × IsIpText text ip) ⊎ IsNoIpText text
 without_dot text none None is = inr (no_groups text none (λ groups e. cc))
 without_dot text none (Some (groups, [])) is =
     let (front, split, spelled) = read_ipv6_sound text groups [] is in

@@ -18,7 +18,8 @@ use Rattle.rbac_match.proofs.IpSettled.{ip_settled}
 
 -- of a message whose fields are known, and whose address is spelled
 module _ (parts : List (List ℕ)) (fs : List Wire) (message : IsMessage cidr_keys parts fs) where
-  length_settles : IsUtf8 (address_text fs) → (ip : Ip) → IsIpText (address_text fs) ip → ((range : Range) × IsCidr parts range) ⊎ ((e : Refusal) × CidrFault parts e)
+  length_settles : IsUtf8 (address_text fs) → (ip : Ip) → IsIpText (address_text fs) ip
+      → ((range : Range) × IsCidr parts range) ⊎ ((e : Refusal) × CidrFault parts e)
   length_settles utf8 ip spelled = elim (message_settled length_keys (payloads 2 fs)) [
     | inr bad ↦ inr (bad.0, in_length fs message.0 bad.1)
     | inl (ls, length) ↦ elim (cases_lt (width_of ip) (uint32_at 1 ls)) [
@@ -37,14 +38,16 @@ module _ (parts : List (List ℕ)) (fs : List Wire) (message : IsMessage cidr_ke
   ]
 
 -- a range, or a fault
-pub cidr_settled : (parts : List (List ℕ)) → ((range : Range) × IsCidr parts range) ⊎ ((e : Refusal) × CidrFault parts e)
+pub cidr_settled : (parts : List (List ℕ))
+    → ((range : Range) × IsCidr parts range) ⊎ ((e : Refusal) × CidrFault parts e)
 cidr_settled parts = elim (message_settled cidr_keys parts) [
   | inr bad ↦ inr (bad.0, cidr_fields bad.1)
   | inl (fs, message) ↦ address_settles parts fs message
 ]
 
 -- not both
-pub cidr_apart : (parts : List (List ℕ)) (range : Range) (e : Refusal) → IsCidr parts range → CidrFault parts e → ⊥
+pub cidr_apart : (parts : List (List ℕ)) (range : Range) (e : Refusal) → IsCidr parts range
+    → CidrFault parts e → ⊥
 cidr_apart parts range e (fs, message, utf8, spelled, length, within) (cidr_fields bad) = message_apart cidr_keys parts fs e message bad
 cidr_apart parts range e (fs, message, utf8, spelled, length, within) (address_not_utf8 gs merged not_utf8 is) =
     let P : List Wire → Type 0 = λ xs. IsUtf8 (address_text xs) in

@@ -27,7 +27,8 @@ pub port_one : (run : List Wire) (m n : ℕ) → IsPort run m → IsPort run n �
 port_one run m n a b = a.0 ∙ sym b.0
 
 -- two bounds are those of some ports, or of none
-bounds_settled : (fs : List Wire) (s e : ℤ) → int32_at 1 fs ≡ s → int32_at 2 fs ≡ e → ((span : PortSpan) × AreBounds fs span) ⊎ AreNoBounds fs
+bounds_settled : (fs : List Wire) (s e : ℤ) → int32_at 1 fs ≡ s → int32_at 2 fs ≡ e
+    → ((span : PortSpan) × AreBounds fs span) ⊎ AreNoBounds fs
 bounds_settled fs (negsuc m) e start end = inr (inl (omega (arith, ints, start)))
 bounds_settled fs (pos m) (negsuc n) start end = inr (inr (inr (omega (arith, ints, start, end))))
 bounds_settled fs (pos m) (pos n) start end = elim (cases_lt 65536 n) [
@@ -45,7 +46,8 @@ bounds_apart fs span are (inr (inl above)) = omega (arith, ints, are.1, are.3, a
 bounds_apart fs span are (inr (inr none)) = omega (arith, ints, are.0, are.1, are.2, none)
 
 -- a range of ports, or a fault
-pub port_range_settled : (parts : List (List ℕ)) → ((span : PortSpan) × IsPortRange parts span) ⊎ ((e : Refusal) × PortRangeFault parts e)
+pub port_range_settled : (parts : List (List ℕ))
+    → ((span : PortSpan) × IsPortRange parts span) ⊎ ((e : Refusal) × PortRangeFault parts e)
 port_range_settled parts = elim (message_settled range_keys parts) [
   | inr bad ↦ inr (bad.0, range_fields bad.1)
   | inl (fs, message) ↦ elim (bounds_settled fs _ _ refl refl) [
@@ -55,13 +57,15 @@ port_range_settled parts = elim (message_settled range_keys parts) [
 ]
 
 -- not both
-pub port_range_apart : (parts : List (List ℕ)) (span : PortSpan) (e : Refusal) → IsPortRange parts span → PortRangeFault parts e → ⊥
+pub port_range_apart : (parts : List (List ℕ)) (span : PortSpan) (e : Refusal) → IsPortRange parts span
+    → PortRangeFault parts e → ⊥
 port_range_apart parts span e (fs, message, are) (range_fields bad) = message_apart range_keys parts fs e message bad
 port_range_apart parts span e (fs, message, are) (no_bounds gs merged none is) =
     bounds_apart fs span are (subst AreNoBounds (merges-one parts gs fs merged message.0) none)
 
 -- one range at most
-pub port_range_one : (parts : List (List ℕ)) (v w : PortSpan) → IsPortRange parts v → IsPortRange parts w → v ≡ w
+pub port_range_one : (parts : List (List ℕ)) (v w : PortSpan) → IsPortRange parts v → IsPortRange parts w
+    → v ≡ w
 port_range_one parts v w (fs, message, are) (gs, also, are') =
     let same : gs ≡ fs = merges-one parts gs fs also.0 message.0 in
     let others : AreBounds fs w = (let P : List Wire → Type 0 = λ xs. AreBounds xs w in subst P same are') in

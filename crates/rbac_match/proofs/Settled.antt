@@ -20,7 +20,8 @@ use Rattle.rbac_match.specs.declared.rule.Side.{Side}
 -- of one level: the rules one level down are settled by what is given of them
 module _ (Below : List (List ℕ) → Formula → Type 0) (Fails : List (List ℕ) → Refusal → Type 0) where
   module _ (below_settled : (parts : List (List ℕ)) → ((f : Formula) × Below parts f) ⊎ ((e : Refusal) × Fails parts e)) where
-    rules_settled : (children : List (List ℕ)) → ((gs : Formulas) × AreRules Below children gs) ⊎ ((child : List ℕ) × Contains children child × (e : Refusal) × Fails (child ∷ []) e)
+    rules_settled : (children : List (List ℕ))
+        → ((gs : Formulas) × AreRules Below children gs) ⊎ ((child : List ℕ) × Contains children child × (e : Refusal) × Fails (child ∷ []) e)
     rules_settled [] = inl (end, tt)
     rules_settled (child ∷ children) = elim (below_settled (child ∷ [])) [
       | inr bad ↦ inr (child, contains_first child children, bad.0, bad.1)
@@ -30,7 +31,8 @@ module _ (Below : List (List ℕ) → Formula → Type 0) (Fails : List (List �
       ]
     ]
 
-    set_settled : (parts : List (List ℕ)) → ((gs : Formulas) × IsSet Below parts gs) ⊎ ((e : Refusal) × SetFault Fails parts e)
+    set_settled : (parts : List (List ℕ))
+        → ((gs : Formulas) × IsSet Below parts gs) ⊎ ((e : Refusal) × SetFault Fails parts e)
     set_settled parts = elim (message_settled set_keys parts) [
       | inr bad ↦ inr (bad.0, set_fields bad.1)
       | inl message ↦ elim (nil_or_not (payloads 1 message.0)) [
@@ -44,7 +46,8 @@ module _ (Below : List (List ℕ) → Formula → Type 0) (Fails : List (List �
 
     module _ (side : Side) (parts : List (List ℕ)) (fs : List Wire) (message : IsMessage (keys_of side) parts fs) where
       -- the last member's run settles the rule, by the member's number
-      run_settled : (n : ℕ) → last_number (member_run (keys_of side) fs) ≡ Some n → ((f : Formula) × IsLevel side Below parts f) ⊎ ((e : Refusal) × LevelFault side Fails parts e)
+      run_settled : (n : ℕ) → last_number (member_run (keys_of side) fs) ≡ Some n
+          → ((f : Formula) × IsLevel side Below parts f) ⊎ ((e : Refusal) × LevelFault side Fails parts e)
       run_settled n at =
           let run : List Wire = member_run (keys_of side) fs in
           let has : HasRun side parts run = (fs, message.0, refl) in
@@ -80,7 +83,8 @@ module _ (Below : List (List ℕ) → Formula → Type 0) (Fails : List (List �
             ]
           ]
 
-    level_settled : (side : Side) (parts : List (List ℕ)) → ((f : Formula) × IsLevel side Below parts f) ⊎ ((e : Refusal) × LevelFault side Fails parts e)
+    level_settled : (side : Side) (parts : List (List ℕ))
+        → ((f : Formula) × IsLevel side Below parts f) ⊎ ((e : Refusal) × LevelFault side Fails parts e)
     level_settled side parts = elim (message_settled (keys_of side) parts) [
       | inr bad ↦ inr (bad.0, own_fields bad.1)
       | inl message ↦ elim (last_number (member_run (keys_of side) message.0)) as (λ o. last_number (member_run (keys_of side) message.0) ≡ o → ((f : Formula) × IsLevel side Below parts f) ⊎ ((e : Refusal) × LevelFault side Fails parts e)) [
@@ -90,7 +94,8 @@ module _ (Below : List (List ℕ) → Formula → Type 0) (Fails : List (List �
     ]
 
 -- a rule's payloads are a rule, or have a fault
-pub rule_settled : (side : Side) (depth : ℕ) (parts : List (List ℕ)) → ((f : Formula) × IsRule side depth parts f) ⊎ ((e : Refusal) × RuleFault side depth parts e)
+pub rule_settled : (side : Side) (depth : ℕ) (parts : List (List ℕ))
+    → ((f : Formula) × IsRule side depth parts f) ⊎ ((e : Refusal) × RuleFault side depth parts e)
 rule_settled side zero parts = inr (TooLarge, refl)
 rule_settled side (suc depth) parts = level_settled (IsRule side depth) (RuleFault side depth) (rule_settled side depth) side parts
 
@@ -100,20 +105,23 @@ pub rules_all_settled : (side : Side) (depth : ℕ) (children : List (List ℕ))
 rules_all_settled side depth = rules_settled (IsRule side depth) (RuleFault side depth) (rule_settled side depth)
 
 -- a number is no leaf's and a leaf's at once
-leaf_clash : (side : Side) (run : List Wire) (i n : ℕ) (leaf : Leaf) → last_number run ≡ Some i → leaf_at side i ≡ None → last_number run ≡ Some n → leaf_at side n ≡ Some leaf → ⊥
+leaf_clash : (side : Side) (run : List Wire) (i n : ℕ) (leaf : Leaf) → last_number run ≡ Some i
+    → leaf_at side i ≡ None → last_number run ≡ Some n → leaf_at side n ≡ Some leaf → ⊥
 leaf_clash side run i n leaf at none at' is =
     let same : i ≡ n = numbers_agree run i n at at' in
     let P : ℕ → Type 0 = λ x. leaf_at side x ≡ None in
     let clash : Some leaf ≡ None = sym is ∙ subst P same none in cc
 
 -- a number is one leaf's
-leaves_agree : (side : Side) (n k : ℕ) (leaf other : Leaf) → n ≡ k → leaf_at side n ≡ Some leaf → leaf_at side k ≡ Some other → leaf ≡ other
+leaves_agree : (side : Side) (n k : ℕ) (leaf other : Leaf) → n ≡ k → leaf_at side n ≡ Some leaf
+    → leaf_at side k ≡ Some other → leaf ≡ other
 leaves_agree side n k leaf other same is is' = let e : Some leaf ≡ Some other = sym is ∙ ap (leaf_at side) same ∙ is' in cc
 
 -- of one level: no rule one level down is both
 module _ (Below : List (List ℕ) → Formula → Type 0) (Fails : List (List ℕ) → Refusal → Type 0) where
   module _ (below_apart : (parts : List (List ℕ)) (f : Formula) (e : Refusal) → Below parts f → Fails parts e → ⊥) where
-    rules_apart : (children : List (List ℕ)) (gs : Formulas) (child : List ℕ) (e : Refusal) → AreRules Below children gs → Contains children child → Fails (child ∷ []) e → ⊥
+    rules_apart : (children : List (List ℕ)) (gs : Formulas) (child : List ℕ) (e : Refusal)
+        → AreRules Below children gs → Contains children child → Fails (child ∷ []) e → ⊥
     rules_apart [] end child e are here bad = let lt : here.0 < 0 = here.1 in absurd (omega arith)
     rules_apart [] (formula g gs) child e are here bad = are
     rules_apart (c ∷ children) end child e are here bad = are
@@ -122,7 +130,8 @@ module _ (Below : List (List ℕ) → Formula → Type 0) (Fails : List (List �
       | inr later ↦ rules_apart children gs child e are.1 later bad
     ]
 
-    set_apart : (parts : List (List ℕ)) (gs : Formulas) (e : Refusal) → IsSet Below parts gs → SetFault Fails parts e → ⊥
+    set_apart : (parts : List (List ℕ)) (gs : Formulas) (e : Refusal) → IsSet Below parts gs
+        → SetFault Fails parts e → ⊥
     set_apart parts gs e (fs, message, some, are) (set_fields bad) = message_apart set_keys parts fs e message bad
     set_apart parts gs e (fs, message, some, are) (set_empty hs also none is) =
         some (let P : List Wire → Type 0 = λ xs. payloads 1 xs ≡ [] in subst P (merges-one parts hs fs also.0 message.0) none)
@@ -130,42 +139,49 @@ module _ (Below : List (List ℕ) → Formula → Type 0) (Fails : List (List �
         rules_apart (payloads 1 fs) gs child e are (let P : List Wire → Type 0 = λ xs. Contains (payloads 1 xs) child in subst P (merges-one parts hs fs also message.0) here) bad
 
     -- what the run says has no fault
-    any_apart : (side : Side) (run : List Wire) (f : Formula) → Says side Below run f → last_number run ≡ Some 3 → any_value run ≡ 0 → ⊥
+    any_apart : (side : Side) (run : List Wire) (f : Formula) → Says side Below run f
+        → last_number run ≡ Some 3 → any_value run ≡ 0 → ⊥
     any_apart side run anything says at none = says.1 none
     any_apart side run (all_of gs) says at none = numbers_differ run 1 3 says.0 at refl
     any_apart side run (any_of gs) says at none = numbers_differ run 2 3 says.0 at refl
     any_apart side run (none_of g) says at none = numbers_differ run 8 3 says.0 at refl
     any_apart side run (matches m) (n, leaf, at', is, read) at none = leaf_clash side run 3 n leaf at (no_leaf side).2 at' is
 
-    other_apart : (side : Side) (run : List Wire) (f : Formula) (n : ℕ) → Says side Below run f → last_number run ≡ Some n → n ≢ 1 → n ≢ 2 → n ≢ 3 → n ≢ 8 → leaf_at side n ≡ None → ⊥
+    other_apart : (side : Side) (run : List Wire) (f : Formula) (n : ℕ) → Says side Below run f
+        → last_number run ≡ Some n → n ≢ 1 → n ≢ 2 → n ≢ 3 → n ≢ 8 → leaf_at side n ≡ None → ⊥
     other_apart side run anything n says at a b c d none = c (numbers_agree run n 3 at says.0)
     other_apart side run (all_of gs) n says at a b c d none = a (numbers_agree run n 1 at says.0)
     other_apart side run (any_of gs) n says at a b c d none = b (numbers_agree run n 2 at says.0)
     other_apart side run (none_of g) n says at a b c d none = d (numbers_agree run n 8 at says.0)
     other_apart side run (matches m) n (k, leaf, at', is, read) at a b c d none = leaf_clash side run n k leaf at none at' is
 
-    all_apart : (side : Side) (run : List Wire) (f : Formula) (e : Refusal) → Says side Below run f → last_number run ≡ Some 1 → SetFault Fails (payloads 1 run) e → ⊥
+    all_apart : (side : Side) (run : List Wire) (f : Formula) (e : Refusal) → Says side Below run f
+        → last_number run ≡ Some 1 → SetFault Fails (payloads 1 run) e → ⊥
     all_apart side run anything e says at bad = numbers_differ run 3 1 says.0 at refl
     all_apart side run (all_of gs) e says at bad = set_apart (payloads 1 run) gs e says.1 bad
     all_apart side run (any_of gs) e says at bad = numbers_differ run 2 1 says.0 at refl
     all_apart side run (none_of g) e says at bad = numbers_differ run 8 1 says.0 at refl
     all_apart side run (matches m) e (n, leaf, at', is, read) at bad = leaf_clash side run 1 n leaf at (no_leaf side).0 at' is
 
-    either_apart : (side : Side) (run : List Wire) (f : Formula) (e : Refusal) → Says side Below run f → last_number run ≡ Some 2 → SetFault Fails (payloads 2 run) e → ⊥
+    either_apart : (side : Side) (run : List Wire) (f : Formula) (e : Refusal) → Says side Below run f
+        → last_number run ≡ Some 2 → SetFault Fails (payloads 2 run) e → ⊥
     either_apart side run anything e says at bad = numbers_differ run 3 2 says.0 at refl
     either_apart side run (all_of gs) e says at bad = numbers_differ run 1 2 says.0 at refl
     either_apart side run (any_of gs) e says at bad = set_apart (payloads 2 run) gs e says.1 bad
     either_apart side run (none_of g) e says at bad = numbers_differ run 8 2 says.0 at refl
     either_apart side run (matches m) e (n, leaf, at', is, read) at bad = leaf_clash side run 2 n leaf at (no_leaf side).1 at' is
 
-    not_apart : (side : Side) (run : List Wire) (f : Formula) (e : Refusal) → Says side Below run f → last_number run ≡ Some 8 → Fails (payloads 8 run) e → ⊥
+    not_apart : (side : Side) (run : List Wire) (f : Formula) (e : Refusal) → Says side Below run f
+        → last_number run ≡ Some 8 → Fails (payloads 8 run) e → ⊥
     not_apart side run anything e says at bad = numbers_differ run 3 8 says.0 at refl
     not_apart side run (all_of gs) e says at bad = numbers_differ run 1 8 says.0 at refl
     not_apart side run (any_of gs) e says at bad = numbers_differ run 2 8 says.0 at refl
     not_apart side run (none_of g) e says at bad = below_apart (payloads 8 run) g e says.1 bad
     not_apart side run (matches m) e (n, leaf, at', is, read) at bad = leaf_clash side run 8 n leaf at (no_leaf side).3 at' is
 
-    in_leaf_apart : (side : Side) (run : List Wire) (f : Formula) (n : ℕ) (leaf : Leaf) (e : Refusal) → Says side Below run f → last_number run ≡ Some n → leaf_at side n ≡ Some leaf → LeafFault leaf n run e → ⊥
+    in_leaf_apart : (side : Side) (run : List Wire) (f : Formula) (n : ℕ) (leaf : Leaf) (e : Refusal)
+        → Says side Below run f → last_number run ≡ Some n → leaf_at side n ≡ Some leaf
+        → LeafFault leaf n run e → ⊥
     in_leaf_apart side run anything n leaf e says at is bad = leaf_clash side run 3 n leaf says.0 (no_leaf side).2 at is
     in_leaf_apart side run (all_of gs) n leaf e says at is bad = leaf_clash side run 1 n leaf says.0 (no_leaf side).0 at is
     in_leaf_apart side run (any_of gs) n leaf e says at is bad = leaf_clash side run 2 n leaf says.0 (no_leaf side).1 at is
@@ -178,7 +194,8 @@ module _ (Below : List (List ℕ) → Formula → Type 0) (Fails : List (List �
         leaf_apart other k run m e read (subst Q one (subst P same bad))
 
     -- what the run says has a member
-    some_number : (side : Side) (run : List Wire) (f : Formula) → Says side Below run f → last_number run ≡ None → ⊥
+    some_number : (side : Side) (run : List Wire) (f : Formula) → Says side Below run f
+        → last_number run ≡ None → ⊥
     some_number side run anything says none = number_there run 3 none says.0
     some_number side run (all_of gs) says none = number_there run 1 none says.0
     some_number side run (any_of gs) says none = number_there run 2 none says.0
@@ -190,10 +207,12 @@ module _ (Below : List (List ℕ) → Formula → Type 0) (Fails : List (List �
       run_is : (run : List Wire) → HasRun side parts run → run ≡ member_run (keys_of side) fs
       run_is run has = has.2 ∙ ap (member_run (keys_of side)) (merges-one parts has.0 fs has.1 merged)
 
-      says_at : (run : List Wire) (f : Formula) → HasRun side parts run → Says side Below (member_run (keys_of side) fs) f → Says side Below run f
+      says_at : (run : List Wire) (f : Formula) → HasRun side parts run
+          → Says side Below (member_run (keys_of side) fs) f → Says side Below run f
       says_at run f has says = let P : List Wire → Type 0 = λ r. Says side Below r f in subst P (sym (run_is run has)) says
 
-    level_apart : (side : Side) (parts : List (List ℕ)) (f : Formula) (e : Refusal) → IsLevel side Below parts f → LevelFault side Fails parts e → ⊥
+    level_apart : (side : Side) (parts : List (List ℕ)) (f : Formula) (e : Refusal)
+        → IsLevel side Below parts f → LevelFault side Fails parts e → ⊥
     level_apart side parts f e (fs, message, says) (own_fields bad) = message_apart (keys_of side) parts fs e message bad
     level_apart side parts f e (fs, message, says) (no_member hs also none is) =
         let run : List Wire = member_run (keys_of side) fs in
@@ -209,7 +228,8 @@ module _ (Below : List (List ℕ) → Formula → Type 0) (Fails : List (List �
     level_apart side parts f e (fs, message, says) (in_not run has at bad) = not_apart side run f e (says_at side parts fs message.0 run f has says) at bad
 
 -- a rule has no fault
-pub rule_apart : (side : Side) (depth : ℕ) (parts : List (List ℕ)) (f : Formula) (e : Refusal) → IsRule side depth parts f → RuleFault side depth parts e → ⊥
+pub rule_apart : (side : Side) (depth : ℕ) (parts : List (List ℕ)) (f : Formula) (e : Refusal)
+    → IsRule side depth parts f → RuleFault side depth parts e → ⊥
 rule_apart side zero parts f e is bad = is
 rule_apart side (suc depth) parts f e is bad = level_apart (IsRule side depth) (RuleFault side depth) (rule_apart side depth) side parts f e is bad
 
@@ -220,7 +240,8 @@ rules_all_apart side depth = rules_apart (IsRule side depth) (RuleFault side dep
 
 -- of one level: a rule one level down says one formula
 module _ (Below : List (List ℕ) → Formula → Type 0) (below_one : (parts : List (List ℕ)) (f g : Formula) → Below parts f → Below parts g → f ≡ g) where
-  rules_one : (children : List (List ℕ)) (fs gs : Formulas) → AreRules Below children fs → AreRules Below children gs → fs ≡ gs
+  rules_one : (children : List (List ℕ)) (fs gs : Formulas) → AreRules Below children fs
+      → AreRules Below children gs → fs ≡ gs
   rules_one [] end end a b = refl
   rules_one [] end (formula g gs) a b = absurd b
   rules_one [] (formula f fs) gs a b = absurd a
@@ -233,7 +254,8 @@ module _ (Below : List (List ℕ) → Formula → Type 0) (below_one : (parts : 
       let P : List Wire → Type 0 = λ xs. AreRules Below (payloads 1 xs) gs in
       rules_one (payloads 1 a.0) fs gs a.3 (subst P (merges-one parts b.0 a.0 b.1.0 a.1.0) b.3)
 
-  says_one : (side : Side) (run : List Wire) (f g : Formula) → Says side Below run f → Says side Below run g → f ≡ g
+  says_one : (side : Side) (run : List Wire) (f g : Formula) → Says side Below run f
+      → Says side Below run g → f ≡ g
   says_one side run anything anything a b = refl
   says_one side run anything (all_of gs) a b = absurd (numbers_differ run 3 1 a.0 b.0 refl)
   says_one side run anything (any_of gs) a b = absurd (numbers_differ run 3 2 a.0 b.0 refl)
@@ -265,16 +287,19 @@ module _ (Below : List (List ℕ) → Formula → Type 0) (below_one : (parts : 
       let Q : Leaf → Type 0 = λ l. IsLeaf l n run w in
       ap matches (leaf_one leaf n run m w read (subst Q one (subst P same read')))
 
-  level_one : (side : Side) (parts : List (List ℕ)) (f g : Formula) → IsLevel side Below parts f → IsLevel side Below parts g → f ≡ g
+  level_one : (side : Side) (parts : List (List ℕ)) (f g : Formula) → IsLevel side Below parts f
+      → IsLevel side Below parts g → f ≡ g
   level_one side parts f g a b =
       let P : List Wire → Type 0 = λ xs. Says side Below (member_run (keys_of side) xs) g in
       says_one side (member_run (keys_of side) a.0) f g a.2 (subst P (merges-one parts b.0 a.0 b.1.0 a.1.0) b.2)
 
 -- a rule says one formula
-pub rule_one : (side : Side) (depth : ℕ) (parts : List (List ℕ)) (f g : Formula) → IsRule side depth parts f → IsRule side depth parts g → f ≡ g
+pub rule_one : (side : Side) (depth : ℕ) (parts : List (List ℕ)) (f g : Formula)
+    → IsRule side depth parts f → IsRule side depth parts g → f ≡ g
 rule_one side zero parts f g a b = absurd a
 rule_one side (suc depth) parts f g a b = level_one (IsRule side depth) (rule_one side depth) side parts f g a b
 
 -- several rules say one list of formulas
-pub rules_all_one : (side : Side) (depth : ℕ) (children : List (List ℕ)) (fs gs : Formulas) → AreRules (IsRule side depth) children fs → AreRules (IsRule side depth) children gs → fs ≡ gs
+pub rules_all_one : (side : Side) (depth : ℕ) (children : List (List ℕ)) (fs gs : Formulas)
+    → AreRules (IsRule side depth) children fs → AreRules (IsRule side depth) children gs → fs ≡ gs
 rules_all_one side depth = rules_one (IsRule side depth) (rule_one side depth)

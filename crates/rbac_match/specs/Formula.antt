@@ -1,4 +1,5 @@
--- What a permission or a principal says of a request: Envoy RBAC, "Permission" and "Principal" (config.rbac.v3).
+-- What a permission or a principal says of a request: Envoy RBAC, "Permission" and "Principal"
+-- (config.rbac.v3).
 use Rattle.std.specs.Prelude.{Bool, true, false, not, ◌&&◌, ◌||◌}
 use Rattle.attributes.specs.Request.{RequestValue}
 use Rattle.rbac_match.specs.Matcher.{Matcher, matcher_holds}

@@ -1,4 +1,5 @@
--- The leaves of permissions and principals, and what they say of a request: Envoy v3 `config/rbac/v3/rbac.proto`.
+-- The leaves of permissions and principals, and what they say of a request: Envoy v3
+-- `config/rbac/v3/rbac.proto`.
 use Rattle.std.specs.Prelude.{ℕ, Bool, Option}
 use Rattle.std.specs.Option.{option_map}
 use Rattle.attributes.specs.Address.{Range}

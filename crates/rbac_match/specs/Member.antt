@@ -20,7 +20,8 @@ Never parts e = ⊥
 
 -- the parts merge to a Set with these payloads of rules, some at least
 abbrev pub IsSetOf : List (List ℕ) → List (List ℕ) → Type 0
-IsSetOf parts children = (fs : List Wire) × IsMessage set_keys parts fs × (payloads 1 fs ≢ []) × (children ≡ payloads 1 fs)
+IsSetOf parts children = (fs : List Wire) × IsMessage set_keys parts fs × (payloads 1 fs ≢ [])
+    × (children ≡ payloads 1 fs)
 
 -- the run of the last member says which one it is, and what stands in it
 abbrev pub MemberSays : Side → List Wire → Member → Type 0
@@ -28,17 +29,21 @@ MemberSays side run members.Any = (last_number run ≡ Some 3) × (any_value run
 MemberSays side run (members.All v) = (last_number run ≡ Some 1) × IsSetOf (payloads 1 run) (texts v.items)
 MemberSays side run (members.Either v) = (last_number run ≡ Some 2) × IsSetOf (payloads 2 run) (texts v.items)
 MemberSays side run (members.Not v) = (last_number run ≡ Some 8) × (texts v.items ≡ payloads 8 run)
-MemberSays side run (members.Matches m) = (n : ℕ) × (leaf : Leaf) × (last_number run ≡ Some n) × (leaf_at side n ≡ Some leaf) × IsLeaf leaf n run (matcher_view m)
+MemberSays side run (members.Matches m) = (n : ℕ) × (leaf : Leaf) × (last_number run ≡ Some n)
+    × (leaf_at side n ≡ Some leaf) × IsLeaf leaf n run (matcher_view m)
 
 -- the parts merge to fields that are all members, and the run of the last one says this
 abbrev pub IsMember : Side → List (List ℕ) → Member → Type 0
-IsMember side parts m = (fs : List Wire) × IsMessage (keys_of side) parts fs × MemberSays side (member_run (keys_of side) fs) m
+IsMember side parts m = (fs : List Wire) × IsMessage (keys_of side) parts fs
+    × MemberSays side (member_run (keys_of side) fs) m
 
 -- what is wrong with the run of the last member
 pub data MemberFault (side : Side) (run : List Wire) (e : Refusal) : Type 0 where
   none_there : last_number run ≡ None → e ≡ Missing → MemberFault side run e
   false_there : last_number run ≡ Some 3 → any_value run ≡ 0 → e ≡ OutOfRange → MemberFault side run e
-  other_there : (n : ℕ) → last_number run ≡ Some n → n ≢ 1 → n ≢ 2 → n ≢ 3 → n ≢ 8 → leaf_at side n ≡ None → e ≡ Unsupported → MemberFault side run e
+  other_there : (n : ℕ) → last_number run ≡ Some n → n ≢ 1 → n ≢ 2 → n ≢ 3 → n ≢ 8
+      → leaf_at side n ≡ None → e ≡ Unsupported → MemberFault side run e
   in_all_of : last_number run ≡ Some 1 → SetFault Never (payloads 1 run) e → MemberFault side run e
   in_any_of : last_number run ≡ Some 2 → SetFault Never (payloads 2 run) e → MemberFault side run e
-  in_leaf_of : (n : ℕ) (leaf : Leaf) → last_number run ≡ Some n → leaf_at side n ≡ Some leaf → LeafFault leaf n run e → MemberFault side run e
+  in_leaf_of : (n : ℕ) (leaf : Leaf) → last_number run ≡ Some n → leaf_at side n ≡ Some leaf
+      → LeafFault leaf n run e → MemberFault side run e

@@ -16,10 +16,13 @@ text_key n = record { number = n; wire_type = Text }
 abbrev pub varint_key : ℕ → Key
 varint_key n = record { number = n; wire_type = Varint }
 
--- the members of a rule's oneof: and 1, or 2, any 3 and not 8 are the same in both; a permission's 6 is a port
+-- the members of a rule's oneof: and 1, or 2, any 3 and not 8 are the same in both; a permission's 6 is
+-- a port
 abbrev pub keys_of : Side → List Key
-keys_of Permission = text_key 1 ∷ text_key 2 ∷ varint_key 3 ∷ text_key 4 ∷ text_key 5 ∷ varint_key 6 ∷ text_key 7 ∷ text_key 8 ∷ text_key 9 ∷ text_key 10 ∷ text_key 11 ∷ text_key 12 ∷ []
-keys_of Principal = text_key 1 ∷ text_key 2 ∷ varint_key 3 ∷ text_key 4 ∷ text_key 5 ∷ text_key 6 ∷ text_key 7 ∷ text_key 8 ∷ text_key 9 ∷ text_key 10 ∷ text_key 11 ∷ text_key 12 ∷ []
+keys_of Permission = text_key 1 ∷ text_key 2 ∷ varint_key 3 ∷ text_key 4 ∷ text_key 5 ∷ varint_key 6
+    ∷ text_key 7 ∷ text_key 8 ∷ text_key 9 ∷ text_key 10 ∷ text_key 11 ∷ text_key 12 ∷ []
+keys_of Principal = text_key 1 ∷ text_key 2 ∷ varint_key 3 ∷ text_key 4 ∷ text_key 5 ∷ text_key 6
+    ∷ text_key 7 ∷ text_key 8 ∷ text_key 9 ∷ text_key 10 ∷ text_key 11 ∷ text_key 12 ∷ []
 
 -- the fields of a Set: its rules
 abbrev pub set_keys : List Key

@@ -1,5 +1,7 @@
--- Ranges of addresses: Envoy v3 `config/core/v3/address.proto` (CidrRange), `google/protobuf/wrappers.proto` (UInt32Value);
--- what they say of a request: Envoy RBAC, "Permission" and "Principal" (`destination_ip`, `direct_remote_ip`, `remote_ip`).
+-- Ranges of addresses: Envoy v3 `config/core/v3/address.proto` (CidrRange),
+-- `google/protobuf/wrappers.proto` (UInt32Value);
+-- what they say of a request: Envoy RBAC, "Permission" and "Principal" (`destination_ip`,
+-- `direct_remote_ip`, `remote_ip`).
 use Rattle.std.specs.Prelude.{◌≡◌, ℕ, ◌-◌, ◌/◌, ◌^◌, ◌<◌, ◌≤◌, ◌==◌, Bool, false, List, [], ◌∷◌, Option, Some, None, unwrap_or, IsUtf8}
 use Rattle.attributes.specs.Address.{IsIpText, Range, width_of}
 use Rattle.attributes.specs.Conn.{Facts}
@@ -46,10 +48,14 @@ IsNoIpText text = (ip : Ip) → ¬ IsIpText text ip
 -- a fault of a CidrRange: of its own fields, of its address, or of its length
 pub data CidrFault (parts : List (List ℕ)) (e : Refusal) : Type 0 where
   cidr_fields : MessageFault cidr_keys parts e → CidrFault parts e
-  address_not_utf8 : (fs : List Wire) → Merges parts fs → ¬ IsUtf8 (address_text fs) → e ≡ BadText → CidrFault parts e
-  no_address : (fs : List Wire) → Merges parts fs → IsUtf8 (address_text fs) → IsNoIpText (address_text fs) → e ≡ OutOfRange → CidrFault parts e
-  in_length : (fs : List Wire) → Merges parts fs → MessageFault length_keys (payloads 2 fs) e → CidrFault parts e
-  too_long : (fs ls : List Wire) (ip : Ip) → Merges parts fs → IsIpText (address_text fs) ip → Merges (payloads 2 fs) ls → width_of ip < uint32_at 1 ls → e ≡ OutOfRange → CidrFault parts e
+  address_not_utf8 : (fs : List Wire) → Merges parts fs → ¬ IsUtf8 (address_text fs) → e ≡ BadText
+      → CidrFault parts e
+  no_address : (fs : List Wire) → Merges parts fs → IsUtf8 (address_text fs)
+      → IsNoIpText (address_text fs) → e ≡ OutOfRange → CidrFault parts e
+  in_length : (fs : List Wire) → Merges parts fs → MessageFault length_keys (payloads 2 fs) e
+      → CidrFault parts e
+  too_long : (fs ls : List Wire) (ip : Ip) → Merges parts fs → IsIpText (address_text fs) ip
+      → Merges (payloads 2 fs) ls → width_of ip < uint32_at 1 ls → e ≡ OutOfRange → CidrFault parts e
 
 -- whether the addresses are of one family and have their first `size` bits in common
 abbrev pub share_prefix : ℕ → Ip → Ip → Bool

@@ -1,4 +1,5 @@
--- Ports and ranges of them: Envoy v3 `config/rbac/v3/rbac.proto` (`destination_port`, `destination_port_range`),
+-- Ports and ranges of them: Envoy v3 `config/rbac/v3/rbac.proto` (`destination_port`,
+-- `destination_port_range`),
 -- `type/v3/range.proto` (Int32Range: its start is in it, and its end is not).
 use Rattle.std.specs.Prelude.{◌≡◌, ℕ, pos, ◌<◌, ◌≤◌, ◌<ℤ◌, ◌≤ℤ◌, ◌⊎◌, ◌==◌, ◌&&◌, nat_lt, nat_le, Bool, false, List}
 use Rattle.std.specs.Option.{option_map_or}

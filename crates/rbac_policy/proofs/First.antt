@@ -16,7 +16,8 @@ use Rattle.rbac_policy.specs.declared.filter.Action.TheVariants.{Allow, Deny, Lo
 use Rattle.rbac_policy.proofs.Order.{both_first, both_second, tie, found_later, above_all, not_below, none_below, entries-from_entries}
 
 -- a position in a list is the position in what a function makes of it
-pub position-map : {A B : Type 0} (f : A → B) (p : B → Bool) (i : ℕ) (xs : List A) → position_from p i (map f xs) ≡ position_from (λ x. p (f x)) i xs
+pub position-map : {A B : Type 0} (f : A → B) (p : B → Bool) (i : ℕ) (xs : List A)
+    → position_from p i (map f xs) ≡ position_from (λ x. p (f x)) i xs
 position-map f p i [] = refl
 position-map f p i (x ∷ xs) = ap (cond (p (f x)) (Some i)) (position-map f p (i + 1) xs)
 
@@ -73,7 +74,8 @@ module _ {X : Type 0} (t : X → Bool) where
         sum_by-cons (λ n. cond (below n) 1 0) e.0 (map (λ x. x.0) es) ∙ ap (λ r. cond (is_lt r) 1 0 + count_by below (map (λ x. x.0) es)) (above_all e.0 es name p.0 (both_first _ _ sorted) p.1) in
         (name, (there, λ other h. least other (in_rest fails other h)), omega (arith, count, counted))
 
-  pub first_reports : (i : ℕ) (es : List (List ℕ × X)) → T (is_sorted name_cmp es) → Reports i es (position_from (λ e. t e.1) i es)
+  pub first_reports : (i : ℕ) (es : List (List ℕ × X)) → T (is_sorted name_cmp es)
+      → Reports i es (position_from (λ e. t e.1) i es)
   first_reports i [] sorted = λ name h. h
   first_reports i (e ∷ es) sorted = elim (t e.1) as (λ b. t e.1 ≡ b → Reports i (e ∷ es) (cond b (Some i) (position_from (λ x. t x.1) (i + 1) es))) [
     | true ↦ λ passes. first_passes i e es sorted passes
@@ -100,7 +102,8 @@ module _ (r : RequestValue) (ps : List (List ℕ × Policy)) (sorted : T (is_sor
   to_map name h = let P : Option Policy → Type 0 = λ o. IsSomeAnd o (λ p. IsTrue (policy_matches r p)) in subst P (sym (found_same name)) h
 
   -- what the list reports is what the filter does
-  pub reported : (filter : Filter) → filter.policies ≡ from_entries ps → (o : Option ℕ) → Reports (policy_matches r) 0 ps o
+  pub reported : (filter : Filter) → filter.policies ≡ from_entries ps → (o : Option ℕ)
+      → Reports (policy_matches r) 0 ps o
       → MatchOption o (SomeMatches r filter → ⊥) (λ k. (name : List ℕ) × IsLeastMatch r filter name × (k ≡ number_of filter name))
   reported filter same None none = λ (name, h). none name (to_list name (rw same at h))
   reported filter same (Some k) (name, (has, least), count) =
@@ -126,7 +129,8 @@ module _ (r : RequestValue) (filter : Filter) (items : List NamedPolicy) (sorted
       reported r ps order filter same o (rw at (first_reports (policy_matches r) 0 ps order))
 
   -- each action answers by whether some policy matches
-  answered : (action : Action) (x : Option ℕ) → Reported x → IsTrue (allows action (is_some x)) ↔ LetsThrough action (SomeMatches r filter)
+  answered : (action : Action) (x : Option ℕ) → Reported x
+      → IsTrue (allows action (is_some x)) ↔ LetsThrough action (SomeMatches r filter)
   answered Allow None none = (λ e. let clash : false ≡ true = e in absurd cc, λ some. absurd (none some))
   answered Allow (Some k) (name, least, count) = (λ e. (name, least.0), λ some. refl)
   answered Deny None none = (λ e. none, λ some. refl)

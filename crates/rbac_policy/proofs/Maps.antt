@@ -33,14 +33,17 @@ parts_views-insert (e ∷ es) k v =
     ]
 
 -- one entry more is put into the map
-pub map_of-push : (es : List Entry) (e : Entry) → entries (map_of (es ++ e ∷ [])) ≡ put name_cmp e.name e.parts (entries (map_of es))
+pub map_of-push : (es : List Entry) (e : Entry)
+    → entries (map_of (es ++ e ∷ [])) ≡ put name_cmp e.name e.parts (entries (map_of es))
 map_of-push es e =
     let pair : Entry → List ℕ × List (List ℕ) = λ x. (x.name, x.parts) in
     let turned : reverse (map pair (es ++ e ∷ [])) ≡ pair e ∷ reverse (map pair es) = ap reverse (map-append pair es (e ∷ [])) ∙ reverse-append (map pair es) (pair e ∷ []) in
     ap (λ xs. entries (from_entries {R = name_cmp} xs)) turned ∙ entries-insert nat_list_cmp_total (map_of es) e.name e.parts
 
 -- one entry more is read
-pub are_entries-push : (parts : List (Bor (List ℕ))) (es : List Entry) (part : Bor (List ℕ)) (e : Entry) → AreEntries (texts parts) es → IsEntry part.now e → AreEntries (texts (parts ++ part ∷ [])) (es ++ e ∷ [])
+pub are_entries-push : (parts : List (Bor (List ℕ))) (es : List Entry) (part : Bor (List ℕ)) (e : Entry)
+    → AreEntries (texts parts) es → IsEntry part.now e
+    → AreEntries (texts (parts ++ part ∷ [])) (es ++ e ∷ [])
 are_entries-push [] [] part e are is = (is, tt)
 are_entries-push [] (x ∷ es) part e are is = absurd are
 are_entries-push (p ∷ parts) [] part e are is = absurd are

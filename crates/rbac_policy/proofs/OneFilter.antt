@@ -18,7 +18,8 @@ use Rattle.rbac_policy.specs.declared.filter.Action.TheVariants.{Allow, Deny, Lo
 use Rattle.rbac_policy.proofs.Settled.{entries_readable, readable_one}
 
 -- payloads are one list of entries
-entries_one : (parts : List (List ℕ)) (es fs : List Entry) → AreEntries parts es → AreEntries parts fs → es ≡ fs
+entries_one : (parts : List (List ℕ)) (es fs : List Entry) → AreEntries parts es → AreEntries parts fs
+    → es ≡ fs
 entries_one parts es fs a b = readable_one parts fs es b (entries_readable parts es a)
 
 -- payloads merge to one policy

@@ -28,7 +28,8 @@ tie q x = elim (name_cmp q x) as (λ o. name_cmp q x ≡ o → is_eq o ≡ true 
 ] refl
 
 -- a name that is below all names of a list is none of them
-pub not_below_itself : {X : Type 0} (q : List ℕ) (es : List (List ℕ × X)) (v : X) → T (below_all name_cmp q es) → find name_cmp q es ≡ Some v → ⊥
+pub not_below_itself : {X : Type 0} (q : List ℕ) (es : List (List ℕ × X)) (v : X)
+    → T (below_all name_cmp q es) → find name_cmp q es ≡ Some v → ⊥
 not_below_itself q [] v below = λ found. let clash : None ≡ Some v = found in cc
 not_below_itself {X} q (x ∷ es) v below = elim (eq_by_cmp name_cmp q x.0) as (λ b. eq_by_cmp name_cmp q x.0 ≡ b → cond b (Some x.1) (find name_cmp q es) ≡ Some v → ⊥) [
   | true ↦ λ same found. let P : List ℕ → Type 0 = λ n. T (is_lt (name_cmp q n)) in
@@ -38,7 +39,9 @@ not_below_itself {X} q (x ∷ es) v below = elim (eq_by_cmp name_cmp q x.0) as (
 ] refl
 
 -- what stands at a name in the rest of a map stands at it in the map
-pub found_later : {X : Type 0} (n : List ℕ × X) (ns : List (List ℕ × X)) (name : List ℕ) (x : X) → T (is_sorted name_cmp (n ∷ ns)) → find name_cmp name ns ≡ Some x → find name_cmp name (n ∷ ns) ≡ Some x
+pub found_later : {X : Type 0} (n : List ℕ × X) (ns : List (List ℕ × X)) (name : List ℕ) (x : X)
+    → T (is_sorted name_cmp (n ∷ ns)) → find name_cmp name ns ≡ Some x
+    → find name_cmp name (n ∷ ns) ≡ Some x
 found_later n ns name x sorted found = elim (eq_by_cmp name_cmp name n.0) as (λ b. eq_by_cmp name_cmp name n.0 ≡ b → cond b (Some n.1) (find name_cmp name ns) ≡ Some x) [
   | true ↦ λ same. let P : List ℕ → Type 0 = λ q. T (below_all name_cmp q ns) in
       absurd (not_below_itself name ns x (subst P (sym (tie name n.0 same)) (both_first _ _ sorted)) found)
@@ -52,18 +55,21 @@ lt_is_less Equal h = absurd h
 lt_is_less Greater h = absurd h
 
 -- an entry below all others goes to the front
-put_front : {X : Type 0} (e : List ℕ × X) (es : List (List ℕ × X)) → T (below_all name_cmp e.0 es) → put name_cmp e.0 e.1 es ≡ e ∷ es
+put_front : {X : Type 0} (e : List ℕ × X) (es : List (List ℕ × X)) → T (below_all name_cmp e.0 es)
+    → put name_cmp e.0 e.1 es ≡ e ∷ es
 put_front e [] below = refl
 put_front e (x ∷ es) below = ap (λ o. by_order o (e ∷ x ∷ es) ((x.0, e.1) ∷ es) (x ∷ put name_cmp e.0 e.1 es)) (lt_is_less _ (both_first _ _ below))
 
 -- the map of a list in order has the list's entries
-pub entries-from_entries : {X : Type 0} (es : List (List ℕ × X)) → T (is_sorted name_cmp es) → entries (from_entries {R = name_cmp} es) ≡ es
+pub entries-from_entries : {X : Type 0} (es : List (List ℕ × X)) → T (is_sorted name_cmp es)
+    → entries (from_entries {R = name_cmp} es) ≡ es
 entries-from_entries {X} [] sorted = nil_from_length _ (sym (len-entries (empty {X = X} {R = name_cmp})) ∙ len-empty name_cmp X)
 entries-from_entries (e ∷ es) sorted =
     entries-insert nat_list_cmp_total (from_entries es) e.0 e.1 ∙ ap (put name_cmp e.0 e.1) (entries-from_entries es (both_second _ _ sorted)) ∙ put_front e es (both_first _ _ sorted)
 
 -- a name among names that are all above another is above it
-pub above_all : {X : Type 0} (q : List ℕ) (es : List (List ℕ × X)) (name : List ℕ) (x : X) → T (below_all name_cmp q es) → find name_cmp name es ≡ Some x → name_cmp q name ≡ Less
+pub above_all : {X : Type 0} (q : List ℕ) (es : List (List ℕ × X)) (name : List ℕ) (x : X)
+    → T (below_all name_cmp q es) → find name_cmp name es ≡ Some x → name_cmp q name ≡ Less
 above_all q [] name x below = λ found. let clash : None ≡ Some x = found in cc
 above_all q (e ∷ es) name x below = elim (eq_by_cmp name_cmp name e.0) as (λ b. eq_by_cmp name_cmp name e.0 ≡ b → cond b (Some e.1) (find name_cmp name es) ≡ Some x → name_cmp q name ≡ Less) [
   | true ↦ λ same found. ap (name_cmp q) (tie name e.0 same) ∙ lt_is_less _ (both_first _ _ below)
@@ -75,7 +81,8 @@ pub not_below : (q name : List ℕ) → name_cmp q name ≡ Less → is_lt (name
 not_below q name less = ap is_lt (nat_list_cmp_total.antisymm name q ∙ ap ordering_reverse less)
 
 -- none of the names is below one that is below them all
-pub none_below : {X : Type 0} (q : List ℕ) (es : List (List ℕ × X)) → T (below_all name_cmp q es) → count_by (λ n. is_lt (name_cmp n q)) (map (λ e. e.0) es) ≡ 0
+pub none_below : {X : Type 0} (q : List ℕ) (es : List (List ℕ × X)) → T (below_all name_cmp q es)
+    → count_by (λ n. is_lt (name_cmp n q)) (map (λ e. e.0) es) ≡ 0
 none_below q [] below = refl
 none_below q (e ∷ es) below =
     let p : List ℕ → Bool = λ n. is_lt (name_cmp n q) in

@@ -39,7 +39,8 @@ entry_settled part = elim (message_settled entry_keys (part ∷ [])) [
   ]
 ]
 
-entries_settled : (parts : List (List ℕ)) → ((es : List Entry) × AreEntries parts es) ⊎ ((part : List ℕ) × Contains parts part × (e : Refusal) × EntryFault part e)
+entries_settled : (parts : List (List ℕ))
+    → ((es : List Entry) × AreEntries parts es) ⊎ ((part : List ℕ) × Contains parts part × (e : Refusal) × EntryFault part e)
 entries_settled [] = inl ([], tt)
 entries_settled (part ∷ parts) = elim (entry_settled part) [
   | inr bad ↦ inr (part, contains_first part parts, bad.0, bad.1)
@@ -61,7 +62,8 @@ entry_one part a b (fs, message, text, is) (gs, also, text', is') =
     let made : List Wire → Entry = λ xs. record { name = name_in xs; parts = payloads 2 xs } in
     is ∙ ap made same ∙ sym is'
 
-entries_apart : (parts : List (List ℕ)) (es : List Entry) (part : List ℕ) (e : Refusal) → AreEntries parts es → Contains parts part → EntryFault part e → ⊥
+entries_apart : (parts : List (List ℕ)) (es : List Entry) (part : List ℕ) (e : Refusal)
+    → AreEntries parts es → Contains parts part → EntryFault part e → ⊥
 entries_apart [] es part e are here bad = let lt : here.0 < 0 = here.1 in absurd (omega arith)
 entries_apart (p ∷ parts) [] part e are here bad = are
 entries_apart (p ∷ parts) (x ∷ es) part e are here bad = elim (contains_cases p part parts here) [
@@ -76,7 +78,8 @@ entries_readable [] (x ∷ es) are = absurd are
 entries_readable (p ∷ parts) [] are = absurd are
 entries_readable (p ∷ parts) (x ∷ es) are = inl (x, es, are.0, entries_readable parts es are.1, refl)
 
-pub readable_one : (parts : List (List ℕ)) (es fs : List Entry) → AreEntries parts es → Readable parts fs → fs ≡ es
+pub readable_one : (parts : List (List ℕ)) (es fs : List Entry) → AreEntries parts es → Readable parts fs
+    → fs ≡ es
 readable_one [] [] fs are reads = reads
 readable_one [] (x ∷ es) fs are reads = absurd are
 readable_one (p ∷ parts) [] fs are reads = absurd are
@@ -87,7 +90,8 @@ readable_one (p ∷ parts) (x ∷ es) fs are (inl (entry, others, is, rest, made
 readable_one (p ∷ parts) (x ∷ es) fs are (inr (e, bad, rest)) = absurd (entry_apart p x e are.0 bad)
 
 -- payloads are a policy or have a fault
-ruled : (side : Side) (fs : List Wire) (k : ℕ) → ((gs : Formulas) × AreRules (IsRule side rule_depth) (payloads k fs) gs) ⊎ ((child : List ℕ) × Contains (payloads k fs) child × (e : Refusal) × RuleFault side rule_depth (child ∷ []) e)
+ruled : (side : Side) (fs : List Wire) (k : ℕ)
+    → ((gs : Formulas) × AreRules (IsRule side rule_depth) (payloads k fs) gs) ⊎ ((child : List ℕ) × Contains (payloads k fs) child × (e : Refusal) × RuleFault side rule_depth (child ∷ []) e)
 ruled side fs k = rules_all_settled side rule_depth (payloads k fs)
 
 -- fields have a condition or none, and both sides or not
@@ -103,7 +107,9 @@ sides_settled fs = elim (nil_or_not (payloads 1 fs)) [
   | inr permission ↦ elim (nil_or_not (payloads 2 fs)) [ inl none ↦ inr (Missing, no_principal none refl) | inr principal ↦ inl (permission, principal) ]
 ]
 
-fields_settled : (parts : List (List ℕ)) (fs : List Wire) → IsMessage policy_keys parts fs → IsUnconditional fs → HasBothSides fs → ((policy : Policy) × IsPolicy parts policy) ⊎ ((e : Refusal) × PolicyFault parts e)
+fields_settled : (parts : List (List ℕ)) (fs : List Wire) → IsMessage policy_keys parts fs
+    → IsUnconditional fs → HasBothSides fs
+    → ((policy : Policy) × IsPolicy parts policy) ⊎ ((e : Refusal) × PolicyFault parts e)
 fields_settled parts fs message plain sides = elim (ruled Permission fs 1) [
   | inr bad ↦ inr (bad.2, in_permission fs message.0 (bad.0, bad.1, bad.3))
   | inl permissions ↦ elim (ruled Principal fs 2) [
@@ -122,7 +128,8 @@ fields_settled parts fs message plain sides = elim (ruled Permission fs 1) [
   ]
 ]
 
-policy_settled : (parts : List (List ℕ)) → ((policy : Policy) × IsPolicy parts policy) ⊎ ((e : Refusal) × PolicyFault parts e)
+policy_settled : (parts : List (List ℕ))
+    → ((policy : Policy) × IsPolicy parts policy) ⊎ ((e : Refusal) × PolicyFault parts e)
 policy_settled parts = elim (message_settled policy_keys parts) [
   | inr bad ↦ inr (bad.0, policy_fields bad.1)
   | inl message ↦ elim (unconditional_settled message.0) [
@@ -198,7 +205,8 @@ action_small n Deny is large = absurd (omega arith)
 action_small n Log is large = absurd (omega arith)
 
 -- the fields of the rules are the filter's or have a fault
-entries_done : (fs : List Wire) (action : Action) → payloads 3 fs ≡ [] → action_in fs ≡ action_number action → (es : List Entry) → AreEntries (payloads 2 fs) es
+entries_done : (fs : List Wire) (action : Action) → payloads 3 fs ≡ []
+    → action_in fs ≡ action_number action → (es : List Entry) → AreEntries (payloads 2 fs) es
     → ((filter : Filter) × AreFilterRules fs filter) ⊎ ((e : Refusal) × RulesFault fs e)
 entries_done fs action unaudited is es are = elim (cases_lt most_policies (len (map_of es))) [
   | inl many ↦ inr (TooLarge, too_many es (entries_readable (payloads 2 fs) es are) many refl)
@@ -218,7 +226,8 @@ entries_done fs action unaudited is es are = elim (cases_lt most_policies (len (
   ]
 ]
 
-rules_fields_settled : (fs : List Wire) → ((filter : Filter) × AreFilterRules fs filter) ⊎ ((e : Refusal) × RulesFault fs e)
+rules_fields_settled : (fs : List Wire)
+    → ((filter : Filter) × AreFilterRules fs filter) ⊎ ((e : Refusal) × RulesFault fs e)
 rules_fields_settled fs = elim (nil_or_not (payloads 3 fs)) [
   | inr there ↦ inr (Unsupported, audited there refl)
   | inl unaudited ↦ elim (action_settled (action_in fs)) [
@@ -231,7 +240,8 @@ rules_fields_settled fs = elim (nil_or_not (payloads 3 fs)) [
 ]
 
 -- bytes are the message of a filter or have a fault
-pub filter_settled : (bytes : List ℕ) → ((filter : Filter) × IsFilter bytes filter) ⊎ ((e : Refusal) × FilterFault bytes e)
+pub filter_settled : (bytes : List ℕ)
+    → ((filter : Filter) × IsFilter bytes filter) ⊎ ((e : Refusal) × FilterFault bytes e)
 filter_settled bytes = elim (message_settled filter_keys (bytes ∷ [])) [
   | inr bad ↦ inr (bad.0, filter_fields bad.1)
   | inl top ↦ elim (nil_or_not (payloads 1 top.0)) [
@@ -247,7 +257,8 @@ filter_settled bytes = elim (message_settled filter_keys (bytes ∷ [])) [
 ]
 
 -- where a name's payloads are a policy they have no fault
-held_apart : (named : Option (List (List ℕ))) (held : Option Policy) (parts : List (List ℕ)) (e : Refusal) → named ≡ Some parts
+held_apart : (named : Option (List (List ℕ))) (held : Option Policy) (parts : List (List ℕ)) (e : Refusal)
+    → named ≡ Some parts
     → MatchOption named (held ≡ None) (λ given. IsSomeAnd held (IsPolicy given)) → PolicyFault parts e → ⊥
 held_apart None held parts e at is bad = let clash : None ≡ Some parts = at in cc
 held_apart (Some given) None parts e at is bad = is
@@ -256,7 +267,8 @@ held_apart (Some given) (Some policy) parts e at is bad =
     let P : List (List ℕ) → Type 0 = λ x. PolicyFault x e in policy_apart given policy is e (subst P (sym same) bad)
 
 -- the rules of a filter have no fault
-rules_fields_apart : (fs : List Wire) (filter : Filter) (e : Refusal) → AreFilterRules fs filter → RulesFault fs e → ⊥
+rules_fields_apart : (fs : List Wire) (filter : Filter) (e : Refusal) → AreFilterRules fs filter
+    → RulesFault fs e → ⊥
 rules_fields_apart fs filter e is (bad_action large at) = action_small (action_in fs) filter.action is.action large
 rules_fields_apart fs filter e is (audited there at) = there is.unaudited
 rules_fields_apart fs filter e is (in_entry part here bad) = entries_apart (payloads 2 fs) is.entries part e is.read here bad
@@ -270,7 +282,8 @@ rules_fields_apart fs filter e is (in_policy es reads (name, parts, at, bad)) =
     held_apart (get (map_of is.entries) name) (get filter.policies name) parts e stands (is.policies name) bad
 
 -- the message of a filter has no fault
-pub filter_apart : (bytes : List ℕ) (filter : Filter) (e : Refusal) → IsFilter bytes filter → FilterFault bytes e → ⊥
+pub filter_apart : (bytes : List ℕ) (filter : Filter) (e : Refusal) → IsFilter bytes filter
+    → FilterFault bytes e → ⊥
 filter_apart bytes filter e is (filter_fields bad) = message_apart filter_keys (bytes ∷ []) is.top e is.message bad
 filter_apart bytes filter e is (no_rules gs also none at) =
     is.there (let P : List Wire → Type 0 = λ xs. payloads 1 xs ≡ [] in subst P (merges-one (bytes ∷ []) gs is.top also.0 is.message.0) none)

@@ -1,4 +1,5 @@
--- The messages of an RBAC filter: Envoy v3 `extensions/filters/http/rbac/v3/rbac.proto` and `config/rbac/v3/rbac.proto`.
+-- The messages of an RBAC filter: Envoy v3 `extensions/filters/http/rbac/v3/rbac.proto` and
+-- `config/rbac/v3/rbac.proto`.
 use Rattle.std.specs.Prelude.{◌≡◌, ◌≢◌, ℕ, ◌≤◌, List, [], ◌∷◌, None, unwrap_or, map, reverse, IsSomeAnd, MatchOption}
 use Rattle.std.specs.Str.{IsUtf8}
 use Rattle.std.specs.FinMap.{FinMap, get, from_entries, len}
@@ -49,7 +50,8 @@ name_in fs = unwrap_or (last_of (payloads 1 fs)) []
 
 -- the payload is an entry
 abbrev pub IsEntry : List ℕ → Entry → Type 0
-IsEntry bytes entry = (fs : List Wire) × IsMessage entry_keys (bytes ∷ []) fs × IsUtf8 (name_in fs) × (entry ≡ record { name = name_in fs; parts = payloads 2 fs })
+IsEntry bytes entry = (fs : List Wire) × IsMessage entry_keys (bytes ∷ []) fs × IsUtf8 (name_in fs)
+    × (entry ≡ record { name = name_in fs; parts = payloads 2 fs })
 
 -- each payload is an entry, in order
 abbrev pub AreEntries : List (List ℕ) → List Entry → Type 0
@@ -81,7 +83,8 @@ pub record IsPolicy (parts : List (List ℕ)) (policy : Policy) : Type 0 where
 
 -- at each name stands the policy that the name's payloads merge to, and nothing at other names
 abbrev pub ArePolicies : FinMap name_cmp (List (List ℕ)) → FinMap name_cmp Policy → Type 0
-ArePolicies named policies = (name : List ℕ) → MatchOption (get named name) (get policies name ≡ None) (λ parts. IsSomeAnd (get policies name) (IsPolicy parts))
+ArePolicies named policies = (name : List ℕ)
+    → MatchOption (get named name) (get policies name ≡ None) (λ parts. IsSomeAnd (get policies name) (IsPolicy parts))
 
 -- the number of the action, an enum
 abbrev pub action_in : List Wire → ℕ

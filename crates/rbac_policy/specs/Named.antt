@@ -25,7 +25,8 @@ named_views ps = map named_view ps
 -- the policies stand at the names of the payloads, each in its place
 abbrev pub Held : List (List ℕ × List (List ℕ)) → List (List ℕ × Policy) → Type 0
 Held [] ps = ps ≡ []
-Held (n ∷ ns) ps = (policy : Policy) × (others : List (List ℕ × Policy)) × IsPolicy n.1 policy × Held ns others × (ps ≡ (n.0, policy) ∷ others)
+Held (n ∷ ns) ps = (policy : Policy) × (others : List (List ℕ × Policy)) × IsPolicy n.1 policy
+    × Held ns others × (ps ≡ (n.0, policy) ∷ others)
 
 -- the names and payloads of a map of payloads by name
 abbrev pub parts_views : List (Bor (List ℕ) × Vec (Bor (List ℕ)) Global) → List (List ℕ × List (List ℕ))

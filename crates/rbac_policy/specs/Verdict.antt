@@ -22,7 +22,8 @@ SomeMatches r filter = (name : List ℕ) × Matches r filter name
 
 -- the name is the least of those whose policies match
 abbrev pub IsLeastMatch : RequestValue → Filter → List ℕ → Type 0
-IsLeastMatch r filter name = Matches r filter name × ((other : List ℕ) → Matches r filter other → is_lt (name_cmp other name) ≡ false)
+IsLeastMatch r filter name = Matches r filter name
+    × ((other : List ℕ) → Matches r filter other → is_lt (name_cmp other name) ≡ false)
 
 -- the number of a name: how many of the filter's names are below it
 abbrev pub number_of : Filter → List ℕ → ℕ

@@ -100,4 +100,5 @@ IsFactsText text f = IsUtf8 text × ((d : Data) × (read text ≡ Some d) × Are
 
 -- the bytes tell no facts, or facts that are outside the limits
 abbrev pub TellsNone : List ℕ → Type 0
-TellsNone text = ((f : Facts) → ¬ IsFactsText text f) ⊎ ((f : Facts) × IsFactsText text f × ¬ FactsInLimits f largest)
+TellsNone text = ((f : Facts) → ¬ IsFactsText text f)
+    ⊎ ((f : Facts) × IsFactsText text f × ¬ FactsInLimits f largest)

@@ -80,7 +80,8 @@ AreTaken words = fault_of rbacd_app words ≡ []
 abbrev pub IsJobOf : List Text → Job → Type 0
 IsJobOf words job = AreTaken words × IsJobOfNamed (subcommand_of rbacd_app words) job
 
--- what is wrong with the words: the first step of a parse that fails does so in this way, or they are taken and name no
+-- what is wrong with the words: the first step of a parse that fails does so in this way, or they are
+-- taken and name no
 -- job, since the budget is not allowed
 abbrev pub AreMistaken : List Text → ErrorKind → Type 0
 AreMistaken words kind = IsAmong kind (fault_of rbacd_app words)
