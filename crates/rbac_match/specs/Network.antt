@@ -1,7 +1,6 @@
 -- Ranges of addresses: Envoy v3 `config/core/v3/address.proto` (CidrRange),
--- `google/protobuf/wrappers.proto` (UInt32Value);
--- what they say of a request: Envoy RBAC, "Permission" and "Principal" (`destination_ip`,
--- `direct_remote_ip`, `remote_ip`).
+-- `google/protobuf/wrappers.proto` (UInt32Value); what they say of a request: Envoy RBAC,
+-- "Permission" and "Principal" (`destination_ip`, `direct_remote_ip`, `remote_ip`).
 use Rattle.std.specs.Prelude.{◌≡◌, ℕ, ◌-◌, ◌/◌, ◌^◌, ◌<◌, ◌≤◌, ◌==◌, Bool, false, List, [], ◌∷◌, Option, Some, None, unwrap_or, IsUtf8}
 use Rattle.attributes.specs.Address.{IsIpText, Range, width_of}
 use Rattle.attributes.specs.Conn.{Facts}

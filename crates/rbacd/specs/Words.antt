@@ -81,8 +81,7 @@ abbrev pub IsJobOf : List Text → Job → Type 0
 IsJobOf words job = AreTaken words × IsJobOfNamed (subcommand_of rbacd_app words) job
 
 -- what is wrong with the words: the first step of a parse that fails does so in this way, or they are
--- taken and name no
--- job, since the budget is not allowed
+-- taken and name no job, since the budget is not allowed
 abbrev pub AreMistaken : List Text → ErrorKind → Type 0
 AreMistaken words kind = IsAmong kind (fault_of rbacd_app words)
     ⊎ ((kind ≡ ValueValidation) × AreTaken words × NamesNoJob (subcommand_of rbacd_app words))
