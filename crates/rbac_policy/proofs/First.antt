@@ -1,14 +1,15 @@
 -- The first policy that matches, among policies in ascending order of names.
-use Rattle.std.proofs.Common.{◌≡◌, ℕ, ◌+◌, ◌↔◌, Bool, true, false, cond, T, IsTrue, List, [], ◌∷◌, Option, Some, None, MatchOption, IsSomeAnd, is_some, map, count_by, refl, sym, ap, subst, arith, ◌∙◌, zero-add}
+use Rattle.std.proofs.Common.{◌≡◌, ℕ, ◌+◌, ◌↔◌, Bool, true, false, ◌&&◌, cond, T, IsTrue, List, [], ◌∷◌, Option, Some, None, MatchOption, IsSomeAnd, is_some, map, count_by, refl, sym, ap, subst, arith, ◌∙◌, zero-add}
 use Rattle.std.proofs.lemmas.List.Sums.{sum_by-cons}
+use Rattle.std.proofs.Math.Path.{fun_ext}
 use Rattle.std.specs.List.{position_from}
 use Rattle.std.specs.Ordering.{eq_by_cmp, is_eq, is_lt}
 use Rattle.std.specs.Cmp.{tied_itself}
 use Rattle.std.specs.Cmp.Lexicographic.{nat_list_cmp_total}
 use Rattle.std.specs.FinMap.{find, is_sorted, get, keys, from_entries, get-from_entries}
 use Rattle.attributes.specs.Request.{RequestValue}
-use Rattle.rbac_policy.specs.Filter.{Policy, Filter, name_cmp}
-use Rattle.rbac_policy.specs.Verdict.{policy_matches, SomeMatches, IsLeastMatch, number_of, LetsThrough, allows, IsVerdict}
+use Rattle.rbac_policy.specs.Filter.{Condition, Policy, Filter, name_cmp}
+use Rattle.rbac_policy.specs.Verdict.{sides_match, policy_matches, SomeMatches, IsLeastMatch, number_of, LetsThrough, allows, IsVerdict}
 use Rattle.rbac_policy.specs.Named.{policy_view, named_view, named_views}
 use Rattle.rbac_policy.specs.declared.policy.NamedPolicy.{NamedPolicy}
 use Rattle.rbac_policy.specs.declared.filter.Action.{Action}
@@ -20,6 +21,10 @@ pub position-map : {A B : Type 0} (f : A → B) (p : B → Bool) (i : ℕ) (xs :
     → position_from p i (map f xs) ≡ position_from (λ x. p (f x)) i xs
 position-map f p i [] = refl
 position-map f p i (x ∷ xs) = ap (cond (p (f x)) (Some i)) (position-map f p (i + 1) xs)
+
+and_true : (b : Bool) → (b && true) ≡ b
+and_true true = refl
+and_true false = refl
 
 module _ {X : Type 0} (t : X → Bool) where
   -- the entry of a name is there and passes
@@ -83,28 +88,28 @@ module _ {X : Type 0} (t : X → Bool) where
   ] refl
 
 -- the answer of a filter of these policies
-module _ (r : RequestValue) (ps : List (List ℕ × Policy)) (sorted : T (is_sorted name_cmp ps)) where
+module _ (is_met : Condition → Bool) (r : RequestValue) (ps : List (List ℕ × Policy)) (sorted : T (is_sorted name_cmp ps)) where
   -- whether the policy of an entry matches
   abbrev entry_matches : List ℕ × Policy → Bool
-  entry_matches e = policy_matches r e.1
+  entry_matches e = policy_matches is_met r e.1
 
   found_same : (name : List ℕ) → get (from_entries {R = name_cmp} ps) name ≡ find name_cmp name ps
   found_same name = get-from_entries nat_list_cmp_total ps name
 
   -- what matches in the map is what passes in the list
   abbrev Matching : List ℕ → Type 0
-  Matching name = IsSomeAnd (get (from_entries {R = name_cmp} ps) name) (λ p. IsTrue (policy_matches r p))
+  Matching name = IsSomeAnd (get (from_entries {R = name_cmp} ps) name) (λ p. IsTrue (policy_matches is_met r p))
 
-  to_list : (name : List ℕ) → Matching name → Passes (policy_matches r) ps name
-  to_list name h = let P : Option Policy → Type 0 = λ o. IsSomeAnd o (λ p. IsTrue (policy_matches r p)) in subst P (found_same name) h
+  to_list : (name : List ℕ) → Matching name → Passes (policy_matches is_met r) ps name
+  to_list name h = let P : Option Policy → Type 0 = λ o. IsSomeAnd o (λ p. IsTrue (policy_matches is_met r p)) in subst P (found_same name) h
 
-  to_map : (name : List ℕ) → Passes (policy_matches r) ps name → Matching name
-  to_map name h = let P : Option Policy → Type 0 = λ o. IsSomeAnd o (λ p. IsTrue (policy_matches r p)) in subst P (sym (found_same name)) h
+  to_map : (name : List ℕ) → Passes (policy_matches is_met r) ps name → Matching name
+  to_map name h = let P : Option Policy → Type 0 = λ o. IsSomeAnd o (λ p. IsTrue (policy_matches is_met r p)) in subst P (sym (found_same name)) h
 
   -- what the list reports is what the filter does
   pub reported : (filter : Filter) → filter.policies ≡ from_entries ps → (o : Option ℕ)
-      → Reports (policy_matches r) 0 ps o
-      → MatchOption o (SomeMatches r filter → ⊥) (λ k. (name : List ℕ) × IsLeastMatch r filter name × (k ≡ number_of filter name))
+      → Reports (policy_matches is_met r) 0 ps o
+      → MatchOption o (SomeMatches is_met r filter → ⊥) (λ k. (name : List ℕ) × IsLeastMatch is_met r filter name × (k ≡ number_of filter name))
   reported filter same None none = λ (name, h). none name (to_list name (rw same at h))
   reported filter same (Some k) (name, (has, least), count) =
       let names : keys filter.policies ≡ map (λ e. e.0) ps = ap keys same ∙ ap (map (λ e. e.0)) (entries-from_entries ps sorted) in
@@ -116,26 +121,27 @@ t_of true e = tt
 t_of false e = let clash : false ≡ true = e in absurd cc
 
 -- the answer of a filter that has these policies in its order
-module _ (r : RequestValue) (filter : Filter) (items : List NamedPolicy) (sorted : IsTrue (is_sorted name_cmp (named_views items))) (same : filter.policies ≡ from_entries (named_views items)) (o : Option ℕ) (is : o ≡ position_from (λ p. policy_matches r (policy_view p)) 0 items) where
+module _ (is_met : Condition → Bool) (r : RequestValue) (filter : Filter) (items : List NamedPolicy) (sorted : IsTrue (is_sorted name_cmp (named_views items))) (same : filter.policies ≡ from_entries (named_views items)) (o : Option ℕ) (is : o ≡ position_from (λ p. sides_match r (policy_view p)) 0 items) where
   -- the least name that matches, with its number, or none
   abbrev Reported : Option ℕ → Type 0
-  Reported x = MatchOption x (SomeMatches r filter → ⊥) (λ k. (name : List ℕ) × IsLeastMatch r filter name × (k ≡ number_of filter name))
+  Reported x = MatchOption x (SomeMatches is_met r filter → ⊥) (λ k. (name : List ℕ) × IsLeastMatch is_met r filter name × (k ≡ number_of filter name))
 
   reported_first : Reported o
   reported_first =
       let ps : List (List ℕ × Policy) = named_views items in
       let order : T (is_sorted name_cmp ps) = t_of _ sorted in
-      let at : o ≡ position_from (λ e. policy_matches r e.1) 0 ps = is ∙ sym (position-map named_view (λ e. policy_matches r e.1) 0 items) in
-      reported r ps order filter same o (rw at (first_reports (policy_matches r) 0 ps order))
+      let at : o ≡ position_from (λ e. policy_matches is_met r e.1) 0 ps =
+      is ∙ ap (λ test. position_from test 0 items) (sym (fun_ext (λ p. and_true (sides_match r (policy_view p))))) ∙ sym (position-map named_view (λ e. policy_matches is_met r e.1) 0 items) in
+      reported is_met r ps order filter same o (rw at (first_reports (policy_matches is_met r) 0 ps order))
 
   -- each action answers by whether some policy matches
   answered : (action : Action) (x : Option ℕ) → Reported x
-      → IsTrue (allows action (is_some x)) ↔ LetsThrough action (SomeMatches r filter)
+      → IsTrue (allows action (is_some x)) ↔ LetsThrough action (SomeMatches is_met r filter)
   answered Allow None none = (λ e. let clash : false ≡ true = e in absurd cc, λ some. absurd (none some))
   answered Allow (Some k) (name, least, count) = (λ e. (name, least.0), λ some. refl)
   answered Deny None none = (λ e. none, λ some. refl)
   answered Deny (Some k) (name, least, count) = (λ e. let clash : false ≡ true = e in absurd cc, λ none. absurd (none (name, least.0)))
   answered Log x reported = (λ e. tt, λ always. refl)
 
-  pub verdict : IsVerdict r filter (allows filter.action (is_some o)) o
+  pub verdict : IsVerdict is_met r filter (allows filter.action (is_some o)) o
   verdict = record { lets_through = answered filter.action o reported_first; reported = reported_first }

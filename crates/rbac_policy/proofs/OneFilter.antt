@@ -11,7 +11,7 @@ use Rattle.rbac_match.specs.Rules.{AreRules, IsRule}
 use Rattle.rbac_match.specs.declared.rule.Side.{Side}
 use Rattle.rbac_match.specs.declared.rule.Side.TheVariants.{Permission, Principal}
 use Rattle.rbac_match.proofs.Settled.{rules_all_one}
-use Rattle.rbac_policy.specs.Filter.{Policy, Filter, name_cmp}
+use Rattle.rbac_policy.specs.Filter.{Condition, Policy, Filter, name_cmp}
 use Rattle.rbac_policy.specs.Message.{rule_depth, rules_keys, Entry, AreEntries, map_of, IsPolicy, ArePolicies, action_number, AreFilterRules, IsFilter}
 use Rattle.rbac_policy.specs.declared.filter.Action.{Action}
 use Rattle.rbac_policy.specs.declared.filter.Action.TheVariants.{Allow, Deny, Log}
@@ -34,9 +34,12 @@ module _ (parts : List (List ℕ)) (p q : Policy) (a : IsPolicy parts p) (b : Is
 
   policy_one : p ≡ q
   policy_one =
-      let make : Formulas → Formulas → Policy = λ x y. record { permissions = x; principals = y } in
-      ap₂ make (side_one Permission 1 p.permissions q.permissions a.permissions b.permissions)
+      let make : Formulas → Formulas → Option Condition → Policy =
+      λ x y z. record { permissions = x; principals = y; condition = z } in
+      ap₂ (λ x y. make x y p.condition)
+      (side_one Permission 1 p.permissions q.permissions a.permissions b.permissions)
       (side_one Principal 2 p.principals q.principals a.principals b.principals)
+      ∙ ap (make q.permissions q.principals) (a.unconditional ∙ sym b.unconditional)
 
 -- at a name stands one policy, or none
 held_one : (named : Option (List (List ℕ))) (x y : Option Policy)

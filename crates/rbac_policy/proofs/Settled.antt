@@ -21,7 +21,7 @@ use Rattle.rbac_match.proofs.Basics.{nil_or_not, same_or_not, contains_first, co
 use Rattle.rbac_match.proofs.Settled.{rules_all_settled, rules_all_apart}
 use Rattle.rbac_match.proofs.TextSettled.{utf8_or_not}
 use Rattle.rbac_policy.specs.Filter.{Policy, Filter, name_cmp}
-use Rattle.rbac_policy.specs.Message.{filter_keys, rules_keys, entry_keys, policy_keys, rule_depth, most_policies, Entry, name_in, IsEntry, AreEntries, map_of, IsUnconditional, HasBothSides, IsPolicy, ArePolicies, action_in, action_number, AreFilterRules, IsFilter}
+use Rattle.rbac_policy.specs.Message.{filter_keys, rules_keys, entry_keys, policy_keys, rule_depth, most_policies, Entry, name_in, IsEntry, AreEntries, map_of, LacksConditions, HasBothSides, IsPolicy, ArePolicies, action_in, action_number, AreFilterRules, IsFilter}
 use Rattle.rbac_policy.specs.Named.{Held}
 use Rattle.rbac_policy.proofs.Order.{both_second, found_later}
 use Rattle.rbac_policy.proofs.HeldPolicies.{held_find}
@@ -95,7 +95,7 @@ ruled : (side : Side) (fs : List Wire) (k : ℕ)
 ruled side fs k = rules_all_settled side rule_depth (payloads k fs)
 
 -- fields have a condition or none, and both sides or not
-unconditional_settled : (fs : List Wire) → IsUnconditional fs ⊎ ((e : Refusal) × ConditionFault fs e)
+unconditional_settled : (fs : List Wire) → LacksConditions fs ⊎ ((e : Refusal) × ConditionFault fs e)
 unconditional_settled fs = elim (nil_or_not (payloads 3 fs)) [
   | inr there ↦ inr (Unsupported, unchecked there refl)
   | inl plain ↦ elim (nil_or_not (payloads 4 fs)) [ inr there ↦ inr (Unsupported, checked there refl) | inl none ↦ inl (plain, none) ]
@@ -108,18 +108,19 @@ sides_settled fs = elim (nil_or_not (payloads 1 fs)) [
 ]
 
 fields_settled : (parts : List (List ℕ)) (fs : List Wire) → IsMessage policy_keys parts fs
-    → IsUnconditional fs → HasBothSides fs
+    → LacksConditions fs → HasBothSides fs
     → ((policy : Policy) × IsPolicy parts policy) ⊎ ((e : Refusal) × PolicyFault parts e)
 fields_settled parts fs message plain sides = elim (ruled Permission fs 1) [
   | inr bad ↦ inr (bad.2, in_permission fs message.0 (bad.0, bad.1, bad.3))
   | inl permissions ↦ elim (ruled Principal fs 2) [
     | inr bad ↦ inr (bad.2, in_principal fs message.0 (bad.0, bad.1, bad.3))
     | inl principals ↦ inl (
-      record { permissions = permissions.0; principals = principals.0 },
+      record { permissions = permissions.0; principals = principals.0; condition = None },
       record {
         fs = fs;
         message = message;
-        unconditional = plain;
+        lacks = plain;
+        unconditional = refl;
         sides = sides;
         permissions = permissions.1;
         principals = principals.1;
@@ -142,7 +143,7 @@ policy_settled parts = elim (message_settled policy_keys parts) [
 ]
 
 -- not both of either
-condition_apart : (fs : List Wire) (e : Refusal) → IsUnconditional fs → ConditionFault fs e → ⊥
+condition_apart : (fs : List Wire) (e : Refusal) → LacksConditions fs → ConditionFault fs e → ⊥
 condition_apart fs e plain (unchecked there at) = there plain.0
 condition_apart fs e plain (checked there at) = there plain.1
 
@@ -158,7 +159,7 @@ module _ (parts : List (List ℕ)) (policy : Policy) (is : IsPolicy parts policy
   policy_apart : (e : Refusal) → PolicyFault parts e → ⊥
   policy_apart e (policy_fields bad) = message_apart policy_keys parts is.fs e is.message bad
   policy_apart e (lacks_side gs also bad) = side_apart is.fs e is.sides (moved (λ xs. SideFault xs e) gs also.0 bad)
-  policy_apart e (conditional gs also bad) = condition_apart is.fs e is.unconditional (moved (λ xs. ConditionFault xs e) gs also bad)
+  policy_apart e (conditional gs also bad) = condition_apart is.fs e is.lacks (moved (λ xs. ConditionFault xs e) gs also bad)
   policy_apart e (in_permission gs also (child, here, bad)) =
       rules_all_apart Permission rule_depth (payloads 1 is.fs) policy.permissions child e is.permissions (moved (λ xs. Contains (payloads 1 xs) child) gs also here) bad
   policy_apart e (in_principal gs also (child, here, bad)) =

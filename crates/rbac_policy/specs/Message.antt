@@ -69,14 +69,15 @@ abbrev pub HasBothSides : List Wire → Type 0
 HasBothSides fs = (payloads 1 fs ≢ []) × (payloads 2 fs ≢ [])
 
 -- no condition, neither checked nor unchecked
-abbrev pub IsUnconditional : List Wire → Type 0
-IsUnconditional fs = (payloads 3 fs ≡ []) × (payloads 4 fs ≡ [])
+abbrev pub LacksConditions : List Wire → Type 0
+LacksConditions fs = (payloads 3 fs ≡ []) × (payloads 4 fs ≡ [])
 
 -- the parts merge to a policy
 pub record IsPolicy (parts : List (List ℕ)) (policy : Policy) : Type 0 where
   pub fs : List Wire
   pub message : IsMessage policy_keys parts fs
-  pub unconditional : IsUnconditional fs
+  pub lacks : LacksConditions fs
+  pub unconditional : policy.condition ≡ None
   pub sides : HasBothSides fs
   pub permissions : AreRules (IsRule Permission rule_depth) (payloads 1 fs) policy.permissions
   pub principals : AreRules (IsRule Principal rule_depth) (payloads 2 fs) policy.principals

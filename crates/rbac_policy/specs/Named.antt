@@ -1,5 +1,5 @@
 -- What the code's policies stand for.
-use Rattle.std.specs.Prelude.{◌≡◌, ℕ, List, [], ◌∷◌, map}
+use Rattle.std.specs.Prelude.{◌≡◌, ℕ, List, [], ◌∷◌, None, map}
 use Rattle.std.specs.String.{string_bytes}
 use Rattle.std.specs.Borrow.{Bor}
 use Rattle.std.specs.declared.vec.Vec.{Vec}
@@ -12,7 +12,11 @@ use Rattle.rbac_policy.specs.declared.policy.NamedPolicy.{NamedPolicy}
 
 -- what a policy asks
 abbrev pub policy_view : NamedPolicy → Policy
-policy_view p = record { permissions = rules_view p.permissions.items; principals = rules_view p.principals.items }
+policy_view p = record {
+  permissions = rules_view p.permissions.items;
+  principals = rules_view p.principals.items;
+  condition = None;
+}
 
 -- the name of a policy, and what the policy asks
 abbrev pub named_view : NamedPolicy → List ℕ × Policy

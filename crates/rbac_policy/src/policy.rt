@@ -8,7 +8,7 @@ ghost use Rattle.proto_wire.specs.declared.refusal.Refusal.TheVariants.{Memory};
 ghost use Rattle.proto_wire.specs.Messages.{texts};
 ghost use Rattle.rbac_match.specs.Rules.{IsRule, AreRules, SomeRuleFault};
 ghost use Rattle.rbac_match.specs.View.{rules_view};
-ghost use Rattle.rbac_policy.specs.Message.{IsPolicy, IsUnconditional, HasBothSides, rule_depth};
+ghost use Rattle.rbac_policy.specs.Message.{IsPolicy, LacksConditions, HasBothSides, rule_depth};
 ghost use Rattle.rbac_policy.specs.Fault.{PolicyFault, SomePolicyFault, ConditionFault, SideFault};
 ghost use Rattle.rbac_policy.specs.Named.{policy_view, named_views, parts_views, Held};
 
@@ -70,7 +70,7 @@ fn read_policy(alloc: Global, name: &str, parts: &[&[u8]]) -> Result<NamedPolicy
 
 /// Refuses a policy that has a condition.
 fn refuse_conditions(fields: &[Field<'_>]) -> Result<(), Refusal>
-    ensures found { OnOk result (IsUnconditional (map view fields.now)) }
+    ensures found { OnOk result (LacksConditions (map view fields.now)) }
     ensures fault { IfErr result (ConditionFault (map view fields.now)) }
 {
     if has_text(fields, CONDITION) {
