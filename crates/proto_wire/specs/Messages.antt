@@ -1,16 +1,20 @@
 -- A message whose fields must all be known: Protocol Buffers encoding guide, "Message Structure"; an
 -- unknown field is a fault here.
-use Rattle.std.specs.Prelude.{◌≡◌, ℕ, List, map}
-use Rattle.std.specs.Borrow.{Bor}
-use Rattle.proto_wire.specs.Fields.{Wire}
-use Rattle.proto_wire.specs.Rules.{AllKnown, SomeUnknown, Merges, Breaks}
+use Rattle.std.specs.Prelude.{◌≡◌, ℕ, List}
+use Rattle.proto_wire.specs.Fields.{Wire, IsBroken}
+use Rattle.proto_wire.specs.Keys.{AllKnown, SomeUnknown}
+use Rattle.proto_wire.specs.Merge.{Merges, Breaks}
 use Rattle.proto_wire.specs.declared.refusal.Refusal.{Refusal}
 use Rattle.proto_wire.specs.declared.refusal.Refusal.TheVariants.{BadWire, UnknownField}
-use Rattle.proto_wire.specs.declared.rules.Key.{Key}
+use Rattle.proto_wire.specs.declared.key.Key.{Key}
 
--- the bytes of each slice
-abbrev pub texts : List (Bor (List ℕ)) → List (List ℕ)
-texts slices = map (λ s. s.now) slices
+-- the bytes are no list of whole fields
+abbrev pub BytesFault : List ℕ → Refusal → Type 0
+BytesFault bytes e = IsBroken bytes × (e ≡ BadWire)
+
+-- some payload is no list of whole fields
+abbrev pub PartsFault : List (List ℕ) → Refusal → Type 0
+PartsFault parts e = Breaks parts × (e ≡ BadWire)
 
 -- the payloads, put one after the other, are these fields, and each field is known
 abbrev pub IsMessage : List Key → List (List ℕ) → List Wire → Type 0

@@ -1,13 +1,15 @@
 //! Messages whose fields must all be known.
 
-ghost use Rattle.std.specs.Prelude.{◌≡◌, ◌⊎◌, map, IfOk, IfErr};
-ghost use Rattle.proto_wire.specs.Fields.{view};
-ghost use Rattle.proto_wire.specs.Messages.{texts, IsMessage, MessageFault};
+ghost use Rattle.std.specs.Prelude.{map, IfOk, IfErr};
+ghost use Rattle.proto_wire.specs.Fields.{field_view};
+ghost use Rattle.proto_wire.specs.Merge.{parts_view};
+ghost use Rattle.proto_wire.specs.Messages.{IsMessage, MessageFault};
+ghost use Rattle.proto_wire.specs.Refusal.{MemoryOr};
 
 use crate::field::Field;
+use crate::key::{Key, all_known};
 use crate::message::read_parts;
 use crate::refusal::Refusal;
-use crate::rules::{Key, all_known};
 use std::alloc::Global;
 
 /// The fields of a message that stands in several payloads, each of them whole fields by itself: `BadWire` where one
@@ -17,8 +19,8 @@ pub fn read_message<'a>(
     parts: &[&'a [u8]],
     keys: &[Key],
 ) -> Result<Vec<Field<'a>>, Refusal>
-    ensures found { IfOk result (λ v. IsMessage keys.now (texts parts.now) (map view v.items)) }
-    ensures fault { IfErr result (λ e. (e ≡ Refusal.Memory) ⊎ MessageFault keys.now (texts parts.now) e) }
+    ensures found { IfOk result (λ v. IsMessage keys.now (parts_view parts.now) (map field_view v.items)) }
+    ensures fault { IfErr result (MemoryOr (MessageFault keys.now (parts_view parts.now))) }
 {
     let fields = read_parts(alloc, parts)?;
     if !all_known(&fields, keys) {

@@ -120,7 +120,7 @@ fn refusals(rt: HostRuntime) -> Result<(), Fail> {
 }
 
 #[test]
-fn rules(rt: HostRuntime) -> Result<(), Fail> {
+fn values(rt: HostRuntime) -> Result<(), Fail> {
     let alloc = rt.alloc();
     let first: &[u8] = b"\x08\x01\x12\x01a\x08\x02";
     let second: &[u8] = b"\x12\x01b\x18\x07\x12\x01c";
@@ -130,12 +130,12 @@ fn rules(rt: HostRuntime) -> Result<(), Fail> {
     assert_eq!(rt; read_fields(alloc, second)?.len(), 3);
     assert!(rt; matches!(read_fields(alloc, b"\x0b"), Err(Refusal::BadWire)));
     assert_eq!(rt; last_varint(&fields, 1), Some(2));
-    assert!(rt; matches!(last_text(&fields, 2), Some(b"c")));
+    assert!(rt; matches!(last_len(&fields, 2), Some(b"c")));
     assert_eq!(rt; payloads_of(alloc, &fields, 2)?.len(), 3);
-    assert!(rt; all_known(&fields, &keys![Varint 1, Text 2, Varint 3]));
-    assert!(rt; !all_known(&fields, &keys![Varint 1, Text 2]));
+    assert!(rt; all_known(&fields, &keys![Varint 1, Len 2, Varint 3]));
+    assert!(rt; !all_known(&fields, &keys![Varint 1, Len 2]));
     assert_eq!(rt;
-        member_run(alloc, &fields, &keys![Varint 1, Text 2])?.len(),
+        member_run(alloc, &fields, &keys![Varint 1, Len 2])?.len(),
         2
     );
     assert_eq!(rt;
@@ -146,7 +146,7 @@ fn rules(rt: HostRuntime) -> Result<(), Fail> {
         last_member(&fields, &keys![Varint 1, Varint 3]),
         Some(Field {
             number: 3,
-            content: Content::Varint(7)
+            payload: Payload::Varint(7)
         })
     );
     Ok(())
@@ -157,12 +157,12 @@ fn rules(rt: HostRuntime) -> Result<(), Fail> {
 fn scalars(rt: HostRuntime) -> Result<(), Fail> {
     let bytes = b"\x08\x05\x08\xff\xff\xff\xff\xff\xff\xff\xff\xff\x01\x10\x80\x80\x80\x80\x10";
     let fields = read_fields(rt.alloc(), bytes)?;
-    assert_eq!(rt; uint32_of(&fields, 1), u32::MAX);
-    assert_eq!(rt; int32_of(&fields, 1), -1);
-    assert_eq!(rt; int64_of(&fields, 1), -1);
-    assert_eq!(rt; uint32_of(&fields, 2), 0);
-    assert_eq!(rt; int64_of(&fields, 2), 4_294_967_296);
-    assert!(rt; bool_of(&fields, 1) && bool_of(&fields, 2) && !bool_of(&fields, 3));
-    assert_eq!(rt; int64_of(&fields, 3), 0);
+    assert_eq!(rt; uint32_at(&fields, 1), u32::MAX);
+    assert_eq!(rt; int32_at(&fields, 1), -1);
+    assert_eq!(rt; int64_at(&fields, 1), -1);
+    assert_eq!(rt; uint32_at(&fields, 2), 0);
+    assert_eq!(rt; int64_at(&fields, 2), 4_294_967_296);
+    assert!(rt; bool_at(&fields, 1) && bool_at(&fields, 2) && !bool_at(&fields, 3));
+    assert_eq!(rt; int64_at(&fields, 3), 0);
     Ok(())
 }
