@@ -1,4 +1,5 @@
 pub mod Filter
+pub mod Keys
 pub mod Message
 pub mod Fault
 pub mod Verdict

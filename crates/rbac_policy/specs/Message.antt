@@ -6,29 +6,12 @@ use Rattle.std.specs.FinMap.{FinMap, get, from_entries, len}
 use Rattle.proto_wire.specs.Fields.{Wire}
 use Rattle.proto_wire.specs.Values.{bytes_at, payloads, uint32_at}
 use Rattle.proto_wire.specs.Messages.{IsMessage}
-use Rattle.proto_wire.specs.declared.key.Key.{Key}
-use Rattle.proto_wire.specs.Keys.{len_key, varint_key}
 use Rattle.rbac_match.specs.Rules.{AreRules, IsRule}
 use Rattle.rbac_match.specs.declared.rule.Side.TheVariants.{Permission, Principal}
 use Rattle.rbac_policy.specs.Filter.{Policy, Filter, name_cmp}
+use Rattle.rbac_policy.specs.Keys.{filter_keys, rules_keys, entry_keys, policy_keys, rules_field, action_field, policies_field, audit_logging_options_field, permissions_field, principals_field, condition_field, checked_condition_field}
 use Rattle.rbac_policy.specs.declared.filter.Action.{Action}
 use Rattle.rbac_policy.specs.declared.filter.Action.TheVariants.{Allow, Deny, Log}
-
--- the fields of the filter's message: rules, shadow_rules, shadow_rules_stat_prefix
-abbrev pub filter_keys : List Key
-filter_keys = len_key 1 ∷ len_key 2 ∷ len_key 3 ∷ []
-
--- the fields of its rules: action, policies, audit_logging_options
-abbrev pub rules_keys : List Key
-rules_keys = varint_key 1 ∷ len_key 2 ∷ len_key 3 ∷ []
-
--- the fields of a map's entry: key, value
-abbrev pub entry_keys : List Key
-entry_keys = len_key 1 ∷ len_key 2 ∷ []
-
--- the fields of a policy: permissions, principals, condition, checked_condition
-abbrev pub policy_keys : List Key
-policy_keys = len_key 1 ∷ len_key 2 ∷ len_key 3 ∷ len_key 4 ∷ []
 
 -- how many levels a permission or a principal may have
 abbrev pub rule_depth : ℕ
@@ -61,11 +44,12 @@ map_of entries = from_entries (reverse (map (λ entry. (entry.name, entry.parts)
 
 -- some permission and some principal
 abbrev pub HasBothSides : List Wire → Type 0
-HasBothSides fs = (payloads 1 fs ≢ []) × (payloads 2 fs ≢ [])
+HasBothSides fs = (payloads permissions_field fs ≢ []) × (payloads principals_field fs ≢ [])
 
 -- no condition, neither checked nor unchecked
 abbrev pub LacksConditions : List Wire → Type 0
-LacksConditions fs = (payloads 3 fs ≡ []) × (payloads 4 fs ≡ [])
+LacksConditions fs =
+    (payloads condition_field fs ≡ []) × (payloads checked_condition_field fs ≡ [])
 
 -- the parts merge to a policy
 pub record IsPolicy (parts : List (List ℕ)) (policy : Policy) : Type 0 where
@@ -74,8 +58,10 @@ pub record IsPolicy (parts : List (List ℕ)) (policy : Policy) : Type 0 where
   pub lacks : LacksConditions fs
   pub unconditional : policy.condition ≡ None
   pub sides : HasBothSides fs
-  pub permissions : AreRules (IsRule Permission rule_depth) (payloads 1 fs) policy.permissions
-  pub principals : AreRules (IsRule Principal rule_depth) (payloads 2 fs) policy.principals
+  pub permissions :
+    AreRules (IsRule Permission rule_depth) (payloads permissions_field fs) policy.permissions
+  pub principals :
+    AreRules (IsRule Principal rule_depth) (payloads principals_field fs) policy.principals
 
 -- at each name stands the policy that the name's payloads merge to, and nothing at other names
 abbrev pub ArePolicies : FinMap name_cmp (List (List ℕ)) → FinMap name_cmp Policy → Type 0
@@ -84,7 +70,7 @@ ArePolicies named policies = (name : List ℕ)
 
 -- the number of the action, an enum
 abbrev pub action_in : List Wire → ℕ
-action_in fs = uint32_at 1 fs
+action_in fs = uint32_at action_field fs
 
 -- the number of each action
 abbrev pub action_number : Action → ℕ
@@ -95,9 +81,9 @@ action_number Log = 2
 -- the fields are rules of the filter
 pub record AreFilterRules (fs : List Wire) (filter : Filter) : Type 0 where
   pub entries : List Entry
-  pub unaudited : payloads 3 fs ≡ []
+  pub unaudited : payloads audit_logging_options_field fs ≡ []
   pub action : action_in fs ≡ action_number filter.action
-  pub read : AreEntries (payloads 2 fs) entries
+  pub read : AreEntries (payloads policies_field fs) entries
   pub few : len (map_of entries) ≤ most_policies
   pub policies : ArePolicies (map_of entries) filter.policies
 
@@ -106,6 +92,6 @@ pub record IsFilter (bytes : List ℕ) (filter : Filter) : Type 0 where
   pub top : List Wire
   pub fs : List Wire
   pub message : IsMessage filter_keys (bytes ∷ []) top
-  pub there : payloads 1 top ≢ []
-  pub inner : IsMessage rules_keys (payloads 1 top) fs
+  pub there : payloads rules_field top ≢ []
+  pub inner : IsMessage rules_keys (payloads rules_field top) fs
   pub rules : AreFilterRules fs filter

@@ -2,7 +2,7 @@
 
 ghost use Rattle.std.specs.Prelude.{◌≡◌, ◌⊎◌, Bool, IfErr, IfOk, IsOk};
 ghost use Rattle.std.specs.List.{position_from};
-ghost use Rattle.rbac_policy.specs.Admitted.{filter_of};
+ghost use Rattle.rbac_policy.specs.Admitted.{filter_view};
 ghost use Rattle.rbac_policy.specs.Filter.{Condition};
 ghost use Rattle.rbac_policy.specs.Verdict.{IsUnconditional, IsVerdict, RunsOut, sides_match};
 ghost use Rattle.rbac_policy.specs.Named.{policy_view};
@@ -18,11 +18,11 @@ impl Admitted {
     /// conditions it may answer `Memory`, and `OutOfSteps` where one that it asks for takes more steps than it may.
     pub fn decide(&self, request: &Request) -> Result<Verdict, RunError>
         ensures found { IfOk result (λ v. (is_met : Condition → Bool)
-            → IsVerdict is_met request.now (filter_of self.now) v.allowed v.matched) }
-        ensures always { IsUnconditional (filter_of self.now) → IsOk result }
+            → IsVerdict is_met request.now (filter_view self.now) v.allowed v.matched) }
+        ensures always { IsUnconditional (filter_view self.now) → IsOk result }
         ensures fault { IfErr result (λ e. (e ≡ RunError.Memory)
             ⊎ ((e ≡ RunError.OutOfSteps) × ((is_met is_too_long : Condition → Bool)
-                → RunsOut is_met is_too_long request.now (filter_of self.now)))) }
+                → RunsOut is_met is_too_long request.now (filter_view self.now)))) }
     {
         let matched = first_match(self.named_policies(), request);
         let allowed = self.action().allows(matched.is_some());

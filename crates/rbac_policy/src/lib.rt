@@ -7,6 +7,7 @@ mod entries;
 mod filter;
 mod keys;
 pub mod laws;
+mod numbers;
 mod policy;
 
 pub use admission::{MOST_POLICIES, admit};

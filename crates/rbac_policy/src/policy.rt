@@ -13,7 +13,8 @@ ghost use Rattle.rbac_policy.specs.Fault.{PolicyFault, SomePolicyFault, Conditio
 ghost use Rattle.rbac_policy.specs.Named.{policy_view, named_views, parts_views, Held};
 
 use crate::entries::PartsByName;
-use crate::keys::policy_keys;
+use crate::keys::{has_payload, policy_keys};
+use crate::numbers::{CHECKED_CONDITION, CONDITION, PERMISSIONS, PRINCIPALS};
 use proto_wire::{Field, Refusal, last_len, payloads_of, read_message};
 use rbac_match::{RULE_DEPTH, Rule, Side, read_rules};
 use std::alloc::Global;
@@ -25,14 +26,6 @@ pub(crate) struct NamedPolicy {
     pub permissions: Vec<Rule>,
     pub principals: Vec<Rule>,
 }
-
-const PERMISSIONS: u32 = 1;
-
-const PRINCIPALS: u32 = 2;
-
-const CONDITION: u32 = 3;
-
-const CHECKED_CONDITION: u32 = 4;
 
 /// Reads each policy of the map, in ascending order of names.
 pub(crate) fn read_policies(
@@ -73,10 +66,10 @@ fn refuse_conditions(fields: &[Field<'_>]) -> Result<(), Refusal>
     ensures found { OnOk result (LacksConditions (map field_view fields.now)) }
     ensures fault { IfErr result (ConditionFault (map field_view fields.now)) }
 {
-    if has_text(fields, CONDITION) {
+    if has_payload(fields, CONDITION) {
         return Err(Refusal::Unsupported);
     }
-    if has_text(fields, CHECKED_CONDITION) {
+    if has_payload(fields, CHECKED_CONDITION) {
         return Err(Refusal::Unsupported);
     }
     Ok(())
@@ -87,10 +80,10 @@ fn require_sides(fields: &[Field<'_>]) -> Result<(), Refusal>
     ensures found { OnOk result (HasBothSides (map field_view fields.now)) }
     ensures fault { IfErr result (SideFault (map field_view fields.now)) }
 {
-    if !has_text(fields, PERMISSIONS) {
+    if !has_payload(fields, PERMISSIONS) {
         return Err(Refusal::Missing);
     }
-    if !has_text(fields, PRINCIPALS) {
+    if !has_payload(fields, PRINCIPALS) {
         return Err(Refusal::Missing);
     }
     Ok(())
@@ -110,11 +103,4 @@ fn read_side(
 {
     let rules = payloads_of(alloc, fields, number)?;
     read_rules(alloc, side, &rules, RULE_DEPTH)
-}
-
-/// Whether some LEN field has this number.
-pub(crate) fn has_text(fields: &[Field<'_>], number: u32) -> bool
-    ensures { MatchBool result (payloads number (map field_view fields.now) ≢ []) (payloads number (map field_view fields.now) ≡ []) }
-{
-    last_len(fields, number).is_some()
 }

@@ -3,7 +3,7 @@ use Rattle.std.proofs.lemmas.Result.{err_from_is_err_and}
 use Rattle.proto_wire.specs.Fields.{field_view}
 use Rattle.proto_wire.specs.Merge.{parts_view}
 use Rattle.proto_wire.specs.Messages.{IsMessage}
-use Rattle.rbac_policy.specs.Message.{policy_keys}
+use Rattle.rbac_policy.specs.Keys.{policy_keys}
 use Rattle.rbac_policy.specs.Fault.{policy_fields, lacks_side, conditional, in_permission, in_principal}
 use Rattle.rbac_policy.proofs.policy.read_policy.Goals as goal
 

@@ -9,7 +9,7 @@ use Rattle.rbac_policy.proofs.filter.Admitted.policies.Goals as goal
 
 pub returns : goal.returns
 returns c =
-    let items = c.args.self.now.policies.items in
+    let items = c.args.self.now.rules.policies.items in
     let held : len (from_entries {R = name_cmp} (named_views items)) ≡ length items =
-    len-entries (from_entries {R = name_cmp} (named_views items)) ∙ ap length (entries-from_entries (named_views items) (t_of _ c.args.self.now.ordered)) ∙ length-map items named_view in
-    c.len.ensures ∙ c.args.self.now.policies.ok.0 ∙ sym held
+    len-entries (from_entries {R = name_cmp} (named_views items)) ∙ ap length (entries-from_entries (named_views items) (t_of _ c.args.self.now.rules.ordered)) ∙ length-map items named_view in
+    c.len.ensures ∙ c.args.self.now.rules.policies.ok.0 ∙ sym held
