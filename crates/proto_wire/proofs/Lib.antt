@@ -7,3 +7,4 @@ pub mod ValueLemmas
 pub mod OneofLemmas
 pub mod Messages
 pub mod Exits
+pub mod StandardFacts

@@ -1,14 +1,15 @@
 -- The run of a oneof's last member: what one field more changes, and which fields are in it.
-use Rattle.std.proofs.Common.{◌≡◌, ◌==◌, ◌&&◌, ℕ, Bool, true, false, cond, ◌⊎◌, List, [], ◌∷◌, ◌++◌, Option, Some, None, map, take, get_or, length, ◌<◌, ◌+◌, refl, sym, ap, ◌∙◌, inl, inr}
-use Rattle.std.specs.List.{filter, filter_map, list_all}
-use Rattle.std.proofs.lemmas.Bool.{both_ways, and_parts, eqb-true, eqb-false, eq-eqb, ne_eqb, cases_Bool}
+use Rattle.std.proofs.Common.{◌≡◌, ◌==◌, ◌&&◌, ℕ, Bool, true, false, cond, List, [], ◌∷◌, ◌++◌, map, take, get_or, length, ◌<◌, ◌+◌, refl, sym, ap, ◌∙◌, inl, inr}
+use Rattle.std.specs.List.{filter, list_all}
+use Rattle.std.proofs.lemmas.Bool.{and_parts, eqb-true, eqb-false, eq-eqb, ne_eqb, cases_Bool}
 use Rattle.std.proofs.lemmas.List.{append-nil, map_more}
-use Rattle.std.proofs.lemmas.List.Elements.{filter_map-append, filter-append}
+use Rattle.std.proofs.lemmas.List.Elements.{filter-append}
 use Rattle.std.proofs.lemmas.List.Folds.{list_all-append}
-use Rattle.proto_wire.specs.Fields.{Payload, payload_view, Wire, field_view}
+use Rattle.proto_wire.specs.Fields.{Wire, field_view}
 use Rattle.proto_wire.specs.Values.{last_of}
-use Rattle.proto_wire.specs.Keys.{is_known, AllKnown, SomeUnknown}
-use Rattle.proto_wire.specs.Oneof.{last_member, trailing_run, member_run, run_with}
+use Rattle.proto_wire.specs.Keys.{is_known, AllKnown}
+use Rattle.proto_wire.specs.Oneof.{last_member, trailing_run, member_run}
+use Rattle.proto_wire.specs.steps.Run.{run_with}
 use Rattle.proto_wire.specs.declared.field.Field.{Field}
 use Rattle.proto_wire.specs.declared.key.Key.{Key}
 

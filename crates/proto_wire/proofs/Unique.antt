@@ -1,10 +1,10 @@
 -- Lists of fields on lists alone: one reading, one fault, never both, and always one of the two;
 -- the same in several payloads.
-use Rattle.std.proofs.Common.{◌≡◌, ◌≢◌, ℕ, zero, suc, ◌+◌, ◌<◌, ◌≤◌, ◌⊎◌, List, [], ◌∷◌, ◌++◌, length, refl, sym, ap, ap₂, ◌∙◌, arith, inl, inr, append_assoc, map, take, get_or, Bor}
+use Rattle.std.proofs.Common.{◌≡◌, ◌≢◌, ℕ, zero, suc, ◌+◌, ◌<◌, ◌≤◌, ◌⊎◌, List, [], ◌∷◌, ◌++◌, length, refl, sym, ap, ap₂, ◌∙◌, arith, inl, inr, append_assoc, take, get_or, Bor}
 use Rattle.std.specs.List.{concat}
 use Rattle.std.proofs.lemmas.List.{append-nil, map_more}
-use Rattle.proto_wire.specs.Fields.{Wire, StartsField, FailsField, After, Fields, Broken, IsBroken}
-use Rattle.proto_wire.specs.Merge.{Merges, Breaks, parts_view}
+use Rattle.proto_wire.specs.Fields.{Wire, StartsField, FailsField, After, Fields, Broken, IsBroken, BreaksAtOnce}
+use Rattle.proto_wire.specs.Merge.{Merges, Breaks, FirstBreaks, parts_view}
 use Rattle.proto_wire.specs.declared.fault.WireError.{WireError}
 use Rattle.proto_wire.proofs.FieldLemmas.{field_unique, field_disjoint, field_fault_unique, field_total, field_shorter, field_extends}
 
@@ -110,6 +110,15 @@ fields_read_within (suc n) (b ∷ bytes) long =
 pub fields_total : (bytes : List ℕ) → FieldsRead bytes
 fields_total bytes = fields_read_within (length bytes) bytes (omega arith)
 
+-- bytes that begin with a field do not break at once
+pub after_breaks_later : (bytes : List ℕ) (fs : List Wire) (rest : List ℕ) (f : Wire)
+    (more : List ℕ)
+    → After bytes fs rest → StartsField rest f more → BreaksAtOnce bytes → ⊥
+after_breaks_later bytes [] rest f more a starts (e, broken) =
+    field_disjoint bytes f more e (rw a starts) (rw broken.after broken.fails)
+after_breaks_later bytes (g ∷ fs) rest f more (behind, first, a) starts (e, broken) =
+    field_disjoint bytes g behind e first (rw broken.after broken.fails)
+
 -- ---- fields behind fields
 
 pub after_append : (bytes : List ℕ) (fs : List Wire) (behind : List ℕ) (gs : List Wire)
@@ -202,6 +211,23 @@ pub merges_at : (i : ℕ) (parts : List (Bor (List ℕ))) (d : Bor (List ℕ)) (
 merges_at i parts d fs gs within so_far fields =
     rw (map_more (λ (p : Bor (List ℕ)). p.now) parts i d within)
     (merges_push (parts_view (take i parts)) fs (get_or parts i d).now gs so_far fields)
+
+-- payloads that merge do not break at the first field
+pub first_disjoint : (parts : List (List ℕ)) (fs : List Wire) → Merges parts fs
+    → FirstBreaks parts → ⊥
+first_disjoint [] fs merged breaks = breaks
+first_disjoint (part ∷ parts) fs (own, others, fields, rest, whole) (e, broken) =
+    fields_disjoint part own [] e fields broken
+
+-- where the payloads before the next one merge and the first breaks at once, the next is the first
+pub first_breaks_at : (i : ℕ) (parts : List (Bor (List ℕ))) (d : Bor (List ℕ)) (fs : List Wire)
+    → i < length parts
+    → Merges (parts_view (take i parts)) fs → FirstBreaks (parts_view parts)
+    → BreaksAtOnce (get_or parts i d).now
+first_breaks_at i [] d fs within merged breaks = absurd breaks
+first_breaks_at zero (p ∷ parts) d fs within merged breaks = breaks
+first_breaks_at (suc i) (p ∷ parts) d fs within merged breaks =
+    absurd (first_disjoint (parts_view (p ∷ take i parts)) fs merged breaks)
 
 -- a broken payload among others
 pub breaks_at : (i : ℕ) (parts : List (Bor (List ℕ))) (d : Bor (List ℕ)) → i < length parts

@@ -6,3 +6,4 @@ pub mod Oneof
 pub mod Merge
 pub mod Refusal
 pub mod Messages
+pub mod steps

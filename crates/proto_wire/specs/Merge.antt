@@ -2,7 +2,7 @@
 -- message fields merge).
 use Rattle.std.specs.Prelude.{◌≡◌, ℕ, ◌⊎◌, List, [], ◌∷◌, ◌++◌, map}
 use Rattle.std.specs.Borrow.{Bor}
-use Rattle.proto_wire.specs.Fields.{Wire, Fields, IsBroken}
+use Rattle.proto_wire.specs.Fields.{Wire, Fields, IsBroken, BreaksAtOnce}
 
 -- the bytes of each slice
 abbrev pub parts_view : List (Bor (List ℕ)) → List (List ℕ)
@@ -19,3 +19,8 @@ Merges (part ∷ parts) fs =
 abbrev pub Breaks : List (List ℕ) → Type 0
 Breaks [] = ⊥
 Breaks (part ∷ parts) = IsBroken part ⊎ Breaks parts
+
+-- the first payload begins with no field
+abbrev pub FirstBreaks : List (List ℕ) → Type 0
+FirstBreaks [] = ⊥
+FirstBreaks (part ∷ parts) = BreaksAtOnce part

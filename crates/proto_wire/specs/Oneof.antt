@@ -1,5 +1,5 @@
 -- Which member of a oneof counts: Protocol Buffers encoding guide, "Last One Wins" and "Oneofs".
-use Rattle.std.specs.Prelude.{ℕ, ◌==◌, cond, Option, List, [], ◌∷◌, ◌++◌, filter}
+use Rattle.std.specs.Prelude.{◌==◌, cond, Option, List, [], ◌∷◌, filter}
 use Rattle.std.specs.List.{list_all}
 use Rattle.proto_wire.specs.Fields.{Wire}
 use Rattle.proto_wire.specs.Keys.{is_known}
@@ -15,11 +15,6 @@ last_member keys fs = last_of (filter (is_known keys) fs)
 abbrev pub trailing_run : List Wire → List Wire
 trailing_run [] = []
 trailing_run (f ∷ fs) = cond (list_all (λ g. g.number == f.number) fs) (f ∷ fs) (trailing_run fs)
-
--- what is the longest such end when one field more comes
-abbrev pub run_with : List Wire → Wire → List Wire
-run_with [] f = f ∷ []
-run_with (g ∷ gs) f = cond (g.number == f.number) (g ∷ (gs ++ f ∷ [])) (f ∷ [])
 
 -- the run of the last member among the fields that have a member's key
 abbrev pub member_run : List Key → List Wire → List Wire

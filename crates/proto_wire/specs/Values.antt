@@ -1,10 +1,13 @@
 -- How a message's values come from its fields: Protocol Buffers encoding guide, "Base 128 Varints",
 -- "Signed Integers", "Last One Wins" and "Repeated Elements".
-use Rattle.std.specs.Prelude.{ℕ, ℤ, ◌==◌, ◌%◌, ◌^◌, Bool, not, cond, Option, Some, None, List, [], ◌∷◌, unwrap_or}
+use Rattle.std.specs.Prelude.{◌≡◌, ℕ, ℤ, ◌==◌, ◌%◌, ◌^◌, Bool, not, cond, Option, Some, None, List, [], ◌∷◌, unwrap_or}
 use Rattle.std.specs.Int.{cast_signed, w32, w64}
 use Rattle.std.specs.List.{filter_map, list_any}
+use Rattle.std.specs.Str.{IsUtf8}
 use Rattle.proto_wire.specs.Fields.{Payload, varint, i64, len, i32, Wire}
 use Rattle.proto_wire.specs.Keys.{len_key, varint_key, is_known}
+use Rattle.proto_wire.specs.declared.refusal.Refusal.{Refusal}
+use Rattle.proto_wire.specs.declared.refusal.Refusal.TheVariants.{BadText}
 
 -- the number, where the payload is a varint
 abbrev pub varint_in : Payload → Option ℕ
@@ -41,6 +44,10 @@ has_field k fs = list_any (is_known (len_key k ∷ varint_key k ∷ [])) fs
 -- the last LEN payload of this number, and empty where there is none
 abbrev pub bytes_at : ℕ → List Wire → List ℕ
 bytes_at k fs = unwrap_or (last_of (payloads k fs)) []
+
+-- the bytes are no text
+abbrev pub Utf8Fault : List ℕ → Refusal → Type 0
+Utf8Fault bytes e = ¬ IsUtf8 bytes × (e ≡ BadText)
 
 -- the last varint of this number, and 0 where there is none
 abbrev pub varint_at : ℕ → List Wire → ℕ

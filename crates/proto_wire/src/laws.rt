@@ -68,3 +68,9 @@ pub fn message_disjoint()
     ensures { (keys : List Key) (parts : List (List ℕ)) (fs : List Wire) (e : Refusal)
         → IsMessage keys parts fs → MessageFault keys parts e → ⊥ }
 {}
+
+/// Payloads are one message at most.
+pub fn message_unique()
+    ensures { (keys : List Key) (parts : List (List ℕ)) (fs gs : List Wire)
+        → IsMessage keys parts fs → IsMessage keys parts gs → fs ≡ gs }
+{}

@@ -4,7 +4,6 @@
 mod fault;
 mod field;
 mod key;
-mod known;
 pub mod laws;
 mod message;
 mod oneof;
@@ -17,13 +16,13 @@ mod varint;
 pub use fault::WireError;
 pub use field::{Field, Payload, WireType};
 pub use key::{Key, all_known};
-pub use known::read_message;
-pub use message::{read_fields, read_parts};
+pub use message::{read_fields, read_message, read_parts, require_known};
 pub use oneof::{last_member, member_run};
 pub use reader::Reader;
 pub use refusal::Refusal;
 pub use values::{
-    bool_at, bytes_at, has_field, int32_at, int64_at, last_len, last_varint, payloads_of, uint32_at,
+    bool_at, bytes_at, has_field, int32_at, int64_at, last_len, last_varint, payloads_of, text_at,
+    text_of, uint32_at,
 };
 
 #[cfg(test)]

@@ -1,13 +1,14 @@
 //! The values among a message's fields: the varints and the LEN payloads of a number, and the scalars that the last of
 //! them are.
 
-ghost use Rattle.std.specs.Prelude.{◌≡◌, ◌==◌, cond, [], ◌∷◌, map, Some, None, IfOk, MatchOption};
+ghost use Rattle.std.specs.Prelude.{◌≡◌, ◌==◌, cond, [], ◌∷◌, map, Some, None, IfOk, IfErr, MatchOption, IsUtf8};
 ghost use Rattle.proto_wire.specs.Fields.{payload_view, field_view};
 ghost use Rattle.proto_wire.specs.Keys.{len_key, varint_key, is_known};
 ghost use Rattle.proto_wire.specs.Merge.{parts_view};
-ghost use Rattle.proto_wire.specs.Values.{varint_in, len_in, varints, payloads, last_of, has_field, bytes_at, bool_at, uint32_at, int32_at, int64_at};
+ghost use Rattle.proto_wire.specs.Values.{varint_in, len_in, varints, payloads, last_of, has_field, bytes_at, Utf8Fault, bool_at, uint32_at, int32_at, int64_at};
 
 use crate::field::{Field, Payload};
+use crate::refusal::Refusal;
 use std::alloc::{AllocError, Global};
 
 /// The value of a singular scalar: that of the last VARINT field of this number.
@@ -69,6 +70,27 @@ pub fn bytes_at<'a>(fields: &[Field<'a>], number: u32) -> &'a [u8]
         Some(bytes) => bytes,
         None => &[],
     }
+}
+
+/// The text that the bytes are: `BadText` where they are no UTF-8. It takes no memory.
+pub fn text_of(bytes: &[u8]) -> Result<&str, Refusal>
+    ensures found { IfOk result (λ text. (text.now ≡ bytes.now) × IsUtf8 bytes.now) }
+    ensures fault { IfErr result (Utf8Fault bytes.now) }
+{
+    match str::from_utf8(bytes) {
+        Ok(text) => Ok(text),
+        Err(_) => Err(Refusal::BadText),
+    }
+}
+
+/// The string of this number: the last one, and empty where there is none; `BadText` where that is no UTF-8. It takes no
+/// memory.
+pub fn text_at<'a>(fields: &[Field<'a>], number: u32) -> Result<&'a str, Refusal>
+    ensures found { let bytes = bytes_at number (map field_view fields.now) in
+        IfOk result (λ text. (text.now ≡ bytes) × IsUtf8 bytes) }
+    ensures fault { IfErr result (Utf8Fault (bytes_at number (map field_view fields.now))) }
+{
+    text_of(bytes_at(fields, number))
 }
 
 /// The bool of this number: true for every value but 0, and false where there is none.
