@@ -2,7 +2,7 @@
 -- does not check.
 use Rattle.std.proofs.Common.{◌≡◌, ℕ, ◌+◌, ◌*◌, ◌%◌, ◌<◌, ◌≤◌, length, inl, inr, List, [], ◌∷◌, codes, refl, sym, arith, negsuc}
 use Rattle.std.proofs.lemmas.List.{append-nil}
-use Rattle.proto_wire.specs.Varint.{value_of, SpellsVarint, FailsVarint, too_long, unfinished}
+use Rattle.proto_wire.specs.Varint.{SpellsVarint, FailsVarint, too_long, unfinished}
 use Rattle.proto_wire.specs.Fields.{varint, i64, len, i32, Payload, Wire, SpellsField, Fields, Broken, bad_number, bad_payload, no_varint, unknown}
 use Rattle.proto_wire.specs.Keys.{len_key}
 use Rattle.proto_wire.specs.Values.{int64_at}
