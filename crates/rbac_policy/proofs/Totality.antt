@@ -22,74 +22,14 @@ use Rattle.rbac_match.proofs.Basics.{nil_or_not, same_or_not, contains_first, co
 use Rattle.rbac_match.proofs.Settled.{rules_all_settled, rules_all_apart}
 use Rattle.rbac_match.proofs.TextSettled.{utf8_or_not}
 use Rattle.rbac_policy.specs.Filter.{Policy, Filter, name_cmp}
-use Rattle.rbac_policy.specs.Keys.{filter_keys, rules_keys, entry_keys, policy_keys}
-use Rattle.rbac_policy.specs.Message.{rule_depth, most_policies, Entry, IsEntry, AreEntries, map_of, LacksConditions, HasBothSides, IsPolicy, ArePolicies, action_in, action_number, AreFilterRules, IsFilter}
-use Rattle.rbac_policy.specs.Named.{Held}
-use Rattle.rbac_policy.proofs.Order.{both_second, found_later}
-use Rattle.rbac_policy.proofs.HeldPolicies.{held_find}
-use Rattle.rbac_policy.specs.Fault.{SomePolicyFault, EntryFault, entry_fields, entry_name, Readable, PolicyFault, policy_fields, lacks_side, conditional, SideFault, no_permission, no_principal, ConditionFault, unchecked, checked, in_permission, in_principal, RulesFault, bad_action, audited, in_entry, in_faulty_entry, too_many, in_policy, FilterFault, filter_fields, no_rules, rules_fields, in_rules}
+use Rattle.rbac_policy.specs.Keys.{filter_keys, rules_keys, policy_keys}
+use Rattle.rbac_policy.specs.Message.{rule_depth, most_policies, LacksConditions, HasBothSides, IsPolicy, action_in, action_number, AreFilterRules, IsFilter}
+use Rattle.proto_wire.specs.Maps.{Entry, text, AreEntries, map_of, SomeValueFault}
+use Rattle.proto_wire.proofs.MapLaws.{entries_total, entries_disjoint, entries_readable, readable_unique}
+use Rattle.proto_wire.proofs.MapValues.{values_total, values_disjoint}
+use Rattle.rbac_policy.specs.Fault.{PolicyFault, policy_fields, lacks_side, conditional, SideFault, no_permission, no_principal, ConditionFault, unchecked, checked, in_permission, in_principal, RulesFault, bad_action, audited, in_entry, in_faulty_entry, too_many, in_policy, FilterFault, filter_fields, no_rules, rules_fields, in_rules}
 use Rattle.rbac_policy.specs.declared.filter.Action.{Action}
 use Rattle.rbac_policy.specs.declared.filter.Action.TheVariants.{Allow, Deny, Log}
-
--- a payload is an entry or has a fault
-entry_total : (part : List ℕ) → ((entry : Entry) × IsEntry part entry) ⊎ ((e : Refusal) × EntryFault part e)
-entry_total part = elim (message_total entry_keys (part ∷ [])) [
-  | inr bad ↦ inr (bad.0, entry_fields bad.1)
-  | inl message ↦ elim (utf8_or_not (bytes_at 1 message.0)) [
-    | inl text ↦ inl (record { name = bytes_at 1 message.0; parts = payloads 2 message.0 }, (message.0, message.1, text, refl))
-    | inr bad ↦ inr (BadText, entry_name message.0 message.1.0 bad refl)
-  ]
-]
-
-entries_total : (parts : List (List ℕ))
-    → ((es : List Entry) × AreEntries parts es) ⊎ ((part : List ℕ) × Contains parts part × (e : Refusal) × EntryFault part e)
-entries_total [] = inl ([], tt)
-entries_total (part ∷ parts) = elim (entry_total part) [
-  | inr bad ↦ inr (part, contains_first part parts, bad.0, bad.1)
-  | inl entry ↦ elim (entries_total parts) [
-    | inl others ↦ inl (entry.0 ∷ others.0, (entry.1, others.1))
-    | inr bad ↦ inr (bad.0, contains_later part bad.0 parts bad.1, bad.2, bad.3)
-  ]
-]
-
--- an entry has no fault, and is one entry
-entry_disjoint : (part : List ℕ) (entry : Entry) (e : Refusal) → IsEntry part entry → EntryFault part e → ⊥
-entry_disjoint part entry e (fs, message, text, is) (entry_fields bad) = message_disjoint entry_keys (part ∷ []) fs e message bad
-entry_disjoint part entry e (fs, message, text, is) (entry_name gs also bad at) =
-    let P : List Wire → Type 0 = λ xs. IsUtf8 (bytes_at 1 xs) in bad (subst P (merges_unique (part ∷ []) fs gs message.0 also) text)
-
-entry_unique : (part : List ℕ) (a b : Entry) → IsEntry part a → IsEntry part b → a ≡ b
-entry_unique part a b (fs, message, text, is) (gs, also, text', is') =
-    let same : fs ≡ gs = merges_unique (part ∷ []) fs gs message.0 also.0 in
-    let made : List Wire → Entry = λ xs. record { name = bytes_at 1 xs; parts = payloads 2 xs } in
-    is ∙ ap made same ∙ sym is'
-
-entries_disjoint : (parts : List (List ℕ)) (es : List Entry) (part : List ℕ) (e : Refusal)
-    → AreEntries parts es → Contains parts part → EntryFault part e → ⊥
-entries_disjoint [] es part e are here bad = let lt : here.0 < 0 = here.1 in absurd (omega arith)
-entries_disjoint (p ∷ parts) [] part e are here bad = are
-entries_disjoint (p ∷ parts) (x ∷ es) part e are here bad = elim (contains_cases p part parts here) [
-  | inl same ↦ let P : List ℕ → Type 0 = λ q. EntryFault q e in entry_disjoint p x e are.0 (subst P (sym same) bad)
-  | inr later ↦ entries_disjoint parts es part e are.1 later bad
-]
-
--- where each payload is an entry, those are the entries that are readable
-pub entries_readable : (parts : List (List ℕ)) (es : List Entry) → AreEntries parts es → Readable parts es
-entries_readable [] [] are = refl
-entries_readable [] (x ∷ es) are = absurd are
-entries_readable (p ∷ parts) [] are = absurd are
-entries_readable (p ∷ parts) (x ∷ es) are = inl (x, es, are.0, entries_readable parts es are.1, refl)
-
-pub readable_unique : (parts : List (List ℕ)) (es fs : List Entry) → AreEntries parts es → Readable parts fs
-    → fs ≡ es
-readable_unique [] [] fs are reads = reads
-readable_unique [] (x ∷ es) fs are reads = absurd are
-readable_unique (p ∷ parts) [] fs are reads = absurd are
-readable_unique (p ∷ parts) (x ∷ es) fs are (inl (entry, others, is, rest, made)) =
-    let first : entry ≡ x = entry_unique p entry x is are.0 in
-    let later : others ≡ es = readable_unique parts es others are.1 rest in
-    let whole : fs ≡ entry ∷ others = made in cc
-readable_unique (p ∷ parts) (x ∷ es) fs are (inr (e, bad, rest)) = absurd (entry_disjoint p x e are.0 bad)
 
 -- payloads are a policy or have a fault
 ruled : (side : Side) (fs : List Wire) (k : ℕ)
@@ -167,28 +107,6 @@ module _ (parts : List (List ℕ)) (policy : Policy) (is : IsPolicy parts policy
   policy_disjoint e (in_principal gs also (child, here, bad)) =
       rules_all_apart Principal rule_depth (payloads 2 is.fs) policy.principals child e is.principals (moved (λ xs. Contains (payloads 2 xs) child) gs also here) bad
 
-held_total : (ns : List (List ℕ × List (List ℕ))) → T (is_sorted name_cmp ns)
-    → ((ps : List (List ℕ × Policy)) × Held ns ps) ⊎ ((e : Refusal) × SomePolicyFault ns e)
-held_total [] sorted = inl ([], refl)
-held_total (n ∷ ns) sorted = elim (policy_total n.1) [
-  | inr bad ↦ inr (bad.0, (n.0, n.1, ap (λ b. cond b (Some n.1) (find name_cmp n.0 ns)) (ap is_eq (tied_itself nat_list_cmp_total n.0)), bad.1))
-  | inl policy ↦ elim (held_total ns (both_second _ _ sorted)) [
-    | inl others ↦ inl ((n.0, policy.0) ∷ others.0, (policy.0, others.0, policy.1, others.1, refl))
-    | inr (e, (name, parts, found, bad)) ↦ inr (e, (name, parts, found_later n ns name parts sorted found, bad))
-  ]
-]
-
-policies_total : (named : FinMap name_cmp (List (List ℕ)))
-    → ((policies : FinMap name_cmp Policy) × ArePolicies named policies) ⊎ ((e : Refusal) × SomePolicyFault (entries named) e)
-policies_total named = elim (held_total (entries named) (entries_sorted named)) [
-  | inr bad ↦ inr bad
-  | inl held ↦ inl (
-    from_entries held.0,
-    λ name.
-        rw (get-entries named name, get-from_entries nat_list_cmp_total held.0 name) (held_find (entries named) held.0 held.1 name),
-  )
-]
-
 -- the number of an action is one of three, or too great
 action_total : (n : ℕ) → ((action : Action) × (n ≡ action_number action)) ⊎ (2 < n)
 action_total n = elim (same_or_not n 0) [
@@ -209,12 +127,12 @@ action_small n Log is large = absurd (omega arith)
 
 -- the fields of the rules are the filter's or have a fault
 entries_done : (fs : List Wire) (action : Action) → payloads 3 fs ≡ []
-    → action_in fs ≡ action_number action → (es : List Entry) → AreEntries (payloads 2 fs) es
+    → action_in fs ≡ action_number action → (es : List (Entry text)) → AreEntries text (payloads 2 fs) es
     → ((filter : Filter) × AreFilterRules fs filter) ⊎ ((e : Refusal) × RulesFault fs e)
-entries_done fs action unaudited is es are = elim (cases_lt most_policies (len (map_of es))) [
-  | inl many ↦ inr (TooLarge, too_many es (entries_readable (payloads 2 fs) es are) many refl)
-  | inr few ↦ elim (policies_total (map_of es)) [
-    | inr bad ↦ inr (bad.0, in_policy es (entries_readable (payloads 2 fs) es are) bad.1)
+entries_done fs action unaudited is es are = elim (cases_lt most_policies (len (map_of text es))) [
+  | inl many ↦ inr (TooLarge, too_many es (entries_readable text (payloads 2 fs) es are) many refl)
+  | inr few ↦ elim (values_total text IsPolicy PolicyFault policy_total (map_of text es)) [
+    | inr bad ↦ inr (bad.0, in_policy es (entries_readable text (payloads 2 fs) es are) bad.1)
     | inl held ↦ inl (
       record { action = action; policies = held.0 },
       record {
@@ -235,8 +153,8 @@ rules_fields_total fs = elim (nil_or_not (payloads 3 fs)) [
   | inr there ↦ inr (Unsupported, audited there refl)
   | inl unaudited ↦ elim (action_total (action_in fs)) [
     | inr large ↦ inr (OutOfRange, bad_action large refl)
-    | inl action ↦ elim (entries_total (payloads 2 fs)) [
-      | inr bad ↦ inr (bad.2, in_entry bad.0 bad.1 bad.3)
+    | inl action ↦ elim (entries_total text (payloads 2 fs)) [
+      | inr bad ↦ inr (bad.0, in_entry bad.1)
       | inl read ↦ entries_done fs action.0 unaudited action.1 read.0 read.1
     ]
   ]
@@ -259,32 +177,22 @@ filter_total bytes = elim (message_total filter_keys (bytes ∷ [])) [
   ]
 ]
 
--- where a name's payloads are a policy they have no fault
-held_disjoint : (named : Option (List (List ℕ))) (held : Option Policy) (parts : List (List ℕ)) (e : Refusal)
-    → named ≡ Some parts
-    → MatchOption named (held ≡ None) (λ given. IsSomeAnd held (IsPolicy given)) → PolicyFault parts e → ⊥
-held_disjoint None held parts e at is bad = let clash : None ≡ Some parts = at in cc
-held_disjoint (Some given) None parts e at is bad = is
-held_disjoint (Some given) (Some policy) parts e at is bad =
-    let same : given ≡ parts = cc in
-    let P : List (List ℕ) → Type 0 = λ x. PolicyFault x e in policy_disjoint given policy is e (subst P (sym same) bad)
-
 -- the rules of a filter have no fault
 rules_fields_disjoint : (fs : List Wire) (filter : Filter) (e : Refusal) → AreFilterRules fs filter
     → RulesFault fs e → ⊥
 rules_fields_disjoint fs filter e is (bad_action large at) = action_small (action_in fs) filter.action is.action large
 rules_fields_disjoint fs filter e is (audited there at) = there is.unaudited
-rules_fields_disjoint fs filter e is (in_entry part here bad) = entries_disjoint (payloads 2 fs) is.entries part e is.read here bad
+rules_fields_disjoint fs filter e is (in_entry bad) = entries_disjoint text (payloads 2 fs) is.entries e is.read bad
 rules_fields_disjoint fs filter e is (in_faulty_entry part own reason here bad whole inner) =
-    entries_disjoint (payloads 2 fs) is.entries part reason is.read here bad
+    entries_disjoint text (payloads 2 fs) is.entries reason is.read (part, here, bad)
 rules_fields_disjoint fs filter e is (too_many es reads many at) =
-    let few : len (map_of is.entries) ≤ most_policies = is.few in
-    let P : List Entry → Type 0 = λ xs. most_policies < len (map_of xs) in
-    let more : most_policies < len (map_of is.entries) = subst P (readable_unique (payloads 2 fs) is.entries es is.read reads) many in absurd (omega arith)
-rules_fields_disjoint fs filter e is (in_policy es reads (name, parts, at, bad)) =
-    let P : List Entry → Type 0 = λ xs. find name_cmp name (entries (map_of xs)) ≡ Some parts in
-    let stands : get (map_of is.entries) name ≡ Some parts = get-entries (map_of is.entries) name ∙ subst P (readable_unique (payloads 2 fs) is.entries es is.read reads) at in
-    held_disjoint (get (map_of is.entries) name) (get filter.policies name) parts e stands (is.policies name) bad
+    let few : len (map_of text is.entries) ≤ most_policies = is.few in
+    let P : List (Entry text) → Type 0 = λ xs. most_policies < len (map_of text xs) in
+    let more : most_policies < len (map_of text is.entries) = subst P (readable_unique text (payloads 2 fs) is.entries es is.read reads) many in absurd (omega arith)
+rules_fields_disjoint fs filter e is (in_policy es reads bad) =
+    let P : List (Entry text) → Type 0 = λ xs. SomeValueFault text PolicyFault (entries (map_of text xs)) e in
+    values_disjoint text IsPolicy PolicyFault (λ parts p d held fault. policy_disjoint parts p held d fault) (map_of text is.entries) filter.policies e is.policies
+    (subst P (readable_unique text (payloads 2 fs) is.entries es is.read reads) bad)
 
 -- the message of a filter has no fault
 pub filter_disjoint : (bytes : List ℕ) (filter : Filter) (e : Refusal) → IsFilter bytes filter

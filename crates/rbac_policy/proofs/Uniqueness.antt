@@ -13,15 +13,12 @@ use Rattle.rbac_match.specs.declared.rule.Side.TheVariants.{Permission, Principa
 use Rattle.rbac_match.proofs.Settled.{rules_all_one}
 use Rattle.rbac_policy.specs.Filter.{Condition, Policy, Filter, name_cmp}
 use Rattle.rbac_policy.specs.Keys.{rules_keys}
-use Rattle.rbac_policy.specs.Message.{rule_depth, Entry, AreEntries, map_of, IsPolicy, ArePolicies, action_number, AreFilterRules, IsFilter}
+use Rattle.rbac_policy.specs.Message.{rule_depth, IsPolicy, action_number, AreFilterRules, IsFilter}
 use Rattle.rbac_policy.specs.declared.filter.Action.{Action}
 use Rattle.rbac_policy.specs.declared.filter.Action.TheVariants.{Allow, Deny, Log}
-use Rattle.rbac_policy.proofs.Totality.{entries_readable, readable_unique}
-
--- payloads are one list of entries
-entries_unique : (parts : List (List ℕ)) (es fs : List Entry) → AreEntries parts es → AreEntries parts fs
-    → es ≡ fs
-entries_unique parts es fs a b = readable_unique parts fs es b (entries_readable parts es a)
+use Rattle.proto_wire.specs.Maps.{Entry, text, AreValues, map_of}
+use Rattle.proto_wire.proofs.MapLaws.{entries_unique}
+use Rattle.proto_wire.proofs.MapValues.{values_unique}
 
 -- payloads merge to one policy
 module _ (parts : List (List ℕ)) (p q : Policy) (a : IsPolicy parts p) (b : IsPolicy parts q) where
@@ -42,22 +39,6 @@ module _ (parts : List (List ℕ)) (p q : Policy) (a : IsPolicy parts p) (b : Is
       (side_unique Principal 2 p.principals q.principals a.principals b.principals)
       ∙ ap (make q.permissions q.principals) (a.unconditional ∙ sym b.unconditional)
 
--- at a name stands one policy, or none
-held_unique : (named : Option (List (List ℕ))) (x y : Option Policy)
-    → MatchOption named (x ≡ None) (λ parts. IsSomeAnd x (IsPolicy parts))
-    → MatchOption named (y ≡ None) (λ parts. IsSomeAnd y (IsPolicy parts)) → x ≡ y
-held_unique None x y a b = a ∙ sym b
-held_unique (Some parts) None y a b = absurd a
-held_unique (Some parts) (Some p) None a b = absurd b
-held_unique (Some parts) (Some p) (Some q) a b = ap Some (policy_unique parts p q a b)
-
--- the policies of names are one map
-policies_unique : (named : FinMap name_cmp (List (List ℕ))) (m n : FinMap name_cmp Policy)
-    → ArePolicies named m → ArePolicies named n → m ≡ n
-policies_unique named m n a b =
-    same_map nat_list_cmp_total (slice_cmp-IsAntisymmetric nat_cmp-IsAntisymmetric) m n
-    (λ name. held_unique (get named name) (get m name) (get n name) (a name) (b name))
-
 -- a number is that of one action
 action_unique : (x y : Action) → action_number x ≡ action_number y → x ≡ y
 action_unique Allow Allow e = refl
@@ -74,10 +55,10 @@ action_unique Log Deny e = absurd (omega (arith, e))
 rules_unique : (fs : List Wire) (f g : Filter) → AreFilterRules fs f → AreFilterRules fs g → f ≡ g
 rules_unique fs f g a b =
     let make : Action → FinMap name_cmp Policy → Filter = λ x m. record { action = x; policies = m } in
-    let P : List Entry → Type 0 = λ es. ArePolicies (map_of es) g.policies in
-    let same : b.entries ≡ a.entries = entries_unique (payloads 2 fs) b.entries a.entries b.read a.read in
+    let P : List (Entry text) → Type 0 = λ es. AreValues text IsPolicy (map_of text es) g.policies in
+    let same : b.entries ≡ a.entries = entries_unique text (payloads 2 fs) b.entries a.entries b.read a.read in
     ap₂ make (action_unique f.action g.action (sym a.action ∙ b.action))
-    (policies_unique (map_of a.entries) f.policies g.policies a.policies (subst P same b.policies))
+    (values_unique text IsPolicy policy_unique (map_of text a.entries) f.policies g.policies a.policies (subst P same b.policies))
 
 -- bytes are the message of one filter
 pub filter_unique : (bytes : List ℕ) (f g : Filter) → IsFilter bytes f → IsFilter bytes g → f ≡ g

@@ -29,10 +29,6 @@ abbrev pub rules_keys : List Key
 rules_keys =
     varint_key action_field ∷ len_key policies_field ∷ len_key audit_logging_options_field ∷ []
 
--- the fields of a map's entry: key, value
-abbrev pub entry_keys : List Key
-entry_keys = len_key 1 ∷ len_key 2 ∷ []
-
 -- a policy's permissions
 abbrev pub permissions_field : ℕ
 permissions_field = 1

@@ -4,6 +4,5 @@ pub mod Message
 pub mod Fault
 pub mod Verdict
 pub mod Named
-pub mod Parts
 pub mod Admitted
 pub mod Admission

@@ -5,11 +5,12 @@ use Rattle.std.specs.Str.{IsUtf8}
 use Rattle.std.specs.FinMap.{FinMap, get, from_entries, len}
 use Rattle.proto_wire.specs.Fields.{Wire}
 use Rattle.proto_wire.specs.Values.{bytes_at, payloads, uint32_at}
+use Rattle.proto_wire.specs.Maps.{Entry, text, AreEntries, map_of, AreValues}
 use Rattle.proto_wire.specs.Messages.{IsMessage}
 use Rattle.rbac_match.specs.Rules.{AreRules, IsRule}
 use Rattle.rbac_match.specs.declared.rule.Side.TheVariants.{Permission, Principal}
 use Rattle.rbac_policy.specs.Filter.{Policy, Filter, name_cmp}
-use Rattle.rbac_policy.specs.Keys.{filter_keys, rules_keys, entry_keys, policy_keys, rules_field, action_field, policies_field, audit_logging_options_field, permissions_field, principals_field, condition_field, checked_condition_field}
+use Rattle.rbac_policy.specs.Keys.{filter_keys, rules_keys, policy_keys, rules_field, action_field, policies_field, audit_logging_options_field, permissions_field, principals_field, condition_field, checked_condition_field}
 use Rattle.rbac_policy.specs.declared.filter.Action.{Action}
 use Rattle.rbac_policy.specs.declared.filter.Action.TheVariants.{Allow, Deny, Log}
 
@@ -20,27 +21,6 @@ rule_depth = 32
 -- how many policies a filter may have
 abbrev pub most_policies : ℕ
 most_policies = 256
-
--- an entry of the map of policies: a name, and the payloads of its policy
-pub record Entry : Type 0 where
-  pub name : List ℕ
-  pub parts : List (List ℕ)
-
--- the payload is an entry
-abbrev pub IsEntry : List ℕ → Entry → Type 0
-IsEntry bytes entry = (fs : List Wire) × IsMessage entry_keys (bytes ∷ []) fs × IsUtf8 (bytes_at 1 fs)
-    × (entry ≡ record { name = bytes_at 1 fs; parts = payloads 2 fs })
-
--- each payload is an entry, in order
-abbrev pub AreEntries : List (List ℕ) → List Entry → Type 0
-AreEntries [] [] = Unit {0}
-AreEntries [] (entry ∷ entries) = ⊥
-AreEntries (part ∷ parts) [] = ⊥
-AreEntries (part ∷ parts) (entry ∷ entries) = IsEntry part entry × AreEntries parts entries
-
--- the map of the entries: at each name what its last entry has
-abbrev pub map_of : List Entry → FinMap name_cmp (List (List ℕ))
-map_of entries = from_entries (reverse (map (λ entry. (entry.name, entry.parts)) entries))
 
 -- some permission and some principal
 abbrev pub HasBothSides : List Wire → Type 0
@@ -59,14 +39,9 @@ pub record IsPolicy (parts : List (List ℕ)) (policy : Policy) : Type 0 where
   pub unconditional : policy.condition ≡ None
   pub sides : HasBothSides fs
   pub permissions :
-    AreRules (IsRule Permission rule_depth) (payloads permissions_field fs) policy.permissions
+      AreRules (IsRule Permission rule_depth) (payloads permissions_field fs) policy.permissions
   pub principals :
-    AreRules (IsRule Principal rule_depth) (payloads principals_field fs) policy.principals
-
--- at each name stands the policy that the name's payloads merge to, and nothing at other names
-abbrev pub ArePolicies : FinMap name_cmp (List (List ℕ)) → FinMap name_cmp Policy → Type 0
-ArePolicies named policies = (name : List ℕ)
-    → MatchOption (get named name) (get policies name ≡ None) (λ parts. IsSomeAnd (get policies name) (IsPolicy parts))
+      AreRules (IsRule Principal rule_depth) (payloads principals_field fs) policy.principals
 
 -- the number of the action, an enum
 abbrev pub action_in : List Wire → ℕ
@@ -80,12 +55,12 @@ action_number Log = 2
 
 -- the fields are rules of the filter
 pub record AreFilterRules (fs : List Wire) (filter : Filter) : Type 0 where
-  pub entries : List Entry
+  pub entries : List (Entry text)
   pub unaudited : payloads audit_logging_options_field fs ≡ []
   pub action : action_in fs ≡ action_number filter.action
-  pub read : AreEntries (payloads policies_field fs) entries
-  pub few : len (map_of entries) ≤ most_policies
-  pub policies : ArePolicies (map_of entries) filter.policies
+  pub read : AreEntries text (payloads policies_field fs) entries
+  pub few : len (map_of text entries) ≤ most_policies
+  pub policies : AreValues text IsPolicy (map_of text entries) filter.policies
 
 -- the bytes are the message of the filter
 pub record IsFilter (bytes : List ℕ) (filter : Filter) : Type 0 where

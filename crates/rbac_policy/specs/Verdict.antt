@@ -59,9 +59,9 @@ module _ (is_met : Condition → Bool) where
 
   -- the answer of the filter: by its action, with the number of the least name that matches
   pub record IsVerdict (r : RequestValue) (filter : Filter) (allowed : Bool) (matched : Option ℕ)
-    : Type 0 where
-      pub lets_through : IsTrue allowed ↔ LetsThrough filter.action (SomeMatches r filter)
-      pub reported : MatchOption matched (SomeMatches r filter → ⊥)
+      : Type 0 where
+    pub lets_through : IsTrue allowed ↔ LetsThrough filter.action (SomeMatches r filter)
+    pub reported : MatchOption matched (SomeMatches r filter → ⊥)
         (λ k. (name : List ℕ) × IsLeastMatch r filter name × (k ≡ number_of filter name))
 
   -- the verdict asks for the condition: it is that of a policy whose permissions and principals match,
@@ -69,7 +69,7 @@ module _ (is_met : Condition → Bool) where
   abbrev pub IsAsked : RequestValue → Filter → Condition → Type 0
   IsAsked r filter condition = (name : List ℕ)
       × IsSomeAnd (get filter.policies name)
-        (λ p. IsTrue (sides_match r p) × (p.condition ≡ Some condition))
+      (λ p. IsTrue (sides_match r p) × (p.condition ≡ Some condition))
       × ((other : List ℕ) → Matches r filter other → is_lt (name_cmp other name) ≡ false)
 
   -- some condition that the verdict asks for takes more steps than it may, by which conditions do

@@ -11,13 +11,12 @@ ghost use Rattle.rbac_policy.specs.Fault.{FilterFault, RulesFault};
 ghost use Rattle.rbac_policy.specs.Admission.{Admits, Fault};
 ghost use Rattle.rbac_policy.specs.Admitted.{filter_view, limits_view, rules_view};
 
-use crate::entries::read_entries;
 use crate::filter::{Action, Admitted, FilterRules};
 use crate::keys::{filter_keys, has_payload, rules_keys};
 use crate::numbers::{ACTION, AUDIT_LOGGING_OPTIONS, POLICIES, RULES};
 use crate::policy::read_policies;
 use attributes::Limits;
-use proto_wire::{Field, Refusal, payloads_of, read_message, uint32_at};
+use proto_wire::{Field, Refusal, payloads_of, read_entries, read_message, uint32_at};
 use std::alloc::Global;
 
 /// How many policies a filter may have.

@@ -22,7 +22,7 @@ impl Admitted {
         ensures always { IsUnconditional (filter_view self.now) → IsOk result }
         ensures fault { IfErr result (λ e. (e ≡ RunError.Memory)
             ⊎ ((e ≡ RunError.OutOfSteps) × ((is_met is_too_long : Condition → Bool)
-                → RunsOut is_met is_too_long request.now (filter_view self.now)))) }
+            → RunsOut is_met is_too_long request.now (filter_view self.now)))) }
     {
         let matched = first_match(self.named_policies(), request);
         let allowed = self.action().allows(matched.is_some());

@@ -3,7 +3,7 @@
 ghost use Rattle.std.specs.Prelude.{◌≡◌, ◌≢◌, [], MatchBool, map};
 ghost use Rattle.proto_wire.specs.Fields.{field_view};
 ghost use Rattle.proto_wire.specs.Values.{payloads};
-ghost use Rattle.rbac_policy.specs.Keys.{filter_keys, rules_keys, entry_keys, policy_keys};
+ghost use Rattle.rbac_policy.specs.Keys.{filter_keys, rules_keys, policy_keys};
 
 use crate::numbers;
 use proto_wire::{Field, Key, keys, last_len};
@@ -15,8 +15,6 @@ static FILTER: [Key; 3] = keys![
 static RULES: [Key; 3] = keys![
     Varint numbers::ACTION, Len numbers::POLICIES, Len numbers::AUDIT_LOGGING_OPTIONS
 ];
-
-static ENTRY: [Key; 2] = keys![Len 1, Len 2];
 
 static POLICY: [Key; 4] = keys![
     Len numbers::PERMISSIONS, Len numbers::PRINCIPALS, Len numbers::CONDITION,
@@ -35,13 +33,6 @@ pub(crate) fn rules_keys() -> &'static [Key]
     ensures { result.now ≡ rules_keys }
 {
     &RULES
-}
-
-/// The fields of an entry of the map of policies: its key and its value.
-pub(crate) fn entry_keys() -> &'static [Key]
-    ensures { result.now ≡ entry_keys }
-{
-    &ENTRY
 }
 
 /// The fields of a policy: permissions, principals and the two conditions.

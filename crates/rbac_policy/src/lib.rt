@@ -3,7 +3,6 @@
 
 mod admission;
 mod decide;
-mod entries;
 mod filter;
 mod keys;
 pub mod laws;

@@ -4,20 +4,21 @@ ghost use Rattle.std.specs.Prelude.{◌≡◌, ◌≢◌, ◌⊎◌, [], IfOk, I
 ghost use Rattle.std.specs.String.{string_bytes};
 ghost use Rattle.proto_wire.specs.Fields.{field_view};
 ghost use Rattle.proto_wire.specs.Values.{payloads};
+ghost use Rattle.proto_wire.specs.Maps.{text, Held, SomeValueFault};
 ghost use Rattle.proto_wire.specs.Refusal.{MemoryOr};
 ghost use Rattle.proto_wire.specs.Merge.{parts_view};
 ghost use Rattle.rbac_match.specs.Rules.{IsRule, AreRules, SomeRuleFault};
 ghost use Rattle.rbac_match.specs.View.{rules_view};
 ghost use Rattle.rbac_policy.specs.Message.{IsPolicy, LacksConditions, HasBothSides, rule_depth};
-ghost use Rattle.rbac_policy.specs.Fault.{PolicyFault, SomePolicyFault, ConditionFault, SideFault};
-ghost use Rattle.rbac_policy.specs.Named.{policy_view, named_views, parts_views, Held};
+ghost use Rattle.rbac_policy.specs.Fault.{PolicyFault, ConditionFault, SideFault};
+ghost use Rattle.rbac_policy.specs.Named.{policy_view, named_views, names_view};
 
-use crate::entries::PartsByName;
 use crate::keys::{has_payload, policy_keys};
 use crate::numbers::{CHECKED_CONDITION, CONDITION, PERMISSIONS, PRINCIPALS};
 use proto_wire::{Field, Refusal, last_len, payloads_of, read_message};
 use rbac_match::{RULE_DEPTH, Rule, Side, read_rules};
 use std::alloc::Global;
+use std::collections::BTreeMap;
 
 /// A policy with its name: it matches where some permission and some principal do.
 #[derive(Debug, Drop)]
@@ -30,10 +31,10 @@ pub(crate) struct NamedPolicy {
 /// Reads each policy of the map, in ascending order of names.
 pub(crate) fn read_policies(
     alloc: Global,
-    named: &PartsByName<'_>,
+    named: &BTreeMap<&str, Vec<&[u8]>>,
 ) -> Result<Vec<NamedPolicy>, Refusal>
-    ensures found { IfOk result (λ policies. Held (parts_views named.now.entries) (named_views policies.items)) }
-    ensures fault { IfErr result (MemoryOr (SomePolicyFault (parts_views named.now.entries))) }
+    ensures found { IfOk result (λ policies. Held text IsPolicy (names_view named.now.entries) (named_views policies.items)) }
+    ensures fault { IfErr result (MemoryOr (SomeValueFault text PolicyFault (names_view named.now.entries))) }
 {
     let mut policies = Vec::new(alloc);
     for (name, parts) in named {

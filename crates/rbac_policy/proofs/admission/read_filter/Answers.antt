@@ -44,4 +44,21 @@ returns-clause-fault c =
     let inner : IsMessage rules_keys (payloads rules_field top) fs = rw (parts, c.rules_keys.ensures) at c.in_ok-fields.ensures.found in
     MatchResult-weaker c.read_rules.result c.read_rules.ensures.fault (λ _ _. tt)
     (λ e h. memory_or_weaker (RulesFault fs) (FilterFault c.args.bytes.now) e
-      (λ d bad. in_rules top fs c.in_ok-top.ensures.found.0 there inner.0 bad) (rw c.deref-4.ensures.value at h))
+    (λ d bad. in_rules top fs c.in_ok-top.ensures.found.0 there inner.0 bad) (rw c.deref-4.ensures.value at h))
+
+pub returns-clause-found : goal.returns-clause-found
+returns-clause-found c =
+    let top : List Wire = map field_view c.in_ok-top.top.items in
+    let fs : List Wire = map field_view c.in_ok-fields.fields.items in
+    let there : payloads rules_field top ≢ [] = rw c.deref.ensures.value at c.in_ok-require_rules.ensures.found in
+    let parts : parts_view c.deref-3.result.now ≡ payloads rules_field top = ap parts_view c.deref-3.ensures.value ∙ (rw c.deref-2.ensures.value at c.in_ok-parts.ensures) in
+    let message : IsMessage filter_keys (c.args.bytes.now ∷ []) top = rw c.filter_keys.ensures at c.in_ok-top.ensures.found in
+    let inner : IsMessage rules_keys (payloads rules_field top) fs = rw (parts, c.rules_keys.ensures) at c.in_ok-fields.ensures.found in
+    MatchResult-weaker c.read_rules.result c.read_rules.ensures.found (λ rules h. record {
+      top = top;
+      fs = fs;
+      message = message;
+      there = there;
+      inner = inner;
+      rules = rw c.deref-4.ensures.value at h;
+    }) (λ _ _. tt)
