@@ -1,5 +1,5 @@
 -- A filter: Envoy RBAC, "RBAC" and "Policy" (config.rbac.v3).
-use Rattle.std.specs.Prelude.{ℕ, List}
+use Rattle.std.specs.Prelude.{ℕ, List, Option}
 use Rattle.std.specs.Ordering.{nat_cmp}
 use Rattle.std.specs.Cmp.Lexicographic.{slice_cmp}
 use Rattle.std.specs.FinMap.{FinMap}
@@ -7,10 +7,14 @@ use Rattle.std.specs.declared.cmp.Ordering.{Ordering}
 use Rattle.rbac_match.specs.Formula.{Formulas}
 use Rattle.rbac_policy.specs.declared.filter.Action.{Action}
 
--- what a policy asks of a request: some permission and some principal
+-- a condition of a policy (Policy.checked_condition): no filter with one is admitted yet
+pub data Condition : Type 0 where
+
+-- what a policy asks of a request: some permission and some principal, and its condition if it has one
 pub record Policy : Type 0 where
   pub permissions : Formulas
   pub principals : Formulas
+  pub condition : Option Condition
 
 -- the order of names: byte by byte
 abbrev pub name_cmp : List ℕ → List ℕ → Ordering

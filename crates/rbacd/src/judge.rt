@@ -5,7 +5,7 @@ ghost use Rattle.attributes.specs.Limits.{largest};
 ghost use Rattle.attributes.specs.Conn.{Facts, facts_of};
 ghost use Rattle.rbacd.specs.Judging.{IsOutcomeOf, IsOutcomeUnder, first_bytes, plain_facts};
 ghost use Rattle.rbacd.specs.Head.{Asks};
-ghost use Rattle.rbac_policy.specs.Admitted.{filter_of};
+ghost use Rattle.rbac_policy.specs.Admitted.{filter_view};
 ghost use Rattle.rbacd.specs.Outcome.{text_of};
 
 use crate::head::{Ask, HEAD_ROOM, read_head};
@@ -105,7 +105,7 @@ fn head_outcome<R: Read + Drop>(
 ) -> io::Result<Outcome>
     requires { limits.now ≡ largest }
     ensures { IfOk result (λ outcome. IfSome (R.remaining input) (λ bytes.
-        IsOutcomeUnder (filter_of admitted.now) (facts_of conn) bytes outcome)) }
+        IsOutcomeUnder (filter_view admitted.now) (facts_of conn) bytes outcome)) }
 {
     let bytes = read_room(alloc, input)?;
     let outcome = judge_bytes(alloc, admitted, limits, conn, &bytes)?;
@@ -131,7 +131,7 @@ fn judge_bytes(
     bytes: &[u8],
 ) -> Result<Outcome, AllocError>
     requires { limits.now ≡ largest }
-    ensures { IfOk result (IsOutcomeUnder (filter_of admitted.now) (facts_of conn) bytes.now) }
+    ensures { IfOk result (IsOutcomeUnder (filter_view admitted.now) (facts_of conn) bytes.now) }
 {
     match read_head(alloc, bytes, limits, conn)? {
         Ask::Judge(request) => Ok(decided(admitted, &request)),
@@ -142,7 +142,7 @@ fn judge_bytes(
 /// The outcome of a request that some bytes ask for.
 fn decided(admitted: &Admitted, request: &Request) -> Outcome
     ensures { (facts : Facts) (bytes : List ℕ) → Asks bytes largest facts request.now
-        → IsOutcomeUnder (filter_of admitted.now) facts bytes result }
+        → IsOutcomeUnder (filter_view admitted.now) facts bytes result }
 {
     let verdict = match admitted.decide(request) {
         Ok(verdict) => verdict,
