@@ -3,13 +3,16 @@ use Rattle.std.specs.Prelude.{◌≡◌, ◌⊎◌, ⊤, true, false, ℕ, suc, 
 use Rattle.attributes.specs.Conn.{Facts, only_scheme}
 use Rattle.attributes.specs.Limits.{largest}
 use Rattle.attributes.specs.Request.{RequestValue}
+use Rattle.http_front.specs.declared.fault.HeadFault.{HeadFault}
+use Rattle.http_front.specs.declared.fault.HeadFault.TheVariants.{BadRequest}
+use Rattle.http_front.specs.Asks.{Asks, HasFault, IsUnfinished}
+use Rattle.http_front.specs.Head.{head_room}
 use Rattle.proto_wire.specs.declared.refusal.Refusal.TheVariants.{Memory}
 use Rattle.rbac_policy.specs.Admission.{Admissible, Admits, Fault}
 use Rattle.rbac_policy.specs.Filter.{Filter}
 use Rattle.rbac_policy.specs.Verdict.{IsVerdict}
 use Rattle.rbacd.specs.declared.outcome.Outcome.{Outcome}
 use Rattle.rbacd.specs.declared.outcome.Outcome.TheVariants as outcomes
-use Rattle.rbacd.specs.Head.{Asks, HasFault, head_room}
 
 -- a connection of which nothing but the scheme `http` is known
 abbrev pub plain_facts : Facts
@@ -27,6 +30,11 @@ pub record IsJudged (policy : List ℕ) (budget : ℕ) (facts : Facts) (bytes : 
   pub request : RequestValue
   pub asks : Asks bytes largest facts request
 
+-- the bytes, which are all that comes on a connection of these facts, ask for nothing, for this fault
+pub data InputFault (facts : Facts) (bytes : List ℕ) (fault : HeadFault) : Type 0 where
+  present : HasFault bytes largest facts fault → InputFault facts bytes fault
+  unfinished : IsUnfinished bytes → fault ≡ BadRequest → InputFault facts bytes fault
+
 -- a condition of the filter runs out of its steps at the request: a filter has no conditions
 abbrev pub RunsOut : Filter → RequestValue → Type 0
 RunsOut filter request = ⊥
@@ -42,7 +50,7 @@ IsOutcomeOf policy budget facts bytes outcomes.OutOfSteps =
 IsOutcomeOf policy budget facts bytes (outcomes.Refused reason) =
     (reason ≡ Memory) ⊎ Fault reason policy largest budget
 IsOutcomeOf policy budget facts bytes (outcomes.Fault fault) =
-    Admissible policy largest budget × HasFault bytes largest facts fault
+    Admissible policy largest budget × InputFault facts bytes fault
 IsOutcomeOf policy budget facts bytes outcomes.Memory = ⊤
 
 -- the outcome is what each policy that is admitted as this filter gives with the facts and the bytes
