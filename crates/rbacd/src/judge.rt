@@ -3,14 +3,14 @@ ghost use Rattle.std.specs.Prelude.{◌≡◌, ◌++◌, ℕ, List, ◌∷◌, [
 ghost use Rattle.std.specs.Io.KnownBytes.{Appends};
 ghost use Rattle.attributes.specs.Limits.{largest};
 ghost use Rattle.attributes.specs.Conn.{Facts, facts_of};
+ghost use Rattle.http_front.specs.Asks.{Asks};
 ghost use Rattle.rbacd.specs.Judging.{IsOutcomeOf, IsOutcomeUnder, first_bytes, plain_facts};
-ghost use Rattle.rbacd.specs.Head.{Asks};
 ghost use Rattle.rbac_policy.specs.Admitted.{filter_view};
 ghost use Rattle.rbacd.specs.Outcome.{text_of};
 
-use crate::head::{Ask, HEAD_ROOM, read_head};
 use crate::outcome::Outcome;
 use attributes::{Conn, Limits, Request};
+use http_front::{Ask, HEAD_ROOM, HeadFault, read_head};
 use rbac_policy::{Admitted, admit};
 use stack_machine::RunError;
 use std::alloc::{AllocError, Global};
@@ -122,7 +122,7 @@ fn read_room<R: Read + Drop>(alloc: Global, input: R) -> io::Result<Vec<u8>>
     Ok(bytes)
 }
 
-/// The outcome of the head that the bytes begin with.
+/// The outcome of the head that the bytes begin with; there are no more.
 fn judge_bytes(
     alloc: Global,
     admitted: &Admitted,
@@ -134,8 +134,9 @@ fn judge_bytes(
     ensures { IfOk result (IsOutcomeUnder (filter_view admitted.now) (facts_of conn) bytes.now) }
 {
     match read_head(alloc, bytes, limits, conn)? {
-        Ask::Judge(request) => Ok(decided(admitted, &request)),
-        Ask::Fault(fault) => Ok(Outcome::Fault(fault)),
+        Some(Ask::Judge(request)) => Ok(decided(admitted, &request)),
+        Some(Ask::Fault(fault)) => Ok(Outcome::Fault(fault)),
+        None => Ok(Outcome::Fault(HeadFault::BadRequest)),
     }
 }
 

@@ -1,0 +1,9 @@
+pub mod FieldLists
+pub mod LineFeeds
+pub mod Texts
+pub mod HeadTexts
+pub mod Rooms
+pub mod Spans
+pub mod Held
+pub mod Framings
+pub mod RuleLemmas
