@@ -253,3 +253,9 @@ pub on_ok_items : {T E P : Type 0} (r : Result T E) (new grown old : List ℕ)
     → new ≡ (if is_ok r then grown else old) → (new ≡ grown → P) → OnOk r P
 on_ok_items (Ok x) new grown old is f = f is
 on_ok_items (Err y) new grown old is f = tt
+
+-- what two calls that succeed come to
+pub on_ok_both : {T E P Q R : Type 0} (r s : Result T E) → r ≡ s → OnOk s P → OnOk s Q
+    → (P → Q → R) → OnOk r R
+on_ok_both r (Ok x) same p q f = rw same (f p q)
+on_ok_both r (Err y) same p q f = rw same tt

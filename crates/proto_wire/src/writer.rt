@@ -1,6 +1,6 @@
 //! The writing of fields, each number in its shortest spelling.
 
-ghost use Rattle.std.specs.Prelude.{◌≡◌, ◌+◌, ◌*◌, List, ℕ, OnOk, OnErr};
+ghost use Rattle.std.specs.Prelude.{◌≡◌, ◌+◌, ◌*◌, List, ℕ, take, OnOk, OnErr};
 ghost use Rattle.proto_wire.specs.Fields.{IsFieldNumber, varint, len};
 ghost use Rattle.proto_wire.specs.Shortest.{Appends, field_of};
 ghost use Rattle.proto_wire.specs.steps.Writing.{Keeps, AppendsVarint};
@@ -50,10 +50,7 @@ impl Writer {
     {
         let start = self.bytes.len();
         let written = append_varint_field(&mut self.bytes, number, value);
-        if written.is_err() {
-            self.bytes.truncate(start);
-        }
-        written
+        self.keep_whole(start, written)
     }
 
     /// Writes a LEN field that is a string.
@@ -73,10 +70,7 @@ impl Writer {
     {
         let start = self.bytes.len();
         let written = append_len_field(&mut self.bytes, number, bytes);
-        if written.is_err() {
-            self.bytes.truncate(start);
-        }
-        written
+        self.keep_whole(start, written)
     }
 
     /// Writes a LEN field that is a message, which these are the bytes of.
@@ -86,6 +80,22 @@ impl Writer {
         ensures unchanged { OnErr result (self.new ≡ self.old) }
     {
         self.bytes(number, message)
+    }
+
+    /// Drops what a call that failed has put behind the first `start` bytes.
+    fn keep_whole(
+        &mut self,
+        start: usize,
+        written: Result<(), AllocError>,
+    ) -> Result<(), AllocError>
+        ensures same { result ≡ written }
+        ensures whole { OnOk written (self.new ≡ self.old) }
+        ensures dropped { OnErr written (self.new ≡ take start self.old) }
+    {
+        if written.is_err() {
+            self.bytes.truncate(start);
+        }
+        written
     }
 }
 
