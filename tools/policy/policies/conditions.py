@@ -18,7 +18,7 @@ from .messages import CHECKED_EXPR, EXPR, Message, descriptor
 from .places import spread
 from .scalars import is_bool, is_text
 from .trees import NoTree, message_tree, tree_message, type_message
-from .writer import write
+from .writer import PLAIN, Writer
 
 TEXT_KEY, IDS_KEY, DOTTED_KEY = "text", "ids", "dotted"
 
@@ -117,8 +117,8 @@ class TextForm(NamedTuple):
     has_own_types: bool
 
 
-def text_form(message: Message) -> Optional[TextForm]:
-    """The text that `encode_text` makes the same condition of, or None."""
+def text_form(message: Message, writer: Writer) -> Optional[TextForm]:
+    """The text that `encode_text` makes the same condition of with that writer, or None."""
     is_checked = message.kind.full_name == CHECKED_EXPR
     expr = message.get("expr") if is_checked else message
     try:
@@ -133,11 +133,11 @@ def text_form(message: Message) -> Optional[TextForm]:
     again = parse(text, dotted)
     for node, number in zip(in_order(again), ids):
         node.id = number
-    if write(tree_message(again)) != expr.raw:
+    if writer.write(tree_message(again)) != expr.raw:
         return None
     has_own_types = is_checked and _entry_bytes(type_entries(tree)) != _entry_bytes(message.get("type_map") or [])
     return TextForm(text, dotted, None if ids == list(range(1, len(ids) + 1)) else ids, has_own_types)
 
 
 def _entry_bytes(entries: list) -> list:
-    return [(key, write(value)) for key, value in entries]
+    return [(key, PLAIN.write(value)) for key, value in entries]

@@ -28,10 +28,12 @@ from .places import Mistake, Source, start_of
 from .reader import DEEPEST, read
 from .scalars import Unfit, is_absent, is_text, read_key, read_scalar
 from .trees import type_message
-from .writer import write, write_values
+from .writer import ONEOFS_LAST, PLAIN
 
 WIRE_KEY = "@wire"
 TYPE_KEY = "@type"
+ORDER_KEY = "@oneofs"
+LAST = "last"
 ROOT = ()
 
 
@@ -41,6 +43,7 @@ class Encoding:
     def __init__(self, source: Source, dotted: bool = False):
         self.source = source
         self.dotted = dotted
+        self.writer = PLAIN
         self.marks: Dict[tuple, yaml.Node] = {}
         self.notes: list = []
 
@@ -54,7 +57,21 @@ class Encoding:
         node = self.source.compose()
         if node is None or is_absent(node):
             return Message(kind)
-        return self.message(kind, node, ROOT, 1)
+        return self.message(kind, self._without_order(node), ROOT, 1)
+
+    def _without_order(self, node: yaml.Node) -> yaml.Node:
+        """The file's mapping without the key that says in what order the fields of a message are written."""
+        if not isinstance(node, yaml.MappingNode):
+            return node
+        rest = []
+        for key, value in node.value:
+            if not isinstance(key, yaml.ScalarNode) or key.value != ORDER_KEY:
+                rest.append((key, value))
+            elif not is_text(value) or value.value != LAST:
+                raise self.mistake(value, f"`{LAST}` is wanted here: members of oneofs stand behind the other fields")
+            else:
+                self.writer = ONEOFS_LAST
+        return yaml.MappingNode(node.tag, rest, node.start_mark, node.end_mark)
 
     def message(self, kind: Descriptor, node: yaml.Node, path: tuple, depth: int) -> Message:
         """The message of a node, `depth` levels down."""
@@ -183,14 +200,18 @@ class Encoding:
             for other, _ in pairs.values():
                 raise self.mistake(other, f"nothing stands beside `{TYPE_KEY}` and `{WIRE_KEY}`")
             return message
-        message = read(kind, self._hex(wire))
+        message = read(kind, self._hex(wire), self.writer)
         if pairs:
             rest = yaml.MappingNode(node.tag, list(pairs.values()), node.start_mark, node.end_mark)
             said = self.message(kind, rest, path, depth)
-            if write_values(said, write) != write_values(message, write):
+            if self._spelling(said) != self._spelling(message):
                 raise self.mistake(key, "these bytes do not say what stands beside them: leave out one or the other")
         message.wire = message.raw
         return message
+
+    def _spelling(self, message: Message) -> bytes:
+        """What the values of a message are in bytes, whatever bytes of its own it has."""
+        return self.writer.spell(message, self.writer.write)
 
     def _hex(self, node: yaml.Node) -> bytes:
         if isinstance(node, yaml.ScalarNode):
@@ -217,7 +238,7 @@ class Encoding:
         held = held_type(url)
         if held is None:
             raise self.mistake(name, f"this type is not known here: give its bytes as `{WIRE_KEY}`")
-        message.values = {"type_url": url, "value": write(self.fields(held, pairs, path, depth + 1))}
+        message.values = {"type_url": url, "value": self.writer.write(self.fields(held, pairs, path, depth + 1))}
         return message
 
 
@@ -237,4 +258,5 @@ def _camel(name: str) -> str:
 def encode(source: Source, dotted: bool = False):
     """The bytes of a file's filter, and the notes to tell beside; raises Mistake."""
     encoding = Encoding(source, dotted)
-    return write(encoding.filter()), encoding.notes
+    message = encoding.filter()
+    return encoding.writer.write(message), encoding.notes

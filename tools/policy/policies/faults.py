@@ -149,14 +149,19 @@ def _checked(message: Message) -> Iterator[Finding]:
             yield "type_map", place, UNSUPPORTED, f"the engine does not support the type of node {key}"
 
 
-def _used_ids(message: Message) -> set:
-    """The ids of a tree's nodes."""
-    ids = {message.scalar("id")} if message.kind.full_name == EXPR else set()
-    for value in message.values.values():
-        for part in value if isinstance(value, list) else [value]:
-            if isinstance(part, Message):
-                ids |= _used_ids(part)
-    return ids
+def _used_ids(expr: Message) -> set:
+    """The ids of a tree's nodes whose types the engine looks at: not of the roots' names, nor of entries."""
+    try:
+        return set(_ids(message_tree(expr), frozenset()))
+    except NoTree:
+        return set()
+
+
+def _ids(node: Node, scope: frozenset) -> Iterator[int]:
+    if not (isinstance(node, Ident) and node.name in ROOTS and node.name not in scope):
+        yield node.id
+    for part, inner in parts_of(node, scope):
+        yield from _ids(part, inner)
 
 
 def _is_unsupported(kind: Message) -> bool:

@@ -2,7 +2,7 @@
 import pathlib
 import subprocess
 from functools import lru_cache
-from typing import Dict, List, Optional, Tuple
+from typing import Dict, Iterator, List, Optional, Tuple
 
 from google.protobuf import descriptor_pb2, descriptor_pool
 from google.protobuf.descriptor import Descriptor, FieldDescriptor
@@ -132,6 +132,14 @@ class Message:
         """The value of a scalar field, the default where it is absent."""
         value = self.values.get(name)
         return default_of(self.kind.fields_by_name[name]) if value is None else value
+
+    def parts(self) -> Iterator["Message"]:
+        """The messages that stand in this one."""
+        for value in self.values.values():
+            for one in value if isinstance(value, list) else [value]:
+                part = one[1] if isinstance(one, tuple) else one
+                if isinstance(part, Message):
+                    yield part
 
     def which(self, oneof: str) -> Optional[str]:
         """The name of a oneof's member that is there."""

@@ -9,19 +9,21 @@ from google.protobuf.descriptor import Descriptor, FieldDescriptor
 
 from .messages import Message, is_map, is_message, is_repeated, label
 from .wire import LENGTH, WIRE_TYPES, Broken, Field, read_fields, read_varints, scalar_of
-from .writer import write_values
+from .writer import PLAIN, Writer
 
 BAD_WIRE, BAD_TEXT, UNKNOWN_FIELD, TOO_LARGE = 1, 2, 3, 8
 DEEPEST = 300
 Pieces = List[Tuple[int, bytes]]
 
 
-def read(kind: Descriptor, data: bytes, offset: int = 0) -> Message:
-    """The message of some bytes, the first of which stands at an offset."""
-    return read_pieces(kind, [(offset, data)], 1)
+def read(kind: Descriptor, data: bytes, writer: Writer = PLAIN) -> Message:
+    """The message of some bytes; it keeps those of each part that the writer would not give back."""
+    message = _read(kind, [(0, data)], 1)
+    _keep_bytes(message, writer)
+    return message
 
 
-def read_pieces(kind: Descriptor, pieces: Pieces, depth: int) -> Message:
+def _read(kind: Descriptor, pieces: Pieces, depth: int) -> Message:
     """The message of payloads that stand one after the other, each whole fields by itself, `depth` levels down."""
     message = Message(kind, pieces[0][0])
     message.raw = b"".join(data for _, data in pieces)
@@ -32,13 +34,18 @@ def read_pieces(kind: Descriptor, pieces: Pieces, depth: int) -> Message:
     except Broken as fault:
         return _unread(message, fault.offset, BAD_WIRE, fault.why)
     _fill(message, fields, depth)
-    if write_values(message, lambda part: part.raw) != message.raw:
-        message.wire = message.raw
     return message
 
 
+def _keep_bytes(message: Message, writer: Writer) -> None:
+    """Lets each message whose values the writer spells otherwise have its own bytes."""
+    for part in message.parts():
+        _keep_bytes(part, writer)
+    if not message.is_whole or writer.spell(message, lambda part: part.raw) != message.raw:
+        message.wire = message.raw
+
+
 def _unread(message: Message, place: int, number: int, why: str) -> Message:
-    message.wire = message.raw
     message.is_whole = False
     message.faults.append((place, number, why))
     return message
@@ -108,7 +115,7 @@ def _take(message: Message, kind: FieldDescriptor, fields: List[Field], depth: i
         _take_list(message, kind, fields, depth)
     elif is_message(kind):
         pieces = [(field.start, field.payload) for field in fields]
-        message.values[kind.name] = read_pieces(kind.message_type, pieces, depth + 1)
+        message.values[kind.name] = _read(kind.message_type, pieces, depth + 1)
         message.places[kind.name] = fields[-1].place
     else:
         _take_scalar(message, kind, fields[-1])
@@ -127,7 +134,7 @@ def _take_list(message: Message, kind: FieldDescriptor, fields: List[Field], dep
     for field in fields:
         try:
             if is_message(kind):
-                more = [read_pieces(kind.message_type, [(field.start, field.payload)], depth + 1)]
+                more = [_read(kind.message_type, [(field.start, field.payload)], depth + 1)]
             elif WIRE_TYPES[kind.type] != LENGTH and field.wire_type == LENGTH:
                 more = [scalar_of(kind.type, number) for number in read_varints(field.payload)]
             else:
@@ -148,14 +155,14 @@ def _take_map(message: Message, kind: FieldDescriptor, fields: List[Field], dept
     """The last entry of a key counts, and stands where the key stood first; an entry with a fault is left out."""
     pairs, places = {}, {}
     for field in fields:
-        entry = read_pieces(kind.message_type, [(field.start, field.payload)], depth + 1)
+        entry = _read(kind.message_type, [(field.start, field.payload)], depth + 1)
         if entry.faults:
             message.faults += entry.faults
             continue
         key = entry.scalar("key")
         value = entry.get("value")
         if value is None and is_message(kind.message_type.fields_by_name["value"]):
-            value = read_pieces(kind.message_type.fields_by_name["value"].message_type, [(field.start, b"")], depth + 2)
+            value = _read(kind.message_type.fields_by_name["value"].message_type, [(field.start, b"")], depth + 2)
         pairs[key] = entry.scalar("value") if value is None else value
         places[key] = field.place
     message.values[kind.name] = list(pairs.items())

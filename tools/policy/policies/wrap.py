@@ -2,7 +2,7 @@
 from typing import List, Tuple
 
 from .messages import ANY, EXTENSION, FILTER, PREFIX, RESPONSE, Message, descriptor
-from .writer import write
+from .writer import PLAIN
 
 GREATEST_MESSAGE = 1_048_576
 
@@ -23,9 +23,9 @@ def response(filters: List[Tuple[str, bytes]], version: str, nonce: str) -> byte
     resources = []
     for name, data in filters:
         extension = _message(EXTENSION, {"name": name, "typed_config": _any(FILTER, data)})
-        resources.append(_any(EXTENSION, write(extension)))
+        resources.append(_any(EXTENSION, PLAIN.write(extension)))
     values = {"version_info": version, "resources": resources, "type_url": PREFIX + EXTENSION, "nonce": nonce}
-    return write(_message(RESPONSE, values))
+    return PLAIN.write(_message(RESPONSE, values))
 
 
 def frame(message: bytes) -> bytes:

@@ -1,22 +1,39 @@
-"""Messages to bytes: fields in ascending order of number, defaults omitted."""
+"""Messages to bytes: fields in ascending order of number, defaults omitted.
+
+Go's encoder puts the members of oneofs behind the other fields; a writer can do so too.
+"""
+from typing import Callable
+
 from google.protobuf.descriptor import FieldDescriptor
 
 from .messages import Message, default_of, has_presence, is_map, is_message, is_repeated
 from .wire import LENGTH, WIRE_TYPES, field_of, scalar_payload, tag
 
 
-def write(message: Message) -> bytes:
-    """The bytes of a message: its own where it has some, else the plain spelling of its values."""
-    return message.wire if message.wire is not None else write_values(message, write)
+class Writer:
+    """A writer of messages; it has one order of fields."""
+
+    def __init__(self, oneofs_last: bool = False):
+        self.oneofs_last = oneofs_last
+
+    def write(self, message: Message) -> bytes:
+        """The bytes of a message: its own where it has some, else the plain spelling of its values."""
+        return message.wire if message.wire is not None else self.spell(message, self.write)
+
+    def spell(self, message: Message, write_part: Callable[[Message], bytes]) -> bytes:
+        """The plain spelling of a message's values, where `write_part` gives the bytes of the messages in it."""
+        out = []
+        for field in sorted(message.kind.fields, key=self._place):
+            if field.name in message.values:
+                out.append(_write_field(field, message.values[field.name], write_part))
+        return b"".join(out)
+
+    def _place(self, field: FieldDescriptor):
+        return self.oneofs_last and field.containing_oneof is not None, field.number
 
 
-def write_values(message: Message, write_part) -> bytes:
-    """The plain spelling of a message's values, where `write_part` gives the bytes of the messages in it."""
-    out = []
-    for field in sorted(message.kind.fields, key=lambda field: field.number):
-        if field.name in message.values:
-            out.append(_write_field(field, message.values[field.name], write_part))
-    return b"".join(out)
+PLAIN = Writer()
+ONEOFS_LAST = Writer(oneofs_last=True)
 
 
 def _write_field(field: FieldDescriptor, value, write_part) -> bytes:

@@ -35,12 +35,17 @@ def lines_of(value: Union[str, list]) -> List[str]:
     return [line for item in value for line in (_pair(item) if isinstance(item, Pair) else _part(item))]
 
 
-def _comments(texts: List[str]) -> List[str]:
-    return [f"# {text}" for text in texts]
+def comment_lines(texts: List[str]) -> List[str]:
+    """Comments as lines, with nothing in them that ends a line or is not shown."""
+    return ["# " + "".join(map(_shown, text)) for text in texts]
+
+
+def _shown(character: str) -> str:
+    return character if character.isprintable() else character.encode("unicode_escape").decode()
 
 
 def _pair(pair: Pair) -> List[str]:
-    head = _comments(pair.comments)
+    head = comment_lines(pair.comments)
     value = pair.value
     if isinstance(value, Block):
         return head + [f"{pair.key}: |-"] + [f"  {line}" for line in value.lines]
@@ -58,4 +63,4 @@ def _part(part: Part) -> List[str]:
     inner = lines_of(part.value)
     first = next((index for index, line in enumerate(inner) if not line.startswith("#")), 0)
     rest = [f"{'- ' if index == 0 else '  '}{line}" for index, line in enumerate(inner[first:])]
-    return _comments(part.comments) + inner[:first] + rest
+    return comment_lines(part.comments) + inner[:first] + rest

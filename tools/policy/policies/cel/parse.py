@@ -40,21 +40,23 @@ def _syntax(text: str) -> lark.Tree:
     try:
         return _grammar().parse(text).children[0]
     except lark.exceptions.UnexpectedCharacters as fault:
-        raise TextMistake(fault.pos_in_stream, _character_fault(text, fault.pos_in_stream)) from None
+        raise _character_fault(text, fault.pos_in_stream) from None
     except lark.exceptions.UnexpectedToken as fault:
         if fault.token.type == "$END":
             raise TextMistake(len(text.rstrip()), "the text ends here, and something is still wanted") from None
         raise TextMistake(fault.token.start_pos, f"`{_short(fault.token)}` cannot stand here") from None
 
 
-def _character_fault(text: str, place: int) -> str:
+def _character_fault(text: str, place: int) -> TextMistake:
+    """The mistake where no word of the language begins."""
     character = text[place]
     if character in QUOTES:
-        return "these quotes are not closed"
+        starts_triple = place >= 2 and text[place - 2 : place] == 2 * character
+        return TextMistake(place - 2 if starts_triple else place, "these quotes are not closed")
     doubled = {"=": "==", "&": "&&", "|": "||"}
     if character in doubled:
-        return f"`{character}` is no operator: write `{doubled[character]}`"
-    return f"`{character}` has no meaning here"
+        return TextMistake(place, f"`{character}` is no operator: write `{doubled[character]}`")
+    return TextMistake(place, f"`{character}` has no meaning here")
 
 
 def _short(token: str) -> str:
@@ -81,7 +83,7 @@ class _Builder:
         return self.build(parts[1], depth)
 
     def _ident(self, parts: list, depth: int) -> Node:
-        return Ident(_name(parts), place=parts[-1].start_pos)
+        return Ident(_name(parts), place=parts[0].start_pos)
 
     def _call(self, parts: list, depth: int) -> Node:
         opening = next(index for index, part in enumerate(parts) if part.type == "LEFT_PAREN")
