@@ -75,14 +75,16 @@ class Encoding:
 
     def message(self, kind: Descriptor, node: yaml.Node, path: tuple, depth: int) -> Message:
         """The message of a node, `depth` levels down."""
-        if depth > DEEPEST:
-            raise self.mistake(node, f"this is nested more than {DEEPEST} messages deep")
         self.marks[path] = node
         if isinstance(node, yaml.ScalarNode):
             return self._short_form(kind, node)
         pairs = self.pairs(node, f"the fields of {label(kind)}")
         if WIRE_KEY in pairs:
             return self._with_wire(kind, node, pairs, path, depth)
+        if kind.full_name == WRAPPER:
+            raise self.mistake(node, "a number is wanted here")
+        if depth > DEEPEST:
+            raise self.mistake(node, f"this is nested more than {DEEPEST} messages deep")
         if kind.full_name == ANY:
             return self._any(kind, node, pairs, path, depth)
         self._check_type(kind, pairs)
@@ -156,7 +158,7 @@ class Encoding:
     def _one(self, field: FieldDescriptor, node: yaml.Node, path: tuple, depth: int):
         """The value of a field that holds one, or one of several."""
         if is_absent(node) and not is_null(field):
-            raise self.mistake(node, f"a value of `{field.name}` is wanted here")
+            raise self.mistake(node, "a value is wanted here")
         if is_message(field):
             return self.message(field.message_type, node, path, depth + 1)
         self.marks[path] = node

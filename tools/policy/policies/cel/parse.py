@@ -44,19 +44,31 @@ def _syntax(text: str) -> lark.Tree:
     except lark.exceptions.UnexpectedToken as fault:
         if fault.token.type == "$END":
             raise TextMistake(len(text.rstrip()), "the text ends here, and something is still wanted") from None
-        raise TextMistake(fault.token.start_pos, f"`{_short(fault.token)}` cannot stand here") from None
+        raise _token_fault(text, fault.token) from None
 
 
 def _character_fault(text: str, place: int) -> TextMistake:
     """The mistake where no word of the language begins."""
     character = text[place]
     if character in QUOTES:
-        starts_triple = place >= 2 and text[place - 2 : place] == 2 * character
-        return TextMistake(place - 2 if starts_triple else place, "these quotes are not closed")
+        start = place - 2 if _starts_triple(text, place) else place
+        return TextMistake(start, "these quotes are not closed")
     doubled = {"=": "==", "&": "&&", "|": "||"}
     if character in doubled:
         return TextMistake(place, f"`{character}` is no operator: write `{doubled[character]}`")
     return TextMistake(place, f"`{character}` has no meaning here")
+
+
+def _token_fault(text: str, token: lark.Token) -> TextMistake:
+    """The mistake where a word stands that cannot."""
+    if token[0] in QUOTES and _starts_triple(text, token.start_pos):
+        return TextMistake(token.start_pos - 2, "these quotes are not closed")
+    return TextMistake(token.start_pos, f"`{_short(token)}` cannot stand here")
+
+
+def _starts_triple(text: str, place: int) -> bool:
+    """Whether a quote is the third of three."""
+    return place >= 2 and text[place - 2 : place] == 2 * text[place]
 
 
 def _short(token: str) -> str:
