@@ -1,7 +1,7 @@
 """Conditions as texts of CEL: `text`, with `ids`, `dotted` and the maps of types and references where they are given.
 
-The keys `text`, `ids` and `dotted` stand in the place of `expr`. Without `ids` they run in the order of the text from 1;
-without `type_map` the entries are those of the empty literals whose types are told.
+The keys `text`, `ids` and `dotted` stand in the place of `expr`. Without `ids` they run in the order of the text, from
+1; without `type_map` the entries are those of the empty literals whose types are told.
 """
 from typing import List, NamedTuple, Optional
 
@@ -14,6 +14,7 @@ from .cel.parse import parse
 from .cel.printing import text_of
 from .cel.tree import ListLiteral, Node, in_order
 from .cel.typetext import type_text
+from .faults import unknown_names
 from .messages import CHECKED_EXPR, EXPR, Message, descriptor
 from .places import spread
 from .scalars import is_bool, is_text
@@ -42,7 +43,12 @@ def encode_text(encoding, kind, pairs: dict, path: tuple, depth: int) -> Message
         if name in pairs:
             raise encoding.mistake(pairs[name][0], f"`{name}` cannot stand beside `{TEXT_KEY}`")
     if kind.full_name == EXPR:
+        encoding.marks[path] = node
         return tree_message(tree)
+    encoding.marks[path + ("expr",)] = node
+    encoding.texts.add(path + ("expr",))
+    for place, words in unknown_names(tree):
+        _note(encoding, node, place, f"{words} (9 UnknownName)")
     message = encoding.fields(kind, pairs, path, depth)
     message.values["expr"] = tree_message(tree)
     if "type_map" not in message.values:
@@ -86,25 +92,24 @@ def _give_ids(encoding, tree: Node, node: Optional[yaml.Node]) -> None:
         part.id = encoding.scalar(field, scalar)
 
 
+def _note(encoding, node: yaml.ScalarNode, place: int, words: str) -> None:
+    """Notes something at a place of a condition's text."""
+    index = spread(encoding.source, node)[place]
+    encoding.notes.append(encoding.source.tell(encoding.source.place_of(index), f"note: {words}"))
+
+
 def _note_untold(encoding, tree: Node, node: yaml.ScalarNode) -> None:
     """Notes the empty literals whose type nothing tells."""
     found = types_of_empty(tree)
-    untold = [literal for literal, kind in found.items() if kind is None]
-    if not untold:
-        return
-    indices = spread(encoding.source, node)
     told = {literal.id: type_text(kind) for literal, kind in found.items() if kind is not None}
-    for literal in untold:
+    for literal, kind in found.items():
+        if kind is not None:
+            continue
         what, guess = ("list", "list(int)") if isinstance(literal, ListLiteral) else ("map", "map(string, int)")
         entries = {**told, literal.id: guess}
         shown = ", ".join(f'{number}: "{entries[number]}"' for number in sorted(entries))
-        encoding.notes.append(
-            encoding.source.tell(
-                encoding.source.place_of(indices[literal.place]),
-                f"note: nothing tells the type of this empty {what}, so the engine refuses the filter (14); "
-                f"`type_map: {{{shown}}}` would tell one",
-            )
-        )
+        words = f"nothing tells the type of this empty {what} (14 NeedsType); `type_map: {{{shown}}}` would tell one"
+        _note(encoding, node, literal.place, words)
 
 
 class TextForm(NamedTuple):

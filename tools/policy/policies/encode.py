@@ -1,12 +1,13 @@
 """YAML to messages: the proto3 JSON mapping, with the conditions' texts and the types' texts besides."""
 import difflib
-from typing import Dict, Optional
+from typing import Dict, List, Optional, Set, Tuple
 
 import yaml
 from google.protobuf.descriptor import Descriptor, FieldDescriptor
 
-from . import conditions
+from . import conditions, profile
 from .cel.typetext import read_type
+from .faults import UNKNOWN_NAME
 from .messages import (
     ANY,
     CHECKED_EXPR,
@@ -38,14 +39,19 @@ ROOT = ()
 
 
 class Encoding:
-    """One file on its way to a message; `marks` keeps the node of each part by its path, `notes` what to tell."""
+    """One file on its way to a message.
+
+    `marks` keeps the node of each part by its path, `texts` the paths of the trees that texts give, and `notes` what to
+    tell beside the bytes.
+    """
 
     def __init__(self, source: Source, dotted: bool = False):
         self.source = source
         self.dotted = dotted
         self.writer = PLAIN
         self.marks: Dict[tuple, yaml.Node] = {}
-        self.notes: list = []
+        self.texts: Set[tuple] = set()
+        self.notes: List[str] = []
 
     def mistake(self, node, message: str) -> Mistake:
         """The mistake at the start of a node."""
@@ -72,6 +78,19 @@ class Encoding:
             else:
                 self.writer = ONEOFS_LAST
         return yaml.MappingNode(node.tag, rest, node.start_mark, node.end_mark)
+
+    def note_profile(self, data: bytes) -> None:
+        """Notes what the engine refuses or skips of the bytes, at the parts of the file that say it."""
+        for note in profile.notes(read(descriptor(FILTER), data, self.writer)):
+            path = note.path
+            if path in self.texts and note.number == UNKNOWN_NAME:
+                continue
+            while path not in self.marks and path:
+                path = path[:-1]
+            place = start_of(self.marks[path]) if path in self.marks else (0, 0)
+            told = self.source.tell(place, f"note: {note.told()}")
+            if told not in self.notes:
+                self.notes.append(told)
 
     def message(self, kind: Descriptor, node: yaml.Node, path: tuple, depth: int) -> Message:
         """The message of a node, `depth` levels down."""
@@ -257,8 +276,10 @@ def _camel(name: str) -> str:
     return head + "".join(word.capitalize() for word in rest)
 
 
-def encode(source: Source, dotted: bool = False):
-    """The bytes of a file's filter, and the notes to tell beside; raises Mistake."""
+def encode(source: Source, dotted: bool = False) -> Tuple[bytes, List[str]]:
+    """The bytes of a file's filter, and notes on what the engine will refuse or skip of it; raises Mistake."""
     encoding = Encoding(source, dotted)
     message = encoding.filter()
-    return encoding.writer.write(message), encoding.notes
+    data = encoding.writer.write(message)
+    encoding.note_profile(data)
+    return data, encoding.notes

@@ -2,7 +2,7 @@
 import ipaddress
 from typing import Callable, Dict, Iterator, Optional, Tuple
 
-from .cel.attributes import TYPES, attribute_name, parts_of
+from .cel.attributes import TYPES, Scope, attribute_name, parts_of
 from .cel.tree import ROOTS, Call, Ident, Node, Select
 from .messages import (
     CHECKED_EXPR,
@@ -61,16 +61,16 @@ def _policy(message: Message) -> Iterator[Finding]:
         if not message.get(name):
             yield None, message.start, MISSING, f"a policy without {name}"
     if message.get("condition") is None:
-        checked = message.get("checked_condition")
-        if checked is not None:
-            yield from _unknown_names("checked_condition", checked.get("expr"))
-    elif message.get("checked_condition") is not None:
-        yield "condition", message.places["condition"], BOTH_CONDITIONS, "condition and checked_condition are both there"
+        return
+    if message.get("checked_condition") is not None:
+        yield "condition", message.places["condition"], BOTH_CONDITIONS, "both conditions are there"
     elif NOT_YET_CONDITION:
         yield "condition", message.places["condition"], UNSUPPORTED, "the engine takes a checked_condition alone so far"
 
 
 def _set(field: str) -> Check:
+    """The check of a set of rules."""
+
     def check(message: Message) -> Iterator[Finding]:
         if not message.get(field):
             yield None, message.start, MISSING, f"a set without {field}"
@@ -79,6 +79,8 @@ def _set(field: str) -> Check:
 
 
 def _rule(oneof: str) -> Check:
+    """The check of a permission or a principal."""
+
     def check(message: Message) -> Iterator[Finding]:
         member = message.which(oneof)
         if member is None:
@@ -139,29 +141,27 @@ def _address_bits(text: str) -> Optional[int]:
 
 
 def _checked(message: Message) -> Iterator[Finding]:
-    tree = message.get("expr")
-    if tree is None:
+    if message.get("expr") is None:
         yield None, message.start, MISSING, "a checked condition without a tree"
         return
-    used = _used_ids(tree)
+    try:
+        tree = message_tree(message.get("expr"))
+    except NoTree:
+        return
+    for place, words in unknown_names(tree):
+        yield "expr", place, UNKNOWN_NAME, words
+    used = set(_used_ids(tree, frozenset()))
     for (key, kind), place in zip(message.get("type_map") or [], message.places.get("type_map", [])):
         if key in used and kind.which("type_kind") != "dyn" and _is_unsupported(kind):
             yield "type_map", place, UNSUPPORTED, f"the engine does not support the type of node {key}"
 
 
-def _used_ids(expr: Message) -> set:
+def _used_ids(node: Node, scope: Scope) -> Iterator[int]:
     """The ids of a tree's nodes whose types the engine looks at: not of the roots' names, nor of entries."""
-    try:
-        return set(_ids(message_tree(expr), frozenset()))
-    except NoTree:
-        return set()
-
-
-def _ids(node: Node, scope: frozenset) -> Iterator[int]:
     if not (isinstance(node, Ident) and node.name in ROOTS and node.name not in scope):
         yield node.id
     for part, inner in parts_of(node, scope):
-        yield from _ids(part, inner)
+        yield from _used_ids(part, inner)
 
 
 def _is_unsupported(kind: Message) -> bool:
@@ -251,17 +251,8 @@ CHECKS: Dict[str, Check] = {
 }
 
 
-def _unknown_names(field: str, expr: Optional[Message]) -> Iterator[Finding]:
-    """The names of a condition that the engine does not know."""
-    try:
-        tree = message_tree(expr)
-    except NoTree:
-        return
-    for place, words in _names(tree, frozenset()):
-        yield field, place, UNKNOWN_NAME, words
-
-
-def _names(node: Node, scope: frozenset) -> Iterator[Tuple[int, str]]:
+def unknown_names(node: Node, scope: Scope = frozenset()) -> Iterator[Tuple[int, str]]:
+    """The places of a tree where the engine does not know a name, where loops bind those of the scope."""
     attribute = attribute_name(node, scope)
     if attribute is not None:
         if attribute not in TYPES:
@@ -276,4 +267,4 @@ def _names(node: Node, scope: frozenset) -> Iterator[Tuple[int, str]]:
     if isinstance(node, Call) and node.function not in FUNCTIONS:
         yield node.place, f"the engine has no function {node.function}"
     for part, inner in parts_of(node, scope):
-        yield from _names(part, inner)
+        yield from unknown_names(part, inner)

@@ -56,17 +56,20 @@ DEEPEST = {PERMISSION: ("rules", 32), PRINCIPAL: ("rules", 32), EXPR: ("nodes", 
 
 
 class Note(NamedTuple):
-    """A remark on a part: its path, the offset of its bytes, the refusal's number (0 for what is skipped), and words."""
+    """A remark on a part: its path, the offset of its bytes, the number of the refusal (0: skipped), and words."""
 
     path: tuple
     place: int
     number: int
     words: str
 
+    def told(self) -> str:
+        """The words with the refusal's number and name."""
+        return f"{self.words} ({self.number} {NAMES[self.number]})" if self.number else self.words
+
     def text(self) -> str:
-        """The remark as people read it."""
-        fault = f" ({self.number} {NAMES[self.number]})" if self.number else ""
-        return f"byte {self.place}: {self.words}{fault}"
+        """The remark with the offset of the bytes."""
+        return f"byte {self.place}: {self.told()}"
 
 
 def notes(message: Message, path: tuple = ()) -> Iterator[Note]:

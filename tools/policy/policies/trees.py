@@ -59,7 +59,7 @@ def _entry_message(entry: Entry) -> Message:
 
 
 def message_tree(message: Optional[Message]) -> Node:
-    """The tree of an `Expr`, its places the offsets of the bytes; raises NoTree where a part is absent or in no text."""
+    """The tree of an `Expr`, places being offsets of bytes; raises NoTree where a part is absent or in no text."""
     if message is None:
         raise NoTree()
     member = message.which("expr_kind")

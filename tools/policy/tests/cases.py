@@ -1,7 +1,7 @@
-"""Filters with names, as YAML: the specification's worked cases and tables, each with what else is known of it."""
+"""Filters with names, as YAML: worked cases and tables of rows, each with what else is known of it."""
 from support import POLICY, condition, tree_condition
 
-# Bytes by hand, as the specification gives them.
+# Bytes worked out by hand from the encoding's rules.
 BYTES = {
     "any_any": (POLICY, "0a 0f 12 0d 0a 01 70 12 08 0a 02 18 01 12 02 18 01"),
     "rules_without_policies": ("rules: {}\n", "0a 00"),
@@ -21,8 +21,10 @@ BYTES = {
         "0a 2b 12 29 0a 01 70 12 24 0a 02 18 01 12 02 18 01 1a 1a 10 02 32 16 12 04 5f 26 26 5f 1a 06 10 01 1a 02 10 01 "
         "1a 06 10 03 1a 02 10 01",
     ),
-    "any_false": (POLICY.replace("permissions:\n      - any: true", "permissions:\n      - any: false"),
-                  "0a 0f 12 0d 0a 01 70 12 08 0a 02 18 00 12 02 18 01"),
+    "any_false": (
+        POLICY.replace("permissions:\n      - any: true", "permissions:\n      - any: false"),
+        "0a 0f 12 0d 0a 01 70 12 08 0a 02 18 00 12 02 18 01",
+    ),
     "not_any": (
         POLICY.replace("permissions:\n      - any: true", "permissions:\n      - not_rule:\n          any: true"),
         "0a 11 12 0f 0a 01 70 12 0a 0a 04 42 02 18 01 12 02 18 01",
@@ -76,8 +78,16 @@ connection.mtls ? true : false
 {[1]: 2}
 size("a")
 "a".size()
-1 in [1]""".splitlines()
+1 in [1]
+_in_(1, [1])
+int(18446744073709551615u) == 0
+string(-5) == "-5"
+bytes("é") == b"\\xc3\\xa9"
+string(b"\\xff") == ""
+int(1)
+uint("1")""".splitlines()
 
+IN = "{id: 1, call_expr: {function: in, args: [{id: 2, const_expr: {int64_value: 1}}, {id: 3, list_expr: {}}]}}"
 LOOP = (
     "{id: 1, comprehension_expr: {iter_var: %s, iter_range: %s, accu_var: %s, accu_init: %s, loop_condition: %s, "
     "loop_step: %s, result: %s}}"
@@ -156,12 +166,14 @@ def all_cases():
     cases.update({f"tree {text}": condition(text) for text in TREES})
     cases.update({name: tree_condition(tree) for name, tree in LOOPS.items()})
     cases.update(RULES)
+    cases["in_by_name"] = tree_condition(IN)
     cases["empty_literal_told"] = condition("size([]) == 0", "type_map: {2: list(int)}")
     cases["empty_literal_dyn"] = condition("size([]) == 0", "type_map: {2: list(dyn)}")
     cases["empty_literal_untold"] = condition("[].all(x, x == 0)", "type_map: {}")
     cases["entry_on_select"] = condition('request.method == "GET"', "type_map: {2: int}")
     cases["entry_on_root"] = condition('request.method == "GET"', "type_map: {1: dyn}")
-    cases["other_reference"] = condition('request.method == "GET"', "dotted: true\nreference_map: {1: {name: request.path}}")
+    beside = "dotted: true\nreference_map: {1: {name: request.path}}"
+    cases["other_reference"] = condition('request.method == "GET"', beside)
     cases["depth_64"] = condition(nested(63))
     cases["depth_65"] = condition(nested(64))
     return cases

@@ -51,3 +51,12 @@ def condition_tree(data: bytes):
     message = read(messages.descriptor(messages.FILTER), data)
     policy = dict(message.get("rules").get("policies"))["p"]
     return message_tree(policy.get("checked_condition").get("expr"))
+
+
+def field(number, payload):
+    """A field of bytes."""
+    length, digits = len(payload), []
+    while length >= 128:
+        digits.append(length % 128 + 128)
+        length //= 128
+    return bytes([number * 8 + 2, *digits, length]) + payload

@@ -4,12 +4,12 @@ import unittest
 import cases
 from policies.decode import decode
 from policies.wrap import frame, response
-from support import condition, encoded
+from support import condition, encoded, field
 from yaml_data import as_data
 
 
 class Bytes(unittest.TestCase):
-    """What the specification gives byte for byte."""
+    """Bytes that are known from elsewhere."""
 
     def test_encoded(self):
         for name, (text, digits) in cases.BYTES.items():
@@ -33,6 +33,19 @@ class Bytes(unittest.TestCase):
                 text = decode(bytes.fromhex(digits))
                 self.assertIn('"@wire"', text)
                 self.assertEqual(encoded(text).hex(" "), digits)
+
+    def test_split(self):
+        """A condition's tree in two occurrences, cut at a border of its fields: read as one, and kept as it came."""
+        tree = bytes.fromhex("10 02 32 16 12 04 5f 26 26 5f 1a 06 10 01 1a 02 10 01 1a 06 10 03 1a 02 10 01")
+        for cut in (0, 2, len(tree)):
+            with self.subTest(cut):
+                checked = b"".join(field(4, field(4, part)) for part in (tree[:cut], tree[cut:]))
+                policy = bytes.fromhex("0a 02 18 01 12 02 18 01") + checked
+                data = field(1, field(2, field(1, b"p") + field(2, policy)))
+                text = decode(data)
+                self.assertIn("true && true", text)
+                self.assertIn('"@wire"', text)
+                self.assertEqual(encoded(text), data)
 
     def test_cut(self):
         whole = bytes.fromhex(cases.BYTES["any_any"][1])
@@ -58,10 +71,8 @@ class Bytes(unittest.TestCase):
                 text = decode(encoded(cases.tree_condition(tree)))
                 self.assertIn("comprehension_expr:", text)
                 if name == "doubling_accumulator":
-                    self.assertIn(
-                        'it reads: <for k in request.headers, from acc = "a", while true: acc = acc + acc; then acc == "a">',
-                        text,
-                    )
+                    told = '<for k in request.headers, from acc = "a", while true: acc = acc + acc; then acc == "a">'
+                    self.assertIn("it reads: " + told, text)
 
 
 class Responses(unittest.TestCase):
@@ -85,7 +96,8 @@ class Responses(unittest.TestCase):
         self.assertEqual(len(wanted), 261)
         self.assertEqual(frame(response([("f", data)], "1", "n1")), wanted)
         control = frame(response([("f", data)], "1", "1"))
-        self.assertEqual((len(control), control[:5].hex(" "), control[-3:].hex(" ")), (260, "00 00 00 00 ff", "2a 01 31"))
+        self.assertEqual(len(control), 260)
+        self.assertEqual((control[:5].hex(" "), control[-3:].hex(" ")), ("00 00 00 00 ff", "2a 01 31"))
 
     def test_without_resources(self):
         message = response([], "2", "")

@@ -4,10 +4,10 @@ import unittest
 
 import yaml
 
-from policies.decode import decode
-from support import HERE, encoded
-from random_filters import new
 from policies import messages
+from policies.decode import decode
+from random_filters import new
+from support import HERE, encoded
 
 
 def stored():
@@ -38,7 +38,8 @@ class Envoy(unittest.TestCase):
             with self.subTest(str(data)[:100]):
                 message = new(messages.FILTER)
                 message.ParseFromString(wanted)
-                self.assertEqual(encoded(json.dumps(data, ensure_ascii=False)), message.SerializeToString(deterministic=True))
+                ascending = message.SerializeToString(deterministic=True)
+                self.assertEqual(encoded(json.dumps(data, ensure_ascii=False)), ascending)
 
     def test_decoded(self):
         count = 0

@@ -3,7 +3,7 @@ import unittest
 
 from policies import messages
 
-# Each message's fields as `name number kind`, where a kind with `*` is repeated and the members of a oneof stand behind a bar.
+# Each message's fields as `name number kind`; `*` marks a repeated one, and members of a oneof stand behind a bar.
 TABLE = {
     "envoy.service.discovery.v3.DiscoveryRequest": "version_info 1 string, node 2 Node, resource_names 3 string*, "
     "type_url 4 string, response_nonce 5 string, error_detail 6 Status",

@@ -5,9 +5,20 @@ import unittest
 import cases
 from cases import principal, rule
 from policies.decode import decode
+from policies.encode import encode
+from policies.places import Source
 from support import POLICY, condition, encoded, tree_condition
 
+ONE = cases.ONE
+ANY = "0a 02 18 01 12 02 18 01"
 CONDITION = POLICY + "      checked_condition: "
+
+
+
+def many_policies(count):
+    """A filter of so many policies."""
+    return "rules: {policies: {%s}}" % ", ".join(f"p{number}: {{'@wire': '{ANY}'}}" for number in range(count))
+
 
 # A filter, and the refusals' numbers in its comments.
 REFUSED = [
@@ -78,7 +89,7 @@ REFUSED = [
     (tree_condition("{list_expr: {optional_indices: [0]}}"), [6]),
     (tree_condition("{select_expr: {field: a}}"), [4]),
     (tree_condition("{struct_expr: {entries: [{}]}}"), [4]),
-    (tree_condition("{struct_expr: {entries: [{map_key: %s, value: %s, optional_entry: true}]}}" % (cases.ONE, cases.ONE)), [6]),
+    (tree_condition("{struct_expr: {entries: [{map_key: %s, value: %s, optional_entry: true}]}}" % (ONE, ONE)), [6]),
     (tree_condition("{comprehension_expr: {}}"), [4] * 7),
     (tree_condition(cases.LOOPS["same_names"]), [5]),
     (tree_condition(cases.LOOPS["no_accumulator"]), [4]),
@@ -112,8 +123,8 @@ REFUSED = [
     (condition("[" + ", ".join(["1"] * 2046) + "] == x"), [8, 9]),
     (condition("size([" + ", ".join(["1"] * 2046) + "])"), []),
     ("rules: {}\nshadow_rules: {policies: {p: {}}}\nshadow_rules_stat_prefix: x", []),
-    ("rules: {policies: {%s}}" % ", ".join(f"p{number}: {{'@wire': '0a 02 18 01 12 02 18 01'}}" for number in range(256)), []),
-    ("rules: {policies: {%s}}" % ", ".join(f"p{number}: {{'@wire': '0a 02 18 01 12 02 18 01'}}" for number in range(257)), [8]),
+    (many_policies(256), []),
+    (many_policies(257), [8]),
 ]
 
 # Filters in bytes, and the comments they get.
@@ -161,3 +172,30 @@ class Comments(unittest.TestCase):
     def test_skipped(self):
         text = decode(encoded("rules: {}\nshadow_rules: {policies: {p: {}}}\n"))
         self.assertIn("# byte 2: the engine skips shadow_rules\nshadow_rules:\n", text)
+
+
+class Notes(unittest.TestCase):
+    """The same remarks at the parts of a file that is encoded."""
+
+    def test_places(self):
+        text = POLICY.replace("- any: true", "- metadata: {}", 1) + (
+            "      checked_condition:\n        text: |\n          request.path.matches('a') &&\n          x\nshadow_rules: {}\n"
+        )
+        data, notes = encode(Source("filter.yaml", text.encode()))
+        self.assertTrue(data)
+        self.assertEqual(
+            sorted(note.split("\n")[0] for note in notes),
+            [
+                "filter.yaml:10:24: note: the engine has no function matches (9 UnknownName)",
+                "filter.yaml:11:11: note: the engine has no variable x (9 UnknownName)",
+                "filter.yaml:12:15: note: the engine skips shadow_rules",
+                "filter.yaml:5:19: note: the engine does not support metadata (6 Unsupported)",
+            ],
+        )
+
+    def test_same_numbers(self):
+        for text, wanted in REFUSED:
+            with self.subTest(text[-100:]):
+                _, notes = encode(Source("filter.yaml", text.encode()))
+                found = {int(number) for note in notes for number in re.findall(r" \((\d) [A-Za-z]+\)\n", note)}
+                self.assertEqual(found, set(wanted))

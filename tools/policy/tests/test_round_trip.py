@@ -4,7 +4,7 @@ import unittest
 
 from policies.decode import decode
 from random_filters import Maker
-from support import encoded
+from support import encoded, field
 
 PROFILE_SEED, ANY_SEED, ODD_SEED = 20_240, 20_241, 20_242
 
@@ -53,15 +53,6 @@ class RoundTrip(unittest.TestCase):
             data = field(8, data)
         text = self.check(field(1, field(2, field(1, b"p") + field(2, field(1, data) + bytes.fromhex("12 02 18 01")))))
         self.assertIn("rules are nested more than 32 deep (8 TooLarge)", text)
-
-
-def field(number, payload):
-    """A field of bytes."""
-    length, digits = len(payload), []
-    while length >= 128:
-        digits.append(length % 128 + 128)
-        length //= 128
-    return bytes([number * 8 + 2, *digits, length]) + payload
 
 
 def alter(data, change):

@@ -90,6 +90,6 @@ class Types(unittest.TestCase):
     def test_type_texts(self):
         for text in ["bool", "list(int)", "map(string, list(map(uint, bytes)))", "dyn", "list(dyn)"]:
             self.assertEqual(type_text(read_type(text)), text)
-        for text in ["", "integer", "list", "list()", "list(int", "list(int))", "map(int)", "int int", "Int", "list[int]"]:
+        for text in ["", "integer", "list", "list()", "list(int", "list(int))", "map(int)", "int int", "Int", "list[a]"]:
             self.assertIsNone(read_type(text), text)
         self.assertIsNone(read_type("list(" * 2000 + "int" + ")" * 2000))

@@ -24,7 +24,7 @@ Scope = FrozenSet[str]
 
 
 def attribute_name(node: Node, scope: Scope) -> Optional[str]:
-    """The dotted name that a select of a root or a dotted variable spells, where the loops bind these names; or None."""
+    """The dotted name that a select of a root or a dotted variable spells where loops bind these names, or None."""
     if isinstance(node, Select) and isinstance(node.operand, Ident) and not node.test_only:
         root = node.operand.name
         return f"{root}.{node.field}" if root in ROOTS and root not in scope else None

@@ -77,7 +77,7 @@ def _short(token: str) -> str:
 
 
 class _Builder:
-    """Trees of the grammar to trees of the language."""
+    """Trees of the grammar to trees of the language: each form of the grammar has the method of its name."""
 
     def build(self, syntax: lark.Tree, depth: int) -> Node:
         """The tree of one form, `depth` levels down."""
