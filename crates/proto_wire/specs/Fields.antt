@@ -48,14 +48,6 @@ SpellsPayload bytes (len inner) =
     (size : List ℕ) × SpellsVarint size (length inner) × (bytes ≡ size ++ inner)
 SpellsPayload bytes (i32 n) = (length bytes ≡ 4) × (n ≡ from_le_bytes w32 bytes)
 
--- the bytes begin with a payload of the wire type that a tag gives, and then comes the rest
-pub record StartsPayload (wire_type : ℕ) (bytes : List ℕ) (p : Payload) (rest : List ℕ) : Type 0
-  where
-    pub typed : tag_bits (wire_type_of p) ≡ wire_type
-    pub spelling : List ℕ
-    pub spells : SpellsPayload spelling p
-    pub whole : bytes ≡ spelling ++ rest
-
 -- the bytes of a field: its tag, and then its payload
 pub record SpellsField (bytes : List ℕ) (f : Wire) : Type 0 where
   pub tag : List ℕ

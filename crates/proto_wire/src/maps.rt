@@ -1,6 +1,6 @@
 //! Maps, which stand in a message as repeated entries with a key 1 and a value 2 (Protocol Buffers encoding guide, "Maps").
 
-ghost use Rattle.std.specs.Prelude.{◌≡◌, [], ◌∷◌, List, Err, IfOk, IfErr, map};
+ghost use Rattle.std.specs.Prelude.{◌≡◌, [], ◌∷◌, List, Err, IfOk, IfErr, MatchResult, map};
 ghost use Rattle.std.specs.FinMap.{entries};
 ghost use Rattle.proto_wire.specs.Fields.{field_view};
 ghost use Rattle.proto_wire.specs.Maps.{KeyKind, KeyOf, Entry, key_cmp, entry_keys, key_at, KeyReads, IsEntry, AreEntries, map_of, EntryFault, SomeEntryFault, entries_view};
@@ -135,6 +135,9 @@ pub fn read_entries<'a, K: MapKey<'a>>(
         × (entries_view K.kind K.key_view m.entries ≡ entries (map_of K.kind es))) }
     ensures fault { IfErr result (MemoryOr (SomeEntryFault K.kind (parts_view payloads.now))) }
     ensures at_once { FirstBreaks (parts_view payloads.now) → result ≡ Err Refusal.BadWire }
+    ensures reads { (es : List (Entry K.kind)) → AreEntries K.kind (parts_view payloads.now) es
+        → MatchResult result (λ m. entries_view K.kind K.key_view m.entries ≡ entries (map_of K.kind es))
+        (λ e. e ≡ Refusal.Memory) }
 {
     let mut named = BTreeMap::new(alloc);
     for payload in payloads {

@@ -18,6 +18,8 @@ pub fn read_fields<'a>(alloc: Global, bytes: &'a [u8]) -> Result<Vec<Field<'a>>,
     ensures found { IfOk result (λ v. Fields bytes.now (map field_view v.items)) }
     ensures fault { IfErr result (MemoryOr (BytesFault bytes.now)) }
     ensures at_once { BreaksAtOnce bytes.now → result ≡ Err Refusal.BadWire }
+    ensures reads { (fs : List Wire) → Fields bytes.now fs
+        → MatchResult result (λ v. map field_view v.items ≡ fs) (λ e. e ≡ Refusal.Memory) }
 {
     let mut fields = Vec::new(alloc);
     append_fields(bytes, &mut fields)?;
@@ -30,6 +32,8 @@ pub fn read_parts<'a>(alloc: Global, parts: &[&'a [u8]]) -> Result<Vec<Field<'a>
     ensures found { IfOk result (λ v. Merges (parts_view parts.now) (map field_view v.items)) }
     ensures fault { IfErr result (MemoryOr (PartsFault (parts_view parts.now))) }
     ensures at_once { FirstBreaks (parts_view parts.now) → result ≡ Err Refusal.BadWire }
+    ensures reads { (fs : List Wire) → Merges (parts_view parts.now) fs
+        → MatchResult result (λ v. map field_view v.items ≡ fs) (λ e. e ≡ Refusal.Memory) }
 {
     let mut fields = Vec::new(alloc);
     for part in parts {

@@ -1,7 +1,8 @@
 //! The reading of one field: its tag, and then its payload.
 
 ghost use Rattle.std.specs.Prelude.{IfOk, IfErr};
-ghost use Rattle.proto_wire.specs.Fields.{StartsField, FailsField, StartsPayload, FailsPayload, field_view, payload_view};
+ghost use Rattle.proto_wire.specs.Fields.{StartsField, FailsField, FailsPayload, field_view, payload_view};
+ghost use Rattle.proto_wire.specs.steps.Payload.{StartsPayload};
 
 use crate::fault::WireError;
 use crate::field::{Field, Payload};

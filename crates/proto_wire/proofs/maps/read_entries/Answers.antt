@@ -1,9 +1,12 @@
-use Rattle.std.proofs.Common.{◌≡◌, [], ◌∷◌, ◌++◌, sym, ap, ◌∙◌}
+use Rattle.std.proofs.Common.{get_or, ◌≡◌, [], ◌∷◌, ◌++◌, sym, ap, ◌∙◌}
 use Rattle.std.proofs.lemmas.List.{take_all, take_more}
 use Rattle.std.specs.FinMap.Entries.{put}
 use Rattle.proto_wire.specs.Merge.{parts_view}
-use Rattle.proto_wire.specs.Maps.{Entry, AreEntries, key_cmp, entries_view}
-use Rattle.proto_wire.proofs.Exits.{exit_told}
+use Rattle.proto_wire.specs.Maps.{Entry, AreEntries, EntryFault, map_of, key_cmp, entries_view}
+use Rattle.std.specs.FinMap.{entries}
+use Rattle.proto_wire.proofs.Basics.{part_in}
+use Rattle.proto_wire.proofs.Exits.{exit_told, exit_only_memory}
+use Rattle.proto_wire.proofs.MapLaws.{entries_disjoint, entries_unique}
 use Rattle.proto_wire.proofs.MapLemmas.{entries_view_insert, map_of_none, map_of_push, are_entries_push, entries_first_disjoint, entry_breaks_at, entry_breaks_disjoint}
 use Rattle.proto_wire.proofs.maps.read_entries.Goals as goal
 
@@ -53,3 +56,25 @@ returns-clause-at_once g c breaks =
     rw (take_all c.loop-payload.payload-index c.args.payloads.now c.loop-payload-test.false) at
     so_far.1 in
     absurd (entries_first_disjoint g.K.KeyOrder.kind (parts_view c.args.payloads.now) so_far.0 all breaks)
+
+pub returns-in_err-entry-clause-reads : goal.returns-in_err-entry-clause-reads
+returns-in_err-entry-clause-reads g c es are =
+    let kind = g.K.KeyOrder.kind in
+    let exit = c.from_residual in
+    let payloads = c.args.payloads.now in
+    let i = c.loop-payload.payload-index in
+    let here = part_in payloads i _ c.loop-payload-test.true in
+    exit_only_memory (EntryFault kind (get_or payloads i _).now)
+    (λ m. entries_view kind g.K.KeyOrder.key_view m.entries ≡ entries (map_of kind es)) exit.result _
+    exit.ensures.1 c.in_err-entry.ensures.fault
+    (λ bad. entries_disjoint kind (parts_view payloads) es _ are (_, here, bad))
+
+pub returns-clause-reads : goal.returns-clause-reads
+returns-clause-reads g c es are =
+    let kind = g.K.KeyOrder.kind in
+    let so_far = c.loop-payload.invariant in
+    let parts = parts_view c.args.payloads.now in
+    let all : AreEntries kind parts so_far.0 =
+    rw (take_all c.loop-payload.payload-index c.args.payloads.now c.loop-payload-test.false) at
+    so_far.1 in
+    so_far.2 ∙ ap (λ xs. entries (map_of kind xs)) (entries_unique kind parts so_far.0 es all are)

@@ -1,10 +1,10 @@
-use Rattle.std.proofs.Common.{map, get_or}
+use Rattle.std.proofs.Common.{◌≡◌, map, get_or}
 use Rattle.std.proofs.lemmas.List.{take_all}
 use Rattle.proto_wire.specs.Fields.{field_view}
 use Rattle.proto_wire.specs.Merge.{Merges, parts_view}
 use Rattle.proto_wire.specs.Messages.{BytesFault, PartsFault}
-use Rattle.proto_wire.proofs.Exits.{exit_memory_or, exit_told}
-use Rattle.proto_wire.proofs.Unique.{merges_at, breaks_at, first_breaks_at, first_disjoint}
+use Rattle.proto_wire.proofs.Exits.{exit_memory_or, exit_only_memory, exit_told}
+use Rattle.proto_wire.proofs.Unique.{merges_unique, merges_disjoint, merges_at, breaks_at, first_breaks_at, first_disjoint}
 use Rattle.proto_wire.proofs.message.read_parts.Goals as goal
 
 pub returns-in_err-append_fields-clause-fault : goal.returns-in_err-append_fields-clause-fault
@@ -41,3 +41,21 @@ loop-part-preserved c =
     let within = c.loop-part-test.true in
     let so_far = c.loop-part.invariant in
     rw (found.2) (merges_at i c.args.parts.now _ before found.0 within so_far found.1)
+
+pub returns-in_err-append_fields-clause-reads : goal.returns-in_err-append_fields-clause-reads
+returns-in_err-append_fields-clause-reads c fs merges =
+    let exit = c.from_residual in
+    let parts = c.args.parts.now in
+    let i = c.loop-part.part-index in
+    let within = c.loop-part-test.true in
+    exit_only_memory (BytesFault (get_or parts i _).now) (λ v. map field_view v.items ≡ fs) exit.result
+    _ exit.ensures.1 c.in_err-append_fields.ensures.fault
+    (λ bad. merges_disjoint (parts_view parts) fs merges (breaks_at i parts _ within bad.0))
+
+pub returns-clause-reads : goal.returns-clause-reads
+returns-clause-reads c fs merges =
+    let parts = parts_view c.args.parts.now in
+    let all : Merges parts (map field_view c.loop-part.fields.items) =
+    rw (take_all c.loop-part.part-index c.args.parts.now c.loop-part-test.false) at
+    c.loop-part.invariant in
+    merges_unique parts _ fs all merges
