@@ -5,3 +5,4 @@ pub mod Searching
 pub mod AddressText
 pub mod OneAddress
 pub mod Canonical
+pub mod Facts

@@ -1,7 +1,8 @@
 //! What is known of the connection of a request, handed in as it is.
-ghost use Rattle.std.specs.Prelude.{◌≡◌, IfOk};
+ghost use Rattle.std.specs.Prelude.{◌≡◌, ◌<◌, ◌^◌, IfOk, IfSome};
 ghost use Rattle.std.specs.String.{string_bytes};
-ghost use Rattle.attributes.specs.Conn.{facts_of, only_scheme, text_of};
+ghost use Rattle.attributes.specs.Address.{IsAddress};
+ghost use Rattle.attributes.specs.Conn.{AreFacts, IsPort, facts_of, only_scheme, text_of};
 
 use crate::address::Ip;
 use std::alloc::AllocError;
@@ -95,5 +96,39 @@ fn copy_text(text: &Option<String>) -> Result<Option<String>, AllocError>
     match text {
         Some(text) => Ok(Some(text.clone()?)),
         None => Ok(None),
+    }
+}
+
+// The facts that the types of a connection's parts give.
+pub(crate) fn facts_are_sound(conn: &Conn)
+    ensures { AreFacts (facts_of conn.now) }
+{
+    port_is_sound(conn.source_port);
+    port_is_sound(conn.destination_port);
+    number_is_sound(conn.connection_id);
+    address_is_sound(conn.direct_remote_ip);
+    address_is_sound(conn.remote_ip);
+    address_is_sound(conn.destination_ip);
+}
+
+fn port_is_sound(port: Option<u16>)
+    ensures { IsPort port }
+{
+    if let Some(_number) = port {}
+}
+
+fn number_is_sound(number: Option<u64>)
+    ensures { IfSome number (λ n. n < 2 ^ 64) }
+{
+    if let Some(_number) = number {}
+}
+
+fn address_is_sound(address: Option<Ip>)
+    ensures { IfSome address IsAddress }
+{
+    match address {
+        Some(Ip::V4(_number)) => (),
+        Some(Ip::V6(_number)) => (),
+        None => (),
     }
 }
