@@ -1,27 +1,37 @@
 -- The attributes of a request: Envoy, "Attributes"; the target's parts by RFC 3986 section 3.
-use Rattle.std.specs.Prelude.{ℕ, ℤ, pos, Bool, ◌==◌, List, Option, Some, option_map, codes}
+use Rattle.std.specs.Prelude.{ℕ, ℤ, pos, Bool, ◌==◌, IsTrue, List, Option, Some, ⊤, option_map, codes}
 use Rattle.std.specs.List.{before_first, after_first}
-use Rattle.attributes.specs.Headers.{Entry, entries_of}
+use Rattle.std.specs.FinMap.{is_sorted}
+use Rattle.std.specs.Rc.{rc_str_bytes}
+use Rattle.attributes.specs.Headers.{HeaderMap, headers_view, map_view, name_cmp}
 use Rattle.attributes.specs.Request.{RequestValue, header_of, protocol_of}
 use Rattle.attributes.specs.declared.attribute.AttrId.{AttrId}
 use Rattle.attributes.specs.declared.attribute.AttrValue.{AttrValue}
 use Rattle.attributes.specs.declared.attribute.AttrValue.TheVariants as values
 
--- the value of an attribute: a text is its bytes, a map its entries by ascending name
+-- the value of an attribute: a text is its bytes
 pub data AttrData : Type 0 where
   text : List ℕ → AttrData
   int : ℤ → AttrData
   uint : ℕ → AttrData
   bool : Bool → AttrData
-  pairs : List Entry → AttrData
+  text_map : HeaderMap → AttrData
 
--- the value without where it lies in memory
-abbrev pub data_of : AttrValue → AttrData
-data_of (values.Text t) = text t.now
-data_of (values.Int n) = int n
-data_of (values.Uint n) = uint n
-data_of (values.Bool b) = bool b
-data_of (values.Pairs ps) = pairs (entries_of ps.now)
+-- the value without where it lies in memory; of pairs, the map that they are where they ascend
+abbrev pub attr_view : AttrValue → AttrData
+attr_view (values.Text t) = text (rc_str_bytes t.now)
+attr_view (values.Int n) = int n
+attr_view (values.Uint n) = uint n
+attr_view (values.Bool b) = bool b
+attr_view (values.Pairs ps) = text_map (map_view ps.now.value.items)
+
+-- pairs stand by ascending name, each name once
+abbrev pub IsOrdered : AttrValue → Type 0
+IsOrdered (values.Text t) = ⊤
+IsOrdered (values.Int n) = ⊤
+IsOrdered (values.Uint n) = ⊤
+IsOrdered (values.Bool b) = ⊤
+IsOrdered (values.Pairs ps) = IsTrue (is_sorted name_cmp (headers_view ps.now.value.items))
 
 -- the target up to its first `#` (35)
 abbrev pub without_fragment : List ℕ → List ℕ
@@ -50,7 +60,7 @@ attr_of r AttrId.RequestUrlPath = Some (text (url_path_of r.target))
 attr_of r AttrId.RequestHost = header_data r (codes ":authority")
 attr_of r AttrId.RequestScheme = Some (text r.facts.scheme)
 attr_of r AttrId.RequestMethod = Some (text r.method)
-attr_of r AttrId.RequestHeaders = Some (pairs r.headers)
+attr_of r AttrId.RequestHeaders = Some (text_map r.headers)
 attr_of r AttrId.RequestReferer = header_data r (codes "referer")
 attr_of r AttrId.RequestUseragent = header_data r (codes "user-agent")
 attr_of r AttrId.RequestId = header_data r (codes "x-request-id")
