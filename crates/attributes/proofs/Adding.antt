@@ -1,5 +1,5 @@
 -- One entry more, behind those that headers are of.
-use Rattle.std.proofs.Common.{◌≡◌, ℕ, ◌≤◌, IsTrue, List, [], ◌∷◌, ◌++◌, Some, None, Ok, Err, get_or, length, map, set, take, drop, refl, sym, ◌∙◌, ap}
+use Rattle.std.proofs.Common.{◌≡◌, ℕ, IsTrue, List, [], ◌∷◌, ◌++◌, Ok, Err, get_or, map, set, take, drop, refl, sym, ◌∙◌, ap}
 use Rattle.std.proofs.lemmas.List.{drop-map, map-append, map-set, take-map}
 use Rattle.std.proofs.Math.ListN.{get_or-map}
 use Rattle.std.proofs.lemmas.Option.{get_or_from_slice_get}
@@ -27,7 +27,8 @@ module _ (headers : List (RcStr Global × RcStr Global)) (es : List Entry)
 
   -- they are put where they are found
   more : (name v : List ℕ) → entries (headers_of (es ++ (name, v) ∷ []))
-      ≡ put name_cmp name (added (find name_cmp name (headers_view headers)) v) (headers_view headers)
+      ≡ put name_cmp name (added (find name_cmp name (headers_view headers)) v)
+      (headers_view headers)
   more name v = rw held (entries-more es (name, v))
 
   -- a further value of a name that is there
@@ -42,7 +43,15 @@ module _ (headers : List (RcStr Global × RcStr Global)) (es : List Entry)
       let named : rc_str_bytes old.0 ≡ name = ap (λ (e : Entry). e.0) same in
       let valued : rc_str_bytes old.1 ≡ value = ap (λ (e : Entry). e.1) same in
       let whole : w ≡ value ++ 44 ∷ v = joined ∙ ap (λ u. u ++ 44 ∷ v) valued in
-      rw (map-set header_view headers i new, made, more name v, found, written (value ++ 44 ∷ v), named, whole) refl
+      rw (
+        map-set header_view headers i new,
+        made,
+        more name v,
+        found,
+        written (value ++ 44 ∷ v),
+        named,
+        whole,
+      ) refl
 
   -- a name that was not there
   pub between : (name v : List ℕ) (i : ℕ) (new : RcStr Global × RcStr Global)

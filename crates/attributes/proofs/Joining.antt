@@ -1,9 +1,7 @@
 -- The headers of entries: what they have at a name, and what one entry more changes.
-use Rattle.std.proofs.Common.{◌≡◌, ℕ, ◌+◌, ◌≤◌, Bool, true, false, List, [], ◌∷◌, ◌++◌, Option, Some, None, cond, filter, is_some, map, length, refl, sym, ◌∙◌, ap, append_assoc, append-nil, arith}
+use Rattle.std.proofs.Common.{◌≡◌, ℕ, ◌+◌, ◌≤◌, true, false, List, [], ◌∷◌, ◌++◌, Option, Some, None, cond, filter, is_some, map, length, refl, sym, ◌∙◌, ap, append_assoc, append-nil, arith}
 use Rattle.std.specs.Str.{bytes_eq}
-use Rattle.std.specs.List.{join_with_byte}
-use Rattle.std.specs.Ordering.{eq_by_cmp}
-use Rattle.std.specs.FinMap.{FinMap, entries, entries-insert, find, from_entries, get, get-entries, get-from_entries, get-insert, insert, len, len-empty, len-insert, same_map}
+use Rattle.std.specs.FinMap.{entries, entries-insert, find, from_entries, get, get-entries, get-from_entries, get-insert, insert, len, len-empty, len-insert, same_map}
 use Rattle.std.specs.FinMap.Entries.{put}
 use Rattle.std.proofs.lemmas.Cmp.{nat_list_cmp_total}
 use Rattle.std.proofs.lemmas.List.{length-map, map-append}
@@ -106,7 +104,8 @@ headers_of-more es e =
               (ap (λ v. Some (added v e.1)) (AreJoined-headers_of es e.0)
               ∙ sym (joined-added (values_of e.0 es) e.1)
               ∙ ap joined (sym (values_of-named e.0 e.1 es)))
-          | false ↦ λ t. AreJoined-headers_of es name ∙ ap joined (sym (values_of-other name es e t))
+          | false ↦ λ t. AreJoined-headers_of es name
+              ∙ ap joined (sym (values_of-other name es e t))
         ] refl)
 
 -- as entries in order

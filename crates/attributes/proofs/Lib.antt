@@ -10,4 +10,6 @@ pub mod Adding
 pub mod AddressText
 pub mod OneAddress
 pub mod Facts
+pub mod Names
+pub mod TypedAttributes
 pub mod Requests

@@ -1,5 +1,5 @@
 -- Lines sorted by name, joined one after the other.
-use Rattle.std.proofs.Common.{◌≡◌, ℕ, T, false, List, [], ◌∷◌, ◌++◌, length, Some, None, sym, ◌∙◌, arith}
+use Rattle.std.proofs.Common.{◌≡◌, ℕ, T, false, List, [], ◌∷◌, ◌++◌, length, sym, ◌∙◌, arith}
 use Rattle.std.proofs.lemmas.List.{nil_from_length}
 use Rattle.std.specs.FinMap.{entries, entries_sorted, find, is_sorted, len, len-entries}
 use Rattle.std.specs.FinMap.Entries.{put}
@@ -13,7 +13,8 @@ use Rattle.attributes.proofs.TextOrder.{IsBefore, before_from_not}
 -- no line has no headers
 pub headers-nil : entries (headers_of []) ≡ []
 headers-nil =
-    let none : length (entries (headers_of [])) ≡ 0 = sym (len-entries (headers_of [])) ∙ none_left in
+    let none : length (entries (headers_of [])) ≡ 0 =
+    sym (len-entries (headers_of [])) ∙ none_left in
     nil_from_length (entries (headers_of [])) none
   where
     none_left : len (headers_of []) ≡ 0
@@ -30,7 +31,8 @@ module _ (done held : List Entry) (name w : List ℕ)
   sorted = rw so_far (entries_sorted (headers_of done))
 
   more : (e : Entry) → entries (headers_of (done ++ e ∷ []))
-      ≡ put name_cmp e.0 (added (find name_cmp e.0 (held ++ (name, w) ∷ [])) e.1) (held ++ (name, w) ∷ [])
+      ≡ put name_cmp e.0 (added (find name_cmp e.0 (held ++ (name, w) ∷ [])) e.1)
+      (held ++ (name, w) ∷ [])
   more e = rw so_far (entries-more done e)
 
   -- a further value of the last name

@@ -1,10 +1,9 @@
 -- Places among entries by ascending name: at the end, at an entry, between two.
-use Rattle.std.proofs.Common.{◌≡◌, ℕ, ◌<◌, ◌≤◌, ◌+◌, Bool, true, false, T, List, [], ◌∷◌, ◌++◌, Some, None, cond, length, refl, sym, ◌∙◌, ap, ap₂, arith, suc, zero, get_or, set, take, drop}
-use Rattle.std.specs.Ordering.{is_eq}
+use Rattle.std.proofs.Common.{◌≡◌, ℕ, ◌<◌, ◌≤◌, T, List, [], ◌∷◌, ◌++◌, Some, None, length, refl, ap, arith, suc, zero, get_or, set}
 use Rattle.std.specs.List.{insert}
 use Rattle.std.specs.FinMap.{find, is_sorted}
-use Rattle.std.specs.FinMap.Entries.{below_all, by_order, put}
-use Rattle.std.specs.declared.cmp.Ordering.TheVariants.{Less, Equal, Greater}
+use Rattle.std.specs.FinMap.Entries.{below_all, put}
+use Rattle.std.specs.declared.cmp.Ordering.TheVariants.{Equal, Greater}
 use Rattle.attributes.specs.Headers.{Entry, name_cmp}
 use Rattle.attributes.proofs.TextOrder.{IsBefore, after_from_before, before-trans, before_from_greater, both_first, both_second, less_from_test, tied_name}
 
@@ -22,8 +21,8 @@ put-above name v (e ∷ es) h =
     rw (after_from_before e.0 name h.0) (ap (λ xs. e ∷ xs) later.0, later.1)
 
 -- the first of ascending names is before the last
-before_last : (name : List ℕ) (es : List Entry) (l : Entry) → T (below_all name_cmp name (es ++ l ∷ []))
-    → IsBefore name l.0
+before_last : (name : List ℕ) (es : List Entry) (l : Entry)
+    → T (below_all name_cmp name (es ++ l ∷ [])) → IsBefore name l.0
 before_last name [] l up = less_from_test _ (both_first _ _ up)
 before_last name (e ∷ es) l up = before_last name es l (both_second _ _ up)
 
@@ -69,7 +68,8 @@ pub put-between : (name v : List ℕ) (es : List Entry) (i : ℕ) → i ≤ leng
 put-between name v [] zero fits low high = (refl, refl)
 put-between name v [] (suc i) fits low high = absurd (omega arith)
 put-between name v (e ∷ es) zero fits low high =
-    let first : IsBefore name e.0 = before_from_greater e.0 name (high 0 e (omega arith) (omega arith)) in
+    let first : IsBefore name e.0 =
+    before_from_greater e.0 name (high 0 e (omega arith) (omega arith)) in
     let later = put-between name v es zero (omega arith) (λ k d below. absurd (omega arith))
     (λ k d above below. high (suc k) d (omega arith) (omega arith)) in
     rw first (refl, later.1)

@@ -1,13 +1,11 @@
 -- A binary search by name in ascending headers finds the place of the name.
-use Rattle.std.proofs.Common.{◌≡◌, ℕ, ◌+◌, ◌<◌, ◌≤◌, Bool, T, IsTrue, true, false, List, [], ◌∷◌, Result, Ok, Err, Some, length, get_or, refl, sym, ◌∙◌, ap, arith, suc, zero, inl, inr}
+use Rattle.std.proofs.Common.{◌≡◌, ℕ, ◌+◌, ◌<◌, ◌≤◌, Bool, T, IsTrue, List, [], ◌∷◌, Result, Ok, Err, Some, length, get_or, refl, ◌∙◌, ap, arith, suc, zero}
 use Rattle.std.specs.declared.alloc.Global.{Global}
 use Rattle.std.specs.declared.cmp.Ordering.{Ordering}
-use Rattle.std.specs.declared.cmp.Ordering.TheVariants.{Less, Equal, Greater}
+use Rattle.std.specs.declared.cmp.Ordering.TheVariants.{Greater}
 use Rattle.std.specs.declared.rc.RcStr.{RcStr}
 use Rattle.std.specs.FinMap.{is_sorted}
-use Rattle.std.specs.FinMap.Entries.{below_all}
 use Rattle.std.specs.Fn.{Called, ComputesKey}
-use Rattle.std.specs.List.{slice_get}
 use Rattle.std.specs.List.Sorted.{IsSortedBy, IsBinarySearchResult, IsSearchInRange}
 use Rattle.std.specs.Ordering.{is_lt, ordering_reverse}
 use Rattle.std.specs.Rc.{rc_str_bytes}
@@ -93,7 +91,8 @@ module _ (name : List ℕ) {F : Type 0} {g : Mut F (Bor Pair × Unit {0}) Orderi
       let low : (k : ℕ) (d : Entry) → k < i → IsBefore (get_or es k d).0 name =
       λ k d first. let kept = kept-at xs k d (omega arith) in
       ap (λ (e : Entry). name_cmp e.0 name) kept.1 ∙ parted.0 k kept.0 (omega arith) first in
-      let high : (k : ℕ) (d : Entry) → i ≤ k → k < length es → name_cmp (get_or es k d).0 name ≡ Greater =
+      let high : (k : ℕ) (d : Entry) → i ≤ k → k < length es
+      → name_cmp (get_or es k d).0 name ≡ Greater =
       λ k d last below. let kept = kept-at xs k d (omega (arith, long)) in
       ap (λ (e : Entry). name_cmp e.0 name) kept.1 ∙ parted.1 k kept.0 last (omega (arith, long)) in
       let fits_view : i ≤ length es = omega (arith, long) in

@@ -1,6 +1,8 @@
 //! The attributes of a request, each a function of its parts.
-ghost use Rattle.std.specs.Prelude.{◌≡◌, IfSome, option_map};
-ghost use Rattle.attributes.specs.Attributes.{IsOrdered, attr_of, attr_view, port_data, text};
+ghost use Rattle.std.specs.Prelude.{◌≡◌, ◌↔◌, IfSome, Some, find, option_map};
+ghost use Rattle.std.specs.Str.{bytes_eq};
+ghost use Rattle.attributes.specs.Attributes.{IsOrdered, attr_name, attr_of, attr_view, port_data, text, attr_type};
+ghost use Rattle.attributes.specs.declared.attribute.AttrId.{AttrId};
 ghost use Rattle.attributes.specs.Conn.{conn_view, lent_view};
 ghost use Rattle.attributes.specs.Request.{IsRequest};
 
@@ -57,6 +59,21 @@ pub enum AttrId {
     ConnectionUriSanPeerCertificate,
 }
 
+/// The type of an attribute's values.
+#[derive(Clone, Copy, Debug, PartialEq, Eq)]
+pub enum AttrType {
+    /// A text.
+    Text,
+    /// A number with a sign, of 64 bits.
+    Int,
+    /// A number without a sign, of 64 bits.
+    Uint,
+    /// Yes or no.
+    Bool,
+    /// A map from texts to texts.
+    TextMap,
+}
+
 /// The value of an attribute, lent by the request: who keeps it clones the handle.
 #[derive(Clone, Copy, Debug)]
 pub enum AttrValue<'a> {
@@ -70,6 +87,89 @@ pub enum AttrValue<'a> {
     Bool(bool),
     /// Texts with texts, by ascending name.
     Pairs(&'a Rc<Vec<Header>>),
+}
+
+// Every attribute.
+const ATTRIBUTES: [AttrId; 22] = [
+    AttrId::RequestPath,
+    AttrId::RequestUrlPath,
+    AttrId::RequestHost,
+    AttrId::RequestScheme,
+    AttrId::RequestMethod,
+    AttrId::RequestHeaders,
+    AttrId::RequestReferer,
+    AttrId::RequestUseragent,
+    AttrId::RequestId,
+    AttrId::RequestProtocol,
+    AttrId::RequestQuery,
+    AttrId::SourceAddress,
+    AttrId::SourcePort,
+    AttrId::DestinationAddress,
+    AttrId::DestinationPort,
+    AttrId::ConnectionMtls,
+    AttrId::ConnectionId,
+    AttrId::ConnectionRequestedServerName,
+    AttrId::ConnectionTlsVersion,
+    AttrId::ConnectionSubjectPeerCertificate,
+    AttrId::ConnectionDnsSanPeerCertificate,
+    AttrId::ConnectionUriSanPeerCertificate,
+];
+
+/// The attribute of this name, as `request.url_path`; `None` where no attribute has it.
+pub fn attr_named(name: &str) -> Option<AttrId>
+    ensures { (id : AttrId) → (result ≡ Some id) ↔ (name.now ≡ attr_name id) }
+{
+    find_named(&ATTRIBUTES, name)
+}
+
+// The first of these that has the name.
+fn find_named(ids: &[AttrId], name: &str) -> Option<AttrId>
+    ensures { result ≡ find (λ id. bytes_eq (attr_name id) name.now) ids.now }
+{
+    ids.iter().copied().find(|id| attr_name(*id) == name)
+}
+
+fn attr_name(id: AttrId) -> &'static str
+    ensures { result.now ≡ attr_name id }
+{
+    match id {
+        AttrId::RequestPath => "request.path",
+        AttrId::RequestUrlPath => "request.url_path",
+        AttrId::RequestHost => "request.host",
+        AttrId::RequestScheme => "request.scheme",
+        AttrId::RequestMethod => "request.method",
+        AttrId::RequestHeaders => "request.headers",
+        AttrId::RequestReferer => "request.referer",
+        AttrId::RequestUseragent => "request.useragent",
+        AttrId::RequestId => "request.id",
+        AttrId::RequestProtocol => "request.protocol",
+        AttrId::RequestQuery => "request.query",
+        AttrId::SourceAddress => "source.address",
+        AttrId::SourcePort => "source.port",
+        AttrId::DestinationAddress => "destination.address",
+        AttrId::DestinationPort => "destination.port",
+        AttrId::ConnectionMtls => "connection.mtls",
+        AttrId::ConnectionId => "connection.id",
+        AttrId::ConnectionRequestedServerName => "connection.requested_server_name",
+        AttrId::ConnectionTlsVersion => "connection.tls_version",
+        AttrId::ConnectionSubjectPeerCertificate => "connection.subject_peer_certificate",
+        AttrId::ConnectionDnsSanPeerCertificate => "connection.dns_san_peer_certificate",
+        AttrId::ConnectionUriSanPeerCertificate => "connection.uri_san_peer_certificate",
+    }
+}
+
+/// The type of the attribute's values: where it is there, its value has that type
+/// (`laws::attributes_have_their_types`).
+pub fn attr_type(id: AttrId) -> AttrType
+    ensures { result ≡ attr_type id }
+{
+    match id {
+        AttrId::SourcePort | AttrId::DestinationPort => AttrType::Int,
+        AttrId::ConnectionId => AttrType::Uint,
+        AttrId::ConnectionMtls => AttrType::Bool,
+        AttrId::RequestHeaders => AttrType::TextMap,
+        _ => AttrType::Text,
+    }
 }
 
 impl Request {

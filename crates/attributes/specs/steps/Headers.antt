@@ -1,5 +1,5 @@
 -- The steps by which the headers of a request are made and searched.
-use Rattle.std.specs.Prelude.{◌≡◌, ℕ, ◌<◌, ◌≤◌, List, [], ◌∷◌, Some, None, Result, Ok, Err, length}
+use Rattle.std.specs.Prelude.{◌≡◌, ℕ, ◌≤◌, List, [], ◌∷◌, Some, None, Result, Ok, Err, length}
 use Rattle.std.specs.FinMap.{entries, find}
 use Rattle.std.specs.FinMap.Entries.{put}
 use Rattle.std.specs.List.{insert, slice_get, slice_set}

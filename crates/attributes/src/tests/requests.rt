@@ -1,5 +1,5 @@
 //! Attributes and headers of two requests, and copies of connections.
-use crate::{AttrId, AttrValue, Conn, Request, parse_ip};
+use crate::{AttrId, AttrType, AttrValue, Conn, Request, attr_named, attr_type, parse_ip};
 use std::alloc::{AllocError, Global};
 use std::rc::RcStr;
 use std::test::Fail;
@@ -75,6 +75,44 @@ const BARE: [(AttrId, &str); 22] = [
     (AttrId::ConnectionSubjectPeerCertificate, "absent"),
     (AttrId::ConnectionDnsSanPeerCertificate, "absent"),
     (AttrId::ConnectionUriSanPeerCertificate, "absent"),
+];
+
+// The names of attributes, in the order of the two tables above, with their types.
+const NAMES: [(&str, AttrType); 22] = [
+    ("request.path", AttrType::Text),
+    ("request.url_path", AttrType::Text),
+    ("request.host", AttrType::Text),
+    ("request.scheme", AttrType::Text),
+    ("request.method", AttrType::Text),
+    ("request.headers", AttrType::TextMap),
+    ("request.referer", AttrType::Text),
+    ("request.useragent", AttrType::Text),
+    ("request.id", AttrType::Text),
+    ("request.protocol", AttrType::Text),
+    ("request.query", AttrType::Text),
+    ("source.address", AttrType::Text),
+    ("source.port", AttrType::Int),
+    ("destination.address", AttrType::Text),
+    ("destination.port", AttrType::Int),
+    ("connection.mtls", AttrType::Bool),
+    ("connection.id", AttrType::Uint),
+    ("connection.requested_server_name", AttrType::Text),
+    ("connection.tls_version", AttrType::Text),
+    ("connection.subject_peer_certificate", AttrType::Text),
+    ("connection.dns_san_peer_certificate", AttrType::Text),
+    ("connection.uri_san_peer_certificate", AttrType::Text),
+];
+
+// Names that no attribute has.
+const NO_NAMES: [&str; 8] = [
+    "",
+    "request",
+    "request.",
+    "path",
+    "request.Path",
+    "request.user-agent",
+    "request.size",
+    "connection.mtls ",
 ];
 
 // Targets with their `url_path` and `query`.
@@ -180,11 +218,12 @@ fn cuts_targets(rt: HostRuntime) -> Result<(), Fail> {
         let request = bare_request(rt.alloc(), target)?;
         let found = request.url_path();
         assert_eq!(rt; found, path, "{target}");
-        let found = match request.attr(AttrId::RequestQuery) {
-            Some(AttrValue::Text(found)) => found.as_str(),
-            _ => "none",
-        };
-        assert_eq!(rt; found, query, "{target}");
+        let found = shown(rt.alloc(), request.attr(AttrId::RequestQuery))?;
+        assert_eq!(rt;
+            found.as_str().strip_prefix("text "),
+            Some(query),
+            "{target}"
+        );
     }
     Ok(())
 }
@@ -206,6 +245,35 @@ fn finds_headers(rt: HostRuntime) -> Result<(), Fail> {
     assert_eq!(rt; full.target(), "/a/b?x=1#f?y");
     assert!(rt; full.is_http11());
     assert_eq!(rt; full.conn().remote_ip, parse_ip("::1"));
+    Ok(())
+}
+
+#[test]
+fn names_attributes(rt: HostRuntime) -> Result<(), Fail> {
+    for ((name, kind), (id, _)) in NAMES.iter().zip(FULL) {
+        assert_eq!(rt; attr_named(name), Some(id), "{name}");
+        assert_eq!(rt; attr_type(id), *kind, "{name}");
+    }
+    for name in NO_NAMES {
+        assert_eq!(rt; attr_named(name), None, "{name}");
+    }
+    Ok(())
+}
+
+// A line that has the name of a pseudo-header comes before its value.
+#[test]
+fn joins_lines_with_pseudo_headers(rt: HostRuntime) -> Result<(), Fail> {
+    let alloc = rt.alloc();
+    let lines = lines_of(alloc, &[(":path", "/x"), ("host", "a"), ("host", "b")])?;
+    let method = String::from_str(alloc, "GET")?;
+    let target = String::from_str(alloc, "/")?;
+    let conn = Conn::of_scheme(RcStr::from_str(alloc, "http")?);
+    let request = Request::new(alloc, method, target, true, lines, conn)?;
+    assert_eq!(rt; request.header(":path"), Some("/x,/"));
+    assert_eq!(rt; request.header(":authority"), Some("a,b"));
+    assert_eq!(rt; request.header(":method"), Some("GET"));
+    assert_eq!(rt; request.headers().len(), 4);
+    assert_eq!(rt; request.line_count(), 3);
     Ok(())
 }
 

@@ -11,10 +11,10 @@ returns-in_ok-joined-in-Ok c =
     rw c.as_slice.ensures.value at c.in-Ok.ensures.bound in
     let same : c.index_mut.result.now ≡ c.index.result.now =
     c.index_mut.ensures.value
-    ∙ get_or_default c.args.headers.now.items c.in-Ok.index c.index_mut.result.now c.index.result.now below
+    ∙ get_or_default c.args.headers.now.items c.in-Ok.index _ c.index.result.now below
     ∙ sym c.index.ensures in
-    λ es held. over c.args.headers.now.items es held c.args.name.now (rc_str_bytes c.args.value.now)
-    (rc_str_bytes c.in_ok-joined-in-Ok.joined) c.in-Ok.index c.index.result.now
+    λ es held. over c.args.headers.now.items es held c.args.name.now
+    (rc_str_bytes c.args.value.now) (rc_str_bytes c.in_ok-joined-in-Ok.joined) c.in-Ok.index c.index.result.now
     (c.index_mut.result.now.0, c.in_ok-joined-in-Ok.joined)
     (rw c.as_slice.ensures.value at c.in-Ok.ensures.place (sorted_from_held _ es held))
     c.index.ensures
@@ -23,7 +23,8 @@ returns-in_ok-joined-in-Ok c =
 
 pub returns-in_ok-insert-in-Err : goal.returns-in_ok-insert-in-Err
 returns-in_ok-insert-in-Err c =
-    λ es held. rw c.in_ok-insert-in-Err.ensures.items (between c.args.headers.now.items es held c.args.name.now _ c.in-Err.index
+    λ es held. rw c.in_ok-insert-in-Err.ensures.items
+    (between c.args.headers.now.items es held c.args.name.now _ c.in-Err.index
     (c.in_ok-name-in-Err.name, c.in_ok-clone-in-Err.field-0)
     (rw c.as_slice.ensures.value at c.in-Err.ensures.place (sorted_from_held _ es held))
     (rw (c.in_ok-name-in-Err.ensures.ok, c.in_ok-clone-in-Err.ensures.cases) refl))

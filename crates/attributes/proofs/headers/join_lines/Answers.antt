@@ -5,7 +5,7 @@ use Rattle.std.proofs.lemmas.Result.{MatchResult-weaker}
 use Rattle.std.proofs.Math.Seq.{take-append_seam}
 use Rattle.std.specs.declared.string.String.{String}
 use Rattle.std.specs.declared.alloc.Global.{Global}
-use Rattle.attributes.specs.Headers.{Entry, headers_of, line_entry, lines_view, values_of}
+use Rattle.attributes.specs.Headers.{line_entry, lines_view, values_of}
 use Rattle.attributes.proofs.Joining.{headers_of-same}
 use Rattle.attributes.proofs.headers.join_lines.Goals as goal
 

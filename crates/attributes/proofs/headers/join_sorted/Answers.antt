@@ -6,7 +6,7 @@ use Rattle.std.specs.declared.string.String.{String}
 use Rattle.std.specs.declared.alloc.Global.{Global}
 use Rattle.std.specs.String.{string_bytes}
 use Rattle.std.specs.Vec.Iter.{into_iter_items}
-use Rattle.attributes.specs.Headers.{headers_view, header_view, line_view, lines_view}
+use Rattle.attributes.specs.Headers.{header_view, line_view, lines_view}
 use Rattle.attributes.specs.steps.Headers.{AreSorted}
 use Rattle.attributes.proofs.Neighbours.{AreSorted-name, AreSorted-next, headers-next, headers-nil, headers-one, headers-same}
 use Rattle.attributes.proofs.headers.join_sorted.Goals as goal

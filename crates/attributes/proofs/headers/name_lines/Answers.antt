@@ -1,4 +1,4 @@
-use Rattle.std.proofs.Common.{◌≡◌, ◌<◌, ◌≤◌, ◌∙◌, length, length-set, take, take_all, arith}
+use Rattle.std.proofs.Common.{◌<◌, ◌≤◌, ◌∙◌, length, length-set, take_all, arith}
 use Rattle.attributes.proofs.Lines.{named-more, rest-more}
 use Rattle.attributes.proofs.headers.name_lines.Goals as goal
 

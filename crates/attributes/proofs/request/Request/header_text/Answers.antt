@@ -1,8 +1,7 @@
 -- The headers as they are kept are the map's entries, so the search finds what the map has.
-use Rattle.std.proofs.Common.{◌≡◌, ◌∙◌, sym, ap}
-use Rattle.std.specs.FinMap.{entries, get-entries, is_sorted}
-use Rattle.attributes.specs.Headers.{headers_view, name_cmp}
-use Rattle.attributes.specs.steps.Request.{of_parts}
+use Rattle.std.proofs.Common.{◌≡◌, ◌∙◌, sym}
+use Rattle.std.specs.FinMap.{entries, get-entries}
+use Rattle.attributes.specs.Headers.{headers_view}
 use Rattle.attributes.proofs.HeaderMaps.{is_sorted-entries}
 use Rattle.attributes.proofs.request.Request.header_text.Goals as goal
 
@@ -13,5 +12,9 @@ find_header-requires c =
 pub returns : goal.returns
 returns c =
     let kept : headers_view c.as_slice.result.now ≡ entries c.args.self.now.headers =
-    rw (c.as_slice.ensures.value, c.deref.ensures, ← c.self.view_is) (sym c.self.invariant.headers) in
+    rw (
+      c.as_slice.ensures.value,
+      c.deref.ensures,
+      ← c.self.view_is,
+    ) (sym c.self.invariant.headers) in
     rw kept at c.find_header.ensures ∙ sym (get-entries c.args.self.now.headers c.args.name.now)

@@ -1,5 +1,5 @@
 -- The headers are those of the lines and the pseudo-headers, so the parts make that request.
-use Rattle.std.proofs.Common.{◌≡◌, ◌∙◌, ℕ, ◌<◌, ◌^◌, List, length, sym, ap, arith}
+use Rattle.std.proofs.Common.{◌≡◌, ◌∙◌, ℕ, List, length, sym, ap, arith}
 use Rattle.std.proofs.lemmas.Grind.{common_steps}
 use Rattle.std.proofs.lemmas.List.{length-map}
 use Rattle.std.specs.Rc.{rc_str_bytes}
@@ -16,12 +16,14 @@ invariant_of-result c =
     let kept : List Entry = headers_view c.in_ok-new.field-0.value.items in
     let method : List ℕ = rc_str_bytes c.in_ok-method.method in
     let target : List ℕ = rc_str_bytes c.in_ok-target.target in
-    let joined : kept ≡ entries (headers_of (all_entries method target (rc_str_bytes c.args.conn.scheme) lines)) =
+    let scheme : List ℕ = rc_str_bytes c.args.conn.scheme in
+    let joined : kept ≡ entries (headers_of (all_entries method target scheme lines)) =
     ap (λ headers. headers_view headers.items) c.in_ok-new.ensures.ok ∙ c.in_ok-headers.ensures in
     let items : c.len-count.result ≡ length c.args.lines.items = grind (arith, common_steps) in
     let count : c.len-count.result ≡ length lines =
     items ∙ sym (length-map c.args.lines.items line_view) in
-    request_kept method target c.args.http11 lines kept (conn_view c.args.conn) c.len-count.result count joined
+    request_kept method target c.args.http11 lines kept (conn_view c.args.conn)
+    c.len-count.result count joined
     (IsUtf8-rc_str_bytes c.in_ok-method.method) (IsUtf8-rc_str_bytes c.in_ok-target.target)
     (text_headers c.in_ok-new.field-0.value.items) c.facts_are_sound.ensures (omega (arith, c))
     _ _ _ c.in_ok-share_url_path.ensures c.in_ok-share_query.ensures
@@ -33,10 +35,12 @@ returns c =
     let kept : List Entry = headers_view c.in_ok-new.field-0.value.items in
     let method : List ℕ = rc_str_bytes c.in_ok-method.method in
     let target : List ℕ = rc_str_bytes c.in_ok-target.target in
-    let joined : kept ≡ entries (headers_of (all_entries method target (rc_str_bytes c.args.conn.scheme) lines)) =
+    let scheme : List ℕ = rc_str_bytes c.args.conn.scheme in
+    let joined : kept ≡ entries (headers_of (all_entries method target scheme lines)) =
     ap (λ headers. headers_view headers.items) c.in_ok-new.ensures.ok ∙ c.in_ok-headers.ensures in
     let items : c.len-count.result ≡ length c.args.lines.items = grind (arith, common_steps) in
     let count : c.len-count.result ≡ length lines =
     items ∙ sym (length-map c.args.lines.items line_view) in
     rw (← c.in_ok-method.ensures.ok, ← c.in_ok-target.ensures.ok)
-    (same_request method target c.args.http11 lines kept (conn_view c.args.conn) c.len-count.result count joined)
+    (same_request method target c.args.http11 lines kept (conn_view c.args.conn)
+    c.len-count.result count joined)
