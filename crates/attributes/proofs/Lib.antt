@@ -10,6 +10,8 @@ pub mod Adding
 pub mod AddressText
 pub mod OneAddress
 pub mod Facts
+pub mod LimitFaults
+pub mod StandardFacts
 pub mod Names
 pub mod TypedAttributes
 pub mod Requests

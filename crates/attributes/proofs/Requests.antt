@@ -8,7 +8,7 @@ use Rattle.std.proofs.lemmas.List.{length-map}
 use Rattle.attributes.specs.Attributes.{query_of, url_path_of}
 use Rattle.attributes.specs.Conn.{AreFacts, Facts}
 use Rattle.attributes.specs.Headers.{Entry, HeaderMap, all_entries, headers_of, headers_view, line_entry, name_cmp}
-use Rattle.attributes.specs.Request.{IsTextEntry, RequestValue, protocol_of, request_of}
+use Rattle.attributes.specs.Request.{IsRequest, IsTextEntry, RequestValue, protocol_of, request_of}
 use Rattle.attributes.specs.steps.Request.{AreKept, of_parts}
 use Rattle.attributes.proofs.Facts.{IsUtf8-rc_str_bytes}
 use Rattle.attributes.proofs.HeaderMaps.{All-headers, from_sorted-entries}
@@ -55,24 +55,29 @@ module _ (method target : List ℕ) (http11 : Bool) (lines kept : List Entry) (f
       let same = length-map lines line_entry in
       rw same_map_kept (omega (arith, most, long, same, count))
 
-  module _ (method_text : IsUtf8 method) (target_text : IsUtf8 target)
-      (texts : All IsTextEntry kept) (sound : AreFacts facts) (fits : n < 2 ^ 64) (path query protocol : List ℕ)
-      (path_is : path ≡ url_path_of target) (query_is : query ≡ query_of target)
-      (protocol_is : protocol ≡ protocol_of http11) where
-    in_order : entries (from_sorted {R = name_cmp} kept) ≡ kept
-    in_order = ap entries same_map_kept ∙ sym joined
+  in_order : entries (from_sorted {R = name_cmp} kept) ≡ kept
+  in_order = ap entries same_map_kept ∙ sym joined
 
-    -- and keep what a request keeps
-    pub request_kept : AreKept (of_parts method target http11 n kept facts) kept path query protocol
-    request_kept = record {
-      request = record {
-        method = method_text;
-        target = target_text;
-        lines = fits;
-        headers = rw in_order texts;
-        few = few;
-        facts = sound;
-      };
+  -- and it is a request
+  sound_request : IsUtf8 method → IsUtf8 target → All IsTextEntry kept → AreFacts facts → n < 2 ^ 64
+      → IsRequest (of_parts method target http11 n kept facts)
+  sound_request method_text target_text texts sound fits = record {
+    method = method_text;
+    target = target_text;
+    lines = fits;
+    headers = rw in_order texts;
+    few = few;
+    facts = sound;
+  }
+
+  -- with the texts that are made of its parts, they are what a request keeps
+  module _ (path query protocol : List ℕ) (path_is : path ≡ url_path_of target)
+      (query_is : query ≡ query_of target) (protocol_is : protocol ≡ protocol_of http11) where
+    pub request_kept : IsUtf8 method → IsUtf8 target → All IsTextEntry kept → AreFacts facts
+        → n < 2 ^ 64
+        → AreKept (of_parts method target http11 n kept facts) kept path query protocol
+    request_kept method_text target_text texts sound fits = record {
+      request = sound_request method_text target_text texts sound fits;
       headers = in_order;
       url_path = path_is;
       query = query_is;

@@ -6,7 +6,6 @@ use Rattle.std.specs.Rc.{rc_str_bytes}
 use Rattle.std.specs.declared.rc.RcStr.{RcStr}
 use Rattle.std.specs.declared.alloc.Global.{Global}
 use Rattle.attributes.specs.declared.conn.Conn.{Conn}
-use denote.Ref.{Bor}
 use Rattle.attributes.specs.Address.{IsAddress}
 use Rattle.attributes.specs.declared.address.Ip.{Ip}
 
@@ -53,10 +52,6 @@ pub record AreFacts (f : Facts) : Type 0 where
 -- a text that may be absent
 abbrev pub text_view : Option (RcStr Global) → Option (List ℕ)
 text_view = option_map rc_str_bytes
-
--- the same of a text that is lent
-abbrev pub lent_view : Option (Bor (RcStr Global)) → Option (List ℕ)
-lent_view = option_map (λ text. rc_str_bytes text.now)
 
 -- the facts that a connection value holds
 abbrev pub conn_view : Conn → Facts

@@ -3,8 +3,9 @@ ghost use Rattle.std.specs.Prelude.{◌≡◌, ◌↔◌, IfSome, Some, find, op
 ghost use Rattle.std.specs.Str.{bytes_eq};
 ghost use Rattle.attributes.specs.Attributes.{IsOrdered, attr_name, attr_of, attr_view, port_data, text, attr_type};
 ghost use Rattle.attributes.specs.declared.attribute.AttrId.{AttrId};
-ghost use Rattle.attributes.specs.Conn.{conn_view, lent_view};
+ghost use Rattle.attributes.specs.Conn.{conn_view};
 ghost use Rattle.attributes.specs.Request.{IsRequest};
+ghost use Rattle.attributes.specs.steps.Request.{lent_view};
 
 use crate::headers::Header;
 use crate::request::Request;

@@ -6,8 +6,8 @@ ghost use Rattle.std.specs.List.Sorted.{IsSearchInRange};
 ghost use Rattle.std.specs.Rc.{rc_str_bytes};
 ghost use Rattle.std.specs.String.{string_bytes};
 ghost use Rattle.attributes.specs.Headers.{Entry, all_entries, header_view, headers_view, line_entry, line_view, lines_view, name_cmp, values_of};
-ghost use Rattle.attributes.specs.Conn.{lent_view};
 ghost use Rattle.attributes.specs.steps.Headers.{AreHeadersOf, AreSorted, IsPlace};
+ghost use Rattle.attributes.specs.steps.Request.{lent_view};
 
 use std::alloc::{AllocError, Global};
 use std::mem;

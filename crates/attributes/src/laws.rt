@@ -1,7 +1,8 @@
 //! Laws of the definitions: functions without parameters, whose contracts are the laws.
-ghost use Rattle.std.specs.Prelude.{◌≡◌, ℕ, IfSome, List};
+ghost use Rattle.std.specs.Prelude.{◌≡◌, ◌↔◌, ℕ, IfSome, List, None};
 ghost use Rattle.attributes.specs.Attributes.{HasAttrType, attr_name, attr_of, attr_type};
 ghost use Rattle.attributes.specs.Headers.{AreJoined, Entry, HeaderMap, headers_of};
+ghost use Rattle.attributes.specs.Limits.{AreLimits, LimitsValue, first_fault};
 ghost use Rattle.attributes.specs.Request.{IsRequest, RequestValue};
 ghost use Rattle.attributes.specs.declared.attribute.AttrId.{AttrId};
 
@@ -9,6 +10,11 @@ ghost use Rattle.attributes.specs.declared.attribute.AttrId.{AttrId};
 pub fn attributes_have_their_types()
     ensures { (r : RequestValue) (id : AttrId) → IsRequest r
         → IfSome (attr_of r id) (HasAttrType (attr_type id)) }
+{}
+
+/// Declared limits have no fault exactly where none is 0 or above the greatest.
+pub fn limits_without_fault()
+    ensures { (l : LimitsValue) → (first_fault l ≡ None) ↔ AreLimits l }
 {}
 
 /// A name is that of one attribute at most.

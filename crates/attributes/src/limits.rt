@@ -1,9 +1,10 @@
 //! The limits that a request has to keep, and the test whether it does.
-ghost use Rattle.std.specs.Prelude.{◌≡◌, ◌+◌, ◌≤◌, ◌↔◌, IfOk, IfErr, IsOk, IsTrue, OnOk, All};
+ghost use Rattle.std.specs.Prelude.{◌≡◌, ◌+◌, ◌≤◌, ◌↔◌, IfOk, IsTrue, All};
 ghost use Rattle.std.specs.FinMap.{entries};
+ghost use Rattle.std.specs.Result.{result_err};
 ghost use Rattle.attributes.specs.Conn.{AreFacts, conn_view, text_view};
 ghost use Rattle.attributes.specs.Headers.{header_view};
-ghost use Rattle.attributes.specs.Limits.{AreLimits, FactsInLimits, HasLimitFault, HeadInLimits, InLimits, IsFaultOf, IsWithin, EntryInLimits, declared, largest, limit_of, name_of};
+ghost use Rattle.attributes.specs.Limits.{AreLimits, FactsInLimits, HeadInLimits, InLimits, IsWithin, EntryInLimits, declared, first_fault, largest, limit_fault, limit_of, name_of};
 
 use crate::conn::{Conn, facts_are_sound};
 use crate::headers::Header;
@@ -44,7 +45,7 @@ pub enum Limit {
 
 impl Limit {
     /// The greatest number that may be declared for it.
-    pub fn largest(self) -> usize
+    pub(crate) fn largest(self) -> usize
         ensures { result ≡ limit_of self largest }
     {
         match self {
@@ -58,7 +59,7 @@ impl Limit {
     }
 
     /// The name by which a configuration declares it.
-    pub fn name(self) -> &'static str
+    pub(crate) fn name(self) -> &'static str
         ensures { result.now ≡ name_of self }
     {
         match self {
@@ -137,7 +138,8 @@ impl Model for Limits {
 
 impl Limits {
     /// Limits as declared: on the number of fields, and in bytes of a name, a value, a method, a
-    /// target and any other text.
+    /// target and any other text. Where one is 0 or above the greatest that may be declared, the
+    /// first of these faults in that order.
     pub fn new(
         fields: usize,
         name: usize,
@@ -147,9 +149,8 @@ impl Limits {
         text: usize,
     ) -> Result<Limits, LimitFault>
         ensures kept { IfOk result (λ l. l ≡ declared fields name value method target text) }
-        ensures allowed { OnOk result (AreLimits (declared fields name value method target text)) }
-        ensures fault { IfErr result
-            (HasLimitFault (declared fields name value method target text)) }
+        ensures fault { result_err result
+            ≡ first_fault (declared fields name value method target text) }
     {
         check_limit(Limit::Fields, fields)?;
         check_limit(Limit::Name, name)?;
@@ -263,8 +264,7 @@ fn fits_text(text: &Option<RcStr>, most: usize) -> bool
 }
 
 fn check_limit(limit: Limit, declared: usize) -> Result<(), LimitFault>
-    ensures ok { IsOk result ↔ ((1 ≤ declared) × (declared ≤ limit_of limit largest)) }
-    ensures fault { IfErr result (IsFaultOf limit declared) }
+    ensures { result_err result ≡ limit_fault limit declared }
 {
     if declared == 0 {
         return Err(LimitFault::Zero(limit));

@@ -6,9 +6,10 @@ ghost use Rattle.std.specs.Option.{option_copied};
 ghost use Rattle.std.specs.Rc.{rc_str_bytes};
 ghost use Rattle.std.specs.String.{string_bytes};
 ghost use Rattle.attributes.specs.Attributes.{query_of, url_path_of};
-ghost use Rattle.attributes.specs.Conn.{conn_view, lent_view};
+ghost use Rattle.attributes.specs.Conn.{conn_view};
 ghost use Rattle.attributes.specs.Headers.{headers_view, lines_view};
 ghost use Rattle.attributes.specs.Request.{IsRequest, header_of, protocol_of, request_of};
+ghost use Rattle.attributes.specs.steps.Request.{lent_view};
 
 use crate::conn::{Conn, facts_are_sound};
 use crate::headers::{Header, find_header, join_headers};

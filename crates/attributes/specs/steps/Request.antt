@@ -1,10 +1,18 @@
--- What a request keeps beside its parts.
-use Rattle.std.specs.Prelude.{◌≡◌, ℕ, Bool, List}
+-- What a request keeps beside its parts, and lends.
+use Rattle.std.specs.Prelude.{◌≡◌, ℕ, Bool, List, Option, option_map}
 use Rattle.std.specs.FinMap.{entries, from_sorted}
+use Rattle.std.specs.Rc.{rc_str_bytes}
+use Rattle.std.specs.declared.alloc.Global.{Global}
+use Rattle.std.specs.declared.rc.RcStr.{RcStr}
+use denote.Ref.{Bor}
 use Rattle.attributes.specs.Attributes.{query_of, url_path_of}
 use Rattle.attributes.specs.Conn.{Facts}
 use Rattle.attributes.specs.Headers.{Entry}
 use Rattle.attributes.specs.Request.{IsRequest, RequestValue, protocol_of}
+
+-- a text that is lent, if there is one
+abbrev pub lent_view : Option (Bor (RcStr Global)) → Option (List ℕ)
+lent_view = option_map (λ text. rc_str_bytes text.now)
 
 -- the request of these parts; its headers stand by ascending name
 abbrev pub of_parts : (method target : List ℕ) → Bool → ℕ → List Entry → Facts → RequestValue

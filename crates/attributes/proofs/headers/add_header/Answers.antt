@@ -1,5 +1,5 @@
 -- The place is that of the name, so the entry goes where the map of headers has it.
-use Rattle.std.proofs.Common.{◌≡◌, ◌<◌, ◌∙◌, length, refl, sym}
+use Rattle.std.proofs.Common.{◌≡◌, ◌<◌, ◌∙◌, length, refl, sym, ℕ, List}
 use Rattle.std.proofs.lemmas.List.{get_or_default}
 use Rattle.std.specs.Rc.{rc_str_bytes}
 use Rattle.attributes.proofs.Adding.{between, over, sorted_from_held}
@@ -13,8 +13,10 @@ returns-in_ok-joined-in-Ok c =
     c.index_mut.ensures.value
     ∙ get_or_default c.args.headers.now.items c.in-Ok.index _ c.index.result.now below
     ∙ sym c.index.ensures in
-    λ es held. over c.args.headers.now.items es held c.args.name.now
-    (rc_str_bytes c.args.value.now) (rc_str_bytes c.in_ok-joined-in-Ok.joined) c.in-Ok.index c.index.result.now
+    let value : List ℕ = rc_str_bytes c.args.value.now in
+    let joined : List ℕ = rc_str_bytes c.in_ok-joined-in-Ok.joined in
+    λ es held. over c.args.headers.now.items es held c.args.name.now value joined
+    c.in-Ok.index c.index.result.now
     (c.index_mut.result.now.0, c.in_ok-joined-in-Ok.joined)
     (rw c.as_slice.ensures.value at c.in-Ok.ensures.place (sorted_from_held _ es held))
     c.index.ensures

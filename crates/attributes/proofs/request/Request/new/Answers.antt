@@ -23,11 +23,10 @@ invariant_of-result c =
     let count : c.len-count.result ≡ length lines =
     items ∙ sym (length-map c.args.lines.items line_view) in
     request_kept method target c.args.http11 lines kept (conn_view c.args.conn)
-    c.len-count.result count joined
+    c.len-count.result count joined _ _ _ c.in_ok-share_url_path.ensures
+    c.in_ok-share_query.ensures (c.in_ok-from_str.ensures.ok ∙ c.protocol_text.ensures)
     (IsUtf8-rc_str_bytes c.in_ok-method.method) (IsUtf8-rc_str_bytes c.in_ok-target.target)
     (text_headers c.in_ok-new.field-0.value.items) c.facts_are_sound.ensures (omega (arith, c))
-    _ _ _ c.in_ok-share_url_path.ensures c.in_ok-share_query.ensures
-    (c.in_ok-from_str.ensures.ok ∙ c.protocol_text.ensures)
 
 pub returns : goal.returns
 returns c =
