@@ -1,7 +1,15 @@
 pub mod TextOrder
+pub mod HeaderMaps
+pub mod Lines
 pub mod Joining
+pub mod Places
+pub mod Neighbours
 pub mod Sorting
 pub mod Searching
+pub mod Adding
 pub mod AddressText
 pub mod OneAddress
-pub mod Canonical
+pub mod Facts
+pub mod Names
+pub mod TypedAttributes
+pub mod Requests

@@ -56,6 +56,11 @@ abbrev pub width_of : Ip → ℕ
 width_of (V4 n) = 32
 width_of (V6 n) = 128
 
+-- the number of an address has no more bits than its family
+abbrev pub IsAddress : Ip → Type 0
+IsAddress (V4 n) = n < 2 ^ 32
+IsAddress (V6 n) = n < 2 ^ 128
+
 -- the addresses are of one family and have their first `size` bits in common
 abbrev pub SharePrefix : ℕ → Ip → Ip → Type 0
 SharePrefix size (V4 a) (V4 b) = a / 2 ^ (32 - size) ≡ b / 2 ^ (32 - size)

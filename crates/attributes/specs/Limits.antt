@@ -1,5 +1,6 @@
 -- The limits of a request, and what is within them.
 use Rattle.std.specs.Prelude.{◌≡◌, ℕ, ◌+◌, ◌<◌, ◌≤◌, List, Option, All, IfSome, codes, decimal, length, ◌++◌}
+use Rattle.std.specs.FinMap.{entries}
 use Rattle.attributes.specs.Conn.{Facts}
 use Rattle.attributes.specs.Headers.{Entry}
 use Rattle.attributes.specs.Request.{RequestValue, protocol_of}
@@ -98,6 +99,6 @@ pub record HeadInLimits (r : RequestValue) (l : LimitsValue) : Type 0 where
 -- every count, name and text is within the limits; the three pseudo-headers count as fields
 pub record InLimits (r : RequestValue) (l : LimitsValue) : Type 0 where
   pub count : r.lines + 3 ≤ l.fields
-  pub headers : All (EntryInLimits l) r.headers
+  pub headers : All (EntryInLimits l) (entries r.headers)
   pub head : HeadInLimits r l
   pub facts : FactsInLimits r.facts l

@@ -1,0 +1,3 @@
+-- Definitions that clauses of private functions cite.
+pub mod Headers
+pub mod Request
