@@ -7,3 +7,4 @@ pub mod Spans
 pub mod Held
 pub mod Framings
 pub mod RuleLemmas
+pub mod StandardFacts

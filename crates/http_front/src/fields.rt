@@ -2,7 +2,7 @@
 ghost use Rattle.std.specs.Prelude.{◌≡◌, ◌↔◌, All, Any, IfOk, IsTrue, IsUtf8, length, map};
 ghost use Rattle.std.specs.Bool.{OnFalse, OnTrue};
 ghost use Rattle.std.specs.String.{string_bytes};
-ghost use Rattle.attributes.specs.Headers.{entries_of};
+ghost use Rattle.attributes.specs.Headers.{lines_view};
 ghost use Rattle.http_header.specs.FieldName.{IsFieldName};
 ghost use Rattle.httparse.specs.Spans.{IsHeaderWithin, header_bytes};
 ghost use Rattle.http_front.specs.Parsed.{IsText};
@@ -44,7 +44,7 @@ pub(crate) fn lower_lines(
     requires within { All (IsHeaderWithin (length bytes.now)) fields.now }
     requires texts { All IsText (map (header_bytes bytes.now) fields.now) }
     ensures { IfOk result (λ lines.
-        entries_of lines.items ≡ map lowered (map (header_bytes bytes.now) fields.now)) }
+        lines_view lines.items ≡ map lowered (map (header_bytes bytes.now) fields.now)) }
 {
     let mut lines = Vec::with_capacity(alloc, fields.len())?;
     for field in fields {

@@ -1,7 +1,7 @@
 //! A request head where it lies in the bytes that it was read from.
 ghost use Rattle.std.specs.Prelude.{◌≡◌, ◌≤◌, ◌↔◌, ◌==◌, All, Any, IfNone, IfOk, IfSome, IsTrue, count_by, length};
 ghost use Rattle.std.specs.Bool.{OnFalse, OnTrue};
-ghost use Rattle.attributes.specs.Conn.{facts_of};
+ghost use Rattle.attributes.specs.Conn.{conn_view};
 ghost use Rattle.http_header.specs.FieldName.{IsFieldName};
 ghost use Rattle.httparse.specs.Ascii.{line_feed};
 ghost use Rattle.http_front.specs.declared.fault.HeadFault.{HeadFault};
@@ -123,7 +123,7 @@ impl<'a> Head<'a> {
     /// The request that the head makes on this connection.
     pub(crate) fn to_request(&self, alloc: Global, conn: Conn) -> Result<Request, AllocError>
         requires { AreTexts self.now }
-        ensures { IfOk result (λ r. r ≡ request_of_head self.now (facts_of conn)) }
+        ensures { IfOk result (λ r. r ≡ request_of_head self.now (conn_view conn)) }
     {
         let method = copy_text(alloc, self.method)?;
         let target = copy_text(alloc, self.target)?;

@@ -1,6 +1,6 @@
 //! What the head at the front of some bytes asks.
 ghost use Rattle.std.specs.Prelude.{◌≡◌, ◌==◌, IfNone, IfOk, count_by};
-ghost use Rattle.attributes.specs.Conn.{facts_of};
+ghost use Rattle.attributes.specs.Conn.{conn_view};
 ghost use Rattle.httparse.specs.Ascii.{line_feed};
 ghost use Rattle.http_front.specs.Asks.{Asks, HasFault, IfFault, IfJudge, IsAskOf, IsUnfinished};
 
@@ -33,9 +33,9 @@ pub fn read_head(
     conn: Conn,
 ) -> Result<Option<Ask>, AllocError>
     ensures judged { IfOk result (λ found.
-        IfJudge found (Asks bytes.now limits.now (facts_of conn))) }
+        IfJudge found (Asks bytes.now limits.now (conn_view conn))) }
     ensures fault { IfOk result (λ found.
-        IfFault found (HasFault bytes.now limits.now (facts_of conn))) }
+        IfFault found (HasFault bytes.now limits.now (conn_view conn))) }
     ensures unfinished { IfOk result (λ found. IfNone found (IsUnfinished bytes.now)) }
 {
     let room = &bytes[..bytes.len().min(HEAD_ROOM)];
@@ -62,7 +62,7 @@ fn line_feeds(bytes: &[u8]) -> usize
 
 /// What a whole head asks.
 fn ask_of(alloc: Global, head: &Head<'_>, limits: &Limits, conn: Conn) -> Result<Ask, AllocError>
-    ensures { IfOk result (IsAskOf limits.now (facts_of conn) head.now) }
+    ensures { IfOk result (IsAskOf limits.now (conn_view conn) head.now) }
 {
     if let Some(fault) = head.fault() {
         return Ok(Ask::Fault(fault));
