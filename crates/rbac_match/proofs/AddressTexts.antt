@@ -6,7 +6,8 @@ use Rattle.std.specs.Net.Reader.{read_ipv4, read_ipv6}
 use Rattle.std.proofs.NetLemmas.Options.{same_parts}
 use Rattle.std.proofs.NetLemmas.Ipv4.{read_ipv4_sound}
 use Rattle.std.proofs.NetLemmas.Ipv6.{read_ipv6_sound}
-use Rattle.attributes.specs.Address.{has_dot, IsIpText, number_of}
+use Rattle.attributes.specs.Address.{IsIpText, number_of}
+use Rattle.attributes.specs.steps.Address.{has_dot}
 use Rattle.attributes.specs.declared.address.Ip.{Ip}
 use Rattle.attributes.specs.declared.address.Ip.TheVariants.{V4, V6}
 use Rattle.attributes.proofs.OneAddress.{dotted_read, groups_read}

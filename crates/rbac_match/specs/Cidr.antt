@@ -3,7 +3,7 @@
 -- "Permission" and "Principal" (`destination_ip`, `direct_remote_ip`, `remote_ip`).
 use Rattle.std.specs.Prelude.{◌≡◌, ◌⊎◌, ℕ, ◌-◌, ◌/◌, ◌^◌, ◌<◌, ◌≤◌, ◌==◌, Bool, false, List, [], ◌∷◌, Option, IsUtf8}
 use Rattle.std.specs.Option.{option_map_or}
-use Rattle.attributes.specs.Address.{IsIpText, Range, width_of}
+use Rattle.attributes.specs.Address.{IsIpText, Range, width_of, share_prefix}
 use Rattle.attributes.specs.Conn.{Facts}
 use Rattle.attributes.specs.Request.{RequestValue}
 use Rattle.attributes.specs.declared.address.Ip.{Ip}
@@ -63,13 +63,6 @@ pub data CidrFault (parts : List (List ℕ)) (e : Refusal) : Type 0 where
   too_long : (fs ls : List Wire) (ip : Ip) → Merges parts fs
       → IsIpText (bytes_at address_prefix_field fs) ip → Merges (payloads prefix_len_field fs) ls
       → width_of ip < uint32_at value_field ls → e ≡ OutOfRange → CidrFault parts e
-
--- whether the addresses are of one family and have their first `size` bits in common
-abbrev pub share_prefix : ℕ → Ip → Ip → Bool
-share_prefix size (V4 a) (V4 b) = a / 2 ^ (32 - size) == b / 2 ^ (32 - size)
-share_prefix size (V6 a) (V6 b) = a / 2 ^ (128 - size) == b / 2 ^ (128 - size)
-share_prefix size (V4 a) (V6 b) = false
-share_prefix size (V6 a) (V4 b) = false
 
 -- the address of the connection that the rule looks at
 abbrev pub source_ip : AddressSource → Facts → Option Ip

@@ -1,7 +1,7 @@
 //! Tests of the peer's certificate (`envoy.config.rbac.v3.Principal.Authenticated`).
 
 ghost use Rattle.std.specs.Prelude.{◌≡◌, ◌⊎◌, IfOk, IfErr, option_copied};
-ghost use Rattle.attributes.specs.Conn.{facts_of, text_of};
+ghost use Rattle.attributes.specs.Conn.{conn_view, text_view};
 ghost use Rattle.proto_wire.specs.Merge.{parts_view};
 ghost use Rattle.proto_wire.specs.Refusal.{MemoryOr};
 ghost use Rattle.rbac_match.specs.Authenticated.{authenticated_keys, IsAuthenticated, AuthenticatedFault, peer_name, authenticated_holds};
@@ -50,7 +50,7 @@ pub(crate) fn authenticated_matches(name: &Option<TextMatcher>, request: &Reques
 }
 
 fn peer_name(conn: &Conn) -> Option<&str>
-    ensures { option_copied result ≡ peer_name (facts_of conn.now) }
+    ensures { option_copied result ≡ peer_name (conn_view conn.now) }
 {
     let name = conn
         .uri_san_peer_certificate

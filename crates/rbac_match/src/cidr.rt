@@ -2,7 +2,7 @@
 
 ghost use Rattle.std.specs.Prelude.{◌≡◌, ◌<◌, ◌≤◌, IfOk, IfErr, IsUtf8, map};
 ghost use Rattle.attributes.specs.Address.{IsIpText, width_of};
-ghost use Rattle.attributes.specs.Conn.{facts_of};
+ghost use Rattle.attributes.specs.Conn.{conn_view};
 ghost use Rattle.proto_wire.specs.Fields.{field_view};
 ghost use Rattle.proto_wire.specs.Merge.{parts_view};
 ghost use Rattle.proto_wire.specs.Messages.{MessageFault};
@@ -28,7 +28,7 @@ pub enum AddressSource {
 
 impl AddressSource {
     fn of(self, conn: &Conn) -> Option<Ip>
-        ensures { result ≡ source_ip self (facts_of conn.now) }
+        ensures { result ≡ source_ip self (conn_view conn.now) }
     {
         match self {
             AddressSource::Destination => conn.destination_ip,

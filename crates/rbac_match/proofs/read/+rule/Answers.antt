@@ -1,4 +1,4 @@
-use Rattle.std.proofs.Common.{◌≡◌, ◌<◌, ◌-◌, ℕ, List, [], ◌∷◌, Some, map, get_or}
+use Rattle.std.proofs.Common.{◌≡◌, ◌≢◌, ◌<◌, ◌-◌, ℕ, List, [], ◌∷◌, Some, map, get_or}
 use Rattle.std.proofs.lemmas.Result.{MatchResult-weaker}
 use Rattle.std.proofs.lemmas.List.{take_more}
 use Rattle.proto_wire.specs.declared.refusal.Refusal.{Refusal}
@@ -94,6 +94,15 @@ read_set-returns-in_err-require_payload-clause-fault t c =
     exit_fault (SetFault (RuleFault c.args.side c.args.depth) parts)
     c.from_residual-in_err-require_payload.result _ c.from_residual-in_err-require_payload.ensures.1
     (set_empty fs message fault.0 fault.1)
+
+pub read_set-returns-clause-found : goal.read_set-returns-clause-found
+read_set-returns-clause-found t c =
+    let parts : List (List ℕ) = parts_view c.args.parts.now in
+    let fs : List Wire = map field_view c.in_ok-fields.fields.items in
+    let message : IsMessage set_keys parts fs = rw c.set_keys.ensures at c.in_ok-fields.ensures.found in
+    let some : payloads rules_field fs ≢ [] = rw (c.deref-2.ensures.value, c.in_ok-payloads.ensures, c.deref.ensures.value) at c.in_ok-require_payload.ensures.found in
+    MatchResult-weaker c.read_rules.result c.read_rules.ensures.found
+    (λ rules h. (fs, message, some, rw (c.deref-3.ensures.value, c.in_ok-payloads.ensures, c.deref.ensures.value) at h)) (λ _ _. tt)
 
 pub read_set-returns-clause-fault : goal.read_set-returns-clause-fault
 read_set-returns-clause-fault t c =
