@@ -8,7 +8,8 @@ use Rattle.std.specs.Cmp.{tied_itself}
 use Rattle.std.specs.Cmp.Lexicographic.{nat_list_cmp_total}
 use Rattle.std.specs.FinMap.{IsAntisymmetric, nat_cmp-IsAntisymmetric, slice_cmp-IsAntisymmetric, find, is_sorted, get, keys, from_entries, get-from_entries}
 use Rattle.attributes.specs.Request.{RequestValue}
-use Rattle.rbac_policy.specs.Filter.{Condition, Policy, Filter, name_cmp}
+use Rattle.rbac_policy.specs.Filter.{Condition, Policy, Filter}
+use Rattle.attributes.specs.Headers.{name_cmp}
 use Rattle.rbac_policy.specs.Verdict.{sides_match, policy_matches, SomeMatches, IsLeastMatch, number_of, LetsThrough, allows, IsVerdict}
 use Rattle.rbac_policy.specs.Named.{policy_view, named_view, named_views}
 use Rattle.rbac_policy.specs.declared.policy.NamedPolicy.{NamedPolicy}

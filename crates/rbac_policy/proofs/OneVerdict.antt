@@ -6,7 +6,8 @@ use Rattle.std.specs.declared.cmp.Ordering.TheVariants.{Less, Equal, Greater}
 use Rattle.std.specs.Cmp.Lexicographic.{nat_list_cmp_total}
 use Rattle.std.specs.FinMap.{slice_cmp-IsAntisymmetric, nat_cmp-IsAntisymmetric}
 use Rattle.attributes.specs.Request.{RequestValue}
-use Rattle.rbac_policy.specs.Filter.{Condition, Filter, name_cmp}
+use Rattle.rbac_policy.specs.Filter.{Condition, Filter}
+use Rattle.attributes.specs.Headers.{name_cmp}
 use Rattle.rbac_policy.specs.Verdict.{SomeMatches, IsLeastMatch, number_of, IsVerdict}
 
 -- tests of one fact are one

@@ -19,9 +19,10 @@ use Rattle.rbac_match.specs.Formula.{Formulas}
 use Rattle.rbac_match.specs.declared.rule.Side.{Side}
 use Rattle.rbac_match.specs.declared.rule.Side.TheVariants.{Permission, Principal}
 use Rattle.rbac_match.proofs.Basics.{nil_or_not, same_or_not, contains_first, contains_later, contains_cases}
-use Rattle.rbac_match.proofs.Settled.{rules_all_settled, rules_all_apart}
-use Rattle.rbac_match.proofs.TextSettled.{utf8_or_not}
-use Rattle.rbac_policy.specs.Filter.{Policy, Filter, name_cmp}
+use Rattle.rbac_match.proofs.RuleMessages.{rules_total, rules_disjoint}
+use Rattle.rbac_match.proofs.Basics.{utf8_or_not}
+use Rattle.rbac_policy.specs.Filter.{Policy, Filter}
+use Rattle.attributes.specs.Headers.{name_cmp}
 use Rattle.rbac_policy.specs.Keys.{filter_keys, rules_keys, policy_keys}
 use Rattle.rbac_policy.specs.Message.{rule_depth, most_policies, LacksConditions, HasBothSides, IsPolicy, action_in, action_number, AreFilterRules, IsFilter}
 use Rattle.proto_wire.specs.Maps.{Entry, text, AreEntries, map_of, SomeValueFault}
@@ -34,7 +35,7 @@ use Rattle.rbac_policy.specs.declared.filter.Action.TheVariants.{Allow, Deny, Lo
 -- payloads are a policy or have a fault
 ruled : (side : Side) (fs : List Wire) (k : ℕ)
     → ((gs : Formulas) × AreRules (IsRule side rule_depth) (payloads k fs) gs) ⊎ ((child : List ℕ) × Contains (payloads k fs) child × (e : Refusal) × RuleFault side rule_depth (child ∷ []) e)
-ruled side fs k = rules_all_settled side rule_depth (payloads k fs)
+ruled side fs k = rules_total side rule_depth (payloads k fs)
 
 -- fields have a condition or none, and both sides or not
 conditions_total : (fs : List Wire) → LacksConditions fs ⊎ ((e : Refusal) × ConditionFault fs e)
@@ -103,9 +104,9 @@ module _ (parts : List (List ℕ)) (policy : Policy) (is : IsPolicy parts policy
   policy_disjoint e (lacks_side gs also bad) = side_disjoint is.fs e is.sides (moved (λ xs. SideFault xs e) gs also.0 bad)
   policy_disjoint e (conditional gs also bad) = condition_disjoint is.fs e is.lacks (moved (λ xs. ConditionFault xs e) gs also bad)
   policy_disjoint e (in_permission gs also (child, here, bad)) =
-      rules_all_apart Permission rule_depth (payloads 1 is.fs) policy.permissions child e is.permissions (moved (λ xs. Contains (payloads 1 xs) child) gs also here) bad
+      rules_disjoint Permission rule_depth (payloads 1 is.fs) policy.permissions child e is.permissions (moved (λ xs. Contains (payloads 1 xs) child) gs also here) bad
   policy_disjoint e (in_principal gs also (child, here, bad)) =
-      rules_all_apart Principal rule_depth (payloads 2 is.fs) policy.principals child e is.principals (moved (λ xs. Contains (payloads 2 xs) child) gs also here) bad
+      rules_disjoint Principal rule_depth (payloads 2 is.fs) policy.principals child e is.principals (moved (λ xs. Contains (payloads 2 xs) child) gs also here) bad
 
 -- the number of an action is one of three, or too great
 action_total : (n : ℕ) → ((action : Action) × (n ≡ action_number action)) ⊎ (2 < n)

@@ -10,8 +10,9 @@ use Rattle.rbac_match.specs.Formula.{Formulas}
 use Rattle.rbac_match.specs.Rules.{AreRules, IsRule}
 use Rattle.rbac_match.specs.declared.rule.Side.{Side}
 use Rattle.rbac_match.specs.declared.rule.Side.TheVariants.{Permission, Principal}
-use Rattle.rbac_match.proofs.Settled.{rules_all_one}
-use Rattle.rbac_policy.specs.Filter.{Condition, Policy, Filter, name_cmp}
+use Rattle.rbac_match.proofs.RuleMessages.{rules_unique as rules_one}
+use Rattle.rbac_policy.specs.Filter.{Condition, Policy, Filter}
+use Rattle.attributes.specs.Headers.{name_cmp}
 use Rattle.rbac_policy.specs.Keys.{rules_keys}
 use Rattle.rbac_policy.specs.Message.{rule_depth, IsPolicy, action_number, AreFilterRules, IsFilter}
 use Rattle.rbac_policy.specs.declared.filter.Action.{Action}
@@ -27,7 +28,7 @@ module _ (parts : List (List ℕ)) (p q : Policy) (a : IsPolicy parts p) (b : Is
       → AreRules (IsRule side rule_depth) (payloads k a.fs) x → AreRules (IsRule side rule_depth) (payloads k b.fs) y → x ≡ y
   side_unique side k x y says also =
       let P : List Wire → Type 0 = λ fs. AreRules (IsRule side rule_depth) (payloads k fs) y in
-      rules_all_one side rule_depth (payloads k a.fs) x y says
+      rules_one side rule_depth (payloads k a.fs) x y says
       (subst P (merges_unique parts b.fs a.fs b.message.0 a.message.0) also)
 
   policy_unique : p ≡ q

@@ -4,7 +4,8 @@ use Rattle.std.specs.Ordering.{is_lt}
 use Rattle.std.specs.FinMap.{get, keys}
 use Rattle.attributes.specs.Request.{RequestValue}
 use Rattle.rbac_match.specs.Formula.{some_hold}
-use Rattle.rbac_policy.specs.Filter.{Condition, Policy, Filter, name_cmp}
+use Rattle.rbac_policy.specs.Filter.{Condition, Policy, Filter}
+use Rattle.attributes.specs.Headers.{name_cmp}
 use Rattle.rbac_policy.specs.declared.filter.Action.{Action}
 use Rattle.rbac_policy.specs.declared.filter.Action.TheVariants.{Allow, Deny, Log}
 

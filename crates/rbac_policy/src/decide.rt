@@ -10,7 +10,7 @@ ghost use Rattle.rbac_policy.specs.Named.{policy_view};
 use crate::filter::{Admitted, Verdict};
 use crate::policy::NamedPolicy;
 use attributes::Request;
-use rbac_match::some_matches;
+use rbac_match::any_matches;
 use stack_machine::RunError;
 
 impl Admitted {
@@ -43,5 +43,5 @@ fn first_match(policies: &[NamedPolicy], request: &Request) -> Option<usize>
 fn sides_match(policy: &NamedPolicy, request: &Request) -> bool
     ensures { result ≡ sides_match request.now (policy_view policy.now) }
 {
-    some_matches(&policy.permissions, request) && some_matches(&policy.principals, request)
+    any_matches(&policy.permissions, request) && any_matches(&policy.principals, request)
 }

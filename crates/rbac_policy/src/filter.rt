@@ -2,7 +2,7 @@
 
 ghost use Rattle.std.specs.Prelude.{IsTrue};
 ghost use Rattle.std.specs.FinMap.{is_sorted};
-ghost use Rattle.rbac_policy.specs.Filter.{name_cmp};
+ghost use Rattle.attributes.specs.Headers.{name_cmp};
 ghost use Rattle.rbac_policy.specs.Named.{named_views};
 
 use crate::policy::NamedPolicy;

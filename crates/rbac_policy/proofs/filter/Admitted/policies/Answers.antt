@@ -1,7 +1,7 @@
 use Rattle.std.proofs.Common.{◌≡◌, length, sym, ap, ◌∙◌}
 use Rattle.std.proofs.lemmas.List.{length-map}
 use Rattle.std.specs.FinMap.{len, from_entries, len-entries}
-use Rattle.rbac_policy.specs.Filter.{name_cmp}
+use Rattle.attributes.specs.Headers.{name_cmp}
 use Rattle.rbac_policy.specs.Named.{named_view, named_views}
 use Rattle.rbac_policy.proofs.First.{t_of}
 use Rattle.std.specs.Cmp.Lexicographic.{nat_list_cmp_total}
