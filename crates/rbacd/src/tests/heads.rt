@@ -2,6 +2,7 @@
 use attributes::{Conn, Limits};
 use http_front::{Ask, HEAD_ROOM, HeadFault, read_head};
 use std::alloc::{AllocError, Global};
+use std::rc::RcStr;
 use std::test::Fail;
 
 /// What is answered.
@@ -23,7 +24,7 @@ const LARGE: Answer = Answer::Fault(HeadFault::TooLarge);
 const CODED: Answer = Answer::Fault(HeadFault::NotImplemented);
 
 fn answer_of(alloc: Global, bytes: &[u8]) -> Result<Answer, AllocError> {
-    let conn = Conn::of_scheme(String::from_str(alloc, "http")?);
+    let conn = Conn::of_scheme(RcStr::from_str(alloc, "http")?);
     match read_head(alloc, bytes, &Limits::largest(), conn)? {
         Some(Ask::Judge(_)) => Ok(JUDGED),
         Some(Ask::Fault(fault)) => Ok(Answer::Fault(fault)),
@@ -208,7 +209,7 @@ fn answers_borders_of_room(rt: HostRuntime) -> Result<(), Fail> {
 fn keeps_what_a_head_says(rt: HostRuntime) -> Result<(), Fail> {
     let alloc = rt.alloc();
     let bytes = b"PUT /a?b HTTP/1.0\r\nX-A: 1\r\nhost: h\r\nx-a:2\r\n\r\nbody";
-    let conn = Conn::of_scheme(String::from_str(alloc, "https")?);
+    let conn = Conn::of_scheme(RcStr::from_str(alloc, "https")?);
     let Some(Ask::Judge(request)) = read_head(alloc, bytes, &Limits::largest(), conn)? else {
         return Err(Fail::from("a request"));
     };
