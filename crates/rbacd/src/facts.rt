@@ -249,7 +249,10 @@ fn address_at(object: &Value, name: &str) -> Result<Option<Ip>, FactsFault>
     let Some(value) = object.get(name) else {
         return Ok(None);
     };
-    match value.as_str().and_then(|text| parse_ip(text)) {
+    let Some(text) = value.as_str() else {
+        return Err(FactsFault::Bad);
+    };
+    match parse_ip(text) {
         Some(ip) => Ok(Some(ip)),
         None => Err(FactsFault::Bad),
     }
