@@ -104,8 +104,8 @@ module _ (kind : KeyKind) where
   entries_first_disjoint (part ∷ parts) (e ∷ es) are breaks =
       first_disjoint (part ∷ []) are.0.0 are.0.1.0 breaks
 
-  -- where the payloads before the next one are entries and the first breaks at once, the next is the
-  -- first
+  -- where the payloads before the next one are entries and the first breaks at once, the next is
+  -- the first
   pub entry_breaks_at : (i : ℕ) (parts : List (Bor (List ℕ))) (d : Bor (List ℕ))
       (es : List (Entry kind))
       → i < length parts

@@ -1,5 +1,5 @@
--- The values of a map's payloads: each stands at its key, in the keys' order. A map of payloads has values
--- or a fault, never both, and one map of values at most, where that holds of one value.
+-- The values of a map's payloads: each stands at its key, in the keys' order. A map of payloads has
+-- values or a fault, never both, and one map of values at most, where that holds of one value.
 use Rattle.std.proofs.Common.{◌≡◌, ℕ, ◌⊎◌, inl, inr, T, IsTrue, true, false, cond, ◌&&◌, List, [], ◌∷◌, ◌++◌, Option, Some, None, MatchOption, IsSomeAnd, refl, sym, ap, subst, ◌∙◌}
 use Rattle.std.specs.Ordering.{eq_by_cmp, is_eq, is_lt}
 use Rattle.std.specs.Cmp.{tied_itself}

@@ -1,4 +1,5 @@
--- Payloads are a message whose fields are all known or have a fault, never both, and they are one message at most.
+-- Payloads are a message whose fields are all known or have a fault, never both, and they are one
+-- message at most.
 use Rattle.std.proofs.Common.{◌≡◌, ℕ, true, false, ◌&&◌, ◌⊎◌, inl, inr, List, [], ◌∷◌, ◌++◌, refl, sym, ◌∙◌}
 use Rattle.std.specs.List.{list_all}
 use Rattle.std.proofs.lemmas.Bool.{and_parts}

@@ -1,5 +1,5 @@
--- Bytes and numbers that the Protocol Buffers encoding guide gives, so that a wrong rule in the specs
--- does not check.
+-- Bytes and numbers that the Protocol Buffers encoding guide gives, so that a wrong rule in the
+-- specs does not check.
 use Rattle.std.proofs.Common.{◌≡◌, ℕ, ◌+◌, ◌*◌, ◌%◌, ◌<◌, ◌≤◌, length, inl, inr, List, [], ◌∷◌, codes, refl, sym, arith, negsuc}
 use Rattle.std.proofs.lemmas.List.{append-nil}
 use Rattle.proto_wire.specs.Varint.{SpellsVarint, FailsVarint, too_long, unfinished}
@@ -165,7 +165,8 @@ pub record AreBroken : Type 0 where
   pub zero_number : Broken (0 ∷ []) [] BadNumber
   -- a tag of field 1 with the wire type SGROUP
   pub group : Broken (11 ∷ []) [] BadWireType
-  -- of two payloads of a message, one that is cut short and one with a field 5: both faults are there
+  -- of two payloads of a message, one that is cut short and one with a field 5: both faults are
+  -- there
   pub cut : MessageFault (len_key 1 ∷ []) ((8 ∷ []) ∷ (40 ∷ 1 ∷ []) ∷ []) BadWire
   pub not_known_beside : MessageFault (len_key 1 ∷ []) ((8 ∷ []) ∷ (40 ∷ 1 ∷ []) ∷ []) UnknownField
 

@@ -40,7 +40,8 @@ tag_bits WireType.I32 = 5
 abbrev pub IsFieldNumber : ℕ → Type 0
 IsFieldNumber n = (1 ≤ n) × (n ≤ 536870911)
 
--- the bytes of a payload, as they stand behind its tag; an I64 and an I32 have their lowest byte first
+-- the bytes of a payload, as they stand behind its tag; an I64 and an I32 have their lowest byte
+-- first
 abbrev pub SpellsPayload : List ℕ → Payload → Type 0
 SpellsPayload bytes (varint n) = SpellsVarint bytes n
 SpellsPayload bytes (i64 n) = (length bytes ≡ 8) × (n ≡ from_le_bytes w64 bytes)

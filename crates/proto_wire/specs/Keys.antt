@@ -1,5 +1,5 @@
--- Which fields a message knows: Protocol Buffers encoding guide, "Message Structure". A field is known
--- by its number and its wire type.
+-- Which fields a message knows: Protocol Buffers encoding guide, "Message Structure". A field is
+-- known by its number and its wire type.
 use Rattle.std.specs.Prelude.{◌≡◌, ℕ, ◌==◌, ◌&&◌, Bool, true, false, List, IsTrue}
 use Rattle.std.specs.List.{list_any, list_all}
 use Rattle.proto_wire.specs.Fields.{Payload, varint, i64, len, i32, Wire}

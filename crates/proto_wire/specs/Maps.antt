@@ -1,6 +1,6 @@
--- Maps: Protocol Buffers encoding guide, "Maps". A map is a repeated message with a key 1 and a value 2;
--- an absent part is its default, and the last entry of a key wins. An entry with a fault of its own
--- neither replaces another nor is replaced.
+-- Maps: Protocol Buffers encoding guide, "Maps". A map is a repeated message with a key 1 and a
+-- value 2; an absent part is its default, and the last entry of a key wins. An entry with a fault
+-- of its own neither replaces another nor is replaced.
 use Rattle.std.specs.Prelude.{◌≡◌, ℕ, ℤ, ◌⊎◌, List, [], ◌∷◌, Some, None, map, reverse, Contains, IsSomeAnd, MatchOption, IsUtf8}
 use Rattle.std.specs.Borrow.{Bor}
 use Rattle.std.specs.Ordering.{nat_cmp, int_cmp}

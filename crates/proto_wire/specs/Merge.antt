@@ -1,5 +1,5 @@
--- A message that stands in several payloads: Protocol Buffers encoding guide, "Last One Wins" (embedded
--- message fields merge).
+-- A message that stands in several payloads: Protocol Buffers encoding guide, "Last One Wins"
+-- (embedded message fields merge).
 use Rattle.std.specs.Prelude.{◌≡◌, ℕ, ◌⊎◌, List, [], ◌∷◌, ◌++◌, map}
 use Rattle.std.specs.Borrow.{Bor}
 use Rattle.proto_wire.specs.Fields.{Wire, Fields, IsBroken, BreaksAtOnce}

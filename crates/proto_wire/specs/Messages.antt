@@ -1,5 +1,5 @@
--- A message whose fields must all be known: Protocol Buffers encoding guide, "Message Structure"; an
--- unknown field is a fault here.
+-- A message whose fields must all be known: Protocol Buffers encoding guide, "Message Structure";
+-- an unknown field is a fault here.
 use Rattle.std.specs.Prelude.{◌≡◌, ℕ, ◌⊎◌, List, [], ◌∷◌}
 use Rattle.proto_wire.specs.Fields.{Wire, Fields, IsBroken}
 use Rattle.proto_wire.specs.Keys.{AllKnown, SomeUnknown}
@@ -24,7 +24,8 @@ UnknownFault keys fs e = SomeUnknown keys fs × (e ≡ UnknownField)
 abbrev pub IsMessage : List Key → List (List ℕ) → List Wire → Type 0
 IsMessage keys parts fs = Merges parts fs × AllKnown keys fs
 
--- some payload that is whole fields by itself has a field that is not known, whatever the others are
+-- some payload that is whole fields by itself has a field that is not known, whatever the others
+-- are
 abbrev pub HasUnknown : List Key → List (List ℕ) → Type 0
 HasUnknown keys [] = ⊥
 HasUnknown keys (part ∷ parts) =

@@ -1,5 +1,5 @@
--- What writers write: Protocol Buffers encoding guide, "Base 128 Varints" and "Message Structure". Each
--- number stands in its shortest spelling.
+-- What writers write: Protocol Buffers encoding guide, "Base 128 Varints" and "Message Structure".
+-- Each number stands in its shortest spelling.
 use Rattle.std.specs.Prelude.{◌≡◌, ℕ, ◌+◌, ◌*◌, ◌<◌, ◌≤◌, List, [], ◌∷◌, ◌++◌, length}
 use Rattle.std.specs.List.{AllByRecursion}
 use Rattle.proto_wire.specs.Varint.{SpellsVarint}

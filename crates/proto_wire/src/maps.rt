@@ -1,4 +1,5 @@
-//! Maps, which stand in a message as repeated entries with a key 1 and a value 2 (Protocol Buffers encoding guide, "Maps").
+//! Maps, which stand in a message as repeated entries with a key 1 and a value 2 (Protocol Buffers encoding guide,
+//! "Maps").
 
 ghost use Rattle.std.specs.Prelude.{◌≡◌, [], ◌∷◌, List, Err, IfOk, IfErr, MatchResult, map};
 ghost use Rattle.std.specs.FinMap.{entries};
@@ -124,9 +125,9 @@ fn read_entry<'a, K: MapKey<'a>>(
     Ok(MapEntry { key, parts })
 }
 
-/// Reads the entries of a map, of which each has a payload, as the payloads of the values by key: of the entries with one
-/// key the last counts. `BadWire` where an entry breaks, `UnknownField` where it has another field, `BadText` where its key
-/// is no UTF-8.
+/// Reads the entries of a map, of which each has a payload, as the payloads of the values by key: of the entries with
+/// one key the last counts. `BadWire` where an entry breaks, `UnknownField` where it has another field, `BadText` where
+/// its key is no UTF-8.
 pub fn read_entries<'a, K: MapKey<'a>>(
     alloc: Global,
     payloads: &[&'a [u8]],

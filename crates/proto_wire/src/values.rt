@@ -83,8 +83,8 @@ pub fn text_of(bytes: &[u8]) -> Result<&str, Refusal>
     }
 }
 
-/// The string of this number: the last one, and empty where there is none; `BadText` where that is no UTF-8. It takes no
-/// memory.
+/// The string of this number: the last one, and empty where there is none; `BadText` where that is no UTF-8. It takes
+/// no memory.
 pub fn text_at<'a>(fields: &[Field<'a>], number: u32) -> Result<&'a str, Refusal>
     ensures found { let bytes = bytes_at number (map field_view fields.now) in
         IfOk result (λ text. (text.now ≡ bytes) × IsUtf8 bytes) }

@@ -14,8 +14,8 @@ const VARINT: u64 = 0;
 /// The number of LEN.
 const LEN: u64 = 2;
 
-/// Puts fields behind the bytes of a vector. Each call writes the whole field, or leaves the bytes as they were where memory
-/// runs out. Field numbers are 1 to 2^29 - 1.
+/// Puts fields behind the bytes of a vector. Each call writes the whole field, or leaves the bytes as they were where
+/// memory runs out. Field numbers are 1 to 2^29 - 1.
 #[derive(Debug, Drop)]
 pub struct Writer {
     bytes: Vec<u8>,

@@ -13,13 +13,16 @@ use Rattle.proto_wire.proofs.maps.read_entries.Goals as goal
 pub loop-payload-init : goal.loop-payload-init
 loop-payload-init g c =
     let kind = g.K.KeyOrder.kind in
-    ([], tt, ap (entries_view kind g.K.KeyOrder.key_view) c.new-named.ensures.empty ∙ sym (map_of_none kind))
+    let view = entries_view kind g.K.KeyOrder.key_view in
+    ([], tt, ap view c.new-named.ensures.empty ∙ sym (map_of_none kind))
 
 pub returns-in_err-entry-clause-at_once : goal.returns-in_err-entry-clause-at_once
 returns-in_err-entry-clause-at_once g c breaks =
     let so_far = c.loop-payload.invariant in
     let payloads = c.args.payloads.now in
-    let here = entry_breaks_at g.K.KeyOrder.kind c.loop-payload.payload-index payloads _ so_far.0 c.loop-payload-test.true so_far.1 breaks in
+    let here =
+    entry_breaks_at g.K.KeyOrder.kind c.loop-payload.payload-index payloads _ so_far.0
+    c.loop-payload-test.true so_far.1 breaks in
     exit_told c.from_residual.result _ _ c.from_residual.ensures.1
     (c.in_err-entry.ensures.at_once here)
 
@@ -27,7 +30,9 @@ pub returns-in_err-insert-clause-at_once : goal.returns-in_err-insert-clause-at_
 returns-in_err-insert-clause-at_once g c breaks =
     let so_far = c.loop-payload.invariant in
     let payloads = c.args.payloads.now in
-    let here = entry_breaks_at g.K.KeyOrder.kind c.loop-payload.payload-index payloads _ so_far.0 c.loop-payload-test.true so_far.1 breaks in
+    let here =
+    entry_breaks_at g.K.KeyOrder.kind c.loop-payload.payload-index payloads _ so_far.0
+    c.loop-payload-test.true so_far.1 breaks in
     absurd (entry_breaks_disjoint g.K.KeyOrder.kind _ _ c.in_ok-entry.ensures.found here)
 
 pub loop-payload-preserved : goal.loop-payload-preserved
@@ -40,7 +45,9 @@ loop-payload-preserved g c =
     let e : Entry kind = (key_view entry.key, parts_view entry.parts.items) in
     let old = c.loop-payload.named.entries in
     let more = take_more payloads c.loop-payload.payload-index _ c.loop-payload-test.true in
-    let inserted = entries_view_insert kind key_view g.K.Ord.cmp g.met.K.KeyOrder.in_order old entry.key entry.parts in
+    let inserted =
+    entries_view_insert kind key_view g.K.Ord.cmp g.met.K.KeyOrder.in_order old entry.key
+    entry.parts in
     let made : entries_view kind key_view c.insert.new.self.entries
     ≡ put (key_cmp kind) e.0 e.1 (entries_view kind key_view old) =
     ap (entries_view kind key_view) c.in_ok-insert.ensures.entries ∙ inserted in (
@@ -55,7 +62,8 @@ returns-clause-at_once g c breaks =
     let all : AreEntries g.K.KeyOrder.kind (parts_view c.args.payloads.now) so_far.0 =
     rw (take_all c.loop-payload.payload-index c.args.payloads.now c.loop-payload-test.false) at
     so_far.1 in
-    absurd (entries_first_disjoint g.K.KeyOrder.kind (parts_view c.args.payloads.now) so_far.0 all breaks)
+    let parts = parts_view c.args.payloads.now in
+    absurd (entries_first_disjoint g.K.KeyOrder.kind parts so_far.0 all breaks)
 
 pub returns-in_err-entry-clause-reads : goal.returns-in_err-entry-clause-reads
 returns-in_err-entry-clause-reads g c es are =
