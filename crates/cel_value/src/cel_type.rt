@@ -1,0 +1,47 @@
+//! Types of CEL.
+
+ghost use Rattle.std.specs.Prelude.{◌≡◌, IfOk};
+ghost use Rattle.cel_value.specs.Types.{type_view};
+
+use std::alloc::AllocError;
+use std::rc::Rc;
+
+/// The type of a map's keys (CEL language definition, "Map Values").
+#[derive(Clone, Copy, PartialEq, Eq, Debug)]
+pub enum KeyType {
+    Bool,
+    Int,
+    Uint,
+    Text,
+}
+
+/// A type (CEL language definition, "Type System"); its parts are shared.
+#[derive(Drop)]
+pub enum CelType {
+    Bool,
+    Int,
+    Uint,
+    Text,
+    Bytes,
+    /// A list of items of one type.
+    List(Rc<CelType>),
+    /// A map from keys of one type to values of one type.
+    Map(KeyType, Rc<CelType>),
+}
+
+impl CelType {
+    /// Another owner of the same type.
+    pub fn copy(&self) -> Result<CelType, AllocError>
+        ensures { IfOk result (λ copy. type_view copy ≡ type_view self.now) }
+    {
+        match self {
+            CelType::Bool => Ok(CelType::Bool),
+            CelType::Int => Ok(CelType::Int),
+            CelType::Uint => Ok(CelType::Uint),
+            CelType::Text => Ok(CelType::Text),
+            CelType::Bytes => Ok(CelType::Bytes),
+            CelType::List(items) => Ok(CelType::List(items.clone()?)),
+            CelType::Map(keys, values) => Ok(CelType::Map(*keys, values.clone()?)),
+        }
+    }
+}
