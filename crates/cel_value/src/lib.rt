@@ -2,9 +2,16 @@
 #![tactic(auto)]
 
 mod cel_type;
+mod equality;
 mod error;
+pub mod laws;
+mod mass;
+mod order;
 mod value;
 
 pub use cel_type::{CelType, KeyType};
+pub use equality::{same_keys, same_maps, same_values};
 pub use error::CelError;
+pub use mass::{spend, spend_key};
+pub use order::compare_keys;
 pub use value::{Answer, Key, Map, Value, copy_answer};
