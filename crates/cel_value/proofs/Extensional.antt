@@ -13,7 +13,7 @@ use Rattle.cel_value.proofs.Places.{key_eq-cmp, key_cmp-trans, key_cmp-antisymm,
 less-apart : (k j : CelKey) → key_cmp k j ≡ Less → key_eq j k ≡ false
 less-apart k j h = key_eq-cmp j k ∙ ap is_eq (key_cmp-antisymm j k ∙ ap ordering_reverse h)
 
-get-above : (k : CelKey) (es : CelEntries) → AllAbove k es → get es k ≡ None
+pub get-above : (k : CelKey) (es : CelEntries) → AllAbove k es → get es k ≡ None
 get-above k no_entries a = refl
 get-above k (entry j v es) a = rw (less-apart k j a.0) (get-above k es a.1)
 

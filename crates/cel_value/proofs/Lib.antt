@@ -4,3 +4,6 @@ pub mod TextOrder
 pub mod Spending
 pub mod Places
 pub mod Extensional
+pub mod Searching
+pub mod MapSearching
+pub mod Walking
