@@ -9,6 +9,7 @@ ghost use Rattle.std.specs.declared.cmp.Ordering.TheVariants.{Equal};
 ghost use Rattle.cel_value.specs.Equality.{key_eq, value_eq};
 ghost use Rattle.cel_value.specs.Keys.{IsAscending, get, is_ascending, key_cmp, put};
 ghost use Rattle.cel_value.specs.Texts.{AreScalars, points_of, utf8_of};
+ghost use Rattle.cel_value.specs.Types.{ValueType, type_eq};
 ghost use Rattle.cel_value.specs.Values.{CelEntries, CelKey, CelValue};
 
 /// A text is its UTF-8 bytes: each gives back the other.
@@ -27,6 +28,7 @@ pub fn texts_stand_as_their_bytes()
 pub fn equality_is_exact()
     ensures values { (v w : CelValue) → IsTrue (value_eq v w) ↔ (v ≡ w) }
     ensures keys { (j k : CelKey) → IsTrue (key_eq j k) ↔ (j ≡ k) }
+    ensures types { (s t : ValueType) → IsTrue (type_eq s t) ↔ (s ≡ t) }
 {}
 
 /// Keys stand in one total order, and only equal keys stand level.

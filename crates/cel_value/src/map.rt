@@ -19,8 +19,8 @@ impl Map {
         ensures { result ≡ entry_count (map_view self.now) }
     {
         match self {
-            Map::Entries(entries) => entries.len(),
-            Map::Texts(pairs) => pairs.len(),
+            Map::Entries(entries) => entry_count(entries),
+            Map::Texts(pairs) => pair_count(pairs),
         }
     }
 
@@ -63,6 +63,18 @@ impl Map {
             Map::Texts(pairs) => pair_key(pairs, index),
         }
     }
+}
+
+fn entry_count(entries: &[(Key, Value)]) -> usize
+    ensures { result ≡ entry_count (entries_view entries.now) }
+{
+    entries.len()
+}
+
+fn pair_count(pairs: &[(RcStr, RcStr)]) -> usize
+    ensures { result ≡ entry_count (pairs_view pairs.now) }
+{
+    pairs.len()
 }
 
 fn find_entry<'a>(entries: &'a [(Key, Value)], key: LentKey<'_>) -> Option<&'a Value>
