@@ -4,3 +4,4 @@ pub mod Elements
 pub mod Products
 pub mod MadeMaps
 pub mod Operands
+pub mod Typing

@@ -37,18 +37,18 @@ insert_all made (entry k v es) =
     cond (is_some (get made k)) (fails RepeatedKey) (insert_all (put k v made) es)
 
 -- none of the keys is there already
-abbrev are_new : CelEntries → CelEntries → Bool
+abbrev pub are_new : CelEntries → CelEntries → Bool
 are_new made no_entries = true
 are_new made (entry k v es) = not (is_some (get made k)) && are_new made es
 
-is_none-get : (made : CelEntries) (k : CelKey) → is_some (get made k) ≡ false → get made k ≡ None
+pub is_none-get : (made : CelEntries) (k : CelKey) → is_some (get made k) ≡ false → get made k ≡ None
 is_none-get made k h = at (get made k) h
   where
     at : (o : Option CelValue) → is_some o ≡ false → o ≡ None
     at None h = refl
     at (Some v) h = absurd cc
 
-are_new-put : (k : CelKey) (v : CelValue) (made es : CelEntries) → get made k ≡ None
+pub are_new-put : (k : CelKey) (v : CelValue) (made es : CelEntries) → get made k ≡ None
     → are_new (put k v made) es ≡ (not (is_some (get es k)) && are_new made es)
 are_new-put k v made no_entries h = refl
 are_new-put k v made (entry j w es) h =
@@ -90,7 +90,7 @@ insert_all-puts made (entry k v es) = at (get made k) refl (insert_all-puts (put
         (fold (are_distinct es) (not (is_some (get es k))) (are_new made es) _ _)
     at (Some w) e more = rw e (no_more (not (is_some (get es k)) && are_distinct es) _ _)
 
-all_new : (es : CelEntries) → are_new no_entries es ≡ true
+pub all_new : (es : CelEntries) → are_new no_entries es ≡ true
 all_new no_entries = refl
 all_new (entry k v es) = all_new es
 

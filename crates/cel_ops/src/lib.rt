@@ -5,6 +5,7 @@ mod arithmetic;
 mod charges;
 mod collections;
 mod comparison;
+pub mod laws;
 mod literals;
 mod logic;
 mod texts;
