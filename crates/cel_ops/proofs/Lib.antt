@@ -5,3 +5,4 @@ pub mod Products
 pub mod MadeMaps
 pub mod Operands
 pub mod Typing
+pub mod StandardFacts
