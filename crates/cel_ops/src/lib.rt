@@ -9,6 +9,8 @@ pub mod laws;
 mod literals;
 mod logic;
 mod texts;
+#[cfg(test)]
+mod tests;
 
 pub use arithmetic::{ArithmeticOp, calculate, negate};
 pub use charges::{
