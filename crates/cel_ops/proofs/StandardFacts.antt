@@ -24,36 +24,43 @@ minus_seven_by_two = refl
 seven_by_minus_two : int_arithmetic ArithmeticOp.Divide (pos 7) (negsuc 1) ≡ value (int (negsuc 2))
 seven_by_minus_two = refl
 
-minus_seven_by_minus_two : int_arithmetic ArithmeticOp.Divide (negsuc 6) (negsuc 1) ≡ value (int (pos 3))
+minus_seven_by_minus_two : int_arithmetic ArithmeticOp.Divide (negsuc 6) (negsuc 1)
+    ≡ value (int (pos 3))
 minus_seven_by_minus_two = refl
 
 rest_of_seven : int_arithmetic ArithmeticOp.Remainder (pos 7) (pos 2) ≡ value (int (pos 1))
 rest_of_seven = refl
 
-rest_of_minus_seven : int_arithmetic ArithmeticOp.Remainder (negsuc 6) (pos 2) ≡ value (int (negsuc 0))
+rest_of_minus_seven : int_arithmetic ArithmeticOp.Remainder (negsuc 6) (pos 2)
+    ≡ value (int (negsuc 0))
 rest_of_minus_seven = refl
 
 rest_by_minus_two : int_arithmetic ArithmeticOp.Remainder (pos 7) (negsuc 1) ≡ value (int (pos 1))
 rest_by_minus_two = refl
 
-rest_of_both_minus : int_arithmetic ArithmeticOp.Remainder (negsuc 6) (negsuc 1) ≡ value (int (negsuc 0))
+rest_of_both_minus : int_arithmetic ArithmeticOp.Remainder (negsuc 6) (negsuc 1)
+    ≡ value (int (negsuc 0))
 rest_of_both_minus = refl
 
 -- borders of 64 bits
 
-greatest_and_one : int_arithmetic ArithmeticOp.Add (pos 9223372036854775807) (pos 1) ≡ fails Overflow
+greatest_and_one : int_arithmetic ArithmeticOp.Add (pos 9223372036854775807) (pos 1)
+    ≡ fails Overflow
 greatest_and_one = refl
 
-least_by_minus_one : int_arithmetic ArithmeticOp.Divide (negsuc 9223372036854775807) (negsuc 0) ≡ fails Overflow
+least_by_minus_one : int_arithmetic ArithmeticOp.Divide (negsuc 9223372036854775807) (negsuc 0)
+    ≡ fails Overflow
 least_by_minus_one = refl
 
-rest_of_least_by_minus_one : int_arithmetic ArithmeticOp.Remainder (negsuc 9223372036854775807) (negsuc 0) ≡ fails Overflow
+rest_of_least_by_minus_one : int_arithmetic ArithmeticOp.Remainder (negsuc 9223372036854775807)
+    (negsuc 0) ≡ fails Overflow
 rest_of_least_by_minus_one = refl
 
 opposite_of_least : opposite (value (int (negsuc 9223372036854775807))) ≡ Some (fails Overflow)
 opposite_of_least = refl
 
-least_by_zero : int_arithmetic ArithmeticOp.Divide (negsuc 9223372036854775807) (pos 0) ≡ fails ZeroDivisor
+least_by_zero : int_arithmetic ArithmeticOp.Divide (negsuc 9223372036854775807) (pos 0)
+    ≡ fails ZeroDivisor
 least_by_zero = refl
 
 below_zero : uint_arithmetic ArithmeticOp.Subtract 0 1 ≡ fails Overflow
@@ -67,7 +74,8 @@ greatest_uint_and_one = refl
 leftmost_error : arithmetic ArithmeticOp.Add (fails NoKey) (fails Index) ≡ Some (fails NoKey)
 leftmost_error = refl
 
-error_on_the_right : comparison CompareOp.Equal (value (bool true)) (fails Index) ≡ Some (fails Index)
+error_on_the_right : comparison CompareOp.Equal (value (bool true)) (fails Index)
+    ≡ Some (fails Index)
 error_on_the_right = refl
 
 -- false absorbs errors in `&&`, true in `||`, on either side
@@ -132,35 +140,43 @@ abbrev three_one : List CelAnswer
 three_one = value (int (pos 3)) ∷ value (bool true) ∷ value (int (pos 1)) ∷ value (bool false) ∷ []
 
 in_ascending_order : map_literal three_one
-    ≡ Some (value (map_of (entry (int_key (pos 1)) (bool false) (entry (int_key (pos 3)) (bool true) no_entries))))
+    ≡ Some (value (map_of (entry (int_key (pos 1)) (bool false) (entry (int_key (pos 3))
+        (bool true) no_entries))))
 in_ascending_order = refl
 
-repeated : map_literal (value (int (pos 1)) ∷ value (bool true) ∷ value (int (pos 1)) ∷ value (bool true) ∷ [])
+repeated : map_literal (value (int (pos 1)) ∷ value (bool true) ∷ value (int (pos 1)) ∷ value
+    (bool true) ∷ [])
     ≡ Some (fails RepeatedKey)
 repeated = refl
 
-error_before_repeated : map_literal (value (int (pos 1)) ∷ value (bool true) ∷ value (int (pos 1)) ∷ fails NoKey ∷ [])
+error_before_repeated : map_literal (value (int (pos 1)) ∷ value (bool true) ∷ value (int
+    (pos 1)) ∷ fails NoKey ∷ [])
     ≡ Some (fails NoKey)
 error_before_repeated = refl
 
 map_literal_costs : map_literal_charge three_one ≡ 5
 map_literal_costs = refl
 
-error_in_a_list : list_literal (value (bool true) ∷ fails Index ∷ fails NoKey ∷ []) ≡ Some (fails Index)
+error_in_a_list : list_literal (value (bool true) ∷ fails Index ∷ fails NoKey ∷ [])
+    ≡ Some (fails Index)
 error_in_a_list = refl
 
 -- the empty text is in, begins and ends every text
 
-empty_is_in : text_test TextTest.Contains (value (text [])) (value (text [])) ≡ Some (value (bool true))
+empty_is_in : text_test TextTest.Contains (value (text [])) (value (text []))
+    ≡ Some (value (bool true))
 empty_is_in = refl
 
-empty_ends : text_test TextTest.EndsWith (value (text (codes "ab"))) (value (text [])) ≡ Some (value (bool true))
+empty_ends : text_test TextTest.EndsWith (value (text (codes "ab"))) (value (text []))
+    ≡ Some (value (bool true))
 empty_ends = refl
 
-middle_is_in : text_test TextTest.Contains (value (text (codes "banana"))) (value (text (codes "nan"))) ≡ Some (value (bool true))
+middle_is_in : text_test TextTest.Contains (value (text (codes "banana"))) (value (text
+    (codes "nan"))) ≡ Some (value (bool true))
 middle_is_in = refl
 
-text_and_text : joined (value (text (codes "ab"))) (value (text (codes "c"))) ≡ Some (value (text (codes "abc")))
+text_and_text : joined (value (text (codes "ab"))) (value (text (codes "c")))
+    ≡ Some (value (text (codes "abc")))
 text_and_text = refl
 
 -- other kinds have no answer

@@ -79,7 +79,8 @@ item-typed P no_items i v h e = absurd (none-some v e)
 item-typed P (item w vs) zero v h e = let same : w ≡ v = cc in subst P same h.0
 item-typed P (item w vs) (suc i) v h e = item-typed P vs i v h.1 e
 
-get-typed : (K : CelKey → Type 0) (P : CelValue → Type 0) (es : CelEntries) (q : CelKey) (v : CelValue)
+get-typed : (K : CelKey → Type 0) (P : CelValue
+    → Type 0) (es : CelEntries) (q : CelKey) (v : CelValue)
     → EachEntry K P es → get es q ≡ Some v → P v
 get-typed K P no_entries q v h e = absurd (none-some v e)
 get-typed K P (entry k w es) q v h e = at (get-typed K P es q v h.2) (key_eq k q) e
@@ -110,7 +111,8 @@ typed-key keys.Uint (uint n) h = (uint_key n, refl)
 typed-key keys.Text (text cs) h = (text_key cs, refl)
 typed-key _ _ h = absurd h
 
-at_key-typed : (f : CelEntries → CelKey → CelAnswer) (es : CelEntries) (o : Option CelKey) (q : CelKey)
+at_key-typed : (f : CelEntries → CelKey → CelAnswer) (es : CelEntries) (o : Option CelKey)
+    (q : CelKey)
     (t : ValueType) → o ≡ Some q → IsAscending es → AnswerHasType (f es q) t
     → Answers (at_key f es o) t
 at_key-typed f es o q t is up h = rw (is, (is_ascending-Decides es).1 up) h
@@ -127,7 +129,8 @@ entry-typed k t (map_of es) w g h =
     at_key-typed value_at es (key_of_value w) key.0 t key.1 g.1 (value-typed k t es key.0 g)
 entry-typed k t _ w g h = absurd g
 
-pub field-typed : (k : KeyType) (t : ValueType) (name : List ℕ) (v : CelValue) → HasType v (map_type k t)
+pub field-typed : (k : KeyType) (t : ValueType) (name : List ℕ) (v : CelValue)
+    → HasType v (map_type k t)
     → Answers (field_of name v) t
 field-typed k t name (map_of es) g =
     at_key-typed value_at es (Some (text_key name)) (text_key name) t refl g.1
@@ -196,7 +199,8 @@ puts-get made (entry k v es) q d n =
     ∙ at (key_eq k q) refl nowhere
   where
     at : (b : Bool) → key_eq k q ≡ b → get es k ≡ None
-        → or_else (get es q) (cond b (Some v) (get made q)) ≡ or_else (cond b (Some v) (get es q)) (get made q)
+        → or_else (get es q) (cond b (Some v) (get made q))
+            ≡ or_else (cond b (Some v) (get es q)) (get made q)
     at true same nowhere =
         let here : get es q ≡ None = ap (get es) (sym ((key_eq-Decides k q).0 same)) ∙ nowhere in
         rw here refl
@@ -206,7 +210,8 @@ or_else-none : (o : Option CelValue) → or_else o None ≡ o
 or_else-none None = refl
 or_else-none (Some v) = refl
 
-pub literal-ascending : (es : CelEntries) → are_distinct es ≡ true → IsAscending (all_put no_entries es)
+pub literal-ascending : (es : CelEntries) → are_distinct es ≡ true
+    → IsAscending (all_put no_entries es)
 literal-ascending es d = puts-ascending no_entries es tt d (all_new es)
 
 pub literal-get : (es : CelEntries) (q : CelKey) → are_distinct es ≡ true
@@ -257,10 +262,12 @@ module _ (K : CelKey → Type 0) (P : CelValue → Type 0) where
 
   -- the entries that are written, each as said; or an error
   abbrev GatheredPairs : Gathered → Type 0
-  GatheredPairs (all_values vs) = (es : CelEntries) × (written_entries vs ≡ Some es) × EachEntry K P es
+  GatheredPairs (all_values vs) = (es : CelEntries) × (written_entries vs
+      ≡ Some es) × EachEntry K P es
   GatheredPairs (first_error e) = Unit {0}
 
-  pair-before : (key : CelKey) (k v : CelValue) (g : Gathered) → key_of_value k ≡ Some key → K key → P v
+  pair-before : (key : CelKey) (k v : CelValue) (g : Gathered) → key_of_value k ≡ Some key
+      → K key → P v
       → GatheredPairs g → GatheredPairs (gathered_after k (gathered_after v g))
   pair-before key k v (all_values vs) is g h more =
       (entry key v more.0, rw (is, more.1) refl, (g, h, more.2))
@@ -271,7 +278,8 @@ made-typed : (k : KeyType) (t : ValueType) (es : CelEntries)
 made-typed k t es each = at (are_distinct es) (literal-ascending es)
   where
     at : (b : Bool) → (b ≡ true → IsAscending (all_put no_entries es))
-        → AnswerHasType (cond b (value (map_of (all_put no_entries es))) (fails RepeatedKey)) (map_type k t)
+        → AnswerHasType (cond b (value (map_of (all_put no_entries es))) (fails RepeatedKey))
+            (map_type k t)
     at true up = (puts-each (λ j. KeyHasType j k) (Holds t) no_entries es tt each, up refl)
     at false up = tt
 
@@ -284,7 +292,8 @@ key-of keys.Uint (uint n) h = (uint_key n, refl, h)
 key-of keys.Text (text cs) h = (text_key cs, refl, h)
 key-of _ _ h = absurd h
 
-pairs-gathered : (k : KeyType) (t : ValueType) (answers : List CelAnswer) → PairsHaveType answers k t
+pairs-gathered : (k : KeyType) (t : ValueType) (answers : List CelAnswer)
+    → PairsHaveType answers k t
     → GatheredPairs (λ j. KeyHasType j k) (Holds t) (gather answers)
 pairs-gathered k t [] h = (no_entries, refl, tt)
 pairs-gathered k t (a ∷ []) h = absurd h

@@ -8,9 +8,9 @@ mod comparison;
 pub mod laws;
 mod literals;
 mod logic;
-mod texts;
 #[cfg(test)]
 mod tests;
+mod texts;
 
 pub use arithmetic::{ArithmeticOp, calculate, negate};
 pub use charges::{

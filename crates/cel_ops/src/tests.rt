@@ -84,24 +84,14 @@ const INTS: [(i64, i64, [Result<i64, CelError>; 5]); 12] = [
     (
         3037000500,
         3037000500,
-        [
-            Ok(6074001000),
-            Ok(0),
-            Err(CelError::Overflow),
-            Ok(1),
-            Ok(0),
-        ],
+        [Ok(6074001000), Ok(0), Err(CelError::Overflow), Ok(1), Ok(0)],
     ),
 ];
 
 // Two uints, and the same.
 const UINTS: [(u64, u64, [Result<u64, CelError>; 5]); 4] = [
     (7, 2, [Ok(9), Ok(5), Ok(14), Ok(3), Ok(1)]),
-    (
-        2,
-        7,
-        [Ok(9), Err(CelError::Overflow), Ok(14), Ok(0), Ok(2)],
-    ),
+    (2, 7, [Ok(9), Err(CelError::Overflow), Ok(14), Ok(0), Ok(2)]),
     (
         u64::MAX,
         2,
@@ -258,7 +248,10 @@ fn comparisons_of_texts(rt: HostRuntime) -> Result<(), Fail> {
         let b: Answer = Ok(Value::Text(RcStr::from_str(alloc, right)?));
         for index in 0..6 {
             let answer = compare(COMPARISONS[index], &a, &b);
-            assert!(rt; answer == Ok(Value::Bool(wants[index])), "{left} {right} {index}");
+            assert!(rt;
+                answer == Ok(Value::Bool(wants[index])),
+                "{left} {right} {index}"
+            );
         }
     }
     Ok(())
@@ -270,18 +263,36 @@ fn comparisons_of_others(rt: HostRuntime) -> Result<(), Fail> {
     for index in 0..6 {
         let op = COMPARISONS[index];
         let below: Answer = Ok(Value::Bool(BELOW[index]));
-        assert!(rt; compare(op, &Ok(Value::Bool(false)), &Ok(Value::Bool(true))) == below, "{index}");
-        assert!(rt; compare(op, &Ok(Value::Int(-2)), &Ok(Value::Int(-1))) == below, "{index}");
-        assert!(rt; compare(op, &Ok(Value::Int(LEAST)), &Ok(Value::Int(GREATEST))) == below, "{index}");
+        assert!(rt;
+            compare(op, &Ok(Value::Bool(false)), &Ok(Value::Bool(true))) == below,
+            "{index}"
+        );
+        assert!(rt;
+            compare(op, &Ok(Value::Int(-2)), &Ok(Value::Int(-1))) == below,
+            "{index}"
+        );
+        assert!(rt;
+            compare(op, &Ok(Value::Int(LEAST)), &Ok(Value::Int(GREATEST))) == below,
+            "{index}"
+        );
         let great = Ok(Value::Uint(u64::MAX));
-        assert!(rt; compare(op, &Ok(Value::Uint(GREATEST as u64)), &great) == below, "{index}");
+        assert!(rt;
+            compare(op, &Ok(Value::Uint(GREATEST as u64)), &great) == below,
+            "{index}"
+        );
         let short = Ok(Value::Bytes(RcSlice::from_slice(alloc, &[1u8, 255])?));
         let long = Ok(Value::Bytes(RcSlice::from_slice(alloc, &[2u8])?));
         assert!(rt; compare(op, &short, &long) == below, "{index}");
         let wrong: Answer = Err(CelError::Index);
         let error: Answer = Err(CelError::NoKey);
-        assert!(rt; compare(op, &wrong, &error) == Err(CelError::Index), "{index}");
-        assert!(rt; compare(op, &great, &error) == Err(CelError::NoKey), "{index}");
+        assert!(rt;
+            compare(op, &wrong, &error) == Err(CelError::Index),
+            "{index}"
+        );
+        assert!(rt;
+            compare(op, &great, &error) == Err(CelError::NoKey),
+            "{index}"
+        );
     }
     Ok(())
 }
@@ -295,7 +306,10 @@ fn parts_of_texts(rt: HostRuntime) -> Result<(), Fail> {
         let b: Answer = Ok(Value::Text(RcStr::from_str(alloc, part)?));
         for index in 0..3 {
             let answer = test_text(tests[index], &a, &b);
-            assert!(rt; answer == Ok(Value::Bool(wants[index])), "{text} {part} {index}");
+            assert!(rt;
+                answer == Ok(Value::Bool(wants[index])),
+                "{text} {part} {index}"
+            );
         }
     }
     Ok(())
@@ -322,7 +336,11 @@ fn lists(rt: HostRuntime) -> Result<(), Fail> {
     assert!(rt; spend_list_literal(&operands, 4) == Some(0));
     assert!(rt; spend_list_literal(&operands, 3) == None);
     assert!(rt; make_list(alloc, operands)? == list);
-    let wrong = vec![in alloc; Ok(Value::Int(1)), Err(CelError::Index), Err(CelError::NoKey)]?;
+    let wrong = vec![in alloc;
+        Ok(Value::Int(1)),
+        Err(CelError::Index),
+        Err(CelError::NoKey),
+    ]?;
     assert!(rt; spend_list_literal(&wrong, 1) == Some(0));
     assert!(rt; make_list(alloc, wrong)? == Err(CelError::Index));
     assert!(rt; index_list(&list, &Ok(Value::Int(0)))? == Ok(Value::Int(10)));
@@ -373,7 +391,10 @@ fn maps(rt: HostRuntime) -> Result<(), Fail> {
     operands.push(Ok(Value::Bool(false)))?;
     assert!(rt; spend_map_literal(&operands, 5) == Some(0));
     assert!(rt; spend_map_literal(&operands, 4) == None);
-    let entries = vec![in alloc; (Key::Int(-1), Value::Bool(false)), (Key::Int(3), Value::Bool(true))]?;
+    let entries = vec![in alloc;
+        (Key::Int(-1), Value::Bool(false)),
+        (Key::Int(3), Value::Bool(true)),
+    ]?;
     let map = Map::Entries(Rc::new(alloc, entries)?);
     assert!(rt; map.rises());
     let operand: Answer = Ok(Value::Map(map));
@@ -388,7 +409,12 @@ fn maps(rt: HostRuntime) -> Result<(), Fail> {
     assert!(rt; spend_in_map(&Ok(Value::Int(3)), &operand, 3) == Some(0));
     assert!(rt; spend_in_map(&Ok(Value::Int(3)), &operand, 2) == None);
     assert!(rt; make_map(alloc, operands)? == operand);
-    let twice = vec![in alloc; Ok(Value::Int(3)), Ok(Value::Bool(true)), Ok(Value::Int(3)), Ok(Value::Bool(true))]?;
+    let twice = vec![in alloc;
+        Ok(Value::Int(3)),
+        Ok(Value::Bool(true)),
+        Ok(Value::Int(3)),
+        Ok(Value::Bool(true)),
+    ]?;
     assert!(rt; make_map(alloc, twice)? == Err(CelError::RepeatedKey));
     Ok(())
 }
@@ -400,7 +426,10 @@ fn fields_of_sorted_texts(rt: HostRuntime) -> Result<(), Fail> {
     let accept = RcStr::from_str(alloc, "accept")?;
     let other = RcStr::from_str(alloc, "other")?;
     let host = RcStr::from_str(alloc, "h")?;
-    let pairs = vec![in alloc; (authority.clone()?, host.clone()?), (accept.clone()?, authority.clone()?)]?;
+    let pairs = vec![in alloc;
+        (authority.clone()?, host.clone()?),
+        (accept.clone()?, authority.clone()?),
+    ]?;
     let map = Map::Texts(Rc::new(alloc, pairs)?);
     assert!(rt; map.rises());
     let headers: Answer = Ok(Value::Map(map));
@@ -411,7 +440,9 @@ fn fields_of_sorted_texts(rt: HostRuntime) -> Result<(), Fail> {
     // 1, and two entries by 1 + 5
     assert!(rt; spend_field(&other, &headers, 13) == Some(0));
     assert!(rt; spend_field(&other, &headers, 12) == None);
-    assert!(rt; select_field(&other, &Err(CelError::MissingAttribute))? == Err(CelError::MissingAttribute));
+    assert!(rt;
+        select_field(&other, &Err(CelError::MissingAttribute))? == Err(CelError::MissingAttribute)
+    );
     Ok(())
 }
 

@@ -13,7 +13,8 @@ use Rattle.cel_value.specs.Masses.{length_of, mass}
 use Rattle.cel_value.specs.Texts.{utf8_of}
 
 -- RFC 3629, section 7: A, not identical to, Alpha, full stop; and a Chinese character of four bytes
-utf8_of_1_to_3_bytes : utf8_of (65 ∷ 8802 ∷ 913 ∷ 46 ∷ []) ≡ 65 ∷ 226 ∷ 137 ∷ 162 ∷ 206 ∷ 145 ∷ 46 ∷ []
+utf8_of_1_to_3_bytes : utf8_of (65 ∷ 8802 ∷ 913 ∷ 46 ∷ [])
+    ≡ 65 ∷ 226 ∷ 137 ∷ 162 ∷ 206 ∷ 145 ∷ 46 ∷ []
 unfolding encode_utf8
 utf8_of_1_to_3_bytes = refl
 
@@ -75,18 +76,22 @@ two_has_no_other = refl
 
 -- equal maps are equal whatever order they were written in
 order_does_not_count : value_eq (map_of two)
-    (map_of (put (int_key (pos 3)) (bool true) (put (int_key (pos 1)) (bool false) no_entries))) ≡ true
+    (map_of (put (int_key (pos 3)) (bool true) (put (int_key (pos 1)) (bool false) no_entries)))
+        ≡ true
 order_does_not_count = refl
 
 -- entries whose keys fall, or stand twice, are no map
-falling_is_no_map : is_ascending (entry (int_key (pos 3)) (bool true) (entry (int_key (pos 1)) (bool true) no_entries)) ≡ false
+falling_is_no_map : is_ascending (entry (int_key (pos 3)) (bool true) (entry (int_key (pos 1))
+    (bool true) no_entries)) ≡ false
 falling_is_no_map = refl
 
-twice_is_no_map : is_ascending (entry (int_key (pos 1)) (bool true) (entry (int_key (pos 1)) (bool true) no_entries)) ≡ false
+twice_is_no_map : is_ascending (entry (int_key (pos 1)) (bool true) (entry (int_key (pos 1))
+    (bool true) no_entries)) ≡ false
 twice_is_no_map = refl
 
 -- ["a€", b"ab", 7] has three items; its mass is 1, and 1 + 4, 1 + 2 and 1 for them
-masses_add_up : mass (list (item (text (97 ∷ 8364 ∷ [])) (item (bytes (codes "ab")) (item (int (pos 7)) no_items)))) ≡ 10
+masses_add_up : mass (list (item (text (97 ∷ 8364 ∷ [])) (item (bytes (codes "ab")) (item (int
+    (pos 7)) no_items)))) ≡ 10
 unfolding encode_utf8
 masses_add_up = refl
 

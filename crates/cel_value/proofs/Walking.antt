@@ -30,8 +30,10 @@ entry-key-past [] i past = refl
 entry-key-past (e ∷ es) zero past = absurd (omega arith)
 entry-key-past (e ∷ es) (suc i) past = entry-key-past es i (omega arith)
 
-pub pair-key-at : (ps : List (RcStr Global × RcStr Global)) (i : ℕ) (d : RcStr Global × RcStr Global)
-    → i < length ps → item_at (keys_of (pairs_view ps)) i ≡ Some (text (text_view (get_or ps i d).0))
+pub pair-key-at : (ps : List (RcStr Global × RcStr Global)) (i : ℕ)
+    (d : RcStr Global × RcStr Global)
+    → i < length ps → item_at (keys_of (pairs_view ps)) i
+        ≡ Some (text (text_view (get_or ps i d).0))
 pair-key-at [] i d below = absurd (omega arith)
 pair-key-at (p ∷ ps) zero d below = refl
 pair-key-at (p ∷ ps) (suc i) d below = pair-key-at ps i d (omega arith)
@@ -57,7 +59,8 @@ pub pair-rises : (ps : List (RcStr Global × RcStr Global)) (i : ℕ) → length
     → true ≡ is_ascending (pairs_view (drop i ps))
 pair-rises ps i over = at (drop i ps) (omega (arith, length-drop i ps))
   where
-    at : (xs : List (RcStr Global × RcStr Global)) → length xs ≤ 1 → true ≡ is_ascending (pairs_view xs)
+    at : (xs : List (RcStr Global × RcStr Global)) → length xs ≤ 1 → true
+        ≡ is_ascending (pairs_view xs)
     at [] h = refl
     at (x ∷ []) h = refl
     at (x ∷ y ∷ xs) h = absurd (omega arith)
@@ -74,6 +77,7 @@ names-rise (p ∷ q ∷ ps) h =
     (IsUtf8-string_bytes q.0.text.value)) ∙ h.0 in
     rw by_points (names-rise (q ∷ ps) h.1)
 
-pub pairs-ascend : (ps : List (RcStr Global × RcStr Global)) → AreRising (map (λ p. rc_str_bytes p.0) ps)
+pub pairs-ascend : (ps : List (RcStr Global × RcStr Global))
+    → AreRising (map (λ p. rc_str_bytes p.0) ps)
     → IsAscending (pairs_view ps)
 pairs-ascend ps h = (is_ascending-Decides (pairs_view ps)).0 (names-rise ps h)

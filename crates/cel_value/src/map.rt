@@ -163,14 +163,18 @@ fn pair_key(pairs: &[(RcStr, RcStr)], index: usize) -> Result<Option<Value>, All
 }
 
 /// Puts an entry at its place if its key is new; answers whether it is.
-pub fn insert_entry(entries: &mut Vec<(Key, Value)>, key: Key, value: Value) -> Result<bool, AllocError>
+pub fn insert_entry(
+    entries: &mut Vec<(Key, Value)>,
+    key: Key,
+    value: Value,
+) -> Result<bool, AllocError>
     requires { IsAscending (entries_view entries.old.items) }
     ensures { IfOk result (λ fresh. MatchBool fresh
         ((get (entries_view entries.old.items) (key_view key) ≡ None)
-            × (entries_view entries.new.items
-                ≡ put (key_view key) (value_view value) (entries_view entries.old.items)))
+        × (entries_view entries.new.items
+        ≡ put (key_view key) (value_view value) (entries_view entries.old.items)))
         ((get (entries_view entries.old.items) (key_view key) ≢ None)
-            × (entries_view entries.new.items ≡ entries_view entries.old.items))) }
+        × (entries_view entries.new.items ≡ entries_view entries.old.items))) }
 {
     match entries.binary_search_by(|entry| compare_keys(entry.0.lend(), key.lend())) {
         Ok(_) => Ok(false),
