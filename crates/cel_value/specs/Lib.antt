@@ -1,0 +1,10 @@
+pub mod Values
+pub mod Texts
+pub mod View
+pub mod Keys
+pub mod Items
+pub mod Equality
+pub mod Types
+pub mod Masses
+pub mod Names
+pub mod EqualityLaws
