@@ -1,15 +1,14 @@
 //! The stack machine that runs conditions. What stands here today is how a run ends without an answer.
 #![tactic(auto)]
 
-use thiserror::Error;
+mod code;
+mod error;
+mod instr;
+mod locals;
+mod stack;
 
-/// Why a run ends without an answer.
-#[derive(Clone, Copy, PartialEq, Eq, Debug, Error)]
-pub enum RunError {
-    /// Memory ran out.
-    #[error("memory ran out")]
-    Memory,
-    /// The next step costs more than the fuel that is left.
-    #[error("the fuel is spent")]
-    OutOfSteps,
-}
+pub use code::{Code, CodeFault};
+pub use error::RunError;
+pub use instr::{Arithmetic, Comparison, Constant, Instr};
+pub use locals::Locals;
+pub use stack::Stack;
