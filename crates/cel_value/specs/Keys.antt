@@ -5,7 +5,7 @@ use Rattle.std.specs.declared.cmp.Ordering.{Ordering}
 use Rattle.std.specs.declared.cmp.Ordering.TheVariants.{Less, Equal, Greater}
 use Rattle.std.specs.Ordering.{nat_cmp, int_cmp, bool_cmp, is_lt}
 use Rattle.std.specs.Cmp.Lexicographic.{slice_cmp}
-use Rattle.cel_value.specs.Values.{CelKey, bool_key, int_key, uint_key, text_key, CelValue, CelEntries, no_entries, entry}
+use Rattle.cel_value.specs.Values.{CelKey, bool_key, int_key, uint_key, text_key, CelValue, bool, int, uint, text, CelEntries, no_entries, entry}
 use Rattle.cel_value.specs.Equality.{key_eq}
 
 -- the order of keys: bools, ints, uints, texts; false before true, texts by code point
@@ -26,6 +26,14 @@ key_cmp (text_key a) (bool_key b) = Greater
 key_cmp (text_key a) (int_key b) = Greater
 key_cmp (text_key a) (uint_key b) = Greater
 key_cmp (text_key a) (text_key b) = slice_cmp nat_cmp a b
+
+-- a value as a key, none where it is bytes, a list or a map
+abbrev pub key_of_value : CelValue → Option CelKey
+key_of_value (bool b) = Some (bool_key b)
+key_of_value (int i) = Some (int_key i)
+key_of_value (uint n) = Some (uint_key n)
+key_of_value (text cs) = Some (text_key cs)
+key_of_value _ = None
 
 -- the value at a key, none where the map does not have it
 abbrev pub get : CelEntries → CelKey → Option CelValue

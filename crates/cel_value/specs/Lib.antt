@@ -2,6 +2,7 @@ pub mod Values
 pub mod Texts
 pub mod View
 pub mod Keys
+pub mod Items
 pub mod Equality
 pub mod Types
 pub mod Masses

@@ -1,5 +1,5 @@
 -- Types, and which values have them: CEL language definition, "Values" and "Type System".
-use Rattle.std.specs.Prelude.{ℕ, ℤ, ◌≡◌, ◌<◌, ◌^◌, FitsSigned}
+use Rattle.std.specs.Prelude.{ℕ, ℤ, Bool, true, false, ◌&&◌, ◌≡◌, ◌<◌, ◌^◌, FitsSigned}
 use Rattle.std.specs.Int.{w64}
 use Rattle.cel_value.specs.Values.{CelKey, bool_key, int_key, uint_key, text_key, CelValue, bool, int, uint, text, bytes, list, map_of, CelValues, no_items, item, CelEntries, no_entries, entry, CelAnswer, value, fails}
 use Rattle.cel_value.specs.Texts.{AreScalars}
@@ -32,6 +32,25 @@ type_step (CelType-F.Map k t) = map_type k t.value
 -- the type that a `CelType` stands for
 abbrev pub type_view : CelType → ValueType
 type_view = fold-CelType ValueType type_step
+
+-- whether two types of keys are the same
+abbrev pub key_type_eq : KeyType → KeyType → Bool
+key_type_eq keys.Bool keys.Bool = true
+key_type_eq keys.Int keys.Int = true
+key_type_eq keys.Uint keys.Uint = true
+key_type_eq keys.Text keys.Text = true
+key_type_eq _ _ = false
+
+-- whether two types are the same
+abbrev pub type_eq : ValueType → ValueType → Bool
+type_eq bool_type bool_type = true
+type_eq int_type int_type = true
+type_eq uint_type uint_type = true
+type_eq text_type text_type = true
+type_eq bytes_type bytes_type = true
+type_eq (list_type s) (list_type t) = type_eq s t
+type_eq (map_type j s) (map_type k t) = key_type_eq j k && type_eq s t
+type_eq _ _ = false
 
 -- the type of a key as a value
 abbrev pub type_of_key : KeyType → ValueType

@@ -8,6 +8,8 @@ use Rattle.cel_value.specs.Texts.{text_view}
 use Rattle.cel_value.specs.declared.error.CelError.{CelError}
 use Rattle.cel_value.specs.declared.value.Key.{Key}
 use Rattle.cel_value.specs.declared.value.Key.TheVariants as keys
+use Rattle.cel_value.specs.declared.key.LentKey.{LentKey}
+use Rattle.cel_value.specs.declared.key.LentKey.TheVariants as lents
 use Rattle.cel_value.specs.declared.value.Map.{Map, fold-Map}
 use Rattle.cel_value.specs.declared.value.Value.{Value, fold-Value}
 use Rattle.cel_value.specs.declared.value.Map.TheOpen.{Value-F, Map-F}
@@ -18,6 +20,13 @@ key_view (keys.Bool b) = bool_key b
 key_view (keys.Int i) = int_key i
 key_view (keys.Uint n) = uint_key n
 key_view (keys.Text t) = text_key (text_view t)
+
+-- the key that a lent key stands for
+abbrev pub lent_view : LentKey → CelKey
+lent_view (lents.Bool b) = bool_key b
+lent_view (lents.Int i) = int_key i
+lent_view (lents.Uint n) = uint_key n
+lent_view (lents.Text t) = text_key (text_view t.now)
 
 -- values of a list, one after the other
 abbrev pub items_of : List CelValue → CelValues

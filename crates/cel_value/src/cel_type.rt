@@ -1,7 +1,7 @@
 //! Types of CEL.
 
 ghost use Rattle.std.specs.Prelude.{◌≡◌, IfOk};
-ghost use Rattle.cel_value.specs.Types.{type_view};
+ghost use Rattle.cel_value.specs.Types.{key_type_eq, type_eq, type_view};
 
 use std::alloc::AllocError;
 use std::rc::Rc;
@@ -44,4 +44,26 @@ impl CelType {
             CelType::Map(keys, values) => Ok(CelType::Map(*keys, values.clone()?)),
         }
     }
+}
+
+/// Whether the types are the same.
+pub fn same_types(left: &CelType, right: &CelType) -> bool
+    ensures { result ≡ type_eq (type_view left.now) (type_view right.now) }
+{
+    match (left, right) {
+        (CelType::Bool, CelType::Bool) => true,
+        (CelType::Int, CelType::Int) => true,
+        (CelType::Uint, CelType::Uint) => true,
+        (CelType::Text, CelType::Text) => true,
+        (CelType::Bytes, CelType::Bytes) => true,
+        (CelType::List(a), CelType::List(b)) => same_types(a, b),
+        (CelType::Map(j, a), CelType::Map(k, b)) => same_key_types(*j, *k) && same_types(a, b),
+        _ => false,
+    }
+}
+
+fn same_key_types(left: KeyType, right: KeyType) -> bool
+    ensures { result ≡ key_type_eq left right }
+{
+    left == right
 }

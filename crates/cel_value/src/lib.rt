@@ -2,9 +2,18 @@
 #![tactic(auto)]
 
 mod cel_type;
+mod equality;
 mod error;
+mod key;
+pub mod laws;
+mod map;
+mod mass;
 mod value;
 
 pub use cel_type::{CelType, KeyType};
+pub use equality::{same_keys, same_maps, same_values};
 pub use error::CelError;
+pub use key::{LentKey, compare_keys, compare_texts};
+pub use map::insert_entry;
+pub use mass::{spend, spend_key};
 pub use value::{Answer, Key, Map, Value, copy_answer};

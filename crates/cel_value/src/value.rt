@@ -1,6 +1,7 @@
 //! Values of CEL.
 
 ghost use Rattle.std.specs.Prelude.{◌≡◌, IfOk};
+ghost use Rattle.cel_value.specs.Values.{value_of_key};
 ghost use Rattle.cel_value.specs.View.{answer_view, key_view, map_view, value_view};
 
 use crate::error::CelError;
@@ -92,5 +93,18 @@ pub fn copy_answer(answer: &Answer) -> Result<Answer, AllocError>
     match answer {
         Ok(value) => Ok(Ok(value.copy()?)),
         Err(error) => Ok(Err(*error)),
+    }
+}
+
+impl From<Key> for Value {
+    ghost from_gives = { λ key value. value_view value ≡ value_of_key (key_view key) };
+
+    fn from(key: Key) -> Value {
+        match key {
+            Key::Bool(b) => Value::Bool(b),
+            Key::Int(i) => Value::Int(i),
+            Key::Uint(n) => Value::Uint(n),
+            Key::Text(text) => Value::Text(text),
+        }
     }
 }

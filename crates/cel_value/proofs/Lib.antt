@@ -1,0 +1,10 @@
+pub mod Views
+pub mod Same
+pub mod TextOrder
+pub mod Spending
+pub mod Places
+pub mod Extensional
+pub mod Searching
+pub mod MapSearching
+pub mod Walking
+pub mod SameTypes

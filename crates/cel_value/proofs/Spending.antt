@@ -1,0 +1,65 @@
+-- What is left of a number, step by step.
+use Rattle.std.proofs.Common.{◌≡◌, ℕ, ◌+◌, ◌-◌, ◌≤◌, Bool, true, false, cond, List, [], ◌∷◌, length, drop, get_or, ◌<◌, Option, Some, None, refl, sym, ap, ◌∙◌, arith, inl, inr, map}
+use Rattle.std.specs.Prelude.{nat_le}
+use Rattle.std.specs.Option.{SomeIff}
+use Rattle.std.specs.Str.{chars, encode_utf8_all}
+use Rattle.std.specs.Rc.{rc_str_bytes}
+use Rattle.std.specs.declared.rc.RcStr.{RcStr}
+use Rattle.std.proofs.lemmas.Str.{encodes-chars, IsUtf8-string_bytes}
+use Rattle.std.proofs.lemmas.Bool.{cases_lt}
+use Rattle.std.proofs.lemmas.Bool.Decides.{nat_tests}
+use Rattle.std.proofs.lemmas.List.{drop_more, drop_all}
+use Rattle.cel_value.specs.Values.{CelValue, CelValues, CelEntries, CelKey}
+use Rattle.cel_value.specs.View.{value_view, values_view, key_view, entries_view}
+use Rattle.cel_value.specs.Masses.{left_of, mass, items_mass, entries_mass, key_mass}
+use Rattle.cel_value.specs.declared.value.Key.{Key}
+use Rattle.cel_value.specs.declared.value.Value.{Value}
+
+left-enough : (n m : ℕ) → m ≤ n → left_of n m ≡ Some (n - m)
+left-enough n m h = grind (arith, nat_tests)
+
+left-short : (n m : ℕ) → n < m → left_of n m ≡ None
+left-short n m h = grind (arith, nat_tests)
+
+-- a subtraction that answers where it can
+pub left-checked : (n m : ℕ) (r : Option ℕ) → SomeIff r (m ≤ n) (n - m) → r ≡ left_of n m
+left-checked n m None h = elim (cases_lt n m) [ inl short ↦ sym (left-short n m short) | inr enough ↦ absurd (h enough) ]
+left-checked n m (Some x) h = ap Some h.1 ∙ sym (left-enough n m h.0)
+
+-- one after the other
+pub left-twice : (n a m k : ℕ) → Some a ≡ left_of n m → left_of a k ≡ left_of n (m + k)
+left-twice n a m k e = elim (cases_lt n m) [
+  | inl short ↦ absurd (let f : Some a ≡ None = e ∙ left-short n m short in cc)
+  | inr enough ↦
+      let f : Some a ≡ Some (n - m) = e ∙ left-enough n m enough in
+      let g : a ≡ n - m = cc in
+      elim (cases_lt a k) [
+        | inl low ↦ left-short a k low ∙ sym (left-short n (m + k) (omega arith))
+        | inr high ↦ left-enough a k high ∙ ap Some (omega arith) ∙ sym (left-enough n (m + k) (omega arith))
+      ]
+]
+
+-- what is short of the first is short of both
+pub left-none : (n m k : ℕ) → None ≡ left_of n m → None ≡ left_of n (m + k)
+left-none n m k e = elim (cases_lt n m) [
+  | inl short ↦ sym (left-short n (m + k) (omega arith))
+  | inr enough ↦ absurd (let f : None ≡ Some (n - m) = e ∙ left-enough n m enough in cc)
+]
+
+pub left-zero : (n : ℕ) → Some n ≡ left_of n 0
+left-zero n = ap Some (omega arith) ∙ sym (left-enough n 0 (omega arith))
+
+-- the bytes of a text are as many as those of its characters
+pub text-length : {Z : Type 0} (t : RcStr Z) → length (encode_utf8_all (chars (rc_str_bytes t))) ≡ length (rc_str_bytes t)
+text-length t = ap length (encodes-chars (rc_str_bytes t) (IsUtf8-string_bytes t.text.value))
+
+-- one, and then the length of a text
+pub text-spent : {Z : Type 0} (n a len : ℕ) (t : RcStr Z) (r s : Option ℕ) → r ≡ Some a → SomeIff r (1 ≤ n) (n - 1)
+    → len ≡ length (rc_str_bytes t) → SomeIff s (len ≤ a) (a - len)
+    → s ≡ left_of n (1 + length (encode_utf8_all (chars (rc_str_bytes t))))
+text-spent n a len t r s is one counted more =
+    left-checked a len s more ∙ ap (left_of a) (counted ∙ sym (text-length t)) ∙ left-twice n a 1 _ (sym is ∙ left-checked n 1 r one)
+
+-- one, and then another number
+pub more-spent : (n a m : ℕ) (r s : Option ℕ) → r ≡ Some a → SomeIff r (1 ≤ n) (n - 1) → s ≡ left_of a m → s ≡ left_of n (1 + m)
+more-spent n a m r s is one more = more ∙ left-twice n a 1 m (sym is ∙ left-checked n 1 r one)

@@ -1,0 +1,19 @@
+-- Items of lists, and the keys of maps as items.
+use Rattle.std.specs.Prelude.{ℕ, suc, zero, Option, Some, None}
+use Rattle.cel_value.specs.Values.{CelValue, CelValues, no_items, item, CelEntries, no_entries, entry, value_of_key}
+
+-- the item at an index, none past the end
+abbrev pub item_at : CelValues → ℕ → Option CelValue
+item_at no_items i = None
+item_at (item v vs) zero = Some v
+item_at (item v vs) (suc i) = item_at vs i
+
+-- the items of both, one after the other
+abbrev pub joined_items : CelValues → CelValues → CelValues
+joined_items no_items ws = ws
+joined_items (item v vs) ws = item v (joined_items vs ws)
+
+-- the keys of entries as values, in the order of the entries
+abbrev pub keys_of : CelEntries → CelValues
+keys_of no_entries = no_items
+keys_of (entry k v es) = item (value_of_key k) (keys_of es)

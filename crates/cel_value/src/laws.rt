@@ -1,0 +1,61 @@
+//! Laws of values: equality is exact, keys stand in one order, and a map is a finite function.
+
+ghost use Rattle.std.specs.Prelude.{◌≡◌, ◌≢◌, ◌↔◌, ℕ, List, IsTrue, None, Some, if◌then◌else◌};
+ghost use Rattle.std.specs.Cmp.{IsTotalOrder};
+ghost use Rattle.std.specs.Cmp.Lexicographic.{slice_cmp};
+ghost use Rattle.std.specs.Ordering.{nat_cmp};
+ghost use Rattle.std.specs.Str.{IsUtf8};
+ghost use Rattle.std.specs.declared.cmp.Ordering.TheVariants.{Equal};
+ghost use Rattle.cel_value.specs.Equality.{key_eq, value_eq};
+ghost use Rattle.cel_value.specs.Keys.{IsAscending, get, is_ascending, key_cmp, put};
+ghost use Rattle.cel_value.specs.Texts.{AreScalars, points_of, utf8_of};
+ghost use Rattle.cel_value.specs.Types.{ValueType, type_eq};
+ghost use Rattle.cel_value.specs.Values.{CelEntries, CelKey, CelValue};
+
+/// A text is its UTF-8 bytes: each gives back the other.
+pub fn texts_are_their_bytes()
+    ensures bytes { (bs : List ℕ) → IsUtf8 bs → utf8_of (points_of bs) ≡ bs }
+    ensures points { (cs : List ℕ) → AreScalars cs → points_of (utf8_of cs) ≡ cs }
+    ensures scalars { (bs : List ℕ) → IsUtf8 bs → AreScalars (points_of bs) }
+{}
+
+/// The order of texts by code point is the order of their UTF-8 bytes.
+pub fn texts_stand_as_their_bytes()
+    ensures { (cs ds : List ℕ) → slice_cmp nat_cmp (utf8_of cs) (utf8_of ds) ≡ slice_cmp nat_cmp cs ds }
+{}
+
+/// The test of equality is true of two values just where they are the same.
+pub fn equality_is_exact()
+    ensures values { (v w : CelValue) → IsTrue (value_eq v w) ↔ (v ≡ w) }
+    ensures keys { (j k : CelKey) → IsTrue (key_eq j k) ↔ (j ≡ k) }
+    ensures types { (s t : ValueType) → IsTrue (type_eq s t) ↔ (s ≡ t) }
+{}
+
+/// Keys stand in one total order, and only equal keys stand level.
+pub fn keys_are_ordered()
+    ensures total { IsTotalOrder key_cmp }
+    ensures level { (j k : CelKey) → (key_cmp j k ≡ Equal) ↔ (j ≡ k) }
+{}
+
+/// The test of rising keys tells whether they rise.
+pub fn rising_is_tested()
+    ensures { (es : CelEntries) → IsTrue (is_ascending es) ↔ IsAscending es }
+{}
+
+/// Maps are the same where they give the same value at each key.
+pub fn maps_are_functions()
+    ensures { (es fs : CelEntries) → IsAscending es → IsAscending fs
+        → ((q : CelKey) → get es q ≡ get fs q) → es ≡ fs }
+{}
+
+/// A map with one more entry has its value at its key, and at each other key what it had.
+pub fn put_is_there()
+    ensures { (k : CelKey) (v : CelValue) (es : CelEntries) (q : CelKey) → get es k ≡ None
+        → get (put k v es) q ≡ (if key_eq k q then Some v else get es q) }
+{}
+
+/// Its keys rise where they did.
+pub fn put_keeps_order()
+    ensures { (k : CelKey) (v : CelValue) (es : CelEntries) → get es k ≡ None
+        → IsAscending es → IsAscending (put k v es) }
+{}

@@ -1,0 +1,90 @@
+//! Lengths and masses of values, by which their handling is charged.
+
+ghost use Rattle.std.specs.Prelude.{◌≡◌, ◌+◌, length};
+ghost use Rattle.cel_value.specs.Masses.{entries_mass, items_mass, key_mass, left_of, mass};
+ghost use Rattle.cel_value.specs.Texts.{text_view, utf8_of};
+ghost use Rattle.cel_value.specs.View.{entries_view, key_view, map_view, pairs_view, value_view, values_view};
+
+use crate::value::{Key, Map, Value};
+use std::rc::RcStr;
+
+// What is left of a number once the mass of a text is taken from it, if it is enough.
+fn spend_text(text: &RcStr, left: u64) -> Option<u64>
+    ensures { result ≡ left_of left (1 + length (utf8_of (text_view text.now))) }
+{
+    left.checked_sub(1)?.checked_sub(text.len() as u64)
+}
+
+/// What is left of a number once the key's mass is taken from it, if it is enough.
+pub fn spend_key(key: &Key, left: u64) -> Option<u64>
+    ensures { result ≡ left_of left (key_mass (key_view key.now)) }
+{
+    match key {
+        Key::Bool(_) => left.checked_sub(1),
+        Key::Int(_) => left.checked_sub(1),
+        Key::Uint(_) => left.checked_sub(1),
+        Key::Text(text) => spend_text(text, left),
+    }
+}
+
+/// What is left of a number once the value's mass is taken from it, if it is enough.
+#[cycle(spend)]
+pub fn spend(value: &Value, left: u64) -> Option<u64>
+    ensures { result ≡ left_of left (mass (value_view value.now)) }
+{
+    match value {
+        Value::Bool(_) => left.checked_sub(1),
+        Value::Int(_) => left.checked_sub(1),
+        Value::Uint(_) => left.checked_sub(1),
+        Value::Text(text) => spend_text(text, left),
+        Value::Bytes(bytes) => left.checked_sub(1)?.checked_sub(bytes.len() as u64),
+        Value::List(items) => spend_items(items, left.checked_sub(1)?),
+        Value::Map(map) => spend_map(map, left.checked_sub(1)?),
+    }
+}
+
+// The same of all items together.
+#[cycle(spend)]
+fn spend_items(items: &[Value], left: u64) -> Option<u64>
+    ensures { result ≡ left_of left (items_mass (values_view items.now)) }
+{
+    let mut rest = left;
+    for item in items {
+        rest = spend(item, rest)?;
+    }
+    Some(rest)
+}
+
+// The same of all keys and values of a map together.
+#[cycle(spend)]
+fn spend_map(map: &Map, left: u64) -> Option<u64>
+    ensures { result ≡ left_of left (entries_mass (map_view map.now)) }
+{
+    match map {
+        Map::Entries(entries) => spend_entries(entries, left),
+        Map::Texts(pairs) => spend_pairs(pairs, left),
+    }
+}
+
+#[cycle(spend)]
+fn spend_entries(entries: &[(Key, Value)], left: u64) -> Option<u64>
+    ensures { result ≡ left_of left (entries_mass (entries_view entries.now)) }
+{
+    let mut rest = left;
+    for entry in entries {
+        rest = spend_key(&entry.0, rest)?;
+        rest = spend(&entry.1, rest)?;
+    }
+    Some(rest)
+}
+
+fn spend_pairs(pairs: &[(RcStr, RcStr)], left: u64) -> Option<u64>
+    ensures { result ≡ left_of left (entries_mass (pairs_view pairs.now)) }
+{
+    let mut rest = left;
+    for pair in pairs {
+        rest = spend_text(&pair.0, rest)?;
+        rest = spend_text(&pair.1, rest)?;
+    }
+    Some(rest)
+}
