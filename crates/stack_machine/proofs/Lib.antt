@@ -1,2 +1,4 @@
 pub mod Places
 pub mod Tops
+pub mod Walking
+pub mod Settings

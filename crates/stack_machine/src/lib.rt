@@ -1,11 +1,14 @@
 //! The stack machine that runs conditions. What stands here today is how a run ends without an answer.
 #![tactic(auto)]
 
+mod branches;
 mod code;
 mod error;
 mod instr;
 mod locals;
+mod open_loop;
 mod stack;
+mod state;
 
 pub use code::{Code, CodeFault};
 pub use error::RunError;
