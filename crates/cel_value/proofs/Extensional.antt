@@ -7,7 +7,7 @@ use Rattle.std.proofs.lemmas.Bool.{cases_Bool}
 use Rattle.cel_value.specs.Values.{CelKey, CelValue, CelEntries, no_entries, entry}
 use Rattle.cel_value.specs.Keys.{get, key_cmp, AllAbove, IsAscending}
 use Rattle.cel_value.specs.Equality.{key_eq}
-use Rattle.cel_value.proofs.Same.{key_eq-Decides}
+use Rattle.cel_value.specs.EqualityLaws.{key_eq-Decides}
 use Rattle.cel_value.proofs.Places.{key_eq-cmp, key_cmp-trans, key_cmp-antisymm, above-lower}
 
 less-apart : (k j : CelKey) → key_cmp k j ≡ Less → key_eq j k ≡ false

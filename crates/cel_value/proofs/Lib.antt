@@ -7,4 +7,3 @@ pub mod Extensional
 pub mod Searching
 pub mod MapSearching
 pub mod Walking
-pub mod SameTypes

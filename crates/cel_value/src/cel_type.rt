@@ -1,6 +1,8 @@
 //! Types of CEL.
 
 ghost use Rattle.std.specs.Prelude.{◌≡◌, IfOk};
+ghost use Rattle.std.specs.Cmp.{on_equiv, on_per, partial_equiv_from_equiv};
+ghost use Rattle.cel_value.specs.EqualityLaws.{type_eq_equiv};
 ghost use Rattle.cel_value.specs.Types.{key_type_eq, type_eq, type_view};
 
 use std::alloc::AllocError;
@@ -46,8 +48,8 @@ impl CelType {
     }
 }
 
-/// Whether the types are the same.
-pub fn same_types(left: &CelType, right: &CelType) -> bool
+// Whether the types are the same.
+fn same_types(left: &CelType, right: &CelType) -> bool
     ensures { result ≡ type_eq (type_view left.now) (type_view right.now) }
 {
     match (left, right) {
@@ -66,4 +68,18 @@ fn same_key_types(left: KeyType, right: KeyType) -> bool
     ensures { result ≡ key_type_eq left right }
 {
     left == right
+}
+
+impl PartialEq for CelType {
+    ghost eq = { λ left right. type_eq (type_view left) (type_view right) };
+
+    ghost laws = { on_per type_view (partial_equiv_from_equiv type_eq_equiv) };
+
+    fn eq(&self, other: &CelType) -> bool {
+        same_types(self, other)
+    }
+}
+
+impl Eq for CelType {
+    ghost laws = { on_equiv type_view type_eq_equiv };
 }

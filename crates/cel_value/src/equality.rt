@@ -2,6 +2,8 @@
 
 ghost use Rattle.std.specs.Prelude.{◌≡◌, ◌&&◌, nat_eq};
 ghost use Rattle.std.specs.Cmp.Lexicographic.{pointwise};
+ghost use Rattle.std.specs.Cmp.{on_equiv, on_per, partial_equiv_from_equiv};
+ghost use Rattle.cel_value.specs.EqualityLaws.{key_eq_equiv, value_eq_equiv};
 ghost use Rattle.cel_value.specs.Equality.{entries_eq, key_eq, value_eq, values_eq};
 ghost use Rattle.cel_value.specs.Texts.{text_view};
 ghost use Rattle.cel_value.specs.Values.{text, text_key};
@@ -17,8 +19,8 @@ fn same_texts(left: &RcStr, right: &RcStr) -> bool
     left == right
 }
 
-/// Whether the keys are the same.
-pub fn same_keys(left: &Key, right: &Key) -> bool
+// Whether the keys are the same.
+fn same_keys(left: &Key, right: &Key) -> bool
     ensures { result ≡ key_eq (key_view left.now) (key_view right.now) }
 {
     match (left, right) {
@@ -30,9 +32,9 @@ pub fn same_keys(left: &Key, right: &Key) -> bool
     }
 }
 
-/// Whether the values are the same.
+// Whether the values are the same.
 #[cycle(same)]
-pub fn same_values(left: &Value, right: &Value) -> bool
+fn same_values(left: &Value, right: &Value) -> bool
     ensures { result ≡ value_eq (value_view left.now) (value_view right.now) }
 {
     match (left, right) {
@@ -63,9 +65,9 @@ fn same_items(left: &[Value], right: &[Value]) -> bool
     true
 }
 
-/// Whether the maps have the same entries.
+// Whether the maps have the same entries.
 #[cycle(same)]
-pub fn same_maps(left: &Map, right: &Map) -> bool
+fn same_maps(left: &Map, right: &Map) -> bool
     ensures { result ≡ entries_eq (map_view left.now) (map_view right.now) }
 {
     match (left, right) {
@@ -135,4 +137,32 @@ fn entry_is_pair(entry: &(Key, Value), pair: &(RcStr, RcStr)) -> bool
         }
         _ => false,
     }
+}
+
+impl PartialEq for Key {
+    ghost eq = { λ left right. key_eq (key_view left) (key_view right) };
+
+    ghost laws = { on_per key_view (partial_equiv_from_equiv key_eq_equiv) };
+
+    fn eq(&self, other: &Key) -> bool {
+        same_keys(self, other)
+    }
+}
+
+impl Eq for Key {
+    ghost laws = { on_equiv key_view key_eq_equiv };
+}
+
+impl PartialEq for Value {
+    ghost eq = { λ left right. value_eq (value_view left) (value_view right) };
+
+    ghost laws = { on_per value_view (partial_equiv_from_equiv value_eq_equiv) };
+
+    fn eq(&self, other: &Value) -> bool {
+        same_values(self, other)
+    }
+}
+
+impl Eq for Value {
+    ghost laws = { on_equiv value_view value_eq_equiv };
 }

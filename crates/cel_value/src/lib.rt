@@ -11,7 +11,6 @@ mod mass;
 mod value;
 
 pub use cel_type::{CelType, KeyType};
-pub use equality::{same_keys, same_maps, same_values};
 pub use error::CelError;
 pub use key::{LentKey, compare_keys, compare_texts};
 pub use map::insert_entry;

@@ -1,5 +1,5 @@
-use Rattle.cel_value.proofs.Same.{key_eq-Decides, value_eq-Decides}
-use Rattle.cel_value.proofs.SameTypes.{type_eq-Decides}
+use Rattle.cel_value.specs.EqualityLaws.{key_eq-Decides, value_eq-Decides}
+use Rattle.cel_value.specs.EqualityLaws.{type_eq-Decides}
 use Rattle.cel_value.proofs.laws.equality_is_exact.Goals as goal
 
 pub returns-clause-values : goal.returns-clause-values

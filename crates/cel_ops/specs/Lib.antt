@@ -1,0 +1,7 @@
+pub mod Strict
+pub mod Logic
+pub mod Arithmetic
+pub mod Comparison
+pub mod Parts
+pub mod Collections
+pub mod Charges
