@@ -1,6 +1,6 @@
 //! Instructions that go elsewhere by what is on top.
 
-ghost use Rattle.std.specs.Prelude.{◌≡◌, ◌≢◌, ◌<◌, ◌^◌, OnOk};
+ghost use Rattle.std.specs.Prelude.{◌≡◌, ◌≢◌, ◌<◌, ◌^◌, OnOk, Some};
 ghost use Rattle.stack_machine.specs.Machine.{branch, goes, loop_next, loop_start, loop_test, opened, stuck, test};
 ghost use Rattle.stack_machine.specs.Loops.{range_view};
 ghost use Rattle.stack_machine.specs.StateView.{state_view};
@@ -83,7 +83,7 @@ impl State {
     fn open(&mut self, range: Range) -> Result<(), AllocError>
         requires { self.old.position < 2 ^ 32 }
         ensures { let s = state_view self.old in
-            OnOk result (opened (range_view range) s s.stack ≡ goes (state_view self.new)) }
+            OnOk result (opened (Some (range_view range)) s s.stack ≡ goes (state_view self.new)) }
     {
         self.loops.push(OpenLoop::new(range))?;
         self.position += 1;

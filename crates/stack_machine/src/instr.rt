@@ -5,6 +5,7 @@ ghost use Rattle.cel_value.specs.View.{value_view};
 ghost use Rattle.stack_machine.specs.Instructions.{constant_view, instr_view};
 
 use attributes::AttrId;
+use cel_ops::{ArithmeticOp, CompareOp};
 use cel_value::{CelType, KeyType, Value};
 use std::alloc::AllocError;
 use std::rc::{RcSlice, RcStr};
@@ -19,28 +20,6 @@ pub enum Constant {
     Bytes(RcSlice<u8>),
 }
 
-/// What is done with two numbers, or with one.
-#[derive(Clone, Copy, PartialEq, Eq, Debug)]
-pub enum Arithmetic {
-    Add,
-    Subtract,
-    Multiply,
-    Divide,
-    Remainder,
-    Negate,
-}
-
-/// What two values are asked.
-#[derive(Clone, Copy, PartialEq, Eq, Debug)]
-pub enum Comparison {
-    Equal,
-    NotEqual,
-    Less,
-    LessEqual,
-    Greater,
-    GreaterEqual,
-}
-
 /// One instruction. It works on a stack of results, on locals by number and on open loops; a target
 /// is a position in the code, counted from 0, or the code's end.
 #[derive(Drop)]
@@ -53,8 +32,10 @@ pub enum Instr {
     Load(u8),
     /// Pops, and sets a local.
     Store(u8),
-    /// Pops two numbers (`Negate` one), pushes a number.
-    Arith(Arithmetic),
+    /// Pops two ints or two uints, pushes a number of their kind.
+    Arith(ArithmeticOp),
+    /// Pops an int, pushes its opposite: the `Arith` of one operand.
+    Negate,
     /// Pops a bool, pushes the other one.
     Not,
     /// Pops a bool, pushes whether it is not false; an error is not false
@@ -65,7 +46,7 @@ pub enum Instr {
     /// Pops two bools, pushes their disjunction; true on either side makes it true.
     Or,
     /// Pops two values of one type, pushes a bool.
-    Compare(Comparison),
+    Compare(CompareOp),
     /// Pops a text and a part, pushes whether the part stands in the text.
     Contains,
     /// Pops a text and a beginning, pushes whether the text begins with it.
@@ -170,12 +151,13 @@ impl Instr {
             Instr::Attr(id) => Ok(Instr::Attr(*id)),
             Instr::Load(local) => Ok(Instr::Load(*local)),
             Instr::Store(local) => Ok(Instr::Store(*local)),
-            Instr::Arith(kind) => Ok(Instr::Arith(*kind)),
+            Instr::Arith(op) => Ok(Instr::Arith(*op)),
+            Instr::Negate => Ok(Instr::Negate),
             Instr::Not => Ok(Instr::Not),
             Instr::Nsf => Ok(Instr::Nsf),
             Instr::And => Ok(Instr::And),
             Instr::Or => Ok(Instr::Or),
-            Instr::Compare(kind) => Ok(Instr::Compare(*kind)),
+            Instr::Compare(op) => Ok(Instr::Compare(*op)),
             Instr::Contains => Ok(Instr::Contains),
             Instr::StartsWith => Ok(Instr::StartsWith),
             Instr::EndsWith => Ok(Instr::EndsWith),

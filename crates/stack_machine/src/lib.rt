@@ -12,6 +12,6 @@ mod state;
 
 pub use code::{Code, CodeFault};
 pub use error::RunError;
-pub use instr::{Arithmetic, Comparison, Constant, Instr};
+pub use instr::{Constant, Instr};
 pub use locals::Locals;
 pub use stack::Stack;
