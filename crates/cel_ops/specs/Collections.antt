@@ -81,7 +81,7 @@ has_field name a = strict (has_field_of name) a
 -- whether some item is the same as the value
 abbrev pub some_same : CelValue → CelValues → Bool
 some_same v no_items = false
-some_same v (item w ws) = value_eq v w || some_same v ws
+some_same v (item w ws) = value_eq w v || some_same v ws
 
 -- whether a value is in a list
 abbrev pub in_list_of : CelValue → CelValue → Option CelAnswer

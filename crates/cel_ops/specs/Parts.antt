@@ -1,5 +1,6 @@
 -- Parts of texts and joined values: CEL language definition, "Standard Definitions".
-use Rattle.std.specs.Prelude.{ℕ, Bool, true, false, ◌==◌, ◌&&◌, ◌||◌, List, [], ◌∷◌, ◌++◌, ◌≡◌, reverse, Option, Some, None}
+use Rattle.std.specs.Prelude.{ℕ, Bool, true, false, ◌==◌, ◌&&◌, ◌||◌, List, [], ◌∷◌, ◌++◌, ◌≡◌, nat_eq, Option, Some, None}
+use Rattle.std.specs.Cmp.Lexicographic.{pointwise}
 use Rattle.cel_value.specs.Values.{CelValue, text, bytes, list, CelAnswer, value}
 use Rattle.cel_value.specs.Items.{joined_items}
 use Rattle.cel_ops.specs.Strict.{strict_two}
@@ -12,11 +13,13 @@ begins cs [] = true
 begins [] (p ∷ ps) = false
 begins (c ∷ cs) (p ∷ ps) = (c == p) && begins cs ps
 
--- whether the second list ends the first
+-- whether the second list ends the first: it is the first, or ends what follows the first item
 abbrev pub ends : List ℕ → List ℕ → Bool
-ends cs ps = begins (reverse cs) (reverse ps)
+ends [] ps = pointwise nat_eq [] ps
+ends (c ∷ cs) ps = pointwise nat_eq (c ∷ cs) ps || ends cs ps
 
--- whether the second list stands somewhere in the first
+-- whether the second list stands in the first: it begins it, or stands in what follows the first
+-- item
 abbrev pub contains : List ℕ → List ℕ → Bool
 contains [] ps = begins [] ps
 contains (c ∷ cs) ps = begins (c ∷ cs) ps || contains cs ps

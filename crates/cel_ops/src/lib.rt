@@ -2,11 +2,20 @@
 #![tactic(auto)]
 
 mod arithmetic;
+mod charges;
+mod collections;
 mod comparison;
 mod logic;
 mod texts;
 
 pub use arithmetic::{ArithmeticOp, calculate, negate};
+pub use charges::{
+    spend_comparison, spend_field, spend_in_list, spend_in_map, spend_join, spend_loop, spend_map_index,
+    spend_size,
+};
+pub use collections::{
+    element_at, has_field, index_list, index_map, is_in_list, is_in_map, select_field, size,
+};
 pub use comparison::{CompareOp, compare};
 pub use logic::{conjunction, disjunction, logical_not, not_strictly_false};
-pub use texts::TextTest;
+pub use texts::{TextTest, join, test_text};

@@ -15,10 +15,10 @@ use Rattle.cel_value.specs.Masses.{left_of, mass, items_mass, entries_mass, key_
 use Rattle.cel_value.specs.declared.value.Key.{Key}
 use Rattle.cel_value.specs.declared.value.Value.{Value}
 
-left-enough : (n m : ℕ) → m ≤ n → left_of n m ≡ Some (n - m)
+pub left-enough : (n m : ℕ) → m ≤ n → left_of n m ≡ Some (n - m)
 left-enough n m h = grind (arith, nat_tests)
 
-left-short : (n m : ℕ) → n < m → left_of n m ≡ None
+pub left-short : (n m : ℕ) → n < m → left_of n m ≡ None
 left-short n m h = grind (arith, nat_tests)
 
 -- a subtraction that answers where it can

@@ -1,5 +1,5 @@
 -- How values, maps and types are seen, constructor by constructor.
-use Rattle.std.proofs.Common.{◌≡◌, ◌+◌, false, rules, refl, sym, ap, ◌∙◌, arith, List, [], ◌∷◌, length}
+use Rattle.std.proofs.Common.{◌≡◌, ◌+◌, false, rules, refl, sym, ap, ◌∙◌, arith, List, [], ◌∷◌, ◌++◌, length}
 use Rattle.std.specs.Rc.{rc_slice_items}
 use Rattle.std.specs.declared.rc.Rc.{Rc}
 use Rattle.std.specs.declared.rc.RcStr.{RcStr}
@@ -7,9 +7,10 @@ use Rattle.std.specs.declared.rc.RcSlice.{RcSlice}
 use Rattle.std.specs.declared.vec.Vec.{Vec}
 use Rattle.std.specs.declared.alloc.Global.{Global}
 use Rattle.std.specs.Prelude.{ℕ, ℤ, Bool}
-use Rattle.cel_value.specs.Values.{bool, int, uint, text, bytes, list, map_of}
+use Rattle.cel_value.specs.Items.{joined_items}
+use Rattle.cel_value.specs.Values.{CelValue, item, bool, int, uint, text, bytes, list, map_of}
 use Rattle.cel_value.specs.Texts.{text_view}
-use Rattle.cel_value.specs.View.{value_view, values_view, entries_view, pairs_view, map_view}
+use Rattle.cel_value.specs.View.{value_view, values_view, entries_view, pairs_view, map_view, items_of}
 use Rattle.cel_value.specs.Masses.{item_count, entry_count}
 use Rattle.cel_value.specs.Types.{ValueType, bool_type, int_type, uint_type, text_type, bytes_type, list_type, map_type, type_eq, type_view}
 use Rattle.cel_value.specs.declared.value.Key.{Key}
@@ -115,3 +116,8 @@ no-map TextType h k s = rw view-TextType refl
 no-map BytesType h k s = rw view-BytesType refl
 no-map (ListType' p t) h k s = rw (view-ListType (record { ptr = p.ptr; value = t })) refl
 no-map (MapType' j p t) h k s = absurd (h j (record { ptr = p.ptr; value = t }) refl)
+
+-- joined lists of values are seen as joined items
+pub items_of-append : (vs ws : List CelValue) → items_of (vs ++ ws) ≡ joined_items (items_of vs) (items_of ws)
+items_of-append [] ws = refl
+items_of-append (v ∷ vs) ws = ap (item v) (items_of-append vs ws)

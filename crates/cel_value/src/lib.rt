@@ -14,5 +14,5 @@ pub use cel_type::{CelType, KeyType};
 pub use error::CelError;
 pub use key::{LentKey, compare_keys, compare_texts};
 pub use map::insert_entry;
-pub use mass::{spend, spend_key};
+pub use mass::{item_count, length, spend, spend_key, text_length};
 pub use value::{Answer, Key, Map, Value, copy_answer};

@@ -1,12 +1,40 @@
 //! Lengths and masses of values, by which their handling is charged.
 
 ghost use Rattle.std.specs.Prelude.{◌≡◌, ◌+◌, length};
-ghost use Rattle.cel_value.specs.Masses.{entries_mass, items_mass, key_mass, left_of, mass};
+ghost use Rattle.cel_value.specs.Masses.{entries_mass, item_count, items_mass, key_mass, left_of, length_of, mass};
 ghost use Rattle.cel_value.specs.Texts.{text_view, utf8_of};
 ghost use Rattle.cel_value.specs.View.{entries_view, key_view, map_view, pairs_view, value_view, values_view};
 
 use crate::value::{Key, Map, Value};
 use std::rc::RcStr;
+
+/// How many UTF-8 bytes a text has.
+pub fn text_length(text: &RcStr) -> u64
+    ensures { result ≡ length (utf8_of (text_view text.now)) }
+{
+    text.len() as u64
+}
+
+/// The length of a value: a text's UTF-8 bytes, or how many items or entries there are; a bool, int or
+/// uint has 0.
+pub fn length(value: &Value) -> u64
+    ensures { result ≡ length_of (value_view value.now) }
+{
+    match value {
+        Value::Text(text) => text_length(text),
+        Value::Bytes(bytes) => bytes.len() as u64,
+        Value::List(items) => item_count(items) as u64,
+        Value::Map(map) => map.len() as u64,
+        _ => 0,
+    }
+}
+
+/// How many values there are.
+pub fn item_count(items: &[Value]) -> usize
+    ensures { result ≡ item_count (values_view items.now) }
+{
+    items.len()
+}
 
 // What is left of a number once the mass of a text is taken from it, if it is enough.
 fn spend_text(text: &RcStr, left: u64) -> Option<u64>

@@ -1,0 +1,4 @@
+pub mod Parts
+pub mod TextParts
+pub mod Elements
+pub mod Products

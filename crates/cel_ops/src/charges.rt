@@ -1,0 +1,125 @@
+//! What operations are charged, taken from the fuel that is left (this project's measure).
+
+ghost use Rattle.std.specs.Prelude.{◌≡◌, ◌≢◌, ◌+◌, ◌*◌, length};
+ghost use Rattle.cel_value.specs.Masses.{left_of, length_of, mass};
+ghost use Rattle.cel_value.specs.Texts.{text_view, utf8_of};
+ghost use Rattle.cel_value.specs.View.{answer_view, value_view};
+ghost use Rattle.cel_ops.specs.Charges.{comparison_charge, counted_length, field_charge, in_list_charge, in_map_charge, joined_charge, loop_charge, map_index_charge, size_charge};
+
+use cel_value::{Answer, Value, length, spend, text_length};
+use std::rc::RcStr;
+
+/// What is left after a comparison or a test of texts: 1 and both masses.
+pub fn spend_comparison(left: &Answer, right: &Answer, fuel: u64) -> Option<u64>
+    ensures { result ≡ left_of fuel (comparison_charge (answer_view left.now) (answer_view right.now)) }
+{
+    let rest = fuel.checked_sub(1)?;
+    match (left, right) {
+        (Ok(a), Ok(b)) => spend(b, spend(a, rest)?),
+        _ => Some(rest),
+    }
+}
+
+/// What is left after joining: 1 and both lengths.
+pub fn spend_join(left: &Answer, right: &Answer, fuel: u64) -> Option<u64>
+    ensures { result ≡ left_of fuel (joined_charge (answer_view left.now) (answer_view right.now)) }
+{
+    let rest = fuel.checked_sub(1)?;
+    match (left, right) {
+        (Ok(a), Ok(b)) => rest.checked_sub(length(a))?.checked_sub(length(b)),
+        _ => Some(rest),
+    }
+}
+
+/// What is left after `size`: 1, and the length of a text or of bytes.
+pub fn spend_size(operand: &Answer, fuel: u64) -> Option<u64>
+    ensures { result ≡ left_of fuel (size_charge (answer_view operand.now)) }
+{
+    let rest = fuel.checked_sub(1)?;
+    match operand {
+        Ok(Value::Text(text)) => rest.checked_sub(text_length(text)),
+        Ok(Value::Bytes(bytes)) => rest.checked_sub(bytes.len() as u64),
+        _ => Some(rest),
+    }
+}
+
+/// What is left after a look-up of a key (right) in a map (left): 1, and the key's mass times the map's
+/// length.
+pub fn spend_map_index(left: &Answer, right: &Answer, fuel: u64) -> Option<u64>
+    ensures { result ≡ left_of fuel (map_index_charge (answer_view left.now) (answer_view right.now)) }
+{
+    let rest = fuel.checked_sub(1)?;
+    match (left, right) {
+        (Ok(map), Ok(key)) => spend_times(key, length(map), rest),
+        _ => Some(rest),
+    }
+}
+
+/// What is left after a test whether a map (right) has a key (left): the same.
+pub fn spend_in_map(left: &Answer, right: &Answer, fuel: u64) -> Option<u64>
+    ensures { result ≡ left_of fuel (in_map_charge (answer_view left.now) (answer_view right.now)) }
+{
+    let rest = fuel.checked_sub(1)?;
+    match (left, right) {
+        (Ok(key), Ok(map)) => spend_times(key, length(map), rest),
+        _ => Some(rest),
+    }
+}
+
+/// What is left after a look-up of a name in a map: 1, and one more than the name's length times the
+/// map's length.
+pub fn spend_field(name: &RcStr, operand: &Answer, fuel: u64) -> Option<u64>
+    ensures { result ≡ left_of fuel (field_charge (text_view name.now) (answer_view operand.now)) }
+{
+    let rest = fuel.checked_sub(1)?;
+    match operand {
+        Ok(map) => {
+            let times = length(map);
+            spend_product(text_length(name), times, rest.checked_sub(times)?)
+        }
+        Err(_) => Some(rest),
+    }
+}
+
+/// What is left after a test whether a list (right) has a value (left): 1, the list's mass, and the
+/// list's length times the value's mass.
+pub fn spend_in_list(left: &Answer, right: &Answer, fuel: u64) -> Option<u64>
+    ensures { result ≡ left_of fuel (in_list_charge (answer_view left.now) (answer_view right.now)) }
+{
+    let rest = fuel.checked_sub(1)?;
+    match (left, right) {
+        (Ok(value), Ok(list)) => spend_times(value, length(list), spend(list, rest)?),
+        _ => Some(rest),
+    }
+}
+
+/// What is left after opening a loop: 1, and the length of what it ranges over.
+pub fn spend_loop(range: &Answer, fuel: u64) -> Option<u64>
+    ensures { result ≡ left_of fuel (loop_charge (answer_view range.now)) }
+{
+    let rest = fuel.checked_sub(1)?;
+    match range {
+        Ok(value) => rest.checked_sub(length(value)),
+        Err(_) => Some(rest),
+    }
+}
+
+// What is left once the value's mass is taken so many times, if it is enough.
+pub(crate) fn spend_times(value: &Value, times: u64, left: u64) -> Option<u64>
+    ensures { result ≡ left_of left (mass (value_view value.now) * times) }
+{
+    if times == 0 {
+        return Some(left);
+    }
+    match spend(value, left) {
+        Some(rest) => spend_product(left - rest, times, left),
+        None => None,
+    }
+}
+
+// What is left once the product is taken, if it is enough.
+fn spend_product(count: u64, times: u64, left: u64) -> Option<u64>
+    ensures { result ≡ left_of left (count * times) }
+{
+    left.checked_sub(count.checked_mul(times)?)
+}
