@@ -4,5 +4,8 @@ pub mod Walking
 pub mod Settings
 pub mod Fitting
 pub mod Asked
+pub mod Forms
+pub mod KeptScalars
+pub mod KeptItems
 pub mod Kept
 pub mod Sound
