@@ -2,3 +2,4 @@ pub mod Parts
 pub mod TextParts
 pub mod Elements
 pub mod Products
+pub mod MadeMaps

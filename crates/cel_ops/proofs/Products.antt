@@ -1,11 +1,12 @@
 -- What is short of a number is short of its products.
-use Rattle.std.proofs.Common.{◌≡◌, ◌≢◌, ◌<◌, ◌≤◌, ◌+◌, ◌*◌, ℕ, zero, suc, Some, None, sym, ◌∙◌, inl, inr, arith}
+use Rattle.std.proofs.Common.{◌≡◌, ◌≢◌, ◌≤◌, ◌*◌, ℕ, zero, suc, Some, None, refl, sym, ◌∙◌, inl, inr, arith}
+use Rattle.std.proofs.Math.Nat.{mul-suc}
 use Rattle.std.proofs.lemmas.Bool.{cases_lt}
 use Rattle.cel_value.specs.Masses.{left_of}
 use Rattle.cel_value.proofs.Spending.{left-enough, left-short}
 
 grows : (m t : ℕ) → m ≤ m * suc t
-grows m t = ?
+grows m t = omega (arith, mul-suc m t)
 
 pub short-times : (n m t : ℕ) → None ≡ left_of n m → t ≢ 0 → None ≡ left_of n (m * t)
 short-times n m zero short some = absurd (some refl)

@@ -122,14 +122,14 @@ abbrev pub are_distinct : CelEntries → Bool
 are_distinct no_entries = true
 are_distinct (entry k v es) = not (is_some (get es k)) && are_distinct es
 
--- the entries in ascending order
-abbrev pub in_order : CelEntries → CelEntries
-in_order no_entries = no_entries
-in_order (entry k v es) = put k v (in_order es)
+-- ascending entries with more put in their places, one after the other
+abbrev pub all_put : CelEntries → CelEntries → CelEntries
+all_put made no_entries = made
+all_put made (entry k v es) = all_put (put k v made) es
 
 -- the map that entries make, if no key stands twice
 abbrev pub map_made_of : CelEntries → CelAnswer
-map_made_of es = if are_distinct es then value (map_of (in_order es)) else fails RepeatedKey
+map_made_of es = if are_distinct es then value (map_of (all_put no_entries es)) else fails RepeatedKey
 
 -- a map literal of answers, keys and values in turn from left to right
 abbrev pub map_literal : List CelAnswer → Option CelAnswer

@@ -1,4 +1,5 @@
 pub mod Strict
+pub mod Gathering
 pub mod Logic
 pub mod Arithmetic
 pub mod Comparison

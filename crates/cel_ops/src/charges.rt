@@ -104,6 +104,51 @@ pub fn spend_loop(range: &Answer, fuel: u64) -> Option<u64>
     }
 }
 
+/// What is left after a list literal of these operands: 1, and how many there are; 1 where one of them is
+/// an error.
+pub fn spend_list_literal(operands: &[Answer], fuel: u64) -> Option<u64>
+    ensures { result ≡ left_of fuel (list_literal_charge (map answer_view operands.now)) }
+{
+    let rest = fuel.checked_sub(1)?;
+    if has_error(operands) {
+        return Some(rest);
+    }
+    rest.checked_sub(operands.len() as u64)
+}
+
+/// What is left after a map literal of these operands, keys and values in turn: 1, and how many entries
+/// there are times the masses of all keys; 1 where one of them is an error.
+pub fn spend_map_literal(operands: &[Answer], fuel: u64) -> Option<u64>
+    ensures { result ≡ left_of fuel (map_literal_charge (map answer_view operands.now)) }
+{
+    let rest = fuel.checked_sub(1)?;
+    if has_error(operands) {
+        return Some(rest);
+    }
+    spend_keys(operands, operands.len() as u64 / 2, rest)
+}
+
+fn has_error(operands: &[Answer]) -> bool
+    ensures { result ≡ is_error (gather (map answer_view operands.now)) }
+{
+    operands.iter().any(|operand| operand.is_err())
+}
+
+// What is left once the mass of each key is taken so many times, if it is enough.
+fn spend_keys(operands: &[Answer], times: u64, left: u64) -> Option<u64>
+    ensures { result ≡ left_of left (times * operand_keys_mass (map answer_view operands.now)) }
+{
+    let mut rest = left;
+    let mut index = 0;
+    while index < operands.len() {
+        if let Ok(key) = &operands[index] {
+            rest = spend_times(key, times, rest)?;
+        }
+        index += 2;
+    }
+    Some(rest)
+}
+
 // What is left once the value's mass is taken so many times, if it is enough.
 pub(crate) fn spend_times(value: &Value, times: u64, left: u64) -> Option<u64>
     ensures { result ≡ left_of left (mass (value_view value.now) * times) }

@@ -5,6 +5,7 @@ mod arithmetic;
 mod charges;
 mod collections;
 mod comparison;
+mod literals;
 mod logic;
 mod texts;
 
@@ -17,5 +18,6 @@ pub use collections::{
     element_at, has_field, index_list, index_map, is_in_list, is_in_map, select_field, size,
 };
 pub use comparison::{CompareOp, compare};
+pub use literals::{make_list, make_map};
 pub use logic::{conjunction, disjunction, logical_not, not_strictly_false};
 pub use texts::{TextTest, join, test_text};
