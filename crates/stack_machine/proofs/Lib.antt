@@ -7,5 +7,6 @@ pub mod Asked
 pub mod Forms
 pub mod KeptScalars
 pub mod KeptItems
+pub mod KeptMaps
 pub mod Kept
 pub mod Sound
