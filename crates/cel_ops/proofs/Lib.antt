@@ -3,3 +3,4 @@ pub mod TextParts
 pub mod Elements
 pub mod Products
 pub mod MadeMaps
+pub mod Operands

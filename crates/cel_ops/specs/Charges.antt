@@ -1,8 +1,8 @@
 -- What each operation is charged, in steps (this project's measure); an error is charged 1.
-use Rattle.std.specs.Prelude.{ℕ, ◌+◌, ◌*◌, List, length, zero, suc}
+use Rattle.std.specs.Prelude.{ℕ, ◌+◌, ◌*◌, List, length}
 use Rattle.cel_value.specs.Values.{CelValue, text, bytes, list, map_of, CelValues, no_items, item, CelAnswer, value, fails}
 use Rattle.cel_value.specs.Texts.{utf8_of}
-use Rattle.cel_value.specs.Masses.{length_of, mass}
+use Rattle.cel_value.specs.Masses.{item_count, length_of, mass}
 use Rattle.cel_ops.specs.Strict.{Gathered, all_values, first_error, gather}
 
 -- 1 for an error, and of a value so much more
@@ -57,23 +57,24 @@ in_list_charge a b = strict_charge_two (λ v l. mass l + length_of l * mass v) a
 
 -- of a list literal: how many items it has
 abbrev pub list_literal_charge : List CelAnswer → ℕ
-list_literal_charge answers = strict_charge_all (λ vs. length answers) (gather answers)
+list_literal_charge answers = strict_charge_all item_count (gather answers)
 
--- the masses of the keys among keys and values in turn
+-- how many pairs there are among keys and values in turn
+abbrev pub pair_count : CelValues → ℕ
+pair_count no_items = 0
+pair_count (item k no_items) = 0
+pair_count (item k (item v vs)) = 1 + pair_count vs
+
+-- the masses of their keys together
 abbrev pub keys_mass : CelValues → ℕ
 keys_mass no_items = 0
-keys_mass (item k no_items) = mass k
+keys_mass (item k no_items) = 0
 keys_mass (item k (item v vs)) = mass k + keys_mass vs
 
--- how many keys there are among keys and values in turn
-abbrev pub half : ℕ → ℕ
-half zero = 0
-half (suc zero) = 0
-half (suc (suc n)) = suc (half n)
-
--- of a map literal: how many entries it has, times the masses of all its keys
+-- of a map literal: the masses of its keys together, times how many entries it has
 abbrev pub map_literal_charge : List CelAnswer → ℕ
-map_literal_charge answers = strict_charge_all (λ vs. half (length answers) * keys_mass vs) (gather answers)
+map_literal_charge answers =
+    strict_charge_all (λ vs. keys_mass vs * pair_count vs) (gather answers)
 
 -- of opening a loop: the length of what it ranges over
 abbrev pub loop_charge : CelAnswer → ℕ

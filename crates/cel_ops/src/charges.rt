@@ -1,10 +1,11 @@
 //! What operations are charged, taken from the fuel that is left (this project's measure).
 
-ghost use Rattle.std.specs.Prelude.{◌≡◌, ◌≢◌, ◌+◌, ◌*◌, length};
+ghost use Rattle.std.specs.Prelude.{◌≡◌, ◌≢◌, ◌+◌, ◌*◌, length, map};
 ghost use Rattle.cel_value.specs.Masses.{left_of, length_of, mass};
 ghost use Rattle.cel_value.specs.Texts.{text_view, utf8_of};
 ghost use Rattle.cel_value.specs.View.{answer_view, value_view};
-ghost use Rattle.cel_ops.specs.Charges.{comparison_charge, counted_length, field_charge, in_list_charge, in_map_charge, joined_charge, loop_charge, map_index_charge, size_charge};
+ghost use Rattle.cel_ops.specs.Charges.{comparison_charge, field_charge, in_list_charge, in_map_charge, joined_charge, list_literal_charge, loop_charge, map_index_charge, map_literal_charge, size_charge};
+ghost use Rattle.cel_ops.specs.Gathering.{answer_mass, firsts_mass, some_error};
 
 use cel_value::{Answer, Value, length, spend, text_length};
 use std::rc::RcStr;
@@ -125,32 +126,42 @@ pub fn spend_map_literal(operands: &[Answer], fuel: u64) -> Option<u64>
     if has_error(operands) {
         return Some(rest);
     }
-    spend_keys(operands, operands.len() as u64 / 2, rest)
+    spend_firsts(operands, operands.len() as u64 / 2, rest)
 }
 
 fn has_error(operands: &[Answer]) -> bool
-    ensures { result ≡ is_error (gather (map answer_view operands.now)) }
+    ensures { result ≡ some_error (map answer_view operands.now) }
 {
-    operands.iter().any(|operand| operand.is_err())
+    for operand in operands {
+        if operand.is_err() {
+            return true;
+        }
+    }
+    false
 }
 
-// What is left once the mass of each key is taken so many times, if it is enough.
-fn spend_keys(operands: &[Answer], times: u64, left: u64) -> Option<u64>
-    ensures { result ≡ left_of left (times * operand_keys_mass (map answer_view operands.now)) }
+// What is left once the mass of each first of two is taken so many times, if it is enough.
+fn spend_firsts(operands: &[Answer], times: u64, left: u64) -> Option<u64>
+    ensures { result ≡ left_of left (firsts_mass (map answer_view operands.now) * times) }
 {
     let mut rest = left;
-    let mut index = 0;
-    while index < operands.len() {
-        if let Ok(key) = &operands[index] {
-            rest = spend_times(key, times, rest)?;
-        }
-        index += 2;
+    for pair in 0..operands.len() / 2 {
+        rest = spend_answer(&operands[2 * pair], times, rest)?;
     }
     Some(rest)
 }
 
+fn spend_answer(operand: &Answer, times: u64, left: u64) -> Option<u64>
+    ensures { result ≡ left_of left (answer_mass (answer_view operand.now) * times) }
+{
+    match operand {
+        Ok(value) => spend_times(value, times, left),
+        Err(_) => Some(left),
+    }
+}
+
 // What is left once the value's mass is taken so many times, if it is enough.
-pub(crate) fn spend_times(value: &Value, times: u64, left: u64) -> Option<u64>
+fn spend_times(value: &Value, times: u64, left: u64) -> Option<u64>
     ensures { result ≡ left_of left (mass (value_view value.now) * times) }
 {
     if times == 0 {
