@@ -10,3 +10,4 @@ pub mod KeptItems
 pub mod KeptMaps
 pub mod Kept
 pub mod Sound
+pub mod Spending

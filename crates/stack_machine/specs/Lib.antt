@@ -8,3 +8,4 @@ pub mod Loops
 pub mod StateView
 pub mod Shapes
 pub mod Typable
+pub mod Groups

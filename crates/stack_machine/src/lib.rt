@@ -7,6 +7,7 @@ mod error;
 mod instr;
 mod locals;
 mod open_loop;
+mod operations;
 mod stack;
 mod state;
 
