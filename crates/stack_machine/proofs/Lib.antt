@@ -11,3 +11,4 @@ pub mod KeptMaps
 pub mod Kept
 pub mod Sound
 pub mod Spending
+pub mod Literals

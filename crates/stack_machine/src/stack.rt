@@ -1,6 +1,6 @@
 //! A stack, seen as the list of its items from the top down.
 
-ghost use Rattle.std.specs.Prelude.{◌≡◌, ◌≤◌, [], ◌∷◌, length, slice_get, reverse, take, drop, MatchOption, OnOk};
+ghost use Rattle.std.specs.Prelude.{◌≡◌, ◌≤◌, [], ◌∷◌, length, slice_get, reverse, take, drop, IfOk, MatchOption, OnOk};
 ghost use Rattle.std.specs.Option.{option_copied};
 
 use std::alloc::{AllocError, Global};
@@ -73,12 +73,13 @@ impl<T: Drop> Stack<T> {
         &self.items[len - count..]
     }
 
-    /// Lets go of the topmost items, so many.
-    pub fn discard(&mut self, count: usize)
+    /// Takes the topmost items, so many, from the lowest of them up.
+    pub fn pop_many(&mut self, count: usize) -> Result<Vec<T>, AllocError>
         requires { count ≤ length self.old }
-        ensures { self.new ≡ drop count self.old }
+        ensures taken { IfOk result (λ items. items.items ≡ reverse (take count self.old)) }
+        ensures left { OnOk result (self.new ≡ drop count self.old) }
     {
-        let left = self.items.len() - count;
-        self.items.truncate(left);
+        let at = self.items.len() - count;
+        self.items.split_off(at)
     }
 }

@@ -1,9 +1,0 @@
-use Rattle.std.proofs.Common.{◌∙◌, ap, arith, drop, reverse}
-use Rattle.stack_machine.proofs.Tops.{drop-reverse}
-use Rattle.stack_machine.proofs.stack.Stack.discard.Goals as goal
-
-pub returns : goal.returns
-returns g c =
-    ap reverse c.truncate.ensures.items
-    ∙ drop-reverse c.self.inside.items.items c.args.count (rw (← c.self.view_is) at c.requires) _ (omega arith)
-    ∙ ap (drop c.args.count) c.self.view_is
