@@ -10,6 +10,7 @@ mod open_loop;
 mod operations;
 mod stack;
 mod state;
+mod step;
 
 pub use code::{Code, CodeFault};
 pub use error::RunError;
