@@ -12,3 +12,7 @@ pub mod Kept
 pub mod Sound
 pub mod Spending
 pub mod Literals
+pub mod Chains
+pub mod LeastCharge
+pub mod Runs
+pub mod Outcomes

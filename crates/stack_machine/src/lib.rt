@@ -1,19 +1,24 @@
-//! The stack machine that runs conditions. What stands here today is how a run ends without an answer.
+//! The stack machine that runs conditions: instructions, code and its runs.
 #![tactic(auto)]
 
 mod branches;
 mod code;
 mod error;
 mod instr;
+pub mod laws;
 mod locals;
 mod open_loop;
 mod operations;
+mod running;
 mod stack;
 mod state;
 mod step;
+mod verified;
 
 pub use code::{Code, CodeFault};
 pub use error::RunError;
 pub use instr::{Constant, Instr};
 pub use locals::Locals;
+pub use running::{Outcome, run};
 pub use stack::Stack;
+pub use verified::Verified;
