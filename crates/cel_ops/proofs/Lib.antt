@@ -4,3 +4,5 @@ pub mod Elements
 pub mod Products
 pub mod MadeMaps
 pub mod Operands
+pub mod Typing
+pub mod StandardFacts

@@ -37,18 +37,19 @@ insert_all made (entry k v es) =
     cond (is_some (get made k)) (fails RepeatedKey) (insert_all (put k v made) es)
 
 -- none of the keys is there already
-abbrev are_new : CelEntries → CelEntries → Bool
+abbrev pub are_new : CelEntries → CelEntries → Bool
 are_new made no_entries = true
 are_new made (entry k v es) = not (is_some (get made k)) && are_new made es
 
-is_none-get : (made : CelEntries) (k : CelKey) → is_some (get made k) ≡ false → get made k ≡ None
+pub is_none-get : (made : CelEntries) (k : CelKey) → is_some (get made k) ≡ false → get made k
+    ≡ None
 is_none-get made k h = at (get made k) h
   where
     at : (o : Option CelValue) → is_some o ≡ false → o ≡ None
     at None h = refl
     at (Some v) h = absurd cc
 
-are_new-put : (k : CelKey) (v : CelValue) (made es : CelEntries) → get made k ≡ None
+pub are_new-put : (k : CelKey) (v : CelValue) (made es : CelEntries) → get made k ≡ None
     → are_new (put k v made) es ≡ (not (is_some (get es k)) && are_new made es)
 are_new-put k v made no_entries h = refl
 are_new-put k v made (entry j w es) h =
@@ -67,42 +68,50 @@ are_new-put k v made (entry j w es) h =
 -- they make the map of all if no key stands twice, and none is there already
 pub insert_all-puts : (made es : CelEntries)
     → insert_all made es
-    ≡ cond (are_distinct es && are_new made es) (value (map_of (all_put made es))) (fails RepeatedKey)
+    ≡ cond (are_distinct es && are_new made es) (value (map_of (all_put made es)))
+        (fails RepeatedKey)
 insert_all-puts made no_entries = refl
 insert_all-puts made (entry k v es) = at (get made k) refl (insert_all-puts (put k v made) es)
   where
-    fold : (a b c : Bool) (x y : CelAnswer) → cond (a && (b && c)) x y ≡ cond ((b && a) && (true && c)) x y
+    fold : (a b c : Bool) (x y : CelAnswer) → cond (a && (b && c)) x y
+        ≡ cond ((b && a) && (true && c)) x y
     fold true true c x y = refl
     fold true false c x y = refl
     fold false true c x y = refl
     fold false false c x y = refl
+
     no_more : (a : Bool) (x y : CelAnswer) → y ≡ cond (a && false) x y
     no_more true x y = refl
     no_more false x y = refl
+
     at : (o : Option CelValue) → get made k ≡ o
         → insert_all (put k v made) es
-        ≡ cond (are_distinct es && are_new (put k v made) es) (value (map_of (all_put (put k v made) es))) (fails RepeatedKey)
+        ≡ cond (are_distinct es && are_new (put k v made) es) (value (map_of (all_put
+            (put k v made) es))) (fails RepeatedKey)
         → cond (is_some (get made k)) (fails RepeatedKey) (insert_all (put k v made) es)
-        ≡ cond ((not (is_some (get es k)) && are_distinct es) && (not (is_some (get made k)) && are_new made es))
+        ≡ cond ((not (is_some (get es k)) && are_distinct es) && (not (is_some
+            (get made k)) && are_new made es))
         (value (map_of (all_put (put k v made) es))) (fails RepeatedKey)
     at None e more =
         rw (e, more, are_new-put k v made es e)
         (fold (are_distinct es) (not (is_some (get es k))) (are_new made es) _ _)
     at (Some w) e more = rw e (no_more (not (is_some (get es k)) && are_distinct es) _ _)
 
-all_new : (es : CelEntries) → are_new no_entries es ≡ true
+pub all_new : (es : CelEntries) → are_new no_entries es ≡ true
 all_new no_entries = refl
 all_new (entry k v es) = all_new es
 
 pub made-map : (es : CelEntries) → insert_all no_entries es ≡ map_made_of es
 made-map es = insert_all-puts no_entries es
-    ∙ rw (all_new es) (same (are_distinct es) (value (map_of (all_put no_entries es))) (fails RepeatedKey))
+    ∙ rw (all_new es) (same (are_distinct es) (value (map_of (all_put no_entries es)))
+        (fails RepeatedKey))
   where
     same : (a : Bool) (x y : CelAnswer) → cond (a && true) x y ≡ cond a x y
     same true x y = refl
     same false x y = refl
 
-pub made-maps : (o : Option CelEntries) → option_map (insert_all no_entries) o ≡ option_map map_made_of o
+pub made-maps : (o : Option CelEntries) → option_map (insert_all no_entries) o
+    ≡ option_map map_made_of o
 made-maps None = refl
 made-maps (Some es) = ap Some (made-map es)
 
@@ -115,7 +124,8 @@ pub pair-put : (made : CelEntries) (k v : CelValue) (vs : CelValues) (key : CelK
 pair-put made k v vs key is new = rw (← is) (at (written_entries vs))
   where
     at : (o : Option CelEntries)
-        → option_map (insert_all made) (entry_before (Some key) v o) ≡ option_map (insert_all (put key v made)) o
+        → option_map (insert_all made) (entry_before (Some key) v o)
+            ≡ option_map (insert_all (put key v made)) o
     at None = refl
     at (Some es) = rw new refl
 

@@ -55,15 +55,18 @@ count-pairs (value k ∷ []) h = refl
 count-pairs (value k ∷ fails e ∷ answers) h = absurd cc
 count-pairs (value k ∷ value v ∷ answers) h = omega (arith, count-pairs answers h)
 
-pub list-error : (answers : List CelAnswer) → some_error answers ≡ true → list_literal_charge answers ≡ 1
+pub list-error : (answers : List CelAnswer) → some_error answers ≡ true
+    → list_literal_charge answers ≡ 1
 list-error answers h = ap (strict_charge_all item_count) (gather-error answers h).1
 
 pub list-values : (answers : List CelAnswer) → some_error answers ≡ false
     → list_literal_charge answers ≡ 1 + length answers
 list-values answers h =
-    ap (strict_charge_all item_count) (gather-values answers h) ∙ ap (λ n. 1 + n) (count-values answers h)
+    ap (strict_charge_all item_count) (gather-values answers h)
+        ∙ ap (λ n. 1 + n) (count-values answers h)
 
-pub map-error : (answers : List CelAnswer) → some_error answers ≡ true → map_literal_charge answers ≡ 1
+pub map-error : (answers : List CelAnswer) → some_error answers ≡ true
+    → map_literal_charge answers ≡ 1
 map-error answers h =
     ap (strict_charge_all (λ vs. keys_mass vs * pair_count vs)) (gather-error answers h).1
 
@@ -77,10 +80,12 @@ map-values answers h =
 pub next-first : (os : List (Result Value CelError)) (i : ℕ) (d : Result Value CelError)
     → i + 1 < length os
     → firsts_mass (map answer_view (drop i os))
-    ≡ answer_mass (answer_view (get_or os i d)) + firsts_mass (map answer_view (drop (i + 1 + 1) os))
+    ≡ answer_mass (answer_view (get_or os i d)) + firsts_mass (map answer_view (drop
+        (i + 1 + 1) os))
 next-first os i d below =
     ap (λ xs. firsts_mass (map answer_view xs))
-    (drop_more os i d (omega arith) ∙ ap (λ xs. get_or os i d ∷ xs) (drop_more os (i + 1) d (omega arith)))
+    (drop_more os i d (omega arith) ∙ ap (λ xs. get_or os i d ∷ xs) (drop_more os (i + 1) d
+        (omega arith)))
 
 -- where one operand at most is left, no first of two is
 pub no-first : (os : List (Result Value CelError)) (i : ℕ) → length os ≤ i + 1
@@ -92,8 +97,10 @@ no-first os i over = at (drop i os) (omega (arith, length-drop i os))
     at (x ∷ []) h = refl
     at (x ∷ y ∷ xs) h = absurd (omega arith)
 
-pub next-first-times : (os : List (Result Value CelError)) (i : ℕ) (d : Result Value CelError) (t : ℕ)
+pub next-first-times : (os : List (Result Value CelError)) (i : ℕ) (d : Result Value CelError)
+    (t : ℕ)
     → i + 1 < length os
     → firsts_mass (map answer_view (drop i os)) * t
-    ≡ answer_mass (answer_view (get_or os i d)) * t + firsts_mass (map answer_view (drop (i + 1 + 1) os)) * t
+    ≡ answer_mass (answer_view (get_or os i d)) * t + firsts_mass (map answer_view (drop
+        (i + 1 + 1) os)) * t
 next-first-times os i d t below = ap (λ n. n * t) (next-first os i d below) ∙ add-mul _ _ t

@@ -27,11 +27,12 @@ begins-Decides cs [] = (λ e. (cs, refl), λ h. refl)
 begins-Decides [] (p ∷ ps) = (λ e. absurd cc, λ h. let e = h.1 in absurd cc)
 begins-Decides (c ∷ cs) (p ∷ ps) =
     let d = begins-Decides cs ps in
-    let same = Decides-eqb c p in
-    ( λ e. let q = and_parts (c == p) (begins cs ps) e in let rest = d.0 q.1 in
-      (rest.0, ap₂ (λ x xs. x ∷ xs) (same.0 q.0) rest.1)
-    , λ h. let e = h.1 in let head : c ≡ p = cc in let tail : cs ≡ ps ++ h.0 = cc in
-      both (c == p) (begins cs ps) (same.1 head) (d.1 (h.0, tail)))
+    let same = Decides-eqb c p in (
+      λ e. let q = and_parts (c == p) (begins cs ps) e in let rest = d.0 q.1 in
+          (rest.0, ap₂ (λ x xs. x ∷ xs) (same.0 q.0) rest.1),
+      λ h. let e = h.1 in let head : c ≡ p = cc in let tail : cs ≡ ps ++ h.0 = cc in
+          both (c == p) (begins cs ps) (same.1 head) (d.1 (h.0, tail)),
+    )
 
 nothing-before : (before ps after : List ℕ) → [] ≡ before ++ (ps ++ after) → [] ≡ ps ++ after
 nothing-before [] ps after e = e
@@ -39,17 +40,21 @@ nothing-before (b ∷ before) ps after e = absurd cc
 
 pub contains-Decides : (cs ps : List ℕ) → Decides (contains cs ps) (IsPart ps cs)
 contains-Decides [] ps =
-    let d = begins-Decides [] ps in
-    ( λ e. let h = d.0 e in ([], h.0, h.1)
-    , λ h. d.1 (h.1, nothing-before h.0 ps h.1 h.2))
-contains-Decides (c ∷ cs) ps =
-    ( λ e. or-cases (begins (c ∷ cs) ps) (contains cs ps) e
-        (λ first. let h = (begins-Decides (c ∷ cs) ps).0 first in ([], h.0, h.1))
-        (λ later. let h = (contains-Decides cs ps).0 later in (c ∷ h.0, h.1, ap (λ xs. c ∷ xs) h.2))
-    , λ h. at h.0 h.1 h.2 (contains-Decides cs ps).1)
+    let d = begins-Decides [] ps in (
+      λ e. let h = d.0 e in ([], h.0, h.1),
+      λ h. d.1 (h.1, nothing-before h.0 ps h.1 h.2),
+    )
+contains-Decides (c ∷ cs) ps = (
+  λ e. or-cases (begins (c ∷ cs) ps) (contains cs ps) e
+      (λ first. let h = (begins-Decides (c ∷ cs) ps).0 first in ([], h.0, h.1))
+      (λ later. let h = (contains-Decides cs ps).0 later in (c ∷ h.0, h.1, ap (λ xs. c ∷ xs) h.2)),
+  λ h. at h.0 h.1 h.2 (contains-Decides cs ps).1,
+)
   where
-    at : (before after : List ℕ) → c ∷ cs ≡ before ++ (ps ++ after) → (IsPart ps cs → contains cs ps ≡ true) → contains (c ∷ cs) ps ≡ true
-    at [] after e more = or-left (begins (c ∷ cs) ps) (contains cs ps) ((begins-Decides (c ∷ cs) ps).1 (after, e))
+    at : (before after : List ℕ) → c ∷ cs ≡ before ++ (ps ++ after) → (IsPart ps cs
+        → contains cs ps ≡ true) → contains (c ∷ cs) ps ≡ true
+    at [] after e more = or-left (begins (c ∷ cs) ps) (contains cs ps) ((begins-Decides
+        (c ∷ cs) ps).1 (after, e))
     at (b ∷ before) after e more =
         let tail : cs ≡ before ++ (ps ++ after) = cc in
         or-right (begins (c ∷ cs) ps) (contains cs ps) (more (before, after, tail))
@@ -62,14 +67,17 @@ ends-Decides [] ps =
     at : (before : List ℕ) → [] ≡ before ++ ps → [] ≡ ps
     at [] e = e
     at (b ∷ before) e = absurd cc
-ends-Decides (c ∷ cs) ps =
-    ( λ e. or-cases (pointwise nat_eq (c ∷ cs) ps) (ends cs ps) e
-        (λ whole. ([], (bytes_decides (c ∷ cs) ps).0 whole))
-        (λ later. let h = (ends-Decides cs ps).0 later in (c ∷ h.0, ap (λ xs. c ∷ xs) h.1))
-    , λ h. at h.0 h.1 (ends-Decides cs ps).1)
+ends-Decides (c ∷ cs) ps = (
+  λ e. or-cases (pointwise nat_eq (c ∷ cs) ps) (ends cs ps) e
+      (λ whole. ([], (bytes_decides (c ∷ cs) ps).0 whole))
+      (λ later. let h = (ends-Decides cs ps).0 later in (c ∷ h.0, ap (λ xs. c ∷ xs) h.1)),
+  λ h. at h.0 h.1 (ends-Decides cs ps).1,
+)
   where
-    at : (before : List ℕ) → c ∷ cs ≡ before ++ ps → (IsBack ps cs → ends cs ps ≡ true) → ends (c ∷ cs) ps ≡ true
-    at [] e more = or-left (pointwise nat_eq (c ∷ cs) ps) (ends cs ps) ((bytes_decides (c ∷ cs) ps).1 e)
+    at : (before : List ℕ) → c ∷ cs ≡ before ++ ps → (IsBack ps cs → ends cs ps ≡ true)
+        → ends (c ∷ cs) ps ≡ true
+    at [] e more = or-left (pointwise nat_eq (c ∷ cs) ps) (ends cs ps) ((bytes_decides
+        (c ∷ cs) ps).1 e)
     at (b ∷ before) e more =
         let tail : cs ≡ before ++ ps = cc in
         or-right (pointwise nat_eq (c ∷ cs) ps) (ends cs ps) (more (before, tail))

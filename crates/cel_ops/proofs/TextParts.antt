@@ -35,32 +35,36 @@ module _ (ps bs : List ℕ) (u : IsUtf8 ps) (w : IsUtf8 bs) where
   front-chars h = (chars h.0, ap chars h.1 ∙ chars-append ps h.0 u)
 
   front-bytes : IsFront (chars ps) (chars bs) → IsFront ps bs
-  front-bytes h =
-      ( encode_utf8_all h.0
-      , sym (encodes-chars bs w) ∙ ap encode_utf8_all h.1 ∙ encodes-append (chars ps) h.0
-        ∙ ap (λ xs. xs ++ encode_utf8_all h.0) (encodes-chars ps u))
+  front-bytes h = (
+    encode_utf8_all h.0,
+    sym (encodes-chars bs w) ∙ ap encode_utf8_all h.1 ∙ encodes-append (chars ps) h.0
+        ∙ ap (λ xs. xs ++ encode_utf8_all h.0) (encodes-chars ps u),
+  )
 
   part-bytes : IsPart (chars ps) (chars bs) → IsPart ps bs
-  part-bytes h =
-      ( encode_utf8_all h.0
-      , encode_utf8_all h.1
-      , sym (encodes-chars bs w) ∙ ap encode_utf8_all h.2 ∙ encodes-append h.0 (chars ps ++ h.1)
+  part-bytes h = (
+    encode_utf8_all h.0,
+    encode_utf8_all h.1,
+    sym (encodes-chars bs w) ∙ ap encode_utf8_all h.2 ∙ encodes-append h.0 (chars ps ++ h.1)
         ∙ ap (λ xs. encode_utf8_all h.0 ++ xs) (encodes-append (chars ps) h.1
-        ∙ ap (λ xs. xs ++ encode_utf8_all h.1) (encodes-chars ps u)))
+        ∙ ap (λ xs. xs ++ encode_utf8_all h.1) (encodes-chars ps u)),
+  )
 
   back-bytes : IsBack (chars ps) (chars bs) → IsBack ps bs
-  back-bytes h =
-      ( encode_utf8_all h.0
-      , sym (encodes-chars bs w) ∙ ap encode_utf8_all h.1 ∙ encodes-append h.0 (chars ps)
-        ∙ ap (λ xs. encode_utf8_all h.0 ++ xs) (encodes-chars ps u))
+  back-bytes h = (
+    encode_utf8_all h.0,
+    sym (encodes-chars bs w) ∙ ap encode_utf8_all h.1 ∙ encodes-append h.0 (chars ps)
+        ∙ ap (λ xs. encode_utf8_all h.0 ++ xs) (encodes-chars ps u),
+  )
 
 part-chars : (ps bs : List ℕ) → IsUtf8 ps → IsUtf8 bs → IsPart ps bs → IsPart (chars ps) (chars bs)
 part-chars [] bs u w h = ([], chars bs, rw chars-nil refl)
-part-chars (p ∷ ps) bs u w h =
-    ( chars h.0
-    , chars h.1
-    , ap chars h.2 ∙ chars-append h.0 ((p ∷ ps) ++ h.1) (before-utf8 h.0 p ps h.1 bs u w h.2)
-      ∙ ap (λ xs. chars h.0 ++ xs) (chars-append (p ∷ ps) h.1 u))
+part-chars (p ∷ ps) bs u w h = (
+  chars h.0,
+  chars h.1,
+  ap chars h.2 ∙ chars-append h.0 ((p ∷ ps) ++ h.1) (before-utf8 h.0 p ps h.1 bs u w h.2)
+      ∙ ap (λ xs. chars h.0 ++ xs) (chars-append (p ∷ ps) h.1 u),
+)
 
 back-chars : (ps bs : List ℕ) → IsUtf8 ps → IsUtf8 bs → IsBack ps bs → IsBack (chars ps) (chars bs)
 back-chars [] bs u w h = (chars bs, rw chars-nil (sym (append-nil (chars bs))))
@@ -73,19 +77,25 @@ back-chars (p ∷ ps) bs u w h =
 
 starts : (bs ps : List ℕ) → Decides (starts_with nat_eq bs ps) (IsFront ps bs)
 starts bs ps =
-    let d = bytes_eq-Decides ps (take (length ps) bs) in
-    ( λ t. (drop (length ps) bs, sym (take-append-drop (length ps) bs)
-      ∙ ap (λ xs. xs ++ drop (length ps) bs) (sym (d.0 t)))
-    , λ h. d.1 (sym (ap (take (length ps)) h.1 ∙ take-append_seam ps h.0)))
+    let d = bytes_eq-Decides ps (take (length ps) bs) in (
+      λ t. (
+        drop (length ps) bs,
+        sym (take-append-drop (length ps) bs)
+            ∙ ap (λ xs. xs ++ drop (length ps) bs) (sym (d.0 t)),
+      ),
+      λ h. d.1 (sym (ap (take (length ps)) h.1 ∙ take-append_seam ps h.0)),
+    )
 
 finishes : (bs ps : List ℕ) → Decides (ends_with nat_eq bs ps) (IsBack ps bs)
 finishes bs ps =
     let from = length bs - length ps in
-    let d = bytes_eq-Decides ps (drop from bs) in
-    ( λ t. (take from bs, sym (take-append-drop from bs) ∙ ap (λ xs. take from bs ++ xs) (sym (d.0 t)))
-    , λ h. let n : length bs - length ps ≡ length h.0 =
-      omega (arith, ap length h.1, length-append h.0 ps) in
-      d.1 (sym (ap₂ drop n h.1 ∙ drop-append_seam h.0 ps)))
+    let d = bytes_eq-Decides ps (drop from bs) in (
+      λ t. (take from bs, sym (take-append-drop from bs)
+          ∙ ap (λ xs. take from bs ++ xs) (sym (d.0 t))),
+      λ h. let n : length bs - length ps ≡ length h.0 =
+          omega (arith, ap length h.1, length-append h.0 ps) in
+          d.1 (sym (ap₂ drop n h.1 ∙ drop-append_seam h.0 ps)),
+    )
 
 occurs : (bs ps : List ℕ) (h : IsPart ps bs) → OccursAt bs ps (length h.0)
 occurs bs ps h =
@@ -95,16 +105,21 @@ occurs bs ps h =
     ∙ ap (take (length ps)) (drop-append_seam h.0 (ps ++ h.1)) ∙ take-append_seam ps h.1)
 
 found : (bs ps : List ℕ) (r : Option ℕ) → FindsNeedle bs ps 0 r → Decides (is_some r) (IsPart ps bs)
-found bs ps None nowhere =
-    ( λ t. absurd cc
-    , λ h. let at = occurs bs ps h in
-      absurd (nowhere (length h.0) (omega arith) (omega (arith, at.fits)) at))
-found bs ps (Some k) h =
-    ( λ t. (take k bs, drop (length ps) (drop k bs)
-      , sym (take-append-drop k bs) ∙ ap (λ xs. take k bs ++ xs)
-      (sym (take-append-drop (length ps) (drop k bs))
-      ∙ ap (λ xs. xs ++ drop (length ps) (drop k bs)) (OccursAt-part bs ps k h.1)))
-    , λ p. refl)
+found bs ps None nowhere = (
+  λ t. absurd cc,
+  λ h. let at = occurs bs ps h in
+      absurd (nowhere (length h.0) (omega arith) (omega (arith, at.fits)) at),
+)
+found bs ps (Some k) h = (
+  λ t. (
+    take k bs,
+    drop (length ps) (drop k bs),
+    sym (take-append-drop k bs) ∙ ap (λ xs. take k bs ++ xs)
+        (sym (take-append-drop (length ps) (drop k bs))
+        ∙ ap (λ xs. xs ++ drop (length ps) (drop k bs)) (OccursAt-part bs ps k h.1)),
+  ),
+  λ p. refl,
+)
 
 pub starts_text : (bs ps : List ℕ) → IsUtf8 bs → IsUtf8 ps
     → starts_with nat_eq bs ps ≡ begins (chars bs) (chars ps)

@@ -39,7 +39,8 @@ abbrev pub list_index : CelAnswer → CelAnswer → Option CelAnswer
 list_index a b = strict_two item_of a b
 
 -- an answer about a key of a map; entries whose keys do not rise are no map
-abbrev pub at_key : (CelEntries → CelKey → CelAnswer) → CelEntries → Option CelKey → Option CelAnswer
+abbrev pub at_key : (CelEntries → CelKey → CelAnswer) → CelEntries → Option CelKey
+    → Option CelAnswer
 at_key f es None = None
 at_key f es (Some k) = if is_ascending es then Some (f es k) else None
 
@@ -129,11 +130,13 @@ all_put made (entry k v es) = all_put (put k v made) es
 
 -- the map that entries make, if no key stands twice
 abbrev pub map_made_of : CelEntries → CelAnswer
-map_made_of es = if are_distinct es then value (map_of (all_put no_entries es)) else fails RepeatedKey
+map_made_of es = if are_distinct es then value (map_of
+    (all_put no_entries es)) else fails RepeatedKey
 
 -- a map literal of answers, keys and values in turn from left to right
 abbrev pub map_literal : List CelAnswer → Option CelAnswer
-map_literal answers = strict_all (λ vs. option_map map_made_of (written_entries vs)) (gather answers)
+map_literal answers = strict_all (λ vs. option_map map_made_of (written_entries vs))
+    (gather answers)
 
 -- what a comprehension ranges over: the items of a list, or the keys of a map in ascending order
 abbrev pub elements_of : CelValue → Option CelValues

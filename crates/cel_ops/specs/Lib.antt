@@ -6,3 +6,4 @@ pub mod Comparison
 pub mod Parts
 pub mod Collections
 pub mod Charges
+pub mod Typed

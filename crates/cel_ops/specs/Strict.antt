@@ -10,7 +10,8 @@ strict f (fails e) = Some (fails e)
 strict f (value v) = f v
 
 -- an operation that passes on the leftmost error
-abbrev pub strict_two : (CelValue → CelValue → Option CelAnswer) → CelAnswer → CelAnswer → Option CelAnswer
+abbrev pub strict_two : (CelValue → CelValue → Option CelAnswer) → CelAnswer → CelAnswer
+    → Option CelAnswer
 strict_two f (fails e) b = Some (fails e)
 strict_two f (value v) (fails e) = Some (fails e)
 strict_two f (value v) (value w) = f v w

@@ -5,8 +5,11 @@ mod arithmetic;
 mod charges;
 mod collections;
 mod comparison;
+pub mod laws;
 mod literals;
 mod logic;
+#[cfg(test)]
+mod tests;
 mod texts;
 
 pub use arithmetic::{ArithmeticOp, calculate, negate};

@@ -57,8 +57,12 @@ fn collect_entries(alloc: Global, values: Vec<Value>) -> Result<Answer, AllocErr
     let mut entries = Vec::new(alloc);
     let mut rest = values.into_iter();
     while let Some(key) = rest.next() {
-        let Some(value) = rest.next() else { unreachable!() };
-        let Some(key) = key.into_key() else { unreachable!() };
+        let Some(value) = rest.next() else {
+            unreachable!()
+        };
+        let Some(key) = key.into_key() else {
+            unreachable!()
+        };
         if !insert_entry(&mut entries, key, value)? {
             return Ok(Err(CelError::RepeatedKey));
         }

@@ -18,7 +18,8 @@ get-above k no_entries a = refl
 get-above k (entry j v es) a = rw (less-apart k j a.0) (get-above k es a.1)
 
 -- a key below all of a map is none of it
-not-there : (j k : CelKey) (w : CelValue) (fs : CelEntries) → key_cmp j k ≡ Less → AllAbove k fs → get (entry k w fs) j ≡ None
+not-there : (j k : CelKey) (w : CelValue) (fs : CelEntries) → key_cmp j k ≡ Less → AllAbove k fs
+    → get (entry k w fs) j ≡ None
 not-there j k w fs h a = get-above j (entry k w fs) (h, above-lower j k h fs a)
 
 own : (k : CelKey) (v : CelValue) (es : CelEntries) → get (entry k v es) k ≡ Some v
@@ -41,7 +42,8 @@ standing j k = by_order (key_cmp j k) refl
     by_order Equal e = same ((key_eq-Decides j k).0 (key_eq-cmp j k ∙ ap is_eq e))
     by_order Greater e = higher (key_cmp-antisymm k j ∙ ap ordering_reverse e)
 
-pub same-map : (es fs : CelEntries) → IsAscending es → IsAscending fs → ((q : CelKey) → get es q ≡ get fs q) → es ≡ fs
+pub same-map : (es fs : CelEntries) → IsAscending es → IsAscending fs → ((q : CelKey) → get es q
+    ≡ get fs q) → es ≡ fs
 same-map no_entries no_entries a b h = refl
 same-map no_entries (entry k w fs) a b h = absurd (apart-somes w (sym (own k w fs) ∙ sym (h k)))
 same-map (entry j v es) no_entries a b h = absurd (apart-somes v (sym (own j v es) ∙ h j))
@@ -49,14 +51,17 @@ same-map (entry j v es) (entry k w fs) a b h = elim (standing j k) [
   | lower l ↦ absurd (apart-somes v (sym (own j v es) ∙ h j ∙ not-there j k w fs l b.0))
   | higher l ↦ absurd (apart-somes w (sym (own k w fs) ∙ sym (h k) ∙ not-there k j v es l a.0))
   | same e ↦
-      let values : Some v ≡ Some w = sym (own j v es) ∙ h j ∙ ap (get (entry k w fs)) e ∙ own k w fs in
+      let values : Some v ≡ Some w = sym (own j v es) ∙ h j ∙ ap (get (entry k w fs)) e
+          ∙ own k w fs in
       let value : v ≡ w = cc in
       let above : AllAbove j fs = rw e b.0 in
-      let tails : es ≡ fs = same-map es fs a.1 b.1 (λ q. tail j v w es fs q a.0 above (h q ∙ ap (λ i. get (entry i w fs) q) (sym e))) in
+      let tails : es ≡ fs = same-map es fs a.1 b.1 (λ q. tail j v w es fs q a.0 above (h q
+          ∙ ap (λ i. get (entry i w fs) q) (sym e))) in
       ap₂ (λ i u. entry i u es) e value ∙ ap (entry k w) tails
 ]
   where
-    tail : (i : CelKey) (v w : CelValue) (es fs : CelEntries) (q : CelKey) → AllAbove i es → AllAbove i fs → get (entry i v es) q ≡ get (entry i w fs) q → get es q ≡ get fs q
+    tail : (i : CelKey) (v w : CelValue) (es fs : CelEntries) (q : CelKey) → AllAbove i es
+        → AllAbove i fs → get (entry i v es) q ≡ get (entry i w fs) q → get es q ≡ get fs q
     tail i v w es fs q a b h = elim (cases_Bool (key_eq i q)) [
       | inl yes_same ↦
           let at : i ≡ q = (key_eq-Decides i q).0 yes_same in

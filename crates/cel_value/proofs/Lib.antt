@@ -7,3 +7,4 @@ pub mod Extensional
 pub mod Searching
 pub mod MapSearching
 pub mod Walking
+pub mod StandardFacts

@@ -31,7 +31,8 @@ entries-made : (es : List (Key × Value)) → entries_view es ≡ made_of entry_
 entries-made [] = refl
 entries-made (e ∷ es) = ap (entry (key_view e.0) (value_view e.1)) (entries-made es)
 
-pairs-made : (ps : List (RcStr Global × RcStr Global)) → pairs_view ps ≡ made_of pair_key pair_value ps
+pairs-made : (ps : List (RcStr Global × RcStr Global)) → pairs_view ps
+    ≡ made_of pair_key pair_value ps
 pairs-made [] = refl
 pairs-made (p ∷ ps) = ap (entry (pair_key p) (pair_value p)) (pairs-made ps)
 
@@ -60,22 +61,28 @@ module _ (q : CelKey) {F : Type 0} {g : Mut F (Bor (Key × Value) × Unit {0}) O
       ≡ put (key_view x.0) (value_view x.1) (entries_view xs)
   entry-placed x xs i same within up found =
       entries-made (take i xs ++ x ∷ drop i xs)
-      ∙ put-absent entry_key entry_value q answers x xs i same within (rw (entries-made xs) at up) found
+      ∙ put-absent entry_key entry_value q answers x xs i same within (rw
+          (entries-made xs) at up) found
       ∙ ap (put (key_view x.0) (value_view x.1)) (sym (entries-made xs))
 
-module _ (q : CelKey) {F : Type 0} {g : Mut F (Bor (RcStr Global × RcStr Global) × Unit {0}) Ordering} {f : F}
-    (answers : (a : Bor (RcStr Global × RcStr Global) × Unit {0}) (r : Ordering) (f' : F) → Called g f a r f'
+module _ (q : CelKey) {F : Type 0} {g : Mut F (Bor
+    (RcStr Global × RcStr Global) × Unit {0}) Ordering} {f : F}
+    (answers : (a : Bor (RcStr Global × RcStr Global) × Unit {0}) (r : Ordering) (f' : F)
+        → Called g f a r f'
     → (r ≡ key_cmp (text_key (text_view a.0.now.0)) q) × (f' ≡ f)) where
-  pub pair-found : (xs : List (RcStr Global × RcStr Global)) (i : ℕ) (d : RcStr Global × RcStr Global)
+  pub pair-found : (xs : List (RcStr Global × RcStr Global)) (i : ℕ)
+      (d : RcStr Global × RcStr Global)
       → IsAscending (pairs_view xs) → i < length xs
-      → ((ord : RcStr Global × RcStr Global → Ordering) → ComputesKey g ord f → IsBinarySearchResult ord xs (Ok i))
+      → ((ord : RcStr Global × RcStr Global → Ordering) → ComputesKey g ord f
+          → IsBinarySearchResult ord xs (Ok i))
       → get (pairs_view xs) q ≡ Some (text (text_view (get_or xs i d).1))
   pair-found xs i d up below found =
       rw (pairs-made xs)
       (get-found pair_key pair_value q answers xs i d (rw (pairs-made xs) at up) below found)
 
   pub pair-absent : (xs : List (RcStr Global × RcStr Global)) (i : ℕ) → IsAscending (pairs_view xs)
-      → ((ord : RcStr Global × RcStr Global → Ordering) → ComputesKey g ord f → IsBinarySearchResult ord xs (Err i))
+      → ((ord : RcStr Global × RcStr Global → Ordering) → ComputesKey g ord f
+          → IsBinarySearchResult ord xs (Err i))
       → get (pairs_view xs) q ≡ None
   pair-absent xs i up found =
       rw (pairs-made xs)
@@ -83,14 +90,17 @@ module _ (q : CelKey) {F : Type 0} {g : Mut F (Bor (RcStr Global × RcStr Global
 
 -- no key of texts is another kind's
 
-pub pairs-no-bool : (ps : List (RcStr Global × RcStr Global)) (b : _) → get (pairs_view ps) (bool_key b) ≡ None
+pub pairs-no-bool : (ps : List (RcStr Global × RcStr Global)) (b : _)
+    → get (pairs_view ps) (bool_key b) ≡ None
 pairs-no-bool [] b = refl
 pairs-no-bool (p ∷ ps) b = pairs-no-bool ps b
 
-pub pairs-no-int : (ps : List (RcStr Global × RcStr Global)) (i : _) → get (pairs_view ps) (int_key i) ≡ None
+pub pairs-no-int : (ps : List (RcStr Global × RcStr Global)) (i : _)
+    → get (pairs_view ps) (int_key i) ≡ None
 pairs-no-int [] i = refl
 pairs-no-int (p ∷ ps) i = pairs-no-int ps i
 
-pub pairs-no-uint : (ps : List (RcStr Global × RcStr Global)) (n : _) → get (pairs_view ps) (uint_key n) ≡ None
+pub pairs-no-uint : (ps : List (RcStr Global × RcStr Global)) (n : _)
+    → get (pairs_view ps) (uint_key n) ≡ None
 pairs-no-uint [] n = refl
 pairs-no-uint (p ∷ ps) n = pairs-no-uint ps n

@@ -32,9 +32,10 @@ same-int : (a : ℤ) → is_eq (int_cmp a a) ≡ true
 same-int a = grind (arith, ints)
 
 int-ties : (a b : ℤ) → int_eq a b ≡ is_eq (int_cmp a b)
-int-ties a b = same_from_decides _ _ (Decides-int_eq a b)
-    ( λ e. int_cmp-IsAntisymmetric a b ((Equal-is (int_cmp a b)).0 e)
-    , λ e. let P : ℤ → Type 0 = λ z. is_eq (int_cmp a z) ≡ true in subst P e (same-int a))
+int-ties a b = same_from_decides _ _ (Decides-int_eq a b) (
+  λ e. int_cmp-IsAntisymmetric a b ((Equal-is (int_cmp a b)).0 e),
+  λ e. let P : ℤ → Type 0 = λ z. is_eq (int_cmp a z) ≡ true in subst P e (same-int a),
+)
 
 -- keys are equal where neither is below the other
 pub key_eq-cmp : (j k : CelKey) → key_eq j k ≡ is_eq (key_cmp j k)
@@ -70,19 +71,25 @@ not_true : (b : Bool) → b ≢ true → b ≡ false
 not_true b h = false_from_ne_true b h
 
 -- the new key has its value, and every other key what it had
-pub get-put : (k : CelKey) (v : CelValue) (es : CelEntries) (q : CelKey) → get es k ≡ None → get (put k v es) q ≡ (if key_eq k q then Some v else get es q)
+pub get-put : (k : CelKey) (v : CelValue) (es : CelEntries) (q : CelKey) → get es k ≡ None
+    → get (put k v es) q ≡ (if key_eq k q then Some v else get es q)
 get-put k v no_entries q h = refl
 get-put k v (entry j w es) q h = by_place (λ r. get-put k v es q r) (is_lt (key_cmp k j))
   where
     -- the key is not the first one
     apart : key_eq j k ≡ false
-    apart = elim (cases_Bool (key_eq j k)) [ inl same ↦ absurd (let e : Some w ≡ None = rw same at h in cc) | inr other ↦ other ]
+    apart = elim (cases_Bool (key_eq j k)) [ inl same ↦ absurd (let e : Some w
+        ≡ None = rw same at h in cc) | inr other ↦ other ]
+
     rest : get es k ≡ None
     rest = rw apart at h
-    swap : (b c : Bool) (x y z : Option CelValue) → (b ≡ true → c ≡ true → ⊥) → cond b x (cond c y z) ≡ cond c y (cond b x z)
+
+    swap : (b c : Bool) (x y z : Option CelValue) → (b ≡ true → c ≡ true → ⊥)
+        → cond b x (cond c y z) ≡ cond c y (cond b x z)
     swap true true x y z n = absurd (n refl refl)
     swap true false x y z n = refl
     swap false c x y z n = refl
+
     -- no key is both
     both : key_eq j q ≡ true → key_eq k q ≡ true → ⊥
     both e f =
@@ -91,21 +98,27 @@ get-put k v (entry j w es) q h = by_place (λ r. get-put k v es q r) (is_lt (key
         let same : key_eq j k ≡ true = (key_eq-Decides j k).1 (a ∙ sym b) in
         let t : false ≡ true = sym apart ∙ same in
         cc
+
     by_place : (get es k ≡ None → get (put k v es) q ≡ cond (key_eq k q) (Some v) (get es q))
-        → (b : Bool) → get (cond b (entry k v (entry j w es)) (entry j w (put k v es))) q ≡ cond (key_eq k q) (Some v) (cond (key_eq j q) (Some w) (get es q))
+        → (b : Bool) → get (cond b (entry k v (entry j w es)) (entry j w (put k v es))) q
+            ≡ cond (key_eq k q) (Some v) (cond (key_eq j q) (Some w) (get es q))
     by_place more true = refl
-    by_place more false = ap (λ o. cond (key_eq j q) (Some w) o) (more rest) ∙ swap (key_eq j q) (key_eq k q) (Some w) (Some v) (get es q) both
+    by_place more false = ap (λ o. cond (key_eq j q) (Some w) o) (more rest)
+        ∙ swap (key_eq j q) (key_eq k q) (Some w) (Some v) (get es q) both
 
 -- what is above a key is above each that it is above
-pub above-lower : (k j : CelKey) → key_cmp k j ≡ Less → (es : CelEntries) → AllAbove j es → AllAbove k es
+pub above-lower : (k j : CelKey) → key_cmp k j ≡ Less → (es : CelEntries) → AllAbove j es
+    → AllAbove k es
 above-lower k j h no_entries a = tt
 above-lower k j h (entry i w es) a = (key_cmp-trans k j i h a.0, above-lower k j h es a.1)
 
-above-put : (j k : CelKey) (v : CelValue) (es : CelEntries) → key_cmp j k ≡ Less → AllAbove j es → AllAbove j (put k v es)
+above-put : (j k : CelKey) (v : CelValue) (es : CelEntries) → key_cmp j k ≡ Less → AllAbove j es
+    → AllAbove j (put k v es)
 above-put j k v no_entries h a = (h, tt)
 above-put j k v (entry i w es) h a = by_place (is_lt (key_cmp k i)) (above-put j k v es h a.1)
   where
-    by_place : (b : Bool) → AllAbove j (put k v es) → AllAbove j (cond b (entry k v (entry i w es)) (entry i w (put k v es)))
+    by_place : (b : Bool) → AllAbove j (put k v es)
+        → AllAbove j (cond b (entry k v (entry i w es)) (entry i w (put k v es)))
     by_place true more = (h, a)
     by_place false more = (a.0, more)
 
@@ -121,18 +134,27 @@ is_lt-Less Equal e = cc
 is_lt-Less Greater e = cc
 
 -- keys keep rising
-pub put-ascending : (k : CelKey) (v : CelValue) (es : CelEntries) → get es k ≡ None → IsAscending es → IsAscending (put k v es)
+pub put-ascending : (k : CelKey) (v : CelValue) (es : CelEntries) → get es k ≡ None
+    → IsAscending es → IsAscending (put k v es)
 put-ascending k v no_entries h a = (tt, tt)
-put-ascending k v (entry j w es) h a = by_place (λ r. put-ascending k v es r a.1) (is_lt (key_cmp k j)) refl
+put-ascending k v (entry j w es) h a = by_place (λ r. put-ascending k v es r a.1) (is_lt
+    (key_cmp k j)) refl
   where
     apart : key_eq j k ≡ false
-    apart = elim (cases_Bool (key_eq j k)) [ inl same ↦ absurd (let e : Some w ≡ None = rw same at h in cc) | inr other ↦ other ]
+    apart = elim (cases_Bool (key_eq j k)) [ inl same ↦ absurd (let e : Some w
+        ≡ None = rw same at h in cc) | inr other ↦ other ]
+
     rest : get es k ≡ None
     rest = rw apart at h
-    by_place : (get es k ≡ None → IsAscending (put k v es)) → (b : Bool) → is_lt (key_cmp k j) ≡ b → IsAscending (cond b (entry k v (entry j w es)) (entry j w (put k v es)))
+
+    by_place : (get es k ≡ None → IsAscending (put k v es)) → (b : Bool) → is_lt (key_cmp k j)
+        ≡ b → IsAscending (cond b (entry k v (entry j w es)) (entry j w (put k v es)))
     by_place more true e = let l = is_lt-Less (key_cmp k j) e in ((l, above-lower k j l es a.0), a)
     by_place more false e =
-        let apart_too : is_eq (key_cmp k j) ≡ false = sym (key_eq-cmp k j) ∙ not_true (key_eq k j) (λ t. let s : j ≡ k = sym ((key_eq-Decides k j).0 t) in let u : key_eq j k ≡ true = (key_eq-Decides j k).1 s in let f : false ≡ true = sym apart ∙ u in cc) in
+        let apart_too : is_eq (key_cmp k j) ≡ false = sym (key_eq-cmp k j)
+            ∙ not_true (key_eq k j) (λ t. let s : j
+            ≡ k = sym ((key_eq-Decides k j).0 t) in let u : key_eq j k
+            ≡ true = (key_eq-Decides j k).1 s in let f : false ≡ true = sym apart ∙ u in cc) in
         let l : key_cmp j k ≡ Less = key_cmp-antisymm j k ∙ above-then (key_cmp k j) e apart_too in
         (above-put j k v es l a.0, more rest)
 
@@ -141,23 +163,26 @@ pub key_cmp_total : IsTotalOrder key_cmp
 key_cmp_total = record {
   antisymm = key_cmp-antisymm;
   trans = key_cmp-trans;
-  congr = λ j k q level. ap (λ i. key_cmp i q) ((key_eq-Decides j k).0 (key_eq-cmp j k ∙ ap is_eq level));
+  congr = λ j k q level. ap (λ i. key_cmp i q) ((key_eq-Decides j k).0 (key_eq-cmp j k
+      ∙ ap is_eq level));
 }
 
 pub key_cmp-level : (j k : CelKey) → (key_cmp j k ≡ Equal) ↔ (j ≡ k)
-key_cmp-level j k =
-    ( λ level. (key_eq-Decides j k).0 (key_eq-cmp j k ∙ ap is_eq level)
-    , λ same. (Equal-is (key_cmp j k)).0 (sym (key_eq-cmp j k) ∙ (key_eq-Decides j k).1 same))
+key_cmp-level j k = (
+  λ level. (key_eq-Decides j k).0 (key_eq-cmp j k ∙ ap is_eq level),
+  λ same. (Equal-is (key_cmp j k)).0 (sym (key_eq-cmp j k) ∙ (key_eq-Decides j k).1 same),
+)
 
 -- each key below the next: then each is below all that follow
 pub is_ascending-Decides : (es : CelEntries) → (is_ascending es ≡ true) ↔ IsAscending es
 is_ascending-Decides no_entries = (λ e. tt, λ a. refl)
 is_ascending-Decides (entry k v no_entries) = (λ e. (tt, tt), λ a. refl)
 is_ascending-Decides (entry k v (entry j w es)) =
-    let below = is_ascending-Decides (entry j w es) in
-    ( λ e.
-        let parts = and_parts (is_lt (key_cmp k j)) (is_ascending (entry j w es)) e in
-        let first : key_cmp k j ≡ Less = is_lt-Less (key_cmp k j) parts.0 in
-        let rest = below.0 parts.1 in
-        ((first, above-lower k j first es rest.0), rest)
-    , λ a. rw (a.0.0, below.1 a.1) refl)
+    let below = is_ascending-Decides (entry j w es) in (
+      λ e.
+          let parts = and_parts (is_lt (key_cmp k j)) (is_ascending (entry j w es)) e in
+          let first : key_cmp k j ≡ Less = is_lt-Less (key_cmp k j) parts.0 in
+          let rest = below.0 parts.1 in
+          ((first, above-lower k j first es rest.0), rest),
+      λ a. rw (a.0.0, below.1 a.1) refl,
+    )

@@ -23,7 +23,8 @@ left-short n m h = grind (arith, nat_tests)
 
 -- a subtraction that answers where it can
 pub left-checked : (n m : ℕ) (r : Option ℕ) → SomeIff r (m ≤ n) (n - m) → r ≡ left_of n m
-left-checked n m None h = elim (cases_lt n m) [ inl short ↦ sym (left-short n m short) | inr enough ↦ absurd (h enough) ]
+left-checked n m None h = elim (cases_lt n m) [ inl short ↦ sym
+    (left-short n m short) | inr enough ↦ absurd (h enough) ]
 left-checked n m (Some x) h = ap Some h.1 ∙ sym (left-enough n m h.0)
 
 -- one after the other
@@ -35,7 +36,8 @@ left-twice n a m k e = elim (cases_lt n m) [
       let g : a ≡ n - m = cc in
       elim (cases_lt a k) [
         | inl low ↦ left-short a k low ∙ sym (left-short n (m + k) (omega arith))
-        | inr high ↦ left-enough a k high ∙ ap Some (omega arith) ∙ sym (left-enough n (m + k) (omega arith))
+        | inr high ↦ left-enough a k high ∙ ap Some (omega arith)
+            ∙ sym (left-enough n (m + k) (omega arith))
       ]
 ]
 
@@ -50,16 +52,20 @@ pub left-zero : (n : ℕ) → Some n ≡ left_of n 0
 left-zero n = ap Some (omega arith) ∙ sym (left-enough n 0 (omega arith))
 
 -- the bytes of a text are as many as those of its characters
-pub text-length : {Z : Type 0} (t : RcStr Z) → length (encode_utf8_all (chars (rc_str_bytes t))) ≡ length (rc_str_bytes t)
+pub text-length : {Z : Type 0} (t : RcStr Z) → length (encode_utf8_all (chars (rc_str_bytes t)))
+    ≡ length (rc_str_bytes t)
 text-length t = ap length (encodes-chars (rc_str_bytes t) (IsUtf8-string_bytes t.text.value))
 
 -- one, and then the length of a text
-pub text-spent : {Z : Type 0} (n a len : ℕ) (t : RcStr Z) (r s : Option ℕ) → r ≡ Some a → SomeIff r (1 ≤ n) (n - 1)
+pub text-spent : {Z : Type 0} (n a len : ℕ) (t : RcStr Z) (r s : Option ℕ) → r ≡ Some a
+    → SomeIff r (1 ≤ n) (n - 1)
     → len ≡ length (rc_str_bytes t) → SomeIff s (len ≤ a) (a - len)
     → s ≡ left_of n (1 + length (encode_utf8_all (chars (rc_str_bytes t))))
 text-spent n a len t r s is one counted more =
-    left-checked a len s more ∙ ap (left_of a) (counted ∙ sym (text-length t)) ∙ left-twice n a 1 _ (sym is ∙ left-checked n 1 r one)
+    left-checked a len s more ∙ ap (left_of a) (counted ∙ sym (text-length t))
+        ∙ left-twice n a 1 _ (sym is ∙ left-checked n 1 r one)
 
 -- one, and then another number
-pub more-spent : (n a m : ℕ) (r s : Option ℕ) → r ≡ Some a → SomeIff r (1 ≤ n) (n - 1) → s ≡ left_of a m → s ≡ left_of n (1 + m)
+pub more-spent : (n a m : ℕ) (r s : Option ℕ) → r ≡ Some a → SomeIff r (1 ≤ n) (n - 1) → s
+    ≡ left_of a m → s ≡ left_of n (1 + m)
 more-spent n a m r s is one more = more ∙ left-twice n a 1 m (sym is ∙ left-checked n 1 r one)

@@ -34,22 +34,26 @@ view-Text t = search (rules, the_lemmas)
 pub view-Bytes : (b : RcSlice ℕ Global) → value_view (Bytes b) ≡ bytes (rc_slice_items b)
 view-Bytes b = search (rules, the_lemmas)
 
-pub view-List : (v : Rc (Vec Value Global) Global) → value_view (ListValue v) ≡ list (values_view v.value.items)
+pub view-List : (v : Rc (Vec Value Global) Global) → value_view (ListValue v)
+    ≡ list (values_view v.value.items)
 view-List v = search (rules, the_lemmas)
 
 pub view-Map : (m : Map) → value_view (MapValue m) ≡ map_of (map_view m)
 view-Map m = search (rules, the_lemmas)
 
-pub view-Entries : (v : Rc (Vec (Key × Value) Global) Global) → map_view (Entries v) ≡ entries_view v.value.items
+pub view-Entries : (v : Rc (Vec (Key × Value) Global) Global) → map_view (Entries v)
+    ≡ entries_view v.value.items
 view-Entries v = search (rules, map_lemmas)
 
-pub view-Texts : (v : Rc (Vec (RcStr Global × RcStr Global) Global) Global) → map_view (Texts v) ≡ pairs_view v.value.items
+pub view-Texts : (v : Rc (Vec (RcStr Global × RcStr Global) Global) Global) → map_view (Texts v)
+    ≡ pairs_view v.value.items
 view-Texts v = search (rules, map_lemmas)
 
 pub view-ListType : (t : Rc CelType Global) → type_view (ListType t) ≡ list_type (type_view t.value)
 view-ListType t = search (rules, type_lemmas)
 
-pub view-MapType : (k : KeyType) (t : Rc CelType Global) → type_view (MapType k t) ≡ map_type k (type_view t.value)
+pub view-MapType : (k : KeyType) (t : Rc CelType Global) → type_view (MapType k t)
+    ≡ map_type k (type_view t.value)
 view-MapType k t = search (rules, type_lemmas)
 
 -- how many a view has
@@ -62,13 +66,15 @@ pub count-entries : (es : List (Key × Value)) → entry_count (entries_view es)
 count-entries [] = refl
 count-entries (e ∷ es) = ap (λ n. 1 + n) (count-entries es) ∙ omega arith
 
-pub count-pairs : (ps : List (RcStr Global × RcStr Global)) → entry_count (pairs_view ps) ≡ length ps
+pub count-pairs : (ps : List (RcStr Global × RcStr Global)) → entry_count (pairs_view ps)
+    ≡ length ps
 count-pairs [] = refl
 count-pairs (p ∷ ps) = ap (λ n. 1 + n) (count-pairs ps) ∙ omega arith
 
 -- what a map's own items say of it
 
-pub seen-Entries : (m : Map) (v : Rc (Vec (Key × Value) Global) Global) (w : Vec (Key × Value) Global)
+pub seen-Entries : (m : Map) (v : Rc (Vec (Key × Value) Global) Global) (w : Vec
+    (Key × Value) Global)
     (es : List (Key × Value)) → m ≡ Entries v → w ≡ v.value → es ≡ w.items
     → entries_view es ≡ map_view m
 seen-Entries m v w es is at items =
@@ -118,6 +124,7 @@ no-map (ListType' p t) h k s = rw (view-ListType (record { ptr = p.ptr; value = 
 no-map (MapType' j p t) h k s = absurd (h j (record { ptr = p.ptr; value = t }) refl)
 
 -- joined lists of values are seen as joined items
-pub items_of-append : (vs ws : List CelValue) → items_of (vs ++ ws) ≡ joined_items (items_of vs) (items_of ws)
+pub items_of-append : (vs ws : List CelValue) → items_of (vs ++ ws)
+    ≡ joined_items (items_of vs) (items_of ws)
 items_of-append [] ws = refl
 items_of-append (v ∷ vs) ws = ap (item v) (items_of-append vs ws)

@@ -1,13 +1,22 @@
--- The keys of a map, one after the other.
-use Rattle.std.proofs.Common.{◌≡◌, ◌<◌, ◌≤◌, ℕ, zero, suc, List, [], ◌∷◌, Some, None, length, get_or, refl, arith}
+-- The keys of a map, one after the other, and whether they rise.
+use Rattle.std.proofs.Common.{◌≡◌, ◌+◌, ◌<◌, ◌≤◌, ℕ, zero, suc, true, List, [], ◌∷◌, Some, None, drop, length, get_or, map, refl, sym, ◌∙◌, arith}
+use Rattle.std.specs.Cmp.Lexicographic.{slice_cmp}
+use Rattle.std.specs.Ordering.{nat_cmp}
+use Rattle.std.specs.Rc.{rc_str_bytes}
+use Rattle.std.specs.declared.cmp.Ordering.TheVariants.{Less}
+use Rattle.std.proofs.lemmas.List.{length-drop}
+use Rattle.std.proofs.lemmas.Str.{IsUtf8-string_bytes}
 use Rattle.std.specs.declared.rc.RcStr.{RcStr}
 use Rattle.std.specs.declared.alloc.Global.{Global}
 use Rattle.cel_value.specs.Values.{text, value_of_key}
 use Rattle.cel_value.specs.Texts.{text_view}
 use Rattle.cel_value.specs.View.{entries_view, key_view, pairs_view}
+use Rattle.cel_value.specs.Keys.{AreRising, IsAscending, is_ascending}
 use Rattle.cel_value.specs.Items.{item_at, keys_of}
 use Rattle.cel_value.specs.declared.value.Key.{Key}
 use Rattle.cel_value.specs.declared.value.Value.{Value}
+use Rattle.cel_value.proofs.Places.{is_ascending-Decides}
+use Rattle.cel_value.proofs.TextOrder.{chars-cmp}
 
 pub entry-key-at : (es : List (Key × Value)) (i : ℕ) (d : Key × Value) → i < length es
     → item_at (keys_of (entries_view es)) i ≡ Some (value_of_key (key_view (get_or es i d).0))
@@ -21,8 +30,10 @@ entry-key-past [] i past = refl
 entry-key-past (e ∷ es) zero past = absurd (omega arith)
 entry-key-past (e ∷ es) (suc i) past = entry-key-past es i (omega arith)
 
-pub pair-key-at : (ps : List (RcStr Global × RcStr Global)) (i : ℕ) (d : RcStr Global × RcStr Global)
-    → i < length ps → item_at (keys_of (pairs_view ps)) i ≡ Some (text (text_view (get_or ps i d).0))
+pub pair-key-at : (ps : List (RcStr Global × RcStr Global)) (i : ℕ)
+    (d : RcStr Global × RcStr Global)
+    → i < length ps → item_at (keys_of (pairs_view ps)) i
+        ≡ Some (text (text_view (get_or ps i d).0))
 pair-key-at [] i d below = absurd (omega arith)
 pair-key-at (p ∷ ps) zero d below = refl
 pair-key-at (p ∷ ps) (suc i) d below = pair-key-at ps i d (omega arith)
@@ -32,3 +43,41 @@ pub pair-key-past : (ps : List (RcStr Global × RcStr Global)) (i : ℕ) → len
 pair-key-past [] i past = refl
 pair-key-past (p ∷ ps) zero past = absurd (omega arith)
 pair-key-past (p ∷ ps) (suc i) past = pair-key-past ps i (omega arith)
+
+-- one entry at most rises
+
+pub entry-rises : (es : List (Key × Value)) (i : ℕ) → length es ≤ i + 1
+    → true ≡ is_ascending (entries_view (drop i es))
+entry-rises es i over = at (drop i es) (omega (arith, length-drop i es))
+  where
+    at : (xs : List (Key × Value)) → length xs ≤ 1 → true ≡ is_ascending (entries_view xs)
+    at [] h = refl
+    at (x ∷ []) h = refl
+    at (x ∷ y ∷ xs) h = absurd (omega arith)
+
+pub pair-rises : (ps : List (RcStr Global × RcStr Global)) (i : ℕ) → length ps ≤ i + 1
+    → true ≡ is_ascending (pairs_view (drop i ps))
+pair-rises ps i over = at (drop i ps) (omega (arith, length-drop i ps))
+  where
+    at : (xs : List (RcStr Global × RcStr Global)) → length xs ≤ 1 → true
+        ≡ is_ascending (pairs_view xs)
+    at [] h = refl
+    at (x ∷ []) h = refl
+    at (x ∷ y ∷ xs) h = absurd (omega arith)
+
+-- pairs whose names rise by their bytes are a map
+
+names-rise : (ps : List (RcStr Global × RcStr Global)) → AreRising (map (λ p. rc_str_bytes p.0) ps)
+    → is_ascending (pairs_view ps) ≡ true
+names-rise [] h = refl
+names-rise (p ∷ []) h = refl
+names-rise (p ∷ q ∷ ps) h =
+    let by_points : slice_cmp nat_cmp (text_view p.0) (text_view q.0) ≡ Less =
+    sym (chars-cmp (rc_str_bytes p.0) (rc_str_bytes q.0) (IsUtf8-string_bytes p.0.text.value)
+    (IsUtf8-string_bytes q.0.text.value)) ∙ h.0 in
+    rw by_points (names-rise (q ∷ ps) h.1)
+
+pub pairs-ascend : (ps : List (RcStr Global × RcStr Global))
+    → AreRising (map (λ p. rc_str_bytes p.0) ps)
+    → IsAscending (pairs_view ps)
+pairs-ascend ps h = (is_ascending-Decides (pairs_view ps)).0 (names-rise ps h)

@@ -1,6 +1,6 @@
 -- Maps as finite functions: the order of keys, look-up, and entries by ascending key.
 -- CEL language definition, "Map Values"; that keys stand in this order is this project's choice.
-use Rattle.std.specs.Prelude.{ℕ, ◌≡◌, Bool, true, false, ◌&&◌, Option, Some, None, if◌then◌else◌}
+use Rattle.std.specs.Prelude.{ℕ, ◌≡◌, Bool, true, false, ◌&&◌, List, [], ◌∷◌, Option, Some, None, if◌then◌else◌}
 use Rattle.std.specs.declared.cmp.Ordering.{Ordering}
 use Rattle.std.specs.declared.cmp.Ordering.TheVariants.{Less, Equal, Greater}
 use Rattle.std.specs.Ordering.{nat_cmp, int_cmp, bool_cmp, is_lt}
@@ -61,3 +61,9 @@ abbrev pub put : CelKey → CelValue → CelEntries → CelEntries
 put k v no_entries = entry k v no_entries
 put k v (entry j w es) =
     if is_lt (key_cmp k j) then entry k v (entry j w es) else entry j w (put k v es)
+
+-- each text is below the next by its bytes, as the headers of a request are sorted
+abbrev pub AreRising : List (List ℕ) → Type 0
+AreRising [] = Unit {0}
+AreRising (a ∷ []) = Unit {0}
+AreRising (a ∷ b ∷ texts) = (slice_cmp nat_cmp a b ≡ Less) × AreRising (b ∷ texts)

@@ -1,16 +1,20 @@
 //! Laws of values: equality is exact, keys stand in one order, and a map is a finite function.
 
-ghost use Rattle.std.specs.Prelude.{◌≡◌, ◌≢◌, ◌↔◌, ℕ, List, IsTrue, None, Some, if◌then◌else◌};
+ghost use Rattle.std.specs.Prelude.{◌≡◌, ◌≢◌, ◌↔◌, ℕ, List, IsTrue, None, Some, if◌then◌else◌, map};
 ghost use Rattle.std.specs.Cmp.{IsTotalOrder};
 ghost use Rattle.std.specs.Cmp.Lexicographic.{slice_cmp};
 ghost use Rattle.std.specs.Ordering.{nat_cmp};
+ghost use Rattle.std.specs.Rc.{rc_str_bytes};
 ghost use Rattle.std.specs.Str.{IsUtf8};
+ghost use Rattle.std.specs.declared.alloc.Global.{Global};
 ghost use Rattle.std.specs.declared.cmp.Ordering.TheVariants.{Equal};
+ghost use Rattle.std.specs.declared.rc.RcStr.{RcStr};
 ghost use Rattle.cel_value.specs.Equality.{key_eq, value_eq};
-ghost use Rattle.cel_value.specs.Keys.{IsAscending, get, is_ascending, key_cmp, put};
+ghost use Rattle.cel_value.specs.Keys.{AreRising, IsAscending, get, is_ascending, key_cmp, put};
 ghost use Rattle.cel_value.specs.Texts.{AreScalars, points_of, utf8_of};
 ghost use Rattle.cel_value.specs.Types.{ValueType, type_eq};
 ghost use Rattle.cel_value.specs.Values.{CelEntries, CelKey, CelValue};
+ghost use Rattle.cel_value.specs.View.{pairs_view};
 
 /// A text is its UTF-8 bytes: each gives back the other.
 pub fn texts_are_their_bytes()
@@ -58,4 +62,10 @@ pub fn put_is_there()
 pub fn put_keeps_order()
     ensures { (k : CelKey) (v : CelValue) (es : CelEntries) → get es k ≡ None
         → IsAscending es → IsAscending (put k v es) }
+{}
+
+/// Texts with texts are a map where each name is below the next by its bytes.
+pub fn sorted_names_are_a_map()
+    ensures { (pairs : List (RcStr Global × RcStr Global))
+        → AreRising (map (λ pair. rc_str_bytes pair.0) pairs) → IsAscending (pairs_view pairs) }
 {}

@@ -2,7 +2,7 @@
 
 ghost use Rattle.std.specs.Prelude.{◌≡◌, ◌≢◌, IfOk, IsTrue, MatchBool, None, option_map, is_some};
 ghost use Rattle.cel_value.specs.Items.{item_at, keys_of};
-ghost use Rattle.cel_value.specs.Keys.{IsAscending, get, put};
+ghost use Rattle.cel_value.specs.Keys.{IsAscending, get, is_ascending, put};
 ghost use Rattle.cel_value.specs.Masses.{entry_count};
 ghost use Rattle.cel_value.specs.Texts.{text_view};
 ghost use Rattle.cel_value.specs.Values.{text, text_key};
@@ -21,6 +21,16 @@ impl Map {
         match self {
             Map::Entries(entries) => entry_count(entries),
             Map::Texts(pairs) => pair_count(pairs),
+        }
+    }
+
+    /// Whether each key is below the next, as `get` and `contains_key` need it.
+    pub fn rises(&self) -> bool
+        ensures { result ≡ is_ascending (map_view self.now) }
+    {
+        match self {
+            Map::Entries(entries) => entries_rise(entries),
+            Map::Texts(pairs) => pairs_rise(pairs),
         }
     }
 
@@ -77,6 +87,28 @@ fn pair_count(pairs: &[(RcStr, RcStr)]) -> usize
     pairs.len()
 }
 
+fn entries_rise(entries: &[(Key, Value)]) -> bool
+    ensures { result ≡ is_ascending (entries_view entries.now) }
+{
+    for i in 1..entries.len() {
+        if !compare_keys(entries[i - 1].0.lend(), entries[i].0.lend()).is_lt() {
+            return false;
+        }
+    }
+    true
+}
+
+fn pairs_rise(pairs: &[(RcStr, RcStr)]) -> bool
+    ensures { result ≡ is_ascending (pairs_view pairs.now) }
+{
+    for i in 1..pairs.len() {
+        if !compare_texts(&pairs[i - 1].0, &pairs[i].0).is_lt() {
+            return false;
+        }
+    }
+    true
+}
+
 fn find_entry<'a>(entries: &'a [(Key, Value)], key: LentKey<'_>) -> Option<&'a Value>
     requires { IsAscending (entries_view entries.now) }
     ensures { option_map (λ v. value_view v.now) result ≡ get (entries_view entries.now) (lent_view key.entry) }
@@ -131,14 +163,18 @@ fn pair_key(pairs: &[(RcStr, RcStr)], index: usize) -> Result<Option<Value>, All
 }
 
 /// Puts an entry at its place if its key is new; answers whether it is.
-pub fn insert_entry(entries: &mut Vec<(Key, Value)>, key: Key, value: Value) -> Result<bool, AllocError>
+pub fn insert_entry(
+    entries: &mut Vec<(Key, Value)>,
+    key: Key,
+    value: Value,
+) -> Result<bool, AllocError>
     requires { IsAscending (entries_view entries.old.items) }
     ensures { IfOk result (λ fresh. MatchBool fresh
         ((get (entries_view entries.old.items) (key_view key) ≡ None)
-            × (entries_view entries.new.items
-                ≡ put (key_view key) (value_view value) (entries_view entries.old.items)))
+        × (entries_view entries.new.items
+        ≡ put (key_view key) (value_view value) (entries_view entries.old.items)))
         ((get (entries_view entries.old.items) (key_view key) ≢ None)
-            × (entries_view entries.new.items ≡ entries_view entries.old.items))) }
+        × (entries_view entries.new.items ≡ entries_view entries.old.items))) }
 {
     match entries.binary_search_by(|entry| compare_keys(entry.0.lend(), key.lend())) {
         Ok(_) => Ok(false),

@@ -40,7 +40,8 @@ loop-key-preserved c =
     ∙ ap (λ xs. c.in-Some.key ∷ xs) c.in-Some-next.ensures.items) in
     let told = rw c.if-not-branch.false at c.in_ok-insert_entry.ensures in
     record {
-      rising = rw told.1 (put-ascending key (value_view c.in-Some-next.value) made told.0 c.loop-key.invariant.rising);
+      rising = rw told.1 (put-ascending key
+          (value_view c.in-Some-next.value) made told.0 c.loop-key.invariant.rising);
       same = ap (λ es. option_map (insert_all es) (written_entries rest)) told.1
           ∙ sym (pair-put made (value_view c.in-Some.key) (value_view c.in-Some-next.value) rest key
           c.in-Some-into_key.ensures told.0)
@@ -50,10 +51,13 @@ loop-key-preserved c =
 
 pub returns : goal.returns
 returns c =
-    let none : into_iter_items c.loop-key.rest ≡ [] = nil_from_length _ (grind (arith, common_steps)) in
-    ap Some (ap value (view-Map (Entries c.in_ok-new.field-0) ∙ ap map_of (view-Entries c.in_ok-new.field-0
+    let none : into_iter_items c.loop-key.rest
+        ≡ [] = nil_from_length _ (grind (arith, common_steps)) in
+    ap Some (ap value (view-Map (Entries c.in_ok-new.field-0)
+        ∙ ap map_of (view-Entries c.in_ok-new.field-0
     ∙ ap (λ v. entries_view v.items) c.in_ok-new.ensures.ok)))
-    ∙ ap (λ xs. option_map (insert_all (entries_view c.loop-key.entries.items)) (written_entries (values_view xs)))
+    ∙ ap (λ xs. option_map (insert_all (entries_view c.loop-key.entries.items)) (written_entries
+        (values_view xs)))
     (sym none)
     ∙ c.loop-key.invariant.same
     ∙ made-maps (written_entries (values_view c.args.values.items))

@@ -7,5 +7,6 @@ use Rattle.cel_ops.proofs.literals.gather.Given as goal
 
 abbrev pub invariant-loop-operand : goal.invariant-loop-operand
 invariant-loop-operand l =
-    behind (map value_view l.values.items) (gather (map answer_view (into_iter_items l.operand-iterator)))
+    behind (map value_view l.values.items) (gather (map answer_view
+        (into_iter_items l.operand-iterator)))
     ≡ gather (map answer_view l.fn.operands.items)

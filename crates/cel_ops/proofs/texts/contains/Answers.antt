@@ -9,5 +9,6 @@ returns c =
     c.is_some.ensures
     ∙ contains_text c.as_bytes.result.now c.as_bytes-2.result.now c.find.result
     c.as_bytes.ensures.utf8 c.as_bytes-2.ensures.utf8 c.find.ensures
-    ∙ ap₂ (λ bs ps. contains (chars bs) (chars ps)) (c.as_bytes.ensures.value ∙ c.as_str.ensures.value)
+    ∙ ap₂ (λ bs ps. contains (chars bs) (chars ps)) (c.as_bytes.ensures.value
+        ∙ c.as_str.ensures.value)
     (c.as_bytes-2.ensures.value ∙ c.as_str-2.ensures.value)
