@@ -8,7 +8,8 @@ use Rattle.std.specs.Net.Grammar.{IsDotted, IsGroup}
 use Rattle.std.specs.Net.Grammar as Std
 use Rattle.std.proofs.lemmas.List.Folds.{list_any-append}
 use Rattle.std.specs.Prelude.{decimal}
-use Rattle.attributes.specs.Address.{has_dot, AreGroupsAfter, AreColonHex}
+use Rattle.attributes.specs.Address.{AreGroupsAfter, AreColonHex}
+use Rattle.attributes.specs.steps.Address.{has_dot}
 
 has_dot-mid : (xs ys : List ℕ) → has_dot (xs ++ 46 ∷ ys) ≡ true
 has_dot-mid [] ys = refl

@@ -1,211 +1,140 @@
--- Entries that come by ascending name, joined one after the other.
-use Rattle.std.proofs.Common.{◌≡◌, ℕ, Bool, true, false, List, [], ◌∷◌, ◌++◌, Some, None, cond, map, length, refl, sym, ◌∙◌, ap, append_assoc, append-nil, length-append, arith, All, ◌↔◌}
+-- The headers of entries: what they have at a name, and what one entry more changes.
+use Rattle.std.proofs.Common.{◌≡◌, ℕ, ◌+◌, ◌≤◌, true, false, List, [], ◌∷◌, ◌++◌, Option, Some, None, cond, filter, is_some, map, length, refl, sym, ◌∙◌, ap, append_assoc, append-nil, arith}
 use Rattle.std.specs.Str.{bytes_eq}
-use Rattle.std.specs.List.{join_with_byte}
-use Rattle.std.proofs.lemmas.List.{map-append, length-map}
-use Rattle.std.proofs.lemmas.List.Elements.{filter-append, All-map}
-use Rattle.std.proofs.Math.ListN.{get_or-map}
-use Rattle.std.specs.declared.string.String.{String}
-use Rattle.std.specs.declared.alloc.Global.{Global}
-use Rattle.attributes.specs.Headers.{Entry, entry_of, entries_of, IsBefore, IsAscending, AreJoined, AreSorted, value_at, values_of, joined}
-use Rattle.attributes.proofs.TextOrder.{same_from_test, test_same, before-trans, before-differs, before_from_not}
-
--- each name is before this one
-abbrev pub EachBefore : List ℕ → List Entry → Type 0
-EachBefore name [] = Unit {0}
-EachBefore name (e ∷ es) = IsBefore e.0 name × EachBefore name es
-
--- the names of ascending entries are before the last
-each-before-last : (es : List Entry) (l : Entry) → IsAscending (es ++ l ∷ []) → EachBefore l.0 es
-each-before-last [] l up = tt
-each-before-last (e ∷ []) l up = (up.0, tt)
-each-before-last (e ∷ d ∷ es) l up =
-    let rest : EachBefore l.0 (d ∷ es) = each-before-last (d ∷ es) l up.1 in
-    (before-trans e.0 d.0 l.0 up.0 rest.0, rest)
-
--- a name after the last one can follow
-ascending-more : (es : List Entry) (l e : Entry) → IsAscending (es ++ l ∷ []) → IsBefore l.0 e.0
-    → IsAscending ((es ++ l ∷ []) ++ e ∷ [])
-ascending-more [] l e up h = (h, tt)
-ascending-more (c ∷ []) l e up h = (up.0, (h, tt))
-ascending-more (c ∷ d ∷ es) l e up h = (up.0, ascending-more (d ∷ es) l e up.1 h)
-
--- the last value is of no account for the order
-ascending-value : (es : List Entry) (name v w : List ℕ) → IsAscending (es ++ (name, v) ∷ [])
-    → IsAscending (es ++ (name, w) ∷ [])
-ascending-value [] name v w up = tt
-ascending-value (c ∷ []) name v w up = (up.0, tt)
-ascending-value (c ∷ d ∷ es) name v w up = (up.0, ascending-value (d ∷ es) name v w up.1)
-
--- a name that all others are before is not there
-value_at-below : (name : List ℕ) (es : List Entry) → EachBefore name es → value_at name es ≡ None
-value_at-below name [] h = refl
-value_at-below name (e ∷ es) h = rw (before-differs e.0 name h.0) (value_at-below name es h.1)
-
--- behind entries without the name, the value is that of the rest
-value_at-behind : (name : List ℕ) (es ds : List Entry) → value_at name es ≡ None
-    → value_at name (es ++ ds) ≡ value_at name ds
-value_at-behind name [] ds h = refl
-value_at-behind name (e ∷ es) ds h =
-    elim (bytes_eq e.0 name) as (λ b. cond b (Some e.1) (value_at name es) ≡ None
-    → cond b (Some e.1) (value_at name (es ++ ds)) ≡ value_at name ds) [
-      | true ↦ λ k. cc
-      | false ↦ λ k. value_at-behind name es ds k
-    ] h
-
--- an entry of another name at the end changes nothing
-value_at-other : (name : List ℕ) (es : List Entry) (l : Entry) → bytes_eq l.0 name ≡ false
-    → value_at name (es ++ l ∷ []) ≡ value_at name es
-value_at-other name [] l h = rw h refl
-value_at-other name (e ∷ es) l h =
-    ap (λ v. cond (bytes_eq e.0 name) (Some e.1) v) (value_at-other name es l h)
+use Rattle.std.specs.FinMap.{entries, entries-insert, find, from_entries, get, get-entries, get-from_entries, get-insert, insert, len, len-empty, len-insert, same_map}
+use Rattle.std.specs.FinMap.Entries.{put}
+use Rattle.std.proofs.lemmas.Cmp.{nat_list_cmp_total}
+use Rattle.std.proofs.lemmas.List.{length-map, map-append}
+use Rattle.std.proofs.lemmas.List.Elements.{filter-append}
+use Rattle.attributes.specs.Headers.{AreJoined, Entry, HeaderMap, headers_of, joined, name_cmp, values_of, with_commas}
+use Rattle.attributes.proofs.TextOrder.{names_differ, same_from_test, test_same, ties_by_test}
 
 -- the values of one more entry
-pub values_of-more : (name : List ℕ) (es : List Entry) (l : Entry)
-    → values_of name (es ++ l ∷ []) ≡ values_of name es ++ values_of name (l ∷ [])
-values_of-more name es l = simp (filter-append, map-append)
+values_of-more : (name : List ℕ) (es : List Entry) (e : Entry)
+    → values_of name (es ++ e ∷ []) ≡ values_of name es ++ values_of name (e ∷ [])
+values_of-more name es e = simp (filter-append, map-append)
 
-pub values_of-one : (name : List ℕ) (l : Entry) → bytes_eq l.0 name ≡ true
-    → values_of name (l ∷ []) ≡ l.1 ∷ []
-values_of-one name l h = rw h refl
+-- one more entry of this name
+values_of-named : (name v : List ℕ) (es : List Entry)
+    → values_of name (es ++ (name, v) ∷ []) ≡ values_of name es ++ v ∷ []
+values_of-named name v es =
+    let one : values_of name ((name, v) ∷ []) ≡ v ∷ [] = rw (test_same name) refl in
+    values_of-more name es (name, v) ∙ ap (λ vs. values_of name es ++ vs) one
 
-pub values_of-other : (name : List ℕ) (es : List Entry) (l : Entry) → bytes_eq l.0 name ≡ false
-    → values_of name (es ++ l ∷ []) ≡ values_of name es
-values_of-other name es l h =
-    let none : values_of name (l ∷ []) ≡ [] = rw h refl in
-    values_of-more name es l ∙ ap (λ vs. values_of name es ++ vs) none
+-- one more entry of another name
+values_of-other : (name : List ℕ) (es : List Entry) (e : Entry) → bytes_eq e.0 name ≡ false
+    → values_of name (es ++ e ∷ []) ≡ values_of name es
+values_of-other name es e differ =
+    let none : values_of name (e ∷ []) ≡ [] = rw differ refl in
+    values_of-more name es e ∙ ap (λ vs. values_of name es ++ vs) none
     ∙ append-nil (values_of name es)
 
 -- one more value, after a comma
-join-more : (u : List ℕ) (us : List (List ℕ)) (v : List ℕ)
-    → join_with_byte 44 (u ∷ (us ++ v ∷ [])) ≡ join_with_byte 44 (u ∷ us) ++ 44 ∷ v
-join-more u [] v = refl
-join-more u (w ∷ us) v =
-    rw (join-more w us v) (sym (append_assoc u (44 ∷ join_with_byte 44 (w ∷ us)) (44 ∷ v)))
+with_commas-more : (u : List ℕ) (us : List (List ℕ)) (v : List ℕ)
+    → with_commas (u ∷ (us ++ v ∷ [])) ≡ with_commas (u ∷ us) ++ 44 ∷ v
+with_commas-more u [] v = refl
+with_commas-more u (w ∷ us) v =
+    rw (with_commas-more w us v) (sym (append_assoc u (44 ∷ with_commas (w ∷ us)) (44 ∷ v)))
 
-pub joined-more : (vs : List (List ℕ)) (w v : List ℕ) → joined vs ≡ Some w
-    → joined (vs ++ v ∷ []) ≡ Some (w ++ 44 ∷ v)
-joined-more [] w v h = cc
-joined-more (u ∷ us) w v h =
-    let whole : join_with_byte 44 (u ∷ us) ≡ w = cc in
-    ap Some (join-more u us v ∙ ap (λ x. x ++ 44 ∷ v) whole)
+-- a value behind what was there
+abbrev pub added : Option (List ℕ) → List ℕ → List ℕ
+added None v = v
+added (Some w) v = w ++ 44 ∷ v
 
-joined-none : (vs : List (List ℕ)) → joined vs ≡ None → vs ≡ []
-joined-none [] h = refl
-joined-none (u ∷ us) h = cc
+joined-added : (vs : List (List ℕ)) (v : List ℕ)
+    → joined (vs ++ v ∷ []) ≡ Some (added (joined vs) v)
+joined-added [] v = refl
+joined-added (u ∷ us) v = ap Some (with_commas-more u us v)
 
--- no entry
-pub AreJoined-nil : AreJoined [] []
-AreJoined-nil = record { ascending = tt; values = λ name. refl; few = omega arith }
+-- a value where there is some entry
+abbrev present : List (List ℕ) → List ℕ → Option (List ℕ)
+present [] v = None
+present (u ∷ us) v = Some v
 
--- the first entry
-pub AreJoined-one : (e : Entry) → AreJoined (e ∷ []) (e ∷ [])
-AreJoined-one e = record {
-  ascending = tt;
-  values =
-      λ name. elim (bytes_eq e.0 name) as
-      (λ b. cond b (Some e.1) None ≡ joined (map (λ (d : Entry). d.1) (cond b (e ∷ []) []))) [
-        | true ↦ refl
-        | false ↦ refl
-      ];
-  few = omega arith;
-}
+find-listed : (g : List ℕ → List ℕ) (name : List ℕ) (es : List Entry)
+    → find name_cmp name (map (λ e. (e.0, g e.0)) es) ≡ present (values_of name es) (g name)
+find-listed g name [] = refl
+find-listed g name (e ∷ es) =
+    rw (ties_by_test name e.0) (elim (bytes_eq e.0 name) as (λ b. bytes_eq e.0 name ≡ b
+    → cond b (Some (g e.0)) (find name_cmp name (map (λ d. (d.0, g d.0)) es))
+    ≡ present (map (λ (d : Entry). d.1) (cond b (e ∷ rest) rest)) (g name)) [
+      | true ↦ λ t. ap (λ k. Some (g k)) (same_from_test e.0 name t)
+      | false ↦ λ t. find-listed g name es
+    ] refl)
+  where
+    rest : List Entry
+    rest = filter (λ d. bytes_eq d.0 name) es
 
--- a further value of the last name
-module _ (done es : List Entry) (name w v : List ℕ)
-    (h : AreJoined done (es ++ (name, w) ∷ [])) where
-  here : joined (values_of name done) ≡ Some w
-  here = let none : value_at name es ≡ None =
-      value_at-below name es (each-before-last es (name, w) h.ascending) in
-      sym (h.values name) ∙ value_at-behind name es ((name, w) ∷ []) none ∙ rw (test_same name) refl
+present-joined : (vs : List (List ℕ)) → present vs (with_commas vs) ≡ joined vs
+present-joined [] = refl
+present-joined (v ∷ vs) = refl
 
-  values-same : (q : List ℕ) (b : Bool) → bytes_eq name q ≡ b
-      → value_at q (es ++ (name, w ++ 44 ∷ v) ∷ []) ≡ joined (values_of q (done ++ (name, v) ∷ []))
-  values-same q true e =
-      let q_is : name ≡ q = same_from_test name q e in
-      let none : value_at name es ≡ None =
-      value_at-below name es (each-before-last es (name, w) h.ascending) in
-      let left : value_at name (es ++ (name, w ++ 44 ∷ v) ∷ []) ≡ Some (w ++ 44 ∷ v) =
-      value_at-behind name es _ none ∙ rw (test_same name) refl in
-      let right : joined (values_of name (done ++ (name, v) ∷ [])) ≡ Some (w ++ 44 ∷ v) =
-      ap joined (values_of-more name done (name, v)
-      ∙ ap (λ vs. values_of name done ++ vs) (values_of-one name (name, v) (test_same name)))
-      ∙ joined-more (values_of name done) w v here in
-      rw (← q_is) (left ∙ sym right)
-  values-same q false e = value_at-other q es (name, w ++ 44 ∷ v) e
-      ∙ sym (value_at-other q es (name, w) e)
-      ∙ h.values q ∙ ap joined (sym (values_of-other q done (name, v) e))
+-- the headers of entries have all values of each name
+pub AreJoined-headers_of : (es : List Entry) → AreJoined es (headers_of es)
+unfolding headers_of
+AreJoined-headers_of es name =
+    get-from_entries nat_list_cmp_total (map (λ e. (e.0, with_commas (values_of e.0 es))) es) name
+    ∙ find-listed (λ k. with_commas (values_of k es)) name es ∙ present-joined (values_of name es)
 
-  pub AreJoined-same : AreJoined (done ++ (name, v) ∷ []) (es ++ (name, w ++ 44 ∷ v) ∷ [])
-  AreJoined-same = record {
-    ascending = ascending-value es name w (w ++ 44 ∷ v) h.ascending;
-    values = λ q. values-same q (bytes_eq name q) refl;
-    few = omega (
-      arith,
-      h.few,
-      length-append es ((name, w) ∷ []),
-      length-append es ((name, w ++ 44 ∷ v) ∷ []),
-      length-append done ((name, v) ∷ []),
-    );
-  }
+-- and no other map has
+pub same_joined : (es : List Entry) (m n : HeaderMap) → AreJoined es m → AreJoined es n → m ≡ n
+same_joined es m n h k =
+    same_map nat_list_cmp_total names_differ m n (λ name. h name ∙ sym (k name))
 
--- a next name
-module _ (done es : List Entry) (l e : Entry) (h : AreJoined done (es ++ l ∷ []))
-    (after : IsBefore l.0 e.0) where
-  up : IsAscending ((es ++ l ∷ []) ++ e ∷ [])
-  up = ascending-more es l e h.ascending after
+-- entries with the same values of each name have the same headers
+pub headers_of-same : (es ds : List Entry)
+    → ((name : List ℕ) → values_of name ds ≡ values_of name es) → headers_of ds ≡ headers_of es
+headers_of-same es ds same = same_joined es (headers_of ds) (headers_of es)
+    (λ name. AreJoined-headers_of ds name ∙ ap joined (same name)) (AreJoined-headers_of es)
 
-  absent : value_at e.0 (es ++ l ∷ []) ≡ None
-  absent = value_at-below e.0 (es ++ l ∷ []) (each-before-last (es ++ l ∷ []) e up)
+-- one entry more
+pub headers_of-more : (es : List Entry) (e : Entry)
+    → headers_of (es ++ e ∷ []) ≡ insert (headers_of es) e.0 (added (get (headers_of es) e.0) e.1)
+headers_of-more es e =
+    sym (same_joined (es ++ e ∷ []) _ _ at (AreJoined-headers_of (es ++ e ∷ [])))
+  where
+    w : List ℕ
+    w = added (get (headers_of es) e.0) e.1
 
-  values-next : (q : List ℕ) (b : Bool) → bytes_eq e.0 q ≡ b
-      → value_at q ((es ++ l ∷ []) ++ e ∷ []) ≡ joined (values_of q (done ++ e ∷ []))
-  values-next q true t =
-      let q_is : e.0 ≡ q = same_from_test e.0 q t in
-      let none : values_of e.0 done ≡ [] =
-      joined-none (values_of e.0 done) (sym (h.values e.0) ∙ absent) in
-      let left : value_at e.0 ((es ++ l ∷ []) ++ e ∷ []) ≡ Some e.1 =
-      value_at-behind e.0 (es ++ l ∷ []) (e ∷ []) absent ∙ rw (test_same e.0) refl in
-      let right : joined (values_of e.0 (done ++ e ∷ [])) ≡ Some e.1 =
-      ap joined (values_of-more e.0 done e ∙ ap (λ vs. vs ++ values_of e.0 (e ∷ [])) none
-      ∙ values_of-one e.0 e (test_same e.0)) in
-      rw (← q_is) (left ∙ sym right)
-  values-next q false t = value_at-other q (es ++ l ∷ []) e t
-      ∙ h.values q ∙ ap joined (sym (values_of-other q done e t))
+    at : AreJoined (es ++ e ∷ []) (insert (headers_of es) e.0 w)
+    at name = get-insert nat_list_cmp_total (headers_of es) e.0 w name
+        ∙ rw (ties_by_test name e.0) (elim (bytes_eq e.0 name) as (λ b. bytes_eq e.0 name ≡ b
+        → cond b (Some w) (get (headers_of es) name) ≡ joined (values_of name (es ++ e ∷ []))) [
+          | true ↦ λ t. rw (← same_from_test e.0 name t)
+              (ap (λ v. Some (added v e.1)) (AreJoined-headers_of es e.0)
+              ∙ sym (joined-added (values_of e.0 es) e.1)
+              ∙ ap joined (sym (values_of-named e.0 e.1 es)))
+          | false ↦ λ t. AreJoined-headers_of es name
+              ∙ ap joined (sym (values_of-other name es e t))
+        ] refl)
 
-  pub AreJoined-next : AreJoined (done ++ e ∷ []) ((es ++ l ∷ []) ++ e ∷ [])
-  AreJoined-next = record {
-    ascending = up;
-    values = λ q. values-next q (bytes_eq e.0 q) refl;
-    few = omega (arith, h.few, length-append (es ++ l ∷ []) (e ∷ []), length-append done (e ∷ []));
-  }
+-- as entries in order
+pub entries-more : (es : List Entry) (e : Entry) → entries (headers_of (es ++ e ∷ []))
+    ≡ put name_cmp e.0 (added (find name_cmp e.0 (entries (headers_of es))) e.1)
+    (entries (headers_of es))
+entries-more es e = ap entries (headers_of-more es e)
+    ∙ entries-insert nat_list_cmp_total (headers_of es) e.0 _
+    ∙ ap (λ v. put name_cmp e.0 (added v e.1) (entries (headers_of es)))
+    (get-entries (headers_of es) e.0)
 
--- for the order of the first and the rest, the first name alone counts
-pub AreSorted-name : (e d : Entry) (es : List Entry) → e.0 ≡ d.0 → AreSorted (e ∷ es)
-    → AreSorted (d ∷ es)
-AreSorted-name e d [] same h = tt
-AreSorted-name e d (f ∷ es) same h = (rw same at h.0, h.1)
+-- a map of a list has no more entries than the list
+len-from_entries : (es : List Entry) → len (from_entries {R = name_cmp} es) ≤ length es
+len-from_entries [] = let none = len-empty name_cmp (List ℕ) in omega (arith, none)
+len-from_entries (e ∷ es) =
+    let before = len-from_entries es in
+    let after = len-insert nat_list_cmp_total (from_entries {R = name_cmp} es) e.0 e.1 in
+    rw after (elim (is_some (get (from_entries {R = name_cmp} es) e.0)) as
+    (λ b. cond b (len (from_entries {R = name_cmp} es)) (len (from_entries {R = name_cmp} es) + 1)
+    ≤ length (e ∷ es)) [
+      | true ↦ omega (arith, before)
+      | false ↦ omega (arith, before)
+    ])
 
--- the second of sorted entries is one with the first by name, or comes after it
-pub AreSorted-next : (e d : Entry) (es : List Entry) → AreSorted (e ∷ d ∷ es)
-    → bytes_eq d.0 e.0 ≡ false → IsBefore e.0 d.0
-AreSorted-next e d es h differ = before_from_not e.0 d.0 h.0 differ
-
--- what holds of each entry holds of the bytes of each pair
-pub All-entries : (P : Entry → Type 0) (pairs : List (String Global × String Global))
-    → All P (entries_of pairs) ↔ All (λ pair. P (entry_of pair)) pairs
-All-entries P pairs = (
-  λ h k d below. rw (get_or-map entry_of pairs k d) at
-      (h k (entry_of d) (rw (length-map pairs entry_of) below)),
-  All-map P entry_of pairs,
-)
-
--- what is joined of a list is joined of each list with the same values of each name
-pub AreJoined-of : (es ds hs : List Entry)
-    → ((name : List ℕ) → values_of name ds ≡ values_of name es)
-    → length ds ≡ length es → AreJoined ds hs → AreJoined es hs
-AreJoined-of es ds hs same long h = record {
-  ascending = h.ascending;
-  values = λ name. h.values name ∙ ap joined (same name);
-  few = omega (arith, h.few);
-}
+-- headers are no more than their entries
+pub len-headers_of : (es : List Entry) → len (headers_of es) ≤ length es
+unfolding headers_of
+len-headers_of es =
+    let whole : Entry → Entry = λ e. (e.0, with_commas (values_of e.0 es)) in
+    let few = len-from_entries (map whole es) in
+    let long = length-map es whole in
+    omega (arith, few, long)

@@ -1,5 +1,5 @@
 -- A text spells at most one address.
-use Rattle.std.proofs.Common.{◌≡◌, ℕ, ◌↔◌, List, [], Option, Some, None, MatchOption, sym, ap, ◌∙◌, append-nil, lit≤}
+use Rattle.std.proofs.Common.{◌≡◌, ℕ, ◌↔◌, List, [], Option, Some, None, MatchOption, refl, sym, ap, ◌∙◌, append-nil, lit≤}
 use Rattle.std.specs.Net.Grammar.{IsDotted}
 use Rattle.std.specs.Net.Reader.{read_ipv4, read_ipv6}
 use Rattle.std.proofs.NetLemmas.Options.{same_parts}
@@ -50,3 +50,10 @@ exactly_read text (Some a) h ip = (
   (λ e. let same : a ≡ ip = cc in rw same at h),
   λ spelled. ap Some (one_address text a ip h spelled),
 )
+
+-- and so it is what the text spells, or the text spells none
+pub read_or_none : (text : List ℕ) (r : Option Ip)
+    → ((ip : Ip) → (r ≡ Some ip) ↔ IsIpText text ip)
+    → MatchOption r ((ip : Ip) → ¬ (IsIpText text ip)) (IsIpText text)
+read_or_none text None exact = λ ip spelled. let clash : None ≡ Some ip = (exact ip).1 spelled in cc
+read_or_none text (Some a) exact = (exact a).0 refl

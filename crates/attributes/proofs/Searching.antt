@@ -1,103 +1,103 @@
--- A binary search by name in ascending headers finds the value of the name.
-use Rattle.std.proofs.Common.{◌≡◌, ℕ, ◌+◌, ◌<◌, true, false, List, [], ◌∷◌, Some, None, Ok, Err, length, get_or, refl, sym, ◌∙◌, ap, arith, suc, zero, ◌⊎◌, inl, inr}
+-- A binary search by name in ascending headers finds the place of the name.
+use Rattle.std.proofs.Common.{◌≡◌, ℕ, ◌+◌, ◌<◌, ◌≤◌, Bool, T, IsTrue, List, [], ◌∷◌, Result, Ok, Err, Some, length, get_or, refl, ◌∙◌, ap, arith, suc, zero}
+use Rattle.std.specs.declared.alloc.Global.{Global}
 use Rattle.std.specs.declared.cmp.Ordering.{Ordering}
-use Rattle.std.specs.declared.cmp.Ordering.TheVariants.{Less, Greater}
-use Rattle.std.specs.Str.{bytes_eq}
-use Rattle.std.specs.String.{string_bytes}
-use Rattle.std.specs.Cmp.Lexicographic.{slice_cmp}
-use Rattle.std.specs.Ordering.{nat_cmp, is_lt, is_eq, ordering_reverse}
+use Rattle.std.specs.declared.cmp.Ordering.TheVariants.{Greater}
+use Rattle.std.specs.declared.rc.RcStr.{RcStr}
+use Rattle.std.specs.FinMap.{is_sorted}
 use Rattle.std.specs.Fn.{Called, ComputesKey}
-use Rattle.std.specs.List.Sorted.{IsSortedBy, IsBinarySearchResult}
-use Rattle.std.proofs.lemmas.Bool.{cases_lt}
+use Rattle.std.specs.List.Sorted.{IsSortedBy, IsBinarySearchResult, IsSearchInRange}
+use Rattle.std.specs.Ordering.{is_lt, ordering_reverse}
+use Rattle.std.specs.Rc.{rc_str_bytes}
 use Rattle.std.proofs.lemmas.Cmp.{nat_list_cmp_total}
 use Rattle.std.proofs.lemmas.Fn.{always_returns_same}
+use Rattle.std.proofs.lemmas.List.{length-map}
 use Rattle.std.proofs.lemmas.List.Sorted.{searchable_from_sorted}
-use Rattle.std.proofs.lemmas.Map.Text.{is_eq-slice_cmp}
+use Rattle.std.proofs.lemmas.Option.{slice_get-get_or}
+use Rattle.std.proofs.Math.ListN.{get_or-map}
 use denote.Param.Members.{Mut}
 use denote.Ref.{Bor}
-use Rattle.attributes.specs.Headers.{IsBefore, IsAscending, entries_of, value_at}
-use Rattle.attributes.proofs.TextOrder.{same_from_test, before-trans, before-differs}
-use Rattle.attributes.proofs.Sorting.{Pair, name_lt}
+use Rattle.attributes.specs.Headers.{Entry, header_view, headers_view, name_cmp}
+use Rattle.attributes.specs.steps.Headers.{IsPlace}
+use Rattle.attributes.proofs.Places.{put-at, put-between}
+use Rattle.attributes.proofs.TextOrder.{IsBefore, both_first, both_second, less_from_test, names_differ, t_from_true}
 
--- the first name of ascending pairs is before each other
-head-before : (e : Pair) (es : List Pair) → IsAscending (entries_of (e ∷ es)) → (i : ℕ) (d : Pair)
-    → i < length es
-    → IsBefore (string_bytes e.0) (string_bytes (get_or es i d).0)
-head-before e [] up i d below = absurd (omega arith)
-head-before e (c ∷ es) up zero d below = up.0
-head-before e (c ∷ es) up (suc i) d below =
-    before-trans (string_bytes e.0) (string_bytes c.0) _ up.0
-    (head-before c es up.1 i d (omega arith))
+-- a header as it is kept
+abbrev Pair : Type 0
+Pair = RcStr Global × RcStr Global
 
-tail-ascending : (e : Pair) (es : List Pair) → IsAscending (entries_of (e ∷ es))
-    → IsAscending (entries_of es)
-tail-ascending e [] up = tt
-tail-ascending e (c ∷ es) up = up.1
+-- the order of headers by name
+abbrev name_lt : Pair → Pair → Bool
+name_lt x y = is_lt (name_cmp (rc_str_bytes x.0) (rc_str_bytes y.0))
 
--- the name at an index is nowhere before it
-pub value_at-index : (name : List ℕ) (es : List Pair) → IsAscending (entries_of es)
-    → (i : ℕ) (d : Pair) → i < length es
-    → bytes_eq (string_bytes (get_or es i d).0) name ≡ true
-    → value_at name (entries_of es) ≡ Some (string_bytes (get_or es i d).1)
-value_at-index name [] up i d below same = absurd (omega arith)
-value_at-index name (e ∷ es) up zero d below same = rw same refl
-value_at-index name (e ∷ es) up (suc i) d below same =
-    let before : IsBefore (string_bytes e.0) (string_bytes (get_or es i d).0) =
-    head-before e es up i d (omega arith) in
-    let differ : bytes_eq (string_bytes e.0) name ≡ false =
-    rw (← same_from_test (string_bytes (get_or es i d).0) name same)
-    (before-differs (string_bytes e.0) (string_bytes (get_or es i d).0) before) in
-    rw differ (value_at-index name es (tail-ascending e es up) i d (omega arith) same)
-
-pub value_at-nowhere : (name : List ℕ) (es : List Pair)
-    → ((i : ℕ) (d : Pair) → i < length es → bytes_eq (string_bytes (get_or es i d).0) name ≡ false)
-    → value_at name (entries_of es) ≡ None
-value_at-nowhere name [] h = refl
-value_at-nowhere name (e ∷ es) h =
-    rw (h 0 e (omega arith)) (value_at-nowhere name es (λ i d below. h (suc i) d (omega arith)))
-
--- ascending pairs are sorted as a search asks
-IsSortedBy-ascending : (es : List Pair) → IsAscending (entries_of es) → IsSortedBy name_lt es
+-- ascending headers are sorted as a search asks
+IsSortedBy-ascending : (xs : List Pair) → T (is_sorted name_cmp (headers_view xs))
+    → IsSortedBy name_lt xs
 IsSortedBy-ascending [] up k d low high = absurd (omega arith)
-IsSortedBy-ascending (e ∷ []) up k d low high = absurd (omega arith)
-IsSortedBy-ascending (e ∷ c ∷ es) up zero d low high =
-    ap is_lt (nat_list_cmp_total.antisymm (string_bytes c.0) (string_bytes e.0))
-    ∙ ap (λ o. is_lt (ordering_reverse o)) up.0
-IsSortedBy-ascending (e ∷ c ∷ es) up (suc k) d low high =
+IsSortedBy-ascending (x ∷ []) up k d low high = absurd (omega arith)
+IsSortedBy-ascending (x ∷ y ∷ xs) up zero d low high =
+    let first : IsBefore (rc_str_bytes x.0) (rc_str_bytes y.0) =
+    less_from_test _ (both_first _ _ (both_first _ _ up)) in
+    ap is_lt (nat_list_cmp_total.antisymm (rc_str_bytes y.0) (rc_str_bytes x.0))
+    ∙ ap (λ o. is_lt (ordering_reverse o)) first
+IsSortedBy-ascending (x ∷ y ∷ xs) up (suc k) d low high =
     let next : suc k + 1 ≡ suc (k + 1) = omega arith in
-    rw next (IsSortedBy-ascending (c ∷ es) up.1 k d (omega arith) (omega arith))
+    rw next (IsSortedBy-ascending (y ∷ xs) (both_second _ _ up) k d (omega arith) (omega arith))
+
+-- a header at an index, as it is kept
+kept-at : (xs : List Pair) (k : ℕ) (d : Entry) → k < length xs
+    → (x : Pair) × (get_or (headers_view xs) k d ≡ header_view (get_or xs k x))
+kept-at [] k d below = absurd (omega arith)
+kept-at (x ∷ xs) zero d below = (x, refl)
+kept-at (x ∷ xs) (suc k) d below = kept-at xs k d (omega arith)
 
 -- what the closure that the search is given answers
 module _ (name : List ℕ) {F : Type 0} {g : Mut F (Bor Pair × Unit {0}) Ordering} {f : F}
     (answers : (a : Bor Pair × Unit {0}) (r : Ordering) (f' : F) → Called g f a r f'
-    → (r ≡ slice_cmp nat_cmp (string_bytes a.0.now.0) name) × (f' ≡ f)) where
+    → (r ≡ name_cmp (rc_str_bytes a.0.now.0) name) × (f' ≡ f)) where
   abbrev place : Pair → Ordering
-  place pair = slice_cmp nat_cmp (string_bytes pair.0) name
+  place pair = name_cmp (rc_str_bytes pair.0) name
 
   by_name : ComputesKey g place f
   by_name = always_returns_same g (λ a r. r ≡ place a.0.now) f answers
 
-  pub value_at-found : (xs : List Pair) (i : ℕ) (d : Pair) → IsAscending (entries_of xs)
-      → i < length xs
-      → ((ord : Pair → Ordering) → ComputesKey g ord f → IsBinarySearchResult ord xs (Ok i))
-      → value_at name (entries_of xs) ≡ Some (string_bytes (get_or xs i d).1)
-  value_at-found xs i d up below found =
-      value_at-index name xs up i d below
-      (sym (is_eq-slice_cmp (string_bytes (get_or xs i d).0) name)
-      ∙ ap is_eq (found place by_name d))
-
-  pub value_at-absent : (xs : List Pair) (i : ℕ) → IsAscending (entries_of xs)
-      → ((ord : Pair → Ordering) → ComputesKey g ord f → IsBinarySearchResult ord xs (Err i))
-      → value_at name (entries_of xs) ≡ None
-  value_at-absent xs i up found =
-      let parted = found place by_name
-      (searchable_from_sorted nat_list_cmp_total (λ (x : Pair). string_bytes x.0) xs name
-      (IsSortedBy-ascending xs up)) in
-      let differs : (o : Ordering) → (o ≡ Less) ⊎ (o ≡ Greater) → is_eq o ≡ false =
-      λ o h. elim h [ inl less ↦ ap is_eq less | inr greater ↦ ap is_eq greater ] in
-      value_at-nowhere name xs
-      (λ k d below. sym (is_eq-slice_cmp (string_bytes (get_or xs k d).0) name)
-      ∙ differs (place (get_or xs k d)) (elim (cases_lt k i) [
-        | inl first ↦ inl (parted.0 k d (omega arith) first)
-        | inr last ↦ inr (parted.1 k d last below)
-      ]))
+  pub IsPlace-searched : (xs : List Pair) (r : Result ℕ ℕ) → IsSearchInRange r (length xs)
+      → ((ord : Pair → Ordering) → ComputesKey g ord f → IsBinarySearchResult ord xs r)
+      → IsTrue (is_sorted name_cmp (headers_view xs)) → IsPlace name (headers_view xs) r
+  IsPlace-searched [] (Ok i) fits searched up = absurd (omega arith)
+  IsPlace-searched (x ∷ xs) (Ok i) fits searched up =
+      let es : List Entry = headers_view (x ∷ xs) in
+      let long : length es ≡ length (x ∷ xs) = length-map (x ∷ xs) header_view in
+      let below : i < length es = omega (arith, long) in
+      let d : Entry = header_view x in
+      let at : get_or es i d ≡ header_view (get_or (x ∷ xs) i x) =
+      get_or-map header_view (x ∷ xs) i x in
+      let same : (get_or es i d).0 ≡ name =
+      ap (λ (e : Entry). e.0) at ∙ names_differ _ _ (searched place by_name x) in
+      let found = λ (w : List ℕ). put-at name w es i d (t_from_true _ up) below same in
+      let named : List ℕ → Entry = λ n. (n, (get_or es i d).1) in (
+        (get_or es i d).1,
+        slice_get-get_or es i d below ∙ ap (λ n. Some (named n)) same,
+        (found []).1,
+        λ w. (found w).0,
+      )
+  IsPlace-searched xs (Err i) fits searched up =
+      let es : List Entry = headers_view xs in
+      let sorted : T (is_sorted name_cmp es) = t_from_true _ up in
+      let parted = searched place by_name
+      (searchable_from_sorted nat_list_cmp_total (λ (x : Pair). rc_str_bytes x.0) xs name
+      (IsSortedBy-ascending xs sorted)) in
+      let long : length es ≡ length xs = length-map xs header_view in
+      let low : (k : ℕ) (d : Entry) → k < i → IsBefore (get_or es k d).0 name =
+      λ k d first. let kept = kept-at xs k d (omega arith) in
+      ap (λ (e : Entry). name_cmp e.0 name) kept.1 ∙ parted.0 k kept.0 (omega arith) first in
+      let high : (k : ℕ) (d : Entry) → i ≤ k → k < length es
+      → name_cmp (get_or es k d).0 name ≡ Greater =
+      λ k d last below. let kept = kept-at xs k d (omega (arith, long)) in
+      ap (λ (e : Entry). name_cmp e.0 name) kept.1 ∙ parted.1 k kept.0 last (omega (arith, long)) in
+      let fits_view : i ≤ length es = omega (arith, long) in
+      let between = λ (w : List ℕ). put-between name w es i fits_view low high in (
+        fits_view,
+        (between []).1,
+        λ w. (between w).0,
+      )

@@ -1,7 +1,6 @@
 -- IP addresses as text and as numbers: RFC 4291 sections 2.2 and 2.3, RFC 4632 section 3.1
 -- (ranges); IPv4 as in RFC 3986 section 3.2.2.
-use Rattle.std.specs.Prelude.{◌≡◌, ℕ, ◌+◌, ◌-◌, ◌*◌, ◌/◌, ◌^◌, ◌<◌, ◌⊎◌, List, [], ◌∷◌, ◌++◌, length, replicate, codes, Bool, ◌==◌}
-use Rattle.std.specs.List.{list_any}
+use Rattle.std.specs.Prelude.{◌≡◌, ℕ, ◌+◌, ◌-◌, ◌*◌, ◌/◌, ◌^◌, ◌<◌, ◌⊎◌, List, [], ◌∷◌, ◌++◌, length, replicate, codes, Bool, false, IsTrue, ◌==◌}
 use Rattle.std.specs.Net.Grammar.{IsDotted, IsGroup}
 use Rattle.attributes.specs.declared.address.Ip.{Ip}
 use Rattle.attributes.specs.declared.address.Ip.TheVariants.{V4, V6}
@@ -47,21 +46,22 @@ abbrev pub IsIpText : List ℕ → Ip → Type 0
 IsIpText text (V4 n) = (octets : List ℕ) × IsDotted text octets × (n ≡ number_of 256 octets)
 IsIpText text (V6 n) = (groups : List ℕ) × AreColonHex text groups × (n ≡ number_of 65536 groups)
 
--- a dot (46) stands in the text
-abbrev pub has_dot : List ℕ → Bool
-has_dot text = list_any (λ b. b == 46) text
-
 -- the bits of an address of the family
 abbrev pub width_of : Ip → ℕ
 width_of (V4 n) = 32
 width_of (V6 n) = 128
 
--- the addresses are of one family and have their first `size` bits in common
-abbrev pub SharePrefix : ℕ → Ip → Ip → Type 0
-SharePrefix size (V4 a) (V4 b) = a / 2 ^ (32 - size) ≡ b / 2 ^ (32 - size)
-SharePrefix size (V6 a) (V6 b) = a / 2 ^ (128 - size) ≡ b / 2 ^ (128 - size)
-SharePrefix size (V4 a) (V6 b) = ⊥
-SharePrefix size (V6 a) (V4 b) = ⊥
+-- the number of an address has no more bits than its family
+abbrev pub IsAddress : Ip → Type 0
+IsAddress (V4 n) = n < 2 ^ 32
+IsAddress (V6 n) = n < 2 ^ 128
+
+-- whether the addresses are of one family and have their first `size` bits in common
+abbrev pub share_prefix : ℕ → Ip → Ip → Bool
+share_prefix size (V4 a) (V4 b) = a / 2 ^ (32 - size) == b / 2 ^ (32 - size)
+share_prefix size (V6 a) (V6 b) = a / 2 ^ (128 - size) == b / 2 ^ (128 - size)
+share_prefix size (V4 a) (V6 b) = false
+share_prefix size (V6 a) (V4 b) = false
 
 -- an address range: an address and how many of its first bits count
 pub record Range : Type 0 where
@@ -70,4 +70,4 @@ pub record Range : Type 0 where
 
 -- the addresses of a range
 abbrev pub IsInRange : Range → Ip → Type 0
-IsInRange range ip = SharePrefix range.size range.address ip
+IsInRange range ip = IsTrue (share_prefix range.size range.address ip)

@@ -1,27 +1,39 @@
 -- The attributes of a request: Envoy, "Attributes"; the target's parts by RFC 3986 section 3.
-use Rattle.std.specs.Prelude.{ℕ, ℤ, pos, Bool, ◌==◌, List, Option, Some, option_map, codes}
+use Rattle.std.specs.Prelude.{ℕ, ◌^◌, ◌<◌, ℤ, pos, FitsSigned, Bool, ◌==◌, IsTrue, IsUtf8, List, Option, Some, ⊤, option_map, codes}
 use Rattle.std.specs.List.{before_first, after_first}
-use Rattle.attributes.specs.Headers.{Entry, entries_of}
-use Rattle.attributes.specs.Request.{RequestValue, header_of, protocol_of}
+use Rattle.std.specs.FinMap.{is_sorted}
+use Rattle.std.specs.Int.{w64}
+use Rattle.std.specs.Rc.{rc_str_bytes}
+use Rattle.attributes.specs.Headers.{HeaderMap, headers_view, map_view, name_cmp}
+use Rattle.attributes.specs.Request.{AreTextHeaders, RequestValue, header_of, protocol_of}
 use Rattle.attributes.specs.declared.attribute.AttrId.{AttrId}
+use Rattle.attributes.specs.declared.attribute.AttrType.{AttrType}
 use Rattle.attributes.specs.declared.attribute.AttrValue.{AttrValue}
 use Rattle.attributes.specs.declared.attribute.AttrValue.TheVariants as values
 
--- the value of an attribute: a text is its bytes, a map its entries by ascending name
+-- the value of an attribute: a text is its bytes
 pub data AttrData : Type 0 where
   text : List ℕ → AttrData
   int : ℤ → AttrData
   uint : ℕ → AttrData
   bool : Bool → AttrData
-  pairs : List Entry → AttrData
+  text_map : HeaderMap → AttrData
 
--- the value without where it lies in memory
-abbrev pub data_of : AttrValue → AttrData
-data_of (values.Text t) = text t.now
-data_of (values.Int n) = int n
-data_of (values.Uint n) = uint n
-data_of (values.Bool b) = bool b
-data_of (values.Pairs ps) = pairs (entries_of ps.now)
+-- the value without where it lies in memory; of pairs, the map that they are where they ascend
+abbrev pub attr_view : AttrValue → AttrData
+attr_view (values.Text t) = text (rc_str_bytes t.now)
+attr_view (values.Int n) = int n
+attr_view (values.Uint n) = uint n
+attr_view (values.Bool b) = bool b
+attr_view (values.Pairs ps) = text_map (map_view ps.now.value.items)
+
+-- pairs stand by ascending name, each name once
+abbrev pub IsOrdered : AttrValue → Type 0
+IsOrdered (values.Text t) = ⊤
+IsOrdered (values.Int n) = ⊤
+IsOrdered (values.Uint n) = ⊤
+IsOrdered (values.Bool b) = ⊤
+IsOrdered (values.Pairs ps) = IsTrue (is_sorted name_cmp (headers_view ps.now.value.items))
 
 -- the target up to its first `#` (35)
 abbrev pub without_fragment : List ℕ → List ℕ
@@ -50,7 +62,7 @@ attr_of r AttrId.RequestUrlPath = Some (text (url_path_of r.target))
 attr_of r AttrId.RequestHost = header_data r (codes ":authority")
 attr_of r AttrId.RequestScheme = Some (text r.facts.scheme)
 attr_of r AttrId.RequestMethod = Some (text r.method)
-attr_of r AttrId.RequestHeaders = Some (pairs r.headers)
+attr_of r AttrId.RequestHeaders = Some (text_map r.headers)
 attr_of r AttrId.RequestReferer = header_data r (codes "referer")
 attr_of r AttrId.RequestUseragent = header_data r (codes "user-agent")
 attr_of r AttrId.RequestId = header_data r (codes "x-request-id")
@@ -67,3 +79,62 @@ attr_of r AttrId.ConnectionTlsVersion = option_map text r.facts.tls_version
 attr_of r AttrId.ConnectionSubjectPeerCertificate = option_map text r.facts.subject_peer_certificate
 attr_of r AttrId.ConnectionDnsSanPeerCertificate = option_map text r.facts.dns_san_peer_certificate
 attr_of r AttrId.ConnectionUriSanPeerCertificate = option_map text r.facts.uri_san_peer_certificate
+
+-- the name of each attribute
+abbrev pub attr_name : AttrId → List ℕ
+attr_name AttrId.RequestPath = codes "request.path"
+attr_name AttrId.RequestUrlPath = codes "request.url_path"
+attr_name AttrId.RequestHost = codes "request.host"
+attr_name AttrId.RequestScheme = codes "request.scheme"
+attr_name AttrId.RequestMethod = codes "request.method"
+attr_name AttrId.RequestHeaders = codes "request.headers"
+attr_name AttrId.RequestReferer = codes "request.referer"
+attr_name AttrId.RequestUseragent = codes "request.useragent"
+attr_name AttrId.RequestId = codes "request.id"
+attr_name AttrId.RequestProtocol = codes "request.protocol"
+attr_name AttrId.RequestQuery = codes "request.query"
+attr_name AttrId.SourceAddress = codes "source.address"
+attr_name AttrId.SourcePort = codes "source.port"
+attr_name AttrId.DestinationAddress = codes "destination.address"
+attr_name AttrId.DestinationPort = codes "destination.port"
+attr_name AttrId.ConnectionMtls = codes "connection.mtls"
+attr_name AttrId.ConnectionId = codes "connection.id"
+attr_name AttrId.ConnectionRequestedServerName = codes "connection.requested_server_name"
+attr_name AttrId.ConnectionTlsVersion = codes "connection.tls_version"
+attr_name AttrId.ConnectionSubjectPeerCertificate = codes "connection.subject_peer_certificate"
+attr_name AttrId.ConnectionDnsSanPeerCertificate = codes "connection.dns_san_peer_certificate"
+attr_name AttrId.ConnectionUriSanPeerCertificate = codes "connection.uri_san_peer_certificate"
+
+-- the type of each attribute
+abbrev pub attr_type : AttrId → AttrType
+attr_type AttrId.RequestPath = AttrType.Text
+attr_type AttrId.RequestUrlPath = AttrType.Text
+attr_type AttrId.RequestHost = AttrType.Text
+attr_type AttrId.RequestScheme = AttrType.Text
+attr_type AttrId.RequestMethod = AttrType.Text
+attr_type AttrId.RequestHeaders = AttrType.TextMap
+attr_type AttrId.RequestReferer = AttrType.Text
+attr_type AttrId.RequestUseragent = AttrType.Text
+attr_type AttrId.RequestId = AttrType.Text
+attr_type AttrId.RequestProtocol = AttrType.Text
+attr_type AttrId.RequestQuery = AttrType.Text
+attr_type AttrId.SourceAddress = AttrType.Text
+attr_type AttrId.SourcePort = AttrType.Int
+attr_type AttrId.DestinationAddress = AttrType.Text
+attr_type AttrId.DestinationPort = AttrType.Int
+attr_type AttrId.ConnectionMtls = AttrType.Bool
+attr_type AttrId.ConnectionId = AttrType.Uint
+attr_type AttrId.ConnectionRequestedServerName = AttrType.Text
+attr_type AttrId.ConnectionTlsVersion = AttrType.Text
+attr_type AttrId.ConnectionSubjectPeerCertificate = AttrType.Text
+attr_type AttrId.ConnectionDnsSanPeerCertificate = AttrType.Text
+attr_type AttrId.ConnectionUriSanPeerCertificate = AttrType.Text
+
+-- the value is one of the type: a text is UTF-8, and a number has 64 bits
+abbrev pub HasAttrType : AttrType → AttrData → Type 0
+HasAttrType AttrType.Text (text bytes) = IsUtf8 bytes
+HasAttrType AttrType.Int (int n) = FitsSigned w64 n
+HasAttrType AttrType.Uint (uint n) = n < 2 ^ 64
+HasAttrType AttrType.Bool (bool b) = ⊤
+HasAttrType AttrType.TextMap (text_map headers) = AreTextHeaders headers
+HasAttrType _ _ = ⊥

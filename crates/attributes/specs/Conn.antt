@@ -1,10 +1,12 @@
 -- What is known of a connection: the connection attributes of Envoy, "Attributes", and the
 -- addresses for CIDR ranges.
-use Rattle.std.specs.Prelude.{ℕ, Bool, Option, None, List, option_map}
-use Rattle.std.specs.String.{string_bytes}
-use Rattle.std.specs.declared.string.String.{String}
+use Rattle.std.specs.Prelude.{ℕ, ◌^◌, ◌<◌, Bool, Option, None, List, IfSome, option_map}
+use Rattle.std.specs.Str.{IsUtf8}
+use Rattle.std.specs.Rc.{rc_str_bytes}
+use Rattle.std.specs.declared.rc.RcStr.{RcStr}
 use Rattle.std.specs.declared.alloc.Global.{Global}
 use Rattle.attributes.specs.declared.conn.Conn.{Conn}
+use Rattle.attributes.specs.Address.{IsAddress}
 use Rattle.attributes.specs.declared.address.Ip.{Ip}
 
 -- the facts of a connection; a text is its bytes
@@ -25,28 +27,50 @@ pub record Facts : Type 0 where
   pub destination_ip : Option Ip
   pub scheme : List ℕ
 
--- the bytes of a text that may be absent
-abbrev pub text_of : Option (String Global) → Option (List ℕ)
-text_of = option_map string_bytes
+-- a port has 16 bits
+abbrev pub IsPort : Option ℕ → Type 0
+IsPort port = IfSome port (λ n. n < 2 ^ 16)
+
+-- what holds of the facts of each connection: texts are UTF-8, a port has 16 bits, the number of
+-- the connection has 64, and an address has as many as its family
+pub record AreFacts (f : Facts) : Type 0 where
+  pub source_address : IfSome f.source_address IsUtf8
+  pub source_port : IsPort f.source_port
+  pub destination_address : IfSome f.destination_address IsUtf8
+  pub destination_port : IsPort f.destination_port
+  pub connection_id : IfSome f.connection_id (λ n. n < 2 ^ 64)
+  pub requested_server_name : IfSome f.requested_server_name IsUtf8
+  pub tls_version : IfSome f.tls_version IsUtf8
+  pub subject_peer_certificate : IfSome f.subject_peer_certificate IsUtf8
+  pub dns_san_peer_certificate : IfSome f.dns_san_peer_certificate IsUtf8
+  pub uri_san_peer_certificate : IfSome f.uri_san_peer_certificate IsUtf8
+  pub direct_remote_ip : IfSome f.direct_remote_ip IsAddress
+  pub remote_ip : IfSome f.remote_ip IsAddress
+  pub destination_ip : IfSome f.destination_ip IsAddress
+  pub scheme : IsUtf8 f.scheme
+
+-- a text that may be absent
+abbrev pub text_view : Option (RcStr Global) → Option (List ℕ)
+text_view = option_map rc_str_bytes
 
 -- the facts that a connection value holds
-abbrev pub facts_of : Conn → Facts
-facts_of c = record {
-  source_address = text_of c.source_address;
+abbrev pub conn_view : Conn → Facts
+conn_view c = record {
+  source_address = text_view c.source_address;
   source_port = c.source_port;
-  destination_address = text_of c.destination_address;
+  destination_address = text_view c.destination_address;
   destination_port = c.destination_port;
   mtls = c.mtls;
   connection_id = c.connection_id;
-  requested_server_name = text_of c.requested_server_name;
-  tls_version = text_of c.tls_version;
-  subject_peer_certificate = text_of c.subject_peer_certificate;
-  dns_san_peer_certificate = text_of c.dns_san_peer_certificate;
-  uri_san_peer_certificate = text_of c.uri_san_peer_certificate;
+  requested_server_name = text_view c.requested_server_name;
+  tls_version = text_view c.tls_version;
+  subject_peer_certificate = text_view c.subject_peer_certificate;
+  dns_san_peer_certificate = text_view c.dns_san_peer_certificate;
+  uri_san_peer_certificate = text_view c.uri_san_peer_certificate;
   direct_remote_ip = c.direct_remote_ip;
   remote_ip = c.remote_ip;
   destination_ip = c.destination_ip;
-  scheme = string_bytes c.scheme;
+  scheme = rc_str_bytes c.scheme;
 }
 
 -- no fact is known but the scheme

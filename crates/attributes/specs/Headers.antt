@@ -1,50 +1,75 @@
 -- The headers of a request, one value for each name: RFC 9110 sections 5.2 and 5.3, and Envoy,
 -- "Attributes" (`request.headers`).
-use Rattle.std.specs.Prelude.{◌≡◌, ℕ, ◌≤◌, List, [], ◌∷◌, ◌++◌, Option, Some, None, if◌then◌else◌, codes, filter, length, map}
+use Rattle.std.specs.Prelude.{◌≡◌, ℕ, List, [], ◌∷◌, ◌++◌, Option, Some, None, if◌then◌else◌, codes, filter, map}
 use Rattle.std.specs.List.{join_with_byte}
-use Rattle.std.specs.Ordering.{match_ordering, nat_cmp}
+use Rattle.std.specs.Ordering.{nat_cmp}
 use Rattle.std.specs.Cmp.Lexicographic.{slice_cmp}
+use Rattle.std.specs.FinMap.{FinMap, code, from_entries, from_sorted, get}
+use Rattle.std.specs.Coded.{Coded, coded_list, coded_ℕ}
 use Rattle.std.specs.Str.{bytes_eq}
-use Rattle.std.specs.declared.cmp.Ordering.TheVariants.{Less}
-use Rattle.std.specs.declared.string.String.{String}
-use Rattle.std.specs.declared.alloc.Global.{Global}
+use Rattle.std.specs.Rc.{rc_str_bytes}
 use Rattle.std.specs.String.{string_bytes}
+use Rattle.std.specs.declared.alloc.Global.{Global}
+use Rattle.std.specs.declared.cmp.Ordering.{Ordering}
+use Rattle.std.specs.declared.rc.RcStr.{RcStr}
+use Rattle.std.specs.declared.string.String.{String}
 
 -- a name with a value
 abbrev pub Entry : Type 0
 Entry = List ℕ × List ℕ
 
--- the bytes of two texts
-abbrev pub entry_of : String Global × String Global → Entry
-entry_of pair = (string_bytes pair.0, string_bytes pair.1)
+-- a field line as it is handed in
+abbrev pub line_view : String Global × String Global → Entry
+line_view line = (string_bytes line.0, string_bytes line.1)
 
--- the bytes of each pair of texts
-abbrev pub entries_of : List (String Global × String Global) → List Entry
-entries_of pairs = map entry_of pairs
+-- field lines in order of arrival
+abbrev pub lines_view : List (String Global × String Global) → List Entry
+lines_view lines = map line_view lines
 
--- the first text is before the second by the order of bytes
-abbrev pub IsBefore : List ℕ → List ℕ → Type 0
-IsBefore a b = slice_cmp nat_cmp a b ≡ Less
+-- a header as it is kept
+abbrev pub header_view : RcStr Global × RcStr Global → Entry
+header_view header = (rc_str_bytes header.0, rc_str_bytes header.1)
 
--- each name is before the next
-abbrev pub IsAscending : List Entry → Type 0
-IsAscending [] = Unit {0}
-IsAscending (e ∷ []) = Unit {0}
-IsAscending (e ∷ d ∷ es) = IsBefore e.0 d.0 × IsAscending (d ∷ es)
+-- headers in the order in which they are kept
+abbrev pub headers_view : List (RcStr Global × RcStr Global) → List Entry
+headers_view headers = map header_view headers
 
--- the value of the first entry of this name
-abbrev pub value_at : List ℕ → List Entry → Option (List ℕ)
-value_at name [] = None
-value_at name (e ∷ es) = if bytes_eq e.0 name then Some e.1 else value_at name es
+-- the order of names: byte by byte
+abbrev pub name_cmp : List ℕ → List ℕ → Ordering
+name_cmp = slice_cmp nat_cmp
+
+-- headers as a finite map: from names to values
+abbrev pub HeaderMap : Type 0
+HeaderMap = FinMap name_cmp (List ℕ)
+
+-- the map that headers are where they stand by ascending name
+abbrev pub map_view : List (RcStr Global × RcStr Global) → HeaderMap
+map_view headers = from_sorted (headers_view headers)
+
+-- header maps are told apart by their entries
+abbrev pub header_map_code : Coded HeaderMap
+header_map_code = code (coded_list coded_ℕ) (coded_list coded_ℕ)
 
 -- the values of all entries of this name, in order
 abbrev pub values_of : List ℕ → List Entry → List (List ℕ)
 values_of name es = map (λ e. e.1) (filter (λ e. bytes_eq e.0 name) es)
 
--- the values of one name as one, with a comma (44) between each two; none where there is none
+-- several values as one, with a comma (44) between each two
+abbrev pub with_commas : List (List ℕ) → List ℕ
+with_commas values = join_with_byte 44 values
+
+-- the headers of entries: each name that stands there, with all its values as one
+unfoldable pub headers_of : List Entry → HeaderMap
+headers_of es = from_entries (map (λ e. (e.0, with_commas (values_of e.0 es))) es)
+
+-- the values of one name as one; none where there is none
 abbrev pub joined : List (List ℕ) → Option (List ℕ)
 joined [] = None
-joined (v ∷ vs) = Some (join_with_byte 44 (v ∷ vs))
+joined (v ∷ vs) = Some (with_commas (v ∷ vs))
+
+-- the headers have the entries' values at each name, and nothing at any other
+abbrev pub AreJoined : List Entry → HeaderMap → Type 0
+AreJoined es headers = (name : List ℕ) → get headers name ≡ joined (values_of name es)
 
 -- the name under which a field line stands: the Host field's is `:authority`
 abbrev pub header_name : List ℕ → List ℕ
@@ -58,32 +83,3 @@ line_entry line = (header_name line.0, line.1)
 abbrev pub all_entries : (method target scheme : List ℕ) → List Entry → List Entry
 all_entries method target scheme lines = map line_entry lines
     ++ ((codes ":method", method) ∷ (codes ":path", target) ∷ (codes ":scheme", scheme) ∷ [])
-
--- the headers are the entries joined: one for each name, by ascending name, with all its values
-pub record AreJoined (entries headers : List Entry) : Type 0 where
-  pub ascending : IsAscending headers
-  pub values : (name : List ℕ) → value_at name headers ≡ joined (values_of name entries)
-  pub few : length headers ≤ length entries
-
--- no name is before the one that stands before it
-abbrev pub AreSorted : List Entry → Type 0
-AreSorted [] = Unit {0}
-AreSorted (e ∷ []) = Unit {0}
-AreSorted (e ∷ d ∷ es) = ¬ (IsBefore d.0 e.0) × AreSorted (d ∷ es)
-
--- one more entry in its place among headers by ascending name, joined to the value of its name
-abbrev pub put_entry : Entry → List Entry → List Entry
-put_entry e [] = e ∷ []
-put_entry e (h ∷ hs) = match_ordering (slice_cmp nat_cmp e.0 h.0)
-    (e ∷ h ∷ hs)
-    ((h.0, h.1 ++ 44 ∷ e.1) ∷ hs)
-    (h ∷ put_entry e hs)
-
--- the headers of entries: each entry put in its place in turn
-abbrev pub headers_after : List Entry → List Entry → List Entry
-headers_after hs [] = hs
-headers_after hs (e ∷ es) = headers_after (put_entry e hs) es
-
--- the joined headers of entries, computed
-unfoldable pub headers_of : List Entry → List Entry
-headers_of es = headers_after [] es

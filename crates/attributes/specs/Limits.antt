@@ -1,5 +1,6 @@
 -- The limits of a request, and what is within them.
-use Rattle.std.specs.Prelude.{◌≡◌, ℕ, ◌+◌, ◌<◌, ◌≤◌, List, Option, All, IfSome, codes, decimal, length, ◌++◌}
+use Rattle.std.specs.Prelude.{ℕ, ◌+◌, ◌≤◌, ◌==◌, nat_lt, List, [], ◌∷◌, Option, Some, None, All, IfSome, if◌then◌else◌, codes, decimal, filter_map, length, slice_get, ◌++◌}
+use Rattle.std.specs.FinMap.{entries}
 use Rattle.attributes.specs.Conn.{Facts}
 use Rattle.attributes.specs.Headers.{Entry}
 use Rattle.attributes.specs.Request.{RequestValue, protocol_of}
@@ -50,15 +51,23 @@ limit_of Limit.Method l = l.method
 limit_of Limit.Target l = l.target
 limit_of Limit.Text l = l.text
 
--- the fault is there: this limit is 0, or above the greatest
-abbrev pub HasLimitFault : LimitsValue → LimitFault → Type 0
-HasLimitFault l (Zero limit) = limit_of limit l ≡ 0
-HasLimitFault l (Above limit) = limit_of limit largest < limit_of limit l
+-- the limits in the order of `Limits::new`
+abbrev pub every_limit : List Limit
+every_limit =
+    Limit.Fields ∷ Limit.Name ∷ Limit.Value ∷ Limit.Method ∷ Limit.Target ∷ Limit.Text ∷ []
 
--- the fault of one limit that is declared as n
-abbrev pub IsFaultOf : Limit → ℕ → LimitFault → Type 0
-IsFaultOf limit n (Zero at) = (at ≡ limit) × (n ≡ 0)
-IsFaultOf limit n (Above at) = (at ≡ limit) × (limit_of limit largest < n)
+-- what is wrong with a limit that is declared as n: it is 0, or above the greatest
+abbrev pub limit_fault : Limit → ℕ → Option LimitFault
+limit_fault limit n = if n == 0 then Some (Zero limit)
+    else (if nat_lt (limit_of limit largest) n then Some (Above limit) else None)
+
+-- the faults of limits, in that order
+abbrev pub limit_faults : LimitsValue → List LimitFault
+limit_faults l = filter_map (λ limit. limit_fault limit (limit_of limit l)) every_limit
+
+-- the first of them, if there is one
+abbrev pub first_fault : LimitsValue → Option LimitFault
+first_fault l = slice_get (limit_faults l) 0
 
 -- what a fault prints
 abbrev pub fault_text : LimitFault → List ℕ
@@ -98,6 +107,6 @@ pub record HeadInLimits (r : RequestValue) (l : LimitsValue) : Type 0 where
 -- every count, name and text is within the limits; the three pseudo-headers count as fields
 pub record InLimits (r : RequestValue) (l : LimitsValue) : Type 0 where
   pub count : r.lines + 3 ≤ l.fields
-  pub headers : All (EntryInLimits l) r.headers
+  pub headers : All (EntryInLimits l) (entries r.headers)
   pub head : HeadInLimits r l
   pub facts : FactsInLimits r.facts l

@@ -1,8 +1,10 @@
 -- A request as values: RFC 9112 section 3 (request line), RFC 9110 section 5 (fields), Envoy,
 -- "Attributes".
-use Rattle.std.specs.Prelude.{ℕ, ◌+◌, ◌≤◌, Bool, List, Option, codes, if◌then◌else◌, length}
-use Rattle.attributes.specs.Conn.{Facts}
-use Rattle.attributes.specs.Headers.{Entry, IsAscending, all_entries, headers_of, value_at}
+use Rattle.std.specs.Prelude.{ℕ, ◌+◌, ◌<◌, ◌≤◌, ◌^◌, All, Bool, List, Option, codes, if◌then◌else◌, length}
+use Rattle.std.specs.FinMap.{entries, get, len}
+use Rattle.std.specs.Str.{IsUtf8}
+use Rattle.attributes.specs.Conn.{AreFacts, Facts}
+use Rattle.attributes.specs.Headers.{Entry, HeaderMap, all_entries, headers_of}
 
 -- a request; `lines` is the number of its field lines, and `headers` are all its headers,
 -- pseudo-headers included
@@ -11,18 +13,30 @@ pub record RequestValue : Type 0 where
   pub target : List ℕ
   pub http11 : Bool
   pub lines : ℕ
-  pub headers : List Entry
+  pub headers : HeaderMap
   pub facts : Facts
 
--- what holds of each request: its headers ascend by name, and are no more than its lines and the
--- three pseudo-headers
+-- the name and the value are UTF-8
+abbrev pub IsTextEntry : Entry → Type 0
+IsTextEntry e = IsUtf8 e.0 × IsUtf8 e.1
+
+-- names and values are UTF-8
+abbrev pub AreTextHeaders : HeaderMap → Type 0
+AreTextHeaders headers = All IsTextEntry (entries headers)
+
+-- what holds of each request: texts are UTF-8, numbers are in their ranges, and headers are no more
+-- than the lines and the three pseudo-headers
 pub record IsRequest (r : RequestValue) : Type 0 where
-  pub ascending : IsAscending r.headers
-  pub few : length r.headers ≤ r.lines + 3
+  pub method : IsUtf8 r.method
+  pub target : IsUtf8 r.target
+  pub lines : r.lines < 2 ^ 64
+  pub headers : AreTextHeaders r.headers
+  pub few : len r.headers ≤ r.lines + 3
+  pub facts : AreFacts r.facts
 
 -- the value of a header; a name is in lower case, and the Host field's is `:authority`
 abbrev pub header_of : RequestValue → List ℕ → Option (List ℕ)
-header_of r name = value_at name r.headers
+header_of r name = get r.headers name
 
 -- the version of the protocol as text
 abbrev pub protocol_of : Bool → List ℕ

@@ -1,7 +1,8 @@
 //! IP addresses as numbers, their text, and ranges of them.
 ghost use Rattle.std.specs.Prelude.{◌≡◌, ◌+◌, ◌*◌, ◌-◌, ◌/◌, ◌^◌, ◌<◌, ◌≤◌, ◌↔◌, IsTrue, MatchOption, false, true};
 ghost use Rattle.std.specs.Option.{SomeIff};
-ghost use Rattle.attributes.specs.Address.{IsInRange, IsIpText, has_dot, number_of, width_of};
+ghost use Rattle.attributes.specs.Address.{IsInRange, IsIpText, number_of, width_of};
+ghost use Rattle.attributes.specs.steps.Address.{has_dot};
 
 use std::marker::Model;
 use std::net::{Ipv4Addr, Ipv6Addr};
@@ -19,9 +20,7 @@ pub enum Ip {
 /// of hexadecimal digits with colons between them, where one `::` may stand for one zero group or
 /// more (RFC 4291 section 2.2). No text mixes the two forms, and none has a zone.
 pub fn parse_ip(text: &str) -> Option<Ip>
-    ensures spelled { MatchOption result ((ip : Ip) → ¬ (IsIpText text.now ip))
-        (IsIpText text.now) }
-    ensures exact { (ip : Ip) → (result ≡ Some ip) ↔ IsIpText text.now ip }
+    ensures { (ip : Ip) → (result ≡ Some ip) ↔ IsIpText text.now ip }
 {
     let bytes = text.as_bytes();
     if bytes.contains(&b'.') {

@@ -1,13 +1,15 @@
 //! The attributes of a request, each a function of its parts.
-ghost use Rattle.std.specs.Prelude.{◌≡◌, ◌<◌, ◌==◌, option_copied, option_map, take};
-ghost use Rattle.std.specs.List.{after_first, before_first};
-ghost use Rattle.std.specs.Str.{IsCharBoundary};
-ghost use Rattle.attributes.specs.Attributes.{attr_of, data_of, port_data, query_of, text, url_path_of};
-ghost use Rattle.attributes.specs.Conn.{facts_of, text_of};
-ghost use Rattle.attributes.specs.Request.{IsRequest, header_of, protocol_of};
+ghost use Rattle.std.specs.Prelude.{◌≡◌, ◌↔◌, IfSome, Some, find, option_map};
+ghost use Rattle.std.specs.Str.{bytes_eq};
+ghost use Rattle.attributes.specs.Attributes.{IsOrdered, attr_name, attr_of, attr_view, port_data, text, attr_type};
+ghost use Rattle.attributes.specs.declared.attribute.AttrId.{AttrId};
+ghost use Rattle.attributes.specs.Conn.{conn_view};
+ghost use Rattle.attributes.specs.Request.{IsRequest};
+ghost use Rattle.attributes.specs.steps.Request.{lent_view};
 
 use crate::headers::Header;
 use crate::request::Request;
+use std::rc::{Rc, RcStr};
 
 /// An attribute, by its name with a dot: `RequestUrlPath` is `request.url_path`.
 #[derive(Clone, Copy, Debug, PartialEq, Eq)]
@@ -58,129 +60,172 @@ pub enum AttrId {
     ConnectionUriSanPeerCertificate,
 }
 
-/// The value of an attribute, lent by the request.
+/// The type of an attribute's values.
+#[derive(Clone, Copy, Debug, PartialEq, Eq)]
+pub enum AttrType {
+    /// A text.
+    Text,
+    /// A number with a sign, of 64 bits.
+    Int,
+    /// A number without a sign, of 64 bits.
+    Uint,
+    /// Yes or no.
+    Bool,
+    /// A map from texts to texts.
+    TextMap,
+}
+
+/// The value of an attribute, lent by the request: who keeps it clones the handle.
 #[derive(Clone, Copy, Debug)]
 pub enum AttrValue<'a> {
     /// A text.
-    Text(&'a str),
+    Text(&'a RcStr),
     /// A number with a sign: a port.
     Int(i64),
     /// A number without a sign: the connection's.
     Uint(u64),
     /// Yes or no.
     Bool(bool),
-    /// Entries of a map by ascending name.
-    Pairs(&'a [Header]),
+    /// Texts with texts, by ascending name.
+    Pairs(&'a Rc<Vec<Header>>),
+}
+
+// Every attribute.
+const ATTRIBUTES: [AttrId; 22] = [
+    AttrId::RequestPath,
+    AttrId::RequestUrlPath,
+    AttrId::RequestHost,
+    AttrId::RequestScheme,
+    AttrId::RequestMethod,
+    AttrId::RequestHeaders,
+    AttrId::RequestReferer,
+    AttrId::RequestUseragent,
+    AttrId::RequestId,
+    AttrId::RequestProtocol,
+    AttrId::RequestQuery,
+    AttrId::SourceAddress,
+    AttrId::SourcePort,
+    AttrId::DestinationAddress,
+    AttrId::DestinationPort,
+    AttrId::ConnectionMtls,
+    AttrId::ConnectionId,
+    AttrId::ConnectionRequestedServerName,
+    AttrId::ConnectionTlsVersion,
+    AttrId::ConnectionSubjectPeerCertificate,
+    AttrId::ConnectionDnsSanPeerCertificate,
+    AttrId::ConnectionUriSanPeerCertificate,
+];
+
+/// The attribute of this name, as `request.url_path`; `None` where no attribute has it.
+pub fn attr_named(name: &str) -> Option<AttrId>
+    ensures { (id : AttrId) → (result ≡ Some id) ↔ (name.now ≡ attr_name id) }
+{
+    find_named(&ATTRIBUTES, name)
+}
+
+// The first of these that has the name.
+fn find_named(ids: &[AttrId], name: &str) -> Option<AttrId>
+    ensures { result ≡ find (λ id. bytes_eq (attr_name id) name.now) ids.now }
+{
+    ids.iter().copied().find(|id| attr_name(*id) == name)
+}
+
+fn attr_name(id: AttrId) -> &'static str
+    ensures { result.now ≡ attr_name id }
+{
+    match id {
+        AttrId::RequestPath => "request.path",
+        AttrId::RequestUrlPath => "request.url_path",
+        AttrId::RequestHost => "request.host",
+        AttrId::RequestScheme => "request.scheme",
+        AttrId::RequestMethod => "request.method",
+        AttrId::RequestHeaders => "request.headers",
+        AttrId::RequestReferer => "request.referer",
+        AttrId::RequestUseragent => "request.useragent",
+        AttrId::RequestId => "request.id",
+        AttrId::RequestProtocol => "request.protocol",
+        AttrId::RequestQuery => "request.query",
+        AttrId::SourceAddress => "source.address",
+        AttrId::SourcePort => "source.port",
+        AttrId::DestinationAddress => "destination.address",
+        AttrId::DestinationPort => "destination.port",
+        AttrId::ConnectionMtls => "connection.mtls",
+        AttrId::ConnectionId => "connection.id",
+        AttrId::ConnectionRequestedServerName => "connection.requested_server_name",
+        AttrId::ConnectionTlsVersion => "connection.tls_version",
+        AttrId::ConnectionSubjectPeerCertificate => "connection.subject_peer_certificate",
+        AttrId::ConnectionDnsSanPeerCertificate => "connection.dns_san_peer_certificate",
+        AttrId::ConnectionUriSanPeerCertificate => "connection.uri_san_peer_certificate",
+    }
+}
+
+/// The type of the attribute's values: where it is there, its value has that type
+/// (`laws::attributes_have_their_types`).
+pub fn attr_type(id: AttrId) -> AttrType
+    ensures { result ≡ attr_type id }
+{
+    match id {
+        AttrId::SourcePort | AttrId::DestinationPort => AttrType::Int,
+        AttrId::ConnectionId => AttrType::Uint,
+        AttrId::ConnectionMtls => AttrType::Bool,
+        AttrId::RequestHeaders => AttrType::TextMap,
+        _ => AttrType::Text,
+    }
 }
 
 impl Request {
     /// The attribute, or `None` where it is absent.
     pub fn attr(&self, id: AttrId) -> Option<AttrValue<'_>>
-        ensures value { option_map data_of result ≡ attr_of self.now id }
+        ensures value { option_map attr_view result ≡ attr_of self.now id }
+        ensures ordered { IfSome result IsOrdered }
         ensures sound { IsRequest self.now }
     {
         let conn = self.conn();
         match id {
-            AttrId::RequestPath => Some(AttrValue::Text(self.target())),
-            AttrId::RequestUrlPath => Some(AttrValue::Text(self.url_path())),
-            AttrId::RequestHost => text_value(self.header(":authority")),
-            AttrId::RequestScheme => Some(AttrValue::Text(conn.scheme.as_str())),
-            AttrId::RequestMethod => Some(AttrValue::Text(self.method())),
+            AttrId::RequestPath => Some(AttrValue::Text(self.target_text())),
+            AttrId::RequestUrlPath => Some(AttrValue::Text(self.url_path_text())),
+            AttrId::RequestHost => text_value(self.header_text(":authority")),
+            AttrId::RequestScheme => Some(AttrValue::Text(&conn.scheme)),
+            AttrId::RequestMethod => Some(AttrValue::Text(self.method_text())),
             AttrId::RequestHeaders => Some(AttrValue::Pairs(self.headers())),
-            AttrId::RequestReferer => text_value(self.header("referer")),
-            AttrId::RequestUseragent => text_value(self.header("user-agent")),
-            AttrId::RequestId => text_value(self.header("x-request-id")),
-            AttrId::RequestProtocol => Some(AttrValue::Text(self.protocol())),
-            AttrId::RequestQuery => Some(AttrValue::Text(self.query())),
-            AttrId::SourceAddress => text_value(as_text(&conn.source_address)),
+            AttrId::RequestReferer => text_value(self.header_text("referer")),
+            AttrId::RequestUseragent => text_value(self.header_text("user-agent")),
+            AttrId::RequestId => text_value(self.header_text("x-request-id")),
+            AttrId::RequestProtocol => Some(AttrValue::Text(self.protocol_text())),
+            AttrId::RequestQuery => Some(AttrValue::Text(self.query_text())),
+            AttrId::SourceAddress => text_value(conn.source_address.as_ref()),
             AttrId::SourcePort => port_value(conn.source_port),
-            AttrId::DestinationAddress => text_value(as_text(&conn.destination_address)),
+            AttrId::DestinationAddress => text_value(conn.destination_address.as_ref()),
             AttrId::DestinationPort => port_value(conn.destination_port),
             AttrId::ConnectionMtls => Some(AttrValue::Bool(conn.mtls?)),
             AttrId::ConnectionId => Some(AttrValue::Uint(conn.connection_id?)),
-            AttrId::ConnectionRequestedServerName => text_value(as_text(
-                &conn.requested_server_name,
-            )),
-            AttrId::ConnectionTlsVersion => text_value(as_text(&conn.tls_version)),
-            AttrId::ConnectionSubjectPeerCertificate => text_value(as_text(
-                &conn.subject_peer_certificate,
-            )),
-            AttrId::ConnectionDnsSanPeerCertificate => text_value(as_text(
-                &conn.dns_san_peer_certificate,
-            )),
-            AttrId::ConnectionUriSanPeerCertificate => text_value(as_text(
-                &conn.uri_san_peer_certificate,
-            )),
-        }
-    }
-
-    /// What stands between the target's first `?` and the first `#`; empty where no `?` stands
-    /// before the first `#`.
-    pub fn query(&self) -> &str
-        ensures { result.now ≡ query_of self.now.target }
-    {
-        after(before(self.target(), '#'), '?')
-    }
-
-    /// `HTTP/1.1` or `HTTP/1.0`.
-    pub fn protocol(&self) -> &'static str
-        ensures { result.now ≡ protocol_of self.now.http11 }
-    {
-        if self.is_http11() {
-            "HTTP/1.1"
-        } else {
-            "HTTP/1.0"
+            AttrId::ConnectionRequestedServerName => {
+                text_value(conn.requested_server_name.as_ref())
+            }
+            AttrId::ConnectionTlsVersion => text_value(conn.tls_version.as_ref()),
+            AttrId::ConnectionSubjectPeerCertificate => {
+                text_value(conn.subject_peer_certificate.as_ref())
+            }
+            AttrId::ConnectionDnsSanPeerCertificate => {
+                text_value(conn.dns_san_peer_certificate.as_ref())
+            }
+            AttrId::ConnectionUriSanPeerCertificate => {
+                text_value(conn.uri_san_peer_certificate.as_ref())
+            }
         }
     }
 }
 
-// How many bytes come before the first `#` and the first `?`.
-pub(crate) fn path_length(target: &str) -> usize
-    ensures boundary { IsCharBoundary target.now result }
-    ensures path { take result target.now ≡ url_path_of target.now }
-{
-    before(before(target, '#'), '?').len()
-}
-
-// The text before the first such character, or all of it.
-fn before(text: &str, mark: char) -> &str
-    requires { mark < 128 }
-    ensures { result.now ≡ before_first (λ b. b == mark) text.now }
-{
-    match text.split_once(mark) {
-        Some((front, _)) => front,
-        None => text,
-    }
-}
-
-// The text after the first such character, or the empty text.
-fn after(text: &str, mark: char) -> &str
-    requires { mark < 128 }
-    ensures { result.now ≡ after_first (λ b. b == mark) text.now }
-{
-    match text.split_once(mark) {
-        Some((_, back)) => back,
-        None => "",
-    }
-}
-
-fn text_value(found: Option<&str>) -> Option<AttrValue<'_>>
-    ensures { option_map data_of result ≡ option_map text (option_copied found.entry) }
+fn text_value(found: Option<&RcStr>) -> Option<AttrValue<'_>>
+    ensures value { option_map attr_view result ≡ option_map text (lent_view found.entry) }
+    ensures ordered { IfSome result IsOrdered }
 {
     Some(AttrValue::Text(found?))
 }
 
 fn port_value<'a>(port: Option<u16>) -> Option<AttrValue<'a>>
-    ensures { option_map data_of result ≡ port_data port }
+    ensures value { option_map attr_view result ≡ port_data port }
+    ensures ordered { IfSome result IsOrdered }
 {
     Some(AttrValue::Int(i64::from(port?)))
-}
-
-fn as_text(found: &Option<String>) -> Option<&str>
-    ensures { option_copied result ≡ text_of found.now }
-{
-    match found {
-        Some(found) => Some(found.as_str()),
-        None => None,
-    }
 }

@@ -1,20 +1,22 @@
 //! What is known of the connection of a request, handed in as it is.
-ghost use Rattle.std.specs.Prelude.{◌≡◌, IfOk};
-ghost use Rattle.std.specs.String.{string_bytes};
-ghost use Rattle.attributes.specs.Conn.{facts_of, only_scheme, text_of};
+ghost use Rattle.std.specs.Prelude.{◌≡◌, ◌<◌, ◌^◌, IfOk, IfSome};
+ghost use Rattle.std.specs.Rc.{rc_str_bytes};
+ghost use Rattle.attributes.specs.Address.{IsAddress};
+ghost use Rattle.attributes.specs.Conn.{AreFacts, IsPort, conn_view, only_scheme, text_view};
 
 use crate::address::Ip;
 use std::alloc::AllocError;
+use std::rc::RcStr;
 
 /// The facts of a connection. Each may be absent but the scheme.
 #[derive(Debug, Drop)]
 pub struct Conn {
     /// `source.address`
-    pub source_address: Option<String>,
+    pub source_address: Option<RcStr>,
     /// `source.port`
     pub source_port: Option<u16>,
     /// `destination.address`
-    pub destination_address: Option<String>,
+    pub destination_address: Option<RcStr>,
     /// `destination.port`
     pub destination_port: Option<u16>,
     /// `connection.mtls`
@@ -22,15 +24,15 @@ pub struct Conn {
     /// `connection.id`
     pub connection_id: Option<u64>,
     /// `connection.requested_server_name`
-    pub requested_server_name: Option<String>,
+    pub requested_server_name: Option<RcStr>,
     /// `connection.tls_version`
-    pub tls_version: Option<String>,
+    pub tls_version: Option<RcStr>,
     /// `connection.subject_peer_certificate`
-    pub subject_peer_certificate: Option<String>,
+    pub subject_peer_certificate: Option<RcStr>,
     /// `connection.dns_san_peer_certificate`
-    pub dns_san_peer_certificate: Option<String>,
+    pub dns_san_peer_certificate: Option<RcStr>,
     /// `connection.uri_san_peer_certificate`
-    pub uri_san_peer_certificate: Option<String>,
+    pub uri_san_peer_certificate: Option<RcStr>,
     /// The address that the connection comes from, for address ranges.
     pub direct_remote_ip: Option<Ip>,
     /// The address that the request comes from, for address ranges.
@@ -38,13 +40,13 @@ pub struct Conn {
     /// The address that the connection goes to, for address ranges.
     pub destination_ip: Option<Ip>,
     /// `request.scheme`
-    pub scheme: String,
+    pub scheme: RcStr,
 }
 
 impl Conn {
     /// A connection of which nothing but the scheme is known.
-    pub fn of_scheme(scheme: String) -> Conn
-        ensures { facts_of result ≡ only_scheme (string_bytes scheme) }
+    pub fn of_scheme(scheme: RcStr) -> Conn
+        ensures { conn_view result ≡ only_scheme (rc_str_bytes scheme) }
     {
         Conn {
             source_address: None,
@@ -65,10 +67,12 @@ impl Conn {
         }
     }
 
-    /// A second connection value with the same facts.
+    /// Another connection value with the same facts; its texts are shared.
     pub fn copy(&self) -> Result<Conn, AllocError>
-        ensures { IfOk result (λ copy. facts_of copy ≡ facts_of self.now) }
+        ensures same { IfOk result (λ copy. conn_view copy ≡ conn_view self.now) }
+        ensures sound { AreFacts (conn_view self.now) }
     {
+        facts_are_sound(self);
         Ok(Conn {
             source_address: copy_text(&self.source_address)?,
             source_port: self.source_port,
@@ -89,11 +93,45 @@ impl Conn {
     }
 }
 
-fn copy_text(text: &Option<String>) -> Result<Option<String>, AllocError>
-    ensures { IfOk result (λ copy. text_of copy ≡ text_of text.now) }
+fn copy_text(text: &Option<RcStr>) -> Result<Option<RcStr>, AllocError>
+    ensures { IfOk result (λ copy. text_view copy ≡ text_view text.now) }
 {
     match text {
         Some(text) => Ok(Some(text.clone()?)),
         None => Ok(None),
+    }
+}
+
+// The facts that the types of a connection's parts give.
+pub(crate) fn facts_are_sound(conn: &Conn)
+    ensures { AreFacts (conn_view conn.now) }
+{
+    port_is_sound(conn.source_port);
+    port_is_sound(conn.destination_port);
+    number_is_sound(conn.connection_id);
+    address_is_sound(conn.direct_remote_ip);
+    address_is_sound(conn.remote_ip);
+    address_is_sound(conn.destination_ip);
+}
+
+fn port_is_sound(port: Option<u16>)
+    ensures { IsPort port }
+{
+    if let Some(_number) = port {}
+}
+
+fn number_is_sound(number: Option<u64>)
+    ensures { IfSome number (λ n. n < 2 ^ 64) }
+{
+    if let Some(_number) = number {}
+}
+
+fn address_is_sound(address: Option<Ip>)
+    ensures { IfSome address IsAddress }
+{
+    match address {
+        Some(Ip::V4(_number)) => (),
+        Some(Ip::V6(_number)) => (),
+        None => (),
     }
 }

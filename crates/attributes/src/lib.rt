@@ -5,13 +5,14 @@ mod address;
 mod attribute;
 mod conn;
 mod headers;
+pub mod laws;
 mod limits;
 mod request;
 #[cfg(test)]
 mod tests;
 
 pub use address::{Cidr, Ip, parse_ip};
-pub use attribute::{AttrId, AttrValue};
+pub use attribute::{AttrId, AttrType, AttrValue, attr_named, attr_type};
 pub use conn::Conn;
 pub use headers::Header;
 pub use limits::{Limit, LimitFault, Limits};

@@ -1,15 +1,18 @@
 //! The limits that a request has to keep, and the test whether it does.
-ghost use Rattle.std.specs.Prelude.{◌≡◌, ◌+◌, ◌≤◌, ◌↔◌, IfOk, IfErr, IsOk, IsTrue, OnOk, All};
-ghost use Rattle.attributes.specs.Conn.{facts_of, text_of};
-ghost use Rattle.attributes.specs.Headers.{entry_of};
-ghost use Rattle.attributes.specs.Limits.{AreLimits, FactsInLimits, HasLimitFault, HeadInLimits, InLimits, IsFaultOf, IsWithin, EntryInLimits, declared, largest, limit_of, name_of};
+ghost use Rattle.std.specs.Prelude.{◌≡◌, ◌+◌, ◌≤◌, ◌↔◌, IfOk, IsTrue, All};
+ghost use Rattle.std.specs.FinMap.{entries};
+ghost use Rattle.std.specs.Result.{result_err};
+ghost use Rattle.attributes.specs.Conn.{AreFacts, conn_view, text_view};
+ghost use Rattle.attributes.specs.Headers.{header_view};
+ghost use Rattle.attributes.specs.Limits.{AreLimits, FactsInLimits, HeadInLimits, InLimits, IsWithin, EntryInLimits, declared, first_fault, largest, limit_fault, limit_of, name_of};
 
-use crate::conn::Conn;
+use crate::conn::{Conn, facts_are_sound};
 use crate::headers::Header;
 use crate::request::Request;
 use std::error::Error;
 use std::fmt;
 use std::marker::Model;
+use std::rc::RcStr;
 
 const MOST_FIELDS: usize = 64;
 
@@ -42,7 +45,7 @@ pub enum Limit {
 
 impl Limit {
     /// The greatest number that may be declared for it.
-    pub fn largest(self) -> usize
+    pub(crate) fn largest(self) -> usize
         ensures { result ≡ limit_of self largest }
     {
         match self {
@@ -56,7 +59,7 @@ impl Limit {
     }
 
     /// The name by which a configuration declares it.
-    pub fn name(self) -> &'static str
+    pub(crate) fn name(self) -> &'static str
         ensures { result.now ≡ name_of self }
     {
         match self {
@@ -135,7 +138,8 @@ impl Model for Limits {
 
 impl Limits {
     /// Limits as declared: on the number of fields, and in bytes of a name, a value, a method, a
-    /// target and any other text.
+    /// target and any other text. Where one is 0 or above the greatest that may be declared, the
+    /// first of these faults in that order.
     pub fn new(
         fields: usize,
         name: usize,
@@ -145,9 +149,8 @@ impl Limits {
         text: usize,
     ) -> Result<Limits, LimitFault>
         ensures kept { IfOk result (λ l. l ≡ declared fields name value method target text) }
-        ensures allowed { OnOk result (AreLimits (declared fields name value method target text)) }
-        ensures fault { IfErr result
-            (HasLimitFault (declared fields name value method target text)) }
+        ensures fault { result_err result
+            ≡ first_fault (declared fields name value method target text) }
     {
         check_limit(Limit::Fields, fields)?;
         check_limit(Limit::Name, name)?;
@@ -206,8 +209,10 @@ impl Limits {
 
     /// Whether each text of the connection is within the limit of texts.
     pub fn fits_conn(&self, conn: &Conn) -> bool
-        ensures { IsTrue result ↔ FactsInLimits (facts_of conn.now) self.now }
+        ensures value { IsTrue result ↔ FactsInLimits (conn_view conn.now) self.now }
+        ensures sound { AreFacts (conn_view conn.now) }
     {
+        facts_are_sound(conn);
         fits_text(&conn.source_address, self.text)
             && fits_text(&conn.destination_address, self.text)
             && fits_text(&conn.requested_server_name, self.text)
@@ -231,26 +236,26 @@ impl Limits {
     {
         request.method().len() <= self.method
             && request.target().len() <= self.target
-            && request.protocol().len() <= self.text
+            && request.protocol_text().len() <= self.text
     }
 
     // Each header's name and value.
     fn fits_headers(&self, request: &Request) -> bool
-        ensures { IsTrue result ↔ All (EntryInLimits self.now) request.now.headers }
+        ensures { IsTrue result ↔ All (EntryInLimits self.now) (entries request.now.headers) }
     {
-        self.fits_pairs(request.headers())
+        self.fits_pairs(request.headers().as_slice())
     }
 
     fn fits_pairs(&self, headers: &[Header]) -> bool
         ensures { IsTrue result
-            ↔ All (λ header. EntryInLimits self.now (entry_of header)) headers.now }
+            ↔ All (λ header. EntryInLimits self.now (header_view header)) headers.now }
     {
         headers.iter().all(|(name, value)| name.len() <= self.name && value.len() <= self.value)
     }
 }
 
-fn fits_text(text: &Option<String>, most: usize) -> bool
-    ensures { IsTrue result ↔ IsWithin most (text_of text.now) }
+fn fits_text(text: &Option<RcStr>, most: usize) -> bool
+    ensures { IsTrue result ↔ IsWithin most (text_view text.now) }
 {
     match text {
         Some(text) => text.len() <= most,
@@ -259,8 +264,7 @@ fn fits_text(text: &Option<String>, most: usize) -> bool
 }
 
 fn check_limit(limit: Limit, declared: usize) -> Result<(), LimitFault>
-    ensures ok { IsOk result ↔ ((1 ≤ declared) × (declared ≤ limit_of limit largest)) }
-    ensures fault { IfErr result (IsFaultOf limit declared) }
+    ensures { result_err result ≡ limit_fault limit declared }
 {
     if declared == 0 {
         return Err(LimitFault::Zero(limit));

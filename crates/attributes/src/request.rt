@@ -1,59 +1,59 @@
 //! A request as values, and what its limits and its policies read of it.
-ghost use Rattle.std.specs.Prelude.{◌≡◌, ℕ, ◌+◌, IfOk, option_copied, vec_len};
+ghost use Rattle.std.specs.Prelude.{◌≡◌, ◌<◌, ◌==◌, IfOk, IsTrue, length};
+ghost use Rattle.std.specs.FinMap.{entries, is_sorted};
+ghost use Rattle.std.specs.List.{after_first, before_first};
+ghost use Rattle.std.specs.Option.{option_copied};
+ghost use Rattle.std.specs.Rc.{rc_str_bytes};
 ghost use Rattle.std.specs.String.{string_bytes};
-ghost use Rattle.attributes.specs.Attributes.{url_path_of};
-ghost use Rattle.attributes.specs.Conn.{facts_of};
-ghost use Rattle.attributes.specs.Headers.{AreJoined, all_entries, entries_of};
-ghost use Rattle.attributes.specs.Request.{IsRequest, header_of, request_of};
+ghost use Rattle.attributes.specs.Attributes.{query_of, url_path_of};
+ghost use Rattle.attributes.specs.Conn.{conn_view};
+ghost use Rattle.attributes.specs.Headers.{headers_view, lines_view};
+ghost use Rattle.attributes.specs.Request.{IsRequest, header_of, protocol_of, request_of};
+ghost use Rattle.attributes.specs.steps.Request.{lent_view};
 
-use crate::attribute::path_length;
-use crate::conn::Conn;
+use crate::conn::{Conn, facts_are_sound};
 use crate::headers::{Header, find_header, join_headers};
 use std::alloc::{AllocError, Global};
 use std::marker::Model;
+use std::rc::{Rc, RcStr};
 
-/// A request: its method, target, version and headers, and the facts of its connection.
+/// A request: its method, target, version and headers, and the facts of its connection. Its texts
+/// are shared with those that keep them.
 #[derive(Debug, Drop)]
 pub struct Request {
-    method: String,
-    target: String,
-    // how many bytes of the target come before its first `#` and the first `?`
-    path_length: usize,
+    method: RcStr,
+    target: RcStr,
+    url_path: RcStr,
+    query: RcStr,
+    protocol: RcStr,
     http11: bool,
     lines: usize,
-    headers: Vec<Header>,
+    headers: Rc<Vec<Header>>,
     conn: Conn,
 }
 
 impl Model for Request {
-    ghost use Rattle.std.specs.Prelude.{◌≡◌, take};
-    ghost use Rattle.std.specs.Str.{IsCharBoundary};
-    ghost use Rattle.attributes.specs.Attributes.{url_path_of};
-    ghost use Rattle.attributes.specs.Headers.{entries_of};
-    ghost use Rattle.attributes.specs.Request.{RequestValue, IsRequest};
-    ghost use Rattle.attributes.specs.Conn.{facts_of};
-    ghost use Rattle.std.specs.String.{string_bytes};
+    ghost use Rattle.std.specs.Rc.{rc_str_bytes};
+    ghost use Rattle.attributes.specs.Conn.{conn_view};
+    ghost use Rattle.attributes.specs.Headers.{headers_view};
+    ghost use Rattle.attributes.specs.Request.{RequestValue};
+    ghost use Rattle.attributes.specs.contracts.address.Ip as ip;
+    ghost use Rattle.std.specs.Coded.{codes};
+    ghost use Rattle.attributes.specs.Headers.{header_map_code};
+    ghost use Rattle.attributes.specs.steps.Request.{AreKept, of_parts};
 
     ghost Value = { RequestValue };
 
-    ghost view = { λ r. record {
-      method = string_bytes r.method;
-      target = string_bytes r.target;
-      http11 = r.http11;
-      lines = r.lines;
-      headers = entries_of r.headers.items;
-      facts = facts_of r.conn;
-    } };
+    ghost coded = { Prim.hlevel (codes, header_map_code, ip.the_row.coded) };
 
-    ghost invariant = { λ r. IsRequest (record {
-      method = string_bytes r.method;
-      target = string_bytes r.target;
-      http11 = r.http11;
-      lines = r.lines;
-      headers = entries_of r.headers.items;
-      facts = facts_of r.conn;
-    }) × IsCharBoundary (string_bytes r.target) r.path_length
-        × (take r.path_length (string_bytes r.target) ≡ url_path_of (string_bytes r.target)) };
+    ghost view = { λ r. of_parts (rc_str_bytes r.method) (rc_str_bytes r.target) r.http11 r.lines
+        (headers_view r.headers.value.items) (conn_view r.conn) };
+
+    ghost invariant = { λ r. AreKept
+        (of_parts (rc_str_bytes r.method) (rc_str_bytes r.target) r.http11 r.lines
+        (headers_view r.headers.value.items) (conn_view r.conn))
+        (headers_view r.headers.value.items) (rc_str_bytes r.url_path) (rc_str_bytes r.query)
+        (rc_str_bytes r.protocol) };
 }
 
 impl Request {
@@ -67,33 +67,26 @@ impl Request {
         method: String,
         target: String,
         http11: bool,
-        lines: Vec<Header>,
+        lines: Vec<(String, String)>,
         conn: Conn,
     ) -> Result<Request, AllocError>
-        ensures parts { IfOk result (λ r. (r.method ≡ string_bytes method)
-            × (r.target ≡ string_bytes target) × (r.http11 ≡ http11) × (r.facts ≡ facts_of conn)) }
-        ensures count { IfOk result (λ r. r.lines ≡ vec_len lines) }
-        ensures value { IfOk result (λ r. r ≡ request_of (string_bytes method) (string_bytes target)
-            http11 (entries_of lines.items) (facts_of conn)) }
-        ensures headers { IfOk result (λ r. AreJoined (all_entries (string_bytes method)
-            (string_bytes target) (string_bytes conn.scheme) (entries_of lines.items)) r.headers) }
+        ensures { IfOk result (λ r. r ≡ request_of (string_bytes method) (string_bytes target)
+            http11 (lines_view lines.items) (conn_view conn)) }
     {
+        facts_are_sound(&conn);
         let count = lines.len();
-        let headers = join_headers(
-            alloc,
-            method.as_str(),
-            target.as_str(),
-            conn.scheme.as_str(),
-            lines,
-        )?;
-        let path_length = path_length(target.as_str());
+        let method = RcStr::from_string(method)?;
+        let target = RcStr::from_string(target)?;
+        let headers = join_headers(alloc, &method, &target, &conn.scheme, lines)?;
         Ok(Request {
+            url_path: share_url_path(alloc, &target)?,
+            query: share_query(alloc, &target)?,
+            protocol: RcStr::from_str(alloc, protocol_text(http11))?,
             method,
             target,
-            path_length,
             http11,
             lines: count,
-            headers,
+            headers: Rc::new(alloc, headers)?,
             conn,
         })
     }
@@ -116,7 +109,7 @@ impl Request {
     pub fn url_path(&self) -> &str
         ensures { result.now ≡ url_path_of self.now.target }
     {
-        &self.target[..self.path_length]
+        self.url_path.as_str()
     }
 
     /// Whether the version is HTTP/1.1; else it is HTTP/1.0.
@@ -134,25 +127,111 @@ impl Request {
     }
 
     /// All headers by ascending name, pseudo-headers included.
-    pub fn headers(&self) -> &[Header]
-        ensures value { entries_of result.now ≡ self.now.headers }
+    pub fn headers(&self) -> &Rc<Vec<Header>>
+        ensures value { headers_view result.now.value.items ≡ entries self.now.headers }
         ensures sound { IsRequest self.now }
     {
-        self.headers.as_slice()
+        &self.headers
     }
 
     /// The value of the header of this name in lower case; the Host field's name is `:authority`.
     pub fn header(&self, name: &str) -> Option<&str>
         ensures { option_copied result ≡ header_of self.now name.now }
     {
-        find_header(self.headers.as_slice(), name)
+        match self.header_text(name) {
+            Some(value) => Some(value.as_str()),
+            None => None,
+        }
     }
 
     /// The facts of the connection.
     pub fn conn(&self) -> &Conn
-        ensures facts { facts_of result.now ≡ self.now.facts }
+        ensures facts { conn_view result.now ≡ self.now.facts }
         ensures sound { IsRequest self.now }
     {
         &self.conn
+    }
+
+    pub(crate) fn method_text(&self) -> &RcStr
+        ensures { rc_str_bytes result.now ≡ self.now.method }
+    {
+        &self.method
+    }
+
+    pub(crate) fn target_text(&self) -> &RcStr
+        ensures { rc_str_bytes result.now ≡ self.now.target }
+    {
+        &self.target
+    }
+
+    pub(crate) fn url_path_text(&self) -> &RcStr
+        ensures { rc_str_bytes result.now ≡ url_path_of self.now.target }
+    {
+        &self.url_path
+    }
+
+    pub(crate) fn query_text(&self) -> &RcStr
+        ensures { rc_str_bytes result.now ≡ query_of self.now.target }
+    {
+        &self.query
+    }
+
+    pub(crate) fn protocol_text(&self) -> &RcStr
+        ensures { rc_str_bytes result.now ≡ protocol_of self.now.http11 }
+    {
+        &self.protocol
+    }
+
+    pub(crate) fn header_text(&self, name: &str) -> Option<&RcStr>
+        ensures { lent_view result ≡ header_of self.now name.now }
+    {
+        find_header(self.headers.as_slice(), name)
+    }
+}
+
+// The target before its first `#` and the first `?`; the target's own text where that is all.
+fn share_url_path(alloc: Global, target: &RcStr) -> Result<RcStr, AllocError>
+    ensures { IfOk result (λ text. rc_str_bytes text ≡ url_path_of (rc_str_bytes target.now)) }
+{
+    let path = before(before(target.as_str(), '#'), '?');
+    if path.len() == target.len() {
+        target.clone()
+    } else {
+        RcStr::from_str(alloc, path)
+    }
+}
+
+// What stands between the target's first `?` and the first `#`.
+fn share_query(alloc: Global, target: &RcStr) -> Result<RcStr, AllocError>
+    ensures { IfOk result (λ text. rc_str_bytes text ≡ query_of (rc_str_bytes target.now)) }
+{
+    RcStr::from_str(alloc, after(before(target.as_str(), '#'), '?'))
+}
+
+fn protocol_text(http11: bool) -> &'static str
+    ensures { result.now ≡ protocol_of http11 }
+{
+    if http11 { "HTTP/1.1" } else { "HTTP/1.0" }
+}
+
+// The text before the first such character, or all of it.
+fn before(text: &str, mark: char) -> &str
+    requires { mark < 128 }
+    ensures value { result.now ≡ before_first (λ b. b == mark) text.now }
+{
+    match text.split_once(mark) {
+        Some((front, _)) => front,
+        None => text,
+    }
+}
+
+// The text after the first such character, or the empty text.
+fn after(text: &str, mark: char) -> &str
+    requires { mark < 128 }
+    ensures { result.now ≡ after_first (λ b. b == mark) text.now }
+{
+    match text.split_once(mark) {
+        Some((_, back)) => back,
+        None => "",
     }
 }

@@ -2,5 +2,15 @@ pub mod VarintLemmas
 pub mod PayloadLemmas
 pub mod FieldLemmas
 pub mod Unique
-pub mod RuleLemmas
+pub mod KeyLemmas
+pub mod ValueLemmas
+pub mod OneofLemmas
 pub mod Messages
+pub mod Exits
+pub mod Basics
+pub mod MapLemmas
+pub mod MapLaws
+pub mod MapOrder
+pub mod ShortestLemmas
+pub mod MapValues
+pub mod StandardFacts

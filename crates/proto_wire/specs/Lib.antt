@@ -1,6 +1,11 @@
 pub mod Varint
 pub mod Fields
-pub mod Rules
+pub mod Keys
+pub mod Values
+pub mod Oneof
+pub mod Shortest
+pub mod Merge
 pub mod Refusal
 pub mod Messages
-pub mod Scalars
+pub mod Maps
+pub mod steps

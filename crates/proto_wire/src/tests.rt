@@ -1,5 +1,6 @@
 use crate::varint::read_varint;
 use crate::*;
+use std::collections::BTreeMap;
 use std::process::Abort;
 use std::test::Fail;
 
@@ -77,6 +78,24 @@ const REFUSALS: [(Refusal, &str); 19] = [
     (Refusal::Memory, "19 Memory"),
 ];
 
+const WIRE_ERRORS: [(WireError, &str); 4] = [
+    (WireError::Truncated, "a field is cut short"),
+    (WireError::LongVarint, "a varint takes more than 64 bits"),
+    (WireError::BadNumber, "a field's number is out of its range"),
+    (WireError::BadWireType, "a wire type is not known"),
+];
+
+/// Payloads of messages with the fields `Varint 1` and `Len 2`: one that breaks at once, behind a field, behind a payload;
+/// a number that is not known, a known one with another wire type, and an unknown one behind a payload that breaks.
+const REFUSED: [(&[&[u8]], Refusal); 6] = [
+    (&[b"\x0b"], Refusal::BadWire),
+    (&[b"\x08\x01\x08"], Refusal::BadWire),
+    (&[b"\x08\x01", b"\x12\x02a"], Refusal::BadWire),
+    (&[b"\x08\x01\x28\x01"], Refusal::UnknownField),
+    (&[b"\x12\x00", b"\x10\x01"], Refusal::UnknownField),
+    (&[b"\x08", b"\x28\x01"], Refusal::BadWire),
+];
+
 #[test]
 fn varints(rt: HostRuntime) {
     for (bytes, want) in &VARINTS {
@@ -120,7 +139,28 @@ fn refusals(rt: HostRuntime) -> Result<(), Fail> {
 }
 
 #[test]
-fn rules(rt: HostRuntime) -> Result<(), Fail> {
+fn wire_errors(rt: HostRuntime) -> Result<(), Fail> {
+    for (error, want) in &WIRE_ERRORS {
+        let text = format!(in rt.alloc(); "{error}")?;
+        assert_eq!(rt; text.as_str(), *want);
+        assert!(rt; Refusal::from(*error) == Refusal::BadWire);
+    }
+    Ok(())
+}
+
+#[test]
+fn refused(rt: HostRuntime) {
+    for (parts, want) in &REFUSED {
+        let answer = read_message(rt.alloc(), parts, &keys![Varint 1, Len 2]);
+        assert!(rt;
+            matches!(answer, Err(refusal) if refusal == *want),
+            "at {parts:?}"
+        );
+    }
+}
+
+#[test]
+fn values(rt: HostRuntime) -> Result<(), Fail> {
     let alloc = rt.alloc();
     let first: &[u8] = b"\x08\x01\x12\x01a\x08\x02";
     let second: &[u8] = b"\x12\x01b\x18\x07\x12\x01c";
@@ -130,12 +170,20 @@ fn rules(rt: HostRuntime) -> Result<(), Fail> {
     assert_eq!(rt; read_fields(alloc, second)?.len(), 3);
     assert!(rt; matches!(read_fields(alloc, b"\x0b"), Err(Refusal::BadWire)));
     assert_eq!(rt; last_varint(&fields, 1), Some(2));
-    assert!(rt; matches!(last_text(&fields, 2), Some(b"c")));
+    assert!(rt; matches!(last_len(&fields, 2), Some(b"c")));
     assert_eq!(rt; payloads_of(alloc, &fields, 2)?.len(), 3);
-    assert!(rt; all_known(&fields, &keys![Varint 1, Text 2, Varint 3]));
-    assert!(rt; !all_known(&fields, &keys![Varint 1, Text 2]));
+    assert!(rt; has_field(&fields, 1) && has_field(&fields, 2) && !has_field(&fields, 4));
+    assert_eq!(rt; text_at(&fields, 2), Ok("c"));
+    assert_eq!(rt; text_at(&fields, 4), Ok(""));
+    assert_eq!(rt; text_of(b"a\xff"), Err(Refusal::BadText));
     assert_eq!(rt;
-        member_run(alloc, &fields, &keys![Varint 1, Text 2])?.len(),
+        text_at(&read_fields(alloc, b"\x12\x01\xc3")?, 2),
+        Err(Refusal::BadText)
+    );
+    assert!(rt; all_known(&fields, &keys![Varint 1, Len 2, Varint 3]));
+    assert!(rt; !all_known(&fields, &keys![Varint 1, Len 2]));
+    assert_eq!(rt;
+        member_run(alloc, &fields, &keys![Varint 1, Len 2])?.len(),
         2
     );
     assert_eq!(rt;
@@ -146,7 +194,7 @@ fn rules(rt: HostRuntime) -> Result<(), Fail> {
         last_member(&fields, &keys![Varint 1, Varint 3]),
         Some(Field {
             number: 3,
-            content: Content::Varint(7)
+            payload: Payload::Varint(7)
         })
     );
     Ok(())
@@ -157,12 +205,139 @@ fn rules(rt: HostRuntime) -> Result<(), Fail> {
 fn scalars(rt: HostRuntime) -> Result<(), Fail> {
     let bytes = b"\x08\x05\x08\xff\xff\xff\xff\xff\xff\xff\xff\xff\x01\x10\x80\x80\x80\x80\x10";
     let fields = read_fields(rt.alloc(), bytes)?;
-    assert_eq!(rt; uint32_of(&fields, 1), u32::MAX);
-    assert_eq!(rt; int32_of(&fields, 1), -1);
-    assert_eq!(rt; int64_of(&fields, 1), -1);
-    assert_eq!(rt; uint32_of(&fields, 2), 0);
-    assert_eq!(rt; int64_of(&fields, 2), 4_294_967_296);
-    assert!(rt; bool_of(&fields, 1) && bool_of(&fields, 2) && !bool_of(&fields, 3));
-    assert_eq!(rt; int64_of(&fields, 3), 0);
+    assert_eq!(rt; uint32_at(&fields, 1), u32::MAX);
+    assert_eq!(rt; int32_at(&fields, 1), -1);
+    assert_eq!(rt; int64_at(&fields, 1), -1);
+    assert_eq!(rt; uint32_at(&fields, 2), 0);
+    assert_eq!(rt; int64_at(&fields, 2), 4_294_967_296);
+    assert!(rt; bool_at(&fields, 1) && bool_at(&fields, 2) && !bool_at(&fields, 3));
+    assert_eq!(rt; int64_at(&fields, 3), 0);
+    Ok(())
+}
+
+/// Entries with a fault: one that breaks, one with a field 3, one whose key has another wire type, and a key that is no UTF-8.
+const BAD_ENTRIES: [(&[u8], Refusal); 4] = [
+    (b"\x0a\x01", Refusal::BadWire),
+    (b"\x0a\x01p\x18\x01", Refusal::UnknownField),
+    (b"\x08\x01", Refusal::UnknownField),
+    (b"\x0a\x01\xff", Refusal::BadText),
+];
+
+/// The last entry of a key counts, its two values merge, and an entry without a key has the empty one.
+#[test]
+fn text_maps(rt: HostRuntime) -> Result<(), Fail> {
+    let alloc = rt.alloc();
+    let first: &[u8] = b"\x0a\x01p\x12\x01a";
+    let second: &[u8] = b"\x12\x00";
+    let third: &[u8] = b"\x12\x01b\x0a\x01q\x0a\x01p\x12\x01c";
+    let map: BTreeMap<&str, Vec<&[u8]>> = read_entries(alloc, &[first, second, third])?;
+    assert_eq!(rt; map.len(), 2);
+    assert!(rt;
+        map.get("p")
+            .is_some_and(|parts| parts.len() == 2 && parts[1] == b"c".as_slice())
+    );
+    assert!(rt;
+        map.get("")
+            .is_some_and(|parts| parts.len() == 1 && parts[0].is_empty())
+    );
+    for (entry, want) in &BAD_ENTRIES {
+        let answer: Result<BTreeMap<&str, Vec<&[u8]>>, Refusal> = read_entries(
+            alloc,
+            &[first, *entry],
+        );
+        assert!(rt;
+            matches!(answer, Err(refusal) if refusal == *want),
+            "at {entry:?}"
+        );
+    }
+    Ok(())
+}
+
+/// The same with int64 keys: 5 twice, -1, and none, which is 0; a key that is a string is an unknown field.
+#[test]
+fn int64_maps(rt: HostRuntime) -> Result<(), Fail> {
+    let alloc = rt.alloc();
+    let first: &[u8] = b"\x08\x05\x12\x01a";
+    let second: &[u8] = b"\x08\xff\xff\xff\xff\xff\xff\xff\xff\xff\x01";
+    let third: &[u8] = b"\x12\x01z";
+    let fourth: &[u8] = b"\x08\x05";
+    let map: BTreeMap<i64, Vec<&[u8]>> = read_entries(alloc, &[first, second, third, fourth])?;
+    assert_eq!(rt; map.len(), 3);
+    assert!(rt; map.get(&5).is_some_and(|parts| parts.is_empty()));
+    assert!(rt; map.get(&-1).is_some_and(|parts| parts.is_empty()));
+    assert!(rt;
+        map.get(&0)
+            .is_some_and(|parts| parts.len() == 1 && parts[0] == b"z".as_slice())
+    );
+    let text_key: &[u8] = b"\x0a\x01p";
+    let answer: Result<BTreeMap<i64, Vec<&[u8]>>, Refusal> = read_entries(
+        alloc,
+        &[first, text_key],
+    );
+    assert!(rt; matches!(answer, Err(Refusal::UnknownField)));
+    Ok(())
+}
+
+/// The encoding guide's examples of varints, and those on both sides of a byte more.
+const WRITTEN: [(u64, &[u8]); 8] = [
+    (0, b"\x08\x00"),
+    (127, b"\x08\x7f"),
+    (128, b"\x08\x80\x01"),
+    (150, b"\x08\x96\x01"),
+    (300, b"\x08\xac\x02"),
+    (16_384, b"\x08\x80\x80\x01"),
+    (
+        9_223_372_036_854_775_808,
+        b"\x08\x80\x80\x80\x80\x80\x80\x80\x80\x80\x01",
+    ),
+    (u64::MAX, b"\x08\xff\xff\xff\xff\xff\xff\xff\xff\xff\x01"),
+];
+
+#[test]
+fn written_varints(rt: HostRuntime) -> Result<(), Fail> {
+    for (value, want) in &WRITTEN {
+        let mut writer = Writer::new(Vec::new(rt.alloc()));
+        writer.varint(1, *value)?;
+        assert!(rt; writer.into_bytes().as_slice() == *want, "at {value}");
+    }
+    Ok(())
+}
+
+/// The string "testing" as field 2, a message whose field 1 is 150 as field 3, packed numbers as field 6, and the greatest
+/// field number, behind a byte that was there.
+#[test]
+fn written_fields(rt: HostRuntime) -> Result<(), Fail> {
+    let mut bytes = Vec::new(rt.alloc());
+    bytes.push(0)?;
+    let mut writer = Writer::new(bytes);
+    writer.text(2, "testing")?;
+    writer.message(3, b"\x08\x96\x01")?;
+    writer.bytes(6, b"\x03\x8e\x02\x9e\xa7\x05")?;
+    writer.varint(536_870_911, 1)?;
+    let want: &[u8] =
+        b"\x00\x12\x07testing\x1a\x03\x08\x96\x01\x32\x06\x03\x8e\x02\x9e\xa7\x05\xf8\xff\xff\xff\x0f\x01";
+    assert!(rt; writer.into_bytes().as_slice() == want);
+    Ok(())
+}
+
+/// A filter of one policy, `p`, that lets all through: each message is written, and then stands in the next as a field.
+#[test]
+fn written_messages(rt: HostRuntime) -> Result<(), Fail> {
+    let alloc = rt.alloc();
+    let mut rule = Writer::new(Vec::new(alloc));
+    rule.varint(3, 1)?;
+    let rule = rule.into_bytes();
+    let mut policy = Writer::new(Vec::new(alloc));
+    policy.message(1, &rule)?;
+    policy.message(2, &rule)?;
+    let mut entry = Writer::new(Vec::new(alloc));
+    entry.text(1, "p")?;
+    entry.message(2, &policy.into_bytes())?;
+    let mut rules = Writer::new(Vec::new(alloc));
+    rules.message(2, &entry.into_bytes())?;
+    let mut filter = Writer::new(Vec::new(alloc));
+    filter.message(1, &rules.into_bytes())?;
+    let want: &[u8] = b"\x0a\x0f\x12\x0d\x0a\x01p\x12\x08\x0a\x02\x18\x01\x12\x02\x18\x01";
+    assert!(rt; filter.into_bytes().as_slice() == want);
     Ok(())
 }

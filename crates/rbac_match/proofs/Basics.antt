@@ -1,7 +1,11 @@
--- Small facts on lists and numbers: empty or not, in a list or not, equal or not.
-use Rattle.std.proofs.Common.{◌≡◌, ◌≢◌, ◌⊎◌, inl, inr, List, [], ◌∷◌, Contains, refl, arith}
+-- Small facts on lists, texts and slices: empty or not, in a list or not, UTF-8 or not.
+use Rattle.std.proofs.Common.{◌≡◌, ◌≢◌, ◌⊎◌, inl, inr, ℕ, ◌<◌, List, [], ◌∷◌, length, Contains, Bor, refl, arith, ◌∙◌}
+use Rattle.std.specs.Str.{IsUtf8, is_utf8}
 pub use Rattle.std.proofs.lemmas.Bool.{cases_eq as same_or_not}
+use Rattle.std.proofs.lemmas.Bool.{cases_Bool, both_ways}
 use Rattle.std.proofs.lemmas.List.Elements.{Contains-append_left, Contains-append_right, Contains-append_cases, Contains-push_cases, Contains-push}
+use Rattle.proto_wire.specs.Merge.{parts_view}
+use Rattle.std.proofs.lemmas.Str.{IsUtf8-from_is_utf8, is_utf8-from_IsUtf8}
 
 -- a list is empty or has a first element
 pub nil_or_not : {A : Type 0} (xs : List A) → (xs ≡ []) ⊎ (xs ≢ [])
@@ -22,3 +26,17 @@ contains_cases x y xs h = elim (Contains-append_cases (x ∷ []) xs y h) [
   | inl first ↦ elim (Contains-push_cases [] x y first) [ inl none ↦ absurd (omega arith) | inr same ↦ inl same ]
   | inr later ↦ inr later
 ]
+
+-- bytes are UTF-8 or not
+pub utf8_or_not : (bytes : List ℕ) → IsUtf8 bytes ⊎ ¬ (IsUtf8 bytes)
+utf8_or_not bytes = elim (cases_Bool (is_utf8 bytes)) [
+  | inl is ↦ inl (IsUtf8-from_is_utf8 bytes is)
+  | inr other ↦ inr (λ utf8. both_ways (is_utf8 bytes) other (is_utf8-from_IsUtf8 bytes utf8))
+]
+
+-- payloads that the code has as some slices are some
+pub payloads_some : (slices : List (Bor (List ℕ))) (payloads : List (List ℕ))
+    → parts_view slices ≡ payloads → 0 < length slices → payloads ≢ []
+payloads_some [] payloads is some none = absurd (omega arith)
+payloads_some (s ∷ slices) payloads is some none =
+    let clash : s.now ∷ parts_view slices ≡ [] = is ∙ none in absurd cc

@@ -1,18 +1,23 @@
 -- Tests of the peer's certificate: Envoy v3 `config/rbac/v3/rbac.proto`, Principal.Authenticated.
+use Rattle.std.specs.Option.{option_or, option_map_or}
 use Rattle.std.specs.Prelude.{◌≡◌, ◌≢◌, ℕ, Bool, true, false, ◌&&◌, List, [], ◌∷◌, Option, Some, None, unwrap_or}
 use Rattle.attributes.specs.Conn.{Facts}
 use Rattle.attributes.specs.Request.{RequestValue}
 use Rattle.proto_wire.specs.Fields.{Wire}
-use Rattle.proto_wire.specs.Rules.{payloads, Merges}
+use Rattle.proto_wire.specs.Values.{payloads}
+use Rattle.proto_wire.specs.Merge.{Merges}
 use Rattle.proto_wire.specs.Messages.{IsMessage, MessageFault}
 use Rattle.proto_wire.specs.declared.refusal.Refusal.{Refusal}
-use Rattle.proto_wire.specs.declared.rules.Key.{Key}
-use Rattle.rbac_match.specs.Message.{text_key}
+use Rattle.proto_wire.specs.declared.key.Key.{Key}
+use Rattle.proto_wire.specs.Keys.{len_key}
 use Rattle.rbac_match.specs.Text.{TextTest, text_holds, IsTextMatcher, TextFault}
 
--- the fields of an Authenticated: principal_name 2
+-- the number of an Authenticated's principal_name, and all of its fields
+abbrev pub principal_name_field : ℕ
+principal_name_field = 2
+
 abbrev pub authenticated_keys : List Key
-authenticated_keys = text_key 2 ∷ []
+authenticated_keys = len_key principal_name_field ∷ []
 
 -- what the payloads of principal_name say: without one every name will do
 abbrev pub SaysName : List (List ℕ) → Option TextTest → Type 0
@@ -21,30 +26,25 @@ SaysName names (Some test) = (names ≢ []) × IsTextMatcher names test
 
 -- the payloads merge to an Authenticated that means this test of the name, if any
 abbrev pub IsAuthenticated : List (List ℕ) → Option TextTest → Type 0
-IsAuthenticated parts name =
-    (fs : List Wire) × IsMessage authenticated_keys parts fs × SaysName (payloads 2 fs) name
+IsAuthenticated parts name = (fs : List Wire) × IsMessage authenticated_keys parts fs
+    × SaysName (payloads principal_name_field fs) name
 
 -- a fault of an Authenticated: of its fields, or of its principal_name
 pub data AuthenticatedFault (parts : List (List ℕ)) (e : Refusal) : Type 0 where
   authenticated_fields : MessageFault authenticated_keys parts e → AuthenticatedFault parts e
-  in_name : (fs : List Wire) → Merges parts fs → payloads 2 fs ≢ [] → TextFault (payloads 2 fs) e
-      → AuthenticatedFault parts e
-
--- the first of two that is there
-abbrev pub first_of : Option (List ℕ) → Option (List ℕ) → Option (List ℕ)
-first_of (Some name) other = Some name
-first_of None other = other
+  in_name : (fs : List Wire) → Merges parts fs → payloads principal_name_field fs ≢ []
+      → TextFault (payloads principal_name_field fs) e → AuthenticatedFault parts e
 
 -- the peer's name: the first that is there of its URI SAN, its DNS SAN and its subject
 abbrev pub peer_name : Facts → Option (List ℕ)
 peer_name facts =
-    first_of facts.uri_san_peer_certificate (first_of facts.dns_san_peer_certificate facts.subject_peer_certificate)
+    option_or facts.uri_san_peer_certificate
+    (option_or facts.dns_san_peer_certificate facts.subject_peer_certificate)
 
 -- whether the name passes the test: none does where there is a test
 abbrev pub name_holds : Option TextTest → Option (List ℕ) → Bool
 name_holds None name = true
-name_holds (Some test) None = false
-name_holds (Some test) (Some name) = text_holds test name
+name_holds (Some test) name = option_map_or (text_holds test) name false
 
 -- whether the connection is known to be by mutual TLS, with such a peer
 abbrev pub authenticated_holds : Option TextTest → RequestValue → Bool

@@ -2,16 +2,17 @@
 -- (config.rbac.v3).
 use Rattle.std.specs.Prelude.{Bool, true, false, not, ◌&&◌, ◌||◌}
 use Rattle.attributes.specs.Request.{RequestValue}
-use Rattle.rbac_match.specs.Matcher.{Matcher, matcher_holds}
+use Rattle.rbac_match.specs.Matcher.{matcher_holds}
+use Rattle.rbac_match.specs.declared.matcher.Matcher.{Matcher}
 
 mutual
   -- a rule as a formula over facts of the request
   pub data Formula : Type 0 where
-    anything : Formula
-    all_of : Formulas → Formula
-    any_of : Formulas → Formula
-    none_of : Formula → Formula
-    matches : Matcher → Formula
+    any : Formula
+    and_of : Formulas → Formula
+    or_of : Formulas → Formula
+    not_of : Formula → Formula
+    leaf : Matcher → Formula
 
   -- rules one after the other
   pub data Formulas : Type 0 where
@@ -21,11 +22,11 @@ mutual
 abbrev mutual
   -- whether the request is as the formula says
   pub holds : RequestValue → Formula → Bool
-  holds r anything = true
-  holds r (all_of fs) = all_hold r fs
-  holds r (any_of fs) = some_hold r fs
-  holds r (none_of f) = not (holds r f)
-  holds r (matches m) = matcher_holds m r
+  holds r any = true
+  holds r (and_of fs) = all_hold r fs
+  holds r (or_of fs) = some_hold r fs
+  holds r (not_of f) = not (holds r f)
+  holds r (leaf m) = matcher_holds m r
 
   -- whether it is as each of the formulas says
   pub all_hold : RequestValue → Formulas → Bool

@@ -1,40 +1,37 @@
 -- Ranges of whole numbers: Envoy v3 `type/v3/range.proto`, Int64Range (start is in, end is not).
-use Rattle.std.specs.Prelude.{◌≡◌, ℕ, Bool, false, not, ◌&&◌, List, ℤ, int_lt, ◌≤ℤ◌, ◌<ℤ◌}
+-- The numbers of texts: `config/route/v3/route_components.proto`, HeaderMatcher, `range_match`
+-- (base 10, an optional plus or minus sign, then a sequence of digits).
+use Rattle.std.specs.Prelude.{◌≡◌, ℕ, ◌^◌, Bool, false, ◌&&◌, List, length, Option, Some, None, ℤ, pos, negsuc, int_le, int_lt, nat_lt, if◌then◌else◌}
 use Rattle.std.specs.Option.{option_map_or}
-use Rattle.proto_wire.specs.Scalars.{int64_at}
+use Rattle.std.specs.Str.{all_ascii_digits}
+use Rattle.std.specs.Str.Parse.{without_leading_sign, signed_digits_value}
+use Rattle.proto_wire.specs.Values.{int64_at}
 use Rattle.proto_wire.specs.Fields.{Wire}
-use Rattle.proto_wire.specs.Messages.{IsMessage, MessageFault}
-use Rattle.proto_wire.specs.declared.refusal.Refusal.{Refusal}
-use Rattle.rbac_match.specs.Message.{range_keys}
-use Rattle.rbac_match.specs.Decimal.{int64_in}
+use Rattle.proto_wire.specs.Messages.{IsMessage}
+use Rattle.rbac_match.specs.Message.{start_field, end_field, range_keys}
 use Rattle.rbac_match.specs.declared.int64_range.Int64Range.{Int64Range}
 
--- a range of numbers; one whose start is not below its end has none
-pub record RangeValue : Type 0 where
-  pub first : ℤ
-  pub past : ℤ
+-- the number is from -2^63 to 2^63 - 1
+abbrev pub is_int64 : ℤ → Bool
+is_int64 (pos n) = nat_lt n (2 ^ 63)
+is_int64 (negsuc n) = nat_lt n (2 ^ 63)
 
--- what a range in memory says
-abbrev pub range_view : Int64Range → RangeValue
-range_view r = record { first = r.start; past = r.end }
+-- the number that the whole text spells, where it has 64 bits: decimal digits, one at least, behind
+-- one sign or none
+abbrev pub int64_in : List ℕ → Option ℤ
+int64_in text =
+    let digits = without_leading_sign text in let z = signed_digits_value 10 text in
+    if nat_lt 0 (length digits) && (all_ascii_digits digits && is_int64 z) then Some z else None
 
--- the parts merge to an Int64Range of these bounds
-abbrev pub IsRange : List (List ℕ) → RangeValue → Type 0
-IsRange parts r = (fs : List Wire) × IsMessage range_keys parts fs × (r.first ≡ int64_at 1 fs)
-    × (r.past ≡ int64_at 2 fs)
+-- whether the number is in the range
+abbrev pub is_within : Int64Range → ℤ → Bool
+is_within range z = int_le range.start z && int_lt z range.end
 
--- a fault of an Int64Range: one of its own fields alone
-abbrev pub RangeFault : List (List ℕ) → Refusal → Type 0
-RangeFault parts e = MessageFault range_keys parts e
+-- whether the text is wholly a number of 64 bits in the range
+abbrev pub range_holds : Int64Range → List ℕ → Bool
+range_holds range text = option_map_or (is_within range) (int64_in text) false
 
--- the number is in the range
-abbrev pub IsWithin : RangeValue → ℤ → Type 0
-IsWithin r z = (r.first ≤ℤ z) × (z <ℤ r.past)
-
--- the same as a test
-abbrev pub is_within : RangeValue → ℤ → Bool
-is_within r z = not (int_lt z r.first) && int_lt z r.past
-
--- whether the text is wholly a decimal number of 64 bits in the range
-abbrev pub range_holds : RangeValue → List ℕ → Bool
-range_holds r text = option_map_or (is_within r) (int64_in text) false
+-- the parts merge to an Int64Range of these bounds; it has no fault but of its fields
+abbrev pub IsRange : List (List ℕ) → Int64Range → Type 0
+IsRange parts range = (fs : List Wire) × IsMessage range_keys parts fs
+    × (range.start ≡ int64_at start_field fs) × (range.end ≡ int64_at end_field fs)

@@ -1,15 +1,14 @@
+pub mod Oneof
 pub mod Message
 pub mod Text
 pub mod Path
 pub mod Authenticated
-pub mod Decimal
 pub mod Int64Range
 pub mod Header
-pub mod Network
+pub mod Cidr
 pub mod Ports
 pub mod Matcher
 pub mod Leaves
 pub mod Formula
 pub mod Rules
-pub mod Member
 pub mod View

@@ -1,43 +1,47 @@
--- The fields of Permission, Principal, their Sets and of ranges of integers by number: Envoy v3
--- `config/rbac/v3/rbac.proto`, `type/v3/range.proto`.
-use Rattle.std.specs.Prelude.{ℕ, List, [], ◌∷◌, Option, Some, None, unwrap_or}
-use Rattle.proto_wire.specs.Fields.{Wire}
-use Rattle.proto_wire.specs.Rules.{varints, last_of}
-use Rattle.proto_wire.specs.declared.rules.Key.{Key}
-use Rattle.proto_wire.specs.declared.field.WireType.TheVariants.{Varint, Text}
+-- The members of a Permission and a Principal, and the fields of their Sets and of ranges of
+-- integers: Envoy v3 `config/rbac/v3/rbac.proto`, `type/v3/range.proto`.
+use Rattle.std.specs.Prelude.{ℕ, List, [], ◌∷◌, Option, Some, None}
+use Rattle.std.specs.Map.{keys_of}
+use Rattle.proto_wire.specs.Keys.{len_key, varint_key}
+use Rattle.proto_wire.specs.declared.key.Key.{Key}
+use Rattle.rbac_match.specs.declared.cidr.AddressSource.TheVariants.{Destination, DirectRemote, Remote}
+use Rattle.rbac_match.specs.declared.member.LeafKind.TheVariants.{Header, Address, Port, PortRange, ServerName, UrlPath, Authenticated}
+use Rattle.rbac_match.specs.declared.member.Member.{Member}
+use Rattle.rbac_match.specs.declared.member.Member.TheVariants.{And, Or, Any, Not, Leaf}
 use Rattle.rbac_match.specs.declared.rule.Side.{Side}
 use Rattle.rbac_match.specs.declared.rule.Side.TheVariants.{Permission, Principal}
 
--- a LEN field of this number: a text or a message
-abbrev pub text_key : ℕ → Key
-text_key n = record { number = n; wire_type = Text }
+-- the members of the oneof; of a permission 7 is metadata and 12 matcher, of a principal 5 is
+-- source_ip, 7 metadata and 12 filter_state
+abbrev pub members : Side → List (Key × Option Member)
+members Permission = (len_key 1, Some And) ∷ (len_key 2, Some Or) ∷ (varint_key 3, Some Any)
+    ∷ (len_key 4, Some (Leaf Header)) ∷ (len_key 5, Some (Leaf (Address Destination)))
+    ∷ (varint_key 6, Some (Leaf Port)) ∷ (len_key 7, None) ∷ (len_key 8, Some Not)
+    ∷ (len_key 9, Some (Leaf ServerName)) ∷ (len_key 10, Some (Leaf UrlPath))
+    ∷ (len_key 11, Some (Leaf PortRange)) ∷ (len_key 12, None) ∷ []
+members Principal = (len_key 1, Some And) ∷ (len_key 2, Some Or) ∷ (varint_key 3, Some Any)
+    ∷ (len_key 4, Some (Leaf Authenticated)) ∷ (len_key 5, None) ∷ (len_key 6, Some (Leaf Header))
+    ∷ (len_key 7, None) ∷ (len_key 8, Some Not) ∷ (len_key 9, Some (Leaf UrlPath))
+    ∷ (len_key 10, Some (Leaf (Address DirectRemote))) ∷ (len_key 11, Some (Leaf (Address Remote)))
+    ∷ (len_key 12, None) ∷ []
 
--- a VARINT field of this number
-abbrev pub varint_key : ℕ → Key
-varint_key n = record { number = n; wire_type = Varint }
+-- all fields: each is a member
+abbrev pub rule_keys : Side → List Key
+rule_keys side = keys_of (members side)
 
--- the members of a rule's oneof: and 1, or 2, any 3 and not 8 are the same in both; a permission's 6 is
--- a port
-abbrev pub keys_of : Side → List Key
-keys_of Permission = text_key 1 ∷ text_key 2 ∷ varint_key 3 ∷ text_key 4 ∷ text_key 5 ∷ varint_key 6
-    ∷ text_key 7 ∷ text_key 8 ∷ text_key 9 ∷ text_key 10 ∷ text_key 11 ∷ text_key 12 ∷ []
-keys_of Principal = text_key 1 ∷ text_key 2 ∷ varint_key 3 ∷ text_key 4 ∷ text_key 5 ∷ text_key 6
-    ∷ text_key 7 ∷ text_key 8 ∷ text_key 9 ∷ text_key 10 ∷ text_key 11 ∷ text_key 12 ∷ []
+-- the number of a Set's rules or ids, and all of its fields
+abbrev pub rules_field : ℕ
+rules_field = 1
 
--- the fields of a Set: its rules
 abbrev pub set_keys : List Key
-set_keys = text_key 1 ∷ []
+set_keys = len_key rules_field ∷ []
 
--- the fields of an Int32Range and of an Int64Range: start 1 and end 2
+-- the numbers of an Int32Range's and an Int64Range's bounds, and all of their fields
+abbrev pub start_field : ℕ
+start_field = 1
+
+abbrev pub end_field : ℕ
+end_field = 2
+
 abbrev pub range_keys : List Key
-range_keys = varint_key 1 ∷ varint_key 2 ∷ []
-
--- the number of the last of the fields
-abbrev pub last_number : List Wire → Option ℕ
-last_number [] = None
-last_number (f ∷ []) = Some f.number
-last_number (f ∷ g ∷ fs) = last_number (g ∷ fs)
-
--- the value of `any` in the last member's run
-abbrev pub any_value : List Wire → ℕ
-any_value run = unwrap_or (last_of (varints 3 run)) 0
+range_keys = varint_key start_field ∷ varint_key end_field ∷ []

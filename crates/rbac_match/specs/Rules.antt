@@ -1,18 +1,25 @@
 -- The messages Permission, Permission.Set, Principal and Principal.Set, level by level: Envoy v3
 -- `config/rbac/v3/rbac.proto`.
-use Rattle.std.specs.Prelude.{◌≡◌, ◌≢◌, ℕ, zero, suc, List, [], ◌∷◌, Contains, Some, None}
+use Rattle.std.specs.Prelude.{◌≡◌, ◌≢◌, ℕ, zero, suc, List, [], ◌∷◌, Contains, Option, Some, None}
 use Rattle.proto_wire.specs.Fields.{Wire}
-use Rattle.proto_wire.specs.Rules.{payloads, member_run, Merges}
+use Rattle.proto_wire.specs.Values.{payloads, varint_at}
+use Rattle.proto_wire.specs.Oneof.{member_run}
+use Rattle.proto_wire.specs.Merge.{Merges}
 use Rattle.proto_wire.specs.Messages.{IsMessage, MessageFault}
 use Rattle.proto_wire.specs.declared.refusal.Refusal.{Refusal}
 use Rattle.proto_wire.specs.declared.refusal.Refusal.TheVariants.{Missing, OutOfRange, Unsupported, TooLarge}
-use Rattle.rbac_match.specs.Message.{keys_of, set_keys, last_number, any_value}
-use Rattle.rbac_match.specs.Formula.{Formula, anything, all_of, any_of, none_of, matches, Formulas, end, formula}
-use Rattle.rbac_match.specs.Leaves.{leaf_at, IsLeaf, LeafFault}
-use Rattle.rbac_match.specs.declared.leaf.Leaf.{Leaf}
+use Rattle.rbac_match.specs.Oneof.{last_number, member_in}
+use Rattle.rbac_match.specs.Message.{members, rule_keys, rules_field, set_keys}
+use Rattle.rbac_match.specs.Formula.{Formula, any, and_of, or_of, not_of, leaf, Formulas, end, formula}
+use Rattle.rbac_match.specs.Leaves.{IsLeaf, LeafFault}
+use Rattle.rbac_match.specs.declared.matcher.Matcher.{Matcher}
+use Rattle.rbac_match.specs.declared.member.Member.{Member}
+use Rattle.rbac_match.specs.declared.member.Member.TheVariants.{And, Or, Any, Not, Leaf}
 use Rattle.rbac_match.specs.declared.rule.Side.{Side}
 
--- each child is a rule, by what `Below` says of the rules one level down
+-- ---- what it says; `Below` says what a rule one level down says
+
+-- each child is a rule
 abbrev pub AreRules : (List (List ℕ) → Formula → Type 0) → List (List ℕ) → Formulas → Type 0
 AreRules Below [] end = Unit {0}
 AreRules Below [] (formula f fs) = ⊥
@@ -21,60 +28,67 @@ AreRules Below (child ∷ children) (formula f fs) = Below (child ∷ []) f × A
 
 -- the parts merge to a Set of some rules
 abbrev pub IsSet : (List (List ℕ) → Formula → Type 0) → List (List ℕ) → Formulas → Type 0
-IsSet Below parts gs = (fs : List Wire) × IsMessage set_keys parts fs × (payloads 1 fs ≢ [])
-    × AreRules Below (payloads 1 fs) gs
+IsSet Below parts gs = (fs : List Wire) × IsMessage set_keys parts fs
+    × (payloads rules_field fs ≢ []) × AreRules Below (payloads rules_field fs) gs
 
--- the run of the last member says the formula
-abbrev pub Says : Side → (List (List ℕ) → Formula → Type 0) → List Wire → Formula → Type 0
-Says side Below run anything = (last_number run ≡ Some 3) × (any_value run ≢ 0)
-Says side Below run (all_of gs) = (last_number run ≡ Some 1) × IsSet Below (payloads 1 run) gs
-Says side Below run (any_of gs) = (last_number run ≡ Some 2) × IsSet Below (payloads 2 run) gs
-Says side Below run (none_of g) = (last_number run ≡ Some 8) × Below (payloads 8 run) g
-Says side Below run (matches m) = (n : ℕ) × (leaf : Leaf) × (last_number run ≡ Some n)
-    × (leaf_at side n ≡ Some leaf) × IsLeaf leaf n run m
+-- the run of the member, which has this number, says the formula
+abbrev pub MemberSays : (List (List ℕ) → Formula → Type 0) → Member → ℕ → List Wire → Formula
+    → Type 0
+MemberSays Below And n run f = (gs : Formulas) × IsSet Below (payloads n run) gs × (f ≡ and_of gs)
+MemberSays Below Or n run f = (gs : Formulas) × IsSet Below (payloads n run) gs × (f ≡ or_of gs)
+MemberSays Below Any n run f = (varint_at n run ≢ 0) × (f ≡ any)
+MemberSays Below Not n run f = (g : Formula) × Below (payloads n run) g × (f ≡ not_of g)
+MemberSays Below (Leaf kind) n run f = (m : Matcher) × IsLeaf kind n run m × (f ≡ leaf m)
 
 -- the parts merge to fields that are all members, and the run of the last one says the formula
-abbrev pub IsLevel : Side → (List (List ℕ) → Formula → Type 0) → List (List ℕ) → Formula → Type 0
-IsLevel side Below parts f = (fs : List Wire) × IsMessage (keys_of side) parts fs
-    × Says side Below (member_run (keys_of side) fs) f
+pub record IsLevel (side : Side) (Below : List (List ℕ) → Formula → Type 0)
+    (parts : List (List ℕ)) (f : Formula) : Type 0 where
+  pub fields : List Wire
+  pub message : IsMessage (rule_keys side) parts fields
+  pub number : ℕ
+  pub last : last_number (rule_keys side) fields ≡ Some number
+  pub member : Member
+  pub is : member_in (members side) number ≡ Some member
+  pub says : MemberSays Below member number (member_run (rule_keys side) fields) f
 
 -- the parts merge to a rule of at most `depth` levels, which says the formula
 abbrev pub IsRule : Side → ℕ → List (List ℕ) → Formula → Type 0
 IsRule side zero parts f = ⊥
 IsRule side (suc depth) parts f = IsLevel side (IsRule side depth) parts f
 
--- the parts merge to fields whose last member has this run
-abbrev pub HasRun : Side → List (List ℕ) → List Wire → Type 0
-HasRun side parts run = (fs : List Wire) × Merges parts fs × (run ≡ member_run (keys_of side) fs)
+-- ---- its faults; `Below` says what a fault of a rule one level down is
 
--- a fault of a Set: of its own fields, or of one of its rules by what `Below` says
-pub data SetFault (Below : List (List ℕ) → Refusal → Type 0) (parts : List (List ℕ)) (e : Refusal) : Type 0 where
+-- a fault of a Set: of its own fields, that it is empty, or of one of its rules
+pub data SetFault (Below : List (List ℕ) → Refusal → Type 0) (parts : List (List ℕ)) (e : Refusal)
+    : Type 0 where
   set_fields : MessageFault set_keys parts e → SetFault Below parts e
-  set_empty : (fs : List Wire) → IsMessage set_keys parts fs → payloads 1 fs ≡ [] → e ≡ Missing
-      → SetFault Below parts e
-  in_rule : (fs : List Wire) (child : List ℕ) → Merges parts fs → Contains (payloads 1 fs) child
-      → Below (child ∷ []) e → SetFault Below parts e
+  set_empty : (fs : List Wire) → IsMessage set_keys parts fs → payloads rules_field fs ≡ []
+      → e ≡ Missing → SetFault Below parts e
+  in_rule : (fs : List Wire) (child : List ℕ) → Merges parts fs
+      → Contains (payloads rules_field fs) child → Below (child ∷ []) e → SetFault Below parts e
 
--- a fault of a rule: of its own fields, or of its last member's, by what `Below` says of the rules one
--- level down
-pub data LevelFault (side : Side) (Below : List (List ℕ) → Refusal → Type 0) (parts : List (List ℕ)) (e : Refusal) : Type 0 where
-  own_fields : MessageFault (keys_of side) parts e → LevelFault side Below parts e
-  no_member : (fs : List Wire) → IsMessage (keys_of side) parts fs
-      → last_number (member_run (keys_of side) fs) ≡ None → e ≡ Missing → LevelFault side Below parts e
-  any_is_false : (run : List Wire) → HasRun side parts run → last_number run ≡ Some 3 → any_value run ≡ 0
-      → e ≡ OutOfRange → LevelFault side Below parts e
-  unsupported : (run : List Wire) (n : ℕ) → HasRun side parts run → last_number run ≡ Some n → n ≢ 1
-      → n ≢ 2 → n ≢ 3 → n ≢ 8 → leaf_at side n ≡ None → e ≡ Unsupported → LevelFault side Below parts e
-  in_all : (run : List Wire) → HasRun side parts run → last_number run ≡ Some 1
-      → SetFault Below (payloads 1 run) e → LevelFault side Below parts e
-  in_any : (run : List Wire) → HasRun side parts run → last_number run ≡ Some 2
-      → SetFault Below (payloads 2 run) e → LevelFault side Below parts e
-  in_leaf : (run : List Wire) (n : ℕ) (leaf : Leaf) → HasRun side parts run → last_number run ≡ Some n
-      → leaf_at side n ≡ Some leaf → LeafFault leaf n run e → LevelFault side Below parts e
-  in_not : (run : List Wire) → HasRun side parts run → last_number run ≡ Some 8
-      → Below (payloads 8 run) e → LevelFault side Below parts e
+-- a fault of the run of the last member, which has this number: some members are not supported
+abbrev pub MemberFault : (List (List ℕ) → Refusal → Type 0) → Option Member → ℕ → List Wire
+    → Refusal → Type 0
+MemberFault Below None n run e = e ≡ Unsupported
+MemberFault Below (Some And) n run e = SetFault Below (payloads n run) e
+MemberFault Below (Some Or) n run e = SetFault Below (payloads n run) e
+MemberFault Below (Some Any) n run e = (varint_at n run ≡ 0) × (e ≡ OutOfRange)
+MemberFault Below (Some Not) n run e = Below (payloads n run) e
+MemberFault Below (Some (Leaf kind)) n run e = LeafFault kind n run e
 
--- a fault of a rule that may have `depth` levels: past them any rule is one too deep, whatever it holds
+-- a fault of a rule: of its own fields, that it has no member, or of its last one
+pub data LevelFault (side : Side) (Below : List (List ℕ) → Refusal → Type 0)
+    (parts : List (List ℕ)) (e : Refusal) : Type 0 where
+  rule_fields : MessageFault (rule_keys side) parts e → LevelFault side Below parts e
+  no_member : (fs : List Wire) → IsMessage (rule_keys side) parts fs
+      → last_number (rule_keys side) fs ≡ None → e ≡ Missing → LevelFault side Below parts e
+  in_member : (fs : List Wire) (n : ℕ) → Merges parts fs → last_number (rule_keys side) fs ≡ Some n
+      → MemberFault Below (member_in (members side) n) n (member_run (rule_keys side) fs) e
+      → LevelFault side Below parts e
+
+-- a fault of a rule that may have `depth` levels: past them any rule is one too deep, whatever it
+-- holds
 abbrev pub RuleFault : Side → ℕ → List (List ℕ) → Refusal → Type 0
 RuleFault side zero parts e = e ≡ TooLarge
 RuleFault side (suc depth) parts e = LevelFault side (RuleFault side depth) parts e

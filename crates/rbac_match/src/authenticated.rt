@@ -1,11 +1,10 @@
 //! Tests of the peer's certificate (`envoy.config.rbac.v3.Principal.Authenticated`).
 
-ghost use Rattle.std.specs.Prelude.{◌≡◌, ◌⊎◌, IfOk, IfErr, option_copied, option_map};
-ghost use Rattle.attributes.specs.Conn.{facts_of, text_of};
-ghost use Rattle.proto_wire.specs.Messages.{texts};
-ghost use Rattle.proto_wire.specs.declared.refusal.Refusal.TheVariants.{Memory};
+ghost use Rattle.std.specs.Prelude.{◌≡◌, ◌⊎◌, IfOk, IfErr, option_copied};
+ghost use Rattle.attributes.specs.Conn.{conn_view, text_view};
+ghost use Rattle.proto_wire.specs.Merge.{parts_view};
+ghost use Rattle.proto_wire.specs.Refusal.{MemoryOr};
 ghost use Rattle.rbac_match.specs.Authenticated.{authenticated_keys, IsAuthenticated, AuthenticatedFault, peer_name, authenticated_holds};
-ghost use Rattle.rbac_match.specs.Text.{text_view};
 
 use crate::text::{TextMatcher, read_text_matcher};
 use attributes::{Conn, Request};
@@ -14,12 +13,15 @@ use std::alloc::Global;
 
 const PRINCIPAL_NAME: u32 = 2;
 
-static AUTHENTICATED_KEYS: [Key; 1] = keys![Text PRINCIPAL_NAME];
+static AUTHENTICATED_KEYS: [Key; 1] = keys![Len PRINCIPAL_NAME];
 
 /// Reads an Authenticated, which stands in the parts: the test of the peer's name, or none where every name will do.
-pub fn read_authenticated(alloc: Global, parts: &[&[u8]]) -> Result<Option<TextMatcher>, Refusal>
-    ensures found { IfOk result (λ name. IsAuthenticated (texts parts.now) (option_map text_view name)) }
-    ensures fault { IfErr result (λ e. (e ≡ Memory) ⊎ AuthenticatedFault (texts parts.now) e) }
+pub(crate) fn read_authenticated(
+    alloc: Global,
+    parts: &[&[u8]],
+) -> Result<Option<TextMatcher>, Refusal>
+    ensures found { IfOk result (λ name. IsAuthenticated (parts_view parts.now) name) }
+    ensures fault { IfErr result (MemoryOr (AuthenticatedFault (parts_view parts.now))) }
 {
     let fields = read_message(alloc, parts, authenticated_keys())?;
     let name = payloads_of(alloc, &fields, PRINCIPAL_NAME)?;
@@ -31,8 +33,8 @@ pub fn read_authenticated(alloc: Global, parts: &[&[u8]]) -> Result<Option<TextM
 
 /// Whether the connection is known to be by mutual TLS and its peer's name passes the test, if there is one. The name is
 /// the first that is known of the URI SAN, the DNS SAN and the subject.
-pub fn authenticated_matches(name: &Option<TextMatcher>, request: &Request) -> bool
-    ensures { result ≡ authenticated_holds (option_map text_view name.now) request.now }
+pub(crate) fn authenticated_matches(name: &Option<TextMatcher>, request: &Request) -> bool
+    ensures { result ≡ authenticated_holds name.now request.now }
 {
     let conn = request.conn();
     if conn.mtls != Some(true) {
@@ -40,15 +42,15 @@ pub fn authenticated_matches(name: &Option<TextMatcher>, request: &Request) -> b
     }
     match name {
         None => true,
-        Some(matcher) => match first_name(conn) {
+        Some(matcher) => match peer_name(conn) {
             Some(name) => matcher.matches(name),
             None => false,
         },
     }
 }
 
-fn first_name(conn: &Conn) -> Option<&str>
-    ensures { option_copied result ≡ peer_name (facts_of conn.now) }
+fn peer_name(conn: &Conn) -> Option<&str>
+    ensures { option_copied result ≡ peer_name (conn_view conn.now) }
 {
     let name = conn
         .uri_san_peer_certificate

@@ -1,26 +1,30 @@
-//! Tests of a request's header (`envoy.config.route.v3.HeaderMatcher`): how they are read, and which
-//! requests pass.
+//! Tests of a request's header (`envoy.config.route.v3.HeaderMatcher`): how they are read, and which requests pass.
 
-ghost use Rattle.std.specs.Prelude.{◌≡◌, ◌≢◌, ◌⊎◌, [], false, IfOk, IfErr, map};
+ghost use Rattle.std.specs.Prelude.{◌≡◌, ◌≢◌, ◌⊎◌, ℕ, [], Some, None, false, IfOk, IfErr, map};
+ghost use Rattle.std.specs.Map.{keys_of};
 ghost use Rattle.std.specs.Str.{IsUtf8, str_to_ascii_lowercase};
-ghost use Rattle.std.specs.String.{string_bytes};
-ghost use Rattle.proto_wire.specs.Fields.{view};
-ghost use Rattle.proto_wire.specs.Messages.{texts};
-ghost use Rattle.proto_wire.specs.declared.refusal.Refusal.TheVariants.{Memory, BadText, Missing};
-ghost use Rattle.rbac_match.specs.Text.{pattern_view};
-ghost use Rattle.rbac_match.specs.Header.{HeaderFault, IsHeader, SayingFault, SaysPattern, SaysSpecifier, SpecifierFault, header_holds, header_keys, header_view, specifier_holds, specifier_keys, test_view, text_at};
+ghost use Rattle.proto_wire.specs.Fields.{field_view};
+ghost use Rattle.proto_wire.specs.Merge.{parts_view};
+ghost use Rattle.proto_wire.specs.Oneof.{member_run};
+ghost use Rattle.proto_wire.specs.Refusal.{MemoryOr};
+ghost use Rattle.proto_wire.specs.Values.{bytes_at};
+ghost use Rattle.proto_wire.specs.declared.refusal.Refusal.TheVariants.{BadText, Missing, Unsupported};
+ghost use Rattle.rbac_match.specs.Oneof.{last_number, member_in};
+ghost use Rattle.rbac_match.specs.Header.{name_field, specifiers, header_keys, header_holds, specifier_holds, SaysMember, SaysSpecifier, IsHeader, HeaderMemberFault, HeaderFault};
 
+use crate::fields::last_number;
 use crate::int64_range::{Int64Range, read_int64_range};
-use crate::text::{Pattern, TextMatcher, read_filled, read_text, read_text_matcher};
+use crate::text::{Pattern, TextMatcher, read_text_matcher, sought_text};
 use attributes::Request;
 use proto_wire::{
-    Field, Key, Refusal, bool_of, keys, last_text, member_run, payloads_of, read_message,
+    Field, Key, Refusal, bool_at, bytes_at, keys, member_run, payloads_of, read_message,
 };
-use std::alloc::Global;
+use std::alloc::{AllocError, Global};
+use std::marker::Model;
 
 /// What is asked of a header.
 #[derive(Debug, Drop)]
-pub enum HeaderTest {
+pub enum Specifier {
     /// That it is there, or that it is not.
     Present(bool),
     /// That its value passes the test of texts.
@@ -32,77 +36,140 @@ pub enum HeaderTest {
 /// A test of a request's header.
 #[derive(Debug, Drop)]
 pub struct HeaderMatcher {
-    /// In lower case, so that it need not be lowered for each request.
+    // in lower case, so that it need not be lowered for each request
     name: String,
-    test: HeaderTest,
-    /// Whether the answer is turned.
-    invert: bool,
-    /// Whether a missing header is tested as one of the empty value.
-    missing_is_empty: bool,
+    specifier: Specifier,
+    invert_match: bool,
+    treat_missing_header_as_empty: bool,
+}
+
+impl Model for HeaderMatcher {
+    ghost use Rattle.std.specs.Prelude.{◌≡◌, ◌≢◌, []};
+    ghost use Rattle.std.specs.Str.{str_to_ascii_lowercase};
+    ghost use Rattle.std.specs.String.{string_bytes};
+    ghost use Rattle.rbac_match.specs.Header.{HeaderTest};
+
+    ghost Value = { HeaderTest };
+
+    ghost view = { λ m. record {
+      name = string_bytes m.name;
+      specifier = m.specifier;
+      invert_match = m.invert_match;
+      treat_missing_header_as_empty = m.treat_missing_header_as_empty;
+    } };
+
+    ghost invariant = { λ m. (string_bytes m.name ≢ [])
+        × (str_to_ascii_lowercase (string_bytes m.name) ≡ string_bytes m.name) };
+}
+
+/// What a member of the oneof asks.
+#[derive(Clone, Copy, PartialEq, Eq, Debug)]
+pub(crate) enum HeaderMember {
+    /// `exact_match`, `prefix_match`, `suffix_match` or `contains_match`
+    Text(Pattern),
+    /// `range_match`
+    Range,
+    /// `present_match`
+    Present,
+    /// `string_match`
+    Matcher,
 }
 
 const NAME: u32 = 1;
 
-const EXACT: u32 = 4;
+const EXACT_MATCH: u32 = 4;
 
-const RANGE: u32 = 6;
+const RANGE_MATCH: u32 = 6;
 
-const PRESENT: u32 = 7;
+const PRESENT_MATCH: u32 = 7;
 
-const INVERT: u32 = 8;
+const INVERT_MATCH: u32 = 8;
 
-const PREFIX: u32 = 9;
+const PREFIX_MATCH: u32 = 9;
 
-const SUFFIX: u32 = 10;
+const SUFFIX_MATCH: u32 = 10;
 
-const CONTAINS: u32 = 12;
+const SAFE_REGEX_MATCH: u32 = 11;
 
-const MATCHER: u32 = 13;
+const CONTAINS_MATCH: u32 = 12;
 
-const MISSING_IS_EMPTY: u32 = 14;
+const STRING_MATCH: u32 = 13;
 
-static FIELDS: [Key; 11] = keys![
-    Text 1, Text 4, Text 6, Varint 7, Varint 8, Text 9, Text 10, Text 11, Text 12, Text 13,
-    Varint 14
+const TREAT_MISSING_HEADER_AS_EMPTY: u32 = 14;
+
+static MEMBERS: [Key; 8] = keys![
+    Len EXACT_MATCH, Len RANGE_MATCH, Varint PRESENT_MATCH, Len PREFIX_MATCH, Len SUFFIX_MATCH,
+    Len SAFE_REGEX_MATCH, Len CONTAINS_MATCH, Len STRING_MATCH
 ];
 
-static SPECIFIERS: [Key; 8] =
-    keys![Text 4, Text 6, Varint 7, Text 9, Text 10, Text 11, Text 12, Text 13];
+static FIELDS: [Key; 11] = keys![
+    Len NAME, Varint INVERT_MATCH, Varint TREAT_MISSING_HEADER_AS_EMPTY, Len EXACT_MATCH,
+    Len RANGE_MATCH, Varint PRESENT_MATCH, Len PREFIX_MATCH, Len SUFFIX_MATCH,
+    Len SAFE_REGEX_MATCH, Len CONTAINS_MATCH, Len STRING_MATCH
+];
 
-impl HeaderTest {
+impl Specifier {
     // Whether a header that is there with this value is as asked.
     fn matches(&self, value: &str) -> bool
-        ensures { result ≡ specifier_holds (test_view self.now) false false (Some value.now) }
+        ensures { result ≡ specifier_holds self.now false false (Some value.now) }
     {
         match self {
-            HeaderTest::Present(wanted) => *wanted,
-            HeaderTest::Text(matcher) => matcher.matches(value),
-            HeaderTest::Range(range) => range.matches(value),
+            Specifier::Present(wanted) => *wanted,
+            Specifier::Text(matcher) => matcher.matches(value),
+            Specifier::Range(range) => range.matches(value),
         }
     }
 }
 
 impl HeaderMatcher {
+    /// The test of the header of this name.
+    fn new(
+        alloc: Global,
+        name: &str,
+        specifier: Specifier,
+        invert_match: bool,
+        treat_missing_header_as_empty: bool,
+    ) -> Result<HeaderMatcher, AllocError>
+        requires { name.now ≢ [] }
+        ensures { IfOk result (λ m. m ≡ record {
+          name = str_to_ascii_lowercase name.now;
+          specifier = specifier;
+          invert_match = invert_match;
+          treat_missing_header_as_empty = treat_missing_header_as_empty;
+        }) }
+    {
+        let mut name = String::from_str(alloc, name)?;
+        name.make_ascii_lowercase();
+        Ok(HeaderMatcher {
+            name,
+            specifier,
+            invert_match,
+            treat_missing_header_as_empty,
+        })
+    }
+
     /// Whether the request passes. A missing header passes no test of its value, inverted or not,
     /// unless it counts as one of the empty value. It takes no memory.
-    pub fn matches(&self, request: &Request) -> bool
-        ensures { result ≡ header_holds (header_view self.now) request.now }
+    pub(crate) fn matches(&self, request: &Request) -> bool
+        ensures { result ≡ header_holds self.now request.now }
     {
         match request.header(self.name.as_str()) {
-            Some(value) => self.test.matches(value) != self.invert,
+            Some(value) => self.specifier.matches(value) != self.invert_match,
             None => self.matches_missing(),
         }
     }
 
     // Whether a request without the header passes.
     fn matches_missing(&self) -> bool
-        ensures { result ≡ specifier_holds (test_view self.now.test) self.now.invert
-            self.now.missing_is_empty None }
+        ensures { result ≡ specifier_holds self.now.specifier self.now.invert_match
+            self.now.treat_missing_header_as_empty None }
     {
-        match &self.test {
+        match &self.specifier {
             // A missing header is as asked where it is not wanted, and inversion turns that.
-            HeaderTest::Present(wanted) => *wanted == self.invert,
-            test => self.missing_is_empty && test.matches("") != self.invert,
+            Specifier::Present(wanted) => *wanted == self.invert_match,
+            specifier => {
+                self.treat_missing_header_as_empty && specifier.matches("") != self.invert_match
+            }
         }
     }
 }
@@ -110,93 +177,103 @@ impl HeaderMatcher {
 /// Reads a HeaderMatcher, which stands in the parts: `Missing` without a name, `BadText` where the
 /// name or the text of the member that counts is not UTF-8, `OutOfRange` where a prefix, a suffix or
 /// a contained text is empty, `Unsupported` where that member is a regular expression.
-pub fn read_header_matcher(alloc: Global, parts: &[&[u8]]) -> Result<HeaderMatcher, Refusal>
-    ensures found { IfOk result (λ h. IsHeader (texts parts.now) (header_view h)) }
-    ensures fault { IfErr result (λ e. (e ≡ Memory) ⊎ HeaderFault (texts parts.now) e) }
+pub(crate) fn read_header_matcher(alloc: Global, parts: &[&[u8]]) -> Result<HeaderMatcher, Refusal>
+    ensures found { IfOk result (λ h. IsHeader (parts_view parts.now) h) }
+    ensures fault { IfErr result (MemoryOr (HeaderFault (parts_view parts.now))) }
 {
     let fields = read_message(alloc, parts, header_keys())?;
-    let run = member_run(alloc, &fields, specifier_keys())?;
-    let test = read_test(alloc, &run)?;
-    let name = read_name(alloc, &fields)?;
-    Ok(HeaderMatcher {
-        name,
-        test,
-        invert: bool_of(&fields, INVERT),
-        missing_is_empty: bool_of(&fields, MISSING_IS_EMPTY),
-    })
+    let specifier = read_specifier(alloc, &fields)?;
+    let name = header_name(&fields)?;
+    let invert = bool_at(&fields, INVERT_MATCH);
+    let empty = bool_at(&fields, TREAT_MISSING_HEADER_AS_EMPTY);
+    Ok(HeaderMatcher::new(alloc, name, specifier, invert, empty)?)
 }
 
-// The name in lower case.
-fn read_name(alloc: Global, fields: &[Field<'_>]) -> Result<String, Refusal>
-    ensures found { let bytes = text_at 1 (map view fields.now) in
-        IfOk result (λ name. (string_bytes name ≡ str_to_ascii_lowercase bytes)
-        × IsUtf8 bytes × (bytes ≢ [])) }
-    ensures fault { let bytes = text_at 1 (map view fields.now) in
-        IfErr result (λ e. (e ≡ Memory) ⊎ ((e ≡ BadText) × ¬ (IsUtf8 bytes))
-        ⊎ ((e ≡ Missing) × (bytes ≡ []))) }
+/// The name as it stands in the message.
+fn header_name<'a>(fields: &[Field<'a>]) -> Result<&'a str, Refusal>
+    ensures found { let bytes = bytes_at name_field (map field_view fields.now) in
+        IfOk result (λ name. (name.now ≡ bytes) × IsUtf8 bytes × (bytes ≢ [])) }
+    ensures fault { let bytes = bytes_at name_field (map field_view fields.now) in
+        IfErr result (λ e. ((e ≡ BadText) × ¬ (IsUtf8 bytes)) ⊎ ((e ≡ Missing) × (bytes ≡ []))) }
 {
-    let mut name = read_text(alloc, text_of(fields, NAME))?;
-    if name.is_empty() {
+    let bytes = bytes_at(fields, NAME);
+    if bytes.is_empty() {
         return Err(Refusal::Missing);
     }
-    name.make_ascii_lowercase();
-    Ok(name)
-}
-
-// What the run of the last member asks.
-fn read_test(alloc: Global, run: &[Field<'_>]) -> Result<HeaderTest, Refusal>
-    ensures found { IfOk result (λ test. SaysSpecifier (map view run.now) (test_view test)) }
-    ensures fault { IfErr result (λ e. (e ≡ Memory) ⊎ SpecifierFault (map view run.now) e) }
-{
-    let Some(last) = run.last() else {
-        return Ok(HeaderTest::Present(true));
-    };
-    match last.number {
-        PRESENT => Ok(HeaderTest::Present(bool_of(run, PRESENT))),
-        RANGE => Ok(HeaderTest::Range(read_int64_range(alloc, &payloads_of(alloc, run, RANGE)?)?)),
-        MATCHER => Ok(HeaderTest::Text(read_text_matcher(
-            alloc,
-            &payloads_of(alloc, run, MATCHER)?,
-        )?)),
-        number => {
-            let pattern = read_pattern(alloc, number, text_of(run, number))?;
-            Ok(HeaderTest::Text(TextMatcher::of(pattern)))
-        }
+    match str::from_utf8(bytes) {
+        Ok(name) => Ok(name),
+        Err(_) => Err(Refusal::BadText),
     }
 }
 
-// The pattern that the member of this number says, which has this text.
-fn read_pattern(alloc: Global, number: u32, bytes: &[u8]) -> Result<Pattern, Refusal>
-    ensures found { IfOk result (λ pattern. SaysPattern number bytes.now (pattern_view pattern)) }
-    ensures fault { IfErr result (λ e. (e ≡ Memory) ⊎ SayingFault number bytes.now e) }
+/// What the last member asks; without a member it is that the header is there.
+fn read_specifier(alloc: Global, fields: &[Field<'_>]) -> Result<Specifier, Refusal>
+    ensures found { IfOk result (λ s. SaysSpecifier (map field_view fields.now) s) }
+    ensures fault { let fs = map field_view fields.now in IfErr result (MemoryOr (λ e.
+        (n : ℕ) × (last_number (keys_of specifiers) fs ≡ Some n)
+        × HeaderMemberFault (member_in specifiers n) n (member_run (keys_of specifiers) fs) e)) }
+{
+    let Some(number) = last_number(fields, specifiers()) else {
+        return Ok(Specifier::Present(true));
+    };
+    let member = header_member(number)?;
+    let run = member_run(alloc, fields, specifiers())?;
+    read_header_member(alloc, member, number, &run)
+}
+
+/// What the member of this number asks; a regular expression is not supported.
+fn header_member(number: u32) -> Result<HeaderMember, Refusal>
+    ensures found { IfOk result (λ member. member_in specifiers number ≡ Some member) }
+    ensures fault { IfErr result (λ e. (member_in specifiers number ≡ None) × (e ≡ Unsupported)) }
 {
     match number {
-        EXACT => Ok(Pattern::Exact(read_text(alloc, bytes)?)),
-        PREFIX => Ok(Pattern::Prefix(read_filled(alloc, bytes)?)),
-        SUFFIX => Ok(Pattern::Suffix(read_filled(alloc, bytes)?)),
-        CONTAINS => Ok(Pattern::Contains(read_filled(alloc, bytes)?)),
+        EXACT_MATCH => Ok(HeaderMember::Text(Pattern::Exact)),
+        RANGE_MATCH => Ok(HeaderMember::Range),
+        PRESENT_MATCH => Ok(HeaderMember::Present),
+        PREFIX_MATCH => Ok(HeaderMember::Text(Pattern::Prefix)),
+        SUFFIX_MATCH => Ok(HeaderMember::Text(Pattern::Suffix)),
+        CONTAINS_MATCH => Ok(HeaderMember::Text(Pattern::Contains)),
+        STRING_MATCH => Ok(HeaderMember::Matcher),
         _ => Err(Refusal::Unsupported),
     }
 }
 
-// The text of this number, or the empty one.
-fn text_of<'a>(fields: &[Field<'a>], number: u32) -> &'a [u8]
-    ensures { result.now ≡ text_at number (map view fields.now) }
+/// Reads what this member asks from its run; in a text of its own the case of letters counts.
+fn read_header_member(
+    alloc: Global,
+    member: HeaderMember,
+    number: u32,
+    run: &[Field<'_>],
+) -> Result<Specifier, Refusal>
+    ensures found { IfOk result (λ s. SaysMember member number (map field_view run.now) s) }
+    ensures fault { IfErr result (MemoryOr
+        (HeaderMemberFault (Some member) number (map field_view run.now))) }
 {
-    match last_text(fields, number) {
-        Some(text) => text,
-        None => &[],
+    match member {
+        HeaderMember::Text(pattern) => {
+            let sought = sought_text(pattern, bytes_at(run, number))?;
+            Ok(Specifier::Text(TextMatcher::new(alloc, pattern, sought, false)?))
+        }
+        HeaderMember::Range => {
+            let parts = payloads_of(alloc, run, number)?;
+            Ok(Specifier::Range(read_int64_range(alloc, &parts)?))
+        }
+        HeaderMember::Present => Ok(Specifier::Present(bool_at(run, number))),
+        HeaderMember::Matcher => {
+            let parts = payloads_of(alloc, run, number)?;
+            Ok(Specifier::Text(read_text_matcher(alloc, &parts)?))
+        }
     }
+}
+
+fn specifiers() -> &'static [Key]
+    ensures { result.now ≡ keys_of specifiers }
+{
+    &MEMBERS
 }
 
 fn header_keys() -> &'static [Key]
     ensures { result.now ≡ header_keys }
 {
     &FIELDS
-}
-
-fn specifier_keys() -> &'static [Key]
-    ensures { result.now ≡ specifier_keys }
-{
-    &SPECIFIERS
 }

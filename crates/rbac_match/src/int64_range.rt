@@ -1,14 +1,14 @@
-//! Ranges of whole numbers, and how their messages are read.
+//! Ranges of whole numbers, how their messages are read, and which texts are numbers in them.
 
-ghost use Rattle.std.specs.Prelude.{◌≡◌, ◌⊎◌, IfOk, IfErr, map};
-ghost use Rattle.proto_wire.specs.Fields.{view};
-ghost use Rattle.proto_wire.specs.Messages.{texts};
-ghost use Rattle.proto_wire.specs.declared.refusal.Refusal.TheVariants.{Memory};
-ghost use Rattle.rbac_match.specs.Int64Range.{RangeFault, IsRange, is_within, range_holds, range_view};
+ghost use Rattle.std.specs.Prelude.{◌≡◌, IfOk, IfErr};
+ghost use Rattle.proto_wire.specs.Merge.{parts_view};
+ghost use Rattle.proto_wire.specs.Messages.{MessageFault};
+ghost use Rattle.proto_wire.specs.Refusal.{MemoryOr};
+ghost use Rattle.rbac_match.specs.Int64Range.{IsRange, int64_in, is_within, range_holds};
+ghost use Rattle.rbac_match.specs.Message.{range_keys};
 
-use crate::decimal::parse_int64;
-use crate::keys::{END, RANGE, START};
-use proto_wire::{Refusal, int64_of, read_message};
+use crate::keys::{END, START, range_keys};
+use proto_wire::{Refusal, int64_at, read_message};
 use std::alloc::Global;
 
 /// The numbers from `start` on that are below `end`; none where `start` is not below `end`.
@@ -20,15 +20,15 @@ pub struct Int64Range {
 
 impl Int64Range {
     /// Whether the number is in the range.
-    pub fn contains(&self, number: i64) -> bool
-        ensures { result ≡ is_within (range_view self.now) number }
+    fn contains(&self, number: i64) -> bool
+        ensures { result ≡ is_within self.now number }
     {
         self.start <= number && number < self.end
     }
 
     /// Whether the whole text is a decimal number of 64 bits that is in the range.
-    pub fn matches(&self, text: &str) -> bool
-        ensures { result ≡ range_holds (range_view self.now) text.now }
+    pub(crate) fn matches(&self, text: &str) -> bool
+        ensures { result ≡ range_holds self.now text.now }
     {
         match parse_int64(text) {
             Some(number) => self.contains(number),
@@ -37,14 +37,22 @@ impl Int64Range {
     }
 }
 
-/// Reads an Int64Range, whose message stands in the parts (`envoy.type.v3.Int64Range`).
-pub fn read_int64_range(alloc: Global, parts: &[&[u8]]) -> Result<Int64Range, Refusal>
-    ensures found { IfOk result (λ range. IsRange (texts parts.now) (range_view range)) }
-    ensures fault { IfErr result (λ e. (e ≡ Memory) ⊎ RangeFault (texts parts.now) e) }
+/// The number that the whole text spells: decimal digits, one at least, behind an optional `+` or `-`. `None` for
+/// another text, and for a number that takes more than 64 bits.
+fn parse_int64(text: &str) -> Option<i64>
+    ensures { result ≡ int64_in text.now }
 {
-    let fields = read_message(alloc, parts, &RANGE)?;
+    text.parse().ok()
+}
+
+/// Reads an Int64Range, whose message stands in the parts (`envoy.type.v3.Int64Range`).
+pub(crate) fn read_int64_range(alloc: Global, parts: &[&[u8]]) -> Result<Int64Range, Refusal>
+    ensures found { IfOk result (λ range. IsRange (parts_view parts.now) range) }
+    ensures fault { IfErr result (MemoryOr (MessageFault range_keys (parts_view parts.now))) }
+{
+    let fields = read_message(alloc, parts, range_keys())?;
     Ok(Int64Range {
-        start: int64_of(&fields, START),
-        end: int64_of(&fields, END),
+        start: int64_at(&fields, START),
+        end: int64_at(&fields, END),
     })
 }

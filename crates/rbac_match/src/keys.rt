@@ -1,33 +1,87 @@
-//! The fields that the messages of rules have, by number and wire type.
+//! The fields of the messages Permission, Principal and Set, and of ranges of integers, by number and wire type.
 
 ghost use Rattle.std.specs.Prelude.{◌≡◌};
-ghost use Rattle.rbac_match.specs.Message.{keys_of, set_keys};
+ghost use Rattle.rbac_match.specs.Message.{rule_keys, set_keys, range_keys};
 
 use crate::rule::Side;
 use proto_wire::{Key, keys};
 
+/// The members that hold rules have one number in a permission and in a principal.
+pub(crate) const AND: u32 = 1;
+
+pub(crate) const OR: u32 = 2;
+
+pub(crate) const ANY: u32 = 3;
+
+pub(crate) const NOT: u32 = 8;
+
+/// The other members of a permission (`envoy.config.rbac.v3.Permission`).
+pub(crate) mod permission {
+    pub(crate) const HEADER: u32 = 4;
+
+    pub(crate) const DESTINATION_IP: u32 = 5;
+
+    pub(crate) const DESTINATION_PORT: u32 = 6;
+
+    pub(crate) const METADATA: u32 = 7;
+
+    pub(crate) const REQUESTED_SERVER_NAME: u32 = 9;
+
+    pub(crate) const URL_PATH: u32 = 10;
+
+    pub(crate) const DESTINATION_PORT_RANGE: u32 = 11;
+
+    pub(crate) const MATCHER: u32 = 12;
+}
+
+/// The other members of a principal (`envoy.config.rbac.v3.Principal`).
+pub(crate) mod principal {
+    pub(crate) const AUTHENTICATED: u32 = 4;
+
+    pub(crate) const SOURCE_IP: u32 = 5;
+
+    pub(crate) const HEADER: u32 = 6;
+
+    pub(crate) const METADATA: u32 = 7;
+
+    pub(crate) const URL_PATH: u32 = 9;
+
+    pub(crate) const DIRECT_REMOTE_IP: u32 = 10;
+
+    pub(crate) const REMOTE_IP: u32 = 11;
+
+    pub(crate) const FILTER_STATE: u32 = 12;
+}
+
+/// The rules of a set, or its ids.
+pub(crate) const RULES: u32 = 1;
+
+/// A range's first integer.
+pub(crate) const START: u32 = 1;
+
+/// The integer after a range's last.
+pub(crate) const END: u32 = 2;
+
 static PERMISSION: [Key; 12] = keys![
-    Text 1, Text 2, Varint 3, Text 4, Text 5, Varint 6, Text 7, Text 8, Text 9, Text 10, Text 11, Text 12
+    Len AND, Len OR, Varint ANY, Len permission::HEADER, Len permission::DESTINATION_IP,
+    Varint permission::DESTINATION_PORT, Len permission::METADATA, Len NOT,
+    Len permission::REQUESTED_SERVER_NAME, Len permission::URL_PATH,
+    Len permission::DESTINATION_PORT_RANGE, Len permission::MATCHER
 ];
 
 static PRINCIPAL: [Key; 12] = keys![
-    Text 1, Text 2, Varint 3, Text 4, Text 5, Text 6, Text 7, Text 8, Text 9, Text 10, Text 11, Text 12
+    Len AND, Len OR, Varint ANY, Len principal::AUTHENTICATED, Len principal::SOURCE_IP,
+    Len principal::HEADER, Len principal::METADATA, Len NOT, Len principal::URL_PATH,
+    Len principal::DIRECT_REMOTE_IP, Len principal::REMOTE_IP, Len principal::FILTER_STATE
 ];
 
-static SET: [Key; 1] = keys![Text 1];
+static SET: [Key; 1] = keys![Len RULES];
 
-/// The field of a range's first integer, by number.
-pub const START: u32 = 1;
-
-/// The field of the integer after its last.
-pub const END: u32 = 2;
-
-/// The fields of a range of integers.
-pub static RANGE: [Key; 2] = keys![Varint START, Varint END];
+static RANGE: [Key; 2] = keys![Varint START, Varint END];
 
 /// The members of the oneof of a permission or of a principal.
-pub fn keys_of(side: Side) -> &'static [Key]
-    ensures { result.now ≡ keys_of side }
+pub(crate) fn rule_keys(side: Side) -> &'static [Key]
+    ensures { result.now ≡ rule_keys side }
 {
     match side {
         Side::Permission => &PERMISSION,
@@ -36,8 +90,15 @@ pub fn keys_of(side: Side) -> &'static [Key]
 }
 
 /// The fields of a set of rules.
-pub fn set_keys() -> &'static [Key]
+pub(crate) fn set_keys() -> &'static [Key]
     ensures { result.now ≡ set_keys }
 {
     &SET
+}
+
+/// The fields of a range of integers.
+pub(crate) fn range_keys() -> &'static [Key]
+    ensures { result.now ≡ range_keys }
+{
+    &RANGE
 }

@@ -1,11 +1,11 @@
 //! The leaves of permissions and principals: tests of one fact of a request.
 
 ghost use Rattle.std.specs.Prelude.{◌≡◌};
-ghost use Rattle.rbac_match.specs.Matcher.{matcher_view, matcher_holds};
+ghost use Rattle.rbac_match.specs.Matcher.{matcher_holds};
 
 use crate::authenticated::authenticated_matches;
+use crate::cidr::{AddressSource, address_matches};
 use crate::header::HeaderMatcher;
-use crate::network::{AddressSource, address_matches};
 use crate::path::{path_matches, server_name_matches};
 use crate::ports::{PortRange, port_matches, port_range_matches};
 use crate::text::TextMatcher;
@@ -31,8 +31,8 @@ pub enum Matcher {
 }
 
 /// Whether the request passes. It takes no memory.
-pub fn passes(matcher: &Matcher, request: &Request) -> bool
-    ensures { result ≡ matcher_holds (matcher_view matcher.now) request.now }
+pub(crate) fn passes(matcher: &Matcher, request: &Request) -> bool
+    ensures { result ≡ matcher_holds matcher.now request.now }
 {
     match matcher {
         Matcher::Header(test) => test.matches(request),

@@ -1,93 +1,105 @@
-//! A rule's own fields: which member of its oneof counts, and the payloads of the rules in it.
+//! The members of a permission's or a principal's oneof, by number, and which of them counts.
 
-ghost use Rattle.std.specs.Prelude.{◌≡◌, ◌⊎◌, IfOk, IfErr, map};
-ghost use Rattle.proto_wire.specs.Fields.{view};
-ghost use Rattle.proto_wire.specs.declared.refusal.Refusal.TheVariants.{Memory};
-ghost use Rattle.rbac_match.specs.Message.{last_number};
-ghost use Rattle.rbac_match.specs.Rules.{SetFault, LevelFault};
-ghost use Rattle.proto_wire.specs.Messages.{texts};
-ghost use Rattle.rbac_match.specs.Member.{IsMember, MemberSays, MemberFault, IsSetOf, Never};
+ghost use Rattle.std.specs.Prelude.{◌≡◌, Some, None, IfOk, IfErr, MatchOption, map};
+ghost use Rattle.proto_wire.specs.Fields.{field_view};
+ghost use Rattle.proto_wire.specs.declared.refusal.Refusal.TheVariants.{Missing, Unsupported};
+ghost use Rattle.rbac_match.specs.Message.{members, rule_keys};
+ghost use Rattle.rbac_match.specs.Oneof.{last_number, member_in};
 
-use crate::keys::{keys_of, set_keys};
-use crate::leaf::{leaf_at, read_leaf};
-use crate::matcher::Matcher;
+use crate::cidr::AddressSource;
+use crate::fields::last_number;
+use crate::keys::{AND, ANY, NOT, OR, permission, principal, rule_keys};
 use crate::rule::Side;
-use proto_wire::{Field, Refusal, last_varint, member_run, payloads_of, read_message};
-use std::alloc::Global;
+use proto_wire::{Field, Refusal};
 
-/// The member of a rule's oneof that counts, with the payloads of what stands in it.
-#[derive(Drop)]
-pub enum Member<'a> {
-    /// `any`, which is true.
+/// What a member of the oneof is.
+#[derive(Clone, Copy, PartialEq, Eq, Debug)]
+pub(crate) enum Member {
+    /// `and_rules` or `and_ids`
+    And,
+    /// `or_rules` or `or_ids`
+    Or,
+    /// `any`
     Any,
-    /// `and_rules` or `and_ids`: the payloads of the rules, some at least.
-    All(Vec<&'a [u8]>),
-    /// `or_rules` or `or_ids`: the payloads of the rules, some at least.
-    Either(Vec<&'a [u8]>),
-    /// `not_rule` or `not_id`: the payloads that merge to its rule.
-    Not(Vec<&'a [u8]>),
-    /// A leaf, which is read.
-    Matches(Matcher),
+    /// `not_rule` or `not_id`
+    Not,
+    /// A test of one fact.
+    Leaf(LeafKind),
 }
 
-const ALL: u32 = 1;
-
-const EITHER: u32 = 2;
-
-const ANY: u32 = 3;
-
-const NOT: u32 = 8;
-
-/// Reads a rule's own fields, which stand in the parts.
-pub fn read_member<'a>(alloc: Global, side: Side, parts: &[&'a [u8]]) -> Result<Member<'a>, Refusal>
-    ensures found { IfOk result (λ m. IsMember side (texts parts.now) m) }
-    ensures fault { IfErr result (λ e. (e ≡ Memory) ⊎ LevelFault side Never (texts parts.now) e) }
-{
-    let fields = read_message(alloc, parts, keys_of(side))?;
-    let run = member_run(alloc, &fields, keys_of(side))?;
-    choose(alloc, side, &run)
+/// What a test of one fact looks at.
+#[derive(Clone, Copy, PartialEq, Eq, Debug)]
+pub(crate) enum LeafKind {
+    /// `header`
+    Header,
+    /// `destination_ip`, `direct_remote_ip` or `remote_ip`
+    Address(AddressSource),
+    /// `destination_port`
+    Port,
+    /// `destination_port_range`
+    PortRange,
+    /// `requested_server_name`
+    ServerName,
+    /// `url_path`
+    UrlPath,
+    /// `authenticated`
+    Authenticated,
 }
 
-/// Reads the last member's run.
-fn choose<'a>(alloc: Global, side: Side, run: &[Field<'a>]) -> Result<Member<'a>, Refusal>
-    ensures found { IfOk result (λ m. MemberSays side (map view run.now) m) }
-    ensures fault { IfErr result (λ e. (e ≡ Memory) ⊎ MemberFault side (map view run.now) e) }
+/// The member of a rule that counts.
+#[derive(Clone, Copy, Debug)]
+pub(crate) struct LastMember {
+    pub member: Member,
+    pub number: u32,
+}
+
+/// The member of this number; `None` for one that is not supported.
+fn member_at(side: Side, number: u32) -> Option<Member>
+    ensures { result ≡ member_in (members side) number }
 {
-    match number_of(run) {
-        None => Err(Refusal::Missing),
-        Some(ALL) => Ok(Member::All(read_set(alloc, &payloads_of(alloc, run, ALL)?)?)),
-        Some(EITHER) => Ok(Member::Either(read_set(alloc, &payloads_of(alloc, run, EITHER)?)?)),
-        Some(ANY) => match last_varint(run, ANY) {
-            None | Some(0) => Err(Refusal::OutOfRange),
-            Some(_) => Ok(Member::Any),
-        },
-        Some(NOT) => Ok(Member::Not(payloads_of(alloc, run, NOT)?)),
-        Some(number) => match leaf_at(side, number) {
-            Some(leaf) => Ok(Member::Matches(read_leaf(alloc, leaf, run, number)?)),
-            None => Err(Refusal::Unsupported),
-        },
+    match (side, number) {
+        (_, AND) => Some(Member::And),
+        (_, OR) => Some(Member::Or),
+        (_, ANY) => Some(Member::Any),
+        (_, NOT) => Some(Member::Not),
+        (Side::Permission, permission::HEADER) => Some(Member::Leaf(LeafKind::Header)),
+        (Side::Permission, permission::DESTINATION_IP) => {
+            Some(Member::Leaf(LeafKind::Address(AddressSource::Destination)))
+        }
+        (Side::Permission, permission::DESTINATION_PORT) => Some(Member::Leaf(LeafKind::Port)),
+        (Side::Permission, permission::REQUESTED_SERVER_NAME) => {
+            Some(Member::Leaf(LeafKind::ServerName))
+        }
+        (Side::Permission, permission::URL_PATH) => Some(Member::Leaf(LeafKind::UrlPath)),
+        (Side::Permission, permission::DESTINATION_PORT_RANGE) => {
+            Some(Member::Leaf(LeafKind::PortRange))
+        }
+        (Side::Principal, principal::AUTHENTICATED) => Some(Member::Leaf(LeafKind::Authenticated)),
+        (Side::Principal, principal::HEADER) => Some(Member::Leaf(LeafKind::Header)),
+        (Side::Principal, principal::URL_PATH) => Some(Member::Leaf(LeafKind::UrlPath)),
+        (Side::Principal, principal::DIRECT_REMOTE_IP) => {
+            Some(Member::Leaf(LeafKind::Address(AddressSource::DirectRemote)))
+        }
+        (Side::Principal, principal::REMOTE_IP) => {
+            Some(Member::Leaf(LeafKind::Address(AddressSource::Remote)))
+        }
+        _ => None,
     }
 }
 
-/// The number of the last field.
-fn number_of(fields: &[Field<'_>]) -> Option<u32>
-    ensures { result ≡ last_number (map view fields.now) }
+/// The last member of a rule's fields: `Missing` without one, `Unsupported` where it is one that is not supported.
+pub(crate) fn last_member(side: Side, fields: &[Field<'_>]) -> Result<LastMember, Refusal>
+    ensures found { IfOk result (λ last.
+        (last_number (rule_keys side) (map field_view fields.now) ≡ Some last.number)
+        × (member_in (members side) last.number ≡ Some last.member)) }
+    ensures fault { IfErr result (λ e. MatchOption (last_number (rule_keys side) (map field_view fields.now))
+        (e ≡ Missing) (λ n. (member_in (members side) n ≡ None) × (e ≡ Unsupported))) }
 {
-    match fields.last() {
-        Some(last) => Some(last.number),
-        None => None,
-    }
-}
-
-/// The payloads of the rules of a set, which stands in the parts.
-fn read_set<'a>(alloc: Global, parts: &[&'a [u8]]) -> Result<Vec<&'a [u8]>, Refusal>
-    ensures found { IfOk result (λ v. IsSetOf (texts parts.now) (texts v.items)) }
-    ensures fault { IfErr result (λ e. (e ≡ Memory) ⊎ SetFault Never (texts parts.now) e) }
-{
-    let fields = read_message(alloc, parts, set_keys())?;
-    let rules = payloads_of(alloc, &fields, 1)?;
-    if rules.is_empty() {
+    let Some(number) = last_number(fields, rule_keys(side)) else {
         return Err(Refusal::Missing);
+    };
+    match member_at(side, number) {
+        Some(member) => Ok(LastMember { member, number }),
+        None => Err(Refusal::Unsupported),
     }
-    Ok(rules)
 }

@@ -1,11 +1,11 @@
 //! Tests of a request's path (`envoy.type.matcher.v3.PathMatcher`) and of the requested server name.
 
 ghost use Rattle.std.specs.Prelude.{◌≡◌, ◌⊎◌, IfOk, IfErr};
-ghost use Rattle.proto_wire.specs.Messages.{texts};
-ghost use Rattle.proto_wire.specs.declared.refusal.Refusal.TheVariants.{Memory};
+ghost use Rattle.proto_wire.specs.Merge.{parts_view};
+ghost use Rattle.proto_wire.specs.Refusal.{MemoryOr};
 ghost use Rattle.rbac_match.specs.Path.{path_keys, IsPathMatcher, PathFault, path_holds, server_name_holds};
-ghost use Rattle.rbac_match.specs.Text.{text_view};
 
+use crate::fields::require_payload;
 use crate::text::{TextMatcher, read_text_matcher};
 use attributes::Request;
 use proto_wire::{Key, Refusal, keys, payloads_of, read_message};
@@ -13,31 +13,29 @@ use std::alloc::Global;
 
 const PATH: u32 = 1;
 
-static PATH_KEYS: [Key; 1] = keys![Text PATH];
+static PATH_KEYS: [Key; 1] = keys![Len PATH];
 
 /// Reads a PathMatcher, which stands in the parts: `Missing` without a path, and what `read_text_matcher` refuses of it.
-pub fn read_path_matcher(alloc: Global, parts: &[&[u8]]) -> Result<TextMatcher, Refusal>
-    ensures found { IfOk result (λ m. IsPathMatcher (texts parts.now) (text_view m)) }
-    ensures fault { IfErr result (λ e. (e ≡ Memory) ⊎ PathFault (texts parts.now) e) }
+pub(crate) fn read_path_matcher(alloc: Global, parts: &[&[u8]]) -> Result<TextMatcher, Refusal>
+    ensures found { IfOk result (λ test. IsPathMatcher (parts_view parts.now) test) }
+    ensures fault { IfErr result (MemoryOr (PathFault (parts_view parts.now))) }
 {
     let fields = read_message(alloc, parts, path_keys())?;
     let path = payloads_of(alloc, &fields, PATH)?;
-    if path.is_empty() {
-        return Err(Refusal::Missing);
-    }
+    require_payload(&path)?;
     read_text_matcher(alloc, &path)
 }
 
 /// Whether the target up to its first `?` or `#` passes the test.
-pub fn path_matches(matcher: &TextMatcher, request: &Request) -> bool
-    ensures { result ≡ path_holds (text_view matcher.now) request.now }
+pub(crate) fn path_matches(matcher: &TextMatcher, request: &Request) -> bool
+    ensures { result ≡ path_holds matcher.now request.now }
 {
     matcher.matches(request.url_path())
 }
 
 /// Whether the server name that the client asked for passes the test; without one it is the empty text.
-pub fn server_name_matches(matcher: &TextMatcher, request: &Request) -> bool
-    ensures { result ≡ server_name_holds (text_view matcher.now) request.now }
+pub(crate) fn server_name_matches(matcher: &TextMatcher, request: &Request) -> bool
+    ensures { result ≡ server_name_holds matcher.now request.now }
 {
     match &request.conn().requested_server_name {
         Some(name) => matcher.matches(name.as_str()),

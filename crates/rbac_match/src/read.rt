@@ -1,14 +1,19 @@
 //! The reading of rules, down to a depth.
 
-ghost use Rattle.std.specs.Prelude.{◌≡◌, ◌⊎◌, IfOk, IfErr};
-ghost use Rattle.proto_wire.specs.declared.refusal.Refusal.TheVariants.{Memory};
-ghost use Rattle.rbac_match.specs.Rules.{IsRule, AreRules, RuleFault, SomeRuleFault};
-ghost use Rattle.proto_wire.specs.Messages.{texts};
+ghost use Rattle.std.specs.Prelude.{◌≡◌, ◌<◌, Some, IfOk, IfErr, OnOk, map};
+ghost use Rattle.proto_wire.specs.Fields.{field_view};
+ghost use Rattle.proto_wire.specs.Merge.{parts_view};
+ghost use Rattle.proto_wire.specs.Refusal.{MemoryOr};
+ghost use Rattle.proto_wire.specs.declared.refusal.Refusal.TheVariants.{TooLarge};
+ghost use Rattle.rbac_match.specs.Rules.{IsRule, AreRules, IsSet, MemberSays, RuleFault, SomeRuleFault, SetFault, MemberFault};
 ghost use Rattle.rbac_match.specs.View.{rule_view, rules_view};
 
-use crate::member::{Member, read_member};
+use crate::fields::{require_payload, require_true};
+use crate::keys::{RULES, rule_keys, set_keys};
+use crate::leaf::read_leaf;
+use crate::member::{LastMember, Member, last_member};
 use crate::rule::{Rule, Side};
-use proto_wire::Refusal;
+use proto_wire::{Field, Refusal, member_run, payloads_of, read_message};
 use std::alloc::Global;
 
 /// How many levels a permission or a principal may have; a rule that stands in no other is level 1.
@@ -17,23 +22,63 @@ pub const RULE_DEPTH: u32 = 32;
 /// Reads a rule of at most `depth` levels, whose message stands in the parts. The depth is looked at before anything
 /// of the rule is read.
 #[cycle(rule)]
-pub fn read_rule(alloc: Global, side: Side, parts: &[&[u8]], depth: u32) -> Result<Rule, Refusal>
-    ensures found { IfOk result (λ rule. IsRule side depth (texts parts.now) (rule_view rule)) }
-    ensures fault { IfErr result (λ e. (e ≡ Memory) ⊎ RuleFault side depth (texts parts.now) e) }
+fn read_rule(alloc: Global, side: Side, parts: &[&[u8]], depth: u32) -> Result<Rule, Refusal>
+    ensures found { IfOk result (λ rule. IsRule side depth (parts_view parts.now) (rule_view rule)) }
+    ensures fault { IfErr result (MemoryOr (RuleFault side depth (parts_view parts.now))) }
 {
-    if depth == 0 {
-        return Err(Refusal::TooLarge);
-    }
-    match read_member(alloc, side, parts)? {
-        Member::Any => Ok(Rule::Any),
-        Member::All(rules) => Ok(Rule::All(read_rules(alloc, side, &rules, depth - 1)?)),
-        Member::Either(rules) => Ok(Rule::Either(read_rules(alloc, side, &rules, depth - 1)?)),
-        Member::Matches(matcher) => Ok(Rule::Matches(matcher)),
-        Member::Not(inner) => {
-            let rule = read_rule(alloc, side, &inner, depth - 1)?;
+    require_level(depth)?;
+    let fields = read_message(alloc, parts, rule_keys(side))?;
+    let last = last_member(side, &fields)?;
+    let run = member_run(alloc, &fields, rule_keys(side))?;
+    read_member(alloc, side, last, &run, depth - 1)
+}
+
+/// Reads a rule from the run of its last member; the rules in it may have `depth` levels.
+#[cycle(rule)]
+fn read_member(
+    alloc: Global,
+    side: Side,
+    last: LastMember,
+    run: &[Field<'_>],
+    depth: u32,
+) -> Result<Rule, Refusal>
+    ensures found { IfOk result (λ rule.
+        MemberSays (IsRule side depth) last.member last.number (map field_view run.now) (rule_view rule)) }
+    ensures fault { IfErr result (MemoryOr
+        (MemberFault (RuleFault side depth) (Some last.member) last.number (map field_view run.now))) }
+{
+    match last.member {
+        Member::And => {
+            let set = payloads_of(alloc, run, last.number)?;
+            Ok(Rule::And(read_set(alloc, side, &set, depth)?))
+        }
+        Member::Or => {
+            let set = payloads_of(alloc, run, last.number)?;
+            Ok(Rule::Or(read_set(alloc, side, &set, depth)?))
+        }
+        Member::Any => {
+            require_true(run, last.number)?;
+            Ok(Rule::Any)
+        }
+        Member::Not => {
+            let parts = payloads_of(alloc, run, last.number)?;
+            let rule = read_rule(alloc, side, &parts, depth)?;
             Ok(Rule::Not(Box::new(alloc, rule)?))
         }
+        Member::Leaf(kind) => Ok(Rule::Leaf(read_leaf(alloc, kind, last.number, run)?)),
     }
+}
+
+/// Reads the rules of a set, whose message stands in the parts.
+#[cycle(rule)]
+fn read_set(alloc: Global, side: Side, parts: &[&[u8]], depth: u32) -> Result<Vec<Rule>, Refusal>
+    ensures found { IfOk result (λ rules. IsSet (IsRule side depth) (parts_view parts.now) (rules_view rules.items)) }
+    ensures fault { IfErr result (MemoryOr (SetFault (RuleFault side depth) (parts_view parts.now))) }
+{
+    let fields = read_message(alloc, parts, set_keys())?;
+    let payloads = payloads_of(alloc, &fields, RULES)?;
+    require_payload(&payloads)?;
+    read_rules(alloc, side, &payloads, depth)
 }
 
 /// Reads rules of at most `depth` levels, each of which has one payload.
@@ -44,8 +89,8 @@ pub fn read_rules(
     payloads: &[&[u8]],
     depth: u32,
 ) -> Result<Vec<Rule>, Refusal>
-    ensures found { IfOk result (λ rules. AreRules (IsRule side depth) (texts payloads.now) (rules_view rules.items)) }
-    ensures fault { IfErr result (λ e. (e ≡ Memory) ⊎ SomeRuleFault side depth (texts payloads.now) e) }
+    ensures found { IfOk result (λ rules. AreRules (IsRule side depth) (parts_view payloads.now) (rules_view rules.items)) }
+    ensures fault { IfErr result (MemoryOr (SomeRuleFault side depth (parts_view payloads.now))) }
 {
     let mut rules = Vec::new(alloc);
     for payload in payloads {
@@ -53,4 +98,15 @@ pub fn read_rules(
         rules.push(rule)?;
     }
     Ok(rules)
+}
+
+/// Refuses a rule where no level is left.
+fn require_level(depth: u32) -> Result<(), Refusal>
+    ensures found { OnOk result (0 < depth) }
+    ensures fault { IfErr result (λ e. (depth ≡ 0) × (e ≡ TooLarge)) }
+{
+    if depth == 0 {
+        return Err(Refusal::TooLarge);
+    }
+    Ok(())
 }

@@ -14,14 +14,14 @@ pub enum Side {
 /// A permission or a principal.
 #[derive(Debug, Drop)]
 pub enum Rule {
+    /// Matches where each of its rules does.
+    And(Vec<Rule>),
+    /// Matches where some of its rules do.
+    Or(Vec<Rule>),
     /// Matches every request.
     Any,
-    /// Matches where each of its rules does.
-    All(Vec<Rule>),
-    /// Matches where some of its rules do.
-    Either(Vec<Rule>),
     /// Matches where its rule doesn't.
     Not(Box<Rule>),
     /// Matches where the request passes the test.
-    Matches(Matcher),
+    Leaf(Matcher),
 }

@@ -1,37 +1,57 @@
 //! Tests of a text (`envoy.type.matcher.v3.StringMatcher`): how they are read, and which texts pass.
 
-ghost use Rattle.std.specs.Prelude.{◌≡◌, ◌≢◌, ◌⊎◌, [], true, false, nat_eq, IfOk, IfErr, IsTrue};
+ghost use Rattle.std.specs.Prelude.{◌≡◌, Some, None, nat_eq, IfOk, IfErr, MatchOption, map};
 ghost use Rattle.std.specs.List.{starts_with, ends_with};
-ghost use Rattle.std.specs.Str.{IsUtf8, str_to_ascii_lowercase};
-ghost use Rattle.std.specs.String.{string_bytes};
-ghost use Rattle.proto_wire.specs.Fields.{view};
-ghost use Rattle.proto_wire.specs.Rules.{is_known};
-ghost use Rattle.proto_wire.specs.Messages.{texts};
-ghost use Rattle.proto_wire.specs.declared.refusal.Refusal.TheVariants.{Memory, BadText, OutOfRange};
-ghost use Rattle.rbac_match.specs.Text.{text_view, pattern_view, text_holds, pattern_holds, stands_in, string_keys, pattern_keys, pattern_field, IsFilled, text_of, IsTextMatcher, PatternFault, TextFault};
+ghost use Rattle.std.specs.Map.{keys_of};
+ghost use Rattle.std.specs.Str.{str_to_ascii_lowercase};
+ghost use Rattle.proto_wire.specs.Fields.{field_view};
+ghost use Rattle.proto_wire.specs.Merge.{parts_view};
+ghost use Rattle.proto_wire.specs.Refusal.{MemoryOr};
+ghost use Rattle.proto_wire.specs.Values.{bytes_at};
+ghost use Rattle.proto_wire.specs.declared.refusal.Refusal.TheVariants.{Missing};
+ghost use Rattle.rbac_match.specs.Oneof.{last_number, member_in};
+ghost use Rattle.rbac_match.specs.Text.{text_holds, pattern_holds, is_substring, string_members, string_keys, IsSought, IsTextMatcher, SoughtFault, TextFault};
 
+use crate::fields::last_number;
 use memchr::memmem;
-use proto_wire::{Content, Field, Key, Refusal, bool_of, keys, last_member, read_message};
-use std::alloc::Global;
+use proto_wire::{Field, Key, Refusal, bool_at, bytes_at, keys, read_message};
+use std::alloc::{AllocError, Global};
+use std::marker::Model;
 
-/// What a text is compared with.
-#[derive(Debug, Drop)]
+/// How a text is compared with the one that is sought.
+#[derive(Clone, Copy, PartialEq, Eq, Debug)]
 pub enum Pattern {
-    /// The text is this one.
-    Exact(String),
-    /// The text begins with this one.
-    Prefix(String),
-    /// The text ends with this one.
-    Suffix(String),
-    /// The text has this one in it.
-    Contains(String),
+    /// The text is the one that is sought.
+    Exact,
+    /// The text begins with it.
+    Prefix,
+    /// The text ends with it.
+    Suffix,
+    /// The text has it in it.
+    Contains,
 }
 
 /// A test of a text.
 #[derive(Debug, Drop)]
 pub struct TextMatcher {
     pattern: Pattern,
+    sought: String,
     ignore_case: bool,
+}
+
+impl Model for TextMatcher {
+    ghost use Rattle.std.specs.String.{string_bytes};
+    ghost use Rattle.rbac_match.specs.Text.{TextTest, IsFilled};
+
+    ghost Value = { TextTest };
+
+    ghost view = { λ m. record {
+      pattern = m.pattern;
+      sought = string_bytes m.sought;
+      ignore_case = m.ignore_case;
+    } };
+
+    ghost invariant = { λ m. IsFilled m.pattern (string_bytes m.sought) };
 }
 
 const EXACT: u32 = 1;
@@ -40,149 +60,161 @@ const PREFIX: u32 = 2;
 
 const SUFFIX: u32 = 3;
 
+const SAFE_REGEX: u32 = 5;
+
 const IGNORE_CASE: u32 = 6;
 
 const CONTAINS: u32 = 7;
 
-static STRING: [Key; 6] = keys![Text 1, Text 2, Text 3, Text 5, Varint 6, Text 7];
+static MEMBERS: [Key; 5] = keys![Len EXACT, Len PREFIX, Len SUFFIX, Len SAFE_REGEX, Len CONTAINS];
 
-static PATTERN: [Key; 5] = keys![Text 1, Text 2, Text 3, Text 5, Text 7];
-
-/// Reads a StringMatcher, which stands in the parts: `Missing` without a member, `BadText` where its text is not UTF-8,
-/// `OutOfRange` where a prefix, a suffix or a contained text is empty, `Unsupported` where it is a regular expression.
-pub fn read_text_matcher(alloc: Global, parts: &[&[u8]]) -> Result<TextMatcher, Refusal>
-    ensures found { IfOk result (λ m. IsTextMatcher (texts parts.now) (text_view m)) }
-    ensures fault { IfErr result (λ e. (e ≡ Memory) ⊎ TextFault (texts parts.now) e) }
-{
-    let fields = read_message(alloc, parts, string_keys())?;
-    let Some(member) = last_member(&fields, pattern_keys()) else {
-        return Err(Refusal::Missing);
-    };
-    let pattern = read_pattern(alloc, &member)?;
-    Ok(TextMatcher {
-        pattern,
-        ignore_case: bool_of(&fields, IGNORE_CASE),
-    })
-}
+static FIELDS: [Key; 6] = keys![
+    Varint IGNORE_CASE, Len EXACT, Len PREFIX, Len SUFFIX, Len SAFE_REGEX, Len CONTAINS
+];
 
 impl TextMatcher {
-    /// The test by this pattern, in which the case of letters counts.
-    pub fn of(pattern: Pattern) -> TextMatcher
-        ensures { text_view result ≡ record { pattern = pattern_view pattern; ignore_case = false } }
+    /// The test by this pattern, for a text that may be sought so.
+    pub(crate) fn new(
+        alloc: Global,
+        pattern: Pattern,
+        sought: &str,
+        ignore_case: bool,
+    ) -> Result<TextMatcher, AllocError>
+        requires { IsSought pattern sought.now }
+        ensures { IfOk result (λ m. m
+            ≡ record { pattern = pattern; sought = sought.now; ignore_case = ignore_case }) }
     {
-        TextMatcher {
+        Ok(TextMatcher {
             pattern,
-            ignore_case: false,
-        }
+            sought: String::from_str(alloc, sought)?,
+            ignore_case,
+        })
     }
 
     /// Whether the text passes the test. It takes no memory.
-    pub fn matches(&self, text: &str) -> bool
-        ensures { result ≡ text_holds (text_view self.now) text.now }
+    pub(crate) fn matches(&self, text: &str) -> bool
+        ensures { result ≡ text_holds self.now text.now }
     {
-        let bytes = text.as_bytes();
+        let sought = self.sought.as_bytes();
         if self.ignore_case {
-            holds_in_any_case(&self.pattern, bytes)
+            holds_ignore_case(self.pattern, sought, text.as_bytes())
         } else {
-            holds(&self.pattern, bytes)
+            holds(self.pattern, sought, text.as_bytes())
         }
     }
 }
 
-/// A text that a field of a message holds.
-pub fn read_text(alloc: Global, bytes: &[u8]) -> Result<String, Refusal>
-    ensures found { IfOk result (λ s. (string_bytes s ≡ bytes.now) × IsUtf8 bytes.now) }
-    ensures fault { IfErr result (λ e. (e ≡ Memory) ⊎ ((e ≡ BadText) × ¬ (IsUtf8 bytes.now))) }
+/// Reads a StringMatcher, which stands in the parts: `Missing` without a member, `BadText` where its text is not UTF-8,
+/// `OutOfRange` where a prefix, a suffix or a contained text is empty, `Unsupported` where it is a regular expression.
+pub(crate) fn read_text_matcher(alloc: Global, parts: &[&[u8]]) -> Result<TextMatcher, Refusal>
+    ensures found { IfOk result (λ m. IsTextMatcher (parts_view parts.now) m) }
+    ensures fault { IfErr result (MemoryOr (TextFault (parts_view parts.now))) }
 {
+    let fields = read_message(alloc, parts, string_keys())?;
+    let (pattern, sought) = last_pattern(&fields)?;
+    let ignore_case = bool_at(&fields, IGNORE_CASE);
+    Ok(TextMatcher::new(alloc, pattern, sought, ignore_case)?)
+}
+
+/// The pattern and the text of the last member.
+fn last_pattern<'a>(fields: &[Field<'a>]) -> Result<(Pattern, &'a str), Refusal>
+    ensures found { let fs = map field_view fields.now in IfOk result (λ p.
+        MatchOption (last_number (keys_of string_members) fs) ⊥ (λ n.
+        (member_in string_members n ≡ Some p.0) × (p.1.now ≡ bytes_at n fs) × IsSought p.0 p.1.now)) }
+    ensures fault { let fs = map field_view fields.now in IfErr result (λ e.
+        MatchOption (last_number (keys_of string_members) fs) (e ≡ Missing) (λ n.
+        SoughtFault (member_in string_members n) (bytes_at n fs) e)) }
+{
+    let Some(number) = last_number(fields, string_members()) else {
+        return Err(Refusal::Missing);
+    };
+    let Some(pattern) = pattern_at(number) else {
+        return Err(Refusal::Unsupported);
+    };
+    let sought = sought_text(pattern, bytes_at(fields, number))?;
+    Ok((pattern, sought))
+}
+
+/// The pattern that the member of this number is; `None` for a regular expression.
+fn pattern_at(number: u32) -> Option<Pattern>
+    ensures { result ≡ member_in string_members number }
+{
+    match number {
+        EXACT => Some(Pattern::Exact),
+        PREFIX => Some(Pattern::Prefix),
+        SUFFIX => Some(Pattern::Suffix),
+        CONTAINS => Some(Pattern::Contains),
+        _ => None,
+    }
+}
+
+/// The bytes as a text that may be sought so: `BadText` where they are not UTF-8, `OutOfRange` where the text is empty
+/// and must not be.
+pub(crate) fn sought_text(pattern: Pattern, bytes: &[u8]) -> Result<&str, Refusal>
+    ensures found { IfOk result (λ sought. (sought.now ≡ bytes.now) × IsSought pattern bytes.now) }
+    ensures fault { IfErr result (SoughtFault (Some pattern) bytes.now) }
+{
+    if bytes.is_empty() && pattern != Pattern::Exact {
+        return Err(Refusal::OutOfRange);
+    }
     match str::from_utf8(bytes) {
-        Ok(text) => Ok(String::from_str(alloc, text)?),
+        Ok(sought) => Ok(sought),
         Err(_) => Err(Refusal::BadText),
     }
 }
 
-/// A text that must not be empty.
-pub fn read_filled(alloc: Global, bytes: &[u8]) -> Result<String, Refusal>
-    ensures found { IfOk result (λ s. (string_bytes s ≡ bytes.now) × IsUtf8 bytes.now × (bytes.now ≢ [])) }
-    ensures fault { IfErr result (λ e. (e ≡ Memory) ⊎ ((e ≡ BadText) × ¬ (IsUtf8 bytes.now))
-        ⊎ ((e ≡ OutOfRange) × (bytes.now ≡ []))) }
+fn string_members() -> &'static [Key]
+    ensures { result.now ≡ keys_of string_members }
 {
-    if bytes.is_empty() {
-        return Err(Refusal::OutOfRange);
-    }
-    read_text(alloc, bytes)
+    &MEMBERS
 }
 
 fn string_keys() -> &'static [Key]
     ensures { result.now ≡ string_keys }
 {
-    &STRING
+    &FIELDS
 }
 
-fn pattern_keys() -> &'static [Key]
-    ensures { result.now ≡ pattern_keys }
-{
-    &PATTERN
-}
-
-// The pattern that the member says.
-fn read_pattern(alloc: Global, member: &Field<'_>) -> Result<Pattern, Refusal>
-    ensures found { IfOk result (λ p. (view member.now ≡ pattern_field (pattern_view p))
-        × IsUtf8 (text_of (pattern_view p)) × IsFilled (pattern_view p)) }
-    ensures fault { IsTrue (is_known pattern_keys (view member.now))
-        → IfErr result (λ e. (e ≡ Memory) ⊎ PatternFault (view member.now) e) }
-{
-    let Content::Text(bytes) = member.content else {
-        return Err(Refusal::Unsupported);
-    };
-    match member.number {
-        EXACT => Ok(Pattern::Exact(read_text(alloc, bytes)?)),
-        PREFIX => Ok(Pattern::Prefix(read_filled(alloc, bytes)?)),
-        SUFFIX => Ok(Pattern::Suffix(read_filled(alloc, bytes)?)),
-        CONTAINS => Ok(Pattern::Contains(read_filled(alloc, bytes)?)),
-        _ => Err(Refusal::Unsupported),
-    }
-}
-
-fn holds(pattern: &Pattern, text: &[u8]) -> bool
-    ensures { result ≡ pattern_holds false (pattern_view pattern.now) text.now }
+fn holds(pattern: Pattern, sought: &[u8], text: &[u8]) -> bool
+    ensures { result ≡ pattern_holds pattern sought.now text.now }
 {
     match pattern {
-        Pattern::Exact(whole) => text == whole.as_bytes(),
-        Pattern::Prefix(start) => text.starts_with(start.as_bytes()),
-        Pattern::Suffix(end) => text.ends_with(end.as_bytes()),
-        Pattern::Contains(part) => memmem::find(text, part.as_bytes()).is_some(),
+        Pattern::Exact => text == sought,
+        Pattern::Prefix => text.starts_with(sought),
+        Pattern::Suffix => text.ends_with(sought),
+        Pattern::Contains => memmem::find(text, sought).is_some(),
     }
 }
 
-fn holds_in_any_case(pattern: &Pattern, text: &[u8]) -> bool
-    ensures { result ≡ pattern_holds true (pattern_view pattern.now) text.now }
+fn holds_ignore_case(pattern: Pattern, sought: &[u8], text: &[u8]) -> bool
+    ensures { result ≡ pattern_holds pattern (str_to_ascii_lowercase sought.now) (str_to_ascii_lowercase text.now) }
 {
     match pattern {
-        Pattern::Exact(whole) => text.eq_ignore_ascii_case(whole.as_bytes()),
-        Pattern::Prefix(start) => starts_in_any_case(text, start.as_bytes()),
-        Pattern::Suffix(end) => ends_in_any_case(text, end.as_bytes()),
-        Pattern::Contains(part) => has_in_any_case(text, part.as_bytes()),
+        Pattern::Exact => text.eq_ignore_ascii_case(sought),
+        Pattern::Prefix => starts_with_ignore_case(text, sought),
+        Pattern::Suffix => ends_with_ignore_case(text, sought),
+        Pattern::Contains => contains_ignore_case(text, sought),
     }
 }
 
-fn starts_in_any_case(text: &[u8], start: &[u8]) -> bool
+fn starts_with_ignore_case(text: &[u8], start: &[u8]) -> bool
     ensures { result ≡ starts_with nat_eq (str_to_ascii_lowercase text.now) (str_to_ascii_lowercase start.now) }
 {
     start.len() <= text.len() && text[..start.len()].eq_ignore_ascii_case(start)
 }
 
-fn ends_in_any_case(text: &[u8], end: &[u8]) -> bool
+fn ends_with_ignore_case(text: &[u8], end: &[u8]) -> bool
     ensures { result ≡ ends_with nat_eq (str_to_ascii_lowercase text.now) (str_to_ascii_lowercase end.now) }
 {
     end.len() <= text.len() && text[text.len() - end.len()..].eq_ignore_ascii_case(end)
 }
 
-fn has_in_any_case(text: &[u8], part: &[u8]) -> bool
-    ensures { result ≡ stands_in (str_to_ascii_lowercase text.now) (str_to_ascii_lowercase part.now) }
+fn contains_ignore_case(text: &[u8], part: &[u8]) -> bool
+    ensures { result ≡ is_substring (str_to_ascii_lowercase part.now) (str_to_ascii_lowercase text.now) }
 {
     let mut rest = text;
     loop {
-        if starts_in_any_case(rest, part) {
+        if starts_with_ignore_case(rest, part) {
             return true;
         }
         match rest.split_first() {

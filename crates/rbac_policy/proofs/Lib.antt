@@ -1,8 +1,5 @@
-pub mod Order
-pub mod HeldPolicies
-pub mod Settled
+pub mod Totality
 pub mod Texts
-pub mod Maps
 pub mod First
-pub mod Read
-pub mod OneFilter
+pub mod Uniqueness
+pub mod OneVerdict

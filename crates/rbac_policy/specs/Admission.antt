@@ -15,6 +15,6 @@ Admits bytes limits budget filter = IsFilter bytes filter
 abbrev pub Admissible : List ℕ → LimitsValue → ℕ → Type 0
 Admissible bytes limits budget = (filter : Filter) × Admits bytes limits budget filter
 
--- the fault of this refusal stands in the bytes
-abbrev pub Fault : Refusal → List ℕ → LimitsValue → ℕ → Type 0
-Fault e bytes limits budget = FilterFault bytes e
+-- the fault of this refusal stands in the bytes, for requests within these limits and this budget
+pub data Fault (e : Refusal) (bytes : List ℕ) (limits : LimitsValue) (budget : ℕ) : Type 0 where
+  in_message : FilterFault bytes e → Fault e bytes limits budget

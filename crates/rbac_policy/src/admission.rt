@@ -1,77 +1,110 @@
 //! Admission: from the bytes of a filter's message to the filter, or to why it is refused.
 
-ghost use Rattle.std.specs.Prelude.{◌≡◌, ◌⊎◌, ◌<◌, List, IfOk, IfErr, MatchResult, map};
-ghost use Rattle.proto_wire.specs.Fields.{Wire, view};
-ghost use Rattle.proto_wire.specs.Messages.{texts};
-ghost use Rattle.proto_wire.specs.declared.refusal.Refusal.TheVariants.{Memory, OutOfRange};
-ghost use Rattle.rbac_policy.specs.Message.{AreFilterRules, action_in, action_number};
-ghost use Rattle.rbac_policy.specs.Fault.{RulesFault};
+ghost use Rattle.std.specs.Prelude.{◌≡◌, ◌≢◌, ◌<◌, ◌≤◌, [], IfOk, IfErr, OnOk, MatchResult, map};
+ghost use Rattle.proto_wire.specs.Fields.{field_view};
+ghost use Rattle.proto_wire.specs.Refusal.{MemoryOr};
+ghost use Rattle.proto_wire.specs.Values.{payloads};
+ghost use Rattle.proto_wire.specs.declared.refusal.Refusal.TheVariants.{Missing, OutOfRange, TooLarge, Unsupported};
+ghost use Rattle.rbac_policy.specs.Keys.{audit_logging_options_field, rules_field};
+ghost use Rattle.rbac_policy.specs.Message.{AreFilterRules, IsFilter, action_in, action_number, most_policies};
+ghost use Rattle.rbac_policy.specs.Fault.{FilterFault, RulesFault};
 ghost use Rattle.rbac_policy.specs.Admission.{Admits, Fault};
-ghost use Rattle.rbac_policy.specs.Admitted.{filter_of};
+ghost use Rattle.rbac_policy.specs.Admitted.{filter_view, limits_view, rules_view};
 
-use crate::entries::read_entries;
-use crate::filter::{Action, Admitted};
-use crate::keys::{filter_keys, rules_keys};
-use crate::policy::{has_text, read_policies};
+use crate::filter::{Action, Admitted, FilterRules};
+use crate::keys::{filter_keys, has_payload, rules_keys};
+use crate::numbers::{ACTION, AUDIT_LOGGING_OPTIONS, POLICIES, RULES};
+use crate::policy::read_policies;
 use attributes::Limits;
-use proto_wire::{Field, Refusal, payloads_of, read_message, uint32_of};
+use proto_wire::{Field, Refusal, payloads_of, read_entries, read_message, uint32_at};
 use std::alloc::Global;
 
 /// How many policies a filter may have.
 pub const MOST_POLICIES: usize = 256;
 
-const RULES: u32 = 1;
-
-const ACTION: u32 = 1;
-
-const POLICIES: u32 = 2;
-
-const AUDIT_LOGGING: u32 = 3;
-
 /// Reads the message of an HTTP RBAC filter (`envoy.extensions.filters.http.rbac.v3.RBAC`), for requests within the
-/// limits and with a budget of steps for its conditions. It is taken whole or refused whole, for a fault that is there.
+/// limits and with a budget of steps for its conditions. It is taken whole or refused whole, for a fault that is there:
+/// `BadWire`, `BadText`, `UnknownField`, `Missing`, `OutOfRange`, `Unsupported` or `TooLarge`; or for want of memory.
 pub fn admit(
     alloc: Global,
     bytes: &[u8],
-    _limits: &Limits,
+    limits: &Limits,
     _budget: u64,
 ) -> Result<Admitted, Refusal>
-    ensures admits { IfOk result (λ a. Admits bytes.now _limits.now _budget (filter_of a)) }
-    ensures fault { IfErr result (λ e. (e ≡ Memory) ⊎ Fault e bytes.now _limits.now _budget) }
+    ensures found { IfOk result (λ a. Admits bytes.now limits.now _budget (filter_view a)) }
+    ensures limits { IfOk result (λ a. limits_view a ≡ limits.now) }
+    ensures fault { IfErr result (MemoryOr (λ e. Fault e bytes.now limits.now _budget)) }
+{
+    let rules = read_filter(alloc, bytes)?;
+    Ok(Admitted::new(rules, *limits))
+}
+
+/// Reads the filter's message.
+fn read_filter(alloc: Global, bytes: &[u8]) -> Result<FilterRules, Refusal>
+    ensures found { IfOk result (λ rules. IsFilter bytes.now (rules_view rules)) }
+    ensures fault { IfErr result (MemoryOr (FilterFault bytes.now)) }
 {
     let top = read_message(alloc, &[bytes], filter_keys())?;
+    require_rules(&top)?;
     let parts = payloads_of(alloc, &top, RULES)?;
-    if parts.is_empty() {
+    let fields = read_message(alloc, &parts, rules_keys())?;
+    read_rules(alloc, &fields)
+}
+
+/// Refuses a filter without rules.
+fn require_rules(top: &[Field<'_>]) -> Result<(), Refusal>
+    ensures found { OnOk result (payloads rules_field (map field_view top.now) ≢ []) }
+    ensures fault { IfErr result (λ e. (e ≡ Missing) × (payloads rules_field (map field_view top.now) ≡ [])) }
+{
+    if !has_payload(top, RULES) {
         return Err(Refusal::Missing);
     }
-    let fields = read_message(alloc, &parts, rules_keys())?;
-    admit_rules(alloc, &fields)
+    Ok(())
 }
 
 /// Reads the filter's rules from their fields, all of which are known.
-fn admit_rules(alloc: Global, fields: &[Field<'_>]) -> Result<Admitted, Refusal>
-    ensures admits { IfOk result (λ a. AreFilterRules (map view fields.now) (filter_of a)) }
-    ensures fault { IfErr result (λ e. (e ≡ Memory) ⊎ RulesFault (map view fields.now) e) }
+fn read_rules(alloc: Global, fields: &[Field<'_>]) -> Result<FilterRules, Refusal>
+    ensures found { IfOk result (λ rules. AreFilterRules (map field_view fields.now) (rules_view rules)) }
+    ensures fault { IfErr result (MemoryOr (RulesFault (map field_view fields.now))) }
 {
-    if has_text(fields, AUDIT_LOGGING) {
-        return Err(Refusal::Unsupported);
-    }
+    refuse_audit_options(fields)?;
     let action = read_action(fields)?;
     let entries = payloads_of(alloc, fields, POLICIES)?;
     let named = read_entries(alloc, &entries)?;
-    if named.len() > MOST_POLICIES {
+    refuse_many(named.len())?;
+    let policies = read_policies(alloc, &named)?;
+    Ok(FilterRules::new(action, policies))
+}
+
+/// Refuses rules with options of an audit log.
+fn refuse_audit_options(fields: &[Field<'_>]) -> Result<(), Refusal>
+    ensures found { OnOk result (payloads audit_logging_options_field (map field_view fields.now) ≡ []) }
+    ensures fault { IfErr result (λ e. (e ≡ Unsupported)
+        × (payloads audit_logging_options_field (map field_view fields.now) ≢ [])) }
+{
+    if has_payload(fields, AUDIT_LOGGING_OPTIONS) {
+        return Err(Refusal::Unsupported);
+    }
+    Ok(())
+}
+
+/// Refuses more policies than a filter may have.
+fn refuse_many(count: usize) -> Result<(), Refusal>
+    ensures found { OnOk result (count ≤ most_policies) }
+    ensures fault { IfErr result (λ e. (e ≡ TooLarge) × (most_policies < count)) }
+{
+    if count > MOST_POLICIES {
         return Err(Refusal::TooLarge);
     }
-    let policies = read_policies(alloc, &named)?;
-    Ok(Admitted::new(action, policies))
+    Ok(())
 }
 
 /// The action: an enum keeps the low 32 bits of its number, and is 0 where it is absent.
 fn read_action(fields: &[Field<'_>]) -> Result<Action, Refusal>
-    ensures { MatchResult result (λ action. action_in (map view fields.now) ≡ action_number action)
-        (λ e. (e ≡ OutOfRange) × (2 < action_in (map view fields.now))) }
+    ensures { MatchResult result (λ action. action_in (map field_view fields.now) ≡ action_number action)
+        (λ e. (e ≡ OutOfRange) × (2 < action_in (map field_view fields.now))) }
 {
-    match uint32_of(fields, ACTION) {
+    match uint32_at(fields, ACTION) {
         0 => Ok(Action::Allow),
         1 => Ok(Action::Deny),
         2 => Ok(Action::Log),

@@ -1,21 +1,28 @@
 //! Decisions of an admitted filter.
 
-ghost use Rattle.std.specs.Prelude.{◌≡◌, IsOkAnd};
+ghost use Rattle.std.specs.Prelude.{◌≡◌, ◌⊎◌, Bool, IfErr, IfOk, IsOk};
 ghost use Rattle.std.specs.List.{position_from};
-ghost use Rattle.rbac_policy.specs.Admitted.{filter_of};
-ghost use Rattle.rbac_policy.specs.Verdict.{IsVerdict, policy_matches};
+ghost use Rattle.rbac_policy.specs.Admitted.{filter_view};
+ghost use Rattle.rbac_policy.specs.Filter.{Condition};
+ghost use Rattle.rbac_policy.specs.Verdict.{IsUnconditional, IsVerdict, RunsOut, sides_match};
 ghost use Rattle.rbac_policy.specs.Named.{policy_view};
 
 use crate::filter::{Admitted, Verdict};
 use crate::policy::NamedPolicy;
 use attributes::Request;
-use rbac_match::some_matches;
+use rbac_match::any_matches;
 use stack_machine::RunError;
 
 impl Admitted {
-    /// What the filter answers the request. It takes no memory, and is always `Ok` while filters have no conditions.
+    /// What the filter answers the request. A filter without conditions always answers, and takes no memory. With
+    /// conditions it may answer `Memory`, and `OutOfSteps` where one that it asks for takes more steps than it may.
     pub fn decide(&self, request: &Request) -> Result<Verdict, RunError>
-        ensures { IsOkAnd result (λ v. IsVerdict request.now (filter_of self.now) v.allowed v.matched) }
+        ensures found { IfOk result (λ v. (is_met : Condition → Bool)
+            → IsVerdict is_met request.now (filter_view self.now) v.allowed v.matched) }
+        ensures always { IsUnconditional (filter_view self.now) → IsOk result }
+        ensures fault { IfErr result (λ e. (e ≡ RunError.Memory)
+            ⊎ ((e ≡ RunError.OutOfSteps) × ((is_met is_too_long : Condition → Bool)
+            → RunsOut is_met is_too_long request.now (filter_view self.now)))) }
     {
         let matched = first_match(self.named_policies(), request);
         let allowed = self.action().allows(matched.is_some());
@@ -23,18 +30,18 @@ impl Admitted {
     }
 }
 
-/// The first of the policies that matches the request.
+/// The first of the policies that matches the request; none of them has a condition.
 fn first_match(policies: &[NamedPolicy], request: &Request) -> Option<usize>
-    ensures { result ≡ position_from (λ p. policy_matches request.now (policy_view p)) 0 policies.now }
+    ensures { result ≡ position_from (λ p. sides_match request.now (policy_view p)) 0 policies.now }
 {
     policies
         .iter()
-        .position(|policy| policy_matches(policy, request))
+        .position(|policy| sides_match(policy, request))
 }
 
 /// Whether some permission and some principal of the policy match the request.
-fn policy_matches(policy: &NamedPolicy, request: &Request) -> bool
-    ensures { result ≡ policy_matches request.now (policy_view policy.now) }
+fn sides_match(policy: &NamedPolicy, request: &Request) -> bool
+    ensures { result ≡ sides_match request.now (policy_view policy.now) }
 {
-    some_matches(&policy.permissions, request) && some_matches(&policy.principals, request)
+    any_matches(&policy.permissions, request) && any_matches(&policy.principals, request)
 }

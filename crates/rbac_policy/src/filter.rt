@@ -2,10 +2,11 @@
 
 ghost use Rattle.std.specs.Prelude.{IsTrue};
 ghost use Rattle.std.specs.FinMap.{is_sorted};
-ghost use Rattle.rbac_policy.specs.Filter.{name_cmp};
+ghost use Rattle.attributes.specs.Headers.{name_cmp};
 ghost use Rattle.rbac_policy.specs.Named.{named_views};
 
 use crate::policy::NamedPolicy;
+use attributes::Limits;
 
 /// What a filter does with a request that some policy matches.
 #[derive(Clone, Copy, PartialEq, Eq, Debug)]
@@ -43,49 +44,76 @@ pub struct Verdict {
     pub matched: Option<usize>,
 }
 
-/// A filter that was admitted: its policies stand in ascending order of their names, each name once.
+/// What a filter enforces: its policies stand in ascending order of their names, each name once.
 #[derive(Debug, Drop)]
-pub struct Admitted {
+pub(crate) struct FilterRules {
     action: Action,
     policies: Vec<NamedPolicy>,
     ghost ordered: { IsTrue (is_sorted name_cmp (named_views policies.items)) },
 }
 
+impl FilterRules {
+    ghost use Rattle.std.specs.Prelude.{◌≡◌};
+    ghost use Rattle.rbac_policy.specs.Admitted.{rules_view, filter_of_parts};
+
+    /// The rules of an action and policies, which stand in ascending order of their names.
+    pub(crate) fn new(action: Action, policies: Vec<NamedPolicy>) -> FilterRules
+        requires { IsTrue (is_sorted name_cmp (named_views policies.items)) }
+        ensures { rules_view result ≡ filter_of_parts action policies.items }
+    {
+        FilterRules { action, policies }
+    }
+}
+
+/// A filter that was admitted, with the limits of the requests for which it was.
+#[derive(Debug, Drop)]
+pub struct Admitted {
+    rules: FilterRules,
+    limits: Limits,
+}
+
 impl Admitted {
     ghost use Rattle.std.specs.Prelude.{◌≡◌};
     ghost use Rattle.std.specs.FinMap.{len};
-    ghost use Rattle.rbac_policy.specs.Admitted.{filter_of, of_parts};
+    ghost use Rattle.rbac_policy.specs.Admitted.{rules_view, filter_view, limits_view};
 
-    /// A filter of an action and policies, which stand in ascending order of their names.
-    pub(crate) fn new(action: Action, policies: Vec<NamedPolicy>) -> Admitted
-        requires { IsTrue (is_sorted name_cmp (named_views policies.items)) }
-        ensures { filter_of result ≡ of_parts action policies.items }
+    /// The filter of these rules, for requests within the limits.
+    pub(crate) fn new(rules: FilterRules, limits: Limits) -> Admitted
+        ensures filter { filter_view result ≡ rules_view rules }
+        ensures limits { limits_view result ≡ limits }
     {
-        Admitted { action, policies }
+        Admitted { rules, limits }
     }
 
     /// What the filter does with a request that some policy matches.
     pub(crate) fn action(&self) -> Action
-        ensures { result ≡ self.now.action }
+        ensures { result ≡ self.now.rules.action }
     {
-        self.action
+        self.rules.action
     }
 
     /// The policies in ascending order of their names.
     pub(crate) fn named_policies(&self) -> &[NamedPolicy]
-        ensures { result.now ≡ self.now.policies.items }
+        ensures { result.now ≡ self.now.rules.policies.items }
     {
-        &self.policies
+        &self.rules.policies
+    }
+
+    /// The limits of the requests for which it was admitted.
+    pub fn limits(&self) -> &Limits
+        ensures { result.now ≡ limits_view self.now }
+    {
+        &self.limits
     }
 
     /// The number of policies.
     pub fn policies(&self) -> usize
-        ensures { result ≡ len (filter_of self.now).policies }
+        ensures { result ≡ len (filter_view self.now).policies }
     {
-        self.policies.len()
+        self.rules.policies.len()
     }
 
-    /// How many steps its conditions take at most: none, while filters have no conditions.
+    /// How many steps its conditions take at most, together: none, while filters have no conditions.
     pub fn bound(&self) -> u64
         ensures { result ≡ 0 }
     {

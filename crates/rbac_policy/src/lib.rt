@@ -3,10 +3,10 @@
 
 mod admission;
 mod decide;
-mod entries;
 mod filter;
 mod keys;
 pub mod laws;
+mod numbers;
 mod policy;
 
 pub use admission::{MOST_POLICIES, admit};

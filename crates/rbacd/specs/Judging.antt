@@ -1,15 +1,18 @@
 -- Which outcome one head has under one policy file.
-use Rattle.std.specs.Prelude.{◌≡◌, ◌⊎◌, ⊤, true, false, ℕ, suc, List, codes, take}
+use Rattle.std.specs.Prelude.{◌≡◌, ◌⊎◌, ⊤, true, false, ℕ, suc, Bool, List, Option, codes, take}
 use Rattle.attributes.specs.Conn.{Facts, only_scheme}
 use Rattle.attributes.specs.Limits.{largest}
 use Rattle.attributes.specs.Request.{RequestValue}
+use Rattle.http_front.specs.declared.fault.HeadFault.{HeadFault}
+use Rattle.http_front.specs.declared.fault.HeadFault.TheVariants.{BadRequest}
+use Rattle.http_front.specs.Asks.{Asks, HasFault, IsUnfinished}
+use Rattle.http_front.specs.Head.{head_room}
 use Rattle.proto_wire.specs.declared.refusal.Refusal.TheVariants.{Memory}
 use Rattle.rbac_policy.specs.Admission.{Admissible, Admits, Fault}
-use Rattle.rbac_policy.specs.Filter.{Filter}
-use Rattle.rbac_policy.specs.Verdict.{IsVerdict}
+use Rattle.rbac_policy.specs.Filter.{Condition, Filter}
+use Rattle.rbac_policy.specs.Verdict.{IsVerdict, RunsOut}
 use Rattle.rbacd.specs.declared.outcome.Outcome.{Outcome}
 use Rattle.rbacd.specs.declared.outcome.Outcome.TheVariants as outcomes
-use Rattle.rbacd.specs.Head.{Asks, HasFault, head_room}
 
 -- a connection of which nothing but the scheme `http` is known
 abbrev pub plain_facts : Facts
@@ -27,22 +30,33 @@ pub record IsJudged (policy : List ℕ) (budget : ℕ) (facts : Facts) (bytes : 
   pub request : RequestValue
   pub asks : Asks bytes largest facts request
 
--- a condition of the filter runs out of its steps at the request: a filter has no conditions
-abbrev pub RunsOut : Filter → RequestValue → Type 0
-RunsOut filter request = ⊥
+-- the bytes, which are all that comes on a connection of these facts, ask for nothing, for this fault
+pub data InputFault (facts : Facts) (bytes : List ℕ) (fault : HeadFault) : Type 0 where
+  present : HasFault bytes largest facts fault → InputFault facts bytes fault
+  unfinished : IsUnfinished bytes → fault ≡ BadRequest → InputFault facts bytes fault
+
+-- the filter gives the request this verdict, whatever its conditions answer: it has none
+abbrev pub Decides : Filter → RequestValue → Bool → Option ℕ → Type 0
+Decides filter request allowed matched =
+    (is_met : Condition → Bool) → IsVerdict is_met request filter allowed matched
+
+-- a condition that the verdict asks for takes more steps than it may
+abbrev pub TakesTooLong : Filter → RequestValue → Type 0
+TakesTooLong filter request =
+    (is_met is_too_long : Condition → Bool) → RunsOut is_met is_too_long request filter
 
 -- the outcome is what the policy, the facts and the bytes give
 abbrev pub IsOutcomeOf : List ℕ → ℕ → Facts → List ℕ → Outcome → Type 0
 IsOutcomeOf policy budget facts bytes (outcomes.Allowed matched) =
-    (judged : IsJudged policy budget facts bytes) × IsVerdict judged.request judged.filter true matched
+    (judged : IsJudged policy budget facts bytes) × Decides judged.filter judged.request true matched
 IsOutcomeOf policy budget facts bytes (outcomes.Denied matched) =
-    (judged : IsJudged policy budget facts bytes) × IsVerdict judged.request judged.filter false matched
+    (judged : IsJudged policy budget facts bytes) × Decides judged.filter judged.request false matched
 IsOutcomeOf policy budget facts bytes outcomes.OutOfSteps =
-    (judged : IsJudged policy budget facts bytes) × RunsOut judged.filter judged.request
+    (judged : IsJudged policy budget facts bytes) × TakesTooLong judged.filter judged.request
 IsOutcomeOf policy budget facts bytes (outcomes.Refused reason) =
     (reason ≡ Memory) ⊎ Fault reason policy largest budget
 IsOutcomeOf policy budget facts bytes (outcomes.Fault fault) =
-    Admissible policy largest budget × HasFault bytes largest facts fault
+    Admissible policy largest budget × InputFault facts bytes fault
 IsOutcomeOf policy budget facts bytes outcomes.Memory = ⊤
 
 -- the outcome is what each policy that is admitted as this filter gives with the facts and the bytes

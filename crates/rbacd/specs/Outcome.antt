@@ -1,11 +1,11 @@
 -- The line that an outcome prints, and its exit status.
 use Rattle.std.specs.Prelude.{ℕ, List, ◌++◌, Option, Some, None, codes}
 use Rattle.std.specs.Fmt.{decimal}
+use Rattle.http_front.specs.Head.{fault_text}
 use Rattle.proto_wire.specs.Refusal as refusal
 use Rattle.proto_wire.specs.declared.refusal.Refusal.{Refusal}
 use Rattle.rbacd.specs.declared.outcome.Outcome.{Outcome}
 use Rattle.rbacd.specs.declared.outcome.Outcome.TheVariants as outcomes
-use Rattle.rbacd.specs.Head.{fault_text}
 
 -- the number of the policy that matched, or `-`
 abbrev pub matched_text : Option ℕ → List ℕ

@@ -2,8 +2,8 @@
 ghost use Rattle.std.specs.Prelude.{◌≡◌, ◌⊎◌, ◌↔◌, ◌++◌, ◌∷◌, [], ℕ, Bool, List, Option, IsTrue, IfOk, IfErr, IfNone, IfSome, OnSome, codes};
 ghost use Rattle.std.specs.Io.KnownBytes.{Appends};
 ghost use Rattle.std.specs.IoError.{error_kind};
-ghost use Rattle.std.specs.String.{string_bytes};
-ghost use Rattle.attributes.specs.Conn.{Facts, facts_of, text_of};
+ghost use Rattle.std.specs.Rc.{rc_str_bytes};
+ghost use Rattle.attributes.specs.Conn.{Facts, conn_view, text_view};
 ghost use Rattle.attributes.specs.Limits.{FactsInLimits, largest};
 ghost use Rattle.attributes.specs.declared.address.Ip.{Ip};
 ghost use Rattle.serde_json.specs.Find.{get};
@@ -17,6 +17,7 @@ use std::alloc::{AllocError, Global};
 use std::error::Error;
 use std::fmt;
 use std::io::{self, ErrorKind, Write};
+use std::rc::RcStr;
 
 #[cfg(test)]
 mod tests;
@@ -78,7 +79,7 @@ impl From<serde_json::Error> for FactsFault {
 /// connection's number an integer below 2^64, and `connection.mtls` is `true` or `false`. Each may be
 /// absent, and `request.scheme` is then `http`. Of two members of one name the last counts.
 pub fn read_facts(alloc: Global, text: &[u8]) -> Result<Conn, FactsFault>
-    ensures found { IfOk result (λ conn. IsFactsText text.now (facts_of conn)) }
+    ensures found { IfOk result (λ conn. IsFactsText text.now (conn_view conn)) }
     ensures fault { IfErr result (λ e. e ≡ Bad → (f : Facts) → ¬ IsFactsText text.now f) }
 {
     let value = Value::from_slice(alloc, text)?;
@@ -88,8 +89,8 @@ pub fn read_facts(alloc: Global, text: &[u8]) -> Result<Conn, FactsFault>
 /// The connection that the text of a facts file tells of. Where it tells of none within the limits,
 /// `errors` is told so and there is none.
 pub fn read_conn<W: Write>(alloc: Global, text: &[u8], errors: &mut W) -> io::Result<Option<Conn>>
-    ensures found { IfOk result (λ told. IfSome told (λ conn. IsFactsText text.now (facts_of conn)
-        × FactsInLimits (facts_of conn) largest)) }
+    ensures found { IfOk result (λ told. IfSome told (λ conn. IsFactsText text.now (conn_view conn)
+        × FactsInLimits (conn_view conn) largest)) }
     ensures none { IfOk result (λ told. IfNone told (TellsNone text.now)) }
     ensures told { IfOk result (λ told. IfNone told (Appends (W.contents errors.old)
         (W.contents errors.new) (codes "bad facts" ++ 10 ∷ []))) }
@@ -108,8 +109,8 @@ pub fn read_conn<W: Write>(alloc: Global, text: &[u8], errors: &mut W) -> io::Re
 
 // The facts that a text tells, as in `read_facts`, where they are within the limits.
 fn read_limited_facts(alloc: Global, text: &[u8]) -> Result<Conn, FactsFault>
-    ensures found { IfOk result (λ conn. IsFactsText text.now (facts_of conn)
-        × FactsInLimits (facts_of conn) largest) }
+    ensures found { IfOk result (λ conn. IsFactsText text.now (conn_view conn)
+        × FactsInLimits (conn_view conn) largest) }
     ensures fault { IfErr result (λ e. e ≡ Bad → TellsNone text.now) }
 {
     let conn = read_facts(alloc, text)?;
@@ -121,7 +122,7 @@ fn read_limited_facts(alloc: Global, text: &[u8]) -> Result<Conn, FactsFault>
 
 /// The facts that a JSON value tells, as in `read_facts`.
 pub fn conn_of(alloc: Global, value: &Value) -> Result<Conn, FactsFault>
-    ensures found { IfOk result (λ conn. AreFacts (view value.now) (facts_of conn)) }
+    ensures found { IfOk result (λ conn. AreFacts (view value.now) (conn_view conn)) }
     ensures fault { IfErr result (λ e. e ≡ Bad → (f : Facts) → ¬ AreFacts (view value.now) f) }
 {
     if !has_fact_names(value) {
@@ -185,9 +186,9 @@ fn is_fact_name(name: &str) -> bool
     )
 }
 
-fn text_at(alloc: Global, object: &Value, name: &str) -> Result<Option<String>, FactsFault>
+fn text_at(alloc: Global, object: &Value, name: &str) -> Result<Option<RcStr>, FactsFault>
     ensures found { IfOk result
-        (λ text. Tells IsText (get name.now (view object.now)) (text_of text)) }
+        (λ text. Tells IsText (get name.now (view object.now)) (text_view text)) }
     ensures fault { IfErr result (λ e. e ≡ Bad
         → (text : Option (List ℕ)) → ¬ Tells IsText (get name.now (view object.now)) text) }
 {
@@ -195,7 +196,7 @@ fn text_at(alloc: Global, object: &Value, name: &str) -> Result<Option<String>, 
         return Ok(None);
     };
     match value.as_str() {
-        Some(text) => Ok(Some(String::from_str(alloc, text)?)),
+        Some(text) => Ok(Some(RcStr::from_str(alloc, text)?)),
         None => Err(FactsFault::Bad),
     }
 }
@@ -254,13 +255,13 @@ fn address_at(object: &Value, name: &str) -> Result<Option<Ip>, FactsFault>
     }
 }
 
-fn scheme_of(alloc: Global, object: &Value) -> Result<String, FactsFault>
-    ensures found { IfOk result (λ scheme. IsScheme (view object.now) (string_bytes scheme)) }
+fn scheme_of(alloc: Global, object: &Value) -> Result<RcStr, FactsFault>
+    ensures found { IfOk result (λ scheme. IsScheme (view object.now) (rc_str_bytes scheme)) }
     ensures fault { IfErr result (λ e. e ≡ Bad
         → (scheme : List ℕ) → ¬ IsScheme (view object.now) scheme) }
 {
     match text_at(alloc, object, "request.scheme")? {
         Some(scheme) => Ok(scheme),
-        None => Ok(String::from_str(alloc, "http")?),
+        None => Ok(RcStr::from_str(alloc, "http")?),
     }
 }

@@ -2,20 +2,21 @@
 ghost use Rattle.std.specs.Prelude.{◌≡◌, ◌++◌, ℕ, List, ◌∷◌, [], IfErr, IfNone, IfOk, IfSome, OnErr, OnSome, codes};
 ghost use Rattle.std.specs.Io.KnownBytes.{Appends};
 ghost use Rattle.attributes.specs.Limits.{largest};
-ghost use Rattle.attributes.specs.Conn.{Facts, facts_of};
+ghost use Rattle.attributes.specs.Conn.{Facts, conn_view};
+ghost use Rattle.http_front.specs.Asks.{Asks};
 ghost use Rattle.rbacd.specs.Judging.{IsOutcomeOf, IsOutcomeUnder, first_bytes, plain_facts};
-ghost use Rattle.rbacd.specs.Head.{Asks};
-ghost use Rattle.rbac_policy.specs.Admitted.{filter_of};
+ghost use Rattle.rbac_policy.specs.Admitted.{filter_view};
 ghost use Rattle.rbacd.specs.Outcome.{text_of};
 
-use crate::head::{Ask, HEAD_ROOM, read_head};
 use crate::outcome::Outcome;
 use attributes::{Conn, Limits, Request};
+use http_front::{Ask, HEAD_ROOM, HeadFault, read_head};
 use rbac_policy::{Admitted, admit};
 use stack_machine::RunError;
 use std::alloc::{AllocError, Global};
 use std::fs;
 use std::io::{self, ErrorKind, Read, Write};
+use std::rc::RcStr;
 use std::rt::Files;
 
 /// The bytes of the file at this path. Where it cannot be read, `errors` is told so and there are none.
@@ -49,7 +50,7 @@ pub fn judge<R: Read + Drop, W: Write>(
     out: &mut W,
 ) -> io::Result<Outcome>
     ensures outcome { IfOk result (λ outcome. IfSome (R.remaining input) (λ bytes.
-        IsOutcomeOf policy.now budget (facts_of conn) bytes outcome)) }
+        IsOutcomeOf policy.now budget (conn_view conn) bytes outcome)) }
     ensures line { IfOk result (λ outcome. Appends (W.contents out.old) (W.contents out.new)
         (text_of outcome ++ 10 ∷ [])) }
 {
@@ -60,9 +61,9 @@ pub fn judge<R: Read + Drop, W: Write>(
 
 /// A connection of which nothing but the scheme `http` is known.
 pub fn plain_conn(alloc: Global) -> Result<Conn, AllocError>
-    ensures { IfOk result (λ conn. facts_of conn ≡ plain_facts) }
+    ensures { IfOk result (λ conn. conn_view conn ≡ plain_facts) }
 {
-    Ok(Conn::of_scheme(String::from_str(alloc, "http")?))
+    Ok(Conn::of_scheme(RcStr::from_str(alloc, "http")?))
 }
 
 fn outcome_of<R: Read + Drop>(
@@ -73,7 +74,7 @@ fn outcome_of<R: Read + Drop>(
     input: R,
 ) -> io::Result<Outcome>
     ensures { IfOk result (λ outcome. IfSome (R.remaining input) (λ bytes.
-        IsOutcomeOf policy.now budget (facts_of conn) bytes outcome)) }
+        IsOutcomeOf policy.now budget (conn_view conn) bytes outcome)) }
 {
     let limits = Limits::largest();
     match admit(alloc, policy, &limits, budget) {
@@ -105,7 +106,7 @@ fn head_outcome<R: Read + Drop>(
 ) -> io::Result<Outcome>
     requires { limits.now ≡ largest }
     ensures { IfOk result (λ outcome. IfSome (R.remaining input) (λ bytes.
-        IsOutcomeUnder (filter_of admitted.now) (facts_of conn) bytes outcome)) }
+        IsOutcomeUnder (filter_view admitted.now) (conn_view conn) bytes outcome)) }
 {
     let bytes = read_room(alloc, input)?;
     let outcome = judge_bytes(alloc, admitted, limits, conn, &bytes)?;
@@ -122,7 +123,7 @@ fn read_room<R: Read + Drop>(alloc: Global, input: R) -> io::Result<Vec<u8>>
     Ok(bytes)
 }
 
-/// The outcome of the head that the bytes begin with.
+/// The outcome of the head that the bytes begin with; there are no more.
 fn judge_bytes(
     alloc: Global,
     admitted: &Admitted,
@@ -131,18 +132,19 @@ fn judge_bytes(
     bytes: &[u8],
 ) -> Result<Outcome, AllocError>
     requires { limits.now ≡ largest }
-    ensures { IfOk result (IsOutcomeUnder (filter_of admitted.now) (facts_of conn) bytes.now) }
+    ensures { IfOk result (IsOutcomeUnder (filter_view admitted.now) (conn_view conn) bytes.now) }
 {
     match read_head(alloc, bytes, limits, conn)? {
-        Ask::Judge(request) => Ok(decided(admitted, &request)),
-        Ask::Fault(fault) => Ok(Outcome::Fault(fault)),
+        Some(Ask::Judge(request)) => Ok(decided(admitted, &request)),
+        Some(Ask::Fault(fault)) => Ok(Outcome::Fault(fault)),
+        None => Ok(Outcome::Fault(HeadFault::BadRequest)),
     }
 }
 
 /// The outcome of a request that some bytes ask for.
 fn decided(admitted: &Admitted, request: &Request) -> Outcome
     ensures { (facts : Facts) (bytes : List ℕ) → Asks bytes largest facts request.now
-        → IsOutcomeUnder (filter_of admitted.now) facts bytes result }
+        → IsOutcomeUnder (filter_view admitted.now) facts bytes result }
 {
     let verdict = match admitted.decide(request) {
         Ok(verdict) => verdict,

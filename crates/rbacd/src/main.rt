@@ -11,7 +11,6 @@ use std::{env, io};
 use words::{Job, read_words};
 
 pub mod facts;
-pub mod head;
 pub mod judge;
 pub mod outcome;
 pub mod words;

@@ -2,7 +2,7 @@
 ghost use Rattle.std.specs.Prelude.{◌≡◌};
 ghost use Rattle.rbacd.specs.Outcome.{status_of};
 
-use crate::head::HeadFault;
+use http_front::HeadFault;
 use proto_wire::Refusal;
 use std::fmt;
 

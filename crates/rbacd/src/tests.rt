@@ -1,6 +1,7 @@
 //! What no contract says: that calls succeed, the answers at given bytes, and printed texts.
 mod addresses;
 mod depth;
+mod filter_bytes;
 mod filters;
 mod headers;
 mod heads;

@@ -1,6 +1,7 @@
 //! The borders of declared limits, and of requests within them.
-use crate::{Conn, Header, Limit, LimitFault, Limits, Request};
+use crate::{Conn, Limit, LimitFault, Limits, Request};
 use std::alloc::{AllocError, Global};
+use std::rc::RcStr;
 use std::test::Fail;
 
 // Six declared limits, in the order of `Limits::new`, and the fault that is there.
@@ -161,7 +162,7 @@ const HEADS: [Head; 5] = [
 ];
 
 fn request_of(alloc: Global, head: &Head) -> Result<Request, AllocError> {
-    let mut lines: Vec<Header> = Vec::new(alloc);
+    let mut lines: Vec<(String, String)> = Vec::new(alloc);
     for (name, value) in head.lines {
         lines.push((
             String::from_str(alloc, name)?,
@@ -170,7 +171,7 @@ fn request_of(alloc: Global, head: &Head) -> Result<Request, AllocError> {
     }
     let method = String::from_str(alloc, head.method)?;
     let target = String::from_str(alloc, head.target)?;
-    let conn = Conn::of_scheme(String::from_str(alloc, head.scheme)?);
+    let conn = Conn::of_scheme(RcStr::from_str(alloc, head.scheme)?);
     Request::new(alloc, method, target, true, lines, conn)
 }
 
@@ -196,8 +197,8 @@ fn fits_at_each_border(rt: HostRuntime) -> Result<(), Fail> {
 
 // A connection of which one text is known, beside the scheme.
 fn conn_with(alloc: Global, fact: usize, text: &str) -> Result<Conn, AllocError> {
-    let mut conn = Conn::of_scheme(String::from_str(alloc, "http")?);
-    let text = String::from_str(alloc, text)?;
+    let mut conn = Conn::of_scheme(RcStr::from_str(alloc, "http")?);
+    let text = RcStr::from_str(alloc, text)?;
     match fact {
         0 => conn.source_address = Some(text),
         1 => conn.destination_address = Some(text),

@@ -1,6 +1,7 @@
 //! Attributes and headers of two requests, and copies of connections.
-use crate::{AttrId, AttrValue, Conn, Header, Request, parse_ip};
+use crate::{AttrId, AttrType, AttrValue, Conn, Request, attr_named, attr_type, parse_ip};
 use std::alloc::{AllocError, Global};
+use std::rc::RcStr;
 use std::test::Fail;
 
 const LINES: [(&str, &str); 9] = [
@@ -76,6 +77,44 @@ const BARE: [(AttrId, &str); 22] = [
     (AttrId::ConnectionUriSanPeerCertificate, "absent"),
 ];
 
+// The names of attributes, in the order of the two tables above, with their types.
+const NAMES: [(&str, AttrType); 22] = [
+    ("request.path", AttrType::Text),
+    ("request.url_path", AttrType::Text),
+    ("request.host", AttrType::Text),
+    ("request.scheme", AttrType::Text),
+    ("request.method", AttrType::Text),
+    ("request.headers", AttrType::TextMap),
+    ("request.referer", AttrType::Text),
+    ("request.useragent", AttrType::Text),
+    ("request.id", AttrType::Text),
+    ("request.protocol", AttrType::Text),
+    ("request.query", AttrType::Text),
+    ("source.address", AttrType::Text),
+    ("source.port", AttrType::Int),
+    ("destination.address", AttrType::Text),
+    ("destination.port", AttrType::Int),
+    ("connection.mtls", AttrType::Bool),
+    ("connection.id", AttrType::Uint),
+    ("connection.requested_server_name", AttrType::Text),
+    ("connection.tls_version", AttrType::Text),
+    ("connection.subject_peer_certificate", AttrType::Text),
+    ("connection.dns_san_peer_certificate", AttrType::Text),
+    ("connection.uri_san_peer_certificate", AttrType::Text),
+];
+
+// Names that no attribute has.
+const NO_NAMES: [&str; 8] = [
+    "",
+    "request",
+    "request.",
+    "path",
+    "request.Path",
+    "request.user-agent",
+    "request.size",
+    "connection.mtls ",
+];
+
 // Targets with their `url_path` and `query`.
 const TARGETS: [(&str, &str, &str); 14] = [
     ("/", "/", ""),
@@ -94,7 +133,7 @@ const TARGETS: [(&str, &str, &str); 14] = [
     ("/a/b/../c?/d?/e", "/a/b/../c", "/d?/e"),
 ];
 
-fn lines_of(alloc: Global, lines: &[(&str, &str)]) -> Result<Vec<Header>, AllocError> {
+fn lines_of(alloc: Global, lines: &[(&str, &str)]) -> Result<Vec<(String, String)>, AllocError> {
     let mut made = Vec::new(alloc);
     for (name, value) in lines {
         made.push((
@@ -107,21 +146,21 @@ fn lines_of(alloc: Global, lines: &[(&str, &str)]) -> Result<Vec<Header>, AllocE
 
 fn full_conn(alloc: Global) -> Result<Conn, AllocError> {
     Ok(Conn {
-        source_address: Some(String::from_str(alloc, "10.0.0.1:1")?),
+        source_address: Some(RcStr::from_str(alloc, "10.0.0.1:1")?),
         source_port: Some(1),
-        destination_address: Some(String::from_str(alloc, "10.0.0.2:65535")?),
+        destination_address: Some(RcStr::from_str(alloc, "10.0.0.2:65535")?),
         destination_port: Some(65535),
         mtls: Some(true),
         connection_id: Some(u64::MAX),
-        requested_server_name: Some(String::from_str(alloc, "server")?),
-        tls_version: Some(String::from_str(alloc, "TLSv1.3")?),
-        subject_peer_certificate: Some(String::from_str(alloc, "subject")?),
-        dns_san_peer_certificate: Some(String::from_str(alloc, "dns")?),
-        uri_san_peer_certificate: Some(String::from_str(alloc, "uri")?),
+        requested_server_name: Some(RcStr::from_str(alloc, "server")?),
+        tls_version: Some(RcStr::from_str(alloc, "TLSv1.3")?),
+        subject_peer_certificate: Some(RcStr::from_str(alloc, "subject")?),
+        dns_san_peer_certificate: Some(RcStr::from_str(alloc, "dns")?),
+        uri_san_peer_certificate: Some(RcStr::from_str(alloc, "uri")?),
         direct_remote_ip: parse_ip("10.0.0.1"),
         remote_ip: parse_ip("::1"),
         destination_ip: parse_ip("10.0.0.2"),
-        scheme: String::from_str(alloc, "https")?,
+        scheme: RcStr::from_str(alloc, "https")?,
     })
 }
 
@@ -135,7 +174,7 @@ fn full_request(alloc: Global) -> Result<Request, AllocError> {
 fn bare_request(alloc: Global, target: &str) -> Result<Request, AllocError> {
     let method = String::from_str(alloc, "POST")?;
     let target = String::from_str(alloc, target)?;
-    let conn = Conn::of_scheme(String::from_str(alloc, "http")?);
+    let conn = Conn::of_scheme(RcStr::from_str(alloc, "http")?);
     Request::new(alloc, method, target, false, Vec::new(alloc), conn)
 }
 
@@ -149,7 +188,7 @@ fn shown(alloc: Global, value: Option<AttrValue<'_>>) -> Result<String, AllocErr
         Some(AttrValue::Bool(answer)) => format!(in alloc; "bool {answer}"),
         Some(AttrValue::Pairs(pairs)) => {
             let mut words = String::from_str(alloc, "pairs ")?;
-            for (name, value) in pairs {
+            for (name, value) in pairs.as_slice() {
                 words.push_str(name.as_str())?;
                 words.push_str("=")?;
                 words.push_str(value.as_str())?;
@@ -179,8 +218,12 @@ fn cuts_targets(rt: HostRuntime) -> Result<(), Fail> {
         let request = bare_request(rt.alloc(), target)?;
         let found = request.url_path();
         assert_eq!(rt; found, path, "{target}");
-        let found = request.query();
-        assert_eq!(rt; found, query, "{target}");
+        let found = shown(rt.alloc(), request.attr(AttrId::RequestQuery))?;
+        assert_eq!(rt;
+            found.as_str().strip_prefix("text "),
+            Some(query),
+            "{target}"
+        );
     }
     Ok(())
 }
@@ -201,15 +244,43 @@ fn finds_headers(rt: HostRuntime) -> Result<(), Fail> {
     assert_eq!(rt; full.method(), "GET");
     assert_eq!(rt; full.target(), "/a/b?x=1#f?y");
     assert!(rt; full.is_http11());
-    assert_eq!(rt; full.protocol(), "HTTP/1.1");
     assert_eq!(rt; full.conn().remote_ip, parse_ip("::1"));
+    Ok(())
+}
+
+#[test]
+fn names_attributes(rt: HostRuntime) -> Result<(), Fail> {
+    for ((name, kind), (id, _)) in NAMES.iter().zip(FULL) {
+        assert_eq!(rt; attr_named(name), Some(id), "{name}");
+        assert_eq!(rt; attr_type(id), *kind, "{name}");
+    }
+    for name in NO_NAMES {
+        assert_eq!(rt; attr_named(name), None, "{name}");
+    }
+    Ok(())
+}
+
+// A line that has the name of a pseudo-header comes before its value.
+#[test]
+fn joins_lines_with_pseudo_headers(rt: HostRuntime) -> Result<(), Fail> {
+    let alloc = rt.alloc();
+    let lines = lines_of(alloc, &[(":path", "/x"), ("host", "a"), ("host", "b")])?;
+    let method = String::from_str(alloc, "GET")?;
+    let target = String::from_str(alloc, "/")?;
+    let conn = Conn::of_scheme(RcStr::from_str(alloc, "http")?);
+    let request = Request::new(alloc, method, target, true, lines, conn)?;
+    assert_eq!(rt; request.header(":path"), Some("/x,/"));
+    assert_eq!(rt; request.header(":authority"), Some("a,b"));
+    assert_eq!(rt; request.header(":method"), Some("GET"));
+    assert_eq!(rt; request.headers().len(), 4);
+    assert_eq!(rt; request.line_count(), 3);
     Ok(())
 }
 
 #[test]
 fn copies_connections(rt: HostRuntime) -> Result<(), Fail> {
     let alloc = rt.alloc();
-    let bare = Conn::of_scheme(String::from_str(alloc, "http")?);
+    let bare = Conn::of_scheme(RcStr::from_str(alloc, "http")?);
     for conn in [full_conn(alloc)?, bare] {
         let copy = conn.copy()?;
         assert_eq!(rt; copy.source_port, conn.source_port);

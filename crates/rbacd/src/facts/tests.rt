@@ -2,6 +2,7 @@
 
 use crate::facts::{FactsFault, read_facts};
 use attributes::Ip;
+use std::rc::RcStr;
 use std::test::Fail;
 
 const BAD: [&str; 44] = [
@@ -64,7 +65,7 @@ const NUMBERS: [(&[u8], Option<u64>); 3] = [
     (b"{}", None),
 ];
 
-fn is_text(found: &Option<String>, want: &str) -> bool {
+fn is_text(found: &Option<RcStr>, want: &str) -> bool {
     match found {
         Some(text) => text.as_str() == want,
         None => false,

@@ -19,11 +19,22 @@ fn wrap(reversed: &mut Vec<u8>, tag: u8) -> Result<(), AllocError> {
     Ok(())
 }
 
-/// An ALLOW filter of one policy whose permission is any behind so many `not_rule`.
-fn chained(alloc: Global, levels: usize) -> Result<Vec<u8>, AllocError> {
+/// The tag of `not_rule`.
+const NOT: &[u8] = &[0x42];
+
+/// The tags of `rules` and, around it, of `and_rules`.
+const AND: &[u8] = &[0x0a, 0x0a];
+
+/// The tags of `rules` and, around it, of `or_rules`.
+const OR: &[u8] = &[0x0a, 0x12];
+
+/// An ALLOW filter of one policy whose permission is any behind so many levels, each of which has these tags.
+fn chained(alloc: Global, levels: usize, tags: &[u8]) -> Result<Vec<u8>, AllocError> {
     let mut reversed = Vec::from_slice(alloc, &[0x01, 0x18])?;
     for _ in 0..levels {
-        wrap(&mut reversed, 0x42)?;
+        for tag in tags {
+            wrap(&mut reversed, *tag)?;
+        }
     }
     wrap(&mut reversed, 0x0a)?;
     reversed.extend_from_slice(&[0x01, 0x18, 0x02, 0x12])?;
@@ -38,13 +49,19 @@ fn chained(alloc: Global, levels: usize) -> Result<Vec<u8>, AllocError> {
 #[test]
 fn refuses_deep_chains(rt: HostRuntime) -> Result<(), Fail> {
     let cases = [
-        (30, "allow 0\n"),
-        (31, "deny -\n"),
-        (32, "refused: 8 TooLarge\n"),
-        (250_000, "refused: 8 TooLarge\n"),
+        (30, NOT, "allow 0\n"),
+        (31, NOT, "deny -\n"),
+        (32, NOT, "refused: 8 TooLarge\n"),
+        (250_000, NOT, "refused: 8 TooLarge\n"),
+        (31, AND, "allow 0\n"),
+        (32, AND, "refused: 8 TooLarge\n"),
+        (100_000, AND, "refused: 8 TooLarge\n"),
+        (31, OR, "allow 0\n"),
+        (32, OR, "refused: 8 TooLarge\n"),
+        (100_000, OR, "refused: 8 TooLarge\n"),
     ];
-    for (levels, expected) in cases {
-        let policy = chained(rt.alloc(), levels)?;
+    for (levels, tags, expected) in cases {
+        let policy = chained(rt.alloc(), levels, tags)?;
         let mut out = Vec::new(rt.alloc());
         judge(
             rt.alloc(),

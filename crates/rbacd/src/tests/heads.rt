@@ -1,36 +1,49 @@
 //! Heads, good and bad, with the answers that the rules give them.
-use crate::head::{Ask, HEAD_ROOM, HeadFault, read_head};
 use attributes::{Conn, Limits};
+use http_front::{Ask, HEAD_ROOM, HeadFault, read_head};
 use std::alloc::{AllocError, Global};
+use std::rc::RcStr;
 use std::test::Fail;
 
-const BAD: Option<HeadFault> = Some(HeadFault::BadRequest);
+/// What is answered.
+#[derive(Clone, Copy, Debug, PartialEq, Eq)]
+enum Answer {
+    Judged,
+    Unfinished,
+    Fault(HeadFault),
+}
 
-const LARGE: Option<HeadFault> = Some(HeadFault::TooLarge);
+const JUDGED: Answer = Answer::Judged;
 
-const CODED: Option<HeadFault> = Some(HeadFault::NotImplemented);
+const UNFINISHED: Answer = Answer::Unfinished;
 
-/// The fault that is answered, if one is.
-fn fault_of(alloc: Global, bytes: &[u8]) -> Result<Option<HeadFault>, AllocError> {
-    let conn = Conn::of_scheme(String::from_str(alloc, "http")?);
+const BAD: Answer = Answer::Fault(HeadFault::BadRequest);
+
+const LARGE: Answer = Answer::Fault(HeadFault::TooLarge);
+
+const CODED: Answer = Answer::Fault(HeadFault::NotImplemented);
+
+fn answer_of(alloc: Global, bytes: &[u8]) -> Result<Answer, AllocError> {
+    let conn = Conn::of_scheme(RcStr::from_str(alloc, "http")?);
     match read_head(alloc, bytes, &Limits::largest(), conn)? {
-        Ask::Judge(_) => Ok(None),
-        Ask::Fault(fault) => Ok(Some(fault)),
+        Some(Ask::Judge(_)) => Ok(JUDGED),
+        Some(Ask::Fault(fault)) => Ok(Answer::Fault(fault)),
+        None => Ok(UNFINISHED),
     }
 }
 
-const LINES: [(&[u8], Option<HeadFault>); 21] = [
-    (b"GET / HTTP/1.1\r\nHost: h\r\n\r\n", None),
-    (b"GET / HTTP/1.1\nhost:h\n\n", None),
-    (b"\r\n\r\nGET / HTTP/1.1\r\nHOST: h\r\n\r\n", None),
-    (b"GET / HTTP/1.1\r\nHost: h\r\n\r\n\x00 and more", None),
-    (b"GET / HTTP/1.0\r\n\r\n", None),
-    (b"GET / HTTP/1.0\r\nHost: h\r\n\r\n", None),
-    (b"!x /\xc3\xa9?a#b HTTP/1.1\r\nHost:\r\n\r\n", None),
-    (b"", BAD),
-    (b"GET / HTTP/1.1", BAD),
-    (b"GET / HTTP/1.1\r\nHost: h\r\n", BAD),
-    (b"GET / HTTP/1.1\r\nHost: h\r\n\r", BAD),
+const LINES: [(&[u8], Answer); 21] = [
+    (b"GET / HTTP/1.1\r\nHost: h\r\n\r\n", JUDGED),
+    (b"GET / HTTP/1.1\nhost:h\n\n", JUDGED),
+    (b"\r\n\r\nGET / HTTP/1.1\r\nHOST: h\r\n\r\n", JUDGED),
+    (b"GET / HTTP/1.1\r\nHost: h\r\n\r\n\x00 and more", JUDGED),
+    (b"GET / HTTP/1.0\r\n\r\n", JUDGED),
+    (b"GET / HTTP/1.0\r\nHost: h\r\n\r\n", JUDGED),
+    (b"!x /\xc3\xa9?a#b HTTP/1.1\r\nHost:\r\n\r\n", JUDGED),
+    (b"", UNFINISHED),
+    (b"GET / HTTP/1.1", UNFINISHED),
+    (b"GET / HTTP/1.1\r\nHost: h\r\n", UNFINISHED),
+    (b"GET / HTTP/1.1\r\nHost: h\r\n\r", UNFINISHED),
     (b"GET\n/ HTTP/1.1\r\nHost: h\r\n\r\n", BAD),
     (b"GET / HTTP/2.0\r\nHost: h\r\n\r\n", BAD),
     (b"GET /\xff HTTP/1.1\r\nHost: h\r\n\r\n", BAD),
@@ -46,19 +59,19 @@ const LINES: [(&[u8], Option<HeadFault>); 21] = [
 #[test]
 fn answers_start_lines_and_hosts(rt: HostRuntime) -> Result<(), Fail> {
     for (bytes, expected) in LINES {
-        assert_eq!(rt; fault_of(rt.alloc(), bytes)?, expected);
+        assert_eq!(rt; answer_of(rt.alloc(), bytes)?, expected);
     }
     Ok(())
 }
 
 /// Field lines that stand behind a Host line.
-const FIELDS: [(&[u8], Option<HeadFault>); 25] = [
-    (b"X-A: \t a b \xc3\xa9 \t", None),
-    (b"X-A:", None),
-    (b"a!#$%&'*+-.^_`|~9Z: b", None),
-    (b"X-A: b\r\nX-A: c", None),
-    (b"Content-Length: 5", None),
-    (b"content-length:000000000000000005", None),
+const FIELDS: [(&[u8], Answer); 25] = [
+    (b"X-A: \t a b \xc3\xa9 \t", JUDGED),
+    (b"X-A:", JUDGED),
+    (b"a!#$%&'*+-.^_`|~9Z: b", JUDGED),
+    (b"X-A: b\r\nX-A: c", JUDGED),
+    (b"Content-Length: 5", JUDGED),
+    (b"content-length:000000000000000005", JUDGED),
     (b"X A: b", BAD),
     (b"X-A : b", BAD),
     (b": b", BAD),
@@ -77,7 +90,7 @@ const FIELDS: [(&[u8], Option<HeadFault>); 25] = [
     (b"Transfer-Encoding: chunked", CODED),
     (b"transfer-encoding: identity", CODED),
     (b"Transfer-Encoding:", CODED),
-    (b"TE: trailers", None),
+    (b"TE: trailers", JUDGED),
 ];
 
 #[test]
@@ -86,7 +99,7 @@ fn answers_fields(rt: HostRuntime) -> Result<(), Fail> {
         let mut bytes = Vec::from_slice(rt.alloc(), b"GET / HTTP/1.1\r\nHost: h\r\n")?;
         bytes.extend_from_slice(lines)?;
         bytes.extend_from_slice(b"\r\n\r\n")?;
-        assert_eq!(rt; fault_of(rt.alloc(), &bytes)?, expected);
+        assert_eq!(rt; answer_of(rt.alloc(), &bytes)?, expected);
     }
     Ok(())
 }
@@ -118,7 +131,7 @@ fn sized(
 #[test]
 fn answers_borders_of_texts(rt: HostRuntime) -> Result<(), Fail> {
     let sizes = [
-        (32, 4096, 128, 4096, None),
+        (32, 4096, 128, 4096, JUDGED),
         (33, 4096, 128, 4096, LARGE),
         (32, 4097, 128, 4096, LARGE),
         (32, 4096, 129, 4096, LARGE),
@@ -126,7 +139,7 @@ fn answers_borders_of_texts(rt: HostRuntime) -> Result<(), Fail> {
     ];
     for (method, target, name, value, expected) in sizes {
         let bytes = sized(rt.alloc(), method, target, name, value)?;
-        assert_eq!(rt; fault_of(rt.alloc(), &bytes)?, expected);
+        assert_eq!(rt; answer_of(rt.alloc(), &bytes)?, expected);
     }
     Ok(())
 }
@@ -147,16 +160,16 @@ fn crowded(alloc: Global, fields: usize, value: usize) -> Result<Vec<u8>, AllocE
 fn answers_borders_of_counts(rt: HostRuntime) -> Result<(), Fail> {
     // The joined value has a comma between each two, so two of 2,048 bytes are one too long.
     let counts = [
-        (60, 1, None),
+        (60, 1, JUDGED),
         (61, 1, LARGE),
-        (60, 67, None),
+        (60, 67, JUDGED),
         (60, 68, LARGE),
-        (2, 2047, None),
+        (2, 2047, JUDGED),
         (2, 2048, LARGE),
     ];
     for (fields, value, expected) in counts {
         let bytes = crowded(rt.alloc(), fields, value)?;
-        assert_eq!(rt; fault_of(rt.alloc(), &bytes)?, expected);
+        assert_eq!(rt; answer_of(rt.alloc(), &bytes)?, expected);
     }
     Ok(())
 }
@@ -183,12 +196,12 @@ fn answers_borders_of_room(rt: HostRuntime) -> Result<(), Fail> {
     let alloc = rt.alloc();
     let longest = long_head(alloc, HEAD_ROOM)?;
     assert_eq!(rt; longest.len(), HEAD_ROOM);
-    assert_eq!(rt; fault_of(alloc, &longest)?, None);
+    assert_eq!(rt; answer_of(alloc, &longest)?, JUDGED);
     let longer = long_head(alloc, HEAD_ROOM + 1)?;
     assert_eq!(rt; longer.len(), HEAD_ROOM + 1);
-    assert_eq!(rt; fault_of(alloc, &longer)?, LARGE);
+    assert_eq!(rt; answer_of(alloc, &longer)?, LARGE);
     let unfinished = &longest[..longest.len() - 1];
-    assert_eq!(rt; fault_of(alloc, unfinished)?, BAD);
+    assert_eq!(rt; answer_of(alloc, unfinished)?, UNFINISHED);
     Ok(())
 }
 
@@ -196,8 +209,8 @@ fn answers_borders_of_room(rt: HostRuntime) -> Result<(), Fail> {
 fn keeps_what_a_head_says(rt: HostRuntime) -> Result<(), Fail> {
     let alloc = rt.alloc();
     let bytes = b"PUT /a?b HTTP/1.0\r\nX-A: 1\r\nhost: h\r\nx-a:2\r\n\r\nbody";
-    let conn = Conn::of_scheme(String::from_str(alloc, "https")?);
-    let Ask::Judge(request) = read_head(alloc, bytes, &Limits::largest(), conn)? else {
+    let conn = Conn::of_scheme(RcStr::from_str(alloc, "https")?);
+    let Some(Ask::Judge(request)) = read_head(alloc, bytes, &Limits::largest(), conn)? else {
         return Err(Fail::from("a request"));
     };
     assert_eq!(rt; request.method(), "PUT");

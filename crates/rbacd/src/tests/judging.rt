@@ -2,9 +2,9 @@
 ghost use Rattle.std.specs.Prelude.{◌<◌};
 
 use crate::facts::read_conn;
-use crate::head::HeadFault;
 use crate::judge::{judge, plain_conn, read_file};
 use crate::outcome::Outcome;
+use http_front::HeadFault;
 use proto_wire::Refusal;
 use std::alloc::{AllocError, Global};
 use std::io::{self, ErrorKind, Read, Write};

@@ -1,7 +1,8 @@
 //! Rows of worked answers, and how each is judged.
 //!
-//! A row is what it is about, the filter in hexadecimal, the target of a GET, its field lines behind `Host: h` or `-`,
+//! A row is what it is about, the name of a filter of `examples/filters/`, the target of a GET, its field lines behind `Host: h` or `-`,
 //! the facts of its connection, and the line that is printed; where a filter has several faults, each line that may be.
+use super::filter_bytes::filter_named;
 use crate::facts::read_facts;
 use crate::judge::judge;
 use std::alloc::Global;
@@ -46,7 +47,10 @@ pub fn judge_rows(rt: &impl Abort, alloc: Global, table: &str, count: usize) -> 
 }
 
 fn judge_row(rt: &impl Abort, alloc: Global, row: &Row<'_>) -> Result<(), Fail> {
-    let policy = hex::decode(alloc, row.filter)?;
+    let Some(digits) = filter_named(row.filter) else {
+        return Err(Fail::from("a row with an unknown filter"));
+    };
+    let policy = hex::decode(alloc, digits)?;
     let conn = read_facts(alloc, row.facts.as_bytes())?;
     let head = head_of(alloc, row.target, row.fields)?;
     let mut out = Vec::new(alloc);

@@ -1,6 +1,7 @@
 -- Without a dot the library's texts are ours, and none of four numbers with dots.
 use Rattle.std.proofs.Common.{◌≡◌, ◌∙◌, ap, true}
-use Rattle.attributes.specs.Address.{IsIpText, has_dot, number_of}
+use Rattle.attributes.specs.Address.{IsIpText, number_of}
+use Rattle.attributes.specs.steps.Address.{has_dot}
 use Rattle.attributes.specs.declared.address.Ip.TheVariants.{V4, V6}
 use Rattle.attributes.proofs.AddressText.{has_dot-dotted, to_library-whole, from_library-whole}
 use Rattle.attributes.proofs.address.parse_colons.Goals as goal

@@ -1,6 +1,7 @@
 -- The library's texts are ours, and a text with a dot is none with colons.
 use Rattle.std.proofs.Common.{◌≡◌, false}
-use Rattle.attributes.specs.Address.{IsIpText, has_dot}
+use Rattle.attributes.specs.Address.{IsIpText}
+use Rattle.attributes.specs.steps.Address.{has_dot}
 use Rattle.attributes.specs.declared.address.Ip.TheVariants.{V4, V6}
 use Rattle.attributes.proofs.AddressText.{no_dot-whole}
 use Rattle.attributes.proofs.address.parse_dotted.Goals as goal

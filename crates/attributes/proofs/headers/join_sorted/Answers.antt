@@ -6,18 +6,24 @@ use Rattle.std.specs.declared.string.String.{String}
 use Rattle.std.specs.declared.alloc.Global.{Global}
 use Rattle.std.specs.String.{string_bytes}
 use Rattle.std.specs.Vec.Iter.{into_iter_items}
-use Rattle.attributes.specs.Headers.{AreSorted, entries_of, entry_of}
-use Rattle.attributes.proofs.Joining.{AreJoined-one, AreJoined-same, AreJoined-next, AreSorted-name, AreSorted-next}
+use Rattle.attributes.specs.Headers.{header_view, line_view, lines_view}
+use Rattle.attributes.specs.steps.Headers.{AreSorted}
+use Rattle.attributes.proofs.Neighbours.{AreSorted-name, AreSorted-next, headers-next, headers-nil, headers-one, headers-same}
 use Rattle.attributes.proofs.headers.join_sorted.Goals as goal
+
+pub returns-in_default : goal.returns-in_default
+returns-in_default c =
+    let none : c.args.lines.items ≡ [] = nil_from_length _ (grind (arith, common_steps)) in
+    rw (none, c.in_ok-headers.ensures.items) (sym headers-nil)
 
 pub loop-next-init : goal.loop-next-init
 loop-next-init c =
-    let items : c.args.entries.items ≡ c.in-Some.last ∷ into_iter_items c.next.new.self =
-    sym c.into_iter-entries.ensures.rest ∙ c.in-Some.ensures.items in
-    let sorted : AreSorted (entries_of (c.in-Some.last ∷ into_iter_items c.next.new.self)) =
+    let items : c.args.lines.items ≡ c.in-Some.last ∷ into_iter_items c.next.new.self =
+    sym c.into_iter-lines.ensures.rest ∙ c.in-Some.ensures.items in
+    let sorted : AreSorted (lines_view (c.in-Some.last ∷ into_iter_items c.next.new.self)) =
     rw items at c.requires in
     record {
-      joined = rw c.new-headers.ensures.items (AreJoined-one _);
+      joined = rw c.in_ok-headers.ensures.items (headers-one (line_view c.in-Some.last));
       sorted = rw c.into_iter-next-iterator.ensures.into_iter_gives sorted;
       whole = rw c.into_iter-next-iterator.ensures.into_iter_gives items;
     }
@@ -31,14 +37,19 @@ loop-next-preserved-then-eq c =
     search rules in
     record {
       joined =
-          rw (map-append, same, c.in_ok-add_value.ensures, c.as_str.ensures.value)
-          (AreJoined-same _ _ _ _ _ c.loop-next.invariant.joined);
+          rw (
+            map-append line_view c.loop-next.yielded (c.in-Some-next.next ∷ []),
+            same,
+            c.in_ok-add_value.ensures,
+            c.as_str.ensures.value,
+          )
+          (headers-same _ _ _ _ c.loop-next.invariant.joined _);
       sorted =
           let h : AreSorted
-          (entry_of c.loop-next.last ∷ entries_of
+          (line_view c.loop-next.last ∷ lines_view
           (c.in-Some-next.next ∷ into_iter_items c.next-in-loop-next.new.self)) =
           rw items at c.loop-next.invariant.sorted in
-          AreSorted-name (entry_of c.in-Some-next.next)
+          AreSorted-name (line_view c.in-Some-next.next)
           (string_bytes c.loop-next.last.0, string_bytes c.add_value.new.value) _ same h.1;
       whole = c.loop-next.invariant.whole
           ∙ ap (λ rest. (c.in-Some.last ∷ c.loop-next.yielded) ++ rest) items
@@ -52,7 +63,7 @@ loop-next-preserved c =
     ≡ c.in-Some-next.next ∷ into_iter_items c.next-in-loop-next.new.self =
     c.in-Some-next.ensures.steps.0 in
     let sorted : AreSorted
-    (entry_of c.loop-next.last ∷ entries_of
+    (line_view c.loop-next.last ∷ lines_view
     (c.in-Some-next.next ∷ into_iter_items c.next-in-loop-next.new.self)) =
     rw items at c.loop-next.invariant.sorted in
     let differ : bytes_eq (string_bytes c.in-Some-next.next.0) (string_bytes c.loop-next.last.0)
@@ -61,15 +72,16 @@ loop-next-preserved c =
       joined =
           rw (
             c.in_ok-push.ensures.items,
+            map-append header_view c.loop-next.headers.items (c.in_ok-share_line.field-0 ∷ []),
+            c.in_ok-share_line.ensures,
             c.replace.ensures.value,
             c.replace.ensures.after,
-            map-append entry_of c.loop-next.yielded (c.in-Some-next.next ∷ []),
-            map-append entry_of c.loop-next.headers.items (c.loop-next.last ∷ []),
+            map-append line_view c.loop-next.yielded (c.in-Some-next.next ∷ []),
           )
-          (AreJoined-next _ _ _ _ c.loop-next.invariant.joined
-          (AreSorted-next (entry_of c.loop-next.last)
-          (entry_of c.in-Some-next.next) _ sorted differ));
-      sorted = AreSorted-name (entry_of c.in-Some-next.next) (entry_of c.replace.new.dest) _
+          (headers-next _ _ _ _ c.loop-next.invariant.joined (line_view c.in-Some-next.next)
+          (AreSorted-next (line_view c.loop-next.last)
+          (line_view c.in-Some-next.next) _ sorted differ));
+      sorted = AreSorted-name (line_view c.in-Some-next.next) (line_view c.replace.new.dest) _
           (ap (λ (pair : String Global × String Global). string_bytes pair.0)
           (sym c.replace.ensures.after)) sorted.1;
       whole = c.loop-next.invariant.whole
@@ -82,7 +94,12 @@ pub returns : goal.returns
 returns c =
     let none : into_iter_items c.loop-next.next-iterator ≡ [] =
     nil_from_length _ (grind (arith, common_steps)) in
-    let whole : c.args.entries.items ≡ c.in-Some.last ∷ c.loop-next.yielded =
+    let whole : c.args.lines.items ≡ c.in-Some.last ∷ c.loop-next.yielded =
     c.loop-next.invariant.whole ∙ ap (λ rest. (c.in-Some.last ∷ c.loop-next.yielded) ++ rest) none
     ∙ append-nil (c.in-Some.last ∷ c.loop-next.yielded) in
-    rw (whole, c.in_ok-push-2.ensures.items, map-append) c.loop-next.invariant.joined
+    rw (
+      whole,
+      c.in_ok-push-2.ensures.items,
+      map-append header_view c.loop-next.headers.items (c.in_ok-share_line-2.field-0 ∷ []),
+      c.in_ok-share_line-2.ensures,
+    ) c.loop-next.invariant.joined

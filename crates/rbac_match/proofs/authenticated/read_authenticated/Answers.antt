@@ -1,34 +1,33 @@
-use Rattle.std.proofs.Common.{◌≡◌, ◌≢◌, ◌<◌, List, [], map, length, inl, inr, arith}
-use Rattle.std.proofs.lemmas.Result.{err_from_is_err_and}
+use Rattle.std.proofs.Common.{ℕ, ◌≡◌, ◌≢◌, ◌<◌, List, [], map, length, arith}
 use Rattle.std.proofs.lemmas.Grind.{common_steps}
-use Rattle.proto_wire.specs.Fields.{Wire, view}
-use Rattle.proto_wire.specs.Rules.{payloads}
-use Rattle.proto_wire.specs.Messages.{texts, IsMessage}
-use Rattle.rbac_match.specs.Authenticated.{authenticated_keys, authenticated_fields, in_name}
-use Rattle.rbac_match.proofs.TextLemmas.{payloads_some}
+use Rattle.proto_wire.specs.Fields.{Wire, field_view}
+use Rattle.proto_wire.specs.Merge.{parts_view}
+use Rattle.proto_wire.specs.Messages.{IsMessage, MessageFault}
+use Rattle.proto_wire.specs.Values.{payloads}
+use Rattle.rbac_match.specs.Authenticated.{principal_name_field, authenticated_keys, AuthenticatedFault, authenticated_fields, in_name}
+use Rattle.rbac_match.specs.Text.{TextFault}
+use Rattle.rbac_match.proofs.Basics.{payloads_some}
+use Rattle.rbac_match.proofs.Exits.{exit_memory_or}
 use Rattle.rbac_match.proofs.authenticated.read_authenticated.Goals as goal
 
 pub returns-in_err-fields-clause-fault : goal.returns-in_err-fields-clause-fault
 returns-in_err-fields-clause-fault c =
-    let p = err_from_is_err_and c.from_residual.result c.from_residual.ensures.1 in
-    rw (p.1, p.2) (elim c.in_err-fields.ensures.fault [
-      | inl memory ↦ inl memory
-      | inr bad ↦ inr (authenticated_fields (rw c.authenticated_keys.ensures at bad))
-    ])
+    let parts : List (List ℕ) = parts_view c.args.parts.now in
+    exit_memory_or (MessageFault authenticated_keys parts) (AuthenticatedFault parts)
+    c.from_residual.result _ c.from_residual.ensures.1
+    (rw c.authenticated_keys.ensures at c.in_err-fields.ensures.fault) (λ e bad. authenticated_fields bad)
 
 pub returns-in_err-read_text_matcher-clause-fault : goal.returns-in_err-read_text_matcher-clause-fault
 returns-in_err-read_text_matcher-clause-fault c =
-    let p =
-    err_from_is_err_and c.from_residual-in_err-read_text_matcher.result c.from_residual-in_err-read_text_matcher.ensures.1 in
-    let fs : List Wire = map view c.in_ok-fields.fields.items in
-    let message : IsMessage authenticated_keys (texts c.args.parts.now) fs =
+    let parts : List (List ℕ) = parts_view c.args.parts.now in
+    let fs : List Wire = map field_view c.in_ok-fields.fields.items in
+    let message : IsMessage authenticated_keys parts fs =
     rw c.authenticated_keys.ensures at c.in_ok-fields.ensures.found in
-    let given : texts c.deref-2.result.now ≡ payloads 2 fs =
+    let given : parts_view c.deref-2.result.now ≡ payloads principal_name_field fs =
     rw c.deref-2.ensures.value (rw c.deref.ensures.value at c.in_ok-name.ensures) in
     let more : 0 < length c.in_ok-name.name.items = grind (arith, common_steps) in
-    let some : payloads 2 fs ≢ [] =
-    payloads_some c.deref-2.result.now (payloads 2 fs) given (rw c.deref-2.ensures.value more) in
-    rw (p.1, p.2) (elim c.in_err-read_text_matcher.ensures.fault [
-      | inl memory ↦ inl memory
-      | inr bad ↦ inr (in_name fs message.0 some (rw given at bad))
-    ])
+    let some : payloads principal_name_field fs ≢ [] =
+    payloads_some c.deref-2.result.now (payloads principal_name_field fs) given (rw c.deref-2.ensures.value more) in
+    exit_memory_or (TextFault (payloads principal_name_field fs)) (AuthenticatedFault parts)
+    c.from_residual-in_err-read_text_matcher.result _ c.from_residual-in_err-read_text_matcher.ensures.1
+    (rw given at c.in_err-read_text_matcher.ensures.fault) (λ e bad. in_name fs message.0 some bad)

@@ -1,70 +1,59 @@
-use Rattle.std.proofs.Common.{◌≡◌, List, map, inl, inr}
-use Rattle.std.proofs.lemmas.Result.{err_from_is_err_and}
-use Rattle.proto_wire.specs.Fields.{Wire, view}
-use Rattle.proto_wire.specs.Messages.{texts, IsMessage}
-use Rattle.proto_wire.specs.Rules.{member_run}
-use Rattle.rbac_match.specs.Header.{header_keys, specifier_keys, test_view, SaysSpecifier, header_fields, in_specifier}
-use Rattle.rbac_match.proofs.Headers.{has_specifier, name_fault}
+use Rattle.std.proofs.Common.{ℕ, ◌≡◌, List, map, refl}
+use Rattle.proto_wire.specs.Fields.{Wire, field_view}
+use Rattle.proto_wire.specs.Merge.{parts_view}
+use Rattle.proto_wire.specs.Messages.{IsMessage, MessageFault}
+use Rattle.proto_wire.specs.Oneof.{member_run}
+use Rattle.std.specs.Map.{keys_of}
+use Rattle.std.specs.Prelude.{Some}
+use Rattle.rbac_match.specs.Oneof.{last_number, member_in}
+use Rattle.rbac_match.specs.Header.{specifiers, header_keys, HeaderMemberFault, SaysSpecifier, HeaderFault, header_fields, in_specifier}
+use Rattle.rbac_match.proofs.Exits.{exit_memory_or, exit_fault}
+use Rattle.rbac_match.proofs.HeaderMessages.{name_fault}
 use Rattle.rbac_match.proofs.header.read_header_matcher.Goals as goal
 
 pub returns-in_err-fields-clause-fault : goal.returns-in_err-fields-clause-fault
 returns-in_err-fields-clause-fault c =
-    let p = err_from_is_err_and c.from_residual.result c.from_residual.ensures.1 in
-    rw (p.1, p.2) (elim c.in_err-fields.ensures.fault [
-      | inl memory ↦ inl memory
-      | inr bad ↦ inr (header_fields (rw c.header_keys.ensures at bad))
-    ])
+    let parts : List (List ℕ) = parts_view c.args.parts.now in
+    exit_memory_or (MessageFault header_keys parts) (HeaderFault parts) c.from_residual.result _
+    c.from_residual.ensures.1 (rw c.header_keys.ensures at c.in_err-fields.ensures.fault)
+    (λ e bad. header_fields bad)
 
-pub returns-in_err-test-clause-fault : goal.returns-in_err-test-clause-fault
-returns-in_err-test-clause-fault c =
-    let p = err_from_is_err_and c.from_residual-in_err-test.result
-    c.from_residual-in_err-test.ensures.1 in
-    let fs : List Wire = map view c.in_ok-fields.fields.items in
-    let message : IsMessage header_keys (texts c.args.parts.now) fs =
-    rw c.header_keys.ensures at c.in_ok-fields.ensures.found in
-    let run : map view c.deref-2.result.now ≡ member_run specifier_keys fs =
-    rw c.deref-2.ensures.value
-    (rw (c.specifier_keys.ensures, c.deref.ensures.value) at c.in_ok-run.ensures) in
-    rw (p.1, p.2) (elim c.in_err-test.ensures.fault [
-      | inl memory ↦ inl memory
-      | inr bad ↦
-          inr (in_specifier (map view c.deref-2.result.now)
-          (has_specifier (texts c.args.parts.now) fs (map view c.deref-2.result.now) message run)
-          bad)
-    ])
+pub returns-in_err-specifier-clause-fault : goal.returns-in_err-specifier-clause-fault
+returns-in_err-specifier-clause-fault c =
+    let parts : List (List ℕ) = parts_view c.args.parts.now in
+    let fs : List Wire = map field_view c.in_ok-fields.fields.items in
+    let message : IsMessage header_keys parts fs = rw c.header_keys.ensures at c.in_ok-fields.ensures.found in
+    exit_memory_or (λ e. (n : ℕ) × (last_number (keys_of specifiers) fs ≡ Some n)
+    × HeaderMemberFault (member_in specifiers n) n (member_run (keys_of specifiers) fs) e) (HeaderFault parts)
+    c.from_residual-in_err-specifier.result _ c.from_residual-in_err-specifier.ensures.1
+    (rw c.deref.ensures.value at c.in_err-specifier.ensures.fault)
+    (λ e bad. in_specifier fs bad.0 message.0 bad.1 bad.2)
 
 pub returns-in_err-name-clause-fault : goal.returns-in_err-name-clause-fault
 returns-in_err-name-clause-fault c =
-    let p = err_from_is_err_and c.from_residual-in_err-name.result
-    c.from_residual-in_err-name.ensures.1 in
-    let fs : List Wire = map view c.in_ok-fields.fields.items in
-    let message : IsMessage header_keys (texts c.args.parts.now) fs =
-    rw c.header_keys.ensures at c.in_ok-fields.ensures.found in
-    let run : map view c.deref-2.result.now ≡ member_run specifier_keys fs =
-    rw c.deref-2.ensures.value
-    (rw (c.specifier_keys.ensures, c.deref.ensures.value) at c.in_ok-run.ensures) in
-    let says : SaysSpecifier (member_run specifier_keys fs) (test_view c.in_ok-test.test) =
-    rw run at c.in_ok-test.ensures.found in
-    rw (p.1, p.2)
-    (name_fault (texts c.args.parts.now) fs (test_view c.in_ok-test.test) _ message says
-    (rw c.deref-3.ensures.value at c.in_err-name.ensures.fault))
+    let parts : List (List ℕ) = parts_view c.args.parts.now in
+    let fs : List Wire = map field_view c.in_ok-fields.fields.items in
+    let message : IsMessage header_keys parts fs = rw c.header_keys.ensures at c.in_ok-fields.ensures.found in
+    let says : SaysSpecifier fs c.in_ok-specifier.specifier =
+    rw c.deref.ensures.value at c.in_ok-specifier.ensures.found in
+    exit_fault (HeaderFault parts) c.from_residual-in_err-name.result _
+    c.from_residual-in_err-name.ensures.1
+    (name_fault parts fs c.in_ok-specifier.specifier _ message says
+    (rw c.deref-2.ensures.value at c.in_err-name.ensures.fault))
 
 pub returns-clause-found : goal.returns-clause-found
 returns-clause-found c =
-    let fs : List Wire = map view c.in_ok-fields.fields.items in
-    let message : IsMessage header_keys (texts c.args.parts.now) fs =
-    rw c.header_keys.ensures at c.in_ok-fields.ensures.found in
-    let run : map view c.deref-2.result.now ≡ member_run specifier_keys fs =
-    rw c.deref-2.ensures.value
-    (rw (c.specifier_keys.ensures, c.deref.ensures.value) at c.in_ok-run.ensures) in
-    let name = rw c.deref-3.ensures.value at c.in_ok-name.ensures.found in
-    record {
+    let parts : List (List ℕ) = parts_view c.args.parts.now in
+    let fs : List Wire = map field_view c.in_ok-fields.fields.items in
+    let message : IsMessage header_keys parts fs = rw c.header_keys.ensures at c.in_ok-fields.ensures.found in
+    let name = rw c.deref-2.ensures.value at c.in_ok-name.ensures.found in
+    rw (c.in_ok-new.ensures, name.0) (record {
       fields = fs;
       message = message;
       readable = name.1;
       named = name.2;
-      lowered = name.0;
-      asked = rw run at c.in_ok-test.ensures.found;
-      inverted = rw c.deref-4.ensures.value at c.bool_of.ensures;
-      emptied = rw c.deref-5.ensures.value at c.bool_of-2.ensures;
-    }
+      lowered = refl;
+      asked = rw c.deref.ensures.value at c.in_ok-specifier.ensures.found;
+      inverted = rw c.deref-3.ensures.value at c.bool_at-invert.ensures;
+      emptied = rw c.deref-4.ensures.value at c.bool_at-empty.ensures;
+    })

@@ -1,40 +1,35 @@
-use Rattle.std.proofs.Common.{◌≡◌, ◌≢◌, ◌<◌, List, [], map, length, inl, inr, refl, sym, ◌∙◌, ap, arith}
-use Rattle.std.proofs.lemmas.Result.{err_from_is_err_and, MatchResult-weaker}
-use Rattle.std.proofs.lemmas.Grind.{common_steps}
-use Rattle.std.proofs.lemmas.List.{nil_from_length}
-use Rattle.proto_wire.specs.Fields.{Wire, view}
-use Rattle.proto_wire.specs.Rules.{payloads}
-use Rattle.proto_wire.specs.Messages.{texts, IsMessage}
-use Rattle.rbac_match.specs.Path.{path_keys, path_fields, no_path, in_path}
-use Rattle.rbac_match.proofs.TextLemmas.{payloads_some}
+use Rattle.std.proofs.Common.{ℕ, ◌≡◌, ◌≢◌, List, [], map}
+use Rattle.proto_wire.specs.Fields.{Wire, field_view}
+use Rattle.proto_wire.specs.Merge.{parts_view}
+use Rattle.proto_wire.specs.Messages.{IsMessage, MessageFault}
+use Rattle.proto_wire.specs.Values.{payloads}
+use Rattle.rbac_match.specs.Path.{path_field, path_keys, PathFault, path_fields, no_path, in_path}
+use Rattle.rbac_match.specs.Text.{TextFault}
+use Rattle.rbac_match.proofs.Exits.{exit_memory_or, exit_fault, last_memory_or}
 use Rattle.rbac_match.proofs.path.read_path_matcher.Goals as goal
 
 pub returns-in_err-fields-clause-fault : goal.returns-in_err-fields-clause-fault
 returns-in_err-fields-clause-fault c =
-    let p = err_from_is_err_and c.from_residual.result c.from_residual.ensures.1 in
-    rw (p.1, p.2) (elim c.in_err-fields.ensures.fault [
-      | inl memory ↦ inl memory
-      | inr bad ↦ inr (path_fields (rw c.path_keys.ensures at bad))
-    ])
+    let parts : List (List ℕ) = parts_view c.args.parts.now in
+    exit_memory_or (MessageFault path_keys parts) (PathFault parts) c.from_residual.result _
+    c.from_residual.ensures.1 (rw c.path_keys.ensures at c.in_err-fields.ensures.fault)
+    (λ e bad. path_fields bad)
 
-pub returns-then-is_empty-clause-fault : goal.returns-then-is_empty-clause-fault
-returns-then-is_empty-clause-fault c =
-    let none : length c.in_ok-path.path.items ≡ 0 = grind (arith, common_steps) in
-    let empty : payloads 1 (map view c.in_ok-fields.fields.items) ≡ [] =
-    rw (← c.deref.ensures.value) (sym c.in_ok-path.ensures ∙ ap texts (nil_from_length c.in_ok-path.path.items none)) in
-    inr (no_path (map view c.in_ok-fields.fields.items) (rw c.path_keys.ensures at c.in_ok-fields.ensures.found) empty refl)
+pub returns-in_err-require_payload-clause-fault : goal.returns-in_err-require_payload-clause-fault
+returns-in_err-require_payload-clause-fault c =
+    let parts : List (List ℕ) = parts_view c.args.parts.now in
+    let fs : List Wire = map field_view c.in_ok-fields.fields.items in
+    let message : IsMessage path_keys parts fs = rw c.path_keys.ensures at c.in_ok-fields.ensures.found in
+    let fault = rw (c.deref-2.ensures.value, c.in_ok-path.ensures, c.deref.ensures.value) at c.in_err-require_payload.ensures.fault in
+    exit_fault (PathFault parts) c.from_residual-in_err-require_payload.result _
+    c.from_residual-in_err-require_payload.ensures.1 (no_path fs message fault.0 fault.1)
 
 pub returns-clause-fault : goal.returns-clause-fault
 returns-clause-fault c =
-    let fs : List Wire = map view c.in_ok-fields.fields.items in
-    let message : IsMessage path_keys (texts c.args.parts.now) fs =
-    rw c.path_keys.ensures at c.in_ok-fields.ensures.found in
-    let given : texts c.deref-2.result.now ≡ payloads 1 fs =
-    rw c.deref-2.ensures.value (rw c.deref.ensures.value at c.in_ok-path.ensures) in
-    let more : 0 < length c.in_ok-path.path.items = grind (arith, common_steps) in
-    let some : payloads 1 fs ≢ [] =
-    payloads_some c.deref-2.result.now (payloads 1 fs) given (rw c.deref-2.ensures.value more) in
-    MatchResult-weaker c.read_text_matcher.result c.read_text_matcher.ensures.fault (λ _ _. tt) (λ e h. elim h [
-      | inl memory ↦ inl memory
-      | inr bad ↦ inr (in_path fs message.0 some (rw given at bad))
-    ])
+    let parts : List (List ℕ) = parts_view c.args.parts.now in
+    let fs : List Wire = map field_view c.in_ok-fields.fields.items in
+    let message : IsMessage path_keys parts fs = rw c.path_keys.ensures at c.in_ok-fields.ensures.found in
+    let some = rw (c.deref-2.ensures.value, c.in_ok-path.ensures, c.deref.ensures.value) at c.in_ok-require_payload.ensures.found in
+    last_memory_or (TextFault (payloads path_field fs)) (PathFault parts) c.read_text_matcher.result
+    (rw (c.deref-3.ensures.value, c.in_ok-path.ensures, c.deref.ensures.value) at c.read_text_matcher.ensures.fault)
+    (λ e bad. in_path fs message.0 some bad)

@@ -1,19 +1,26 @@
 -- Each refusal of a range of ports is a fault that is there.
-use Rattle.std.proofs.Common.{map, inl, inr, refl}
-use Rattle.std.proofs.lemmas.Result.{err_from_is_err_and}
-use Rattle.proto_wire.specs.Fields.{view}
-use Rattle.rbac_match.specs.Ports.{range_fields, no_bounds}
+use Rattle.std.proofs.Common.{ℕ, ◌≡◌, List, map}
+use Rattle.proto_wire.specs.Fields.{Wire, field_view}
+use Rattle.proto_wire.specs.Merge.{parts_view}
+use Rattle.proto_wire.specs.Messages.{IsMessage, MessageFault}
+use Rattle.proto_wire.specs.declared.refusal.Refusal.TheVariants.{OutOfRange}
+use Rattle.rbac_match.specs.Message.{range_keys}
+use Rattle.rbac_match.specs.Ports.{AreNoBounds, PortRangeFault, range_fields, no_bounds}
+use Rattle.rbac_match.proofs.Exits.{exit_memory_or, last_fault}
 use Rattle.rbac_match.proofs.ports.read_port_range.Goals as goal
 
 pub returns-in_err-fields-clause-fault : goal.returns-in_err-fields-clause-fault
 returns-in_err-fields-clause-fault c =
-    let p = err_from_is_err_and c.from_residual.result c.from_residual.ensures.1 in
-    rw (p.1, p.2) (elim c.in_err-fields.ensures.fault [
-      | inl memory ↦ inl memory
-      | inr bad ↦ inr (range_fields bad)
-    ])
+    let parts : List (List ℕ) = parts_view c.args.parts.now in
+    exit_memory_or (MessageFault range_keys parts) (PortRangeFault parts) c.from_residual.result _
+    c.from_residual.ensures.1 (rw c.range_keys.ensures at c.in_err-fields.ensures.fault)
+    (λ e bad. range_fields bad)
 
 pub returns-clause-fault : goal.returns-clause-fault
 returns-clause-fault c =
-    let none = rw c.deref.ensures.value at c.in-None.ensures in
-    inr (no_bounds (map view c.in_ok-fields.fields.items) c.in_ok-fields.ensures.found.0 none refl)
+    let parts : List (List ℕ) = parts_view c.args.parts.now in
+    let fs : List Wire = map field_view c.in_ok-fields.fields.items in
+    let message : IsMessage range_keys parts fs = rw c.range_keys.ensures at c.in_ok-fields.ensures.found in
+    last_fault (λ e. AreNoBounds fs × (e ≡ OutOfRange)) (PortRangeFault parts) c.port_range.result
+    (rw c.deref.ensures.value at c.port_range.ensures.fault)
+    (λ e bad. no_bounds fs message.0 bad.0 bad.1)

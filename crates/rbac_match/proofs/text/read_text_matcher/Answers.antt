@@ -1,49 +1,33 @@
-use Rattle.std.proofs.Common.{◌≡◌, List, map, Some, None, inl, inr, refl, sym, ap, ◌∙◌}
-use Rattle.std.proofs.lemmas.Result.{err_from_is_err_and}
-use Rattle.proto_wire.specs.Fields.{Wire, view}
-use Rattle.proto_wire.specs.Messages.{texts, IsMessage}
-use Rattle.proto_wire.specs.Rules.{last_member}
-use Rattle.rbac_match.specs.Text.{string_keys, pattern_keys, text_fields, no_pattern, in_pattern}
-use Rattle.rbac_match.proofs.TextLemmas.{member-known}
+use Rattle.std.proofs.Common.{ℕ, List, map}
+use Rattle.rbac_match.proofs.Exits.{exit_memory_or, exit_fault}
+use Rattle.proto_wire.specs.Fields.{Wire, field_view}
+use Rattle.proto_wire.specs.Merge.{parts_view}
+use Rattle.proto_wire.specs.Messages.{IsMessage, MessageFault}
+use Rattle.rbac_match.specs.Text.{string_keys, TextFault, text_fields}
+use Rattle.rbac_match.proofs.TextMessages.{text_found, pattern_fault}
 use Rattle.rbac_match.proofs.text.read_text_matcher.Goals as goal
 
 pub returns-in_err-fields-clause-fault : goal.returns-in_err-fields-clause-fault
 returns-in_err-fields-clause-fault c =
-    let p = err_from_is_err_and c.from_residual.result c.from_residual.ensures.1 in
-    rw (p.1, p.2) (elim c.in_err-fields.ensures.fault [
-      | inl memory ↦ inl memory
-      | inr bad ↦ inr (text_fields (rw c.string_keys.ensures at bad))
-    ])
-
-pub returns-in_default-clause-fault : goal.returns-in_default-clause-fault
-returns-in_default-clause-fault c =
-    let fs : List Wire = map view c.in_ok-fields.fields.items in
-    let message : IsMessage string_keys (texts c.args.parts.now) fs =
-    rw c.string_keys.ensures at c.in_ok-fields.ensures.found in
-    let none : None ≡ last_member pattern_keys fs =
-    rw (c.pattern_keys.ensures, c.deref.ensures.value) at c.in_default.ensures in
-    inr (no_pattern fs message (sym none) refl)
+    let parts : List (List ℕ) = parts_view c.args.parts.now in
+    exit_memory_or (MessageFault string_keys parts) (TextFault parts) c.from_residual.result _
+    c.from_residual.ensures.1 (rw c.string_keys.ensures at c.in_err-fields.ensures.fault)
+    (λ e bad. text_fields bad)
 
 pub returns-in_err-pattern-clause-fault : goal.returns-in_err-pattern-clause-fault
 returns-in_err-pattern-clause-fault c =
-    let p =
-    err_from_is_err_and c.from_residual-in_err-pattern.result c.from_residual-in_err-pattern.ensures.1 in
-    let fs : List Wire = map view c.in_ok-fields.fields.items in
-    let message : IsMessage string_keys (texts c.args.parts.now) fs =
-    rw c.string_keys.ensures at c.in_ok-fields.ensures.found in
-    let counts : Some (view c.in-Some.member) ≡ last_member pattern_keys fs =
-    rw (c.pattern_keys.ensures, c.deref.ensures.value) at c.in-Some.ensures in
-    rw (p.1, p.2) (elim (c.in_err-pattern.ensures.fault (member-known pattern_keys fs _ (sym counts))) [
-      | inl memory ↦ inl memory
-      | inr bad ↦ inr (in_pattern (view c.in-Some.member) (fs, message.0, sym counts) bad)
-    ])
+    let parts : List (List ℕ) = parts_view c.args.parts.now in
+    let fs : List Wire = map field_view c.in_ok-fields.fields.items in
+    let message : IsMessage string_keys parts fs = rw c.string_keys.ensures at c.in_ok-fields.ensures.found in
+    exit_fault (TextFault parts) c.from_residual-in_err-pattern.result _
+    c.from_residual-in_err-pattern.ensures.1
+    (pattern_fault parts fs message _ (rw c.deref.ensures.value at c.in_err-pattern.ensures.fault))
 
 pub returns-clause-found : goal.returns-clause-found
 returns-clause-found c =
-    let fs : List Wire = map view c.in_ok-fields.fields.items in
-    let message : IsMessage string_keys (texts c.args.parts.now) fs =
-    rw c.string_keys.ensures at c.in_ok-fields.ensures.found in
-    let counts : Some (view c.in-Some.member) ≡ last_member pattern_keys fs =
-    rw (c.pattern_keys.ensures, c.deref.ensures.value) at c.in-Some.ensures in
-    let is = c.in_ok-pattern.ensures.found in
-    (fs, message, sym counts ∙ ap Some is.0, is.1, is.2, (rw c.deref-2.ensures.value at c.bool_of.ensures))
+    let parts : List (List ℕ) = parts_view c.args.parts.now in
+    let fs : List Wire = map field_view c.in_ok-fields.fields.items in
+    let message : IsMessage string_keys parts fs = rw c.string_keys.ensures at c.in_ok-fields.ensures.found in
+    let found = rw (c.deref.ensures.value, ← c.in_ok-pattern.pattern-is, ← c.in_ok-pattern.sought-is) at c.in_ok-pattern.ensures.found in
+    rw c.in_ok-new.ensures
+    (text_found parts fs message _ found (rw c.deref-2.ensures.value at c.bool_at-ignore_case.ensures))

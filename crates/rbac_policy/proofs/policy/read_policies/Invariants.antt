@@ -1,7 +1,9 @@
-use Rattle.std.proofs.Common.{map}
 use Rattle.std.specs.Map.Iter.{deref_pair}
-use Rattle.rbac_policy.specs.Named.{Held, parts_views, named_views}
+use Rattle.std.proofs.Common.{map}
+use Rattle.proto_wire.specs.Maps.{text, Held}
+use Rattle.rbac_policy.specs.Message.{IsPolicy}
+use Rattle.rbac_policy.specs.Named.{names_view, named_views}
 use Rattle.rbac_policy.proofs.policy.read_policies.Given as goal
 
 abbrev pub invariant-loop-name : goal.invariant-loop-name
-invariant-loop-name l = Held (parts_views (map deref_pair l.yielded)) (named_views l.policies.items)
+invariant-loop-name l = Held text IsPolicy (names_view (map deref_pair l.yielded)) (named_views l.policies.items)

@@ -1,6 +1,6 @@
 use Rattle.std.proofs.Common.{inl, inr}
 use Rattle.std.proofs.lemmas.Result.{err_from_is_err_and}
-use Rattle.attributes.specs.Conn.{facts_of}
+use Rattle.attributes.specs.Conn.{conn_view}
 use Rattle.rbacd.proofs.facts.read_limited_facts.Goals as goal
 
 pub returns-in_err-conn-clause-fault : goal.returns-in_err-conn-clause-fault
@@ -11,13 +11,13 @@ returns-in_err-conn-clause-fault c =
 pub returns-then-not-fits_conn-clause-fault : goal.returns-then-not-fits_conn-clause-fault
 returns-then-not-fits_conn-clause-fault c is =
     inr (
-      facts_of c.in_ok-conn.conn,
+      conn_view c.in_ok-conn.conn,
       c.in_ok-conn.ensures.found,
       λ fits.
-          let is_true = c.fits_conn.ensures.1 (rw c.largest.ensures fits) in
+          let is_true = c.fits_conn.ensures.value.1 (rw c.largest.ensures fits) in
           let is_false = c.if-not-fits_conn.true in cc,
     )
 
 pub returns-clause-found : goal.returns-clause-found
 returns-clause-found c =
-    (c.in_ok-conn.ensures.found, rw c.largest.ensures at (c.fits_conn.ensures.0 c.if-not-fits_conn.false))
+    (c.in_ok-conn.ensures.found, rw c.largest.ensures at (c.fits_conn.ensures.value.0 c.if-not-fits_conn.false))

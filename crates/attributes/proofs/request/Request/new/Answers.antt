@@ -1,36 +1,45 @@
--- Joined headers are those that `headers_of` computes.
-use Rattle.std.proofs.Common.{◌≡◌, ◌∙◌, ℕ, List, ap₂, sym, length, arith}
+-- The headers are those of the lines and the pseudo-headers, so the parts make that request.
+use Rattle.std.proofs.Common.{◌≡◌, ◌∙◌, ℕ, List, length, sym, ap, arith}
 use Rattle.std.proofs.lemmas.Grind.{common_steps}
 use Rattle.std.proofs.lemmas.List.{length-map}
-use Rattle.std.specs.String.{string_bytes}
-use Rattle.attributes.specs.Conn.{facts_of}
-use Rattle.attributes.specs.Headers.{AreJoined, Entry, all_entries, entries_of, entry_of}
-use Rattle.attributes.specs.Request.{RequestValue}
-use Rattle.attributes.proofs.Canonical.{headers_from_joined}
+use Rattle.std.specs.Rc.{rc_str_bytes}
+use Rattle.std.specs.FinMap.{entries}
+use Rattle.attributes.specs.Conn.{conn_view}
+use Rattle.attributes.specs.Headers.{Entry, all_entries, headers_of, headers_view, line_view, lines_view}
+use Rattle.attributes.proofs.Facts.{IsUtf8-rc_str_bytes}
+use Rattle.attributes.proofs.Requests.{request_kept, same_request, text_headers}
 use Rattle.attributes.proofs.request.Request.new.Goals as goal
 
-pub returns-clause-value : goal.returns-clause-value
-returns-clause-value c =
-    let lines : List Entry = entries_of c.args.lines.items in
-    let method : List ℕ = string_bytes c.args.method in
-    let target : List ℕ = string_bytes c.args.target in
-    let joined : AreJoined (all_entries method target (string_bytes c.args.conn.scheme) lines)
-    (entries_of c.in_ok-headers.headers.items) =
-    rw (
-      ← c.as_str.ensures.value,
-      ← c.as_str-2.ensures.value,
-      ← c.as_str-3.ensures.value,
-    ) c.in_ok-headers.ensures in
+pub invariant_of-result : goal.invariant_of-result
+invariant_of-result c =
+    let lines : List Entry = lines_view c.args.lines.items in
+    let kept : List Entry = headers_view c.in_ok-new.field-0.value.items in
+    let method : List ℕ = rc_str_bytes c.in_ok-method.method in
+    let target : List ℕ = rc_str_bytes c.in_ok-target.target in
+    let scheme : List ℕ = rc_str_bytes c.args.conn.scheme in
+    let joined : kept ≡ entries (headers_of (all_entries method target scheme lines)) =
+    ap (λ headers. headers_view headers.items) c.in_ok-new.ensures.ok ∙ c.in_ok-headers.ensures in
     let items : c.len-count.result ≡ length c.args.lines.items = grind (arith, common_steps) in
     let count : c.len-count.result ≡ length lines =
-    items ∙ sym (length-map c.args.lines.items entry_of) in
-    let made : ℕ → List Entry → RequestValue = λ n hs. record {
-      method = method;
-      target = target;
-      http11 = c.args.http11;
-      lines = n;
-      headers = hs;
-      facts =
-          facts_of c.args.conn;
-    } in
-    ap₂ made count (headers_from_joined _ _ joined)
+    items ∙ sym (length-map c.args.lines.items line_view) in
+    request_kept method target c.args.http11 lines kept (conn_view c.args.conn)
+    c.len-count.result count joined _ _ _ c.in_ok-share_url_path.ensures
+    c.in_ok-share_query.ensures (c.in_ok-from_str.ensures.ok ∙ c.protocol_text.ensures)
+    (IsUtf8-rc_str_bytes c.in_ok-method.method) (IsUtf8-rc_str_bytes c.in_ok-target.target)
+    (text_headers c.in_ok-new.field-0.value.items) c.facts_are_sound.ensures (omega (arith, c))
+
+pub returns : goal.returns
+returns c =
+    let lines : List Entry = lines_view c.args.lines.items in
+    let kept : List Entry = headers_view c.in_ok-new.field-0.value.items in
+    let method : List ℕ = rc_str_bytes c.in_ok-method.method in
+    let target : List ℕ = rc_str_bytes c.in_ok-target.target in
+    let scheme : List ℕ = rc_str_bytes c.args.conn.scheme in
+    let joined : kept ≡ entries (headers_of (all_entries method target scheme lines)) =
+    ap (λ headers. headers_view headers.items) c.in_ok-new.ensures.ok ∙ c.in_ok-headers.ensures in
+    let items : c.len-count.result ≡ length c.args.lines.items = grind (arith, common_steps) in
+    let count : c.len-count.result ≡ length lines =
+    items ∙ sym (length-map c.args.lines.items line_view) in
+    rw (← c.in_ok-method.ensures.ok, ← c.in_ok-target.ensures.ok)
+    (same_request method target c.args.http11 lines kept (conn_view c.args.conn)
+    c.len-count.result count joined)

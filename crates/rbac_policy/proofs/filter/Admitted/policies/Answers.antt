@@ -1,15 +1,16 @@
 use Rattle.std.proofs.Common.{◌≡◌, length, sym, ap, ◌∙◌}
 use Rattle.std.proofs.lemmas.List.{length-map}
 use Rattle.std.specs.FinMap.{len, from_entries, len-entries}
-use Rattle.rbac_policy.specs.Filter.{name_cmp}
+use Rattle.attributes.specs.Headers.{name_cmp}
 use Rattle.rbac_policy.specs.Named.{named_view, named_views}
 use Rattle.rbac_policy.proofs.First.{t_of}
-use Rattle.rbac_policy.proofs.Order.{entries-from_entries}
+use Rattle.std.specs.Cmp.Lexicographic.{nat_list_cmp_total}
+use Rattle.proto_wire.proofs.MapOrder.{entries_from_entries}
 use Rattle.rbac_policy.proofs.filter.Admitted.policies.Goals as goal
 
 pub returns : goal.returns
 returns c =
-    let items = c.args.self.now.policies.items in
+    let items = c.args.self.now.rules.policies.items in
     let held : len (from_entries {R = name_cmp} (named_views items)) ≡ length items =
-    len-entries (from_entries {R = name_cmp} (named_views items)) ∙ ap length (entries-from_entries (named_views items) (t_of _ c.args.self.now.ordered)) ∙ length-map items named_view in
-    c.len.ensures ∙ c.args.self.now.policies.ok.0 ∙ sym held
+    len-entries (from_entries {R = name_cmp} (named_views items)) ∙ ap length (entries_from_entries name_cmp nat_list_cmp_total (named_views items) (t_of _ c.args.self.now.rules.ordered)) ∙ length-map items named_view in
+    c.len.ensures ∙ c.args.self.now.rules.policies.ok.0 ∙ sym held

@@ -1,0 +1,17 @@
+-- Texts are UTF-8.
+use Rattle.std.proofs.Common.{Option, Some, None, IfSome}
+use Rattle.std.proofs.lemmas.Str.{IsUtf8-string_bytes}
+use Rattle.std.specs.Str.{IsUtf8}
+use Rattle.std.specs.Rc.{rc_str_bytes}
+use Rattle.std.specs.declared.rc.RcStr.{RcStr}
+use Rattle.std.specs.declared.alloc.Global.{Global}
+use Rattle.attributes.specs.Conn.{text_view}
+
+-- a shared text is UTF-8
+pub IsUtf8-rc_str_bytes : (text : RcStr Global) → IsUtf8 (rc_str_bytes text)
+IsUtf8-rc_str_bytes text = IsUtf8-string_bytes text.text.value
+
+-- a text that may be absent is UTF-8
+pub IsUtf8-text_view : (found : Option (RcStr Global)) → IfSome (text_view found) IsUtf8
+IsUtf8-text_view None = tt
+IsUtf8-text_view (Some text) = IsUtf8-rc_str_bytes text

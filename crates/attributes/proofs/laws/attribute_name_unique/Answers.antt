@@ -1,0 +1,5 @@
+use Rattle.attributes.proofs.Names.{attr_name-unique}
+use Rattle.attributes.proofs.laws.attribute_name_unique.Goals as goal
+
+pub returns : goal.returns
+returns c = attr_name-unique

@@ -1,0 +1,5 @@
+use Rattle.attributes.proofs.LimitFaults.{none-all}
+use Rattle.attributes.proofs.laws.limits_without_fault.Goals as goal
+
+pub returns : goal.returns
+returns c = none-all

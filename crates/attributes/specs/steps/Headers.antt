@@ -1,0 +1,28 @@
+-- The steps by which the headers of a request are made and searched.
+use Rattle.std.specs.Prelude.{◌≡◌, ℕ, ◌≤◌, List, [], ◌∷◌, Some, None, Result, Ok, Err, length}
+use Rattle.std.specs.FinMap.{entries, find}
+use Rattle.std.specs.FinMap.Entries.{put}
+use Rattle.std.specs.List.{insert, slice_get, slice_set}
+use Rattle.std.specs.declared.alloc.Global.{Global}
+use Rattle.std.specs.declared.cmp.Ordering.TheVariants.{Less}
+use Rattle.std.specs.declared.rc.RcStr.{RcStr}
+use Rattle.attributes.specs.Headers.{Entry, headers_of, headers_view, name_cmp}
+
+-- the pairs are the headers of these entries, by ascending name
+abbrev pub AreHeadersOf : List (RcStr Global × RcStr Global) → List Entry → Type 0
+AreHeadersOf headers es = headers_view headers ≡ entries (headers_of es)
+
+-- no name is before the one that stands before it
+abbrev pub AreSorted : List Entry → Type 0
+AreSorted [] = Unit {0}
+AreSorted (e ∷ []) = Unit {0}
+AreSorted (e ∷ d ∷ es) = ¬ (name_cmp d.0 e.0 ≡ Less) × AreSorted (d ∷ es)
+
+-- the place of a name: where its entry stands and a value is written over, or where an entry of
+-- that name is inserted
+abbrev pub IsPlace : List ℕ → List Entry → Result ℕ ℕ → Type 0
+IsPlace name es (Ok i) = (value : List ℕ) × (slice_get es i ≡ Some (name, value))
+    × (find name_cmp name es ≡ Some value)
+    × ((w : List ℕ) → put name_cmp name w es ≡ slice_set es i (name, w))
+IsPlace name es (Err i) = (i ≤ length es) × (find name_cmp name es ≡ None)
+    × ((w : List ℕ) → put name_cmp name w es ≡ insert es i (name, w))

@@ -1,0 +1,33 @@
+//! Laws of the definitions: functions without parameters, whose contracts are the laws.
+ghost use Rattle.std.specs.Prelude.{◌≡◌, ◌↔◌, ℕ, IfSome, List, None};
+ghost use Rattle.attributes.specs.Attributes.{HasAttrType, attr_name, attr_of, attr_type};
+ghost use Rattle.attributes.specs.Headers.{AreJoined, Entry, HeaderMap, headers_of};
+ghost use Rattle.attributes.specs.Limits.{AreLimits, LimitsValue, first_fault};
+ghost use Rattle.attributes.specs.Request.{IsRequest, RequestValue};
+ghost use Rattle.attributes.specs.declared.attribute.AttrId.{AttrId};
+
+/// Where an attribute of a request is there, its value has the attribute's type.
+pub fn attributes_have_their_types()
+    ensures { (r : RequestValue) (id : AttrId) → IsRequest r
+        → IfSome (attr_of r id) (HasAttrType (attr_type id)) }
+{}
+
+/// Declared limits have no fault exactly where none is 0 or above the greatest.
+pub fn limits_without_fault()
+    ensures { (l : LimitsValue) → (first_fault l ≡ None) ↔ AreLimits l }
+{}
+
+/// A name is that of one attribute at most.
+pub fn attribute_name_unique()
+    ensures { (a b : AttrId) → attr_name a ≡ attr_name b → a ≡ b }
+{}
+
+/// The headers of entries have all values of each name, joined with commas, and no other name.
+pub fn headers_are_joined()
+    ensures { (es : List Entry) → AreJoined es (headers_of es) }
+{}
+
+/// Entries have one map of joined headers.
+pub fn joined_headers_unique()
+    ensures { (es : List Entry) (a b : HeaderMap) → AreJoined es a → AreJoined es b → a ≡ b }
+{}

@@ -1,0 +1,10 @@
+pub mod FieldLists
+pub mod LineFeeds
+pub mod Texts
+pub mod HeadTexts
+pub mod Rooms
+pub mod Spans
+pub mod Held
+pub mod Framings
+pub mod RuleLemmas
+pub mod StandardFacts

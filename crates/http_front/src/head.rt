@@ -1,0 +1,140 @@
+//! A request head where it lies in the bytes that it was read from.
+ghost use Rattle.std.specs.Prelude.{◌≡◌, ◌≤◌, ◌↔◌, ◌==◌, All, Any, IfNone, IfOk, IfSome, IsTrue, count_by, length};
+ghost use Rattle.std.specs.Bool.{OnFalse, OnTrue};
+ghost use Rattle.attributes.specs.Conn.{conn_view};
+ghost use Rattle.http_header.specs.FieldName.{IsFieldName};
+ghost use Rattle.httparse.specs.Ascii.{line_feed};
+ghost use Rattle.http_front.specs.declared.fault.HeadFault.{HeadFault};
+ghost use Rattle.http_front.specs.Parsed.{AreTexts, IsParsed};
+ghost use Rattle.http_front.specs.Asks.{request_of_head};
+ghost use Rattle.http_front.specs.Head.{head_room};
+ghost use Rattle.http_front.specs.Rules.{IsBadName, IsBadText, IsOriginForm, RuleFault};
+
+use crate::fault::HeadFault;
+use crate::fields::{are_field_names, copy_text, lower_lines};
+use crate::framing::framing_of;
+use attributes::{Conn, Request};
+use httparse::spans::{HeaderSpan, parse_request};
+use httparse::{Error, Status};
+use std::alloc::{AllocError, Global};
+use std::marker::Model;
+use std::str;
+
+/// A whole head as it was sent.
+#[derive(Drop)]
+pub(crate) struct Head<'a> {
+    // from the head's first byte to its last
+    bytes: &'a [u8],
+    method: &'a [u8],
+    target: &'a [u8],
+    is_http11: bool,
+    // where in the bytes the fields are
+    fields: &'a [HeaderSpan],
+}
+
+impl<'a> Model for Head<'a> {
+    ghost use Rattle.std.specs.Prelude.{map};
+    ghost use Rattle.httparse.specs.Spans.{header_bytes};
+    ghost use Rattle.http_front.specs.Head.{HeadValue};
+
+    ghost Value = { HeadValue };
+
+    ghost use Rattle.http_front.specs.Parsed.{HoldsHead};
+
+    ghost view = { λ h. record {
+      method = h.method.now;
+      target = h.target.now;
+      http11 = h.is_http11;
+      fields = map (header_bytes h.bytes.now) h.fields.now;
+    } };
+
+    ghost invariant = { λ h. HoldsHead h.bytes.now h.fields.now (record {
+      method = h.method.now;
+      target = h.target.now;
+      http11 = h.is_http11;
+      fields = map (header_bytes h.bytes.now) h.fields.now;
+    }) };
+}
+
+/// What stands at the front of some bytes.
+#[derive(Drop)]
+pub(crate) enum Parsed<'a> {
+    /// A whole head, and the bytes behind it.
+    Whole(Head<'a>, &'a [u8]),
+    /// The bytes end before their head does.
+    Unfinished,
+    /// No head can come of the bytes.
+    Hopeless,
+}
+
+/// Reads the head that the bytes begin with; `fields` has room for as many as they have line feeds.
+pub(crate) fn parse<'a>(bytes: &'a [u8], fields: &'a mut [HeaderSpan]) -> Parsed<'a>
+    requires few { length bytes.now ≤ head_room }
+    requires room { length fields.old ≡ count_by (λ b. b == line_feed) bytes.now }
+    ensures { IsParsed bytes.now result }
+{
+    match parse_request(bytes, fields) {
+        Ok(Status::Complete(spans)) => {
+            let (own, rest) = bytes.split_at(spans.len);
+            let head = Head {
+                bytes: own,
+                method: spans.method.of(own),
+                target: spans.path.of(own),
+                is_http11: spans.version == 1,
+                fields: &fields[..spans.headers],
+            };
+            Parsed::Whole(head, rest)
+        }
+        Ok(Status::Partial) => Parsed::Unfinished,
+        Err(Error::TooManyHeaders) => unreachable!(),
+        Err(_) => Parsed::Hopeless,
+    }
+}
+
+impl<'a> Head<'a> {
+    /// The fault that answers the head, if it breaks a rule.
+    pub(crate) fn fault(&self) -> Option<HeadFault>
+        ensures sound { IfNone result ((fault : HeadFault) → ¬ (RuleFault self.now fault)) }
+        ensures texts { IfNone result (AreTexts self.now) }
+        ensures fault { IfSome result (RuleFault self.now) }
+    {
+        if !is_origin_form(self.target) || !self.is_text() || !self.has_field_names() {
+            return Some(HeadFault::BadRequest);
+        }
+        framing_of(self.bytes, self.fields).fault(self.is_http11)
+    }
+
+    /// Whether each value is UTF-8: all the other bytes of a head are.
+    fn is_text(&self) -> bool
+        ensures texts { OnTrue result (AreTexts self.now) }
+        ensures others { OnFalse result (Any IsBadText self.now.fields) }
+    {
+        str::from_utf8(self.bytes).is_ok()
+    }
+
+    /// Whether each field has a name that is one (RFC 9110, section 5.1).
+    fn has_field_names(&self) -> bool
+        ensures names { OnTrue result (All (λ f. IsFieldName f.0) self.now.fields) }
+        ensures others { OnFalse result (Any IsBadName self.now.fields) }
+    {
+        are_field_names(self.bytes, self.fields)
+    }
+
+    /// The request that the head makes on this connection.
+    pub(crate) fn to_request(&self, alloc: Global, conn: Conn) -> Result<Request, AllocError>
+        requires { AreTexts self.now }
+        ensures { IfOk result (λ r. r ≡ request_of_head self.now (conn_view conn)) }
+    {
+        let method = copy_text(alloc, self.method)?;
+        let target = copy_text(alloc, self.target)?;
+        let lines = lower_lines(alloc, self.bytes, self.fields)?;
+        Request::new(alloc, method, target, self.is_http11, lines, conn)
+    }
+}
+
+/// Whether the target is in origin form, which begins with a slash.
+fn is_origin_form(target: &[u8]) -> bool
+    ensures { IsTrue result ↔ IsOriginForm target.now }
+{
+    matches!(target, [b'/', ..])
+}

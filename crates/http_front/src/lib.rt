@@ -1,0 +1,12 @@
+//! Reads the heads of HTTP/1 requests, and says what each asks.
+#![tactic(auto)]
+
+mod fault;
+mod fields;
+mod framing;
+mod head;
+pub mod laws;
+mod read;
+
+pub use fault::HeadFault;
+pub use read::{Ask, HEAD_ROOM, read_head};

@@ -1,0 +1,76 @@
+//! What the head at the front of some bytes asks.
+ghost use Rattle.std.specs.Prelude.{◌≡◌, ◌==◌, IfNone, IfOk, count_by};
+ghost use Rattle.attributes.specs.Conn.{conn_view};
+ghost use Rattle.httparse.specs.Ascii.{line_feed};
+ghost use Rattle.http_front.specs.Asks.{Asks, HasFault, IfFault, IfJudge, IsAskOf, IsUnfinished};
+
+use crate::fault::HeadFault;
+use crate::head::{Head, Parsed, parse};
+use attributes::{Conn, Limits, Request};
+use httparse::spans::EMPTY_HEADER_SPAN;
+use memchr::memchr_iter;
+use std::alloc::{AllocError, Global};
+
+/// A head has at most so many bytes.
+pub const HEAD_ROOM: usize = 65_536;
+
+/// What a head asks.
+#[derive(Debug, Drop)]
+pub enum Ask {
+    /// That this request is judged.
+    Judge(Request),
+    /// Nothing, since it has this fault.
+    Fault(HeadFault),
+}
+
+/// Reads what the head at the front of the bytes asks, on a connection of which `conn` is known. What
+/// follows the head is not looked at, and of several faults one that is there is answered. There is
+/// no answer yet where the head goes on behind the bytes and has room there.
+pub fn read_head(
+    alloc: Global,
+    bytes: &[u8],
+    limits: &Limits,
+    conn: Conn,
+) -> Result<Option<Ask>, AllocError>
+    ensures judged { IfOk result (λ found.
+        IfJudge found (Asks bytes.now limits.now (conn_view conn))) }
+    ensures fault { IfOk result (λ found.
+        IfFault found (HasFault bytes.now limits.now (conn_view conn))) }
+    ensures unfinished { IfOk result (λ found. IfNone found (IsUnfinished bytes.now)) }
+{
+    let room = &bytes[..bytes.len().min(HEAD_ROOM)];
+    let mut fields = vec![in alloc; EMPTY_HEADER_SPAN; line_feeds(room)]?;
+    match parse(room, &mut fields) {
+        Parsed::Whole(head, _) => Ok(Some(ask_of(alloc, &head, limits, conn)?)),
+        Parsed::Hopeless => Ok(Some(Ask::Fault(HeadFault::BadRequest))),
+        Parsed::Unfinished => {
+            if bytes.len() > HEAD_ROOM {
+                Ok(Some(Ask::Fault(HeadFault::TooLarge)))
+            } else {
+                Ok(None)
+            }
+        }
+    }
+}
+
+/// How many line feeds the bytes have: more than any head in them has fields.
+fn line_feeds(bytes: &[u8]) -> usize
+    ensures { result ≡ count_by (λ b. b == line_feed) bytes.now }
+{
+    memchr_iter(b'\n', bytes).count()
+}
+
+/// What a whole head asks.
+fn ask_of(alloc: Global, head: &Head<'_>, limits: &Limits, conn: Conn) -> Result<Ask, AllocError>
+    ensures { IfOk result (IsAskOf limits.now (conn_view conn) head.now) }
+{
+    if let Some(fault) = head.fault() {
+        return Ok(Ask::Fault(fault));
+    }
+    let request = head.to_request(alloc, conn)?;
+    if limits.fits(&request) {
+        Ok(Ask::Judge(request))
+    } else {
+        Ok(Ask::Fault(HeadFault::TooLarge))
+    }
+}

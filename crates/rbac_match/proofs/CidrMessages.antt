@@ -1,0 +1,78 @@
+-- The payloads of a range of addresses are one, or have a fault, never both; and they mean one range at most.
+use Rattle.std.proofs.Common.{◌≡◌, ℕ, ◌⊎◌, inl, inr, List, IsUtf8, refl, sym, ap, ◌∙◌, subst, arith}
+use Rattle.std.proofs.lemmas.Bool.{cases_lt}
+use Rattle.attributes.specs.Address.{IsIpText, Range, width_of}
+use Rattle.attributes.specs.declared.address.Ip.{Ip}
+use Rattle.proto_wire.specs.Values.{uint32_at, payloads, bytes_at}
+use Rattle.proto_wire.specs.Fields.{Wire}
+use Rattle.proto_wire.specs.Merge.{Merges}
+use Rattle.proto_wire.specs.Messages.{IsMessage, MessageFault}
+use Rattle.proto_wire.proofs.Unique.{merges_unique}
+use Rattle.proto_wire.proofs.Messages.{message_total, message_disjoint}
+use Rattle.proto_wire.specs.declared.refusal.Refusal.{Refusal}
+use Rattle.proto_wire.specs.declared.refusal.Refusal.TheVariants.{BadText, OutOfRange}
+use Rattle.rbac_match.specs.Cidr.{address_prefix_field, prefix_len_field, value_field, cidr_keys, uint32_keys, IsCidr, AddressFault, CidrFault, cidr_fields, in_address, in_length, too_long}
+use Rattle.rbac_match.proofs.Basics.{utf8_or_not}
+use Rattle.attributes.proofs.OneAddress.{one_address}
+use Rattle.rbac_match.proofs.AddressTexts.{ip_total}
+
+-- of a message whose fields are known, and whose address is spelled
+module _ (parts : List (List ℕ)) (fs : List Wire) (message : IsMessage cidr_keys parts fs) where
+  length_settles : IsUtf8 (bytes_at address_prefix_field fs) → (ip : Ip) → IsIpText (bytes_at address_prefix_field fs) ip
+      → ((range : Range) × IsCidr parts range) ⊎ ((e : Refusal) × CidrFault parts e)
+  length_settles utf8 ip spelled = elim (message_total uint32_keys (payloads prefix_len_field fs)) [
+    | inr bad ↦ inr (bad.0, in_length fs message.0 bad.1)
+    | inl (ls, length) ↦ elim (cases_lt (width_of ip) (uint32_at value_field ls)) [
+      | inl long ↦ inr (OutOfRange, too_long fs ls ip message.0 spelled length.0 long refl)
+      | inr within ↦ inl (record { address = ip; size = uint32_at value_field ls }, (fs, message, utf8, spelled, (ls, length, refl), within))
+    ]
+  ]
+
+  address_settles : ((range : Range) × IsCidr parts range) ⊎ ((e : Refusal) × CidrFault parts e)
+  address_settles = elim (utf8_or_not (bytes_at address_prefix_field fs)) [
+    | inr not_utf8 ↦ inr (BadText, in_address fs message.0 (inl (refl, not_utf8)))
+    | inl utf8 ↦ elim (ip_total (bytes_at address_prefix_field fs)) [
+      | inr none ↦ inr (OutOfRange, in_address fs message.0 (inr (refl, utf8, none)))
+      | inl (ip, spelled) ↦ length_settles utf8 ip spelled
+    ]
+  ]
+
+-- a range, or a fault
+pub cidr_total : (parts : List (List ℕ))
+    → ((range : Range) × IsCidr parts range) ⊎ ((e : Refusal) × CidrFault parts e)
+cidr_total parts = elim (message_total cidr_keys parts) [
+  | inr bad ↦ inr (bad.0, cidr_fields bad.1)
+  | inl (fs, message) ↦ address_settles parts fs message
+]
+
+-- not both
+pub cidr_disjoint : (parts : List (List ℕ)) (range : Range) (e : Refusal) → IsCidr parts range
+    → CidrFault parts e → ⊥
+cidr_disjoint parts range e (fs, message, utf8, spelled, length, within) (cidr_fields bad) = message_disjoint cidr_keys parts fs e message bad
+cidr_disjoint parts range e (fs, message, utf8, spelled, length, within) (in_address gs merged bad) =
+    let P : List Wire → Type 0 = λ xs. AddressFault (bytes_at address_prefix_field xs) e in
+    elim (subst P (merges_unique parts gs fs merged message.0) bad) [
+      | inl not_text ↦ not_text.1 utf8
+      | inr none ↦ none.2 range.address spelled
+    ]
+cidr_disjoint parts range e (fs, message, utf8, spelled, length, within) (in_length gs merged bad) =
+    let P : List Wire → Type 0 = λ xs. MessageFault uint32_keys (payloads prefix_len_field xs) e in
+    message_disjoint uint32_keys (payloads prefix_len_field fs) length.0 e length.1 (subst P (merges_unique parts gs fs merged message.0) bad)
+cidr_disjoint parts range e (fs, message, utf8, spelled, length, within) (too_long gs ls ip merged also joined long is) =
+    let same : gs ≡ fs = merges_unique parts gs fs merged message.0 in
+    let P : List Wire → Type 0 = λ xs. IsIpText (bytes_at address_prefix_field xs) ip in
+    let Q : List Wire → Type 0 = λ xs. Merges (payloads prefix_len_field xs) ls in
+    let address : ip ≡ range.address = one_address (bytes_at address_prefix_field fs) ip range.address (subst P same also) spelled in
+    let one : ls ≡ length.0 = merges_unique (payloads prefix_len_field fs) ls length.0 (subst Q same joined) length.1.0 in
+    omega (arith, ap width_of address, ap (uint32_at value_field) one, length.2)
+
+-- one range at most
+pub cidr_unique : (parts : List (List ℕ)) (v w : Range) → IsCidr parts v → IsCidr parts w → v ≡ w
+cidr_unique parts v w (fs, message, utf8, spelled, length, within) (gs, also, utf8', spelled', length', within') =
+    let same : gs ≡ fs = merges_unique parts gs fs also.0 message.0 in
+    let P : List Wire → Type 0 = λ xs. IsIpText (bytes_at address_prefix_field xs) w.address in
+    let Q : List Wire → Type 0 = λ xs. IsMessage uint32_keys (payloads prefix_len_field xs) length'.0 in
+    let address : v.address ≡ w.address = one_address (bytes_at address_prefix_field fs) v.address w.address spelled (subst P same spelled') in
+    let one : length.0 ≡ length'.0 = merges_unique (payloads prefix_len_field fs) length.0 length'.0 length.1.0 (subst Q same length'.1).0 in
+    let size : v.size ≡ w.size = length.2 ∙ ap (uint32_at value_field) one ∙ sym length'.2 in
+    λ i. record { address = address i; size = size i }

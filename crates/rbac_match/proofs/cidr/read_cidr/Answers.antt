@@ -1,0 +1,45 @@
+-- Each refusal of a range of addresses is a fault that is there.
+use Rattle.std.proofs.Common.{ℕ, ◌≡◌, ◌<◌, List, map, sym}
+use Rattle.attributes.specs.Address.{width_of}
+use Rattle.proto_wire.specs.Fields.{Wire, field_view}
+use Rattle.proto_wire.specs.Merge.{parts_view}
+use Rattle.proto_wire.specs.Messages.{IsMessage, MessageFault}
+use Rattle.proto_wire.specs.Values.{payloads, bytes_at}
+use Rattle.proto_wire.specs.declared.refusal.Refusal.TheVariants.{OutOfRange}
+use Rattle.rbac_match.specs.Cidr.{address_prefix_field, prefix_len_field, cidr_keys, uint32_keys, AddressFault, CidrFault, cidr_fields, in_address, in_length, too_long}
+use Rattle.rbac_match.proofs.Exits.{exit_memory_or, exit_fault, last_fault}
+use Rattle.rbac_match.proofs.cidr.read_cidr.Goals as goal
+
+pub returns-in_err-fields-clause-fault : goal.returns-in_err-fields-clause-fault
+returns-in_err-fields-clause-fault c =
+    let parts : List (List ℕ) = parts_view c.args.parts.now in
+    exit_memory_or (MessageFault cidr_keys parts) (CidrFault parts) c.from_residual.result _
+    c.from_residual.ensures.1 c.in_err-fields.ensures.fault (λ e bad. cidr_fields bad)
+
+pub returns-in_err-address-clause-fault : goal.returns-in_err-address-clause-fault
+returns-in_err-address-clause-fault c =
+    let parts : List (List ℕ) = parts_view c.args.parts.now in
+    let fs : List Wire = map field_view c.in_ok-fields.fields.items in
+    exit_fault (CidrFault parts) c.from_residual-in_err-address.result _
+    c.from_residual-in_err-address.ensures.1
+    (in_address fs c.in_ok-fields.ensures.found.0 (rw c.deref.ensures.value at c.in_err-address.ensures.fault))
+
+pub returns-in_err-length-clause-fault : goal.returns-in_err-length-clause-fault
+returns-in_err-length-clause-fault c =
+    let parts : List (List ℕ) = parts_view c.args.parts.now in
+    let fs : List Wire = map field_view c.in_ok-fields.fields.items in
+    exit_memory_or (MessageFault uint32_keys (payloads prefix_len_field fs)) (CidrFault parts)
+    c.from_residual-in_err-length.result _ c.from_residual-in_err-length.ensures.1
+    (rw (c.deref-3.ensures.value, c.in_ok-payloads_of.ensures, c.deref-2.ensures.value) at c.in_err-length.ensures.fault)
+    (λ e bad. in_length fs c.in_ok-fields.ensures.found.0 bad)
+
+pub returns-clause-fault : goal.returns-clause-fault
+returns-clause-fault c =
+    let parts : List (List ℕ) = parts_view c.args.parts.now in
+    let fs : List Wire = map field_view c.in_ok-fields.fields.items in
+    let spelled = rw c.deref.ensures.value at c.in_ok-address.ensures.found.1 in
+    let length = rw (c.deref-3.ensures.value, c.in_ok-payloads_of.ensures, c.deref-2.ensures.value) at c.in_ok-length.ensures.found in
+    last_fault (λ e. (width_of c.in_ok-address.address < c.in_ok-length.length) × (e ≡ OutOfRange))
+    (CidrFault parts) c.range_of.result c.range_of.ensures.fault
+    (λ e bad. too_long fs length.0 c.in_ok-address.address c.in_ok-fields.ensures.found.0 spelled length.1.0
+    (rw (← length.2) bad.0) bad.1)

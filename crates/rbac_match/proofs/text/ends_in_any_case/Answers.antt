@@ -1,6 +1,0 @@
-use Rattle.rbac_match.proofs.TextMatching.{ends_folded}
-use Rattle.rbac_match.proofs.text.ends_in_any_case.Goals as goal
-
-pub returns-then-end-text : goal.returns-then-end-text
-returns-then-end-text c =
-    ends_folded c.args.text.now c.args.end.now c.eq_ignore_ascii_case.result c.if-end-text.true c.eq_ignore_ascii_case.ensures.test

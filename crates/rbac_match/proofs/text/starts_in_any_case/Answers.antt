@@ -1,6 +1,0 @@
-use Rattle.rbac_match.proofs.TextMatching.{starts_folded}
-use Rattle.rbac_match.proofs.text.starts_in_any_case.Goals as goal
-
-pub returns-then-start-text : goal.returns-then-start-text
-returns-then-start-text c =
-    starts_folded c.args.text.now c.args.start.now c.eq_ignore_ascii_case.result c.eq_ignore_ascii_case.ensures.test

@@ -1,0 +1,106 @@
+//! Ranges of addresses, and which addresses of a request they are compared with.
+
+ghost use Rattle.std.specs.Prelude.{◌≡◌, ◌<◌, ◌≤◌, IfOk, IfErr, IsUtf8, map};
+ghost use Rattle.attributes.specs.Address.{IsIpText, width_of};
+ghost use Rattle.attributes.specs.Conn.{conn_view};
+ghost use Rattle.proto_wire.specs.Fields.{field_view};
+ghost use Rattle.proto_wire.specs.Merge.{parts_view};
+ghost use Rattle.proto_wire.specs.Messages.{MessageFault};
+ghost use Rattle.proto_wire.specs.Refusal.{MemoryOr};
+ghost use Rattle.proto_wire.specs.declared.refusal.Refusal.TheVariants.{OutOfRange};
+ghost use Rattle.proto_wire.specs.Values.{bytes_at};
+ghost use Rattle.rbac_match.specs.Cidr.{address_prefix_field, IsCidr, IsUint32, AddressFault, CidrFault, address_holds, uint32_keys, source_ip};
+
+use attributes::{Cidr, Conn, Ip, Request, parse_ip};
+use proto_wire::{Field, Key, Refusal, bytes_at, keys, payloads_of, read_message, uint32_at};
+use std::alloc::Global;
+
+/// Which address of a request a rule looks at.
+#[derive(Clone, Copy, PartialEq, Eq, Debug)]
+pub enum AddressSource {
+    /// Where the connection goes to: a permission's `destination_ip`.
+    Destination,
+    /// Where the connection comes from: a principal's `direct_remote_ip`.
+    DirectRemote,
+    /// Where the request comes from: a principal's `remote_ip`.
+    Remote,
+}
+
+impl AddressSource {
+    fn of(self, conn: &Conn) -> Option<Ip>
+        ensures { result ≡ source_ip self (conn_view conn.now) }
+    {
+        match self {
+            AddressSource::Destination => conn.destination_ip,
+            AddressSource::DirectRemote => conn.direct_remote_ip,
+            AddressSource::Remote => conn.remote_ip,
+        }
+    }
+}
+
+const ADDRESS_PREFIX: u32 = 1;
+
+const PREFIX_LEN: u32 = 2;
+
+/// The value of a UInt32Value.
+const VALUE: u32 = 1;
+
+static CIDR_RANGE: [Key; 2] = keys![Len ADDRESS_PREFIX, Len PREFIX_LEN];
+
+static UINT32_VALUE: [Key; 1] = keys![Varint VALUE];
+
+/// Reads a range of addresses (`envoy.config.core.v3.CidrRange`), which stands in the parts: `BadText` where its address is
+/// not UTF-8, `OutOfRange` where that spells no address or has fewer bits than the prefix. No `prefix_len` is 0.
+pub(crate) fn read_cidr(alloc: Global, parts: &[&[u8]]) -> Result<Cidr, Refusal>
+    ensures found { IfOk result (λ range. IsCidr (parts_view parts.now) range) }
+    ensures fault { IfErr result (MemoryOr (CidrFault (parts_view parts.now))) }
+{
+    let fields = read_message(alloc, parts, &CIDR_RANGE)?;
+    let address = address_prefix(&fields)?;
+    let length = read_uint32(alloc, &payloads_of(alloc, &fields, PREFIX_LEN)?)?;
+    range_of(address, length)
+}
+
+/// The address that the fields of a range name.
+fn address_prefix(fields: &[Field<'_>]) -> Result<Ip, Refusal>
+    ensures found { let text = bytes_at address_prefix_field (map field_view fields.now) in
+        IfOk result (λ ip. IsUtf8 text × IsIpText text ip) }
+    ensures fault { let text = bytes_at address_prefix_field (map field_view fields.now) in
+        IfErr result (λ e. AddressFault text e) }
+{
+    let Ok(text) = std::str::from_utf8(bytes_at(fields, ADDRESS_PREFIX)) else {
+        return Err(Refusal::BadText);
+    };
+    parse_ip(text).ok_or(Refusal::OutOfRange)
+}
+
+/// Reads a uint32 in a message of its own (`google.protobuf.UInt32Value`), which stands in the parts.
+fn read_uint32(alloc: Global, parts: &[&[u8]]) -> Result<u32, Refusal>
+    ensures found { IfOk result (λ n. IsUint32 (parts_view parts.now) n) }
+    ensures fault { IfErr result (MemoryOr (MessageFault uint32_keys (parts_view parts.now))) }
+{
+    let fields = read_message(alloc, parts, &UINT32_VALUE)?;
+    Ok(uint32_at(&fields, VALUE))
+}
+
+/// The range of this length at the address, unless the address has fewer bits.
+fn range_of(address: Ip, length: u32) -> Result<Cidr, Refusal>
+    ensures found { IfOk result (λ range.
+        (range.address ≡ address) × (range.size ≡ length) × (length ≤ width_of address)) }
+    ensures fault { IfErr result (λ e. (width_of address < length) × (e ≡ OutOfRange)) }
+{
+    match Cidr::new(address, length) {
+        Some(range) => Ok(range),
+        None => Err(Refusal::OutOfRange),
+    }
+}
+
+/// Whether that address of the request is in the range; one that is not known is in none.
+pub(crate) fn address_matches(source: AddressSource, range: &Cidr, request: &Request) -> bool
+    ensures { result ≡ address_holds source range.now request.now }
+{
+    match source.of(request.conn()) {
+        Some(ip) => range.contains(ip),
+        None => false,
+    }
+}

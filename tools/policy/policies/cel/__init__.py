@@ -1,0 +1,1 @@
+"""The Common Expression Language: texts to trees, and back."""

@@ -1,0 +1,148 @@
+"""Conditions as texts of CEL: `text`, with `ids`, `dotted` and the maps of types and references where they are given.
+
+The keys `text`, `ids` and `dotted` stand in the place of `expr`. Without `ids` they run in the order of the text, from
+1; without `type_map` the entries are those of the empty literals whose types are told.
+"""
+from typing import List, NamedTuple, Optional
+
+import yaml
+
+from .cel.attributes import spellings
+from .cel.infer import types_of_empty
+from .cel.mistake import TextMistake
+from .cel.parse import parse
+from .cel.printing import text_of
+from .cel.tree import ListLiteral, Node, in_order
+from .cel.typetext import type_text
+from .faults import unknown_names
+from .messages import CHECKED_EXPR, EXPR, Message, descriptor
+from .places import spread
+from .scalars import is_bool, is_text
+from .trees import NoTree, message_tree, tree_message, type_message
+from .writer import PLAIN, Writer
+
+TEXT_KEY, IDS_KEY, DOTTED_KEY = "text", "ids", "dotted"
+
+
+def type_entries(tree: Node) -> list:
+    """The entries of the type map that a tree's empty literals get, by ascending id."""
+    known = {literal.id: kind for literal, kind in types_of_empty(tree).items() if kind is not None}
+    return [(number, type_message(known[number])) for number in sorted(known)]
+
+
+def encode_text(encoding, kind, pairs: dict, path: tuple, depth: int) -> Message:
+    """The `CheckedExpr` or `Expr` of a condition given as text."""
+    _, node = pairs.pop(TEXT_KEY)
+    if not is_text(node):
+        raise encoding.mistake(node, "a text of CEL is wanted here; put it in quotes")
+    dotted = _take_dotted(encoding, pairs)
+    ids = _take_ids(encoding, pairs)
+    tree = _parse(encoding, node, dotted)
+    _give_ids(encoding, tree, ids)
+    for name in ("expr",) if kind.full_name == CHECKED_EXPR else list(pairs):
+        if name in pairs:
+            raise encoding.mistake(pairs[name][0], f"`{name}` cannot stand beside `{TEXT_KEY}`")
+    if kind.full_name == EXPR:
+        encoding.marks[path] = node
+        return tree_message(tree)
+    encoding.marks[path + ("expr",)] = node
+    encoding.texts.add(path + ("expr",))
+    for place, words in unknown_names(tree):
+        _note(encoding, node, place, f"{words} (9 UnknownName)")
+    message = encoding.fields(kind, pairs, path, depth)
+    message.values["expr"] = tree_message(tree)
+    if "type_map" not in message.values:
+        message.values["type_map"] = type_entries(tree)
+        _note_untold(encoding, tree, node)
+    return message
+
+
+def _take_dotted(encoding, pairs: dict) -> bool:
+    if DOTTED_KEY not in pairs:
+        return encoding.dotted
+    _, node = pairs.pop(DOTTED_KEY)
+    if not is_bool(node):
+        raise encoding.mistake(node, "true or false is wanted")
+    return node.value == "true"
+
+
+def _take_ids(encoding, pairs: dict) -> Optional[yaml.Node]:
+    return pairs.pop(IDS_KEY)[1] if IDS_KEY in pairs else None
+
+
+def _parse(encoding, node: yaml.ScalarNode, dotted: bool) -> Node:
+    try:
+        return parse(node.value, dotted)
+    except TextMistake as fault:
+        index = spread(encoding.source, node)[fault.place]
+        raise encoding.source.mistake(encoding.source.place_of(index), fault.message) from None
+
+
+def _give_ids(encoding, tree: Node, node: Optional[yaml.Node]) -> None:
+    """Gives the tree the ids of a list, in the order of the text."""
+    if node is None:
+        return
+    nodes = list(in_order(tree))
+    if not isinstance(node, yaml.SequenceNode) or len(node.value) != len(nodes):
+        raise encoding.mistake(node, f"a list of {len(nodes)} numbers is wanted here, one for each node of the tree")
+    field = descriptor(EXPR).fields_by_name["id"]
+    for part, scalar in zip(nodes, node.value):
+        if not isinstance(scalar, yaml.ScalarNode):
+            raise encoding.mistake(scalar, "a number is wanted here")
+        part.id = encoding.scalar(field, scalar)
+
+
+def _note(encoding, node: yaml.ScalarNode, place: int, words: str) -> None:
+    """Notes something at a place of a condition's text."""
+    index = spread(encoding.source, node)[place]
+    encoding.notes.append(encoding.source.tell(encoding.source.place_of(index), f"note: {words}"))
+
+
+def _note_untold(encoding, tree: Node, node: yaml.ScalarNode) -> None:
+    """Notes the empty literals whose type nothing tells."""
+    found = types_of_empty(tree)
+    told = {literal.id: type_text(kind) for literal, kind in found.items() if kind is not None}
+    for literal, kind in found.items():
+        if kind is not None:
+            continue
+        what, guess = ("list", "list(int)") if isinstance(literal, ListLiteral) else ("map", "map(string, int)")
+        entries = {**told, literal.id: guess}
+        shown = ", ".join(f'{number}: "{entries[number]}"' for number in sorted(entries))
+        words = f"nothing tells the type of this empty {what} (14 NeedsType); `type_map: {{{shown}}}` would tell one"
+        _note(encoding, node, literal.place, words)
+
+
+class TextForm(NamedTuple):
+    """A condition as text: whether attributes are dotted, the ids where they are not 1, 2, .., and whether the type
+    map is the one that the text gets by itself."""
+
+    text: str
+    dotted: bool
+    ids: Optional[List[int]]
+    has_own_types: bool
+
+
+def text_form(message: Message, writer: Writer) -> Optional[TextForm]:
+    """The text that `encode_text` makes the same condition of with that writer, or None."""
+    is_checked = message.kind.full_name == CHECKED_EXPR
+    expr = message.get("expr") if is_checked else message
+    try:
+        tree = message_tree(expr)
+    except NoTree:
+        return None
+    dotted = any(is_variable for _, is_variable in spellings(tree))
+    text = text_of(tree, dotted)
+    if text is None:
+        return None
+    ids = [node.id for node in in_order(tree)]
+    again = parse(text, dotted)
+    for node, number in zip(in_order(again), ids):
+        node.id = number
+    if writer.write(tree_message(again)) != expr.raw:
+        return None
+    has_own_types = is_checked and _entry_bytes(type_entries(tree)) != _entry_bytes(message.get("type_map") or [])
+    return TextForm(text, dotted, None if ids == list(range(1, len(ids) + 1)) else ids, has_own_types)
+
+
+def _entry_bytes(entries: list) -> list:
+    return [(key, PLAIN.write(value)) for key, value in entries]

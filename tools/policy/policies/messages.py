@@ -1,0 +1,149 @@
+"""The messages: their fields by the `.proto` files, and what one message of them holds."""
+import pathlib
+import subprocess
+from functools import lru_cache
+from typing import Dict, Iterator, List, Optional, Tuple
+
+from google.protobuf import descriptor_pb2, descriptor_pool
+from google.protobuf.descriptor import Descriptor, FieldDescriptor
+
+PROTO = pathlib.Path(__file__).parent.parent / "proto"
+FILES = (
+    "envoy/extensions/filters/http/rbac/v3/rbac.proto",
+    "envoy/service/discovery/v3/discovery.proto",
+    "envoy/config/core/v3/extension.proto",
+)
+FILTER = "envoy.extensions.filters.http.rbac.v3.RBAC"
+EXTENSION = "envoy.config.core.v3.TypedExtensionConfig"
+RESPONSE = "envoy.service.discovery.v3.DiscoveryResponse"
+ANY = "google.protobuf.Any"
+WRAPPER = "google.protobuf.UInt32Value"
+NULL = "google.protobuf.NullValue"
+EXPR = "google.api.expr.v1alpha1.Expr"
+CHECKED_EXPR = "google.api.expr.v1alpha1.CheckedExpr"
+TYPE = "google.api.expr.v1alpha1.Type"
+CONSTANT = "google.api.expr.v1alpha1.Constant"
+RULES = "envoy.config.rbac.v3.RBAC"
+POLICY = "envoy.config.rbac.v3.Policy"
+PERMISSION = "envoy.config.rbac.v3.Permission"
+PRINCIPAL = "envoy.config.rbac.v3.Principal"
+MATCHER = "envoy.type.matcher.v3.StringMatcher"
+HEADER = "envoy.config.route.v3.HeaderMatcher"
+PREFIX = "type.googleapis.com/"
+
+
+@lru_cache(maxsize=None)
+def _files() -> Tuple[descriptor_pool.DescriptorPool, Dict[str, frozenset]]:
+    """The pool of all messages, and the names that each message reserves."""
+    command = ["protoc", "-I", str(PROTO), "--include_imports", "--descriptor_set_out=/dev/stdout", *FILES]
+    compiled = subprocess.run(command, stdout=subprocess.PIPE, check=True).stdout
+    pool = descriptor_pool.DescriptorPool()
+    reserved: Dict[str, frozenset] = {}
+    for file in descriptor_pb2.FileDescriptorSet.FromString(compiled).file:
+        pool.Add(file)
+        _collect_reserved(file.package, file.message_type, reserved)
+    return pool, reserved
+
+
+def _collect_reserved(prefix: str, messages, reserved: Dict[str, frozenset]) -> None:
+    for message in messages:
+        name = f"{prefix}.{message.name}"
+        reserved[name] = frozenset(message.reserved_name)
+        _collect_reserved(name, message.nested_type, reserved)
+
+
+@lru_cache(maxsize=None)
+def descriptor(name: str) -> Descriptor:
+    """The message of a full name; KeyError where there is none."""
+    return _files()[0].FindMessageTypeByName(name)
+
+
+def reserved_names(message: Descriptor) -> frozenset:
+    """The names that the public message has and ours leaves out."""
+    return _files()[1][message.full_name]
+
+
+def label(kind: Descriptor) -> str:
+    """What people call a message: its name without its package."""
+    if kind.full_name == FILTER:
+        return "the HTTP RBAC filter"
+    return kind.full_name[len(kind.file.package) + 1 :]
+
+
+def is_repeated(field: FieldDescriptor) -> bool:
+    """Whether a field is a list (and no map)."""
+    return field.label == FieldDescriptor.LABEL_REPEATED and not is_map(field)
+
+
+def is_map(field: FieldDescriptor) -> bool:
+    """Whether a field is a map, held as entries."""
+    return field.message_type is not None and field.message_type.GetOptions().map_entry
+
+
+def is_message(field: FieldDescriptor) -> bool:
+    """Whether a field holds messages."""
+    return field.message_type is not None
+
+
+def is_null(field: FieldDescriptor) -> bool:
+    """Whether a field's one value is null."""
+    return field.enum_type is not None and field.enum_type.full_name == NULL
+
+
+def has_presence(field: FieldDescriptor) -> bool:
+    """Whether a scalar field of the default value stands on the wire: that of a oneof does."""
+    return field.containing_oneof is not None
+
+
+def default_of(field: FieldDescriptor):
+    """The value of a scalar field that is absent."""
+    if field.type == FieldDescriptor.TYPE_STRING:
+        return ""
+    if field.type == FieldDescriptor.TYPE_BYTES:
+        return b""
+    if field.type == FieldDescriptor.TYPE_BOOL:
+        return False
+    return 0.0 if field.type == FieldDescriptor.TYPE_DOUBLE else 0
+
+
+class Message:
+    """A message: its values by field name, and its own bytes where they are not the plain spelling of the values.
+
+    A value is a number, a text, bytes, a Message, a list of these, or for a map a list of pairs. What was read from
+    bytes also has places: `start` is the offset of its first byte, `places` that of each field, a list for repeated
+    fields.
+    """
+
+    def __init__(self, kind: Descriptor, start: int = 0):
+        self.kind = kind
+        self.values: Dict[str, object] = {}
+        self.wire: Optional[bytes] = None
+        self.start = start
+        self.places: Dict[str, object] = {}
+        self.faults: List[Tuple[int, int, str]] = []
+        self.raw = b""
+        self.is_whole = True
+
+    def get(self, name: str):
+        """The value of a field, or None where the field is absent."""
+        return self.values.get(name)
+
+    def scalar(self, name: str):
+        """The value of a scalar field, the default where it is absent."""
+        value = self.values.get(name)
+        return default_of(self.kind.fields_by_name[name]) if value is None else value
+
+    def parts(self) -> Iterator["Message"]:
+        """The messages that stand in this one."""
+        for value in self.values.values():
+            for one in value if isinstance(value, list) else [value]:
+                part = one[1] if isinstance(one, tuple) else one
+                if isinstance(part, Message):
+                    yield part
+
+    def which(self, oneof: str) -> Optional[str]:
+        """The name of a oneof's member that is there."""
+        for field in self.kind.oneofs_by_name[oneof].fields:
+            if field.name in self.values:
+                return field.name
+        return None

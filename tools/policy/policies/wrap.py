@@ -1,0 +1,33 @@
+"""Filters in a discovery response with its frame, as the update stream brings them."""
+from typing import List, Tuple
+
+from .messages import ANY, EXTENSION, FILTER, PREFIX, RESPONSE, Message, descriptor
+from .writer import PLAIN
+
+GREATEST_MESSAGE = 1_048_576
+
+
+def _message(kind: str, values: dict) -> Message:
+    message = Message(descriptor(kind))
+    message.values = values
+    return message
+
+
+def _any(name: str, data: bytes) -> Message:
+    """A message of any type, by the bytes of the message that it holds."""
+    return _message(ANY, {"type_url": PREFIX + name, "value": data})
+
+
+def response(filters: List[Tuple[str, bytes]], version: str, nonce: str) -> bytes:
+    """The discovery response that brings filters by name, without its frame."""
+    resources = []
+    for name, data in filters:
+        extension = _message(EXTENSION, {"name": name, "typed_config": _any(FILTER, data)})
+        resources.append(_any(EXTENSION, PLAIN.write(extension)))
+    values = {"version_info": version, "resources": resources, "type_url": PREFIX + EXTENSION, "nonce": nonce}
+    return PLAIN.write(_message(RESPONSE, values))
+
+
+def frame(message: bytes) -> bytes:
+    """A message of fewer than 2^32 bytes behind its five bytes: no compression, and the length."""
+    return bytes([0]) + len(message).to_bytes(4, "big") + message
