@@ -1,15 +1,24 @@
-//! The stack machine that runs conditions. What stands here today is how a run ends without an answer.
+//! The stack machine that runs conditions: instructions, code and its runs.
 #![tactic(auto)]
 
-use thiserror::Error;
+mod branches;
+mod code;
+mod error;
+mod instr;
+pub mod laws;
+mod locals;
+mod open_loop;
+mod operations;
+mod running;
+mod stack;
+mod state;
+mod step;
+mod verified;
 
-/// Why a run ends without an answer.
-#[derive(Clone, Copy, PartialEq, Eq, Debug, Error)]
-pub enum RunError {
-    /// Memory ran out.
-    #[error("memory ran out")]
-    Memory,
-    /// The next step costs more than the fuel that is left.
-    #[error("the fuel is spent")]
-    OutOfSteps,
-}
+pub use code::{Code, CodeFault};
+pub use error::RunError;
+pub use instr::{Constant, Instr};
+pub use locals::Locals;
+pub use running::{Outcome, run};
+pub use stack::Stack;
+pub use verified::Verified;

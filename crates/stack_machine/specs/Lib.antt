@@ -1,0 +1,11 @@
+pub mod Locals
+pub mod Instructions
+pub mod Slots
+pub mod Operations
+pub mod Charges
+pub mod Machine
+pub mod Loops
+pub mod StateView
+pub mod Shapes
+pub mod Typable
+pub mod Groups

@@ -1,0 +1,175 @@
+//! Instructions that go elsewhere by what is on top.
+
+ghost use Rattle.std.specs.Prelude.{◌≡◌, ◌≢◌, ◌<◌, ◌^◌, IfErr, None, OnOk, Some, map};
+ghost use Rattle.cel_value.specs.Masses.{left_of};
+ghost use Rattle.cel_value.specs.View.{answer_view};
+ghost use Rattle.cel_ops.specs.Charges.{loop_charge};
+ghost use Rattle.stack_machine.specs.Charges.{of_one};
+ghost use Rattle.stack_machine.specs.Machine.{branch, goes, loop_next, loop_start, loop_test, opened, ranges_over, stuck, test};
+ghost use Rattle.stack_machine.specs.Loops.{range_view};
+ghost use Rattle.stack_machine.specs.StateView.{state_view};
+
+use crate::error::RunError;
+use crate::open_loop::{OpenLoop, Range};
+use crate::state::{State, set_local};
+use cel_ops::spend_loop;
+use cel_value::{Answer, Value};
+use std::alloc::AllocError;
+
+impl State {
+    pub(crate) fn branch(&mut self, wanted: bool, target: u16) -> Result<(), AllocError>
+        requires room { self.old.position < 2 ^ 32 }
+        requires lives { branch wanted target (state_view self.old) ≢ stuck }
+        ensures went { OnOk result (branch wanted target (state_view self.old) ≡ goes (state_view self.new)) }
+        ensures fuel { self.new.fuel ≡ self.old.fuel }
+    {
+        let Some(answer) = self.stack.pop() else {
+            unreachable!()
+        };
+        match answer {
+            Ok(Value::Bool(found)) => {
+                self.stack.push(Ok(Value::Bool(found)))?;
+                if found == wanted {
+                    self.position = target as usize;
+                    return Ok(());
+                }
+                self.position += 1;
+                Ok(())
+            }
+            Err(error) => self.push(Err(error)),
+            Ok(_) => unreachable!(),
+        }
+    }
+
+    pub(crate) fn test(&mut self, otherwise: u16, failed: u16) -> Result<(), AllocError>
+        requires room { self.old.position < 2 ^ 32 }
+        requires lives { test otherwise failed (state_view self.old) ≢ stuck }
+        ensures went { OnOk result (test otherwise failed (state_view self.old) ≡ goes (state_view self.new)) }
+        ensures fuel { self.new.fuel ≡ self.old.fuel }
+    {
+        let Some(answer) = self.stack.pop() else {
+            unreachable!()
+        };
+        match answer {
+            Ok(Value::Bool(true)) => {
+                self.position += 1;
+                Ok(())
+            }
+            Ok(Value::Bool(false)) => {
+                self.position = otherwise as usize;
+                Ok(())
+            }
+            Err(error) => {
+                self.stack.push(Err(error))?;
+                self.position = failed as usize;
+                Ok(())
+            }
+            Ok(_) => unreachable!(),
+        }
+    }
+
+    pub(crate) fn loop_start(&mut self, failed: u16) -> Result<(), RunError>
+        requires room { self.old.position < 2 ^ 32 }
+        requires lives { loop_start failed (state_view self.old) ≢ stuck }
+        ensures went { OnOk result (loop_start failed (state_view self.old) ≡ goes (state_view self.new)) }
+        ensures paid { OnOk result (Some self.new.fuel
+            ≡ left_of self.old.fuel (of_one loop_charge (map answer_view self.old.stack))) }
+        ensures out { IfErr result (λ e. e ≡ RunError.OutOfSteps → None
+            ≡ left_of self.old.fuel (of_one loop_charge (map answer_view self.old.stack))) }
+    {
+        let Some(answer) = self.stack.pop() else {
+            unreachable!()
+        };
+        let Some(fuel) = spend_loop(&answer, self.fuel) else {
+            return Err(RunError::OutOfSteps);
+        };
+        self.fuel = fuel;
+        self.range_over(answer, failed)?;
+        Ok(())
+    }
+
+    fn range_over(&mut self, answer: Answer, failed: u16) -> Result<(), AllocError>
+        requires room { self.old.position < 2 ^ 32 }
+        requires lives { let s = state_view self.old in
+            ranges_over (answer_view answer) failed s s.stack ≢ stuck }
+        ensures went { let s = state_view self.old in OnOk result
+            (ranges_over (answer_view answer) failed s s.stack ≡ goes (state_view self.new)) }
+        ensures fuel { self.new.fuel ≡ self.old.fuel }
+    {
+        match answer {
+            Ok(Value::List(items)) => self.open(Range::Items(items)),
+            Ok(Value::Map(map)) => self.open(Range::Keys(map)),
+            Err(error) => {
+                self.stack.push(Err(error))?;
+                self.position = failed as usize;
+                Ok(())
+            }
+            Ok(_) => unreachable!(),
+        }
+    }
+
+    fn open(&mut self, range: Range) -> Result<(), AllocError>
+        requires { self.old.position < 2 ^ 32 }
+        ensures went { let s = state_view self.old in
+            OnOk result (opened (Some (range_view range)) s s.stack ≡ goes (state_view self.new)) }
+        ensures fuel { self.new.fuel ≡ self.old.fuel }
+    {
+        self.loops.push(OpenLoop::new(range))?;
+        self.position += 1;
+        Ok(())
+    }
+
+    pub(crate) fn loop_next(&mut self, local: u8, done: u16) -> Result<(), AllocError>
+        requires room { self.old.position < 2 ^ 32 }
+        requires lives { loop_next local done (state_view self.old) ≢ stuck }
+        ensures went { OnOk result (loop_next local done (state_view self.old) ≡ goes (state_view self.new)) }
+        ensures fuel { self.new.fuel ≡ self.old.fuel }
+    {
+        let Some(mut innermost) = self.loops.pop() else {
+            unreachable!()
+        };
+        match innermost.next()? {
+            Some(value) => {
+                self.loops.push(innermost)?;
+                set_local(&mut self.locals, local, Ok(value))?;
+                self.position += 1;
+                Ok(())
+            }
+            None => {
+                self.position = done as usize;
+                Ok(())
+            }
+        }
+    }
+
+    pub(crate) fn loop_test(&mut self, done: u16, failed: u16) -> Result<(), AllocError>
+        requires room { self.old.position < 2 ^ 32 }
+        requires lives { loop_test done failed (state_view self.old) ≢ stuck }
+        ensures went { OnOk result (loop_test done failed (state_view self.old) ≡ goes (state_view self.new)) }
+        ensures fuel { self.new.fuel ≡ self.old.fuel }
+    {
+        let Some(answer) = self.stack.pop() else {
+            unreachable!()
+        };
+        let Some(innermost) = self.loops.pop() else {
+            unreachable!()
+        };
+        match answer {
+            Ok(Value::Bool(true)) => {
+                self.loops.push(innermost)?;
+                self.position += 1;
+                Ok(())
+            }
+            Ok(Value::Bool(false)) => {
+                self.position = done as usize;
+                Ok(())
+            }
+            Err(error) => {
+                self.stack.push(Err(error))?;
+                self.position = failed as usize;
+                Ok(())
+            }
+            Ok(_) => unreachable!(),
+        }
+    }
+}
