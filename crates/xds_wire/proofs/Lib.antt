@@ -1,0 +1,6 @@
+pub mod HeadLemmas
+pub mod CutLemmas
+pub mod OneCut
+pub mod EachCut
+pub mod StreamLemmas
+pub mod Beginnings

@@ -1,0 +1,60 @@
+//! Laws of frames: bytes are cut in one way, and calls cut all the bytes that they are fed, wherever those are cut
+//! into pieces.
+
+ghost use Rattle.std.specs.Prelude.{◌≡◌, ◌≢◌, ℕ, ◌<◌, All, [], List, ◌++◌};
+ghost use Rattle.xds_wire.specs.Frames.{Tail, unfinished, Cut, AreAllowed, IsBeginning, frame_of, frames_of};
+ghost use Rattle.xds_wire.specs.Stream.{Kept, start, Call, Runs, Resumes, bytes_fed, messages_taken};
+
+/// However calls feed bytes and ask for messages, what they handed out and what is kept is what all the bytes are cut
+/// to.
+pub fn cuts()
+    ensures { (max : ℕ) (calls : List Call) (kept : Kept) → Runs (start max) calls kept
+        → Cut (bytes_fed calls) max (messages_taken calls ++ kept.messages) kept.tail }
+{}
+
+/// What was cut goes on where more bytes come.
+pub fn cut_resumes()
+    ensures { (bytes more : List ℕ) (max : ℕ) (ms ns : List (List ℕ)) (t u : Tail)
+        → Cut bytes max ms t → Resumes max t more ns u → Cut (bytes ++ more) max (ms ++ ns) u }
+{}
+
+/// Bytes are cut in one way at most.
+pub fn cut_unique()
+    ensures { (bytes : List ℕ) (max : ℕ) (ms ns : List (List ℕ)) (t u : Tail)
+        → Cut bytes max ms t → Cut bytes max ns u → (ms ≡ ns) × (t ≡ u) }
+{}
+
+/// Bytes are always cut.
+pub fn cut_total()
+    ensures { (bytes : List ℕ) (max : ℕ) → All (λ b. b < 256) bytes
+        → (ms : List (List ℕ)) × (t : Tail) × Cut bytes max ms t }
+{}
+
+/// Calls that fed the same bytes have the same messages, handed out or kept, and the same tail.
+pub fn cuts_unique()
+    ensures { (max : ℕ) (calls others : List Call) (kept also : Kept)
+        → Runs (start max) calls kept → Runs (start max) others also
+        → bytes_fed calls ≡ bytes_fed others
+        → (messages_taken calls ++ kept.messages ≡ messages_taken others ++ also.messages)
+        × (kept.tail ≡ also.tail) }
+{}
+
+/// Frames are cut to their messages.
+pub fn frames_are_cut()
+    ensures { (max : ℕ) (messages : List (List ℕ)) → AreAllowed max messages
+        → Cut (frames_of messages) max messages (unfinished []) }
+{}
+
+/// A part of frames, from the first byte on, is cut to the first messages, and is not broken.
+pub fn part_of_frames_is_cut()
+    ensures { (max : ℕ) (messages : List (List ℕ)) (bytes more : List ℕ)
+        → AreAllowed max messages → bytes ++ more ≡ frames_of messages
+        → (first others : List (List ℕ)) × (rest : List ℕ)
+        × (messages ≡ first ++ others) × Cut bytes max first (unfinished rest) }
+{}
+
+/// A rest is a proper beginning of a frame: further bytes make it one.
+pub fn a_rest_begins_a_frame()
+    ensures { (max : ℕ) (rest : List ℕ) → All (λ b. b < 256) rest → IsBeginning max rest
+        → (message more : List ℕ) × (more ≢ []) × (rest ++ more ≡ frame_of message) }
+{}
