@@ -3,17 +3,17 @@ use Rattle.std.proofs.Common.{◌≡◌, ℕ, ◌+◌, ◌*◌, ◌/◌, ◌%◌
 use Rattle.std.proofs.lemmas.Bool.{cases_lt}
 use Rattle.std.proofs.lemmas.List.{length-append}
 use Rattle.proto_wire.specs.Varint.{IsGroups, StartsVarint}
-use Rattle.proto_wire.specs.Fields.{Payload, varint, eight, text, four, Wire, wire_type_of, tag_bits, IsFieldNumber, StartsPayload, StartsField, FailsField, no_tag, bad_number, bad_content}
+use Rattle.proto_wire.specs.Fields.{Payload, varint, i64, len, i32, Wire, wire_type_of, tag_bits, IsFieldNumber, StartsPayload, StartsField, FailsField, no_tag, bad_number, bad_payload}
 use Rattle.proto_wire.specs.declared.fault.WireError.{WireError}
 use Rattle.proto_wire.specs.declared.fault.WireError.TheVariants.{BadNumber}
-use Rattle.proto_wire.proofs.VarintLemmas.{varint-one, varint-not-fails, varint-fails-one, varint_reads}
-use Rattle.proto_wire.proofs.PayloadLemmas.{payload-one, payload-not-fails, payload-fails-one, payload_reads}
+use Rattle.proto_wire.proofs.VarintLemmas.{varint_unique, varint_disjoint, varint_fault_unique, varint_total}
+use Rattle.proto_wire.proofs.PayloadLemmas.{payload_unique, payload_disjoint, payload_fault_unique, payload_total}
 
-tag-bits-small : (p : Payload) → tag_bits (wire_type_of p) < 8
-tag-bits-small (varint n) = omega arith
-tag-bits-small (eight n) = omega arith
-tag-bits-small (text n) = omega arith
-tag-bits-small (four n) = omega arith
+tag_bits_small : (p : Payload) → tag_bits (wire_type_of p) < 8
+tag_bits_small (varint n) = omega arith
+tag_bits_small (i64 n) = omega arith
+tag_bits_small (len n) = omega arith
+tag_bits_small (i32 n) = omega arith
 
 abbrev make : ℕ → Payload → Wire
 make n p = record { number = n; payload = p }
@@ -22,24 +22,24 @@ make n p = record { number = n; payload = p }
 pub record Parts (bytes : List ℕ) (f : Wire) (rest : List ℕ) : Type 0 where
   pub behind : List ℕ
   pub tag : StartsVarint bytes (8 * f.number + tag_bits (wire_type_of f.payload)) behind
-  pub content : StartsPayload (tag_bits (wire_type_of f.payload)) behind f.payload rest
+  pub payload : StartsPayload (tag_bits (wire_type_of f.payload)) behind f.payload rest
 
 pub field_parts : (bytes : List ℕ) (f : Wire) (rest : List ℕ) → StartsField bytes f rest
     → Parts bytes f rest
 field_parts bytes f rest starts =
     let s = starts.spells in
     record {
-      behind = s.content ++ rest;
+      behind = s.behind ++ rest;
       tag = record {
         spelling = s.tag;
         spells = s.spells_tag;
         whole = starts.whole ∙ ap (λ (t : List ℕ). t ++ rest) s.whole
-            ∙ append_assoc s.tag s.content rest;
+            ∙ append_assoc s.tag s.behind rest;
       };
-      content = record {
+      payload = record {
         typed = refl;
-        spelling = s.content;
-        spells = s.spells_content;
+        spelling = s.behind;
+        spells = s.spells_payload;
         whole = refl;
       };
     }
@@ -49,88 +49,88 @@ pub field_starts : (bytes : List ℕ) (n : ℕ) (behind : List ℕ) (p : Payload
     → StartsVarint bytes n behind
     → IsFieldNumber (n / 8) → StartsPayload (n % 8) behind p rest
     → StartsField bytes (make (n / 8) p) rest
-field_starts bytes n behind p rest tag numbered content =
-    let typed = content.typed in
+field_starts bytes n behind p rest tag numbered payload =
+    let typed = payload.typed in
     let e : 8 * (n / 8) + tag_bits (wire_type_of p) ≡ n = omega arith in
     record {
-      spelling = tag.spelling ++ content.spelling;
+      spelling = tag.spelling ++ payload.spelling;
       spells = record {
         tag = tag.spelling;
-        content = content.spelling;
+        behind = payload.spelling;
         numbered = numbered;
         spells_tag = rw e tag.spells;
-        spells_content = content.spells;
+        spells_payload = payload.spells;
         whole = refl;
       };
-      whole = tag.whole ∙ ap (λ (t : List ℕ). tag.spelling ++ t) content.whole
-          ∙ sym (append_assoc tag.spelling content.spelling rest);
+      whole = tag.whole ∙ ap (λ (t : List ℕ). tag.spelling ++ t) payload.whole
+          ∙ sym (append_assoc tag.spelling payload.spelling rest);
     }
 
-pub field-one : (bytes : List ℕ) (f g : Wire) (r s : List ℕ) → StartsField bytes f r
+pub field_unique : (bytes : List ℕ) (f g : Wire) (r s : List ℕ) → StartsField bytes f r
     → StartsField bytes g s → (f ≡ g) × (r ≡ s)
-field-one bytes f g r s a b =
+field_unique bytes f g r s a b =
     let x = field_parts bytes f r a in
     let y = field_parts bytes g s b in
-    let tags = varint-one bytes _ _ x.behind y.behind x.tag y.tag in
+    let tags = varint_unique bytes _ _ x.behind y.behind x.tag y.tag in
     let tag = tags.0 in
-    let low = tag-bits-small f.payload in
-    let low' = tag-bits-small g.payload in
+    let low = tag_bits_small f.payload in
+    let low' = tag_bits_small g.payload in
     let number : f.number ≡ g.number = omega arith in
     let typed : tag_bits (wire_type_of g.payload) ≡ tag_bits (wire_type_of f.payload) =
     omega arith in
-    let content : StartsPayload (tag_bits (wire_type_of f.payload)) x.behind g.payload s =
-    rw (tags.1, ← typed) y.content in
+    let payload : StartsPayload (tag_bits (wire_type_of f.payload)) x.behind g.payload s =
+    rw (tags.1, ← typed) y.payload in
     let payloads =
-    payload-one (tag_bits (wire_type_of f.payload)) x.behind f.payload g.payload r s x.content
-    content in
+    payload_unique (tag_bits (wire_type_of f.payload)) x.behind f.payload g.payload r s x.payload
+    payload in
     (ap₂ make number payloads.0, payloads.1)
 
-pub field-not-fails : (bytes : List ℕ) (f : Wire) (r : List ℕ) (e : WireError)
+pub field_disjoint : (bytes : List ℕ) (f : Wire) (r : List ℕ) (e : WireError)
     → StartsField bytes f r → FailsField bytes e → ⊥
-field-not-fails bytes f r e a (no_tag fails) =
+field_disjoint bytes f r e a (no_tag fails) =
     let x = field_parts bytes f r a in
-    varint-not-fails bytes _ x.behind e x.tag fails
-field-not-fails bytes f r e a (bad_number n rest starts bad is) =
+    varint_disjoint bytes _ x.behind e x.tag fails
+field_disjoint bytes f r e a (bad_number n rest starts bad is) =
     let x = field_parts bytes f r a in
-    let tags = varint-one bytes _ n x.behind rest x.tag starts in
+    let tags = varint_unique bytes _ n x.behind rest x.tag starts in
     let tag = tags.0 in
-    let low = tag-bits-small f.payload in
+    let low = tag_bits_small f.payload in
     let number : f.number ≡ n / 8 = omega arith in
     bad (rw (← number) a.spells.numbered)
-field-not-fails bytes f r e a (bad_content n rest starts numbered fails) =
+field_disjoint bytes f r e a (bad_payload n rest starts numbered fails) =
     let x = field_parts bytes f r a in
-    let tags = varint-one bytes _ n x.behind rest x.tag starts in
+    let tags = varint_unique bytes _ n x.behind rest x.tag starts in
     let tag = tags.0 in
-    let low = tag-bits-small f.payload in
+    let low = tag_bits_small f.payload in
     let typed : tag_bits (wire_type_of f.payload) ≡ n % 8 = omega arith in
-    payload-not-fails (tag_bits (wire_type_of f.payload)) x.behind f.payload r e x.content
+    payload_disjoint (tag_bits (wire_type_of f.payload)) x.behind f.payload r e x.payload
     (rw (tags.1, typed) fails)
 
-pub field-fails-one : (bytes : List ℕ) (e d : WireError) → FailsField bytes e → FailsField bytes d
+pub field_fault_unique : (bytes : List ℕ) (e d : WireError) → FailsField bytes e → FailsField bytes d
     → e ≡ d
-field-fails-one bytes e d (no_tag fails) (no_tag fails') = varint-fails-one bytes e d fails fails'
-field-fails-one bytes e d (no_tag fails) (bad_number n rest starts bad is) =
-    absurd (varint-not-fails bytes n rest e starts fails)
-field-fails-one bytes e d (no_tag fails) (bad_content n rest starts numbered fails') =
-    absurd (varint-not-fails bytes n rest e starts fails)
-field-fails-one bytes e d (bad_number n rest starts bad is) (no_tag fails') =
-    absurd (varint-not-fails bytes n rest d starts fails')
-field-fails-one bytes e d (bad_number n rest starts bad is) (bad_number m rest' starts' bad' is') =
+field_fault_unique bytes e d (no_tag fails) (no_tag fails') = varint_fault_unique bytes e d fails fails'
+field_fault_unique bytes e d (no_tag fails) (bad_number n rest starts bad is) =
+    absurd (varint_disjoint bytes n rest e starts fails)
+field_fault_unique bytes e d (no_tag fails) (bad_payload n rest starts numbered fails') =
+    absurd (varint_disjoint bytes n rest e starts fails)
+field_fault_unique bytes e d (bad_number n rest starts bad is) (no_tag fails') =
+    absurd (varint_disjoint bytes n rest d starts fails')
+field_fault_unique bytes e d (bad_number n rest starts bad is) (bad_number m rest' starts' bad' is') =
     cc
-field-fails-one bytes e d (bad_number n rest starts bad is)
-    (bad_content m rest' starts' numbered fails') =
-    let same = varint-one bytes n m rest rest' starts starts' in
+field_fault_unique bytes e d (bad_number n rest starts bad is)
+    (bad_payload m rest' starts' numbered fails') =
+    let same = varint_unique bytes n m rest rest' starts starts' in
     absurd (bad (rw same.0 numbered))
-field-fails-one bytes e d (bad_content n rest starts numbered fails) (no_tag fails') =
-    absurd (varint-not-fails bytes n rest d starts fails')
-field-fails-one bytes e d (bad_content n rest starts numbered fails)
+field_fault_unique bytes e d (bad_payload n rest starts numbered fails) (no_tag fails') =
+    absurd (varint_disjoint bytes n rest d starts fails')
+field_fault_unique bytes e d (bad_payload n rest starts numbered fails)
     (bad_number m rest' starts' bad' is') =
-    let same = varint-one bytes n m rest rest' starts starts' in
+    let same = varint_unique bytes n m rest rest' starts starts' in
     absurd (bad' (rw (← same.0) numbered))
-field-fails-one bytes e d (bad_content n rest starts numbered fails)
-    (bad_content m rest' starts' numbered' fails') =
-    let same = varint-one bytes n m rest rest' starts starts' in
-    payload-fails-one (n % 8) rest e d fails (rw (same.0, same.1) fails')
+field_fault_unique bytes e d (bad_payload n rest starts numbered fails)
+    (bad_payload m rest' starts' numbered' fails') =
+    let same = varint_unique bytes n m rest rest' starts starts' in
+    payload_fault_unique (n % 8) rest e d fails (rw (same.0, same.1) fails')
 
 -- what reading a field comes to
 abbrev pub FieldRead : List ℕ → Type 0
@@ -138,23 +138,23 @@ FieldRead bytes =
     ((f : Wire) × (rest : List ℕ) × StartsField bytes f rest)
     ⊎ ((e : WireError) × FailsField bytes e)
 
-content_reads : (bytes : List ℕ) (n : ℕ) (behind : List ℕ) → StartsVarint bytes n behind
+payload_reads : (bytes : List ℕ) (n : ℕ) (behind : List ℕ) → StartsVarint bytes n behind
     → IsFieldNumber (n / 8) → FieldRead bytes
-content_reads bytes n behind tag numbered =
-    elim (payload_reads (n % 8) behind) [
-      | inl (p, rest, content) ↦
-          inl (make (n / 8) p, rest, field_starts bytes n behind p rest tag numbered content)
-      | inr (e, fails) ↦ inr (e, bad_content n behind tag numbered fails)
+payload_reads bytes n behind tag numbered =
+    elim (payload_total (n % 8) behind) [
+      | inl (p, rest, payload) ↦
+          inl (make (n / 8) p, rest, field_starts bytes n behind p rest tag numbered payload)
+      | inr (e, fails) ↦ inr (e, bad_payload n behind tag numbered fails)
     ]
 
-pub field_reads : (bytes : List ℕ) → FieldRead bytes
-field_reads bytes =
-    elim (varint_reads bytes) [
+pub field_total : (bytes : List ℕ) → FieldRead bytes
+field_total bytes =
+    elim (varint_total bytes) [
       | inl (n, behind, tag) ↦ elim (cases_lt (n / 8) 1) [
         | inl low ↦ inr (BadNumber, bad_number n behind tag (λ k. omega (arith, k.0)) refl)
         | inr some ↦ elim (cases_lt 536870911 (n / 8)) [
           | inl high ↦ inr (BadNumber, bad_number n behind tag (λ k. omega (arith, k.1)) refl)
-          | inr within ↦ content_reads bytes n behind tag (some, within)
+          | inr within ↦ payload_reads bytes n behind tag (some, within)
         ]
       ]
       | inr (e, fails) ↦ inr (e, no_tag fails)
@@ -170,10 +170,10 @@ pub field_shorter : (bytes : List ℕ) (f : Wire) (rest : List ℕ) → StartsFi
 field_shorter bytes f rest a =
     let s = a.spells in
     let tag = some_group s.tag s.spells_tag.groups in
-    let whole : length bytes ≡ length (s.tag ++ s.content) + length rest =
+    let whole : length bytes ≡ length (s.tag ++ s.behind) + length rest =
     ap length a.whole ∙ length-append a.spelling rest
     ∙ ap (λ (t : List ℕ). length t + length rest) s.whole in
-    omega (arith, length-append s.tag s.content)
+    omega (arith, length-append s.tag s.behind)
 
 -- bytes behind a field stay behind it
 pub field_extends : (bytes : List ℕ) (f : Wire) (rest more : List ℕ) → StartsField bytes f rest

@@ -2,5 +2,8 @@ pub mod VarintLemmas
 pub mod PayloadLemmas
 pub mod FieldLemmas
 pub mod Unique
-pub mod RuleLemmas
+pub mod KeyLemmas
+pub mod ValueLemmas
+pub mod OneofLemmas
 pub mod Messages
+pub mod Exits

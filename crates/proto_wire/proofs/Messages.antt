@@ -1,26 +1,80 @@
 -- Payloads are a message whose fields are all known or have a fault, never both, and they are one message at most.
-use Rattle.std.proofs.Common.{ℕ, ◌⊎◌, inl, inr, List, refl, subst}
+use Rattle.std.proofs.Common.{◌≡◌, ℕ, true, false, ◌&&◌, ◌⊎◌, inl, inr, List, [], ◌∷◌, ◌++◌, refl, sym, ◌∙◌}
+use Rattle.std.specs.List.{list_all}
+use Rattle.std.proofs.lemmas.Bool.{and_parts}
+use Rattle.std.proofs.lemmas.List.Folds.{list_all-append}
 use Rattle.proto_wire.specs.Fields.{Wire}
-use Rattle.proto_wire.specs.Rules.{SomeUnknown}
-use Rattle.proto_wire.specs.Messages.{IsMessage, MessageFault, not_whole, not_known}
+use Rattle.proto_wire.specs.Keys.{is_known, AllKnown, SomeUnknown}
+use Rattle.proto_wire.specs.Merge.{Merges}
+use Rattle.proto_wire.specs.Messages.{HasUnknown, IsMessage, MessageFault, not_whole, not_known}
 use Rattle.proto_wire.specs.declared.refusal.Refusal.{Refusal}
 use Rattle.proto_wire.specs.declared.refusal.Refusal.TheVariants.{BadWire, UnknownField}
-use Rattle.proto_wire.specs.declared.rules.Key.{Key}
-use Rattle.proto_wire.proofs.Unique.{merges-one, merges-not-breaks, merges_or_breaks}
-use Rattle.proto_wire.proofs.RuleLemmas.{known_or_unknown, known-not-unknown}
+use Rattle.proto_wire.specs.declared.key.Key.{Key}
+use Rattle.proto_wire.proofs.Unique.{fields_unique, merges_unique, merges_disjoint, merges_total}
+use Rattle.proto_wire.proofs.KeyLemmas.{known_total, known_disjoint}
 
--- a message or a fault
-pub message_settled : (keys : List Key) (parts : List (List ℕ)) → ((fs : List Wire) × IsMessage keys parts fs) ⊎ ((e : Refusal) × MessageFault keys parts e)
-message_settled keys parts = elim (merges_or_breaks parts) [
-  | inr breaks ↦ inr (BadWire, not_whole breaks refl)
-  | inl merged ↦ elim (known_or_unknown keys merged.0) [
-    | inr unknown ↦ inr (UnknownField, not_known merged.0 merged.1 unknown refl)
-    | inl known ↦ inl (merged.0, (merged.1, known))
-  ]
-]
+module _ (keys : List Key) where
+  -- an unknown field of two lists is one of the first or of the second
+  unknown_of_two : (fs gs : List Wire) → SomeUnknown keys (fs ++ gs)
+      → SomeUnknown keys fs ⊎ SomeUnknown keys gs
+  unknown_of_two fs gs unknown =
+      elim (known_total keys fs) [
+        | inr first ↦ inl first
+        | inl all ↦
+            let joined = list_all-append (is_known keys) fs gs in
+            let both : (list_all (is_known keys) fs && list_all (is_known keys) gs) ≡ false =
+            sym joined ∙ unknown in
+            inr (rw all at both)
+      ]
 
--- not both
-pub message_apart : (keys : List Key) (parts : List (List ℕ)) (fs : List Wire) (e : Refusal) → IsMessage keys parts fs → MessageFault keys parts e → ⊥
-message_apart keys parts fs e (merged, known) (not_whole breaks is) = merges-not-breaks parts fs merged breaks
-message_apart keys parts fs e (merged, known) (not_known gs also unknown is) =
-    known-not-unknown keys fs known (let P : List Wire → Type 0 = SomeUnknown keys in subst P (merges-one parts gs fs also merged) unknown)
+  -- an unknown field of a message is one of some payload
+  pub merged_unknown : (parts : List (List ℕ)) (fs : List Wire) → Merges parts fs
+      → SomeUnknown keys fs → HasUnknown keys parts
+  merged_unknown [] fs merged unknown = known_disjoint keys [] refl (rw merged at unknown)
+  merged_unknown (part ∷ parts) fs (own, others, fields, rest, whole) unknown =
+      elim (unknown_of_two own others (rw whole at unknown)) [
+        | inl first ↦ inl (own, fields, first)
+        | inr later ↦ inr (merged_unknown parts others rest later)
+      ]
+
+  -- a message whose fields are all known has no payload with another
+  merged_known : (parts : List (List ℕ)) (fs : List Wire) → Merges parts fs → AllKnown keys fs
+      → HasUnknown keys parts
+      → ⊥
+  merged_known [] fs merged known none = none
+  merged_known (part ∷ parts) fs (own, others, fields, rest, whole) known unknown =
+      let joined = list_all-append (is_known keys) own others in
+      let whole_known : list_all (is_known keys) (own ++ others) ≡ true = rw whole at known in
+      let both = and_parts (list_all (is_known keys) own) (list_all (is_known keys) others)
+      (sym joined ∙ whole_known) in
+      elim unknown [
+        | inl (gs, also, first) ↦
+            known_disjoint keys own both.0 (rw (fields_unique part gs own also fields) at first)
+        | inr later ↦ merged_known parts others rest both.1 later
+      ]
+
+  -- a message or a fault
+  pub message_total : (parts : List (List ℕ))
+      → ((fs : List Wire) × IsMessage keys parts fs) ⊎ ((e : Refusal) × MessageFault keys parts e)
+  message_total parts =
+      elim (merges_total parts) [
+        | inr breaks ↦ inr (BadWire, not_whole breaks refl)
+        | inl merged ↦ elim (known_total keys merged.0) [
+          | inr unknown ↦
+              inr (UnknownField, not_known (merged_unknown parts merged.0 merged.1 unknown) refl)
+          | inl known ↦ inl (merged.0, (merged.1, known))
+        ]
+      ]
+
+  -- never both
+  pub message_disjoint : (parts : List (List ℕ)) (fs : List Wire) (e : Refusal)
+      → IsMessage keys parts fs → MessageFault keys parts e → ⊥
+  message_disjoint parts fs e (merged, known) (not_whole breaks is) =
+      merges_disjoint parts fs merged breaks
+  message_disjoint parts fs e (merged, known) (not_known unknown is) =
+      merged_known parts fs merged known unknown
+
+  -- one message at most
+  pub message_unique : (parts : List (List ℕ)) (fs gs : List Wire) → IsMessage keys parts fs
+      → IsMessage keys parts gs → fs ≡ gs
+  message_unique parts fs gs a b = merges_unique parts fs gs a.0 b.0

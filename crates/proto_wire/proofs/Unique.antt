@@ -1,12 +1,12 @@
 -- Lists of fields on lists alone: one reading, one fault, never both, and always one of the two;
 -- the same in several payloads.
-use Rattle.std.proofs.Common.{◌≡◌, ◌≢◌, ℕ, zero, suc, ◌+◌, ◌<◌, ◌≤◌, ◌⊎◌, List, [], ◌∷◌, ◌++◌, length, refl, sym, ap, ap₂, ◌∙◌, arith, inl, inr, append_assoc, map, take, get_or, Bor}
+use Rattle.std.proofs.Common.{◌≡◌, ◌≢◌, ℕ, zero, suc, ◌+◌, ◌<◌, ◌≤◌, ◌⊎◌, List, [], ◌∷◌, ◌++◌, length, refl, sym, ap, ap₂, ◌∙◌, arith, inl, inr, append_assoc, take, get_or, Bor}
 use Rattle.std.specs.List.{concat}
 use Rattle.std.proofs.lemmas.List.{append-nil, map_more}
-use Rattle.proto_wire.specs.Fields.{Wire, StartsField, FailsField, After, Fields, Broken}
-use Rattle.proto_wire.specs.Rules.{Merges, Breaks}
+use Rattle.proto_wire.specs.Fields.{Wire, StartsField, FailsField, After, Fields, Broken, IsBroken, BreaksAtOnce}
+use Rattle.proto_wire.specs.Merge.{Merges, Breaks, FirstBreaks, parts_view}
 use Rattle.proto_wire.specs.declared.fault.WireError.{WireError}
-use Rattle.proto_wire.proofs.FieldLemmas.{field-one, field-not-fails, field-fails-one, field_reads, field_shorter, field_extends}
+use Rattle.proto_wire.proofs.FieldLemmas.{field_unique, field_disjoint, field_fault_unique, field_total, field_shorter, field_extends}
 
 -- ---- one payload
 
@@ -17,57 +17,57 @@ starts_nothing bytes f rest none starts =
     omega (arith, field_shorter bytes f rest starts, ap length none)
 
 -- bytes are one list of fields
-pub fields-one : (bytes : List ℕ) (fs gs : List Wire) → Fields bytes fs → Fields bytes gs → fs ≡ gs
-fields-one bytes [] [] a b = refl
-fields-one bytes [] (g ∷ gs) a (behind, starts, b) = absurd (starts_nothing bytes g behind a starts)
-fields-one bytes (f ∷ fs) [] (behind, starts, a) b = absurd (starts_nothing bytes f behind b starts)
-fields-one bytes (f ∷ fs) (g ∷ gs) (behind, starts, a) (behind', starts', b) =
-    let same = field-one bytes f g behind behind' starts starts' in
-    ap₂ (λ (x : Wire) (xs : List Wire). x ∷ xs) same.0 (fields-one behind fs gs a (rw same.1 b))
+pub fields_unique : (bytes : List ℕ) (fs gs : List Wire) → Fields bytes fs → Fields bytes gs → fs ≡ gs
+fields_unique bytes [] [] a b = refl
+fields_unique bytes [] (g ∷ gs) a (behind, starts, b) = absurd (starts_nothing bytes g behind a starts)
+fields_unique bytes (f ∷ fs) [] (behind, starts, a) b = absurd (starts_nothing bytes f behind b starts)
+fields_unique bytes (f ∷ fs) (g ∷ gs) (behind, starts, a) (behind', starts', b) =
+    let same = field_unique bytes f g behind behind' starts starts' in
+    ap₂ (λ (x : Wire) (xs : List Wire). x ∷ xs) same.0 (fields_unique behind fs gs a (rw same.1 b))
 
 -- where the fields go on to a rest, the bytes have no fault
-after-not-broken : (bytes : List ℕ) (fs gs : List Wire) (rest : List ℕ) (e : WireError)
+after_disjoint : (bytes : List ℕ) (fs gs : List Wire) (rest : List ℕ) (e : WireError)
     → Fields bytes fs → After bytes gs rest → rest ≢ [] → FailsField rest e → ⊥
-after-not-broken bytes [] [] rest e a b more fails = more (sym b ∙ a)
-after-not-broken bytes [] (g ∷ gs) rest e a (behind, starts, b) more fails =
+after_disjoint bytes [] [] rest e a b more fails = more (sym b ∙ a)
+after_disjoint bytes [] (g ∷ gs) rest e a (behind, starts, b) more fails =
     starts_nothing bytes g behind a starts
-after-not-broken bytes (f ∷ fs) [] rest e (behind, starts, a) b more fails =
-    field-not-fails bytes f behind e starts (rw b fails)
-after-not-broken bytes (f ∷ fs) (g ∷ gs) rest e (behind, starts, a) (behind', starts', b) more
+after_disjoint bytes (f ∷ fs) [] rest e (behind, starts, a) b more fails =
+    field_disjoint bytes f behind e starts (rw b fails)
+after_disjoint bytes (f ∷ fs) (g ∷ gs) rest e (behind, starts, a) (behind', starts', b) more
     fails =
-    let same = field-one bytes f g behind behind' starts starts' in
-    after-not-broken behind fs gs rest e a (rw same.1 b) more fails
+    let same = field_unique bytes f g behind behind' starts starts' in
+    after_disjoint behind fs gs rest e a (rw same.1 b) more fails
 
 -- bytes that are fields are not broken
-pub fields-not-broken : (bytes : List ℕ) (fs gs : List Wire) (e : WireError) → Fields bytes fs
+pub fields_disjoint : (bytes : List ℕ) (fs gs : List Wire) (e : WireError) → Fields bytes fs
     → Broken bytes gs e → ⊥
-fields-not-broken bytes fs gs e a b = after-not-broken bytes fs gs b.rest e a b.after b.more b.fails
+fields_disjoint bytes fs gs e a b = after_disjoint bytes fs gs b.rest e a b.after b.more b.fails
 
-after-fails-one : (bytes : List ℕ) (fs gs : List Wire) (r s : List ℕ) (e d : WireError)
+after_fault_unique : (bytes : List ℕ) (fs gs : List Wire) (r s : List ℕ) (e d : WireError)
     → After bytes fs r → FailsField r e
     → After bytes gs s → FailsField s d → (fs ≡ gs) × (e ≡ d)
-after-fails-one bytes [] [] r s e d a fails b fails' =
-    (refl, field-fails-one bytes e d (rw a fails) (rw b fails'))
-after-fails-one bytes [] (g ∷ gs) r s e d a fails (behind, starts, b) fails' =
-    absurd (field-not-fails bytes g behind e starts (rw a fails))
-after-fails-one bytes (f ∷ fs) [] r s e d (behind, starts, a) fails b fails' =
-    absurd (field-not-fails bytes f behind d starts (rw b fails'))
-after-fails-one bytes (f ∷ fs) (g ∷ gs) r s e d (behind, starts, a) fails (behind', starts', b)
+after_fault_unique bytes [] [] r s e d a fails b fails' =
+    (refl, field_fault_unique bytes e d (rw a fails) (rw b fails'))
+after_fault_unique bytes [] (g ∷ gs) r s e d a fails (behind, starts, b) fails' =
+    absurd (field_disjoint bytes g behind e starts (rw a fails))
+after_fault_unique bytes (f ∷ fs) [] r s e d (behind, starts, a) fails b fails' =
+    absurd (field_disjoint bytes f behind d starts (rw b fails'))
+after_fault_unique bytes (f ∷ fs) (g ∷ gs) r s e d (behind, starts, a) fails (behind', starts', b)
     fails' =
-    let same = field-one bytes f g behind behind' starts starts' in
-    let more = after-fails-one behind fs gs r s e d a fails (rw same.1 b) fails' in
+    let same = field_unique bytes f g behind behind' starts starts' in
+    let more = after_fault_unique behind fs gs r s e d a fails (rw same.1 b) fails' in
     (ap₂ (λ (x : Wire) (xs : List Wire). x ∷ xs) same.0 more.0, more.1)
 
 -- broken bytes have one fault, at one place
-pub broken-one : (bytes : List ℕ) (fs gs : List Wire) (e d : WireError) → Broken bytes fs e
+pub broken_unique : (bytes : List ℕ) (fs gs : List Wire) (e d : WireError) → Broken bytes fs e
     → Broken bytes gs d → (fs ≡ gs) × (e ≡ d)
-broken-one bytes fs gs e d a b =
-    after-fails-one bytes fs gs a.rest b.rest e d a.after a.fails b.after b.fails
+broken_unique bytes fs gs e d a b =
+    after_fault_unique bytes fs gs a.rest b.rest e d a.after a.fails b.after b.fails
 
 -- what reading all fields comes to
 abbrev pub FieldsRead : List ℕ → Type 0
 FieldsRead bytes =
-    ((fs : List Wire) × Fields bytes fs) ⊎ ((fs : List Wire) × (e : WireError) × Broken bytes fs e)
+    ((fs : List Wire) × Fields bytes fs) ⊎ IsBroken bytes
 
 -- a field more in front
 read_more : (bytes : List ℕ) (f : Wire) (behind : List ℕ) → StartsField bytes f behind
@@ -89,7 +89,7 @@ fields_read_within : (n : ℕ) (bytes : List ℕ) → length bytes ≤ n → Fie
 fields_read_within n [] long = inl ([], refl)
 fields_read_within zero (b ∷ bytes) long = absurd (omega arith)
 fields_read_within (suc n) (b ∷ bytes) long =
-    elim (field_reads (b ∷ bytes)) [
+    elim (field_total (b ∷ bytes)) [
       | inl (f, behind, starts) ↦
           let shorter = field_shorter (b ∷ bytes) f behind starts in
           read_more (b ∷ bytes) f behind starts (fields_read_within n behind (omega arith))
@@ -107,55 +107,64 @@ fields_read_within (suc n) (b ∷ bytes) long =
     ]
 
 -- bytes are fields, or broken
-pub fields_or_broken : (bytes : List ℕ) → FieldsRead bytes
-fields_or_broken bytes = fields_read_within (length bytes) bytes (omega arith)
+pub fields_total : (bytes : List ℕ) → FieldsRead bytes
+fields_total bytes = fields_read_within (length bytes) bytes (omega arith)
+
+-- bytes that begin with a field do not break at once
+pub after_breaks_later : (bytes : List ℕ) (fs : List Wire) (rest : List ℕ) (f : Wire)
+    (more : List ℕ)
+    → After bytes fs rest → StartsField rest f more → BreaksAtOnce bytes → ⊥
+after_breaks_later bytes [] rest f more a starts (e, broken) =
+    field_disjoint bytes f more e (rw a starts) (rw broken.after broken.fails)
+after_breaks_later bytes (g ∷ fs) rest f more (behind, first, a) starts (e, broken) =
+    field_disjoint bytes g behind e first (rw broken.after broken.fails)
 
 -- ---- fields behind fields
 
-pub after-append : (bytes : List ℕ) (fs : List Wire) (behind : List ℕ) (gs : List Wire)
+pub after_append : (bytes : List ℕ) (fs : List Wire) (behind : List ℕ) (gs : List Wire)
     (rest : List ℕ)
     → After bytes fs behind → After behind gs rest → After bytes (fs ++ gs) rest
-after-append bytes [] behind gs rest a b = rw a b
-after-append bytes (f ∷ fs) behind gs rest (next, starts, a) b =
-    (next, starts, after-append next fs behind gs rest a b)
+after_append bytes [] behind gs rest a b = rw a b
+after_append bytes (f ∷ fs) behind gs rest (next, starts, a) b =
+    (next, starts, after_append next fs behind gs rest a b)
 
 -- one field more behind the others
-pub after-push : (bytes : List ℕ) (fs : List Wire) (behind : List ℕ) (f : Wire) (rest : List ℕ)
+pub after_push : (bytes : List ℕ) (fs : List Wire) (behind : List ℕ) (f : Wire) (rest : List ℕ)
     → After bytes fs behind → StartsField behind f rest → After bytes (fs ++ f ∷ []) rest
-after-push bytes fs behind f rest a starts =
-    after-append bytes fs behind (f ∷ []) rest a (rest, starts, refl)
+after_push bytes fs behind f rest a starts =
+    after_append bytes fs behind (f ∷ []) rest a (rest, starts, refl)
 
-after-extends : (bytes : List ℕ) (fs : List Wire) (rest more : List ℕ) → After bytes fs rest
+after_extends : (bytes : List ℕ) (fs : List Wire) (rest more : List ℕ) → After bytes fs rest
     → After (bytes ++ more) fs (rest ++ more)
-after-extends bytes [] rest more a = ap (λ (t : List ℕ). t ++ more) a
-after-extends bytes (f ∷ fs) rest more (behind, starts, a) =
-    (behind ++ more, field_extends bytes f behind more starts, after-extends behind fs rest more a)
+after_extends bytes [] rest more a = ap (λ (t : List ℕ). t ++ more) a
+after_extends bytes (f ∷ fs) rest more (behind, starts, a) =
+    (behind ++ more, field_extends bytes f behind more starts, after_extends behind fs rest more a)
 
 -- the fields of two payloads put one after the other
-pub fields-append : (a b : List ℕ) (fs gs : List Wire) → Fields a fs → Fields b gs
+pub fields_append : (a b : List ℕ) (fs gs : List Wire) → Fields a fs → Fields b gs
     → Fields (a ++ b) (fs ++ gs)
-fields-append a b fs gs x y = after-append (a ++ b) fs b gs [] (after-extends a fs [] b x) y
+fields_append a b fs gs x y = after_append (a ++ b) fs b gs [] (after_extends a fs [] b x) y
 
 -- ---- several payloads
 
 -- payloads are one list of fields
-pub merges-one : (parts : List (List ℕ)) (fs gs : List Wire) → Merges parts fs → Merges parts gs
+pub merges_unique : (parts : List (List ℕ)) (fs gs : List Wire) → Merges parts fs → Merges parts gs
     → fs ≡ gs
-merges-one [] fs gs a b = a ∙ sym b
-merges-one (part ∷ parts) fs gs (own, others, fields, rest, whole)
+merges_unique [] fs gs a b = a ∙ sym b
+merges_unique (part ∷ parts) fs gs (own, others, fields, rest, whole)
     (own', others', fields', rest', whole') =
-    let first = fields-one part own own' fields fields' in
-    let more = merges-one parts others others' rest rest' in
+    let first = fields_unique part own own' fields fields' in
+    let more = merges_unique parts others others' rest rest' in
     whole ∙ ap₂ (λ (x y : List Wire). x ++ y) first more ∙ sym whole'
 
 -- payloads that merge have no fault
-pub merges-not-breaks : (parts : List (List ℕ)) (fs : List Wire) → Merges parts fs → Breaks parts
+pub merges_disjoint : (parts : List (List ℕ)) (fs : List Wire) → Merges parts fs → Breaks parts
     → ⊥
-merges-not-breaks [] fs a b = b
-merges-not-breaks (part ∷ parts) fs (own, others, fields, rest, whole) (inl (gs, e, broken)) =
-    fields-not-broken part own gs e fields broken
-merges-not-breaks (part ∷ parts) fs (own, others, fields, rest, whole) (inr breaks) =
-    merges-not-breaks parts others rest breaks
+merges_disjoint [] fs a b = b
+merges_disjoint (part ∷ parts) fs (own, others, fields, rest, whole) (inl (gs, e, broken)) =
+    fields_disjoint part own gs e fields broken
+merges_disjoint (part ∷ parts) fs (own, others, fields, rest, whole) (inr breaks) =
+    merges_disjoint parts others rest breaks
 
 -- what reading all payloads comes to
 abbrev pub PartsRead : List (List ℕ) → Type 0
@@ -169,47 +178,60 @@ parts_more part parts (inl (own, fields)) (inr breaks) = inr (inr breaks)
 parts_more part parts (inr broken) read = inr (inl broken)
 
 -- payloads merge, or one is broken
-pub merges_or_breaks : (parts : List (List ℕ)) → PartsRead parts
-merges_or_breaks [] = inl ([], refl)
-merges_or_breaks (part ∷ parts) =
-    parts_more part parts (fields_or_broken part) (merges_or_breaks parts)
+pub merges_total : (parts : List (List ℕ)) → PartsRead parts
+merges_total [] = inl ([], refl)
+merges_total (part ∷ parts) =
+    parts_more part parts (fields_total part) (merges_total parts)
 
 -- the merged fields are those of the payloads put one after the other
 pub merges_joined : (parts : List (List ℕ)) (fs : List Wire) → Merges parts fs
     → Fields (concat parts) fs
 merges_joined [] fs a = rw a refl
 merges_joined (part ∷ parts) fs (own, others, fields, rest, whole) =
-    rw whole (fields-append part (concat parts) own others fields (merges_joined parts others rest))
+    rw whole (fields_append part (concat parts) own others fields (merges_joined parts others rest))
 
 -- one payload more behind the others
-pub merges-push : (parts : List (List ℕ)) (fs : List Wire) (part : List ℕ) (gs : List Wire)
+pub merges_push : (parts : List (List ℕ)) (fs : List Wire) (part : List ℕ) (gs : List Wire)
     → Merges parts fs → Fields part gs → Merges (parts ++ part ∷ []) (fs ++ gs)
-merges-push [] fs part gs a fields =
+merges_push [] fs part gs a fields =
     (gs, [], fields, refl, ap (λ (t : List Wire). t ++ gs) a ∙ sym (append-nil gs))
-merges-push (p ∷ parts) fs part gs (own, others, first, rest, whole) fields = (
+merges_push (p ∷ parts) fs part gs (own, others, first, rest, whole) fields = (
   own,
   others ++ gs,
   first,
-  merges-push parts others part gs rest fields,
+  merges_push parts others part gs rest fields,
   ap (λ (t : List Wire). t ++ gs) whole ∙ append_assoc own others gs,
 )
 
 -- the next payload of a list
 pub merges_at : (i : ℕ) (parts : List (Bor (List ℕ))) (d : Bor (List ℕ)) (fs gs : List Wire)
     → i < length parts
-    → Merges (map (λ p. p.now) (take i parts)) fs → Fields (get_or parts i d).now gs
-    → Merges (map (λ p. p.now) (take (i + 1) parts)) (fs ++ gs)
+    → Merges (parts_view (take i parts)) fs → Fields (get_or parts i d).now gs
+    → Merges (parts_view (take (i + 1) parts)) (fs ++ gs)
 merges_at i parts d fs gs within so_far fields =
-    let now = λ (p : Bor (List ℕ)). p.now in
-    rw (map_more now parts i d within)
-    (merges-push (map now (take i parts)) fs (get_or parts i d).now gs so_far fields)
+    rw (map_more (λ (p : Bor (List ℕ)). p.now) parts i d within)
+    (merges_push (parts_view (take i parts)) fs (get_or parts i d).now gs so_far fields)
+
+-- payloads that merge do not break at the first field
+pub first_disjoint : (parts : List (List ℕ)) (fs : List Wire) → Merges parts fs
+    → FirstBreaks parts → ⊥
+first_disjoint [] fs merged breaks = breaks
+first_disjoint (part ∷ parts) fs (own, others, fields, rest, whole) (e, broken) =
+    fields_disjoint part own [] e fields broken
+
+-- where the payloads before the next one merge and the first breaks at once, the next is the first
+pub first_breaks_at : (i : ℕ) (parts : List (Bor (List ℕ))) (d : Bor (List ℕ)) (fs : List Wire)
+    → i < length parts
+    → Merges (parts_view (take i parts)) fs → FirstBreaks (parts_view parts)
+    → BreaksAtOnce (get_or parts i d).now
+first_breaks_at i [] d fs within merged breaks = absurd breaks
+first_breaks_at zero (p ∷ parts) d fs within merged breaks = breaks
+first_breaks_at (suc i) (p ∷ parts) d fs within merged breaks =
+    absurd (first_disjoint (parts_view (p ∷ take i parts)) fs merged breaks)
 
 -- a broken payload among others
-pub breaks_at : (i : ℕ) (parts : List (Bor (List ℕ))) (d : Bor (List ℕ)) (fs : List Wire)
-    (e : WireError)
-    → i < length parts
-    → Broken (get_or parts i d).now fs e → Breaks (map (λ p. p.now) parts)
-breaks_at i [] d fs e within broken = absurd (omega arith)
-breaks_at zero (p ∷ parts) d fs e within broken = inl (fs, e, broken)
-breaks_at (suc i) (p ∷ parts) d fs e within broken =
-    inr (breaks_at i parts d fs e (omega arith) broken)
+pub breaks_at : (i : ℕ) (parts : List (Bor (List ℕ))) (d : Bor (List ℕ)) → i < length parts
+    → IsBroken (get_or parts i d).now → Breaks (parts_view parts)
+breaks_at i [] d within broken = absurd (omega arith)
+breaks_at zero (p ∷ parts) d within broken = inl broken
+breaks_at (suc i) (p ∷ parts) d within broken = inr (breaks_at i parts d (omega arith) broken)

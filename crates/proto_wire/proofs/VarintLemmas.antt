@@ -15,13 +15,13 @@ AllMore bytes = AllByRecursion (λ b. 128 ≤ b) bytes
 
 -- ---- values
 
-pub value-append : (a b : List ℕ) → value_of (a ++ b) ≡ value_of a + 128 ^ length a * value_of b
-value-append [] b = omega arith
-value-append (x ∷ a) b =
+pub value_append : (a b : List ℕ) → value_of (a ++ b) ≡ value_of a + 128 ^ length a * value_of b
+value_append [] b = omega arith
+value_append (x ∷ a) b =
     let step = pow-succ' 128 (length a) in
     let more : 128 ^ suc (length a) * value_of b ≡ 128 * 128 ^ length a * value_of b =
     ap (λ n. n * value_of b) step in
-    omega (arith, value-append a b)
+    omega (arith, value_append a b)
 
 pub value_below : (a : List ℕ) → value_of a < 128 ^ length a
 value_below [] = omega arith
@@ -40,7 +40,7 @@ value_more bytes i within =
     let long = length-take-le i bytes (omega arith) in
     let e : 128 ^ length (take i bytes) ≡ 2 ^ (7 * i) = ap (λ n. 128 ^ n) long
     ∙ sym (groups_bits i) in
-    let parts = value-append (take i bytes) (get_or bytes i 0 ∷ []) in
+    let parts = value_append (take i bytes) (get_or bytes i 0 ∷ []) in
     rw (take_more bytes i 0 within, parts, e) (omega arith)
 
 -- the value of the groups up to index i fits 64 bits
@@ -95,15 +95,15 @@ more_at bytes i within more high =
     rw (take_more bytes i 0 within) (more_push (take i bytes) (get_or bytes i 0) more high)
 
 -- groups that begin one text are the same
-pub groups-one : (a b r s : List ℕ) → IsGroups a → IsGroups b → a ++ r ≡ b ++ s → (a ≡ b) × (r ≡ s)
-groups-one [] b r s ga gb e = absurd ga
-groups-one (x ∷ a) [] r s ga gb e = absurd gb
-groups-one (x ∷ []) (y ∷ []) r s ga gb e = (cc, cc)
-groups-one (x ∷ []) (y ∷ z ∷ b) r s ga gb e = let head : x ≡ y = cc in absurd (omega (arith, gb.0))
-groups-one (x ∷ w ∷ a) (y ∷ []) r s ga gb e = let head : x ≡ y = cc in absurd (omega (arith, ga.0))
-groups-one (x ∷ w ∷ a) (y ∷ z ∷ b) r s ga gb e =
+pub groups_unique : (a b r s : List ℕ) → IsGroups a → IsGroups b → a ++ r ≡ b ++ s → (a ≡ b) × (r ≡ s)
+groups_unique [] b r s ga gb e = absurd ga
+groups_unique (x ∷ a) [] r s ga gb e = absurd gb
+groups_unique (x ∷ []) (y ∷ []) r s ga gb e = (cc, cc)
+groups_unique (x ∷ []) (y ∷ z ∷ b) r s ga gb e = let head : x ≡ y = cc in absurd (omega (arith, gb.0))
+groups_unique (x ∷ w ∷ a) (y ∷ []) r s ga gb e = let head : x ≡ y = cc in absurd (omega (arith, ga.0))
+groups_unique (x ∷ w ∷ a) (y ∷ z ∷ b) r s ga gb e =
     let tail : w ∷ (a ++ r) ≡ z ∷ (b ++ s) = cc in
-    let more = groups-one (w ∷ a) (z ∷ b) r s ga.1 gb.1 tail in
+    let more = groups_unique (w ∷ a) (z ∷ b) r s ga.1 gb.1 tail in
     let head : x ≡ y = cc in
     let same = more.0 in
     (cc, more.1)
@@ -133,22 +133,22 @@ last_counts (x ∷ y ∷ a) r (suc n) groups long =
 
 -- ---- one reading
 
-pub varint-one : (bytes : List ℕ) (n m : ℕ) (r s : List ℕ) → StartsVarint bytes n r
+pub varint_unique : (bytes : List ℕ) (n m : ℕ) (r s : List ℕ) → StartsVarint bytes n r
     → StartsVarint bytes m s → (n ≡ m) × (r ≡ s)
-varint-one bytes n m r s a b =
+varint_unique bytes n m r s a b =
     let joined = sym a.whole ∙ b.whole in
-    let same = groups-one a.spelling b.spelling r s a.spells.groups b.spells.groups joined in
+    let same = groups_unique a.spelling b.spelling r s a.spells.groups b.spells.groups joined in
     (a.spells.value ∙ ap value_of same.0 ∙ sym b.spells.value, same.1)
 
-pub varint-not-fails : (bytes : List ℕ) (n : ℕ) (r : List ℕ) (e : WireError)
+pub varint_disjoint : (bytes : List ℕ) (n : ℕ) (r : List ℕ) (e : WireError)
     → StartsVarint bytes n r → FailsVarint bytes e → ⊥
-varint-not-fails bytes n r e a (unfinished short more is) =
+varint_disjoint bytes n r e a (unfinished short more is) =
     let whole = a.whole in
     let long : length a.spelling ≤ length bytes =
     omega (arith, ap length whole, length-append a.spelling r) in
     groups_end a.spelling r (length bytes) a.spells.groups long
     (rw (← whole, take_all (length bytes) bytes (omega arith)) more)
-varint-not-fails bytes n r e a (too_long long more last is) =
+varint_disjoint bytes n r e a (too_long long more last is) =
     let whole = a.whole in
     let most = a.spells.short in
     elim (cases_lt 9 (length a.spelling)) [
@@ -160,14 +160,14 @@ varint-not-fails bytes n r e a (too_long long more last is) =
       | inr le ↦ groups_end a.spelling r 9 a.spells.groups le (rw (← whole) more)
     ]
 
-pub varint-fails-one : (bytes : List ℕ) (e d : WireError) → FailsVarint bytes e
+pub varint_fault_unique : (bytes : List ℕ) (e d : WireError) → FailsVarint bytes e
     → FailsVarint bytes d → e ≡ d
-varint-fails-one bytes e d (unfinished short more is) (unfinished short' more' is') = cc
-varint-fails-one bytes e d (unfinished short more is) (too_long long more' last is') =
+varint_fault_unique bytes e d (unfinished short more is) (unfinished short' more' is') = cc
+varint_fault_unique bytes e d (unfinished short more is) (too_long long more' last is') =
     absurd (omega arith)
-varint-fails-one bytes e d (too_long long more last is) (unfinished short more' is') =
+varint_fault_unique bytes e d (too_long long more last is) (unfinished short more' is') =
     absurd (omega arith)
-varint-fails-one bytes e d (too_long long more last is) (too_long long' more' last' is') = cc
+varint_fault_unique bytes e d (too_long long more last is) (too_long long' more' last' is') = cc
 
 -- ---- always a reading or a fault
 
@@ -230,5 +230,5 @@ varint_read_at (suc left) i bytes e more =
       | inr le ↦ inr (Truncated, ends_inside bytes i le (omega arith) more)
     ]
 
-pub varint_reads : (bytes : List ℕ) → VarintRead bytes
-varint_reads bytes = varint_read_at 9 0 bytes refl tt
+pub varint_total : (bytes : List ℕ) → VarintRead bytes
+varint_total bytes = varint_read_at 9 0 bytes refl tt

@@ -1,6 +1,9 @@
 pub mod Varint
 pub mod Fields
-pub mod Rules
+pub mod Keys
+pub mod Values
+pub mod Oneof
+pub mod Merge
 pub mod Refusal
 pub mod Messages
-pub mod Scalars
+pub mod steps

@@ -1,23 +1,36 @@
 -- A message whose fields must all be known: Protocol Buffers encoding guide, "Message Structure"; an
 -- unknown field is a fault here.
-use Rattle.std.specs.Prelude.{◌≡◌, ℕ, List, map}
-use Rattle.std.specs.Borrow.{Bor}
-use Rattle.proto_wire.specs.Fields.{Wire}
-use Rattle.proto_wire.specs.Rules.{AllKnown, SomeUnknown, Merges, Breaks}
+use Rattle.std.specs.Prelude.{◌≡◌, ℕ, ◌⊎◌, List, [], ◌∷◌}
+use Rattle.proto_wire.specs.Fields.{Wire, Fields, IsBroken}
+use Rattle.proto_wire.specs.Keys.{AllKnown, SomeUnknown}
+use Rattle.proto_wire.specs.Merge.{Merges, Breaks}
 use Rattle.proto_wire.specs.declared.refusal.Refusal.{Refusal}
 use Rattle.proto_wire.specs.declared.refusal.Refusal.TheVariants.{BadWire, UnknownField}
-use Rattle.proto_wire.specs.declared.rules.Key.{Key}
+use Rattle.proto_wire.specs.declared.key.Key.{Key}
 
--- the bytes of each slice
-abbrev pub texts : List (Bor (List ℕ)) → List (List ℕ)
-texts slices = map (λ s. s.now) slices
+-- the bytes are no list of whole fields
+abbrev pub BytesFault : List ℕ → Refusal → Type 0
+BytesFault bytes e = IsBroken bytes × (e ≡ BadWire)
+
+-- some payload is no list of whole fields
+abbrev pub PartsFault : List (List ℕ) → Refusal → Type 0
+PartsFault parts e = Breaks parts × (e ≡ BadWire)
+
+-- some field is not known
+abbrev pub UnknownFault : List Key → List Wire → Refusal → Type 0
+UnknownFault keys fs e = SomeUnknown keys fs × (e ≡ UnknownField)
 
 -- the payloads, put one after the other, are these fields, and each field is known
 abbrev pub IsMessage : List Key → List (List ℕ) → List Wire → Type 0
 IsMessage keys parts fs = Merges parts fs × AllKnown keys fs
 
+-- some payload that is whole fields by itself has a field that is not known, whatever the others are
+abbrev pub HasUnknown : List Key → List (List ℕ) → Type 0
+HasUnknown keys [] = ⊥
+HasUnknown keys (part ∷ parts) =
+    ((fs : List Wire) × Fields part fs × SomeUnknown keys fs) ⊎ HasUnknown keys parts
+
 -- some payload is no list of whole fields, or some field is not known
 pub data MessageFault (keys : List Key) (parts : List (List ℕ)) (e : Refusal) : Type 0 where
   not_whole : Breaks parts → e ≡ BadWire → MessageFault keys parts e
-  not_known : (fs : List Wire) → Merges parts fs → SomeUnknown keys fs → e ≡ UnknownField
-      → MessageFault keys parts e
+  not_known : HasUnknown keys parts → e ≡ UnknownField → MessageFault keys parts e

@@ -1,5 +1,5 @@
--- The numbers, the names and the texts of the refusals.
-use Rattle.std.specs.Prelude.{ℕ, List, ◌++◌, codes}
+-- The refusals: their numbers, names and texts, and what a growth of memory adds to a fault.
+use Rattle.std.specs.Prelude.{◌≡◌, ◌⊎◌, ℕ, List, ◌++◌, codes}
 use Rattle.std.specs.Fmt.{decimal}
 use Rattle.proto_wire.specs.declared.refusal.Refusal.{Refusal}
 
@@ -50,3 +50,7 @@ name_of Refusal.Memory = codes "Memory"
 -- the text of a refusal: its number, a space, and its name
 abbrev pub text_of : Refusal → List ℕ
 text_of refusal = decimal (number_of refusal) ++ codes " " ++ name_of refusal
+
+-- memory ran out, or there is this fault
+abbrev pub MemoryOr : (Refusal → Type 0) → Refusal → Type 0
+MemoryOr F e = (e ≡ Refusal.Memory) ⊎ F e

@@ -1,44 +1,44 @@
 //! A field of a message: its number and what it holds.
 
 ghost use Rattle.std.specs.Prelude.{◌≡◌};
-ghost use Rattle.proto_wire.specs.Fields.{wire_type_of, payload_of};
+ghost use Rattle.proto_wire.specs.Fields.{wire_type_of, payload_view};
 
-/// How a field's content is spelt (Protocol Buffers encoding guide, "Message Structure").
+/// How a field's payload is spelt (Protocol Buffers encoding guide, "Message Structure").
 #[derive(Clone, Copy, PartialEq, Eq, Debug)]
 pub enum WireType {
     /// VARINT: a number of up to 64 bits, in groups of seven.
     Varint,
     /// I64: eight bytes.
-    Eight,
+    I64,
     /// LEN: a length, and so many bytes.
-    Text,
+    Len,
     /// I32: four bytes.
-    Four,
+    I32,
 }
 
-/// What a field holds; texts are slices of the input.
+/// What a field holds; the bytes of a LEN are a slice of the input.
 #[derive(Clone, Copy, PartialEq, Eq, Debug)]
-pub enum Content<'a> {
+pub enum Payload<'a> {
     /// The value of a VARINT.
     Varint(u64),
-    /// The bytes of an I64, the lowest first.
-    Eight([u8; 8]),
+    /// The number that an I64 spells by eight bytes, the lowest first.
+    I64(u64),
     /// The bytes of a LEN: a string, bytes, or a message.
-    Text(&'a [u8]),
-    /// The bytes of an I32, the lowest first.
-    Four([u8; 4]),
+    Len(&'a [u8]),
+    /// The number that an I32 spells by four bytes, the lowest first.
+    I32(u32),
 }
 
-impl<'a> Content<'a> {
-    /// The wire type by which the content is spelt.
+impl<'a> Payload<'a> {
+    /// The wire type by which the payload is spelt.
     pub fn wire_type(&self) -> WireType
-        ensures { result ≡ wire_type_of (payload_of self.now) }
+        ensures { result ≡ wire_type_of (payload_view self.now) }
     {
         match self {
-            Content::Varint(_) => WireType::Varint,
-            Content::Eight(_) => WireType::Eight,
-            Content::Text(_) => WireType::Text,
-            Content::Four(_) => WireType::Four,
+            Payload::Varint(_) => WireType::Varint,
+            Payload::I64(_) => WireType::I64,
+            Payload::Len(_) => WireType::Len,
+            Payload::I32(_) => WireType::I32,
         }
     }
 }
@@ -49,5 +49,5 @@ pub struct Field<'a> {
     /// The field's number, 1 to 2^29 - 1.
     pub number: u32,
     /// What the field holds.
-    pub content: Content<'a>,
+    pub payload: Payload<'a>,
 }

@@ -1,54 +1,76 @@
-//! Laws of the definitions: bytes are one list of fields, or broken at one place, and never both.
+//! Laws of the definitions: bytes are one list of fields, or broken at one place, and never both; the same of a message
+//! in several payloads.
 
 ghost use Rattle.std.specs.Prelude.{◌≡◌, ◌⊎◌, ℕ, List};
 ghost use Rattle.std.specs.List.{concat};
 ghost use Rattle.proto_wire.specs.Fields.{Wire, Fields, Broken};
-ghost use Rattle.proto_wire.specs.Rules.{Merges, Breaks};
+ghost use Rattle.proto_wire.specs.Merge.{Merges, Breaks};
+ghost use Rattle.proto_wire.specs.Messages.{IsMessage, MessageFault};
 
 use crate::fault::WireError;
+use crate::key::Key;
+use crate::refusal::Refusal;
 
 /// Bytes are one list of fields at most.
-pub fn one_reading()
+pub fn fields_unique()
     ensures { (bytes : List ℕ) (fs gs : List Wire)
         → Fields bytes fs → Fields bytes gs → fs ≡ gs }
 {}
 
 /// Bytes are a list of fields, or broken.
-pub fn reads_or_breaks()
+pub fn fields_total()
     ensures { (bytes : List ℕ) → ((fs : List Wire) × Fields bytes fs)
         ⊎ ((fs : List Wire) × (e : WireError) × Broken bytes fs e) }
 {}
 
 /// Bytes are never both.
-pub fn never_both()
+pub fn fields_disjoint()
     ensures { (bytes : List ℕ) (fs gs : List Wire) (e : WireError)
         → Fields bytes fs → Broken bytes gs e → ⊥ }
 {}
 
 /// Broken bytes have one fault, behind one list of fields.
-pub fn one_fault()
+pub fn broken_unique()
     ensures { (bytes : List ℕ) (fs gs : List Wire) (e d : WireError)
         → Broken bytes fs e → Broken bytes gs d → (fs ≡ gs) × (e ≡ d) }
 {}
 
 /// Payloads merge to one list of fields at most.
-pub fn one_merge()
+pub fn merges_unique()
     ensures { (parts : List (List ℕ)) (fs gs : List Wire)
         → Merges parts fs → Merges parts gs → fs ≡ gs }
 {}
 
 /// Payloads merge, or one of them is broken.
-pub fn merges_or_breaks()
+pub fn merges_total()
     ensures { (parts : List (List ℕ)) → ((fs : List Wire) × Merges parts fs) ⊎ Breaks parts }
 {}
 
 /// Payloads never do both.
-pub fn never_merges_and_breaks()
+pub fn merges_disjoint()
     ensures { (parts : List (List ℕ)) (fs : List Wire) → Merges parts fs → Breaks parts → ⊥ }
 {}
 
 /// The fields of merged payloads are those of the payloads put one after the other.
-pub fn merge_is_joined()
+pub fn merges_joined()
     ensures { (parts : List (List ℕ)) (fs : List Wire)
         → Merges parts fs → Fields (concat parts) fs }
+{}
+
+/// Payloads are a message with these keys, or have a fault.
+pub fn message_total()
+    ensures { (keys : List Key) (parts : List (List ℕ))
+        → ((fs : List Wire) × IsMessage keys parts fs) ⊎ ((e : Refusal) × MessageFault keys parts e) }
+{}
+
+/// Payloads are never both.
+pub fn message_disjoint()
+    ensures { (keys : List Key) (parts : List (List ℕ)) (fs : List Wire) (e : Refusal)
+        → IsMessage keys parts fs → MessageFault keys parts e → ⊥ }
+{}
+
+/// Payloads are one message at most.
+pub fn message_unique()
+    ensures { (keys : List Key) (parts : List (List ℕ)) (fs gs : List Wire)
+        → IsMessage keys parts fs → IsMessage keys parts gs → fs ≡ gs }
 {}

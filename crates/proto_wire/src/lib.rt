@@ -3,24 +3,27 @@
 
 mod fault;
 mod field;
-mod known;
+mod key;
 pub mod laws;
 mod message;
+mod oneof;
 mod reader;
 mod refusal;
-mod rules;
-mod scalars;
 mod spelling;
+mod values;
 mod varint;
 
 pub use fault::WireError;
-pub use field::{Content, Field, WireType};
-pub use known::read_message;
-pub use message::{read_fields, read_parts};
+pub use field::{Field, Payload, WireType};
+pub use key::{Key, all_known};
+pub use message::{read_fields, read_message, read_parts, require_known};
+pub use oneof::{last_member, member_run};
 pub use reader::Reader;
 pub use refusal::Refusal;
-pub use rules::{Key, all_known, last_member, last_text, last_varint, member_run, payloads_of};
-pub use scalars::{bool_of, int32_of, int64_of, uint32_of};
+pub use values::{
+    bool_at, bytes_at, has_field, int32_at, int64_at, last_len, last_varint, payloads_of, text_at,
+    text_of, uint32_at,
+};
 
 #[cfg(test)]
 mod tests;

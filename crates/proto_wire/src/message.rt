@@ -1,32 +1,35 @@
-//! All fields of a message.
+//! All fields of a message, and messages whose fields must all be known.
 
-ghost use Rattle.std.specs.Prelude.{◌≡◌, ◌⊎◌, ◌++◌, List, map, IfOk, IfErr, OnOk};
-ghost use Rattle.proto_wire.specs.Fields.{Wire, Fields, Broken, view};
-ghost use Rattle.proto_wire.specs.Rules.{Merges, Breaks};
+ghost use Rattle.std.specs.Prelude.{◌≡◌, ◌++◌, List, Err, map, IfOk, IfErr, OnOk, MatchResult};
+ghost use Rattle.proto_wire.specs.Fields.{Wire, Fields, BreaksAtOnce, field_view};
+ghost use Rattle.proto_wire.specs.Keys.{AllKnown};
+ghost use Rattle.proto_wire.specs.Merge.{Merges, FirstBreaks, parts_view};
+ghost use Rattle.proto_wire.specs.Messages.{BytesFault, PartsFault, UnknownFault, IsMessage, MessageFault};
+ghost use Rattle.proto_wire.specs.Refusal.{MemoryOr};
 
-use crate::fault::WireError;
 use crate::field::Field;
+use crate::key::{Key, all_known};
 use crate::reader::Reader;
 use crate::refusal::Refusal;
 use std::alloc::Global;
 
-/// The fields of a message, in order.
+/// The fields of a message, in order: `BadWire` where the bytes break, and `Memory` only once a field was there to keep.
 pub fn read_fields<'a>(alloc: Global, bytes: &'a [u8]) -> Result<Vec<Field<'a>>, Refusal>
-    ensures found { IfOk result (λ v. Fields bytes.now (map view v.items)) }
-    ensures fault { IfErr result (λ e. (e ≡ Refusal.Memory)
-        ⊎ ((e ≡ Refusal.BadWire) × ((fs : List Wire) × (w : WireError) × Broken bytes.now fs w))) }
+    ensures found { IfOk result (λ v. Fields bytes.now (map field_view v.items)) }
+    ensures fault { IfErr result (MemoryOr (BytesFault bytes.now)) }
+    ensures at_once { BreaksAtOnce bytes.now → result ≡ Err Refusal.BadWire }
 {
     let mut fields = Vec::new(alloc);
     append_fields(bytes, &mut fields)?;
     Ok(fields)
 }
 
-/// The fields of a message that stands in several payloads, each of them whole fields by itself:
-/// those of the payloads put one after the other.
+/// The fields of a message that stands in several payloads, each of them whole fields by itself: those of the payloads put
+/// one after the other. `BadWire` where a payload breaks.
 pub fn read_parts<'a>(alloc: Global, parts: &[&'a [u8]]) -> Result<Vec<Field<'a>>, Refusal>
-    ensures found { IfOk result (λ v. Merges (map (λ p. p.now) parts.now) (map view v.items)) }
-    ensures fault { IfErr result (λ e. (e ≡ Refusal.Memory)
-        ⊎ ((e ≡ Refusal.BadWire) × Breaks (map (λ p. p.now) parts.now))) }
+    ensures found { IfOk result (λ v. Merges (parts_view parts.now) (map field_view v.items)) }
+    ensures fault { IfErr result (MemoryOr (PartsFault (parts_view parts.now))) }
+    ensures at_once { FirstBreaks (parts_view parts.now) → result ≡ Err Refusal.BadWire }
 {
     let mut fields = Vec::new(alloc);
     for part in parts {
@@ -35,12 +38,41 @@ pub fn read_parts<'a>(alloc: Global, parts: &[&'a [u8]]) -> Result<Vec<Field<'a>
     Ok(fields)
 }
 
+/// The fields of a message that stands in several payloads, each of them whole fields by itself: `BadWire` where a payload
+/// breaks, `UnknownField` where some field has none of the keys.
+pub fn read_message<'a>(
+    alloc: Global,
+    parts: &[&'a [u8]],
+    keys: &[Key],
+) -> Result<Vec<Field<'a>>, Refusal>
+    ensures found { IfOk result (λ v. IsMessage keys.now (parts_view parts.now) (map field_view v.items)) }
+    ensures fault { IfErr result (MemoryOr (MessageFault keys.now (parts_view parts.now))) }
+    ensures at_once { FirstBreaks (parts_view parts.now) → result ≡ Err Refusal.BadWire }
+    ensures reads { (fs : List Wire) → IsMessage keys.now (parts_view parts.now) fs
+        → MatchResult result (λ v. map field_view v.items ≡ fs) (λ e. e ≡ Refusal.Memory) }
+{
+    let fields = read_parts(alloc, parts)?;
+    require_known(&fields, keys)?;
+    Ok(fields)
+}
+
+/// Refuses fields of which some has none of the keys: `UnknownField`. It takes no memory.
+pub fn require_known(fields: &[Field<'_>], keys: &[Key]) -> Result<(), Refusal>
+    ensures found { OnOk result (AllKnown keys.now (map field_view fields.now)) }
+    ensures fault { IfErr result (UnknownFault keys.now (map field_view fields.now)) }
+{
+    if !all_known(fields, keys) {
+        return Err(Refusal::UnknownField);
+    }
+    Ok(())
+}
+
 /// Puts the fields of a payload behind those that are there.
 fn append_fields<'a>(bytes: &'a [u8], fields: &mut Vec<Field<'a>>) -> Result<(), Refusal>
     ensures found { OnOk result ((fs : List Wire) × Fields bytes.now fs
-        × (map view fields.new.items ≡ map view fields.old.items ++ fs)) }
-    ensures fault { IfErr result (λ e. (e ≡ Refusal.Memory)
-        ⊎ ((e ≡ Refusal.BadWire) × ((fs : List Wire) × (w : WireError) × Broken bytes.now fs w))) }
+        × (map field_view fields.new.items ≡ map field_view fields.old.items ++ fs)) }
+    ensures fault { IfErr result (MemoryOr (BytesFault bytes.now)) }
+    ensures at_once { BreaksAtOnce bytes.now → result ≡ Err Refusal.BadWire }
 {
     let mut reader = Reader::new(bytes);
     while let Some(field) = reader.next()? {

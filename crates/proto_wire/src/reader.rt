@@ -1,7 +1,7 @@
 //! The fields of a message, read one after the other.
 
 ghost use Rattle.std.specs.Prelude.{◌≡◌, ◌≢◌, ◌↔◌, List, [], Ok, None, Err, IfOk, IfErr, IfSome, IsOkAnd, IsSomeAnd, ℕ};
-ghost use Rattle.proto_wire.specs.Fields.{Wire, StartsField, FailsField, view};
+ghost use Rattle.proto_wire.specs.Fields.{Wire, StartsField, FailsField, field_view};
 
 use crate::fault::WireError;
 use crate::field::Field;
@@ -32,13 +32,13 @@ impl<'a> Reader<'a> {
     /// reader stands where it stood, so the same error comes again.
     pub fn next(&mut self) -> Result<Option<Field<'a>>, WireError>
         ensures field { IfOk result (λ found.
-            IfSome found (λ f. StartsField self.old (view f) self.new)) }
+            IfSome found (λ f. StartsField self.old (field_view f) self.new)) }
         ensures none { (result ≡ Ok None) ↔ (self.old ≡ []) }
         ensures end { self.old ≡ [] → self.new ≡ [] }
         ensures fault { IfErr result (λ e.
             (self.old ≢ []) × FailsField self.old e × (self.new ≡ self.old)) }
         ensures reads { (f : Wire) (rest : List ℕ) → StartsField self.old f rest
-            → IsOkAnd result (λ found. IsSomeAnd found (λ g. view g ≡ f)) × (self.new ≡ rest) }
+            → IsOkAnd result (λ found. IsSomeAnd found (λ g. field_view g ≡ f)) × (self.new ≡ rest) }
         ensures fails { (e : WireError) → self.old ≢ [] → FailsField self.old e → result ≡ Err e }
     {
         if self.rest.is_empty() {

@@ -1,10 +1,10 @@
-//! The reading of one field: its tag, and then its content.
+//! The reading of one field: its tag, and then its payload.
 
 ghost use Rattle.std.specs.Prelude.{IfOk, IfErr};
-ghost use Rattle.proto_wire.specs.Fields.{StartsField, FailsField, StartsPayload, FailsPayload, view, payload_of};
+ghost use Rattle.proto_wire.specs.Fields.{StartsField, FailsField, StartsPayload, FailsPayload, field_view, payload_view};
 
 use crate::fault::WireError;
-use crate::field::{Content, Field};
+use crate::field::{Field, Payload};
 use crate::varint::read_varint;
 
 /// The greatest number of a field, 2^29 - 1.
@@ -12,7 +12,7 @@ const GREATEST_NUMBER: u64 = 536_870_911;
 
 /// The field that `bytes` begin with, and the bytes behind it.
 pub fn read_field(bytes: &[u8]) -> Result<(Field<'_>, &[u8]), WireError>
-    ensures found { IfOk result (λ read. StartsField bytes.now (view read.0) read.1.now) }
+    ensures found { IfOk result (λ read. StartsField bytes.now (field_view read.0) read.1.now) }
     ensures fault { IfErr result (λ e. FailsField bytes.now e) }
 {
     let (tag, behind) = read_varint(bytes)?;
@@ -20,37 +20,37 @@ pub fn read_field(bytes: &[u8]) -> Result<(Field<'_>, &[u8]), WireError>
     if number == 0 || number > GREATEST_NUMBER {
         return Err(WireError::BadNumber);
     }
-    let (content, rest) = read_content(tag % 8, behind)?;
+    let (payload, rest) = read_payload(tag % 8, behind)?;
     let number = number as u32;
-    Ok((Field { number, content }, rest))
+    Ok((Field { number, payload }, rest))
 }
 
-/// The content of the wire type that `bytes` begin with, and the bytes behind it.
-fn read_content(wire_type: u64, bytes: &[u8]) -> Result<(Content<'_>, &[u8]), WireError>
+/// The payload of the wire type that `bytes` begin with, and the bytes behind it.
+fn read_payload(wire_type: u64, bytes: &[u8]) -> Result<(Payload<'_>, &[u8]), WireError>
     ensures found { IfOk result (λ read.
-        StartsPayload wire_type bytes.now (payload_of read.0) read.1.now) }
+        StartsPayload wire_type bytes.now (payload_view read.0) read.1.now) }
     ensures fault { IfErr result (λ e. FailsPayload wire_type bytes.now e) }
 {
     match wire_type {
         0 => {
             let (value, rest) = read_varint(bytes)?;
-            Ok((Content::Varint(value), rest))
+            Ok((Payload::Varint(value), rest))
         }
         1 => {
             let (eight, rest) = bytes.split_first_chunk().ok_or(WireError::Truncated)?;
-            Ok((Content::Eight(*eight), rest))
+            Ok((Payload::I64(u64::from_le_bytes(*eight)), rest))
         }
         2 => {
             let (size, behind) = read_varint(bytes)?;
             if (behind.len() as u64) < size {
                 return Err(WireError::Truncated);
             }
-            let (text, rest) = behind.split_at(size as usize);
-            Ok((Content::Text(text), rest))
+            let (inner, rest) = behind.split_at(size as usize);
+            Ok((Payload::Len(inner), rest))
         }
         5 => {
             let (four, rest) = bytes.split_first_chunk().ok_or(WireError::Truncated)?;
-            Ok((Content::Four(*four), rest))
+            Ok((Payload::I32(u32::from_le_bytes(*four)), rest))
         }
         _ => Err(WireError::BadWireType),
     }

@@ -77,6 +77,24 @@ const REFUSALS: [(Refusal, &str); 19] = [
     (Refusal::Memory, "19 Memory"),
 ];
 
+const WIRE_ERRORS: [(WireError, &str); 4] = [
+    (WireError::Truncated, "a field is cut short"),
+    (WireError::LongVarint, "a varint takes more than 64 bits"),
+    (WireError::BadNumber, "a field's number is out of its range"),
+    (WireError::BadWireType, "a wire type is not known"),
+];
+
+/// Payloads of messages with the fields `Varint 1` and `Len 2`: one that breaks at once, behind a field, behind a payload;
+/// a number that is not known, a known one with another wire type, and an unknown one behind a payload that breaks.
+const REFUSED: [(&[&[u8]], Refusal); 6] = [
+    (&[b"\x0b"], Refusal::BadWire),
+    (&[b"\x08\x01\x08"], Refusal::BadWire),
+    (&[b"\x08\x01", b"\x12\x02a"], Refusal::BadWire),
+    (&[b"\x08\x01\x28\x01"], Refusal::UnknownField),
+    (&[b"\x12\x00", b"\x10\x01"], Refusal::UnknownField),
+    (&[b"\x08", b"\x28\x01"], Refusal::BadWire),
+];
+
 #[test]
 fn varints(rt: HostRuntime) {
     for (bytes, want) in &VARINTS {
@@ -120,7 +138,28 @@ fn refusals(rt: HostRuntime) -> Result<(), Fail> {
 }
 
 #[test]
-fn rules(rt: HostRuntime) -> Result<(), Fail> {
+fn wire_errors(rt: HostRuntime) -> Result<(), Fail> {
+    for (error, want) in &WIRE_ERRORS {
+        let text = format!(in rt.alloc(); "{error}")?;
+        assert_eq!(rt; text.as_str(), *want);
+        assert!(rt; Refusal::from(*error) == Refusal::BadWire);
+    }
+    Ok(())
+}
+
+#[test]
+fn refused(rt: HostRuntime) {
+    for (parts, want) in &REFUSED {
+        let answer = read_message(rt.alloc(), parts, &keys![Varint 1, Len 2]);
+        assert!(rt;
+            matches!(answer, Err(refusal) if refusal == *want),
+            "at {parts:?}"
+        );
+    }
+}
+
+#[test]
+fn values(rt: HostRuntime) -> Result<(), Fail> {
     let alloc = rt.alloc();
     let first: &[u8] = b"\x08\x01\x12\x01a\x08\x02";
     let second: &[u8] = b"\x12\x01b\x18\x07\x12\x01c";
@@ -130,12 +169,20 @@ fn rules(rt: HostRuntime) -> Result<(), Fail> {
     assert_eq!(rt; read_fields(alloc, second)?.len(), 3);
     assert!(rt; matches!(read_fields(alloc, b"\x0b"), Err(Refusal::BadWire)));
     assert_eq!(rt; last_varint(&fields, 1), Some(2));
-    assert!(rt; matches!(last_text(&fields, 2), Some(b"c")));
+    assert!(rt; matches!(last_len(&fields, 2), Some(b"c")));
     assert_eq!(rt; payloads_of(alloc, &fields, 2)?.len(), 3);
-    assert!(rt; all_known(&fields, &keys![Varint 1, Text 2, Varint 3]));
-    assert!(rt; !all_known(&fields, &keys![Varint 1, Text 2]));
+    assert!(rt; has_field(&fields, 1) && has_field(&fields, 2) && !has_field(&fields, 4));
+    assert_eq!(rt; text_at(&fields, 2), Ok("c"));
+    assert_eq!(rt; text_at(&fields, 4), Ok(""));
+    assert_eq!(rt; text_of(b"a\xff"), Err(Refusal::BadText));
     assert_eq!(rt;
-        member_run(alloc, &fields, &keys![Varint 1, Text 2])?.len(),
+        text_at(&read_fields(alloc, b"\x12\x01\xc3")?, 2),
+        Err(Refusal::BadText)
+    );
+    assert!(rt; all_known(&fields, &keys![Varint 1, Len 2, Varint 3]));
+    assert!(rt; !all_known(&fields, &keys![Varint 1, Len 2]));
+    assert_eq!(rt;
+        member_run(alloc, &fields, &keys![Varint 1, Len 2])?.len(),
         2
     );
     assert_eq!(rt;
@@ -146,7 +193,7 @@ fn rules(rt: HostRuntime) -> Result<(), Fail> {
         last_member(&fields, &keys![Varint 1, Varint 3]),
         Some(Field {
             number: 3,
-            content: Content::Varint(7)
+            payload: Payload::Varint(7)
         })
     );
     Ok(())
@@ -157,12 +204,12 @@ fn rules(rt: HostRuntime) -> Result<(), Fail> {
 fn scalars(rt: HostRuntime) -> Result<(), Fail> {
     let bytes = b"\x08\x05\x08\xff\xff\xff\xff\xff\xff\xff\xff\xff\x01\x10\x80\x80\x80\x80\x10";
     let fields = read_fields(rt.alloc(), bytes)?;
-    assert_eq!(rt; uint32_of(&fields, 1), u32::MAX);
-    assert_eq!(rt; int32_of(&fields, 1), -1);
-    assert_eq!(rt; int64_of(&fields, 1), -1);
-    assert_eq!(rt; uint32_of(&fields, 2), 0);
-    assert_eq!(rt; int64_of(&fields, 2), 4_294_967_296);
-    assert!(rt; bool_of(&fields, 1) && bool_of(&fields, 2) && !bool_of(&fields, 3));
-    assert_eq!(rt; int64_of(&fields, 3), 0);
+    assert_eq!(rt; uint32_at(&fields, 1), u32::MAX);
+    assert_eq!(rt; int32_at(&fields, 1), -1);
+    assert_eq!(rt; int64_at(&fields, 1), -1);
+    assert_eq!(rt; uint32_at(&fields, 2), 0);
+    assert_eq!(rt; int64_at(&fields, 2), 4_294_967_296);
+    assert!(rt; bool_at(&fields, 1) && bool_at(&fields, 2) && !bool_at(&fields, 3));
+    assert_eq!(rt; int64_at(&fields, 3), 0);
     Ok(())
 }

@@ -2,8 +2,9 @@
 use Rattle.std.proofs.Common.{◌≡◌, ℕ, ◌-◌, suc, false, List, [], ◌∷◌, map, length, Some, None, slice_get, refl, sym, ap, arith, ◌∙◌}
 use Rattle.std.proofs.Math.Dec.{eqb}
 use Rattle.std.proofs.lemmas.Bool.{eqb-false}
-use Rattle.proto_wire.specs.Fields.{Wire, view}
-use Rattle.proto_wire.specs.Rules.{payloads, member_run}
+use Rattle.proto_wire.specs.Fields.{Wire, field_view}
+use Rattle.proto_wire.specs.Values.{payloads}
+use Rattle.proto_wire.specs.Oneof.{member_run}
 use Rattle.proto_wire.specs.Messages.{IsMessage}
 use Rattle.proto_wire.specs.declared.field.Field.{Field}
 use Rattle.proto_wire.specs.declared.refusal.Refusal.{Refusal}
@@ -14,7 +15,7 @@ use Rattle.rbac_match.specs.declared.rule.Side.{Side}
 
 -- the last field's number, where it stands
 pub last_number-view : (fs : List Field) (f : Field) → slice_get fs (length fs - 1) ≡ Some f
-    → last_number (map view fs) ≡ Some f.number
+    → last_number (map field_view fs) ≡ Some f.number
 last_number-view [] f at = let clash : None ≡ Some f = at in cc
 last_number-view (g ∷ []) f at = let same : g ≡ f = (let e : Some g ≡ Some f = at in cc) in ap (λ x. Some x.number) same
 last_number-view (g ∷ h ∷ fs) f at =

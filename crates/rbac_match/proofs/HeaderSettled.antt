@@ -3,17 +3,17 @@
 use Rattle.std.proofs.Common.{◌≡◌, ◌≢◌, ◌==◌, ℕ, ◌⊎◌, inl, inr, Bool, true, if◌then◌else◌, List, [], Some, None, ℤ, refl, sym, ap, subst, ◌∙◌}
 use Rattle.std.proofs.Math.Path.{ap₂}
 use Rattle.std.specs.Str.{IsUtf8, str_to_ascii_lowercase}
-use Rattle.proto_wire.specs.Scalars.{bool_at, int64_at}
+use Rattle.proto_wire.specs.Values.{bool_at, int64_at, payloads, bytes_at}
 use Rattle.proto_wire.specs.Fields.{Wire}
-use Rattle.proto_wire.specs.Rules.{payloads, member_run}
-use Rattle.proto_wire.proofs.Unique.{merges-one}
-use Rattle.proto_wire.proofs.Messages.{message_settled, message_apart}
+use Rattle.proto_wire.specs.Oneof.{member_run}
+use Rattle.proto_wire.proofs.Unique.{merges_unique}
+use Rattle.proto_wire.proofs.Messages.{message_total, message_disjoint}
 use Rattle.proto_wire.specs.declared.refusal.Refusal.{Refusal}
 use Rattle.proto_wire.specs.declared.refusal.Refusal.TheVariants.{BadText, Missing, OutOfRange, Unsupported}
 use Rattle.rbac_match.specs.Message.{last_number, range_keys}
 use Rattle.rbac_match.specs.Text.{TextPattern, exact, prefix, suffix, contains, TextTest, IsFilled, IsTextMatcher}
 use Rattle.rbac_match.specs.Int64Range.{RangeValue, IsRange, RangeFault}
-use Rattle.rbac_match.specs.Header.{Specifier, present, passes, within, HeaderValue, text_at, header_keys, specifier_keys, pattern_number, IsMemberOf, SaysPattern, plain_test, SaysSpecifier, says_nothing, says_present, says_range, says_matcher, says_pattern, IsHeader, SayingFault, no_text, not_filled, no_pattern_member, SpecifierFault, in_range, in_matcher, in_member, HeaderFault, header_fields, name_unreadable, name_missing, in_specifier}
+use Rattle.rbac_match.specs.Header.{Specifier, present, passes, within, HeaderValue, header_keys, specifier_keys, pattern_number, IsMemberOf, SaysPattern, plain_test, SaysSpecifier, says_nothing, says_present, says_range, says_matcher, says_pattern, IsHeader, SayingFault, no_text, not_filled, no_pattern_member, SpecifierFault, in_range, in_matcher, in_member, HeaderFault, header_fields, name_unreadable, name_missing, in_specifier}
 use Rattle.rbac_match.proofs.Basics.{nil_or_not, same_or_not}
 use Rattle.rbac_match.proofs.TextSettled.{utf8_or_not, text_settled, text_apart, text_one}
 use Rattle.rbac_match.proofs.Fields.{numbers_agree, numbers_differ, number_there}
@@ -24,7 +24,7 @@ use Rattle.rbac_match.proofs.Headers.{pattern-number, member-reads}
 -- an Int64Range's payloads are a range or have a fault
 pub range_settled : (parts : List (List ℕ)) → ((r : RangeValue) × IsRange parts r)
     ⊎ ((e : Refusal) × RangeFault parts e)
-range_settled parts = elim (message_settled range_keys parts) [
+range_settled parts = elim (message_total range_keys parts) [
   | inr bad ↦ inr bad
   | inl (fs, message) ↦
       inl (record { first = int64_at 1 fs; past = int64_at 2 fs }, (fs, message, refl, refl))
@@ -34,7 +34,7 @@ range_settled parts = elim (message_settled range_keys parts) [
 pub range_apart : (parts : List (List ℕ)) (r : RangeValue) (e : Refusal) → IsRange parts r
     → RangeFault parts e → ⊥
 range_apart parts r e (fs, message, first, past) bad =
-    message_apart range_keys parts fs e message bad
+    message_disjoint range_keys parts fs e message bad
 
 -- a range of these bounds
 abbrev bounds : ℤ → ℤ → RangeValue
@@ -44,7 +44,7 @@ bounds first past = record { first = first; past = past }
 pub range_one : (parts : List (List ℕ)) (r q : RangeValue) → IsRange parts r → IsRange parts q
     → r ≡ q
 range_one parts r q (fs, a, first, past) (gs, b, also_first, also_past) =
-    let same : fs ≡ gs = merges-one parts fs gs a.0 b.0 in
+    let same : fs ≡ gs = merges_unique parts fs gs a.0 b.0 in
     ap₂ bounds (first ∙ ap (int64_at 1) same ∙ sym also_first)
     (past ∙ ap (int64_at 2) same ∙ sym also_past)
 
@@ -136,7 +136,7 @@ number_settled run n at = elim (same_or_not n 7) [
         | inl (test, reads) ↦ inl (passes test, says_matcher test (at ∙ ap Some is) reads refl)
         | inr (e, bad) ↦ inr (e, in_matcher (at ∙ ap Some is) bad)
       ]
-      | inr not_13 ↦ elim (member_settled n (text_at n run)) [
+      | inr not_13 ↦ elim (member_settled n (bytes_at n run)) [
         | inl (p, says) ↦ inl (passes (plain_test p), says_pattern n p at says refl)
         | inr (e, bad) ↦ inr (e, in_member n at not_6 not_7 not_13 bad)
       ]
@@ -155,15 +155,15 @@ specifier_settled run = elim (last_number run) as (λ o. last_number run ≡ o
 
 -- a member that says a pattern is neither range_match nor present_match nor string_match
 other_6 : (run : List Wire) (n : ℕ) (p : TextPattern) → last_number run ≡ Some n
-    → last_number run ≡ Some 6 → SaysPattern n (text_at n run) p → ⊥
+    → last_number run ≡ Some 6 → SaysPattern n (bytes_at n run) p → ⊥
 other_6 run n p at six says = (pattern-number n p says.0.0).0 (numbers_agree run n 6 at six)
 
 other_7 : (run : List Wire) (n : ℕ) (p : TextPattern) → last_number run ≡ Some n
-    → last_number run ≡ Some 7 → SaysPattern n (text_at n run) p → ⊥
+    → last_number run ≡ Some 7 → SaysPattern n (bytes_at n run) p → ⊥
 other_7 run n p at seven says = (pattern-number n p says.0.0).1 (numbers_agree run n 7 at seven)
 
 other_13 : (run : List Wire) (n : ℕ) (p : TextPattern) → last_number run ≡ Some n
-    → last_number run ≡ Some 13 → SaysPattern n (text_at n run) p → ⊥
+    → last_number run ≡ Some 13 → SaysPattern n (bytes_at n run) p → ⊥
 other_13 run n p at thirteen says =
     (pattern-number n p says.0.0).2 (numbers_agree run n 13 at thirteen)
 
@@ -195,16 +195,16 @@ specifier_apart run s e (says_pattern n p at says is) (in_range atf bad) =
 specifier_apart run s e (says_pattern n p at says is) (in_matcher atf bad) =
     other_13 run n p at atf says
 specifier_apart run s e (says_pattern n p at says is) (in_member m atf not_6 not_7 not_13 bad) =
-    let P : ℕ → Type 0 = λ k. SayingFault k (text_at k run) e in
-    saying_apart n (text_at n run) p e says (subst P (numbers_agree run m n atf at) bad)
+    let P : ℕ → Type 0 = λ k. SayingFault k (bytes_at k run) e in
+    saying_apart n (bytes_at n run) p e says (subst P (numbers_agree run m n atf at) bad)
 
 -- patterns that one member says are one
 says_one : (run : List Wire) (n m : ℕ) (p q : TextPattern) → last_number run ≡ Some n
-    → last_number run ≡ Some m → SaysPattern n (text_at n run) p → SaysPattern m (text_at m run) q
+    → last_number run ≡ Some m → SaysPattern n (bytes_at n run) p → SaysPattern m (bytes_at m run) q
     → p ≡ q
 says_one run n m p q a b says also =
-    let P : ℕ → Type 0 = λ k. SaysPattern k (text_at k run) q in
-    pattern_one n (text_at n run) p q says.0 (subst P (numbers_agree run m n b a) also).0
+    let P : ℕ → Type 0 = λ k. SaysPattern k (bytes_at k run) q in
+    pattern_one n (bytes_at n run) p q says.0 (subst P (numbers_agree run m n b a) also).0
 
 -- a run without a member asks that the header is there
 asks_there : (run : List Wire) (t : Specifier) → last_number run ≡ None → SaysSpecifier run t
@@ -250,7 +250,7 @@ asks_matcher run t test here means (says_pattern m q at says is) =
 
 -- a run of any other member asks by its pattern
 asks_pattern : (run : List Wire) (t : Specifier) (n : ℕ) (p : TextPattern)
-    → last_number run ≡ Some n → SaysPattern n (text_at n run) p → SaysSpecifier run t
+    → last_number run ≡ Some n → SaysPattern n (bytes_at n run) p → SaysSpecifier run t
     → t ≡ passes (plain_test p)
 asks_pattern run t n p here means (says_nothing none is) = absurd (number_there run n none here)
 asks_pattern run t n p here means (says_present at is) = absurd (other_7 run n p here at means)
@@ -293,19 +293,19 @@ header_same n m s t a b c d names specifiers inverts empties =
 -- a HeaderMatcher's payloads are a test of a header, or have a fault
 pub header_settled : (parts : List (List ℕ)) → ((h : HeaderValue) × IsHeader parts h)
     ⊎ ((e : Refusal) × HeaderFault parts e)
-header_settled parts = elim (message_settled header_keys parts) [
+header_settled parts = elim (message_total header_keys parts) [
   | inr (e, bad) ↦ inr (e, header_fields bad)
   | inl (fs, message) ↦ elim (specifier_settled (member_run specifier_keys fs)) [
     | inr (e, bad) ↦ inr (e, in_specifier (member_run specifier_keys fs) (fs, message.0, refl) bad)
-    | inl (s, says) ↦ elim (utf8_or_not (text_at 1 fs)) [
+    | inl (s, says) ↦ elim (utf8_or_not (bytes_at 1 fs)) [
       | inr bad ↦ inr (BadText, name_unreadable fs message.0 bad refl)
-      | inl utf8 ↦ elim (nil_or_not (text_at 1 fs)) [
+      | inl utf8 ↦ elim (nil_or_not (bytes_at 1 fs)) [
         | inl none ↦
             let reads = member-reads (member_run specifier_keys fs) s says in
             inr (Missing, name_missing fs message none reads refl)
         | inr some ↦
             inl (
-              header (str_to_ascii_lowercase (text_at 1 fs)) s (bool_at 8 fs) (bool_at 14 fs),
+              header (str_to_ascii_lowercase (bytes_at 1 fs)) s (bool_at 8 fs) (bool_at 14 fs),
               record {
                 fields = fs;
                 message = message;
@@ -326,14 +326,14 @@ header_settled parts = elim (message_settled header_keys parts) [
 pub header_apart : (parts : List (List ℕ)) (h : HeaderValue) (e : Refusal) → IsHeader parts h
     → HeaderFault parts e → ⊥
 header_apart parts h e is (header_fields bad) =
-    message_apart header_keys parts is.fields e is.message bad
+    message_disjoint header_keys parts is.fields e is.message bad
 header_apart parts h e is (name_unreadable fs merged bad err) =
-    let P : List Wire → Type 0 = λ xs. IsUtf8 (text_at 1 xs) in
-    bad (subst P (merges-one parts is.fields fs is.message.0 merged) is.readable)
+    let P : List Wire → Type 0 = λ xs. IsUtf8 (bytes_at 1 xs) in
+    bad (subst P (merges_unique parts is.fields fs is.message.0 merged) is.readable)
 header_apart parts h e is (name_missing fs message none reads err) =
-    is.named (ap (text_at 1) (merges-one parts is.fields fs is.message.0 message.0) ∙ none)
+    is.named (ap (bytes_at 1) (merges_unique parts is.fields fs is.message.0 message.0) ∙ none)
 header_apart parts h e is (in_specifier run (fs, merged, of) bad) =
-    let fields : is.fields ≡ fs = merges-one parts is.fields fs is.message.0 merged in
+    let fields : is.fields ≡ fs = merges_unique parts is.fields fs is.message.0 merged in
     let same : member_run specifier_keys is.fields ≡ run =
     ap (member_run specifier_keys) fields ∙ sym of in
     let P : List Wire → Type 0 = λ r. SaysSpecifier r h.specifier in
@@ -343,11 +343,11 @@ header_apart parts h e is (in_specifier run (fs, merged, of) bad) =
 pub header_one : (parts : List (List ℕ)) (h k : HeaderValue) → IsHeader parts h → IsHeader parts k
     → h ≡ k
 header_one parts h k a b =
-    let same : a.fields ≡ b.fields = merges-one parts a.fields b.fields a.message.0 b.message.0 in
+    let same : a.fields ≡ b.fields = merges_unique parts a.fields b.fields a.message.0 b.message.0 in
     let P : List Wire → Type 0 = λ fs. SaysSpecifier (member_run specifier_keys fs) h.specifier in
     header_same h.name k.name h.specifier k.specifier h.invert k.invert h.missing_is_empty
     k.missing_is_empty
-    (a.lowered ∙ ap (λ fs. str_to_ascii_lowercase (text_at 1 fs)) same ∙ sym b.lowered)
+    (a.lowered ∙ ap (λ fs. str_to_ascii_lowercase (bytes_at 1 fs)) same ∙ sym b.lowered)
     (specifier_one (member_run specifier_keys b.fields) h.specifier k.specifier
     (subst P same a.asked) b.asked)
     (a.inverted ∙ ap (bool_at 8) same ∙ sym b.inverted)

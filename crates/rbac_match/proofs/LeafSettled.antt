@@ -1,7 +1,7 @@
 -- A leaf's run is a leaf or has a fault, never both, and it means one matcher at most.
 use Rattle.std.proofs.Common.{◌≡◌, ℕ, ◌⊎◌, inl, inr, List, None, refl, sym, ap, ◌∙◌}
 use Rattle.proto_wire.specs.Fields.{Wire}
-use Rattle.proto_wire.specs.Rules.{payloads}
+use Rattle.proto_wire.specs.Values.{payloads}
 use Rattle.proto_wire.specs.declared.refusal.Refusal.{Refusal}
 use Rattle.rbac_match.specs.Matcher.{Matcher, header, address, port, port_range, server_name, url_path, authenticated}
 use Rattle.rbac_match.specs.Leaves.{leaf_at, IsLeaf, LeafFault}

@@ -1,7 +1,7 @@
 -- One level of a rule, from its member and the rules in it.
 use Rattle.std.proofs.Common.{◌≡◌, ℕ, zero, suc, ◌-◌, ◌<◌, List, [], ◌∷◌, ◌++◌, refl, subst, rules, arith, Contains, Bor, get_or, length}
-use Rattle.proto_wire.specs.Rules.{member_run}
-use Rattle.proto_wire.specs.Messages.{texts}
+use Rattle.proto_wire.specs.Oneof.{member_run}
+use Rattle.proto_wire.specs.Merge.{parts_view}
 use Rattle.proto_wire.specs.declared.refusal.Refusal.{Refusal}
 use Rattle.rbac_match.specs.Formula.{Formula, all_of, any_of}
 use Rattle.rbac_match.specs.Message.{keys_of}
@@ -38,14 +38,14 @@ either_view v = search (rules, the_lemmas)
 -- a rule of all of some rules, which a set holds; and of a fault in one of them
 pub all_found : (side : Side) (depth : ℕ) (parts : List (List ℕ)) (rules : Vec (Bor (List ℕ)) Global) (read : List Rule)
     → 0 < depth → IsMember side parts (members.All rules)
-    → AreRules (IsRule side (depth - 1)) (texts rules.items) (rules_view read) → IsRule side depth parts (all_of (rules_view read))
+    → AreRules (IsRule side (depth - 1)) (parts_view rules.items) (rules_view read) → IsRule side depth parts (all_of (rules_view read))
 all_found side depth parts rules read more (fs, message, (number, (gs, set, some, same))) are =
     let P : List (List ℕ) → Type 0 = λ children. AreRules (IsRule side (depth - 1)) children (rules_view read) in
     rule_deeper side depth parts _ more (fs, message, (number, (gs, set, some, subst P same are)))
 
 pub all_fault : (side : Side) (depth : ℕ) (parts : List (List ℕ)) (rules : Vec (Bor (List ℕ)) Global) (e : Refusal)
     → 0 < depth → IsMember side parts (members.All rules)
-    → SomeRuleFault side (depth - 1) (texts rules.items) e → RuleFault side depth parts e
+    → SomeRuleFault side (depth - 1) (parts_view rules.items) e → RuleFault side depth parts e
 all_fault side depth parts rules e more (fs, message, (number, (gs, set, some, same))) (child, here, bad) =
     let P : List (List ℕ) → Type 0 = λ children. Contains children child in
     fault_deeper side depth parts e more (in_all (member_run (keys_of side) fs) (fs, message.0, refl) number (in_rule gs child set.0 (subst P same here) bad))
@@ -53,21 +53,21 @@ all_fault side depth parts rules e more (fs, message, (number, (gs, set, some, s
 -- a rule of some of several rules, likewise
 pub either_found : (side : Side) (depth : ℕ) (parts : List (List ℕ)) (rules : Vec (Bor (List ℕ)) Global) (read : List Rule)
     → 0 < depth → IsMember side parts (members.Either rules)
-    → AreRules (IsRule side (depth - 1)) (texts rules.items) (rules_view read) → IsRule side depth parts (any_of (rules_view read))
+    → AreRules (IsRule side (depth - 1)) (parts_view rules.items) (rules_view read) → IsRule side depth parts (any_of (rules_view read))
 either_found side depth parts rules read more (fs, message, (number, (gs, set, some, same))) are =
     let P : List (List ℕ) → Type 0 = λ children. AreRules (IsRule side (depth - 1)) children (rules_view read) in
     rule_deeper side depth parts _ more (fs, message, (number, (gs, set, some, subst P same are)))
 
 pub either_fault : (side : Side) (depth : ℕ) (parts : List (List ℕ)) (rules : Vec (Bor (List ℕ)) Global) (e : Refusal)
     → 0 < depth → IsMember side parts (members.Either rules)
-    → SomeRuleFault side (depth - 1) (texts rules.items) e → RuleFault side depth parts e
+    → SomeRuleFault side (depth - 1) (parts_view rules.items) e → RuleFault side depth parts e
 either_fault side depth parts rules e more (fs, message, (number, (gs, set, some, same))) (child, here, bad) =
     let P : List (List ℕ) → Type 0 = λ children. Contains children child in
     fault_deeper side depth parts e more (in_any (member_run (keys_of side) fs) (fs, message.0, refl) number (in_rule gs child set.0 (subst P same here) bad))
 
 pub not_fault : (side : Side) (depth : ℕ) (parts : List (List ℕ)) (inner : Vec (Bor (List ℕ)) Global) (e : Refusal)
     → 0 < depth → IsMember side parts (members.Not inner)
-    → RuleFault side (depth - 1) (texts inner.items) e → RuleFault side depth parts e
+    → RuleFault side (depth - 1) (parts_view inner.items) e → RuleFault side depth parts e
 not_fault side depth parts inner e more (fs, message, (number, same)) bad =
     let P : List (List ℕ) → Type 0 = λ given. RuleFault side (depth - 1) given e in
     fault_deeper side depth parts e more (in_not (member_run (keys_of side) fs) (fs, message.0, refl) number (subst P same bad))
@@ -79,7 +79,7 @@ own_fault side depth parts e more bad = fault_deeper side depth parts e more (le
 
 -- one rule more
 pub are_rules-push : (Below : List (List ℕ) → Formula → Type 0) (children : List (Bor (List ℕ))) (rules : List Rule) (child : Bor (List ℕ)) (rule : Rule)
-    → AreRules Below (texts children) (rules_view rules) → Below (child.now ∷ []) (rule_view rule) → AreRules Below (texts (children ++ child ∷ [])) (rules_view (rules ++ rule ∷ []))
+    → AreRules Below (parts_view children) (rules_view rules) → Below (child.now ∷ []) (rule_view rule) → AreRules Below (parts_view (children ++ child ∷ [])) (rules_view (rules ++ rule ∷ []))
 are_rules-push Below [] [] child rule are is = (is, tt)
 are_rules-push Below [] (r ∷ rules) child rule are is = absurd are
 are_rules-push Below (c ∷ children) [] child rule are is = absurd are
@@ -87,7 +87,7 @@ are_rules-push Below (c ∷ children) (r ∷ rules) child rule are is = (are.0, 
 
 -- the text at a place is one of the texts
 pub text_in : (slices : List (Bor (List ℕ))) (i : ℕ) (d : Bor (List ℕ)) → i < length slices
-    → Contains (texts slices) (get_or slices i d).now
+    → Contains (parts_view slices) (get_or slices i d).now
 text_in [] i d within = absurd (omega arith)
-text_in (s ∷ slices) zero d within = contains_first s.now (texts slices)
-text_in (s ∷ slices) (suc i) d within = contains_later s.now (get_or slices i d).now (texts slices) (text_in slices i d (omega arith))
+text_in (s ∷ slices) zero d within = contains_first s.now (parts_view slices)
+text_in (s ∷ slices) (suc i) d within = contains_later s.now (get_or slices i d).now (parts_view slices) (text_in slices i d (omega arith))

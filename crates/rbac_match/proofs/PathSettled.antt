@@ -1,8 +1,8 @@
 -- A PathMatcher's payloads are a test or have a fault, never both, and mean one test at most.
 use Rattle.std.proofs.Common.{◌≡◌, ℕ, ◌⊎◌, inl, inr, List, [], refl, subst}
-use Rattle.proto_wire.specs.Rules.{payloads}
-use Rattle.proto_wire.proofs.Unique.{merges-one}
-use Rattle.proto_wire.proofs.Messages.{message_settled, message_apart}
+use Rattle.proto_wire.specs.Values.{payloads}
+use Rattle.proto_wire.proofs.Unique.{merges_unique}
+use Rattle.proto_wire.proofs.Messages.{message_total, message_disjoint}
 use Rattle.proto_wire.specs.declared.refusal.Refusal.{Refusal}
 use Rattle.proto_wire.specs.declared.refusal.Refusal.TheVariants.{Missing}
 use Rattle.rbac_match.specs.Path.{path_keys, IsPathMatcher, PathFault, path_fields, no_path, in_path}
@@ -13,7 +13,7 @@ use Rattle.rbac_match.proofs.TextSettled.{text_settled, text_apart, text_one}
 -- a PathMatcher's payloads are a test, or have a fault
 pub path_settled : (parts : List (List ℕ))
     → ((t : TextTest) × IsPathMatcher parts t) ⊎ ((e : Refusal) × PathFault parts e)
-path_settled parts = elim (message_settled path_keys parts) [
+path_settled parts = elim (message_total path_keys parts) [
   | inr bad ↦ inr (bad.0, path_fields bad.1)
   | inl message ↦ elim (nil_or_not (payloads 1 message.0)) [
     | inl none ↦ inr (Missing, no_path message.0 message.1 none refl)
@@ -28,16 +28,16 @@ path_settled parts = elim (message_settled path_keys parts) [
 pub path_apart : (parts : List (List ℕ)) (t : TextTest) (e : Refusal) → IsPathMatcher parts t
     → PathFault parts e → ⊥
 path_apart parts t e (fs, message, some, is) (path_fields bad) =
-    message_apart path_keys parts fs e message bad
+    message_disjoint path_keys parts fs e message bad
 path_apart parts t e (fs, message, some, is) (no_path gs also none err) =
-    some (subst (λ hs. payloads 1 hs ≡ []) (merges-one parts gs fs also.0 message.0) none)
+    some (subst (λ hs. payloads 1 hs ≡ []) (merges_unique parts gs fs also.0 message.0) none)
 path_apart parts t e (fs, message, some, is) (in_path gs also there bad) =
     text_apart (payloads 1 fs) t e is
-    (subst (λ hs. TextFault (payloads 1 hs) e) (merges-one parts gs fs also message.0) bad)
+    (subst (λ hs. TextFault (payloads 1 hs) e) (merges_unique parts gs fs also message.0) bad)
 
 -- a PathMatcher means one test
 pub path_one : (parts : List (List ℕ)) (t u : TextTest) → IsPathMatcher parts t
     → IsPathMatcher parts u → t ≡ u
 path_one parts t u (fs, a, _, is) (gs, b, _, also) =
     text_one (payloads 1 fs) t u is
-    (subst (λ hs. IsTextMatcher (payloads 1 hs) u) (merges-one parts gs fs b.0 a.0) also)
+    (subst (λ hs. IsTextMatcher (payloads 1 hs) u) (merges_unique parts gs fs b.0 a.0) also)

@@ -2,10 +2,10 @@
 use Rattle.std.proofs.Common.{◌≡◌, ℕ, ℤ, pos, negsuc, ◌⊎◌, inl, inr, List, refl, sym, ◌∙◌, subst, arith}
 use Rattle.std.proofs.lemmas.Bool.{cases_lt}
 use Rattle.std.proofs.lemmas.Int.{ints}
-use Rattle.proto_wire.specs.Scalars.{uint32_at, int32_at}
+use Rattle.proto_wire.specs.Values.{uint32_at, int32_at}
 use Rattle.proto_wire.specs.Fields.{Wire}
-use Rattle.proto_wire.proofs.Unique.{merges-one}
-use Rattle.proto_wire.proofs.Messages.{message_settled, message_apart}
+use Rattle.proto_wire.proofs.Unique.{merges_unique}
+use Rattle.proto_wire.proofs.Messages.{message_total, message_disjoint}
 use Rattle.proto_wire.specs.declared.refusal.Refusal.{Refusal}
 use Rattle.proto_wire.specs.declared.refusal.Refusal.TheVariants.{OutOfRange}
 use Rattle.rbac_match.specs.Message.{range_keys}
@@ -48,7 +48,7 @@ bounds_apart fs span are (inr (inr none)) = omega (arith, ints, are.0, are.1, ar
 -- a range of ports, or a fault
 pub port_range_settled : (parts : List (List ℕ))
     → ((span : PortSpan) × IsPortRange parts span) ⊎ ((e : Refusal) × PortRangeFault parts e)
-port_range_settled parts = elim (message_settled range_keys parts) [
+port_range_settled parts = elim (message_total range_keys parts) [
   | inr bad ↦ inr (bad.0, range_fields bad.1)
   | inl (fs, message) ↦ elim (bounds_settled fs _ _ refl refl) [
     | inl some ↦ inl (some.0, (fs, message, some.1))
@@ -59,15 +59,15 @@ port_range_settled parts = elim (message_settled range_keys parts) [
 -- not both
 pub port_range_apart : (parts : List (List ℕ)) (span : PortSpan) (e : Refusal) → IsPortRange parts span
     → PortRangeFault parts e → ⊥
-port_range_apart parts span e (fs, message, are) (range_fields bad) = message_apart range_keys parts fs e message bad
+port_range_apart parts span e (fs, message, are) (range_fields bad) = message_disjoint range_keys parts fs e message bad
 port_range_apart parts span e (fs, message, are) (no_bounds gs merged none is) =
-    bounds_apart fs span are (subst AreNoBounds (merges-one parts gs fs merged message.0) none)
+    bounds_apart fs span are (subst AreNoBounds (merges_unique parts gs fs merged message.0) none)
 
 -- one range at most
 pub port_range_one : (parts : List (List ℕ)) (v w : PortSpan) → IsPortRange parts v → IsPortRange parts w
     → v ≡ w
 port_range_one parts v w (fs, message, are) (gs, also, are') =
-    let same : gs ≡ fs = merges-one parts gs fs also.0 message.0 in
+    let same : gs ≡ fs = merges_unique parts gs fs also.0 message.0 in
     let others : AreBounds fs w = (let P : List Wire → Type 0 = λ xs. AreBounds xs w in subst P same are') in
     let start : v.start ≡ w.start = omega (arith, ints, are.0, others.0) in
     let end : v.end ≡ w.end = omega (arith, ints, are.1, others.1) in

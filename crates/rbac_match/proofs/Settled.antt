@@ -3,14 +3,16 @@ use Rattle.std.proofs.Common.{◌≡◌, ◌≢◌, ℕ, zero, suc, ◌<◌, ◌
 use Rattle.proto_wire.specs.Fields.{Wire}
 use Rattle.rbac_match.proofs.Basics.{nil_or_not, contains_first, contains_later, contains_cases, same_or_not}
 use Rattle.rbac_match.proofs.Fields.{numbers_agree, numbers_differ, number_there}
-use Rattle.proto_wire.specs.Rules.{payloads, member_run, Merges}
+use Rattle.proto_wire.specs.Values.{payloads, varint_at}
+use Rattle.proto_wire.specs.Oneof.{member_run}
+use Rattle.proto_wire.specs.Merge.{Merges}
 use Rattle.proto_wire.specs.Messages.{IsMessage}
-use Rattle.proto_wire.proofs.Unique.{merges-one}
-use Rattle.proto_wire.proofs.Messages.{message_settled, message_apart}
+use Rattle.proto_wire.proofs.Unique.{merges_unique}
+use Rattle.proto_wire.proofs.Messages.{message_total, message_disjoint}
 use Rattle.proto_wire.specs.declared.refusal.Refusal.{Refusal}
 use Rattle.proto_wire.specs.declared.refusal.Refusal.TheVariants.{Missing, OutOfRange, Unsupported, TooLarge}
 use Rattle.rbac_match.specs.Formula.{Formula, anything, all_of, any_of, none_of, matches, Formulas, end, formula}
-use Rattle.rbac_match.specs.Message.{keys_of, set_keys, last_number, any_value}
+use Rattle.rbac_match.specs.Message.{keys_of, set_keys, last_number}
 use Rattle.rbac_match.specs.Rules.{AreRules, IsSet, Says, IsLevel, IsRule, HasRun, SetFault, set_fields, set_empty, in_rule, LevelFault, own_fields, no_member, any_is_false, unsupported, in_all, in_any, in_leaf, in_not, RuleFault}
 use Rattle.rbac_match.specs.Leaves.{leaf_at, IsLeaf, LeafFault}
 use Rattle.rbac_match.specs.declared.leaf.Leaf.{Leaf}
@@ -33,7 +35,7 @@ module _ (Below : List (List ℕ) → Formula → Type 0) (Fails : List (List �
 
     set_settled : (parts : List (List ℕ))
         → ((gs : Formulas) × IsSet Below parts gs) ⊎ ((e : Refusal) × SetFault Fails parts e)
-    set_settled parts = elim (message_settled set_keys parts) [
+    set_settled parts = elim (message_total set_keys parts) [
       | inr bad ↦ inr (bad.0, set_fields bad.1)
       | inl message ↦ elim (nil_or_not (payloads 1 message.0)) [
         | inl none ↦ inr (Missing, set_empty message.0 message.1 none refl)
@@ -62,7 +64,7 @@ module _ (Below : List (List ℕ) → Formula → Type 0) (Fails : List (List �
                 | inr bad ↦ inr (bad.0, in_any run has number bad.1)
               ]
               | inr not_2 ↦ elim (same_or_not n 3) [
-                | inl is ↦ let number : last_number run ≡ Some 3 = rw (at, is) refl in elim (same_or_not (any_value run) 0) [
+                | inl is ↦ let number : last_number run ≡ Some 3 = rw (at, is) refl in elim (same_or_not (varint_at 3 run) 0) [
                   | inl unset ↦ inr (OutOfRange, any_is_false run has number unset refl)
                   | inr set ↦ inl (anything, (fs, message, (number, set)))
                 ]
@@ -85,7 +87,7 @@ module _ (Below : List (List ℕ) → Formula → Type 0) (Fails : List (List �
 
     level_settled : (side : Side) (parts : List (List ℕ))
         → ((f : Formula) × IsLevel side Below parts f) ⊎ ((e : Refusal) × LevelFault side Fails parts e)
-    level_settled side parts = elim (message_settled (keys_of side) parts) [
+    level_settled side parts = elim (message_total (keys_of side) parts) [
       | inr bad ↦ inr (bad.0, own_fields bad.1)
       | inl message ↦ elim (last_number (member_run (keys_of side) message.0)) as (λ o. last_number (member_run (keys_of side) message.0) ≡ o → ((f : Formula) × IsLevel side Below parts f) ⊎ ((e : Refusal) × LevelFault side Fails parts e)) [
         | None ↦ λ none. inr (Missing, no_member message.0 message.1 none refl)
@@ -132,15 +134,15 @@ module _ (Below : List (List ℕ) → Formula → Type 0) (Fails : List (List �
 
     set_apart : (parts : List (List ℕ)) (gs : Formulas) (e : Refusal) → IsSet Below parts gs
         → SetFault Fails parts e → ⊥
-    set_apart parts gs e (fs, message, some, are) (set_fields bad) = message_apart set_keys parts fs e message bad
+    set_apart parts gs e (fs, message, some, are) (set_fields bad) = message_disjoint set_keys parts fs e message bad
     set_apart parts gs e (fs, message, some, are) (set_empty hs also none is) =
-        some (let P : List Wire → Type 0 = λ xs. payloads 1 xs ≡ [] in subst P (merges-one parts hs fs also.0 message.0) none)
+        some (let P : List Wire → Type 0 = λ xs. payloads 1 xs ≡ [] in subst P (merges_unique parts hs fs also.0 message.0) none)
     set_apart parts gs e (fs, message, some, are) (in_rule hs child also here bad) =
-        rules_apart (payloads 1 fs) gs child e are (let P : List Wire → Type 0 = λ xs. Contains (payloads 1 xs) child in subst P (merges-one parts hs fs also message.0) here) bad
+        rules_apart (payloads 1 fs) gs child e are (let P : List Wire → Type 0 = λ xs. Contains (payloads 1 xs) child in subst P (merges_unique parts hs fs also message.0) here) bad
 
     -- what the run says has no fault
     any_apart : (side : Side) (run : List Wire) (f : Formula) → Says side Below run f
-        → last_number run ≡ Some 3 → any_value run ≡ 0 → ⊥
+        → last_number run ≡ Some 3 → varint_at 3 run ≡ 0 → ⊥
     any_apart side run anything says at none = says.1 none
     any_apart side run (all_of gs) says at none = numbers_differ run 1 3 says.0 at refl
     any_apart side run (any_of gs) says at none = numbers_differ run 2 3 says.0 at refl
@@ -205,7 +207,7 @@ module _ (Below : List (List ℕ) → Formula → Type 0) (Fails : List (List �
     module _ (side : Side) (parts : List (List ℕ)) (fs : List Wire) (merged : Merges parts fs) where
       -- the parts have one run
       run_is : (run : List Wire) → HasRun side parts run → run ≡ member_run (keys_of side) fs
-      run_is run has = has.2 ∙ ap (member_run (keys_of side)) (merges-one parts has.0 fs has.1 merged)
+      run_is run has = has.2 ∙ ap (member_run (keys_of side)) (merges_unique parts has.0 fs has.1 merged)
 
       says_at : (run : List Wire) (f : Formula) → HasRun side parts run
           → Says side Below (member_run (keys_of side) fs) f → Says side Below run f
@@ -213,10 +215,10 @@ module _ (Below : List (List ℕ) → Formula → Type 0) (Fails : List (List �
 
     level_apart : (side : Side) (parts : List (List ℕ)) (f : Formula) (e : Refusal)
         → IsLevel side Below parts f → LevelFault side Fails parts e → ⊥
-    level_apart side parts f e (fs, message, says) (own_fields bad) = message_apart (keys_of side) parts fs e message bad
+    level_apart side parts f e (fs, message, says) (own_fields bad) = message_disjoint (keys_of side) parts fs e message bad
     level_apart side parts f e (fs, message, says) (no_member hs also none is) =
         let run : List Wire = member_run (keys_of side) fs in
-        let missing : last_number run ≡ None = (let P : List Wire → Type 0 = λ xs. last_number (member_run (keys_of side) xs) ≡ None in subst P (merges-one parts hs fs also.0 message.0) none) in
+        let missing : last_number run ≡ None = (let P : List Wire → Type 0 = λ xs. last_number (member_run (keys_of side) xs) ≡ None in subst P (merges_unique parts hs fs also.0 message.0) none) in
         some_number side run f says missing
     level_apart side parts f e (fs, message, says) (any_is_false run has at none is) = any_apart side run f (says_at side parts fs message.0 run f has says) at none
     level_apart side parts f e (fs, message, says) (unsupported run n has at a b c d none is) =
@@ -252,7 +254,7 @@ module _ (Below : List (List ℕ) → Formula → Type 0) (below_one : (parts : 
   set_one : (parts : List (List ℕ)) (fs gs : Formulas) → IsSet Below parts fs → IsSet Below parts gs → fs ≡ gs
   set_one parts fs gs a b =
       let P : List Wire → Type 0 = λ xs. AreRules Below (payloads 1 xs) gs in
-      rules_one (payloads 1 a.0) fs gs a.3 (subst P (merges-one parts b.0 a.0 b.1.0 a.1.0) b.3)
+      rules_one (payloads 1 a.0) fs gs a.3 (subst P (merges_unique parts b.0 a.0 b.1.0 a.1.0) b.3)
 
   says_one : (side : Side) (run : List Wire) (f g : Formula) → Says side Below run f
       → Says side Below run g → f ≡ g
@@ -291,7 +293,7 @@ module _ (Below : List (List ℕ) → Formula → Type 0) (below_one : (parts : 
       → IsLevel side Below parts g → f ≡ g
   level_one side parts f g a b =
       let P : List Wire → Type 0 = λ xs. Says side Below (member_run (keys_of side) xs) g in
-      says_one side (member_run (keys_of side) a.0) f g a.2 (subst P (merges-one parts b.0 a.0 b.1.0 a.1.0) b.2)
+      says_one side (member_run (keys_of side) a.0) f g a.2 (subst P (merges_unique parts b.0 a.0 b.1.0 a.1.0) b.2)
 
 -- a rule says one formula
 pub rule_one : (side : Side) (depth : ℕ) (parts : List (List ℕ)) (f g : Formula)

@@ -6,16 +6,17 @@ use Rattle.std.specs.Cmp.{first_so, second_so}
 use Rattle.std.specs.Str.{IsUtf8, is_utf8}
 use Rattle.std.proofs.lemmas.Bool.{cases_Bool, or_cases, both_ways, eqb-true, eqb-false}
 use Rattle.std.proofs.lemmas.Str.{IsUtf8-from_is_utf8, is_utf8-from_IsUtf8}
-use Rattle.proto_wire.specs.Scalars.{bool_at}
-use Rattle.proto_wire.specs.Fields.{Wire, Payload, varint, eight, text, four}
-use Rattle.proto_wire.specs.Rules.{last_member, Merges, is_known, has_key, is_of_type}
+use Rattle.proto_wire.specs.Values.{bool_at}
+use Rattle.proto_wire.specs.Fields.{Wire, Payload, varint, i64, len, i32}
+use Rattle.proto_wire.specs.Oneof.{last_member}
+use Rattle.proto_wire.specs.Merge.{Merges}
+use Rattle.proto_wire.specs.Keys.{is_known, has_key, is_of_type, len_key}
 use Rattle.proto_wire.specs.Messages.{IsMessage}
-use Rattle.proto_wire.proofs.Unique.{merges-one}
-use Rattle.proto_wire.proofs.Messages.{message_settled, message_apart}
+use Rattle.proto_wire.proofs.Unique.{merges_unique}
+use Rattle.proto_wire.proofs.Messages.{message_total, message_disjoint}
 use Rattle.proto_wire.specs.declared.field.WireType.TheVariants as wire_types
 use Rattle.proto_wire.specs.declared.refusal.Refusal.{Refusal}
 use Rattle.proto_wire.specs.declared.refusal.Refusal.TheVariants.{BadText, Missing, OutOfRange, Unsupported}
-use Rattle.rbac_match.specs.Message.{text_key}
 use Rattle.rbac_match.specs.Text.{TextPattern, exact, prefix, suffix, contains, TextTest, string_keys, pattern_keys, number_of, text_of, pattern_field, IsFilled, IsTextMatcher, PatternFault, bad_text, empty_text, is_regex, TextFault, text_fields, no_pattern, in_pattern}
 use Rattle.rbac_match.proofs.Basics.{nil_or_not}
 use Rattle.rbac_match.proofs.TextLemmas.{member-known}
@@ -32,34 +33,34 @@ abbrev wire : ℕ → Payload → Wire
 wire n p = record { number = n; payload = p }
 
 -- a payload of the type of texts is a text
-text_payload : (p : Payload) → is_of_type wire_types.Text p ≡ true → (b : List ℕ) × (p ≡ text b)
-text_payload (varint n) typed = absurd cc
-text_payload (eight bytes) typed = absurd cc
-text_payload (text bytes) typed = (bytes, refl)
-text_payload (four bytes) typed = absurd cc
+len_payload : (p : Payload) → is_of_type wire_types.Len p ≡ true → (b : List ℕ) × (p ≡ len b)
+len_payload (varint n) typed = absurd cc
+len_payload (i64 n) typed = absurd cc
+len_payload (len bytes) typed = (bytes, refl)
+len_payload (i32 n) typed = absurd cc
 
 -- a field with the key of a text is a text of that number
-field_with : (k : ℕ) (f : Wire) → has_key (text_key k) f ≡ true
-    → (b : List ℕ) × (f ≡ wire k (text b))
+field_with : (k : ℕ) (f : Wire) → has_key (len_key k) f ≡ true
+    → (b : List ℕ) × (f ≡ wire k (len b))
 field_with k f has =
     let number : f.number ≡ k =
-    eqb-true f.number k (first_so (eqb f.number k) (is_of_type wire_types.Text f.payload) has) in
+    eqb-true f.number k (first_so (eqb f.number k) (is_of_type wire_types.Len f.payload) has) in
     let held =
-    text_payload f.payload (second_so (eqb f.number k) (is_of_type wire_types.Text f.payload) has) in
+    len_payload f.payload (second_so (eqb f.number k) (is_of_type wire_types.Len f.payload) has) in
     (held.0, ap₂ wire number held.1)
 
 -- a member is a pattern, or a regular expression
 pub pattern_or_regex : (f : Wire) → is_known pattern_keys f ≡ true
     → ((p : TextPattern) × (f ≡ pattern_field p)) ⊎ (f.number ≡ 5)
-pattern_or_regex f known = elim (or_cases (has_key (text_key 1) f) _ known) [
+pattern_or_regex f known = elim (or_cases (has_key (len_key 1) f) _ known) [
   | inl has ↦ let is = field_with 1 f has in inl (exact is.0, is.1)
-  | inr not_1 ↦ elim (or_cases (has_key (text_key 2) f) _ not_1) [
+  | inr not_1 ↦ elim (or_cases (has_key (len_key 2) f) _ not_1) [
     | inl has ↦ let is = field_with 2 f has in inl (prefix is.0, is.1)
-    | inr not_2 ↦ elim (or_cases (has_key (text_key 3) f) _ not_2) [
+    | inr not_2 ↦ elim (or_cases (has_key (len_key 3) f) _ not_2) [
       | inl has ↦ let is = field_with 3 f has in inl (suffix is.0, is.1)
-      | inr not_3 ↦ elim (or_cases (has_key (text_key 5) f) _ not_3) [
+      | inr not_3 ↦ elim (or_cases (has_key (len_key 5) f) _ not_3) [
         | inl has ↦ let is = field_with 5 f has in inr (ap (λ g. g.number) is.1)
-        | inr not_5 ↦ elim (or_cases (has_key (text_key 7) f) _ not_5) [
+        | inr not_5 ↦ elim (or_cases (has_key (len_key 7) f) _ not_5) [
           | inl has ↦ let is = field_with 7 f has in inl (contains is.0, is.1)
           | inr none ↦ absurd cc
         ]
@@ -100,7 +101,7 @@ member_settled parts fs f message at =
 -- a StringMatcher's payloads are a test, or have a fault
 pub text_settled : (parts : List (List ℕ))
     → ((t : TextTest) × IsTextMatcher parts t) ⊎ ((e : Refusal) × TextFault parts e)
-text_settled parts = elim (message_settled string_keys parts) [
+text_settled parts = elim (message_total string_keys parts) [
   | inr bad ↦ inr (bad.0, text_fields bad.1)
   | inl message ↦ elim (last_member pattern_keys message.0) as (λ o. last_member pattern_keys message.0 ≡ o
       → ((t : TextTest) × IsTextMatcher parts t) ⊎ ((e : Refusal) × TextFault parts e)) [
@@ -136,7 +137,7 @@ pattern_one (contains a) (contains b) number same = ap contains same
 field_one : (p q : TextPattern) → pattern_field p ≡ pattern_field q → p ≡ q
 field_one p q same = pattern_one p q (ap (λ f. f.number) same) (held (ap (λ f. f.payload) same))
   where
-    held : text (text_of p) ≡ text (text_of q) → text_of p ≡ text_of q
+    held : len (text_of p) ≡ len (text_of q) → text_of p ≡ text_of q
     held e = cc
 
 -- no pattern has the number of a regular expression
@@ -152,7 +153,7 @@ member_one : (parts : List (List ℕ)) (fs gs : List Wire) (p : TextPattern) (o 
     → last_member pattern_keys fs ≡ Some (pattern_field p) → last_member pattern_keys gs ≡ o
     → o ≡ Some (pattern_field p)
 member_one parts fs gs p o a b at is =
-    sym is ∙ ap (last_member pattern_keys) (merges-one parts gs fs b a) ∙ at
+    sym is ∙ ap (last_member pattern_keys) (merges_unique parts gs fs b a) ∙ at
 
 -- a pattern that is read has no fault
 pattern_apart : (p : TextPattern) (e : Refusal) → IsUtf8 (text_of p) → IsFilled p
@@ -167,7 +168,7 @@ pattern_apart p e utf8 filled (is_regex is err) = not_regex p is
 pub text_apart : (parts : List (List ℕ)) (t : TextTest) (e : Refusal) → IsTextMatcher parts t
     → TextFault parts e → ⊥
 text_apart parts t e (fs, message, at, utf8, filled, flag) (text_fields bad) =
-    message_apart string_keys parts fs e message bad
+    message_disjoint string_keys parts fs e message bad
 text_apart parts t e (fs, message, at, utf8, filled, flag) (no_pattern gs also none err) =
     let clash : None ≡ Some (pattern_field t.pattern) =
     member_one parts fs gs t.pattern None message.0 also.0 at none in
@@ -190,4 +191,4 @@ text_one parts t u (fs, a, at, _, _, flag) (gs, b, also, _, _, other) =
     member_one parts fs gs t.pattern _ a.0 b.0 at also in
     let fields : pattern_field t.pattern ≡ pattern_field u.pattern = cc in
     ap₂ make (field_one t.pattern u.pattern fields)
-    (flag ∙ ap (bool_at 6) (merges-one parts fs gs a.0 b.0) ∙ sym other)
+    (flag ∙ ap (bool_at 6) (merges_unique parts fs gs a.0 b.0) ∙ sym other)

@@ -3,16 +3,17 @@ use Rattle.std.specs.Prelude.{◌≡◌, ◌≢◌, ℕ, Bool, true, false, ◌&
 use Rattle.attributes.specs.Conn.{Facts}
 use Rattle.attributes.specs.Request.{RequestValue}
 use Rattle.proto_wire.specs.Fields.{Wire}
-use Rattle.proto_wire.specs.Rules.{payloads, Merges}
+use Rattle.proto_wire.specs.Values.{payloads}
+use Rattle.proto_wire.specs.Merge.{Merges}
 use Rattle.proto_wire.specs.Messages.{IsMessage, MessageFault}
 use Rattle.proto_wire.specs.declared.refusal.Refusal.{Refusal}
-use Rattle.proto_wire.specs.declared.rules.Key.{Key}
-use Rattle.rbac_match.specs.Message.{text_key}
+use Rattle.proto_wire.specs.declared.key.Key.{Key}
+use Rattle.proto_wire.specs.Keys.{len_key}
 use Rattle.rbac_match.specs.Text.{TextTest, text_holds, IsTextMatcher, TextFault}
 
 -- the fields of an Authenticated: principal_name 2
 abbrev pub authenticated_keys : List Key
-authenticated_keys = text_key 2 ∷ []
+authenticated_keys = len_key 2 ∷ []
 
 -- what the payloads of principal_name say: without one every name will do
 abbrev pub SaysName : List (List ℕ) → Option TextTest → Type 0

@@ -1,17 +1,19 @@
 -- Tests of a request's header: Envoy v3 `config/route/v3/route_components.proto`, HeaderMatcher.
-use Rattle.std.specs.Prelude.{◌≡◌, ◌≢◌, ℕ, Bool, true, false, not, if◌then◌else◌, List, [], ◌∷◌, Option, Some, None, unwrap_or}
+use Rattle.std.specs.Prelude.{◌≡◌, ◌≢◌, ℕ, Bool, true, false, not, if◌then◌else◌, List, [], ◌∷◌, Option, Some, None}
 use Rattle.std.specs.Option.{is_some, option_or, option_map_or}
 use Rattle.std.specs.Str.{IsUtf8, str_to_ascii_lowercase}
 use Rattle.std.specs.String.{string_bytes}
 use Rattle.attributes.specs.Request.{RequestValue, header_of}
-use Rattle.proto_wire.specs.Scalars.{bool_at}
+use Rattle.proto_wire.specs.Values.{bool_at, bytes_at, payloads}
 use Rattle.proto_wire.specs.Fields.{Wire}
-use Rattle.proto_wire.specs.Rules.{payloads, last_of, member_run, Merges}
+use Rattle.proto_wire.specs.Oneof.{member_run}
+use Rattle.proto_wire.specs.Merge.{Merges}
 use Rattle.proto_wire.specs.Messages.{IsMessage, MessageFault}
 use Rattle.proto_wire.specs.declared.refusal.Refusal.{Refusal}
 use Rattle.proto_wire.specs.declared.refusal.Refusal.TheVariants.{BadText, Missing, OutOfRange, Unsupported}
-use Rattle.proto_wire.specs.declared.rules.Key.{Key}
-use Rattle.rbac_match.specs.Message.{text_key, varint_key, last_number}
+use Rattle.proto_wire.specs.declared.key.Key.{Key}
+use Rattle.proto_wire.specs.Keys.{len_key, varint_key}
+use Rattle.rbac_match.specs.Message.{last_number}
 use Rattle.rbac_match.specs.Text.{TextPattern, exact, prefix, suffix, contains, TextTest, text_holds, text_view, text_of, IsFilled, IsTextMatcher, TextFault}
 use Rattle.rbac_match.specs.Int64Range.{RangeValue, range_holds, range_view, IsRange, RangeFault}
 use Rattle.rbac_match.specs.declared.header.HeaderMatcher.{HeaderMatcher}
@@ -80,17 +82,13 @@ header_view h = record {
 -- the members of the oneof: exact_match 4, range_match 6, present_match 7, prefix_match 9,
 -- suffix_match 10, safe_regex_match 11, contains_match 12, string_match 13
 abbrev pub specifier_keys : List Key
-specifier_keys = text_key 4 ∷ text_key 6 ∷ varint_key 7 ∷ text_key 9 ∷ text_key 10 ∷ text_key 11
-    ∷ text_key 12 ∷ text_key 13 ∷ []
+specifier_keys = len_key 4 ∷ len_key 6 ∷ varint_key 7 ∷ len_key 9 ∷ len_key 10 ∷ len_key 11
+    ∷ len_key 12 ∷ len_key 13 ∷ []
 
 -- all fields: the name 1, the members, invert_match 8 and treat_missing_header_as_empty 14
 abbrev pub header_keys : List Key
-header_keys = text_key 1 ∷ text_key 4 ∷ text_key 6 ∷ varint_key 7 ∷ varint_key 8 ∷ text_key 9
-    ∷ text_key 10 ∷ text_key 11 ∷ text_key 12 ∷ text_key 13 ∷ varint_key 14 ∷ []
-
--- the text of a field: its last occurrence, or the empty text
-abbrev pub text_at : ℕ → List Wire → List ℕ
-text_at k fs = unwrap_or (last_of (payloads k fs)) []
+header_keys = len_key 1 ∷ len_key 4 ∷ len_key 6 ∷ varint_key 7 ∷ varint_key 8 ∷ len_key 9
+    ∷ len_key 10 ∷ len_key 11 ∷ len_key 12 ∷ len_key 13 ∷ varint_key 14 ∷ []
 
 -- the number of the member that says the pattern
 abbrev pub pattern_number : TextPattern → ℕ
@@ -120,15 +118,15 @@ pub data SaysSpecifier (run : List Wire) (s : Specifier) : Type 0 where
   says_matcher : (test : TextTest) → last_number run ≡ Some 13
       → IsTextMatcher (payloads 13 run) test → s ≡ passes test → SaysSpecifier run s
   says_pattern : (n : ℕ) (p : TextPattern) → last_number run ≡ Some n
-      → SaysPattern n (text_at n run) p → s ≡ passes (plain_test p) → SaysSpecifier run s
+      → SaysPattern n (bytes_at n run) p → s ≡ passes (plain_test p) → SaysSpecifier run s
 
 -- the parts merge to a HeaderMatcher that asks this
 pub record IsHeader (parts : List (List ℕ)) (h : HeaderValue) : Type 0 where
   pub fields : List Wire
   pub message : IsMessage header_keys parts fields
-  pub readable : IsUtf8 (text_at 1 fields)
-  pub named : text_at 1 fields ≢ []
-  pub lowered : h.name ≡ str_to_ascii_lowercase (text_at 1 fields)
+  pub readable : IsUtf8 (bytes_at 1 fields)
+  pub named : bytes_at 1 fields ≢ []
+  pub lowered : h.name ≡ str_to_ascii_lowercase (bytes_at 1 fields)
   pub asked : SaysSpecifier (member_run specifier_keys fields) h.specifier
   pub inverted : h.invert ≡ bool_at 8 fields
   pub emptied : h.missing_is_empty ≡ bool_at 14 fields
@@ -149,12 +147,12 @@ pub data SpecifierFault (run : List Wire) (e : Refusal) : Type 0 where
   in_range : last_number run ≡ Some 6 → RangeFault (payloads 6 run) e → SpecifierFault run e
   in_matcher : last_number run ≡ Some 13 → TextFault (payloads 13 run) e → SpecifierFault run e
   in_member : (n : ℕ) → last_number run ≡ Some n → n ≢ 6 → n ≢ 7 → n ≢ 13
-      → SayingFault n (text_at n run) e → SpecifierFault run e
+      → SayingFault n (bytes_at n run) e → SpecifierFault run e
 
 -- the last member's own text, where it has one, is UTF-8
 abbrev pub MemberReads : List Wire → Type 0
 MemberReads run = (n : ℕ) (p : TextPattern) → last_number run ≡ Some n
-    → IsMemberOf n (text_at n run) p → IsUtf8 (text_at n run)
+    → IsMemberOf n (bytes_at n run) p → IsUtf8 (bytes_at n run)
 
 -- the parts merge to fields whose last member has this run
 abbrev pub HasSpecifier : List (List ℕ) → List Wire → Type 0
@@ -164,9 +162,9 @@ HasSpecifier parts run = (fs : List Wire) × Merges parts fs × (run ≡ member_
 -- counts only where its own texts read
 pub data HeaderFault (parts : List (List ℕ)) (e : Refusal) : Type 0 where
   header_fields : MessageFault header_keys parts e → HeaderFault parts e
-  name_unreadable : (fs : List Wire) → Merges parts fs → ¬ (IsUtf8 (text_at 1 fs)) → e ≡ BadText
+  name_unreadable : (fs : List Wire) → Merges parts fs → ¬ (IsUtf8 (bytes_at 1 fs)) → e ≡ BadText
       → HeaderFault parts e
-  name_missing : (fs : List Wire) → IsMessage header_keys parts fs → text_at 1 fs ≡ []
+  name_missing : (fs : List Wire) → IsMessage header_keys parts fs → bytes_at 1 fs ≡ []
       → MemberReads (member_run specifier_keys fs) → e ≡ Missing → HeaderFault parts e
   in_specifier : (run : List Wire) → HasSpecifier parts run → SpecifierFault run e
       → HeaderFault parts e

@@ -1,7 +1,7 @@
 -- Ranges of whole numbers: Envoy v3 `type/v3/range.proto`, Int64Range (start is in, end is not).
 use Rattle.std.specs.Prelude.{◌≡◌, ℕ, Bool, false, not, ◌&&◌, List, ℤ, int_lt, ◌≤ℤ◌, ◌<ℤ◌}
 use Rattle.std.specs.Option.{option_map_or}
-use Rattle.proto_wire.specs.Scalars.{int64_at}
+use Rattle.proto_wire.specs.Values.{int64_at}
 use Rattle.proto_wire.specs.Fields.{Wire}
 use Rattle.proto_wire.specs.Messages.{IsMessage, MessageFault}
 use Rattle.proto_wire.specs.declared.refusal.Refusal.{Refusal}

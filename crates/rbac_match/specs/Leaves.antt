@@ -4,7 +4,7 @@ use Rattle.std.specs.Prelude.{◌≡◌, ℕ, ◌==◌, List, [], ◌∷◌, Opt
 use Rattle.std.specs.Map.{lookup}
 use Rattle.attributes.specs.Address.{Range}
 use Rattle.proto_wire.specs.Fields.{Wire}
-use Rattle.proto_wire.specs.Rules.{payloads}
+use Rattle.proto_wire.specs.Values.{payloads}
 use Rattle.proto_wire.specs.declared.refusal.Refusal.{Refusal}
 use Rattle.rbac_match.specs.Text.{TextTest, IsTextMatcher, TextFault}
 use Rattle.rbac_match.specs.Path.{IsPathMatcher, PathFault}

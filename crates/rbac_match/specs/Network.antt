@@ -1,34 +1,30 @@
 -- Ranges of addresses: Envoy v3 `config/core/v3/address.proto` (CidrRange),
 -- `google/protobuf/wrappers.proto` (UInt32Value); what they say of a request: Envoy RBAC,
 -- "Permission" and "Principal" (`destination_ip`, `direct_remote_ip`, `remote_ip`).
-use Rattle.std.specs.Prelude.{◌≡◌, ℕ, ◌-◌, ◌/◌, ◌^◌, ◌<◌, ◌≤◌, ◌==◌, Bool, false, List, [], ◌∷◌, Option, Some, None, unwrap_or, IsUtf8}
+use Rattle.std.specs.Prelude.{◌≡◌, ℕ, ◌-◌, ◌/◌, ◌^◌, ◌<◌, ◌≤◌, ◌==◌, Bool, false, List, [], ◌∷◌, Option, Some, None, IsUtf8}
 use Rattle.attributes.specs.Address.{IsIpText, Range, width_of}
 use Rattle.attributes.specs.Conn.{Facts}
 use Rattle.attributes.specs.Request.{RequestValue}
 use Rattle.attributes.specs.declared.address.Ip.{Ip}
 use Rattle.attributes.specs.declared.address.Ip.TheVariants.{V4, V6}
-use Rattle.proto_wire.specs.Scalars.{uint32_at}
+use Rattle.proto_wire.specs.Values.{bytes_at, uint32_at, payloads}
 use Rattle.proto_wire.specs.Fields.{Wire}
-use Rattle.proto_wire.specs.Rules.{payloads, last_of, Merges}
+use Rattle.proto_wire.specs.Merge.{Merges}
 use Rattle.proto_wire.specs.Messages.{IsMessage, MessageFault}
 use Rattle.proto_wire.specs.declared.refusal.Refusal.{Refusal}
 use Rattle.proto_wire.specs.declared.refusal.Refusal.TheVariants.{BadText, OutOfRange}
-use Rattle.proto_wire.specs.declared.rules.Key.{Key}
-use Rattle.rbac_match.specs.Message.{text_key, varint_key}
+use Rattle.proto_wire.specs.declared.key.Key.{Key}
+use Rattle.proto_wire.specs.Keys.{len_key, varint_key}
 use Rattle.rbac_match.specs.declared.network.AddressSource.{AddressSource}
 use Rattle.rbac_match.specs.declared.network.AddressSource.TheVariants.{Destination, DirectRemote, Remote}
 
 -- the fields of a CidrRange: address_prefix 1 and prefix_len 2
 abbrev pub cidr_keys : List Key
-cidr_keys = text_key 1 ∷ text_key 2 ∷ []
+cidr_keys = len_key 1 ∷ len_key 2 ∷ []
 
 -- the field of a UInt32Value: value 1
 abbrev pub length_keys : List Key
 length_keys = varint_key 1 ∷ []
-
--- the text of the address: the last one, and empty where there is none
-abbrev pub address_text : List Wire → List ℕ
-address_text fs = unwrap_or (last_of (payloads 1 fs)) []
 
 -- the parts merge to a UInt32Value of this value; no parts are 0
 abbrev pub IsLength : List (List ℕ) → ℕ → Type 0
@@ -36,8 +32,8 @@ IsLength parts n = (fs : List Wire) × IsMessage length_keys parts fs × (n ≡ 
 
 -- the parts merge to a CidrRange that means these addresses
 abbrev pub IsCidr : List (List ℕ) → Range → Type 0
-IsCidr parts range = (fs : List Wire) × IsMessage cidr_keys parts fs × IsUtf8 (address_text fs)
-    × IsIpText (address_text fs) range.address × IsLength (payloads 2 fs) range.size
+IsCidr parts range = (fs : List Wire) × IsMessage cidr_keys parts fs × IsUtf8 (bytes_at 1 fs)
+    × IsIpText (bytes_at 1 fs) range.address × IsLength (payloads 2 fs) range.size
     × (range.size ≤ width_of range.address)
 
 -- the text spells no address
@@ -47,13 +43,13 @@ IsNoIpText text = (ip : Ip) → ¬ IsIpText text ip
 -- a fault of a CidrRange: of its own fields, of its address, or of its length
 pub data CidrFault (parts : List (List ℕ)) (e : Refusal) : Type 0 where
   cidr_fields : MessageFault cidr_keys parts e → CidrFault parts e
-  address_not_utf8 : (fs : List Wire) → Merges parts fs → ¬ IsUtf8 (address_text fs) → e ≡ BadText
+  address_not_utf8 : (fs : List Wire) → Merges parts fs → ¬ IsUtf8 (bytes_at 1 fs) → e ≡ BadText
       → CidrFault parts e
-  no_address : (fs : List Wire) → Merges parts fs → IsUtf8 (address_text fs)
-      → IsNoIpText (address_text fs) → e ≡ OutOfRange → CidrFault parts e
+  no_address : (fs : List Wire) → Merges parts fs → IsUtf8 (bytes_at 1 fs)
+      → IsNoIpText (bytes_at 1 fs) → e ≡ OutOfRange → CidrFault parts e
   in_length : (fs : List Wire) → Merges parts fs → MessageFault length_keys (payloads 2 fs) e
       → CidrFault parts e
-  too_long : (fs ls : List Wire) (ip : Ip) → Merges parts fs → IsIpText (address_text fs) ip
+  too_long : (fs ls : List Wire) (ip : Ip) → Merges parts fs → IsIpText (bytes_at 1 fs) ip
       → Merges (payloads 2 fs) ls → width_of ip < uint32_at 1 ls → e ≡ OutOfRange → CidrFault parts e
 
 -- whether the addresses are of one family and have their first `size` bits in common

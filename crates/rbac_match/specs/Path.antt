@@ -4,17 +4,18 @@ use Rattle.std.specs.Prelude.{◌≡◌, ◌≢◌, ◌⊎◌, ℕ, Bool, List, 
 use Rattle.attributes.specs.Attributes.{url_path_of}
 use Rattle.attributes.specs.Request.{RequestValue}
 use Rattle.proto_wire.specs.Fields.{Wire}
-use Rattle.proto_wire.specs.Rules.{payloads, Merges}
+use Rattle.proto_wire.specs.Values.{payloads}
+use Rattle.proto_wire.specs.Merge.{Merges}
 use Rattle.proto_wire.specs.Messages.{IsMessage, MessageFault}
 use Rattle.proto_wire.specs.declared.refusal.Refusal.{Refusal}
 use Rattle.proto_wire.specs.declared.refusal.Refusal.TheVariants.{Missing}
-use Rattle.proto_wire.specs.declared.rules.Key.{Key}
-use Rattle.rbac_match.specs.Message.{text_key}
+use Rattle.proto_wire.specs.declared.key.Key.{Key}
+use Rattle.proto_wire.specs.Keys.{len_key}
 use Rattle.rbac_match.specs.Text.{TextTest, text_holds, IsTextMatcher, TextFault}
 
 -- the fields of a PathMatcher: path 1
 abbrev pub path_keys : List Key
-path_keys = text_key 1 ∷ []
+path_keys = len_key 1 ∷ []
 
 -- the payloads merge to a PathMatcher whose path means the test
 abbrev pub IsPathMatcher : List (List ℕ) → TextTest → Type 0

@@ -4,9 +4,9 @@
 use Rattle.std.specs.Prelude.{◌≡◌, ℕ, pos, ◌<◌, ◌≤◌, ◌<ℤ◌, ◌≤ℤ◌, ◌⊎◌, ◌==◌, ◌&&◌, nat_lt, nat_le, Bool, false, List}
 use Rattle.std.specs.Option.{option_map_or}
 use Rattle.attributes.specs.Request.{RequestValue}
-use Rattle.proto_wire.specs.Scalars.{uint32_at, int32_at}
+use Rattle.proto_wire.specs.Values.{uint32_at, int32_at}
 use Rattle.proto_wire.specs.Fields.{Wire}
-use Rattle.proto_wire.specs.Rules.{Merges}
+use Rattle.proto_wire.specs.Merge.{Merges}
 use Rattle.proto_wire.specs.Messages.{IsMessage, MessageFault}
 use Rattle.proto_wire.specs.declared.refusal.Refusal.{Refusal}
 use Rattle.proto_wire.specs.declared.refusal.Refusal.TheVariants.{OutOfRange}

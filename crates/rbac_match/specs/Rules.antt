@@ -2,11 +2,13 @@
 -- `config/rbac/v3/rbac.proto`.
 use Rattle.std.specs.Prelude.{◌≡◌, ◌≢◌, ℕ, zero, suc, List, [], ◌∷◌, Contains, Some, None}
 use Rattle.proto_wire.specs.Fields.{Wire}
-use Rattle.proto_wire.specs.Rules.{payloads, member_run, Merges}
+use Rattle.proto_wire.specs.Values.{payloads, varint_at}
+use Rattle.proto_wire.specs.Oneof.{member_run}
+use Rattle.proto_wire.specs.Merge.{Merges}
 use Rattle.proto_wire.specs.Messages.{IsMessage, MessageFault}
 use Rattle.proto_wire.specs.declared.refusal.Refusal.{Refusal}
 use Rattle.proto_wire.specs.declared.refusal.Refusal.TheVariants.{Missing, OutOfRange, Unsupported, TooLarge}
-use Rattle.rbac_match.specs.Message.{keys_of, set_keys, last_number, any_value}
+use Rattle.rbac_match.specs.Message.{keys_of, set_keys, last_number}
 use Rattle.rbac_match.specs.Formula.{Formula, anything, all_of, any_of, none_of, matches, Formulas, end, formula}
 use Rattle.rbac_match.specs.Leaves.{leaf_at, IsLeaf, LeafFault}
 use Rattle.rbac_match.specs.declared.leaf.Leaf.{Leaf}
@@ -26,7 +28,7 @@ IsSet Below parts gs = (fs : List Wire) × IsMessage set_keys parts fs × (paylo
 
 -- the run of the last member says the formula
 abbrev pub Says : Side → (List (List ℕ) → Formula → Type 0) → List Wire → Formula → Type 0
-Says side Below run anything = (last_number run ≡ Some 3) × (any_value run ≢ 0)
+Says side Below run anything = (last_number run ≡ Some 3) × (varint_at 3 run ≢ 0)
 Says side Below run (all_of gs) = (last_number run ≡ Some 1) × IsSet Below (payloads 1 run) gs
 Says side Below run (any_of gs) = (last_number run ≡ Some 2) × IsSet Below (payloads 2 run) gs
 Says side Below run (none_of g) = (last_number run ≡ Some 8) × Below (payloads 8 run) g
@@ -61,7 +63,7 @@ pub data LevelFault (side : Side) (Below : List (List ℕ) → Refusal → Type 
   own_fields : MessageFault (keys_of side) parts e → LevelFault side Below parts e
   no_member : (fs : List Wire) → IsMessage (keys_of side) parts fs
       → last_number (member_run (keys_of side) fs) ≡ None → e ≡ Missing → LevelFault side Below parts e
-  any_is_false : (run : List Wire) → HasRun side parts run → last_number run ≡ Some 3 → any_value run ≡ 0
+  any_is_false : (run : List Wire) → HasRun side parts run → last_number run ≡ Some 3 → varint_at 3 run ≡ 0
       → e ≡ OutOfRange → LevelFault side Below parts e
   unsupported : (run : List Wire) (n : ℕ) → HasRun side parts run → last_number run ≡ Some n → n ≢ 1
       → n ≢ 2 → n ≢ 3 → n ≢ 8 → leaf_at side n ≡ None → e ≡ Unsupported → LevelFault side Below parts e

@@ -3,14 +3,15 @@ use Rattle.std.specs.Prelude.{◌≡◌, ◌≢◌, ℕ, Bool, nat_eq, ◌||◌,
 use Rattle.std.specs.List.{starts_with, ends_with}
 use Rattle.std.specs.Str.{IsUtf8, bytes_eq, str_to_ascii_lowercase}
 use Rattle.std.specs.String.{string_bytes}
-use Rattle.proto_wire.specs.Scalars.{bool_at}
-use Rattle.proto_wire.specs.Fields.{Wire, text}
-use Rattle.proto_wire.specs.Rules.{last_member, Merges}
+use Rattle.proto_wire.specs.Values.{bool_at}
+use Rattle.proto_wire.specs.Fields.{Wire, len}
+use Rattle.proto_wire.specs.Oneof.{last_member}
+use Rattle.proto_wire.specs.Merge.{Merges}
 use Rattle.proto_wire.specs.Messages.{IsMessage, MessageFault}
 use Rattle.proto_wire.specs.declared.refusal.Refusal.{Refusal}
 use Rattle.proto_wire.specs.declared.refusal.Refusal.TheVariants.{BadText, Missing, OutOfRange, Unsupported}
-use Rattle.proto_wire.specs.declared.rules.Key.{Key}
-use Rattle.rbac_match.specs.Message.{text_key, varint_key}
+use Rattle.proto_wire.specs.declared.key.Key.{Key}
+use Rattle.proto_wire.specs.Keys.{len_key, varint_key}
 use Rattle.rbac_match.specs.declared.text.Pattern.{Pattern}
 use Rattle.rbac_match.specs.declared.text.Pattern.TheVariants as patterns
 use Rattle.rbac_match.specs.declared.text.TextMatcher.{TextMatcher}
@@ -71,11 +72,11 @@ text_view m = record { pattern = pattern_view m.pattern; ignore_case = m.ignore_
 
 -- the members of a StringMatcher's oneof: exact 1, prefix 2, suffix 3, safe_regex 5, contains 7
 abbrev pub pattern_keys : List Key
-pattern_keys = text_key 1 ∷ text_key 2 ∷ text_key 3 ∷ text_key 5 ∷ text_key 7 ∷ []
+pattern_keys = len_key 1 ∷ len_key 2 ∷ len_key 3 ∷ len_key 5 ∷ len_key 7 ∷ []
 
 -- the fields of a StringMatcher: the members, and ignore_case 6
 abbrev pub string_keys : List Key
-string_keys = text_key 1 ∷ text_key 2 ∷ text_key 3 ∷ text_key 5 ∷ varint_key 6 ∷ text_key 7 ∷ []
+string_keys = len_key 1 ∷ len_key 2 ∷ len_key 3 ∷ len_key 5 ∷ varint_key 6 ∷ len_key 7 ∷ []
 
 -- the number of the member that says the pattern
 abbrev pub number_of : TextPattern → ℕ
@@ -93,7 +94,7 @@ text_of (contains part) = part
 
 -- the member that says the pattern
 abbrev pub pattern_field : TextPattern → Wire
-pattern_field p = record { number = number_of p; payload = text (text_of p) }
+pattern_field p = record { number = number_of p; payload = len (text_of p) }
 
 -- a prefix, a suffix and a contained text are not empty; an exact text may be
 abbrev pub IsFilled : TextPattern → Type 0

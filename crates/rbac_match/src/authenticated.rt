@@ -2,8 +2,8 @@
 
 ghost use Rattle.std.specs.Prelude.{◌≡◌, ◌⊎◌, IfOk, IfErr, option_copied, option_map};
 ghost use Rattle.attributes.specs.Conn.{facts_of, text_of};
-ghost use Rattle.proto_wire.specs.Messages.{texts};
-ghost use Rattle.proto_wire.specs.declared.refusal.Refusal.TheVariants.{Memory};
+ghost use Rattle.proto_wire.specs.Merge.{parts_view};
+ghost use Rattle.proto_wire.specs.Refusal.{MemoryOr};
 ghost use Rattle.rbac_match.specs.Authenticated.{authenticated_keys, IsAuthenticated, AuthenticatedFault, peer_name, authenticated_holds};
 ghost use Rattle.rbac_match.specs.Text.{text_view};
 
@@ -14,12 +14,12 @@ use std::alloc::Global;
 
 const PRINCIPAL_NAME: u32 = 2;
 
-static AUTHENTICATED_KEYS: [Key; 1] = keys![Text PRINCIPAL_NAME];
+static AUTHENTICATED_KEYS: [Key; 1] = keys![Len PRINCIPAL_NAME];
 
 /// Reads an Authenticated, which stands in the parts: the test of the peer's name, or none where every name will do.
 pub fn read_authenticated(alloc: Global, parts: &[&[u8]]) -> Result<Option<TextMatcher>, Refusal>
-    ensures found { IfOk result (λ name. IsAuthenticated (texts parts.now) (option_map text_view name)) }
-    ensures fault { IfErr result (λ e. (e ≡ Memory) ⊎ AuthenticatedFault (texts parts.now) e) }
+    ensures found { IfOk result (λ name. IsAuthenticated (parts_view parts.now) (option_map text_view name)) }
+    ensures fault { IfErr result (MemoryOr (AuthenticatedFault (parts_view parts.now))) }
 {
     let fields = read_message(alloc, parts, authenticated_keys())?;
     let name = payloads_of(alloc, &fields, PRINCIPAL_NAME)?;

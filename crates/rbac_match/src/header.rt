@@ -4,17 +4,19 @@
 ghost use Rattle.std.specs.Prelude.{◌≡◌, ◌≢◌, ◌⊎◌, [], false, IfOk, IfErr, map};
 ghost use Rattle.std.specs.Str.{IsUtf8, str_to_ascii_lowercase};
 ghost use Rattle.std.specs.String.{string_bytes};
-ghost use Rattle.proto_wire.specs.Fields.{view};
-ghost use Rattle.proto_wire.specs.Messages.{texts};
+ghost use Rattle.proto_wire.specs.Fields.{field_view};
+ghost use Rattle.proto_wire.specs.Merge.{parts_view};
+ghost use Rattle.proto_wire.specs.Refusal.{MemoryOr};
 ghost use Rattle.proto_wire.specs.declared.refusal.Refusal.TheVariants.{Memory, BadText, Missing};
 ghost use Rattle.rbac_match.specs.Text.{pattern_view};
-ghost use Rattle.rbac_match.specs.Header.{HeaderFault, IsHeader, SayingFault, SaysPattern, SaysSpecifier, SpecifierFault, header_holds, header_keys, header_view, specifier_holds, specifier_keys, test_view, text_at};
+ghost use Rattle.proto_wire.specs.Values.{bytes_at};
+ghost use Rattle.rbac_match.specs.Header.{HeaderFault, IsHeader, SayingFault, SaysPattern, SaysSpecifier, SpecifierFault, header_holds, header_keys, header_view, specifier_holds, specifier_keys, test_view};
 
 use crate::int64_range::{Int64Range, read_int64_range};
 use crate::text::{Pattern, TextMatcher, read_filled, read_text, read_text_matcher};
 use attributes::Request;
 use proto_wire::{
-    Field, Key, Refusal, bool_of, keys, last_text, member_run, payloads_of, read_message,
+    Field, Key, Refusal, bool_at, bytes_at, keys, member_run, payloads_of, read_message,
 };
 use std::alloc::Global;
 
@@ -62,12 +64,11 @@ const MATCHER: u32 = 13;
 const MISSING_IS_EMPTY: u32 = 14;
 
 static FIELDS: [Key; 11] = keys![
-    Text 1, Text 4, Text 6, Varint 7, Varint 8, Text 9, Text 10, Text 11, Text 12, Text 13,
+    Len 1, Len 4, Len 6, Varint 7, Varint 8, Len 9, Len 10, Len 11, Len 12, Len 13,
     Varint 14
 ];
 
-static SPECIFIERS: [Key; 8] =
-    keys![Text 4, Text 6, Varint 7, Text 9, Text 10, Text 11, Text 12, Text 13];
+static SPECIFIERS: [Key; 8] = keys![Len 4, Len 6, Varint 7, Len 9, Len 10, Len 11, Len 12, Len 13];
 
 impl HeaderTest {
     // Whether a header that is there with this value is as asked.
@@ -111,8 +112,8 @@ impl HeaderMatcher {
 /// name or the text of the member that counts is not UTF-8, `OutOfRange` where a prefix, a suffix or
 /// a contained text is empty, `Unsupported` where that member is a regular expression.
 pub fn read_header_matcher(alloc: Global, parts: &[&[u8]]) -> Result<HeaderMatcher, Refusal>
-    ensures found { IfOk result (λ h. IsHeader (texts parts.now) (header_view h)) }
-    ensures fault { IfErr result (λ e. (e ≡ Memory) ⊎ HeaderFault (texts parts.now) e) }
+    ensures found { IfOk result (λ h. IsHeader (parts_view parts.now) (header_view h)) }
+    ensures fault { IfErr result (MemoryOr (HeaderFault (parts_view parts.now))) }
 {
     let fields = read_message(alloc, parts, header_keys())?;
     let run = member_run(alloc, &fields, specifier_keys())?;
@@ -121,21 +122,21 @@ pub fn read_header_matcher(alloc: Global, parts: &[&[u8]]) -> Result<HeaderMatch
     Ok(HeaderMatcher {
         name,
         test,
-        invert: bool_of(&fields, INVERT),
-        missing_is_empty: bool_of(&fields, MISSING_IS_EMPTY),
+        invert: bool_at(&fields, INVERT),
+        missing_is_empty: bool_at(&fields, MISSING_IS_EMPTY),
     })
 }
 
 // The name in lower case.
 fn read_name(alloc: Global, fields: &[Field<'_>]) -> Result<String, Refusal>
-    ensures found { let bytes = text_at 1 (map view fields.now) in
+    ensures found { let bytes = bytes_at 1 (map field_view fields.now) in
         IfOk result (λ name. (string_bytes name ≡ str_to_ascii_lowercase bytes)
         × IsUtf8 bytes × (bytes ≢ [])) }
-    ensures fault { let bytes = text_at 1 (map view fields.now) in
+    ensures fault { let bytes = bytes_at 1 (map field_view fields.now) in
         IfErr result (λ e. (e ≡ Memory) ⊎ ((e ≡ BadText) × ¬ (IsUtf8 bytes))
         ⊎ ((e ≡ Missing) × (bytes ≡ []))) }
 {
-    let mut name = read_text(alloc, text_of(fields, NAME))?;
+    let mut name = read_text(alloc, bytes_at(fields, NAME))?;
     if name.is_empty() {
         return Err(Refusal::Missing);
     }
@@ -145,21 +146,21 @@ fn read_name(alloc: Global, fields: &[Field<'_>]) -> Result<String, Refusal>
 
 // What the run of the last member asks.
 fn read_test(alloc: Global, run: &[Field<'_>]) -> Result<HeaderTest, Refusal>
-    ensures found { IfOk result (λ test. SaysSpecifier (map view run.now) (test_view test)) }
-    ensures fault { IfErr result (λ e. (e ≡ Memory) ⊎ SpecifierFault (map view run.now) e) }
+    ensures found { IfOk result (λ test. SaysSpecifier (map field_view run.now) (test_view test)) }
+    ensures fault { IfErr result (MemoryOr (SpecifierFault (map field_view run.now))) }
 {
     let Some(last) = run.last() else {
         return Ok(HeaderTest::Present(true));
     };
     match last.number {
-        PRESENT => Ok(HeaderTest::Present(bool_of(run, PRESENT))),
+        PRESENT => Ok(HeaderTest::Present(bool_at(run, PRESENT))),
         RANGE => Ok(HeaderTest::Range(read_int64_range(alloc, &payloads_of(alloc, run, RANGE)?)?)),
         MATCHER => Ok(HeaderTest::Text(read_text_matcher(
             alloc,
             &payloads_of(alloc, run, MATCHER)?,
         )?)),
         number => {
-            let pattern = read_pattern(alloc, number, text_of(run, number))?;
+            let pattern = read_pattern(alloc, number, bytes_at(run, number))?;
             Ok(HeaderTest::Text(TextMatcher::of(pattern)))
         }
     }
@@ -168,7 +169,7 @@ fn read_test(alloc: Global, run: &[Field<'_>]) -> Result<HeaderTest, Refusal>
 // The pattern that the member of this number says, which has this text.
 fn read_pattern(alloc: Global, number: u32, bytes: &[u8]) -> Result<Pattern, Refusal>
     ensures found { IfOk result (λ pattern. SaysPattern number bytes.now (pattern_view pattern)) }
-    ensures fault { IfErr result (λ e. (e ≡ Memory) ⊎ SayingFault number bytes.now e) }
+    ensures fault { IfErr result (MemoryOr (SayingFault number bytes.now)) }
 {
     match number {
         EXACT => Ok(Pattern::Exact(read_text(alloc, bytes)?)),
@@ -176,16 +177,6 @@ fn read_pattern(alloc: Global, number: u32, bytes: &[u8]) -> Result<Pattern, Ref
         SUFFIX => Ok(Pattern::Suffix(read_filled(alloc, bytes)?)),
         CONTAINS => Ok(Pattern::Contains(read_filled(alloc, bytes)?)),
         _ => Err(Refusal::Unsupported),
-    }
-}
-
-// The text of this number, or the empty one.
-fn text_of<'a>(fields: &[Field<'a>], number: u32) -> &'a [u8]
-    ensures { result.now ≡ text_at number (map view fields.now) }
-{
-    match last_text(fields, number) {
-        Some(text) => text,
-        None => &[],
     }
 }
 

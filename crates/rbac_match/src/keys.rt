@@ -7,14 +7,14 @@ use crate::rule::Side;
 use proto_wire::{Key, keys};
 
 static PERMISSION: [Key; 12] = keys![
-    Text 1, Text 2, Varint 3, Text 4, Text 5, Varint 6, Text 7, Text 8, Text 9, Text 10, Text 11, Text 12
+    Len 1, Len 2, Varint 3, Len 4, Len 5, Varint 6, Len 7, Len 8, Len 9, Len 10, Len 11, Len 12
 ];
 
 static PRINCIPAL: [Key; 12] = keys![
-    Text 1, Text 2, Varint 3, Text 4, Text 5, Text 6, Text 7, Text 8, Text 9, Text 10, Text 11, Text 12
+    Len 1, Len 2, Varint 3, Len 4, Len 5, Len 6, Len 7, Len 8, Len 9, Len 10, Len 11, Len 12
 ];
 
-static SET: [Key; 1] = keys![Text 1];
+static SET: [Key; 1] = keys![Len 1];
 
 /// The field of a range's first integer, by number.
 pub const START: u32 = 1;

@@ -1,8 +1,8 @@
 //! Which members of a permission or a principal are leaves, and their reading.
 
 ghost use Rattle.std.specs.Prelude.{◌≡◌, ◌⊎◌, IfOk, IfErr, map};
-ghost use Rattle.proto_wire.specs.Fields.{view};
-ghost use Rattle.proto_wire.specs.declared.refusal.Refusal.TheVariants.{Memory};
+ghost use Rattle.proto_wire.specs.Fields.{field_view};
+ghost use Rattle.proto_wire.specs.Refusal.{MemoryOr};
 ghost use Rattle.rbac_match.specs.Leaves.{leaf_at, IsLeaf, LeafFault};
 ghost use Rattle.rbac_match.specs.Matcher.{matcher_view};
 
@@ -63,8 +63,8 @@ pub fn read_leaf(
     run: &[Field<'_>],
     number: u32,
 ) -> Result<Matcher, Refusal>
-    ensures found { IfOk result (λ m. IsLeaf leaf number (map view run.now) (matcher_view m)) }
-    ensures fault { IfErr result (λ e. (e ≡ Memory) ⊎ LeafFault leaf number (map view run.now) e) }
+    ensures found { IfOk result (λ m. IsLeaf leaf number (map field_view run.now) (matcher_view m)) }
+    ensures fault { IfErr result (MemoryOr (LeafFault leaf number (map field_view run.now))) }
 {
     let parts = payloads_of(alloc, run, number)?;
     match leaf {

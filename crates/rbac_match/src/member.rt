@@ -1,11 +1,11 @@
 //! A rule's own fields: which member of its oneof counts, and the payloads of the rules in it.
 
 ghost use Rattle.std.specs.Prelude.{◌≡◌, ◌⊎◌, IfOk, IfErr, map};
-ghost use Rattle.proto_wire.specs.Fields.{view};
-ghost use Rattle.proto_wire.specs.declared.refusal.Refusal.TheVariants.{Memory};
+ghost use Rattle.proto_wire.specs.Fields.{field_view};
+ghost use Rattle.proto_wire.specs.Refusal.{MemoryOr};
 ghost use Rattle.rbac_match.specs.Message.{last_number};
 ghost use Rattle.rbac_match.specs.Rules.{SetFault, LevelFault};
-ghost use Rattle.proto_wire.specs.Messages.{texts};
+ghost use Rattle.proto_wire.specs.Merge.{parts_view};
 ghost use Rattle.rbac_match.specs.Member.{IsMember, MemberSays, MemberFault, IsSetOf, Never};
 
 use crate::keys::{keys_of, set_keys};
@@ -40,8 +40,8 @@ const NOT: u32 = 8;
 
 /// Reads a rule's own fields, which stand in the parts.
 pub fn read_member<'a>(alloc: Global, side: Side, parts: &[&'a [u8]]) -> Result<Member<'a>, Refusal>
-    ensures found { IfOk result (λ m. IsMember side (texts parts.now) m) }
-    ensures fault { IfErr result (λ e. (e ≡ Memory) ⊎ LevelFault side Never (texts parts.now) e) }
+    ensures found { IfOk result (λ m. IsMember side (parts_view parts.now) m) }
+    ensures fault { IfErr result (MemoryOr (LevelFault side Never (parts_view parts.now))) }
 {
     let fields = read_message(alloc, parts, keys_of(side))?;
     let run = member_run(alloc, &fields, keys_of(side))?;
@@ -50,8 +50,8 @@ pub fn read_member<'a>(alloc: Global, side: Side, parts: &[&'a [u8]]) -> Result<
 
 /// Reads the last member's run.
 fn choose<'a>(alloc: Global, side: Side, run: &[Field<'a>]) -> Result<Member<'a>, Refusal>
-    ensures found { IfOk result (λ m. MemberSays side (map view run.now) m) }
-    ensures fault { IfErr result (λ e. (e ≡ Memory) ⊎ MemberFault side (map view run.now) e) }
+    ensures found { IfOk result (λ m. MemberSays side (map field_view run.now) m) }
+    ensures fault { IfErr result (MemoryOr (MemberFault side (map field_view run.now))) }
 {
     match number_of(run) {
         None => Err(Refusal::Missing),
@@ -71,7 +71,7 @@ fn choose<'a>(alloc: Global, side: Side, run: &[Field<'a>]) -> Result<Member<'a>
 
 /// The number of the last field.
 fn number_of(fields: &[Field<'_>]) -> Option<u32>
-    ensures { result ≡ last_number (map view fields.now) }
+    ensures { result ≡ last_number (map field_view fields.now) }
 {
     match fields.last() {
         Some(last) => Some(last.number),
@@ -81,8 +81,8 @@ fn number_of(fields: &[Field<'_>]) -> Option<u32>
 
 /// The payloads of the rules of a set, which stands in the parts.
 fn read_set<'a>(alloc: Global, parts: &[&'a [u8]]) -> Result<Vec<&'a [u8]>, Refusal>
-    ensures found { IfOk result (λ v. IsSetOf (texts parts.now) (texts v.items)) }
-    ensures fault { IfErr result (λ e. (e ≡ Memory) ⊎ SetFault Never (texts parts.now) e) }
+    ensures found { IfOk result (λ v. IsSetOf (parts_view parts.now) (parts_view v.items)) }
+    ensures fault { IfErr result (MemoryOr (SetFault Never (parts_view parts.now))) }
 {
     let fields = read_message(alloc, parts, set_keys())?;
     let rules = payloads_of(alloc, &fields, 1)?;

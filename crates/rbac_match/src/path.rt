@@ -1,8 +1,8 @@
 //! Tests of a request's path (`envoy.type.matcher.v3.PathMatcher`) and of the requested server name.
 
 ghost use Rattle.std.specs.Prelude.{◌≡◌, ◌⊎◌, IfOk, IfErr};
-ghost use Rattle.proto_wire.specs.Messages.{texts};
-ghost use Rattle.proto_wire.specs.declared.refusal.Refusal.TheVariants.{Memory};
+ghost use Rattle.proto_wire.specs.Merge.{parts_view};
+ghost use Rattle.proto_wire.specs.Refusal.{MemoryOr};
 ghost use Rattle.rbac_match.specs.Path.{path_keys, IsPathMatcher, PathFault, path_holds, server_name_holds};
 ghost use Rattle.rbac_match.specs.Text.{text_view};
 
@@ -13,12 +13,12 @@ use std::alloc::Global;
 
 const PATH: u32 = 1;
 
-static PATH_KEYS: [Key; 1] = keys![Text PATH];
+static PATH_KEYS: [Key; 1] = keys![Len PATH];
 
 /// Reads a PathMatcher, which stands in the parts: `Missing` without a path, and what `read_text_matcher` refuses of it.
 pub fn read_path_matcher(alloc: Global, parts: &[&[u8]]) -> Result<TextMatcher, Refusal>
-    ensures found { IfOk result (λ m. IsPathMatcher (texts parts.now) (text_view m)) }
-    ensures fault { IfErr result (λ e. (e ≡ Memory) ⊎ PathFault (texts parts.now) e) }
+    ensures found { IfOk result (λ m. IsPathMatcher (parts_view parts.now) (text_view m)) }
+    ensures fault { IfErr result (MemoryOr (PathFault (parts_view parts.now))) }
 {
     let fields = read_message(alloc, parts, path_keys())?;
     let path = payloads_of(alloc, &fields, PATH)?;

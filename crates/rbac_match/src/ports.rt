@@ -1,14 +1,14 @@
 //! Ports and ranges of them, and whether a request goes there.
 
 ghost use Rattle.std.specs.Prelude.{◌≡◌, ◌⊎◌, IfOk, IfErr, MatchOption, map};
-ghost use Rattle.proto_wire.specs.Fields.{view};
-ghost use Rattle.proto_wire.specs.Messages.{texts};
-ghost use Rattle.proto_wire.specs.declared.refusal.Refusal.TheVariants.{Memory};
+ghost use Rattle.proto_wire.specs.Fields.{field_view};
+ghost use Rattle.proto_wire.specs.Merge.{parts_view};
+ghost use Rattle.proto_wire.specs.Refusal.{MemoryOr};
 ghost use Rattle.rbac_match.specs.Ports.{AreBounds, AreNoBounds, IsPort, IsPortRange, PortFault, PortRangeFault, port_holds, port_range_holds};
 
 use crate::keys::{END, RANGE, START};
 use attributes::Request;
-use proto_wire::{Field, Refusal, int32_of, read_message, uint32_of};
+use proto_wire::{Field, Refusal, int32_at, read_message, uint32_at};
 use std::alloc::Global;
 use std::marker::Model;
 
@@ -40,10 +40,10 @@ impl Model for PortRange {
 
 /// Reads a permission's `destination_port` from its run: `OutOfRange` above 65,535.
 pub fn read_port(run: &[Field<'_>]) -> Result<u16, Refusal>
-    ensures found { IfOk result (λ port. IsPort (map view run.now) port) }
-    ensures fault { IfErr result (λ e. PortFault (map view run.now) e) }
+    ensures found { IfOk result (λ port. IsPort (map field_view run.now) port) }
+    ensures fault { IfErr result (λ e. PortFault (map field_view run.now) e) }
 {
-    let number = uint32_of(run, DESTINATION_PORT);
+    let number = uint32_at(run, DESTINATION_PORT);
     if number > u16::MAX as u32 {
         return Err(Refusal::OutOfRange);
     }
@@ -53,8 +53,8 @@ pub fn read_port(run: &[Field<'_>]) -> Result<u16, Refusal>
 /// Reads a range of ports (`envoy.type.v3.Int32Range`), which stands in the parts: `OutOfRange` where it holds none, or
 /// what is no port.
 pub fn read_port_range(alloc: Global, parts: &[&[u8]]) -> Result<PortRange, Refusal>
-    ensures found { IfOk result (λ range. IsPortRange (texts parts.now) range) }
-    ensures fault { IfErr result (λ e. (e ≡ Memory) ⊎ PortRangeFault (texts parts.now) e) }
+    ensures found { IfOk result (λ range. IsPortRange (parts_view parts.now) range) }
+    ensures fault { IfErr result (MemoryOr (PortRangeFault (parts_view parts.now))) }
 {
     let fields = read_message(alloc, parts, &RANGE)?;
     match bounds_of(&fields) {
@@ -65,10 +65,10 @@ pub fn read_port_range(alloc: Global, parts: &[&[u8]]) -> Result<PortRange, Refu
 
 /// The ports between the bounds that the fields give.
 fn bounds_of(fields: &[Field<'_>]) -> Option<PortRange>
-    ensures { let fs = map view fields.now in MatchOption result (AreNoBounds fs) (AreBounds fs) }
+    ensures { let fs = map field_view fields.now in MatchOption result (AreNoBounds fs) (AreBounds fs) }
 {
-    let start = int32_of(fields, START);
-    let end = int32_of(fields, END);
+    let start = int32_at(fields, START);
+    let end = int32_at(fields, END);
     if start < 0 || end > PORTS || end <= start {
         return None;
     }

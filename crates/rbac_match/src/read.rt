@@ -1,9 +1,9 @@
 //! The reading of rules, down to a depth.
 
 ghost use Rattle.std.specs.Prelude.{◌≡◌, ◌⊎◌, IfOk, IfErr};
-ghost use Rattle.proto_wire.specs.declared.refusal.Refusal.TheVariants.{Memory};
+ghost use Rattle.proto_wire.specs.Refusal.{MemoryOr};
 ghost use Rattle.rbac_match.specs.Rules.{IsRule, AreRules, RuleFault, SomeRuleFault};
-ghost use Rattle.proto_wire.specs.Messages.{texts};
+ghost use Rattle.proto_wire.specs.Merge.{parts_view};
 ghost use Rattle.rbac_match.specs.View.{rule_view, rules_view};
 
 use crate::member::{Member, read_member};
@@ -18,8 +18,8 @@ pub const RULE_DEPTH: u32 = 32;
 /// of the rule is read.
 #[cycle(rule)]
 pub fn read_rule(alloc: Global, side: Side, parts: &[&[u8]], depth: u32) -> Result<Rule, Refusal>
-    ensures found { IfOk result (λ rule. IsRule side depth (texts parts.now) (rule_view rule)) }
-    ensures fault { IfErr result (λ e. (e ≡ Memory) ⊎ RuleFault side depth (texts parts.now) e) }
+    ensures found { IfOk result (λ rule. IsRule side depth (parts_view parts.now) (rule_view rule)) }
+    ensures fault { IfErr result (MemoryOr (RuleFault side depth (parts_view parts.now))) }
 {
     if depth == 0 {
         return Err(Refusal::TooLarge);
@@ -44,8 +44,8 @@ pub fn read_rules(
     payloads: &[&[u8]],
     depth: u32,
 ) -> Result<Vec<Rule>, Refusal>
-    ensures found { IfOk result (λ rules. AreRules (IsRule side depth) (texts payloads.now) (rules_view rules.items)) }
-    ensures fault { IfErr result (λ e. (e ≡ Memory) ⊎ SomeRuleFault side depth (texts payloads.now) e) }
+    ensures found { IfOk result (λ rules. AreRules (IsRule side depth) (parts_view payloads.now) (rules_view rules.items)) }
+    ensures fault { IfErr result (MemoryOr (SomeRuleFault side depth (parts_view payloads.now))) }
 {
     let mut rules = Vec::new(alloc);
     for payload in payloads {

@@ -4,14 +4,15 @@ ghost use Rattle.std.specs.Prelude.{◌≡◌, ◌≢◌, ◌⊎◌, [], true, f
 ghost use Rattle.std.specs.List.{starts_with, ends_with};
 ghost use Rattle.std.specs.Str.{IsUtf8, str_to_ascii_lowercase};
 ghost use Rattle.std.specs.String.{string_bytes};
-ghost use Rattle.proto_wire.specs.Fields.{view};
-ghost use Rattle.proto_wire.specs.Rules.{is_known};
-ghost use Rattle.proto_wire.specs.Messages.{texts};
+ghost use Rattle.proto_wire.specs.Fields.{field_view};
+ghost use Rattle.proto_wire.specs.Keys.{is_known};
+ghost use Rattle.proto_wire.specs.Merge.{parts_view};
+ghost use Rattle.proto_wire.specs.Refusal.{MemoryOr};
 ghost use Rattle.proto_wire.specs.declared.refusal.Refusal.TheVariants.{Memory, BadText, OutOfRange};
 ghost use Rattle.rbac_match.specs.Text.{text_view, pattern_view, text_holds, pattern_holds, stands_in, string_keys, pattern_keys, pattern_field, IsFilled, text_of, IsTextMatcher, PatternFault, TextFault};
 
 use memchr::memmem;
-use proto_wire::{Content, Field, Key, Refusal, bool_of, keys, last_member, read_message};
+use proto_wire::{Field, Key, Payload, Refusal, bool_at, keys, last_member, read_message};
 use std::alloc::Global;
 
 /// What a text is compared with.
@@ -44,15 +45,15 @@ const IGNORE_CASE: u32 = 6;
 
 const CONTAINS: u32 = 7;
 
-static STRING: [Key; 6] = keys![Text 1, Text 2, Text 3, Text 5, Varint 6, Text 7];
+static STRING: [Key; 6] = keys![Len 1, Len 2, Len 3, Len 5, Varint 6, Len 7];
 
-static PATTERN: [Key; 5] = keys![Text 1, Text 2, Text 3, Text 5, Text 7];
+static PATTERN: [Key; 5] = keys![Len 1, Len 2, Len 3, Len 5, Len 7];
 
 /// Reads a StringMatcher, which stands in the parts: `Missing` without a member, `BadText` where its text is not UTF-8,
 /// `OutOfRange` where a prefix, a suffix or a contained text is empty, `Unsupported` where it is a regular expression.
 pub fn read_text_matcher(alloc: Global, parts: &[&[u8]]) -> Result<TextMatcher, Refusal>
-    ensures found { IfOk result (λ m. IsTextMatcher (texts parts.now) (text_view m)) }
-    ensures fault { IfErr result (λ e. (e ≡ Memory) ⊎ TextFault (texts parts.now) e) }
+    ensures found { IfOk result (λ m. IsTextMatcher (parts_view parts.now) (text_view m)) }
+    ensures fault { IfErr result (MemoryOr (TextFault (parts_view parts.now))) }
 {
     let fields = read_message(alloc, parts, string_keys())?;
     let Some(member) = last_member(&fields, pattern_keys()) else {
@@ -61,7 +62,7 @@ pub fn read_text_matcher(alloc: Global, parts: &[&[u8]]) -> Result<TextMatcher, 
     let pattern = read_pattern(alloc, &member)?;
     Ok(TextMatcher {
         pattern,
-        ignore_case: bool_of(&fields, IGNORE_CASE),
+        ignore_case: bool_at(&fields, IGNORE_CASE),
     })
 }
 
@@ -126,12 +127,12 @@ fn pattern_keys() -> &'static [Key]
 
 // The pattern that the member says.
 fn read_pattern(alloc: Global, member: &Field<'_>) -> Result<Pattern, Refusal>
-    ensures found { IfOk result (λ p. (view member.now ≡ pattern_field (pattern_view p))
+    ensures found { IfOk result (λ p. (field_view member.now ≡ pattern_field (pattern_view p))
         × IsUtf8 (text_of (pattern_view p)) × IsFilled (pattern_view p)) }
-    ensures fault { IsTrue (is_known pattern_keys (view member.now))
-        → IfErr result (λ e. (e ≡ Memory) ⊎ PatternFault (view member.now) e) }
+    ensures fault { IsTrue (is_known pattern_keys (field_view member.now))
+        → IfErr result (MemoryOr (PatternFault (field_view member.now))) }
 {
-    let Content::Text(bytes) = member.content else {
+    let Payload::Len(bytes) = member.payload else {
         return Err(Refusal::Unsupported);
     };
     match member.number {

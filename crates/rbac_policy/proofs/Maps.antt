@@ -11,7 +11,7 @@ use Rattle.std.specs.declared.vec.Vec.{Vec}
 use Rattle.std.specs.declared.alloc.Global.{Global}
 use Rattle.std.specs.declared.cmp.Ordering.{Ordering}
 use Rattle.std.specs.declared.cmp.Ordering.TheVariants.{Less, Equal, Greater}
-use Rattle.proto_wire.specs.Messages.{texts}
+use Rattle.proto_wire.specs.Merge.{parts_view}
 use Rattle.rbac_policy.specs.Filter.{name_cmp}
 use Rattle.rbac_policy.specs.Message.{Entry, IsEntry, AreEntries, map_of}
 use Rattle.rbac_policy.specs.Named.{parts_views}
@@ -22,14 +22,14 @@ text_cmp a b = slice_cmp nat_cmp a.now b.now
 
 -- an entry goes to the same place
 pub parts_views-insert : (es : List (Bor (List ℕ) × Vec (Bor (List ℕ)) Global)) (k : Bor (List ℕ)) (v : Vec (Bor (List ℕ)) Global)
-    → parts_views (insert_entry text_cmp es k v) ≡ put name_cmp k.now (texts v.items) (parts_views es)
+    → parts_views (insert_entry text_cmp es k v) ≡ put name_cmp k.now (parts_view v.items) (parts_views es)
 parts_views-insert [] k v = refl
 parts_views-insert (e ∷ es) k v =
     elim (name_cmp k.now e.0.now) as (λ o. parts_views (match_ordering o ((k, v) ∷ e ∷ es) ((e.0, v) ∷ es) (e ∷ insert_entry text_cmp es k v))
-    ≡ by_order o ((k.now, texts v.items) ∷ parts_views (e ∷ es)) ((e.0.now, texts v.items) ∷ parts_views es) ((e.0.now, texts e.1.items) ∷ put name_cmp k.now (texts v.items) (parts_views es))) [
+    ≡ by_order o ((k.now, parts_view v.items) ∷ parts_views (e ∷ es)) ((e.0.now, parts_view v.items) ∷ parts_views es) ((e.0.now, parts_view e.1.items) ∷ put name_cmp k.now (parts_view v.items) (parts_views es))) [
       | Less ↦ refl
       | Equal ↦ refl
-      | Greater ↦ ap (λ xs. (e.0.now, texts e.1.items) ∷ xs) (parts_views-insert es k v)
+      | Greater ↦ ap (λ xs. (e.0.now, parts_view e.1.items) ∷ xs) (parts_views-insert es k v)
     ]
 
 -- one entry more is put into the map
@@ -42,8 +42,8 @@ map_of-push es e =
 
 -- one entry more is read
 pub are_entries-push : (parts : List (Bor (List ℕ))) (es : List Entry) (part : Bor (List ℕ)) (e : Entry)
-    → AreEntries (texts parts) es → IsEntry part.now e
-    → AreEntries (texts (parts ++ part ∷ [])) (es ++ e ∷ [])
+    → AreEntries (parts_view parts) es → IsEntry part.now e
+    → AreEntries (parts_view (parts ++ part ∷ [])) (es ++ e ∷ [])
 are_entries-push [] [] part e are is = (is, tt)
 are_entries-push [] (x ∷ es) part e are is = absurd are
 are_entries-push (p ∷ parts) [] part e are is = absurd are
@@ -51,10 +51,10 @@ are_entries-push (p ∷ parts) (x ∷ es) part e are is = (are.0, are_entries-pu
 
 -- what the code's map has at a name
 pub parts_views-find : (es : List (Bor (List ℕ) × Vec (Bor (List ℕ)) Global)) (k : Bor (List ℕ)) (v : Vec (Bor (List ℕ)) Global)
-    → lookup (λ x. is_eq (text_cmp k x)) es ≡ Some v → find name_cmp k.now (parts_views es) ≡ Some (texts v.items)
+    → lookup (λ x. is_eq (text_cmp k x)) es ≡ Some v → find name_cmp k.now (parts_views es) ≡ Some (parts_view v.items)
 parts_views-find [] k v = λ found. let clash : None ≡ Some v = found in cc
 parts_views-find (e ∷ es) k v =
-    elim (is_eq (name_cmp k.now e.0.now)) as (λ b. cond b (Some e.1) (lookup (λ x. is_eq (text_cmp k x)) es) ≡ Some v → cond b (Some (texts e.1.items)) (find name_cmp k.now (parts_views es)) ≡ Some (texts v.items)) [
-      | true ↦ λ found. let same : e.1 ≡ v = cc in ap (λ x. Some (texts x.items)) same
+    elim (is_eq (name_cmp k.now e.0.now)) as (λ b. cond b (Some e.1) (lookup (λ x. is_eq (text_cmp k x)) es) ≡ Some v → cond b (Some (parts_view e.1.items)) (find name_cmp k.now (parts_views es)) ≡ Some (parts_view v.items)) [
+      | true ↦ λ found. let same : e.1 ≡ v = cc in ap (λ x. Some (parts_view x.items)) same
       | false ↦ parts_views-find es k v
     ]

@@ -3,9 +3,9 @@ use Rattle.std.proofs.Common.{◌≡◌, ℕ, List, [], ◌∷◌, Option, Some,
 use Rattle.std.specs.Cmp.Lexicographic.{nat_list_cmp_total}
 use Rattle.std.specs.FinMap.{FinMap, get, nat_cmp-IsAntisymmetric, slice_cmp-IsAntisymmetric, same_map}
 use Rattle.proto_wire.specs.Fields.{Wire}
-use Rattle.proto_wire.specs.Rules.{payloads}
+use Rattle.proto_wire.specs.Values.{payloads}
 use Rattle.proto_wire.specs.Messages.{IsMessage}
-use Rattle.proto_wire.proofs.Unique.{merges-one}
+use Rattle.proto_wire.proofs.Unique.{merges_unique}
 use Rattle.rbac_match.specs.Formula.{Formulas}
 use Rattle.rbac_match.specs.Rules.{AreRules, IsRule}
 use Rattle.rbac_match.specs.declared.rule.Side.{Side}
@@ -30,7 +30,7 @@ module _ (parts : List (List ℕ)) (p q : Policy) (a : IsPolicy parts p) (b : Is
   side_one side k x y says also =
       let P : List Wire → Type 0 = λ fs. AreRules (IsRule side rule_depth) (payloads k fs) y in
       rules_all_one side rule_depth (payloads k a.fs) x y says
-      (subst P (merges-one parts b.fs a.fs b.message.0 a.message.0) also)
+      (subst P (merges_unique parts b.fs a.fs b.message.0 a.message.0) also)
 
   policy_one : p ≡ q
   policy_one =
@@ -79,7 +79,7 @@ rules_one fs f g a b =
 pub filter_one : (bytes : List ℕ) (f g : Filter) → IsFilter bytes f → IsFilter bytes g → f ≡ g
 filter_one bytes f g a b =
     let P : List Wire → Type 0 = λ top. IsMessage rules_keys (payloads 1 top) b.fs in
-    let top : b.top ≡ a.top = merges-one (bytes ∷ []) b.top a.top b.message.0 a.message.0 in
-    let same : b.fs ≡ a.fs = merges-one (payloads 1 a.top) b.fs a.fs (subst P top b.inner).0 a.inner.0 in
+    let top : b.top ≡ a.top = merges_unique (bytes ∷ []) b.top a.top b.message.0 a.message.0 in
+    let same : b.fs ≡ a.fs = merges_unique (payloads 1 a.top) b.fs a.fs (subst P top b.inner).0 a.inner.0 in
     let Q : List Wire → Type 0 = λ fs. AreFilterRules fs g in
     rules_one a.fs f g a.rules (subst Q same b.rules)

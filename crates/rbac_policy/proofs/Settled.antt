@@ -7,10 +7,11 @@ use Rattle.std.specs.Str.{IsUtf8}
 use Rattle.std.proofs.lemmas.Bool.{cases_lt}
 use Rattle.std.specs.FinMap.{FinMap, get, len, from_entries, entries, entries_sorted, find, is_sorted, get-entries, get-from_entries}
 use Rattle.proto_wire.specs.Fields.{Wire}
-use Rattle.proto_wire.specs.Rules.{payloads, Merges}
+use Rattle.proto_wire.specs.Values.{payloads, bytes_at}
+use Rattle.proto_wire.specs.Merge.{Merges}
 use Rattle.proto_wire.specs.Messages.{IsMessage, MessageFault}
-use Rattle.proto_wire.proofs.Unique.{merges-one}
-use Rattle.proto_wire.proofs.Messages.{message_settled, message_apart}
+use Rattle.proto_wire.proofs.Unique.{merges_unique}
+use Rattle.proto_wire.proofs.Messages.{message_total, message_disjoint}
 use Rattle.proto_wire.specs.declared.refusal.Refusal.{Refusal}
 use Rattle.proto_wire.specs.declared.refusal.Refusal.TheVariants.{BadText, Missing, OutOfRange, Unsupported, TooLarge}
 use Rattle.rbac_match.specs.Rules.{IsRule, AreRules, RuleFault}
@@ -21,7 +22,7 @@ use Rattle.rbac_match.proofs.Basics.{nil_or_not, same_or_not, contains_first, co
 use Rattle.rbac_match.proofs.Settled.{rules_all_settled, rules_all_apart}
 use Rattle.rbac_match.proofs.TextSettled.{utf8_or_not}
 use Rattle.rbac_policy.specs.Filter.{Policy, Filter, name_cmp}
-use Rattle.rbac_policy.specs.Message.{filter_keys, rules_keys, entry_keys, policy_keys, rule_depth, most_policies, Entry, name_in, IsEntry, AreEntries, map_of, IsUnconditional, HasBothSides, IsPolicy, ArePolicies, action_in, action_number, AreFilterRules, IsFilter}
+use Rattle.rbac_policy.specs.Message.{filter_keys, rules_keys, entry_keys, policy_keys, rule_depth, most_policies, Entry, IsEntry, AreEntries, map_of, IsUnconditional, HasBothSides, IsPolicy, ArePolicies, action_in, action_number, AreFilterRules, IsFilter}
 use Rattle.rbac_policy.specs.Named.{Held}
 use Rattle.rbac_policy.proofs.Order.{both_second, found_later}
 use Rattle.rbac_policy.proofs.HeldPolicies.{held_find}
@@ -31,10 +32,10 @@ use Rattle.rbac_policy.specs.declared.filter.Action.TheVariants.{Allow, Deny, Lo
 
 -- a payload is an entry or has a fault
 entry_settled : (part : List ℕ) → ((entry : Entry) × IsEntry part entry) ⊎ ((e : Refusal) × EntryFault part e)
-entry_settled part = elim (message_settled entry_keys (part ∷ [])) [
+entry_settled part = elim (message_total entry_keys (part ∷ [])) [
   | inr bad ↦ inr (bad.0, entry_fields bad.1)
-  | inl message ↦ elim (utf8_or_not (name_in message.0)) [
-    | inl text ↦ inl (record { name = name_in message.0; parts = payloads 2 message.0 }, (message.0, message.1, text, refl))
+  | inl message ↦ elim (utf8_or_not (bytes_at 1 message.0)) [
+    | inl text ↦ inl (record { name = bytes_at 1 message.0; parts = payloads 2 message.0 }, (message.0, message.1, text, refl))
     | inr bad ↦ inr (BadText, entry_name message.0 message.1.0 bad refl)
   ]
 ]
@@ -52,14 +53,14 @@ entries_settled (part ∷ parts) = elim (entry_settled part) [
 
 -- an entry has no fault, and is one entry
 entry_apart : (part : List ℕ) (entry : Entry) (e : Refusal) → IsEntry part entry → EntryFault part e → ⊥
-entry_apart part entry e (fs, message, text, is) (entry_fields bad) = message_apart entry_keys (part ∷ []) fs e message bad
+entry_apart part entry e (fs, message, text, is) (entry_fields bad) = message_disjoint entry_keys (part ∷ []) fs e message bad
 entry_apart part entry e (fs, message, text, is) (entry_name gs also bad at) =
-    let P : List Wire → Type 0 = λ xs. IsUtf8 (name_in xs) in bad (subst P (merges-one (part ∷ []) fs gs message.0 also) text)
+    let P : List Wire → Type 0 = λ xs. IsUtf8 (bytes_at 1 xs) in bad (subst P (merges_unique (part ∷ []) fs gs message.0 also) text)
 
 entry_one : (part : List ℕ) (a b : Entry) → IsEntry part a → IsEntry part b → a ≡ b
 entry_one part a b (fs, message, text, is) (gs, also, text', is') =
-    let same : fs ≡ gs = merges-one (part ∷ []) fs gs message.0 also.0 in
-    let made : List Wire → Entry = λ xs. record { name = name_in xs; parts = payloads 2 xs } in
+    let same : fs ≡ gs = merges_unique (part ∷ []) fs gs message.0 also.0 in
+    let made : List Wire → Entry = λ xs. record { name = bytes_at 1 xs; parts = payloads 2 xs } in
     is ∙ ap made same ∙ sym is'
 
 entries_apart : (parts : List (List ℕ)) (es : List Entry) (part : List ℕ) (e : Refusal)
@@ -130,7 +131,7 @@ fields_settled parts fs message plain sides = elim (ruled Permission fs 1) [
 
 policy_settled : (parts : List (List ℕ))
     → ((policy : Policy) × IsPolicy parts policy) ⊎ ((e : Refusal) × PolicyFault parts e)
-policy_settled parts = elim (message_settled policy_keys parts) [
+policy_settled parts = elim (message_total policy_keys parts) [
   | inr bad ↦ inr (bad.0, policy_fields bad.1)
   | inl message ↦ elim (unconditional_settled message.0) [
     | inr bad ↦ inr (bad.0, conditional message.0 message.1.0 bad.1)
@@ -153,10 +154,10 @@ side_apart fs e sides (no_principal none at) = sides.1 none
 module _ (parts : List (List ℕ)) (policy : Policy) (is : IsPolicy parts policy) where
   -- the parts merge to the policy's fields alone
   moved : (P : List Wire → Type 0) (gs : List Wire) → Merges parts gs → P gs → P is.fs
-  moved P gs also h = subst P (merges-one parts gs is.fs also is.message.0) h
+  moved P gs also h = subst P (merges_unique parts gs is.fs also is.message.0) h
 
   policy_apart : (e : Refusal) → PolicyFault parts e → ⊥
-  policy_apart e (policy_fields bad) = message_apart policy_keys parts is.fs e is.message bad
+  policy_apart e (policy_fields bad) = message_disjoint policy_keys parts is.fs e is.message bad
   policy_apart e (lacks_side gs also bad) = side_apart is.fs e is.sides (moved (λ xs. SideFault xs e) gs also.0 bad)
   policy_apart e (conditional gs also bad) = condition_apart is.fs e is.unconditional (moved (λ xs. ConditionFault xs e) gs also bad)
   policy_apart e (in_permission gs also (child, here, bad)) =
@@ -242,11 +243,11 @@ rules_fields_settled fs = elim (nil_or_not (payloads 3 fs)) [
 -- bytes are the message of a filter or have a fault
 pub filter_settled : (bytes : List ℕ)
     → ((filter : Filter) × IsFilter bytes filter) ⊎ ((e : Refusal) × FilterFault bytes e)
-filter_settled bytes = elim (message_settled filter_keys (bytes ∷ [])) [
+filter_settled bytes = elim (message_total filter_keys (bytes ∷ [])) [
   | inr bad ↦ inr (bad.0, filter_fields bad.1)
   | inl top ↦ elim (nil_or_not (payloads 1 top.0)) [
     | inl none ↦ inr (Missing, no_rules top.0 top.1 none refl)
-    | inr there ↦ elim (message_settled rules_keys (payloads 1 top.0)) [
+    | inr there ↦ elim (message_total rules_keys (payloads 1 top.0)) [
       | inr bad ↦ inr (bad.0, rules_fields top.0 top.1.0 there bad.1)
       | inl inner ↦ elim (rules_fields_settled inner.0) [
         | inr bad ↦ inr (bad.0, in_rules top.0 inner.0 top.1.0 there inner.1.0 bad.1)
@@ -284,14 +285,14 @@ rules_fields_apart fs filter e is (in_policy es reads (name, parts, at, bad)) =
 -- the message of a filter has no fault
 pub filter_apart : (bytes : List ℕ) (filter : Filter) (e : Refusal) → IsFilter bytes filter
     → FilterFault bytes e → ⊥
-filter_apart bytes filter e is (filter_fields bad) = message_apart filter_keys (bytes ∷ []) is.top e is.message bad
+filter_apart bytes filter e is (filter_fields bad) = message_disjoint filter_keys (bytes ∷ []) is.top e is.message bad
 filter_apart bytes filter e is (no_rules gs also none at) =
-    is.there (let P : List Wire → Type 0 = λ xs. payloads 1 xs ≡ [] in subst P (merges-one (bytes ∷ []) gs is.top also.0 is.message.0) none)
+    is.there (let P : List Wire → Type 0 = λ xs. payloads 1 xs ≡ [] in subst P (merges_unique (bytes ∷ []) gs is.top also.0 is.message.0) none)
 filter_apart bytes filter e is (rules_fields gs also there bad) =
     let P : List Wire → Type 0 = λ xs. MessageFault rules_keys (payloads 1 xs) e in
-    message_apart rules_keys (payloads 1 is.top) is.fs e is.inner (subst P (merges-one (bytes ∷ []) gs is.top also is.message.0) bad)
+    message_disjoint rules_keys (payloads 1 is.top) is.fs e is.inner (subst P (merges_unique (bytes ∷ []) gs is.top also is.message.0) bad)
 filter_apart bytes filter e is (in_rules gs hs also there merges bad) =
     let P : List Wire → Type 0 = λ xs. Merges (payloads 1 xs) hs in
-    let same : hs ≡ is.fs = merges-one (payloads 1 is.top) hs is.fs (subst P (merges-one (bytes ∷ []) gs is.top also is.message.0) merges) is.inner.0 in
+    let same : hs ≡ is.fs = merges_unique (payloads 1 is.top) hs is.fs (subst P (merges_unique (bytes ∷ []) gs is.top also is.message.0) merges) is.inner.0 in
     let Q : List Wire → Type 0 = λ xs. RulesFault xs e in
     rules_fields_apart is.fs filter e is.rules (subst Q same bad)

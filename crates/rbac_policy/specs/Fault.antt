@@ -3,19 +3,20 @@ use Rattle.std.specs.Prelude.{◌≡◌, ◌≢◌, ℕ, ◌<◌, ◌⊎◌, Lis
 use Rattle.std.specs.Str.{IsUtf8}
 use Rattle.std.specs.FinMap.{entries, find, len}
 use Rattle.proto_wire.specs.Fields.{Wire}
-use Rattle.proto_wire.specs.Rules.{payloads, Merges}
+use Rattle.proto_wire.specs.Values.{payloads, bytes_at}
+use Rattle.proto_wire.specs.Merge.{Merges}
 use Rattle.proto_wire.specs.Messages.{IsMessage, MessageFault}
 use Rattle.proto_wire.specs.declared.refusal.Refusal.{Refusal}
 use Rattle.proto_wire.specs.declared.refusal.Refusal.TheVariants.{BadText, Missing, OutOfRange, Unsupported, TooLarge}
 use Rattle.rbac_match.specs.Rules.{SomeRuleFault}
 use Rattle.rbac_match.specs.declared.rule.Side.TheVariants.{Permission, Principal}
 use Rattle.rbac_policy.specs.Filter.{name_cmp}
-use Rattle.rbac_policy.specs.Message.{filter_keys, rules_keys, entry_keys, policy_keys, rule_depth, most_policies, Entry, name_in, IsEntry, map_of, action_in}
+use Rattle.rbac_policy.specs.Message.{filter_keys, rules_keys, entry_keys, policy_keys, rule_depth, most_policies, Entry, IsEntry, map_of, action_in}
 
 -- a fault of an entry's own fields
 pub data EntryFault (bytes : List ℕ) (e : Refusal) : Type 0 where
   entry_fields : MessageFault entry_keys (bytes ∷ []) e → EntryFault bytes e
-  entry_name : (fs : List Wire) → Merges (bytes ∷ []) fs → (IsUtf8 (name_in fs) → ⊥) → e ≡ BadText
+  entry_name : (fs : List Wire) → Merges (bytes ∷ []) fs → (IsUtf8 (bytes_at 1 fs) → ⊥) → e ≡ BadText
       → EntryFault bytes e
 
 -- the entries among the payloads, in order, without those that have a fault of their own

@@ -1,14 +1,13 @@
 -- The messages of an RBAC filter: Envoy v3 `extensions/filters/http/rbac/v3/rbac.proto` and
 -- `config/rbac/v3/rbac.proto`.
-use Rattle.std.specs.Prelude.{◌≡◌, ◌≢◌, ℕ, ◌≤◌, List, [], ◌∷◌, None, unwrap_or, map, reverse, IsSomeAnd, MatchOption}
+use Rattle.std.specs.Prelude.{◌≡◌, ◌≢◌, ℕ, ◌≤◌, List, [], ◌∷◌, None, map, reverse, IsSomeAnd, MatchOption}
 use Rattle.std.specs.Str.{IsUtf8}
 use Rattle.std.specs.FinMap.{FinMap, get, from_entries, len}
 use Rattle.proto_wire.specs.Fields.{Wire}
-use Rattle.proto_wire.specs.Rules.{payloads, last_of}
-use Rattle.proto_wire.specs.Scalars.{uint32_at}
+use Rattle.proto_wire.specs.Values.{bytes_at, payloads, uint32_at}
 use Rattle.proto_wire.specs.Messages.{IsMessage}
-use Rattle.proto_wire.specs.declared.rules.Key.{Key}
-use Rattle.rbac_match.specs.Message.{text_key, varint_key}
+use Rattle.proto_wire.specs.declared.key.Key.{Key}
+use Rattle.proto_wire.specs.Keys.{len_key, varint_key}
 use Rattle.rbac_match.specs.Rules.{AreRules, IsRule}
 use Rattle.rbac_match.specs.declared.rule.Side.TheVariants.{Permission, Principal}
 use Rattle.rbac_policy.specs.Filter.{Policy, Filter, name_cmp}
@@ -17,19 +16,19 @@ use Rattle.rbac_policy.specs.declared.filter.Action.TheVariants.{Allow, Deny, Lo
 
 -- the fields of the filter's message: rules, shadow_rules, shadow_rules_stat_prefix
 abbrev pub filter_keys : List Key
-filter_keys = text_key 1 ∷ text_key 2 ∷ text_key 3 ∷ []
+filter_keys = len_key 1 ∷ len_key 2 ∷ len_key 3 ∷ []
 
 -- the fields of its rules: action, policies, audit_logging_options
 abbrev pub rules_keys : List Key
-rules_keys = varint_key 1 ∷ text_key 2 ∷ text_key 3 ∷ []
+rules_keys = varint_key 1 ∷ len_key 2 ∷ len_key 3 ∷ []
 
 -- the fields of a map's entry: key, value
 abbrev pub entry_keys : List Key
-entry_keys = text_key 1 ∷ text_key 2 ∷ []
+entry_keys = len_key 1 ∷ len_key 2 ∷ []
 
 -- the fields of a policy: permissions, principals, condition, checked_condition
 abbrev pub policy_keys : List Key
-policy_keys = text_key 1 ∷ text_key 2 ∷ text_key 3 ∷ text_key 4 ∷ []
+policy_keys = len_key 1 ∷ len_key 2 ∷ len_key 3 ∷ len_key 4 ∷ []
 
 -- how many levels a permission or a principal may have
 abbrev pub rule_depth : ℕ
@@ -44,14 +43,10 @@ pub record Entry : Type 0 where
   pub name : List ℕ
   pub parts : List (List ℕ)
 
--- the name of an entry with these fields: its last key, or the empty text
-abbrev pub name_in : List Wire → List ℕ
-name_in fs = unwrap_or (last_of (payloads 1 fs)) []
-
 -- the payload is an entry
 abbrev pub IsEntry : List ℕ → Entry → Type 0
-IsEntry bytes entry = (fs : List Wire) × IsMessage entry_keys (bytes ∷ []) fs × IsUtf8 (name_in fs)
-    × (entry ≡ record { name = name_in fs; parts = payloads 2 fs })
+IsEntry bytes entry = (fs : List Wire) × IsMessage entry_keys (bytes ∷ []) fs × IsUtf8 (bytes_at 1 fs)
+    × (entry ≡ record { name = bytes_at 1 fs; parts = payloads 2 fs })
 
 -- each payload is an entry, in order
 abbrev pub AreEntries : List (List ℕ) → List Entry → Type 0

@@ -5,7 +5,7 @@ use Rattle.std.specs.Borrow.{Bor}
 use Rattle.std.specs.declared.vec.Vec.{Vec}
 use Rattle.std.specs.declared.alloc.Global.{Global}
 use Rattle.rbac_match.specs.View.{rules_view}
-use Rattle.proto_wire.specs.Messages.{texts}
+use Rattle.proto_wire.specs.Merge.{parts_view}
 use Rattle.rbac_policy.specs.Filter.{Policy}
 use Rattle.rbac_policy.specs.Message.{IsPolicy}
 use Rattle.rbac_policy.specs.declared.policy.NamedPolicy.{NamedPolicy}
@@ -30,4 +30,4 @@ Held (n ∷ ns) ps = (policy : Policy) × (others : List (List ℕ × Policy)) �
 
 -- the names and payloads of a map of payloads by name
 abbrev pub parts_views : List (Bor (List ℕ) × Vec (Bor (List ℕ)) Global) → List (List ℕ × List (List ℕ))
-parts_views es = map (λ e. (e.0.now, texts e.1.items)) es
+parts_views es = map (λ e. (e.0.now, parts_view e.1.items)) es

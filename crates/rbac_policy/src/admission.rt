@@ -1,8 +1,9 @@
 //! Admission: from the bytes of a filter's message to the filter, or to why it is refused.
 
 ghost use Rattle.std.specs.Prelude.{◌≡◌, ◌⊎◌, ◌<◌, List, IfOk, IfErr, MatchResult, map};
-ghost use Rattle.proto_wire.specs.Fields.{Wire, view};
-ghost use Rattle.proto_wire.specs.Messages.{texts};
+ghost use Rattle.proto_wire.specs.Fields.{Wire, field_view};
+ghost use Rattle.proto_wire.specs.Merge.{parts_view};
+ghost use Rattle.proto_wire.specs.Refusal.{MemoryOr};
 ghost use Rattle.proto_wire.specs.declared.refusal.Refusal.TheVariants.{Memory, OutOfRange};
 ghost use Rattle.rbac_policy.specs.Message.{AreFilterRules, action_in, action_number};
 ghost use Rattle.rbac_policy.specs.Fault.{RulesFault};
@@ -14,7 +15,7 @@ use crate::filter::{Action, Admitted};
 use crate::keys::{filter_keys, rules_keys};
 use crate::policy::{has_text, read_policies};
 use attributes::Limits;
-use proto_wire::{Field, Refusal, payloads_of, read_message, uint32_of};
+use proto_wire::{Field, Refusal, payloads_of, read_message, uint32_at};
 use std::alloc::Global;
 
 /// How many policies a filter may have.
@@ -50,8 +51,8 @@ pub fn admit(
 
 /// Reads the filter's rules from their fields, all of which are known.
 fn admit_rules(alloc: Global, fields: &[Field<'_>]) -> Result<Admitted, Refusal>
-    ensures admits { IfOk result (λ a. AreFilterRules (map view fields.now) (filter_of a)) }
-    ensures fault { IfErr result (λ e. (e ≡ Memory) ⊎ RulesFault (map view fields.now) e) }
+    ensures admits { IfOk result (λ a. AreFilterRules (map field_view fields.now) (filter_of a)) }
+    ensures fault { IfErr result (MemoryOr (RulesFault (map field_view fields.now))) }
 {
     if has_text(fields, AUDIT_LOGGING) {
         return Err(Refusal::Unsupported);
@@ -68,10 +69,10 @@ fn admit_rules(alloc: Global, fields: &[Field<'_>]) -> Result<Admitted, Refusal>
 
 /// The action: an enum keeps the low 32 bits of its number, and is 0 where it is absent.
 fn read_action(fields: &[Field<'_>]) -> Result<Action, Refusal>
-    ensures { MatchResult result (λ action. action_in (map view fields.now) ≡ action_number action)
-        (λ e. (e ≡ OutOfRange) × (2 < action_in (map view fields.now))) }
+    ensures { MatchResult result (λ action. action_in (map field_view fields.now) ≡ action_number action)
+        (λ e. (e ≡ OutOfRange) × (2 < action_in (map field_view fields.now))) }
 {
-    match uint32_of(fields, ACTION) {
+    match uint32_at(fields, ACTION) {
         0 => Ok(Action::Allow),
         1 => Ok(Action::Deny),
         2 => Ok(Action::Log),

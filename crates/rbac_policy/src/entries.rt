@@ -2,15 +2,16 @@
 
 ghost use Rattle.std.specs.Prelude.{◌≡◌, ◌⊎◌, ℕ, List, Contains, IfOk, IfErr};
 ghost use Rattle.std.specs.FinMap.{entries};
+ghost use Rattle.proto_wire.specs.Refusal.{MemoryOr};
 ghost use Rattle.proto_wire.specs.declared.refusal.Refusal.TheVariants.{Memory};
-ghost use Rattle.proto_wire.specs.Messages.{texts};
+ghost use Rattle.proto_wire.specs.Merge.{parts_view};
 ghost use Rattle.rbac_policy.specs.Message.{Entry, IsEntry, AreEntries, map_of};
 ghost use Rattle.rbac_policy.specs.Fault.{EntryFault};
 ghost use Rattle.rbac_policy.specs.Named.{parts_views};
 ghost use Rattle.rbac_policy.specs.Parts.{entry_view};
 
 use crate::keys::entry_keys;
-use proto_wire::{Refusal, last_text, payloads_of, read_message};
+use proto_wire::{Refusal, bytes_at, payloads_of, read_message};
 use std::alloc::Global;
 use std::collections::BTreeMap;
 
@@ -31,11 +32,10 @@ const VALUE: u32 = 2;
 /// Reads an entry. An entry without a key has the empty name.
 fn read_entry<'a>(alloc: Global, payload: &'a [u8]) -> Result<NamedParts<'a>, Refusal>
     ensures found { IfOk result (λ entry. IsEntry payload.now (entry_view entry)) }
-    ensures fault { IfErr result (λ e. (e ≡ Memory) ⊎ EntryFault payload.now e) }
+    ensures fault { IfErr result (MemoryOr (EntryFault payload.now)) }
 {
     let fields = read_message(alloc, &[payload], entry_keys())?;
-    let key = last_text(&fields, KEY).unwrap_or(b"");
-    let Ok(name) = str::from_utf8(key) else {
+    let Ok(name) = str::from_utf8(bytes_at(&fields, KEY)) else {
         return Err(Refusal::BadText);
     };
     let parts = payloads_of(alloc, &fields, VALUE)?;
@@ -47,10 +47,10 @@ pub(crate) fn read_entries<'a>(
     alloc: Global,
     payloads: &[&'a [u8]],
 ) -> Result<PartsByName<'a>, Refusal>
-    ensures found { IfOk result (λ m. (es : List Entry) × AreEntries (texts payloads.now) es
+    ensures found { IfOk result (λ m. (es : List Entry) × AreEntries (parts_view payloads.now) es
         × (parts_views m.entries ≡ entries (map_of es))) }
     ensures fault { IfErr result (λ e. (e ≡ Memory)
-        ⊎ ((part : List ℕ) × Contains (texts payloads.now) part × EntryFault part e)) }
+        ⊎ ((part : List ℕ) × Contains (parts_view payloads.now) part × EntryFault part e)) }
 {
     let mut named = BTreeMap::new(alloc);
     for payload in payloads {

@@ -5,13 +5,13 @@ ghost use Rattle.rbac_policy.specs.Message.{filter_keys, rules_keys, entry_keys,
 
 use proto_wire::{Key, keys};
 
-static FILTER: [Key; 3] = keys![Text 1, Text 2, Text 3];
+static FILTER: [Key; 3] = keys![Len 1, Len 2, Len 3];
 
-static RULES: [Key; 3] = keys![Varint 1, Text 2, Text 3];
+static RULES: [Key; 3] = keys![Varint 1, Len 2, Len 3];
 
-static ENTRY: [Key; 2] = keys![Text 1, Text 2];
+static ENTRY: [Key; 2] = keys![Len 1, Len 2];
 
-static POLICY: [Key; 4] = keys![Text 1, Text 2, Text 3, Text 4];
+static POLICY: [Key; 4] = keys![Len 1, Len 2, Len 3, Len 4];
 
 /// The fields of the filter's message: its rules, and what is skipped.
 pub(crate) fn filter_keys() -> &'static [Key]

@@ -2,10 +2,10 @@
 
 ghost use Rattle.std.specs.Prelude.{◌≡◌, ◌≢◌, ◌⊎◌, [], IfOk, IfErr, OnOk, MatchBool, map};
 ghost use Rattle.std.specs.String.{string_bytes};
-ghost use Rattle.proto_wire.specs.Fields.{view};
-ghost use Rattle.proto_wire.specs.Rules.{payloads};
-ghost use Rattle.proto_wire.specs.declared.refusal.Refusal.TheVariants.{Memory};
-ghost use Rattle.proto_wire.specs.Messages.{texts};
+ghost use Rattle.proto_wire.specs.Fields.{field_view};
+ghost use Rattle.proto_wire.specs.Values.{payloads};
+ghost use Rattle.proto_wire.specs.Refusal.{MemoryOr};
+ghost use Rattle.proto_wire.specs.Merge.{parts_view};
 ghost use Rattle.rbac_match.specs.Rules.{IsRule, AreRules, SomeRuleFault};
 ghost use Rattle.rbac_match.specs.View.{rules_view};
 ghost use Rattle.rbac_policy.specs.Message.{IsPolicy, IsUnconditional, HasBothSides, rule_depth};
@@ -14,7 +14,7 @@ ghost use Rattle.rbac_policy.specs.Named.{policy_view, named_views, parts_views,
 
 use crate::entries::PartsByName;
 use crate::keys::policy_keys;
-use proto_wire::{Field, Refusal, last_text, payloads_of, read_message};
+use proto_wire::{Field, Refusal, last_len, payloads_of, read_message};
 use rbac_match::{RULE_DEPTH, Rule, Side, read_rules};
 use std::alloc::Global;
 
@@ -40,7 +40,7 @@ pub(crate) fn read_policies(
     named: &PartsByName<'_>,
 ) -> Result<Vec<NamedPolicy>, Refusal>
     ensures found { IfOk result (λ policies. Held (parts_views named.now.entries) (named_views policies.items)) }
-    ensures fault { IfErr result (λ e. (e ≡ Memory) ⊎ SomePolicyFault (parts_views named.now.entries) e) }
+    ensures fault { IfErr result (MemoryOr (SomePolicyFault (parts_views named.now.entries))) }
 {
     let mut policies = Vec::new(alloc);
     for (name, parts) in named {
@@ -52,8 +52,8 @@ pub(crate) fn read_policies(
 /// Reads the policy that stands in the parts. Its conditions are not read yet, and refused.
 fn read_policy(alloc: Global, name: &str, parts: &[&[u8]]) -> Result<NamedPolicy, Refusal>
     ensures named { IfOk result (λ policy. string_bytes policy.name ≡ name.now) }
-    ensures found { IfOk result (λ policy. IsPolicy (texts parts.now) (policy_view policy)) }
-    ensures fault { IfErr result (λ e. (e ≡ Memory) ⊎ PolicyFault (texts parts.now) e) }
+    ensures found { IfOk result (λ policy. IsPolicy (parts_view parts.now) (policy_view policy)) }
+    ensures fault { IfErr result (MemoryOr (PolicyFault (parts_view parts.now))) }
 {
     let fields = read_message(alloc, parts, policy_keys())?;
     refuse_conditions(&fields)?;
@@ -70,8 +70,8 @@ fn read_policy(alloc: Global, name: &str, parts: &[&[u8]]) -> Result<NamedPolicy
 
 /// Refuses a policy that has a condition.
 fn refuse_conditions(fields: &[Field<'_>]) -> Result<(), Refusal>
-    ensures found { OnOk result (IsUnconditional (map view fields.now)) }
-    ensures fault { IfErr result (ConditionFault (map view fields.now)) }
+    ensures found { OnOk result (IsUnconditional (map field_view fields.now)) }
+    ensures fault { IfErr result (ConditionFault (map field_view fields.now)) }
 {
     if has_text(fields, CONDITION) {
         return Err(Refusal::Unsupported);
@@ -84,8 +84,8 @@ fn refuse_conditions(fields: &[Field<'_>]) -> Result<(), Refusal>
 
 /// Refuses a policy that lacks permissions or principals.
 fn require_sides(fields: &[Field<'_>]) -> Result<(), Refusal>
-    ensures found { OnOk result (HasBothSides (map view fields.now)) }
-    ensures fault { IfErr result (SideFault (map view fields.now)) }
+    ensures found { OnOk result (HasBothSides (map field_view fields.now)) }
+    ensures fault { IfErr result (SideFault (map field_view fields.now)) }
 {
     if !has_text(fields, PERMISSIONS) {
         return Err(Refusal::Missing);
@@ -104,9 +104,9 @@ fn read_side(
     number: u32,
 ) -> Result<Vec<Rule>, Refusal>
     ensures found { IfOk result (λ rules.
-        AreRules (IsRule side rule_depth) (payloads number (map view fields.now)) (rules_view rules.items)) }
-    ensures fault { IfErr result (λ e. (e ≡ Memory)
-        ⊎ SomeRuleFault side rule_depth (payloads number (map view fields.now)) e) }
+        AreRules (IsRule side rule_depth) (payloads number (map field_view fields.now)) (rules_view rules.items)) }
+    ensures fault { IfErr result (MemoryOr
+        (SomeRuleFault side rule_depth (payloads number (map field_view fields.now)))) }
 {
     let rules = payloads_of(alloc, fields, number)?;
     read_rules(alloc, side, &rules, RULE_DEPTH)
@@ -114,7 +114,7 @@ fn read_side(
 
 /// Whether some LEN field has this number.
 pub(crate) fn has_text(fields: &[Field<'_>], number: u32) -> bool
-    ensures { MatchBool result (payloads number (map view fields.now) ≢ []) (payloads number (map view fields.now) ≡ []) }
+    ensures { MatchBool result (payloads number (map field_view fields.now) ≢ []) (payloads number (map field_view fields.now) ≡ []) }
 {
-    last_text(fields, number).is_some()
+    last_len(fields, number).is_some()
 }

@@ -1,9 +1,10 @@
 use Rattle.std.proofs.Common.{◌≡◌, ◌≢◌, ◌<◌, List, [], map, length, inl, inr, arith}
 use Rattle.std.proofs.lemmas.Result.{err_from_is_err_and}
 use Rattle.std.proofs.lemmas.Grind.{common_steps}
-use Rattle.proto_wire.specs.Fields.{Wire, view}
-use Rattle.proto_wire.specs.Rules.{payloads}
-use Rattle.proto_wire.specs.Messages.{texts, IsMessage}
+use Rattle.proto_wire.specs.Fields.{Wire, field_view}
+use Rattle.proto_wire.specs.Values.{payloads}
+use Rattle.proto_wire.specs.Merge.{parts_view}
+use Rattle.proto_wire.specs.Messages.{IsMessage}
 use Rattle.rbac_match.specs.Authenticated.{authenticated_keys, authenticated_fields, in_name}
 use Rattle.rbac_match.proofs.TextLemmas.{payloads_some}
 use Rattle.rbac_match.proofs.authenticated.read_authenticated.Goals as goal
@@ -20,10 +21,10 @@ pub returns-in_err-read_text_matcher-clause-fault : goal.returns-in_err-read_tex
 returns-in_err-read_text_matcher-clause-fault c =
     let p =
     err_from_is_err_and c.from_residual-in_err-read_text_matcher.result c.from_residual-in_err-read_text_matcher.ensures.1 in
-    let fs : List Wire = map view c.in_ok-fields.fields.items in
-    let message : IsMessage authenticated_keys (texts c.args.parts.now) fs =
+    let fs : List Wire = map field_view c.in_ok-fields.fields.items in
+    let message : IsMessage authenticated_keys (parts_view c.args.parts.now) fs =
     rw c.authenticated_keys.ensures at c.in_ok-fields.ensures.found in
-    let given : texts c.deref-2.result.now ≡ payloads 2 fs =
+    let given : parts_view c.deref-2.result.now ≡ payloads 2 fs =
     rw c.deref-2.ensures.value (rw c.deref.ensures.value at c.in_ok-name.ensures) in
     let more : 0 < length c.in_ok-name.name.items = grind (arith, common_steps) in
     let some : payloads 2 fs ≢ [] =

@@ -2,9 +2,10 @@ use Rattle.std.proofs.Common.{◌≡◌, ◌≢◌, ◌<◌, List, [], map, leng
 use Rattle.std.proofs.lemmas.Result.{err_from_is_err_and, MatchResult-weaker}
 use Rattle.std.proofs.lemmas.Grind.{common_steps}
 use Rattle.std.proofs.lemmas.List.{nil_from_length}
-use Rattle.proto_wire.specs.Fields.{Wire, view}
-use Rattle.proto_wire.specs.Rules.{payloads}
-use Rattle.proto_wire.specs.Messages.{texts, IsMessage}
+use Rattle.proto_wire.specs.Fields.{Wire, field_view}
+use Rattle.proto_wire.specs.Values.{payloads}
+use Rattle.proto_wire.specs.Merge.{parts_view}
+use Rattle.proto_wire.specs.Messages.{IsMessage}
 use Rattle.rbac_match.specs.Path.{path_keys, path_fields, no_path, in_path}
 use Rattle.rbac_match.proofs.TextLemmas.{payloads_some}
 use Rattle.rbac_match.proofs.path.read_path_matcher.Goals as goal
@@ -20,16 +21,16 @@ returns-in_err-fields-clause-fault c =
 pub returns-then-is_empty-clause-fault : goal.returns-then-is_empty-clause-fault
 returns-then-is_empty-clause-fault c =
     let none : length c.in_ok-path.path.items ≡ 0 = grind (arith, common_steps) in
-    let empty : payloads 1 (map view c.in_ok-fields.fields.items) ≡ [] =
-    rw (← c.deref.ensures.value) (sym c.in_ok-path.ensures ∙ ap texts (nil_from_length c.in_ok-path.path.items none)) in
-    inr (no_path (map view c.in_ok-fields.fields.items) (rw c.path_keys.ensures at c.in_ok-fields.ensures.found) empty refl)
+    let empty : payloads 1 (map field_view c.in_ok-fields.fields.items) ≡ [] =
+    rw (← c.deref.ensures.value) (sym c.in_ok-path.ensures ∙ ap parts_view (nil_from_length c.in_ok-path.path.items none)) in
+    inr (no_path (map field_view c.in_ok-fields.fields.items) (rw c.path_keys.ensures at c.in_ok-fields.ensures.found) empty refl)
 
 pub returns-clause-fault : goal.returns-clause-fault
 returns-clause-fault c =
-    let fs : List Wire = map view c.in_ok-fields.fields.items in
-    let message : IsMessage path_keys (texts c.args.parts.now) fs =
+    let fs : List Wire = map field_view c.in_ok-fields.fields.items in
+    let message : IsMessage path_keys (parts_view c.args.parts.now) fs =
     rw c.path_keys.ensures at c.in_ok-fields.ensures.found in
-    let given : texts c.deref-2.result.now ≡ payloads 1 fs =
+    let given : parts_view c.deref-2.result.now ≡ payloads 1 fs =
     rw c.deref-2.ensures.value (rw c.deref.ensures.value at c.in_ok-path.ensures) in
     let more : 0 < length c.in_ok-path.path.items = grind (arith, common_steps) in
     let some : payloads 1 fs ≢ [] =

@@ -1,5 +1,5 @@
 use Rattle.std.proofs.Common.{◌+◌, ◌*◌, take}
-use Rattle.proto_wire.specs.Messages.{texts}
+use Rattle.proto_wire.specs.Merge.{parts_view}
 use Rattle.rbac_match.specs.Rules.{IsRule, AreRules}
 use Rattle.rbac_match.specs.View.{rules_view}
 use Rattle.rbac_match.proofs.read.+rule.Given as goal
@@ -11,4 +11,4 @@ abbrev pub decreases-read_rules : goal.decreases-read_rules
 decreases-read_rules l = 2 * l.depth + 1
 
 abbrev pub invariant-read_rules-loop-payload : goal.invariant-read_rules-loop-payload
-invariant-read_rules-loop-payload l = AreRules (IsRule l.side l.depth) (texts (take l.payload-index l.payloads)) (rules_view l.rules.items)
+invariant-read_rules-loop-payload l = AreRules (IsRule l.side l.depth) (parts_view (take l.payload-index l.payloads)) (rules_view l.rules.items)

@@ -1,9 +1,8 @@
 use Rattle.std.proofs.Common.{◌≡◌, List, [], map, inl, inr, refl, ap, ◌∙◌, unwrap_or}
 use Rattle.std.proofs.lemmas.Result.{err_from_is_err_and}
 use Rattle.std.specs.Str.{IsUtf8}
-use Rattle.proto_wire.specs.Fields.{Wire, view}
-use Rattle.proto_wire.specs.Rules.{payloads, last_of}
-use Rattle.rbac_policy.specs.Message.{name_in}
+use Rattle.proto_wire.specs.Fields.{Wire, field_view}
+use Rattle.proto_wire.specs.Values.{payloads, last_of, bytes_at}
 use Rattle.rbac_policy.specs.Fault.{entry_fields, entry_name}
 use Rattle.rbac_policy.proofs.Texts.{text_or_empty}
 use Rattle.rbac_policy.proofs.entries.read_entry.Goals as goal
@@ -18,8 +17,6 @@ returns-in_err-fields-clause-fault c =
 
 pub returns-in_default-clause-fault : goal.returns-in_default-clause-fault
 returns-in_default-clause-fault c =
-    let fs : List Wire = map view c.in_ok-fields.fields.items in
-    let key : c.unwrap_or-key.result.now ≡ unwrap_or (last_of (payloads 1 (map view c.deref.result.now))) [] =
-    ap (λ k. k.now) c.unwrap_or-key.ensures ∙ text_or_empty c.last_text.result (last_of (payloads 1 (map view c.deref.result.now))) _ refl c.last_text.ensures in
-    let bad : IsUtf8 (name_in fs) → ⊥ = rw (← c.deref.ensures.value, ← key) c.in_default.ensures.cases.0 in
+    let fs : List Wire = map field_view c.in_ok-fields.fields.items in
+    let bad : IsUtf8 (bytes_at 1 fs) → ⊥ = rw (← c.deref.ensures.value, ← c.bytes_at.ensures) c.in_default.ensures.cases.0 in
     inr (entry_name fs c.in_ok-fields.ensures.found.0 bad refl)

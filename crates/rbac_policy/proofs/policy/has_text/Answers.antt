@@ -1,8 +1,8 @@
 use Rattle.std.proofs.Common.{map}
-use Rattle.proto_wire.specs.Fields.{view}
-use Rattle.proto_wire.specs.Rules.{payloads}
+use Rattle.proto_wire.specs.Fields.{field_view}
+use Rattle.proto_wire.specs.Values.{payloads}
 use Rattle.rbac_policy.proofs.Texts.{there_by_last}
 use Rattle.rbac_policy.proofs.policy.has_text.Goals as goal
 
 pub returns : goal.returns
-returns c = rw c.is_some.ensures (there_by_last c.last_text.result (payloads c.args.number (map view c.args.fields.now)) c.last_text.ensures)
+returns c = rw c.is_some.ensures (there_by_last c.last_len.result (payloads c.args.number (map field_view c.args.fields.now)) c.last_len.ensures)

@@ -5,7 +5,7 @@ use Rattle.std.proofs.lemmas.Map.Iter.{btree_map_turn}
 use Rattle.std.specs.Map.Iter.{deref_pair}
 use Rattle.std.specs.Cmp.{on_total}
 use Rattle.std.specs.Cmp.Lexicographic.{nat_list_cmp_total}
-use Rattle.proto_wire.specs.Messages.{texts}
+use Rattle.proto_wire.specs.Merge.{parts_view}
 use Rattle.rbac_policy.specs.declared.policy.NamedPolicy.{NamedPolicy}
 use Rattle.rbac_policy.specs.Named.{parts_views, named_views, policy_view}
 use Rattle.rbac_policy.proofs.HeldPolicies.{held-push}
@@ -24,7 +24,7 @@ returns-in_err-read_policy-clause-fault c =
 
 pub loop-name-preserved : goal.loop-name-preserved
 loop-name-preserved c =
-    let n : List ℕ × List (List ℕ) = (c.in-Some.name.now.now, texts c.in-Some.parts.now.items) in
+    let n : List ℕ × List (List ℕ) = (c.in-Some.name.now.now, parts_view c.in-Some.parts.now.items) in
     let p : NamedPolicy = c.in_ok-read_policy.field-0 in
     let seen : parts_views (map deref_pair (c.loop-name.yielded ++ (c.in-Some.name, c.in-Some.parts) ∷ [])) ≡ parts_views (map deref_pair c.loop-name.yielded) ++ n ∷ [] =
     ap parts_views (map-append deref_pair c.loop-name.yielded ((c.in-Some.name, c.in-Some.parts) ∷ [])) ∙ map-append _ (map deref_pair c.loop-name.yielded) _ in

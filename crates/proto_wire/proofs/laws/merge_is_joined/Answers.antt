@@ -1,5 +1,0 @@
-use Rattle.proto_wire.proofs.Unique.{merges_joined}
-use Rattle.proto_wire.proofs.laws.merge_is_joined.Goals as goal
-
-pub returns : goal.returns
-returns c = merges_joined

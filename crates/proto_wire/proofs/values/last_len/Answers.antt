@@ -1,0 +1,20 @@
+use Rattle.std.proofs.Common.{refl}
+use Rattle.proto_wire.specs.Values.{len_in}
+use Rattle.proto_wire.proofs.ValueLemmas.{last_of_push, picked_some, picked_none}
+use Rattle.proto_wire.proofs.values.last_len.Goals as goal
+use Rattle.proto_wire.proofs.values.last_len.Goals.{in-Some, in_default}
+
+pub loop-field-preserved : goal.loop-field-preserved
+loop-field-preserved c =
+    let fields = c.args.fields.now in
+    let i = c.loop-field.field-index in
+    let within = c.loop-field-test.true in
+    elim c.match-len_of.branch [
+      | in-Some w ↦
+          let bytes = w.in-Some.bytes.now in
+          let more = picked_some len_in c.args.number fields i _ bytes within w.in-Some.ensures in
+          rw (w.last-is, more, last_of_push) refl
+      | in_default w ↦
+          let same = picked_none len_in c.args.number fields i _ within w.in_default.ensures in
+          rw (w.last-is, same) c.loop-field.invariant
+    ]

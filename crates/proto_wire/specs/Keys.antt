@@ -1,0 +1,39 @@
+-- Which fields a message knows: Protocol Buffers encoding guide, "Message Structure". A field is known
+-- by its number and its wire type.
+use Rattle.std.specs.Prelude.{◌≡◌, ℕ, ◌==◌, ◌&&◌, Bool, true, false, List, IsTrue}
+use Rattle.std.specs.List.{list_any, list_all}
+use Rattle.proto_wire.specs.Fields.{Payload, varint, i64, len, i32, Wire}
+use Rattle.proto_wire.specs.declared.key.Key.{Key}
+use Rattle.proto_wire.specs.declared.field.WireType.{WireType}
+
+-- a LEN field of this number: a string, bytes, or a message
+abbrev pub len_key : ℕ → Key
+len_key n = record { number = n; wire_type = WireType.Len }
+
+-- a VARINT field of this number
+abbrev pub varint_key : ℕ → Key
+varint_key n = record { number = n; wire_type = WireType.Varint }
+
+-- whether the payload is of the wire type
+abbrev pub is_of_type : WireType → Payload → Bool
+is_of_type WireType.Varint (varint n) = true
+is_of_type WireType.I64 (i64 n) = true
+is_of_type WireType.Len (len bytes) = true
+is_of_type WireType.I32 (i32 n) = true
+is_of_type wire_type payload = false
+
+-- the field has the key's number and wire type
+abbrev pub has_key : Key → Wire → Bool
+has_key k f = (f.number == k.number) && is_of_type k.wire_type f.payload
+
+-- the field has one of the keys; a known number with another wire type has none of them
+abbrev pub is_known : List Key → Wire → Bool
+is_known keys f = list_any (λ k. has_key k f) keys
+
+-- each field has one of the keys
+abbrev pub AllKnown : List Key → List Wire → Type 0
+AllKnown keys fs = IsTrue (list_all (is_known keys) fs)
+
+-- some field has none of the keys
+abbrev pub SomeUnknown : List Key → List Wire → Type 0
+SomeUnknown keys fs = list_all (is_known keys) fs ≡ false

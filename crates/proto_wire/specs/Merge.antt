@@ -1,0 +1,26 @@
+-- A message that stands in several payloads: Protocol Buffers encoding guide, "Last One Wins" (embedded
+-- message fields merge).
+use Rattle.std.specs.Prelude.{◌≡◌, ℕ, ◌⊎◌, List, [], ◌∷◌, ◌++◌, map}
+use Rattle.std.specs.Borrow.{Bor}
+use Rattle.proto_wire.specs.Fields.{Wire, Fields, IsBroken, BreaksAtOnce}
+
+-- the bytes of each slice
+abbrev pub parts_view : List (Bor (List ℕ)) → List (List ℕ)
+parts_view slices = map (λ s. s.now) slices
+
+-- the fields of a message that stands in several payloads, put one after the other, each of them
+-- whole fields by itself
+abbrev pub Merges : List (List ℕ) → List Wire → Type 0
+Merges [] fs = fs ≡ []
+Merges (part ∷ parts) fs =
+    (own others : List Wire) × Fields part own × Merges parts others × (fs ≡ own ++ others)
+
+-- some payload of the message is no list of whole fields
+abbrev pub Breaks : List (List ℕ) → Type 0
+Breaks [] = ⊥
+Breaks (part ∷ parts) = IsBroken part ⊎ Breaks parts
+
+-- the first payload begins with no field
+abbrev pub FirstBreaks : List (List ℕ) → Type 0
+FirstBreaks [] = ⊥
+FirstBreaks (part ∷ parts) = BreaksAtOnce part

@@ -1,0 +1,57 @@
+//! Which member of a oneof counts.
+
+ghost use Rattle.std.specs.Prelude.{◌≡◌, map, IfOk, OnOk};
+ghost use Rattle.std.specs.Option.{option_map};
+ghost use Rattle.proto_wire.specs.Fields.{field_view};
+ghost use Rattle.proto_wire.specs.Oneof.{last_member, member_run};
+ghost use Rattle.proto_wire.specs.steps.Run.{run_with};
+
+use crate::field::Field;
+use crate::key::{Key, is_known};
+use std::alloc::{AllocError, Global};
+
+/// Of a oneof of scalars the last member: the last field that has a member's key. It takes no memory.
+pub fn last_member<'a>(fields: &[Field<'a>], keys: &[Key]) -> Option<Field<'a>>
+    ensures { option_map field_view result ≡ last_member keys.now (map field_view fields.now) }
+{
+    let mut last = None;
+    for candidate in fields {
+        if is_known(candidate, keys) {
+            last = Some(*candidate);
+        }
+    }
+    last
+}
+
+/// Of a oneof the occurrences of its last member that merge: the last run of fields of one number,
+/// among those that have a member's key.
+pub fn member_run<'a>(
+    alloc: Global,
+    fields: &[Field<'a>],
+    keys: &[Key],
+) -> Result<Vec<Field<'a>>, AllocError>
+    ensures { IfOk result (λ v. map field_view v.items ≡ member_run keys.now (map field_view fields.now)) }
+{
+    let mut run: Vec<Field<'a>> = Vec::new(alloc);
+    for field in fields {
+        if is_known(field, keys) {
+            push_member(&mut run, *field)?;
+        }
+    }
+    Ok(run)
+}
+
+/// Puts a member's field behind the run where that has its number, and else begins a run with it.
+fn push_member<'a>(run: &mut Vec<Field<'a>>, field: Field<'a>) -> Result<(), AllocError>
+    ensures { OnOk result (map field_view run.new.items
+        ≡ run_with (map field_view run.old.items) (field_view field.entry)) }
+{
+    if run
+        .first()
+        .is_some_and(|first| first.number != field.number)
+    {
+        run.clear();
+    }
+    run.push(field)?;
+    Ok(())
+}
