@@ -4,3 +4,5 @@ pub mod OneCut
 pub mod EachCut
 pub mod StreamLemmas
 pub mod Beginnings
+pub mod ReadExits
+pub mod Each

@@ -1,3 +1,6 @@
 pub mod Frames
 pub mod Stream
+pub mod Envelope
+pub mod Discovery
+pub mod View
 pub mod steps
