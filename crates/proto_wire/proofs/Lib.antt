@@ -7,3 +7,9 @@ pub mod ValueLemmas
 pub mod OneofLemmas
 pub mod Messages
 pub mod Exits
+pub mod Basics
+pub mod MapLemmas
+pub mod MapLaws
+pub mod MapOrder
+pub mod MapValues
+pub mod StandardFacts

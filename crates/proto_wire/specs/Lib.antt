@@ -6,4 +6,5 @@ pub mod Oneof
 pub mod Merge
 pub mod Refusal
 pub mod Messages
+pub mod Maps
 pub mod steps

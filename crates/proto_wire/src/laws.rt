@@ -1,9 +1,10 @@
 //! Laws of the definitions: bytes are one list of fields, or broken at one place, and never both; the same of a message
-//! in several payloads.
+//! in several payloads, and of the entries of a map.
 
 ghost use Rattle.std.specs.Prelude.{◌≡◌, ◌⊎◌, ℕ, List};
 ghost use Rattle.std.specs.List.{concat};
 ghost use Rattle.proto_wire.specs.Fields.{Wire, Fields, Broken};
+ghost use Rattle.proto_wire.specs.Maps.{KeyKind, Entry, AreEntries, SomeEntryFault};
 ghost use Rattle.proto_wire.specs.Merge.{Merges, Breaks};
 ghost use Rattle.proto_wire.specs.Messages.{IsMessage, MessageFault};
 
@@ -73,4 +74,22 @@ pub fn message_disjoint()
 pub fn message_unique()
     ensures { (keys : List Key) (parts : List (List ℕ)) (fs gs : List Wire)
         → IsMessage keys parts fs → IsMessage keys parts gs → fs ≡ gs }
+{}
+
+/// Payloads are the entries of a map, or some payload has a fault.
+pub fn entries_total()
+    ensures { (kind : KeyKind) (parts : List (List ℕ))
+        → ((es : List (Entry kind)) × AreEntries kind parts es) ⊎ ((e : Refusal) × SomeEntryFault kind parts e) }
+{}
+
+/// Payloads are never both.
+pub fn entries_disjoint()
+    ensures { (kind : KeyKind) (parts : List (List ℕ)) (es : List (Entry kind)) (e : Refusal)
+        → AreEntries kind parts es → SomeEntryFault kind parts e → ⊥ }
+{}
+
+/// Payloads are the entries of a map in one way at most.
+pub fn entries_unique()
+    ensures { (kind : KeyKind) (parts : List (List ℕ)) (es ds : List (Entry kind))
+        → AreEntries kind parts es → AreEntries kind parts ds → es ≡ ds }
 {}

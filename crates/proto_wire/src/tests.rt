@@ -1,5 +1,6 @@
 use crate::varint::read_varint;
 use crate::*;
+use std::collections::BTreeMap;
 use std::process::Abort;
 use std::test::Fail;
 
@@ -211,5 +212,68 @@ fn scalars(rt: HostRuntime) -> Result<(), Fail> {
     assert_eq!(rt; int64_at(&fields, 2), 4_294_967_296);
     assert!(rt; bool_at(&fields, 1) && bool_at(&fields, 2) && !bool_at(&fields, 3));
     assert_eq!(rt; int64_at(&fields, 3), 0);
+    Ok(())
+}
+
+/// Entries with a fault: one that breaks, one with a field 3, one whose key has another wire type, and a key that is no UTF-8.
+const BAD_ENTRIES: [(&[u8], Refusal); 4] = [
+    (b"\x0a\x01", Refusal::BadWire),
+    (b"\x0a\x01p\x18\x01", Refusal::UnknownField),
+    (b"\x08\x01", Refusal::UnknownField),
+    (b"\x0a\x01\xff", Refusal::BadText),
+];
+
+/// The last entry of a key counts, its two values merge, and an entry without a key has the empty one.
+#[test]
+fn text_maps(rt: HostRuntime) -> Result<(), Fail> {
+    let alloc = rt.alloc();
+    let first: &[u8] = b"\x0a\x01p\x12\x01a";
+    let second: &[u8] = b"\x12\x00";
+    let third: &[u8] = b"\x12\x01b\x0a\x01q\x0a\x01p\x12\x01c";
+    let map: BTreeMap<&str, Vec<&[u8]>> = read_entries(alloc, &[first, second, third])?;
+    assert_eq!(rt; map.len(), 2);
+    assert!(rt;
+        map.get("p")
+            .is_some_and(|parts| parts.len() == 2 && parts[1] == b"c".as_slice())
+    );
+    assert!(rt;
+        map.get("")
+            .is_some_and(|parts| parts.len() == 1 && parts[0].is_empty())
+    );
+    for (entry, want) in &BAD_ENTRIES {
+        let answer: Result<BTreeMap<&str, Vec<&[u8]>>, Refusal> = read_entries(
+            alloc,
+            &[first, *entry],
+        );
+        assert!(rt;
+            matches!(answer, Err(refusal) if refusal == *want),
+            "at {entry:?}"
+        );
+    }
+    Ok(())
+}
+
+/// The same with int64 keys: 5 twice, -1, and none, which is 0; a key that is a string is an unknown field.
+#[test]
+fn int64_maps(rt: HostRuntime) -> Result<(), Fail> {
+    let alloc = rt.alloc();
+    let first: &[u8] = b"\x08\x05\x12\x01a";
+    let second: &[u8] = b"\x08\xff\xff\xff\xff\xff\xff\xff\xff\xff\x01";
+    let third: &[u8] = b"\x12\x01z";
+    let fourth: &[u8] = b"\x08\x05";
+    let map: BTreeMap<i64, Vec<&[u8]>> = read_entries(alloc, &[first, second, third, fourth])?;
+    assert_eq!(rt; map.len(), 3);
+    assert!(rt; map.get(&5).is_some_and(|parts| parts.is_empty()));
+    assert!(rt; map.get(&-1).is_some_and(|parts| parts.is_empty()));
+    assert!(rt;
+        map.get(&0)
+            .is_some_and(|parts| parts.len() == 1 && parts[0] == b"z".as_slice())
+    );
+    let text_key: &[u8] = b"\x0a\x01p";
+    let answer: Result<BTreeMap<i64, Vec<&[u8]>>, Refusal> = read_entries(
+        alloc,
+        &[first, text_key],
+    );
+    assert!(rt; matches!(answer, Err(Refusal::UnknownField)));
     Ok(())
 }

@@ -1,0 +1,122 @@
+-- Maps: the code's map from keys to payloads, and the map of the entries that were read.
+use Rattle.std.proofs.Common.{◌≡◌, ℕ, zero, suc, ◌<◌, true, false, cond, List, [], ◌∷◌, ◌++◌, take, get_or, length, Some, None, Bor, refl, sym, ap, ◌∙◌}
+use Rattle.std.proofs.lemmas.List.{reverse-append, nil_from_length}
+use Rattle.std.specs.Ordering.{is_eq, match_ordering}
+use Rattle.std.specs.Cmp.{IsTotalOrder, int_cmp_total}
+use Rattle.std.specs.Cmp.Lexicographic.{nat_list_cmp_total}
+use Rattle.std.specs.BTreeMap.{insert_entry}
+use Rattle.std.specs.Map.{lookup}
+use Rattle.std.specs.FinMap.{IsAntisymmetric, entries, find, from_entries, entries-insert, empty, len-empty, len-entries, slice_cmp-IsAntisymmetric, nat_cmp-IsAntisymmetric, int_cmp-IsAntisymmetric}
+use Rattle.std.specs.FinMap.Entries.{put, by_order}
+use Rattle.std.specs.declared.vec.Vec.{Vec}
+use Rattle.std.specs.declared.alloc.Global.{Global}
+use Rattle.std.specs.declared.cmp.Ordering.{Ordering}
+use Rattle.std.specs.declared.cmp.Ordering.TheVariants.{Less, Equal, Greater}
+use Rattle.proto_wire.specs.Fields.{BreaksAtOnce}
+use Rattle.proto_wire.specs.Merge.{FirstBreaks, parts_view}
+use Rattle.proto_wire.specs.Maps.{KeyKind, text, int64, KeyOf, key_cmp, Entry, IsEntry, AreEntries, map_of, entries_view}
+use Rattle.proto_wire.proofs.Unique.{first_disjoint}
+
+-- ---- the order of keys
+
+pub key_cmp_total : (kind : KeyKind) → IsTotalOrder (key_cmp kind)
+key_cmp_total text = nat_list_cmp_total
+key_cmp_total int64 = int_cmp_total
+
+pub key_cmp_antisymmetric : (kind : KeyKind) → IsAntisymmetric (key_cmp kind)
+key_cmp_antisymmetric text = slice_cmp-IsAntisymmetric nat_cmp-IsAntisymmetric
+key_cmp_antisymmetric int64 = int_cmp-IsAntisymmetric
+
+-- ---- the code's map
+
+module _ {K : Type 0} (kind : KeyKind) (key_view : K → KeyOf kind) (cmp : K → K → Ordering)
+    (in_order : (a b : K) → cmp a b ≡ key_cmp kind (key_view a) (key_view b)) where
+  -- an entry goes to the same place
+  pub entries_view_insert : (es : List (K × Vec (Bor (List ℕ)) Global)) (k : K)
+      (v : Vec (Bor (List ℕ)) Global)
+      → entries_view kind key_view (insert_entry cmp es k v)
+      ≡ put (key_cmp kind) (key_view k) (parts_view v.items) (entries_view kind key_view es)
+  entries_view_insert [] k v = refl
+  entries_view_insert (e ∷ es) k v =
+      let new : Entry kind = (key_view k, parts_view v.items) in
+      let old : Entry kind = (key_view e.0, parts_view e.1.items) in
+      let rest = entries_view kind key_view es in
+      let later = put (key_cmp kind) (key_view k) (parts_view v.items) rest in
+      rw (in_order k e.0)
+      (elim (key_cmp kind (key_view k) (key_view e.0)) as
+      (λ o. entries_view kind key_view (match_ordering o ((k, v) ∷ e ∷ es) ((e.0, v) ∷ es)
+      (e ∷ insert_entry cmp es k v))
+      ≡ by_order o (new ∷ old ∷ rest) ((key_view e.0, parts_view v.items) ∷ rest) (old ∷ later)) [
+        | Less ↦ refl
+        | Equal ↦ refl
+        | Greater ↦ ap (λ xs. old ∷ xs) (entries_view_insert es k v)
+      ])
+
+  -- what the code's map has at a key
+  pub entries_view_find : (es : List (K × Vec (Bor (List ℕ)) Global)) (k : K)
+      (v : Vec (Bor (List ℕ)) Global)
+      → lookup (λ x. is_eq (cmp k x)) es ≡ Some v
+      → find (key_cmp kind) (key_view k) (entries_view kind key_view es) ≡ Some (parts_view v.items)
+  entries_view_find [] k v = λ found. let clash : None ≡ Some v = found in cc
+  entries_view_find (e ∷ es) k v =
+      let rest = find (key_cmp kind) (key_view k) (entries_view kind key_view es) in
+      rw (in_order k e.0)
+      (elim (is_eq (key_cmp kind (key_view k) (key_view e.0))) as
+      (λ b. cond b (Some e.1) (lookup (λ x. is_eq (cmp k x)) es) ≡ Some v
+      → cond b (Some (parts_view e.1.items)) rest ≡ Some (parts_view v.items)) [
+        | true ↦ λ found. let same : e.1 ≡ v = cc in ap (λ x. Some (parts_view x.items)) same
+        | false ↦ entries_view_find es k v
+      ])
+
+-- ---- the entries that were read
+
+module _ (kind : KeyKind) where
+  -- no entry makes the empty map
+  pub map_of_none : entries (map_of kind []) ≡ []
+  map_of_none =
+      nil_from_length _
+      (sym (len-entries (empty {X = List (List ℕ)} {R = key_cmp kind}))
+      ∙ len-empty (key_cmp kind) (List (List ℕ)))
+
+  -- one entry more is put into the map
+  pub map_of_push : (es : List (Entry kind)) (e : Entry kind)
+      → entries (map_of kind (es ++ e ∷ [])) ≡ put (key_cmp kind) e.0 e.1 (entries (map_of kind es))
+  map_of_push es e =
+      ap (λ xs. entries (from_entries {R = key_cmp kind} xs)) (reverse-append es (e ∷ []))
+      ∙ entries-insert (key_cmp_total kind) (map_of kind es) e.0 e.1
+
+  -- one entry more is read
+  pub are_entries_push : (parts : List (Bor (List ℕ))) (es : List (Entry kind)) (part : Bor (List ℕ))
+      (e : Entry kind)
+      → AreEntries kind (parts_view parts) es → IsEntry kind part.now e
+      → AreEntries kind (parts_view (parts ++ part ∷ [])) (es ++ e ∷ [])
+  are_entries_push [] [] part e are is = (is, tt)
+  are_entries_push [] (x ∷ es) part e are is = absurd are
+  are_entries_push (p ∷ parts) [] part e are is = absurd are
+  are_entries_push (p ∷ parts) (x ∷ es) part e are is =
+      (are.0, are_entries_push parts es part e are.1 is)
+
+  -- entries do not break at the first field
+  pub entries_first_disjoint : (parts : List (List ℕ)) (es : List (Entry kind))
+      → AreEntries kind parts es → FirstBreaks parts → ⊥
+  entries_first_disjoint [] es are breaks = breaks
+  entries_first_disjoint (part ∷ parts) [] are breaks = are
+  entries_first_disjoint (part ∷ parts) (e ∷ es) are breaks =
+      first_disjoint (part ∷ []) are.0.0 are.0.1.0 breaks
+
+  -- where the payloads before the next one are entries and the first breaks at once, the next is the
+  -- first
+  pub entry_breaks_at : (i : ℕ) (parts : List (Bor (List ℕ))) (d : Bor (List ℕ))
+      (es : List (Entry kind))
+      → i < length parts
+      → AreEntries kind (parts_view (take i parts)) es → FirstBreaks (parts_view parts)
+      → BreaksAtOnce (get_or parts i d).now
+  entry_breaks_at i [] d es within are breaks = absurd breaks
+  entry_breaks_at zero (p ∷ parts) d es within are breaks = breaks
+  entry_breaks_at (suc i) (p ∷ parts) d es within are breaks =
+      absurd (entries_first_disjoint (parts_view (p ∷ take i parts)) es are breaks)
+
+  -- an entry does not break at once
+  pub entry_breaks_disjoint : (part : List ℕ) (e : Entry kind) → IsEntry kind part e
+      → BreaksAtOnce part → ⊥
+  entry_breaks_disjoint part e is breaks = first_disjoint (part ∷ []) is.0 is.1.0 breaks

@@ -1,0 +1,145 @@
+//! Maps, which stand in a message as repeated entries with a key 1 and a value 2 (Protocol Buffers encoding guide, "Maps").
+
+ghost use Rattle.std.specs.Prelude.{◌≡◌, [], ◌∷◌, List, Err, IfOk, IfErr, map};
+ghost use Rattle.std.specs.FinMap.{entries};
+ghost use Rattle.proto_wire.specs.Fields.{field_view};
+ghost use Rattle.proto_wire.specs.Maps.{KeyKind, KeyOf, Entry, key_cmp, entry_keys, key_at, KeyReads, IsEntry, AreEntries, map_of, EntryFault, SomeEntryFault, entries_view};
+ghost use Rattle.proto_wire.specs.Merge.{FirstBreaks, parts_view};
+ghost use Rattle.proto_wire.specs.Refusal.{MemoryOr};
+ghost use Rattle.proto_wire.specs.declared.refusal.Refusal.TheVariants.{BadText};
+
+use crate::field::Field;
+use crate::key::Key;
+use crate::keys;
+use crate::message::read_message;
+use crate::refusal::Refusal;
+use crate::values::{int64_at, payloads_of, text_at};
+use std::alloc::Global;
+use std::collections::BTreeMap;
+
+/// The field of an entry's key, by number.
+const KEY: u32 = 1;
+
+/// The field of its value.
+const VALUE: u32 = 2;
+
+static TEXT_ENTRY: [Key; 2] = keys![Len KEY, Len VALUE];
+
+static INT64_ENTRY: [Key; 2] = keys![Varint KEY, Len VALUE];
+
+/// What keys of a map stand for. They compare as that does.
+pub trait KeyOrder: Ord {
+    /// Which kind of keys it is.
+    ghost kind: { KeyKind };
+
+    /// The key that a value of the code stands for.
+    ghost key_view: { Self → KeyOf kind };
+
+    ghost in_order: { (a b : Self) → Self.cmp a b ≡ key_cmp kind (key_view a) (key_view b) };
+}
+
+impl<'a> KeyOrder for &'a str {
+    ghost use Rattle.std.specs.Prelude.{refl};
+    ghost use Rattle.proto_wire.specs.Maps.{text};
+
+    ghost kind = { text };
+
+    ghost key_view = { λ key. key.now };
+
+    ghost in_order = { λ a b. refl };
+}
+
+impl KeyOrder for i64 {
+    ghost use Rattle.std.specs.Prelude.{refl};
+    ghost use Rattle.proto_wire.specs.Maps.{int64};
+
+    ghost kind = { int64 };
+
+    ghost key_view = { λ key. key };
+
+    ghost in_order = { λ a b. refl };
+}
+
+/// A key of a map, which is a string (`&str`) or an int64 (`i64`).
+pub trait MapKey<'a>: KeyOrder + Drop + Sized {
+    /// The fields of an entry.
+    fn entry_keys() -> &'static [Key]
+        ensures { result.now ≡ entry_keys Self.kind };
+
+    /// The key of an entry with these fields, or its default: `BadText` where a string is no UTF-8. It takes no memory.
+    fn read_key(fields: &[Field<'a>]) -> Result<Self, Refusal>
+        ensures found { let fs = map field_view fields.now in
+            IfOk result (λ key. KeyReads Self.kind fs × (Self.key_view key ≡ key_at Self.kind fs)) }
+        ensures fault { IfErr result (λ e. ¬ (KeyReads Self.kind (map field_view fields.now)) × (e ≡ BadText)) };
+}
+
+impl<'a> MapKey<'a> for &'a str {
+    ghost use Rattle.proto_wire.specs.Maps.{text};
+
+    fn entry_keys() -> &'static [Key]
+        ensures { result.now ≡ entry_keys text }
+    {
+        &TEXT_ENTRY
+    }
+
+    fn read_key(fields: &[Field<'a>]) -> Result<&'a str, Refusal>
+        ensures found { let fs = map field_view fields.now in
+            IfOk result (λ key. KeyReads text fs × (key.now ≡ key_at text fs)) }
+        ensures fault { IfErr result (λ e. ¬ (KeyReads text (map field_view fields.now)) × (e ≡ BadText)) }
+    {
+        text_at(fields, KEY)
+    }
+}
+
+impl<'a> MapKey<'a> for i64 {
+    fn entry_keys() -> &'static [Key] {
+        &INT64_ENTRY
+    }
+
+    fn read_key(fields: &[Field<'a>]) -> Result<i64, Refusal> {
+        Ok(int64_at(fields, KEY))
+    }
+}
+
+/// An entry of a map: its key, and the payloads of its value.
+#[derive(Drop)]
+struct MapEntry<'a, K> {
+    key: K,
+    parts: Vec<&'a [u8]>,
+}
+
+/// Reads an entry, which has a payload of its own.
+fn read_entry<'a, K: MapKey<'a>>(
+    alloc: Global,
+    payload: &'a [u8],
+) -> Result<MapEntry<'a, K>, Refusal>
+    ensures found { IfOk result (λ entry.
+        IsEntry K.kind payload.now (K.key_view entry.key, parts_view entry.parts.items)) }
+    ensures fault { IfErr result (MemoryOr (EntryFault K.kind payload.now)) }
+    ensures at_once { FirstBreaks (payload.now ∷ []) → result ≡ Err Refusal.BadWire }
+{
+    let fields = read_message(alloc, &[payload], K::entry_keys())?;
+    let key = K::read_key(&fields)?;
+    let parts = payloads_of(alloc, &fields, VALUE)?;
+    Ok(MapEntry { key, parts })
+}
+
+/// Reads the entries of a map, of which each has a payload, as the payloads of the values by key: of the entries with one
+/// key the last counts. `BadWire` where an entry breaks, `UnknownField` where it has another field, `BadText` where its key
+/// is no UTF-8.
+pub fn read_entries<'a, K: MapKey<'a>>(
+    alloc: Global,
+    payloads: &[&'a [u8]],
+) -> Result<BTreeMap<K, Vec<&'a [u8]>>, Refusal>
+    ensures found { IfOk result (λ m. (es : List (Entry K.kind)) × AreEntries K.kind (parts_view payloads.now) es
+        × (entries_view K.kind K.key_view m.entries ≡ entries (map_of K.kind es))) }
+    ensures fault { IfErr result (MemoryOr (SomeEntryFault K.kind (parts_view payloads.now))) }
+    ensures at_once { FirstBreaks (parts_view payloads.now) → result ≡ Err Refusal.BadWire }
+{
+    let mut named = BTreeMap::new(alloc);
+    for payload in payloads {
+        let entry = read_entry(alloc, payload)?;
+        named.insert(entry.key, entry.parts)?;
+    }
+    Ok(named)
+}
