@@ -6,3 +6,5 @@ pub mod StreamLemmas
 pub mod Beginnings
 pub mod ReadExits
 pub mod Each
+pub mod EnvelopeLemmas
+pub mod DiscoveryLaws

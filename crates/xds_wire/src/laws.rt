@@ -1,9 +1,12 @@
 //! Laws of frames: bytes are cut in one way, and calls cut all the bytes that they are fed, wherever those are cut
-//! into pieces.
+//! into pieces. Laws of discovery messages: bytes are one message at most, or have a fault, and never both.
 
-ghost use Rattle.std.specs.Prelude.{◌≡◌, ◌≢◌, ℕ, ◌<◌, All, [], List, ◌++◌};
+ghost use Rattle.std.specs.Prelude.{◌≡◌, ◌≢◌, ◌⊎◌, ℕ, ◌<◌, All, [], List, ◌++◌};
 ghost use Rattle.xds_wire.specs.Frames.{Tail, unfinished, Cut, AreAllowed, IsBeginning, frame_of, frames_of};
+ghost use Rattle.xds_wire.specs.Discovery.{RequestMessage, IsRequest, RequestFault, ResponseMessage, IsResponse, ResponseFault, ExtensionMessage, IsExtension, ExtensionFault};
 ghost use Rattle.xds_wire.specs.Stream.{Kept, start, Call, Runs, Resumes, bytes_fed, messages_taken};
+
+use proto_wire::Refusal;
 
 /// However calls feed bytes and ask for messages, what they handed out and what is kept is what all the bytes are cut
 /// to.
@@ -57,4 +60,55 @@ pub fn part_of_frames_is_cut()
 pub fn a_rest_begins_a_frame()
     ensures { (max : ℕ) (rest : List ℕ) → All (λ b. b < 256) rest → IsBeginning max rest
         → (message more : List ℕ) × (more ≢ []) × (rest ++ more ≡ frame_of message) }
+{}
+
+/// Bytes are a request, or have a fault.
+pub fn request_total()
+    ensures { (bytes : List ℕ) → ((m : RequestMessage) × IsRequest bytes m)
+        ⊎ ((e : Refusal) × RequestFault bytes e) }
+{}
+
+/// Bytes that are a request have no fault.
+pub fn request_disjoint()
+    ensures { (bytes : List ℕ) (m : RequestMessage) (e : Refusal)
+        → IsRequest bytes m → RequestFault bytes e → ⊥ }
+{}
+
+/// Bytes are one request at most.
+pub fn request_unique()
+    ensures { (bytes : List ℕ) (m n : RequestMessage) → IsRequest bytes m → IsRequest bytes n → m ≡ n }
+{}
+
+/// Bytes are a response, or have a fault.
+pub fn response_total()
+    ensures { (bytes : List ℕ) → ((m : ResponseMessage) × IsResponse bytes m)
+        ⊎ ((e : Refusal) × ResponseFault bytes e) }
+{}
+
+/// Bytes that are a response have no fault.
+pub fn response_disjoint()
+    ensures { (bytes : List ℕ) (m : ResponseMessage) (e : Refusal)
+        → IsResponse bytes m → ResponseFault bytes e → ⊥ }
+{}
+
+/// Bytes are one response at most.
+pub fn response_unique()
+    ensures { (bytes : List ℕ) (m n : ResponseMessage) → IsResponse bytes m → IsResponse bytes n → m ≡ n }
+{}
+
+/// Bytes are an extension, or have a fault.
+pub fn extension_total()
+    ensures { (bytes : List ℕ) → ((m : ExtensionMessage) × IsExtension bytes m)
+        ⊎ ((e : Refusal) × ExtensionFault bytes e) }
+{}
+
+/// Bytes that are an extension have no fault.
+pub fn extension_disjoint()
+    ensures { (bytes : List ℕ) (m : ExtensionMessage) (e : Refusal)
+        → IsExtension bytes m → ExtensionFault bytes e → ⊥ }
+{}
+
+/// Bytes are one extension at most.
+pub fn extension_unique()
+    ensures { (bytes : List ℕ) (m n : ExtensionMessage) → IsExtension bytes m → IsExtension bytes n → m ≡ n }
 {}
