@@ -25,3 +25,6 @@ pub use node::Node;
 pub use request::{DiscoveryRequest, read_request};
 pub use response::{DiscoveryResponse, read_response};
 pub use status::Status;
+
+#[cfg(test)]
+mod tests;
