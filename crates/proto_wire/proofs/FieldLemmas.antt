@@ -160,7 +160,7 @@ field_total bytes =
       | inr (e, fails) ↦ inr (e, no_tag fails)
     ]
 
-some_group : (a : List ℕ) → IsGroups a → 1 ≤ length a
+pub some_group : (a : List ℕ) → IsGroups a → 1 ≤ length a
 some_group [] groups = absurd groups
 some_group (x ∷ a) groups = omega arith
 

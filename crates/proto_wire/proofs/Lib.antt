@@ -11,5 +11,6 @@ pub mod Basics
 pub mod MapLemmas
 pub mod MapLaws
 pub mod MapOrder
+pub mod ShortestLemmas
 pub mod MapValues
 pub mod StandardFacts

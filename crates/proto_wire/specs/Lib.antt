@@ -3,6 +3,7 @@ pub mod Fields
 pub mod Keys
 pub mod Values
 pub mod Oneof
+pub mod Shortest
 pub mod Merge
 pub mod Refusal
 pub mod Messages

@@ -1,5 +1,5 @@
 //! Laws of the definitions: bytes are one list of fields, or broken at one place, and never both; the same of a message
-//! in several payloads, and of the entries of a map.
+//! in several payloads, and of the entries of a map. Fields have one shortest spelling, which reads back.
 
 ghost use Rattle.std.specs.Prelude.{◌≡◌, ◌⊎◌, ℕ, List};
 ghost use Rattle.std.specs.List.{concat};
@@ -7,6 +7,7 @@ ghost use Rattle.proto_wire.specs.Fields.{Wire, Fields, Broken};
 ghost use Rattle.proto_wire.specs.Maps.{KeyKind, Entry, AreEntries, SomeEntryFault};
 ghost use Rattle.proto_wire.specs.Merge.{Merges, Breaks};
 ghost use Rattle.proto_wire.specs.Messages.{IsMessage, MessageFault};
+ghost use Rattle.proto_wire.specs.Shortest.{Shortest};
 
 use crate::fault::WireError;
 use crate::key::Key;
@@ -92,4 +93,14 @@ pub fn entries_disjoint()
 pub fn entries_unique()
     ensures { (kind : KeyKind) (parts : List (List ℕ)) (es ds : List (Entry kind))
         → AreEntries kind parts es → AreEntries kind parts ds → es ≡ ds }
+{}
+
+/// What is written reads back.
+pub fn shortest_reads()
+    ensures { (fs : List Wire) (bytes : List ℕ) → Shortest fs bytes → Fields bytes fs }
+{}
+
+/// Fields have one shortest spelling at most.
+pub fn shortest_unique()
+    ensures { (fs : List Wire) (a b : List ℕ) → Shortest fs a → Shortest fs b → a ≡ b }
 {}

@@ -13,6 +13,7 @@ mod refusal;
 mod spelling;
 mod values;
 mod varint;
+mod writer;
 
 pub use fault::WireError;
 pub use field::{Field, Payload, WireType};
@@ -26,6 +27,7 @@ pub use values::{
     bool_at, bytes_at, has_field, int32_at, int64_at, last_len, last_varint, payloads_of, text_at,
     text_of, uint32_at,
 };
+pub use writer::Writer;
 
 #[cfg(test)]
 mod tests;

@@ -277,3 +277,67 @@ fn int64_maps(rt: HostRuntime) -> Result<(), Fail> {
     assert!(rt; matches!(answer, Err(Refusal::UnknownField)));
     Ok(())
 }
+
+/// The encoding guide's examples of varints, and those on both sides of a byte more.
+const WRITTEN: [(u64, &[u8]); 8] = [
+    (0, b"\x08\x00"),
+    (127, b"\x08\x7f"),
+    (128, b"\x08\x80\x01"),
+    (150, b"\x08\x96\x01"),
+    (300, b"\x08\xac\x02"),
+    (16_384, b"\x08\x80\x80\x01"),
+    (
+        9_223_372_036_854_775_808,
+        b"\x08\x80\x80\x80\x80\x80\x80\x80\x80\x80\x01",
+    ),
+    (u64::MAX, b"\x08\xff\xff\xff\xff\xff\xff\xff\xff\xff\x01"),
+];
+
+#[test]
+fn written_varints(rt: HostRuntime) -> Result<(), Fail> {
+    for (value, want) in &WRITTEN {
+        let mut writer = Writer::new(Vec::new(rt.alloc()));
+        writer.varint(1, *value)?;
+        assert!(rt; writer.into_bytes().as_slice() == *want, "at {value}");
+    }
+    Ok(())
+}
+
+/// The string "testing" as field 2, a message whose field 1 is 150 as field 3, packed numbers as field 6, and the greatest
+/// field number, behind a byte that was there.
+#[test]
+fn written_fields(rt: HostRuntime) -> Result<(), Fail> {
+    let mut bytes = Vec::new(rt.alloc());
+    bytes.push(0)?;
+    let mut writer = Writer::new(bytes);
+    writer.text(2, "testing")?;
+    writer.message(3, b"\x08\x96\x01")?;
+    writer.bytes(6, b"\x03\x8e\x02\x9e\xa7\x05")?;
+    writer.varint(536_870_911, 1)?;
+    let want: &[u8] =
+        b"\x00\x12\x07testing\x1a\x03\x08\x96\x01\x32\x06\x03\x8e\x02\x9e\xa7\x05\xf8\xff\xff\xff\x0f\x01";
+    assert!(rt; writer.into_bytes().as_slice() == want);
+    Ok(())
+}
+
+/// A filter of one policy, `p`, that lets all through: each message is written, and then stands in the next as a field.
+#[test]
+fn written_messages(rt: HostRuntime) -> Result<(), Fail> {
+    let alloc = rt.alloc();
+    let mut rule = Writer::new(Vec::new(alloc));
+    rule.varint(3, 1)?;
+    let rule = rule.into_bytes();
+    let mut policy = Writer::new(Vec::new(alloc));
+    policy.message(1, &rule)?;
+    policy.message(2, &rule)?;
+    let mut entry = Writer::new(Vec::new(alloc));
+    entry.text(1, "p")?;
+    entry.message(2, &policy.into_bytes())?;
+    let mut rules = Writer::new(Vec::new(alloc));
+    rules.message(2, &entry.into_bytes())?;
+    let mut filter = Writer::new(Vec::new(alloc));
+    filter.message(1, &rules.into_bytes())?;
+    let want: &[u8] = b"\x0a\x0f\x12\x0d\x0a\x01p\x12\x08\x0a\x02\x18\x01\x12\x02\x18\x01";
+    assert!(rt; filter.into_bytes().as_slice() == want);
+    Ok(())
+}
