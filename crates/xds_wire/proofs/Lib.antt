@@ -8,3 +8,4 @@ pub mod ReadExits
 pub mod Each
 pub mod EnvelopeLemmas
 pub mod DiscoveryLaws
+pub mod WriteLemmas

@@ -3,4 +3,5 @@ pub mod Stream
 pub mod Envelope
 pub mod Discovery
 pub mod View
+pub mod Written
 pub mod steps

@@ -1,17 +1,21 @@
 //! Messages of any type (`google.protobuf.Any`).
 
-ghost use Rattle.std.specs.Prelude.{◌≡◌, [], ◌∷◌, map, IfOk, IfErr};
+ghost use Rattle.std.specs.Prelude.{◌≡◌, [], ◌∷◌, List, map, IfOk, IfErr, OnOk, OnErr};
 ghost use Rattle.std.specs.Option.{option_map};
 ghost use Rattle.std.specs.List.{AllZip};
-ghost use Rattle.proto_wire.specs.Fields.{field_view};
+ghost use Rattle.proto_wire.specs.Fields.{Wire, IsFieldNumber, field_view};
 ghost use Rattle.proto_wire.specs.Merge.{parts_view};
 ghost use Rattle.proto_wire.specs.Refusal.{MemoryOr};
 ghost use Rattle.xds_wire.specs.Discovery.{AreAnyFields, AnyFieldsFault, IsAny, AnyFault};
 ghost use Rattle.xds_wire.specs.Envelope.{IsMerged, MergedFault, AreRepeated, RepeatedFault, SomeOf};
+ghost use Rattle.proto_wire.specs.steps.Writing.{Keeps};
 ghost use Rattle.xds_wire.specs.View.{any_view};
+ghost use Rattle.xds_wire.specs.Written.{AnyWritten, AreOptional, AreEach};
+ghost use Rattle.xds_wire.specs.steps.Writing.{Adds};
 
-use proto_wire::{Field, Refusal, bytes_at, payloads_of, read_parts, text_at};
-use std::alloc::Global;
+use crate::writing::{put_bytes, put_text};
+use proto_wire::{Field, Refusal, Writer, bytes_at, payloads_of, read_parts, text_at};
+use std::alloc::{AllocError, Global};
 
 /// A message of any type.
 #[derive(Clone, Copy, Debug)]
@@ -88,4 +92,54 @@ fn read_each<'a>(alloc: Global, parts: &[&'a [u8]]) -> Result<Vec<Any<'a>>, Refu
         messages.push(read_any(alloc, &[*part])?)?;
     }
     Ok(messages)
+}
+
+// The message's bytes.
+fn any_bytes(alloc: Global, any: &Any<'_>) -> Result<Vec<u8>, AllocError>
+    ensures { IfOk result (λ v. AnyWritten (any_view any.now) v.items) }
+{
+    let mut writer = Writer::new(Vec::new(alloc));
+    put_text(&mut writer, TYPE_URL, any.type_url)?;
+    put_bytes(&mut writer, VALUE, any.value)?;
+    Ok(writer.into_bytes())
+}
+
+/// Writes the message, where there is one.
+pub(crate) fn put_any(
+    alloc: Global,
+    writer: &mut Writer,
+    number: u32,
+    any: &Option<Any<'_>>,
+) -> Result<(), AllocError>
+    requires { IsFieldNumber number }
+    ensures found { OnOk result ((fs : List Wire)
+        × AreOptional AnyWritten number (option_map any_view any.now) fs
+        × Adds writer.old fs writer.new) }
+    ensures fault { OnErr result (writer.new ≡ writer.old) }
+{
+    let Some(any) = any else {
+        return Ok(());
+    };
+    let bytes = any_bytes(alloc, any)?;
+    writer.message(number, &bytes)
+}
+
+/// Writes each of the messages.
+pub(crate) fn put_each_any(
+    alloc: Global,
+    writer: &mut Writer,
+    number: u32,
+    messages: &[Any<'_>],
+) -> Result<(), AllocError>
+    requires { IsFieldNumber number }
+    ensures found { OnOk result ((fs : List Wire)
+        × AreEach AnyWritten number (map any_view messages.now) fs
+        × Adds writer.old fs writer.new) }
+    ensures fault { OnErr result (Keeps writer.old writer.new) }
+{
+    for message in messages {
+        let bytes = any_bytes(alloc, message)?;
+        writer.message(number, &bytes)?;
+    }
+    Ok(())
 }

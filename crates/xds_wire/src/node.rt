@@ -1,16 +1,19 @@
 //! Who asks (`envoy.config.core.v3.Node`).
 
-ghost use Rattle.std.specs.Prelude.{◌≡◌, map, IfOk, IfErr};
+ghost use Rattle.std.specs.Prelude.{◌≡◌, List, map, IfOk, IfErr, OnOk, OnErr};
 ghost use Rattle.std.specs.Option.{option_map};
-ghost use Rattle.proto_wire.specs.Fields.{field_view};
+ghost use Rattle.proto_wire.specs.Fields.{Wire, IsFieldNumber, field_view};
 ghost use Rattle.proto_wire.specs.Merge.{parts_view};
 ghost use Rattle.proto_wire.specs.Refusal.{MemoryOr};
 ghost use Rattle.xds_wire.specs.Discovery.{AreNodeFields, NodeFieldsFault, IsNode, NodeFault};
 ghost use Rattle.xds_wire.specs.Envelope.{IsMerged, MergedFault};
 ghost use Rattle.xds_wire.specs.View.{node_view};
+ghost use Rattle.xds_wire.specs.Written.{NodeWritten, AreOptional};
+ghost use Rattle.xds_wire.specs.steps.Writing.{Adds};
 
-use proto_wire::{Field, Refusal, payloads_of, read_parts, text_at};
-use std::alloc::Global;
+use crate::writing::put_text;
+use proto_wire::{Field, Refusal, Writer, payloads_of, read_parts, text_at};
+use std::alloc::{AllocError, Global};
 
 /// Who asks.
 #[derive(Clone, Copy, PartialEq, Eq, Debug)]
@@ -60,4 +63,34 @@ pub(crate) fn merged_node<'a>(
         return Ok(None);
     }
     Ok(Some(read_node(alloc, &parts)?))
+}
+
+// The message's bytes.
+fn node_bytes(alloc: Global, node: &Node<'_>) -> Result<Vec<u8>, AllocError>
+    ensures { IfOk result (λ v. NodeWritten (node_view node.now) v.items) }
+{
+    let mut writer = Writer::new(Vec::new(alloc));
+    put_text(&mut writer, ID, node.id)?;
+    put_text(&mut writer, CLUSTER, node.cluster)?;
+    Ok(writer.into_bytes())
+}
+
+/// Writes the message, where there is one.
+pub(crate) fn put_node(
+    alloc: Global,
+    writer: &mut Writer,
+    number: u32,
+    node: &Option<Node<'_>>,
+) -> Result<(), AllocError>
+    requires { IsFieldNumber number }
+    ensures found { OnOk result ((fs : List Wire)
+        × AreOptional NodeWritten number (option_map node_view node.now) fs
+        × Adds writer.old fs writer.new) }
+    ensures fault { OnErr result (writer.new ≡ writer.old) }
+{
+    let Some(node) = node else {
+        return Ok(());
+    };
+    let bytes = node_bytes(alloc, node)?;
+    writer.message(number, &bytes)
 }

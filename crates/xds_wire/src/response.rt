@@ -1,13 +1,17 @@
 //! Resources that a server sends (`envoy.service.discovery.v3.DiscoveryResponse`).
 
-ghost use Rattle.std.specs.Prelude.{IfOk, IfErr};
+ghost use Rattle.std.specs.Prelude.{◌≡◌, IfOk, IfErr, OnOk, OnErr};
 ghost use Rattle.proto_wire.specs.Refusal.{MemoryOr};
 ghost use Rattle.xds_wire.specs.Discovery.{IsResponse, ResponseFault};
+ghost use Rattle.proto_wire.specs.steps.Writing.{Keeps};
 ghost use Rattle.xds_wire.specs.View.{response_view};
+ghost use Rattle.xds_wire.specs.Written.{ResponseWritten};
+ghost use Rattle.xds_wire.specs.steps.Writing.{AddsMessage};
 
-use crate::any::{Any, repeated_any};
-use proto_wire::{Refusal, read_parts, text_at};
-use std::alloc::Global;
+use crate::any::{Any, put_each_any, repeated_any};
+use crate::writing::{put_back, put_text, take_writer};
+use proto_wire::{Refusal, Writer, read_parts, text_at};
+use std::alloc::{AllocError, Global};
 
 /// Resources of one type, their version, and the nonce by which a client answers them.
 #[derive(Debug, Drop)]
@@ -43,4 +47,33 @@ pub fn read_response<'a>(alloc: Global, bytes: &'a [u8]) -> Result<DiscoveryResp
         type_url: text_at(&fields, TYPE_URL)?,
         nonce: text_at(&fields, NONCE)?,
     })
+}
+
+/// Appends a DiscoveryResponse, in the shortest spelling and with defaults left out. Where memory runs out, the bytes stay as they were.
+pub fn write_response(response: &DiscoveryResponse<'_>, out: &mut Vec<u8>) -> Result<(), AllocError>
+    ensures found { OnOk result
+        (AddsMessage (ResponseWritten (response_view response.now)) out.old.items out.new.items) }
+    ensures fault { OnErr result (out.new.items ≡ out.old.items) }
+{
+    let start = out.len();
+    let alloc = *out.allocator();
+    let mut writer = take_writer(out);
+    let written = put_response(alloc, response, &mut writer);
+    put_back(out, writer, written, start)
+}
+
+// Writes the fields of the message.
+fn put_response(
+    alloc: Global,
+    response: &DiscoveryResponse<'_>,
+    writer: &mut Writer,
+) -> Result<(), AllocError>
+    ensures found { OnOk result
+        (AddsMessage (ResponseWritten (response_view response.now)) writer.old writer.new) }
+    ensures fault { OnErr result (Keeps writer.old writer.new) }
+{
+    put_text(writer, VERSION_INFO, response.version_info)?;
+    put_each_any(alloc, writer, RESOURCES, &response.resources)?;
+    put_text(writer, TYPE_URL, response.type_url)?;
+    put_text(writer, NONCE, response.nonce)
 }

@@ -1,16 +1,19 @@
 //! Errors as messages (`google.rpc.Status`).
 
-ghost use Rattle.std.specs.Prelude.{◌≡◌, map, IfOk, IfErr};
+ghost use Rattle.std.specs.Prelude.{◌≡◌, List, map, IfOk, IfErr, OnOk, OnErr};
 ghost use Rattle.std.specs.Option.{option_map};
-ghost use Rattle.proto_wire.specs.Fields.{field_view};
+ghost use Rattle.proto_wire.specs.Fields.{Wire, IsFieldNumber, field_view};
 ghost use Rattle.proto_wire.specs.Merge.{parts_view};
 ghost use Rattle.proto_wire.specs.Refusal.{MemoryOr};
 ghost use Rattle.xds_wire.specs.Discovery.{AreStatusFields, StatusFieldsFault, IsStatus, StatusFault};
 ghost use Rattle.xds_wire.specs.Envelope.{IsMerged, MergedFault};
 ghost use Rattle.xds_wire.specs.View.{status_view};
+ghost use Rattle.xds_wire.specs.Written.{StatusWritten, AreOptional, int32_fields};
+ghost use Rattle.xds_wire.specs.steps.Writing.{Adds};
 
-use proto_wire::{Field, Refusal, int32_at, payloads_of, read_parts, text_at};
-use std::alloc::Global;
+use crate::writing::put_text;
+use proto_wire::{Field, Refusal, Writer, int32_at, payloads_of, read_parts, text_at};
+use std::alloc::{AllocError, Global};
 
 /// An error, or none, as an answer tells it.
 #[derive(Clone, Copy, PartialEq, Eq, Debug)]
@@ -61,4 +64,46 @@ pub(crate) fn merged_status<'a>(
         return Ok(None);
     }
     Ok(Some(read_status(alloc, &parts)?))
+}
+
+// The message's bytes.
+fn status_bytes(alloc: Global, status: &Status<'_>) -> Result<Vec<u8>, AllocError>
+    ensures { IfOk result (λ v. StatusWritten (status_view status.now) v.items) }
+{
+    let mut writer = Writer::new(Vec::new(alloc));
+    put_code(&mut writer, status.code)?;
+    put_text(&mut writer, MESSAGE, status.message)?;
+    Ok(writer.into_bytes())
+}
+
+/// Writes the message, where there is one.
+pub(crate) fn put_status(
+    alloc: Global,
+    writer: &mut Writer,
+    number: u32,
+    status: &Option<Status<'_>>,
+) -> Result<(), AllocError>
+    requires { IsFieldNumber number }
+    ensures found { OnOk result ((fs : List Wire)
+        × AreOptional StatusWritten number (option_map status_view status.now) fs
+        × Adds writer.old fs writer.new) }
+    ensures fault { OnErr result (writer.new ≡ writer.old) }
+{
+    let Some(status) = status else {
+        return Ok(());
+    };
+    let bytes = status_bytes(alloc, status)?;
+    writer.message(number, &bytes)
+}
+
+// Writes the code, unless it is 0.
+fn put_code(writer: &mut Writer, code: i32) -> Result<(), AllocError>
+    ensures found { OnOk result (Adds writer.old (int32_fields CODE code) writer.new) }
+    ensures fault { OnErr result (writer.new ≡ writer.old) }
+{
+    let value = i64::from(code).cast_unsigned();
+    if value == 0 {
+        return Ok(());
+    }
+    writer.varint(CODE, value)
 }

@@ -3,8 +3,12 @@ use super::vectors::{
     EXTENSION_TYPE, FILTER_TYPE, FIRST_ACK, FIRST_REQUEST, FIRST_RESPONSE, HALF_BAD_NACK,
     RESUMED_REQUEST, TRUE_AND_TRUE, joined,
 };
-use crate::{Node, Status, read_extension, read_request, read_response};
+use crate::{
+    Any, DiscoveryRequest, DiscoveryResponse, Node, Status, TypedExtensionConfig, read_extension,
+    read_request, read_response, write_extension, write_frame, write_request, write_response,
+};
 use proto_wire::Refusal;
+use std::alloc::{AllocError, Global};
 use std::test::Fail;
 
 const NODE: Node<'static> = Node {
@@ -72,7 +76,8 @@ fn responses(rt: HostRuntime) -> Result<(), Fail> {
 #[test]
 fn rules_of_fields(rt: HostRuntime) -> Result<(), Fail> {
     let alloc = rt.alloc();
-    let bytes = b"\x0a\x01\xff\x0a\x01a\x08\x05\x12\x03\x0a\x01p\x12\x03\x12\x01q\x12\x00\x7a\x02hi\x1a\x00\x1a\x01z\x35\x01\x02\x03\x04";
+    let bytes =
+        b"\x0a\x01\xff\x0a\x01a\x08\x05\x12\x03\x0a\x01p\x12\x03\x12\x01q\x12\x00\x7a\x02hi\x1a\x00\x1a\x01z\x35\x01\x02\x03\x04";
     let request = read_request(alloc, bytes)?;
     assert_eq!(rt; request.version_info, "a");
     let node = Node {
@@ -99,7 +104,9 @@ fn rules_of_fields(rt: HostRuntime) -> Result<(), Fail> {
     let two = read_response(alloc, b"\x12\x03\x0a\x01a\x12\x03\x12\x01\xff")?;
     assert_eq!(rt; two.resources.len(), 2);
     let merged = read_extension(alloc, b"\x12\x03\x0a\x01a\x12\x03\x12\x01\xff")?;
-    assert!(rt; matches!(merged.typed_config, Some(any) if any.type_url == "a" && any.value == b"\xff".as_slice()));
+    assert!(rt;
+        matches!(merged.typed_config, Some(any) if any.type_url == "a" && any.value == b"\xff".as_slice())
+    );
     Ok(())
 }
 
@@ -134,4 +141,114 @@ fn refusals(rt: HostRuntime) {
         assert!(rt; matches!(read_response(alloc, response), Err(error) if error == *refusal));
         assert!(rt; matches!(read_extension(alloc, extension), Err(error) if error == *refusal));
     }
+}
+
+/// A request that carries no node, no version, no nonce and no error.
+fn asks<'a>(alloc: Global, names: &[&'a str]) -> Result<DiscoveryRequest<'a>, AllocError> {
+    Ok(DiscoveryRequest {
+        version_info: "",
+        node: None,
+        resource_names: Vec::from_slice(alloc, names)?,
+        type_url: EXTENSION_TYPE,
+        response_nonce: "",
+        error_detail: None,
+    })
+}
+
+/// The request in a frame.
+fn framed(alloc: Global, request: &DiscoveryRequest<'_>) -> Result<Vec<u8>, AllocError> {
+    let mut message = Vec::new(alloc);
+    write_request(request, &mut message)?;
+    let mut frame = Vec::new(alloc);
+    write_frame(&message, &mut frame)?;
+    Ok(frame)
+}
+
+#[test]
+fn written_requests(rt: HostRuntime) -> Result<(), Fail> {
+    let alloc = rt.alloc();
+    let mut request = asks(alloc, &["f"])?;
+    request.node = Some(NODE);
+    assert!(rt; framed(alloc, &request)? == joined(alloc, FIRST_REQUEST)?);
+    request.version_info = "1";
+    assert!(rt; framed(alloc, &request)? == joined(alloc, RESUMED_REQUEST)?);
+    request.node = None;
+    request.response_nonce = "n1";
+    assert!(rt; framed(alloc, &request)? == joined(alloc, FIRST_ACK)?);
+    let mut refusal = asks(alloc, &["f", "g"])?;
+    refusal.version_info = "1";
+    refusal.response_nonce = "n2";
+    refusal.error_detail = Some(Status {
+        code: 3,
+        message: "policy refused: 3",
+    });
+    assert!(rt; framed(alloc, &refusal)? == joined(alloc, HALF_BAD_NACK)?);
+    Ok(())
+}
+
+#[test]
+fn a_written_response(rt: HostRuntime) -> Result<(), Fail> {
+    let alloc = rt.alloc();
+    let extension = TypedExtensionConfig {
+        name: "f",
+        typed_config: Some(Any {
+            type_url: FILTER_TYPE,
+            value: TRUE_AND_TRUE,
+        }),
+    };
+    let mut value = Vec::new(alloc);
+    write_extension(&extension, &mut value)?;
+    let resources = [Any {
+        type_url: EXTENSION_TYPE,
+        value: &value,
+    }];
+    let response = DiscoveryResponse {
+        version_info: "1",
+        resources: Vec::from_slice(alloc, &resources)?,
+        type_url: EXTENSION_TYPE,
+        nonce: "n1",
+    };
+    let mut message = Vec::from_slice(alloc, b"before")?;
+    write_response(&response, &mut message)?;
+    assert!(rt; message.starts_with(b"before"));
+    let mut frame = Vec::new(alloc);
+    write_frame(&message[6..], &mut frame)?;
+    assert!(rt; frame == joined(alloc, FIRST_RESPONSE)?);
+    Ok(())
+}
+
+/// A node and an error that are there are written even if all in them is empty; repeated strings are, too; a negative code
+/// takes ten bytes.
+#[test]
+fn written_defaults(rt: HostRuntime) -> Result<(), Fail> {
+    let alloc = rt.alloc();
+    let mut request = asks(alloc, &["", "g"])?;
+    request.type_url = "";
+    request.node = Some(Node {
+        id: "",
+        cluster: "",
+    });
+    request.error_detail = Some(Status {
+        code: 0,
+        message: "",
+    });
+    let mut bytes = Vec::new(alloc);
+    write_request(&request, &mut bytes)?;
+    assert!(rt; bytes.as_slice() == b"\x12\x00\x1a\x00\x1a\x01g\x32\x00".as_slice());
+    request.error_detail = Some(Status {
+        code: -1,
+        message: "m",
+    });
+    bytes.clear();
+    write_request(&request, &mut bytes)?;
+    let end = b"\x32\x0e\x08\xff\xff\xff\xff\xff\xff\xff\xff\xff\x01\x12\x01m";
+    assert!(rt; bytes.ends_with(end));
+    let nothing = TypedExtensionConfig {
+        name: "",
+        typed_config: None,
+    };
+    bytes.clear();
+    write_extension(&nothing, &mut bytes)?;
+    assert!(rt; bytes.is_empty());
+    Ok(())
 }
