@@ -9,3 +9,6 @@ pub mod Each
 pub mod EnvelopeLemmas
 pub mod DiscoveryLaws
 pub mod WriteLemmas
+pub mod Groups
+pub mod GroupValues
+pub mod ReadBack

@@ -1,9 +1,8 @@
 -- What writers write of the discovery messages: Protocol Buffers encoding guide. Fields stand in ascending
 -- order of number, each number in its shortest spelling, and defaults are left out.
-use Rattle.std.specs.Prelude.{◌≡◌, ℕ, ℤ, ◌==◌, Option, Some, None, List, [], ◌∷◌, ◌++◌, map, if◌then◌else◌, IsUtf8}
-use Rattle.std.specs.Int.{w64, cast_unsigned}
+use Rattle.std.specs.Prelude.{◌≡◌, ℕ, ℤ, ◌==◌, Option, Some, None, List, [], ◌∷◌, ◌++◌, map, if◌then◌else◌, IsUtf8, IfSome, FitsSigned}
+use Rattle.std.specs.Int.{w32, w64, cast_unsigned}
 use Rattle.std.specs.List.{AllByRecursion, flat_map}
-use Rattle.std.specs.Option.{IfSome}
 use Rattle.proto_wire.specs.Fields.{Wire, varint, len}
 use Rattle.proto_wire.specs.Shortest.{Shortest, field_of}
 use Rattle.xds_wire.specs.Discovery.{AnyMessage, StatusMessage, NodeMessage, RequestMessage, ResponseMessage, ExtensionMessage}
@@ -68,3 +67,32 @@ pub record ExtensionWritten (m : ExtensionMessage) (bytes : List ℕ) : Type 0 w
   pub typed_config : List Wire
   pub config_fields : AreOptional AnyWritten 2 m.typed_config typed_config
   pub spells : SpellsGroups (string_fields 1 m.name ∷ typed_config ∷ []) bytes
+
+-- ---- which messages may be written so that the same is read: strings are UTF-8, and a code is an int32
+
+abbrev pub IsSoundAny : AnyMessage → Type 0
+IsSoundAny m = IsUtf8 m.type_url
+
+abbrev pub IsSoundStatus : StatusMessage → Type 0
+IsSoundStatus m = FitsSigned w32 m.code × IsUtf8 m.message
+
+abbrev pub IsSoundNode : NodeMessage → Type 0
+IsSoundNode m = IsUtf8 m.id × IsUtf8 m.cluster
+
+pub record IsSoundRequest (m : RequestMessage) : Type 0 where
+  pub version_info : IsUtf8 m.version_info
+  pub node : IfSome m.node IsSoundNode
+  pub resource_names : AllByRecursion IsUtf8 m.resource_names
+  pub type_url : IsUtf8 m.type_url
+  pub response_nonce : IsUtf8 m.response_nonce
+  pub error_detail : IfSome m.error_detail IsSoundStatus
+
+pub record IsSoundResponse (m : ResponseMessage) : Type 0 where
+  pub version_info : IsUtf8 m.version_info
+  pub resources : AllByRecursion IsSoundAny m.resources
+  pub type_url : IsUtf8 m.type_url
+  pub nonce : IsUtf8 m.nonce
+
+pub record IsSoundExtension (m : ExtensionMessage) : Type 0 where
+  pub name : IsUtf8 m.name
+  pub typed_config : IfSome m.typed_config IsSoundAny

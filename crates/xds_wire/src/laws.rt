@@ -5,6 +5,7 @@ ghost use Rattle.std.specs.Prelude.{◌≡◌, ◌≢◌, ◌⊎◌, ℕ, ◌<�
 ghost use Rattle.xds_wire.specs.Frames.{Tail, unfinished, Cut, AreAllowed, IsBeginning, frame_of, frames_of};
 ghost use Rattle.xds_wire.specs.Discovery.{RequestMessage, IsRequest, RequestFault, ResponseMessage, IsResponse, ResponseFault, ExtensionMessage, IsExtension, ExtensionFault};
 ghost use Rattle.xds_wire.specs.Stream.{Kept, start, Call, Runs, Resumes, bytes_fed, messages_taken};
+ghost use Rattle.xds_wire.specs.Written.{RequestWritten, IsSoundRequest, ResponseWritten, IsSoundResponse, ExtensionWritten, IsSoundExtension};
 
 use proto_wire::Refusal;
 
@@ -111,4 +112,37 @@ pub fn extension_disjoint()
 /// Bytes are one extension at most.
 pub fn extension_unique()
     ensures { (bytes : List ℕ) (m n : ExtensionMessage) → IsExtension bytes m → IsExtension bytes n → m ≡ n }
+{}
+
+/// What is written of a request reads back.
+pub fn request_reads_back()
+    ensures { (m : RequestMessage) (bytes : List ℕ) → IsSoundRequest m → RequestWritten m bytes
+        → IsRequest bytes m }
+{}
+
+/// There is one way at most to write a request.
+pub fn request_written_unique()
+    ensures { (m : RequestMessage) (a b : List ℕ) → RequestWritten m a → RequestWritten m b → a ≡ b }
+{}
+
+/// What is written of a response reads back.
+pub fn response_reads_back()
+    ensures { (m : ResponseMessage) (bytes : List ℕ) → IsSoundResponse m → ResponseWritten m bytes
+        → IsResponse bytes m }
+{}
+
+/// There is one way at most to write a response.
+pub fn response_written_unique()
+    ensures { (m : ResponseMessage) (a b : List ℕ) → ResponseWritten m a → ResponseWritten m b → a ≡ b }
+{}
+
+/// What is written of an extension reads back.
+pub fn extension_reads_back()
+    ensures { (m : ExtensionMessage) (bytes : List ℕ) → IsSoundExtension m → ExtensionWritten m bytes
+        → IsExtension bytes m }
+{}
+
+/// There is one way at most to write an extension.
+pub fn extension_written_unique()
+    ensures { (m : ExtensionMessage) (a b : List ℕ) → ExtensionWritten m a → ExtensionWritten m b → a ≡ b }
 {}
