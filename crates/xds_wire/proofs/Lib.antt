@@ -1,0 +1,14 @@
+pub mod HeadLemmas
+pub mod CutLemmas
+pub mod OneCut
+pub mod EachCut
+pub mod StreamLemmas
+pub mod Beginnings
+pub mod ReadExits
+pub mod Each
+pub mod EnvelopeLemmas
+pub mod DiscoveryLaws
+pub mod WriteLemmas
+pub mod Groups
+pub mod GroupValues
+pub mod ReadBack

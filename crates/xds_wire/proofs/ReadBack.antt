@@ -1,0 +1,219 @@
+-- What is written of a discovery message is read back as that message, and there is one way to write it.
+use Rattle.std.proofs.Common.{◌≡◌, ℕ, Option, Some, None, List, [], ◌∷◌, ◌++◌, refl, sym, ap, ap₂, subst, ◌∙◌, append-nil}
+use Rattle.std.specs.Prelude.{IsUtf8}
+use Rattle.proto_wire.specs.Fields.{Wire, len}
+use Rattle.proto_wire.specs.Merge.{Merges}
+use Rattle.proto_wire.specs.Shortest.{Shortest, field_of}
+use Rattle.proto_wire.specs.Values.{varint_in, len_in, payloads, varints}
+use Rattle.proto_wire.proofs.ShortestLemmas.{shortest_reads, shortest_unique}
+use Rattle.xds_wire.specs.Discovery.{AnyMessage, AreAnyFields, IsAny, StatusMessage, AreStatusFields, IsStatus, NodeMessage, AreNodeFields, IsNode, RequestMessage, AreRequestFields, IsRequest, ResponseMessage, AreResponseFields, IsResponse, ExtensionMessage, AreExtensionFields, IsExtension}
+use Rattle.xds_wire.specs.Written.{string_fields, strings_fields, int32_fields, AreOptional, AreEach, SpellsGroups, AnyWritten, IsSoundAny, StatusWritten, IsSoundStatus, NodeWritten, IsSoundNode, RequestWritten, IsSoundRequest, ResponseWritten, IsSoundResponse, ExtensionWritten, IsSoundExtension}
+use Rattle.xds_wire.proofs.Groups.{in_row, picks_own, string_other, strings_other, int32_other, optional_other, each_other}
+use Rattle.xds_wire.proofs.GroupValues.{bytes_back, string_back, strings_back, merged_back, repeated_back, code_back}
+
+-- the fields that are written are the message's
+merges_one : (fs : List Wire) (bytes : List ℕ) → Shortest fs bytes → Merges (bytes ∷ []) fs
+merges_one fs bytes spells = (fs, [], shortest_reads fs bytes spells, refl, sym (append-nil fs))
+
+pub any_back : (m : AnyMessage) (bytes : List ℕ) → IsSoundAny m → AnyWritten m bytes
+    → IsAny (bytes ∷ []) m
+any_back m bytes sound w =
+    let fs : List Wire = in_row ((string_fields 1 m.type_url) ∷ (string_fields 2 m.value) ∷ []) in
+    let own_1 : payloads 1 fs ≡ payloads 1 (string_fields 1 m.type_url) =
+    picks_own len_in 1 ([]) (string_fields 1 m.type_url) ((string_fields 2 m.value) ∷ [])
+    tt
+    (string_other len_in 1 2 m.value refl, tt) in
+    let own_2 : payloads 2 fs ≡ payloads 2 (string_fields 2 m.value) =
+    picks_own len_in 2 ((string_fields 1 m.type_url) ∷ []) (string_fields 2 m.value) ([])
+    (string_other len_in 2 1 m.type_url refl, tt)
+    tt in (
+      fs,
+      merges_one fs bytes w,
+      record {
+        type_url = string_back 1 refl fs m.type_url own_1 sound;
+        value = bytes_back 2 refl fs m.value own_2;
+      },
+    )
+
+pub status_back : (m : StatusMessage) (bytes : List ℕ) → IsSoundStatus m → StatusWritten m bytes
+    → IsStatus (bytes ∷ []) m
+status_back m bytes sound w =
+    let fs : List Wire = in_row ((int32_fields 1 m.code) ∷ (string_fields 2 m.message) ∷ []) in
+    let own_1 : varints 1 fs ≡ varints 1 (int32_fields 1 m.code) =
+    picks_own varint_in 1 ([]) (int32_fields 1 m.code) ((string_fields 2 m.message) ∷ [])
+    tt
+    (string_other varint_in 1 2 m.message refl, tt) in
+    let own_2 : payloads 2 fs ≡ payloads 2 (string_fields 2 m.message) =
+    picks_own len_in 2 ((int32_fields 1 m.code) ∷ []) (string_fields 2 m.message) ([])
+    (int32_other len_in 2 1 m.code refl, tt)
+    tt in (
+      fs,
+      merges_one fs bytes w,
+      record {
+        code = code_back 1 refl fs m.code own_1 sound.0;
+        message = string_back 2 refl fs m.message own_2 sound.1;
+      },
+    )
+
+pub node_back : (m : NodeMessage) (bytes : List ℕ) → IsSoundNode m → NodeWritten m bytes
+    → IsNode (bytes ∷ []) m
+node_back m bytes sound w =
+    let fs : List Wire = in_row ((string_fields 1 m.id) ∷ (string_fields 2 m.cluster) ∷ []) in
+    let own_1 : payloads 1 fs ≡ payloads 1 (string_fields 1 m.id) =
+    picks_own len_in 1 ([]) (string_fields 1 m.id) ((string_fields 2 m.cluster) ∷ [])
+    tt
+    (string_other len_in 1 2 m.cluster refl, tt) in
+    let own_2 : payloads 2 fs ≡ payloads 2 (string_fields 2 m.cluster) =
+    picks_own len_in 2 ((string_fields 1 m.id) ∷ []) (string_fields 2 m.cluster) ([])
+    (string_other len_in 2 1 m.id refl, tt)
+    tt in (
+      fs,
+      merges_one fs bytes w,
+      record {
+        id = string_back 1 refl fs m.id own_1 sound.0;
+        cluster = string_back 2 refl fs m.cluster own_2 sound.1;
+      },
+    )
+
+pub request_back : (m : RequestMessage) (bytes : List ℕ) → IsSoundRequest m → RequestWritten m bytes
+    → IsRequest bytes m
+request_back m bytes sound w =
+    let fs : List Wire = in_row ((string_fields 1 m.version_info) ∷ w.node ∷ (strings_fields 3 m.resource_names) ∷ (string_fields 4 m.type_url) ∷ (string_fields 5 m.response_nonce) ∷ w.error_detail ∷ []) in
+    let own_1 : payloads 1 fs ≡ payloads 1 (string_fields 1 m.version_info) =
+    picks_own len_in 1 ([]) (string_fields 1 m.version_info) (w.node ∷ (strings_fields 3 m.resource_names) ∷ (string_fields 4 m.type_url) ∷ (string_fields 5 m.response_nonce) ∷ w.error_detail ∷ [])
+    tt
+    (optional_other len_in 1 NodeWritten 2 m.node w.node w.node_fields refl, (strings_other len_in 1 3 m.resource_names refl, (string_other len_in 1 4 m.type_url refl, (string_other len_in 1 5 m.response_nonce refl, (optional_other len_in 1 StatusWritten 6 m.error_detail w.error_detail w.error_fields refl, tt))))) in
+    let own_2 : payloads 2 fs ≡ payloads 2 (w.node) =
+    picks_own len_in 2 ((string_fields 1 m.version_info) ∷ []) (w.node) ((strings_fields 3 m.resource_names) ∷ (string_fields 4 m.type_url) ∷ (string_fields 5 m.response_nonce) ∷ w.error_detail ∷ [])
+    (string_other len_in 2 1 m.version_info refl, tt)
+    (strings_other len_in 2 3 m.resource_names refl, (string_other len_in 2 4 m.type_url refl, (string_other len_in 2 5 m.response_nonce refl, (optional_other len_in 2 StatusWritten 6 m.error_detail w.error_detail w.error_fields refl, tt)))) in
+    let own_3 : payloads 3 fs ≡ payloads 3 (strings_fields 3 m.resource_names) =
+    picks_own len_in 3 ((string_fields 1 m.version_info) ∷ w.node ∷ []) (strings_fields 3 m.resource_names) ((string_fields 4 m.type_url) ∷ (string_fields 5 m.response_nonce) ∷ w.error_detail ∷ [])
+    (string_other len_in 3 1 m.version_info refl, (optional_other len_in 3 NodeWritten 2 m.node w.node w.node_fields refl, tt))
+    (string_other len_in 3 4 m.type_url refl, (string_other len_in 3 5 m.response_nonce refl, (optional_other len_in 3 StatusWritten 6 m.error_detail w.error_detail w.error_fields refl, tt))) in
+    let own_4 : payloads 4 fs ≡ payloads 4 (string_fields 4 m.type_url) =
+    picks_own len_in 4 ((string_fields 1 m.version_info) ∷ w.node ∷ (strings_fields 3 m.resource_names) ∷ []) (string_fields 4 m.type_url) ((string_fields 5 m.response_nonce) ∷ w.error_detail ∷ [])
+    (string_other len_in 4 1 m.version_info refl, (optional_other len_in 4 NodeWritten 2 m.node w.node w.node_fields refl, (strings_other len_in 4 3 m.resource_names refl, tt)))
+    (string_other len_in 4 5 m.response_nonce refl, (optional_other len_in 4 StatusWritten 6 m.error_detail w.error_detail w.error_fields refl, tt)) in
+    let own_5 : payloads 5 fs ≡ payloads 5 (string_fields 5 m.response_nonce) =
+    picks_own len_in 5 ((string_fields 1 m.version_info) ∷ w.node ∷ (strings_fields 3 m.resource_names) ∷ (string_fields 4 m.type_url) ∷ []) (string_fields 5 m.response_nonce) (w.error_detail ∷ [])
+    (string_other len_in 5 1 m.version_info refl, (optional_other len_in 5 NodeWritten 2 m.node w.node w.node_fields refl, (strings_other len_in 5 3 m.resource_names refl, (string_other len_in 5 4 m.type_url refl, tt))))
+    (optional_other len_in 5 StatusWritten 6 m.error_detail w.error_detail w.error_fields refl, tt) in
+    let own_6 : payloads 6 fs ≡ payloads 6 (w.error_detail) =
+    picks_own len_in 6 ((string_fields 1 m.version_info) ∷ w.node ∷ (strings_fields 3 m.resource_names) ∷ (string_fields 4 m.type_url) ∷ (string_fields 5 m.response_nonce) ∷ []) (w.error_detail) ([])
+    (string_other len_in 6 1 m.version_info refl, (optional_other len_in 6 NodeWritten 2 m.node w.node w.node_fields refl, (strings_other len_in 6 3 m.resource_names refl, (string_other len_in 6 4 m.type_url refl, (string_other len_in 6 5 m.response_nonce refl, tt)))))
+    tt in (
+      fs,
+      merges_one fs bytes w.spells,
+      record {
+        version_info = string_back 1 refl fs m.version_info own_1 sound.version_info;
+        node = merged_back 2 refl IsNode NodeWritten IsSoundNode node_back fs w.node m.node own_2 w.node_fields sound.node;
+        resource_names = strings_back 3 refl fs m.resource_names own_3 sound.resource_names;
+        type_url = string_back 4 refl fs m.type_url own_4 sound.type_url;
+        response_nonce = string_back 5 refl fs m.response_nonce own_5 sound.response_nonce;
+        error_detail = merged_back 6 refl IsStatus StatusWritten IsSoundStatus status_back fs w.error_detail m.error_detail own_6 w.error_fields sound.error_detail;
+      },
+    )
+
+pub response_back : (m : ResponseMessage) (bytes : List ℕ) → IsSoundResponse m → ResponseWritten m bytes
+    → IsResponse bytes m
+response_back m bytes sound w =
+    let fs : List Wire = in_row ((string_fields 1 m.version_info) ∷ w.resources ∷ (string_fields 4 m.type_url) ∷ (string_fields 5 m.nonce) ∷ []) in
+    let own_1 : payloads 1 fs ≡ payloads 1 (string_fields 1 m.version_info) =
+    picks_own len_in 1 ([]) (string_fields 1 m.version_info) (w.resources ∷ (string_fields 4 m.type_url) ∷ (string_fields 5 m.nonce) ∷ [])
+    tt
+    (each_other len_in 1 AnyWritten 2 m.resources w.resources w.resource_fields refl, (string_other len_in 1 4 m.type_url refl, (string_other len_in 1 5 m.nonce refl, tt))) in
+    let own_2 : payloads 2 fs ≡ payloads 2 (w.resources) =
+    picks_own len_in 2 ((string_fields 1 m.version_info) ∷ []) (w.resources) ((string_fields 4 m.type_url) ∷ (string_fields 5 m.nonce) ∷ [])
+    (string_other len_in 2 1 m.version_info refl, tt)
+    (string_other len_in 2 4 m.type_url refl, (string_other len_in 2 5 m.nonce refl, tt)) in
+    let own_4 : payloads 4 fs ≡ payloads 4 (string_fields 4 m.type_url) =
+    picks_own len_in 4 ((string_fields 1 m.version_info) ∷ w.resources ∷ []) (string_fields 4 m.type_url) ((string_fields 5 m.nonce) ∷ [])
+    (string_other len_in 4 1 m.version_info refl, (each_other len_in 4 AnyWritten 2 m.resources w.resources w.resource_fields refl, tt))
+    (string_other len_in 4 5 m.nonce refl, tt) in
+    let own_5 : payloads 5 fs ≡ payloads 5 (string_fields 5 m.nonce) =
+    picks_own len_in 5 ((string_fields 1 m.version_info) ∷ w.resources ∷ (string_fields 4 m.type_url) ∷ []) (string_fields 5 m.nonce) ([])
+    (string_other len_in 5 1 m.version_info refl, (each_other len_in 5 AnyWritten 2 m.resources w.resources w.resource_fields refl, (string_other len_in 5 4 m.type_url refl, tt)))
+    tt in (
+      fs,
+      merges_one fs bytes w.spells,
+      record {
+        version_info = string_back 1 refl fs m.version_info own_1 sound.version_info;
+        resources = repeated_back 2 refl IsAny AnyWritten IsSoundAny any_back fs w.resources m.resources own_2 w.resource_fields sound.resources;
+        type_url = string_back 4 refl fs m.type_url own_4 sound.type_url;
+        nonce = string_back 5 refl fs m.nonce own_5 sound.nonce;
+      },
+    )
+
+pub extension_back : (m : ExtensionMessage) (bytes : List ℕ) → IsSoundExtension m → ExtensionWritten m bytes
+    → IsExtension bytes m
+extension_back m bytes sound w =
+    let fs : List Wire = in_row ((string_fields 1 m.name) ∷ w.typed_config ∷ []) in
+    let own_1 : payloads 1 fs ≡ payloads 1 (string_fields 1 m.name) =
+    picks_own len_in 1 ([]) (string_fields 1 m.name) (w.typed_config ∷ [])
+    tt
+    (optional_other len_in 1 AnyWritten 2 m.typed_config w.typed_config w.config_fields refl, tt) in
+    let own_2 : payloads 2 fs ≡ payloads 2 (w.typed_config) =
+    picks_own len_in 2 ((string_fields 1 m.name) ∷ []) (w.typed_config) ([])
+    (string_other len_in 2 1 m.name refl, tt)
+    tt in (
+      fs,
+      merges_one fs bytes w.spells,
+      record {
+        name = string_back 1 refl fs m.name own_1 sound.name;
+        typed_config = merged_back 2 refl IsAny AnyWritten IsSoundAny any_back fs w.typed_config m.typed_config own_2 w.config_fields sound.typed_config;
+      },
+    )
+
+-- ---- one way to write a message
+
+optional_one : {M : Type 0} (Written : M → List ℕ → Type 0)
+    → ((m : M) (a b : List ℕ) → Written m a → Written m b → a ≡ b) → (k : ℕ) (o : Option M)
+    (fs gs : List Wire) → AreOptional Written k o fs → AreOptional Written k o gs → fs ≡ gs
+optional_one Written one k None fs gs a b = a ∙ sym b
+optional_one Written one k (Some m) fs gs (x, is, whole) (y, is', whole') =
+    whole ∙ ap (λ bytes. field_of k (len bytes) ∷ []) (one m x y is is') ∙ sym whole'
+
+each_one : {M : Type 0} (Written : M → List ℕ → Type 0)
+    → ((m : M) (a b : List ℕ) → Written m a → Written m b → a ≡ b) → (k : ℕ) (ms : List M)
+    (fs gs : List Wire) → AreEach Written k ms fs → AreEach Written k ms gs → fs ≡ gs
+each_one Written one k [] fs gs a b = a ∙ sym b
+each_one Written one k (m ∷ ms) fs gs (x, xs, is, more, whole) (y, ys, is', more', whole') =
+    whole
+    ∙ ap₂ (λ (bytes : List ℕ) (rest : List Wire). field_of k (len bytes) ∷ rest)
+    (one m x y is is') (each_one Written one k ms xs ys more more')
+    ∙ sym whole'
+
+pub any_written_unique : (m : AnyMessage) (a b : List ℕ) → AnyWritten m a → AnyWritten m b → a ≡ b
+any_written_unique m = shortest_unique (in_row ((string_fields 1 m.type_url) ∷ (string_fields 2 m.value) ∷ []))
+
+pub status_written_unique : (m : StatusMessage) (a b : List ℕ) → StatusWritten m a → StatusWritten m b → a ≡ b
+status_written_unique m = shortest_unique (in_row ((int32_fields 1 m.code) ∷ (string_fields 2 m.message) ∷ []))
+
+pub node_written_unique : (m : NodeMessage) (a b : List ℕ) → NodeWritten m a → NodeWritten m b → a ≡ b
+node_written_unique m = shortest_unique (in_row ((string_fields 1 m.id) ∷ (string_fields 2 m.cluster) ∷ []))
+
+pub request_written_unique : (m : RequestMessage) (a b : List ℕ) → RequestWritten m a → RequestWritten m b → a ≡ b
+request_written_unique m a b w v =
+    let node' = optional_one NodeWritten node_written_unique 2 m.node v.node w.node v.node_fields w.node_fields in
+    let error_detail' = optional_one StatusWritten status_written_unique 6 m.error_detail v.error_detail w.error_detail v.error_fields w.error_fields in
+    let row : List Wire → List Wire → List Wire = λ x y. in_row ((string_fields 1 m.version_info) ∷ x ∷ (strings_fields 3 m.resource_names) ∷ (string_fields 4 m.type_url) ∷ (string_fields 5 m.response_nonce) ∷ y ∷ []) in
+    let same : row v.node v.error_detail ≡ row w.node w.error_detail = ap₂ row node' error_detail' in
+    let also : Shortest (row w.node w.error_detail) b = subst (λ fs. Shortest fs b) same v.spells in
+    shortest_unique (row w.node w.error_detail) a b w.spells also
+
+pub response_written_unique : (m : ResponseMessage) (a b : List ℕ) → ResponseWritten m a → ResponseWritten m b → a ≡ b
+response_written_unique m a b w v =
+    let resources' = each_one AnyWritten any_written_unique 2 m.resources v.resources w.resources v.resource_fields w.resource_fields in
+    let row : List Wire → List Wire = λ x. in_row ((string_fields 1 m.version_info) ∷ x ∷ (string_fields 4 m.type_url) ∷ (string_fields 5 m.nonce) ∷ []) in
+    let same : row v.resources ≡ row w.resources = ap row resources' in
+    let also : Shortest (row w.resources) b = subst (λ fs. Shortest fs b) same v.spells in
+    shortest_unique (row w.resources) a b w.spells also
+
+pub extension_written_unique : (m : ExtensionMessage) (a b : List ℕ) → ExtensionWritten m a → ExtensionWritten m b → a ≡ b
+extension_written_unique m a b w v =
+    let typed_config' = optional_one AnyWritten any_written_unique 2 m.typed_config v.typed_config w.typed_config v.config_fields w.config_fields in
+    let row : List Wire → List Wire = λ x. in_row ((string_fields 1 m.name) ∷ x ∷ []) in
+    let same : row v.typed_config ≡ row w.typed_config = ap row typed_config' in
+    let also : Shortest (row w.typed_config) b = subst (λ fs. Shortest fs b) same v.spells in
+    shortest_unique (row w.typed_config) a b w.spells also

@@ -1,0 +1,168 @@
+-- The messages of the update stream, each as the table of its fields: Envoy v3 API,
+-- `service/discovery/v3/discovery.proto` and `config/core/v3/{base,extension}.proto`, and
+-- `google/protobuf/any.proto`, `google/rpc/status.proto`.
+use Rattle.std.specs.Prelude.{◌≡◌, ℕ, ℤ, Option, List, [], ◌∷◌}
+use Rattle.proto_wire.specs.Fields.{Wire}
+use Rattle.proto_wire.specs.Values.{bytes_at, int32_at}
+use Rattle.proto_wire.specs.declared.refusal.Refusal.{Refusal}
+use Rattle.xds_wire.specs.Envelope.{IsEnvelope, EnvelopeFault, IsString, StringFault, AreStrings, StringsFault, IsMerged, MergedFault, AreRepeated, RepeatedFault}
+
+-- ---- google.protobuf.Any
+
+-- a message of any type: what its type is, and its bytes
+pub record AnyMessage : Type 0 where
+  pub type_url : List ℕ
+  pub value : List ℕ
+
+-- its fields
+pub record AreAnyFields (fs : List Wire) (m : AnyMessage) : Type 0 where
+  pub type_url : IsString 1 fs m.type_url
+  pub value : m.value ≡ bytes_at 2 fs
+
+-- a fault of its fields
+pub data AnyFieldsFault (fs : List Wire) (e : Refusal) : Type 0 where
+  bad_any_type : StringFault 1 fs e → AnyFieldsFault fs e
+
+abbrev pub IsAny : List (List ℕ) → AnyMessage → Type 0
+IsAny = IsEnvelope AreAnyFields
+
+abbrev pub AnyFault : List (List ℕ) → Refusal → Type 0
+AnyFault = EnvelopeFault AnyFieldsFault
+
+-- ---- google.rpc.Status
+
+-- an error: its code, and a text
+pub record StatusMessage : Type 0 where
+  pub code : ℤ
+  pub message : List ℕ
+
+-- its fields
+pub record AreStatusFields (fs : List Wire) (m : StatusMessage) : Type 0 where
+  pub code : m.code ≡ int32_at 1 fs
+  pub message : IsString 2 fs m.message
+
+-- a fault of its fields
+pub data StatusFieldsFault (fs : List Wire) (e : Refusal) : Type 0 where
+  bad_status_message : StringFault 2 fs e → StatusFieldsFault fs e
+
+abbrev pub IsStatus : List (List ℕ) → StatusMessage → Type 0
+IsStatus = IsEnvelope AreStatusFields
+
+abbrev pub StatusFault : List (List ℕ) → Refusal → Type 0
+StatusFault = EnvelopeFault StatusFieldsFault
+
+-- ---- envoy.config.core.v3.Node
+
+-- who asks
+pub record NodeMessage : Type 0 where
+  pub id : List ℕ
+  pub cluster : List ℕ
+
+-- its fields
+pub record AreNodeFields (fs : List Wire) (m : NodeMessage) : Type 0 where
+  pub id : IsString 1 fs m.id
+  pub cluster : IsString 2 fs m.cluster
+
+-- a fault of its fields
+pub data NodeFieldsFault (fs : List Wire) (e : Refusal) : Type 0 where
+  bad_node_id : StringFault 1 fs e → NodeFieldsFault fs e
+  bad_node_cluster : StringFault 2 fs e → NodeFieldsFault fs e
+
+abbrev pub IsNode : List (List ℕ) → NodeMessage → Type 0
+IsNode = IsEnvelope AreNodeFields
+
+abbrev pub NodeFault : List (List ℕ) → Refusal → Type 0
+NodeFault = EnvelopeFault NodeFieldsFault
+
+-- ---- envoy.service.discovery.v3.DiscoveryRequest
+
+-- what a client asks for, and its answer to the last response
+pub record RequestMessage : Type 0 where
+  pub version_info : List ℕ
+  pub node : Option NodeMessage
+  pub resource_names : List (List ℕ)
+  pub type_url : List ℕ
+  pub response_nonce : List ℕ
+  pub error_detail : Option StatusMessage
+
+-- its fields
+pub record AreRequestFields (fs : List Wire) (m : RequestMessage) : Type 0 where
+  pub version_info : IsString 1 fs m.version_info
+  pub node : IsMerged IsNode 2 fs m.node
+  pub resource_names : AreStrings 3 fs m.resource_names
+  pub type_url : IsString 4 fs m.type_url
+  pub response_nonce : IsString 5 fs m.response_nonce
+  pub error_detail : IsMerged IsStatus 6 fs m.error_detail
+
+-- a fault of its fields
+pub data RequestFieldsFault (fs : List Wire) (e : Refusal) : Type 0 where
+  bad_request_version : StringFault 1 fs e → RequestFieldsFault fs e
+  bad_request_node : MergedFault NodeFault 2 fs e → RequestFieldsFault fs e
+  bad_request_names : StringsFault 3 fs e → RequestFieldsFault fs e
+  bad_request_type : StringFault 4 fs e → RequestFieldsFault fs e
+  bad_request_nonce : StringFault 5 fs e → RequestFieldsFault fs e
+  bad_request_error : MergedFault StatusFault 6 fs e → RequestFieldsFault fs e
+
+-- the bytes are this request
+abbrev pub IsRequest : List ℕ → RequestMessage → Type 0
+IsRequest bytes m = IsEnvelope AreRequestFields (bytes ∷ []) m
+
+-- the bytes are no request, for this fault
+abbrev pub RequestFault : List ℕ → Refusal → Type 0
+RequestFault bytes e = EnvelopeFault RequestFieldsFault (bytes ∷ []) e
+
+-- ---- envoy.service.discovery.v3.DiscoveryResponse
+
+-- resources of one type, their version, and a nonce by which they are answered
+pub record ResponseMessage : Type 0 where
+  pub version_info : List ℕ
+  pub resources : List AnyMessage
+  pub type_url : List ℕ
+  pub nonce : List ℕ
+
+-- its fields
+pub record AreResponseFields (fs : List Wire) (m : ResponseMessage) : Type 0 where
+  pub version_info : IsString 1 fs m.version_info
+  pub resources : AreRepeated IsAny 2 fs m.resources
+  pub type_url : IsString 4 fs m.type_url
+  pub nonce : IsString 5 fs m.nonce
+
+-- a fault of its fields
+pub data ResponseFieldsFault (fs : List Wire) (e : Refusal) : Type 0 where
+  bad_response_version : StringFault 1 fs e → ResponseFieldsFault fs e
+  bad_response_resource : RepeatedFault AnyFault 2 fs e → ResponseFieldsFault fs e
+  bad_response_type : StringFault 4 fs e → ResponseFieldsFault fs e
+  bad_response_nonce : StringFault 5 fs e → ResponseFieldsFault fs e
+
+-- the bytes are this response
+abbrev pub IsResponse : List ℕ → ResponseMessage → Type 0
+IsResponse bytes m = IsEnvelope AreResponseFields (bytes ∷ []) m
+
+-- the bytes are no response, for this fault
+abbrev pub ResponseFault : List ℕ → Refusal → Type 0
+ResponseFault bytes e = EnvelopeFault ResponseFieldsFault (bytes ∷ []) e
+
+-- ---- envoy.config.core.v3.TypedExtensionConfig
+
+-- a named resource, and its configuration
+pub record ExtensionMessage : Type 0 where
+  pub name : List ℕ
+  pub typed_config : Option AnyMessage
+
+-- its fields
+pub record AreExtensionFields (fs : List Wire) (m : ExtensionMessage) : Type 0 where
+  pub name : IsString 1 fs m.name
+  pub typed_config : IsMerged IsAny 2 fs m.typed_config
+
+-- a fault of its fields
+pub data ExtensionFieldsFault (fs : List Wire) (e : Refusal) : Type 0 where
+  bad_extension_name : StringFault 1 fs e → ExtensionFieldsFault fs e
+  bad_extension_config : MergedFault AnyFault 2 fs e → ExtensionFieldsFault fs e
+
+-- the bytes are this extension
+abbrev pub IsExtension : List ℕ → ExtensionMessage → Type 0
+IsExtension bytes m = IsEnvelope AreExtensionFields (bytes ∷ []) m
+
+-- the bytes are no extension, for this fault
+abbrev pub ExtensionFault : List ℕ → Refusal → Type 0
+ExtensionFault bytes e = EnvelopeFault ExtensionFieldsFault (bytes ∷ []) e

@@ -1,0 +1,7 @@
+pub mod Frames
+pub mod Stream
+pub mod Envelope
+pub mod Discovery
+pub mod View
+pub mod Written
+pub mod steps

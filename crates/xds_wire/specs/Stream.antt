@@ -1,0 +1,69 @@
+-- What a reader of frames keeps of a stream, and what each call on it does.
+use Rattle.std.specs.Prelude.{◌≡◌, ℕ, Option, Some, None, List, [], ◌∷◌, ◌++◌}
+use Rattle.xds_wire.specs.Frames.{Tail, unfinished, broken, Cut, error_of}
+use Rattle.xds_wire.specs.declared.fault.FrameError.{FrameError}
+
+-- the limit of a message, the messages that were not handed out yet, and what stands behind them
+pub record Kept : Type 0 where
+  pub max : ℕ
+  pub messages : List (List ℕ)
+  pub tail : Tail
+
+-- what a new reader keeps
+abbrev pub start : ℕ → Kept
+start max = record { max = max; messages = []; tail = unfinished [] }
+
+-- what further bytes behind a tail make: the rest and the bytes are cut, and what is broken stays so
+abbrev pub Resumes : ℕ → Tail → List ℕ → List (List ℕ) → Tail → Type 0
+Resumes max (unfinished rest) bytes messages tail = Cut (rest ++ bytes) max messages tail
+Resumes max (broken fault) bytes messages tail = (messages ≡ []) × (tail ≡ broken fault)
+
+-- bytes are fed: their messages come behind those that are kept
+abbrev pub Feeds : Kept → List ℕ → Kept → Type 0
+Feeds old bytes new =
+    (messages : List (List ℕ)) × Resumes old.max old.tail bytes messages new.tail
+    × (new ≡ record { max = old.max; messages = old.messages ++ messages; tail = new.tail })
+
+-- the next message is asked for: it is the first of those that are kept
+abbrev pub Takes : Kept → Option (List ℕ) → Kept → Type 0
+Takes old (Some message) new =
+    old ≡ record { max = new.max; messages = message ∷ new.messages; tail = new.tail }
+Takes old None new = (old.messages ≡ []) × (new ≡ old)
+
+-- the bytes are not broken
+abbrev pub IsUnfinished : Tail → Type 0
+IsUnfinished (unfinished rest) = Unit {0}
+IsUnfinished (broken fault) = ⊥
+
+-- the bytes are broken, and this is the error of it
+abbrev pub IsBrokenBy : Tail → FrameError → Type 0
+IsBrokenBy (unfinished rest) e = ⊥
+IsBrokenBy (broken fault) e = e ≡ error_of fault
+
+-- a call on a reader: bytes that were fed and taken, or what the next message was
+pub data Call : Type 0 where
+  fed : List ℕ → Call
+  taken : Option (List ℕ) → Call
+
+-- what the call does
+abbrev pub Steps : Kept → Call → Kept → Type 0
+Steps old (fed bytes) new = Feeds old bytes new
+Steps old (taken answer) new = Takes old answer new
+
+-- calls one after the other
+abbrev pub Runs : Kept → List Call → Kept → Type 0
+Runs old [] new = new ≡ old
+Runs old (call ∷ calls) new = (next : Kept) × Steps old call next × Runs next calls new
+
+-- all bytes that the calls fed
+abbrev pub bytes_fed : List Call → List ℕ
+bytes_fed [] = []
+bytes_fed (fed bytes ∷ calls) = bytes ++ bytes_fed calls
+bytes_fed (taken answer ∷ calls) = bytes_fed calls
+
+-- all messages that the calls handed out
+abbrev pub messages_taken : List Call → List (List ℕ)
+messages_taken [] = []
+messages_taken (fed bytes ∷ calls) = messages_taken calls
+messages_taken (taken (Some message) ∷ calls) = message ∷ messages_taken calls
+messages_taken (taken None ∷ calls) = messages_taken calls

@@ -1,0 +1,98 @@
+-- What writers write of the discovery messages: Protocol Buffers encoding guide. Fields stand in ascending
+-- order of number, each number in its shortest spelling, and defaults are left out.
+use Rattle.std.specs.Prelude.{◌≡◌, ℕ, ℤ, ◌==◌, Option, Some, None, List, [], ◌∷◌, ◌++◌, map, if◌then◌else◌, IsUtf8, IfSome, FitsSigned}
+use Rattle.std.specs.Int.{w32, w64, cast_unsigned}
+use Rattle.std.specs.List.{AllByRecursion, flat_map}
+use Rattle.proto_wire.specs.Fields.{Wire, varint, len}
+use Rattle.proto_wire.specs.Shortest.{Shortest, field_of}
+use Rattle.xds_wire.specs.Discovery.{AnyMessage, StatusMessage, NodeMessage, RequestMessage, ResponseMessage, ExtensionMessage}
+
+-- the field of a string or of bytes; the empty one is the default
+abbrev pub string_fields : ℕ → List ℕ → List Wire
+string_fields k [] = []
+string_fields k (b ∷ bytes) = field_of k (len (b ∷ bytes)) ∷ []
+
+-- the fields of repeated strings, also of empty ones
+abbrev pub strings_fields : ℕ → List (List ℕ) → List Wire
+strings_fields k texts = map (λ text. field_of k (len text)) texts
+
+-- the field of an int32, in 64 bits of two's complement; 0 is the default
+abbrev pub int32_fields : ℕ → ℤ → List Wire
+int32_fields k n =
+    if cast_unsigned w64 n == 0 then [] else field_of k (varint (cast_unsigned w64 n)) ∷ []
+
+-- the field of a message, where there is one, also of one without bytes
+abbrev pub AreOptional : {M : Type 0} → (M → List ℕ → Type 0) → ℕ → Option M → List Wire → Type 0
+AreOptional Written k None fs = fs ≡ []
+AreOptional Written k (Some m) fs =
+    (bytes : List ℕ) × Written m bytes × (fs ≡ field_of k (len bytes) ∷ [])
+
+-- the fields of repeated messages
+abbrev pub AreEach : {M : Type 0} → (M → List ℕ → Type 0) → ℕ → List M → List Wire → Type 0
+AreEach Written k [] fs = fs ≡ []
+AreEach Written k (m ∷ ms) fs =
+    (bytes : List ℕ) × (rest : List Wire) × Written m bytes × AreEach Written k ms rest
+    × (fs ≡ field_of k (len bytes) ∷ rest)
+
+-- the bytes are the fields of these groups, one after the other
+abbrev pub SpellsGroups : List (List Wire) → List ℕ → Type 0
+SpellsGroups groups bytes = Shortest (flat_map (λ fs. fs) groups) bytes
+
+abbrev pub AnyWritten : AnyMessage → List ℕ → Type 0
+AnyWritten m bytes = SpellsGroups (string_fields 1 m.type_url ∷ string_fields 2 m.value ∷ []) bytes
+
+abbrev pub StatusWritten : StatusMessage → List ℕ → Type 0
+StatusWritten m bytes = SpellsGroups (int32_fields 1 m.code ∷ string_fields 2 m.message ∷ []) bytes
+
+abbrev pub NodeWritten : NodeMessage → List ℕ → Type 0
+NodeWritten m bytes = SpellsGroups (string_fields 1 m.id ∷ string_fields 2 m.cluster ∷ []) bytes
+
+pub record RequestWritten (m : RequestMessage) (bytes : List ℕ) : Type 0 where
+  pub node : List Wire
+  pub error_detail : List Wire
+  pub node_fields : AreOptional NodeWritten 2 m.node node
+  pub error_fields : AreOptional StatusWritten 6 m.error_detail error_detail
+  pub spells : SpellsGroups
+      (string_fields 1 m.version_info ∷ node ∷ strings_fields 3 m.resource_names
+      ∷ string_fields 4 m.type_url ∷ string_fields 5 m.response_nonce ∷ error_detail ∷ []) bytes
+
+pub record ResponseWritten (m : ResponseMessage) (bytes : List ℕ) : Type 0 where
+  pub resources : List Wire
+  pub resource_fields : AreEach AnyWritten 2 m.resources resources
+  pub spells : SpellsGroups
+      (string_fields 1 m.version_info ∷ resources ∷ string_fields 4 m.type_url
+      ∷ string_fields 5 m.nonce ∷ []) bytes
+
+pub record ExtensionWritten (m : ExtensionMessage) (bytes : List ℕ) : Type 0 where
+  pub typed_config : List Wire
+  pub config_fields : AreOptional AnyWritten 2 m.typed_config typed_config
+  pub spells : SpellsGroups (string_fields 1 m.name ∷ typed_config ∷ []) bytes
+
+-- ---- which messages may be written so that the same is read: strings are UTF-8, and a code is an int32
+
+abbrev pub IsSoundAny : AnyMessage → Type 0
+IsSoundAny m = IsUtf8 m.type_url
+
+abbrev pub IsSoundStatus : StatusMessage → Type 0
+IsSoundStatus m = FitsSigned w32 m.code × IsUtf8 m.message
+
+abbrev pub IsSoundNode : NodeMessage → Type 0
+IsSoundNode m = IsUtf8 m.id × IsUtf8 m.cluster
+
+pub record IsSoundRequest (m : RequestMessage) : Type 0 where
+  pub version_info : IsUtf8 m.version_info
+  pub node : IfSome m.node IsSoundNode
+  pub resource_names : AllByRecursion IsUtf8 m.resource_names
+  pub type_url : IsUtf8 m.type_url
+  pub response_nonce : IsUtf8 m.response_nonce
+  pub error_detail : IfSome m.error_detail IsSoundStatus
+
+pub record IsSoundResponse (m : ResponseMessage) : Type 0 where
+  pub version_info : IsUtf8 m.version_info
+  pub resources : AllByRecursion IsSoundAny m.resources
+  pub type_url : IsUtf8 m.type_url
+  pub nonce : IsUtf8 m.nonce
+
+pub record IsSoundExtension (m : ExtensionMessage) : Type 0 where
+  pub name : IsUtf8 m.name
+  pub typed_config : IfSome m.typed_config IsSoundAny

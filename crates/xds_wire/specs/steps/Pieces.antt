@@ -1,0 +1,34 @@
+-- What the code keeps of a frame that has not come whole, and how one frame is cut off.
+use Rattle.std.specs.Prelude.{◌≡◌, ℕ, ◌<◌, List, ◌++◌, length, take, vec_len}
+use Rattle.xds_wire.specs.Frames.{head_of, frame_of, IsLength, IsBeginning, Breaks, Tail, unfinished, broken}
+use Rattle.xds_wire.specs.declared.head.Head.{Head}
+use Rattle.xds_wire.specs.declared.cut.Piece.{Piece}
+use Rattle.xds_wire.specs.declared.cut.Piece.TheVariants as pieces
+use Rattle.xds_wire.specs.declared.state.State.{State}
+use Rattle.xds_wire.specs.declared.state.State.TheVariants as states
+
+-- the bytes of a head that have come
+abbrev pub head_view : Head → List ℕ
+head_view head = take head.count head.bytes
+
+-- what the state stands for
+abbrev pub tail_view : State → Tail
+tail_view (states.Head head) = unfinished (head_view head)
+tail_view (states.Data kept) = unfinished (head_of kept.length ++ kept.bytes.items)
+tail_view (states.Broken fault) = broken fault
+
+-- what holds of each state: a head is not whole, and a message is neither whole nor too long
+abbrev pub IsState : ℕ → State → Type 0
+IsState max (states.Head head) = head.count < 5
+IsState max (states.Data kept) = (vec_len kept.bytes < kept.length) × IsLength max kept.length
+IsState max (states.Broken fault) = Unit {0}
+
+-- the bytes begin with this piece
+abbrev pub IsPiece : ℕ → List ℕ → Piece → Type 0
+IsPiece max bytes (pieces.Head head) =
+    (head.count < 5) × (head_view head ≡ bytes) × IsBeginning max bytes
+IsPiece max bytes (pieces.Part n part) =
+    IsLength max n × (bytes ≡ head_of n ++ part.now) × (length part.now < n)
+IsPiece max bytes (pieces.Whole message behind) =
+    IsLength max (length message.now) × (bytes ≡ frame_of message.now ++ behind.now)
+IsPiece max bytes (pieces.Broken fault) = Breaks max bytes fault

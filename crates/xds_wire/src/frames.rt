@@ -1,0 +1,116 @@
+//! A stream of frames.
+
+ghost use Rattle.std.specs.Prelude.{◌≡◌, ◌⊎◌, ◌++◌, ◌+◌, ◌<◌, ◌≤◌, ◌^◌, ℕ, List, length, vec_len, IfOk, IfErr, OnOk, OnErr};
+ghost use Rattle.xds_wire.specs.Frames.{frame_of};
+ghost use Rattle.xds_wire.specs.Stream.{start, Feeds, Takes, IsUnfinished, IsBrokenBy, Resumes};
+ghost use Rattle.xds_wire.specs.steps.Pieces.{head_view, tail_view, IsState};
+
+use crate::fault::FrameError;
+use crate::head::{HEAD, Head};
+use crate::message::Message;
+use crate::state::{State, copy_state, resume};
+use std::alloc::{AllocError, Global};
+use std::collections::VecDeque;
+use std::marker::Model;
+
+/// Cuts a stream of frames into messages (gRPC over HTTP2, "Length-Prefixed-Message"), however its bytes come. What it
+/// keeps grows with the bytes that came, and not with the length that a head names.
+#[derive(Debug, Drop)]
+pub struct Frames {
+    max: usize,
+    messages: VecDeque<Message>,
+    state: State,
+}
+
+impl Model for Frames {
+    ghost use Rattle.xds_wire.specs.Stream.{Kept};
+
+    ghost Value = { Kept };
+
+    ghost use Rattle.xds_wire.specs.steps.Pieces.{tail_view, IsState};
+
+    ghost view = { λ f. record {
+      max = f.max;
+      messages = f.messages.items;
+      tail = tail_view f.state;
+    } };
+
+    ghost invariant = { λ f. IsState f.max f.state };
+}
+
+impl Frames {
+    /// A stream of which nothing has come, with messages of at most `max` bytes. It takes no memory.
+    pub fn new(alloc: Global, max: usize) -> Frames
+        ensures { result ≡ start max }
+    {
+        Frames {
+            max,
+            messages: VecDeque::new(alloc),
+            state: State::Head(Head::empty()),
+        }
+    }
+
+    /// Takes further bytes of the stream: their messages come behind those that are there. `Compressed` is known at a
+    /// frame's first byte and `TooLong` at its fifth; the messages before it stay, and every later call answers it
+    /// again. After `Memory` all is as before the call.
+    pub fn feed(&mut self, bytes: &[u8]) -> Result<(), FrameError>
+        ensures found { OnOk result
+            (Feeds self.old bytes.now self.new × IsUnfinished self.new.tail) }
+        ensures fault { IfErr result (λ e. ((e ≡ FrameError.Memory) × (self.new ≡ self.old))
+            ⊎ (Feeds self.old bytes.now self.new × IsBrokenBy self.new.tail e)) }
+    {
+        let before = self.messages.len();
+        if resume(&mut self.messages, &mut self.state, bytes, self.max).is_err() {
+            self.messages.truncate(before);
+            return Err(FrameError::Memory);
+        }
+        match &self.state {
+            State::Broken(fault) => Err(FrameError::from(*fault)),
+            _ => Ok(()),
+        }
+    }
+
+    /// The next message, in order, where one has come whole. It takes no memory.
+    pub fn next(&mut self) -> Option<Message>
+        ensures { Takes self.old result self.new }
+    {
+        self.messages.pop_front()
+    }
+
+    /// A second stream that keeps the same.
+    pub fn copy(&self) -> Result<Frames, AllocError>
+        ensures { IfOk result (λ copy. copy ≡ self.now) }
+    {
+        let messages = copy_messages(&self.messages)?;
+        let state = copy_state(&self.state)?;
+        Ok(Frames {
+            max: self.max,
+            messages,
+            state,
+        })
+    }
+}
+
+/// Appends a frame of the message, which has fewer than 2^32 bytes.
+pub fn write_frame(message: &[u8], out: &mut Vec<u8>) -> Result<(), AllocError>
+    requires { length message.now < 2 ^ 32 }
+    ensures found { OnOk result (out.new.items ≡ out.old.items ++ frame_of message.now) }
+    ensures fault { OnErr result (out.new.items ≡ out.old.items) }
+{
+    let [a, b, c, d] = (message.len() as u32).to_be_bytes();
+    out.reserve(HEAD + message.len())?;
+    out.extend_from_slice(&[0, a, b, c, d])?;
+    out.extend_from_slice(message)?;
+    Ok(())
+}
+
+// The same messages once more.
+fn copy_messages(messages: &VecDeque<Message>) -> Result<VecDeque<Message>, AllocError>
+    ensures { IfOk result (λ copies. copies.items ≡ messages.now.items) }
+{
+    let mut copies = VecDeque::new(*messages.allocator());
+    for message in messages.iter() {
+        copies.push_back(message.copy()?)?;
+    }
+    Ok(copies)
+}

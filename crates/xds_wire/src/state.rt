@@ -1,0 +1,147 @@
+//! What is kept of the bytes behind whole frames, and how it goes on when further bytes come.
+
+ghost use Rattle.std.specs.Prelude.{◌≡◌, ◌++◌, ◌+◌, ◌<◌, ◌≤◌, ℕ, List, length, vec_len, IfOk, OnOk, OnErr};
+ghost use Rattle.xds_wire.specs.Frames.{head_of, IsLength, Cut};
+ghost use Rattle.xds_wire.specs.Stream.{Resumes};
+ghost use Rattle.xds_wire.specs.steps.Pieces.{head_view, tail_view, IsState};
+
+use crate::cut::{Piece, cut_frame};
+use crate::fault::FrameFault;
+use crate::head::{HEAD, Head};
+use crate::message::Message;
+use std::alloc::AllocError;
+use std::collections::VecDeque;
+use std::mem;
+
+/// What is kept of the bytes behind whole frames.
+#[derive(Debug, Drop)]
+pub(crate) enum State {
+    /// Less than a head.
+    Head(Head),
+    /// A head, and less than its message.
+    Data(Data),
+    /// No frame begins them.
+    Broken(FrameFault),
+}
+
+/// A head, as the length that it names, and the first bytes of its message.
+#[derive(Debug, Drop)]
+pub(crate) struct Data {
+    /// The message's length, at least 1.
+    pub(crate) length: usize,
+    /// The message's first bytes, fewer than its length.
+    pub(crate) bytes: Vec<u8>,
+}
+
+/// A state that stands for the same.
+pub(crate) fn copy_state(state: &State) -> Result<State, AllocError>
+    ensures same { IfOk result (λ copy. tail_view copy ≡ tail_view state.now) }
+    ensures sound { (max : ℕ) → IsState max state.now → IfOk result (λ copy. IsState max copy) }
+{
+    match state {
+        State::Head(head) => Ok(State::Head(*head)),
+        State::Data(kept) => Ok(State::Data(Data {
+            length: kept.length,
+            bytes: kept.bytes.clone()?,
+        })),
+        State::Broken(fault) => Ok(State::Broken(*fault)),
+    }
+}
+
+/// Puts the messages of the bytes behind what is kept into the queue, and what stands behind them into the state. Where
+/// memory runs out, the state stays and the queue's own messages are its first.
+pub(crate) fn resume(
+    messages: &mut VecDeque<Message>,
+    state: &mut State,
+    bytes: &[u8],
+    max: usize,
+) -> Result<(), AllocError>
+    requires { IsState max state.old }
+    ensures found { OnOk result ((more : List (List ℕ))
+        × Resumes max (tail_view state.old) bytes.now more (tail_view state.new)
+        × (messages.new.items ≡ messages.old.items ++ more) × IsState max state.new) }
+    ensures fault { OnErr result ((more : List (List ℕ))
+        × (messages.new.items ≡ messages.old.items ++ more)
+        × (tail_view state.new ≡ tail_view state.old) × IsState max state.new) }
+{
+    match state {
+        State::Broken(_) => {}
+        State::Head(head) => {
+            let next = cut_frames(messages, *head, bytes, max)?;
+            *state = next;
+        }
+        State::Data(kept) if bytes.len() < kept.length - kept.bytes.len() => {
+            kept.bytes.extend_from_slice(bytes)?;
+        }
+        State::Data(kept) => {
+            let next = finish(messages, kept, bytes, max)?;
+            *state = next;
+        }
+    }
+    Ok(())
+}
+
+// Ends the message that is kept with the first of the bytes, and cuts the others as frames. Where memory runs out, the
+// message stays as it is kept.
+fn finish(
+    messages: &mut VecDeque<Message>,
+    kept: &mut Data,
+    bytes: &[u8],
+    max: usize,
+) -> Result<State, AllocError>
+    requires kept { vec_len kept.old.bytes < kept.old.length }
+    requires allowed { IsLength max kept.old.length }
+    requires enough { kept.old.length ≤ vec_len kept.old.bytes + length bytes.now }
+    ensures found { IfOk result (λ state. (more : List (List ℕ))
+        × Cut (head_of kept.old.length ++ kept.old.bytes.items ++ bytes.now) max more
+        (tail_view state)
+        × (messages.new.items ≡ messages.old.items ++ more) × IsState max state) }
+    ensures fault { OnErr result ((more : List (List ℕ))
+        × (messages.new.items ≡ messages.old.items ++ more)
+        × (kept.new.length ≡ kept.old.length) × (kept.new.bytes.items ≡ kept.old.bytes.items)) }
+{
+    let alloc = *messages.allocator();
+    let (own, behind) = bytes.split_at(kept.length - kept.bytes.len());
+    let place = messages.len();
+    messages.push_back(Message::new(Vec::new(alloc)))?;
+    let state = cut_frames(messages, Head::empty(), behind, max)?;
+    kept.bytes.extend_from_slice(own)?;
+    let whole = mem::replace(&mut kept.bytes, Vec::new(alloc));
+    messages[place] = Message::new(whole);
+    Ok(state)
+}
+
+// Puts the messages of the frames into the queue, and gives what stands behind them. The first frame begins with the
+// head's bytes.
+fn cut_frames(
+    messages: &mut VecDeque<Message>,
+    head: Head,
+    bytes: &[u8],
+    max: usize,
+) -> Result<State, AllocError>
+    requires { head.count < HEAD }
+    ensures found { IfOk result (λ state. (more : List (List ℕ))
+        × Cut (head_view head ++ bytes.now) max more (tail_view state)
+        × (messages.new.items ≡ messages.old.items ++ more) × IsState max state) }
+    ensures fault { OnErr result ((more : List (List ℕ))
+        × (messages.new.items ≡ messages.old.items ++ more)) }
+{
+    let alloc = *messages.allocator();
+    let mut head = head;
+    let mut rest = bytes;
+    loop {
+        match cut_frame(head, rest, max) {
+            Piece::Head(head) => return Ok(State::Head(head)),
+            Piece::Broken(fault) => return Ok(State::Broken(fault)),
+            Piece::Part(length, part) => {
+                let bytes = Vec::from_slice(alloc, part)?;
+                return Ok(State::Data(Data { length, bytes }));
+            }
+            Piece::Whole(message, behind) => {
+                messages.push_back(Message::new(Vec::from_slice(alloc, message)?))?;
+                head = Head::empty();
+                rest = behind;
+            }
+        }
+    }
+}

@@ -1,0 +1,4 @@
+//! What no contract says: that calls succeed, and that stored bytes are what the definitions say.
+mod frames;
+mod messages;
+mod vectors;
