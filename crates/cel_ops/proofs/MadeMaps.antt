@@ -69,7 +69,7 @@ are_new-put k v made (entry j w es) h =
 pub insert_all-puts : (made es : CelEntries)
     → insert_all made es
     ≡ cond (are_distinct es && are_new made es) (value (map_of (all_put made es)))
-        (fails RepeatedKey)
+    (fails RepeatedKey)
 insert_all-puts made no_entries = refl
 insert_all-puts made (entry k v es) = at (get made k) refl (insert_all-puts (put k v made) es)
   where
@@ -87,10 +87,10 @@ insert_all-puts made (entry k v es) = at (get made k) refl (insert_all-puts (put
     at : (o : Option CelValue) → get made k ≡ o
         → insert_all (put k v made) es
         ≡ cond (are_distinct es && are_new (put k v made) es) (value (map_of (all_put
-            (put k v made) es))) (fails RepeatedKey)
+        (put k v made) es))) (fails RepeatedKey)
         → cond (is_some (get made k)) (fails RepeatedKey) (insert_all (put k v made) es)
         ≡ cond ((not (is_some (get es k)) && are_distinct es) && (not (is_some
-            (get made k)) && are_new made es))
+        (get made k)) && are_new made es))
         (value (map_of (all_put (put k v made) es))) (fails RepeatedKey)
     at None e more =
         rw (e, more, are_new-put k v made es e)
@@ -104,7 +104,7 @@ all_new (entry k v es) = all_new es
 pub made-map : (es : CelEntries) → insert_all no_entries es ≡ map_made_of es
 made-map es = insert_all-puts no_entries es
     ∙ rw (all_new es) (same (are_distinct es) (value (map_of (all_put no_entries es)))
-        (fails RepeatedKey))
+    (fails RepeatedKey))
   where
     same : (a : Bool) (x y : CelAnswer) → cond (a && true) x y ≡ cond a x y
     same true x y = refl
@@ -125,7 +125,7 @@ pair-put made k v vs key is new = rw (← is) (at (written_entries vs))
   where
     at : (o : Option CelEntries)
         → option_map (insert_all made) (entry_before (Some key) v o)
-            ≡ option_map (insert_all (put key v made)) o
+        ≡ option_map (insert_all (put key v made)) o
     at None = refl
     at (Some es) = rw new refl
 

@@ -63,7 +63,7 @@ pub list-values : (answers : List CelAnswer) → some_error answers ≡ false
     → list_literal_charge answers ≡ 1 + length answers
 list-values answers h =
     ap (strict_charge_all item_count) (gather-values answers h)
-        ∙ ap (λ n. 1 + n) (count-values answers h)
+    ∙ ap (λ n. 1 + n) (count-values answers h)
 
 pub map-error : (answers : List CelAnswer) → some_error answers ≡ true
     → map_literal_charge answers ≡ 1
@@ -81,11 +81,11 @@ pub next-first : (os : List (Result Value CelError)) (i : ℕ) (d : Result Value
     → i + 1 < length os
     → firsts_mass (map answer_view (drop i os))
     ≡ answer_mass (answer_view (get_or os i d)) + firsts_mass (map answer_view (drop
-        (i + 1 + 1) os))
+    (i + 1 + 1) os))
 next-first os i d below =
     ap (λ xs. firsts_mass (map answer_view xs))
     (drop_more os i d (omega arith) ∙ ap (λ xs. get_or os i d ∷ xs) (drop_more os (i + 1) d
-        (omega arith)))
+    (omega arith)))
 
 -- where one operand at most is left, no first of two is
 pub no-first : (os : List (Result Value CelError)) (i : ℕ) → length os ≤ i + 1
@@ -102,5 +102,5 @@ pub next-first-times : (os : List (Result Value CelError)) (i : ℕ) (d : Result
     → i + 1 < length os
     → firsts_mass (map answer_view (drop i os)) * t
     ≡ answer_mass (answer_view (get_or os i d)) * t + firsts_mass (map answer_view (drop
-        (i + 1 + 1) os)) * t
+    (i + 1 + 1) os)) * t
 next-first-times os i d t below = ap (λ n. n * t) (next-first os i d below) ∙ add-mul _ _ t

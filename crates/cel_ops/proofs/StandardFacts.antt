@@ -141,7 +141,7 @@ three_one = value (int (pos 3)) ∷ value (bool true) ∷ value (int (pos 1)) �
 
 in_ascending_order : map_literal three_one
     ≡ Some (value (map_of (entry (int_key (pos 1)) (bool false) (entry (int_key (pos 3))
-        (bool true) no_entries))))
+    (bool true) no_entries))))
 in_ascending_order = refl
 
 repeated : map_literal (value (int (pos 1)) ∷ value (bool true) ∷ value (int (pos 1)) ∷ value

@@ -90,8 +90,11 @@ finishes : (bs ps : List ℕ) → Decides (ends_with nat_eq bs ps) (IsBack ps bs
 finishes bs ps =
     let from = length bs - length ps in
     let d = bytes_eq-Decides ps (drop from bs) in (
-      λ t. (take from bs, sym (take-append-drop from bs)
-          ∙ ap (λ xs. take from bs ++ xs) (sym (d.0 t))),
+      λ t. (
+        take from bs,
+        sym (take-append-drop from bs)
+            ∙ ap (λ xs. take from bs ++ xs) (sym (d.0 t)),
+      ),
       λ h. let n : length bs - length ps ≡ length h.0 =
           omega (arith, ap length h.1, length-append h.0 ps) in
           d.1 (sym (ap₂ drop n h.1 ∙ drop-append_seam h.0 ps)),

@@ -200,7 +200,7 @@ puts-get made (entry k v es) q d n =
   where
     at : (b : Bool) → key_eq k q ≡ b → get es k ≡ None
         → or_else (get es q) (cond b (Some v) (get made q))
-            ≡ or_else (cond b (Some v) (get es q)) (get made q)
+        ≡ or_else (cond b (Some v) (get es q)) (get made q)
     at true same nowhere =
         let here : get es q ≡ None = ap (get es) (sym ((key_eq-Decides k q).0 same)) ∙ nowhere in
         rw here refl
@@ -279,7 +279,7 @@ made-typed k t es each = at (are_distinct es) (literal-ascending es)
   where
     at : (b : Bool) → (b ≡ true → IsAscending (all_put no_entries es))
         → AnswerHasType (cond b (value (map_of (all_put no_entries es))) (fails RepeatedKey))
-            (map_type k t)
+        (map_type k t)
     at true up = (puts-each (λ j. KeyHasType j k) (Holds t) no_entries es tt each, up refl)
     at false up = tt
 

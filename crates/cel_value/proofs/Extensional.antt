@@ -52,11 +52,11 @@ same-map (entry j v es) (entry k w fs) a b h = elim (standing j k) [
   | higher l ↦ absurd (apart-somes w (sym (own k w fs) ∙ sym (h k) ∙ not-there k j v es l a.0))
   | same e ↦
       let values : Some v ≡ Some w = sym (own j v es) ∙ h j ∙ ap (get (entry k w fs)) e
-          ∙ own k w fs in
+      ∙ own k w fs in
       let value : v ≡ w = cc in
       let above : AllAbove j fs = rw e b.0 in
       let tails : es ≡ fs = same-map es fs a.1 b.1 (λ q. tail j v w es fs q a.0 above (h q
-          ∙ ap (λ i. get (entry i w fs) q) (sym e))) in
+      ∙ ap (λ i. get (entry i w fs) q) (sym e))) in
       ap₂ (λ i u. entry i u es) e value ∙ ap (entry k w) tails
 ]
   where

@@ -62,19 +62,19 @@ module _ (q : CelKey) {F : Type 0} {g : Mut F (Bor (Key × Value) × Unit {0}) O
   entry-placed x xs i same within up found =
       entries-made (take i xs ++ x ∷ drop i xs)
       ∙ put-absent entry_key entry_value q answers x xs i same within (rw
-          (entries-made xs) at up) found
+      (entries-made xs) at up) found
       ∙ ap (put (key_view x.0) (value_view x.1)) (sym (entries-made xs))
 
 module _ (q : CelKey) {F : Type 0} {g : Mut F (Bor
     (RcStr Global × RcStr Global) × Unit {0}) Ordering} {f : F}
     (answers : (a : Bor (RcStr Global × RcStr Global) × Unit {0}) (r : Ordering) (f' : F)
-        → Called g f a r f'
+    → Called g f a r f'
     → (r ≡ key_cmp (text_key (text_view a.0.now.0)) q) × (f' ≡ f)) where
   pub pair-found : (xs : List (RcStr Global × RcStr Global)) (i : ℕ)
       (d : RcStr Global × RcStr Global)
       → IsAscending (pairs_view xs) → i < length xs
       → ((ord : RcStr Global × RcStr Global → Ordering) → ComputesKey g ord f
-          → IsBinarySearchResult ord xs (Ok i))
+      → IsBinarySearchResult ord xs (Ok i))
       → get (pairs_view xs) q ≡ Some (text (text_view (get_or xs i d).1))
   pair-found xs i d up below found =
       rw (pairs-made xs)
@@ -82,7 +82,7 @@ module _ (q : CelKey) {F : Type 0} {g : Mut F (Bor
 
   pub pair-absent : (xs : List (RcStr Global × RcStr Global)) (i : ℕ) → IsAscending (pairs_view xs)
       → ((ord : RcStr Global × RcStr Global → Ordering) → ComputesKey g ord f
-          → IsBinarySearchResult ord xs (Err i))
+      → IsBinarySearchResult ord xs (Err i))
       → get (pairs_view xs) q ≡ None
   pair-absent xs i up found =
       rw (pairs-made xs)

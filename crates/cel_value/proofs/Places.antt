@@ -78,8 +78,11 @@ get-put k v (entry j w es) q h = by_place (λ r. get-put k v es q r) (is_lt (key
   where
     -- the key is not the first one
     apart : key_eq j k ≡ false
-    apart = elim (cases_Bool (key_eq j k)) [ inl same ↦ absurd (let e : Some w
-        ≡ None = rw same at h in cc) | inr other ↦ other ]
+    apart = elim (cases_Bool (key_eq j k)) [
+      | inl same ↦ absurd (let e : Some w
+          ≡ None = rw same at h in cc)
+      | inr other ↦ other
+    ]
 
     rest : get es k ≡ None
     rest = rw apart at h
@@ -101,7 +104,7 @@ get-put k v (entry j w es) q h = by_place (λ r. get-put k v es q r) (is_lt (key
 
     by_place : (get es k ≡ None → get (put k v es) q ≡ cond (key_eq k q) (Some v) (get es q))
         → (b : Bool) → get (cond b (entry k v (entry j w es)) (entry j w (put k v es))) q
-            ≡ cond (key_eq k q) (Some v) (cond (key_eq j q) (Some w) (get es q))
+        ≡ cond (key_eq k q) (Some v) (cond (key_eq j q) (Some w) (get es q))
     by_place more true = refl
     by_place more false = ap (λ o. cond (key_eq j q) (Some w) o) (more rest)
         ∙ swap (key_eq j q) (key_eq k q) (Some w) (Some v) (get es q) both
@@ -141,8 +144,11 @@ put-ascending k v (entry j w es) h a = by_place (λ r. put-ascending k v es r a.
     (key_cmp k j)) refl
   where
     apart : key_eq j k ≡ false
-    apart = elim (cases_Bool (key_eq j k)) [ inl same ↦ absurd (let e : Some w
-        ≡ None = rw same at h in cc) | inr other ↦ other ]
+    apart = elim (cases_Bool (key_eq j k)) [
+      | inl same ↦ absurd (let e : Some w
+          ≡ None = rw same at h in cc)
+      | inr other ↦ other
+    ]
 
     rest : get es k ≡ None
     rest = rw apart at h
@@ -152,9 +158,9 @@ put-ascending k v (entry j w es) h a = by_place (λ r. put-ascending k v es r a.
     by_place more true e = let l = is_lt-Less (key_cmp k j) e in ((l, above-lower k j l es a.0), a)
     by_place more false e =
         let apart_too : is_eq (key_cmp k j) ≡ false = sym (key_eq-cmp k j)
-            ∙ not_true (key_eq k j) (λ t. let s : j
-            ≡ k = sym ((key_eq-Decides k j).0 t) in let u : key_eq j k
-            ≡ true = (key_eq-Decides j k).1 s in let f : false ≡ true = sym apart ∙ u in cc) in
+        ∙ not_true (key_eq k j) (λ t. let s : j
+        ≡ k = sym ((key_eq-Decides k j).0 t) in let u : key_eq j k
+        ≡ true = (key_eq-Decides j k).1 s in let f : false ≡ true = sym apart ∙ u in cc) in
         let l : key_cmp j k ≡ Less = key_cmp-antisymm j k ∙ above-then (key_cmp k j) e apart_too in
         (above-put j k v es l a.0, more rest)
 

@@ -89,7 +89,7 @@ module _ {X : Type 0} (key : X → CelKey) (val : X → CelValue) where
   put-place x xs zero within up low high =
       put-here x xs up
       (all-above (key x) xs (λ k d below. turned (key (get_or xs k d)) (key x) (high k d
-          (omega arith) below)))
+      (omega arith) below)))
   put-place x [] (suc i) within up low high = absurd (omega arith)
   put-place x (y ∷ ys) (suc i) within up low high =
       let first : key_cmp (key y) (key x) ≡ Less = low 0 y (omega arith) in

@@ -23,8 +23,11 @@ left-short n m h = grind (arith, nat_tests)
 
 -- a subtraction that answers where it can
 pub left-checked : (n m : ℕ) (r : Option ℕ) → SomeIff r (m ≤ n) (n - m) → r ≡ left_of n m
-left-checked n m None h = elim (cases_lt n m) [ inl short ↦ sym
-    (left-short n m short) | inr enough ↦ absurd (h enough) ]
+left-checked n m None h = elim (cases_lt n m) [
+  | inl short ↦ sym
+      (left-short n m short)
+  | inr enough ↦ absurd (h enough)
+]
 left-checked n m (Some x) h = ap Some h.1 ∙ sym (left-enough n m h.0)
 
 -- one after the other
@@ -63,7 +66,7 @@ pub text-spent : {Z : Type 0} (n a len : ℕ) (t : RcStr Z) (r s : Option ℕ) �
     → s ≡ left_of n (1 + length (encode_utf8_all (chars (rc_str_bytes t))))
 text-spent n a len t r s is one counted more =
     left-checked a len s more ∙ ap (left_of a) (counted ∙ sym (text-length t))
-        ∙ left-twice n a 1 _ (sym is ∙ left-checked n 1 r one)
+    ∙ left-twice n a 1 _ (sym is ∙ left-checked n 1 r one)
 
 -- one, and then another number
 pub more-spent : (n a m : ℕ) (r s : Option ℕ) → r ≡ Some a → SomeIff r (1 ≤ n) (n - 1) → s

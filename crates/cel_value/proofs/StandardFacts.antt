@@ -77,7 +77,7 @@ two_has_no_other = refl
 -- equal maps are equal whatever order they were written in
 order_does_not_count : value_eq (map_of two)
     (map_of (put (int_key (pos 3)) (bool true) (put (int_key (pos 1)) (bool false) no_entries)))
-        ≡ true
+    ≡ true
 order_does_not_count = refl
 
 -- entries whose keys fall, or stand twice, are no map

@@ -33,7 +33,7 @@ entry-key-past (e ∷ es) (suc i) past = entry-key-past es i (omega arith)
 pub pair-key-at : (ps : List (RcStr Global × RcStr Global)) (i : ℕ)
     (d : RcStr Global × RcStr Global)
     → i < length ps → item_at (keys_of (pairs_view ps)) i
-        ≡ Some (text (text_view (get_or ps i d).0))
+    ≡ Some (text (text_view (get_or ps i d).0))
 pair-key-at [] i d below = absurd (omega arith)
 pair-key-at (p ∷ ps) zero d below = refl
 pair-key-at (p ∷ ps) (suc i) d below = pair-key-at ps i d (omega arith)

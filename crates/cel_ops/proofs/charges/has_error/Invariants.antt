@@ -6,4 +6,4 @@ use Rattle.cel_ops.proofs.charges.has_error.Given as goal
 abbrev pub invariant-loop-operand : goal.invariant-loop-operand
 invariant-loop-operand l =
     some_error (map answer_view (drop l.operand-index l.operands))
-        ≡ some_error (map answer_view l.operands)
+    ≡ some_error (map answer_view l.operands)

@@ -13,10 +13,10 @@ returns-in_err-rest c =
     let o = c.index-operands-pair.result in
     let more = firsts_mass (map answer_view (drop (i + 1 + 1) os)) * c.args.times in
     let short : None ≡ left_of c.loop-pair.rest (answer_mass (answer_view
-        (get_or os i o)) * c.args.times) =
+    (get_or os i o)) * c.args.times) =
     sym c.in_err-rest.was ∙ c.spend_answer.ensures
     ∙ ap (λ x. left_of c.loop-pair.rest (answer_mass
-        (answer_view x) * c.args.times)) c.index-operands-pair.is in
+    (answer_view x) * c.args.times)) c.index-operands-pair.is in
     c.from_residual.ensures
     ∙ left-none c.loop-pair.rest _ more short
     ∙ ap (left_of c.loop-pair.rest)
@@ -33,9 +33,9 @@ loop-pair-preserved c =
     ≡ left_of c.loop-pair.rest (answer_mass (answer_view (get_or os i o)) * c.args.times) =
     c.in_ok-rest.ensures
     ∙ ap (λ x. left_of c.loop-pair.rest (answer_mass
-        (answer_view x) * c.args.times)) c.index-operands-pair.is in
+    (answer_view x) * c.args.times)) c.index-operands-pair.is in
     ap (λ n. left_of c.in_ok-rest.rest (firsts_mass (map answer_view
-        (drop n os)) * c.args.times)) (omega arith)
+    (drop n os)) * c.args.times)) (omega arith)
     ∙ left-twice c.loop-pair.rest c.in_ok-rest.rest _ more spent
     ∙ ap (left_of c.loop-pair.rest)
     (sym (next-first-times os i o c.args.times (omega (arith, c.loop-pair-test.true))))

@@ -11,7 +11,7 @@ returns-then-has_error c =
     let answers = map answer_view c.args.operands.now in
     sym c.in_ok-rest.was ∙ left-checked c.args.fuel 1 _ c.checked_sub.ensures
     ∙ ap (left_of c.args.fuel) (sym (list-error answers (sym c.has_error.ensures
-        ∙ c.if-has_error.true)))
+    ∙ c.if-has_error.true)))
 
 pub returns : goal.returns
 returns c =

@@ -52,12 +52,12 @@ loop-key-preserved c =
 pub returns : goal.returns
 returns c =
     let none : into_iter_items c.loop-key.rest
-        ≡ [] = nil_from_length _ (grind (arith, common_steps)) in
+    ≡ [] = nil_from_length _ (grind (arith, common_steps)) in
     ap Some (ap value (view-Map (Entries c.in_ok-new.field-0)
-        ∙ ap map_of (view-Entries c.in_ok-new.field-0
+    ∙ ap map_of (view-Entries c.in_ok-new.field-0
     ∙ ap (λ v. entries_view v.items) c.in_ok-new.ensures.ok)))
     ∙ ap (λ xs. option_map (insert_all (entries_view c.loop-key.entries.items)) (written_entries
-        (values_view xs)))
+    (values_view xs)))
     (sym none)
     ∙ c.loop-key.invariant.same
     ∙ made-maps (written_entries (values_view c.args.values.items))

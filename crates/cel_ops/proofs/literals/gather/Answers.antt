@@ -17,7 +17,7 @@ loop-operand-preserved c =
     ∙ ap (λ o. gather (answer_view o ∷ rest)) c.in-Ok.is in
     ap (λ xs. behind (map value_view xs) (gather rest)) c.in_ok-push-in-Ok.ensures.items
     ∙ ap (λ vs. behind vs (gather rest)) (map-append value_view c.loop-operand.values.items
-        (c.in-Ok.value ∷ []))
+    (c.in-Ok.value ∷ []))
     ∙ behind-one before (value_view c.in-Ok.value) (gather rest)
     ∙ ap (behind before) (sym step)
     ∙ c.loop-operand.invariant
@@ -31,7 +31,7 @@ returns-in-Err c =
     ap (λ xs. gather (map answer_view xs)) c.in-Some.ensures.steps.0
     ∙ ap (λ o. gather (answer_view o ∷ rest)) c.in-Err.is in
     sym (behind-error before c.in-Err.error) ∙ ap (behind before) (sym step)
-        ∙ c.loop-operand.invariant
+    ∙ c.loop-operand.invariant
 
 pub returns : goal.returns
 returns c =

@@ -9,13 +9,13 @@ pub same_items-returns-then-left-right : goal.same_items-returns-then-left-right
 same_items-returns-then-left-right t c =
     longer-differs (values_view c.args.left.now) (values_view c.args.right.now)
     (λ e. c.if-left-right.true (sym (count-items c.args.left.now) ∙ e
-        ∙ count-items c.args.right.now))
+    ∙ count-items c.args.right.now))
 
 pub same_entries-returns-then-left-right : goal.same_entries-returns-then-left-right
 same_entries-returns-then-left-right t c =
     longer-entries-differ (entries_view c.args.left.now) (entries_view c.args.right.now)
     (λ e. c.if-left-right.true (sym (count-entries c.args.left.now) ∙ e
-        ∙ count-entries c.args.right.now))
+    ∙ count-entries c.args.right.now))
 
 pub same_maps-returns-in-Entries-Entries : goal.same_maps-returns-in-Entries-Entries
 same_maps-returns-in-Entries-Entries t c =

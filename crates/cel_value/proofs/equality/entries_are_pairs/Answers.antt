@@ -8,4 +8,4 @@ pub returns-then-entries-pairs : goal.returns-then-entries-pairs
 returns-then-entries-pairs c =
     longer-entries-differ (entries_view c.args.entries.now) (pairs_view c.args.pairs.now)
     (λ e. c.if-entries-pairs.true (sym (count-entries c.args.entries.now) ∙ e
-        ∙ count-pairs c.args.pairs.now))
+    ∙ count-pairs c.args.pairs.now))

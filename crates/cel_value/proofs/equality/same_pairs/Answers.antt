@@ -8,4 +8,4 @@ pub returns-then-left-right : goal.returns-then-left-right
 returns-then-left-right c =
     longer-entries-differ (pairs_view c.args.left.now) (pairs_view c.args.right.now)
     (λ e. c.if-left-right.true (sym (count-pairs c.args.left.now) ∙ e
-        ∙ count-pairs c.args.right.now))
+    ∙ count-pairs c.args.right.now))

@@ -11,4 +11,4 @@ pub returns : goal.returns
 returns c =
     ap Some (c.from.ensures ∙ ap value_of_key c.in_ok-copy.ensures)
     ∙ sym (entry-key-at c.args.entries.now c.args.index c.index-entries-index.result
-        c.if-index-entries.false)
+    c.if-index-entries.false)

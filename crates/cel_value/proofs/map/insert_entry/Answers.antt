@@ -12,7 +12,7 @@ returns-in-Ok c =
     (c.args.key, c.args.value) up c.in-Ok.ensures.bound c.in-Ok.ensures.position in (
       λ none. none-some _ (sym none
           ∙ ap (λ es. get (entries_view es) (key_view c.args.key)) (sym c.deref.ensures.value)
-              ∙ found),
+          ∙ found),
       refl,
     )
 
@@ -27,9 +27,9 @@ returns-in_ok-insert-in-Err c =
       ap (λ es. get (entries_view es) (key_view c.args.key)) (sym c.deref.ensures.value) ∙ absent,
       ap entries_view c.in_ok-insert-in-Err.ensures.items
           ∙ ap (λ es. entries_view (take c.in-Err.place es ++
-              (c.args.key, c.args.value) ∷ drop c.in-Err.place es))
+          (c.args.key, c.args.value) ∷ drop c.in-Err.place es))
           (sym c.deref.ensures.value)
           ∙ placed
           ∙ ap (λ es. put (key_view c.args.key) (value_view c.args.value)
-              (entries_view es)) c.deref.ensures.value,
+          (entries_view es)) c.deref.ensures.value,
     )

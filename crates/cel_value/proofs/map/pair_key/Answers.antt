@@ -11,6 +11,6 @@ returns-then-index-pairs c = sym (pair-key-past c.args.pairs.now c.args.index c.
 pub returns : goal.returns
 returns c =
     ap Some (view-Text c.in_ok-clone.field-0 ∙ ap (λ bs. text
-        (chars bs)) c.in_ok-clone.ensures.cases)
+    (chars bs)) c.in_ok-clone.ensures.cases)
     ∙ sym (pair-key-at c.args.pairs.now c.args.index c.index-pairs-index.result
-        c.if-index-pairs.false)
+    c.if-index-pairs.false)

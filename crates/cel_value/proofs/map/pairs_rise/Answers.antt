@@ -5,5 +5,5 @@ use Rattle.cel_value.proofs.map.pairs_rise.Goals as goal
 pub returns : goal.returns
 returns c =
     pair-rises c.args.pairs.now (c.loop-i.i - 1) (omega
-        (arith, c.loop-i-test.false, c.loop-i.invariant.some))
+    (arith, c.loop-i-test.false, c.loop-i.invariant.some))
     ∙ c.loop-i.invariant.same

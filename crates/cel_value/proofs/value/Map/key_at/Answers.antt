@@ -9,5 +9,5 @@ returns-in-Entries c =
     IfOk-weaker c.entry_key.result _ _
     (λ found same. same ∙ ap (λ es. item_at (keys_of es) c.args.index)
     (seen-Entries c.args.self.now c.in-Entries.entries c.deref.result.now _ c.in-Entries.is
-        c.deref.ensures
+    c.deref.ensures
     c.deref-in-Entries.ensures.value)) c.entry_key.ensures

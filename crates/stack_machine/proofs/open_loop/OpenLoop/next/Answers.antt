@@ -10,4 +10,4 @@ returns-then-self-len c =
 pub returns : goal.returns
 returns c =
     from-found (range_view c.args.self.now.range) c.args.self.now.taken _ c.in_ok-found.found
-        c.in_ok-found.ensures (add-one c.args.self.now.taken)
+    c.in_ok-found.ensures (add-one c.args.self.now.taken)

@@ -7,7 +7,7 @@ use Rattle.stack_machine.proofs.open_loop.Range.get.Goals as goal
 pub returns-in-Items : goal.returns-in-Items
 returns-in-Items c =
     IfOk-weaker c.get_item.result _ _
-        (λ found same. same ∙ ap (λ vs. item_at vs c.args.index)
-            (seen-Items c.args.self.now c.in-Items.items c.deref.result.now _ c.in-Items.is
-                c.deref.ensures c.deref-in-Items.ensures.value))
-        c.get_item.ensures
+    (λ found same. same ∙ ap (λ vs. item_at vs c.args.index)
+    (seen-Items c.args.self.now c.in-Items.items c.deref.result.now _ c.in-Items.is
+    c.deref.ensures c.deref-in-Items.ensures.value))
+    c.get_item.ensures

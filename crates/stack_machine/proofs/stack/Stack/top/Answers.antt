@@ -5,5 +5,5 @@ use Rattle.stack_machine.proofs.stack.Stack.top.Goals as goal
 pub returns : goal.returns
 returns g c =
     tail-reverse c.self.inside.items.items c.args.count (rw (← c.self.view_is) at c.requires) _ _
-        c.deref.ensures.value (omega arith)
+    c.deref.ensures.value (omega arith)
     ∙ ap (λ v. reverse (take c.args.count v)) c.self.view_is
