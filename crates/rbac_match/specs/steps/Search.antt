@@ -1,6 +1,9 @@
 -- What the search for a part knows of the bytes so far: D. E. Knuth, J. H. Morris and V. R. Pratt, "Fast Pattern
 -- Matching in Strings".
-use Rattle.std.specs.Prelude.{◌≡◌, ℕ, ◌+◌, ◌-◌, ◌<◌, ◌≤◌, List, length, take, drop, slice_index}
+use Rattle.std.specs.Prelude.{◌≡◌, ℕ, ◌+◌, ◌-◌, ◌<◌, ◌≤◌, Bool, true, List, length, take, drop, slice_index}
+use Rattle.std.specs.Str.{str_to_ascii_lowercase}
+use Rattle.rbac_match.specs.declared.text.Pattern.{Pattern}
+use Rattle.rbac_match.specs.declared.text.Pattern.TheVariants.{Contains}
 
 -- the bytes end with the first `count` of the part
 pub record EndsWithFirst (part bytes : List ℕ) (count : ℕ) : Type 0 where
@@ -22,3 +25,8 @@ AreBorders part borders = (i : ℕ) → i < length borders
 pub record AreAllBorders (part borders : List ℕ) : Type 0 where
   pub all : length borders ≡ length part
   pub are : AreBorders part borders
+
+-- a text that is searched for in any case has its borders
+abbrev pub AreBordersOf : Pattern → Bool → List ℕ → List ℕ → Type 0
+AreBordersOf Contains true sought borders = AreAllBorders (str_to_ascii_lowercase sought) borders
+AreBordersOf pattern ignore_case sought borders = Unit {0}
