@@ -13,5 +13,6 @@ pub mod CidrMessages
 pub mod PortsMessages
 pub mod LeafMessages
 pub mod RuleMessages
+pub mod Borders
 pub mod Levels
 pub mod Loops

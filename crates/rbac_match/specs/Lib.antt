@@ -12,3 +12,4 @@ pub mod Leaves
 pub mod Formula
 pub mod Rules
 pub mod View
+pub mod steps

@@ -16,6 +16,7 @@ mod path;
 mod ports;
 mod read;
 mod rule;
+mod search;
 mod text;
 
 pub use matching::any_matches;

@@ -1,6 +1,6 @@
 //! Tests of a text (`envoy.type.matcher.v3.StringMatcher`): how they are read, and which texts pass.
 
-ghost use Rattle.std.specs.Prelude.{◌≡◌, Some, None, nat_eq, IfOk, IfErr, MatchOption, map};
+ghost use Rattle.std.specs.Prelude.{◌≡◌, true, Some, None, nat_eq, IfOk, IfErr, MatchOption, map};
 ghost use Rattle.std.specs.List.{starts_with, ends_with};
 ghost use Rattle.std.specs.Map.{keys_of};
 ghost use Rattle.std.specs.Str.{str_to_ascii_lowercase};
@@ -10,9 +10,11 @@ ghost use Rattle.proto_wire.specs.Refusal.{MemoryOr};
 ghost use Rattle.proto_wire.specs.Values.{bytes_at};
 ghost use Rattle.proto_wire.specs.declared.refusal.Refusal.TheVariants.{Missing};
 ghost use Rattle.rbac_match.specs.Oneof.{last_number, member_in};
-ghost use Rattle.rbac_match.specs.Text.{text_holds, pattern_holds, is_substring, string_members, string_keys, IsSought, IsTextMatcher, SoughtFault, TextFault};
+ghost use Rattle.rbac_match.specs.steps.Search.{AreBordersOf};
+ghost use Rattle.rbac_match.specs.Text.{text_holds, pattern_holds, string_members, string_keys, IsFilled, IsSought, IsTextMatcher, SoughtFault, TextFault};
 
 use crate::fields::last_number;
+use crate::search::{borders_of, contains_ignore_case};
 use memchr::memmem;
 use proto_wire::{Field, Key, Refusal, bool_at, bytes_at, keys, read_message};
 use std::alloc::{AllocError, Global};
@@ -37,11 +39,14 @@ pub struct TextMatcher {
     pattern: Pattern,
     sought: String,
     ignore_case: bool,
+    // what the search in any case needs; empty where there is none
+    borders: Vec<usize>,
 }
 
 impl Model for TextMatcher {
     ghost use Rattle.std.specs.String.{string_bytes};
     ghost use Rattle.rbac_match.specs.Text.{TextTest, IsFilled};
+    ghost use Rattle.rbac_match.specs.steps.Search.{AreBordersOf};
 
     ghost Value = { TextTest };
 
@@ -51,7 +56,8 @@ impl Model for TextMatcher {
       ignore_case = m.ignore_case;
     } };
 
-    ghost invariant = { λ m. IsFilled m.pattern (string_bytes m.sought) };
+    ghost invariant = { λ m. IsFilled m.pattern (string_bytes m.sought)
+        × AreBordersOf m.pattern m.ignore_case (string_bytes m.sought) m.borders.items };
 }
 
 const EXACT: u32 = 1;
@@ -84,10 +90,12 @@ impl TextMatcher {
         ensures { IfOk result (λ m. m
             ≡ record { pattern = pattern; sought = sought.now; ignore_case = ignore_case }) }
     {
+        let borders = read_borders(alloc, pattern, ignore_case, sought.as_bytes())?;
         Ok(TextMatcher {
             pattern,
             sought: String::from_str(alloc, sought)?,
             ignore_case,
+            borders,
         })
     }
 
@@ -97,7 +105,7 @@ impl TextMatcher {
     {
         let sought = self.sought.as_bytes();
         if self.ignore_case {
-            holds_ignore_case(self.pattern, sought, text.as_bytes())
+            holds_ignore_case(self.pattern, sought, &self.borders, text.as_bytes())
         } else {
             holds(self.pattern, sought, text.as_bytes())
         }
@@ -186,15 +194,32 @@ fn holds(pattern: Pattern, sought: &[u8], text: &[u8]) -> bool
     }
 }
 
-fn holds_ignore_case(pattern: Pattern, sought: &[u8], text: &[u8]) -> bool
+fn holds_ignore_case(pattern: Pattern, sought: &[u8], borders: &[usize], text: &[u8]) -> bool
+    requires filled { IsFilled pattern sought.now }
+    requires borders { AreBordersOf pattern true sought.now borders.now }
     ensures { result ≡ pattern_holds pattern (str_to_ascii_lowercase sought.now) (str_to_ascii_lowercase text.now) }
 {
     match pattern {
         Pattern::Exact => text.eq_ignore_ascii_case(sought),
         Pattern::Prefix => starts_with_ignore_case(text, sought),
         Pattern::Suffix => ends_with_ignore_case(text, sought),
-        Pattern::Contains => contains_ignore_case(text, sought),
+        Pattern::Contains => contains_ignore_case(text, sought, borders),
     }
+}
+
+/// The borders of a text that is searched for in any case; none are needed otherwise.
+fn read_borders(
+    alloc: Global,
+    pattern: Pattern,
+    ignore_case: bool,
+    sought: &[u8],
+) -> Result<Vec<usize>, AllocError>
+    ensures { IfOk result (λ borders. AreBordersOf pattern ignore_case sought.now borders.items) }
+{
+    if ignore_case && pattern == Pattern::Contains {
+        return borders_of(alloc, sought);
+    }
+    Ok(Vec::new(alloc))
 }
 
 fn starts_with_ignore_case(text: &[u8], start: &[u8]) -> bool
@@ -207,19 +232,4 @@ fn ends_with_ignore_case(text: &[u8], end: &[u8]) -> bool
     ensures { result ≡ ends_with nat_eq (str_to_ascii_lowercase text.now) (str_to_ascii_lowercase end.now) }
 {
     end.len() <= text.len() && text[text.len() - end.len()..].eq_ignore_ascii_case(end)
-}
-
-fn contains_ignore_case(text: &[u8], part: &[u8]) -> bool
-    ensures { result ≡ is_substring (str_to_ascii_lowercase part.now) (str_to_ascii_lowercase text.now) }
-{
-    let mut rest = text;
-    loop {
-        if starts_with_ignore_case(rest, part) {
-            return true;
-        }
-        match rest.split_first() {
-            Some((_, behind)) => rest = behind,
-            None => return false,
-        }
-    }
 }
