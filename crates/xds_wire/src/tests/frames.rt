@@ -1,6 +1,6 @@
 //! Streams of frames, cut at every place.
-use super::vectors::{FIRST_ACK, FIRST_REQUEST, VECTORS, joined};
-use crate::{FrameError, Frames, write_frame};
+use super::vectors::{FIRST_ACK, FIRST_REQUEST, VECTORS, before, behind, framed_bytes, joined};
+use crate::{FrameError, Frames};
 use std::alloc::Global;
 use std::process::Abort;
 use std::test::Fail;
@@ -25,10 +25,10 @@ fn each_vector_cut_at_each_two_places(rt: HostRuntime) -> Result<(), Fail> {
         for first in 0..=bytes.len() {
             for second in first..=bytes.len() {
                 let mut frames = Frames::new(alloc, LIMIT);
-                frames.feed(&bytes[..first])?;
-                frames.feed(&bytes[first..second])?;
-                frames.feed(&bytes[second..])?;
-                gives(&rt, &mut frames, &[&bytes[5..]]);
+                frames.feed(before(&bytes, first))?;
+                frames.feed(behind(before(&bytes, second), first))?;
+                frames.feed(behind(&bytes, second))?;
+                gives(&rt, &mut frames, &[behind(&bytes, 5)]);
             }
         }
     }
@@ -41,17 +41,17 @@ fn a_stream_cut_at_each_place(rt: HostRuntime) -> Result<(), Fail> {
     let alloc = rt.alloc();
     let first = joined(alloc, FIRST_REQUEST)?;
     let second = joined(alloc, FIRST_ACK)?;
-    let bytes = joined(alloc, &[&first, &second, &first[..40]])?;
+    let bytes = joined(alloc, &[&first, &second, before(&first, 40)])?;
     for place in 0..=bytes.len() {
         let mut frames = Frames::new(alloc, LIMIT);
-        frames.feed(&bytes[..place])?;
+        frames.feed(before(&bytes, place))?;
         let mut copy = frames.copy()?;
-        frames.feed(&bytes[place..])?;
-        gives(&rt, &mut frames, &[&first[5..], &second[5..]]);
-        copy.feed(&bytes[place..])?;
-        gives(&rt, &mut copy, &[&first[5..], &second[5..]]);
-        copy.feed(&first[40..])?;
-        gives(&rt, &mut copy, &[&first[5..]]);
+        frames.feed(behind(&bytes, place))?;
+        gives(&rt, &mut frames, &[behind(&first, 5), behind(&second, 5)]);
+        copy.feed(behind(&bytes, place))?;
+        gives(&rt, &mut copy, &[behind(&first, 5), behind(&second, 5)]);
+        copy.feed(behind(&first, 40))?;
+        gives(&rt, &mut copy, &[behind(&first, 5)]);
         gives(&rt, &mut frames, &[]);
     }
     Ok(())
@@ -60,9 +60,7 @@ fn a_stream_cut_at_each_place(rt: HostRuntime) -> Result<(), Fail> {
 /// A frame of a message of so many bytes.
 fn frame_of(alloc: Global, length: usize) -> Result<Vec<u8>, Fail> {
     let message = vec![in alloc; 7u8; length]?;
-    let mut frame = Vec::new(alloc);
-    write_frame(&message, &mut frame)?;
-    Ok(frame)
+    framed_bytes(alloc, &message)
 }
 
 #[test]
@@ -76,41 +74,12 @@ fn lengths(rt: HostRuntime) -> Result<(), Fail> {
     frames.feed(&empty)?;
     frames.feed(&longest)?;
     frames.feed(&empty)?;
-    gives(&rt, &mut frames, &[&[], &longest[5..], &[]]);
+    gives(&rt, &mut frames, &[&[], behind(&longest, 5), &[]]);
     let longer = frame_of(alloc, LIMIT + 1)?;
-    assert!(rt; frames.feed(&longer[..4]).is_ok());
-    assert!(rt; frames.feed(&longer[4..]) == Err(FrameError::TooLong));
+    assert!(rt; frames.feed(before(&longer, 4)).is_ok());
+    assert!(rt; frames.feed(behind(&longer, 4)) == Err(FrameError::TooLong));
     assert!(rt; frames.feed(&empty) == Err(FrameError::TooLong));
     gives(&rt, &mut frames, &[]);
-    Ok(())
-}
-
-/// Bytes that begin no frame, how many of them show it, and the error.
-const FAULTS: [(&[u8], usize, FrameError); 4] = [
-    (b"\x01", 1, FrameError::Compressed),
-    (b"\xff\x00\x00\x00\x00", 1, FrameError::Compressed),
-    (b"\x00\x00\x10\x00\x01", 5, FrameError::TooLong),
-    (b"\x00\xff\xff\xff\xff\x00", 5, FrameError::TooLong),
-];
-
-#[test]
-fn a_fault_keeps_the_messages_before_it(rt: HostRuntime) -> Result<(), Fail> {
-    let alloc = rt.alloc();
-    let frame = joined(alloc, FIRST_ACK)?;
-    for (fault, shown, error) in &FAULTS {
-        let bytes = joined(alloc, &[&frame, &frame, fault])?;
-        let known = bytes.len() - fault.len() + *shown;
-        for place in 0..=bytes.len() {
-            let mut frames = Frames::new(alloc, LIMIT);
-            assert!(rt; frames.feed(&bytes[..place]).is_err() == (place >= known));
-            assert!(rt; frames.feed(&bytes[place..]) == Err(*error));
-            assert!(rt; frames.feed(&frame) == Err(*error));
-            let mut copy = frames.copy()?;
-            gives(&rt, &mut frames, &[&frame[5..], &frame[5..]]);
-            assert!(rt; copy.feed(&[]) == Err(*error));
-            gives(&rt, &mut copy, &[&frame[5..], &frame[5..]]);
-        }
-    }
     Ok(())
 }
 
@@ -139,6 +108,6 @@ fn a_long_message_byte_by_byte(rt: HostRuntime) -> Result<(), Fail> {
         assert!(rt; frames.next().is_none());
         frames.feed(&[*byte])?;
     }
-    gives(&rt, &mut frames, &[&frame[5..]]);
+    gives(&rt, &mut frames, &[behind(&frame, 5)]);
     Ok(())
 }

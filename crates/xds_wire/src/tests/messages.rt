@@ -1,11 +1,11 @@
 //! Discovery messages at given bytes.
 use super::vectors::{
     EXTENSION_TYPE, FILTER_TYPE, FIRST_ACK, FIRST_REQUEST, FIRST_RESPONSE, HALF_BAD_NACK,
-    RESUMED_REQUEST, TRUE_AND_TRUE, joined,
+    RESUMED_REQUEST, TRUE_AND_TRUE, behind, framed_bytes, joined,
 };
 use crate::{
     Any, DiscoveryRequest, DiscoveryResponse, Node, Status, TypedExtensionConfig, read_extension,
-    read_request, read_response, write_extension, write_frame, write_request, write_response,
+    read_request, read_response, write_extension, write_request, write_response,
 };
 use proto_wire::Refusal;
 use std::alloc::{AllocError, Global};
@@ -20,7 +20,7 @@ const NODE: Node<'static> = Node {
 fn requests(rt: HostRuntime) -> Result<(), Fail> {
     let alloc = rt.alloc();
     let first = joined(alloc, FIRST_REQUEST)?;
-    let request = read_request(alloc, &first[5..])?;
+    let request = read_request(alloc, behind(&first, 5))?;
     assert_eq!(rt; request.version_info, "");
     assert_eq!(rt; request.node, Some(NODE));
     assert!(rt; request.resource_names.as_slice() == ["f"].as_slice());
@@ -28,16 +28,16 @@ fn requests(rt: HostRuntime) -> Result<(), Fail> {
     assert_eq!(rt; request.response_nonce, "");
     assert_eq!(rt; request.error_detail, None);
     let resumed = joined(alloc, RESUMED_REQUEST)?;
-    let request = read_request(alloc, &resumed[5..])?;
+    let request = read_request(alloc, behind(&resumed, 5))?;
     assert_eq!(rt; request.version_info, "1");
     assert_eq!(rt; request.node, Some(NODE));
     let ack = joined(alloc, FIRST_ACK)?;
-    let request = read_request(alloc, &ack[5..])?;
+    let request = read_request(alloc, behind(&ack, 5))?;
     assert_eq!(rt; request.version_info, "1");
     assert_eq!(rt; request.node, None);
     assert_eq!(rt; request.response_nonce, "n1");
     let nack = joined(alloc, HALF_BAD_NACK)?;
-    let request = read_request(alloc, &nack[5..])?;
+    let request = read_request(alloc, behind(&nack, 5))?;
     assert!(rt; request.resource_names.as_slice() == ["f", "g"].as_slice());
     assert_eq!(rt; request.response_nonce, "n2");
     let status = Status {
@@ -52,7 +52,7 @@ fn requests(rt: HostRuntime) -> Result<(), Fail> {
 fn responses(rt: HostRuntime) -> Result<(), Fail> {
     let alloc = rt.alloc();
     let frame = joined(alloc, FIRST_RESPONSE)?;
-    let response = read_response(alloc, &frame[5..])?;
+    let response = read_response(alloc, behind(&frame, 5))?;
     assert_eq!(rt; response.version_info, "1");
     assert_eq!(rt; response.type_url, EXTENSION_TYPE);
     assert_eq!(rt; response.nonce, "n1");
@@ -156,12 +156,10 @@ fn asks<'a>(alloc: Global, names: &[&'a str]) -> Result<DiscoveryRequest<'a>, Al
 }
 
 /// The request in a frame.
-fn framed(alloc: Global, request: &DiscoveryRequest<'_>) -> Result<Vec<u8>, AllocError> {
+fn framed(alloc: Global, request: &DiscoveryRequest<'_>) -> Result<Vec<u8>, Fail> {
     let mut message = Vec::new(alloc);
     write_request(request, &mut message)?;
-    let mut frame = Vec::new(alloc);
-    write_frame(&message, &mut frame)?;
-    Ok(frame)
+    framed_bytes(alloc, &message)
 }
 
 #[test]
@@ -211,8 +209,7 @@ fn a_written_response(rt: HostRuntime) -> Result<(), Fail> {
     let mut message = Vec::from_slice(alloc, b"before")?;
     write_response(&response, &mut message)?;
     assert!(rt; message.starts_with(b"before"));
-    let mut frame = Vec::new(alloc);
-    write_frame(&message[6..], &mut frame)?;
+    let frame = framed_bytes(alloc, behind(&message, 6))?;
     assert!(rt; frame == joined(alloc, FIRST_RESPONSE)?);
     Ok(())
 }

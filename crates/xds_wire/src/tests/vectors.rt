@@ -1,5 +1,7 @@
 //! Bytes of the update stream, written by hand from the encoding guide: each a frame, as the pieces that it is made of.
+use crate::write_frame;
 use std::alloc::{AllocError, Global};
+use std::test::Fail;
 
 /// The type of the resources.
 pub const EXTENSION_TYPE: &str = "type.googleapis.com/envoy.config.core.v3.TypedExtensionConfig";
@@ -76,4 +78,24 @@ pub fn joined(alloc: Global, pieces: &[&[u8]]) -> Result<Vec<u8>, AllocError> {
         bytes.extend_from_slice(piece)?;
     }
     Ok(bytes)
+}
+
+/// The bytes from this place on, none past the end.
+pub fn behind(bytes: &[u8], place: usize) -> &[u8] {
+    bytes.get(place..).unwrap_or(&[])
+}
+
+/// The bytes before this place, all of them past the end.
+pub fn before(bytes: &[u8], place: usize) -> &[u8] {
+    bytes.get(..place).unwrap_or(bytes)
+}
+
+/// The message in a frame.
+pub fn framed_bytes(alloc: Global, message: &[u8]) -> Result<Vec<u8>, Fail> {
+    if message.len() > 100_000_000 {
+        return Err(Fail::from("a message too long for a test"));
+    }
+    let mut frame = Vec::new(alloc);
+    write_frame(message, &mut frame)?;
+    Ok(frame)
 }
