@@ -8,7 +8,7 @@ pub mod Forms
 pub mod KeptScalars
 pub mod KeptItems
 pub mod KeptMaps
-pub mod Kept
+pub mod KeptAttributes
 pub mod Sound
 pub mod Spending
 pub mod Literals

@@ -3,7 +3,7 @@
 ghost use Rattle.std.specs.Prelude.{◌≡◌, ◌≤◌, ℕ, List};
 ghost use Rattle.cel_value.specs.Types.{AnswerHasType, ValueType};
 ghost use Rattle.cel_value.specs.Values.{CelAnswer};
-ghost use Rattle.attributes.specs.Request.{RequestValue};
+ghost use Rattle.attributes.specs.Request.{IsRequest, RequestValue};
 ghost use Rattle.stack_machine.specs.Instructions.{Instruction};
 ghost use Rattle.stack_machine.specs.Machine.{Ends, Reaches, RunsOut, State, Stuck};
 ghost use Rattle.stack_machine.specs.Typable.{Forward, Typable};
@@ -11,13 +11,13 @@ ghost use Rattle.stack_machine.specs.Typable.{Forward, Typable};
 /// No run of typable code is ever stuck.
 pub fn never_stuck()
     ensures { (code : List Instruction) (t : ValueType) (request : RequestValue) (s : State) (steps : ℕ)
-        → Typable code t → Reaches code request s steps → Stuck code request s → ⊥ }
+        → Typable code t → IsRequest request → Reaches code request s steps → Stuck code request s → ⊥ }
 {}
 
 /// What a run of typable code comes to has the type, or is an error.
 pub fn results_are_typed()
     ensures { (code : List Instruction) (t : ValueType) (request : RequestValue) (a : CelAnswer) (steps : ℕ)
-        → Typable code t → Ends code request a steps → AnswerHasType a t }
+        → Typable code t → IsRequest request → Ends code request a steps → AnswerHasType a t }
 {}
 
 /// A run ends in one way at most.

@@ -9,6 +9,7 @@ pub mod laws;
 mod locals;
 mod open_loop;
 mod operations;
+mod requests;
 mod running;
 mod stack;
 mod state;
