@@ -14,6 +14,8 @@ mod running;
 mod stack;
 mod state;
 mod step;
+#[cfg(test)]
+mod tests;
 mod verified;
 
 pub use code::{Code, CodeFault};
