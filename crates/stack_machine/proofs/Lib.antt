@@ -16,3 +16,5 @@ pub mod Chains
 pub mod LeastCharge
 pub mod Runs
 pub mod Outcomes
+pub mod PlainCharges
+pub mod PlainLoops

@@ -9,3 +9,4 @@ pub mod StateView
 pub mod Shapes
 pub mod Typable
 pub mod Groups
+pub mod steps
