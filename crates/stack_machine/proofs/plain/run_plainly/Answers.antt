@@ -4,9 +4,9 @@ use Rattle.stack_machine.proofs.Outcomes.{answered, told}
 use Rattle.stack_machine.proofs.plain.run_plainly.Goals as goal
 
 pub run_code-requires-clause-lives : goal.run_code-requires-clause-lives
-run_code-requires-clause-lives c = λ s steps.
+run_code-requires-clause-lives c =
     let typable = c.instrs.ensures.typable in
-    never_stuck_lem (code_view c.instrs.result.now) typable.0 c.args.request.now s steps typable.1
+    never_stuck_lem (code_view c.instrs.result.now) typable.0 c.args.request.now typable.1
     c.request_is_sound.ensures
 
 pub returns-clause-answered : goal.returns-clause-answered
