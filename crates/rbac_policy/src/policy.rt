@@ -4,7 +4,8 @@ ghost use Rattle.std.specs.Prelude.{◌≡◌, ◌≢◌, ◌⊎◌, [], IfOk, I
 ghost use Rattle.std.specs.String.{string_bytes};
 ghost use Rattle.proto_wire.specs.Fields.{field_view};
 ghost use Rattle.proto_wire.specs.Values.{payloads};
-ghost use Rattle.proto_wire.specs.Maps.{text, Held, SomeValueFault};
+ghost use Rattle.proto_wire.specs.Maps.{text, SomeValueFault};
+ghost use Rattle.proto_wire.specs.steps.Maps.{Held};
 ghost use Rattle.proto_wire.specs.Refusal.{MemoryOr};
 ghost use Rattle.proto_wire.specs.Merge.{parts_view};
 ghost use Rattle.rbac_match.specs.Rules.{IsRule, AreRules, SomeRuleFault};

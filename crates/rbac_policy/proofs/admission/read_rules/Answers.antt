@@ -9,7 +9,8 @@ use Rattle.proto_wire.proofs.Exits.{exit_memory_or}
 use Rattle.rbac_policy.specs.Message.{IsPolicy, most_policies}
 use Rattle.rbac_policy.specs.Fault.{PolicyFault, RulesFault, in_entry, too_many, in_policy}
 use Rattle.rbac_policy.specs.Named.{named_views}
-use Rattle.proto_wire.specs.Maps.{Entry, text, AreEntries, map_of, Held, SomeEntryFault, SomeValueFault}
+use Rattle.proto_wire.specs.Maps.{Entry, text, AreEntries, map_of, SomeEntryFault, SomeValueFault}
+use Rattle.proto_wire.specs.steps.Maps.{Held}
 use Rattle.proto_wire.proofs.MapLaws.{entries_readable}
 use Rattle.proto_wire.proofs.MapValues.{held_ordered, held_are_values}
 use Rattle.rbac_policy.proofs.admission.read_rules.Goals as goal
