@@ -1,14 +1,17 @@
 -- A text spells at most one address.
-use Rattle.std.proofs.Common.{◌≡◌, ℕ, ◌↔◌, List, [], Option, Some, None, MatchOption, refl, sym, ap, ◌∙◌, append-nil, lit≤}
-use Rattle.std.specs.Net.Grammar.{IsDotted}
+use Rattle.std.proofs.Common.{◌≡◌, ℕ, ◌↔◌, false, List, [], Option, Some, None, MatchOption, refl, sym, ap, ◌∙◌, append-nil, lit≤}
+use Rattle.std.specs.Net.Addr.{ipv4_bits, ipv6_bits}
+use Rattle.std.specs.Net.Grammar.{IsColonHex, IsDotted, IsIpv4Text}
 use Rattle.std.specs.Net.Reader.{read_ipv4, read_ipv6}
+use Rattle.std.specs.declared.net.ipv4_addr.Ipv4Addr.{Ipv4Addr}
+use Rattle.std.specs.declared.net.ipv6_addr.Ipv6Addr.{Ipv6Addr}
 use Rattle.std.proofs.NetLemmas.Options.{same_parts}
 use Rattle.std.proofs.NetLemmas.Ipv4.{read_ipv4_complete}
 use Rattle.std.proofs.NetLemmas.Ipv6.{read_ipv6_complete, EndsGroups-nil}
-use Rattle.attributes.specs.Address.{AreColonHex, IsIpText, number_of}
+use Rattle.attributes.specs.Address.{IsIpText, has_dot}
 use Rattle.attributes.specs.declared.address.Ip.{Ip}
 use Rattle.attributes.specs.declared.address.Ip.TheVariants.{V4, V6}
-use Rattle.attributes.proofs.AddressText.{has_dot-dotted, no_dot-whole, to_library-whole}
+use Rattle.attributes.proofs.AddressText.{has_dot-dotted}
 
 -- four numbers are read as they are, to the end of the text
 pub dotted_read : (text octets : List ℕ) → IsDotted text octets → read_ipv4 text ≡ Some (octets, [])
@@ -16,29 +19,29 @@ dotted_read text octets h =
     ap read_ipv4 (sym (append-nil text)) ∙ read_ipv4_complete text octets [] h (lit≤ tt)
 
 -- eight groups likewise
-pub groups_read : (text groups : List ℕ) → AreColonHex text groups
+pub groups_read : (text groups : List ℕ) → IsColonHex text groups
     → read_ipv6 text ≡ Some (groups, [])
 groups_read text groups h =
-    ap read_ipv6 (sym (append-nil text))
-    ∙ read_ipv6_complete text groups [] (to_library-whole text groups h) EndsGroups-nil
+    ap read_ipv6 (sym (append-nil text)) ∙ read_ipv6_complete text groups [] h EndsGroups-nil
 
--- a text with a dot has no groups, and one without has no four numbers
-dot_or_not : (text octets groups : List ℕ) → IsDotted text octets → AreColonHex text groups → ⊥
-dot_or_not text octets groups four eight =
-    cc (has_dot-dotted text octets four, no_dot-whole text groups eight)
+-- a text without a dot has no four numbers
+dot_or_not : (text : List ℕ) (a : Ipv4Addr) → IsIpv4Text text a → has_dot text ≡ false → ⊥
+dot_or_not text a four dotless = cc (has_dot-dotted text a.octets four, dotless)
 
 -- a text spells one address
 pub one_address : (text : List ℕ) (a b : Ip) → IsIpText text a → IsIpText text b → a ≡ b
-one_address text (V4 m) (V4 n) (os, one, m_is) (ps, two, n_is) =
-    let same : os ≡ ps =
-    (same_parts _ _ _ _ (sym (dotted_read text os one) ∙ dotted_read text ps two)).0 in
-    ap V4 (m_is ∙ ap (number_of 256) same ∙ sym n_is)
-one_address text (V6 m) (V6 n) (gs, one, m_is) (hs, two, n_is) =
-    let same : gs ≡ hs =
-    (same_parts _ _ _ _ (sym (groups_read text gs one) ∙ groups_read text hs two)).0 in
-    ap V6 (m_is ∙ ap (number_of 65536) same ∙ sym n_is)
-one_address text (V4 m) (V6 n) a b = absurd (dot_or_not text a.0 b.0 a.1 b.1)
-one_address text (V6 m) (V4 n) a b = absurd (dot_or_not text b.0 a.0 b.1 a.1)
+one_address text (V4 m) (V4 n) (a, one, m_is) (b, two, n_is) =
+    let same : a.octets ≡ b.octets =
+    (same_parts _ _ _ _ (sym (dotted_read text a.octets one) ∙ dotted_read text b.octets two)).0 in
+    let make : List ℕ → Ipv4Addr = λ octets. record { octets = octets } in
+    ap V4 (m_is ∙ ap (λ octets. ipv4_bits (make octets)) same ∙ sym n_is)
+one_address text (V6 m) (V6 n) (a, one, none, m_is) (b, two, none_too, n_is) =
+    let same : a.segments ≡ b.segments =
+    (same_parts _ _ _ _ (sym (groups_read text a.segments one) ∙ groups_read text b.segments two)).0 in
+    let make : List ℕ → Ipv6Addr = λ segments. record { segments = segments } in
+    ap V6 (m_is ∙ ap (λ segments. ipv6_bits (make segments)) same ∙ sym n_is)
+one_address text (V4 m) (V6 n) a b = absurd (dot_or_not text a.0 a.1 b.2)
+one_address text (V6 m) (V4 n) a b = absurd (dot_or_not text b.0 b.1 a.2)
 
 -- what is read where the text spells it, and nothing where it spells none, is exactly the address
 -- of the text

@@ -1,6 +1,7 @@
 -- The examples of RFC 4291 sections 2.2 and 2.3, so that a wrong rule in the specs does not check.
 use Rattle.std.proofs.Common.{◌≡◌, false, [], ◌∷◌, codes, inl, inr, refl, lit<, lit≤}
 use Rattle.std.specs.Fmt.{digits}
+use Rattle.std.specs.Net.Addr.{ipv4_bits, ipv6_bits}
 use Rattle.std.specs.Net.Grammar.{IsGroup}
 use Rattle.attributes.specs.Address.{IsInRange, IsIpText, Range, share_prefix}
 use Rattle.attributes.specs.declared.address.Ip.TheVariants.{V4, V6}
@@ -81,47 +82,47 @@ pub record AreAddresses : Type 0 where
   pub dotted : IsIpText (codes "13.1.68.3") (V4 218186755)
 
 pub addresses : AreAddresses
-unfolding digits
+unfolding digits ipv4_bits ipv6_bits
 addresses = record {
   whole = (
-    8193 ∷ 3512 ∷ 0 ∷ 0 ∷ 8 ∷ 2048 ∷ 8204 ∷ 16762 ∷ [],
+    record { segments = 8193 ∷ 3512 ∷ 0 ∷ 0 ∷ 8 ∷ 2048 ∷ 8204 ∷ 16762 ∷ [] },
     inl (
-      (
+      inl (
         codes "2001",
         codes ":DB8:0:0:8:800:200C:417A",
         refl,
         group_2001,
-        (
+        inl (
           codes "DB8",
           codes ":0:0:8:800:200C:417A",
           refl,
           group_db8,
-          (
+          inl (
             codes "0",
             codes ":0:8:800:200C:417A",
             refl,
             group_0,
-            (
+            inl (
               codes "0",
               codes ":8:800:200C:417A",
               refl,
               group_0,
-              (
+              inl (
                 codes "8",
                 codes ":800:200C:417A",
                 refl,
                 group_8,
-                (
+                inl (
                   codes "800",
                   codes ":200C:417A",
                   refl,
                   group_800,
-                  (
+                  inl (
                     codes "200C",
                     codes ":417A",
                     refl,
                     group_200c,
-                    (
+                    inl (
                       codes "417A",
                       codes "",
                       refl,
@@ -138,46 +139,47 @@ addresses = record {
       refl,
     ),
     refl,
+    refl,
   );
   multicast = (
-    65281 ∷ 0 ∷ 0 ∷ 0 ∷ 0 ∷ 0 ∷ 0 ∷ 257 ∷ [],
+    record { segments = 65281 ∷ 0 ∷ 0 ∷ 0 ∷ 0 ∷ 0 ∷ 0 ∷ 257 ∷ [] },
     inl (
-      (
+      inl (
         codes "FF01",
         codes ":0:0:0:0:0:0:101",
         refl,
         group_ff01,
-        (
+        inl (
           codes "0",
           codes ":0:0:0:0:0:101",
           refl,
           group_0,
-          (
+          inl (
             codes "0",
             codes ":0:0:0:0:101",
             refl,
             group_0,
-            (
+            inl (
               codes "0",
               codes ":0:0:0:101",
               refl,
               group_0,
-              (
+              inl (
                 codes "0",
                 codes ":0:0:101",
                 refl,
                 group_0,
-                (
+                inl (
                   codes "0",
                   codes ":0:101",
                   refl,
                   group_0,
-                  (
+                  inl (
                     codes "0",
                     codes ":101",
                     refl,
                     group_0,
-                    (
+                    inl (
                       codes "101",
                       codes "",
                       refl,
@@ -194,46 +196,47 @@ addresses = record {
       refl,
     ),
     refl,
+    refl,
   );
   loopback = (
-    0 ∷ 0 ∷ 0 ∷ 0 ∷ 0 ∷ 0 ∷ 0 ∷ 1 ∷ [],
+    record { segments = 0 ∷ 0 ∷ 0 ∷ 0 ∷ 0 ∷ 0 ∷ 0 ∷ 1 ∷ [] },
     inl (
-      (
+      inl (
         codes "0",
         codes ":0:0:0:0:0:0:1",
         refl,
         group_0,
-        (
+        inl (
           codes "0",
           codes ":0:0:0:0:0:1",
           refl,
           group_0,
-          (
+          inl (
             codes "0",
             codes ":0:0:0:0:1",
             refl,
             group_0,
-            (
+            inl (
               codes "0",
               codes ":0:0:0:1",
               refl,
               group_0,
-              (
+              inl (
                 codes "0",
                 codes ":0:0:1",
                 refl,
                 group_0,
-                (
+                inl (
                   codes "0",
                   codes ":0:1",
                   refl,
                   group_0,
-                  (
+                  inl (
                     codes "0",
                     codes ":1",
                     refl,
                     group_0,
-                    (
+                    inl (
                       codes "1",
                       codes "",
                       refl,
@@ -250,46 +253,47 @@ addresses = record {
       refl,
     ),
     refl,
+    refl,
   );
   unspecified = (
-    0 ∷ 0 ∷ 0 ∷ 0 ∷ 0 ∷ 0 ∷ 0 ∷ 0 ∷ [],
+    record { segments = 0 ∷ 0 ∷ 0 ∷ 0 ∷ 0 ∷ 0 ∷ 0 ∷ 0 ∷ [] },
     inl (
-      (
+      inl (
         codes "0",
         codes ":0:0:0:0:0:0:0",
         refl,
         group_0,
-        (
+        inl (
           codes "0",
           codes ":0:0:0:0:0:0",
           refl,
           group_0,
-          (
+          inl (
             codes "0",
             codes ":0:0:0:0:0",
             refl,
             group_0,
-            (
+            inl (
               codes "0",
               codes ":0:0:0:0",
               refl,
               group_0,
-              (
+              inl (
                 codes "0",
                 codes ":0:0:0",
                 refl,
                 group_0,
-                (
+                inl (
                   codes "0",
                   codes ":0:0",
                   refl,
                   group_0,
-                  (
+                  inl (
                     codes "0",
                     codes ":0",
                     refl,
                     group_0,
-                    (
+                    inl (
                       codes "0",
                       codes "",
                       refl,
@@ -306,21 +310,22 @@ addresses = record {
       refl,
     ),
     refl,
+    refl,
   );
   whole_short = (
-    8193 ∷ 3512 ∷ 0 ∷ 0 ∷ 8 ∷ 2048 ∷ 8204 ∷ 16762 ∷ [],
+    record { segments = 8193 ∷ 3512 ∷ 0 ∷ 0 ∷ 8 ∷ 2048 ∷ 8204 ∷ 16762 ∷ [] },
     inr (record {
       head_text = codes "2001:DB8";
       tail_text = codes "8:800:200C:417A";
       head = 8193 ∷ 3512 ∷ [];
       tail = 8 ∷ 2048 ∷ 8204 ∷ 16762 ∷ [];
       spelled = refl;
-      head_groups = (
+      head_groups = inl (
         codes "2001",
         codes ":DB8",
         refl,
         group_2001,
-        (
+        inl (
           codes "DB8",
           codes "",
           refl,
@@ -328,22 +333,22 @@ addresses = record {
           refl,
         ),
       );
-      tail_groups = (
+      tail_groups = inl (
         codes "8",
         codes ":800:200C:417A",
         refl,
         group_8,
-        (
+        inl (
           codes "800",
           codes ":200C:417A",
           refl,
           group_800,
-          (
+          inl (
             codes "200C",
             codes ":417A",
             refl,
             group_200c,
-            (
+            inl (
               codes "417A",
               codes "",
               refl,
@@ -357,23 +362,24 @@ addresses = record {
       value = refl;
     }),
     refl,
+    refl,
   );
   multicast_short = (
-    65281 ∷ 0 ∷ 0 ∷ 0 ∷ 0 ∷ 0 ∷ 0 ∷ 257 ∷ [],
+    record { segments = 65281 ∷ 0 ∷ 0 ∷ 0 ∷ 0 ∷ 0 ∷ 0 ∷ 257 ∷ [] },
     inr (record {
       head_text = codes "FF01";
       tail_text = codes "101";
       head = 65281 ∷ [];
       tail = 257 ∷ [];
       spelled = refl;
-      head_groups = (
+      head_groups = inl (
         codes "FF01",
         codes "",
         refl,
         group_ff01,
         refl,
       );
-      tail_groups = (
+      tail_groups = inl (
         codes "101",
         codes "",
         refl,
@@ -384,9 +390,10 @@ addresses = record {
       value = refl;
     }),
     refl,
+    refl,
   );
   loopback_short = (
-    0 ∷ 0 ∷ 0 ∷ 0 ∷ 0 ∷ 0 ∷ 0 ∷ 1 ∷ [],
+    record { segments = 0 ∷ 0 ∷ 0 ∷ 0 ∷ 0 ∷ 0 ∷ 0 ∷ 1 ∷ [] },
     inr (record {
       head_text = codes "";
       tail_text = codes "1";
@@ -394,7 +401,7 @@ addresses = record {
       tail = 1 ∷ [];
       spelled = refl;
       head_groups = refl;
-      tail_groups = (
+      tail_groups = inl (
         codes "1",
         codes "",
         refl,
@@ -405,9 +412,10 @@ addresses = record {
       value = refl;
     }),
     refl,
+    refl,
   );
   unspecified_short = (
-    0 ∷ 0 ∷ 0 ∷ 0 ∷ 0 ∷ 0 ∷ 0 ∷ 0 ∷ [],
+    record { segments = 0 ∷ 0 ∷ 0 ∷ 0 ∷ 0 ∷ 0 ∷ 0 ∷ 0 ∷ [] },
     inr (record {
       head_text = codes "";
       tail_text = codes "";
@@ -420,31 +428,32 @@ addresses = record {
       value = refl;
     }),
     refl,
+    refl,
   );
   prefix = (
-    8193 ∷ 3512 ∷ 0 ∷ 52528 ∷ 0 ∷ 0 ∷ 0 ∷ 0 ∷ [],
+    record { segments = 8193 ∷ 3512 ∷ 0 ∷ 52528 ∷ 0 ∷ 0 ∷ 0 ∷ 0 ∷ [] },
     inr (record {
       head_text = codes "2001:0DB8:0:CD30";
       tail_text = codes "";
       head = 8193 ∷ 3512 ∷ 0 ∷ 52528 ∷ [];
       tail = [];
       spelled = refl;
-      head_groups = (
+      head_groups = inl (
         codes "2001",
         codes ":0DB8:0:CD30",
         refl,
         group_2001,
-        (
+        inl (
           codes "0DB8",
           codes ":0:CD30",
           refl,
           group_0db8,
-          (
+          inl (
             codes "0",
             codes ":CD30",
             refl,
             group_0,
-            (
+            inl (
               codes "CD30",
               codes "",
               refl,
@@ -459,46 +468,47 @@ addresses = record {
       value = refl;
     }),
     refl,
+    refl,
   );
   node = (
-    8193 ∷ 3512 ∷ 0 ∷ 52528 ∷ 291 ∷ 17767 ∷ 35243 ∷ 52719 ∷ [],
+    record { segments = 8193 ∷ 3512 ∷ 0 ∷ 52528 ∷ 291 ∷ 17767 ∷ 35243 ∷ 52719 ∷ [] },
     inl (
-      (
+      inl (
         codes "2001",
         codes ":0DB8:0:CD30:123:4567:89AB:CDEF",
         refl,
         group_2001,
-        (
+        inl (
           codes "0DB8",
           codes ":0:CD30:123:4567:89AB:CDEF",
           refl,
           group_0db8,
-          (
+          inl (
             codes "0",
             codes ":CD30:123:4567:89AB:CDEF",
             refl,
             group_0,
-            (
+            inl (
               codes "CD30",
               codes ":123:4567:89AB:CDEF",
               refl,
               group_cd30,
-              (
+              inl (
                 codes "123",
                 codes ":4567:89AB:CDEF",
                 refl,
                 group_123,
-                (
+                inl (
                   codes "4567",
                   codes ":89AB:CDEF",
                   refl,
                   group_4567,
-                  (
+                  inl (
                     codes "89AB",
                     codes ":CDEF",
                     refl,
                     group_89ab,
-                    (
+                    inl (
                       codes "CDEF",
                       codes "",
                       refl,
@@ -515,21 +525,22 @@ addresses = record {
       refl,
     ),
     refl,
+    refl,
   );
   other = (
-    8193 ∷ 3512 ∷ 0 ∷ 0 ∷ 0 ∷ 0 ∷ 0 ∷ 52528 ∷ [],
+    record { segments = 8193 ∷ 3512 ∷ 0 ∷ 0 ∷ 0 ∷ 0 ∷ 0 ∷ 52528 ∷ [] },
     inr (record {
       head_text = codes "2001:0DB8";
       tail_text = codes "CD30";
       head = 8193 ∷ 3512 ∷ [];
       tail = 52528 ∷ [];
       spelled = refl;
-      head_groups = (
+      head_groups = inl (
         codes "2001",
         codes ":0DB8",
         refl,
         group_2001,
-        (
+        inl (
           codes "0DB8",
           codes "",
           refl,
@@ -537,7 +548,7 @@ addresses = record {
           refl,
         ),
       );
-      tail_groups = (
+      tail_groups = inl (
         codes "CD30",
         codes "",
         refl,
@@ -548,9 +559,10 @@ addresses = record {
       value = refl;
     }),
     refl,
+    refl,
   );
   dotted = (
-    13 ∷ 1 ∷ 68 ∷ 3 ∷ [],
+    record { octets = 13 ∷ 1 ∷ 68 ∷ 3 ∷ [] },
     record {
       a = 13;
       b = 1;

@@ -86,7 +86,7 @@ module _ (r : RequestValue) (sound : IsRequest r) where
   attr_typed AttrId.RequestPath = sound.target
   attr_typed AttrId.RequestUrlPath = path_text
   attr_typed AttrId.RequestHost = header_text (codes ":authority")
-  attr_typed AttrId.RequestScheme = sound.facts.scheme
+  attr_typed AttrId.RequestScheme = sound.facts.texts.1.1.1.1.1.1.1.0
   attr_typed AttrId.RequestMethod = sound.method
   attr_typed AttrId.RequestHeaders = sound.headers
   attr_typed AttrId.RequestReferer = header_text (codes "referer")
@@ -94,20 +94,20 @@ module _ (r : RequestValue) (sound : IsRequest r) where
   attr_typed AttrId.RequestId = header_text (codes "x-request-id")
   attr_typed AttrId.RequestProtocol = protocol_text r.http11
   attr_typed AttrId.RequestQuery = query_text
-  attr_typed AttrId.SourceAddress = fact_text r.facts.source_address sound.facts.source_address
+  attr_typed AttrId.SourceAddress = fact_text r.facts.source_address sound.facts.texts.0
   attr_typed AttrId.SourcePort = port_type r.facts.source_port sound.facts.source_port
   attr_typed AttrId.DestinationAddress =
-      fact_text r.facts.destination_address sound.facts.destination_address
+      fact_text r.facts.destination_address sound.facts.texts.1.0
   attr_typed AttrId.DestinationPort =
       port_type r.facts.destination_port sound.facts.destination_port
   attr_typed AttrId.ConnectionMtls = flag_type r.facts.mtls
   attr_typed AttrId.ConnectionId = number_type r.facts.connection_id sound.facts.connection_id
   attr_typed AttrId.ConnectionRequestedServerName =
-      fact_text r.facts.requested_server_name sound.facts.requested_server_name
-  attr_typed AttrId.ConnectionTlsVersion = fact_text r.facts.tls_version sound.facts.tls_version
+      fact_text r.facts.requested_server_name sound.facts.texts.1.1.0
+  attr_typed AttrId.ConnectionTlsVersion = fact_text r.facts.tls_version sound.facts.texts.1.1.1.0
   attr_typed AttrId.ConnectionSubjectPeerCertificate =
-      fact_text r.facts.subject_peer_certificate sound.facts.subject_peer_certificate
+      fact_text r.facts.subject_peer_certificate sound.facts.texts.1.1.1.1.0
   attr_typed AttrId.ConnectionDnsSanPeerCertificate =
-      fact_text r.facts.dns_san_peer_certificate sound.facts.dns_san_peer_certificate
+      fact_text r.facts.dns_san_peer_certificate sound.facts.texts.1.1.1.1.1.0
   attr_typed AttrId.ConnectionUriSanPeerCertificate =
-      fact_text r.facts.uri_san_peer_certificate sound.facts.uri_san_peer_certificate
+      fact_text r.facts.uri_san_peer_certificate sound.facts.texts.1.1.1.1.1.1.0

@@ -1,50 +1,24 @@
 -- IP addresses as text and as numbers: RFC 4291 sections 2.2 and 2.3, RFC 4632 section 3.1
 -- (ranges); IPv4 as in RFC 3986 section 3.2.2.
-use Rattle.std.specs.Prelude.{◌≡◌, ℕ, ◌+◌, ◌-◌, ◌*◌, ◌/◌, ◌^◌, ◌<◌, ◌⊎◌, List, [], ◌∷◌, ◌++◌, length, replicate, codes, Bool, false, IsTrue, ◌==◌}
-use Rattle.std.specs.Net.Grammar.{IsDotted, IsGroup}
+use Rattle.std.specs.Prelude.{◌≡◌, ℕ, ◌-◌, ◌/◌, ◌^◌, ◌<◌, List, Bool, false, IsTrue, ◌==◌}
+use Rattle.std.specs.List.{list_any}
+use Rattle.std.specs.Net.Addr.{ipv4_bits, ipv6_bits}
+use Rattle.std.specs.Net.Grammar.{IsIpv4Text, IsIpv6Text}
+use Rattle.std.specs.declared.net.ipv4_addr.Ipv4Addr.{Ipv4Addr}
+use Rattle.std.specs.declared.net.ipv6_addr.Ipv6Addr.{Ipv6Addr}
 use Rattle.attributes.specs.declared.address.Ip.{Ip}
 use Rattle.attributes.specs.declared.address.Ip.TheVariants.{V4, V6}
 
--- the number of these digits in a base, after those of n; the first digit is the most significant
-abbrev pub number_after : ℕ → ℕ → List ℕ → ℕ
-number_after base n [] = n
-number_after base n (d ∷ ds) = number_after base (n * base + d) ds
+-- a dot (46) stands in the text
+abbrev pub has_dot : List ℕ → Bool
+has_dot text = list_any (λ b. b == 46) text
 
--- the number of these digits in a base
-abbrev pub number_of : ℕ → List ℕ → ℕ
-number_of base ds = number_after base 0 ds
-
--- groups of one to four hexadecimal digits, the first after `lead` and each other after a colon
-abbrev pub AreGroupsAfter : List ℕ → List ℕ → List ℕ → Type 0
-AreGroupsAfter lead text [] = text ≡ []
-AreGroupsAfter lead text (g ∷ groups) =
-    (group rest : List ℕ) × (text ≡ lead ++ group ++ rest) × IsGroup group g
-    × AreGroupsAfter (codes ":") rest groups
-
--- groups with colons between them, or nothing
-abbrev pub AreGroups : List ℕ → List ℕ → Type 0
-AreGroups text groups = AreGroupsAfter [] text groups
-
--- groups on each side of `::`, which stands for one zero group or more
-pub record AreElided (text groups : List ℕ) : Type 0 where
-  pub head_text : List ℕ
-  pub tail_text : List ℕ
-  pub head : List ℕ
-  pub tail : List ℕ
-  pub spelled : text ≡ head_text ++ codes "::" ++ tail_text
-  pub head_groups : AreGroups head_text head
-  pub tail_groups : AreGroups tail_text tail
-  pub room : length head + length tail < 8
-  pub value : groups ≡ head ++ replicate (8 - length head - length tail) 0 ++ tail
-
--- all eight groups, or some with `::`
-abbrev pub AreColonHex : List ℕ → List ℕ → Type 0
-AreColonHex text groups = (AreGroups text groups × (length groups ≡ 8)) ⊎ AreElided text groups
-
--- the text spells the address: four decimal numbers with dots, or eight groups with colons
+-- the text spells the address: four decimal numbers with dots, or eight groups with colons, the last
+-- two of which are not four numbers with dots
 abbrev pub IsIpText : List ℕ → Ip → Type 0
-IsIpText text (V4 n) = (octets : List ℕ) × IsDotted text octets × (n ≡ number_of 256 octets)
-IsIpText text (V6 n) = (groups : List ℕ) × AreColonHex text groups × (n ≡ number_of 65536 groups)
+IsIpText text (V4 n) = (a : Ipv4Addr) × IsIpv4Text text a × (n ≡ ipv4_bits a)
+IsIpText text (V6 n) =
+    (a : Ipv6Addr) × IsIpv6Text text a × (has_dot text ≡ false) × (n ≡ ipv6_bits a)
 
 -- the bits of an address of the family
 abbrev pub width_of : Ip → ℕ
@@ -60,8 +34,7 @@ IsAddress (V6 n) = n < 2 ^ 128
 abbrev pub share_prefix : ℕ → Ip → Ip → Bool
 share_prefix size (V4 a) (V4 b) = a / 2 ^ (32 - size) == b / 2 ^ (32 - size)
 share_prefix size (V6 a) (V6 b) = a / 2 ^ (128 - size) == b / 2 ^ (128 - size)
-share_prefix size (V4 a) (V6 b) = false
-share_prefix size (V6 a) (V4 b) = false
+share_prefix size a b = false
 
 -- an address range: an address and how many of its first bits count
 pub record Range : Type 0 where

@@ -29,11 +29,8 @@ attr_view (values.Pairs ps) = text_map (map_view ps.now.value.items)
 
 -- pairs stand by ascending name, each name once
 abbrev pub IsOrdered : AttrValue → Type 0
-IsOrdered (values.Text t) = ⊤
-IsOrdered (values.Int n) = ⊤
-IsOrdered (values.Uint n) = ⊤
-IsOrdered (values.Bool b) = ⊤
 IsOrdered (values.Pairs ps) = IsTrue (is_sorted name_cmp (headers_view ps.now.value.items))
+IsOrdered _ = ⊤
 
 -- the target up to its first `#` (35)
 abbrev pub without_fragment : List ℕ → List ℕ
@@ -105,30 +102,14 @@ attr_name AttrId.ConnectionSubjectPeerCertificate = codes "connection.subject_pe
 attr_name AttrId.ConnectionDnsSanPeerCertificate = codes "connection.dns_san_peer_certificate"
 attr_name AttrId.ConnectionUriSanPeerCertificate = codes "connection.uri_san_peer_certificate"
 
--- the type of each attribute
+-- the type of each attribute: all but these five are texts
 abbrev pub attr_type : AttrId → AttrType
-attr_type AttrId.RequestPath = AttrType.Text
-attr_type AttrId.RequestUrlPath = AttrType.Text
-attr_type AttrId.RequestHost = AttrType.Text
-attr_type AttrId.RequestScheme = AttrType.Text
-attr_type AttrId.RequestMethod = AttrType.Text
 attr_type AttrId.RequestHeaders = AttrType.TextMap
-attr_type AttrId.RequestReferer = AttrType.Text
-attr_type AttrId.RequestUseragent = AttrType.Text
-attr_type AttrId.RequestId = AttrType.Text
-attr_type AttrId.RequestProtocol = AttrType.Text
-attr_type AttrId.RequestQuery = AttrType.Text
-attr_type AttrId.SourceAddress = AttrType.Text
 attr_type AttrId.SourcePort = AttrType.Int
-attr_type AttrId.DestinationAddress = AttrType.Text
 attr_type AttrId.DestinationPort = AttrType.Int
 attr_type AttrId.ConnectionMtls = AttrType.Bool
 attr_type AttrId.ConnectionId = AttrType.Uint
-attr_type AttrId.ConnectionRequestedServerName = AttrType.Text
-attr_type AttrId.ConnectionTlsVersion = AttrType.Text
-attr_type AttrId.ConnectionSubjectPeerCertificate = AttrType.Text
-attr_type AttrId.ConnectionDnsSanPeerCertificate = AttrType.Text
-attr_type AttrId.ConnectionUriSanPeerCertificate = AttrType.Text
+attr_type _ = AttrType.Text
 
 -- the value is one of the type: a text is UTF-8, and a number has 64 bits
 abbrev pub HasAttrType : AttrType → AttrData → Type 0

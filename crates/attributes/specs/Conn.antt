@@ -1,6 +1,7 @@
 -- What is known of a connection: the connection attributes of Envoy, "Attributes", and the
 -- addresses for CIDR ranges.
-use Rattle.std.specs.Prelude.{ℕ, ◌^◌, ◌<◌, Bool, Option, None, List, IfSome, option_map}
+use Rattle.std.specs.Prelude.{ℕ, ◌^◌, ◌<◌, Bool, Option, Some, None, List, [], ◌∷◌, IfSome, option_map}
+use Rattle.std.specs.List.{AllByRecursion}
 use Rattle.std.specs.Str.{IsUtf8}
 use Rattle.std.specs.Rc.{rc_str_bytes}
 use Rattle.std.specs.declared.rc.RcStr.{RcStr}
@@ -27,6 +28,13 @@ pub record Facts : Type 0 where
   pub destination_ip : Option Ip
   pub scheme : List ℕ
 
+-- the texts among the facts
+abbrev pub texts_of : Facts → List (Option (List ℕ))
+texts_of f =
+    f.source_address ∷ f.destination_address ∷ f.requested_server_name ∷ f.tls_version
+    ∷ f.subject_peer_certificate ∷ f.dns_san_peer_certificate ∷ f.uri_san_peer_certificate
+    ∷ Some f.scheme ∷ []
+
 -- a port has 16 bits
 abbrev pub IsPort : Option ℕ → Type 0
 IsPort port = IfSome port (λ n. n < 2 ^ 16)
@@ -34,20 +42,13 @@ IsPort port = IfSome port (λ n. n < 2 ^ 16)
 -- what holds of the facts of each connection: texts are UTF-8, a port has 16 bits, the number of
 -- the connection has 64, and an address has as many as its family
 pub record AreFacts (f : Facts) : Type 0 where
-  pub source_address : IfSome f.source_address IsUtf8
+  pub texts : AllByRecursion (λ text. IfSome text IsUtf8) (texts_of f)
   pub source_port : IsPort f.source_port
-  pub destination_address : IfSome f.destination_address IsUtf8
   pub destination_port : IsPort f.destination_port
   pub connection_id : IfSome f.connection_id (λ n. n < 2 ^ 64)
-  pub requested_server_name : IfSome f.requested_server_name IsUtf8
-  pub tls_version : IfSome f.tls_version IsUtf8
-  pub subject_peer_certificate : IfSome f.subject_peer_certificate IsUtf8
-  pub dns_san_peer_certificate : IfSome f.dns_san_peer_certificate IsUtf8
-  pub uri_san_peer_certificate : IfSome f.uri_san_peer_certificate IsUtf8
   pub direct_remote_ip : IfSome f.direct_remote_ip IsAddress
   pub remote_ip : IfSome f.remote_ip IsAddress
   pub destination_ip : IfSome f.destination_ip IsAddress
-  pub scheme : IsUtf8 f.scheme
 
 -- a text that may be absent
 abbrev pub text_view : Option (RcStr Global) → Option (List ℕ)

@@ -4,8 +4,7 @@ use Rattle.std.specs.Prelude.{◌≡◌, ℕ, List, [], ◌∷◌, ◌++◌, Opt
 use Rattle.std.specs.List.{join_with_byte}
 use Rattle.std.specs.Ordering.{nat_cmp}
 use Rattle.std.specs.Cmp.Lexicographic.{slice_cmp}
-use Rattle.std.specs.FinMap.{FinMap, code, from_entries, from_sorted, get}
-use Rattle.std.specs.Coded.{Coded, coded_list, coded_ℕ}
+use Rattle.std.specs.FinMap.{FinMap, from_entries, from_sorted, get}
 use Rattle.std.specs.Str.{bytes_eq}
 use Rattle.std.specs.Rc.{rc_str_bytes}
 use Rattle.std.specs.String.{string_bytes}
@@ -45,10 +44,6 @@ HeaderMap = FinMap name_cmp (List ℕ)
 -- the map that headers are where they stand by ascending name
 abbrev pub map_view : List (RcStr Global × RcStr Global) → HeaderMap
 map_view headers = from_sorted (headers_view headers)
-
--- header maps are told apart by their entries
-abbrev pub header_map_code : Coded HeaderMap
-header_map_code = code (coded_list coded_ℕ) (coded_list coded_ℕ)
 
 -- the values of all entries of this name, in order
 abbrev pub values_of : List ℕ → List Entry → List (List ℕ)

@@ -1,7 +1,8 @@
 -- The limits of a request, and what is within them.
 use Rattle.std.specs.Prelude.{ℕ, ◌+◌, ◌≤◌, ◌==◌, nat_lt, List, [], ◌∷◌, Option, Some, None, All, IfSome, if◌then◌else◌, codes, decimal, filter_map, length, slice_get, ◌++◌}
 use Rattle.std.specs.FinMap.{entries}
-use Rattle.attributes.specs.Conn.{Facts}
+use Rattle.std.specs.List.{AllByRecursion}
+use Rattle.attributes.specs.Conn.{Facts, texts_of}
 use Rattle.attributes.specs.Headers.{Entry}
 use Rattle.attributes.specs.Request.{RequestValue, protocol_of}
 use Rattle.attributes.specs.declared.limits.Limit.{Limit}
@@ -61,13 +62,10 @@ abbrev pub limit_fault : Limit → ℕ → Option LimitFault
 limit_fault limit n = if n == 0 then Some (Zero limit)
     else (if nat_lt (limit_of limit largest) n then Some (Above limit) else None)
 
--- the faults of limits, in that order
-abbrev pub limit_faults : LimitsValue → List LimitFault
-limit_faults l = filter_map (λ limit. limit_fault limit (limit_of limit l)) every_limit
-
--- the first of them, if there is one
+-- the first fault of the limits in that order, if there is one
 abbrev pub first_fault : LimitsValue → Option LimitFault
-first_fault l = slice_get (limit_faults l) 0
+first_fault l =
+    slice_get (filter_map (λ limit. limit_fault limit (limit_of limit l)) every_limit) 0
 
 -- what a fault prints
 abbrev pub fault_text : LimitFault → List ℕ
@@ -84,29 +82,18 @@ abbrev pub IsWithin : ℕ → Option (List ℕ) → Type 0
 IsWithin most text = IfSome text (λ bytes. length bytes ≤ most)
 
 -- each text of the connection is within the limit of texts
-pub record FactsInLimits (f : Facts) (l : LimitsValue) : Type 0 where
-  pub source_address : IsWithin l.text f.source_address
-  pub destination_address : IsWithin l.text f.destination_address
-  pub requested_server_name : IsWithin l.text f.requested_server_name
-  pub tls_version : IsWithin l.text f.tls_version
-  pub subject_peer_certificate : IsWithin l.text f.subject_peer_certificate
-  pub dns_san_peer_certificate : IsWithin l.text f.dns_san_peer_certificate
-  pub uri_san_peer_certificate : IsWithin l.text f.uri_san_peer_certificate
-  pub scheme : length f.scheme ≤ l.text
+abbrev pub FactsInLimits : Facts → LimitsValue → Type 0
+FactsInLimits f l = AllByRecursion (IsWithin l.text) (texts_of f)
 
 -- the header's name and value are within their limits
 abbrev pub EntryInLimits : LimitsValue → Entry → Type 0
 EntryInLimits l e = (length e.0 ≤ l.name) × (length e.1 ≤ l.value)
 
--- the method, the target and the protocol's version are within their limits
-pub record HeadInLimits (r : RequestValue) (l : LimitsValue) : Type 0 where
-  pub method : length r.method ≤ l.method
-  pub target : length r.target ≤ l.target
-  pub protocol : length (protocol_of r.http11) ≤ l.text
-
 -- every count, name and text is within the limits; the three pseudo-headers count as fields
 pub record InLimits (r : RequestValue) (l : LimitsValue) : Type 0 where
   pub count : r.lines + 3 ≤ l.fields
   pub headers : All (EntryInLimits l) (entries r.headers)
-  pub head : HeadInLimits r l
+  pub method : length r.method ≤ l.method
+  pub target : length r.target ≤ l.target
+  pub protocol : length (protocol_of r.http11) ≤ l.text
   pub facts : FactsInLimits r.facts l

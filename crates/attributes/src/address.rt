@@ -1,8 +1,7 @@
 //! IP addresses as numbers, their text, and ranges of them.
-ghost use Rattle.std.specs.Prelude.{◌≡◌, ◌+◌, ◌*◌, ◌-◌, ◌/◌, ◌^◌, ◌<◌, ◌≤◌, ◌↔◌, IsTrue, MatchOption, false, true};
+ghost use Rattle.std.specs.Prelude.{◌≡◌, ◌-◌, ◌/◌, ◌^◌, ◌≤◌, ◌↔◌, IsTrue, MatchOption, false, true};
 ghost use Rattle.std.specs.Option.{SomeIff};
-ghost use Rattle.attributes.specs.Address.{IsInRange, IsIpText, number_of, width_of};
-ghost use Rattle.attributes.specs.steps.Address.{has_dot};
+ghost use Rattle.attributes.specs.Address.{IsInRange, IsIpText, has_dot, width_of};
 
 use std::marker::Model;
 use std::net::{Ipv4Addr, Ipv6Addr};
@@ -36,7 +35,7 @@ fn parse_dotted(text: &[u8]) -> Option<Ip>
     ensures { MatchOption result ((ip : Ip) → ¬ (IsIpText text.now ip)) (IsIpText text.now) }
 {
     match Ipv4Addr::parse_ascii(text) {
-        Ok(address) => Some(Ip::V4(octets_number(address.octets()))),
+        Ok(address) => Some(Ip::V4(address.to_bits())),
         Err(_) => None,
     }
 }
@@ -47,29 +46,9 @@ fn parse_colons(text: &[u8]) -> Option<Ip>
     ensures { MatchOption result ((ip : Ip) → ¬ (IsIpText text.now ip)) (IsIpText text.now) }
 {
     match Ipv6Addr::parse_ascii(text) {
-        Ok(address) => Some(Ip::V6(groups_number(address.segments()))),
+        Ok(address) => Some(Ip::V6(address.to_bits())),
         Err(_) => None,
     }
-}
-
-fn octets_number(octets: [u8; 4]) -> u32
-    ensures { result ≡ number_of 256 octets }
-{
-    let [a, b, c, d] = octets;
-    a as u32 * 0x100_0000 + b as u32 * 0x1_0000 + c as u32 * 0x100 + d as u32
-}
-
-fn groups_number(groups: [u16; 8]) -> u128
-    ensures { result ≡ number_of 65536 groups }
-{
-    let [a, b, c, d, e, f, g, h] = groups;
-    four_groups(a, b, c, d) as u128 * 0x1_0000_0000_0000_0000 + four_groups(e, f, g, h) as u128
-}
-
-fn four_groups(a: u16, b: u16, c: u16, d: u16) -> u64
-    ensures { result ≡ ((a * 65536 + b) * 65536 + c) * 65536 + d }
-{
-    a as u64 * 0x1_0000_0000_0000 + b as u64 * 0x1_0000_0000 + c as u64 * 0x1_0000 + d as u64
 }
 
 /// A range of addresses of one family: those that begin with the same bits as a given one

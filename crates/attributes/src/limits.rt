@@ -1,10 +1,11 @@
 //! The limits that a request has to keep, and the test whether it does.
-ghost use Rattle.std.specs.Prelude.{◌≡◌, ◌+◌, ◌≤◌, ◌↔◌, IfOk, IsTrue, All};
+ghost use Rattle.std.specs.Prelude.{◌≡◌, ◌+◌, ◌≤◌, ◌↔◌, IfOk, IsTrue, All, length};
 ghost use Rattle.std.specs.FinMap.{entries};
 ghost use Rattle.std.specs.Result.{result_err};
 ghost use Rattle.attributes.specs.Conn.{AreFacts, conn_view, text_view};
 ghost use Rattle.attributes.specs.Headers.{header_view};
-ghost use Rattle.attributes.specs.Limits.{AreLimits, FactsInLimits, HeadInLimits, InLimits, IsWithin, EntryInLimits, declared, first_fault, largest, limit_fault, limit_of, name_of};
+ghost use Rattle.attributes.specs.Request.{protocol_of};
+ghost use Rattle.attributes.specs.Limits.{AreLimits, FactsInLimits, InLimits, IsWithin, EntryInLimits, declared, first_fault, largest, limit_fault, limit_of, name_of};
 
 use crate::conn::{Conn, facts_are_sound};
 use crate::headers::Header;
@@ -232,7 +233,9 @@ impl Limits {
 
     // The method, the target and the protocol's version, as `HTTP/1.1`.
     fn fits_head(&self, request: &Request) -> bool
-        ensures { IsTrue result ↔ HeadInLimits request.now self.now }
+        ensures { IsTrue result ↔ ((length request.now.method ≤ self.now.method)
+            × (length request.now.target ≤ self.now.target)
+            × (length (protocol_of request.now.http11) ≤ self.now.text)) }
     {
         request.method().len() <= self.method
             && request.target().len() <= self.target

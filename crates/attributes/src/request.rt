@@ -39,7 +39,7 @@ impl Model for Request {
     ghost use Rattle.attributes.specs.Request.{RequestValue};
     ghost use Rattle.attributes.specs.contracts.address.Ip as ip;
     ghost use Rattle.std.specs.Coded.{codes};
-    ghost use Rattle.attributes.specs.Headers.{header_map_code};
+    ghost use Rattle.attributes.specs.steps.Headers.{header_map_code};
     ghost use Rattle.attributes.specs.steps.Request.{AreKept, of_parts};
 
     ghost Value = { RequestValue };

@@ -10,7 +10,7 @@ use Rattle.std.proofs.lemmas.List.Sums.{sum_by-append}
 use Rattle.std.proofs.lemmas.Slice.Eq.{bytes_eq-Decides}
 use Rattle.attributes.specs.Headers.{Entry}
 use Rattle.http_front.specs.declared.framing.Framing.{Framing}
-use Rattle.http_front.specs.Parsed.{IsFraming}
+use Rattle.http_front.specs.steps.Parsed.{IsFraming}
 use Rattle.http_front.specs.Rules.{IsBadLength, IsLength, count_named}
 
 -- a name is counted where it stands

@@ -13,7 +13,8 @@ use Rattle.httparse.proofs.GrammarLemmas.{cons-append, print_request-append}
 use Rattle.httparse.proofs.TrimLemmas.{AllPass-reverse}
 use Rattle.http_front.specs.Head.{HeadValue, head_of}
 use Rattle.httparse.specs.declared.spans.HeaderSpan.{HeaderSpan}
-use Rattle.http_front.specs.Parsed.{AreTexts, HoldsHead, IsText}
+use Rattle.http_front.specs.steps.Parsed.{AreTexts, HoldsHead}
+use Rattle.attributes.specs.Request.{IsTextEntry}
 use Rattle.http_front.specs.Rules.{IsBadText}
 use Rattle.http_front.proofs.Texts.{utf8_back, utf8_before, utf8_front, utf8_of_ascii, utf8_of_literal}
 
@@ -241,7 +242,7 @@ module _ (tree : RequestHead) (shape : IsRequestHead tree) where
         method = token_is_text tree.method shape.method;
         target = shape.target_text;
         fields =
-            All-map IsText name_and_value tree.fields
+            All-map IsTextEntry name_and_value tree.fields
             (λ k d inside. (token_is_text _ (shape.fields k d inside).name, values k d inside));
       }
 

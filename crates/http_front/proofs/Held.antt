@@ -7,7 +7,7 @@ use Rattle.httparse.specs.Spans.{IsRequestAt, IsRequestWithin, header_bytes, nam
 use Rattle.httparse.specs.declared.spans.HeaderSpan.{HeaderSpan}
 use Rattle.httparse.specs.declared.spans.RequestSpans.{RequestSpans}
 use Rattle.http_front.specs.Head.{HeadValue, StartsHead, head_of, head_room}
-use Rattle.http_front.specs.Parsed.{HoldsHead}
+use Rattle.http_front.specs.steps.Parsed.{HoldsHead}
 use Rattle.http_front.proofs.Spans.{headers-take, slice_range-take}
 
 -- the parser's answer, the bytes of the head and those behind it, and the texts cut out of them

@@ -4,7 +4,7 @@ use Rattle.std.specs.Prelude.{IfNone, Option, Some, None}
 use Rattle.http_header.specs.FieldName.{IsFieldName}
 use Rattle.http_front.specs.declared.fault.HeadFault.{HeadFault}
 use Rattle.http_front.specs.Head.{HeadValue}
-use Rattle.http_front.specs.Parsed.{AreTexts}
+use Rattle.http_front.specs.steps.Parsed.{AreTexts}
 use Rattle.http_front.specs.Rules.{IsBadName, IsBadText, IsOriginForm, LinesFault, RuleFault, lines_of}
 use Rattle.http_front.proofs.FieldLists.{none_has}
 

@@ -1,5 +1,5 @@
 -- What the head at the front of some bytes asks (RFC 9112, sections 2 and 3; RFC 6585, section 5).
-use Rattle.std.specs.Prelude.{◌≡◌, ◌<◌, ◌≤◌, ⊤, ℕ, List, Option, Some, None, length}
+use Rattle.std.specs.Prelude.{◌≡◌, ◌<◌, ◌≤◌, ⊤, ℕ, List, Option, Some, length}
 use Rattle.attributes.specs.Conn.{Facts}
 use Rattle.attributes.specs.Limits.{LimitsValue, InLimits}
 use Rattle.attributes.specs.Request.{RequestValue, request_of}
@@ -47,20 +47,12 @@ pub record IsUnfinished (bytes : List ℕ) : Type 0 where
   pub hope : MayBecomeRequest bytes
   pub in_room : length bytes ≤ head_room
 
--- the answer is what the whole head h asks
-abbrev pub IsAskOf : LimitsValue → Facts → HeadValue → Ask → Type 0
-IsAskOf limits facts h (Judge r) =
-    (r ≡ request_of_head h facts) × ((fault : HeadFault) → ¬ (AskFault limits facts h fault))
-IsAskOf limits facts h (Fault fault) = AskFault limits facts h fault
-
 -- P of the request, if one is to be judged
 abbrev pub IfJudge : Option Ask → (RequestValue → Type 0) → Type 0
-IfJudge None P = ⊤
 IfJudge (Some (Judge r)) P = P r
-IfJudge (Some (Fault fault)) P = ⊤
+IfJudge _ P = ⊤
 
 -- P of the fault, if there is one
 abbrev pub IfFault : Option Ask → (HeadFault → Type 0) → Type 0
-IfFault None P = ⊤
-IfFault (Some (Judge r)) P = ⊤
 IfFault (Some (Fault fault)) P = P fault
+IfFault _ P = ⊤

@@ -1,4 +1,4 @@
 pub mod Head
 pub mod Rules
 pub mod Asks
-pub mod Parsed
+pub mod steps

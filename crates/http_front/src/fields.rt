@@ -5,7 +5,7 @@ ghost use Rattle.std.specs.String.{string_bytes};
 ghost use Rattle.attributes.specs.Headers.{lines_view};
 ghost use Rattle.http_header.specs.FieldName.{IsFieldName};
 ghost use Rattle.httparse.specs.Spans.{IsHeaderWithin, header_bytes};
-ghost use Rattle.http_front.specs.Parsed.{IsText};
+ghost use Rattle.attributes.specs.Request.{IsTextEntry};
 ghost use Rattle.http_front.specs.Rules.{IsBadName, lowered};
 
 use http_header::{MAX_HEADER_NAME_LEN, is_token};
@@ -42,7 +42,7 @@ pub(crate) fn lower_lines(
     fields: &[HeaderSpan],
 ) -> Result<Vec<(String, String)>, AllocError>
     requires within { All (IsHeaderWithin (length bytes.now)) fields.now }
-    requires texts { All IsText (map (header_bytes bytes.now) fields.now) }
+    requires texts { All IsTextEntry (map (header_bytes bytes.now) fields.now) }
     ensures { IfOk result (λ lines.
         lines_view lines.items ≡ map lowered (map (header_bytes bytes.now) fields.now)) }
 {

@@ -3,7 +3,7 @@ ghost use Rattle.std.specs.Prelude.{◌≡◌, ◌^◌, ◌<◌, ◌↔◌, All,
 ghost use Rattle.attributes.specs.Headers.{Entry};
 ghost use Rattle.httparse.specs.Spans.{IsHeaderWithin, header_bytes};
 ghost use Rattle.http_front.specs.declared.fault.HeadFault.{HeadFault};
-ghost use Rattle.http_front.specs.Parsed.{IsFraming};
+ghost use Rattle.http_front.specs.steps.Parsed.{IsFraming};
 ghost use Rattle.http_front.specs.Rules.{IsLength, LinesFault, lowered};
 
 use crate::fault::HeadFault;

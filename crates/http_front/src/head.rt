@@ -5,7 +5,7 @@ ghost use Rattle.attributes.specs.Conn.{conn_view};
 ghost use Rattle.http_header.specs.FieldName.{IsFieldName};
 ghost use Rattle.httparse.specs.Ascii.{line_feed};
 ghost use Rattle.http_front.specs.declared.fault.HeadFault.{HeadFault};
-ghost use Rattle.http_front.specs.Parsed.{AreTexts, IsParsed};
+ghost use Rattle.http_front.specs.steps.Parsed.{AreTexts, IsParsed};
 ghost use Rattle.http_front.specs.Asks.{request_of_head};
 ghost use Rattle.http_front.specs.Head.{head_room};
 ghost use Rattle.http_front.specs.Rules.{IsBadName, IsBadText, IsOriginForm, RuleFault};
@@ -39,7 +39,7 @@ impl<'a> Model for Head<'a> {
 
     ghost Value = { HeadValue };
 
-    ghost use Rattle.http_front.specs.Parsed.{HoldsHead};
+    ghost use Rattle.http_front.specs.steps.Parsed.{HoldsHead};
 
     ghost view = { λ h. record {
       method = h.method.now;

@@ -2,7 +2,8 @@
 ghost use Rattle.std.specs.Prelude.{◌≡◌, ◌==◌, IfNone, IfOk, count_by};
 ghost use Rattle.attributes.specs.Conn.{conn_view};
 ghost use Rattle.httparse.specs.Ascii.{line_feed};
-ghost use Rattle.http_front.specs.Asks.{Asks, HasFault, IfFault, IfJudge, IsAskOf, IsUnfinished};
+ghost use Rattle.http_front.specs.Asks.{Asks, HasFault, IfFault, IfJudge, IsUnfinished};
+ghost use Rattle.http_front.specs.steps.Asks.{IsAskOf};
 
 use crate::fault::HeadFault;
 use crate::head::{Head, Parsed, parse};
@@ -23,9 +24,9 @@ pub enum Ask {
     Fault(HeadFault),
 }
 
-/// Reads what the head at the front of the bytes asks, on a connection of which `conn` is known. What
-/// follows the head is not looked at, and of several faults one that is there is answered. There is
-/// no answer yet where the head goes on behind the bytes and has room there.
+/// Reads what the head at the front of the bytes asks, on a connection of which `conn` is known.
+/// What follows the head is not looked at, and of several faults one that is there is answered.
+/// There is no answer yet where the head goes on behind the bytes and has room there.
 pub fn read_head(
     alloc: Global,
     bytes: &[u8],

@@ -65,10 +65,9 @@ IsEntry kind bytes entry =
 -- each payload is an entry, in order
 abbrev pub AreEntries : (kind : KeyKind) → List (List ℕ) → List (Entry kind) → Type 0
 AreEntries kind [] [] = Unit {0}
-AreEntries kind [] (entry ∷ entries) = ⊥
-AreEntries kind (part ∷ parts) [] = ⊥
 AreEntries kind (part ∷ parts) (entry ∷ entries) =
     IsEntry kind part entry × AreEntries kind parts entries
+AreEntries kind parts entries = ⊥
 
 -- the map of the entries: at each key the payloads of its last entry
 abbrev pub map_of : (kind : KeyKind) → List (Entry kind)
@@ -108,14 +107,6 @@ abbrev pub SomeValueFault : (kind : KeyKind) → (List (List ℕ) → Refusal �
     → List (Entry kind) → Refusal → Type 0
 SomeValueFault kind ValueFault entries e = (key : KeyOf kind) × (parts : List (List ℕ))
     × (find (key_cmp kind) key entries ≡ Some parts) × ValueFault parts e
-
--- the values stand at the keys of the payloads, each in its place
-abbrev pub Held : (kind : KeyKind) {V : Type 0} → (List (List ℕ) → V → Type 0)
-    → List (Entry kind) → List (KeyOf kind × V) → Type 0
-Held kind IsValue [] values = values ≡ []
-Held kind {V} IsValue (entry ∷ entries) values =
-    (value : V) × (others : List (KeyOf kind × V)) × IsValue entry.1 value
-    × Held kind IsValue entries others × (values ≡ (entry.0, value) ∷ others)
 
 -- ---- the code's maps
 

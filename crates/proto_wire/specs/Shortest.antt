@@ -3,7 +3,7 @@
 use Rattle.std.specs.Prelude.{◌≡◌, ℕ, ◌+◌, ◌*◌, ◌<◌, ◌≤◌, List, [], ◌∷◌, ◌++◌, length}
 use Rattle.std.specs.List.{AllByRecursion}
 use Rattle.proto_wire.specs.Varint.{SpellsVarint}
-use Rattle.proto_wire.specs.Fields.{Payload, varint, i64, len, i32, Wire, wire_type_of, tag_bits, IsFieldNumber, SpellsPayload}
+use Rattle.proto_wire.specs.Fields.{Payload, varint, len, Wire, wire_type_of, tag_bits, IsFieldNumber, SpellsPayload}
 
 -- each of them is a byte
 abbrev pub AreBytes : List ℕ → Type 0
@@ -18,10 +18,9 @@ pub record ShortestVarint (bytes : List ℕ) (n : ℕ) : Type 0 where
 -- the bytes of a payload, behind its tag
 abbrev pub ShortestPayload : List ℕ → Payload → Type 0
 ShortestPayload bytes (varint n) = ShortestVarint bytes n
-ShortestPayload bytes (i64 n) = AreBytes bytes × SpellsPayload bytes (i64 n)
 ShortestPayload bytes (len inner) =
     (size : List ℕ) × ShortestVarint size (length inner) × (bytes ≡ size ++ inner)
-ShortestPayload bytes (i32 n) = AreBytes bytes × SpellsPayload bytes (i32 n)
+ShortestPayload bytes p = AreBytes bytes × SpellsPayload bytes p
 
 -- the bytes of a field: its tag, and then its payload
 pub record ShortestField (bytes : List ℕ) (f : Wire) : Type 0 where

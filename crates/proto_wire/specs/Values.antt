@@ -4,7 +4,7 @@ use Rattle.std.specs.Prelude.{◌≡◌, ℕ, ℤ, ◌==◌, ◌%◌, ◌^◌, B
 use Rattle.std.specs.Int.{cast_signed, w32, w64}
 use Rattle.std.specs.List.{filter_map, list_any}
 use Rattle.std.specs.Str.{IsUtf8}
-use Rattle.proto_wire.specs.Fields.{Payload, varint, i64, len, i32, Wire}
+use Rattle.proto_wire.specs.Fields.{Payload, varint, len, Wire}
 use Rattle.proto_wire.specs.Keys.{len_key, varint_key, is_known}
 use Rattle.proto_wire.specs.declared.refusal.Refusal.{Refusal}
 use Rattle.proto_wire.specs.declared.refusal.Refusal.TheVariants.{BadText}
@@ -12,16 +12,12 @@ use Rattle.proto_wire.specs.declared.refusal.Refusal.TheVariants.{BadText}
 -- the number, where the payload is a varint
 abbrev pub varint_in : Payload → Option ℕ
 varint_in (varint n) = Some n
-varint_in (i64 n) = None
-varint_in (len bytes) = None
-varint_in (i32 n) = None
+varint_in _ = None
 
 -- the bytes, where the payload is length-delimited
 abbrev pub len_in : Payload → Option (List ℕ)
-len_in (varint n) = None
-len_in (i64 n) = None
 len_in (len bytes) = Some bytes
-len_in (i32 n) = None
+len_in _ = None
 
 -- the values of the VARINT fields of this number, in order
 abbrev pub varints : ℕ → List Wire → List ℕ

@@ -1,5 +1,6 @@
 -- What single steps of the code come to: clauses of private functions cite these, and no promise
 -- does.
+pub mod Maps
 pub mod Payload
 pub mod Run
 pub mod Writing

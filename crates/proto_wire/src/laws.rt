@@ -1,5 +1,6 @@
-//! Laws of the definitions: bytes are one list of fields, or broken at one place, and never both; the same of a message
-//! in several payloads, and of the entries of a map. Fields have one shortest spelling, which reads back.
+//! Laws of the definitions: bytes are one list of fields, or broken at one place, and never both;
+//! the same of a message in several payloads, and of the entries of a map. Fields have one shortest
+//! spelling, which reads back.
 
 ghost use Rattle.std.specs.Prelude.{◌≡◌, ◌⊎◌, ℕ, List};
 ghost use Rattle.std.specs.List.{concat};
@@ -25,7 +26,7 @@ pub fn fields_total()
         ⊎ ((fs : List Wire) × (e : WireError) × Broken bytes fs e) }
 {}
 
-/// Bytes are never both.
+/// No bytes are both a list of fields and broken.
 pub fn fields_disjoint()
     ensures { (bytes : List ℕ) (fs gs : List Wire) (e : WireError)
         → Fields bytes fs → Broken bytes gs e → ⊥ }
@@ -48,7 +49,7 @@ pub fn merges_total()
     ensures { (parts : List (List ℕ)) → ((fs : List Wire) × Merges parts fs) ⊎ Breaks parts }
 {}
 
-/// Payloads never do both.
+/// No payloads both merge and break.
 pub fn merges_disjoint()
     ensures { (parts : List (List ℕ)) (fs : List Wire) → Merges parts fs → Breaks parts → ⊥ }
 {}
@@ -62,10 +63,11 @@ pub fn merges_joined()
 /// Payloads are a message with these keys, or have a fault.
 pub fn message_total()
     ensures { (keys : List Key) (parts : List (List ℕ))
-        → ((fs : List Wire) × IsMessage keys parts fs) ⊎ ((e : Refusal) × MessageFault keys parts e) }
+        → ((fs : List Wire) × IsMessage keys parts fs)
+        ⊎ ((e : Refusal) × MessageFault keys parts e) }
 {}
 
-/// Payloads are never both.
+/// No payloads are both a message with these keys and at fault.
 pub fn message_disjoint()
     ensures { (keys : List Key) (parts : List (List ℕ)) (fs : List Wire) (e : Refusal)
         → IsMessage keys parts fs → MessageFault keys parts e → ⊥ }
@@ -80,10 +82,11 @@ pub fn message_unique()
 /// Payloads are the entries of a map, or some payload has a fault.
 pub fn entries_total()
     ensures { (kind : KeyKind) (parts : List (List ℕ))
-        → ((es : List (Entry kind)) × AreEntries kind parts es) ⊎ ((e : Refusal) × SomeEntryFault kind parts e) }
+        → ((es : List (Entry kind)) × AreEntries kind parts es)
+        ⊎ ((e : Refusal) × SomeEntryFault kind parts e) }
 {}
 
-/// Payloads are never both.
+/// No payloads are both the entries of a map and at fault.
 pub fn entries_disjoint()
     ensures { (kind : KeyKind) (parts : List (List ℕ)) (es : List (Entry kind)) (e : Refusal)
         → AreEntries kind parts es → SomeEntryFault kind parts e → ⊥ }

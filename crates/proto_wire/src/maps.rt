@@ -1,5 +1,5 @@
-//! Maps, which stand in a message as repeated entries with a key 1 and a value 2 (Protocol Buffers encoding guide,
-//! "Maps").
+//! Maps, which stand in a message as repeated entries with a key 1 and a value 2 (Protocol Buffers
+//! encoding guide, "Maps").
 
 ghost use Rattle.std.specs.Prelude.{◌≡◌, [], ◌∷◌, List, Err, IfOk, IfErr, MatchResult, map};
 ghost use Rattle.std.specs.FinMap.{entries};
@@ -67,11 +67,13 @@ pub trait MapKey<'a>: KeyOrder + Drop + Sized {
     fn entry_keys() -> &'static [Key]
         ensures { result.now ≡ entry_keys Self.kind };
 
-    /// The key of an entry with these fields, or its default: `BadText` where a string is no UTF-8. It takes no memory.
+    /// The key of an entry with these fields, or its default: `BadText` where a string is no UTF-8.
+    /// It takes no memory.
     fn read_key(fields: &[Field<'a>]) -> Result<Self, Refusal>
         ensures found { let fs = map field_view fields.now in
             IfOk result (λ key. KeyReads Self.kind fs × (Self.key_view key ≡ key_at Self.kind fs)) }
-        ensures fault { IfErr result (λ e. ¬ (KeyReads Self.kind (map field_view fields.now)) × (e ≡ BadText)) };
+        ensures fault { IfErr result (λ e. ¬ (KeyReads Self.kind (map field_view fields.now))
+            × (e ≡ BadText)) };
 }
 
 impl<'a> MapKey<'a> for &'a str {
@@ -86,7 +88,8 @@ impl<'a> MapKey<'a> for &'a str {
     fn read_key(fields: &[Field<'a>]) -> Result<&'a str, Refusal>
         ensures found { let fs = map field_view fields.now in
             IfOk result (λ key. KeyReads text fs × (key.now ≡ key_at text fs)) }
-        ensures fault { IfErr result (λ e. ¬ (KeyReads text (map field_view fields.now)) × (e ≡ BadText)) }
+        ensures fault { IfErr result (λ e. ¬ (KeyReads text (map field_view fields.now))
+            × (e ≡ BadText)) }
     {
         text_at(fields, KEY)
     }
@@ -125,19 +128,21 @@ fn read_entry<'a, K: MapKey<'a>>(
     Ok(MapEntry { key, parts })
 }
 
-/// Reads the entries of a map, of which each has a payload, as the payloads of the values by key: of the entries with
-/// one key the last counts. `BadWire` where an entry breaks, `UnknownField` where it has another field, `BadText` where
-/// its key is no UTF-8.
+/// Reads the entries of a map, of which each has a payload, as the payloads of the values by key:
+/// of the entries with one key the last counts. `BadWire` where an entry breaks, `UnknownField`
+/// where it has another field, `BadText` where its key is no UTF-8.
 pub fn read_entries<'a, K: MapKey<'a>>(
     alloc: Global,
     payloads: &[&'a [u8]],
 ) -> Result<BTreeMap<K, Vec<&'a [u8]>>, Refusal>
-    ensures found { IfOk result (λ m. (es : List (Entry K.kind)) × AreEntries K.kind (parts_view payloads.now) es
+    ensures found { IfOk result (λ m. (es : List (Entry K.kind))
+        × AreEntries K.kind (parts_view payloads.now) es
         × (entries_view K.kind K.key_view m.entries ≡ entries (map_of K.kind es))) }
     ensures fault { IfErr result (MemoryOr (SomeEntryFault K.kind (parts_view payloads.now))) }
     ensures at_once { FirstBreaks (parts_view payloads.now) → result ≡ Err Refusal.BadWire }
     ensures reads { (es : List (Entry K.kind)) → AreEntries K.kind (parts_view payloads.now) es
-        → MatchResult result (λ m. entries_view K.kind K.key_view m.entries ≡ entries (map_of K.kind es))
+        → MatchResult result (λ m. entries_view K.kind K.key_view m.entries
+        ≡ entries (map_of K.kind es))
         (λ e. e ≡ Refusal.Memory) }
 {
     let mut named = BTreeMap::new(alloc);

@@ -13,8 +13,8 @@ use crate::reader::Reader;
 use crate::refusal::Refusal;
 use std::alloc::Global;
 
-/// The fields of a message, in order: `BadWire` where the bytes break, and `Memory` only once a field was there to
-/// keep.
+/// The fields of a message, in order: `BadWire` where the bytes break, and `Memory` only once a
+/// field was there to keep.
 pub fn read_fields<'a>(alloc: Global, bytes: &'a [u8]) -> Result<Vec<Field<'a>>, Refusal>
     ensures found { IfOk result (λ v. Fields bytes.now (map field_view v.items)) }
     ensures fault { IfErr result (MemoryOr (BytesFault bytes.now)) }
@@ -27,8 +27,8 @@ pub fn read_fields<'a>(alloc: Global, bytes: &'a [u8]) -> Result<Vec<Field<'a>>,
     Ok(fields)
 }
 
-/// The fields of a message that stands in several payloads, each of them whole fields by itself: those of the payloads
-/// put one after the other. `BadWire` where a payload breaks.
+/// The fields of a message that stands in several payloads, each of them whole fields by itself:
+/// those of the payloads put one after the other. `BadWire` where a payload breaks.
 pub fn read_parts<'a>(alloc: Global, parts: &[&'a [u8]]) -> Result<Vec<Field<'a>>, Refusal>
     ensures found { IfOk result (λ v. Merges (parts_view parts.now) (map field_view v.items)) }
     ensures fault { IfErr result (MemoryOr (PartsFault (parts_view parts.now))) }
@@ -43,14 +43,15 @@ pub fn read_parts<'a>(alloc: Global, parts: &[&'a [u8]]) -> Result<Vec<Field<'a>
     Ok(fields)
 }
 
-/// The fields of a message that stands in several payloads, each of them whole fields by itself: `BadWire` where a
-/// payload breaks, `UnknownField` where some field has none of the keys.
+/// The fields of a message that stands in several payloads, each of them whole fields by itself:
+/// `BadWire` where a payload breaks, `UnknownField` where some field has none of the keys.
 pub fn read_message<'a>(
     alloc: Global,
     parts: &[&'a [u8]],
     keys: &[Key],
 ) -> Result<Vec<Field<'a>>, Refusal>
-    ensures found { IfOk result (λ v. IsMessage keys.now (parts_view parts.now) (map field_view v.items)) }
+    ensures found { IfOk result (λ v. IsMessage keys.now (parts_view parts.now)
+        (map field_view v.items)) }
     ensures fault { IfErr result (MemoryOr (MessageFault keys.now (parts_view parts.now))) }
     ensures at_once { FirstBreaks (parts_view parts.now) → result ≡ Err Refusal.BadWire }
     ensures reads { (fs : List Wire) → IsMessage keys.now (parts_view parts.now) fs

@@ -10,7 +10,8 @@ use crate::field::Field;
 use crate::key::{Key, is_known};
 use std::alloc::{AllocError, Global};
 
-/// Of a oneof of scalars the last member: the last field that has a member's key. It takes no memory.
+/// Of a oneof of scalars the last member: the last field that has a member's key. It takes no
+/// memory.
 pub fn last_member<'a>(fields: &[Field<'a>], keys: &[Key]) -> Option<Field<'a>>
     ensures { option_map field_view result ≡ last_member keys.now (map field_view fields.now) }
 {
@@ -30,7 +31,8 @@ pub fn member_run<'a>(
     fields: &[Field<'a>],
     keys: &[Key],
 ) -> Result<Vec<Field<'a>>, AllocError>
-    ensures { IfOk result (λ v. map field_view v.items ≡ member_run keys.now (map field_view fields.now)) }
+    ensures { IfOk result (λ v. map field_view v.items
+        ≡ member_run keys.now (map field_view fields.now)) }
 {
     let mut run: Vec<Field<'a>> = Vec::new(alloc);
     for field in fields {

@@ -38,7 +38,8 @@ impl<'a> Reader<'a> {
         ensures fault { IfErr result (λ e.
             (self.old ≢ []) × FailsField self.old e × (self.new ≡ self.old)) }
         ensures reads { (f : Wire) (rest : List ℕ) → StartsField self.old f rest
-            → IsOkAnd result (λ found. IsSomeAnd found (λ g. field_view g ≡ f)) × (self.new ≡ rest) }
+            → IsOkAnd result (λ found. IsSomeAnd found (λ g. field_view g ≡ f))
+            × (self.new ≡ rest) }
         ensures fails { (e : WireError) → self.old ≢ [] → FailsField self.old e → result ≡ Err e }
     {
         if self.rest.is_empty() {

@@ -85,9 +85,9 @@ const WIRE_ERRORS: [(WireError, &str); 4] = [
     (WireError::BadWireType, "a wire type is not known"),
 ];
 
-/// Payloads of messages with the fields `Varint 1` and `Len 2`: one that breaks at once, behind a field, behind a
-/// payload; a number that is not known, a known one with another wire type, and an unknown one behind a payload that
-/// breaks.
+/// Payloads of messages with the fields `Varint 1` and `Len 2`: one that breaks at once, behind a
+/// field, behind a payload; a number that is not known, a known one with another wire type, and an
+/// unknown one behind a payload that breaks.
 const REFUSED: [(&[&[u8]], Refusal); 6] = [
     (&[b"\x0b"], Refusal::BadWire),
     (&[b"\x08\x01\x08"], Refusal::BadWire),
@@ -216,8 +216,8 @@ fn scalars(rt: HostRuntime) -> Result<(), Fail> {
     Ok(())
 }
 
-/// Entries with a fault: one that breaks, one with a field 3, one whose key has another wire type, and a key that is no
-/// UTF-8.
+/// Entries with a fault: one that breaks, one with a field 3, one whose key has another wire type,
+/// and a key that is no UTF-8.
 const BAD_ENTRIES: [(&[u8], Refusal); 4] = [
     (b"\x0a\x01", Refusal::BadWire),
     (b"\x0a\x01p\x18\x01", Refusal::UnknownField),
@@ -225,7 +225,8 @@ const BAD_ENTRIES: [(&[u8], Refusal); 4] = [
     (b"\x0a\x01\xff", Refusal::BadText),
 ];
 
-/// The last entry of a key counts, its two values merge, and an entry without a key has the empty one.
+/// The last entry of a key counts, its two values merge, and an entry without a key has the empty
+/// one.
 #[test]
 fn text_maps(rt: HostRuntime) -> Result<(), Fail> {
     let alloc = rt.alloc();
@@ -255,7 +256,8 @@ fn text_maps(rt: HostRuntime) -> Result<(), Fail> {
     Ok(())
 }
 
-/// The same with int64 keys: 5 twice, -1, and none, which is 0; a key that is a string is an unknown field.
+/// The same with int64 keys: 5 twice, -1, and none, which is 0; a key that is a string is an
+/// unknown field.
 #[test]
 fn int64_maps(rt: HostRuntime) -> Result<(), Fail> {
     let alloc = rt.alloc();
@@ -305,8 +307,8 @@ fn written_varints(rt: HostRuntime) -> Result<(), Fail> {
     Ok(())
 }
 
-/// The string "testing" as field 2, a message whose field 1 is 150 as field 3, packed numbers as field 6, and the
-/// greatest field number, behind a byte that was there.
+/// The string "testing" as field 2, a message whose field 1 is 150 as field 3, packed numbers as
+/// field 6, and the greatest field number, behind a byte that was there.
 #[test]
 fn written_fields(rt: HostRuntime) -> Result<(), Fail> {
     let mut bytes = Vec::new(rt.alloc());
@@ -322,7 +324,8 @@ fn written_fields(rt: HostRuntime) -> Result<(), Fail> {
     Ok(())
 }
 
-/// A filter of one policy, `p`, that lets all through: each message is written, and then stands in the next as a field.
+/// A filter of one policy, `p`, that lets all through: each message is written, and then stands in
+/// the next as a field.
 #[test]
 fn written_messages(rt: HostRuntime) -> Result<(), Fail> {
     let alloc = rt.alloc();

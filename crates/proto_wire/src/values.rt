@@ -1,5 +1,5 @@
-//! The values among a message's fields: the varints and the LEN payloads of a number, and the scalars that the last of
-//! them are.
+//! The values among a message's fields: the varints and the LEN payloads of a number, and the
+//! scalars that the last of them are.
 
 ghost use Rattle.std.specs.Prelude.{◌≡◌, ◌==◌, cond, [], ◌∷◌, map, Some, None, IfOk, IfErr, MatchOption, IsUtf8};
 ghost use Rattle.proto_wire.specs.Fields.{payload_view, field_view};
@@ -83,8 +83,8 @@ pub fn text_of(bytes: &[u8]) -> Result<&str, Refusal>
     }
 }
 
-/// The string of this number: the last one, and empty where there is none; `BadText` where that is no UTF-8. It takes
-/// no memory.
+/// The string of this number: the last one, and empty where there is none; `BadText` where that is
+/// no UTF-8. It takes no memory.
 pub fn text_at<'a>(fields: &[Field<'a>], number: u32) -> Result<&'a str, Refusal>
     ensures found { let bytes = bytes_at number (map field_view fields.now) in
         IfOk result (λ text. (text.now ≡ bytes) × IsUtf8 bytes) }
@@ -103,14 +103,16 @@ pub fn bool_at(fields: &[Field<'_>], number: u32) -> bool
     }
 }
 
-/// The uint32 of this number, or an enum: the low 32 bits of the last one, and 0 where there is none.
+/// The uint32 of this number, or an enum: the low 32 bits of the last one, and 0 where there is
+/// none.
 pub fn uint32_at(fields: &[Field<'_>], number: u32) -> u32
     ensures { result ≡ uint32_at number (map field_view fields.now) }
 {
     (last_varint(fields, number).unwrap_or(0) % 0x1_0000_0000) as u32
 }
 
-/// The int32 of this number: the low 32 bits of the last one in two's complement, and 0 where there is none.
+/// The int32 of this number: the low 32 bits of the last one in two's complement, and 0 where there
+/// is none.
 pub fn int32_at(fields: &[Field<'_>], number: u32) -> i32
     ensures { result ≡ int32_at number (map field_view fields.now) }
 {

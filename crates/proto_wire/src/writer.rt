@@ -14,8 +14,8 @@ const VARINT: u64 = 0;
 /// The number of LEN.
 const LEN: u64 = 2;
 
-/// Puts fields behind the bytes of a vector. Each call writes the whole field, or leaves the bytes as they were where
-/// memory runs out. Field numbers are 1 to 2^29 - 1.
+/// Puts fields behind the bytes of a vector. Each call writes the whole field, or leaves the bytes
+/// as they were where memory runs out. Field numbers are 1 to 2^29 - 1.
 #[derive(Debug, Drop)]
 pub struct Writer {
     bytes: Vec<u8>,
@@ -42,7 +42,8 @@ impl Writer {
         self.bytes
     }
 
-    /// Writes a VARINT field: a bool, an enum or an integer; negative ones in 64 bits of two's complement.
+    /// Writes a VARINT field: a bool, an enum or an integer; negative ones in 64 bits of two's
+    /// complement.
     pub fn varint(&mut self, number: u32, value: u64) -> Result<(), AllocError>
         requires { IsFieldNumber number }
         ensures written { OnOk result (Appends self.old (field_of number (varint value)) self.new) }
@@ -65,7 +66,8 @@ impl Writer {
     /// Writes a LEN field of these bytes.
     pub fn bytes(&mut self, number: u32, bytes: &[u8]) -> Result<(), AllocError>
         requires { IsFieldNumber number }
-        ensures written { OnOk result (Appends self.old (field_of number (len bytes.now)) self.new) }
+        ensures written { OnOk result (Appends self.old
+            (field_of number (len bytes.now)) self.new) }
         ensures unchanged { OnErr result (self.new ≡ self.old) }
     {
         let start = self.bytes.len();
@@ -76,7 +78,8 @@ impl Writer {
     /// Writes a LEN field that is a message, which these are the bytes of.
     pub fn message(&mut self, number: u32, message: &[u8]) -> Result<(), AllocError>
         requires { IsFieldNumber number }
-        ensures written { OnOk result (Appends self.old (field_of number (len message.now)) self.new) }
+        ensures written { OnOk result (Appends self.old
+            (field_of number (len message.now)) self.new) }
         ensures unchanged { OnErr result (self.new ≡ self.old) }
     {
         self.bytes(number, message)
@@ -101,7 +104,8 @@ impl Writer {
 
 fn append_varint_field(out: &mut Vec<u8>, number: u32, value: u64) -> Result<(), AllocError>
     requires { IsFieldNumber number }
-    ensures written { OnOk result (Appends out.old.items (field_of number (varint value)) out.new.items) }
+    ensures written { OnOk result (Appends out.old.items
+        (field_of number (varint value)) out.new.items) }
     ensures kept { Keeps out.old.items out.new.items }
 {
     append_varint(out, u64::from(number) * 8 + VARINT)?;
@@ -110,7 +114,8 @@ fn append_varint_field(out: &mut Vec<u8>, number: u32, value: u64) -> Result<(),
 
 fn append_len_field(out: &mut Vec<u8>, number: u32, bytes: &[u8]) -> Result<(), AllocError>
     requires { IsFieldNumber number }
-    ensures written { OnOk result (Appends out.old.items (field_of number (len bytes.now)) out.new.items) }
+    ensures written { OnOk result (Appends out.old.items
+        (field_of number (len bytes.now)) out.new.items) }
     ensures kept { Keeps out.old.items out.new.items }
 {
     append_varint(out, u64::from(number) * 8 + LEN)?;

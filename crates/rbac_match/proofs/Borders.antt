@@ -1,12 +1,12 @@
 -- The search for a part, one byte more at a time: with how many first bytes of the part the bytes so far end.
-use Rattle.std.proofs.Common.{◌≡◌, ◌≢◌, ◌⊎◌, inl, inr, ℕ, zero, suc, ◌+◌, ◌-◌, ◌<◌, ◌≤◌, List, [], ◌∷◌, ◌++◌, length, take, drop, get_or, true, refl, sym, ap, subst, ◌∙◌, arith}
+use Rattle.std.proofs.Common.{◌≡◌, ◌≢◌, inl, inr, ℕ, zero, suc, ◌+◌, ◌-◌, ◌<◌, ◌≤◌, List, [], ◌∷◌, ◌++◌, length, take, drop, get_or, true, refl, sym, ap, subst, ◌∙◌, arith}
 use Rattle.std.proofs.lemmas.Bool.{cases_lt}
 use Rattle.std.proofs.lemmas.List.{drop-drop, drop-append-le, drop_all, drop_at, take_at, take_more, take_all, length-take-le, length-drop, length-append, length-map, get_or-map, get_or_append_left, get_or_push, append_assoc, take-append-drop}
 use Rattle.std.specs.Char.{to_ascii_lowercase}
 use Rattle.std.specs.Str.{str_to_ascii_lowercase}
 use Rattle.rbac_match.specs.Text.{is_substring}
 use Rattle.rbac_match.proofs.Texts.{substring_split, split_substring}
-use Rattle.rbac_match.specs.steps.Search.{EndsWithFirst, EndsWithMost, AreBorders, AreAllBorders}
+use Rattle.rbac_match.specs.steps.Search.{EndsWithFirst, EndsWithMost, AreBorders}
 
 -- ---- the bytes of one end within another
 

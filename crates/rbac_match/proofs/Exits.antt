@@ -1,5 +1,5 @@
 -- What a `?` passes on: beside those of `proto_wire`, the fault of a callee that takes no memory.
-use Rattle.std.proofs.Common.{◌≡◌, ◌⊎◌, inl, inr, List, ℕ}
+use Rattle.std.proofs.Common.{◌≡◌, inr}
 use Rattle.std.specs.Prelude.{Result, IfErr, IsErrAnd}
 use Rattle.std.proofs.lemmas.Result.{err_from_is_err_and, MatchResult-weaker}
 use Rattle.proto_wire.specs.Refusal.{MemoryOr}

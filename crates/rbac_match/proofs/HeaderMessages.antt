@@ -1,5 +1,5 @@
 -- A HeaderMatcher's payloads are a test of a header or have a fault, never both, and they mean one test at most.
-use Rattle.std.proofs.Common.{◌≡◌, ◌≢◌, ℕ, ◌⊎◌, inl, inr, Bool, true, false, List, [], ◌∷◌, Option, Some, None, refl, sym, ap, ap₂, subst, ◌∙◌}
+use Rattle.std.proofs.Common.{◌≡◌, ◌≢◌, ℕ, ◌⊎◌, inl, inr, true, List, [], ◌∷◌, Option, Some, None, refl, sym, ap, ap₂, subst, ◌∙◌}
 use Rattle.std.specs.Map.{keys_of}
 use Rattle.std.specs.Str.{IsUtf8, str_to_ascii_lowercase}
 use Rattle.std.proofs.lemmas.Str.Ascii.{lowercase-lowercase}
@@ -10,10 +10,9 @@ use Rattle.proto_wire.specs.Messages.{IsMessage, MessageFault}
 use Rattle.proto_wire.proofs.Unique.{merges_unique}
 use Rattle.proto_wire.proofs.Messages.{message_total, message_disjoint}
 use Rattle.proto_wire.specs.declared.refusal.Refusal.{Refusal}
-use Rattle.proto_wire.specs.declared.refusal.Refusal.TheVariants.{BadText, Missing, OutOfRange, Unsupported}
+use Rattle.proto_wire.specs.declared.refusal.Refusal.TheVariants.{BadText, Missing, Unsupported}
 use Rattle.rbac_match.specs.Message.{start_field, end_field, range_keys}
 use Rattle.rbac_match.specs.Oneof.{last_number, member_in}
-use Rattle.rbac_match.specs.Text.{TextTest, IsSought, IsTextMatcher, SoughtFault, TextFault}
 use Rattle.rbac_match.specs.Int64Range.{IsRange}
 use Rattle.rbac_match.specs.Header.{HeaderTest, specifiers, name_field, invert_match_field, treat_missing_header_as_empty_field, header_keys, SaysMember, SaysSpecifier, says_nothing, says_member, IsHeader, HeaderMemberFault, MemberReads, HeaderFault, header_fields, name_unreadable, name_missing, in_specifier}
 use Rattle.rbac_match.specs.declared.int64_range.Int64Range.{Int64Range}
@@ -23,7 +22,6 @@ use Rattle.rbac_match.specs.declared.header.Specifier.{Specifier}
 use Rattle.rbac_match.specs.declared.header.Specifier.TheVariants.{Present, Text, Range}
 use Rattle.rbac_match.specs.declared.text.Pattern.{Pattern}
 use Rattle.rbac_match.proofs.Basics.{nil_or_not, utf8_or_not}
-use Rattle.rbac_match.proofs.Oneofs.{of_last, some_last}
 use Rattle.rbac_match.proofs.TextMessages.{sought_total, sought_disjoint, text_total, text_disjoint, text_unique}
 
 -- ---- names

@@ -3,6 +3,7 @@ use Rattle.std.proofs.Common.{◌≡◌, ℕ, ◌⊎◌, inl, inr, List, refl, s
 use Rattle.proto_wire.specs.Fields.{Wire}
 use Rattle.proto_wire.specs.Values.{payloads}
 use Rattle.proto_wire.specs.declared.refusal.Refusal.{Refusal}
+use Rattle.rbac_match.specs.Oneof.{MadeOf}
 use Rattle.rbac_match.specs.Leaves.{IsLeaf, LeafFault}
 use Rattle.rbac_match.specs.declared.matcher.Matcher.{Matcher}
 use Rattle.rbac_match.specs.declared.matcher.Matcher.TheVariants as matcher
@@ -16,12 +17,9 @@ use Rattle.rbac_match.proofs.PathMessages.{path_total, path_disjoint, path_uniqu
 use Rattle.rbac_match.proofs.AuthenticatedMessages.{authenticated_total, authenticated_disjoint, authenticated_unique}
 
 -- a matcher made of what was read, or the fault
-abbrev Made : {V : Type 0} → (V → Type 0) → (V → Matcher) → Matcher → Type 0
-Made {V} Is make m = (v : V) × Is v × (m ≡ make v)
-
 made_total : {V : Type 0} (Is : V → Type 0) (Fails : Refusal → Type 0) (make : V → Matcher)
     → ((v : V) × Is v) ⊎ ((e : Refusal) × Fails e)
-    → ((m : Matcher) × Made Is make m) ⊎ ((e : Refusal) × Fails e)
+    → ((m : Matcher) × MadeOf Is make m) ⊎ ((e : Refusal) × Fails e)
 made_total Is Fails make (inl read) = inl (make read.0, (read.0, read.1, refl))
 made_total Is Fails make (inr bad) = inr bad
 

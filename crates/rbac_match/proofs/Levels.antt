@@ -1,5 +1,5 @@
 -- One level of a rule, from its last member and the rules in it.
-use Rattle.std.proofs.Common.{◌≡◌, ℕ, zero, suc, ◌-◌, ◌<◌, List, [], ◌∷◌, ◌++◌, refl, subst, rules, arith, Contains, Bor, get_or, length}
+use Rattle.std.proofs.Common.{◌≡◌, ℕ, zero, suc, ◌-◌, ◌<◌, List, [], ◌∷◌, ◌++◌, refl, rules, arith, Contains, Bor, get_or, length}
 use Rattle.std.specs.Prelude.{MatchOption, Some, None}
 use Rattle.proto_wire.specs.Fields.{Wire}
 use Rattle.proto_wire.specs.Merge.{parts_view}

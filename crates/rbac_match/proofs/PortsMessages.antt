@@ -9,7 +9,8 @@ use Rattle.proto_wire.proofs.Messages.{message_total, message_disjoint}
 use Rattle.proto_wire.specs.declared.refusal.Refusal.{Refusal}
 use Rattle.proto_wire.specs.declared.refusal.Refusal.TheVariants.{OutOfRange}
 use Rattle.rbac_match.specs.Message.{start_field, end_field, range_keys}
-use Rattle.rbac_match.specs.Ports.{PortSpan, IsPort, PortFault, AreBounds, AreNoBounds, IsPortRange, PortRangeFault, range_fields, no_bounds}
+use Rattle.rbac_match.specs.Ports.{PortSpan, IsPort, PortFault, AreBounds, IsPortRange, PortRangeFault, range_fields, no_bounds}
+use Rattle.rbac_match.specs.steps.Ports.{AreNoBounds}
 
 -- a run says a port, or a number that is none
 pub port_total : (n : ℕ) (run : List Wire) → ((port : ℕ) × IsPort n run port) ⊎ ((e : Refusal) × PortFault n run e)
@@ -40,7 +41,7 @@ bounds_total fs (pos m) (pos n) start end = elim (cases_lt 65536 n) [
 ]
 
 -- never both
-bounds_disjoint : (fs : List Wire) (span : PortSpan) → AreBounds fs span → AreNoBounds fs → ⊥
+pub bounds_disjoint : (fs : List Wire) (span : PortSpan) → AreBounds fs span → AreNoBounds fs → ⊥
 bounds_disjoint fs span are (inl below) = omega (arith, ints, are.0, below)
 bounds_disjoint fs span are (inr (inl above)) = omega (arith, ints, are.1, are.3, above)
 bounds_disjoint fs span are (inr (inr none)) = omega (arith, ints, are.0, are.1, are.2, none)
@@ -52,7 +53,7 @@ port_range_total parts = elim (message_total range_keys parts) [
   | inr bad ↦ inr (bad.0, range_fields bad.1)
   | inl (fs, message) ↦ elim (bounds_total fs _ _ refl refl) [
     | inl some ↦ inl (some.0, (fs, message, some.1))
-    | inr none ↦ inr (OutOfRange, no_bounds fs message.0 none refl)
+    | inr none ↦ inr (OutOfRange, no_bounds fs message.0 (λ span are. bounds_disjoint fs span are none) refl)
   ]
 ]
 
@@ -61,7 +62,7 @@ pub port_range_disjoint : (parts : List (List ℕ)) (span : PortSpan) (e : Refus
     → PortRangeFault parts e → ⊥
 port_range_disjoint parts span e (fs, message, are) (range_fields bad) = message_disjoint range_keys parts fs e message bad
 port_range_disjoint parts span e (fs, message, are) (no_bounds gs merged none is) =
-    bounds_disjoint fs span are (subst AreNoBounds (merges_unique parts gs fs merged message.0) none)
+    none span (subst (λ xs. AreBounds xs span) (sym (merges_unique parts gs fs merged message.0)) are)
 
 -- one range at most
 pub port_range_unique : (parts : List (List ℕ)) (v w : PortSpan) → IsPortRange parts v → IsPortRange parts w

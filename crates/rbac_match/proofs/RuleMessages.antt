@@ -1,9 +1,8 @@
 -- A rule's payloads are a rule or have a fault, never both, and they say one formula at most.
-use Rattle.std.proofs.Common.{◌≡◌, ◌≢◌, ℕ, zero, suc, ◌<◌, ◌⊎◌, inl, inr, List, [], ◌∷◌, Contains, Option, Some, None, refl, sym, ap, subst, arith, ◌∙◌}
+use Rattle.std.proofs.Common.{◌≡◌, ℕ, zero, suc, ◌<◌, ◌⊎◌, inl, inr, List, [], ◌∷◌, Contains, Option, Some, None, refl, sym, ap, subst, arith, ◌∙◌}
 use Rattle.proto_wire.specs.Fields.{Wire}
 use Rattle.proto_wire.specs.Values.{payloads, varint_at}
 use Rattle.proto_wire.specs.Oneof.{member_run}
-use Rattle.proto_wire.specs.Merge.{Merges}
 use Rattle.proto_wire.specs.Messages.{IsMessage}
 use Rattle.proto_wire.proofs.Unique.{merges_unique}
 use Rattle.proto_wire.proofs.Messages.{message_total, message_disjoint}

@@ -1,11 +1,10 @@
 -- What stands in a text has a front before it and a rest behind it; a path ends before a query.
-use Rattle.std.proofs.Common.{◌≡◌, ℕ, suc, ◌+◌, ◌==◌, ◌||◌, Bool, true, false, not, cond, nat_eq, List, [], ◌∷◌, ◌++◌, take, inl, inr, refl, sym, ap, ◌∙◌, append-nil, arith}
+use Rattle.std.proofs.Common.{◌≡◌, ℕ, suc, ◌+◌, ◌==◌, ◌||◌, Bool, true, false, not, cond, nat_eq, List, [], ◌∷◌, ◌++◌, take, ◌⊎◌, inl, inr, refl, sym, ap, ◌∙◌, append-nil, arith}
 use Rattle.std.specs.List.{starts_with, ends_with, list_any, before_first, position_or_len}
 use Rattle.std.proofs.lemmas.Bool.{cases_Bool, or_parts}
 use Rattle.std.proofs.lemmas.Bool.Decides.{Decides-eqb}
 use Rattle.std.proofs.lemmas.Slice.Eq.{starts_is, ends_is}
 use Rattle.attributes.specs.Attributes.{url_path_of, without_fragment}
-use Rattle.rbac_match.specs.Path.{BeginsQueryOrFragment}
 use Rattle.rbac_match.specs.Text.{is_substring}
 use Rattle.rbac_match.proofs.Substrings.{substring_first, substring_later}
 
@@ -75,6 +74,11 @@ any_parts p q (x ∷ xs) none =
     let here = or_parts (p x) (q x) parts.0 in
     let later = any_parts p q xs parts.1 in
     (ap (λ b. b || list_any p xs) here.0 ∙ later.0, ap (λ b. b || list_any q xs) here.1 ∙ later.1)
+
+-- nothing, or what begins with the `?` of a query or the `#` of a fragment
+abbrev BeginsQueryOrFragment : List ℕ → Type 0
+BeginsQueryOrFragment [] = Unit {0}
+BeginsQueryOrFragment (b ∷ bytes) = (b ≡ 63) ⊎ (b ≡ 35)
 
 -- a query or a fragment has no path
 no_path_behind : (rest : List ℕ) → BeginsQueryOrFragment rest → url_path_of rest ≡ []

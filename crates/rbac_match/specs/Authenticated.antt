@@ -1,8 +1,7 @@
 -- Tests of the peer's certificate: Envoy v3 `config/rbac/v3/rbac.proto`, Principal.Authenticated.
 use Rattle.std.specs.Option.{option_or, option_map_or}
-use Rattle.std.specs.Prelude.{◌≡◌, ◌≢◌, ℕ, Bool, true, false, ◌&&◌, List, [], ◌∷◌, Option, Some, None, unwrap_or}
+use Rattle.std.specs.Prelude.{◌≡◌, ◌≢◌, ℕ, Bool, true, false, List, [], ◌∷◌, Option, Some, None}
 use Rattle.attributes.specs.Conn.{Facts}
-use Rattle.attributes.specs.Request.{RequestValue}
 use Rattle.proto_wire.specs.Fields.{Wire}
 use Rattle.proto_wire.specs.Values.{payloads}
 use Rattle.proto_wire.specs.Merge.{Merges}
@@ -12,10 +11,11 @@ use Rattle.proto_wire.specs.declared.key.Key.{Key}
 use Rattle.proto_wire.specs.Keys.{len_key}
 use Rattle.rbac_match.specs.Text.{TextTest, text_holds, IsTextMatcher, TextFault}
 
--- the number of an Authenticated's principal_name, and all of its fields
+-- the number of an Authenticated's principal_name
 abbrev pub principal_name_field : ℕ
 principal_name_field = 2
 
+-- the fields of an Authenticated
 abbrev pub authenticated_keys : List Key
 authenticated_keys = len_key principal_name_field ∷ []
 
@@ -45,8 +45,3 @@ peer_name facts =
 abbrev pub name_holds : Option TextTest → Option (List ℕ) → Bool
 name_holds None name = true
 name_holds (Some test) name = option_map_or (text_holds test) name false
-
--- whether the connection is known to be by mutual TLS, with such a peer
-abbrev pub authenticated_holds : Option TextTest → RequestValue → Bool
-authenticated_holds name request =
-    unwrap_or request.facts.mtls false && name_holds name (peer_name request.facts)

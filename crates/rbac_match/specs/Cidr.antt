@@ -1,13 +1,10 @@
 -- Ranges of addresses: Envoy v3 `config/core/v3/address.proto` (CidrRange),
 -- `google/protobuf/wrappers.proto` (UInt32Value); what they say of a request: Envoy RBAC,
 -- "Permission" and "Principal" (`destination_ip`, `direct_remote_ip`, `remote_ip`).
-use Rattle.std.specs.Prelude.{◌≡◌, ◌⊎◌, ℕ, ◌-◌, ◌/◌, ◌^◌, ◌<◌, ◌≤◌, ◌==◌, Bool, false, List, [], ◌∷◌, Option, IsUtf8}
-use Rattle.std.specs.Option.{option_map_or}
-use Rattle.attributes.specs.Address.{IsIpText, Range, width_of, share_prefix}
+use Rattle.std.specs.Prelude.{◌≡◌, ◌⊎◌, ℕ, ◌<◌, ◌≤◌, List, [], ◌∷◌, Option, IsUtf8}
+use Rattle.attributes.specs.Address.{IsIpText, Range, width_of}
 use Rattle.attributes.specs.Conn.{Facts}
-use Rattle.attributes.specs.Request.{RequestValue}
 use Rattle.attributes.specs.declared.address.Ip.{Ip}
-use Rattle.attributes.specs.declared.address.Ip.TheVariants.{V4, V6}
 use Rattle.proto_wire.specs.Values.{bytes_at, uint32_at, payloads}
 use Rattle.proto_wire.specs.Fields.{Wire}
 use Rattle.proto_wire.specs.Merge.{Merges}
@@ -19,20 +16,23 @@ use Rattle.proto_wire.specs.Keys.{len_key, varint_key}
 use Rattle.rbac_match.specs.declared.cidr.AddressSource.{AddressSource}
 use Rattle.rbac_match.specs.declared.cidr.AddressSource.TheVariants.{Destination, DirectRemote, Remote}
 
--- the numbers of a CidrRange's fields, and all of them
+-- the number of a CidrRange's address
 abbrev pub address_prefix_field : ℕ
 address_prefix_field = 1
 
+-- the number of how many of its first bits count
 abbrev pub prefix_len_field : ℕ
 prefix_len_field = 2
 
+-- the fields of a CidrRange
 abbrev pub cidr_keys : List Key
 cidr_keys = len_key address_prefix_field ∷ len_key prefix_len_field ∷ []
 
--- the number of a UInt32Value's value, and all of its fields
+-- the number of a UInt32Value's value
 abbrev pub value_field : ℕ
 value_field = 1
 
+-- the fields of a UInt32Value
 abbrev pub uint32_keys : List Key
 uint32_keys = varint_key value_field ∷ []
 
@@ -69,8 +69,3 @@ abbrev pub source_ip : AddressSource → Facts → Option Ip
 source_ip Destination facts = facts.destination_ip
 source_ip DirectRemote facts = facts.direct_remote_ip
 source_ip Remote facts = facts.remote_ip
-
--- whether that address of the request is there and in the range
-abbrev pub address_holds : AddressSource → Range → RequestValue → Bool
-address_holds source range request =
-    option_map_or (share_prefix range.size range.address) (source_ip source request.facts) false

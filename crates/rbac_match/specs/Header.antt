@@ -3,7 +3,6 @@ use Rattle.std.specs.Prelude.{◌≡◌, ◌≢◌, ℕ, Bool, true, false, not,
 use Rattle.std.specs.Map.{keys_of}
 use Rattle.std.specs.Option.{is_some, option_or, option_map_or}
 use Rattle.std.specs.Str.{IsUtf8, str_to_ascii_lowercase}
-use Rattle.attributes.specs.Request.{RequestValue, header_of}
 use Rattle.proto_wire.specs.Values.{bool_at, bytes_at, payloads}
 use Rattle.proto_wire.specs.Fields.{Wire}
 use Rattle.proto_wire.specs.Oneof.{member_run}
@@ -14,10 +13,9 @@ use Rattle.proto_wire.specs.declared.refusal.Refusal.TheVariants.{BadText, Missi
 use Rattle.proto_wire.specs.declared.key.Key.{Key}
 use Rattle.proto_wire.specs.Keys.{len_key, varint_key}
 use Rattle.rbac_match.specs.Message.{range_keys}
-use Rattle.rbac_match.specs.Oneof.{last_number, member_in}
-use Rattle.rbac_match.specs.Text.{TextTest, text_holds, IsSought, SoughtFault, IsTextMatcher, TextFault}
+use Rattle.rbac_match.specs.Oneof.{MadeOf, last_number, member_in}
+use Rattle.rbac_match.specs.Text.{text_holds, IsSought, SoughtFault, IsTextMatcher, TextFault}
 use Rattle.rbac_match.specs.Int64Range.{range_holds, IsRange}
-use Rattle.rbac_match.specs.declared.int64_range.Int64Range.{Int64Range}
 use Rattle.rbac_match.specs.declared.header.HeaderMember.{HeaderMember}
 use Rattle.rbac_match.specs.declared.header.HeaderMember.TheVariants as members
 use Rattle.rbac_match.specs.declared.header.Specifier.{Specifier}
@@ -54,11 +52,6 @@ specifier_holds (Text test) invert empty found =
 specifier_holds (Range range) invert empty found =
     value_holds (range_holds range) invert empty found
 
--- whether the request's header is as asked
-abbrev pub header_holds : HeaderTest → RequestValue → Bool
-header_holds h request = specifier_holds h.specifier h.invert_match
-    h.treat_missing_header_as_empty (header_of request h.name)
-
 -- ---- its message
 
 -- the members of the oneof: exact_match, range_match, present_match, prefix_match, suffix_match,
@@ -73,9 +66,11 @@ specifiers = (len_key 4, Some (members.Text Exact)) ∷ (len_key 6, Some members
 abbrev pub name_field : ℕ
 name_field = 1
 
+-- whether the answer is turned
 abbrev pub invert_match_field : ℕ
 invert_match_field = 8
 
+-- whether a missing header counts as one of the empty value
 abbrev pub treat_missing_header_as_empty_field : ℕ
 treat_missing_header_as_empty_field = 14
 
@@ -89,11 +84,9 @@ header_keys = len_key name_field ∷ varint_key invert_match_field
 abbrev pub SaysMember : HeaderMember → ℕ → List Wire → Specifier → Type 0
 SaysMember (members.Text pattern) n run s = IsSought pattern (bytes_at n run)
     × (s ≡ Text (record { pattern = pattern; sought = bytes_at n run; ignore_case = false }))
-SaysMember members.Range n run s = (range : Int64Range) × IsRange (payloads n run) range
-    × (s ≡ Range range)
+SaysMember members.Range n run s = MadeOf (IsRange (payloads n run)) Range s
 SaysMember members.Present n run s = s ≡ Present (bool_at n run)
-SaysMember members.Matcher n run s = (test : TextTest) × IsTextMatcher (payloads n run) test
-    × (s ≡ Text test)
+SaysMember members.Matcher n run s = MadeOf (IsTextMatcher (payloads n run)) Text s
 
 -- the last member says what is asked; without one it is that the header is there
 pub data SaysSpecifier (fs : List Wire) (s : Specifier) : Type 0 where

@@ -1,15 +1,15 @@
 -- How the messages of leaves are read: Envoy v3 `config/rbac/v3/rbac.proto`.
-use Rattle.std.specs.Prelude.{◌≡◌, ℕ, List, Option}
-use Rattle.attributes.specs.Address.{Range}
+use Rattle.std.specs.Prelude.{ℕ, List}
 use Rattle.proto_wire.specs.Fields.{Wire}
 use Rattle.proto_wire.specs.Values.{payloads}
 use Rattle.proto_wire.specs.declared.refusal.Refusal.{Refusal}
-use Rattle.rbac_match.specs.Text.{TextTest, IsTextMatcher, TextFault}
+use Rattle.rbac_match.specs.Oneof.{MadeOf}
+use Rattle.rbac_match.specs.Text.{IsTextMatcher, TextFault}
 use Rattle.rbac_match.specs.Path.{IsPathMatcher, PathFault}
 use Rattle.rbac_match.specs.Authenticated.{IsAuthenticated, AuthenticatedFault}
-use Rattle.rbac_match.specs.Header.{HeaderTest, IsHeader, HeaderFault}
+use Rattle.rbac_match.specs.Header.{IsHeader, HeaderFault}
 use Rattle.rbac_match.specs.Cidr.{IsCidr, CidrFault}
-use Rattle.rbac_match.specs.Ports.{PortSpan, IsPort, PortFault, IsPortRange, PortRangeFault}
+use Rattle.rbac_match.specs.Ports.{IsPort, PortFault, IsPortRange, PortRangeFault}
 use Rattle.rbac_match.specs.declared.matcher.Matcher.{Matcher}
 use Rattle.rbac_match.specs.declared.matcher.Matcher.TheVariants as matcher
 use Rattle.rbac_match.specs.declared.member.LeafKind.{LeafKind}
@@ -17,19 +17,13 @@ use Rattle.rbac_match.specs.declared.member.LeafKind.TheVariants.{Header, Addres
 
 -- the run, whose member has this number, is a leaf of the kind, and means the matcher
 abbrev pub IsLeaf : LeafKind → ℕ → List Wire → Matcher → Type 0
-IsLeaf Header n run m = (test : HeaderTest) × IsHeader (payloads n run) test
-    × (m ≡ matcher.Header test)
-IsLeaf (Address source) n run m = (range : Range) × IsCidr (payloads n run) range
-    × (m ≡ matcher.Address source range)
-IsLeaf Port n run m = (port : ℕ) × IsPort n run port × (m ≡ matcher.Port port)
-IsLeaf PortRange n run m = (span : PortSpan) × IsPortRange (payloads n run) span
-    × (m ≡ matcher.PortRange span)
-IsLeaf ServerName n run m = (test : TextTest) × IsTextMatcher (payloads n run) test
-    × (m ≡ matcher.ServerName test)
-IsLeaf UrlPath n run m = (test : TextTest) × IsPathMatcher (payloads n run) test
-    × (m ≡ matcher.UrlPath test)
-IsLeaf Authenticated n run m = (name : Option TextTest) × IsAuthenticated (payloads n run) name
-    × (m ≡ matcher.Authenticated name)
+IsLeaf Header n run m = MadeOf (IsHeader (payloads n run)) matcher.Header m
+IsLeaf (Address source) n run m = MadeOf (IsCidr (payloads n run)) (matcher.Address source) m
+IsLeaf Port n run m = MadeOf (IsPort n run) matcher.Port m
+IsLeaf PortRange n run m = MadeOf (IsPortRange (payloads n run)) matcher.PortRange m
+IsLeaf ServerName n run m = MadeOf (IsTextMatcher (payloads n run)) matcher.ServerName m
+IsLeaf UrlPath n run m = MadeOf (IsPathMatcher (payloads n run)) matcher.UrlPath m
+IsLeaf Authenticated n run m = MadeOf (IsAuthenticated (payloads n run)) matcher.Authenticated m
 
 -- the fault of a leaf
 abbrev pub LeafFault : LeafKind → ℕ → List Wire → Refusal → Type 0

@@ -1,21 +1,30 @@
 -- The leaves of permissions and principals, and what they say of a request: Envoy v3
 -- `config/rbac/v3/rbac.proto`.
-use Rattle.std.specs.Prelude.{Bool}
-use Rattle.attributes.specs.Request.{RequestValue}
-use Rattle.rbac_match.specs.Path.{path_holds, server_name_holds}
-use Rattle.rbac_match.specs.Authenticated.{authenticated_holds}
-use Rattle.rbac_match.specs.Header.{header_holds}
-use Rattle.rbac_match.specs.Cidr.{address_holds}
-use Rattle.rbac_match.specs.Ports.{port_holds, port_range_holds}
+use Rattle.std.specs.Prelude.{Bool, false, ◌==◌, ◌&&◌, [], unwrap_or}
+use Rattle.std.specs.Option.{option_map_or}
+use Rattle.attributes.specs.Address.{share_prefix}
+use Rattle.attributes.specs.Attributes.{url_path_of}
+use Rattle.attributes.specs.Request.{RequestValue, header_of}
+use Rattle.rbac_match.specs.Authenticated.{name_holds, peer_name}
+use Rattle.rbac_match.specs.Header.{specifier_holds}
+use Rattle.rbac_match.specs.Cidr.{source_ip}
+use Rattle.rbac_match.specs.Ports.{has_port}
+use Rattle.rbac_match.specs.Text.{text_holds}
 use Rattle.rbac_match.specs.declared.matcher.Matcher.{Matcher}
 use Rattle.rbac_match.specs.declared.matcher.Matcher.TheVariants.{Header, Address, Port, PortRange, ServerName, UrlPath, Authenticated}
 
--- whether the request passes a test of one fact
+-- whether the request passes a test of one fact: its header is as asked; its address is there and
+-- in the range; its port is there and is this one, or one of these; its server name, or the empty
+-- text where there is none, passes; so does its target up to the first `?` or `#`; it is known to
+-- come by mutual TLS, from such a peer
 abbrev pub matcher_holds : Matcher → RequestValue → Bool
-matcher_holds (Header test) r = header_holds test r
-matcher_holds (Address source range) r = address_holds source range r
-matcher_holds (Port port) r = port_holds port r
-matcher_holds (PortRange span) r = port_range_holds span r
-matcher_holds (ServerName test) r = server_name_holds test r
-matcher_holds (UrlPath test) r = path_holds test r
-matcher_holds (Authenticated name) r = authenticated_holds name r
+matcher_holds (Header h) r = specifier_holds h.specifier h.invert_match
+    h.treat_missing_header_as_empty (header_of r h.name)
+matcher_holds (Address source range) r =
+    option_map_or (share_prefix range.size range.address) (source_ip source r.facts) false
+matcher_holds (Port port) r = option_map_or (λ p. p == port) r.facts.destination_port false
+matcher_holds (PortRange span) r = option_map_or (has_port span) r.facts.destination_port false
+matcher_holds (ServerName test) r = text_holds test (unwrap_or r.facts.requested_server_name [])
+matcher_holds (UrlPath test) r = text_holds test (url_path_of r.target)
+matcher_holds (Authenticated name) r =
+    unwrap_or r.facts.mtls false && name_holds name (peer_name r.facts)

@@ -29,19 +29,22 @@ members Principal = (len_key 1, Some And) ∷ (len_key 2, Some Or) ∷ (varint_k
 abbrev pub rule_keys : Side → List Key
 rule_keys side = keys_of (members side)
 
--- the number of a Set's rules or ids, and all of its fields
+-- the number of a Set's rules or ids
 abbrev pub rules_field : ℕ
 rules_field = 1
 
+-- the fields of a Set
 abbrev pub set_keys : List Key
 set_keys = len_key rules_field ∷ []
 
--- the numbers of an Int32Range's and an Int64Range's bounds, and all of their fields
+-- the number of the first integer of an Int32Range and of an Int64Range
 abbrev pub start_field : ℕ
 start_field = 1
 
+-- the number of the one behind their last
 abbrev pub end_field : ℕ
 end_field = 2
 
+-- their fields
 abbrev pub range_keys : List Key
 range_keys = varint_key start_field ∷ varint_key end_field ∷ []

@@ -22,9 +22,8 @@ use Rattle.rbac_match.specs.declared.rule.Side.{Side}
 -- each child is a rule
 abbrev pub AreRules : (List (List ℕ) → Formula → Type 0) → List (List ℕ) → Formulas → Type 0
 AreRules Below [] end = Unit {0}
-AreRules Below [] (formula f fs) = ⊥
-AreRules Below (child ∷ children) end = ⊥
 AreRules Below (child ∷ children) (formula f fs) = Below (child ∷ []) f × AreRules Below children fs
+AreRules Below children fs = ⊥
 
 -- the parts merge to a Set of some rules
 abbrev pub IsSet : (List (List ℕ) → Formula → Type 0) → List (List ℕ) → Formulas → Type 0

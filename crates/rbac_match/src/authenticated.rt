@@ -4,7 +4,9 @@ ghost use Rattle.std.specs.Prelude.{◌≡◌, ◌⊎◌, IfOk, IfErr, option_co
 ghost use Rattle.attributes.specs.Conn.{conn_view, text_view};
 ghost use Rattle.proto_wire.specs.Merge.{parts_view};
 ghost use Rattle.proto_wire.specs.Refusal.{MemoryOr};
-ghost use Rattle.rbac_match.specs.Authenticated.{authenticated_keys, IsAuthenticated, AuthenticatedFault, peer_name, authenticated_holds};
+ghost use Rattle.rbac_match.specs.Authenticated.{authenticated_keys, IsAuthenticated, AuthenticatedFault, peer_name};
+ghost use Rattle.rbac_match.specs.Matcher.{matcher_holds};
+ghost use Rattle.rbac_match.specs.declared.matcher.Matcher.TheVariants.{Authenticated};
 
 use crate::text::{TextMatcher, read_text_matcher};
 use attributes::{Conn, Request};
@@ -15,7 +17,8 @@ const PRINCIPAL_NAME: u32 = 2;
 
 static AUTHENTICATED_KEYS: [Key; 1] = keys![Len PRINCIPAL_NAME];
 
-/// Reads an Authenticated, which stands in the parts: the test of the peer's name, or none where every name will do.
+/// Reads an Authenticated, which stands in the parts: the test of the peer's name, or none where
+/// every name will do.
 pub(crate) fn read_authenticated(
     alloc: Global,
     parts: &[&[u8]],
@@ -31,10 +34,10 @@ pub(crate) fn read_authenticated(
     Ok(Some(read_text_matcher(alloc, &name)?))
 }
 
-/// Whether the connection is known to be by mutual TLS and its peer's name passes the test, if there is one. The name is
-/// the first that is known of the URI SAN, the DNS SAN and the subject.
+/// Whether the connection is known to be by mutual TLS and its peer's name passes the test, if
+/// there is one. The name is the first that is known of the URI SAN, the DNS SAN and the subject.
 pub(crate) fn authenticated_matches(name: &Option<TextMatcher>, request: &Request) -> bool
-    ensures { result ≡ authenticated_holds name.now request.now }
+    ensures { result ≡ matcher_holds (Authenticated name.now) request.now }
 {
     let conn = request.conn();
     if conn.mtls != Some(true) {

@@ -9,7 +9,9 @@ ghost use Rattle.proto_wire.specs.Messages.{MessageFault};
 ghost use Rattle.proto_wire.specs.Refusal.{MemoryOr};
 ghost use Rattle.proto_wire.specs.declared.refusal.Refusal.TheVariants.{OutOfRange};
 ghost use Rattle.proto_wire.specs.Values.{bytes_at};
-ghost use Rattle.rbac_match.specs.Cidr.{address_prefix_field, IsCidr, IsUint32, AddressFault, CidrFault, address_holds, uint32_keys, source_ip};
+ghost use Rattle.rbac_match.specs.Cidr.{address_prefix_field, IsCidr, IsUint32, AddressFault, CidrFault, uint32_keys, source_ip};
+ghost use Rattle.rbac_match.specs.Matcher.{matcher_holds};
+ghost use Rattle.rbac_match.specs.declared.matcher.Matcher.TheVariants.{Address};
 
 use attributes::{Cidr, Conn, Ip, Request, parse_ip};
 use proto_wire::{Field, Key, Refusal, bytes_at, keys, payloads_of, read_message, uint32_at};
@@ -49,8 +51,9 @@ static CIDR_RANGE: [Key; 2] = keys![Len ADDRESS_PREFIX, Len PREFIX_LEN];
 
 static UINT32_VALUE: [Key; 1] = keys![Varint VALUE];
 
-/// Reads a range of addresses (`envoy.config.core.v3.CidrRange`), which stands in the parts: `BadText` where its address is
-/// not UTF-8, `OutOfRange` where that spells no address or has fewer bits than the prefix. No `prefix_len` is 0.
+/// Reads a range of addresses (`envoy.config.core.v3.CidrRange`), which stands in the parts:
+/// `BadText` where its address is not UTF-8, `OutOfRange` where that spells no address or has fewer
+/// bits than the prefix. No `prefix_len` is 0.
 pub(crate) fn read_cidr(alloc: Global, parts: &[&[u8]]) -> Result<Cidr, Refusal>
     ensures found { IfOk result (λ range. IsCidr (parts_view parts.now) range) }
     ensures fault { IfErr result (MemoryOr (CidrFault (parts_view parts.now))) }
@@ -74,7 +77,8 @@ fn address_prefix(fields: &[Field<'_>]) -> Result<Ip, Refusal>
     parse_ip(text).ok_or(Refusal::OutOfRange)
 }
 
-/// Reads a uint32 in a message of its own (`google.protobuf.UInt32Value`), which stands in the parts.
+/// Reads a uint32 in a message of its own (`google.protobuf.UInt32Value`), which stands in the
+/// parts.
 fn read_uint32(alloc: Global, parts: &[&[u8]]) -> Result<u32, Refusal>
     ensures found { IfOk result (λ n. IsUint32 (parts_view parts.now) n) }
     ensures fault { IfErr result (MemoryOr (MessageFault uint32_keys (parts_view parts.now))) }
@@ -97,7 +101,7 @@ fn range_of(address: Ip, length: u32) -> Result<Cidr, Refusal>
 
 /// Whether that address of the request is in the range; one that is not known is in none.
 pub(crate) fn address_matches(source: AddressSource, range: &Cidr, request: &Request) -> bool
-    ensures { result ≡ address_holds source range.now request.now }
+    ensures { result ≡ matcher_holds (Address source range.now) request.now }
 {
     match source.of(request.conn()) {
         Some(ip) => range.contains(ip),

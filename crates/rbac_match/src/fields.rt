@@ -1,4 +1,5 @@
-//! What is asked of a message's fields: the last member of a oneof, a payload that must be there, a bool that must be true.
+//! What is asked of a message's fields: the last member of a oneof, a payload that must be there, a
+//! bool that must be true.
 
 ghost use Rattle.std.specs.Prelude.{◌≡◌, ◌≢◌, [], map, OnOk, IfErr};
 ghost use Rattle.proto_wire.specs.Fields.{field_view};
@@ -30,7 +31,8 @@ pub(crate) fn require_payload(payloads: &[&[u8]]) -> Result<(), Refusal>
 /// Refuses a bool that must be true, and is not.
 pub(crate) fn require_true(fields: &[Field<'_>], number: u32) -> Result<(), Refusal>
     ensures found { OnOk result (varint_at number (map field_view fields.now) ≢ 0) }
-    ensures fault { IfErr result (λ e. (varint_at number (map field_view fields.now) ≡ 0) × (e ≡ OutOfRange)) }
+    ensures fault { IfErr result (λ e. (varint_at number (map field_view fields.now) ≡ 0)
+        × (e ≡ OutOfRange)) }
 {
     if bool_at(fields, number) {
         return Ok(());

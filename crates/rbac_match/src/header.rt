@@ -1,4 +1,5 @@
-//! Tests of a request's header (`envoy.config.route.v3.HeaderMatcher`): how they are read, and which requests pass.
+//! Tests of a request's header (`envoy.config.route.v3.HeaderMatcher`): how they are read, and
+//! which requests pass.
 
 ghost use Rattle.std.specs.Prelude.{◌≡◌, ◌≢◌, ◌⊎◌, ℕ, [], Some, None, false, IfOk, IfErr, map};
 ghost use Rattle.std.specs.Map.{keys_of};
@@ -10,7 +11,9 @@ ghost use Rattle.proto_wire.specs.Refusal.{MemoryOr};
 ghost use Rattle.proto_wire.specs.Values.{bytes_at};
 ghost use Rattle.proto_wire.specs.declared.refusal.Refusal.TheVariants.{BadText, Missing, Unsupported};
 ghost use Rattle.rbac_match.specs.Oneof.{last_number, member_in};
-ghost use Rattle.rbac_match.specs.Header.{name_field, specifiers, header_keys, header_holds, specifier_holds, SaysMember, SaysSpecifier, IsHeader, HeaderMemberFault, HeaderFault};
+ghost use Rattle.rbac_match.specs.Matcher.{matcher_holds};
+ghost use Rattle.rbac_match.specs.declared.matcher.Matcher.TheVariants.{Header};
+ghost use Rattle.rbac_match.specs.Header.{name_field, specifiers, header_keys, specifier_holds, SaysMember, SaysSpecifier, IsHeader, HeaderMemberFault, HeaderFault};
 
 use crate::fields::last_number;
 use crate::int64_range::{Int64Range, read_int64_range};
@@ -151,7 +154,7 @@ impl HeaderMatcher {
     /// Whether the request passes. A missing header passes no test of its value, inverted or not,
     /// unless it counts as one of the empty value. It takes no memory.
     pub(crate) fn matches(&self, request: &Request) -> bool
-        ensures { result ≡ header_holds self.now request.now }
+        ensures { result ≡ matcher_holds (Header self.now) request.now }
     {
         match request.header(self.name.as_str()) {
             Some(value) => self.specifier.matches(value) != self.invert_match,
@@ -175,8 +178,8 @@ impl HeaderMatcher {
 }
 
 /// Reads a HeaderMatcher, which stands in the parts: `Missing` without a name, `BadText` where the
-/// name or the text of the member that counts is not UTF-8, `OutOfRange` where a prefix, a suffix or
-/// a contained text is empty, `Unsupported` where that member is a regular expression.
+/// name or the text of the member that counts is not UTF-8, `OutOfRange` where a prefix, a suffix
+/// or a contained text is empty, `Unsupported` where that member is a regular expression.
 pub(crate) fn read_header_matcher(alloc: Global, parts: &[&[u8]]) -> Result<HeaderMatcher, Refusal>
     ensures found { IfOk result (λ h. IsHeader (parts_view parts.now) h) }
     ensures fault { IfErr result (MemoryOr (HeaderFault (parts_view parts.now))) }

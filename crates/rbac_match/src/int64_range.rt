@@ -37,8 +37,8 @@ impl Int64Range {
     }
 }
 
-/// The number that the whole text spells: decimal digits, one at least, behind an optional `+` or `-`. `None` for
-/// another text, and for a number that takes more than 64 bits.
+/// The number that the whole text spells: decimal digits, one at least, behind an optional `+` or
+/// `-`. `None` for another text, and for a number that takes more than 64 bits.
 fn parse_int64(text: &str) -> Option<i64>
     ensures { result ≡ int64_in text.now }
 {

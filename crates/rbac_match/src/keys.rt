@@ -1,4 +1,5 @@
-//! The fields of the messages Permission, Principal and Set, and of ranges of integers, by number and wire type.
+//! The fields of the messages Permission, Principal and Set, and of ranges of integers, by number
+//! and wire type.
 
 ghost use Rattle.std.specs.Prelude.{◌≡◌};
 ghost use Rattle.rbac_match.specs.Message.{rule_keys, set_keys, range_keys};

@@ -1,6 +1,7 @@
-//! Laws of the definitions: what each test means as a fact, and that each HeaderMatcher reads in one way or has a fault.
+//! Laws of the definitions: what each test means as a fact, and that each HeaderMatcher reads in
+//! one way or has a fault.
 
-ghost use Rattle.std.specs.Prelude.{◌≡◌, ◌≢◌, ◌↔◌, ◌⊎◌, ◌<◌, ◌≤◌, ◌≤ℤ◌, ◌<ℤ◌, ◌+◌, ◌==◌, ◌||◌, ℕ, ℤ, pos, neg_ℤ, FitsSigned, Bool, true, false, not, List, [], ◌++◌, Option, Some, None, IsTrue, codes};
+ghost use Rattle.std.specs.Prelude.{◌≡◌, ◌≢◌, ◌↔◌, ◌⊎◌, ◌<◌, ◌≤◌, ◌≤ℤ◌, ◌<ℤ◌, ◌+◌, ◌==◌, ◌||◌, ℕ, ℤ, pos, neg_ℤ, FitsSigned, Bool, true, false, not, List, [], ◌∷◌, ◌++◌, Option, Some, None, IsTrue, codes};
 ghost use Rattle.std.specs.Char.{to_ascii_lowercase};
 ghost use Rattle.std.specs.Int.{w64};
 ghost use Rattle.std.specs.List.{list_any};
@@ -10,17 +11,17 @@ ghost use Rattle.attributes.specs.Address.{IsInRange, Range};
 ghost use Rattle.attributes.specs.Request.{RequestValue, header_of};
 ghost use Rattle.attributes.specs.declared.address.Ip.{Ip};
 ghost use Rattle.proto_wire.specs.declared.refusal.Refusal.{Refusal};
-ghost use Rattle.rbac_match.specs.Authenticated.{authenticated_holds};
-ghost use Rattle.rbac_match.specs.Cidr.{address_holds, source_ip};
-ghost use Rattle.rbac_match.specs.Header.{HeaderTest, IsHeader, HeaderFault, header_holds, specifier_holds};
+ghost use Rattle.rbac_match.specs.Cidr.{source_ip};
+ghost use Rattle.rbac_match.specs.Header.{HeaderTest, IsHeader, HeaderFault, specifier_holds};
 ghost use Rattle.rbac_match.specs.Int64Range.{int64_in, is_within, range_holds};
-ghost use Rattle.rbac_match.specs.Path.{path_holds, server_name_holds, BeginsQueryOrFragment};
-ghost use Rattle.rbac_match.specs.Ports.{PortSpan, port_holds, port_range_holds};
+ghost use Rattle.rbac_match.specs.Matcher.{matcher_holds};
+ghost use Rattle.rbac_match.specs.Ports.{PortSpan};
 ghost use Rattle.rbac_match.specs.Text.{pattern_holds, TextTest, text_holds};
 ghost use Rattle.rbac_match.specs.declared.cidr.AddressSource.{AddressSource};
 ghost use Rattle.rbac_match.specs.declared.header.Specifier.{Specifier};
 ghost use Rattle.rbac_match.specs.declared.header.Specifier.TheVariants.{Present, Range as Within};
 ghost use Rattle.rbac_match.specs.declared.int64_range.Int64Range.{Int64Range};
+ghost use Rattle.rbac_match.specs.declared.matcher.Matcher.TheVariants.{Header, Address, Port, PortRange, ServerName, UrlPath, Authenticated};
 ghost use Rattle.rbac_match.specs.declared.text.Pattern.{Pattern};
 ghost use Rattle.rbac_match.specs.declared.text.Pattern.TheVariants.{Exact, Prefix, Suffix, Contains};
 
@@ -47,7 +48,8 @@ pub fn contained_has_both()
         ↔ ((front rest : List ℕ) × (bytes ≡ front ++ (part ++ rest))) }
 {}
 
-/// A test that ignores case is one of the text in lower case, for the one that is sought in lower case.
+/// A test that ignores case is one of the text in lower case, for the one that is sought in lower
+/// case.
 pub fn case_is_lowered()
     ensures { (pattern : Pattern) (sought bytes : List ℕ)
         → text_holds (record { pattern = pattern; sought = sought; ignore_case = true }) bytes
@@ -60,51 +62,68 @@ pub fn only_letters_are_lowered()
     ensures others { (b : ℕ) → (b < 65) ⊎ (90 < b) → to_ascii_lowercase b ≡ b }
 {}
 
-/// A path is tested without the query and the fragment behind it: it has no `?` (63) and no `#` (35), and the rest of the
-/// target is nothing or begins with one of them.
+/// A path is tested without the query and the fragment behind it: all of a target without `?` (63)
+/// and `#` (35), and of another what stands before the first of them.
 pub fn path_ends_before_a_query()
-    ensures { (test : TextTest) (request : RequestValue) (path rest : List ℕ)
-        → request.target ≡ path ++ rest → list_any (λ b. (b == 63) || (b == 35)) path ≡ false
-        → BeginsQueryOrFragment rest → path_holds test request ≡ text_holds test path }
+    ensures whole { (test : TextTest) (request : RequestValue)
+        → list_any (λ b. (b == 63) || (b == 35)) request.target ≡ false
+        → matcher_holds (UrlPath test) request ≡ text_holds test request.target }
+    ensures cut { (test : TextTest) (request : RequestValue) (path rest : List ℕ) (mark : ℕ)
+        → request.target ≡ path ++ mark ∷ rest
+        → list_any (λ b. (b == 63) || (b == 35)) path ≡ false → (mark ≡ 63) ⊎ (mark ≡ 35)
+        → matcher_holds (UrlPath test) request ≡ text_holds test path }
 {}
 
 /// The server name that is there is tested, and else the empty text.
 pub fn absent_server_name_is_empty()
     ensures there { (test : TextTest) (request : RequestValue) (name : List ℕ)
-        → request.facts.requested_server_name ≡ Some name → server_name_holds test request ≡ text_holds test name }
+        → request.facts.requested_server_name ≡ Some name
+        → matcher_holds (ServerName test) request ≡ text_holds test name }
     ensures absent { (test : TextTest) (request : RequestValue)
-        → request.facts.requested_server_name ≡ None → server_name_holds test request ≡ text_holds test [] }
+        → request.facts.requested_server_name ≡ None
+        → matcher_holds (ServerName test) request ≡ text_holds test [] }
 {}
 
-/// No peer is authenticated where mutual TLS is not known to be there; where it is, every peer is, if no name is asked.
+/// No peer is authenticated where mutual TLS is not known to be there; where it is, every peer is,
+/// if no name is asked.
 pub fn mutual_tls_is_needed()
     ensures without { (name : Option TextTest) (request : RequestValue)
-        → request.facts.mtls ≢ Some true → authenticated_holds name request ≡ false }
-    ensures with { (request : RequestValue) → request.facts.mtls ≡ Some true → authenticated_holds None request ≡ true }
+        → request.facts.mtls ≢ Some true → matcher_holds (Authenticated name) request ≡ false }
+    ensures with { (request : RequestValue) → request.facts.mtls ≡ Some true
+        → matcher_holds (Authenticated None) request ≡ true }
 {}
 
-/// The name that is asked is compared with the first that is there: the URI SAN, the DNS SAN, the subject; with none of
-/// them no peer has it.
+/// The name that is asked is compared with the first that is there: the URI SAN, the DNS SAN, the
+/// subject; with none of them no peer has it.
 pub fn first_name_counts()
-    ensures uri { (test : TextTest) (request : RequestValue) (name : List ℕ) → request.facts.mtls ≡ Some true
+    ensures uri { (test : TextTest) (request : RequestValue) (name : List ℕ)
+        → request.facts.mtls ≡ Some true
         → request.facts.uri_san_peer_certificate ≡ Some name
-        → authenticated_holds (Some test) request ≡ text_holds test name }
-    ensures dns { (test : TextTest) (request : RequestValue) (name : List ℕ) → request.facts.mtls ≡ Some true
-        → request.facts.uri_san_peer_certificate ≡ None → request.facts.dns_san_peer_certificate ≡ Some name
-        → authenticated_holds (Some test) request ≡ text_holds test name }
-    ensures subject { (test : TextTest) (request : RequestValue) (name : List ℕ) → request.facts.mtls ≡ Some true
-        → request.facts.uri_san_peer_certificate ≡ None → request.facts.dns_san_peer_certificate ≡ None
+        → matcher_holds (Authenticated (Some test)) request ≡ text_holds test name }
+    ensures dns { (test : TextTest) (request : RequestValue) (name : List ℕ)
+        → request.facts.mtls ≡ Some true
+        → request.facts.uri_san_peer_certificate ≡ None
+        → request.facts.dns_san_peer_certificate ≡ Some name
+        → matcher_holds (Authenticated (Some test)) request ≡ text_holds test name }
+    ensures subject { (test : TextTest) (request : RequestValue) (name : List ℕ)
+        → request.facts.mtls ≡ Some true
+        → request.facts.uri_san_peer_certificate ≡ None
+        → request.facts.dns_san_peer_certificate ≡ None
         → request.facts.subject_peer_certificate ≡ Some name
-        → authenticated_holds (Some test) request ≡ text_holds test name }
+        → matcher_holds (Authenticated (Some test)) request ≡ text_holds test name }
     ensures nameless { (test : TextTest) (request : RequestValue)
-        → request.facts.uri_san_peer_certificate ≡ None → request.facts.dns_san_peer_certificate ≡ None
-        → request.facts.subject_peer_certificate ≡ None → authenticated_holds (Some test) request ≡ false }
+        → request.facts.uri_san_peer_certificate ≡ None
+        → request.facts.dns_san_peer_certificate ≡ None
+        → request.facts.subject_peer_certificate ≡ None
+        → matcher_holds (Authenticated (Some test)) request ≡ false }
 {}
 
-/// What is read of a text is the number that it spells as Rust's `parse` reads one, where that has 64 bits.
+/// What is read of a text is the number that it spells as Rust's `parse` reads one, where that has
+/// 64 bits.
 pub fn decimal_text_is_its_number()
     ensures { (text : List ℕ) (z : ℤ) → (int64_in text ≡ Some z)
-        ↔ (IsNumeral 10 (without_leading_sign text) × FitsSigned w64 z × (z ≡ signed_digits_value 10 text)) }
+        ↔ (IsNumeral 10 (without_leading_sign text) × FitsSigned w64 z
+        × (z ≡ signed_digits_value 10 text)) }
 {}
 
 /// A range has the numbers from its start on that are below its end.
@@ -151,7 +170,8 @@ pub fn inversion_turns_presence()
 /// A missing header passes no test of its value, inverted or not.
 pub fn missing_header_passes_no_value_test()
     ensures { (h : HeaderTest) (r : RequestValue) → header_of r h.name ≡ None
-        → h.treat_missing_header_as_empty ≡ false → ((wanted : Bool) → h.specifier ≢ Present wanted) → header_holds h r ≡ false }
+        → h.treat_missing_header_as_empty ≡ false
+        → ((wanted : Bool) → h.specifier ≢ Present wanted) → matcher_holds (Header h) r ≡ false }
 {}
 
 /// Where a missing header counts as empty, a test of its value answers as for the empty value.
@@ -160,7 +180,7 @@ pub fn missing_header_may_count_as_empty()
         → specifier_holds asked invert true None ≡ specifier_holds asked invert false (Some []) }
 {}
 
-/// That does not change what is said of presence.
+/// That a missing header counts as empty does not change what is said of presence.
 pub fn missing_header_is_not_present()
     ensures { (wanted invert : Bool)
         → specifier_holds (Present wanted) invert true None
@@ -173,35 +193,38 @@ pub fn header_total()
         ⊎ ((e : Refusal) × HeaderFault parts e) }
 {}
 
-/// Never both.
+/// No payloads are both a HeaderMatcher and at fault.
 pub fn header_disjoint()
     ensures { (parts : List (List ℕ)) (h : HeaderTest) (e : Refusal) → IsHeader parts h
         → ¬ (HeaderFault parts e) }
 {}
 
-/// And they are one HeaderMatcher at most.
+/// Payloads are one HeaderMatcher at most.
 pub fn header_unique()
     ensures { (parts : List (List ℕ)) (h k : HeaderTest) → IsHeader parts h → IsHeader parts k
         → h ≡ k }
 {}
 
-/// An address is in a range where it is known, of the range's family, and begins with the range's bits.
+/// An address is in a range where it is known, of the range's family, and begins with the range's
+/// bits.
 pub fn an_address_has_the_prefix()
     ensures { (source : AddressSource) (range : Range) (request : RequestValue)
-        → IsTrue (address_holds source range request)
+        → IsTrue (matcher_holds (Address source range) request)
         ↔ ((ip : Ip) × (source_ip source request.facts ≡ Some ip) × IsInRange range ip) }
 {}
 
 /// A port matches where the request's is known and is this one.
 pub fn a_port_is_the_same()
     ensures { (port : ℕ) (request : RequestValue)
-        → IsTrue (port_holds port request) ↔ (request.facts.destination_port ≡ Some port) }
+        → IsTrue (matcher_holds (Port port) request)
+        ↔ (request.facts.destination_port ≡ Some port) }
 {}
 
-/// A range of ports is two comparisons with a port that is known: its start is in it, and its end is not.
+/// A range of ports is two comparisons with a port that is known: its start is in it, and its end
+/// is not.
 pub fn a_port_range_is_two_comparisons()
     ensures { (span : PortSpan) (request : RequestValue)
-        → IsTrue (port_range_holds span request)
+        → IsTrue (matcher_holds (PortRange span) request)
         ↔ ((port : ℕ) × (request.facts.destination_port ≡ Some port)
         × (span.start ≤ port) × (port < span.end)) }
 {}

@@ -1,4 +1,5 @@
-//! The rules of an RBAC policy: permissions and principals, how their messages are read, and what they say of a request.
+//! The rules of an RBAC policy: permissions and principals, how their messages are read, and what
+//! they say of a request.
 #![tactic(auto)]
 
 mod authenticated;

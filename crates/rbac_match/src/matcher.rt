@@ -11,7 +11,8 @@ use crate::ports::{PortRange, port_matches, port_range_matches};
 use crate::text::TextMatcher;
 use attributes::{Cidr, Request};
 
-/// A test of one fact of a request. What could be refused was refused when it was read, so a test cannot fail.
+/// A test of one fact of a request. What could be refused was refused when it was read, so a test
+/// cannot fail.
 #[derive(Debug, Drop)]
 pub enum Matcher {
     /// Of a header.

@@ -87,12 +87,14 @@ fn member_at(side: Side, number: u32) -> Option<Member>
     }
 }
 
-/// The last member of a rule's fields: `Missing` without one, `Unsupported` where it is one that is not supported.
+/// The last member of a rule's fields: `Missing` without one, `Unsupported` where it is one that is
+/// not supported.
 pub(crate) fn last_member(side: Side, fields: &[Field<'_>]) -> Result<LastMember, Refusal>
     ensures found { IfOk result (λ last.
         (last_number (rule_keys side) (map field_view fields.now) ≡ Some last.number)
         × (member_in (members side) last.number ≡ Some last.member)) }
-    ensures fault { IfErr result (λ e. MatchOption (last_number (rule_keys side) (map field_view fields.now))
+    ensures fault { IfErr result (λ e. MatchOption
+        (last_number (rule_keys side) (map field_view fields.now))
         (e ≡ Missing) (λ n. (member_in (members side) n ≡ None) × (e ≡ Unsupported))) }
 {
     let Some(number) = last_number(fields, rule_keys(side)) else {

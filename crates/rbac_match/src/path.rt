@@ -1,9 +1,12 @@
-//! Tests of a request's path (`envoy.type.matcher.v3.PathMatcher`) and of the requested server name.
+//! Tests of a request's path (`envoy.type.matcher.v3.PathMatcher`) and of the requested server
+//! name.
 
 ghost use Rattle.std.specs.Prelude.{◌≡◌, ◌⊎◌, IfOk, IfErr};
 ghost use Rattle.proto_wire.specs.Merge.{parts_view};
 ghost use Rattle.proto_wire.specs.Refusal.{MemoryOr};
-ghost use Rattle.rbac_match.specs.Path.{path_keys, IsPathMatcher, PathFault, path_holds, server_name_holds};
+ghost use Rattle.rbac_match.specs.Path.{path_keys, IsPathMatcher, PathFault};
+ghost use Rattle.rbac_match.specs.Matcher.{matcher_holds};
+ghost use Rattle.rbac_match.specs.declared.matcher.Matcher.TheVariants.{ServerName, UrlPath};
 
 use crate::fields::require_payload;
 use crate::text::{TextMatcher, read_text_matcher};
@@ -15,7 +18,8 @@ const PATH: u32 = 1;
 
 static PATH_KEYS: [Key; 1] = keys![Len PATH];
 
-/// Reads a PathMatcher, which stands in the parts: `Missing` without a path, and what `read_text_matcher` refuses of it.
+/// Reads a PathMatcher, which stands in the parts: `Missing` without a path, and what
+/// `read_text_matcher` refuses of it.
 pub(crate) fn read_path_matcher(alloc: Global, parts: &[&[u8]]) -> Result<TextMatcher, Refusal>
     ensures found { IfOk result (λ test. IsPathMatcher (parts_view parts.now) test) }
     ensures fault { IfErr result (MemoryOr (PathFault (parts_view parts.now))) }
@@ -28,14 +32,15 @@ pub(crate) fn read_path_matcher(alloc: Global, parts: &[&[u8]]) -> Result<TextMa
 
 /// Whether the target up to its first `?` or `#` passes the test.
 pub(crate) fn path_matches(matcher: &TextMatcher, request: &Request) -> bool
-    ensures { result ≡ path_holds matcher.now request.now }
+    ensures { result ≡ matcher_holds (UrlPath matcher.now) request.now }
 {
     matcher.matches(request.url_path())
 }
 
-/// Whether the server name that the client asked for passes the test; without one it is the empty text.
+/// Whether the server name that the client asked for passes the test; without one it is the empty
+/// text.
 pub(crate) fn server_name_matches(matcher: &TextMatcher, request: &Request) -> bool
-    ensures { result ≡ server_name_holds matcher.now request.now }
+    ensures { result ≡ matcher_holds (ServerName matcher.now) request.now }
 {
     match &request.conn().requested_server_name {
         Some(name) => matcher.matches(name.as_str()),

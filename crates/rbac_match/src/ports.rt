@@ -5,7 +5,10 @@ ghost use Rattle.proto_wire.specs.Fields.{field_view};
 ghost use Rattle.proto_wire.specs.Merge.{parts_view};
 ghost use Rattle.proto_wire.specs.Refusal.{MemoryOr};
 ghost use Rattle.proto_wire.specs.declared.refusal.Refusal.TheVariants.{OutOfRange};
-ghost use Rattle.rbac_match.specs.Ports.{AreBounds, AreNoBounds, IsPort, IsPortRange, PortFault, PortRangeFault, port_holds, port_range_holds};
+ghost use Rattle.rbac_match.specs.Ports.{AreBounds, IsPort, IsPortRange, PortFault, PortRangeFault};
+ghost use Rattle.rbac_match.specs.Matcher.{matcher_holds};
+ghost use Rattle.rbac_match.specs.declared.matcher.Matcher.TheVariants.{Port, PortRange as PortsInARow};
+ghost use Rattle.rbac_match.specs.steps.Ports.{AreNoBounds};
 
 use crate::keys::{END, START, range_keys};
 use attributes::Request;
@@ -36,7 +39,8 @@ impl Model for PortRange {
     ghost inverse = { λ s. record { start = s.start; end = s.end } };
 }
 
-/// Reads a permission's `destination_port` from its run, whose fields have this number: `OutOfRange` above 65,535.
+/// Reads a permission's `destination_port` from its run, whose fields have this number:
+/// `OutOfRange` above 65,535.
 pub(crate) fn read_port(run: &[Field<'_>], number: u32) -> Result<u16, Refusal>
     ensures found { IfOk result (λ port. IsPort number (map field_view run.now) port) }
     ensures fault { IfErr result (λ e. PortFault number (map field_view run.now) e) }
@@ -48,8 +52,8 @@ pub(crate) fn read_port(run: &[Field<'_>], number: u32) -> Result<u16, Refusal>
     Ok(port as u16)
 }
 
-/// Reads a range of ports (`envoy.type.v3.Int32Range`), which stands in the parts: `OutOfRange` where it holds none, or
-/// what is no port.
+/// Reads a range of ports (`envoy.type.v3.Int32Range`), which stands in the parts: `OutOfRange`
+/// where it holds none, or what is no port.
 pub(crate) fn read_port_range(alloc: Global, parts: &[&[u8]]) -> Result<PortRange, Refusal>
     ensures found { IfOk result (λ range. IsPortRange (parts_view parts.now) range) }
     ensures fault { IfErr result (MemoryOr (PortRangeFault (parts_view parts.now))) }
@@ -76,14 +80,14 @@ fn port_range(fields: &[Field<'_>]) -> Result<PortRange, Refusal>
 
 /// Whether the request goes to this port; one whose port is not known doesn't.
 pub(crate) fn port_matches(port: u16, request: &Request) -> bool
-    ensures { result ≡ port_holds port request.now }
+    ensures { result ≡ matcher_holds (Port port) request.now }
 {
     request.conn().destination_port == Some(port)
 }
 
 /// Whether the request goes to one of these ports; one whose port is not known doesn't.
 pub(crate) fn port_range_matches(range: &PortRange, request: &Request) -> bool
-    ensures { result ≡ port_range_holds range.now request.now }
+    ensures { result ≡ matcher_holds (PortsInARow range.now) request.now }
 {
     match request.conn().destination_port {
         Some(port) => range.start <= port as u32 && (port as u32) < range.end,

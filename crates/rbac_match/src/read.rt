@@ -19,11 +19,12 @@ use std::alloc::Global;
 /// How many levels a permission or a principal may have; a rule that stands in no other is level 1.
 pub const RULE_DEPTH: u32 = 32;
 
-/// Reads a rule of at most `depth` levels, whose message stands in the parts. The depth is looked at before anything
-/// of the rule is read.
+/// Reads a rule of at most `depth` levels, whose message stands in the parts. The depth is looked
+/// at before anything of the rule is read.
 #[cycle(rule)]
 fn read_rule(alloc: Global, side: Side, parts: &[&[u8]], depth: u32) -> Result<Rule, Refusal>
-    ensures found { IfOk result (λ rule. IsRule side depth (parts_view parts.now) (rule_view rule)) }
+    ensures found { IfOk result (λ rule. IsRule side depth (parts_view parts.now)
+        (rule_view rule)) }
     ensures fault { IfErr result (MemoryOr (RuleFault side depth (parts_view parts.now))) }
 {
     require_level(depth)?;
@@ -43,9 +44,11 @@ fn read_member(
     depth: u32,
 ) -> Result<Rule, Refusal>
     ensures found { IfOk result (λ rule.
-        MemberSays (IsRule side depth) last.member last.number (map field_view run.now) (rule_view rule)) }
+        MemberSays (IsRule side depth) last.member last.number (map field_view run.now)
+        (rule_view rule)) }
     ensures fault { IfErr result (MemoryOr
-        (MemberFault (RuleFault side depth) (Some last.member) last.number (map field_view run.now))) }
+        (MemberFault (RuleFault side depth) (Some last.member) last.number
+        (map field_view run.now))) }
 {
     match last.member {
         Member::And => {
@@ -72,8 +75,10 @@ fn read_member(
 /// Reads the rules of a set, whose message stands in the parts.
 #[cycle(rule)]
 fn read_set(alloc: Global, side: Side, parts: &[&[u8]], depth: u32) -> Result<Vec<Rule>, Refusal>
-    ensures found { IfOk result (λ rules. IsSet (IsRule side depth) (parts_view parts.now) (rules_view rules.items)) }
-    ensures fault { IfErr result (MemoryOr (SetFault (RuleFault side depth) (parts_view parts.now))) }
+    ensures found { IfOk result (λ rules. IsSet (IsRule side depth) (parts_view parts.now)
+        (rules_view rules.items)) }
+    ensures fault { IfErr result (MemoryOr (SetFault (RuleFault side depth)
+        (parts_view parts.now))) }
 {
     let fields = read_message(alloc, parts, set_keys())?;
     let payloads = payloads_of(alloc, &fields, RULES)?;
@@ -89,7 +94,8 @@ pub fn read_rules(
     payloads: &[&[u8]],
     depth: u32,
 ) -> Result<Vec<Rule>, Refusal>
-    ensures found { IfOk result (λ rules. AreRules (IsRule side depth) (parts_view payloads.now) (rules_view rules.items)) }
+    ensures found { IfOk result (λ rules. AreRules (IsRule side depth) (parts_view payloads.now)
+        (rules_view rules.items)) }
     ensures fault { IfErr result (MemoryOr (SomeRuleFault side depth (parts_view payloads.now))) }
 {
     let mut rules = Vec::new(alloc);

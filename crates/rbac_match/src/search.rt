@@ -1,6 +1,6 @@
-//! The search for a part of a text in which the case of letters does not count. It takes no memory, and looks at each
-//! byte of the text twice at most (Knuth, Morris and Pratt). So what a client sends costs a decision its length alone,
-//! and not its length times the part's.
+//! The search for a part of a text in which the case of letters does not count. It takes no memory,
+//! and looks at each byte of the text twice at most (Knuth, Morris and Pratt). So what a client
+//! sends costs a decision its length alone, and not its length times the part's.
 
 ghost use Rattle.std.specs.Prelude.{◌≡◌, ◌<◌, ◌≤◌, ℕ, List, [], ◌∷◌, ◌++◌, length, IfOk};
 ghost use Rattle.std.specs.Char.{to_ascii_lowercase};
@@ -10,10 +10,11 @@ ghost use Rattle.rbac_match.specs.steps.Search.{EndsWithMost, AreBorders, AreAll
 
 use std::alloc::{AllocError, Global};
 
-/// What the search for the part needs: of its first one, two, three bytes and so on, with how many bytes of its
-/// beginning they end, themselves left out. It takes eight bytes for each of the part.
+/// What the search for the part needs: of its first one, two, three bytes and so on, with how many
+/// bytes of its beginning they end, themselves left out. It takes eight bytes for each of the part.
 pub(crate) fn borders_of(alloc: Global, part: &[u8]) -> Result<Vec<usize>, AllocError>
-    ensures { IfOk result (λ borders. AreAllBorders (str_to_ascii_lowercase part.now) borders.items) }
+    ensures { IfOk result (λ borders. AreAllBorders
+        (str_to_ascii_lowercase part.now) borders.items) }
 {
     let mut borders: Vec<usize> = Vec::with_capacity(alloc, part.len())?;
     let Some((_, rest)) = part.split_first() else {
@@ -32,7 +33,8 @@ pub(crate) fn borders_of(alloc: Global, part: &[u8]) -> Result<Vec<usize>, Alloc
 pub(crate) fn contains_ignore_case(text: &[u8], part: &[u8], borders: &[usize]) -> bool
     requires some { 0 < length part.now }
     requires borders { AreAllBorders (str_to_ascii_lowercase part.now) borders.now }
-    ensures { result ≡ is_substring (str_to_ascii_lowercase part.now) (str_to_ascii_lowercase text.now) }
+    ensures { result ≡ is_substring (str_to_ascii_lowercase part.now)
+        (str_to_ascii_lowercase text.now) }
 {
     let mut matched = 0;
     for byte in text {
@@ -44,14 +46,15 @@ pub(crate) fn contains_ignore_case(text: &[u8], part: &[u8], borders: &[usize]) 
     false
 }
 
-/// With how many bytes of the part's beginning some bytes end, behind which this one comes, where they end with `matched`
-/// before it.
+/// With how many bytes of the part's beginning some bytes end, behind which this one comes, where
+/// they end with `matched` before it.
 fn advance(part: &[u8], borders: &[usize], matched: usize, byte: u8) -> usize
     requires below { matched < length part.now }
     requires known { matched ≤ length borders.now }
     requires borders { AreBorders (str_to_ascii_lowercase part.now) borders.now }
     ensures { (bytes : List ℕ) → EndsWithMost (str_to_ascii_lowercase part.now) bytes matched
-        → EndsWithMost (str_to_ascii_lowercase part.now) (bytes ++ to_ascii_lowercase byte ∷ []) result }
+        → EndsWithMost (str_to_ascii_lowercase part.now)
+        (bytes ++ to_ascii_lowercase byte ∷ []) result }
 {
     let lower = byte.to_ascii_lowercase();
     let mut kept = matched;

@@ -1,4 +1,5 @@
-//! Tests of a text (`envoy.type.matcher.v3.StringMatcher`): how they are read, and which texts pass.
+//! Tests of a text (`envoy.type.matcher.v3.StringMatcher`): how they are read, and which texts
+//! pass.
 
 ghost use Rattle.std.specs.Prelude.{◌≡◌, true, Some, None, nat_eq, IfOk, IfErr, MatchOption, map};
 ghost use Rattle.std.specs.List.{starts_with, ends_with};
@@ -112,8 +113,9 @@ impl TextMatcher {
     }
 }
 
-/// Reads a StringMatcher, which stands in the parts: `Missing` without a member, `BadText` where its text is not UTF-8,
-/// `OutOfRange` where a prefix, a suffix or a contained text is empty, `Unsupported` where it is a regular expression.
+/// Reads a StringMatcher, which stands in the parts: `Missing` without a member, `BadText` where
+/// its text is not UTF-8, `OutOfRange` where a prefix, a suffix or a contained text is empty,
+/// `Unsupported` where it is a regular expression.
 pub(crate) fn read_text_matcher(alloc: Global, parts: &[&[u8]]) -> Result<TextMatcher, Refusal>
     ensures found { IfOk result (λ m. IsTextMatcher (parts_view parts.now) m) }
     ensures fault { IfErr result (MemoryOr (TextFault (parts_view parts.now))) }
@@ -128,7 +130,8 @@ pub(crate) fn read_text_matcher(alloc: Global, parts: &[&[u8]]) -> Result<TextMa
 fn last_pattern<'a>(fields: &[Field<'a>]) -> Result<(Pattern, &'a str), Refusal>
     ensures found { let fs = map field_view fields.now in IfOk result (λ p.
         MatchOption (last_number (keys_of string_members) fs) ⊥ (λ n.
-        (member_in string_members n ≡ Some p.0) × (p.1.now ≡ bytes_at n fs) × IsSought p.0 p.1.now)) }
+        (member_in string_members n ≡ Some p.0) × (p.1.now ≡ bytes_at n fs)
+        × IsSought p.0 p.1.now)) }
     ensures fault { let fs = map field_view fields.now in IfErr result (λ e.
         MatchOption (last_number (keys_of string_members) fs) (e ≡ Missing) (λ n.
         SoughtFault (member_in string_members n) (bytes_at n fs) e)) }
@@ -156,8 +159,8 @@ fn pattern_at(number: u32) -> Option<Pattern>
     }
 }
 
-/// The bytes as a text that may be sought so: `BadText` where they are not UTF-8, `OutOfRange` where the text is empty
-/// and must not be.
+/// The bytes as a text that may be sought so: `BadText` where they are not UTF-8, `OutOfRange`
+/// where the text is empty and must not be.
 pub(crate) fn sought_text(pattern: Pattern, bytes: &[u8]) -> Result<&str, Refusal>
     ensures found { IfOk result (λ sought. (sought.now ≡ bytes.now) × IsSought pattern bytes.now) }
     ensures fault { IfErr result (SoughtFault (Some pattern) bytes.now) }
@@ -197,7 +200,8 @@ fn holds(pattern: Pattern, sought: &[u8], text: &[u8]) -> bool
 fn holds_ignore_case(pattern: Pattern, sought: &[u8], borders: &[usize], text: &[u8]) -> bool
     requires filled { IsFilled pattern sought.now }
     requires borders { AreBordersOf pattern true sought.now borders.now }
-    ensures { result ≡ pattern_holds pattern (str_to_ascii_lowercase sought.now) (str_to_ascii_lowercase text.now) }
+    ensures { result ≡ pattern_holds pattern (str_to_ascii_lowercase sought.now)
+        (str_to_ascii_lowercase text.now) }
 {
     match pattern {
         Pattern::Exact => text.eq_ignore_ascii_case(sought),
@@ -223,13 +227,15 @@ fn read_borders(
 }
 
 fn starts_with_ignore_case(text: &[u8], start: &[u8]) -> bool
-    ensures { result ≡ starts_with nat_eq (str_to_ascii_lowercase text.now) (str_to_ascii_lowercase start.now) }
+    ensures { result ≡ starts_with nat_eq (str_to_ascii_lowercase text.now)
+        (str_to_ascii_lowercase start.now) }
 {
     start.len() <= text.len() && text[..start.len()].eq_ignore_ascii_case(start)
 }
 
 fn ends_with_ignore_case(text: &[u8], end: &[u8]) -> bool
-    ensures { result ≡ ends_with nat_eq (str_to_ascii_lowercase text.now) (str_to_ascii_lowercase end.now) }
+    ensures { result ≡ ends_with nat_eq (str_to_ascii_lowercase text.now)
+        (str_to_ascii_lowercase end.now) }
 {
     end.len() <= text.len() && text[text.len() - end.len()..].eq_ignore_ascii_case(end)
 }

@@ -10,7 +10,8 @@ use Rattle.std.specs.FinMap.{IsAntisymmetric, nat_cmp-IsAntisymmetric, slice_cmp
 use Rattle.attributes.specs.Request.{RequestValue}
 use Rattle.rbac_policy.specs.Filter.{Condition, Policy, Filter}
 use Rattle.attributes.specs.Headers.{name_cmp}
-use Rattle.rbac_policy.specs.Verdict.{sides_match, policy_matches, SomeMatches, IsLeastMatch, number_of, LetsThrough, allows, IsVerdict}
+use Rattle.rbac_policy.specs.Verdict.{sides_match, policy_matches, SomeMatches, IsLeastMatch, number_of, LetsThrough, IsVerdict}
+use Rattle.rbac_policy.specs.steps.Action.{allows}
 use Rattle.rbac_policy.specs.Named.{policy_view, named_view, named_views}
 use Rattle.rbac_policy.specs.declared.policy.NamedPolicy.{NamedPolicy}
 use Rattle.rbac_policy.specs.declared.filter.Action.{Action}

@@ -3,3 +3,4 @@ pub mod Texts
 pub mod First
 pub mod Uniqueness
 pub mod OneVerdict
+pub mod StandardFacts

@@ -1,34 +1,28 @@
 -- The bytes of a filter are its message or have a fault, and never both.
-use Rattle.std.proofs.Common.{◌≡◌, ℕ, ◌<◌, ◌≤◌, ◌⊎◌, inl, inr, List, [], ◌∷◌, Contains, Option, Some, None, IsSomeAnd, MatchOption, refl, sym, ap, subst, arith, ◌∙◌, cond, T}
-use Rattle.std.specs.Ordering.{is_eq}
-use Rattle.std.specs.Cmp.{tied_itself}
-use Rattle.std.specs.Cmp.Lexicographic.{nat_list_cmp_total}
-use Rattle.std.specs.Str.{IsUtf8}
+use Rattle.std.proofs.Common.{◌≡◌, ℕ, ◌<◌, ◌≤◌, ◌⊎◌, inl, inr, List, [], ◌∷◌, Contains, None, refl, subst, arith}
 use Rattle.std.proofs.lemmas.Bool.{cases_lt}
-use Rattle.std.specs.FinMap.{FinMap, get, len, from_entries, entries, entries_sorted, find, is_sorted, get-entries, get-from_entries}
+use Rattle.std.specs.FinMap.{len, entries}
 use Rattle.proto_wire.specs.Fields.{Wire}
-use Rattle.proto_wire.specs.Values.{payloads, bytes_at}
+use Rattle.proto_wire.specs.Values.{payloads}
 use Rattle.proto_wire.specs.Merge.{Merges}
 use Rattle.proto_wire.specs.Messages.{IsMessage, MessageFault}
 use Rattle.proto_wire.proofs.Unique.{merges_unique}
 use Rattle.proto_wire.proofs.Messages.{message_total, message_disjoint}
 use Rattle.proto_wire.specs.declared.refusal.Refusal.{Refusal}
-use Rattle.proto_wire.specs.declared.refusal.Refusal.TheVariants.{BadText, Missing, OutOfRange, Unsupported, TooLarge}
+use Rattle.proto_wire.specs.declared.refusal.Refusal.TheVariants.{Missing, OutOfRange, Unsupported, TooLarge}
 use Rattle.rbac_match.specs.Rules.{IsRule, AreRules, RuleFault}
 use Rattle.rbac_match.specs.Formula.{Formulas}
 use Rattle.rbac_match.specs.declared.rule.Side.{Side}
 use Rattle.rbac_match.specs.declared.rule.Side.TheVariants.{Permission, Principal}
-use Rattle.rbac_match.proofs.Basics.{nil_or_not, same_or_not, contains_first, contains_later, contains_cases}
+use Rattle.rbac_match.proofs.Basics.{nil_or_not, same_or_not}
 use Rattle.rbac_match.proofs.RuleMessages.{rules_total, rules_disjoint}
-use Rattle.rbac_match.proofs.Basics.{utf8_or_not}
 use Rattle.rbac_policy.specs.Filter.{Policy, Filter}
-use Rattle.attributes.specs.Headers.{name_cmp}
 use Rattle.rbac_policy.specs.Keys.{filter_keys, rules_keys, policy_keys}
 use Rattle.rbac_policy.specs.Message.{rule_depth, most_policies, LacksConditions, HasBothSides, IsPolicy, action_in, action_number, AreFilterRules, IsFilter}
 use Rattle.proto_wire.specs.Maps.{Entry, text, AreEntries, map_of, SomeValueFault}
 use Rattle.proto_wire.proofs.MapLaws.{entries_total, entries_disjoint, entries_readable, readable_unique}
 use Rattle.proto_wire.proofs.MapValues.{values_total, values_disjoint}
-use Rattle.rbac_policy.specs.Fault.{PolicyFault, policy_fields, lacks_side, conditional, SideFault, no_permission, no_principal, ConditionFault, unchecked, checked, in_permission, in_principal, RulesFault, bad_action, audited, in_entry, in_faulty_entry, too_many, in_policy, FilterFault, filter_fields, no_rules, rules_fields, in_rules}
+use Rattle.rbac_policy.specs.Fault.{PolicyFault, policy_fields, lacks_side, conditional, in_permission, in_principal, RulesFault, bad_action, audited, in_entry, in_faulty_entry, too_many, in_policy, FilterFault, filter_fields, no_rules, rules_fields, in_rules}
 use Rattle.rbac_policy.specs.declared.filter.Action.{Action}
 use Rattle.rbac_policy.specs.declared.filter.Action.TheVariants.{Allow, Deny, Log}
 
@@ -38,16 +32,22 @@ ruled : (side : Side) (fs : List Wire) (k : ℕ)
 ruled side fs k = rules_total side rule_depth (payloads k fs)
 
 -- fields have a condition or none, and both sides or not
-conditions_total : (fs : List Wire) → LacksConditions fs ⊎ ((e : Refusal) × ConditionFault fs e)
+conditions_total : (fs : List Wire) → LacksConditions fs ⊎ ¬ (LacksConditions fs)
 conditions_total fs = elim (nil_or_not (payloads 3 fs)) [
-  | inr there ↦ inr (Unsupported, unchecked there refl)
-  | inl plain ↦ elim (nil_or_not (payloads 4 fs)) [ inr there ↦ inr (Unsupported, checked there refl) | inl none ↦ inl (plain, none) ]
+  | inr there ↦ inr (λ lacks. there lacks.0)
+  | inl plain ↦ elim (nil_or_not (payloads 4 fs)) [
+    | inr there ↦ inr (λ lacks. there lacks.1)
+    | inl none ↦ inl (plain, none)
+  ]
 ]
 
-sides_total : (fs : List Wire) → HasBothSides fs ⊎ ((e : Refusal) × SideFault fs e)
+sides_total : (fs : List Wire) → HasBothSides fs ⊎ ¬ (HasBothSides fs)
 sides_total fs = elim (nil_or_not (payloads 1 fs)) [
-  | inl none ↦ inr (Missing, no_permission none refl)
-  | inr permission ↦ elim (nil_or_not (payloads 2 fs)) [ inl none ↦ inr (Missing, no_principal none refl) | inr principal ↦ inl (permission, principal) ]
+  | inl none ↦ inr (λ sides. sides.0 none)
+  | inr permission ↦ elim (nil_or_not (payloads 2 fs)) [
+    | inl none ↦ inr (λ sides. sides.1 none)
+    | inr principal ↦ inl (permission, principal)
+  ]
 ]
 
 fields_total : (parts : List (List ℕ)) (fs : List Wire) → IsMessage policy_keys parts fs
@@ -77,23 +77,15 @@ policy_total : (parts : List (List ℕ))
 policy_total parts = elim (message_total policy_keys parts) [
   | inr bad ↦ inr (bad.0, policy_fields bad.1)
   | inl message ↦ elim (conditions_total message.0) [
-    | inr bad ↦ inr (bad.0, conditional message.0 message.1.0 bad.1)
+    | inr bad ↦ inr (Unsupported, conditional message.0 message.1.0 bad refl)
     | inl plain ↦ elim (sides_total message.0) [
-      | inr bad ↦ inr (bad.0, lacks_side message.0 message.1 bad.1)
+      | inr bad ↦ inr (Missing, lacks_side message.0 message.1 bad refl)
       | inl sides ↦ fields_total parts message.0 message.1 plain sides
     ]
   ]
 ]
 
--- not both of either
-condition_disjoint : (fs : List Wire) (e : Refusal) → LacksConditions fs → ConditionFault fs e → ⊥
-condition_disjoint fs e plain (unchecked there at) = there plain.0
-condition_disjoint fs e plain (checked there at) = there plain.1
-
-side_disjoint : (fs : List Wire) (e : Refusal) → HasBothSides fs → SideFault fs e → ⊥
-side_disjoint fs e sides (no_permission none at) = sides.0 none
-side_disjoint fs e sides (no_principal none at) = sides.1 none
-
+-- not both
 module _ (parts : List (List ℕ)) (policy : Policy) (is : IsPolicy parts policy) where
   -- the parts merge to the policy's fields alone
   moved : (P : List Wire → Type 0) (gs : List Wire) → Merges parts gs → P gs → P is.fs
@@ -101,8 +93,8 @@ module _ (parts : List (List ℕ)) (policy : Policy) (is : IsPolicy parts policy
 
   policy_disjoint : (e : Refusal) → PolicyFault parts e → ⊥
   policy_disjoint e (policy_fields bad) = message_disjoint policy_keys parts is.fs e is.message bad
-  policy_disjoint e (lacks_side gs also bad) = side_disjoint is.fs e is.sides (moved (λ xs. SideFault xs e) gs also.0 bad)
-  policy_disjoint e (conditional gs also bad) = condition_disjoint is.fs e is.lacks (moved (λ xs. ConditionFault xs e) gs also bad)
+  policy_disjoint e (lacks_side gs also bad at) = moved (λ xs. ¬ (HasBothSides xs)) gs also.0 bad is.sides
+  policy_disjoint e (conditional gs also bad at) = moved (λ xs. ¬ (LacksConditions xs)) gs also bad is.lacks
   policy_disjoint e (in_permission gs also (child, here, bad)) =
       rules_disjoint Permission rule_depth (payloads 1 is.fs) policy.permissions child e is.permissions (moved (λ xs. Contains (payloads 1 xs) child) gs also here) bad
   policy_disjoint e (in_principal gs also (child, here, bad)) =

@@ -1,7 +1,6 @@
 -- Bytes are the message of one filter at most.
-use Rattle.std.proofs.Common.{◌≡◌, ℕ, List, [], ◌∷◌, Option, Some, None, IsSomeAnd, MatchOption, refl, sym, ap, ap₂, subst, arith, ◌∙◌}
-use Rattle.std.specs.Cmp.Lexicographic.{nat_list_cmp_total}
-use Rattle.std.specs.FinMap.{FinMap, get, nat_cmp-IsAntisymmetric, slice_cmp-IsAntisymmetric, same_map}
+use Rattle.std.proofs.Common.{◌≡◌, ℕ, List, [], ◌∷◌, Option, refl, sym, ap, ap₂, subst, arith, ◌∙◌}
+use Rattle.std.specs.FinMap.{FinMap}
 use Rattle.proto_wire.specs.Fields.{Wire}
 use Rattle.proto_wire.specs.Values.{payloads}
 use Rattle.proto_wire.specs.Messages.{IsMessage}

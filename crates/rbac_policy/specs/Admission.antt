@@ -1,4 +1,5 @@
--- Which bytes are admitted as a filter under limits and a budget, and what is wrong with the others.
+-- Which bytes are admitted as a filter under limits and a budget, and what is wrong with the
+-- others.
 use Rattle.std.specs.Prelude.{ℕ, List}
 use Rattle.attributes.specs.Limits.{LimitsValue}
 use Rattle.proto_wire.specs.declared.refusal.Refusal.{Refusal}
@@ -6,8 +7,8 @@ use Rattle.rbac_policy.specs.Filter.{Filter}
 use Rattle.rbac_policy.specs.Message.{IsFilter}
 use Rattle.rbac_policy.specs.Fault.{FilterFault}
 
--- the bytes are the message of this filter; it has no conditions, so it costs nothing of the budget,
--- whatever the limits
+-- the bytes are the message of this filter; it has no conditions, so it costs nothing of the
+-- budget, whatever the limits
 abbrev pub Admits : List ℕ → LimitsValue → ℕ → Filter → Type 0
 Admits bytes limits budget filter = IsFilter bytes filter
 

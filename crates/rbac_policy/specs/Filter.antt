@@ -8,7 +8,8 @@ use Rattle.rbac_policy.specs.declared.filter.Action.{Action}
 -- a condition of a policy (Policy.checked_condition): no filter with one is admitted yet
 pub data Condition : Type 0 where
 
--- what a policy asks of a request: some permission and some principal, and its condition if it has one
+-- what a policy asks of a request: some permission and some principal, and its condition if it has
+-- one
 pub record Policy : Type 0 where
   pub permissions : Formulas
   pub principals : Formulas

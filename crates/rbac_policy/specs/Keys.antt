@@ -4,7 +4,8 @@ use Rattle.std.specs.Prelude.{ℕ, List, [], ◌∷◌}
 use Rattle.proto_wire.specs.Keys.{len_key, varint_key}
 use Rattle.proto_wire.specs.declared.key.Key.{Key}
 
--- the field of the HTTP filter that holds what it enforces; shadow_rules 2 and their prefix 3 are skipped
+-- the field of the HTTP filter that holds what it enforces; shadow_rules 2 and their prefix 3 are
+-- skipped
 abbrev pub rules_field : ℕ
 rules_field = 1
 

@@ -6,3 +6,4 @@ pub mod Verdict
 pub mod Named
 pub mod Admitted
 pub mod Admission
+pub mod steps

@@ -1,16 +1,14 @@
 -- The messages of an RBAC filter: Envoy v3 `extensions/filters/http/rbac/v3/rbac.proto` and
 -- `config/rbac/v3/rbac.proto`.
-use Rattle.std.specs.Prelude.{◌≡◌, ◌≢◌, ℕ, ◌≤◌, List, [], ◌∷◌, None, map, reverse, IsSomeAnd, MatchOption}
-use Rattle.std.specs.Str.{IsUtf8}
-use Rattle.std.specs.FinMap.{FinMap, get, from_entries, len}
+use Rattle.std.specs.Prelude.{◌≡◌, ◌≢◌, ℕ, ◌≤◌, List, [], ◌∷◌, None}
+use Rattle.std.specs.FinMap.{len}
 use Rattle.proto_wire.specs.Fields.{Wire}
-use Rattle.proto_wire.specs.Values.{bytes_at, payloads, uint32_at}
+use Rattle.proto_wire.specs.Values.{payloads, uint32_at}
 use Rattle.proto_wire.specs.Maps.{Entry, text, AreEntries, map_of, AreValues}
 use Rattle.proto_wire.specs.Messages.{IsMessage}
 use Rattle.rbac_match.specs.Rules.{AreRules, IsRule}
 use Rattle.rbac_match.specs.declared.rule.Side.TheVariants.{Permission, Principal}
 use Rattle.rbac_policy.specs.Filter.{Policy, Filter}
-use Rattle.attributes.specs.Headers.{name_cmp}
 use Rattle.rbac_policy.specs.Keys.{filter_keys, rules_keys, policy_keys, rules_field, action_field, policies_field, audit_logging_options_field, permissions_field, principals_field, condition_field, checked_condition_field}
 use Rattle.rbac_policy.specs.declared.filter.Action.{Action}
 use Rattle.rbac_policy.specs.declared.filter.Action.TheVariants.{Allow, Deny, Log}

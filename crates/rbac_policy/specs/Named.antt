@@ -1,11 +1,7 @@
 -- What the code's policies stand for.
-use Rattle.std.specs.Prelude.{◌≡◌, ℕ, List, [], ◌∷◌, None, map}
+use Rattle.std.specs.Prelude.{ℕ, List, None, map}
 use Rattle.std.specs.String.{string_bytes}
-use Rattle.std.specs.Borrow.{Bor}
-use Rattle.std.specs.declared.vec.Vec.{Vec}
-use Rattle.std.specs.declared.alloc.Global.{Global}
 use Rattle.rbac_match.specs.View.{rules_view}
-use Rattle.proto_wire.specs.Maps.{Entry, text, entries_view}
 use Rattle.rbac_policy.specs.Filter.{Policy}
 use Rattle.rbac_policy.specs.declared.policy.NamedPolicy.{NamedPolicy}
 
@@ -24,7 +20,3 @@ named_view p = (string_bytes p.name, policy_view p)
 -- the names and policies, in order
 abbrev pub named_views : List NamedPolicy → List (List ℕ × Policy)
 named_views ps = map named_view ps
-
--- the names of a map with the payloads at each, in order
-abbrev pub names_view : List (Bor (List ℕ) × Vec (Bor (List ℕ)) Global) → List (Entry text)
-names_view = entries_view text (λ name. name.now)

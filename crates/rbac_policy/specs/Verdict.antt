@@ -1,5 +1,5 @@
 -- What a filter decides: Envoy RBAC, "RBAC.Action", "RBAC.policies" and "Policy" (config.rbac.v3).
-use Rattle.std.specs.Prelude.{◌≡◌, ℕ, ◌&&◌, ◌↔◌, Bool, true, false, not, IsTrue, List, Option, Some, None, IfSome, IsSomeAnd, MatchOption, count_by}
+use Rattle.std.specs.Prelude.{◌≡◌, ℕ, ◌&&◌, ◌↔◌, Bool, true, false, IsTrue, List, Option, Some, None, IfSome, IsSomeAnd, MatchOption, count_by}
 use Rattle.std.specs.Ordering.{is_lt}
 use Rattle.std.specs.FinMap.{get, keys}
 use Rattle.attributes.specs.Request.{RequestValue}
@@ -23,18 +23,13 @@ LetsThrough Allow Match = Match
 LetsThrough Deny Match = Match → ⊥
 LetsThrough Log Match = Unit {0}
 
--- the same as a test, by whether some policy matches
-abbrev pub allows : Action → Bool → Bool
-allows Allow is_match = is_match
-allows Deny is_match = not is_match
-allows Log is_match = true
-
 -- no policy of the filter has a condition
 abbrev pub IsUnconditional : Filter → Type 0
-IsUnconditional filter = (name : List ℕ) → IfSome (get filter.policies name) (λ p. p.condition ≡ None)
+IsUnconditional filter =
+    (name : List ℕ) → IfSome (get filter.policies name) (λ p. p.condition ≡ None)
 
--- what a filter decides, by which of its conditions the request meets: those whose answer is true, so
--- that an error is no match
+-- what a filter decides, by which of its conditions the request meets: those whose answer is true,
+-- so that an error is no match
 module _ (is_met : Condition → Bool) where
   -- whether the condition is met; a policy without one asks nothing more
   abbrev pub condition_holds : Option Condition → Bool
@@ -65,8 +60,8 @@ module _ (is_met : Condition → Bool) where
     pub reported : MatchOption matched (SomeMatches r filter → ⊥)
         (λ k. (name : List ℕ) × IsLeastMatch r filter name × (k ≡ number_of filter name))
 
-  -- the verdict asks for the condition: it is that of a policy whose permissions and principals match,
-  -- and no policy of a lesser name matches
+  -- the verdict asks for the condition: it is that of a policy whose permissions and principals
+  -- match, and no policy of a lesser name matches
   abbrev pub IsAsked : RequestValue → Filter → Condition → Type 0
   IsAsked r filter condition = (name : List ℕ)
       × IsSomeAnd (get filter.policies name)

@@ -22,9 +22,10 @@ use std::alloc::Global;
 /// How many policies a filter may have.
 pub const MOST_POLICIES: usize = 256;
 
-/// Reads the message of an HTTP RBAC filter (`envoy.extensions.filters.http.rbac.v3.RBAC`), for requests within the
-/// limits and with a budget of steps for its conditions. It is taken whole or refused whole, for a fault that is there:
-/// `BadWire`, `BadText`, `UnknownField`, `Missing`, `OutOfRange`, `Unsupported` or `TooLarge`; or for want of memory.
+/// Reads the message of an HTTP RBAC filter (`envoy.extensions.filters.http.rbac.v3.RBAC`), for
+/// requests within the limits and with a budget of steps for its conditions. It is taken whole or
+/// refused whole, for a fault that is there: `BadWire`, `BadText`, `UnknownField`, `Missing`,
+/// `OutOfRange`, `Unsupported` or `TooLarge`; or for want of memory.
 pub fn admit(
     alloc: Global,
     bytes: &[u8],
@@ -54,7 +55,8 @@ fn read_filter(alloc: Global, bytes: &[u8]) -> Result<FilterRules, Refusal>
 /// Refuses a filter without rules.
 fn require_rules(top: &[Field<'_>]) -> Result<(), Refusal>
     ensures found { OnOk result (payloads rules_field (map field_view top.now) ≢ []) }
-    ensures fault { IfErr result (λ e. (e ≡ Missing) × (payloads rules_field (map field_view top.now) ≡ [])) }
+    ensures fault { IfErr result (λ e. (e ≡ Missing)
+        × (payloads rules_field (map field_view top.now) ≡ [])) }
 {
     if !has_payload(top, RULES) {
         return Err(Refusal::Missing);
@@ -64,7 +66,8 @@ fn require_rules(top: &[Field<'_>]) -> Result<(), Refusal>
 
 /// Reads the filter's rules from their fields, all of which are known.
 fn read_rules(alloc: Global, fields: &[Field<'_>]) -> Result<FilterRules, Refusal>
-    ensures found { IfOk result (λ rules. AreFilterRules (map field_view fields.now) (rules_view rules)) }
+    ensures found { IfOk result (λ rules. AreFilterRules (map field_view fields.now)
+        (rules_view rules)) }
     ensures fault { IfErr result (MemoryOr (RulesFault (map field_view fields.now))) }
 {
     refuse_audit_options(fields)?;
@@ -78,7 +81,8 @@ fn read_rules(alloc: Global, fields: &[Field<'_>]) -> Result<FilterRules, Refusa
 
 /// Refuses rules with options of an audit log.
 fn refuse_audit_options(fields: &[Field<'_>]) -> Result<(), Refusal>
-    ensures found { OnOk result (payloads audit_logging_options_field (map field_view fields.now) ≡ []) }
+    ensures found { OnOk result (payloads audit_logging_options_field (map field_view fields.now)
+        ≡ []) }
     ensures fault { IfErr result (λ e. (e ≡ Unsupported)
         × (payloads audit_logging_options_field (map field_view fields.now) ≢ [])) }
 {
@@ -101,7 +105,8 @@ fn refuse_many(count: usize) -> Result<(), Refusal>
 
 /// The action: an enum keeps the low 32 bits of its number, and is 0 where it is absent.
 fn read_action(fields: &[Field<'_>]) -> Result<Action, Refusal>
-    ensures { MatchResult result (λ action. action_in (map field_view fields.now) ≡ action_number action)
+    ensures { MatchResult result (λ action. action_in (map field_view fields.now)
+        ≡ action_number action)
         (λ e. (e ≡ OutOfRange) × (2 < action_in (map field_view fields.now))) }
 {
     match uint32_at(fields, ACTION) {

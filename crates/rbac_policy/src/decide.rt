@@ -14,8 +14,9 @@ use rbac_match::any_matches;
 use stack_machine::RunError;
 
 impl Admitted {
-    /// What the filter answers the request. A filter without conditions always answers, and takes no memory. With
-    /// conditions it may answer `Memory`, and `OutOfSteps` where one that it asks for takes more steps than it may.
+    /// What the filter answers the request. A filter without conditions always answers, and takes
+    /// no memory. With conditions it may answer `Memory`, and `OutOfSteps` where one that it asks
+    /// for takes more steps than it may.
     pub fn decide(&self, request: &Request) -> Result<Verdict, RunError>
         ensures found { IfOk result (λ v. (is_met : Condition → Bool)
             → IsVerdict is_met request.now (filter_view self.now) v.allowed v.matched) }

@@ -21,7 +21,7 @@ pub enum Action {
 
 impl Action {
     ghost use Rattle.std.specs.Prelude.{◌≡◌};
-    ghost use Rattle.rbac_policy.specs.Verdict.{allows};
+    ghost use Rattle.rbac_policy.specs.steps.Action.{allows};
 
     /// Whether it lets a request through, by whether some policy matches.
     pub(crate) fn allows(self, is_match: bool) -> bool
@@ -54,12 +54,16 @@ pub(crate) struct FilterRules {
 
 impl FilterRules {
     ghost use Rattle.std.specs.Prelude.{◌≡◌};
-    ghost use Rattle.rbac_policy.specs.Admitted.{rules_view, filter_of_parts};
+    ghost use Rattle.std.specs.FinMap.{from_entries};
+    ghost use Rattle.rbac_policy.specs.Admitted.{rules_view};
 
     /// The rules of an action and policies, which stand in ascending order of their names.
     pub(crate) fn new(action: Action, policies: Vec<NamedPolicy>) -> FilterRules
         requires { IsTrue (is_sorted name_cmp (named_views policies.items)) }
-        ensures { rules_view result ≡ filter_of_parts action policies.items }
+        ensures { rules_view result ≡ record {
+          action = action;
+          policies = from_entries (named_views policies.items);
+        } }
     {
         FilterRules { action, policies }
     }
@@ -113,7 +117,8 @@ impl Admitted {
         self.rules.policies.len()
     }
 
-    /// How many steps its conditions take at most, together: none, while filters have no conditions.
+    /// How many steps its conditions take at most, together: none, while filters have no
+    /// conditions.
     pub fn bound(&self) -> u64
         ensures { result ≡ 0 }
     {

@@ -1,4 +1,5 @@
-//! The fields that the messages of a filter have, by number and wire type, and whether one is there.
+//! The fields that the messages of a filter have, by number and wire type, and whether one is
+//! there.
 
 ghost use Rattle.std.specs.Prelude.{◌≡◌, ◌≢◌, [], MatchBool, map};
 ghost use Rattle.proto_wire.specs.Fields.{field_view};

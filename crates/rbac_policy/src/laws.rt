@@ -28,6 +28,7 @@ pub fn filter_unique()
 
 /// A filter gives a request one verdict at most, by what its conditions answer.
 pub fn verdict_unique()
-    ensures { (is_met : Condition → Bool) (r : RequestValue) (filter : Filter) (a b : Bool) (m n : Option ℕ)
+    ensures { (is_met : Condition → Bool) (r : RequestValue) (filter : Filter) (a b : Bool)
+        (m n : Option ℕ)
         → IsVerdict is_met r filter a m → IsVerdict is_met r filter b n → (a ≡ b) × (m ≡ n) }
 {}

@@ -1,5 +1,5 @@
-//! The numbers of the fields of a filter's messages (Envoy v3, `extensions/filters/http/rbac/v3/rbac.proto` and
-//! `config/rbac/v3/rbac.proto`).
+//! The numbers of the fields of a filter's messages (Envoy v3,
+//! `extensions/filters/http/rbac/v3/rbac.proto` and `config/rbac/v3/rbac.proto`).
 
 /// `rules` of the HTTP filter.
 pub(crate) const RULES: u32 = 1;

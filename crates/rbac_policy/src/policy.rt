@@ -4,14 +4,17 @@ ghost use Rattle.std.specs.Prelude.{◌≡◌, ◌≢◌, ◌⊎◌, [], IfOk, I
 ghost use Rattle.std.specs.String.{string_bytes};
 ghost use Rattle.proto_wire.specs.Fields.{field_view};
 ghost use Rattle.proto_wire.specs.Values.{payloads};
-ghost use Rattle.proto_wire.specs.Maps.{text, Held, SomeValueFault};
+ghost use Rattle.proto_wire.specs.Maps.{text, SomeValueFault};
+ghost use Rattle.proto_wire.specs.steps.Maps.{Held};
 ghost use Rattle.proto_wire.specs.Refusal.{MemoryOr};
 ghost use Rattle.proto_wire.specs.Merge.{parts_view};
 ghost use Rattle.rbac_match.specs.Rules.{IsRule, AreRules, SomeRuleFault};
 ghost use Rattle.rbac_match.specs.View.{rules_view};
 ghost use Rattle.rbac_policy.specs.Message.{IsPolicy, LacksConditions, HasBothSides, rule_depth};
-ghost use Rattle.rbac_policy.specs.Fault.{PolicyFault, ConditionFault, SideFault};
-ghost use Rattle.rbac_policy.specs.Named.{policy_view, named_views, names_view};
+ghost use Rattle.rbac_policy.specs.Fault.{PolicyFault};
+ghost use Rattle.rbac_policy.specs.Named.{policy_view, named_views};
+ghost use Rattle.rbac_policy.specs.steps.Named.{names_view};
+ghost use Rattle.proto_wire.specs.declared.refusal.Refusal.TheVariants.{Missing, Unsupported};
 
 use crate::keys::{has_payload, policy_keys};
 use crate::numbers::{CHECKED_CONDITION, CONDITION, PERMISSIONS, PRINCIPALS};
@@ -33,8 +36,10 @@ pub(crate) fn read_policies(
     alloc: Global,
     named: &BTreeMap<&str, Vec<&[u8]>>,
 ) -> Result<Vec<NamedPolicy>, Refusal>
-    ensures found { IfOk result (λ policies. Held text IsPolicy (names_view named.now.entries) (named_views policies.items)) }
-    ensures fault { IfErr result (MemoryOr (SomeValueFault text PolicyFault (names_view named.now.entries))) }
+    ensures found { IfOk result (λ policies. Held text IsPolicy (names_view named.now.entries)
+        (named_views policies.items)) }
+    ensures fault { IfErr result (MemoryOr (SomeValueFault text PolicyFault
+        (names_view named.now.entries))) }
 {
     let mut policies = Vec::new(alloc);
     for (name, parts) in named {
@@ -65,7 +70,8 @@ fn read_policy(alloc: Global, name: &str, parts: &[&[u8]]) -> Result<NamedPolicy
 /// Refuses a policy that has a condition.
 fn refuse_conditions(fields: &[Field<'_>]) -> Result<(), Refusal>
     ensures found { OnOk result (LacksConditions (map field_view fields.now)) }
-    ensures fault { IfErr result (ConditionFault (map field_view fields.now)) }
+    ensures fault { IfErr result (λ e. ¬ (LacksConditions (map field_view fields.now))
+        × (e ≡ Unsupported)) }
 {
     if has_payload(fields, CONDITION) {
         return Err(Refusal::Unsupported);
@@ -79,7 +85,8 @@ fn refuse_conditions(fields: &[Field<'_>]) -> Result<(), Refusal>
 /// Refuses a policy that lacks permissions or principals.
 fn require_sides(fields: &[Field<'_>]) -> Result<(), Refusal>
     ensures found { OnOk result (HasBothSides (map field_view fields.now)) }
-    ensures fault { IfErr result (SideFault (map field_view fields.now)) }
+    ensures fault { IfErr result (λ e. ¬ (HasBothSides (map field_view fields.now))
+        × (e ≡ Missing)) }
 {
     if !has_payload(fields, PERMISSIONS) {
         return Err(Refusal::Missing);
@@ -98,7 +105,8 @@ fn read_side(
     number: u32,
 ) -> Result<Vec<Rule>, Refusal>
     ensures found { IfOk result (λ rules.
-        AreRules (IsRule side rule_depth) (payloads number (map field_view fields.now)) (rules_view rules.items)) }
+        AreRules (IsRule side rule_depth) (payloads number (map field_view fields.now))
+        (rules_view rules.items)) }
     ensures fault { IfErr result (MemoryOr
         (SomeRuleFault side rule_depth (payloads number (map field_view fields.now)))) }
 {

@@ -1,12 +1,17 @@
 -- The steps by which the headers of a request are made and searched.
 use Rattle.std.specs.Prelude.{◌≡◌, ℕ, ◌≤◌, List, [], ◌∷◌, Some, None, Result, Ok, Err, length}
-use Rattle.std.specs.FinMap.{entries, find}
+use Rattle.std.specs.Coded.{Coded, coded_list, coded_ℕ}
+use Rattle.std.specs.FinMap.{code, entries, find}
 use Rattle.std.specs.FinMap.Entries.{put}
 use Rattle.std.specs.List.{insert, slice_get, slice_set}
 use Rattle.std.specs.declared.alloc.Global.{Global}
 use Rattle.std.specs.declared.cmp.Ordering.TheVariants.{Less}
 use Rattle.std.specs.declared.rc.RcStr.{RcStr}
-use Rattle.attributes.specs.Headers.{Entry, headers_of, headers_view, name_cmp}
+use Rattle.attributes.specs.Headers.{Entry, HeaderMap, headers_of, headers_view, name_cmp}
+
+-- header maps are told apart by their entries
+abbrev pub header_map_code : Coded HeaderMap
+header_map_code = code (coded_list coded_ℕ) (coded_list coded_ℕ)
 
 -- the pairs are the headers of these entries, by ascending name
 abbrev pub AreHeadersOf : List (RcStr Global × RcStr Global) → List Entry → Type 0

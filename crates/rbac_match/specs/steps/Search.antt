@@ -1,5 +1,5 @@
--- What the search for a part knows of the bytes so far: D. E. Knuth, J. H. Morris and V. R. Pratt, "Fast Pattern
--- Matching in Strings".
+-- What the search for a part knows of the bytes so far: D. E. Knuth, J. H. Morris and V. R. Pratt,
+-- "Fast Pattern Matching in Strings".
 use Rattle.std.specs.Prelude.{◌≡◌, ℕ, ◌+◌, ◌-◌, ◌<◌, ◌≤◌, Bool, true, List, length, take, drop, slice_index}
 use Rattle.std.specs.Str.{str_to_ascii_lowercase}
 use Rattle.rbac_match.specs.declared.text.Pattern.{Pattern}

@@ -1,14 +1,10 @@
 -- The library's texts are ours, and a text with a dot is none with colons.
-use Rattle.std.proofs.Common.{◌≡◌, false}
 use Rattle.attributes.specs.Address.{IsIpText}
-use Rattle.attributes.specs.steps.Address.{has_dot}
 use Rattle.attributes.specs.declared.address.Ip.TheVariants.{V4, V6}
-use Rattle.attributes.proofs.AddressText.{no_dot-whole}
 use Rattle.attributes.proofs.address.parse_dotted.Goals as goal
 
 pub returns-in-Err : goal.returns-in-Err
 returns-in-Err c = λ ip. elim ip as (λ a. IsIpText c.args.text.now a → ⊥) [
-  | V4 n ↦ λ h. c.in-Err.ensures (record { octets = h.0 }) h.1
-  | V6 n ↦ λ h. let dotless : has_dot c.args.text.now ≡ false =
-      no_dot-whole c.args.text.now h.0 h.1 in cc
+  | V4 n ↦ λ h. c.in-Err.ensures h.0 h.1
+  | V6 n ↦ λ h. cc (c.requires, h.2)
 ]

@@ -5,18 +5,32 @@ use Rattle.attributes.proofs.conn.facts_are_sound.Goals as goal
 
 pub returns : goal.returns
 returns c = record {
-  source_address = IsUtf8-text_view c.args.conn.now.source_address;
+  texts = (
+    IsUtf8-text_view c.args.conn.now.source_address,
+    (
+      IsUtf8-text_view c.args.conn.now.destination_address,
+      (
+        IsUtf8-text_view c.args.conn.now.requested_server_name,
+        (
+          IsUtf8-text_view c.args.conn.now.tls_version,
+          (
+            IsUtf8-text_view c.args.conn.now.subject_peer_certificate,
+            (
+              IsUtf8-text_view c.args.conn.now.dns_san_peer_certificate,
+              (
+                IsUtf8-text_view c.args.conn.now.uri_san_peer_certificate,
+                (IsUtf8-rc_str_bytes c.args.conn.now.scheme, tt),
+              ),
+            ),
+          ),
+        ),
+      ),
+    ),
+  );
   source_port = c.port_is_sound.ensures;
-  destination_address = IsUtf8-text_view c.args.conn.now.destination_address;
   destination_port = c.port_is_sound-2.ensures;
   connection_id = c.number_is_sound.ensures;
-  requested_server_name = IsUtf8-text_view c.args.conn.now.requested_server_name;
-  tls_version = IsUtf8-text_view c.args.conn.now.tls_version;
-  subject_peer_certificate = IsUtf8-text_view c.args.conn.now.subject_peer_certificate;
-  dns_san_peer_certificate = IsUtf8-text_view c.args.conn.now.dns_san_peer_certificate;
-  uri_san_peer_certificate = IsUtf8-text_view c.args.conn.now.uri_san_peer_certificate;
   direct_remote_ip = c.address_is_sound.ensures;
   remote_ip = c.address_is_sound-2.ensures;
   destination_ip = c.address_is_sound-3.ensures;
-  scheme = IsUtf8-rc_str_bytes c.args.conn.now.scheme;
 }

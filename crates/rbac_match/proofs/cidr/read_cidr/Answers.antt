@@ -1,12 +1,12 @@
 -- Each refusal of a range of addresses is a fault that is there.
-use Rattle.std.proofs.Common.{ℕ, ◌≡◌, ◌<◌, List, map, sym}
+use Rattle.std.proofs.Common.{ℕ, ◌≡◌, ◌<◌, List, map}
 use Rattle.attributes.specs.Address.{width_of}
 use Rattle.proto_wire.specs.Fields.{Wire, field_view}
 use Rattle.proto_wire.specs.Merge.{parts_view}
-use Rattle.proto_wire.specs.Messages.{IsMessage, MessageFault}
-use Rattle.proto_wire.specs.Values.{payloads, bytes_at}
+use Rattle.proto_wire.specs.Messages.{MessageFault}
+use Rattle.proto_wire.specs.Values.{payloads}
 use Rattle.proto_wire.specs.declared.refusal.Refusal.TheVariants.{OutOfRange}
-use Rattle.rbac_match.specs.Cidr.{address_prefix_field, prefix_len_field, cidr_keys, uint32_keys, AddressFault, CidrFault, cidr_fields, in_address, in_length, too_long}
+use Rattle.rbac_match.specs.Cidr.{prefix_len_field, cidr_keys, uint32_keys, CidrFault, cidr_fields, in_address, in_length, too_long}
 use Rattle.rbac_match.proofs.Exits.{exit_memory_or, exit_fault, last_fault}
 use Rattle.rbac_match.proofs.cidr.read_cidr.Goals as goal
 

@@ -5,7 +5,9 @@ use Rattle.proto_wire.specs.Merge.{parts_view}
 use Rattle.proto_wire.specs.Messages.{IsMessage, MessageFault}
 use Rattle.proto_wire.specs.declared.refusal.Refusal.TheVariants.{OutOfRange}
 use Rattle.rbac_match.specs.Message.{range_keys}
-use Rattle.rbac_match.specs.Ports.{AreNoBounds, PortRangeFault, range_fields, no_bounds}
+use Rattle.rbac_match.specs.Ports.{PortRangeFault, range_fields, no_bounds}
+use Rattle.rbac_match.specs.steps.Ports.{AreNoBounds}
+use Rattle.rbac_match.proofs.PortsMessages.{bounds_disjoint}
 use Rattle.rbac_match.proofs.Exits.{exit_memory_or, last_fault}
 use Rattle.rbac_match.proofs.ports.read_port_range.Goals as goal
 
@@ -23,4 +25,4 @@ returns-clause-fault c =
     let message : IsMessage range_keys parts fs = rw c.range_keys.ensures at c.in_ok-fields.ensures.found in
     last_fault (λ e. AreNoBounds fs × (e ≡ OutOfRange)) (PortRangeFault parts) c.port_range.result
     (rw c.deref.ensures.value at c.port_range.ensures.fault)
-    (λ e bad. no_bounds fs message.0 bad.0 bad.1)
+    (λ e bad. no_bounds fs message.0 (λ span are. bounds_disjoint fs span are bad.0) bad.1)

@@ -1,4 +1,4 @@
-use Rattle.std.proofs.Common.{◌≡◌, ◌≢◌, ◌<◌, ◌-◌, ℕ, List, [], ◌∷◌, Some, map, get_or}
+use Rattle.std.proofs.Common.{◌≡◌, ◌≢◌, ◌-◌, ℕ, List, [], ◌∷◌, Some, map, get_or}
 use Rattle.std.proofs.lemmas.Result.{MatchResult-weaker}
 use Rattle.std.proofs.lemmas.List.{take_more}
 use Rattle.proto_wire.specs.declared.refusal.Refusal.{Refusal}
@@ -9,7 +9,7 @@ use Rattle.proto_wire.specs.Messages.{IsMessage, MessageFault}
 use Rattle.proto_wire.specs.Oneof.{member_run}
 use Rattle.proto_wire.specs.Values.{payloads}
 use Rattle.rbac_match.specs.Message.{rule_keys, rules_field, set_keys}
-use Rattle.rbac_match.specs.Rules.{IsRule, SetFault, MemberFault, LevelFault, RuleFault, SomeRuleFault, rule_fields, set_fields, set_empty, in_rule}
+use Rattle.rbac_match.specs.Rules.{IsRule, SetFault, MemberFault, RuleFault, SomeRuleFault, rule_fields, set_fields, set_empty, in_rule}
 use Rattle.rbac_match.proofs.Exits.{exit_memory_or, exit_fault, last_memory_or}
 use Rattle.rbac_match.proofs.Levels.{rule_found, fault_deeper, member_fault, last_fault, are_rules_push, text_in}
 use Rattle.rbac_match.proofs.read.+rule.Goals as goal

@@ -1,4 +1,4 @@
-use Rattle.std.proofs.Common.{ap, ◌∙◌}
+use Rattle.std.proofs.Common.{◌∙◌}
 use Rattle.rbac_match.proofs.Substrings.{found_substring}
 use Rattle.rbac_match.proofs.text.holds.Goals as goal
 

@@ -1,4 +1,4 @@
-use Rattle.std.proofs.Common.{◌≡◌, ◌<◌, ◌≤◌, List, map, length, inl, inr, refl, sym, ap, ◌∙◌, arith}
+use Rattle.std.proofs.Common.{◌≡◌, ◌<◌, ◌≤◌, List, map, length, inr, sym, ap, ◌∙◌, arith}
 use Rattle.std.proofs.lemmas.List.{length-map}
 use Rattle.std.specs.FinMap.{entries, len, len-entries}
 use Rattle.proto_wire.specs.Fields.{Wire, field_view}
@@ -9,7 +9,8 @@ use Rattle.proto_wire.proofs.Exits.{exit_memory_or}
 use Rattle.rbac_policy.specs.Message.{IsPolicy, most_policies}
 use Rattle.rbac_policy.specs.Fault.{PolicyFault, RulesFault, in_entry, too_many, in_policy}
 use Rattle.rbac_policy.specs.Named.{named_views}
-use Rattle.proto_wire.specs.Maps.{Entry, text, AreEntries, map_of, Held, SomeEntryFault, SomeValueFault}
+use Rattle.proto_wire.specs.Maps.{Entry, text, AreEntries, map_of, SomeEntryFault, SomeValueFault}
+use Rattle.proto_wire.specs.steps.Maps.{Held}
 use Rattle.proto_wire.proofs.MapLaws.{entries_readable}
 use Rattle.proto_wire.proofs.MapValues.{held_ordered, held_are_values}
 use Rattle.rbac_policy.proofs.admission.read_rules.Goals as goal

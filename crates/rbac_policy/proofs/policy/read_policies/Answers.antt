@@ -1,4 +1,4 @@
-use Rattle.std.proofs.Common.{◌≡◌, ℕ, ◌++◌, ◌∷◌, [], List, map, refl, ap, ◌∙◌}
+use Rattle.std.proofs.Common.{◌≡◌, ◌++◌, ◌∷◌, [], map, refl, ap, ◌∙◌}
 use Rattle.std.proofs.lemmas.List.{map-append}
 use Rattle.std.proofs.lemmas.Map.Iter.{btree_map_turn}
 use Rattle.std.specs.Map.Iter.{deref_pair}
@@ -13,7 +13,8 @@ use Rattle.proto_wire.proofs.MapValues.{held_push}
 use Rattle.rbac_policy.specs.declared.policy.NamedPolicy.{NamedPolicy}
 use Rattle.rbac_policy.specs.Fault.{PolicyFault}
 use Rattle.rbac_policy.specs.Message.{IsPolicy}
-use Rattle.rbac_policy.specs.Named.{names_view, named_views, policy_view}
+use Rattle.rbac_policy.specs.Named.{named_views, policy_view}
+use Rattle.rbac_policy.specs.steps.Named.{names_view}
 use Rattle.rbac_policy.proofs.policy.read_policies.Goals as goal
 
 pub returns-in_err-read_policy-clause-fault : goal.returns-in_err-read_policy-clause-fault

@@ -1,8 +1,10 @@
 use Rattle.std.specs.Map.Iter.{deref_pair}
 use Rattle.std.proofs.Common.{map}
-use Rattle.proto_wire.specs.Maps.{text, Held}
+use Rattle.proto_wire.specs.Maps.{text}
+use Rattle.proto_wire.specs.steps.Maps.{Held}
 use Rattle.rbac_policy.specs.Message.{IsPolicy}
-use Rattle.rbac_policy.specs.Named.{names_view, named_views}
+use Rattle.rbac_policy.specs.Named.{named_views}
+use Rattle.rbac_policy.specs.steps.Named.{names_view}
 use Rattle.rbac_policy.proofs.policy.read_policies.Given as goal
 
 abbrev pub invariant-loop-name : goal.invariant-loop-name

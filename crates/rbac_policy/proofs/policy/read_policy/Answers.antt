@@ -23,7 +23,7 @@ returns-in_err-refuse_conditions-clause-fault c =
     let fs : List Wire = map field_view c.in_ok-fields.fields.items in
     let bad = rw c.deref.ensures.value at c.in_err-refuse_conditions.ensures.fault in
     exit_memory_or F F c.from_residual-in_err-refuse_conditions.result _ c.from_residual-in_err-refuse_conditions.ensures.1
-    (inr (conditional fs c.in_ok-fields.ensures.found.0 bad)) (λ e fault. fault)
+    (inr (conditional fs c.in_ok-fields.ensures.found.0 bad.0 bad.1)) (λ e fault. fault)
 
 pub returns-in_err-require_sides-clause-fault : goal.returns-in_err-require_sides-clause-fault
 returns-in_err-require_sides-clause-fault c =
@@ -32,7 +32,7 @@ returns-in_err-require_sides-clause-fault c =
     let message : IsMessage policy_keys (parts_view c.args.parts.now) fs = rw c.policy_keys.ensures at c.in_ok-fields.ensures.found in
     let bad = rw c.deref-2.ensures.value at c.in_err-require_sides.ensures.fault in
     exit_memory_or F F c.from_residual-in_err-require_sides.result _ c.from_residual-in_err-require_sides.ensures.1
-    (inr (lacks_side fs message bad)) (λ e fault. fault)
+    (inr (lacks_side fs message bad.0 bad.1)) (λ e fault. fault)
 
 pub returns-in_err-permissions-clause-fault : goal.returns-in_err-permissions-clause-fault
 returns-in_err-permissions-clause-fault c =

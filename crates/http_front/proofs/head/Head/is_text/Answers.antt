@@ -1,7 +1,7 @@
 use Rattle.std.specs.Prelude.{MatchResult, Result, Ok, Err, is_ok}
 use Rattle.std.specs.Bool.{OnFalse, OnTrue}
 use Rattle.std.proofs.lemmas.Bool.{OnFalse_at, OnFalse_from, OnTrue_at, OnTrue_from}
-use Rattle.http_front.specs.Parsed.{HoldsHead}
+use Rattle.http_front.specs.steps.Parsed.{HoldsHead}
 use Rattle.http_front.proofs.HeadTexts.{held_bad_text, held_texts}
 use Rattle.http_front.proofs.head.Head.is_text.Goals as goal
 

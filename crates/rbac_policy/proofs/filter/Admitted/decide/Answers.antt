@@ -1,6 +1,7 @@
 use Rattle.std.proofs.Common.{◌≡◌, is_some, refl, ap, ◌∙◌}
 use Rattle.std.specs.List.{position_from}
-use Rattle.rbac_policy.specs.Verdict.{sides_match, allows}
+use Rattle.rbac_policy.specs.Verdict.{sides_match}
+use Rattle.rbac_policy.specs.steps.Action.{allows}
 use Rattle.rbac_policy.specs.Named.{policy_view}
 use Rattle.rbac_policy.specs.Admitted.{filter_view}
 use Rattle.rbac_policy.proofs.First.{verdict}

@@ -2,6 +2,7 @@
 use Rattle.std.specs.Prelude.{◌≡◌, ℕ, List, length, All, Any, IsUtf8, codes}
 use Rattle.std.specs.Bool.{OnFalse, OnTrue}
 use Rattle.attributes.specs.Headers.{Entry}
+use Rattle.attributes.specs.Request.{IsTextEntry}
 use Rattle.httparse.specs.Grammar.{RequestHead, IsRequestHead, print_request, HasNoRequest, NeverHasRequest, MayBecomeRequest}
 use Rattle.httparse.specs.Spans.{IsHeaderWithin}
 use Rattle.httparse.specs.declared.spans.HeaderSpan.{HeaderSpan}
@@ -19,15 +20,11 @@ pub record HoldsHead (bytes : List ℕ) (spans : List HeaderSpan) (h : HeadValue
   pub value : h ≡ head_of tree
   pub within : All (IsHeaderWithin (length bytes)) spans
 
--- the name and the value are UTF-8
-abbrev pub IsText : Entry → Type 0
-IsText field = IsUtf8 field.0 × IsUtf8 field.1
-
 -- each text of the head is UTF-8
 pub record AreTexts (h : HeadValue) : Type 0 where
   pub method : IsUtf8 h.method
   pub target : IsUtf8 h.target
-  pub fields : All IsText h.fields
+  pub fields : All IsTextEntry h.fields
 
 -- what the parser says of the bytes
 abbrev pub IsParsed : List ℕ → Parsed → Type 0

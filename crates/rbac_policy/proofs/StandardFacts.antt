@@ -1,0 +1,237 @@
+-- One filter of Envoy (extensions.filters.http.rbac.v3.RBAC) that allows requests by one policy `p` of any
+-- permission and any principal: its bytes as an encoder writes them, what they say, and its answer,
+-- so that a wrong rule in the specs does not check.
+use Rattle.std.proofs.Common.{◌≡◌, ℕ, ◌+◌, ◌*◌, ◌<◌, ◌≤◌, Bool, true, false, cond, IsTrue, List, [], ◌∷◌, ◌++◌, Some, None, IsSomeAnd, codes, length, map, append-nil, refl, sym, ap, arith, ◌∙◌}
+use Rattle.std.specs.Str.{IsUtf8}
+use Rattle.std.specs.Ordering.{is_eq, is_lt}
+use Rattle.std.specs.declared.cmp.Ordering.TheVariants.{Less, Equal, Greater}
+use Rattle.std.specs.Cmp.Lexicographic.{nat_list_cmp_total}
+use Rattle.std.specs.FinMap.{entries, from_entries, get, keys, len, len-entries, get-from_entries}
+use Rattle.proto_wire.specs.Varint.{SpellsVarint}
+use Rattle.proto_wire.specs.Fields.{varint, len as len_of, Payload, Wire, StartsField, Fields}
+use Rattle.proto_wire.specs.Merge.{Merges}
+use Rattle.proto_wire.specs.Maps.{Entry, text, IsEntry, map_of}
+use Rattle.proto_wire.proofs.MapOrder.{entries_from_entries}
+use Rattle.proto_wire.proofs.MapValues.{held_are_values}
+use Rattle.attributes.specs.Headers.{name_cmp}
+use Rattle.attributes.specs.Request.{RequestValue}
+use Rattle.rbac_match.specs.Formula.{any, end, formula}
+use Rattle.rbac_match.specs.Rules.{IsRule}
+use Rattle.rbac_match.specs.declared.rule.Side.{Side}
+use Rattle.rbac_match.specs.declared.rule.Side.TheVariants.{Permission, Principal}
+use Rattle.rbac_policy.specs.Filter.{Condition, Filter, Policy}
+use Rattle.rbac_policy.specs.Message.{AreFilterRules, IsFilter, IsPolicy, rule_depth}
+use Rattle.rbac_policy.specs.Verdict.{IsVerdict, Matches, policy_matches}
+use Rattle.rbac_policy.specs.declared.filter.Action.TheVariants.{Allow}
+
+-- ---- the bytes, from the innermost out
+
+-- a rule: any is true
+abbrev rule_bytes : List ℕ
+rule_bytes = 24 ∷ 1 ∷ []
+
+-- a policy of a permission and a principal
+abbrev policy_bytes : List ℕ
+policy_bytes = 10 ∷ 2 ∷ (rule_bytes ++ 18 ∷ 2 ∷ rule_bytes)
+
+-- an entry: the key `p`, and the policy
+abbrev entry_bytes : List ℕ
+entry_bytes = 10 ∷ 1 ∷ 112 ∷ 18 ∷ 8 ∷ policy_bytes
+
+-- the rules: the entry
+abbrev rules_bytes : List ℕ
+rules_bytes = 18 ∷ 13 ∷ entry_bytes
+
+-- the filter: the rules
+abbrev pub filter_bytes : List ℕ
+filter_bytes = 10 ∷ 15 ∷ rules_bytes
+
+-- ---- what they say
+
+abbrev field : ℕ → Payload → Wire
+field n p = record { number = n; payload = p }
+
+abbrev pub policy : Policy
+policy = record { permissions = formula any end; principals = formula any end; condition = None }
+
+abbrev policies : List (List ℕ × Policy)
+policies = (codes "p", policy) ∷ []
+
+abbrev pub filter : Filter
+filter = record { action = Allow; policies = from_entries policies }
+
+-- ---- one field
+
+-- a number below 128 is one byte
+one_byte : (b : ℕ) → b < 128 → SpellsVarint (b ∷ []) b
+one_byte b small =
+    record { groups = small; short = omega arith; value = omega arith; fits = omega arith }
+
+-- a LEN field whose tag and size are one byte each, and a rest
+len_starts : (k : ℕ) (bytes rest : List ℕ) → 1 ≤ k → 8 * k + 2 < 128 → length bytes < 128
+    → StartsField ((8 * k + 2) ∷ length bytes ∷ (bytes ++ rest)) (field k (len_of bytes)) rest
+len_starts k bytes rest some small short = record {
+  spelling = (8 * k + 2) ∷ length bytes ∷ bytes;
+  spells = record {
+    tag = (8 * k + 2) ∷ [];
+    behind = length bytes ∷ bytes;
+    numbered = (some, omega arith);
+    spells_tag = one_byte (8 * k + 2) small;
+    spells_payload = (length bytes ∷ [], one_byte _ short, refl);
+    whole = refl;
+  };
+  whole = refl;
+}
+
+-- a message that stands in one payload
+merged : (bytes : List ℕ) (fs : List Wire) → Fields bytes fs → Merges (bytes ∷ []) fs
+merged bytes fs whole = (fs, [], whole, refl, sym (append-nil fs))
+
+-- ---- each message
+
+rule_fields : Fields rule_bytes (field 3 (varint 1) ∷ [])
+rule_fields = (
+  [],
+  record {
+    spelling = rule_bytes;
+    spells = record {
+      tag = 24 ∷ [];
+      behind = 1 ∷ [];
+      numbered = (omega arith, omega arith);
+      spells_tag = one_byte 24 (omega arith);
+      spells_payload = one_byte 1 (omega arith);
+      whole = refl;
+    };
+    whole = refl;
+  },
+  refl,
+)
+
+policy_fields : Fields policy_bytes (field 1 (len_of rule_bytes) ∷ field 2 (len_of rule_bytes) ∷ [])
+policy_fields = (
+  18 ∷ 2 ∷ rule_bytes,
+  len_starts 1 rule_bytes (18 ∷ 2 ∷ rule_bytes) (omega arith) (omega arith) (omega arith),
+  ([], len_starts 2 rule_bytes [] (omega arith) (omega arith) (omega arith), refl),
+)
+
+entry_fields : Fields entry_bytes (field 1 (len_of (codes "p")) ∷ field 2 (len_of policy_bytes) ∷ [])
+entry_fields = (
+  18 ∷ 8 ∷ policy_bytes,
+  len_starts 1 (codes "p") (18 ∷ 8 ∷ policy_bytes) (omega arith) (omega arith) (omega arith),
+  ([], len_starts 2 policy_bytes [] (omega arith) (omega arith) (omega arith), refl),
+)
+
+rules_fields : Fields rules_bytes (field 2 (len_of entry_bytes) ∷ [])
+rules_fields = ([], len_starts 2 entry_bytes [] (omega arith) (omega arith) (omega arith), refl)
+
+filter_fields : Fields filter_bytes (field 1 (len_of rules_bytes) ∷ [])
+filter_fields = ([], len_starts 1 rules_bytes [] (omega arith) (omega arith) (omega arith), refl)
+
+-- a rule of either side
+is_rule : (side : Side) → IsRule side rule_depth (rule_bytes ∷ []) any
+is_rule Permission = record {
+  fields = field 3 (varint 1) ∷ [];
+  message = (merged rule_bytes (field 3 (varint 1) ∷ []) rule_fields, refl);
+  number = 3;
+  last = refl;
+  member = _;
+  is = refl;
+  says = (λ e. omega (arith, e), refl);
+}
+is_rule Principal = record {
+  fields = field 3 (varint 1) ∷ [];
+  message = (merged rule_bytes (field 3 (varint 1) ∷ []) rule_fields, refl);
+  number = 3;
+  last = refl;
+  member = _;
+  is = refl;
+  says = (λ e. omega (arith, e), refl);
+}
+
+is_policy : IsPolicy (policy_bytes ∷ []) policy
+is_policy = record {
+  fs = field 1 (len_of rule_bytes) ∷ field 2 (len_of rule_bytes) ∷ [];
+  message = (merged policy_bytes (field 1 (len_of rule_bytes) ∷ field 2 (len_of rule_bytes) ∷ []) policy_fields, refl);
+  lacks = (refl, refl);
+  unconditional = refl;
+  sides = (λ e. cc, λ e. cc);
+  permissions = (is_rule Permission, tt);
+  principals = (is_rule Principal, tt);
+}
+
+-- the name is UTF-8
+name_reads : IsUtf8 (codes "p")
+unfolding lib.Utf8.encode
+name_reads = (codes "p", (refl, refl))
+
+abbrev entry : Entry text
+entry = (codes "p", policy_bytes ∷ [])
+
+is_entry : IsEntry text entry_bytes entry
+is_entry = (
+  field 1 (len_of (codes "p")) ∷ field 2 (len_of policy_bytes) ∷ [],
+  (merged entry_bytes (field 1 (len_of (codes "p")) ∷ field 2 (len_of policy_bytes) ∷ []) entry_fields, refl),
+  name_reads,
+  refl,
+)
+
+-- the map has the entry alone
+one_entry : entries (map_of text (entry ∷ [])) ≡ entry ∷ []
+one_entry = entries_from_entries name_cmp nat_list_cmp_total (entry ∷ []) tt
+
+are_rules : AreFilterRules (field 2 (len_of entry_bytes) ∷ []) filter
+are_rules = record {
+  entries = entry ∷ [];
+  unaudited = refl;
+  action = refl;
+  read = (is_entry, tt);
+  few =
+      let one : len (map_of text (entry ∷ [])) ≡ 1 =
+      len-entries (map_of text (entry ∷ [])) ∙ ap length one_entry in omega (arith, one);
+  policies =
+      held_are_values text IsPolicy (map_of text (entry ∷ [])) policies
+      (rw one_entry (policy, [], is_policy, refl, refl));
+}
+
+-- the bytes are the message of the filter
+pub is_filter : IsFilter filter_bytes filter
+is_filter = record {
+  top = field 1 (len_of rules_bytes) ∷ [];
+  fs = field 2 (len_of entry_bytes) ∷ [];
+  message = (merged filter_bytes (field 1 (len_of rules_bytes) ∷ []) filter_fields, refl);
+  there = λ e. cc;
+  inner = (merged rules_bytes (field 2 (len_of entry_bytes) ∷ []) rules_fields, refl);
+  rules = are_rules;
+}
+
+-- ---- its answer
+
+-- the filter has a policy at its name alone
+policy_at : (name : List ℕ)
+    → get filter.policies name ≡ cond (is_eq (name_cmp name (codes "p"))) (Some policy) None
+policy_at name = get-from_entries nat_list_cmp_total policies name
+
+one_name : keys filter.policies ≡ codes "p" ∷ []
+one_name = ap (map (λ e. e.0)) (entries_from_entries name_cmp nat_list_cmp_total policies tt)
+
+module _ (is_met : Condition → Bool) (r : RequestValue) where
+  matches : Matches is_met r filter (codes "p")
+  matches = rw (policy_at (codes "p")) refl
+
+  -- a name at which a policy matches is not below it
+  not_below : (other : List ℕ) → Matches is_met r filter other
+      → is_lt (name_cmp other (codes "p")) ≡ false
+  not_below other h =
+      elim (name_cmp other (codes "p")) as (λ o.
+      IsSomeAnd (cond (is_eq o) (Some policy) None) (λ p. IsTrue (policy_matches is_met r p)) → is_lt o ≡ false) [
+        | Less ↦ λ none. absurd none
+        | Equal ↦ λ some. refl
+        | Greater ↦ λ none. absurd none
+      ] (rw (policy_at other) at h)
+
+  -- it lets each request through, and reports its policy, the first
+  pub is_verdict : IsVerdict is_met r filter true (Some 0)
+  is_verdict = record {
+    lets_through = (λ yes. (codes "p", matches), λ some. refl);
+    reported = (codes "p", (matches, not_below), rw one_name refl);
+  }

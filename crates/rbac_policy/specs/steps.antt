@@ -1,0 +1,4 @@
+-- What single steps of the code come to: clauses of private functions cite these, and no promise
+-- does.
+pub mod Action
+pub mod Named
