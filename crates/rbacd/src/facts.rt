@@ -1,7 +1,5 @@
 //! What is known of a connection, as a JSON object.
-ghost use Rattle.std.specs.Prelude.{◌≡◌, ◌⊎◌, ◌↔◌, ◌++◌, ◌∷◌, [], ℕ, Bool, List, Option, IsTrue, IfOk, IfErr, IfNone, IfSome, OnSome, codes};
-ghost use Rattle.std.specs.Io.KnownBytes.{Appends};
-ghost use Rattle.std.specs.IoError.{error_kind};
+ghost use Rattle.std.specs.Prelude.{◌≡◌, ◌↔◌, ℕ, Bool, List, Option, IsTrue, IfOk, IfErr};
 ghost use Rattle.std.specs.Rc.{rc_str_bytes};
 ghost use Rattle.attributes.specs.Conn.{Facts, conn_view, text_view};
 ghost use Rattle.attributes.specs.Limits.{FactsInLimits, largest};
@@ -16,7 +14,6 @@ use serde_json::{Map, Value};
 use std::alloc::{AllocError, Global};
 use std::error::Error;
 use std::fmt;
-use std::io::{self, ErrorKind, Write};
 use std::rc::RcStr;
 
 #[cfg(test)]
@@ -86,29 +83,8 @@ pub fn read_facts(alloc: Global, text: &[u8]) -> Result<Conn, FactsFault>
     conn_of(alloc, &value)
 }
 
-/// The connection that the text of a facts file tells of. Where it tells of none within the limits,
-/// `errors` is told so and there is none.
-pub fn read_conn<W: Write>(alloc: Global, text: &[u8], errors: &mut W) -> io::Result<Option<Conn>>
-    ensures found { IfOk result (λ told. IfSome told (λ conn. IsFactsText text.now (conn_view conn)
-        × FactsInLimits (conn_view conn) largest)) }
-    ensures none { IfOk result (λ told. IfNone told (TellsNone text.now)) }
-    ensures told { IfOk result (λ told. IfNone told (Appends (W.contents errors.old)
-        (W.contents errors.new) (codes "bad facts" ++ 10 ∷ []))) }
-    ensures quiet { IfOk result (λ told. OnSome told (errors.new ≡ errors.old)) }
-    ensures fault { IfErr result (λ e. (error_kind e ≡ ErrorKind.OutOfMemory) ⊎ TellsNone text.now) }
-{
-    match read_limited_facts(alloc, text) {
-        Ok(conn) => Ok(Some(conn)),
-        Err(FactsFault::Memory) => Err(io::Error::from(ErrorKind::OutOfMemory)),
-        Err(FactsFault::Bad) => {
-            writeln!(errors, "{}", FactsFault::Bad)?;
-            Ok(None)
-        }
-    }
-}
-
-// The facts that a text tells, as in `read_facts`, where they are within the limits.
-fn read_limited_facts(alloc: Global, text: &[u8]) -> Result<Conn, FactsFault>
+/// The connection that the text of a facts file tells of, as in `read_facts`, where it is within the limits.
+pub fn read_conn(alloc: Global, text: &[u8]) -> Result<Conn, FactsFault>
     ensures found { IfOk result (λ conn. IsFactsText text.now (conn_view conn)
         × FactsInLimits (conn_view conn) largest) }
     ensures fault { IfErr result (λ e. e ≡ Bad → TellsNone text.now) }
