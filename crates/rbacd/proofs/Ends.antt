@@ -1,7 +1,6 @@
 -- What a run comes to, by what was printed of it.
 use Rattle.std.proofs.Common.{◌≡◌, ◌⊎◌, ℕ, List, Option, Result, Ok, Err, IfErr, IfOk, inl, inr, refl, option_map, string_bytes, String, Global}
-use Rattle.rbacd.specs.Outcome.{line_of, status_of}
-use Rattle.rbacd.specs.Run.{ComesTo, IsJudgedAs, Leaves, LeavesFault, Prints, StopsBy}
+use Rattle.rbacd.specs.Run.{ComesTo, IsJudgedAs, Leaves, LeavesFault, PrintsOutcome, StopsBy}
 use Rattle.rbacd.specs.declared.outcome.Outcome.{Outcome}
 use Rattle.rbacd.specs.declared.outcome.Outcome.TheVariants as outcomes
 use Rattle.rbacd.specs.declared.run.JobFault.{JobFault}
@@ -23,7 +22,7 @@ module _ (out out_new errors errors_new : Option (List ℕ)) (status : ℕ)
   -- it is the outcome that was printed, or want of memory
   pub end_of_printed : (outcome printed : Outcome) → RunsTo (Ok outcome)
       → (printed ≡ outcome) ⊎ (printed ≡ outcomes.Memory)
-      → Prints out out_new errors errors_new status (status_of printed) (line_of printed)
+      → PrintsOutcome out out_new errors errors_new status printed
       → (found : Result Outcome JobFault) × RunsTo found
       × Leaves out out_new errors errors_new status found
   end_of_printed outcome printed runs (inl same) left = (Ok outcome, runs, rw same at left)

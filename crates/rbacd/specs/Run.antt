@@ -110,6 +110,15 @@ first_line faults.Memory = []
 abbrev pub IsShown : ErrorKind → Type 0
 IsShown kind = (kind ≡ kinds.DisplayHelp) ⊎ (kind ≡ kinds.DisplayVersion)
 
+-- nothing is told of a verdict, and what is told below another line is left open
+abbrev pub IsQuiet : Option Text → Option Text → Outcome → Type 0
+IsQuiet errors errors_new (outcomes.Allowed matched) = errors_new ≡ errors
+IsQuiet errors errors_new (outcomes.Denied matched) = errors_new ≡ errors
+IsQuiet errors errors_new outcomes.OutOfSteps = errors_new ≡ errors
+IsQuiet errors errors_new (outcomes.Refused reason) = ⊤
+IsQuiet errors errors_new (outcomes.Fault fault) = ⊤
+IsQuiet errors errors_new outcomes.Memory = errors_new ≡ errors
+
 -- what a run leaves: its status, and what it wrote to its outputs, whose bytes were `out` and `errors`
 -- and are `out_new` and `errors_new`
 module _ (out out_new errors errors_new : Option Text) (status : ℕ) where
@@ -137,7 +146,13 @@ module _ (out out_new errors errors_new : Option Text) (status : ℕ) where
   LeavesFault (faults.Input cause) = Tells 2 (first_line (faults.Input cause))
   LeavesFault faults.Memory = Prints 5 (line_of outcomes.Memory)
 
+  -- the line of the outcome stands on standard output
+  abbrev pub PrintsOutcome : Outcome → Type 0
+  PrintsOutcome outcome = ((status ≡ status_of outcome) × Appends out out_new (line_of outcome)
+      × IsQuiet errors errors_new outcome)
+      ⊎ ((status ≡ 2) × BreaksOff out out_new (line_of outcome))
+
   -- what is left of a run that comes to this
   abbrev pub Leaves : Result Outcome JobFault → Type 0
-  Leaves (Ok outcome) = Prints (status_of outcome) (line_of outcome)
+  Leaves (Ok outcome) = PrintsOutcome outcome
   Leaves (Err fault) = LeavesFault fault

@@ -244,3 +244,56 @@ fn scheme_of(alloc: Global, object: &Value) -> Result<RcStr, FactsFault>
         None => Ok(RcStr::from_str(alloc, "http")?),
     }
 }
+
+/// Why a text tells of no connection, in words for its writer.
+pub(crate) fn cause_of_bad_facts(alloc: Global, text: &[u8]) -> Result<String, AllocError> {
+    let value = match Value::from_slice(alloc, text) {
+        Ok(value) => value,
+        Err(error) => return format!(in alloc; "it is no JSON text: {error}"),
+    };
+    match value.as_object() {
+        Some(members) => cause_of_bad_members(alloc, &value, members),
+        None => String::from_str(alloc, "it is no JSON object"),
+    }
+}
+
+// The first member that is no fact, or is not of its kind.
+fn cause_of_bad_members(
+    alloc: Global,
+    object: &Value,
+    members: &Map<String, Value>,
+) -> Result<String, AllocError> {
+    for name in members.keys() {
+        let name = name.as_str();
+        if !is_fact_name(name) {
+            return format!(in alloc; "no fact is named {name:?}");
+        }
+        if let Some(kind) = kind_that_lacks(object, name) {
+            return format!(in alloc; "the value of {name} is not {kind}");
+        }
+    }
+    String::from_str(alloc, "a text is longer than 1024 bytes")
+}
+
+// What the value of a fact has to be, if it is not.
+fn kind_that_lacks(object: &Value, name: &str) -> Option<&'static str> {
+    let (is_right, kind) = match name {
+        "source.port" | "destination.port" => (
+            port_at(object, name).is_ok(),
+            "a whole number from 0 to 65535",
+        ),
+        "connection.id" => (number_at(object, name).is_ok(), "a whole number below 2^64"),
+        "connection.mtls" => (answer_at(object, name).is_ok(), "true or false"),
+        "direct_remote_ip" | "remote_ip" | "destination_ip" => (
+            address_at(object, name).is_ok(),
+            "a text that spells an IP address",
+        ),
+        _ => (
+            object
+                .get(name)
+                .is_some_and(|value| value.as_str().is_some()),
+            "a text",
+        ),
+    };
+    if is_right { None } else { Some(kind) }
+}

@@ -4,12 +4,13 @@ ghost use Rattle.attributes.specs.Conn.{conn_view};
 ghost use Rattle.std.specs.Io.{StartsWith};
 ghost use Rattle.rbacd.specs.Outcome.{line_of};
 ghost use Rattle.rbacd.specs.Output.{Takes};
-ghost use Rattle.rbacd.specs.Run.{ComesTo, HasBadFacts, IsConnOf, IsJudgedAs, IsShown, IsUnread, Leaves, LeavesFault, Prints, RunsTo, StopsBy, first_line};
+ghost use Rattle.rbacd.specs.Run.{ComesTo, HasBadFacts, IsConnOf, IsJudgedAs, IsQuiet, IsShown, IsUnread, Leaves, LeavesFault, Prints, RunsTo, StopsBy, first_line};
 ghost use Rattle.rbacd.specs.declared.run.JobFault.{JobFault};
 
 use crate::facts::{FactsFault, read_conn};
 use crate::files::Source;
 use crate::judge::{outcome_of, plain_conn, print_outcome};
+use crate::notes::{Likeness, Notes, meaning_of, rules_of};
 use crate::outcome::Outcome;
 use crate::output::write_whole;
 use crate::words::{Job, read_words};
@@ -66,12 +67,16 @@ pub fn run<S: AsStr, F: Source, R: Read + Drop, W: Write, E: Write>(
         found × Leaves (W.contents out.old) (W.contents out.new) (E.contents errors.old)
         (E.contents errors.new) result found }
 {
-    match run_words(alloc, words, files, input) {
+    let mut notes = Notes::new(alloc);
+    match run_words(alloc, words, files, input, &mut notes) {
         Ok(outcome) => match print_outcome(alloc, outcome, out) {
-            Ok(printed) => printed.status(),
+            Ok(printed) => {
+                tell_cause(printed, notes.policy, errors);
+                printed.status()
+            }
             Err(cause) => tell_output(cause, errors),
         },
-        Err(fault) => end_by(alloc, &fault, out, errors),
+        Err(fault) => end_by(alloc, &fault, &notes, out, errors),
     }
 }
 
@@ -81,12 +86,13 @@ fn run_words<S: AsStr, F: Source, R: Read + Drop>(
     words: &[S],
     files: &F,
     input: R,
+    notes: &mut Notes,
 ) -> Result<Outcome, JobFault>
     ensures { RunsTo (F.holds files.now) (F.lacks files.now) (map S.text words.now)
         (R.remaining input) result }
 {
     match read_words(alloc, words) {
-        Ok(job) => run_job(alloc, job, files, input),
+        Ok(job) => run_job(alloc, job, files, input, notes),
         Err(error) if error.kind() == WordsKind::OutOfMemory => Err(JobFault::Memory),
         Err(error) => Err(JobFault::Words(error)),
     }
@@ -98,6 +104,7 @@ fn run_job<F: Source, R: Read + Drop>(
     job: Job,
     files: &F,
     input: R,
+    notes: &mut Notes,
 ) -> Result<Outcome, JobFault>
     ensures { ComesTo (F.holds files.now) (F.lacks files.now) (R.remaining input) job result }
 {
@@ -106,7 +113,7 @@ fn run_job<F: Source, R: Read + Drop>(
             policy,
             facts,
             budget,
-        } => judge_files(alloc, policy.as_str(), facts, budget, files, input),
+        } => judge_files(alloc, policy.as_str(), facts, budget, files, input, notes),
     }
 }
 
@@ -118,6 +125,7 @@ fn judge_files<F: Source, R: Read + Drop>(
     budget: u64,
     files: &F,
     input: R,
+    notes: &mut Notes,
 ) -> Result<Outcome, JobFault>
     ensures found { IfOk result (IsJudgedAs (F.holds files.now) (F.lacks files.now) policy.now
         (option_map string_bytes facts) budget (R.remaining input)) }
@@ -125,7 +133,8 @@ fn judge_files<F: Source, R: Read + Drop>(
         (option_map string_bytes facts) budget (R.remaining input)) }
 {
     let bytes = read_file(alloc, files, policy)?;
-    let conn = conn_of(alloc, facts, files)?;
+    notes.look_at_policy(&bytes);
+    let conn = conn_of(alloc, facts, files, notes)?;
     match outcome_of(alloc, &bytes, budget, conn, input) {
         Ok(outcome) => Ok(outcome),
         Err(cause) => Err(JobFault::Input(cause)),
@@ -133,7 +142,12 @@ fn judge_files<F: Source, R: Read + Drop>(
 }
 
 /// The connection that the facts file tells of, or a plain one where none is named.
-fn conn_of<F: Source>(alloc: Global, facts: Option<String>, files: &F) -> Result<Conn, JobFault>
+fn conn_of<F: Source>(
+    alloc: Global,
+    facts: Option<String>,
+    files: &F,
+    notes: &mut Notes,
+) -> Result<Conn, JobFault>
     ensures found { IfOk result (λ conn. IsConnOf (F.holds files.now) (F.lacks files.now)
         (option_map string_bytes facts) (conn_view conn)) }
     ensures fault { IfErr result (λ e. (e ≡ JobFault.Memory) ⊎ ((path : List ℕ)
@@ -143,12 +157,17 @@ fn conn_of<F: Source>(alloc: Global, facts: Option<String>, files: &F) -> Result
 {
     match facts {
         None => Ok(plain_conn(alloc)?),
-        Some(path) => read_facts_file(alloc, files, path.as_str()),
+        Some(path) => read_facts_file(alloc, files, path.as_str(), notes),
     }
 }
 
 /// The connection that the facts file tells of.
-fn read_facts_file<F: Source>(alloc: Global, files: &F, path: &str) -> Result<Conn, JobFault>
+fn read_facts_file<F: Source>(
+    alloc: Global,
+    files: &F,
+    path: &str,
+    notes: &mut Notes,
+) -> Result<Conn, JobFault>
     ensures found { IfOk result (λ conn. IsConnOf (F.holds files.now) (F.lacks files.now)
         (Some path.now) (conn_view conn)) }
     ensures fault { IfErr result (λ e. (e ≡ JobFault.Memory)
@@ -158,7 +177,10 @@ fn read_facts_file<F: Source>(alloc: Global, files: &F, path: &str) -> Result<Co
     let text = read_file(alloc, files, path)?;
     match read_conn(alloc, &text) {
         Ok(conn) => Ok(conn),
-        Err(FactsFault::Bad) => Err(JobFault::Facts),
+        Err(FactsFault::Bad) => {
+            notes.look_at_facts(alloc, &text)?;
+            Err(JobFault::Facts)
+        }
         Err(FactsFault::Memory) => Err(JobFault::Memory),
     }
 }
@@ -177,12 +199,18 @@ fn read_file<F: Source>(alloc: Global, files: &F, path: &str) -> Result<Vec<u8>,
 }
 
 /// Tells why nothing is judged; the status. Where no memory is left for that, it tells so.
-fn end_by<W: Write, E: Write>(alloc: Global, fault: &JobFault, out: &mut W, errors: &mut E) -> u8
+fn end_by<W: Write, E: Write>(
+    alloc: Global,
+    fault: &JobFault,
+    notes: &Notes,
+    out: &mut W,
+    errors: &mut E,
+) -> u8
     ensures { (told : JobFault) × ((told ≡ fault.now) ⊎ (told ≡ JobFault.Memory))
         × LeavesFault (W.contents out.old) (W.contents out.new) (E.contents errors.old)
         (E.contents errors.new) result told }
 {
-    let Ok(text) = text_of(alloc, fault) else {
+    let Ok(text) = text_of(alloc, fault, notes) else {
         return end_by_memory(out, errors);
     };
     match fault {
@@ -203,31 +231,37 @@ fn is_shown(kind: WordsKind) -> bool
 }
 
 /// What the program's user reads of a fault: its line, and below it the cause.
-fn text_of(alloc: Global, fault: &JobFault) -> Result<String, AllocError>
+fn text_of(alloc: Global, fault: &JobFault, notes: &Notes) -> Result<String, AllocError>
     ensures { IfOk result (λ text. StartsWith (string_bytes text) (first_line fault.now)) }
 {
     match fault {
         JobFault::Words(error) => error.to_string(alloc),
         JobFault::File(path, cause) => {
-            with_cause(alloc, format!(in alloc; "cannot read {path}\n")?, cause)
-        }
-        JobFault::Facts => String::from_str(alloc, "bad facts\n"),
-        JobFault::Input(cause) => {
+            let cause = cause.to_string(alloc)?;
             with_cause(
                 alloc,
-                String::from_str(alloc, "cannot read standard input\n")?,
-                cause,
+                format!(in alloc; "cannot read {path}\n")?,
+                cause.as_str(),
             )
+        }
+        JobFault::Facts => {
+            let line = String::from_str(alloc, "bad facts\n")?;
+            with_cause(alloc, line, notes.facts.as_str())
+        }
+        JobFault::Input(cause) => {
+            let cause = cause.to_string(alloc)?;
+            let line = String::from_str(alloc, "cannot read standard input\n")?;
+            with_cause(alloc, line, cause.as_str())
         }
         JobFault::Memory => Ok(String::new(alloc)),
     }
 }
 
 /// The text with a line below it that says why.
-fn with_cause(alloc: Global, text: String, cause: &io::Error) -> Result<String, AllocError>
-    ensures { IfOk result (λ all. StartsWith (string_bytes all) (string_bytes text)) }
+fn with_cause(alloc: Global, line: String, cause: &str) -> Result<String, AllocError>
+    ensures { IfOk result (λ text. StartsWith (string_bytes text) (string_bytes line)) }
 {
-    let mut text = text;
+    let mut text = line;
     let cause = format!(in alloc; "  {cause}\n")?;
     text.push_str(cause.as_str())?;
     Ok(text)
@@ -259,6 +293,29 @@ fn tell<E: Write>(text: &[u8], status: u8, errors: &mut E) -> u8
 {
     let _ = write_whole(errors, text);
     status
+}
+
+/// Tells below the line of an outcome why it is so, where that is no verdict. Nothing is lost where
+/// standard error fails.
+fn tell_cause<E: Write>(outcome: Outcome, policy: Option<Likeness>, errors: &mut E)
+    ensures { IsQuiet (E.contents errors.old) (E.contents errors.new) outcome }
+{
+    match outcome {
+        Outcome::Refused(refusal) => {
+            let _ = writeln!(errors, "  {}", meaning_of(refusal));
+            if let Some(likeness) = policy {
+                let _ = writeln!(
+                    errors,
+                    "  the policy file looks like {likeness}; it has to be one binary message \
+                     envoy.extensions.filters.http.rbac.v3.RBAC"
+                );
+            }
+        }
+        Outcome::Fault(fault) => {
+            let _ = writeln!(errors, "  {}", rules_of(fault));
+        }
+        Outcome::Allowed(_) | Outcome::Denied(_) | Outcome::OutOfSteps | Outcome::Memory => {}
+    }
 }
 
 /// Ends where standard output fails. One whose reader went away is not spoken of.

@@ -1,5 +1,7 @@
 //! Whole runs over memory: what stands on each output, and the status.
+use crate::facts::cause_of_bad_facts;
 use crate::files::{Source, read_whole};
+use crate::notes::{Likeness, likeness_of};
 use crate::run::run;
 use crate::tests::judging::{ANY_ANY, ANY_FALSE, EMPTY_RULES, PLAIN};
 use std::alloc::Global;
@@ -10,9 +12,10 @@ use std::{env, fs};
 /// Files in memory. A path that is not there cannot be read.
 struct Shelf;
 
-const FILES: [(&str, &[u8]); 5] = [
+const FILES: [(&str, &[u8]); 6] = [
     ("any", &ANY_ANY),
     ("empty", &EMPTY_RULES),
+    ("hex", b"0a0f"),
     ("refused", &ANY_FALSE),
     ("facts", b"{}"),
     ("bad", b"[]"),
@@ -83,8 +86,8 @@ impl Read for Broken {
     }
 }
 
-/// The words behind `judge`, the input, what stands on standard output, the first line on standard
-/// error, and the status.
+/// The words behind `judge`, the input, what stands on standard output, how standard error begins, and
+/// the status.
 type Case = (
     &'static [&'static str],
     &'static [u8],
@@ -93,7 +96,7 @@ type Case = (
     u8,
 );
 
-const CASES: [Case; 11] = [
+const CASES: [Case; 12] = [
     (&["--policy", "any"], PLAIN, "allow 0\n", "", 0),
     (
         &["--policy", "any", "--facts", "facts"],
@@ -107,37 +110,50 @@ const CASES: [Case; 11] = [
         &["--policy", "refused"],
         PLAIN,
         "refused: 5 OutOfRange\n",
-        "",
+        "  a value is outside its range\n",
         1,
     ),
-    (&["--policy", "any"], b"GET", "head: 400\n", "", 4),
+    (
+        &["--policy", "any"],
+        b"GET",
+        "head: 400\n",
+        "  no whole HTTP/1 head, ",
+        4,
+    ),
+    (
+        &["--policy", "hex"],
+        PLAIN,
+        "refused: 3 UnknownField\n",
+        "  a field is not known, or not of its wire type\n  the policy file looks like hexadecimal text;",
+        1,
+    ),
     (
         &["--policy", "refused"],
         b"GET",
         "refused: 5 OutOfRange\n",
-        "",
+        "  a value is outside its range\n",
         1,
     ),
-    (&["--policy", "none"], PLAIN, "", "cannot read none", 2),
+    (&["--policy", "none"], PLAIN, "", "cannot read none\n  ", 2),
     (
         &["--policy", "any", "--facts", "none"],
         PLAIN,
         "",
-        "cannot read none",
+        "cannot read none\n  ",
         2,
     ),
     (
         &["--policy", "refused", "--facts", "bad"],
         PLAIN,
         "",
-        "bad facts",
+        "bad facts\n  it is no JSON object\n",
         6,
     ),
     (
         &["--policy", "none", "--facts", "bad"],
         PLAIN,
         "",
-        "cannot read none",
+        "cannot read none\n  ",
         2,
     ),
     (
@@ -150,7 +166,7 @@ const CASES: [Case; 11] = [
 ];
 
 /// The words of a job: the program's name, the subcommand, and what follows.
-fn words_of<'a>(alloc: Global, more: &[&'a str]) -> Result<Vec<&'a str>, Fail> {
+fn words_of(alloc: Global, more: &[&'static str]) -> Result<Vec<&'static str>, Fail> {
     let mut words = Vec::from_slice(alloc, &["rbacd", "judge"])?;
     words.extend_from_slice(more)?;
     Ok(words)
@@ -167,9 +183,8 @@ fn runs_cases(rt: HostRuntime) -> Result<(), Fail> {
         assert_eq!(rt; out.held.as_slice(), line.as_bytes());
         assert_eq!(rt; out.calls, if line.is_empty() { 0 } else { 1 });
         let errors = str::from_utf8(&errors).unwrap_or("no text");
-        let first = errors.lines().next().unwrap_or("");
         assert!(rt;
-            first.starts_with(told) && errors.is_empty() == told.is_empty(),
+            errors.starts_with(told) && errors.is_empty() == told.is_empty(),
             "{errors}"
         );
     }
@@ -277,4 +292,73 @@ fn refuses_files_above_the_limit(rt: HostRuntime) -> Result<(), Fail> {
     let most = bytes.get(1..).unwrap_or(&[]);
     assert_eq!(rt; read_whole(rt.alloc(), most)?.len(), 16_777_216);
     Ok(())
+}
+
+/// Texts of facts, with the cause that is told of them.
+const CAUSES: [(&str, &str); 8] = [
+    ("[]", "it is no JSON object"),
+    (
+        "{\"source.adress\": \"a\"}",
+        "no fact is named \"source.adress\"",
+    ),
+    ("{\"a\\u001b[2J\": 1}", "no fact is named \"a\\u{1b}[2J\""),
+    (
+        "{\"source.port\": 65536}",
+        "the value of source.port is not a whole number from 0 to 65535",
+    ),
+    (
+        "{\"connection.id\": -1}",
+        "the value of connection.id is not a whole number below 2^64",
+    ),
+    (
+        "{\"connection.mtls\": 1}",
+        "the value of connection.mtls is not true or false",
+    ),
+    (
+        "{\"remote_ip\": \"01.2.3.4\"}",
+        "the value of remote_ip is not a text that spells an IP address",
+    ),
+    (
+        "{\"source.address\": null}",
+        "the value of source.address is not a text",
+    ),
+];
+
+#[test]
+fn tells_the_cause_of_bad_facts(rt: HostRuntime) -> Result<(), Fail> {
+    for (text, cause) in CAUSES {
+        let told = cause_of_bad_facts(rt.alloc(), text.as_bytes())?;
+        assert_eq!(rt; told.as_str(), cause);
+    }
+    let told = cause_of_bad_facts(rt.alloc(), b"{")?;
+    assert!(rt; told.as_str().starts_with("it is no JSON text: "));
+    Ok(())
+}
+
+/// Files that are no filter message, and what they look like.
+const LIKENESSES: [(&[u8], Option<Likeness>); 11] = [
+    (b"", None),
+    (&ANY_ANY, None),
+    (b" {\"rules\": {}}", Some(Likeness::Json)),
+    (b"rules:\n  policies: {}\n", Some(Likeness::Yaml)),
+    (b"0a0f 120d\n", Some(Likeness::Hex)),
+    (b"Cg8SDQoBcBIICgIYARICGAE=\n", Some(Likeness::Base64)),
+    (&[0x1f, 0x8b, 0x08, 0x00], Some(Likeness::Gzip)),
+    (
+        b"\x0a\x16type.googleapis.com/ab\x12\x00",
+        Some(Likeness::Any),
+    ),
+    (
+        b"\x0a\x01f\x12\x18\x0a\x16type.googleapis.com/ab",
+        Some(Likeness::TypedExtensionConfig),
+    ),
+    (&[0x12, 0x0d, 0x0a, 0x01, 0x70], Some(Likeness::BareRules)),
+    (&[0x08, 0x01], Some(Likeness::BareRules)),
+];
+
+#[test]
+fn knows_other_files(rt: HostRuntime) {
+    for (bytes, expected) in LIKENESSES {
+        assert_eq!(rt; likeness_of(bytes), expected);
+    }
 }

@@ -7,15 +7,15 @@ pub returns-in-Ok-print_outcome : goal.returns-in-Ok-print_outcome
 returns-in-Ok-print_outcome g c =
     let printed = c.in-Ok-print_outcome.ensures in
     end_of_printed _ _ _ _ _ _ (RunsTo.memory refl) c.in-Ok.outcome c.in-Ok-print_outcome.printed
-    c.in-Ok.ensures printed.same (inl (c.status.ensures, printed.line, refl))
+    c.in-Ok.ensures printed.same (inl (c.status.ensures, printed.line, c.tell_cause.ensures))
 
-pub returns-in-Err-print_outcome : goal.returns-in-Err-print_outcome
-returns-in-Err-print_outcome g c =
+pub returns-in-Ok : goal.returns-in-Ok
+returns-in-Ok g c =
     let (printed, same, part) = c.in-Err-print_outcome.ensures.part in
     end_of_printed _ _ _ _ _ _ (RunsTo.memory refl) c.in-Ok.outcome printed
     c.in-Ok.ensures same (inr (c.tell_output.ensures, part))
 
-pub returns-in-Err : goal.returns-in-Err
-returns-in-Err g c =
+pub returns : goal.returns
+returns g c =
     let (told, same, left) = c.end_by.ensures in
     end_of_told _ _ _ _ _ _ (RunsTo.memory refl) c.in-Err.fault told c.in-Err.ensures same left
