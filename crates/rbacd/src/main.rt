@@ -3,6 +3,7 @@
 
 use outcome::Outcome;
 use run::{MISTAKE, run};
+use std::env::{Env, FillError};
 use std::io::ErrorKind;
 use std::process::ExitCode;
 use std::{env, io};
@@ -21,6 +22,23 @@ fn words_of(rt: &HostRuntime) -> io::Result<Vec<String>> {
     Ok(env::args(rt)?.collect(rt.alloc())?)
 }
 
+/// The number of the first word that is no UTF-8, if its bytes fit a small room; 0 is the program's name.
+fn first_bad_word(rt: &HostRuntime) -> Option<usize> {
+    let mut room = [0u8; 4_096];
+    for index in 0..usize::MAX {
+        match rt.arg(index, &mut room) {
+            Ok(count) => {
+                if str::from_utf8(room.get(..count).unwrap_or(&[])).is_err() {
+                    return Some(index);
+                }
+            }
+            Err(FillError::TooLong) => {}
+            Err(FillError::NotPresent) => return None,
+        }
+    }
+    None
+}
+
 fn main(rt: HostRuntime) -> ExitCode {
     let words = match words_of(&rt) {
         Ok(words) => words,
@@ -29,7 +47,12 @@ fn main(rt: HostRuntime) -> ExitCode {
             return ExitCode::from(Outcome::Memory.status());
         }
         Err(error) => {
-            let _ = rt.eprintln(error);
+            let _ = match first_bad_word(&rt) {
+                Some(index) => rt.eprintln(format_args!(
+                    "error: word {index} of the command line is not UTF-8"
+                )),
+                None => rt.eprintln(error),
+            };
             return ExitCode::from(MISTAKE);
         }
     };
