@@ -1,2 +1,4 @@
 pub mod InputLemmas
 pub mod WordLemmas
+mod Writing
+mod Ends

@@ -2,3 +2,5 @@ pub mod Words
 pub mod Outcome
 pub mod Judging
 pub mod Facts
+pub mod Output
+pub mod Run

@@ -1,5 +1,5 @@
 -- The line that an outcome prints, and its exit status.
-use Rattle.std.specs.Prelude.{ℕ, List, ◌++◌, Option, Some, None, codes}
+use Rattle.std.specs.Prelude.{ℕ, List, [], ◌∷◌, ◌++◌, Option, Some, None, codes}
 use Rattle.std.specs.Fmt.{decimal}
 use Rattle.http_front.specs.Head.{fault_text}
 use Rattle.proto_wire.specs.Refusal as refusal
@@ -20,6 +20,10 @@ text_of outcomes.OutOfSteps = codes "deny steps"
 text_of (outcomes.Refused reason) = codes "refused: " ++ refusal.text_of reason
 text_of (outcomes.Fault fault) = codes "head: " ++ fault_text fault
 text_of outcomes.Memory = codes "memory"
+
+-- the line with its end
+abbrev pub line_of : Outcome → List ℕ
+line_of outcome = text_of outcome ++ 10 ∷ []
 
 -- the exit status
 abbrev pub status_of : Outcome → ℕ

@@ -24,12 +24,12 @@ facts_rule = record (new_rule (codes "facts")) {
   value_names = 1;
 }
 
--- `--budget N`, a number of 64 bits
+-- `--budget N`, a number from 1 to 100,000,000
 abbrev pub budget_rule : Rule
 budget_rule = record (new_rule (codes "budget")) {
   long = Some (codes "budget");
   value_names = 1;
-  parser = Some (parsers.Unsigned 0 18446744073709551615);
+  parser = Some (parsers.Unsigned 1 100000000);
   defaults = codes "1000000" ∷ [];
 }
 
@@ -37,10 +37,14 @@ budget_rule = record (new_rule (codes "budget")) {
 abbrev pub judge_app : App
 judge_app = with_rule (with_rule (with_rule (new_app (codes "judge")) policy_rule) facts_rule) budget_rule
 
--- the program, which needs a subcommand
+-- the program, which has a version, and needs a subcommand; without words it shows its help
 abbrev pub rbacd_app : App
 rbacd_app =
-    let top = on_top (λ s. record s { subcommand_required = true }) (new_app (codes "rbacd")) in
+    let top = on_top (λ s. record s {
+      has_version = true;
+      subcommand_required = true;
+      arg_required_else_help = true;
+    }) (new_app (codes "rbacd")) in
     with_subcommand top judge_app.top
 
 -- the value of `--budget` is that number, and it is allowed

@@ -1,7 +1,5 @@
 //! What is known of a connection, as a JSON object.
-ghost use Rattle.std.specs.Prelude.{◌≡◌, ◌⊎◌, ◌↔◌, ◌++◌, ◌∷◌, [], ℕ, Bool, List, Option, IsTrue, IfOk, IfErr, IfNone, IfSome, OnSome, codes};
-ghost use Rattle.std.specs.Io.KnownBytes.{Appends};
-ghost use Rattle.std.specs.IoError.{error_kind};
+ghost use Rattle.std.specs.Prelude.{◌≡◌, ◌↔◌, ℕ, Bool, List, Option, IsTrue, IfOk, IfErr};
 ghost use Rattle.std.specs.Rc.{rc_str_bytes};
 ghost use Rattle.attributes.specs.Conn.{Facts, conn_view, text_view};
 ghost use Rattle.attributes.specs.Limits.{FactsInLimits, largest};
@@ -16,7 +14,6 @@ use serde_json::{Map, Value};
 use std::alloc::{AllocError, Global};
 use std::error::Error;
 use std::fmt;
-use std::io::{self, ErrorKind, Write};
 use std::rc::RcStr;
 
 #[cfg(test)]
@@ -86,29 +83,8 @@ pub fn read_facts(alloc: Global, text: &[u8]) -> Result<Conn, FactsFault>
     conn_of(alloc, &value)
 }
 
-/// The connection that the text of a facts file tells of. Where it tells of none within the limits,
-/// `errors` is told so and there is none.
-pub fn read_conn<W: Write>(alloc: Global, text: &[u8], errors: &mut W) -> io::Result<Option<Conn>>
-    ensures found { IfOk result (λ told. IfSome told (λ conn. IsFactsText text.now (conn_view conn)
-        × FactsInLimits (conn_view conn) largest)) }
-    ensures none { IfOk result (λ told. IfNone told (TellsNone text.now)) }
-    ensures told { IfOk result (λ told. IfNone told (Appends (W.contents errors.old)
-        (W.contents errors.new) (codes "bad facts" ++ 10 ∷ []))) }
-    ensures quiet { IfOk result (λ told. OnSome told (errors.new ≡ errors.old)) }
-    ensures fault { IfErr result (λ e. (error_kind e ≡ ErrorKind.OutOfMemory) ⊎ TellsNone text.now) }
-{
-    match read_limited_facts(alloc, text) {
-        Ok(conn) => Ok(Some(conn)),
-        Err(FactsFault::Memory) => Err(io::Error::from(ErrorKind::OutOfMemory)),
-        Err(FactsFault::Bad) => {
-            writeln!(errors, "{}", FactsFault::Bad)?;
-            Ok(None)
-        }
-    }
-}
-
-// The facts that a text tells, as in `read_facts`, where they are within the limits.
-fn read_limited_facts(alloc: Global, text: &[u8]) -> Result<Conn, FactsFault>
+/// The connection that the text of a facts file tells of, as in `read_facts`, where it is within the limits.
+pub fn read_conn(alloc: Global, text: &[u8]) -> Result<Conn, FactsFault>
     ensures found { IfOk result (λ conn. IsFactsText text.now (conn_view conn)
         × FactsInLimits (conn_view conn) largest) }
     ensures fault { IfErr result (λ e. e ≡ Bad → TellsNone text.now) }
@@ -267,4 +243,57 @@ fn scheme_of(alloc: Global, object: &Value) -> Result<RcStr, FactsFault>
         Some(scheme) => Ok(scheme),
         None => Ok(RcStr::from_str(alloc, "http")?),
     }
+}
+
+/// Why a text tells of no connection, in words for its writer.
+pub(crate) fn cause_of_bad_facts(alloc: Global, text: &[u8]) -> Result<String, AllocError> {
+    let value = match Value::from_slice(alloc, text) {
+        Ok(value) => value,
+        Err(error) => return format!(in alloc; "it is no JSON text: {error}"),
+    };
+    match value.as_object() {
+        Some(members) => cause_of_bad_members(alloc, &value, members),
+        None => String::from_str(alloc, "it is no JSON object"),
+    }
+}
+
+// The first member that is no fact, or is not of its kind.
+fn cause_of_bad_members(
+    alloc: Global,
+    object: &Value,
+    members: &Map<String, Value>,
+) -> Result<String, AllocError> {
+    for name in members.keys() {
+        let name = name.as_str();
+        if !is_fact_name(name) {
+            return format!(in alloc; "no fact is named {name:?}");
+        }
+        if let Some(kind) = kind_that_lacks(object, name) {
+            return format!(in alloc; "the value of {name} is not {kind}");
+        }
+    }
+    String::from_str(alloc, "a text is longer than 1024 bytes")
+}
+
+// What the value of a fact has to be, if it is not.
+fn kind_that_lacks(object: &Value, name: &str) -> Option<&'static str> {
+    let (is_right, kind) = match name {
+        "source.port" | "destination.port" => (
+            port_at(object, name).is_ok(),
+            "a whole number from 0 to 65535",
+        ),
+        "connection.id" => (number_at(object, name).is_ok(), "a whole number below 2^64"),
+        "connection.mtls" => (answer_at(object, name).is_ok(), "true or false"),
+        "direct_remote_ip" | "remote_ip" | "destination_ip" => (
+            address_at(object, name).is_ok(),
+            "a text that spells an IP address",
+        ),
+        _ => (
+            object
+                .get(name)
+                .is_some_and(|value| value.as_str().is_some()),
+            "a text",
+        ),
+    };
+    if is_right { None } else { Some(kind) }
 }

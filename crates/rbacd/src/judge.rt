@@ -1,46 +1,30 @@
 //! Judging one request head by one policy file.
-ghost use Rattle.std.specs.Prelude.{◌≡◌, ◌++◌, ℕ, List, ◌∷◌, [], IfErr, IfNone, IfOk, IfSome, OnErr, OnSome, codes};
+ghost use Rattle.std.specs.Prelude.{◌≡◌, ◌≢◌, ◌⊎◌, ℕ, List, Err, IfErr, IfOk, IfSome, OnErr};
+ghost use Rattle.std.specs.IoError.{error_kind};
 ghost use Rattle.std.specs.Io.KnownBytes.{Appends};
 ghost use Rattle.attributes.specs.Limits.{largest};
 ghost use Rattle.attributes.specs.Conn.{Facts, conn_view};
 ghost use Rattle.http_front.specs.Asks.{Asks};
 ghost use Rattle.rbacd.specs.Judging.{IsOutcomeOf, IsOutcomeUnder, first_bytes, plain_facts};
 ghost use Rattle.rbac_policy.specs.Admitted.{filter_view};
-ghost use Rattle.rbacd.specs.Outcome.{text_of};
+ghost use Rattle.rbac_policy.specs.Admission.{Admissible};
+ghost use Rattle.rbac_policy.specs.Verdict.{IsUnconditional};
+ghost use Rattle.rbacd.specs.Outcome.{line_of};
+ghost use Rattle.rbacd.specs.Output.{BreaksOff};
 
 use crate::outcome::Outcome;
+use crate::output::write_whole;
 use attributes::{Conn, Limits, Request};
 use http_front::{Ask, HEAD_ROOM, HeadFault, read_head};
 use rbac_policy::{Admitted, admit};
 use stack_machine::RunError;
 use std::alloc::{AllocError, Global};
-use std::fs;
 use std::io::{self, ErrorKind, Read, Write};
 use std::rc::RcStr;
-use std::rt::Files;
-
-/// The bytes of the file at this path. Where it cannot be read, `errors` is told so and there are none.
-pub fn read_file<F: Files + AllocGlobal, W: Write>(
-    files: &F,
-    path: &str,
-    errors: &mut W,
-) -> io::Result<Option<Vec<u8>>>
-    ensures told { IfOk result (λ found. IfNone found (Appends (W.contents errors.old)
-        (W.contents errors.new) (codes "cannot read " ++ path.now ++ 10 ∷ []))) }
-    ensures quiet { IfOk result (λ found. OnSome found (errors.new ≡ errors.old)) }
-{
-    match fs::read(files, path) {
-        Ok(bytes) => Ok(Some(bytes)),
-        Err(error) if error.kind() == ErrorKind::OutOfMemory => Err(error),
-        Err(_) => {
-            writeln!(errors, "cannot read {path}")?;
-            Ok(None)
-        }
-    }
-}
 
 /// Judges the head that `input` begins with, which came by this connection, by the policy, an HTTP RBAC
-/// filter whose conditions may cost `budget`, and prints the outcome's line.
+/// filter whose conditions may cost `budget`, and prints the outcome's line. An error is one of the
+/// input, and nothing is printed then; or one of the output, which may hold the beginning of the line.
 pub fn judge<R: Read + Drop, W: Write>(
     alloc: Global,
     policy: &[u8],
@@ -52,11 +36,37 @@ pub fn judge<R: Read + Drop, W: Write>(
     ensures outcome { IfOk result (λ outcome. IfSome (R.remaining input) (λ bytes.
         IsOutcomeOf policy.now budget (conn_view conn) bytes outcome)) }
     ensures line { IfOk result (λ outcome. Appends (W.contents out.old) (W.contents out.new)
-        (text_of outcome ++ 10 ∷ [])) }
+        (line_of outcome)) }
+    ensures part { OnErr result ((out.new ≡ out.old) ⊎ ((outcome : Outcome)
+        × BreaksOff (W.contents out.old) (W.contents out.new) (line_of outcome))) }
 {
     let outcome = outcome_of(alloc, policy, budget, conn, input)?;
-    writeln!(out, "{outcome}")?;
-    Ok(outcome)
+    print_outcome(alloc, outcome, out)
+}
+
+/// Prints the line of the outcome, or that of want of memory; answers the one that is printed.
+pub(crate) fn print_outcome<W: Write>(
+    alloc: Global,
+    outcome: Outcome,
+    out: &mut W,
+) -> io::Result<Outcome>
+    ensures same { IfOk result (λ printed. (printed ≡ outcome) ⊎ (printed ≡ Outcome.Memory)) }
+    ensures line { IfOk result (λ printed. Appends (W.contents out.old) (W.contents out.new)
+        (line_of printed)) }
+    ensures part { OnErr result ((printed : Outcome)
+        × ((printed ≡ outcome) ⊎ (printed ≡ Outcome.Memory))
+        × BreaksOff (W.contents out.old) (W.contents out.new) (line_of printed)) }
+{
+    match outcome.line(alloc) {
+        Ok(line) => {
+            write_whole(out, line.as_bytes())?;
+            Ok(outcome)
+        }
+        Err(AllocError) => {
+            write_whole(out, b"memory\n")?;
+            Ok(Outcome::Memory)
+        }
+    }
 }
 
 /// A connection of which nothing but the scheme `http` is known.
@@ -66,15 +76,18 @@ pub fn plain_conn(alloc: Global) -> Result<Conn, AllocError>
     Ok(Conn::of_scheme(RcStr::from_str(alloc, "http")?))
 }
 
-fn outcome_of<R: Read + Drop>(
+/// What `judge` prints. An error is one of the input, of another kind than want of memory.
+pub(crate) fn outcome_of<R: Read + Drop>(
     alloc: Global,
     policy: &[u8],
     budget: u64,
     conn: Conn,
     input: R,
 ) -> io::Result<Outcome>
-    ensures { IfOk result (λ outcome. IfSome (R.remaining input) (λ bytes.
+    ensures found { IfOk result (λ outcome. IfSome (R.remaining input) (λ bytes.
         IsOutcomeOf policy.now budget (conn_view conn) bytes outcome)) }
+    ensures fault { IfErr result (λ e. (error_kind e ≢ ErrorKind.OutOfMemory)
+        × Admissible policy.now largest budget) }
 {
     let limits = Limits::largest();
     match admit(alloc, policy, &limits, budget) {
@@ -87,7 +100,7 @@ fn outcome_of<R: Read + Drop>(
 fn memory_as_outcome(answer: io::Result<Outcome>) -> io::Result<Outcome>
     ensures kept { IfOk answer (λ outcome. result ≡ Ok outcome) }
     ensures memory { OnErr answer (IfOk result (λ outcome. outcome ≡ Outcome.Memory)) }
-    ensures others { IfErr result (λ e. answer ≡ Err e) }
+    ensures others { IfErr result (λ e. (answer ≡ Err e) × (error_kind e ≢ ErrorKind.OutOfMemory)) }
 {
     match answer {
         Ok(outcome) => Ok(outcome),
@@ -141,9 +154,10 @@ fn judge_bytes(
     }
 }
 
-/// The outcome of a request that some bytes ask for.
+/// The outcome of a request that some bytes ask for. It is never `Memory` without conditions.
 fn decided(admitted: &Admitted, request: &Request) -> Outcome
-    ensures { (facts : Facts) (bytes : List ℕ) → Asks bytes largest facts request.now
+    ensures never { IsUnconditional (filter_view admitted.now) → result ≢ Outcome.Memory }
+    ensures found { (facts : Facts) (bytes : List ℕ) → Asks bytes largest facts request.now
         → IsOutcomeUnder (filter_view admitted.now) facts bytes result }
 {
     let verdict = match admitted.decide(request) {

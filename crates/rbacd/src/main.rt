@@ -1,96 +1,65 @@
 //! Judges requests by a role-based access policy.
 #![tactic(auto)]
 
-use attributes::Conn;
-use clap::error::ErrorKind;
-use facts::read_conn;
-use judge::{judge, plain_conn, read_file};
 use outcome::Outcome;
+use run::{MISTAKE, run};
+use std::env::{Env, FillError};
+use std::io::ErrorKind;
 use std::process::ExitCode;
 use std::{env, io};
-use words::{Job, read_words};
 
 pub mod facts;
+pub mod files;
 pub mod judge;
+mod notes;
 pub mod outcome;
+mod output;
+pub mod run;
 pub mod words;
 
-/// The status of a command line or a file that cannot be read.
-const MISTAKE: u8 = 2;
+/// The words of the command line, the program's own name first.
+fn words_of(rt: &HostRuntime) -> io::Result<Vec<String>> {
+    Ok(env::args(rt)?.collect(rt.alloc())?)
+}
 
-/// The status of a file whose JSON text is not as it has to be.
-const BAD_JSON: u8 = 6;
-
-fn run(rt: &HostRuntime) -> io::Result<u8> {
-    let alloc = rt.alloc();
-    let words: Vec<String> = env::args(rt)?.collect(alloc)?;
-    let job = match read_words(alloc, &words) {
-        Ok(job) => job,
-        Err(error) => {
-            error.print(rt)?;
-            return Ok(match error.kind() {
-                ErrorKind::DisplayHelp => 0,
-                ErrorKind::OutOfMemory => Outcome::Memory.status(),
-                _ => MISTAKE,
-            });
+/// The number of the first word that is no UTF-8, if its bytes fit a small room; 0 is the program's name.
+fn first_bad_word(rt: &HostRuntime) -> Option<usize> {
+    let mut room = [0u8; 4_096];
+    for index in 0..usize::MAX {
+        match rt.arg(index, &mut room) {
+            Ok(count) => {
+                if str::from_utf8(room.get(..count).unwrap_or(&[])).is_err() {
+                    return Some(index);
+                }
+            }
+            Err(FillError::TooLong) => {}
+            Err(FillError::NotPresent) => return None,
         }
-    };
-    match job {
-        Job::Judge {
-            policy,
-            facts,
-            budget,
-        } => run_judge(rt, &policy, facts, budget),
     }
-}
-
-/// Judges the head on standard input; the status that the program ends with.
-fn run_judge(rt: &HostRuntime, policy: &str, facts: Option<String>, budget: u64) -> io::Result<u8> {
-    let alloc = rt.alloc();
-    let Some(bytes) = read_file(rt, policy, &mut rt.stderr())? else {
-        return Ok(MISTAKE);
-    };
-    let conn = match facts {
-        None => plain_conn(alloc)?,
-        Some(path) => match read_facts_file(rt, &path)? {
-            Ok(conn) => conn,
-            Err(status) => return Ok(status),
-        },
-    };
-    let outcome = judge(
-        alloc,
-        &bytes,
-        budget,
-        conn,
-        rt.reader(),
-        &mut io::writer(rt),
-    )?;
-    Ok(outcome.status())
-}
-
-/// The connection that a facts file tells of, or the status where it tells of none.
-fn read_facts_file(rt: &HostRuntime, path: &str) -> io::Result<Result<Conn, u8>> {
-    let Some(text) = read_file(rt, path, &mut rt.stderr())? else {
-        return Ok(Err(MISTAKE));
-    };
-    match read_conn(rt.alloc(), &text, &mut rt.stderr())? {
-        Some(conn) => Ok(Ok(conn)),
-        None => Ok(Err(BAD_JSON)),
-    }
+    None
 }
 
 fn main(rt: HostRuntime) -> ExitCode {
-    match run(&rt) {
-        Ok(status) => ExitCode::from(status),
-        Err(error) if error.kind() == io::ErrorKind::OutOfMemory => {
+    let words = match words_of(&rt) {
+        Ok(words) => words,
+        Err(error) if error.kind() == ErrorKind::OutOfMemory => {
             let _ = rt.println(Outcome::Memory);
-            ExitCode::from(Outcome::Memory.status())
+            return ExitCode::from(Outcome::Memory.status());
         }
         Err(error) => {
-            let _ = rt.eprintln(error);
-            ExitCode::from(MISTAKE)
+            let _ = match first_bad_word(&rt) {
+                Some(index) => rt.eprintln(format_args!(
+                    "error: word {index} of the command line is not UTF-8"
+                )),
+                None => rt.eprintln(error),
+            };
+            return ExitCode::from(MISTAKE);
         }
-    }
+    };
+    let mut out = io::writer(&rt);
+    let mut errors = rt.stderr();
+    let status = run(rt.alloc(), &words, &rt, rt.reader(), &mut out, &mut errors);
+    ExitCode::from(status)
 }
 
 #[cfg(test)]

@@ -1,9 +1,10 @@
 //! What `judge` finds, the line that it prints and the status that it ends with.
-ghost use Rattle.std.specs.Prelude.{◌≡◌};
-ghost use Rattle.rbacd.specs.Outcome.{status_of};
+ghost use Rattle.std.specs.Prelude.{◌≡◌, IfOk, string_bytes};
+ghost use Rattle.rbacd.specs.Outcome.{line_of, status_of};
 
 use http_front::HeadFault;
 use proto_wire::Refusal;
+use std::alloc::{AllocError, Global};
 use std::fmt;
 
 /// What came of judging one head by one policy file.
@@ -37,6 +38,13 @@ impl Outcome {
             Outcome::Fault(_) => 4,
             Outcome::Memory => 5,
         }
+    }
+
+    /// The whole line, with its end.
+    pub(crate) fn line(self, alloc: Global) -> Result<String, AllocError>
+        ensures { IfOk result (λ line. string_bytes line ≡ line_of self) }
+    {
+        format!(in alloc; "{self}\n")
     }
 }
 

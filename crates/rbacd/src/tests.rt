@@ -8,5 +8,6 @@ mod heads;
 mod judging;
 mod memory;
 mod rows;
+mod run;
 mod texts;
 mod words;

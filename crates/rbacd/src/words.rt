@@ -12,6 +12,35 @@ use std::convert::AsStr;
 /// The most that the conditions of one filter may cost.
 pub const MOST_BUDGET: u64 = 100_000_000;
 
+/// The program's version, and the kit that it is proved with.
+const VERSION: &str = "0.0 (not yet numbered), proved with rattle-kit-13b, logic dac8208d650f15bf";
+
+/// The end of the program's help.
+const EXAMPLE: &str = "Example:
+  printf 'GET / HTTP/1.1\\r\\nHost: h\\r\\n\\r\\n' | rbacd judge --policy examples/any_any.bin";
+
+/// The end of the help of `judge`.
+const JUDGE_HELP: &str = "The line on standard output, and the status:
+  allow M          0  the request passes; M is the number of the policy that matched, or -
+  deny M           3  the request is refused
+  deny steps       3  a condition took more steps than it may, so the request is refused
+  refused: N NAME  1  the policy file is refused for this reason (5 for want of memory)
+  head: S          4  the head has a fault that S answers: 400, 431 or 501
+  memory           5  memory ran out
+With no line there, standard error has one: 2 for words, a file or an output that fails, 6 for bad facts.
+
+The facts are one JSON object; each may be absent:
+  texts      source.address destination.address connection.requested_server_name connection.tls_version
+             connection.subject_peer_certificate connection.dns_san_peer_certificate
+             connection.uri_san_peer_certificate request.scheme
+  ports      source.port destination.port
+  addresses  direct_remote_ip remote_ip destination_ip
+  others     connection.mtls (true or false) connection.id (a number)
+
+Example:
+  echo '{\"remote_ip\": \"10.0.0.1\", \"destination.port\": 443}' > facts.json
+  printf 'GET / HTTP/1.1\\r\\nHost: h\\r\\n\\r\\n' | rbacd judge --policy filter.bin --facts facts.json";
+
 /// What the program is asked to do.
 #[derive(Debug, Drop)]
 pub enum Job {
@@ -67,7 +96,10 @@ fn command<'a>(alloc: Global) -> Result<Command<'a>, AllocError>
     let judge = judge_command(alloc)?;
     Command::new(alloc, "rbacd")
         .about("Judges requests by a role-based access policy")
+        .version(VERSION)
+        .after_help(EXAMPLE)
         .subcommand_required(true)
+        .arg_required_else_help(true)
         .subcommand(judge)
 }
 
@@ -77,6 +109,7 @@ fn judge_command<'a>(alloc: Global) -> Result<Command<'a>, AllocError>
 {
     Command::new(alloc, "judge")
         .about("Judges the request head on standard input")
+        .after_help(JUDGE_HELP)
         .arg(policy_arg(alloc))?
         .arg(facts_arg(alloc))?
         .arg(budget_arg(alloc))
@@ -110,7 +143,7 @@ fn budget_arg<'a>(alloc: Global) -> Arg<'a>
     Arg::new(alloc, "budget")
         .long("budget")
         .value_name("N")
-        .value_parser(value_parser!(u64))
+        .value_parser(value_parser!(u64).range(1..=100_000_000))
         .default_value("1000000")
         .help("What the policy's conditions may cost, from 1 to 100000000")
 }

@@ -1,8 +1,8 @@
 //! The lines and the statuses of judging, over memory.
 ghost use Rattle.std.specs.Prelude.{◌<◌};
 
-use crate::facts::read_conn;
-use crate::judge::{judge, plain_conn, read_file};
+use crate::facts::{FactsFault, read_conn};
+use crate::judge::{judge, plain_conn};
 use crate::outcome::Outcome;
 use http_front::HeadFault;
 use proto_wire::Refusal;
@@ -11,13 +11,13 @@ use std::io::{self, ErrorKind, Read, Write};
 use std::test::Fail;
 
 /// An ALLOW filter with one policy `p`, any and any.
-const ANY_ANY: [u8; 17] = [
+pub const ANY_ANY: [u8; 17] = [
     0x0a, 0x0f, 0x12, 0x0d, 0x0a, 0x01, 0x70, 0x12, 0x08, 0x0a, 0x02, 0x18, 0x01, 0x12, 0x02, 0x18,
     0x01,
 ];
 
 /// The same with a permission that is `any: false`.
-const ANY_FALSE: [u8; 17] = [
+pub const ANY_FALSE: [u8; 17] = [
     0x0a, 0x0f, 0x12, 0x0d, 0x0a, 0x01, 0x70, 0x12, 0x08, 0x0a, 0x02, 0x18, 0x00, 0x12, 0x02, 0x18,
     0x01,
 ];
@@ -29,7 +29,7 @@ const ANY_LONG: [u8; 18] = [
 ];
 
 /// An ALLOW filter without policies.
-const EMPTY_RULES: [u8; 2] = [0x0a, 0x00];
+pub const EMPTY_RULES: [u8; 2] = [0x0a, 0x00];
 
 pub const PLAIN: &[u8] = b"GET / HTTP/1.1\r\nHost: h\r\n\r\n";
 
@@ -138,11 +138,9 @@ const FACTS: [(&[u8], bool); 4] = [
 #[test]
 fn tells_of_bad_facts(rt: HostRuntime) -> Result<(), Fail> {
     for (text, good) in FACTS {
-        let mut errors = Vec::new(rt.alloc());
-        let told = read_conn(rt.alloc(), text, &mut errors)?;
-        assert_eq!(rt; told.is_some(), good);
-        let expected: &[u8] = if good { b"" } else { b"bad facts\n" };
-        assert_eq!(rt; errors.as_slice(), expected);
+        let fault = read_conn(rt.alloc(), text).err();
+        let expected = if good { None } else { Some(FactsFault::Bad) };
+        assert_eq!(rt; fault, expected);
     }
     Ok(())
 }
@@ -152,10 +150,9 @@ fn takes_facts_to_the_limit(rt: HostRuntime) -> Result<(), Fail> {
     for (length, good) in [(1_024usize, true), (1_025, false)] {
         let scheme = "h".repeat(rt.alloc(), length)?;
         let text = format!(in rt.alloc(); "{{\"request.scheme\": \"{scheme}\"}}")?;
-        let mut errors = Vec::new(rt.alloc());
-        let told = read_conn(rt.alloc(), text.as_bytes(), &mut errors)?;
-        assert_eq!(rt; told.is_some(), good);
-        assert_eq!(rt; errors.is_empty(), good);
+        let fault = read_conn(rt.alloc(), text.as_bytes()).err();
+        let expected = if good { None } else { Some(FactsFault::Bad) };
+        assert_eq!(rt; fault, expected);
     }
     Ok(())
 }
@@ -192,18 +189,6 @@ fn counts_policies(rt: HostRuntime) -> Result<(), Fail> {
         )?;
         assert_eq!(rt; str::from_utf8(&out).unwrap_or(""), expected);
     }
-    Ok(())
-}
-
-#[test]
-fn tells_of_an_unreadable_file(rt: HostRuntime) -> Result<(), Fail> {
-    let mut errors = Vec::new(rt.alloc());
-    let policy = read_file(&rt, "no folder/policy", &mut errors)?;
-    assert!(rt; policy.is_none());
-    assert_eq!(rt;
-        errors.as_slice(),
-        b"cannot read no folder/policy\n".as_slice()
-    );
     Ok(())
 }
 

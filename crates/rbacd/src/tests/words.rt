@@ -95,8 +95,10 @@ Options:
       --facts <FILE>   What is known of the connection: one JSON object
       --budget <N>     What the policy's conditions may cost, from 1 to 100000000 [default: 1000000]
   -h, --help           Print help
+
+The line on standard output, and the status:
 ";
-    assert_eq!(rt; help.to_string(rt.alloc())?.as_str(), expected);
+    assert!(rt; help.to_string(rt.alloc())?.as_str().starts_with(expected));
     Ok(())
 }
 
@@ -106,12 +108,37 @@ fn tells_of_a_budget(rt: HostRuntime) -> Result<(), Fail> {
     let Err(error) = read_words(rt.alloc(), &words) else {
         return Err(Fail::from("a fault"));
     };
-    let expected = "error: a budget is a number from 1 to 100000000
-
-Usage: rbacd <COMMAND>
+    let expected = "error: invalid value '0' for '--budget <N>': 0 is not in 1..=100000000
 
 For more information, try '--help'.
 ";
     assert_eq!(rt; error.to_string(rt.alloc())?.as_str(), expected);
+    Ok(())
+}
+
+#[test]
+fn shows_the_version(rt: HostRuntime) -> Result<(), Fail> {
+    let Err(version) = read_words(rt.alloc(), &["rbacd", "--version"]) else {
+        return Err(Fail::from("a version"));
+    };
+    assert_eq!(rt; version.kind(), ErrorKind::DisplayVersion);
+    let expected =
+        "rbacd 0.0 (not yet numbered), proved with rattle-kit-13b, logic dac8208d650f15bf\n";
+    assert_eq!(rt; version.to_string(rt.alloc())?.as_str(), expected);
+    Ok(())
+}
+
+#[test]
+fn shows_help_without_words(rt: HostRuntime) -> Result<(), Fail> {
+    let Err(help) = read_words(rt.alloc(), &["rbacd"]) else {
+        return Err(Fail::from("a help text"));
+    };
+    assert_eq!(rt; help.exit_code(), 2);
+    let text = help.to_string(rt.alloc())?;
+    assert!(rt;
+        text.as_str()
+            .starts_with("Judges requests by a role-based access policy\n\nUsage: ")
+    );
+    assert!(rt; text.as_str().ends_with("--policy examples/any_any.bin\n"));
     Ok(())
 }

@@ -17,4 +17,4 @@ pub returns-in-Some-Judge : goal.returns-in-Some-Judge
 returns-in-Some-Judge c =
     let found = rw c.in-Some-Judge.is at c.in_ok-request.ensures.judged in
     let asks = rw (c.in-Some-Judge.field-0-is, c.requires) at found in
-    c.decided.ensures _ c.args.bytes.now asks
+    c.decided.ensures.found _ c.args.bytes.now asks

@@ -8,9 +8,14 @@ pub returns : goal.returns
 returns c =
     let begun : app_of c.about.result ≡ new_app (codes "rbacd") = ap app_of_fields c.about.ensures
     ∙ c.new.ensures.app in
+    let version = ap app_of_fields c.version.ensures
+    ∙ ap (on_top (λ s. record s { has_version = true })) begun in
+    let after = ap app_of_fields c.after_help.ensures ∙ version in
     let required = ap app_of_fields c.subcommand_required.ensures
-    ∙ ap (on_top (λ s. record s { subcommand_required = true })) begun in
+    ∙ ap (on_top (λ s. record s { subcommand_required = true })) after in
+    let helped = ap app_of_fields c.arg_required_else_help.ensures
+    ∙ ap (on_top (λ s. record s { arg_required_else_help = true })) required in
     IfOk-weaker c.subcommand.result _ _
     (λ new adds. adds.shape c.in_ok-judge.ensures.local
-    ∙ ap₂ with_subcommand required (ap (λ (a : App). a.top) c.in_ok-judge.ensures.app))
+    ∙ ap₂ with_subcommand helped (ap (λ (a : App). a.top) c.in_ok-judge.ensures.app))
     c.subcommand.ensures

@@ -9,8 +9,9 @@ pub returns-clause-app : goal.returns-clause-app
 returns-clause-app c =
     let begun : app_of c.about.result ≡ new_app (codes "judge") = ap app_of_fields c.about.ensures
     ∙ c.new.ensures.app in
+    let after = ap app_of_fields c.after_help.ensures ∙ begun in
     let first = c.in_ok-arg.ensures.shape c.policy_arg.ensures.local
-    ∙ ap₂ with_rule begun c.policy_arg.ensures.rule in
+    ∙ ap₂ with_rule after c.policy_arg.ensures.rule in
     let second = c.in_ok-arg-2.ensures.shape c.facts_arg.ensures.local
     ∙ ap₂ with_rule first c.facts_arg.ensures.rule in
     IfOk-weaker c.arg-3.result _ _ (λ new adds. adds.shape c.budget_arg.ensures.local
@@ -20,7 +21,9 @@ pub returns-clause-local : goal.returns-clause-local
 returns-clause-local c =
     let about : (out-Command c.about.result).has_globals ≡ false =
     rw c.about.ensures c.new.ensures.local in
+    let after : (out-Command c.after_help.result).has_globals ≡ false =
+    rw c.after_help.ensures about in
     IfOk-weaker c.arg-3.result _ _
     (λ new adds. adds.globals
-    ∙ rw (c.in_ok-arg-2.ensures.globals, c.in_ok-arg.ensures.globals, about, c.policy_arg.ensures.local, c.facts_arg.ensures.local, c.budget_arg.ensures.local) refl)
+    ∙ rw (c.in_ok-arg-2.ensures.globals, c.in_ok-arg.ensures.globals, after, c.policy_arg.ensures.local, c.facts_arg.ensures.local, c.budget_arg.ensures.local) refl)
     c.arg-3.ensures

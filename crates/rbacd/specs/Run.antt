@@ -1,0 +1,158 @@
+-- A run of the program, from its words to its status: what it reads, which fault counts first, and
+-- what it leaves on its two outputs.
+use Rattle.std.specs.Prelude.{◌≡◌, ◌≢◌, ◌⊎◌, ◌++◌, ◌∷◌, [], ⊤, ℕ, List, Option, Some, None, Ok, Err, Result, IfSome, codes, option_map, string_bytes}
+use Rattle.std.specs.Io.KnownBytes.{Appends}
+use Rattle.std.specs.Io.{StartsWith}
+use Rattle.std.specs.IoError.{error_kind}
+use Rattle.std.specs.declared.io.ErrorKind.{ErrorKind as IoKind}
+use Rattle.attributes.specs.Conn.{Facts}
+use Rattle.attributes.specs.Limits.{FactsInLimits, largest}
+use Rattle.clap.specs.Words.{Text, kind_of}
+use Rattle.clap.specs.declared.error.kind.ErrorKind.{ErrorKind}
+use Rattle.clap.specs.declared.error.kind.ErrorKind.TheVariants as kinds
+use Rattle.rbac_policy.specs.Admission.{Admissible}
+use Rattle.rbacd.specs.Facts.{IsFactsText, TellsNone}
+use Rattle.rbacd.specs.Judging.{IsOutcomeOf, plain_facts}
+use Rattle.rbacd.specs.Outcome.{line_of, status_of}
+use Rattle.rbacd.specs.Output.{BreaksOff, Takes}
+use Rattle.rbacd.specs.Words.{AreMistaken, IsJobOf}
+use Rattle.rbacd.specs.declared.words.Job.{Job}
+use Rattle.rbacd.specs.declared.words.Job.TheVariants.{Judge}
+use Rattle.rbacd.specs.declared.outcome.Outcome.{Outcome}
+use Rattle.rbacd.specs.declared.outcome.Outcome.TheVariants as outcomes
+use Rattle.rbacd.specs.declared.run.JobFault.{JobFault}
+use Rattle.rbacd.specs.declared.run.JobFault.TheVariants as faults
+
+-- a source of files: which bytes the file at a path holds, and which file cannot be read
+module _ (holds : Text → Text → Type 0) (lacks : Text → Type 0) where
+  -- the connection is the one that the facts file tells of, or a plain one where none is named
+  abbrev pub IsConnOf : Option Text → Facts → Type 0
+  IsConnOf None facts = facts ≡ plain_facts
+  IsConnOf (Some path) facts =
+      (text : Text) × holds path text × IsFactsText text facts × FactsInLimits facts largest
+
+  -- the fault says that the file at this path cannot be read
+  abbrev pub IsUnread : Text → JobFault → Type 0
+  IsUnread path (faults.File name cause) = (string_bytes name ≡ path) × lacks path
+  IsUnread path (faults.Words error) = ⊥
+  IsUnread path faults.Facts = ⊥
+  IsUnread path (faults.Input cause) = ⊥
+  IsUnread path faults.Memory = ⊥
+
+  -- the file that the path names holds no facts
+  abbrev pub HasBadFacts : Text → JobFault → Type 0
+  HasBadFacts path fault =
+      (text : Text) × holds path text × TellsNone text × (fault ≡ faults.Facts)
+
+  -- the fault says that the input cannot be read, and not for want of memory
+  abbrev pub IsInputFault : JobFault → Type 0
+  IsInputFault (faults.Input cause) = error_kind cause ≢ IoKind.OutOfMemory
+  IsInputFault (faults.Words error) = ⊥
+  IsInputFault (faults.File name cause) = ⊥
+  IsInputFault faults.Facts = ⊥
+  IsInputFault faults.Memory = ⊥
+
+  -- the job by that policy file, that facts file, if any, and that budget, with this input
+  module _ (policy_path : Text) (facts_path : Option Text) (budget : ℕ) (input : Option Text) where
+    -- the outcome is that of the files and of all of the input
+    pub record IsJudgedAs (outcome : Outcome) : Type 0 where
+      pub policy : Text
+      pub facts : Facts
+      pub read : holds policy_path policy
+      pub conn : IsConnOf facts_path facts
+      pub found : IfSome input (λ bytes. IsOutcomeOf policy budget facts bytes outcome)
+
+    -- the fault is there, and nothing that is looked at before it has one
+    pub data StopsBy (fault : JobFault) : Type 0 where
+      memory : fault ≡ faults.Memory → StopsBy fault
+      no_policy : IsUnread policy_path fault → StopsBy fault
+      no_facts : (policy path : Text) → holds policy_path policy → facts_path ≡ Some path
+          → IsUnread path fault → StopsBy fault
+      bad_facts : (policy path : Text) → holds policy_path policy → facts_path ≡ Some path
+          → HasBadFacts path fault → StopsBy fault
+      no_input : (policy : Text) (facts : Facts) → holds policy_path policy
+          → IsConnOf facts_path facts → Admissible policy largest budget → IsInputFault fault
+          → StopsBy fault
+
+  -- the job with this input comes to this
+  abbrev pub ComesTo : Option Text → Job → Result Outcome JobFault → Type 0
+  ComesTo input (Judge policy facts budget) (Ok outcome) =
+      IsJudgedAs (string_bytes policy) (option_map string_bytes facts) budget input outcome
+  ComesTo input (Judge policy facts budget) (Err fault) =
+      StopsBy (string_bytes policy) (option_map string_bytes facts) budget input fault
+
+  -- what the job that the words name comes to, or why they name none
+  module _ (words : List Text) (input : Option Text) where
+    -- the fault is the mistake that the words hold
+    abbrev pub IsMistake : Result Outcome JobFault → Type 0
+    IsMistake (Ok outcome) = ⊥
+    IsMistake (Err (faults.Words error)) = AreMistaken words (kind_of error)
+    IsMistake (Err (faults.File name cause)) = ⊥
+    IsMistake (Err faults.Facts) = ⊥
+    IsMistake (Err (faults.Input cause)) = ⊥
+    IsMistake (Err faults.Memory) = ⊥
+
+    -- the words name a job that comes to this, or they are mistaken
+    pub data RunsTo (found : Result Outcome JobFault) : Type 0 where
+      job : (job : Job) → IsJobOf words job → ComesTo input job found → RunsTo found
+      mistaken : IsMistake found → RunsTo found
+      memory : found ≡ Err faults.Memory → RunsTo found
+
+-- the line of a fault, as far as it has one
+abbrev pub first_line : JobFault → Text
+first_line (faults.Words error) = []
+first_line (faults.File path cause) = codes "cannot read " ++ string_bytes path ++ 10 ∷ []
+first_line faults.Facts = codes "bad facts" ++ 10 ∷ []
+first_line (faults.Input cause) = codes "cannot read standard input" ++ 10 ∷ []
+first_line faults.Memory = []
+
+-- the words ask for a text to read, and for nothing else
+abbrev pub IsShown : ErrorKind → Type 0
+IsShown kind = (kind ≡ kinds.DisplayHelp) ⊎ (kind ≡ kinds.DisplayVersion)
+
+-- nothing is told of a verdict, and what is told below another line is left open
+abbrev pub IsQuiet : Option Text → Option Text → Outcome → Type 0
+IsQuiet errors errors_new (outcomes.Allowed matched) = errors_new ≡ errors
+IsQuiet errors errors_new (outcomes.Denied matched) = errors_new ≡ errors
+IsQuiet errors errors_new outcomes.OutOfSteps = errors_new ≡ errors
+IsQuiet errors errors_new (outcomes.Refused reason) = ⊤
+IsQuiet errors errors_new (outcomes.Fault fault) = ⊤
+IsQuiet errors errors_new outcomes.Memory = errors_new ≡ errors
+
+-- what a run leaves: its status, and what it wrote to its outputs, whose bytes were `out` and `errors`
+-- and are `out_new` and `errors_new`
+module _ (out out_new errors errors_new : Option Text) (status : ℕ) where
+  -- the text stands on standard output, and this is the status; or the output broke off, which is 2
+  abbrev pub Prints : ℕ → Text → Type 0
+  Prints good text = ((status ≡ good) × Appends out out_new text × (errors_new ≡ errors))
+      ⊎ ((status ≡ 2) × BreaksOff out out_new text)
+
+  -- nothing stands on standard output, and what stands on standard error, unless that failed, begins
+  -- with the text
+  abbrev pub Tells : ℕ → Text → Type 0
+  Tells bad text = (status ≡ bad) × (out_new ≡ out)
+      × ((told : Text) × StartsWith told text × Takes errors errors_new told)
+
+  -- a text that was asked for stands on standard output, and another on standard error
+  abbrev pub TellsWords : ErrorKind → Type 0
+  TellsWords kind = (IsShown kind × ((text : Text) × Prints 0 text))
+      ⊎ ((¬ IsShown kind) × Tells 2 [])
+
+  -- what is left of a run that comes to this fault
+  abbrev pub LeavesFault : JobFault → Type 0
+  LeavesFault (faults.Words error) = TellsWords (kind_of error)
+  LeavesFault (faults.File path cause) = Tells 2 (first_line (faults.File path cause))
+  LeavesFault faults.Facts = Tells 6 (first_line faults.Facts)
+  LeavesFault (faults.Input cause) = Tells 2 (first_line (faults.Input cause))
+  LeavesFault faults.Memory = Prints 5 (line_of outcomes.Memory)
+
+  -- the line of the outcome stands on standard output
+  abbrev pub PrintsOutcome : Outcome → Type 0
+  PrintsOutcome outcome = ((status ≡ status_of outcome) × Appends out out_new (line_of outcome)
+      × IsQuiet errors errors_new outcome)
+      ⊎ ((status ≡ 2) × BreaksOff out out_new (line_of outcome))
+
+  -- what is left of a run that comes to this
+  abbrev pub Leaves : Result Outcome JobFault → Type 0
+  Leaves (Ok outcome) = PrintsOutcome outcome
+  Leaves (Err fault) = LeavesFault fault

@@ -1,0 +1,51 @@
+//! Where files come from.
+ghost use Rattle.std.specs.Prelude.{◌≡◌, ◌≤◌, ◌<◌, ◌⊎◌, ℕ, List, IfErr, IfOk, IfSome, length};
+ghost use Rattle.std.specs.IoError.{error_kind};
+
+use std::alloc::Global;
+use std::fs::File;
+use std::io::{self, ErrorKind, Read};
+
+/// A file that the program reads has at most so many bytes: 16 MiB.
+pub const MOST_FILE: u64 = 16_777_216;
+
+/// A source of files.
+pub trait Source {
+    /// The file at this path holds these bytes.
+    ghost holds: { Self → List ℕ → List ℕ → Type 0 };
+
+    /// The file at this path cannot be read.
+    ghost lacks: { Self → List ℕ → Type 0 };
+
+    /// All bytes of the file at this path.
+    fn read_file(&self, alloc: Global, path: &str) -> io::Result<Vec<u8>>
+        ensures found { IfOk result (λ v. holds self.now path.now v.items) }
+        ensures fault { IfErr result (λ e. (error_kind e ≡ ErrorKind.OutOfMemory)
+            ⊎ lacks self.now path.now) };
+}
+
+/// The files of the system. No proof knows what they hold.
+impl Source for HostRuntime {
+    ghost use Rattle.std.specs.Prelude.{⊤};
+
+    ghost holds = { λ _ _ _. ⊤ };
+
+    ghost lacks = { λ _ _. ⊤ };
+
+    fn read_file(&self, alloc: Global, path: &str) -> io::Result<Vec<u8>> {
+        read_whole(alloc, File::open(self, path)?)
+    }
+}
+
+/// All bytes of a file of at most `MOST_FILE` bytes.
+pub(crate) fn read_whole<R: Read + Drop>(alloc: Global, file: R) -> io::Result<Vec<u8>>
+    ensures whole { IfOk result (λ v. IfSome (R.remaining file) (λ bytes. v.items ≡ bytes)) }
+    ensures short { IfOk result (λ v. length v.items ≤ 16777216) }
+{
+    let mut bytes = Vec::new(alloc);
+    file.take(MOST_FILE + 1).read_to_end(&mut bytes)?;
+    if bytes.len() as u64 > MOST_FILE {
+        return Err(io::Error::new(ErrorKind::FileTooLarge, "it is longer than 16 MiB"));
+    }
+    Ok(bytes)
+}

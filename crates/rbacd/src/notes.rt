@@ -1,0 +1,140 @@
+//! What is told below a line, so that its reader knows why: the cause, and a guess at what a file is.
+//!
+//! Nothing here bears on the outcome or the status, so no contract speaks of it.
+use crate::facts::cause_of_bad_facts;
+use http_front::HeadFault;
+use proto_wire::Refusal;
+use std::alloc::{AllocError, Global};
+use std::fmt;
+
+/// What was noticed while a job was done.
+#[derive(Debug, Drop)]
+pub(crate) struct Notes {
+    /// What the policy file looks like, if it is plainly no filter message.
+    pub(crate) policy: Option<Likeness>,
+    /// Why the facts file tells of no connection.
+    pub(crate) facts: String,
+}
+
+impl Notes {
+    /// Nothing was noticed yet.
+    pub(crate) fn new(alloc: Global) -> Notes {
+        Notes {
+            policy: None,
+            facts: String::new(alloc),
+        }
+    }
+
+    /// Notes why this text of facts tells of no connection.
+    pub(crate) fn look_at_facts(&mut self, alloc: Global, text: &[u8]) -> Result<(), AllocError> {
+        self.facts = cause_of_bad_facts(alloc, text)?;
+        Ok(())
+    }
+
+    /// Notes what the policy file looks like.
+    pub(crate) fn look_at_policy(&mut self, bytes: &[u8]) {
+        self.policy = likeness_of(bytes);
+    }
+}
+
+/// What a file looks like that is no filter message.
+#[derive(Clone, Copy, Debug, PartialEq, Eq)]
+pub(crate) enum Likeness {
+    Json,
+    Yaml,
+    Hex,
+    Base64,
+    Gzip,
+    Any,
+    TypedExtensionConfig,
+    BareRules,
+}
+
+impl fmt::Display for Likeness {
+    fn fmt<W: fmt::Write>(&self, f: &mut fmt::Formatter<W>) -> fmt::Result {
+        f.write_str(match self {
+            Likeness::Json => "JSON",
+            Likeness::Yaml => "YAML or other text",
+            Likeness::Hex => "hexadecimal text",
+            Likeness::Base64 => "base64 text",
+            Likeness::Gzip => "a gzip file",
+            Likeness::Any => "a google.protobuf.Any",
+            Likeness::TypedExtensionConfig => "an envoy.config.core.v3.TypedExtensionConfig",
+            Likeness::BareRules => "a bare envoy.config.rbac.v3.RBAC",
+        })
+    }
+}
+
+/// How the name of a message's type begins in an Any.
+const TYPE_START: &[u8] = b"type.googleapis.com/";
+
+/// What the bytes look like, if they are plainly something else than a filter message.
+pub(crate) fn likeness_of(bytes: &[u8]) -> Option<Likeness> {
+    if bytes.starts_with(&[0x1f, 0x8b]) {
+        return Some(Likeness::Gzip);
+    }
+    if bytes.get(2..).unwrap_or(&[]).starts_with(TYPE_START) {
+        return Some(Likeness::Any);
+    }
+    if bytes
+        .windows(TYPE_START.len())
+        .any(|part| part == TYPE_START)
+    {
+        return Some(Likeness::TypedExtensionConfig);
+    }
+    match bytes.first() {
+        Some(0x08 | 0x12) => Some(Likeness::BareRules),
+        Some(_) if bytes.iter().all(|&byte| is_printed(byte)) => Some(likeness_of_text(bytes)),
+        _ => None,
+    }
+}
+
+/// Whether the byte stands in a text.
+fn is_printed(byte: u8) -> bool {
+    byte >= 0x80 || byte.is_ascii_graphic() || byte.is_ascii_whitespace()
+}
+
+/// What the text looks like.
+fn likeness_of_text(text: &[u8]) -> Likeness {
+    if matches!(text.trim_ascii_start().first(), Some(b'{' | b'[')) {
+        return Likeness::Json;
+    }
+    if text
+        .iter()
+        .all(|b| b.is_ascii_hexdigit() || b.is_ascii_whitespace())
+    {
+        return Likeness::Hex;
+    }
+    if text.iter().all(|b| b.is_ascii_alphanumeric()
+        || b.is_ascii_whitespace()
+        || b"+/=-_".contains(b))
+    {
+        return Likeness::Base64;
+    }
+    Likeness::Yaml
+}
+
+/// What a refusal means.
+pub(crate) fn meaning_of(refusal: Refusal) -> &'static str {
+    match refusal {
+        Refusal::BadWire => "the bytes are no whole fields of Protocol Buffers",
+        Refusal::BadText => "a text is not UTF-8",
+        Refusal::UnknownField => "a field is not known, or not of its wire type",
+        Refusal::Missing => "a part that has to be there is not",
+        Refusal::OutOfRange => "a value is outside its range",
+        Refusal::Unsupported => "a part is known, and not supported",
+        Refusal::TooLarge => "a limit of size, number or depth is passed",
+        Refusal::Memory => "memory ran out",
+        _ => "a condition does not hold what it has to",
+    }
+}
+
+/// Which rules a head may have broken that gets this status.
+pub(crate) fn rules_of(fault: HeadFault) -> &'static str {
+    match fault {
+        HeadFault::BadRequest =>
+            "no whole HTTP/1 head, or one that breaks a rule of its target, fields, Host or Content-Length",
+        HeadFault::TooLarge => "a head of more than 65536 bytes, or a request outside the limits",
+        HeadFault::NotImplemented => "a Transfer-Encoding field",
+    }
+}

@@ -1,0 +1,33 @@
+//! Writing a text in one piece.
+ghost use Rattle.std.specs.Prelude.{OnErr, OnOk};
+ghost use Rattle.std.specs.Io.KnownBytes.{Appends};
+ghost use Rattle.rbacd.specs.Output.{BreaksOff};
+
+use std::io::{self, ErrorKind, Write};
+
+/// Hands the whole text over at once, and what is left of it again where the writer took a part. A
+/// writer that fails holds no more than a part of the text.
+pub(crate) fn write_whole<W: Write>(out: &mut W, text: &[u8]) -> io::Result<()>
+    ensures whole { OnOk result (Appends (W.contents out.old) (W.contents out.new) text.now) }
+    ensures part { OnErr result (BreaksOff (W.contents out.old) (W.contents out.new) text.now) }
+{
+    let mut rest = text;
+    for _ in 0..u64::MAX {
+        if rest.is_empty() {
+            return Ok(());
+        }
+        match out.write(rest) {
+            Ok(0) => return Err(io::Error::from(ErrorKind::WriteZero)),
+            Ok(count) => rest = &rest[count..],
+            Err(error) => {
+                if error.kind() != ErrorKind::Interrupted {
+                    return Err(error);
+                }
+            }
+        }
+    }
+    if rest.is_empty() {
+        return Ok(());
+    }
+    Err(io::Error::from(ErrorKind::TimedOut))
+}

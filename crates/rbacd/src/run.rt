@@ -1,0 +1,329 @@
+//! The whole job of the program, from its words to its status.
+ghost use Rattle.std.specs.Prelude.{◌≡◌, ◌⊎◌, ◌↔◌, ℕ, IfErr, IfOk, IsTrue, List, Result, Some, map, option_map, string_bytes};
+ghost use Rattle.attributes.specs.Conn.{conn_view};
+ghost use Rattle.std.specs.Io.{StartsWith};
+ghost use Rattle.rbacd.specs.Outcome.{line_of};
+ghost use Rattle.rbacd.specs.Output.{Takes};
+ghost use Rattle.rbacd.specs.Run.{ComesTo, HasBadFacts, IsConnOf, IsJudgedAs, IsQuiet, IsShown, IsUnread, Leaves, LeavesFault, Prints, RunsTo, StopsBy, first_line};
+ghost use Rattle.rbacd.specs.declared.run.JobFault.{JobFault};
+
+use crate::facts::{FactsFault, read_conn};
+use crate::files::Source;
+use crate::judge::{outcome_of, plain_conn, print_outcome};
+use crate::notes::{Likeness, Notes, meaning_of, rules_of};
+use crate::outcome::Outcome;
+use crate::output::write_whole;
+use crate::words::{Job, read_words};
+use attributes::Conn;
+use clap::error::ErrorKind as WordsKind;
+use std::alloc::{AllocError, Global};
+use std::convert::AsStr;
+use std::io::{self, ErrorKind, Read, Write};
+
+/// The status of words that name no job, and of a file or an output that fails.
+pub const MISTAKE: u8 = 2;
+
+/// The status of a file whose JSON text is not as it has to be.
+pub const BAD_JSON: u8 = 6;
+
+/// Why nothing is judged.
+#[derive(Debug, Drop)]
+pub enum JobFault {
+    /// The words name no job: they ask for help, or hold a mistake.
+    Words(clap::Error),
+    /// The file at this path cannot be read, for this cause.
+    File(String, io::Error),
+    /// The facts file tells of no connection.
+    Facts,
+    /// The input cannot be read, for this cause.
+    Input(io::Error),
+    /// Memory ran out.
+    Memory,
+}
+
+impl From<AllocError> for JobFault {
+    ghost use Rattle.std.specs.Prelude.{◌≡◌};
+    ghost use Rattle.rbacd.specs.declared.run.JobFault.TheVariants.{Memory};
+
+    ghost from_gives = { λ _ e. e ≡ Memory };
+
+    fn from(_refused: AllocError) -> JobFault {
+        JobFault::Memory
+    }
+}
+
+/// Runs the job that the words name, the program's own name first: reads the policy file and the facts
+/// file, if one is named, then the head from `input`. Prints what it finds, and answers the status.
+pub fn run<S: AsStr, F: Source, R: Read + Drop, W: Write, E: Write>(
+    alloc: Global,
+    words: &[S],
+    files: &F,
+    input: R,
+    out: &mut W,
+    errors: &mut E,
+) -> u8
+    ensures { (found : Result Outcome JobFault)
+        × RunsTo (F.holds files.now) (F.lacks files.now) (map S.text words.now) (R.remaining input)
+        found × Leaves (W.contents out.old) (W.contents out.new) (E.contents errors.old)
+        (E.contents errors.new) result found }
+{
+    let mut notes = Notes::new(alloc);
+    match run_words(alloc, words, files, input, &mut notes) {
+        Ok(outcome) => match print_outcome(alloc, outcome, out) {
+            Ok(printed) => {
+                tell_cause(printed, notes.policy, errors);
+                printed.status()
+            }
+            Err(cause) => tell_output(cause, errors),
+        },
+        Err(fault) => end_by(alloc, &fault, &notes, out, errors),
+    }
+}
+
+/// What the job of the words comes to.
+fn run_words<S: AsStr, F: Source, R: Read + Drop>(
+    alloc: Global,
+    words: &[S],
+    files: &F,
+    input: R,
+    notes: &mut Notes,
+) -> Result<Outcome, JobFault>
+    ensures { RunsTo (F.holds files.now) (F.lacks files.now) (map S.text words.now)
+        (R.remaining input) result }
+{
+    match read_words(alloc, words) {
+        Ok(job) => run_job(alloc, job, files, input, notes),
+        Err(error) if error.kind() == WordsKind::OutOfMemory => Err(JobFault::Memory),
+        Err(error) => Err(JobFault::Words(error)),
+    }
+}
+
+/// What the job comes to.
+fn run_job<F: Source, R: Read + Drop>(
+    alloc: Global,
+    job: Job,
+    files: &F,
+    input: R,
+    notes: &mut Notes,
+) -> Result<Outcome, JobFault>
+    ensures { ComesTo (F.holds files.now) (F.lacks files.now) (R.remaining input) job result }
+{
+    match job {
+        Job::Judge {
+            policy,
+            facts,
+            budget,
+        } => judge_files(alloc, policy.as_str(), facts, budget, files, input, notes),
+    }
+}
+
+/// Judges the head that the input begins with by a policy file, on the connection of a facts file.
+fn judge_files<F: Source, R: Read + Drop>(
+    alloc: Global,
+    policy: &str,
+    facts: Option<String>,
+    budget: u64,
+    files: &F,
+    input: R,
+    notes: &mut Notes,
+) -> Result<Outcome, JobFault>
+    ensures found { IfOk result (IsJudgedAs (F.holds files.now) (F.lacks files.now) policy.now
+        (option_map string_bytes facts) budget (R.remaining input)) }
+    ensures fault { IfErr result (StopsBy (F.holds files.now) (F.lacks files.now) policy.now
+        (option_map string_bytes facts) budget (R.remaining input)) }
+{
+    let bytes = read_file(alloc, files, policy)?;
+    notes.look_at_policy(&bytes);
+    let conn = conn_of(alloc, facts, files, notes)?;
+    match outcome_of(alloc, &bytes, budget, conn, input) {
+        Ok(outcome) => Ok(outcome),
+        Err(cause) => Err(JobFault::Input(cause)),
+    }
+}
+
+/// The connection that the facts file tells of, or a plain one where none is named.
+fn conn_of<F: Source>(
+    alloc: Global,
+    facts: Option<String>,
+    files: &F,
+    notes: &mut Notes,
+) -> Result<Conn, JobFault>
+    ensures found { IfOk result (λ conn. IsConnOf (F.holds files.now) (F.lacks files.now)
+        (option_map string_bytes facts) (conn_view conn)) }
+    ensures fault { IfErr result (λ e. (e ≡ JobFault.Memory) ⊎ ((path : List ℕ)
+        × (option_map string_bytes facts ≡ Some path)
+        × (IsUnread (F.holds files.now) (F.lacks files.now) path e
+        ⊎ HasBadFacts (F.holds files.now) (F.lacks files.now) path e))) }
+{
+    match facts {
+        None => Ok(plain_conn(alloc)?),
+        Some(path) => read_facts_file(alloc, files, path.as_str(), notes),
+    }
+}
+
+/// The connection that the facts file tells of.
+fn read_facts_file<F: Source>(
+    alloc: Global,
+    files: &F,
+    path: &str,
+    notes: &mut Notes,
+) -> Result<Conn, JobFault>
+    ensures found { IfOk result (λ conn. IsConnOf (F.holds files.now) (F.lacks files.now)
+        (Some path.now) (conn_view conn)) }
+    ensures fault { IfErr result (λ e. (e ≡ JobFault.Memory)
+        ⊎ IsUnread (F.holds files.now) (F.lacks files.now) path.now e
+        ⊎ HasBadFacts (F.holds files.now) (F.lacks files.now) path.now e) }
+{
+    let text = read_file(alloc, files, path)?;
+    match read_conn(alloc, &text) {
+        Ok(conn) => Ok(conn),
+        Err(FactsFault::Bad) => {
+            notes.look_at_facts(alloc, &text)?;
+            Err(JobFault::Facts)
+        }
+        Err(FactsFault::Memory) => Err(JobFault::Memory),
+    }
+}
+
+/// The bytes of the file at this path.
+fn read_file<F: Source>(alloc: Global, files: &F, path: &str) -> Result<Vec<u8>, JobFault>
+    ensures found { IfOk result (λ v. F.holds files.now path.now v.items) }
+    ensures fault { IfErr result (λ e. (e ≡ JobFault.Memory)
+        ⊎ IsUnread (F.holds files.now) (F.lacks files.now) path.now e) }
+{
+    match files.read_file(alloc, path) {
+        Ok(bytes) => Ok(bytes),
+        Err(cause) if cause.kind() == ErrorKind::OutOfMemory => Err(JobFault::Memory),
+        Err(cause) => Err(JobFault::File(String::from_str(alloc, path)?, cause)),
+    }
+}
+
+/// Tells why nothing is judged; the status. Where no memory is left for that, it tells so.
+fn end_by<W: Write, E: Write>(
+    alloc: Global,
+    fault: &JobFault,
+    notes: &Notes,
+    out: &mut W,
+    errors: &mut E,
+) -> u8
+    ensures { (told : JobFault) × ((told ≡ fault.now) ⊎ (told ≡ JobFault.Memory))
+        × LeavesFault (W.contents out.old) (W.contents out.new) (E.contents errors.old)
+        (E.contents errors.new) result told }
+{
+    let Ok(text) = text_of(alloc, fault, notes) else {
+        return end_by_memory(out, errors);
+    };
+    match fault {
+        JobFault::Memory => end_by_memory(out, errors),
+        JobFault::Words(error) if is_shown(error.kind()) => show(text.as_bytes(), 0, out, errors),
+        JobFault::Facts => tell(text.as_bytes(), BAD_JSON, errors),
+        JobFault::Words(_) | JobFault::File(..) | JobFault::Input(_) => {
+            tell(text.as_bytes(), MISTAKE, errors)
+        }
+    }
+}
+
+/// Whether the words ask for a text, so that the text is no mistake's.
+fn is_shown(kind: WordsKind) -> bool
+    ensures { IsTrue result ↔ IsShown kind }
+{
+    matches!(kind, WordsKind::DisplayHelp | WordsKind::DisplayVersion)
+}
+
+/// What the program's user reads of a fault: its line, and below it the cause.
+fn text_of(alloc: Global, fault: &JobFault, notes: &Notes) -> Result<String, AllocError>
+    ensures { IfOk result (λ text. StartsWith (string_bytes text) (first_line fault.now)) }
+{
+    match fault {
+        JobFault::Words(error) => error.to_string(alloc),
+        JobFault::File(path, cause) => {
+            let cause = cause.to_string(alloc)?;
+            with_cause(
+                alloc,
+                format!(in alloc; "cannot read {path}\n")?,
+                cause.as_str(),
+            )
+        }
+        JobFault::Facts => {
+            let line = String::from_str(alloc, "bad facts\n")?;
+            with_cause(alloc, line, notes.facts.as_str())
+        }
+        JobFault::Input(cause) => {
+            let cause = cause.to_string(alloc)?;
+            let line = String::from_str(alloc, "cannot read standard input\n")?;
+            with_cause(alloc, line, cause.as_str())
+        }
+        JobFault::Memory => Ok(String::new(alloc)),
+    }
+}
+
+/// The text with a line below it that says why.
+fn with_cause(alloc: Global, line: String, cause: &str) -> Result<String, AllocError>
+    ensures { IfOk result (λ text. StartsWith (string_bytes text) (string_bytes line)) }
+{
+    let mut text = line;
+    let cause = format!(in alloc; "  {cause}\n")?;
+    text.push_str(cause.as_str())?;
+    Ok(text)
+}
+
+/// Ends where memory ran out.
+fn end_by_memory<W: Write, E: Write>(out: &mut W, errors: &mut E) -> u8
+    ensures { Prints (W.contents out.old) (W.contents out.new) (E.contents errors.old)
+        (E.contents errors.new) result 5 (line_of Outcome.Memory) }
+{
+    show(b"memory\n", Outcome::Memory.status(), out, errors)
+}
+
+/// Ends with this status and this text on standard output.
+fn show<W: Write, E: Write>(text: &[u8], status: u8, out: &mut W, errors: &mut E) -> u8
+    ensures { Prints (W.contents out.old) (W.contents out.new) (E.contents errors.old)
+        (E.contents errors.new) result status text.now }
+{
+    match write_whole(out, text) {
+        Ok(()) => status,
+        Err(cause) => tell_output(cause, errors),
+    }
+}
+
+/// Ends with this status and this text on standard error. The status stays where that fails.
+fn tell<E: Write>(text: &[u8], status: u8, errors: &mut E) -> u8
+    ensures status { result ≡ status }
+    ensures told { Takes (E.contents errors.old) (E.contents errors.new) text.now }
+{
+    let _ = write_whole(errors, text);
+    status
+}
+
+/// Tells below the line of an outcome why it is so, where that is no verdict. Nothing is lost where
+/// standard error fails.
+fn tell_cause<E: Write>(outcome: Outcome, policy: Option<Likeness>, errors: &mut E)
+    ensures { IsQuiet (E.contents errors.old) (E.contents errors.new) outcome }
+{
+    match outcome {
+        Outcome::Refused(refusal) => {
+            let _ = writeln!(errors, "  {}", meaning_of(refusal));
+            if let Some(likeness) = policy {
+                let _ = writeln!(
+                    errors,
+                    "  the policy file looks like {likeness}; it has to be one binary message \
+                     envoy.extensions.filters.http.rbac.v3.RBAC"
+                );
+            }
+        }
+        Outcome::Fault(fault) => {
+            let _ = writeln!(errors, "  {}", rules_of(fault));
+        }
+        Outcome::Allowed(_) | Outcome::Denied(_) | Outcome::OutOfSteps | Outcome::Memory => {}
+    }
+}
+
+/// Ends where standard output fails. One whose reader went away is not spoken of.
+fn tell_output<E: Write>(cause: io::Error, errors: &mut E) -> u8
+    ensures { result ≡ 2 }
+{
+    if cause.kind() != ErrorKind::BrokenPipe {
+        let _ = writeln!(errors, "cannot write standard output\n  {cause}");
+    }
+    MISTAKE
+}
