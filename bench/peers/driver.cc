@@ -1,6 +1,7 @@
-// driver INPUTS [ROUNDS] [MILLISECONDS]: runs the engine and its peers in turn within each round, and prints a line for each
-// subject: its name, the least and the median nanoseconds of a call over all rounds. Time is the thread's own on a processor,
-// and the least counts, since other work on the machine can only add to it.
+// driver INPUTS ROUNDS MILLISECONDS [WORD..]: runs the engine and its peers in turn within each round, and prints a line for
+// each subject: its name, the least and the median nanoseconds of a call over all rounds. Words choose the subjects whose
+// names have one of them. Time is the thread's own on a processor, and the least counts, since other work on the machine can
+// only add to it.
 // driver INPUTS only NAME CALLS: runs one subject so often, for a profile.
 #include <time.h>
 #include <unistd.h>
@@ -180,8 +181,16 @@ static void Tune(Subject& subject, double milliseconds) {
   subject.count = (subject.count + kCopies - 1) / kCopies * kCopies;
 }
 
+static void Choose(const std::vector<std::string>& words) {
+  auto is_left_out = [&](const Subject& subject) {
+    return std::none_of(words.begin(), words.end(),
+                        [&](const std::string& word) { return subject.name.find(word) != std::string::npos; });
+  };
+  subjects.erase(std::remove_if(subjects.begin(), subjects.end(), is_left_out), subjects.end());
+}
+
 int main(int count, char** words) {
-  if (count < 2) Stop("usage: driver INPUTS [ROUNDS] [MILLISECONDS] | driver INPUTS only NAME CALLS");
+  if (count < 4) Stop("usage: driver INPUTS ROUNDS MILLISECONDS [WORD..] | driver INPUTS only NAME CALLS");
   Grpc grpc;
   folder = words[1];
   for (std::string kind : {"path", "deep"})
@@ -196,13 +205,13 @@ int main(int count, char** words) {
     for (Subject& subject : subjects)
       if (subject.name == words[3]) {
         subject.calls(atol(words[4]));
-        fflush(stdout);
         _exit(0);
       }
     Stop("no subject " + std::string(words[3]));
   }
-  int rounds = count > 2 ? atoi(words[2]) : 9;
-  double milliseconds = count > 3 ? atof(words[3]) : 12;
+  if (count > 4) Choose({words + 4, words + count});
+  int rounds = atoi(words[2]);
+  double milliseconds = atof(words[3]);
   for (Subject& subject : subjects) Tune(subject, milliseconds);
   for (int round = 0; round < rounds; round++)
     for (Subject& subject : subjects)

@@ -1,8 +1,10 @@
-// probe WORK FILE [FILE] [ROUNDS]: does the work so often, once if nothing is said, and prints its answer and what the heap did
-// in the meantime, a line of words and numbers. The linker leads the engine's malloc, realloc and free here.
-//   admit FILTER          keep FILTER       head HEAD
-//   judge FILTER HEAD     admission, head and decision, once each
-//   stream STREAM         frames and discovery responses, in pieces of 16 KiB
+// Does one work of the engine, and prints its answer and what the heap did in the meantime, a line of words and numbers. The
+// linker leads the engine's malloc, realloc and free here.
+//   probe admit FILTER [ROUNDS]
+//   probe keep FILTER
+//   probe head HEAD [ROUNDS]
+//   probe judge FILTER HEAD [ROUNDS]      admission and head once, the decision so often
+//   probe stream STREAM [ROUNDS [PIECE]]  frames and discovery responses, in pieces of so many bytes
 // `kept` is what stands when a filter was admitted (work `keep`), `peak` the most that ever stood; both count the blocks as
 // malloc makes them.
 #include <malloc.h>
@@ -23,7 +25,7 @@ void *__real_realloc(void *block, size_t size);
 void __real_free(void *block);
 
 // A size that nothing else asks for: the engine takes such a block when its filter is there.
-enum { MARK = 7654321, PIECE = 16384 };
+enum { MARK = 7654321 };
 
 static size_t allocations, reallocations, standing, peak, kept;
 static void *mark;
@@ -77,19 +79,21 @@ static struct bytes contents_of(const char *name) {
 
 int main(int count, char **words) {
   if (count < 3) {
-    fprintf(stderr, "usage: probe admit|keep|head|stream FILE [ROUNDS] | probe judge FILTER HEAD\n");
+    fprintf(stderr, "usage: probe admit|keep|head|stream FILE [ROUNDS [PIECE]] | probe judge FILTER HEAD [ROUNDS]\n");
     return 2;
   }
   const char *work = words[1];
   struct bytes input = contents_of(words[2]);
-  int is_judge = !strcmp(work, "judge") && count > 3;
-  struct bytes head = is_judge ? contents_of(words[3]) : (struct bytes){0, 0};
-  uint64_t rounds = !is_judge && count > 3 ? strtoull(words[3], 0, 10) : 1, answer = 0;
+  uint64_t rounds = count > 3 ? strtoull(words[3], 0, 10) : 1, answer = 0;
   if (!strcmp(work, "admit")) answer = engine_admit(input.start, input.length, rounds);
   if (!strcmp(work, "keep")) answer = engine_keep(input.start, input.length, MARK);
   if (!strcmp(work, "head")) answer = engine_head(input.start, input.length, rounds);
-  if (!strcmp(work, "stream")) answer = engine_stream(input.start, input.length, PIECE, rounds);
-  if (is_judge) answer = engine_decide(input.start, input.length, head.start, head.length, 1, 1);
+  if (!strcmp(work, "stream"))
+    answer = engine_stream(input.start, input.length, count > 4 ? strtoull(words[4], 0, 10) : 16384, rounds);
+  if (!strcmp(work, "judge") && count > 3) {
+    struct bytes head = contents_of(words[3]);
+    answer = engine_decide(input.start, input.length, head.start, head.length, 1, count > 4 ? strtoull(words[4], 0, 10) : 1);
+  }
   printf("bytes %zu answer %llu allocations %zu reallocations %zu kept %zu peak %zu\n", input.length,
          (unsigned long long)answer, allocations, reallocations, kept, peak);
   return 0;
