@@ -147,9 +147,13 @@ static uint64_t ProtobufStream(const std::string& stream) {
 static void AddStream(const std::string& size, uint64_t resources) {
   std::string name = "stream_" + size;
   const std::string& stream = Input("responses_" + size + ".bin");
-  Add("engine_" + name, [=, &stream](uint64_t calls) {
-    Expect(engine_stream(stream.data(), stream.size(), kPiece, calls) == resources * calls, name);
-  });
+  auto add = [&](const std::string& end, size_t piece) {
+    Add("engine_" + name + end, [=, &stream](uint64_t calls) {
+      Expect(engine_stream(stream.data(), stream.size(), piece, calls) == resources * calls, name);
+    });
+  };
+  add("_in_pieces", kPiece);
+  add("_at_once", stream.size());
   Add("protobuf_" + name, [=, &stream](uint64_t calls) {
     for (uint64_t call = 0; call < calls; call++) Expect(ProtobufStream(stream) == resources, "libprotobuf");
   });
