@@ -1,0 +1,100 @@
+// Does one work of the engine, and prints its answer and what the heap did in the meantime, a line of words and numbers. The
+// linker leads the engine's malloc, realloc and free here.
+//   probe admit FILTER [ROUNDS]
+//   probe keep FILTER
+//   probe head HEAD [ROUNDS]
+//   probe judge FILTER HEAD [ROUNDS]      admission and head once, the decision so often
+//   probe stream STREAM [ROUNDS [PIECE]]  frames and discovery responses, in pieces of so many bytes
+// `kept` is what stands when a filter was admitted (work `keep`), `peak` the most that ever stood; both count the blocks as
+// malloc makes them.
+#include <malloc.h>
+#include <stdint.h>
+#include <stdio.h>
+#include <stdlib.h>
+#include <string.h>
+
+uint64_t engine_admit(const char *filter, size_t length, uint64_t rounds);
+uint64_t engine_keep(const char *filter, size_t length, size_t mark);
+uint64_t engine_head(const char *head, size_t length, uint64_t rounds);
+uint64_t engine_decide(const char *filter, size_t filter_length, const char *head, size_t head_length, uint64_t copies,
+                       uint64_t rounds);
+uint64_t engine_stream(const char *stream, size_t length, size_t piece, uint64_t rounds);
+
+void *__real_malloc(size_t size);
+void *__real_realloc(void *block, size_t size);
+void __real_free(void *block);
+
+// A size that nothing else asks for: the engine takes such a block when its filter is there.
+enum { MARK = 7654321 };
+
+static size_t allocations, reallocations, standing, peak, kept;
+static void *mark;
+
+static size_t size_of(void *block) { return block ? malloc_usable_size(block) + sizeof(size_t) : 0; }
+
+static void *taken(void *block) {
+  standing += size_of(block);
+  if (standing > peak) peak = standing;
+  return block;
+}
+
+void *__wrap_malloc(size_t size) {
+  if (size == MARK) {
+    kept = standing;
+    return mark = __real_malloc(size);
+  }
+  allocations++;
+  return taken(__real_malloc(size));
+}
+
+void *__wrap_realloc(void *block, size_t size) {
+  size_t before = size_of(block);
+  void *moved = __real_realloc(block, size);
+  reallocations++;
+  if (moved) standing -= before;
+  return moved ? taken(moved) : moved;
+}
+
+void __wrap_free(void *block) {
+  if (block != mark) standing -= size_of(block);
+  __real_free(block);
+}
+
+struct bytes {
+  char *start;
+  size_t length;
+};
+
+static struct bytes contents_of(const char *name) {
+  FILE *file = fopen(name, "rb");
+  struct bytes bytes = {__real_malloc(1 << 25), 0};
+  if (!file || !bytes.start) {
+    fprintf(stderr, "probe: cannot read %s\n", name);
+    exit(2);
+  }
+  bytes.length = fread(bytes.start, 1, 1 << 25, file);
+  fclose(file);
+  return bytes;
+}
+
+int main(int count, char **words) {
+  if (count < 3) {
+    fprintf(stderr, "usage: probe admit|keep|head|stream FILE [ROUNDS [PIECE]] | probe judge FILTER HEAD [ROUNDS]\n");
+    return 2;
+  }
+  const char *work = words[1];
+  struct bytes input = contents_of(words[2]);
+  uint64_t rounds = count > 3 ? strtoull(words[3], 0, 10) : 1, answer = 0;
+  if (!strcmp(work, "admit")) answer = engine_admit(input.start, input.length, rounds);
+  if (!strcmp(work, "keep")) answer = engine_keep(input.start, input.length, MARK);
+  if (!strcmp(work, "head")) answer = engine_head(input.start, input.length, rounds);
+  if (!strcmp(work, "stream"))
+    answer = engine_stream(input.start, input.length, count > 4 ? strtoull(words[4], 0, 10) : 16384, rounds);
+  if (!strcmp(work, "judge") && count > 3) {
+    struct bytes head = contents_of(words[3]);
+    answer = engine_decide(input.start, input.length, head.start, head.length, 1, count > 4 ? strtoull(words[4], 0, 10) : 1);
+  }
+  printf("bytes %zu answer %llu allocations %zu reallocations %zu kept %zu peak %zu\n", input.length,
+         (unsigned long long)answer, allocations, reallocations, kept, peak);
+  return 0;
+}
