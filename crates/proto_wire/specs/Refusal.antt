@@ -3,49 +3,35 @@ use Rattle.std.specs.Prelude.{◌≡◌, ◌⊎◌, ℕ, List, ◌++◌, codes}
 use Rattle.std.specs.Fmt.{decimal}
 use Rattle.proto_wire.specs.declared.refusal.Refusal.{Refusal}
 
--- the number of a refusal, from 1 to 19
+-- the number, from 1 to 19, and the name of each refusal
+abbrev pub number_and_name : Refusal → ℕ × List ℕ
+number_and_name Refusal.BadWire = (1, codes "BadWire")
+number_and_name Refusal.BadText = (2, codes "BadText")
+number_and_name Refusal.UnknownField = (3, codes "UnknownField")
+number_and_name Refusal.Missing = (4, codes "Missing")
+number_and_name Refusal.OutOfRange = (5, codes "OutOfRange")
+number_and_name Refusal.Unsupported = (6, codes "Unsupported")
+number_and_name Refusal.BothConditions = (7, codes "BothConditions")
+number_and_name Refusal.TooLarge = (8, codes "TooLarge")
+number_and_name Refusal.UnknownName = (9, codes "UnknownName")
+number_and_name Refusal.NoOverload = (10, codes "NoOverload")
+number_and_name Refusal.BadTypeEntry = (11, codes "BadTypeEntry")
+number_and_name Refusal.BadReference = (12, codes "BadReference")
+number_and_name Refusal.NotBool = (13, codes "NotBool")
+number_and_name Refusal.NeedsType = (14, codes "NeedsType")
+number_and_name Refusal.TooCostly = (15, codes "TooCostly")
+number_and_name Refusal.DuplicateResource = (16, codes "DuplicateResource")
+number_and_name Refusal.WrongType = (17, codes "WrongType")
+number_and_name Refusal.CodeRefused = (18, codes "CodeRefused")
+number_and_name Refusal.Memory = (19, codes "Memory")
+
+-- the number of a refusal
 abbrev pub number_of : Refusal → ℕ
-number_of Refusal.BadWire = 1
-number_of Refusal.BadText = 2
-number_of Refusal.UnknownField = 3
-number_of Refusal.Missing = 4
-number_of Refusal.OutOfRange = 5
-number_of Refusal.Unsupported = 6
-number_of Refusal.BothConditions = 7
-number_of Refusal.TooLarge = 8
-number_of Refusal.UnknownName = 9
-number_of Refusal.NoOverload = 10
-number_of Refusal.BadTypeEntry = 11
-number_of Refusal.BadReference = 12
-number_of Refusal.NotBool = 13
-number_of Refusal.NeedsType = 14
-number_of Refusal.TooCostly = 15
-number_of Refusal.DuplicateResource = 16
-number_of Refusal.WrongType = 17
-number_of Refusal.CodeRefused = 18
-number_of Refusal.Memory = 19
+number_of refusal = (number_and_name refusal).0
 
 -- the name of a refusal
 abbrev pub name_of : Refusal → List ℕ
-name_of Refusal.BadWire = codes "BadWire"
-name_of Refusal.BadText = codes "BadText"
-name_of Refusal.UnknownField = codes "UnknownField"
-name_of Refusal.Missing = codes "Missing"
-name_of Refusal.OutOfRange = codes "OutOfRange"
-name_of Refusal.Unsupported = codes "Unsupported"
-name_of Refusal.BothConditions = codes "BothConditions"
-name_of Refusal.TooLarge = codes "TooLarge"
-name_of Refusal.UnknownName = codes "UnknownName"
-name_of Refusal.NoOverload = codes "NoOverload"
-name_of Refusal.BadTypeEntry = codes "BadTypeEntry"
-name_of Refusal.BadReference = codes "BadReference"
-name_of Refusal.NotBool = codes "NotBool"
-name_of Refusal.NeedsType = codes "NeedsType"
-name_of Refusal.TooCostly = codes "TooCostly"
-name_of Refusal.DuplicateResource = codes "DuplicateResource"
-name_of Refusal.WrongType = codes "WrongType"
-name_of Refusal.CodeRefused = codes "CodeRefused"
-name_of Refusal.Memory = codes "Memory"
+name_of refusal = (number_and_name refusal).1
 
 -- the text of a refusal: its number, a space, and its name
 abbrev pub text_of : Refusal → List ℕ
