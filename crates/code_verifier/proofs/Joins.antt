@@ -34,9 +34,9 @@ module _ (old : List Entry) (met other : ShapeOfCode) where
         (stands : Stands old met) (loops : stack_at old met.loops ≡ stack_at old other.loops)
         (slots_are : r.slots ≡ i) (loops_are : r.loops ≡ met.loops) where
       joined_by : ((l : ℕ) (c : Slot) → locals_view r.locals.value.items l ≡ Some c
-              → (locals_view met.locals.value.items l ≡ Some c) × (locals_view other.locals.value.items l ≡ Some c))
+          → (locals_view met.locals.value.items l ≡ Some c) × (locals_view other.locals.value.items l ≡ Some c))
           → ((l : ℕ) (c : Slot) → locals_view met.locals.value.items l ≡ Some c
-              → locals_view other.locals.value.items l ≡ Some c → locals_view r.locals.value.items l ≡ Some c)
+          → locals_view other.locals.value.items l ≡ Some c → locals_view r.locals.value.items l ≡ Some c)
           → AreJoined old new met other (Some r)
       joined_by down up =
           let longer = s.extends.long in
@@ -44,7 +44,7 @@ module _ (old : List Entry) (met other : ShapeOfCode) where
           let place : i < length new = s.inside in
           let same = s.extends.same met.loops stands.loops in
           let view : shape_view new r ≡ record { slots = stack_at new i; locals = locals_view r.locals.value.items; loops = stack_at old met.loops }
-              = rw (slots_are, loops_are, same) refl in
+          = rw (slots_are, loops_are, same) refl in
           record {
             extends = s.extends;
             stand = record { slots = rw slots_are place; loops = rw loops_are (omega (arith, longer, inside)) };

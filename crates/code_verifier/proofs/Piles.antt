@@ -32,7 +32,7 @@ all_taken s taken below n e many =
     let turned : s ≡ reverse taken ++ below = e ∙ piled-reverse taken below in
     let count : n ≡ length (reverse taken) = sym (length-reverse taken ∙ many) in
     let front : take n s ≡ reverse taken =
-        ap₂ take count turned ∙ take-append_seam (reverse taken) below in
+    ap₂ take count turned ∙ take-append_seam (reverse taken) below in
     let back : drop n s ≡ below = ap₂ drop count turned ∙ drop-append_seam (reverse taken) below in
     (omega (arith, long, many), sym (reverse-reverse taken) ∙ ap reverse (sym front), sym back)
 
@@ -69,7 +69,7 @@ module _ (es : List Entry) (l r : ℕ) (taken : List SlotOfCode) (whole : Option
   tops_joined rest under a b j p q is =
       put_step (joined_slots (stack_at es rest) (stack_at es under)) (map slot_view taken) (slot_view j)
       ∙ ap (λ o. option_map (piled (map slot_view taken))
-          (option_and_then (λ k. put_on (joined_slots (stack_at es rest) (stack_at es under)) k) o)) is
+      (option_and_then (λ k. put_on (joined_slots (stack_at es rest) (stack_at es under)) k) o)) is
       ∙ ap₂ (λ x y. option_map (piled (map slot_view taken)) (joined_slots x y)) (sym p.1) (sym q.1) ∙ e
 
   pub tops_differ : (rest under : ℕ) (a b : SlotOfCode) → IsTop es l (Some (a, rest)) → IsTop es r (Some (b, under))
@@ -77,7 +77,7 @@ module _ (es : List Entry) (l r : ℕ) (taken : List SlotOfCode) (whole : Option
   tops_differ rest under a b p q is =
       sym e ∙ ap₂ (λ x y. option_map (piled (map slot_view taken)) (joined_slots x y)) p.1 q.1
       ∙ ap (λ o. option_map (piled (map slot_view taken))
-          (option_and_then (λ k. put_on (joined_slots (stack_at es rest) (stack_at es under)) k) o)) (sym is)
+      (option_and_then (λ k. put_on (joined_slots (stack_at es rest) (stack_at es under)) k) o)) (sym is)
 
   pub left_ends : (under : ℕ) (b : SlotOfCode) → stack_at es l ≡ [] → IsTop es r (Some (b, under)) → whole ≡ None
   left_ends under b p q =

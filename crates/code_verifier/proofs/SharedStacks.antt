@@ -67,9 +67,9 @@ stack_of known (x ∷ es) zero e at above =
     let same : x ≡ e = some_same x e at in
     let here : length known + 0 ≡ length known = omega arith in
     rw (here, ← same) (
-      stays (known ++ entry_stack known x ∷ []) es (length known) (omega (arith, longer))
-      ∙ at_end known (entry_stack known x)
-      ∙ same_entry known (stacks_from known (x ∷ es)) x above.0 (λ i h. stays known (x ∷ es) i h))
+    stays (known ++ entry_stack known x ∷ []) es (length known) (omega (arith, longer))
+    ∙ at_end known (entry_stack known x)
+    ∙ same_entry known (stacks_from known (x ∷ es)) x above.0 (λ i h. stays known (x ∷ es) i h))
 stack_of known (x ∷ es) (suc k) e at above =
     let longer = one_longer known (entry_stack known x) in
     let place : length known + suc k ≡ length (known ++ entry_stack known x ∷ []) + k = omega (arith, longer) in

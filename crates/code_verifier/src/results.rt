@@ -269,7 +269,11 @@ fn map_index_slot(a: &Slot, b: &Slot) -> Result<Option<Slot>, AllocError>
     ensures { IfOk result (λ o. option_map slot_view o ≡ map_index_slot (slot_view a.now) (slot_view b.now)) }
 {
     match a {
-        Slot::Failing => Ok(if is_a_key(b) { Some(Slot::Failing) } else { None }),
+        Slot::Failing => Ok(if is_a_key(b) {
+            Some(Slot::Failing)
+        } else {
+            None
+        }),
         Slot::Of(CelType::Map(keys, values)) => {
             Ok(if_type(b.is_a(&type_of_key(*keys)), values.copy()?))
         }

@@ -4,7 +4,7 @@ ghost use Rattle.std.specs.Prelude.{◌≡◌, ◌<◌, ◌+◌, ◌^◌, Some, 
 ghost use Rattle.stack_machine.specs.Instructions.{code_view};
 ghost use Rattle.stack_machine.specs.Locals.{local_of};
 ghost use Rattle.cel_value.specs.Types.{type_view};
-ghost use Rattle.code_verifier.specs.steps.Passing.{EndsAs, IsKept, Led, LedAll, NotLed, NotLedAll, NotPassed, Passed, Starts};
+ghost use Rattle.code_verifier.specs.steps.Passing.{AreFirst, EndsAs, IsKept, Led, LedAll, NotLed, NotLedAll, NotPassed, Passed, Starts};
 ghost use Rattle.code_verifier.specs.steps.ShapeView.{Stands, TableStands, WaysStand, shape_view, table_view, way_view};
 
 use crate::joining::{join, serves};
@@ -32,12 +32,7 @@ impl Table {
         ensures stands { IfOk result (λ t. TableStands t) }
     {
         let stacks = Stacks::new(alloc)?;
-        let mut shapes = Vec::new(alloc);
-        let locals = Rc::new(alloc, Vec::new(alloc))?;
-        shapes.push(Some(Shape { slots: 0, locals, loops: 0 }))?;
-        for turn in 0..len {
-            shapes.push(None)?;
-        }
+        let shapes = first_shapes(alloc, len)?;
         Ok(Table { stacks, shapes })
     }
 
@@ -176,4 +171,23 @@ impl Table {
             None => Ok(true),
         }
     }
+}
+
+// The shape of the start, on the stack 0, and room for the others.
+fn first_shapes(alloc: Global, len: usize) -> Result<Vec<Option<Shape>>, AllocError>
+    requires { len < 2 ^ 16 }
+    ensures { IfOk result (λ shapes. AreFirst len shapes.items) }
+{
+    let locals = Rc::new(alloc, Vec::new(alloc))?;
+    let start = Shape {
+        slots: 0,
+        locals,
+        loops: 0,
+    };
+    let mut shapes = Vec::new(alloc);
+    shapes.push(Some(start))?;
+    for turn in 0..len {
+        shapes.push(None)?;
+    }
+    Ok(shapes)
 }

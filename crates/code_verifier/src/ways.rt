@@ -55,9 +55,7 @@ pub(crate) fn ways_of(
         Instr::Nsf => unary_ways(alloc, stacks, position, shape, Unary::Not),
         Instr::And => binary_ways(alloc, stacks, position, shape, Binary::Logic),
         Instr::Or => binary_ways(alloc, stacks, position, shape, Binary::Logic),
-        Instr::Compare(op) => {
-            binary_ways(alloc, stacks, position, shape, Binary::Compare(*op))
-        }
+        Instr::Compare(op) => { binary_ways(alloc, stacks, position, shape, Binary::Compare(*op)) }
         Instr::Contains => binary_ways(alloc, stacks, position, shape, Binary::TestText),
         Instr::StartsWith => binary_ways(alloc, stacks, position, shape, Binary::TestText),
         Instr::EndsWith => binary_ways(alloc, stacks, position, shape, Binary::TestText),
@@ -153,7 +151,7 @@ fn leave(
     requires inside { rest < length stacks.old }
     ensures { IfOk result (λ o. AreWays stacks.old stacks.new o
         (leaves (option_map slot_view slot) position (shape_view stacks.old shape.now)
-            (stack_at stacks.old rest))) }
+        (stack_at stacks.old rest))) }
 {
     let Some(slot) = slot else {
         return Ok(None);

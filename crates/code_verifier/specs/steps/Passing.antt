@@ -5,10 +5,12 @@ use Rattle.stack_machine.specs.Instructions.{Instruction}
 use Rattle.stack_machine.specs.Locals.{local_of}
 use Rattle.stack_machine.specs.Slots.{of}
 use Rattle.stack_machine.specs.Shapes.{Shape, Way, Serves, SlotsFit, empty, ways}
+use Rattle.code_verifier.specs.declared.shape.Shape.{Shape as ShapeOfCode}
+use Rattle.code_verifier.specs.declared.stacks.Entry.{Entry}
 use Rattle.code_verifier.specs.declared.table.Table.{Table}
 use Rattle.code_verifier.specs.steps.Joining.{IsShapeJoin}
-use Rattle.code_verifier.specs.steps.ShapeView.{Known, TableStands, table_view}
-use Rattle.code_verifier.specs.steps.Stacks.{Extends}
+use Rattle.code_verifier.specs.steps.ShapeView.{Known, ShapesStand, TableStands, known_view, table_view}
+use Rattle.code_verifier.specs.steps.Stacks.{Extends, stack_at}
 
 -- a way from this position is noted: it serves where a shape is settled, or it joins what is due
 pub data Led (p : ℕ) (w : Way) (old new : Known) : Type 0 where
@@ -68,3 +70,8 @@ pub record EndsAs (end : ℕ) (t : ValueType) (known : Known) : Type 0 where
 pub record IsKept (old new : Table) : Type 0 where
   pub extends : Extends old.stacks new.stacks
   pub stand : TableStands new
+
+-- the shape of the start alone is known, where the stack 0 is the empty one
+pub record AreFirst (len : ℕ) (shapes : List (Option ShapeOfCode)) : Type 0 where
+  pub starts : (stacks : List Entry) → stack_at stacks 0 ≡ [] → Starts len (known_view stacks shapes)
+  pub stand : (stacks : List Entry) → 0 < length stacks → ShapesStand stacks shapes
