@@ -86,7 +86,8 @@ pub(crate) fn common_places(
 
 // What two say of a local, where they agree.
 fn agree(known: Option<Slot>, found: Option<Slot>) -> Option<Slot>
-    ensures { option_map slot_view result ≡ agreed (option_map slot_view known) (option_map slot_view found) }
+    ensures { option_map slot_view result
+        ≡ agreed (option_map slot_view known) (option_map slot_view found) }
 {
     let Some(known) = known else {
         return None;

@@ -57,7 +57,8 @@ pub(crate) fn unary_slot(op: Unary, a: Slot) -> Result<Option<Slot>, AllocError>
 
 /// What an operation leaves in the place of its operands.
 pub(crate) fn binary_slot(op: Binary, a: Slot, b: Slot) -> Result<Option<Slot>, AllocError>
-    ensures { IfOk result (λ o. option_map slot_view o ≡ binary_slot op (slot_view a) (slot_view b)) }
+    ensures { IfOk result
+        (λ o. option_map slot_view o ≡ binary_slot op (slot_view a) (slot_view b)) }
 {
     match op {
         Binary::Arith => Ok(arithmetic_slot(a, b)),
@@ -233,7 +234,8 @@ fn has_size(a: &Slot) -> bool
 
 // A list and an int: an item.
 fn list_index_slot(a: &Slot, b: &Slot) -> Result<Option<Slot>, AllocError>
-    ensures { IfOk result (λ o. option_map slot_view o ≡ list_index_slot (slot_view a.now) (slot_view b.now)) }
+    ensures { IfOk result
+        (λ o. option_map slot_view o ≡ list_index_slot (slot_view a.now) (slot_view b.now)) }
 {
     let index = b.is_a(&CelType::Int);
     match a {
@@ -266,7 +268,8 @@ fn is_a_key(a: &Slot) -> bool
 
 // A map and a key: a value.
 fn map_index_slot(a: &Slot, b: &Slot) -> Result<Option<Slot>, AllocError>
-    ensures { IfOk result (λ o. option_map slot_view o ≡ map_index_slot (slot_view a.now) (slot_view b.now)) }
+    ensures { IfOk result
+        (λ o. option_map slot_view o ≡ map_index_slot (slot_view a.now) (slot_view b.now)) }
 {
     match a {
         Slot::Failing => Ok(if is_a_key(b) {

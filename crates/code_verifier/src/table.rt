@@ -70,7 +70,8 @@ impl Table {
         requires shape { Stands self.old.stacks due.shape }
         ensures kept { IfOk result (λ _. IsKept self.old self.new) }
         ensures yes { IfOk result (λ b. IsTrue b
-            → Led position (way_view self.old.stacks due) (table_view self.old) (table_view self.new)) }
+            → Led position (way_view self.old.stacks due) (table_view self.old)
+            (table_view self.new)) }
         ensures no { IfOk result (λ b. IsFalse b
             → NotLed position (way_view self.old.stacks due) (table_view self.old)) }
     {

@@ -42,16 +42,20 @@ Knows met due = (l : ℕ) → Covers (met l) (due l)
 -- the shape that both serve for, if there is one: no shape that both serve for says more
 abbrev pub IsShapeJoin : Shape → Shape → Option Shape → Type 0
 IsShapeJoin s t None = (u : Shape) → Serves s u → Serves t u → ⊥
-IsShapeJoin s t (Some j) = Serves s j × Serves t j × ((u : Shape) → Serves s u → Serves t u → Serves j u)
+IsShapeJoin s t (Some j) =
+    Serves s j × Serves t j × ((u : Shape) → Serves s u → Serves t u → Serves j u)
 
 -- a stack that was made is this one
-pub record IsStack (old new : List Entry) (found : Option ℕ) (slots : Option (List Slot)) : Type 0 where
+pub record IsStack (old new : List Entry) (found : Option ℕ)
+    (slots : Option (List Slot)) : Type 0 where
   pub extends : Extends old new
   pub inside : IfSome found (λ i. i < length new)
   pub is : option_map (stack_at new) found ≡ slots
 
 -- what two shapes have in common
-pub record AreJoined (old new : List Entry) (met other : ShapeOfCode) (found : Option ShapeOfCode) : Type 0 where
+pub record AreJoined (old new : List Entry) (met other : ShapeOfCode)
+    (found : Option ShapeOfCode) : Type 0 where
   pub extends : Extends old new
   pub stand : IfSome found (Stands new)
-  pub is : IsShapeJoin (shape_view old met) (shape_view old other) (option_map (shape_view new) found)
+  pub is : IsShapeJoin (shape_view old met) (shape_view old other)
+      (option_map (shape_view new) found)

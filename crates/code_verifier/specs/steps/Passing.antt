@@ -14,8 +14,8 @@ use Rattle.code_verifier.specs.steps.Stacks.{Extends, stack_at}
 
 -- a way from this position is noted: it serves where a shape is settled, or it joins what is due
 pub data Led (p : ℕ) (w : Way) (old new : Known) : Type 0 where
-  back : w.target ≤ p → (due : Shape) → local_of old w.target ≡ Some due → Serves w.shape due → new ≡ old
-      → Led p w old new
+  back : w.target ≤ p → (due : Shape) → local_of old w.target ≡ Some due → Serves w.shape due
+      → new ≡ old → Led p w old new
   fresh : p < w.target → w.target < length old → local_of old w.target ≡ None
       → new ≡ slice_set old w.target (Some w.shape) → Led p w old new
   met : p < w.target → w.target < length old → (due j : Shape) → local_of old w.target ≡ Some due
@@ -25,10 +25,10 @@ pub data Led (p : ℕ) (w : Way) (old new : Known) : Type 0 where
 pub data NotLed (p : ℕ) (w : Way) (old : Known) : Type 0 where
   outside : length old ≤ w.target → NotLed p w old
   unsettled : w.target ≤ p → local_of old w.target ≡ None → NotLed p w old
-  no_service : w.target ≤ p → (due : Shape) → local_of old w.target ≡ Some due → (Serves w.shape due → ⊥)
-      → NotLed p w old
-  no_join : p < w.target → (due : Shape) → local_of old w.target ≡ Some due → IsShapeJoin due w.shape None
-      → NotLed p w old
+  no_service : w.target ≤ p → (due : Shape) → local_of old w.target ≡ Some due
+      → (Serves w.shape due → ⊥) → NotLed p w old
+  no_join : p < w.target → (due : Shape) → local_of old w.target ≡ Some due
+      → IsShapeJoin due w.shape None → NotLed p w old
 
 abbrev pub LedAll : ℕ → List Way → Known → Known → Type 0
 LedAll p [] old new = new ≡ old
@@ -50,10 +50,11 @@ pub record Passed (code : List Instruction) (p : ℕ) (old new : Known) : Type 0
 
 pub data NotPassed (code : List Instruction) (p : ℕ) (old : Known) : Type 0 where
   unknown : local_of old p ≡ None → NotPassed code p old
-  lacks : (shape : Shape) (i : Instruction) → local_of old p ≡ Some shape → slice_get code p ≡ Some i
-      → ways i p shape ≡ None → NotPassed code p old
+  lacks : (shape : Shape) (i : Instruction) → local_of old p ≡ Some shape
+      → slice_get code p ≡ Some i → ways i p shape ≡ None → NotPassed code p old
   not_led : (shape : Shape) (i : Instruction) (ws : List Way) → local_of old p ≡ Some shape
-      → slice_get code p ≡ Some i → ways i p shape ≡ Some ws → NotLedAll p ws old → NotPassed code p old
+      → slice_get code p ≡ Some i → ways i p shape ≡ Some ws → NotLedAll p ws old
+      → NotPassed code p old
 
 -- the shape of the start alone is known
 pub record Starts (len : ℕ) (known : Known) : Type 0 where
@@ -73,5 +74,6 @@ pub record IsKept (old new : Table) : Type 0 where
 
 -- the shape of the start alone is known, where the stack 0 is the empty one
 pub record AreFirst (len : ℕ) (shapes : List (Option ShapeOfCode)) : Type 0 where
-  pub starts : (stacks : List Entry) → stack_at stacks 0 ≡ [] → Starts len (known_view stacks shapes)
+  pub starts : (stacks : List Entry) → stack_at stacks 0 ≡ []
+      → Starts len (known_view stacks shapes)
   pub stand : (stacks : List Entry) → 0 < length stacks → ShapesStand stacks shapes

@@ -30,7 +30,8 @@ abbrev pub WaysStand : List Entry → List Due → Type 0
 WaysStand stacks ways = AllByRecursion (λ (d : Due). Stands stacks d.shape) ways
 
 -- the ways that were made, with new stacks, are these
-pub record AreWays (old new : List Entry) (found : Option (List Due)) (on : Option (List Way)) : Type 0 where
+pub record AreWays (old new : List Entry) (found : Option (List Due))
+    (on : Option (List Way)) : Type 0 where
   pub extends : Extends old new
   pub stand : IfSome found (WaysStand new)
   pub is : option_map (map (way_view new)) found ≡ on
