@@ -1,11 +1,10 @@
 -- What is seen of shapes, ways and tables stays where stacks are added.
-use Rattle.std.proofs.Common.{◌≡◌, ℕ, zero, suc, ◌<◌, ◌⊎◌, inl, inr, ◌≢◌, List, [], ◌∷◌, ◌++◌, length, map, Option, Some, None, slice_get, slice_set, get_or, refl, sym, ap, ap₂, ◌∙◌, arith, length-set}
+use Rattle.std.proofs.Common.{◌≡◌, ℕ, zero, suc, ◌<◌, List, [], ◌∷◌, ◌++◌, length, map, Option, Some, None, slice_set, get_or, refl, sym, ap, ap₂, ◌∙◌, arith}
 use Rattle.std.specs.Option.{option_map}
-use Rattle.std.specs.List.{AllByRecursion}
 use Rattle.std.proofs.lemmas.Option.{slice_get_read}
 use Rattle.stack_machine.specs.Locals.{local_in, local_of}
-use Rattle.stack_machine.specs.Shapes.{Shape, Way, empty}
-use Rattle.stack_machine.proofs.Places.{local_of-set_same, local_of-set_other, local_of-append, local_of-map}
+use Rattle.stack_machine.specs.Shapes.{Shape, empty}
+use Rattle.stack_machine.proofs.Places.{local_of-append, local_of-map}
 use Rattle.code_verifier.specs.declared.shape.Shape.{Shape as ShapeOfCode}
 use Rattle.code_verifier.specs.declared.shape.Due.{Due}
 use Rattle.code_verifier.specs.declared.stacks.Entry.{Entry}
@@ -35,9 +34,6 @@ module _ (old new : List Entry) (e : Extends old new) where
   ways_stay (d ∷ ds) h =
       ap₂ (λ s rest. record { target = d.target; shape = s } ∷ rest) (shape_stays d.shape h.0) (ways_stay ds h.1)
 
-  pub shapes_stand_on : (shapes : List (Option ShapeOfCode)) → ShapesStand old shapes → ShapesStand new shapes
-  shapes_stand_on shapes h = λ p s at. stands_on s (h p s at)
-
   pub known_stays : (shapes : List (Option ShapeOfCode)) → ShapesStand old shapes
       → known_view new shapes ≡ known_view old shapes
   known_stays [] h = refl
@@ -45,27 +41,8 @@ module _ (old new : List Entry) (e : Extends old new) where
   known_stays (Some s ∷ shapes) h =
       ap₂ (λ x rest. Some x ∷ rest) (shape_stays s (h 0 s refl)) (known_stays shapes (λ p t at. h (suc p) t at))
 
-eq_or_not : (m n : ℕ) → (m ≡ n) ⊎ (m ≢ n)
-eq_or_not zero zero = inl refl
-eq_or_not zero (suc n) = inr (λ e. cc)
-eq_or_not (suc m) zero = inr (λ e. cc)
-eq_or_not (suc m) (suc n) = elim (eq_or_not m n) [ inl e ↦ inl (ap suc e) | inr d ↦ inr (λ e. let f : m ≡ n = cc in d f) ]
-
 shape_same : (a b : ShapeOfCode) → Some a ≡ Some b → a ≡ b
 shape_same a b e = cc
-
-pub put_stands : (stacks : List Entry) (shapes : List (Option ShapeOfCode)) (p : ℕ) (s : ShapeOfCode)
-    → ShapesStand stacks shapes → p < length shapes → Stands stacks s
-    → ShapesStand stacks (slice_set shapes p (Some s))
-put_stands stacks shapes p s h inside stands = λ q t at. by q t at (eq_or_not q p)
-  where
-    by : (q : ℕ) (t : ShapeOfCode) → local_of (slice_set shapes p (Some s)) q ≡ Some t
-        → (q ≡ p) ⊎ (q ≢ p) → Stands stacks t
-    by q t at (inl e) =
-        let there = rw e at at in
-        let same : s ≡ t = shape_same s t (sym (local_of-set_same shapes p (Some s) inside) ∙ there) in
-        rw (← same) stands
-    by q t at (inr ne) = h q t (sym (local_of-set_other shapes p q (Some s) ne) ∙ at)
 
 map-set : {A B : Type 0} (f : A → B) (xs : List A) (i : ℕ) (x : A)
     → map f (slice_set xs i x) ≡ slice_set (map f xs) i (f x)

@@ -1,25 +1,16 @@
 -- What two shapes of the code have in common.
 use Rattle.std.proofs.Common.{arith, ◌≡◌, ℕ, ◌<◌, List, length, Option, Some, None, refl, sym, ap, ◌∙◌}
-use Rattle.std.specs.Option.{option_map}
 use Rattle.stack_machine.specs.Slots.{Slot}
-use Rattle.stack_machine.specs.Shapes.{Shape, Serves, SlotsFit}
+use Rattle.stack_machine.specs.Shapes.{Shape}
 use Rattle.code_verifier.specs.declared.shape.Shape.{Shape as ShapeOfCode}
 use Rattle.code_verifier.specs.declared.stacks.Entry.{Entry}
-use Rattle.code_verifier.specs.steps.Joining.{joined_slots, agreed, common, Knows, IsStack, AreJoined, IsShapeJoin}
+use Rattle.code_verifier.specs.steps.Joining.{joined_slots, common, Knows, IsStack, AreJoined}
 use Rattle.code_verifier.specs.steps.ShapeView.{shape_view, Stands}
 use Rattle.code_verifier.specs.steps.SlotView.{locals_view}
-use Rattle.code_verifier.specs.steps.Stacks.{Extends, stack_at}
-use Rattle.code_verifier.proofs.Order.{shape_join, no_slots_join, no_loops_join, agreed_parts, agreed_both}
-use Rattle.code_verifier.proofs.SharedStacks.{extends_refl}
+use Rattle.code_verifier.specs.steps.Stacks.{stack_at}
+use Rattle.code_verifier.proofs.Order.{shape_join, no_slots_join, agreed_parts, agreed_both}
 
 module _ (old : List Entry) (met other : ShapeOfCode) where
-  pub loops_differ : (stack_at old met.loops ≡ stack_at old other.loops → ⊥) → AreJoined old old met other None
-  loops_differ differ = record {
-    extends = extends_refl old;
-    stand = tt;
-    is = no_loops_join (shape_view old met) (shape_view old other) differ;
-  }
-
   module _ (new : List Entry) where
     pub slots_differ : IsStack old new None (joined_slots (stack_at old met.slots) (stack_at old other.slots))
         → AreJoined old new met other None

@@ -1,11 +1,11 @@
 -- What is kept of the locals, as a list and as a function.
-use Rattle.std.proofs.Common.{◌≡◌, ◌≢◌, ℕ, zero, suc, ◌+◌, ◌<◌, ◌≤◌, ◌⊎◌, inl, inr, Bool, true, false, cond, List, [], ◌∷◌, ◌++◌, length, map, Option, Some, None, slice_get, slice_set, get_or, refl, sym, ap, ap₂, ◌∙◌, arith}
+use Rattle.std.proofs.Common.{◌≡◌, ℕ, zero, suc, ◌+◌, ◌<◌, ◌≤◌, ◌⊎◌, inl, inr, Bool, List, [], ◌∷◌, ◌++◌, length, Option, Some, None, slice_set, refl, sym, ap, ◌∙◌, arith}
 use Rattle.std.specs.Option.{option_map}
-use Rattle.std.specs.Bool.{Decides, IsTrue}
+use Rattle.std.specs.Bool.{IsTrue}
 use Rattle.std.proofs.Math.Path.{fun_ext}
-use Rattle.stack_machine.specs.Locals.{local_in, local_of, with_local}
+use Rattle.stack_machine.specs.Locals.{local_of, with_local}
 use Rattle.stack_machine.specs.Slots.{Slot}
-use Rattle.stack_machine.proofs.Places.{local_of-append, local_of-set, local_of-past, local_of-inside, local_of-map, local_of-index, below_or_not}
+use Rattle.stack_machine.proofs.Places.{local_of-append, local_of-set, local_of-past, local_of-inside, below_or_not}
 use Rattle.code_verifier.specs.declared.slot.Slot.{Slot as SlotOfCode}
 use Rattle.code_verifier.specs.steps.Joining.{agreed, common, Covers, Knows}
 use Rattle.code_verifier.specs.steps.SlotView.{slot_eq, slot_view, places_view, locals_view}
@@ -35,10 +35,6 @@ pub locals-set : (xs : List (Option SlotOfCode)) (l : ℕ) (a : SlotOfCode) → 
 locals-set xs l a h =
     let long = length-places xs in
     ap local_of (places-set xs l (Some a)) ∙ local_of-set (places_view xs) l (slot_view a) (omega (arith, long))
-
--- a place that the code has read
-pub locals-read : (xs : List (Option SlotOfCode)) (l : ℕ) → locals_view xs l ≡ option_map slot_view (local_of xs l)
-locals-read xs l = local_of-map slot_view xs l
 
 pub locals-past : (xs : List (Option SlotOfCode)) (l : ℕ) → length xs ≤ l → locals_view xs l ≡ None
 locals-past xs l h = let long = length-places xs in local_of-past (places_view xs) l (omega (arith, long))

@@ -1,13 +1,13 @@
 -- Shapes by what they say: an order, and what two shapes have in common is the least above both.
 use Rattle.std.proofs.Common.{◌≡◌, ℕ, Bool, true, false, cond, List, [], ◌∷◌, Option, Some, None, refl, sym, ap, ap₂, ◌∙◌}
 use Rattle.std.specs.Bool.{Decides}
-use Rattle.std.specs.Option.{option_map, option_and_then}
+use Rattle.std.specs.Option.{option_and_then}
 use Rattle.std.proofs.Math.Path.{fun_ext}
 use Rattle.cel_value.specs.Types.{ValueType, type_eq}
 use Rattle.cel_value.specs.EqualityLaws.{type_eq-Decides}
-use Rattle.stack_machine.specs.Slots.{Slot, failing, of, SlotFits, joined_slot, of_type_if}
+use Rattle.stack_machine.specs.Slots.{Slot, failing, of, SlotFits, joined_slot}
 use Rattle.stack_machine.specs.Shapes.{Shape, SlotsFit, Serves}
-use Rattle.code_verifier.specs.steps.Joining.{put_on, joined_slots, agreed, common, IsShapeJoin, Knows}
+use Rattle.code_verifier.specs.steps.Joining.{put_on, joined_slots, agreed, common, IsShapeJoin}
 use Rattle.code_verifier.specs.steps.SlotView.{slot_eq}
 
 -- ---- one slot
@@ -216,6 +216,3 @@ pub no_slots_join : (s t : Shape) → joined_slots s.slots t.slots ≡ None → 
 no_slots_join s t e =
     let is : IsSlotsJoin s.slots t.slots None = rw e at (slots_join s.slots t.slots) in
     λ u p q. is u.slots p.slots q.slots
-
-pub no_loops_join : (s t : Shape) → (s.loops ≡ t.loops → ⊥) → IsShapeJoin s t None
-no_loops_join s t differ = λ u p q. differ (p.loops ∙ sym q.loops)

@@ -1,6 +1,6 @@
 -- Ways that are noted one after the other, and the end.
-use Rattle.std.proofs.Common.{◌≡◌, ℕ, ◌<◌, ◌⊎◌, inl, inr, true, false, List, [], ◌∷◌, length, map, Option, Some, None, refl, sym, ap, ◌∙◌}
-use Rattle.cel_value.specs.Types.{ValueType, type_eq}
+use Rattle.std.proofs.Common.{◌≡◌, ℕ, inl, inr, true, false, List, [], ◌∷◌, map, Some, refl, sym, ap, ◌∙◌}
+use Rattle.cel_value.specs.Types.{ValueType}
 use Rattle.cel_value.specs.EqualityLaws.{type_eq-Decides}
 use Rattle.stack_machine.specs.Locals.{local_of}
 use Rattle.stack_machine.specs.Slots.{Slot, failing, of, SlotFits, is_a}
@@ -75,11 +75,3 @@ module _ (stacks : List Entry) (known : Known) (end : ℕ) (t : ValueType) (s : 
     where
       head_fits : (as' : List Slot) → SlotsFit (slot_view a ∷ as') (of t ∷ []) → SlotFits (slot_view a) (of t)
       head_fits as' f = f.0
-
-  pub ends_late : (a b : SlotOfCode) (rest under : ℕ) → IsTop stacks s.slots (Some (a, rest))
-      → IsTop stacks rest (Some (b, under)) → EndsAs end t known → ⊥
-  ends_late a b rest under top next ends =
-      let slots = rw (top.1, next.1) at (the_slots ends) in slots.1
-
-  pub ends_empty : stack_at stacks s.slots ≡ [] → EndsAs end t known → ⊥
-  ends_empty bottom ends = rw bottom at (the_slots ends)

@@ -1,5 +1,5 @@
 -- What holds of the verifier's table while it passes over the code.
-use Rattle.std.proofs.Common.{◌≡◌, ◌≢◌, ℕ, zero, suc, ◌+◌, ◌<◌, ◌≤◌, ◌⊎◌, inl, inr, List, [], ◌∷◌, ◌++◌, length, Option, Some, None, slice_get, slice_set, refl, sym, ap, ap₂, ◌∙◌, arith, append_assoc, length-set, add-one, unwrap_or}
+use Rattle.std.proofs.Common.{◌≡◌, ◌≢◌, ℕ, zero, suc, ◌+◌, ◌<◌, ◌≤◌, ◌⊎◌, inl, inr, List, [], ◌∷◌, ◌++◌, length, Option, Some, None, slice_get, slice_set, refl, sym, ap, ap₂, ◌∙◌, arith, append_assoc, length-set, unwrap_or}
 use Rattle.std.specs.List.{AllByRecursion}
 use Rattle.std.proofs.lemmas.Option.{slice_get_within}
 use Rattle.std.proofs.lemmas.List.{append-nil}
@@ -7,10 +7,9 @@ use Rattle.cel_value.specs.Types.{ValueType}
 use Rattle.stack_machine.specs.Locals.{local_of}
 use Rattle.stack_machine.specs.Instructions.{Instruction}
 use Rattle.stack_machine.specs.Slots.{of}
-use Rattle.stack_machine.specs.Shapes.{Shape, Way, empty, ways, Serves, SlotsFit}
-use Rattle.stack_machine.specs.Typable.{Table, Leads, LeadsOn, IsTyped, ways_found, ways_at, ways_before, AllServe, SomeEnds, Least, IsForward}
+use Rattle.stack_machine.specs.Shapes.{Shape, Way, empty, ways, Serves}
+use Rattle.stack_machine.specs.Typable.{Table, Leads, IsTyped, ways_at, ways_before, AllServe, SomeEnds, Least, IsForward}
 use Rattle.stack_machine.proofs.Places.{local_of-set_same, local_of-set_other, local_of-inside}
-use Rattle.code_verifier.specs.steps.Joining.{IsShapeJoin}
 use Rattle.code_verifier.specs.steps.Passing.{Led, back, fresh, met, NotLed, outside, unsettled, no_service, no_join, LedAll, NotLedAll, Passed, NotPassed, unknown, lacks, not_led, Starts, EndsAs}
 use Rattle.code_verifier.specs.steps.ShapeView.{Known}
 use Rattle.code_verifier.proofs.Order.{serves_refl, serves_trans, serves_same}

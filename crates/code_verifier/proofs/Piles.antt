@@ -1,17 +1,16 @@
 -- Slots that are taken off stacks, and put on them.
-use Rattle.std.proofs.Common.{◌≡◌, ℕ, zero, suc, ◌+◌, ◌<◌, ◌≤◌, List, [], ◌∷◌, ◌++◌, length, map, reverse, take, drop, Option, Some, None, refl, sym, ap, ap₂, ◌∙◌, arith, append_assoc}
-use Rattle.std.specs.Option.{option_map, option_and_then}
+use Rattle.std.proofs.Common.{◌≡◌, ℕ, suc, ◌+◌, ◌<◌, ◌≤◌, List, [], ◌∷◌, ◌++◌, length, map, reverse, take, drop, Option, Some, None, refl, sym, ap, ap₂, ◌∙◌, arith, append_assoc}
+use Rattle.std.specs.Option.{option_map}
 use Rattle.std.proofs.lemmas.Grind.{reverse_onto}
 use Rattle.std.proofs.lemmas.List.{length-append, length-reverse, reverse-reverse}
 use Rattle.std.proofs.Math.Seq.{take-append_seam, drop-append_seam}
 use Rattle.stack_machine.specs.Slots.{Slot, joined_slot, joined_entries}
 use Rattle.code_verifier.specs.declared.slot.Slot.{Slot as SlotOfCode}
 use Rattle.code_verifier.specs.declared.stacks.Entry.{Entry}
-use Rattle.code_verifier.specs.steps.Joining.{put_on, joined_slots}
+use Rattle.code_verifier.specs.steps.Joining.{joined_slots}
 use Rattle.code_verifier.specs.steps.SlotView.{slot_view}
-use Rattle.code_verifier.specs.steps.Stacks.{Extends, IsPushed, IsTop, piled, stack_at}
+use Rattle.code_verifier.specs.steps.Stacks.{IsTop, piled, stack_at}
 use Rattle.code_verifier.proofs.Order.{same_slots}
-use Rattle.code_verifier.proofs.SharedStacks.{extends_trans}
 
 piled-reverse : (taken below : List Slot) → piled taken below ≡ reverse taken ++ below
 piled-reverse [] below = refl
@@ -48,51 +47,10 @@ pub length-slots : (xs : List SlotOfCode) → length (map slot_view xs) ≡ leng
 length-slots [] = refl
 length-slots (x ∷ xs) = ap suc (length-slots xs)
 
--- one more slot is taken
-pub one_taken : (es : List Entry) (s : List Slot) (taken : List SlotOfCode) (i below : ℕ) (a : SlotOfCode)
-    → s ≡ piled (map slot_view taken) (stack_at es i) → IsTop es i (Some (a, below))
-    → s ≡ piled (map slot_view (a ∷ taken)) (stack_at es below)
-one_taken es s taken i below a e top = e ∙ ap (piled (map slot_view taken)) top.1
-
 -- ---- slots that are joined from the tops down
-
-put_step : (o : Option (List Slot)) (taken : List Slot) (j : Slot)
-    → option_map (piled (j ∷ taken)) o ≡ option_map (piled taken) (put_on o j)
-put_step None taken j = refl
-put_step (Some rest) taken j = refl
 
 module _ (es : List Entry) (l r : ℕ) (taken : List SlotOfCode) (whole : Option (List Slot))
     (e : option_map (piled (map slot_view taken)) (joined_slots (stack_at es l) (stack_at es r)) ≡ whole) where
-  pub tops_joined : (rest under : ℕ) (a b j : SlotOfCode) → IsTop es l (Some (a, rest)) → IsTop es r (Some (b, under))
-      → Some (slot_view j) ≡ joined_slot (slot_view a) (slot_view b)
-      → option_map (piled (map slot_view (j ∷ taken))) (joined_slots (stack_at es rest) (stack_at es under)) ≡ whole
-  tops_joined rest under a b j p q is =
-      put_step (joined_slots (stack_at es rest) (stack_at es under)) (map slot_view taken) (slot_view j)
-      ∙ ap (λ o. option_map (piled (map slot_view taken))
-      (option_and_then (λ k. put_on (joined_slots (stack_at es rest) (stack_at es under)) k) o)) is
-      ∙ ap₂ (λ x y. option_map (piled (map slot_view taken)) (joined_slots x y)) (sym p.1) (sym q.1) ∙ e
-
-  pub tops_differ : (rest under : ℕ) (a b : SlotOfCode) → IsTop es l (Some (a, rest)) → IsTop es r (Some (b, under))
-      → None ≡ joined_slot (slot_view a) (slot_view b) → whole ≡ None
-  tops_differ rest under a b p q is =
-      sym e ∙ ap₂ (λ x y. option_map (piled (map slot_view taken)) (joined_slots x y)) p.1 q.1
-      ∙ ap (λ o. option_map (piled (map slot_view taken))
-      (option_and_then (λ k. put_on (joined_slots (stack_at es rest) (stack_at es under)) k) o)) (sym is)
-
-  pub left_ends : (under : ℕ) (b : SlotOfCode) → stack_at es l ≡ [] → IsTop es r (Some (b, under)) → whole ≡ None
-  left_ends under b p q =
-      sym e ∙ ap₂ (λ x y. option_map (piled (map slot_view taken)) (joined_slots x y)) p q.1
-
-  pub right_ends : (rest : ℕ) (a : SlotOfCode) → IsTop es l (Some (a, rest)) → stack_at es r ≡ [] → whole ≡ None
-  right_ends rest a p q =
-      sym e ∙ ap₂ (λ x y. option_map (piled (map slot_view taken)) (joined_slots x y)) p.1 q
-
-  pub both_end : stack_at es l ≡ [] → stack_at es r ≡ []
-      → whole ≡ Some (piled (map slot_view taken) (stack_at es l))
-  both_end p q =
-      sym e ∙ ap₂ (λ x y. option_map (piled (map slot_view taken)) (joined_slots x y)) p q
-      ∙ ap (λ x. Some (piled (map slot_view taken) x)) (sym p)
-
   pub stacks_meet : l ≡ r → whole ≡ Some (piled (map slot_view taken) (stack_at es l))
   stacks_meet same =
       sym e ∙ ap (λ i. option_map (piled (map slot_view taken)) (joined_slots (stack_at es l) (stack_at es i))) (sym same)

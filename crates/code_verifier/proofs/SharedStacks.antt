@@ -1,13 +1,12 @@
 -- Stacks by number: new entries change no earlier stack.
-use Rattle.std.proofs.Common.{◌≡◌, ℕ, zero, suc, ◌+◌, ◌<◌, ◌≤◌, List, [], ◌∷◌, ◌++◌, length, map, Option, Some, None, slice_get, get_or, refl, sym, ap, ◌∙◌, arith, add-one}
+use Rattle.std.proofs.Common.{◌≡◌, ℕ, zero, suc, ◌+◌, ◌<◌, List, [], ◌∷◌, ◌++◌, length, Option, Some, slice_get, get_or, refl, sym, ap, ◌∙◌, arith}
 use Rattle.std.proofs.lemmas.Option.{slice_get_read}
-use Rattle.stack_machine.specs.Slots.{Slot, SlotFits}
-use Rattle.stack_machine.specs.Shapes.{SlotsFit}
+use Rattle.stack_machine.specs.Slots.{Slot}
 use Rattle.code_verifier.specs.declared.slot.Slot.{Slot as SlotOfCode}
 use Rattle.code_verifier.specs.declared.stacks.Entry.{Entry}
 use Rattle.code_verifier.specs.declared.stacks.Entry.TheVariants as entries
 use Rattle.code_verifier.specs.steps.SlotView.{slot_view}
-use Rattle.code_verifier.specs.steps.Stacks.{in_list, entry_stack, stacks_from, stack_at, IsAbove, AreAbove, Extends, IsPushed, IsTop, piled}
+use Rattle.code_verifier.specs.steps.Stacks.{in_list, entry_stack, stacks_from, stack_at, IsAbove, AreAbove, Extends, IsPushed, IsTop}
 
 in_front : (xs : List (List Slot)) (x : List Slot) (i : ℕ) → i < length xs
     → in_list (xs ++ x ∷ []) i ≡ in_list xs i
@@ -166,31 +165,3 @@ extends_trans a b c p q =
     let first = p.long in
     let second = q.long in
     record { long = omega (arith, first, second); same = λ i h. q.same i (omega (arith, first)) ∙ p.same i h }
-
--- ---- fitting stacks
-
-pub tops_fit : (es : List Entry) (l r rest under : ℕ) (a b : SlotOfCode) → IsTop es l (Some (a, rest))
-    → IsTop es r (Some (b, under)) → SlotFits (slot_view a) (slot_view b)
-    → SlotsFit (stack_at es rest) (stack_at es under) → SlotsFit (stack_at es l) (stack_at es r)
-tops_fit es l r rest under a b p q fits f = rw (p.1, q.1) (fits, f)
-
-pub rests_fit : (es : List Entry) (l r rest under : ℕ) (a b : SlotOfCode) → IsTop es l (Some (a, rest))
-    → IsTop es r (Some (b, under)) → SlotsFit (stack_at es l) (stack_at es r)
-    → SlotFits (slot_view a) (slot_view b) × SlotsFit (stack_at es rest) (stack_at es under)
-rests_fit es l r rest under a b p q f = rw (p.1, q.1) at f
-
-pub bottoms_fit : (es : List Entry) (l r : ℕ) → stack_at es l ≡ [] → stack_at es r ≡ []
-    → SlotsFit (stack_at es l) (stack_at es r)
-bottoms_fit es l r p q = rw (p, q) tt
-
-pub bottom_differs : (es : List Entry) (l r under : ℕ) (b : SlotOfCode) → stack_at es l ≡ []
-    → IsTop es r (Some (b, under)) → SlotsFit (stack_at es l) (stack_at es r) → ⊥
-bottom_differs es l r under b p q f = rw (p, q.1) at f
-
-pub top_differs : (es : List Entry) (l r rest : ℕ) (a : SlotOfCode) → IsTop es l (Some (a, rest))
-    → stack_at es r ≡ [] → SlotsFit (stack_at es l) (stack_at es r) → ⊥
-top_differs es l r rest a p q f = rw (p.1, q) at f
-
-pub shorter : (es : List Entry) (l rest : ℕ) (a : SlotOfCode) → IsTop es l (Some (a, rest))
-    → length (stack_at es rest) < length (stack_at es l)
-shorter es l rest a p = rw p.1 (omega arith)

@@ -1,4 +1,4 @@
-use Rattle.std.proofs.Common.{◌≡◌, ◌<◌, ◌∙◌, length, map, arith}
+use Rattle.std.proofs.Common.{◌≡◌, ◌∙◌, map, arith}
 use Rattle.code_verifier.specs.steps.SlotView.{slot_view}
 use Rattle.code_verifier.specs.steps.Stacks.{stack_at}
 use Rattle.code_verifier.proofs.Piles.{all_taken, few_taken, length-slots, no_top, none_of}

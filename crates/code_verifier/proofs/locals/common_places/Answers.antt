@@ -1,4 +1,4 @@
-use Rattle.std.proofs.Common.{◌≡◌, ◌<◌, ◌∙◌, sym, ap₂, arith, below_more, length}
+use Rattle.std.proofs.Common.{◌≡◌, ◌∙◌, sym, ap₂, arith, below_more, length}
 use Rattle.code_verifier.specs.steps.Joining.{agreed}
 use Rattle.code_verifier.proofs.LocalsSeen.{locals-front, locals-end, all_common}
 use Rattle.code_verifier.proofs.locals.common_places.Goals as goal

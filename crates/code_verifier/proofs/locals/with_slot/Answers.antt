@@ -1,4 +1,4 @@
-use Rattle.std.proofs.Common.{◌≡◌, ◌<◌, ◌+◌, ◌∙◌, ap, arith, length}
+use Rattle.std.proofs.Common.{◌∙◌, ap, arith}
 use Rattle.stack_machine.specs.Locals.{local_of, with_local}
 use Rattle.code_verifier.specs.steps.SlotView.{slot_view}
 use Rattle.code_verifier.proofs.LocalsSeen.{locals-set}

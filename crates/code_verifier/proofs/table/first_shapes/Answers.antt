@@ -1,4 +1,4 @@
-use Rattle.std.proofs.Common.{◌≡◌, ◌+◌, ◌++◌, [], ◌∷◌, Some, length, refl, sym, ap, ◌∙◌, arith}
+use Rattle.std.proofs.Common.{◌≡◌, ◌+◌, ◌++◌, [], ◌∷◌, Some, refl, ap, ◌∙◌, arith}
 use Rattle.stack_machine.specs.Locals.{local_of}
 use Rattle.stack_machine.specs.Shapes.{empty}
 use Rattle.code_verifier.specs.declared.shape.Shape.{Shape as ShapeOfCode}

@@ -1,4 +1,4 @@
-use Rattle.std.proofs.Common.{◌≡◌, ◌<◌, ◌≤◌, length, refl, arith, add-one}
+use Rattle.std.proofs.Common.{◌≡◌, ◌<◌, length, refl, arith, add-one}
 use Rattle.cel_value.specs.Types.{type_view}
 use Rattle.stack_machine.specs.Instructions.{code_view}
 use Rattle.code_verifier.specs.Faults.{not_typable}

@@ -1,4 +1,4 @@
-use Rattle.std.proofs.Common.{◌≡◌, ◌∙◌, sym}
+use Rattle.std.proofs.Common.{◌∙◌, sym}
 use Rattle.cel_value.specs.Types.{type_view}
 use Rattle.cel_value.specs.EqualityLaws.{type_eq-Decides}
 use Rattle.code_verifier.proofs.slot.Slot.fits.Goals as goal

@@ -1,8 +1,8 @@
-use Rattle.std.proofs.Common.{◌≡◌, ◌<◌, ◌≤◌, ◌∙◌, Some, None, length, refl, sym, ap, arith, slice_set}
+use Rattle.std.proofs.Common.{◌<◌, ◌∙◌, Some, length, refl, sym, ap, arith, slice_set}
 use Rattle.std.specs.Option.{option_map}
 use Rattle.std.proofs.lemmas.Grind.{common_steps}
 use Rattle.code_verifier.specs.steps.Passing.{back, met, no_service, no_join}
-use Rattle.code_verifier.specs.steps.ShapeView.{shape_view, table_view}
+use Rattle.code_verifier.specs.steps.ShapeView.{shape_view}
 use Rattle.code_verifier.proofs.Frames.{known_stays, length-known}
 use Rattle.code_verifier.proofs.Piles.{none_of}
 use Rattle.code_verifier.proofs.table.Table.lead.Goals as goal
