@@ -7,7 +7,7 @@ use Rattle.cel_value.specs.Types.{ValueType, type_eq}
 use Rattle.cel_value.specs.EqualityLaws.{type_eq-Decides}
 use Rattle.stack_machine.specs.Slots.{Slot, failing, of, SlotFits, joined_slot}
 use Rattle.stack_machine.specs.Shapes.{Shape, SlotsFit, Serves}
-use Rattle.code_verifier.specs.steps.Joining.{put_on, joined_slots, agreed, common, IsShapeJoin}
+use Rattle.code_verifier.specs.steps.Joining.{put_on, joined_slots, agreed, IsShapeJoin}
 use Rattle.code_verifier.specs.steps.SlotView.{slot_eq}
 
 -- ---- one slot

@@ -6,7 +6,6 @@ use Rattle.std.proofs.lemmas.List.{append-nil}
 use Rattle.cel_value.specs.Types.{ValueType}
 use Rattle.stack_machine.specs.Locals.{local_of}
 use Rattle.stack_machine.specs.Instructions.{Instruction}
-use Rattle.stack_machine.specs.Slots.{of}
 use Rattle.stack_machine.specs.Shapes.{Shape, Way, empty, ways, Serves}
 use Rattle.stack_machine.specs.Typable.{Table, Leads, IsTyped, ways_at, ways_before, AllServe, SomeEnds, Least, IsForward}
 use Rattle.stack_machine.proofs.Places.{local_of-set_same, local_of-set_other, local_of-inside}

@@ -3,7 +3,6 @@ use Rattle.std.specs.Prelude.{◌≡◌, ℕ, ◌<◌, List, [], ◌∷◌, leng
 use Rattle.std.specs.Option.{option_and_then}
 use Rattle.stack_machine.specs.Slots.{Slot, joined_slot}
 use Rattle.stack_machine.specs.Shapes.{Shape, Serves}
-use Rattle.code_verifier.specs.declared.literals.Taken.{Taken}
 use Rattle.code_verifier.specs.declared.shape.Shape.{Shape as ShapeOfCode}
 use Rattle.code_verifier.specs.declared.stacks.Entry.{Entry}
 use Rattle.code_verifier.specs.steps.ShapeView.{Stands, shape_view}

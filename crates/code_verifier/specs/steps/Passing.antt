@@ -9,7 +9,7 @@ use Rattle.code_verifier.specs.declared.shape.Shape.{Shape as ShapeOfCode}
 use Rattle.code_verifier.specs.declared.stacks.Entry.{Entry}
 use Rattle.code_verifier.specs.declared.table.Table.{Table}
 use Rattle.code_verifier.specs.steps.Joining.{IsShapeJoin}
-use Rattle.code_verifier.specs.steps.ShapeView.{Known, ShapesStand, TableStands, known_view, table_view}
+use Rattle.code_verifier.specs.steps.ShapeView.{Known, ShapesStand, TableStands, known_view}
 use Rattle.code_verifier.specs.steps.Stacks.{Extends, stack_at}
 
 -- a way from this position is noted: it serves where a shape is settled, or it joins what is due

@@ -1,6 +1,6 @@
 -- The slots and the locals that the verifier's values stand for.
 use Rattle.std.specs.Prelude.{ℕ, Bool, true, false, List, Option, map, option_map}
-use Rattle.cel_value.specs.Types.{ValueType, type_eq, type_view}
+use Rattle.cel_value.specs.Types.{type_eq, type_view}
 use Rattle.stack_machine.specs.Locals.{local_of}
 use Rattle.stack_machine.specs.Slots.{Slot, failing, of}
 use Rattle.code_verifier.specs.declared.slot.Slot.{Slot as SlotOfCode}

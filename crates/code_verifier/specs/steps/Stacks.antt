@@ -1,5 +1,5 @@
 -- Stacks that share what is below their tops.
-use Rattle.std.specs.Prelude.{◌≡◌, ℕ, suc, ◌<◌, ◌≤◌, List, [], ◌∷◌, ◌++◌, length, reverse, take, drop, get_or, map, Option, Some, None}
+use Rattle.std.specs.Prelude.{◌≡◌, ℕ, suc, ◌<◌, ◌≤◌, List, [], ◌∷◌, ◌++◌, length, get_or, Option, Some, None}
 use Rattle.stack_machine.specs.Slots.{Slot}
 use Rattle.code_verifier.specs.declared.slot.Slot.{Slot as SlotOfCode}
 use Rattle.code_verifier.specs.declared.stacks.Entry.{Entry}
