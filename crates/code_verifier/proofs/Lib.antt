@@ -1,0 +1,9 @@
+mod Order
+mod SharedStacks
+mod Constants
+mod LocalsSeen
+mod Piles
+mod Joins
+mod Frames
+mod Passes
+mod Pending
