@@ -1,0 +1,3 @@
+pub mod Tree
+pub mod Checked
+pub mod View
