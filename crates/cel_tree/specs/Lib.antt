@@ -1,3 +1,10 @@
 pub mod Tree
 pub mod Checked
 pub mod View
+pub mod Reading
+pub mod Constants
+pub mod TypeEntries
+pub mod References
+pub mod Nodes
+pub mod Trees
+pub mod Message

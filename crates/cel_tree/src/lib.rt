@@ -2,8 +2,11 @@
 #![tactic(auto)]
 
 mod checked;
+mod constant;
 pub mod laws;
+mod node;
 mod tree;
+mod type_node;
 
 pub use checked::{Checked, Reference, ReferenceMap, TypeEntry, TypeMap};
 pub use tree::{Comprehension, Constant, Tree, TreeEntry};
