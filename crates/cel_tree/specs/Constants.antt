@@ -10,7 +10,7 @@ use Rattle.proto_wire.specs.declared.key.Key.{Key}
 use Rattle.proto_wire.specs.declared.refusal.Refusal.{Refusal}
 use Rattle.cel_value.specs.Texts.{points_of}
 use Rattle.cel_value.specs.Values.{CelValue, bool, int, uint, text, bytes}
-use Rattle.cel_tree.specs.Reading.{Reads, ReadFault, OneofSays, Never, LacksMember, OneofFault}
+use Rattle.cel_tree.specs.Reading.{Reads, ReadFault, OneofSays, Never, LacksMember, IsUnsupported, OneofFault}
 use Rattle.cel_tree.specs.declared.constant.ConstantKind.{ConstantKind}
 use Rattle.cel_tree.specs.declared.constant.ConstantKind.TheVariants as kinds
 
@@ -50,4 +50,5 @@ IsConstant = Reads constant_keys (OneofSays constants Never ConstantSays)
 -- what is wrong with a Constant
 abbrev pub ConstantFault : List (List ℕ) → Refusal → Type 0
 ConstantFault =
-    ReadFault constant_keys (LacksMember constants) (OneofFault constants ConstantFails)
+    ReadFault constant_keys (LacksMember constants)
+    (OneofFault constants IsUnsupported ConstantFails)

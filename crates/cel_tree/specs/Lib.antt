@@ -8,3 +8,4 @@ pub mod References
 pub mod Nodes
 pub mod Trees
 pub mod Message
+pub mod steps

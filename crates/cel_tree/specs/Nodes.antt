@@ -13,7 +13,7 @@ use Rattle.proto_wire.specs.declared.refusal.Refusal.TheVariants.{Unsupported}
 use Rattle.cel_value.specs.Texts.{points_of}
 use Rattle.cel_value.specs.Values.{CelValue}
 use Rattle.cel_tree.specs.Constants.{IsConstant, ConstantFault}
-use Rattle.cel_tree.specs.Reading.{Reads, ReadFault, LacksNothing, last_number, OneofSays, Never, LacksMember, OneofFault}
+use Rattle.cel_tree.specs.Reading.{Reads, ReadFault, LacksNothing, last_number, OneofSays, Never, LacksMember, IsUnsupported, OneofFault}
 use Rattle.cel_tree.specs.declared.node.NodeKind.{NodeKind}
 use Rattle.cel_tree.specs.declared.node.NodeKind.TheVariants as kinds
 
@@ -285,4 +285,5 @@ IsNode parts id node = Reads node_keys NodeSays parts (id, node)
 
 -- what is wrong with its own message
 abbrev pub NodeFault : Parts → Refusal → Type 0
-NodeFault = ReadFault node_keys (LacksMember node_kinds) (OneofFault node_kinds MemberFails)
+NodeFault = ReadFault node_keys (LacksMember node_kinds) 
+    (OneofFault node_kinds IsUnsupported MemberFails)

@@ -45,13 +45,15 @@ last_number keys fs = option_map (λ f. f.number) (last_member keys fs)
 abbrev pub member_in : {M : Type 0} → List (Key × Option M) → ℕ → Option M
 member_in table n = option_and_then (λ m. m) (lookup (λ key. key.number == n) table)
 
--- without a member this is said, or the run of the last member, which is supported, says it
+-- the run of the last member says it; without a member, or where the last one is not supported,
+-- this is said
 abbrev pub OneofSays : {M T : Type 0} → List (Key × Option M) → (T → Type 0)
     → (M → ℕ → List Wire → T → Type 0) → List Wire → T → Type 0
 OneofSays table Without Says fs x = MatchOption (last_number (keys_of table) fs) (Without x)
-    (λ n. MatchOption (member_in table n) ⊥ (λ m. Says m n (member_run (keys_of table) fs) x))
+    (λ n. MatchOption (member_in table n) (Without x)
+    (λ m. Says m n (member_run (keys_of table) fs) x))
 
--- without a member nothing is said
+-- nothing is said, or no fault is there
 abbrev pub Never : {T : Type 0} → T → Type 0
 Never x = ⊥
 
@@ -59,9 +61,13 @@ Never x = ⊥
 abbrev pub LacksMember : {M : Type 0} → List (Key × Option M) → List Wire → Type 0
 LacksMember table fs = last_number (keys_of table) fs ≡ None
 
--- the last member is not supported, or its run has this fault
-abbrev pub OneofFault : {M : Type 0} → List (Key × Option M)
+-- the fault of a member that is not supported
+abbrev pub IsUnsupported : Refusal → Type 0
+IsUnsupported e = e ≡ Unsupported
+
+-- the run of the last member has this fault; where that one is not supported, it is this
+abbrev pub OneofFault : {M : Type 0} → List (Key × Option M) → (Refusal → Type 0)
     → (M → ℕ → List Wire → Refusal → Type 0) → List Wire → Refusal → Type 0
-OneofFault table Fails fs e = MatchOption (last_number (keys_of table) fs) ⊥
-    (λ n. MatchOption (member_in table n) (e ≡ Unsupported)
+OneofFault table Refused Fails fs e = MatchOption (last_number (keys_of table) fs) ⊥
+    (λ n. MatchOption (member_in table n) (Refused e)
     (λ m. Fails m n (member_run (keys_of table) fs) e))

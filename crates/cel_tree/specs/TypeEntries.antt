@@ -11,7 +11,7 @@ use Rattle.cel_value.specs.Types.{ValueType, bool_type, int_type, uint_type, tex
 use Rattle.cel_value.specs.declared.cel_type.KeyType.{KeyType}
 use Rattle.cel_value.specs.declared.cel_type.KeyType.TheVariants as keys
 use Rattle.cel_tree.specs.Checked.{CelTypeEntry, of_type, dyn_type, unsupported_type}
-use Rattle.cel_tree.specs.Reading.{Reads, ReadFault, LacksNothing, OneofSays, OneofFault}
+use Rattle.cel_tree.specs.Reading.{Reads, ReadFault, LacksNothing, OneofSays, Never, OneofFault}
 use Rattle.cel_tree.specs.declared.type_node.TypeKind.{TypeKind}
 use Rattle.cel_tree.specs.declared.type_node.TypeKind.TheVariants as kinds
 
@@ -59,11 +59,10 @@ pub data TypeNode : Type 0 where
 -- the members of the oneof: dyn, null, primitive, wrapper, well_known, list_type, map_type,
 -- function, message_type, type_param
 abbrev pub type_kinds : List (Key × Option TypeKind)
-type_kinds = (len_key 1, Some kinds.Dyn) ∷ (varint_key 2, Some kinds.Other)
-    ∷ (varint_key 3, Some kinds.Primitive) ∷ (varint_key 4, Some kinds.Other)
-    ∷ (varint_key 5, Some kinds.Other) ∷ (len_key 6, Some kinds.List) ∷ (len_key 7, Some kinds.Map)
-    ∷ (len_key 8, Some kinds.Other) ∷ (len_key 9, Some kinds.Other) ∷ (len_key 10, Some kinds.Other)
-    ∷ []
+type_kinds = (len_key 1, Some kinds.Dyn) ∷ (varint_key 2, None)
+    ∷ (varint_key 3, Some kinds.Primitive) ∷ (varint_key 4, None) ∷ (varint_key 5, None)
+    ∷ (len_key 6, Some kinds.List) ∷ (len_key 7, Some kinds.Map) ∷ (len_key 8, None)
+    ∷ (len_key 9, None) ∷ (len_key 10, None) ∷ []
 
 -- all fields: each is a member
 abbrev pub type_keys : List Key
@@ -104,7 +103,6 @@ MapTypeWrong fs e =
 -- the run of the member, which has this number, says the type
 abbrev pub TypeSays : TypeKind → ℕ → List Wire → TypeNode → Type 0
 TypeSays kinds.Dyn n run node = node ≡ plain dyn_type
-TypeSays kinds.Other n run node = node ≡ plain unsupported_type
 TypeSays kinds.Primitive n run node =
     (entry : CelTypeEntry) × (primitive_of (uint32_at n run) ≡ Some entry) × (node ≡ plain entry)
 TypeSays kinds.List n run node = Reads list_type_keys ListTypeSays (payloads n run) node
@@ -118,17 +116,18 @@ TypeFails kinds.List n run e =
 TypeFails kinds.Map n run e = ReadFault map_type_keys LacksNothing MapTypeWrong (payloads n run) e
 TypeFails _ n run e = ⊥
 
--- a Type without a member is of a kind that is not supported
-abbrev pub IsUnsupported : TypeNode → Type 0
-IsUnsupported node = node ≡ plain unsupported_type
+-- a Type without a member is of a kind that is not supported, and so is one with another member;
+-- what that holds is not looked into
+abbrev pub IsOfOtherKind : TypeNode → Type 0
+IsOfOtherKind node = node ≡ plain unsupported_type
 
 -- the parts merge to a Type
 abbrev pub IsTypeNode : List (List ℕ) → TypeNode → Type 0
-IsTypeNode = Reads type_keys (OneofSays type_kinds IsUnsupported TypeSays)
+IsTypeNode = Reads type_keys (OneofSays type_kinds IsOfOtherKind TypeSays)
 
 -- what is wrong with its own message
 abbrev pub TypeNodeFault : List (List ℕ) → Refusal → Type 0
-TypeNodeFault = ReadFault type_keys LacksNothing (OneofFault type_kinds TypeFails)
+TypeNodeFault = ReadFault type_keys LacksNothing (OneofFault type_kinds Never TypeFails)
 
 -- ---- all levels; `Below` stands for the types one level down
 

@@ -3,8 +3,10 @@
 
 mod checked;
 mod constant;
+mod fields;
 pub mod laws;
 mod node;
+mod reference;
 mod tree;
 mod type_node;
 
