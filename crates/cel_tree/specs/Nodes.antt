@@ -244,8 +244,12 @@ node_kinds = (len_key 3, Some kinds.Constant) ∷ (len_key 4, Some kinds.Ident)
     ∷ (len_key 5, Some kinds.Select) ∷ (len_key 6, Some kinds.Call) ∷ (len_key 7, Some kinds.List)
     ∷ (len_key 8, Some kinds.Struct) ∷ (len_key 9, Some kinds.Comprehension) ∷ []
 
+abbrev pub kind_keys : List Key
+kind_keys = keys_of node_kinds
+
+-- all fields
 abbrev pub node_keys : List Key
-node_keys = varint_key 2 ∷ keys_of node_kinds
+node_keys = varint_key 2 ∷ kind_keys
 
 -- the payloads of the member's run merge to a message that says the node
 abbrev pub KindSays : NodeKind → Parts → Node → Type 0
