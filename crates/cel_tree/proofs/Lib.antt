@@ -1,3 +1,4 @@
 pub mod Basics
 pub mod Readers
 pub mod Texts
+pub mod Entries

@@ -11,6 +11,7 @@ mod node;
 mod operands;
 mod reference;
 mod tree;
+mod type_entry;
 mod type_node;
 
 pub use checked::{Checked, Reference, ReferenceMap, TypeEntry, TypeMap};
