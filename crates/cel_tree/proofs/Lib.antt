@@ -2,3 +2,8 @@ pub mod Basics
 pub mod Readers
 pub mod Texts
 pub mod Entries
+pub mod Counting
+pub mod TypeLevels
+pub mod ReadingLaws
+pub mod ConstantLaws
+pub mod ReferenceLaws

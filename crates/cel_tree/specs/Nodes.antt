@@ -63,6 +63,10 @@ abbrev pub entry_children : List EntryNode → List Parts
 entry_children [] = []
 entry_children (e ∷ es) = e.key ∷ e.value ∷ entry_children es
 
+-- the expressions of a comprehension
+abbrev pub loop_children : LoopNode → List Parts
+loop_children p = p.iter_range ∷ p.accu_init ∷ p.loop_condition ∷ p.loop_step ∷ p.result ∷ []
+
 -- the expressions inside a node, in order
 abbrev pub children : Node → List Parts
 children (constant_node v) = []
@@ -71,8 +75,7 @@ children (select_node operand field test_only) = operand ∷ []
 children (call_node function target args) = if_there target ++ singles args
 children (list_node elements) = singles elements
 children (map_node entries) = entry_children entries
-children (loop_node p) = p.iter_range ∷ p.accu_init ∷ p.loop_condition ∷ p.loop_step ∷ p.result
-    ∷ []
+children (loop_node p) = loop_children p
 
 -- ---- Ident
 

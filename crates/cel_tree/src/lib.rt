@@ -9,6 +9,7 @@ mod literals;
 mod loops;
 mod node;
 mod operands;
+mod read;
 mod reference;
 mod tree;
 mod type_entry;

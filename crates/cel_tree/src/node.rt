@@ -87,13 +87,6 @@ pub(crate) enum Node<'a> {
     Comprehension(LoopNode<'a>),
 }
 
-/// A node with its id.
-#[derive(Drop)]
-pub(crate) struct Numbered<'a> {
-    pub id: i64,
-    pub node: Node<'a>,
-}
-
 /// The member of an Expr that counts.
 #[derive(Clone, Copy, Debug)]
 struct LastKind {
@@ -101,17 +94,17 @@ struct LastKind {
     number: u32,
 }
 
-/// Reads an Expr, whose message stands in the parts, without the expressions inside it.
-pub(crate) fn read_node<'a>(alloc: Global, parts: &[&'a [u8]]) -> Result<Numbered<'a>, Refusal>
-    ensures found { IfOk result (λ n. IsNode (parts_view parts.now) n.id (node_view n.node)) }
+/// Reads an Expr, whose message stands in the parts, without the expressions inside it: its id and its node.
+pub(crate) fn read_node<'a>(alloc: Global, parts: &[&'a [u8]]) -> Result<(i64, Node<'a>), Refusal>
+    ensures found { IfOk result (λ n. IsNode (parts_view parts.now) n.0 (node_view n.1)) }
     ensures fault { IfErr result (MemoryOr (NodeFault (parts_view parts.now))) }
 {
     let fields = read_message(alloc, parts, node_keys())?;
     node_of(alloc, &fields)
 }
 
-/// The node that the fields say.
-fn node_of<'a>(alloc: Global, fields: &[Field<'a>]) -> Result<Numbered<'a>, Refusal>
+/// The id and the node that the fields say.
+fn node_of<'a>(alloc: Global, fields: &[Field<'a>]) -> Result<(i64, Node<'a>), Refusal>
     ensures found { IfOk result (λ n. NodeSays (map field_view fields.now) (numbered_view n)) }
     ensures fault { IfErr result (MemoryOr (ValuesFault (LacksMember node_kinds)
         (OneofFault node_kinds IsUnsupported MemberFails) (map field_view fields.now))) }
@@ -121,7 +114,7 @@ fn node_of<'a>(alloc: Global, fields: &[Field<'a>]) -> Result<Numbered<'a>, Refu
     let parts = payloads_of(alloc, &run, last.number)?;
     let node = read_kind(alloc, last.kind, &parts)?;
     let id = int64_at(fields, ID);
-    Ok(Numbered { id, node })
+    Ok((id, node))
 }
 
 /// The last member of an Expr's fields: `Missing` without one.

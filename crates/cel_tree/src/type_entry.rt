@@ -32,8 +32,8 @@ pub(crate) fn read_type(alloc: Global, parts: &[&[u8]], depth: u32) -> Result<Ty
 #[cycle(type_entry)]
 fn read_inner(alloc: Global, node: TypeNode<'_>, depth: u32) -> Result<TypeEntry, Refusal>
     ensures found { IfOk result (λ entry.
-        Holds (IsTypeEntry depth) (type_node_view node) (type_entry_view entry)) }
-    ensures fault { IfErr result (MemoryOr (HoldsFault (TypeEntryFault depth) (type_node_view node))) }
+        Holds (IsTypeEntry depth) (type_node_view node.entry) (type_entry_view entry)) }
+    ensures fault { IfErr result (MemoryOr (HoldsFault (TypeEntryFault depth) (type_node_view node.entry))) }
 {
     match node {
         TypeNode::Plain(entry) => Ok(entry),

@@ -11,7 +11,6 @@ use Rattle.cel_tree.specs.steps.EntryViews.{entry_nodes_view}
 use Rattle.cel_tree.specs.declared.loops.LoopNode.{LoopNode}
 use Rattle.cel_tree.specs.declared.node.Node.{Node}
 use Rattle.cel_tree.specs.declared.node.Node.TheVariants as coded
-use Rattle.cel_tree.specs.declared.node.Numbered.{Numbered}
 use Rattle.cel_tree.specs.declared.type_node.TypeNode.{TypeNode}
 use Rattle.cel_tree.specs.declared.type_node.TypeNode.TheVariants as type_nodes
 
@@ -46,5 +45,5 @@ node_view (coded.Map entries) = map_node (entry_nodes_view entries.items)
 node_view (coded.Comprehension p) = loop_node (loop_node_view p)
 
 -- a node with its id
-abbrev pub numbered_view : Numbered → ℤ × nodes.Node
-numbered_view n = (n.id, node_view n.node)
+abbrev pub numbered_view : ℤ × Node → ℤ × nodes.Node
+numbered_view n = (n.0, node_view n.1)
