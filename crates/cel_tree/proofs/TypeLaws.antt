@@ -46,16 +46,17 @@ map_disjoint fs node e says (inr (inr none, is)) = says.1 none
 map_unique : (fs : List Wire) (a b : TypeNode) → MapTypeSays fs a → MapTypeSays fs b → a ≡ b
 map_unique fs a b x y = x.2 ∙ sym y.2
 
-primitive_total : (o : Option CelTypeEntry)
-    → ((node : TypeNode) × (entry : CelTypeEntry) × (o ≡ Some entry) × (node ≡ plain entry))
-    ⊎ ((e : Refusal) × (o ≡ None) × (e ≡ OutOfRange))
-primitive_total None = inr (OutOfRange, (refl, refl))
-primitive_total (Some entry) = inl (plain entry, (entry, refl, refl))
+primitive_total : (o : Option CelTypeEntry) → ((entry : CelTypeEntry) × (o ≡ Some entry)) ⊎ (o ≡ None)
+primitive_total None = inr refl
+primitive_total (Some entry) = inl (entry, refl)
 
 kind_total : (kind : TypeKind) (n : ℕ) (run : List Wire)
     → ((node : TypeNode) × TypeSays kind n run node) ⊎ ((e : Refusal) × TypeFails kind n run e)
 kind_total kinds.Dyn n run = inl (plain dyn_type, refl)
-kind_total kinds.Primitive n run = primitive_total (primitive_of (uint32_at n run))
+kind_total kinds.Primitive n run = elim (primitive_total (primitive_of (uint32_at n run))) [
+  | inl (entry, at) ↦ inl (plain entry, (entry, at, refl))
+  | inr none ↦ inr (OutOfRange, (none, refl))
+]
 kind_total kinds.List n run = reads_total list_type_keys ListTypeSays LacksNothing ListTypeWrong list_total (payloads n run)
 kind_total kinds.Map n run = reads_total map_type_keys MapTypeSays LacksNothing MapTypeWrong map_total (payloads n run)
 

@@ -3,3 +3,4 @@
 pub mod EntryViews
 pub mod Inside
 pub mod NodeViews
+pub mod Named

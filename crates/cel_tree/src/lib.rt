@@ -7,6 +7,8 @@ mod fields;
 pub mod laws;
 mod literals;
 mod loops;
+mod maps;
+mod message;
 mod node;
 mod operands;
 mod read;
@@ -16,4 +18,9 @@ mod type_entry;
 mod type_node;
 
 pub use checked::{Checked, Reference, ReferenceMap, TypeEntry, TypeMap};
+pub use maps::TREE_DEPTH;
+pub use message::{MOST_NODES, read_checked, read_checked_parts};
 pub use tree::{Comprehension, Constant, Tree, TreeEntry};
+
+#[cfg(test)]
+mod tests;

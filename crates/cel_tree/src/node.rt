@@ -5,6 +5,7 @@ ghost use Rattle.proto_wire.specs.Fields.{field_view};
 ghost use Rattle.proto_wire.specs.Merge.{parts_view};
 ghost use Rattle.proto_wire.specs.Refusal.{MemoryOr};
 ghost use Rattle.proto_wire.specs.declared.refusal.Refusal.TheVariants.{Missing, Unsupported};
+ghost use Rattle.cel_value.specs.Types.{IsInt64};
 ghost use Rattle.cel_tree.specs.Nodes.{node_kinds, node_keys, kind_keys, KindSays, KindFault, MemberFails, NodeSays, IsNode, NodeFault};
 ghost use Rattle.cel_tree.specs.Reading.{last_number, member_in, ValuesFault, LacksMember, IsUnsupported, OneofFault};
 ghost use Rattle.cel_tree.specs.steps.NodeViews.{node_view, numbered_view};
@@ -97,6 +98,7 @@ struct LastKind {
 /// Reads an Expr, whose message stands in the parts, without the expressions inside it: its id and its node.
 pub(crate) fn read_node<'a>(alloc: Global, parts: &[&'a [u8]]) -> Result<(i64, Node<'a>), Refusal>
     ensures found { IfOk result (λ n. IsNode (parts_view parts.now) n.0 (node_view n.1)) }
+    ensures ranged { IfOk result (λ n. IsInt64 n.0) }
     ensures fault { IfErr result (MemoryOr (NodeFault (parts_view parts.now))) }
 {
     let fields = read_message(alloc, parts, node_keys())?;
@@ -106,6 +108,7 @@ pub(crate) fn read_node<'a>(alloc: Global, parts: &[&'a [u8]]) -> Result<(i64, N
 /// The id and the node that the fields say.
 fn node_of<'a>(alloc: Global, fields: &[Field<'a>]) -> Result<(i64, Node<'a>), Refusal>
     ensures found { IfOk result (λ n. NodeSays (map field_view fields.now) (numbered_view n)) }
+    ensures ranged { IfOk result (λ n. IsInt64 n.0) }
     ensures fault { IfErr result (MemoryOr (ValuesFault (LacksMember node_kinds)
         (OneofFault node_kinds IsUnsupported MemberFails) (map field_view fields.now))) }
 {
