@@ -292,5 +292,5 @@ IsNode parts id node = Reads node_keys NodeSays parts (id, node)
 
 -- what is wrong with its own message
 abbrev pub NodeFault : Parts → Refusal → Type 0
-NodeFault = ReadFault node_keys (LacksMember node_kinds) 
+NodeFault = ReadFault node_keys (LacksMember node_kinds)
     (OneofFault node_kinds IsUnsupported MemberFails)

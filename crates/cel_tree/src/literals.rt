@@ -44,7 +44,8 @@ static LIST: [Key; 3] = keys![Len ELEMENTS, Len OPTIONAL_INDICES, Varint OPTIONA
 
 static STRUCT: [Key; 2] = keys![Len MESSAGE_NAME, Len ENTRIES];
 
-static ENTRY: [Key; 5] = keys![Varint ID, Len FIELD_KEY, Len MAP_KEY, Len VALUE, Varint OPTIONAL_ENTRY];
+static ENTRY: [Key; 5] =
+    keys![Varint ID, Len FIELD_KEY, Len MAP_KEY, Len VALUE, Varint OPTIONAL_ENTRY];
 
 static ENTRY_KEY: [Key; 2] = keys![Len FIELD_KEY, Len MAP_KEY];
 

@@ -1,7 +1,6 @@
 //! The reading of type maps and of reference maps.
 
-ghost use Rattle.std.specs.Prelude.{◌≡◌, IfOk, IfErr, map};
-ghost use Rattle.cel_value.specs.Types.{IsInt64};
+ghost use Rattle.std.specs.Prelude.{IfOk, IfErr, map};
 ghost use Rattle.proto_wire.specs.Fields.{field_view};
 ghost use Rattle.proto_wire.specs.Maps.{int64, SomeValueFault};
 ghost use Rattle.proto_wire.specs.Refusal.{MemoryOr};
@@ -13,6 +12,7 @@ ghost use Rattle.cel_tree.specs.View.{references_view, types_view};
 ghost use Rattle.cel_tree.specs.steps.Named.{SomeValues, ids_view};
 
 use crate::checked::{ReferenceMap, TypeMap};
+use crate::fields::number_of;
 use crate::reference::read_reference;
 use crate::type_entry::read_type;
 use proto_wire::{Field, Refusal, payloads_of, read_entries};
@@ -80,12 +80,4 @@ fn read_references(
         references.insert(number_of(id), entry)?;
     }
     Ok(references)
-}
-
-/// The id that is lent.
-fn number_of(id: &i64) -> i64
-    ensures value { result ≡ id.now }
-    ensures ranged { IsInt64 result }
-{
-    *id
 }

@@ -16,9 +16,7 @@ use crate::literals::{EntryNode, read_list, read_struct};
 use crate::loops::{LoopNode, read_loop};
 use crate::operands::{read_call, read_ident, read_select};
 use crate::tree::Constant;
-use proto_wire::{
-    Field, Key, Refusal, int64_at, keys, member_run, payloads_of, read_message,
-};
+use proto_wire::{Field, Key, Refusal, int64_at, keys, member_run, payloads_of, read_message};
 use std::alloc::Global;
 use std::rc::RcStr;
 
@@ -154,11 +152,7 @@ fn kind_at(number: u32) -> Option<NodeKind>
 }
 
 /// Reads the message of a member of this kind, which stands in the parts.
-fn read_kind<'a>(
-    alloc: Global,
-    kind: NodeKind,
-    parts: &[&'a [u8]],
-) -> Result<Node<'a>, Refusal>
+fn read_kind<'a>(alloc: Global, kind: NodeKind, parts: &[&'a [u8]]) -> Result<Node<'a>, Refusal>
     ensures found { IfOk result (λ node. KindSays kind (parts_view parts.now) (node_view node)) }
     ensures fault { IfErr result (MemoryOr (KindFault kind (parts_view parts.now))) }
 {

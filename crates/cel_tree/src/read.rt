@@ -11,6 +11,7 @@ ghost use Rattle.cel_tree.specs.steps.EntryViews.{entry_nodes_view};
 ghost use Rattle.cel_tree.specs.steps.Inside.{AreEntryTrees, AreLoopTrees, Inside, IsTarget, SomeFails, TreeFails, target_nodes};
 ghost use Rattle.cel_tree.specs.steps.NodeViews.{loop_node_view, node_view};
 
+use crate::fields::number_of;
 use crate::literals::EntryNode;
 use crate::loops::LoopNode;
 use crate::node::{Node, read_node};
@@ -153,7 +154,7 @@ fn read_entry_trees(
         let key = read_tree(alloc, &node.key, depth, left)?;
         let value = read_tree(alloc, &node.value, depth, left)?;
         entries.push(TreeEntry {
-            id: node.id,
+            id: number_of(&node.id),
             key,
             value,
         })?;

@@ -89,10 +89,7 @@ struct LastKind {
 }
 
 /// Reads a Type, whose message stands in the parts, without the types inside it.
-pub(crate) fn read_type_node<'a>(
-    alloc: Global,
-    parts: &[&'a [u8]],
-) -> Result<TypeNode<'a>, Refusal>
+pub(crate) fn read_type_node<'a>(alloc: Global, parts: &[&'a [u8]]) -> Result<TypeNode<'a>, Refusal>
     ensures found { IfOk result (λ node. IsTypeNode (parts_view parts.now) (type_node_view node)) }
     ensures fault { IfErr result (MemoryOr (TypeNodeFault (parts_view parts.now))) }
 {

@@ -148,15 +148,16 @@ read_entry_trees-loop-node-preserved t c =
     let value = rw c.deref-in-loop-node.ensures.value at c.in_ok-value.ensures.found in
     let entries = c.loop-node.entries.items in
     let n : EntryNode = c.node-item.result in
-    let x : TreeEntry = record { id = n.id; key = c.in_ok-key.key; value = c.in_ok-value.value } in
+    let x : TreeEntry = record { id = to_z w64 (of_z w64 c.number_of.result); key = c.in_ok-key.key; value = c.in_ok-value.value } in
     let more : take (i + 1) ns ≡ take i ns ++ n ∷ [] =
     take_more ns i n c.loop-node-test.true ∙ ap (λ m. take i ns ++ m ∷ []) (sym c.node-item.is) in
+    let same : to_z w64 (of_z w64 c.number_of.result) ≡ n.id = to_z-of_z c.number_of.ensures.ranged ∙ c.number_of.ensures.value in
     let count = entries_push_count entries x in
     let before : c.loop-node.left + entries_count (tree_entries_view entries) ≡ c.args.left.now = so_far.1 in
     let first = key.1 in
     let second = value.1 in
     rw (more, c.in_ok-push.ensures.items)
-    (entry_trees_push c.args.depth _ entries n x so_far.0 refl key.0 value.0, omega (arith, count, before, first, second))
+    (entry_trees_push c.args.depth _ entries n x so_far.0 same key.0 value.0, omega (arith, count, before, first, second))
 
 pub read_loop_trees-returns-in_err-loop_condition-clause-fault : goal.read_loop_trees-returns-in_err-loop_condition-clause-fault
 read_loop_trees-returns-in_err-loop_condition-clause-fault t c =
@@ -192,5 +193,22 @@ read_loop_trees-returns-in_err-result-clause-fault t c =
     (SomeFails c.args.depth c.args.left.now (loop_children (loop_node_view node)))
     c.from_residual-in_err-result.result _ c.from_residual-in_err-result.ensures.1
     (rw c.deref-5.ensures.value at c.in_err-result.ensures.fault)
-    (λ e bad. inr (_, _, range.0, range.1, inr (_, _, init.0, init.1, inr (_, _, condition.0, condition.1,
-    inr (_, _, step.0, step.1, inl bad)))))
+    (λ e bad. inr (
+      _,
+      _,
+      range.0,
+      range.1,
+      inr (
+        _,
+        _,
+        init.0,
+        init.1,
+        inr (
+          _,
+          _,
+          condition.0,
+          condition.1,
+          inr (_, _, step.0, step.1, inl bad),
+        ),
+      ),
+    ))
