@@ -116,20 +116,3 @@ module _ (depth : ℕ) where
   fails_first (c ∷ cs) ds left e (inl bad) = inl bad
   fails_first (c ∷ cs) ds left e (inr (t, rest, read, sum, later)) =
       inr (t, rest, read, sum, fails_first cs ds rest e later)
-
-  pub fails_later : (cs ds : List Parts) (ts : CelTrees) (rest left : ℕ) (e : Refusal)
-      → AreTrees (IsTree depth) cs ts → rest + trees_count ts ≡ left → SomeFails depth rest ds e
-      → SomeFails depth left (cs ++ ds) e
-  fails_later [] ds no_trees rest left e are sum bad =
-      let same : rest ≡ left = omega (arith, sum) in
-      let P : ℕ → Type 0 = λ n. SomeFails depth n ds e in
-      subst P same bad
-  fails_later [] ds (tree t ts) rest left e are sum bad = absurd are
-  fails_later (c ∷ cs) ds no_trees rest left e are sum bad = absurd are
-  fails_later (c ∷ cs) ds (tree t ts) rest left e are sum bad =
-      inr (t, rest + trees_count ts, are.0, omega (arith, sum), fails_later cs ds ts rest (rest + trees_count ts) e are.1 refl bad)
-
-  -- trees of one list and of another
-  pub joined : CelTrees → CelTrees → CelTrees
-  joined no_trees us = us
-  joined (tree t ts) us = tree t (joined ts us)

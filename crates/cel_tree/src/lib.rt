@@ -18,8 +18,7 @@ mod type_entry;
 mod type_node;
 
 pub use checked::{Checked, Reference, ReferenceMap, TypeEntry, TypeMap};
-pub use maps::TREE_DEPTH;
-pub use message::{MOST_NODES, read_checked, read_checked_parts};
+pub use message::{read_checked, read_checked_parts};
 pub use tree::{Comprehension, Constant, Tree, TreeEntry};
 
 #[cfg(test)]

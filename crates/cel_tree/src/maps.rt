@@ -20,7 +20,7 @@ use std::alloc::Global;
 use std::collections::BTreeMap;
 
 /// How many levels a tree or a type may have; one that stands in no other is level 1.
-pub const TREE_DEPTH: u32 = 64;
+pub(crate) const TREE_DEPTH: u32 = 64;
 
 const REFERENCE_MAP: u32 = 2;
 

@@ -20,7 +20,7 @@ use proto_wire::{Field, Key, Refusal, keys, payloads_of, read_message};
 use std::alloc::Global;
 
 /// How many nodes a tree may have.
-pub const MOST_NODES: u32 = 2048;
+const MOST_NODES: u32 = 2048;
 
 const REFERENCE_MAP: u32 = 2;
 
