@@ -1,21 +1,21 @@
 -- The payloads of a checked expression are one or have a fault, never both, and are one at most.
-use Rattle.std.proofs.Common.{◌≡◌, ◌≢◌, ◌<◌, ◌≤◌, ◌⊎◌, inl, inr, ℕ, ℤ, cond, List, [], ◌∷◌, Contains, Option, Some, None, IsSomeAnd, MatchOption, T, arith, refl, sym, ap, subst, ◌∙◌}
+use Rattle.std.proofs.Common.{◌≡◌, ◌≢◌, ◌≤◌, ◌⊎◌, inl, inr, ℕ, List, [], Contains, arith, refl, subst}
 use Rattle.std.proofs.lemmas.Bool.{cases_lt}
 use Rattle.std.specs.FinMap.{FinMap, entries}
 use Rattle.std.specs.Ordering.{int_cmp}
-use Rattle.proto_wire.specs.Fields.{Wire, Fields}
-use Rattle.proto_wire.specs.Maps.{Entry, int64, AreEntries, map_of, AreValues, Readable, EntryFault, SomeEntryFault, SomeValueFault}
+use Rattle.proto_wire.specs.Fields.{Wire}
+use Rattle.proto_wire.specs.Maps.{Entry, int64, AreEntries, map_of, AreValues, EntryFault, SomeValueFault}
 use Rattle.proto_wire.specs.Values.{payloads}
 use Rattle.proto_wire.specs.declared.refusal.Refusal.{Refusal}
 use Rattle.proto_wire.specs.declared.refusal.Refusal.TheVariants.{Missing, TooLarge}
 use Rattle.proto_wire.proofs.MapLaws.{entries_total, entries_disjoint, entries_unique, entries_readable, readable_unique}
 use Rattle.proto_wire.proofs.MapValues.{values_total, values_disjoint, values_unique}
-use Rattle.cel_tree.specs.Checked.{CelChecked, CelTypeEntry, CelReference}
+use Rattle.cel_tree.specs.Checked.{CelChecked}
 use Rattle.cel_tree.specs.Message.{most_nodes, tree_depth, reference_map_field, type_map_field, expr_field, checked_keys, IsMap, MapFault, in_entry, in_faulty_entry, in_value, CheckedSays, CheckedLacks, CheckedWrong, in_tree, in_nodes, in_types, in_refs, IsChecked, CheckedFault}
 use Rattle.cel_tree.specs.Reading.{ValuesFault}
 use Rattle.cel_tree.specs.References.{IsReference, ReferenceFault}
 use Rattle.cel_tree.specs.Tree.{CelTree}
-use Rattle.cel_tree.specs.Trees.{IsTree, TreeFault, NodesFault, node_count}
+use Rattle.cel_tree.specs.Trees.{IsTree, node_count}
 use Rattle.cel_tree.specs.TypeEntries.{IsTypeEntry, TypeEntryFault}
 use Rattle.cel_tree.proofs.Basics.{nil_or_not}
 use Rattle.cel_tree.proofs.Counting.{nodes_there}

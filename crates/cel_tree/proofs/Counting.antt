@@ -1,10 +1,10 @@
 -- Numbers of nodes: those of a message's tree are there, and no more.
-use Rattle.std.proofs.Common.{◌≡◌, ◌⊎◌, inl, inr, ◌≤◌, ◌<◌, ◌+◌, ℕ, zero, suc, ℤ, List, [], ◌∷◌, ◌++◌, Contains, arith, refl, sym, ap, subst, ◌∙◌}
+use Rattle.std.proofs.Common.{◌≡◌, ◌⊎◌, inl, inr, ◌<◌, ◌+◌, ℕ, zero, suc, ℤ, List, [], ◌∷◌, ◌++◌, Contains, arith, refl}
 use Rattle.proto_wire.specs.declared.refusal.Refusal.{Refusal}
 use Rattle.proto_wire.specs.declared.refusal.Refusal.TheVariants.{TooLarge}
-use Rattle.cel_tree.specs.Tree.{CelTree, CelTarget, no_target, target, CelTrees, no_trees, tree, CelTreeEntries}
-use Rattle.cel_tree.specs.Nodes.{Parts, EntryNode, Node, constant_node, ident_node, select_node, call_node, list_node, map_node, loop_node, children, singles, IsNode}
-use Rattle.cel_tree.specs.Trees.{MadeEntries, Makes, AreTrees, IsLevel, IsTree, TreeFault, in_child, node_count, target_count, trees_count, entries_count, AllHave, HasNodes, NodesFault}
+use Rattle.cel_tree.specs.Tree.{CelTree, CelTrees, no_trees, tree, CelTreeEntries}
+use Rattle.cel_tree.specs.Nodes.{Parts, EntryNode, Node, constant_node, ident_node, select_node, call_node, list_node, map_node, loop_node, children, IsNode}
+use Rattle.cel_tree.specs.Trees.{MadeEntries, Makes, AreTrees, IsTree, TreeFault, in_child, node_count, trees_count, entries_count, AllHave, HasNodes}
 use Rattle.cel_tree.specs.steps.Inside.{TreeFails, SomeFails}
 use Rattle.cel_tree.proofs.Basics.{contains_first, contains_later}
 

@@ -1,5 +1,5 @@
 -- Maps from ids, as the code fills and reads them.
-use Rattle.std.proofs.Common.{◌≡◌, ℕ, ℤ, Bool, true, false, cond, List, [], ◌∷◌, ◌++◌, map, Option, Some, None, option_map, IsSomeAnd, MatchOption, Bor, refl, sym, ap, subst, ◌∙◌}
+use Rattle.std.proofs.Common.{◌≡◌, ℕ, ℤ, true, false, cond, List, [], ◌∷◌, ◌++◌, map, Option, Some, None, option_map, IsSomeAnd, MatchOption, Bor, refl, sym, ap, ◌∙◌}
 use Rattle.std.specs.BTreeMap.{insert_entry}
 use Rattle.std.specs.Cmp.{int_cmp_total}
 use Rattle.std.specs.FinMap.{FinMap, find, get, insert, empty, entries, from_entries, same_map, get-empty, get-entries, get-from_entries, get-insert, int_cmp-IsAntisymmetric}

@@ -1,5 +1,5 @@
 -- The trees inside a node, as the code reads them one after the other.
-use Rattle.std.proofs.Common.{◌≡◌, ◌-◌, ◌+◌, ◌<◌, ◌++◌, ◌⊎◌, inl, inr, ℕ, zero, suc, ℤ, List, [], ◌∷◌, Bor, length, take, get_or, Option, Some, None, SFits, w64, to_z, of_z, to_z-of_z, rules, arith, refl, sym, ap, ap₂, subst, ◌∙◌}
+use Rattle.std.proofs.Common.{◌≡◌, ◌-◌, ◌+◌, ◌<◌, ◌++◌, inl, inr, ℕ, zero, suc, ℤ, List, [], ◌∷◌, Bor, length, take, get_or, Option, Some, None, SFits, w64, to_z, of_z, to_z-of_z, rules, arith, refl, ap, ap₂, subst}
 use Rattle.std.specs.declared.alloc.Global.{Global}
 use Rattle.std.specs.declared.boxed.Box.{Box}
 use Rattle.std.specs.declared.rc.RcStr.{RcStr}
@@ -7,12 +7,12 @@ use Rattle.std.specs.declared.vec.Vec.{Vec}
 use Rattle.proto_wire.specs.Merge.{parts_view}
 use Rattle.proto_wire.specs.declared.refusal.Refusal.{Refusal}
 use Rattle.cel_value.specs.Texts.{text_view}
-use Rattle.cel_tree.specs.Tree.{CelTree, constant, ident, select, call, list_literal, map_literal, comprehension, CelTrees, no_trees, tree, CelTreeEntries, no_tree_entries, tree_entry}
+use Rattle.cel_tree.specs.Tree.{CelTree, constant, ident, select, call, map_literal, comprehension, CelTrees, no_trees, tree, CelTreeEntries, no_tree_entries, tree_entry}
 use Rattle.cel_tree.specs.Nodes as nodes
 use Rattle.cel_tree.specs.Nodes.{Parts, Node, constant_node, ident_node, select_node, call_node, map_node, loop_node, children, entry_children, singles, IsNode, NodeFault}
-use Rattle.cel_tree.specs.Trees.{MadeEntries, AreTrees, IsTree, in_node, TreeFault, node_count, trees_count, entries_count}
-use Rattle.cel_tree.specs.View.{constant_view, tree_view, trees_view, entry_view, tree_entries_view, loop_view, loop_of, boxed_view, target_of, LoopParts}
-use Rattle.cel_tree.specs.steps.EntryViews.{entry_node_view, entry_nodes_view}
+use Rattle.cel_tree.specs.Trees.{MadeEntries, AreTrees, IsTree, in_node, node_count, trees_count, entries_count}
+use Rattle.cel_tree.specs.View.{constant_view, tree_view, trees_view, tree_entries_view, loop_view, loop_of, boxed_view, target_of, LoopParts}
+use Rattle.cel_tree.specs.steps.EntryViews.{entry_nodes_view}
 use Rattle.cel_tree.specs.steps.Inside.{TreeFails, SomeFails, Inside, IsTarget, target_nodes, EntryTrees, AreEntryTrees, AreLoopTrees}
 use Rattle.cel_tree.specs.declared.literals.EntryNode.{EntryNode}
 use Rattle.cel_tree.specs.declared.tree.Constant as constants

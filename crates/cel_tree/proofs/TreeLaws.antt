@@ -1,11 +1,11 @@
 -- The payloads of a tree are one or have a fault, never both, and are one tree at most; and they have no more nodes than
 -- it.
-use Rattle.std.proofs.Common.{◌≡◌, ◌<◌, ◌≤◌, ◌+◌, ◌⊎◌, inl, inr, ℕ, zero, suc, ℤ, List, [], ◌∷◌, ◌++◌, Contains, arith, refl, sym, ap, subst, ◌∙◌}
+use Rattle.std.proofs.Common.{◌≡◌, ◌<◌, ◌≤◌, ◌+◌, ◌⊎◌, inl, inr, ℕ, zero, suc, ℤ, List, [], ◌∷◌, Contains, arith, refl, sym, ap, subst, ◌∙◌}
 use Rattle.proto_wire.specs.declared.refusal.Refusal.{Refusal}
 use Rattle.proto_wire.specs.declared.refusal.Refusal.TheVariants.{TooLarge}
-use Rattle.cel_tree.specs.Tree.{CelTree, constant, ident, select, call, list_literal, map_literal, comprehension, CelTarget, no_target, target, CelTrees, no_trees, tree, CelTreeEntries, no_tree_entries, tree_entry}
-use Rattle.cel_tree.specs.Nodes.{Parts, EntryNode, Node, constant_node, ident_node, select_node, call_node, list_node, map_node, loop_node, children, entry_children, if_there, singles, IsNode}
-use Rattle.cel_tree.specs.Trees.{MadeEntries, Makes, AreTrees, IsLevel, IsTree, in_node, in_child, TreeFault, node_count, trees_count, AllHave, HasNodes}
+use Rattle.cel_tree.specs.Tree.{CelTree, constant, ident, select, call, list_literal, map_literal, comprehension, no_target, target, CelTrees, no_trees, tree, CelTreeEntries, no_tree_entries, tree_entry}
+use Rattle.cel_tree.specs.Nodes.{Parts, EntryNode, Node, constant_node, ident_node, select_node, call_node, list_node, map_node, loop_node, children, entry_children, IsNode}
+use Rattle.cel_tree.specs.Trees.{MadeEntries, Makes, AreTrees, IsTree, in_node, in_child, TreeFault, node_count, trees_count, AllHave, HasNodes}
 use Rattle.cel_tree.proofs.Basics.{contains_first, contains_later, contains_cases}
 use Rattle.cel_tree.proofs.Counting.{made_count}
 use Rattle.cel_tree.proofs.NodeLaws.{node_total, node_disjoint, node_unique}
@@ -159,6 +159,13 @@ all_most depth below (c ∷ cs) (tree t ts) n are (one, others, has, rest, sum) 
     let later : others ≤ trees_count ts = all_most depth below cs ts others are.1 rest in
     omega (arith, first, later, sum)
 
+-- a message is one node, and so are those inside it
+same_inside : (depth : ℕ) (parts : Parts) (x y : ℤ × Node) (inside : ℕ) → IsNode parts x.0 x.1 → IsNode parts y.0 y.1
+    → AllHave (HasNodes depth) (children x.1) inside → AllHave (HasNodes depth) (children y.1) inside
+same_inside depth parts x y inside a b have =
+    let P : ℤ × Node → Type 0 = λ z. AllHave (HasNodes depth) (children z.1) inside in
+    subst P (node_unique parts x y a b) have
+
 -- a tree's message has no more nodes than the tree
 pub nodes_most : (depth : ℕ) (parts : Parts) (t : CelTree) (n : ℕ) → IsTree depth parts t → HasNodes depth parts n → n ≤ node_count t
 nodes_most zero parts t n is has = absurd is
@@ -167,7 +174,7 @@ nodes_most (suc depth) parts t n is (inl few) =
     omega (arith, few, count)
 nodes_most (suc depth) parts t n is (inr (id, node, inside, also, have, sum)) =
     let count : node_count t ≡ 1 + trees_count is.inside = made_count is.id is.node is.inside t is.makes in
-    let same : (id, node) ≡ (is.id, is.node) = node_unique parts (id, node) (is.id, is.node) also is.is in
-    let P : ℤ × Node → Type 0 = λ x. AllHave (HasNodes depth) (children x.1) inside in
-    let most : inside ≤ trees_count is.inside = all_most depth (nodes_most depth) (children is.node) is.inside inside is.are (subst P same have) in
+    let most : inside ≤ trees_count is.inside =
+    all_most depth (nodes_most depth) (children is.node) is.inside inside is.are
+    (same_inside depth parts (id, node) (is.id, is.node) inside also is.is have) in
     omega (arith, count, most, sum)

@@ -2,7 +2,7 @@
 use Rattle.std.proofs.Common.{◌≡◌, ◌-◌, ◌<◌, ℕ, zero, suc, List, arith}
 use Rattle.proto_wire.specs.declared.refusal.Refusal.{Refusal}
 use Rattle.cel_tree.specs.Checked.{CelTypeEntry}
-use Rattle.cel_tree.specs.TypeEntries.{TypeNode, IsTypeNode, Holds, HoldsFault, IsTypeEntry, TypeNodeFault, TypeLevelFault, in_type, in_inner, TypeEntryFault}
+use Rattle.cel_tree.specs.TypeEntries.{TypeNode, IsTypeNode, Holds, HoldsFault, IsTypeEntry, TypeNodeFault, in_type, in_inner, TypeEntryFault}
 
 pub type_found : (depth : ℕ) (parts : List (List ℕ)) (node : TypeNode) (entry : CelTypeEntry) → 0 < depth
     → IsTypeNode parts node → Holds (IsTypeEntry (depth - 1)) node entry → IsTypeEntry depth parts entry

@@ -1,6 +1,6 @@
 -- Messages of single nodes, with the messages of the expressions inside as they stand:
 -- `google/api/expr/v1alpha1/syntax.proto`, Expr and the messages inside it.
-use Rattle.std.specs.Prelude.{◌≡◌, ◌≢◌, ◌⊎◌, ℕ, ℤ, Bool, true, false, List, [], ◌∷◌, ◌++◌, map, Option, Some, None, Contains, MatchOption}
+use Rattle.std.specs.Prelude.{◌≡◌, ◌≢◌, ◌⊎◌, ℕ, ℤ, Bool, true, false, List, [], ◌∷◌, ◌++◌, map, Option, Some, None, Contains}
 use Rattle.std.specs.Map.{keys_of}
 use Rattle.std.specs.Str.{IsUtf8}
 use Rattle.proto_wire.specs.Fields.{Wire}

@@ -1,5 +1,5 @@
 -- The messages of single types and nodes that the code's stand for.
-use Rattle.std.specs.Prelude.{ℤ, List, map}
+use Rattle.std.specs.Prelude.{ℤ}
 use Rattle.proto_wire.specs.Merge.{parts_view}
 use Rattle.cel_value.specs.Texts.{text_view}
 use Rattle.cel_tree.specs.Nodes as nodes

@@ -1,4 +1,4 @@
-use Rattle.std.proofs.Common.{◌≡◌, ◌++◌, ◌∷◌, [], ℕ, w64, to_z, of_z, to_z-of_z, List, map, refl, ap, ◌∙◌}
+use Rattle.std.proofs.Common.{◌≡◌, ◌++◌, ◌∷◌, [], w64, to_z, of_z, to_z-of_z, map, refl, ap, ◌∙◌}
 use Rattle.std.proofs.lemmas.List.{map-append}
 use Rattle.std.proofs.lemmas.Map.Iter.{btree_map_turn}
 use Rattle.std.specs.Cmp.{int_cmp_total}
@@ -7,10 +7,9 @@ use Rattle.std.specs.Ordering.{int_cmp}
 use Rattle.proto_wire.specs.Maps.{Entry, int64, SomeValueFault}
 use Rattle.proto_wire.specs.Merge.{parts_view}
 use Rattle.proto_wire.proofs.MapLemmas.{entries_view_find}
-use Rattle.cel_tree.specs.Message.{tree_depth}
 use Rattle.cel_tree.specs.References.{IsReference, ReferenceFault}
 use Rattle.cel_tree.specs.View.{reference_view, references_view}
-use Rattle.cel_tree.specs.steps.Named.{SomeValues, ids_view}
+use Rattle.cel_tree.specs.steps.Named.{ids_view}
 use Rattle.cel_tree.proofs.IdMaps.{no_values, some_more}
 use Rattle.cel_tree.proofs.Readers.{exit_memory_or}
 use Rattle.cel_tree.proofs.maps.read_references.Goals as goal

@@ -1,7 +1,6 @@
 use Rattle.std.proofs.Common.{map}
 use Rattle.std.specs.Map.Iter.{deref_pair}
-use Rattle.cel_tree.specs.Message.{tree_depth}
-use Rattle.cel_tree.specs.References.{IsReference, ReferenceFault}
+use Rattle.cel_tree.specs.References.{IsReference}
 use Rattle.cel_tree.specs.View.{references_view}
 use Rattle.cel_tree.specs.steps.Named.{SomeValues, ids_view}
 use Rattle.cel_tree.proofs.maps.read_references.Given as goal

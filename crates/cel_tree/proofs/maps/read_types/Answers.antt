@@ -1,4 +1,4 @@
-use Rattle.std.proofs.Common.{◌≡◌, ◌++◌, ◌∷◌, [], ℕ, w64, to_z, of_z, to_z-of_z, List, map, refl, ap, ◌∙◌}
+use Rattle.std.proofs.Common.{◌≡◌, ◌++◌, ◌∷◌, [], w64, to_z, of_z, to_z-of_z, map, refl, ap, ◌∙◌}
 use Rattle.std.proofs.lemmas.List.{map-append}
 use Rattle.std.proofs.lemmas.Map.Iter.{btree_map_turn}
 use Rattle.std.specs.Cmp.{int_cmp_total}
@@ -10,7 +10,7 @@ use Rattle.proto_wire.proofs.MapLemmas.{entries_view_find}
 use Rattle.cel_tree.specs.Message.{tree_depth}
 use Rattle.cel_tree.specs.TypeEntries.{IsTypeEntry, TypeEntryFault}
 use Rattle.cel_tree.specs.View.{type_entry_view, types_view}
-use Rattle.cel_tree.specs.steps.Named.{SomeValues, ids_view}
+use Rattle.cel_tree.specs.steps.Named.{ids_view}
 use Rattle.cel_tree.proofs.IdMaps.{no_values, some_more}
 use Rattle.cel_tree.proofs.Readers.{exit_memory_or}
 use Rattle.cel_tree.proofs.maps.read_types.Goals as goal

@@ -1,7 +1,7 @@
 use Rattle.std.proofs.Common.{map}
 use Rattle.std.specs.Map.Iter.{deref_pair}
 use Rattle.cel_tree.specs.Message.{tree_depth}
-use Rattle.cel_tree.specs.TypeEntries.{IsTypeEntry, TypeEntryFault}
+use Rattle.cel_tree.specs.TypeEntries.{IsTypeEntry}
 use Rattle.cel_tree.specs.View.{types_view}
 use Rattle.cel_tree.specs.steps.Named.{SomeValues, ids_view}
 use Rattle.cel_tree.proofs.maps.read_types.Given as goal

@@ -1,4 +1,4 @@
-use Rattle.std.proofs.Common.{◌≡◌, ℕ, List, map, ap, ◌∙◌}
+use Rattle.std.proofs.Common.{◌≡◌, List, map, ap, ◌∙◌}
 use Rattle.std.proofs.lemmas.Result.{MatchResult-weaker}
 use Rattle.std.specs.FinMap.{entries}
 use Rattle.proto_wire.specs.Fields.{Wire, field_view}
@@ -6,7 +6,7 @@ use Rattle.proto_wire.specs.Maps.{Entry, int64, AreEntries, map_of, SomeEntryFau
 use Rattle.proto_wire.specs.Merge.{parts_view}
 use Rattle.proto_wire.specs.Values.{payloads}
 use Rattle.proto_wire.proofs.MapLaws.{entries_readable}
-use Rattle.cel_tree.specs.Message.{tree_depth, reference_map_field, MapFault, in_entry, in_value}
+use Rattle.cel_tree.specs.Message.{reference_map_field, MapFault, in_entry, in_value}
 use Rattle.cel_tree.specs.References.{IsReference, ReferenceFault}
 use Rattle.cel_tree.specs.View.{references_view}
 use Rattle.cel_tree.proofs.IdMaps.{all_values}

@@ -1,11 +1,10 @@
-use Rattle.std.proofs.Common.{◌≡◌, ◌+◌, ◌-◌, ℕ, ℤ, w64, to_z, of_z, to_z-of_z, subst, ◌++◌, take, List, [], ◌∷◌, get_or, Bor, inl, inr, arith, refl, sym, ap, ◌∙◌}
+use Rattle.std.proofs.Common.{◌≡◌, ◌+◌, ℕ, ℤ, w64, to_z, of_z, to_z-of_z, subst, ◌++◌, take, List, [], ◌∷◌, get_or, Bor, inl, inr, arith, sym, ap, ◌∙◌}
 use Rattle.std.proofs.lemmas.List.{take_more}
 use Rattle.cel_tree.specs.declared.literals.EntryNode.{EntryNode}
 use Rattle.cel_tree.specs.declared.tree.TreeEntry.{TreeEntry}
 use Rattle.std.proofs.lemmas.Result.{MatchResult-weaker}
 use Rattle.proto_wire.specs.Merge.{parts_view}
-use Rattle.proto_wire.specs.declared.refusal.Refusal.{Refusal}
-use Rattle.cel_tree.specs.Nodes.{NodeFault, children, entry_children, loop_children, singles}
+use Rattle.cel_tree.specs.Nodes.{NodeFault, entry_children, loop_children, singles}
 use Rattle.cel_tree.specs.Trees.{IsTree, node_count, trees_count, entries_count}
 use Rattle.cel_tree.specs.View.{tree_view, trees_view, tree_entries_view}
 use Rattle.cel_tree.specs.steps.EntryViews.{entry_nodes_view}
