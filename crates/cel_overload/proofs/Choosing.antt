@@ -1,5 +1,5 @@
 -- What is chosen is the table's: a call that an overload takes is chosen, and what is chosen takes it.
-use Rattle.std.proofs.Common.{◌≡◌, ◌&&◌, ℕ, Bool, true, false, cond, List, [], ◌∷◌, Option, Some, None, refl, sym, ap, ◌∙◌}
+use Rattle.std.proofs.Common.{◌≡◌, ◌&&◌, Bool, true, false, cond, List, [], ◌∷◌, Some, None, refl, sym, ap}
 use Rattle.std.proofs.lemmas.Bool.{and_parts}
 use Rattle.std.proofs.lemmas.Option.{none-some}
 use Rattle.cel_value.specs.Types.{ValueType, bool_type, int_type, uint_type, text_type, bytes_type, list_type, map_type, type_eq, type_of_key}
@@ -11,7 +11,7 @@ use Rattle.cel_ops.specs.declared.comparison.CompareOp.{CompareOp}
 use Rattle.cel_ops.specs.declared.comparison.CompareOp.TheVariants as compares
 use Rattle.cel_overload.specs.Functions.{may_take}
 use Rattle.cel_overload.specs.Overloads.{IsCompared, IsNumber, IsOverload, Takes, function_of}
-use Rattle.cel_overload.specs.steps.Choosing.{Choice, are_both, are_compared, calculated, choose, choose_arithmetic, choose_binary, choose_on, choose_ternary, choose_unary, is_joined, is_number, is_ordered, is_sized, when}
+use Rattle.cel_overload.specs.steps.Choosing.{are_both, are_compared, calculated, choose, choose_arithmetic, choose_binary, choose_on, choose_ternary, choose_unary, is_joined, is_number, is_ordered, is_sized, when}
 use Rattle.cel_overload.specs.declared.function.Function.{Function}
 use Rattle.cel_overload.specs.declared.function.Function.TheVariants as functions
 use Rattle.cel_overload.specs.declared.overload.Overload.{Overload}
@@ -174,8 +174,8 @@ calculated-fits : (op : ArithmeticOp) (s t : ValueType) (o : Overload) (r : Valu
 calculated-fits op s t o r e =
     chosen_when (Fits (functions.Arithmetic op) (s ∷ t ∷ [])) (is_number s && type_eq s t)
     (overloads.Arithmetic op) s o r e (λ h.
-      let parts = and_parts (is_number s) (type_eq s t) h in
-      (refl, (is-number s parts.0, twice s t (same s t parts.1))))
+    let parts = and_parts (is_number s) (type_eq s t) h in
+    (refl, (is-number s parts.0, twice s t (same s t parts.1))))
 
 arithmetic-fits : (op : ArithmeticOp) (s t : ValueType) (o : Overload) (r : ValueType)
     → choose_arithmetic op s t ≡ Some (o, r) → Fits (functions.Arithmetic op) (s ∷ t ∷ []) o r
@@ -240,7 +240,7 @@ binary-fits functions.Or s t o r e =
 binary-fits (functions.Compare op) s t o r e =
     chosen_when (Fits (functions.Compare op) (s ∷ t ∷ [])) (are_compared op s t)
     (overloads.Compare op) bool_type o r e (λ h.
-      let parts = are-compared op s t h in (refl, (s, parts.0, twice s t parts.1, refl)))
+    let parts = are-compared op s t h in (refl, (s, parts.0, twice s t parts.1, refl)))
 binary-fits (functions.Arithmetic op) s t o r e = arithmetic-fits op s t o r e
 binary-fits functions.Index s t o r e = index-fits s t o r e
 binary-fits functions.In s t o r e = in-fits s t o r e
@@ -254,8 +254,8 @@ ternary-fits : (f : Function) (s t u : ValueType) (o : Overload) (r : ValueType)
 ternary-fits functions.Conditional s t u o r e =
     chosen_when (Fits functions.Conditional (s ∷ t ∷ u ∷ [])) (type_eq s bool_type && type_eq t u)
     overloads.Conditional t o r e (λ h.
-      let parts = and_parts (type_eq s bool_type) (type_eq t u) h in
-      (refl, rw (same s bool_type parts.0, sym (same t u parts.1)) refl))
+    let parts = and_parts (type_eq s bool_type) (type_eq t u) h in
+    (refl, rw (same s bool_type parts.0, sym (same t u parts.1)) refl))
 ternary-fits _ s t u o r e = absurd (none-some (o, r) e)
 
 on-fits : (f : Function) (ts : List ValueType) (o : Overload) (r : ValueType)

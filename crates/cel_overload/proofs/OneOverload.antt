@@ -24,7 +24,7 @@ pub call-unique : (name : List ℕ) (target : Bool) (ts : List ValueType) (o p :
 call-unique name target ts o p r s g h =
     let f = one-function (function_named name) g.0 h.0 g.1 h.1 in
     same-parts o p r s (sym (chosen g.0 target ts o r g.2)
-        ∙ ap (λ f. choose f target ts) f ∙ chosen h.0 target ts p s h.2)
+    ∙ ap (λ f. choose f target ts) f ∙ chosen h.0 target ts p s h.2)
 
 -- where nothing is chosen there is no overload
 pub unchosen : (f : Function) (target : Bool) (ts : List ValueType) → choose f target ts ≡ None
@@ -43,6 +43,7 @@ call-total name target ts = at (function_named name) refl
     chosen_or_not f named (Some (o, r)) e =
         inl (o, r, (f, named, chosen-fits f target ts o r e))
     chosen_or_not f named None e = inr (NoOverload, (f, named, unchosen f target ts e))
+
     at : (o : Option Function) → function_named name ≡ o
         → ((o : Overload) × (r : ValueType) × IsCall name target ts o r)
         ⊎ ((e : OverloadFault) × CallFault name target ts e)

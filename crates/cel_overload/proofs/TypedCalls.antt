@@ -1,5 +1,5 @@
 -- Operations on typed operands have an answer of the result's type.
-use Rattle.std.proofs.Common.{arith, ◌≡◌, ◌+◌, ◌-◌, ◌*◌, ◌/◌, ◌%◌, ◌^◌, ◌<◌, ◌==◌, ℕ, ℤ, pos, negsuc, neg_ℤ, nat_lt, nat_le, length, Bool, true, false, cond, List, [], ◌∷◌, Option, Some, None, option_map, refl, sym, ap, ◌∙◌}
+use Rattle.std.proofs.Common.{arith, ◌≡◌, ◌+◌, ◌-◌, ◌*◌, ◌/◌, ◌%◌, ◌^◌, ◌<◌, ◌==◌, ℕ, ℤ, pos, negsuc, neg_ℤ, nat_lt, nat_le, length, Bool, true, false, cond, List, [], ◌∷◌, Option, Some, option_map, refl}
 use Rattle.std.specs.Prelude.{int_div, int_rem, FitsSigned, ◌+ℤ◌, ◌-ℤ◌, ◌*ℤ◌}
 use Rattle.std.specs.Int.{w64}
 use Rattle.std.specs.Ordering.{bool_cmp, int_cmp, int_eq, is_ge, is_gt, is_le, is_lt, nat_cmp}
@@ -12,14 +12,13 @@ use Rattle.cel_value.specs.Values.{CelValue, bool, int, uint, text, bytes, list,
 use Rattle.cel_value.specs.Types.{ValueType, bool_type, int_type, uint_type, text_type, bytes_type, list_type, map_type, type_of_key, AnswerHasType, HasType}
 use Rattle.cel_value.specs.Masses.{entry_count, item_count}
 use Rattle.cel_value.specs.declared.error.CelError.TheVariants.{Overflow, ZeroDivisor}
-use Rattle.cel_value.specs.declared.cel_type.KeyType.{KeyType}
 use Rattle.cel_ops.specs.Strict.{strict_two}
 use Rattle.cel_ops.specs.Arithmetic.{arithmetic, arithmetic_of, int_answer, int_arithmetic, is_int64, opposite, opposite_of, uint_answer, uint_arithmetic}
 use Rattle.cel_ops.specs.Comparison.{comparison, comparison_of, order_of, truth}
 use Rattle.cel_ops.specs.Collections.{entry_of, in_list, in_list_of, in_map_of, item_of, size, size_of}
-use Rattle.cel_ops.specs.Logic.{conjunction, disjunction, logical_not, negation_of, not_strictly_false}
+use Rattle.cel_ops.specs.Logic.{conjunction, disjunction, logical_not, not_strictly_false}
 use Rattle.cel_ops.specs.Parts.{joined_of, text_test, text_test_of}
-use Rattle.cel_ops.specs.Typed.{Answers, IsJoined, IsOrdered, IsSized}
+use Rattle.cel_ops.specs.Typed.{Answers, IsOrdered, IsSized}
 use Rattle.cel_ops.specs.declared.arithmetic.ArithmeticOp.{ArithmeticOp}
 use Rattle.cel_ops.specs.declared.comparison.CompareOp.{CompareOp}
 use Rattle.cel_ops.specs.declared.texts.TextTest.{TextTest}
@@ -73,7 +72,7 @@ ints-typed ArithmeticOp.Remainder a b f =
     typed_if int_type (int_eq b (pos 0)) (fails ZeroDivisor)
     (cond (is_int64 (int_div a b)) (value (int (int_rem a b))) (fails Overflow)) (λ e. tt)
     (λ some. typed_if int_type (is_int64 (int_div a b)) (value (int (int_rem a b)))
-      (fails Overflow) (λ e. remainder_fits a b some f) (λ e. tt))
+    (fails Overflow) (λ e. remainder_fits a b some f) (λ e. tt))
 
 uints-typed : (op : ArithmeticOp) (a b : ℕ) → a < 2 ^ 64 → b < 2 ^ 64
     → AnswerHasType (uint_arithmetic op a b) uint_type
@@ -279,20 +278,20 @@ pub overload-typed : (o : Overload) (ts : List ValueType) (r : ValueType)
     → Answers (overload_answer o answers) r
 overload-typed overloads.LogicalAnd ts r answers k h = rw (k.1)
     (on_two-typed conjunction bool_type bool_type bool_type conjunction-typed answers
-      (of_types answers ts _ k.0 h))
+    (of_types answers ts _ k.0 h))
 overload-typed overloads.LogicalOr ts r answers k h = rw (k.1)
     (on_two-typed disjunction bool_type bool_type bool_type disjunction-typed answers
-      (of_types answers ts _ k.0 h))
+    (of_types answers ts _ k.0 h))
 overload-typed overloads.LogicalNot ts r answers k h = rw (k.1)
     (on_one-typed logical_not bool_type bool_type not-typed answers (of_types answers ts _ k.0 h))
 overload-typed overloads.NotStrictlyFalse ts r answers k h = rw (k.1)
     (on_one-typed not_strictly_false bool_type bool_type nsf-typed answers
-      (of_types answers ts _ k.0 h))
+    (of_types answers ts _ k.0 h))
 overload-typed overloads.Conditional ts r answers k h =
     on_three-typed r answers (of_types answers ts _ k h)
 overload-typed (overloads.Compare op) ts r answers k h = rw (k.3)
     (on_two-typed (comparison op) k.0 k.0 bool_type (comparison-typed op k.0 k.1) answers
-      (of_types answers ts _ k.2 h))
+    (of_types answers ts _ k.2 h))
 overload-typed (overloads.Arithmetic op) ts r answers k h =
     on_two-typed (arithmetic op) r r r (arithmetic-typed op r k.0) answers
     (of_types answers ts _ k.1 h)
@@ -310,13 +309,13 @@ overload-typed overloads.IndexMap ts r answers k h =
     (of_types answers ts _ k.1 h)
 overload-typed overloads.InList ts r answers k h = rw (k.2)
     (on_two-typed in_list k.0 (list_type k.0) bool_type (in_list-typed k.0) answers
-      (of_types answers ts _ k.1 h))
+    (of_types answers ts _ k.1 h))
 overload-typed overloads.InMap ts r answers k h = rw (k.3)
     (on_two-typed (strict_two in_map_of) (type_of_key k.0) (map_type k.0 k.1) bool_type
-      (two in_map_of (type_of_key k.0) (map_type k.0 k.1) bool_type (in_map-typed k.0 k.1)) answers
-      (of_types answers ts _ k.2 h))
+    (two in_map_of (type_of_key k.0) (map_type k.0 k.1) bool_type (in_map-typed k.0 k.1)) answers
+    (of_types answers ts _ k.2 h))
 overload-typed overloads.Size ts r answers k h = rw (k.3)
     (on_one-typed size k.0 int_type (size-typed k.0 k.1) answers (of_types answers ts _ k.2 h))
 overload-typed (overloads.TestText test) ts r answers k h = rw (k.1)
     (on_two-typed (text_test test) text_type text_type bool_type (text_test-typed test) answers
-      (of_types answers ts _ k.0 h))
+    (of_types answers ts _ k.0 h))

@@ -1,6 +1,6 @@
 -- What calls answer and are charged: CEL language definition, "List of Standard Definitions"; the
 -- operations are those of `cel_ops`. None stands for operands of a wrong kind or number.
-use Rattle.std.specs.Prelude.{ℕ, Bool, true, false, List, [], ◌∷◌, Option, Some, None}
+use Rattle.std.specs.Prelude.{ℕ, true, false, List, [], ◌∷◌, Option, Some, None}
 use Rattle.cel_value.specs.Values.{CelValue, bool, text, bytes, list, map_of, CelAnswer, value, fails}
 use Rattle.cel_value.specs.Types.{ValueType, AnswerHasType}
 use Rattle.cel_ops.specs.Strict.{strict_two}

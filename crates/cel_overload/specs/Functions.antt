@@ -1,14 +1,13 @@
 -- Functions and their names: CEL language definition, "List of Standard Definitions".
-use Rattle.std.specs.Prelude.{ℕ, Bool, true, false, not, List, [], ◌∷◌, map, Option, Some, None, if◌then◌else◌, codes}
+use Rattle.std.specs.Prelude.{ℕ, Bool, true, not, List, [], ◌∷◌, Option, Some, None, if◌then◌else◌, codes}
 use Rattle.std.specs.Str.{bytes_eq}
-use denote.Ref.{Bor}
 use Rattle.cel_ops.specs.declared.arithmetic.ArithmeticOp.TheVariants.{Add, Subtract, Multiply, Divide, Remainder}
 use Rattle.cel_ops.specs.declared.comparison.CompareOp.TheVariants.{Equal, NotEqual, Less, LessOrEqual, Greater, GreaterOrEqual}
 use Rattle.cel_ops.specs.declared.texts.TextTest.TheVariants.{Contains, StartsWith, EndsWith}
 use Rattle.cel_overload.specs.declared.function.Function.{Function}
 use Rattle.cel_overload.specs.declared.function.Function.TheVariants as functions
 
--- every name with its function
+-- every name with its function; a name is a list of code points
 abbrev pub names : List (List ℕ × Function)
 names =
     (codes "_&&_", functions.And)

@@ -1,5 +1,5 @@
 -- The table of functions and overloads: CEL language definition, "List of Standard Definitions".
-use Rattle.std.specs.Prelude.{◌≡◌, ℕ, Bool, true, List, [], ◌∷◌, Option, Some, None}
+use Rattle.std.specs.Prelude.{◌≡◌, ℕ, Bool, true, List, [], ◌∷◌, Some, None}
 use Rattle.cel_value.specs.Types.{ValueType, bool_type, int_type, uint_type, text_type, list_type, map_type, type_of_key}
 use Rattle.cel_value.specs.declared.cel_type.KeyType.{KeyType}
 use Rattle.cel_ops.specs.Typed.{IsJoined, IsOrdered, IsSized}

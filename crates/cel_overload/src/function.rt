@@ -1,6 +1,7 @@
 //! Functions by their names (CEL language definition, "List of Standard Definitions").
 
 ghost use Rattle.std.specs.Prelude.{◌≡◌};
+ghost use Rattle.cel_value.specs.Texts.{points_of};
 ghost use Rattle.cel_overload.specs.Functions.{function_at, function_named, may_take};
 ghost use Rattle.cel_overload.specs.View.{names_view};
 
@@ -67,7 +68,7 @@ const FUNCTIONS: [(&'static str, Function); 26] = [
 
 /// The function of a name; `None` where no function has it.
 pub(crate) fn function_named(name: &str) -> Option<Function>
-    ensures { result ≡ function_named name.now }
+    ensures { result ≡ function_named (points_of name.now) }
 {
     find_function(&FUNCTIONS, name)
 }

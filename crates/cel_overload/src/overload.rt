@@ -1,6 +1,7 @@
 //! Overloads: which one a call is, by its function and its operands' types.
 
 ghost use Rattle.std.specs.Prelude.{◌≡◌, IfErr, IfOk, option_map};
+ghost use Rattle.cel_value.specs.Texts.{points_of};
 ghost use Rattle.cel_value.specs.Types.{key_type_eq, type_eq, type_of_key, type_view};
 ghost use Rattle.cel_overload.specs.Overloads.{CallFault, IsCall};
 ghost use Rattle.cel_overload.specs.View.{found_view, result_view, types_of};
@@ -64,8 +65,9 @@ pub fn find_overload<'a>(
     has_target: bool,
     operands: &[&'a CelType],
 ) -> Result<Found<'a>, OverloadFault>
-    ensures found { IfOk result (λ f. IsCall name.now has_target (types_of operands.now) f.overload (result_view f.result)) }
-    ensures fault { IfErr result (λ e. CallFault name.now has_target (types_of operands.now) e) }
+    ensures found { IfOk result (λ f. IsCall (points_of name.now) has_target (types_of operands.now)
+        f.overload (result_view f.result)) }
+    ensures fault { IfErr result (CallFault (points_of name.now) has_target (types_of operands.now)) }
 {
     match function_named(name) {
         None => Err(OverloadFault::UnknownName),
@@ -124,11 +126,7 @@ fn choose_unary<'a>(function: Function, operand: &'a CelType) -> Option<Found<'a
     }
 }
 
-fn choose_binary<'a>(
-    function: Function,
-    left: &'a CelType,
-    right: &'a CelType,
-) -> Option<Found<'a>>
+fn choose_binary<'a>(function: Function, left: &'a CelType, right: &'a CelType) -> Option<Found<'a>>
     ensures { option_map found_view result ≡ choose_binary function (type_view left.now) (type_view right.now) }
 {
     match function {
@@ -207,11 +205,7 @@ fn choose_in<'a>(left: &'a CelType, right: &'a CelType) -> Option<Found<'a>>
 {
     match right {
         CelType::List(items) => when(*left == **items, Overload::InList, ResultType::Bool),
-        CelType::Map(keys, _) => when(
-            has_key_type(left, *keys),
-            Overload::InMap,
-            ResultType::Bool,
-        ),
+        CelType::Map(keys, _) => when(has_key_type(left, *keys), Overload::InMap, ResultType::Bool),
         CelType::Bool | CelType::Int | CelType::Uint | CelType::Text | CelType::Bytes => None,
     }
 }

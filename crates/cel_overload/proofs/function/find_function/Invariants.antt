@@ -1,4 +1,4 @@
-use Rattle.std.proofs.Common.{◌≡◌, ℕ, drop}
+use Rattle.std.proofs.Common.{◌≡◌, drop}
 use Rattle.cel_overload.specs.Functions.{function_at}
 use Rattle.cel_overload.specs.View.{names_view}
 use Rattle.cel_overload.proofs.function.find_function.Given as goal
