@@ -1,0 +1,11 @@
+pub mod Tree
+pub mod Checked
+pub mod View
+pub mod Reading
+pub mod Constants
+pub mod TypeEntries
+pub mod References
+pub mod Nodes
+pub mod Trees
+pub mod Message
+pub mod steps

@@ -1,0 +1,289 @@
+-- Messages of single nodes, with the messages of the expressions inside as they stand:
+-- `google/api/expr/v1alpha1/syntax.proto`, Expr and the messages inside it.
+use Rattle.std.specs.Prelude.{◌≡◌, ◌≢◌, ◌⊎◌, ℕ, ℤ, Bool, true, false, List, [], ◌∷◌, ◌++◌, map, Option, Some, None, Contains, MatchOption}
+use Rattle.std.specs.Map.{keys_of}
+use Rattle.std.specs.Str.{IsUtf8}
+use Rattle.proto_wire.specs.Fields.{Wire}
+use Rattle.proto_wire.specs.Keys.{len_key, varint_key}
+use Rattle.proto_wire.specs.Oneof.{member_run}
+use Rattle.proto_wire.specs.Values.{bool_at, int64_at, bytes_at, payloads, has_field, Utf8Fault}
+use Rattle.proto_wire.specs.declared.key.Key.{Key}
+use Rattle.proto_wire.specs.declared.refusal.Refusal.{Refusal}
+use Rattle.proto_wire.specs.declared.refusal.Refusal.TheVariants.{Unsupported}
+use Rattle.cel_value.specs.Texts.{points_of}
+use Rattle.cel_value.specs.Values.{CelValue}
+use Rattle.cel_tree.specs.Constants.{IsConstant, ConstantFault}
+use Rattle.cel_tree.specs.Reading.{Reads, ReadFault, LacksNothing, last_number, OneofSays, Never, LacksMember, IsUnsupported, OneofFault}
+use Rattle.cel_tree.specs.declared.node.NodeKind.{NodeKind}
+use Rattle.cel_tree.specs.declared.node.NodeKind.TheVariants as kinds
+
+-- the parts of a message that may stand in several payloads
+abbrev pub Parts : Type 0
+Parts = List (List ℕ)
+
+-- ---- what a node is, without its id
+
+-- an entry of a map literal: its id, and the parts of its key and of its value
+pub record EntryNode : Type 0 where
+  pub id : ℤ
+  pub key : Parts
+  pub value : Parts
+
+-- the names of a comprehension, and the parts of its expressions
+pub record LoopNode : Type 0 where
+  pub iter_var : List ℕ
+  pub accu_var : List ℕ
+  pub iter_range : Parts
+  pub accu_init : Parts
+  pub loop_condition : Parts
+  pub loop_step : Parts
+  pub result : Parts
+
+-- a node; a call without a target has no parts of one
+pub data Node : Type 0 where
+  constant_node : CelValue → Node
+  ident_node : (name : List ℕ) → Node
+  select_node : (operand : Parts) (field : List ℕ) (test_only : Bool) → Node
+  call_node : (function : List ℕ) (target : Parts) (args : List (List ℕ)) → Node
+  list_node : (elements : List (List ℕ)) → Node
+  map_node : (entries : List EntryNode) → Node
+  loop_node : LoopNode → Node
+
+-- messages that have one payload each
+abbrev pub singles : List (List ℕ) → List Parts
+singles payloads = map (λ p. p ∷ []) payloads
+
+-- a message where it is there
+abbrev pub if_there : Parts → List Parts
+if_there [] = []
+if_there (part ∷ parts) = (part ∷ parts) ∷ []
+
+-- the keys and values of entries
+abbrev pub entry_children : List EntryNode → List Parts
+entry_children [] = []
+entry_children (e ∷ es) = e.key ∷ e.value ∷ entry_children es
+
+-- the expressions inside a node, in order
+abbrev pub children : Node → List Parts
+children (constant_node v) = []
+children (ident_node name) = []
+children (select_node operand field test_only) = operand ∷ []
+children (call_node function target args) = if_there target ++ singles args
+children (list_node elements) = singles elements
+children (map_node entries) = entry_children entries
+children (loop_node p) = p.iter_range ∷ p.accu_init ∷ p.loop_condition ∷ p.loop_step ∷ p.result
+    ∷ []
+
+-- ---- Ident
+
+abbrev pub ident_keys : List Key
+ident_keys = len_key 1 ∷ []
+
+abbrev pub IdentSays : List Wire → Node → Type 0
+IdentSays fs node = IsUtf8 (bytes_at 1 fs) × (node ≡ ident_node (points_of (bytes_at 1 fs)))
+
+abbrev pub IdentWrong : List Wire → Refusal → Type 0
+IdentWrong fs e = Utf8Fault (bytes_at 1 fs) e
+
+-- ---- Select: operand 1, field 2, test_only 3
+
+abbrev pub select_keys : List Key
+select_keys = len_key 1 ∷ len_key 2 ∷ varint_key 3 ∷ []
+
+abbrev pub SelectSays : List Wire → Node → Type 0
+SelectSays fs node = IsUtf8 (bytes_at 2 fs) × (payloads 1 fs ≢ [])
+    × (node ≡ select_node (payloads 1 fs) (points_of (bytes_at 2 fs)) (bool_at 3 fs))
+
+-- that the operand lacks counts only where the field's name reads
+abbrev pub SelectLacks : List Wire → Type 0
+SelectLacks fs = IsUtf8 (bytes_at 2 fs) × (payloads 1 fs ≡ [])
+
+abbrev pub SelectWrong : List Wire → Refusal → Type 0
+SelectWrong fs e = Utf8Fault (bytes_at 2 fs) e
+
+-- ---- Call: target 1, function 2, args 3
+
+abbrev pub call_keys : List Key
+call_keys = len_key 1 ∷ len_key 2 ∷ len_key 3 ∷ []
+
+abbrev pub CallSays : List Wire → Node → Type 0
+CallSays fs node = IsUtf8 (bytes_at 2 fs)
+    × (node ≡ call_node (points_of (bytes_at 2 fs)) (payloads 1 fs) (payloads 3 fs))
+
+abbrev pub CallWrong : List Wire → Refusal → Type 0
+CallWrong fs e = Utf8Fault (bytes_at 2 fs) e
+
+-- ---- CreateList: elements 1, optional_indices 2, which are not supported, packed or one by one
+
+abbrev pub list_keys : List Key
+list_keys = len_key 1 ∷ len_key 2 ∷ varint_key 2 ∷ []
+
+abbrev pub ListSays : List Wire → Node → Type 0
+ListSays fs node = (has_field 2 fs ≡ false) × (node ≡ list_node (payloads 1 fs))
+
+abbrev pub ListWrong : List Wire → Refusal → Type 0
+ListWrong fs e = (has_field 2 fs ≡ true) × (e ≡ Unsupported)
+
+-- ---- CreateStruct.Entry: id 1, field_key 2, which is not supported, or map_key 3, value 4,
+-- optional_entry 5, which is not supported where it is true
+
+abbrev pub map_key_field : ℕ
+map_key_field = 3
+
+-- the members of the oneof
+abbrev pub key_members : List Key
+key_members = len_key 2 ∷ len_key map_key_field ∷ []
+
+abbrev pub entry_keys : List Key
+entry_keys = varint_key 1 ∷ len_key 2 ∷ len_key map_key_field ∷ len_key 4 ∷ varint_key 5 ∷ []
+
+pub record EntrySays (fs : List Wire) (entry : EntryNode) : Type 0 where
+  pub plain : bool_at 5 fs ≡ false
+  pub keyed : last_number key_members fs ≡ Some map_key_field
+  pub there : payloads 4 fs ≢ []
+  pub id : entry.id ≡ int64_at 1 fs
+  pub key : entry.key ≡ payloads map_key_field (member_run key_members fs)
+  pub value : entry.value ≡ payloads 4 fs
+
+abbrev pub EntryLacks : List Wire → Type 0
+EntryLacks fs = (last_number key_members fs ≡ None) ⊎ (payloads 4 fs ≡ [])
+
+pub data EntryWrong (fs : List Wire) (e : Refusal) : Type 0 where
+  optional : bool_at 5 fs ≡ true → e ≡ Unsupported → EntryWrong fs e
+  key_of_message : (n : ℕ) → last_number key_members fs ≡ Some n → n ≢ map_key_field
+      → e ≡ Unsupported → EntryWrong fs e
+
+-- the payload is an entry
+abbrev pub IsEntry : List ℕ → EntryNode → Type 0
+IsEntry payload entry = Reads entry_keys EntrySays (payload ∷ []) entry
+
+abbrev pub EntryFault : List ℕ → Refusal → Type 0
+EntryFault payload e = ReadFault entry_keys EntryLacks EntryWrong (payload ∷ []) e
+
+-- each payload is an entry, in order
+abbrev pub AreEntries : List (List ℕ) → List EntryNode → Type 0
+AreEntries [] [] = Unit {0}
+AreEntries [] (entry ∷ entries) = ⊥
+AreEntries (payload ∷ payloads) [] = ⊥
+AreEntries (payload ∷ payloads) (entry ∷ entries) =
+    IsEntry payload entry × AreEntries payloads entries
+
+-- ---- CreateStruct: message_name 1, which is not supported where it is not empty, entries 2
+
+abbrev pub struct_keys : List Key
+struct_keys = len_key 1 ∷ len_key 2 ∷ []
+
+abbrev pub StructSays : List Wire → Node → Type 0
+StructSays fs node = (bytes_at 1 fs ≡ [])
+    × (entries : List EntryNode) × AreEntries (payloads 2 fs) entries × (node ≡ map_node entries)
+
+pub data StructWrong (fs : List Wire) (e : Refusal) : Type 0 where
+  of_message : bytes_at 1 fs ≢ [] → e ≡ Unsupported → StructWrong fs e
+  in_entry : (payload : List ℕ) → Contains (payloads 2 fs) payload → EntryFault payload e
+      → StructWrong fs e
+
+-- ---- Comprehension: iter_var 1, iter_range 2, accu_var 3, accu_init 4, loop_condition 5,
+-- loop_step 6, result 7, iter_var2 8, which is not supported where it is not empty
+
+abbrev pub loop_keys : List Key
+loop_keys = len_key 1 ∷ len_key 2 ∷ len_key 3 ∷ len_key 4 ∷ len_key 5 ∷ len_key 6 ∷ len_key 7
+    ∷ len_key 8 ∷ []
+
+-- the names are texts, and there is one name of an element
+pub record NamesRead (fs : List Wire) : Type 0 where
+  pub iter_var : IsUtf8 (bytes_at 1 fs)
+  pub accu_var : IsUtf8 (bytes_at 3 fs)
+  pub one : bytes_at 8 fs ≡ []
+
+-- each part is there
+pub record PartsThere (fs : List Wire) : Type 0 where
+  pub iter_range : payloads 2 fs ≢ []
+  pub accu_init : payloads 4 fs ≢ []
+  pub loop_condition : payloads 5 fs ≢ []
+  pub loop_step : payloads 6 fs ≢ []
+  pub result : payloads 7 fs ≢ []
+
+-- the names and parts of the fields
+abbrev pub loop_at : List Wire → LoopNode
+loop_at fs = record {
+  iter_var = points_of (bytes_at 1 fs);
+  accu_var = points_of (bytes_at 3 fs);
+  iter_range = payloads 2 fs;
+  accu_init = payloads 4 fs;
+  loop_condition = payloads 5 fs;
+  loop_step = payloads 6 fs;
+  result = payloads 7 fs;
+}
+
+abbrev pub LoopSays : List Wire → Node → Type 0
+LoopSays fs node = NamesRead fs × PartsThere fs × (node ≡ loop_node (loop_at fs))
+
+-- some part is not there
+pub data LacksPart (fs : List Wire) : Type 0 where
+  no_range : payloads 2 fs ≡ [] → LacksPart fs
+  no_init : payloads 4 fs ≡ [] → LacksPart fs
+  no_condition : payloads 5 fs ≡ [] → LacksPart fs
+  no_step : payloads 6 fs ≡ [] → LacksPart fs
+  no_result : payloads 7 fs ≡ [] → LacksPart fs
+
+-- that it lacks counts only where the names read
+abbrev pub LoopLacks : List Wire → Type 0
+LoopLacks fs = NamesRead fs × LacksPart fs
+
+pub data LoopWrong (fs : List Wire) (e : Refusal) : Type 0 where
+  bad_iter_var : Utf8Fault (bytes_at 1 fs) e → LoopWrong fs e
+  bad_accu_var : Utf8Fault (bytes_at 3 fs) e → LoopWrong fs e
+  two_variables : bytes_at 8 fs ≢ [] → e ≡ Unsupported → LoopWrong fs e
+
+-- ---- Expr: id 2, and a oneof
+
+-- the members of the oneof: const_expr, ident_expr, select_expr, call_expr, list_expr, struct_expr,
+-- comprehension_expr
+abbrev pub node_kinds : List (Key × Option NodeKind)
+node_kinds = (len_key 3, Some kinds.Constant) ∷ (len_key 4, Some kinds.Ident)
+    ∷ (len_key 5, Some kinds.Select) ∷ (len_key 6, Some kinds.Call) ∷ (len_key 7, Some kinds.List)
+    ∷ (len_key 8, Some kinds.Struct) ∷ (len_key 9, Some kinds.Comprehension) ∷ []
+
+abbrev pub node_keys : List Key
+node_keys = varint_key 2 ∷ keys_of node_kinds
+
+-- the payloads of the member's run merge to a message that says the node
+abbrev pub KindSays : NodeKind → Parts → Node → Type 0
+KindSays kinds.Constant parts node =
+    (v : CelValue) × IsConstant parts v × (node ≡ constant_node v)
+KindSays kinds.Ident parts node = Reads ident_keys IdentSays parts node
+KindSays kinds.Select parts node = Reads select_keys SelectSays parts node
+KindSays kinds.Call parts node = Reads call_keys CallSays parts node
+KindSays kinds.List parts node = Reads list_keys ListSays parts node
+KindSays kinds.Struct parts node = Reads struct_keys StructSays parts node
+KindSays kinds.Comprehension parts node = Reads loop_keys LoopSays parts node
+
+-- what is wrong with that message
+abbrev pub KindFault : NodeKind → Parts → Refusal → Type 0
+KindFault kinds.Constant parts e = ConstantFault parts e
+KindFault kinds.Ident parts e = ReadFault ident_keys LacksNothing IdentWrong parts e
+KindFault kinds.Select parts e = ReadFault select_keys SelectLacks SelectWrong parts e
+KindFault kinds.Call parts e = ReadFault call_keys LacksNothing CallWrong parts e
+KindFault kinds.List parts e = ReadFault list_keys LacksNothing ListWrong parts e
+KindFault kinds.Struct parts e = ReadFault struct_keys LacksNothing StructWrong parts e
+KindFault kinds.Comprehension parts e = ReadFault loop_keys LoopLacks LoopWrong parts e
+
+abbrev pub MemberSays : NodeKind → ℕ → List Wire → Node → Type 0
+MemberSays kind n run node = KindSays kind (payloads n run) node
+
+abbrev pub MemberFails : NodeKind → ℕ → List Wire → Refusal → Type 0
+MemberFails kind n run e = KindFault kind (payloads n run) e
+
+-- the fields say the id and the node
+abbrev pub NodeSays : List Wire → ℤ × Node → Type 0
+NodeSays fs x = (x.0 ≡ int64_at 2 fs) × OneofSays node_kinds Never MemberSays fs x.1
+
+-- the parts merge to an Expr with this id and of this kind, whatever stands in the expressions
+-- inside
+abbrev pub IsNode : Parts → ℤ → Node → Type 0
+IsNode parts id node = Reads node_keys NodeSays parts (id, node)
+
+-- what is wrong with its own message
+abbrev pub NodeFault : Parts → Refusal → Type 0
+NodeFault = ReadFault node_keys (LacksMember node_kinds) 
+    (OneofFault node_kinds IsUnsupported MemberFails)

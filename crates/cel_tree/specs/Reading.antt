@@ -1,0 +1,73 @@
+-- Messages that say something by their fields, and what is wrong with them: Protocol Buffers
+-- encoding guide, "Message Structure", "Last One Wins" and "Oneofs".
+use Rattle.std.specs.Prelude.{◌≡◌, ◌⊎◌, ℕ, ◌==◌, List, Option, Some, None, MatchOption, option_map}
+use Rattle.std.specs.Map.{lookup, keys_of}
+use Rattle.std.specs.Option.{option_and_then}
+use Rattle.proto_wire.specs.Fields.{Wire}
+use Rattle.proto_wire.specs.Merge.{Merges}
+use Rattle.proto_wire.specs.Messages.{IsMessage, MessageFault}
+use Rattle.proto_wire.specs.Oneof.{last_member, member_run}
+use Rattle.proto_wire.specs.declared.key.Key.{Key}
+use Rattle.proto_wire.specs.declared.refusal.Refusal.{Refusal}
+use Rattle.proto_wire.specs.declared.refusal.Refusal.TheVariants.{Missing, Unsupported}
+
+-- ---- messages
+
+-- the parts merge to a message of known fields, which say this
+abbrev pub Reads : {T : Type 0} → List Key → (List Wire → T → Type 0) → List (List ℕ) → T → Type 0
+Reads keys Says parts x = (fs : List Wire) × IsMessage keys parts fs × Says fs x
+
+-- what is wrong with the values of fields: something that must be there lacks, or a value is wrong
+abbrev pub ValuesFault : (List Wire → Type 0) → (List Wire → Refusal → Type 0) → List Wire → Refusal
+    → Type 0
+ValuesFault Lacks Wrong fs e = (Lacks fs × (e ≡ Missing)) ⊎ Wrong fs e
+
+-- what is wrong with a message: its fields; that something lacks, where its fields are known; or a
+-- value
+pub data ReadFault (keys : List Key) (Lacks : List Wire → Type 0)
+    (Wrong : List Wire → Refusal → Type 0) (parts : List (List ℕ)) (e : Refusal) : Type 0 where
+  in_fields : MessageFault keys parts e → ReadFault keys Lacks Wrong parts e
+  lacking : (fs : List Wire) → IsMessage keys parts fs → Lacks fs → e ≡ Missing
+      → ReadFault keys Lacks Wrong parts e
+  in_values : (fs : List Wire) → Merges parts fs → Wrong fs e → ReadFault keys Lacks Wrong parts e
+
+-- nothing has to be there
+abbrev pub LacksNothing : List Wire → Type 0
+LacksNothing fs = ⊥
+
+-- ---- oneofs, by a table of their members; none stands for a member that is not supported
+
+-- the number of the last member, by the members' keys
+abbrev pub last_number : List Key → List Wire → Option ℕ
+last_number keys fs = option_map (λ f. f.number) (last_member keys fs)
+
+-- what the member of this number is
+abbrev pub member_in : {M : Type 0} → List (Key × Option M) → ℕ → Option M
+member_in table n = option_and_then (λ m. m) (lookup (λ key. key.number == n) table)
+
+-- the run of the last member says it; without a member, or where the last one is not supported,
+-- this is said
+abbrev pub OneofSays : {M T : Type 0} → List (Key × Option M) → (T → Type 0)
+    → (M → ℕ → List Wire → T → Type 0) → List Wire → T → Type 0
+OneofSays table Without Says fs x = MatchOption (last_number (keys_of table) fs) (Without x)
+    (λ n. MatchOption (member_in table n) (Without x)
+    (λ m. Says m n (member_run (keys_of table) fs) x))
+
+-- nothing is said, or no fault is there
+abbrev pub Never : {T : Type 0} → T → Type 0
+Never x = ⊥
+
+-- there is no member
+abbrev pub LacksMember : {M : Type 0} → List (Key × Option M) → List Wire → Type 0
+LacksMember table fs = last_number (keys_of table) fs ≡ None
+
+-- the fault of a member that is not supported
+abbrev pub IsUnsupported : Refusal → Type 0
+IsUnsupported e = e ≡ Unsupported
+
+-- the run of the last member has this fault; where that one is not supported, it is this
+abbrev pub OneofFault : {M : Type 0} → List (Key × Option M) → (Refusal → Type 0)
+    → (M → ℕ → List Wire → Refusal → Type 0) → List Wire → Refusal → Type 0
+OneofFault table Refused Fails fs e = MatchOption (last_number (keys_of table) fs) ⊥
+    (λ n. MatchOption (member_in table n) (Refused e)
+    (λ m. Fails m n (member_run (keys_of table) fs) e))

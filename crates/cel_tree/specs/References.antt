@@ -1,0 +1,58 @@
+-- Entries of the reference map: `google/api/expr/v1alpha1/checked.proto`, Reference.
+use Rattle.std.specs.Prelude.{◌≡◌, ℕ, List, [], ◌∷◌, Option, Some, None, Contains}
+use Rattle.std.specs.List.{AllByRecursion}
+use Rattle.std.specs.Str.{IsUtf8}
+use Rattle.proto_wire.specs.Fields.{Wire}
+use Rattle.proto_wire.specs.Keys.{len_key}
+use Rattle.proto_wire.specs.Values.{bytes_at, payloads, Utf8Fault}
+use Rattle.proto_wire.specs.declared.key.Key.{Key}
+use Rattle.proto_wire.specs.declared.refusal.Refusal.{Refusal}
+use Rattle.cel_value.specs.Texts.{points_of}
+use Rattle.cel_value.specs.Values.{CelValue}
+use Rattle.cel_tree.specs.Checked.{CelReference}
+use Rattle.cel_tree.specs.Constants.{IsConstant, ConstantFault}
+use Rattle.cel_tree.specs.Reading.{Reads, ReadFault, LacksNothing}
+
+-- the numbers of the fields, and all of them
+abbrev pub name_field : ℕ
+name_field = 1
+
+abbrev pub overload_id_field : ℕ
+overload_id_field = 3
+
+abbrev pub value_field : ℕ
+value_field = 4
+
+abbrev pub reference_keys : List Key
+reference_keys = len_key name_field ∷ len_key overload_id_field ∷ len_key value_field ∷ []
+
+-- the constant that the payloads merge to, and none where there is no payload
+abbrev pub IsValue : List (List ℕ) → Option CelValue → Type 0
+IsValue [] value = value ≡ None
+IsValue (part ∷ parts) value = (v : CelValue) × IsConstant (part ∷ parts) v × (value ≡ Some v)
+
+abbrev pub ValueFault : List (List ℕ) → Refusal → Type 0
+ValueFault [] e = ⊥
+ValueFault (part ∷ parts) e = ConstantFault (part ∷ parts) e
+
+-- the fields say the reference; the overloads' ids are texts, and not kept
+pub record ReferenceSays (fs : List Wire) (r : CelReference) : Type 0 where
+  pub readable : IsUtf8 (bytes_at name_field fs)
+  pub ids : AllByRecursion IsUtf8 (payloads overload_id_field fs)
+  pub named : r.name ≡ points_of (bytes_at name_field fs)
+  pub valued : IsValue (payloads value_field fs) r.value
+
+-- what is wrong with a value among them
+pub data ReferenceWrong (fs : List Wire) (e : Refusal) : Type 0 where
+  bad_name : Utf8Fault (bytes_at name_field fs) e → ReferenceWrong fs e
+  bad_id : (id : List ℕ) → Contains (payloads overload_id_field fs) id → Utf8Fault id e
+      → ReferenceWrong fs e
+  in_value : ValueFault (payloads value_field fs) e → ReferenceWrong fs e
+
+-- the parts merge to this Reference
+abbrev pub IsReference : List (List ℕ) → CelReference → Type 0
+IsReference = Reads reference_keys ReferenceSays
+
+-- what is wrong with a Reference
+abbrev pub ReferenceFault : List (List ℕ) → Refusal → Type 0
+ReferenceFault = ReadFault reference_keys LacksNothing ReferenceWrong

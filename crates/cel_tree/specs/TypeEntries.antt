@@ -1,0 +1,165 @@
+-- Entries of the type map, level by level: `google/api/expr/v1alpha1/checked.proto`, Type.
+use Rattle.std.specs.Prelude.{◌≡◌, ◌≢◌, ◌⊎◌, ℕ, zero, suc, ◌==◌, List, [], ◌∷◌, Option, Some, None}
+use Rattle.std.specs.Map.{lookup, keys_of}
+use Rattle.proto_wire.specs.Fields.{Wire}
+use Rattle.proto_wire.specs.Keys.{len_key, varint_key}
+use Rattle.proto_wire.specs.Values.{payloads, uint32_at}
+use Rattle.proto_wire.specs.declared.key.Key.{Key}
+use Rattle.proto_wire.specs.declared.refusal.Refusal.{Refusal}
+use Rattle.proto_wire.specs.declared.refusal.Refusal.TheVariants.{OutOfRange, TooLarge}
+use Rattle.cel_value.specs.Types.{ValueType, bool_type, int_type, uint_type, text_type, bytes_type, list_type, map_type}
+use Rattle.cel_value.specs.declared.cel_type.KeyType.{KeyType}
+use Rattle.cel_value.specs.declared.cel_type.KeyType.TheVariants as keys
+use Rattle.cel_tree.specs.Checked.{CelTypeEntry, of_type, dyn_type, unsupported_type}
+use Rattle.cel_tree.specs.Reading.{Reads, ReadFault, LacksNothing, OneofSays, Never, OneofFault}
+use Rattle.cel_tree.specs.declared.type_node.TypeKind.{TypeKind}
+use Rattle.cel_tree.specs.declared.type_node.TypeKind.TheVariants as kinds
+
+-- ---- what types are made of
+
+-- a list of items of this type; of an entry that is no type, a list is not supported
+abbrev pub list_entry : CelTypeEntry → CelTypeEntry
+list_entry (of_type t) = of_type (list_type t)
+list_entry _ = unsupported_type
+
+-- the type of keys that a type is, none where no key has it
+abbrev pub key_type_of : ValueType → Option KeyType
+key_type_of bool_type = Some keys.Bool
+key_type_of int_type = Some keys.Int
+key_type_of uint_type = Some keys.Uint
+key_type_of text_type = Some keys.Text
+key_type_of _ = None
+
+-- a map with keys of this type, and values of that one
+abbrev pub map_with : Option KeyType → ValueType → CelTypeEntry
+map_with (Some k) t = of_type (map_type k t)
+map_with None t = unsupported_type
+
+-- a map with keys and values as the two entries say
+abbrev pub map_entry : CelTypeEntry → CelTypeEntry → CelTypeEntry
+map_entry (of_type k) (of_type t) = map_with (key_type_of k) t
+map_entry _ _ = unsupported_type
+
+-- the primitive types by number: BOOL, INT64, UINT64, DOUBLE, STRING, BYTES
+abbrev pub primitives : List (ℕ × CelTypeEntry)
+primitives = (1, of_type bool_type) ∷ (2, of_type int_type) ∷ (3, of_type uint_type)
+    ∷ (4, unsupported_type) ∷ (5, of_type text_type) ∷ (6, of_type bytes_type) ∷ []
+
+abbrev pub primitive_of : ℕ → Option CelTypeEntry
+primitive_of n = lookup (λ k. k == n) primitives
+
+-- ---- one message, with the messages of the types inside it
+
+-- a type that is read, or a list or a map with the parts of the types inside it
+pub data TypeNode : Type 0 where
+  plain : CelTypeEntry → TypeNode
+  list_of : (elem : List (List ℕ)) → TypeNode
+  map_of : (key value : List (List ℕ)) → TypeNode
+
+-- the members of the oneof: dyn, null, primitive, wrapper, well_known, list_type, map_type,
+-- function, message_type, type_param
+abbrev pub type_kinds : List (Key × Option TypeKind)
+type_kinds = (len_key 1, Some kinds.Dyn) ∷ (varint_key 2, None)
+    ∷ (varint_key 3, Some kinds.Primitive) ∷ (varint_key 4, None) ∷ (varint_key 5, None)
+    ∷ (len_key 6, Some kinds.List) ∷ (len_key 7, Some kinds.Map) ∷ (len_key 8, None)
+    ∷ (len_key 9, None) ∷ (len_key 10, None) ∷ []
+
+-- all fields: each is a member
+abbrev pub type_keys : List Key
+type_keys = keys_of type_kinds
+
+-- the numbers of a ListType's and a MapType's parts, and all of their fields
+abbrev pub elem_field : ℕ
+elem_field = 1
+
+abbrev pub list_type_keys : List Key
+list_type_keys = len_key elem_field ∷ []
+
+abbrev pub key_field : ℕ
+key_field = 1
+
+abbrev pub value_field : ℕ
+value_field = 2
+
+abbrev pub map_type_keys : List Key
+map_type_keys = len_key key_field ∷ len_key value_field ∷ []
+
+-- the fields of a ListType, which has its part
+abbrev pub ListTypeSays : List Wire → TypeNode → Type 0
+ListTypeSays fs node = (payloads elem_field fs ≢ []) × (node ≡ list_of (payloads elem_field fs))
+
+abbrev pub ListTypeWrong : List Wire → Refusal → Type 0
+ListTypeWrong fs e = (payloads elem_field fs ≡ []) × (e ≡ OutOfRange)
+
+-- the fields of a MapType, which has its parts
+abbrev pub MapTypeSays : List Wire → TypeNode → Type 0
+MapTypeSays fs node = (payloads key_field fs ≢ []) × (payloads value_field fs ≢ [])
+    × (node ≡ map_of (payloads key_field fs) (payloads value_field fs))
+
+abbrev pub MapTypeWrong : List Wire → Refusal → Type 0
+MapTypeWrong fs e =
+    ((payloads key_field fs ≡ []) ⊎ (payloads value_field fs ≡ [])) × (e ≡ OutOfRange)
+
+-- the run of the member, which has this number, says the type
+abbrev pub TypeSays : TypeKind → ℕ → List Wire → TypeNode → Type 0
+TypeSays kinds.Dyn n run node = node ≡ plain dyn_type
+TypeSays kinds.Primitive n run node =
+    (entry : CelTypeEntry) × (primitive_of (uint32_at n run) ≡ Some entry) × (node ≡ plain entry)
+TypeSays kinds.List n run node = Reads list_type_keys ListTypeSays (payloads n run) node
+TypeSays kinds.Map n run node = Reads map_type_keys MapTypeSays (payloads n run) node
+
+-- what is wrong with the run of the member
+abbrev pub TypeFails : TypeKind → ℕ → List Wire → Refusal → Type 0
+TypeFails kinds.Primitive n run e = (primitive_of (uint32_at n run) ≡ None) × (e ≡ OutOfRange)
+TypeFails kinds.List n run e =
+    ReadFault list_type_keys LacksNothing ListTypeWrong (payloads n run) e
+TypeFails kinds.Map n run e = ReadFault map_type_keys LacksNothing MapTypeWrong (payloads n run) e
+TypeFails _ n run e = ⊥
+
+-- a Type without a member is of a kind that is not supported, and so is one with another member;
+-- what that holds is not looked into
+abbrev pub IsOfOtherKind : TypeNode → Type 0
+IsOfOtherKind node = node ≡ plain unsupported_type
+
+-- the parts merge to a Type
+abbrev pub IsTypeNode : List (List ℕ) → TypeNode → Type 0
+IsTypeNode = Reads type_keys (OneofSays type_kinds IsOfOtherKind TypeSays)
+
+-- what is wrong with its own message
+abbrev pub TypeNodeFault : List (List ℕ) → Refusal → Type 0
+TypeNodeFault = ReadFault type_keys LacksNothing (OneofFault type_kinds Never TypeFails)
+
+-- ---- all levels; `Below` stands for the types one level down
+
+-- the types inside make this entry
+abbrev pub Holds : (List (List ℕ) → CelTypeEntry → Type 0) → TypeNode → CelTypeEntry → Type 0
+Holds Below (plain own) entry = entry ≡ own
+Holds Below (list_of elem) entry =
+    (item : CelTypeEntry) × Below elem item × (entry ≡ list_entry item)
+Holds Below (map_of key value) entry =
+    (k v : CelTypeEntry) × Below key k × Below value v × (entry ≡ map_entry k v)
+
+-- a type inside has this fault
+abbrev pub HoldsFault : (List (List ℕ) → Refusal → Type 0) → TypeNode → Refusal → Type 0
+HoldsFault Below (plain own) e = ⊥
+HoldsFault Below (list_of elem) e = Below elem e
+HoldsFault Below (map_of key value) e = Below key e ⊎ Below value e
+
+-- the parts merge to a Type of at most `depth` levels, which says this
+abbrev pub IsTypeEntry : ℕ → List (List ℕ) → CelTypeEntry → Type 0
+IsTypeEntry zero parts entry = ⊥
+IsTypeEntry (suc depth) parts entry =
+    (node : TypeNode) × IsTypeNode parts node × Holds (IsTypeEntry depth) node entry
+
+-- a fault of its own message, or of a type inside
+pub data TypeLevelFault (Below : List (List ℕ) → Refusal → Type 0) (parts : List (List ℕ))
+    (e : Refusal) : Type 0 where
+  in_type : TypeNodeFault parts e → TypeLevelFault Below parts e
+  in_inner : (node : TypeNode) → IsTypeNode parts node → HoldsFault Below node e
+      → TypeLevelFault Below parts e
+
+-- what is wrong with a Type that may have `depth` levels: past them any is one too deep, whatever
+-- it holds
+abbrev pub TypeEntryFault : ℕ → List (List ℕ) → Refusal → Type 0
+TypeEntryFault zero parts e = e ≡ TooLarge
+TypeEntryFault (suc depth) parts e = TypeLevelFault (TypeEntryFault depth) parts e

@@ -1,0 +1,79 @@
+//! References, and how their message is read.
+
+ghost use Rattle.std.specs.Prelude.{◌≡◌, ℕ, List, Some, IfOk, IfErr, OnOk, Contains, map, option_map};
+ghost use Rattle.std.specs.List.{AllByRecursion};
+ghost use Rattle.std.specs.Str.{IsUtf8};
+ghost use Rattle.proto_wire.specs.Fields.{field_view};
+ghost use Rattle.proto_wire.specs.Merge.{parts_view};
+ghost use Rattle.proto_wire.specs.Refusal.{MemoryOr};
+ghost use Rattle.proto_wire.specs.Values.{Utf8Fault};
+ghost use Rattle.cel_tree.specs.Reading.{ValuesFault, LacksNothing};
+ghost use Rattle.cel_tree.specs.References.{reference_keys, ReferenceSays, ReferenceWrong, IsReference, ReferenceFault, IsValue, ValueFault};
+ghost use Rattle.cel_tree.specs.View.{constant_view, reference_view};
+
+use crate::checked::Reference;
+use crate::constant::read_constant;
+use crate::tree::Constant;
+use proto_wire::{Field, Key, Refusal, keys, payloads_of, read_message, text_at, text_of};
+use std::alloc::Global;
+use std::rc::RcStr;
+
+const NAME: u32 = 1;
+
+const OVERLOAD_ID: u32 = 3;
+
+const VALUE: u32 = 4;
+
+static REFERENCE: [Key; 3] = keys![Len NAME, Len OVERLOAD_ID, Len VALUE];
+
+/// Reads a Reference, whose message stands in the parts.
+pub(crate) fn read_reference(alloc: Global, parts: &[&[u8]]) -> Result<Reference, Refusal>
+    ensures found { IfOk result (λ reference. IsReference (parts_view parts.now) (reference_view reference)) }
+    ensures fault { IfErr result (MemoryOr (ReferenceFault (parts_view parts.now))) }
+{
+    let fields = read_message(alloc, parts, reference_keys())?;
+    reference_of(alloc, &fields)
+}
+
+/// The reference that the fields say. The ids of overloads are read, and not kept.
+fn reference_of(alloc: Global, fields: &[Field<'_>]) -> Result<Reference, Refusal>
+    ensures found { IfOk result (λ reference. ReferenceSays (map field_view fields.now) (reference_view reference)) }
+    ensures fault { IfErr result (MemoryOr (ValuesFault LacksNothing ReferenceWrong (map field_view fields.now))) }
+{
+    let name = text_at(fields, NAME)?;
+    let ids = payloads_of(alloc, fields, OVERLOAD_ID)?;
+    require_texts(&ids)?;
+    let parts = payloads_of(alloc, fields, VALUE)?;
+    let value = read_value(alloc, &parts)?;
+    let name = RcStr::from_str(alloc, name)?;
+    Ok(Reference { name, value })
+}
+
+/// Refuses payloads of which some is no text.
+fn require_texts(payloads: &[&[u8]]) -> Result<(), Refusal>
+    ensures found { OnOk result (AllByRecursion IsUtf8 (parts_view payloads.now)) }
+    ensures fault { IfErr result (λ e. (text : List ℕ) × Contains (parts_view payloads.now) text × Utf8Fault text e) }
+{
+    for payload in payloads {
+        text_of(payload)?;
+    }
+    Ok(())
+}
+
+/// Reads a constant, whose message stands in the parts; none where there is no part.
+fn read_value(alloc: Global, parts: &[&[u8]]) -> Result<Option<Constant>, Refusal>
+    ensures found { IfOk result (λ value. IsValue (parts_view parts.now) (option_map constant_view value)) }
+    ensures fault { IfErr result (MemoryOr (ValueFault (parts_view parts.now))) }
+{
+    if parts.is_empty() {
+        return Ok(None);
+    }
+    Ok(Some(read_constant(alloc, parts)?))
+}
+
+/// The fields of a Reference.
+fn reference_keys() -> &'static [Key]
+    ensures { result.now ≡ reference_keys }
+{
+    &REFERENCE
+}
