@@ -1,2 +1,3 @@
 pub mod Written
 pub mod StandardFacts
+pub mod OneType

@@ -1,3 +1,4 @@
 pub mod Attributes
 pub mod Names
 pub mod Meaning
+pub mod Typing
