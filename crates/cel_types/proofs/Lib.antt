@@ -1,3 +1,6 @@
 pub mod Written
 pub mod StandardFacts
 pub mod OneType
+pub mod Apart
+pub mod CheckLaws
+pub mod TypingFacts

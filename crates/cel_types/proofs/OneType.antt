@@ -11,7 +11,7 @@ use Rattle.cel_overload.proofs.OneOverload.{call-unique}
 use Rattle.cel_types.specs.Names.{root_of}
 use Rattle.cel_types.specs.Typing.{CallRule, IsOver, Kinds, ListRule, LoopRule, MapRule, Maps, SelectRule, TypeGiven, Types, TypesAll, TypesEach, TypesPairs, TypesTarget, has_target}
 
-one-some : {A : Type 0} (o : Option A) (a b : A) → o ≡ Some a → o ≡ Some b → a ≡ b
+pub one-some : {A : Type 0} (o : Option A) (a b : A) → o ≡ Some a → o ≡ Some b → a ≡ b
 one-some o a b d e = let k : Some a ≡ Some b = sym d ∙ e in cc
 
 -- one type at most is as said
@@ -24,7 +24,7 @@ given-one (Some dyn_type) a b g h = absurd g
 given-one (Some unsupported_type) a b g h = absurd g
 given-one (Some (of_type s)) a b g h = sym g ∙ h
 
-select-one : (ref : Option CelReference) (root : Option (List ℕ)) (Operand : ValueType → Type 0)
+pub select-one : (ref : Option CelReference) (root : Option (List ℕ)) (Operand : ValueType → Type 0)
     (field : List ℕ) (test_only : Bool) → OneAtMost Operand
     → OneAtMost (SelectRule ref root Operand field test_only)
 select-one ref (Some root) Operand field true one a b g h = absurd g
@@ -34,13 +34,13 @@ select-one ref None Operand field test_only one a b g h =
     let values : g.0 ≡ h.0 = cc in
     g.2 ∙ rw values refl ∙ sym h.2
 
-call-one : (name : List ℕ) (on : Bool) (Operands : List ValueType → Type 0) → OneAtMost Operands
+pub call-one : (name : List ℕ) (on : Bool) (Operands : List ValueType → Type 0) → OneAtMost Operands
     → OneAtMost (CallRule name on Operands)
 call-one name on Operands one a b g h =
     let same : g.0 ≡ h.0 = one g.0 h.0 g.1 h.1 in
     (call-unique name on h.0 g.2 h.2 a b (rw (sym same) (g.3)) h.3).1
 
-list-one : (entry : Option CelTypeEntry) (elements : CelTrees) (Elements : ValueType → Type 0)
+pub list-one : (entry : Option CelTypeEntry) (elements : CelTrees) (Elements : ValueType → Type 0)
     → ((first : CelTree) (others : CelTrees) → elements ≡ tree first others → OneAtMost Elements)
     → OneAtMost (ListRule entry elements Elements)
 list-one entry no_trees Elements one a b g h = given-one entry a b g.0 h.0
@@ -65,7 +65,7 @@ key-one keys.Text keys.Bool e = cc
 key-one keys.Text keys.Int e = cc
 key-one keys.Text keys.Uint e = cc
 
-map-one : (entry : Option CelTypeEntry) (entries : CelTreeEntries)
+pub map-one : (entry : Option CelTypeEntry) (entries : CelTreeEntries)
     (Pairs : ValueType → ValueType → Type 0)
     → ((id : ℤ) (key value : CelTree) (others : CelTreeEntries)
       → entries ≡ tree_entry id key value others → (j k s t : ValueType) → Pairs j s → Pairs k t
@@ -76,17 +76,17 @@ map-one entry (tree_entry id key value others) Pairs one a b g h =
     let same = one id key value others refl (type_of_key g.0) (type_of_key h.0) g.1 h.1 g.2 h.2 in
     g.3 ∙ ap₂ map_type (key-one g.0 h.0 same.0) same.1 ∙ sym h.3
 
-over-one : (walked : ValueType) → OneAtMost (IsOver walked)
+pub over-one : (walked : ValueType) → OneAtMost (IsOver walked)
 over-one (list_type s) a b g h = g ∙ sym h
 over-one (map_type k s) a b g h = g ∙ sym h
 over-one _ a b g h = absurd g
 
-loop-one : (x acc : List ℕ) (ks : Kinds) (Range Init : ValueType → Type 0)
+pub loop-one : (x acc : List ℕ) (Range Init : ValueType → Type 0)
     (Condition Step : ValueType → ValueType → ValueType → Type 0)
     (Result : ValueType → ValueType → Type 0) → OneAtMost Range → OneAtMost Init
     → ((gathered : ValueType) → OneAtMost (Result gathered))
-    → OneAtMost (LoopRule x acc ks Range Init Condition Step Result)
-loop-one x acc ks Range Init Condition Step Result range init result a b g h =
+    → OneAtMost (LoopRule x acc Range Init Condition Step Result)
+loop-one x acc Range Init Condition Step Result range init result a b g h =
     let same : g.gathered ≡ h.gathered = init g.gathered h.gathered g.init h.init in
     result h.gathered a b (rw (sym same) (g.result)) h.result
 
@@ -107,13 +107,13 @@ mutual
       map-one (get m.types id) entries (TypesPairs m ks entries) (one-pair m ks entries) a b
       g.0 h.0
   one-type m ks (comprehension id x acc range init condition step result) a b g h =
-      loop-one x acc ks (Types m ks range) (Types m ks init)
+      loop-one x acc (Types m ks range) (Types m ks init)
       (λ s a. Types m ((x, s) ∷ (acc, a) ∷ ks) condition)
       (λ s a. Types m ((x, s) ∷ (acc, a) ∷ ks) step)
       (λ a. Types m ((acc, a) ∷ ks) result) (one-type m ks range) (one-type m ks init)
       (λ gathered. one-type m ((acc, gathered) ∷ ks) result) a b g.0 h.0
 
-  one-target : (m : Maps) (ks : Kinds) (on : CelTarget) (args : CelTrees)
+  pub one-target : (m : Maps) (ks : Kinds) (on : CelTarget) (args : CelTrees)
       → OneAtMost (TypesEach m ks args) → OneAtMost (TypesTarget m ks on (TypesEach m ks args))
   one-target m ks no_target args one a b g h = one a b g h
   one-target m ks (target on) args one [] b g h = absurd g
@@ -121,7 +121,7 @@ mutual
   one-target m ks (target on) args one (a ∷ as') (b ∷ bs) g h =
       ap₂ (λ t ts. t ∷ ts) (one-type m ks on a b g.0 h.0) (one as' bs g.1 h.1)
 
-  one-each : (m : Maps) (ks : Kinds) (ts : CelTrees) → OneAtMost (TypesEach m ks ts)
+  pub one-each : (m : Maps) (ks : Kinds) (ts : CelTrees) → OneAtMost (TypesEach m ks ts)
   one-each m ks no_trees [] [] g h = refl
   one-each m ks no_trees [] (b ∷ bs) g h = absurd h
   one-each m ks no_trees (a ∷ as') b g h = absurd g
@@ -130,12 +130,12 @@ mutual
   one-each m ks (tree t ts) (a ∷ as') (b ∷ bs) g h =
       ap₂ (λ t ts. t ∷ ts) (one-type m ks t a b g.0 h.0) (one-each m ks ts as' bs g.1 h.1)
 
-  one-all : (m : Maps) (ks : Kinds) (ts : CelTrees) (first : CelTree) (others : CelTrees)
+  pub one-all : (m : Maps) (ks : Kinds) (ts : CelTrees) (first : CelTree) (others : CelTrees)
       → ts ≡ tree first others → OneAtMost (TypesAll m ks ts)
   one-all m ks no_trees first others e a b g h = cc
   one-all m ks (tree t ts) first others e a b g h = one-type m ks t a b g.0 h.0
 
-  one-pair : (m : Maps) (ks : Kinds) (es : CelTreeEntries) (id : ℤ) (key value : CelTree)
+  pub one-pair : (m : Maps) (ks : Kinds) (es : CelTreeEntries) (id : ℤ) (key value : CelTree)
       (others : CelTreeEntries) → es ≡ tree_entry id key value others
       → (j k s t : ValueType) → TypesPairs m ks es j s → TypesPairs m ks es k t
       → (j ≡ k) × (s ≡ t)

@@ -2,3 +2,4 @@ pub mod Attributes
 pub mod Names
 pub mod Meaning
 pub mod Typing
+pub mod TypingFaults

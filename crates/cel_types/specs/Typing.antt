@@ -1,7 +1,7 @@
 -- Which expressions have a type: CEL language definition, "Type Checking" and "Name Resolution", and
 -- `google/api/expr/v1alpha1/checked.proto`, CheckedExpr: the entries of its maps are compared with
 -- what is found, and tell the types of empty literals alone.
-use Rattle.std.specs.Prelude.{◌≡◌, ◌≢◌, ◌≤◌, ◌+◌, ℕ, ℤ, Bool, true, false, List, [], ◌∷◌, length, Option, Some, None, option_map}
+use Rattle.std.specs.Prelude.{◌≡◌, ◌≢◌, ◌≤◌, ◌+◌, ℕ, ℤ, Bool, true, false, max, List, [], ◌∷◌, Option, Some, None, option_map}
 use Rattle.std.specs.FinMap.{FinMap, get}
 use Rattle.std.specs.Ordering.{int_cmp}
 use Rattle.cel_value.specs.Types.{ValueType, bool_type, int_type, uint_type, text_type, bytes_type, list_type, map_type, type_of_key}
@@ -128,11 +128,10 @@ pub record NamesDiffer (x acc : List ℕ) : Type 0 where
 
 -- a comprehension over the elements of its range: the condition is a bool, and each step keeps the
 -- type of what is gathered
-pub record LoopRule (x acc : List ℕ) (ks : Kinds) (Range Init : ValueType → Type 0)
+pub record LoopRule (x acc : List ℕ) (Range Init : ValueType → Type 0)
     (Condition Step : ValueType → ValueType → ValueType → Type 0)
     (Result : ValueType → ValueType → Type 0) (t : ValueType) : Type 0 where
   pub names : NamesDiffer x acc
-  pub few : 2 + length ks ≤ most_locals
   pub walked : ValueType
   pub element : ValueType
   pub gathered : ValueType
@@ -164,7 +163,7 @@ abbrev mutual
       MapRule (get m.types id) entries (TypesPairs m ks entries) t
       × TypeAgrees (get m.types id) t
   Types m ks (comprehension id x acc range init condition step result) t =
-      LoopRule x acc ks (Types m ks range) (Types m ks init)
+      LoopRule x acc (Types m ks range) (Types m ks init)
       (λ s a. Types m ((x, s) ∷ (acc, a) ∷ ks) condition)
       (λ s a. Types m ((x, s) ∷ (acc, a) ∷ ks) step)
       (λ a. Types m ((acc, a) ∷ ks) result) t
@@ -194,10 +193,46 @@ abbrev mutual
   TypesPairs m ks (tree_entry id key value others) s t =
       Types m ks key s × Types m ks value t × TypesPairs m ks others s t
 
+-- ---- scopes
+
+-- the greatest of five numbers
+abbrev pub greatest : (a b c d e : ℕ) → ℕ
+greatest a b c d e = max a (max b (max c (max d e)))
+
+abbrev mutual
+  -- how many locals some node of the expression has in scope, of those that the expression itself
+  -- brings in: in a comprehension's condition and step two, in its result one
+  pub locals_in : CelTree → ℕ
+  locals_in (constant id v) = 0
+  locals_in (ident id name) = 0
+  locals_in (select id operand field test_only) = locals_in operand
+  locals_in (call id name on args) = max (locals_in_target on) (locals_in_each args)
+  locals_in (list_literal id elements) = locals_in_each elements
+  locals_in (map_literal id entries) = locals_in_entries entries
+  locals_in (comprehension id x acc range init condition step result) =
+      greatest (locals_in range) (locals_in init) (2 + locals_in condition) (2 + locals_in step)
+      (1 + locals_in result)
+
+  pub locals_in_target : CelTarget → ℕ
+  locals_in_target no_target = 0
+  locals_in_target (target on) = locals_in on
+
+  pub locals_in_each : CelTrees → ℕ
+  locals_in_each no_trees = 0
+  locals_in_each (tree t ts) = max (locals_in t) (locals_in_each ts)
+
+  pub locals_in_entries : CelTreeEntries → ℕ
+  locals_in_entries no_tree_entries = 0
+  locals_in_entries (tree_entry id key value es) =
+      max (locals_in key) (max (locals_in value) (locals_in_entries es))
+
+-- ---- checked expressions
+
 -- the maps of a checked expression
 abbrev pub maps_of : CelChecked → Maps
 maps_of c = record { types = c.types; refs = c.refs }
 
--- the checked expression has the type
-abbrev pub HasCheckedType : CelChecked → ValueType → Type 0
-HasCheckedType c t = Types (maps_of c) [] c.tree t
+-- the checked expression has the type, and no node has too many locals in scope
+pub record IsTyped (c : CelChecked) (t : ValueType) : Type 0 where
+  pub few : locals_in c.tree ≤ most_locals
+  pub types : Types (maps_of c) [] c.tree t

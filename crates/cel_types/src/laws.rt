@@ -6,7 +6,9 @@ ghost use Rattle.attributes.specs.declared.attribute.AttrId.{AttrId};
 ghost use Rattle.cel_types.specs.Attributes.{attribute_named};
 ghost use Rattle.cel_value.specs.Types.{ValueType};
 ghost use Rattle.cel_tree.specs.Checked.{CelChecked};
-ghost use Rattle.cel_types.specs.Typing.{HasCheckedType};
+ghost use Rattle.cel_types.specs.Typing.{IsTyped};
+ghost use Rattle.cel_types.specs.TypingFaults.{CheckFault};
+ghost use Rattle.proto_wire.specs.declared.refusal.Refusal.{Refusal};
 
 /// Each attribute is found under its name, and no other is.
 pub fn attribute_is_named()
@@ -15,5 +17,10 @@ pub fn attribute_is_named()
 
 /// A checked expression has one type at most.
 pub fn typing_unique()
-    ensures { (c : CelChecked) (s t : ValueType) → HasCheckedType c s → HasCheckedType c t → s ≡ t }
+    ensures { (c : CelChecked) (s t : ValueType) → IsTyped c s → IsTyped c t → s ≡ t }
+{}
+
+/// One that has a type has no fault.
+pub fn typing_disjoint()
+    ensures { (c : CelChecked) (t : ValueType) (e : Refusal) → IsTyped c t → CheckFault c e → ⊥ }
 {}
