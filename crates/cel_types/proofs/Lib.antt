@@ -3,4 +3,5 @@ pub mod StandardFacts
 pub mod OneType
 pub mod Apart
 pub mod CheckLaws
+pub mod Elaborating
 pub mod TypingFacts

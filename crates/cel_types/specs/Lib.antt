@@ -3,3 +3,4 @@ pub mod Names
 pub mod Meaning
 pub mod Typing
 pub mod TypingFaults
+pub mod Elaborated

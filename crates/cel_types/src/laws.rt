@@ -6,6 +6,7 @@ ghost use Rattle.attributes.specs.declared.attribute.AttrId.{AttrId};
 ghost use Rattle.cel_types.specs.Attributes.{attribute_named};
 ghost use Rattle.cel_value.specs.Types.{ValueType};
 ghost use Rattle.cel_tree.specs.Checked.{CelChecked};
+ghost use Rattle.cel_types.specs.Elaborated.{IsElaborated, TypedTree, kind};
 ghost use Rattle.cel_types.specs.Typing.{IsTyped};
 ghost use Rattle.cel_types.specs.TypingFaults.{CheckFault};
 ghost use Rattle.proto_wire.specs.declared.refusal.Refusal.{Refusal};
@@ -23,4 +24,10 @@ pub fn typing_unique()
 /// One that has a type has no fault.
 pub fn typing_disjoint()
     ensures { (c : CelChecked) (t : ValueType) (e : Refusal) → IsTyped c t → CheckFault c e → ⊥ }
+{}
+
+/// One that has a type has an elaboration of that type.
+pub fn typed_is_elaborated()
+    ensures { (c : CelChecked) (t : ValueType) → IsTyped c t
+        → (e : TypedTree) × IsElaborated c e × (kind e ≡ t) }
 {}
