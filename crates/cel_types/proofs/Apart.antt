@@ -1,10 +1,9 @@
 -- An expression with a type has no fault of typing: rule by rule, and then by recursion.
-use Rattle.std.proofs.Common.{◌≡◌, ◌≢◌, ◌⊎◌, inl, inr, ℕ, ℤ, Bool, true, false, List, [], ◌∷◌, Option, Some, None, option_map, refl, sym, ap, ap₂, ◌∙◌, subst}
+use Rattle.std.proofs.Common.{◌≡◌, ◌⊎◌, inl, inr, ℕ, Bool, true, false, List, [], ◌∷◌, Option, Some, None, option_map, sym, ap, ◌∙◌, subst}
 use Rattle.std.proofs.lemmas.Option.{none-some}
 use Rattle.std.specs.FinMap.{get}
 use Rattle.proto_wire.specs.declared.refusal.Refusal.{Refusal}
-use Rattle.cel_value.specs.Types.{ValueType, bool_type, list_type, map_type, type_of_key}
-use Rattle.cel_value.specs.declared.cel_type.KeyType.{KeyType}
+use Rattle.cel_value.specs.Types.{ValueType, bool_type, map_type, type_of_key}
 use Rattle.cel_value.specs.declared.cel_type.KeyType.TheVariants as keys
 use Rattle.cel_tree.specs.Checked.{CelReference, CelTypeEntry, of_type, dyn_type, unsupported_type}
 use Rattle.cel_tree.specs.Tree.{CelTree, constant, ident, select, call, list_literal, map_literal, comprehension, CelTarget, no_target, target, CelTrees, no_trees, tree, CelTreeEntries, no_tree_entries, tree_entry}
@@ -51,7 +50,7 @@ module _ (ref : Option CelReference) (Operand : ValueType → Type 0) (InOperand
   select-apart (Some root) false rule (SelectFault.unknown r is none _) =
       let same : root ≡ r = cc in
       let here : attribute_named (joined_name root field) ≡ None =
-          ap (λ r. attribute_named (joined_name r field)) same ∙ none in
+      ap (λ r. attribute_named (joined_name r field)) same ∙ none in
       none-some t (sym (ap (option_map attribute_type) here) ∙ rule.0)
   select-apart (Some root) false rule (SelectFault.asked r is test _) = cc
   select-apart (Some root) false rule (SelectFault.other_reference r u is test named differs _) =
@@ -114,9 +113,8 @@ module _ (x acc : List ℕ) (Range Init : ValueType → Type 0)
     (range-apart : (s : ValueType) (e : Refusal) → Range s → InRange e → ⊥)
     (init-apart : (s : ValueType) (e : Refusal) → Init s → InInit e → ⊥)
     (turn-apart : (s a : ValueType) (e : Refusal) → Condition s a bool_type → Step s a a
-      → InTurn s a e → ⊥)
+    → InTurn s a e → ⊥)
     (result-apart : (a t : ValueType) (e : Refusal) → Result a t → InResult a e → ⊥) where
-
   -- what a fault says of the range and of what is gathered is what the rule says
   same-element : (t s element : ValueType)
       (rule : LoopRule x acc Range Init Condition Step Result t) → Range s → IsOver s element
@@ -133,19 +131,19 @@ module _ (x acc : List ℕ) (Range Init : ValueType → Type 0)
   loop-apart t e rule (one_name is _) = rule.names.differ is
   loop-apart t e rule (no_elements s r never _) =
       never rule.element (subst (λ w. IsOver w rule.element) (range rule.walked s rule.range r)
-        rule.over)
+      rule.over)
   loop-apart t e rule (no_condition s element gathered u r over i c differs _) =
       let first = same-element t s element rule r over in
       let second = init rule.gathered gathered rule.init i in
       differs (condition element gathered u bool_type c
-        (subst (λ s. Condition s gathered bool_type) first
-          (subst (λ a. Condition rule.element a bool_type) second rule.condition)))
+      (subst (λ s. Condition s gathered bool_type) first
+      (subst (λ a. Condition rule.element a bool_type) second rule.condition)))
   loop-apart t e rule (no_step s element gathered u r over i c differs _) =
       let first = same-element t s element rule r over in
       let second = init rule.gathered gathered rule.init i in
       differs (step element gathered u gathered c
-        (subst (λ s. Step s gathered gathered) first
-          (subst (λ a. Step rule.element a a) second rule.step)))
+      (subst (λ s. Step s gathered gathered) first
+      (subst (λ a. Step rule.element a a) second rule.step)))
   loop-apart t e rule (in_range inside) = range-apart rule.walked e rule.range inside
   loop-apart t e rule (in_init inside) = init-apart rule.gathered e rule.init inside
   loop-apart t e rule (in_turn s element gathered r over i inside) =
@@ -153,7 +151,7 @@ module _ (x acc : List ℕ) (Range Init : ValueType → Type 0)
       let second = init rule.gathered gathered rule.init i in
       turn-apart rule.element rule.gathered e rule.condition rule.step
       (subst (λ s. InTurn s rule.gathered e) (sym first)
-        (subst (λ a. InTurn element a e) (sym second) inside))
+      (subst (λ a. InTurn element a e) (sym second) inside))
   loop-apart t e rule (in_result gathered i inside) =
       result-apart rule.gathered t e rule.result
       (subst (λ a. InResult a e) (init gathered rule.gathered i rule.init) inside)
@@ -182,9 +180,9 @@ mutual
       g.0 fault
   typed-apart m ks (select id operand field test_only) s e g (inr fault) =
       entry-apart (get m.types id) (SelectRule (get m.refs id) (root_of operand ks)
-        (Types m ks operand) field test_only) s e
+      (Types m ks operand) field test_only) s e
       (select-one (get m.refs id) (root_of operand ks) (Types m ks operand) field test_only
-        (one-type m ks operand)) g.0 g.1 fault
+      (one-type m ks operand)) g.0 g.1 fault
   typed-apart m ks (call id name on args) s e g (inl fault) =
       call-apart name (has_target on) (TypesTarget m ks on (TypesEach m ks args))
       (λ d. TargetFault m ks on d ⊎ SomeFault m ks args d) s e
@@ -198,7 +196,7 @@ mutual
       entry-apart (get m.types id)
       (CallRule name (has_target on) (TypesTarget m ks on (TypesEach m ks args))) s e
       (call-one name (has_target on) (TypesTarget m ks on (TypesEach m ks args))
-        (one-target m ks on args (one-each m ks args))) g.0 g.1 fault
+      (one-target m ks on args (one-each m ks args))) g.0 g.1 fault
   typed-apart m ks (list_literal id elements) s e g (inl fault) =
       list-apart (get m.types id) elements (TypesEach m ks elements) (TypesAll m ks elements)
       (SomeFault m ks elements) s e (all-apart m ks elements) g.0 fault
@@ -219,7 +217,7 @@ mutual
       (λ s a. Types m ((x, s) ∷ (acc, a) ∷ ks) step)
       (λ a. Types m ((acc, a) ∷ ks) result) (TypeFault m ks range) (TypeFault m ks init)
       (λ s a d. TypeFault m ((x, s) ∷ (acc, a) ∷ ks) condition d
-        ⊎ TypeFault m ((x, s) ∷ (acc, a) ∷ ks) step d)
+      ⊎ TypeFault m ((x, s) ∷ (acc, a) ∷ ks) step d)
       (λ a. TypeFault m ((acc, a) ∷ ks) result) (one-type m ks range) (one-type m ks init)
       (λ s a. one-type m ((x, s) ∷ (acc, a) ∷ ks) condition)
       (λ s a. one-type m ((x, s) ∷ (acc, a) ∷ ks) step)
@@ -230,14 +228,14 @@ mutual
       ]) (λ a. typed-apart m ((acc, a) ∷ ks) result) s e g.0 fault
   typed-apart m ks (comprehension id x acc range init condition step result) s e g (inr fault) =
       entry-apart (get m.types id) (LoopRule x acc (Types m ks range) (Types m ks init)
-        (λ s a. Types m ((x, s) ∷ (acc, a) ∷ ks) condition)
-        (λ s a. Types m ((x, s) ∷ (acc, a) ∷ ks) step)
-        (λ a. Types m ((acc, a) ∷ ks) result)) s e
+      (λ s a. Types m ((x, s) ∷ (acc, a) ∷ ks) condition)
+      (λ s a. Types m ((x, s) ∷ (acc, a) ∷ ks) step)
+      (λ a. Types m ((acc, a) ∷ ks) result)) s e
       (loop-one x acc (Types m ks range) (Types m ks init)
-        (λ s a. Types m ((x, s) ∷ (acc, a) ∷ ks) condition)
-        (λ s a. Types m ((x, s) ∷ (acc, a) ∷ ks) step)
-        (λ a. Types m ((acc, a) ∷ ks) result) (one-type m ks range) (one-type m ks init)
-        (λ a. one-type m ((acc, a) ∷ ks) result)) g.0 g.1 fault
+      (λ s a. Types m ((x, s) ∷ (acc, a) ∷ ks) condition)
+      (λ s a. Types m ((x, s) ∷ (acc, a) ∷ ks) step)
+      (λ a. Types m ((acc, a) ∷ ks) result) (one-type m ks range) (one-type m ks init)
+      (λ a. one-type m ((acc, a) ∷ ks) result)) g.0 g.1 fault
 
   target-apart : (m : Maps) (ks : Kinds) (on : CelTarget) (args : CelTrees)
       (ts : List ValueType) (e : Refusal) → TypesTarget m ks on (TypesEach m ks args) ts

@@ -3,7 +3,7 @@ use Rattle.std.proofs.Common.{arith, ◌<◌, ◌≤◌, []}
 use Rattle.proto_wire.specs.declared.refusal.Refusal.{Refusal}
 use Rattle.cel_value.specs.Types.{ValueType}
 use Rattle.cel_tree.specs.Checked.{CelChecked}
-use Rattle.cel_types.specs.Typing.{IsTyped, locals_in, maps_of, most_locals}
+use Rattle.cel_types.specs.Typing.{IsTyped, locals_in, maps_of}
 use Rattle.cel_types.specs.TypingFaults.{CheckFault, too_many_locals, untyped}
 use Rattle.cel_types.proofs.Apart.{typed-apart}
 

@@ -1,15 +1,15 @@
 -- Each typed expression has an elaboration of its type.
-use Rattle.std.proofs.Common.{◌≡◌, ◌⊎◌, inl, inr, ℕ, ℤ, Bool, true, false, cond, List, [], ◌∷◌, length, Option, Some, None, option_map, refl, sym, ap, ap₂, ◌∙◌, subst}
+use Rattle.std.proofs.Common.{◌≡◌, ◌⊎◌, inl, inr, ℕ, ℤ, Bool, true, false, cond, List, [], ◌∷◌, length, Option, Some, None, option_map, refl, sym, ap₂, subst}
 use Rattle.std.specs.Str.{bytes_eq}
 use Rattle.std.proofs.lemmas.Option.{none-some}
 use Rattle.std.specs.FinMap.{get}
 use Rattle.cel_value.specs.Types.{ValueType, bool_type, map_type, type_of_key}
 use Rattle.cel_value.specs.declared.cel_type.KeyType.TheVariants as keys
-use Rattle.cel_tree.specs.Checked.{CelReference, CelTypeEntry}
+use Rattle.cel_tree.specs.Checked.{CelTypeEntry}
 use Rattle.cel_tree.specs.Tree.{CelTree, constant, ident, select, call, list_literal, map_literal, comprehension, CelTarget, no_target, target, CelTrees, no_trees, tree, CelTreeEntries, no_tree_entries, tree_entry}
 use Rattle.cel_overload.specs.Overloads.{IsCall}
 use Rattle.cel_types.specs.Attributes.{attribute_named, attribute_type}
-use Rattle.cel_types.specs.Names.{Scope, joined_name, local, root_of}
+use Rattle.cel_types.specs.Names.{joined_name, local, root_of}
 use Rattle.cel_types.specs.Typing.{IsOver, Kinds, ListRule, MapRule, Maps, SelectRule, Types, TypesAll, TypesEach, TypesPairs, TypesTarget, has_target, name_type}
 use Rattle.cel_types.specs.Elaborated.{Elaborates, ElaboratesEach, ElaboratesPairs, ElaboratesTarget, TypedTree, TypedTrees, kind, kinds, no_typed, slot, typed, typed_attribute, typed_call, typed_constant, typed_field, typed_has, typed_list, typed_local, typed_loop, typed_map}
 
@@ -25,7 +25,7 @@ found name (k ∷ ks) = at (bytes_eq k.0 name) (found name ks)
     at : (b : Bool) → Found name ks
         → ((cond b (Some k.1) (local name ks) ≡ None) × (cond b (Some (length ks)) (slot name ks) ≡ None))
         ⊎ ((t : ValueType) × (n : ℕ) × (cond b (Some k.1) (local name ks) ≡ Some t)
-          × (cond b (Some (length ks)) (slot name ks) ≡ Some n))
+        × (cond b (Some (length ks)) (slot name ks) ≡ Some n))
     at true more = inr (k.1, length ks, refl, refl)
     at false more = more
 
@@ -43,12 +43,12 @@ ident-has : (m : Maps) (ks : Kinds) (id : ℤ) (name : List ℕ) (s : ValueType)
 ident-has m ks id name s g (inr (t, n, is_local, is_slot)) = (typed_local s n, (g, is_slot), refl)
 ident-has m ks id name s g (inl (is_none, no_slot)) =
     let a = mapped attribute_type (attribute_named name) s
-        (subst (λ o. name_type name o ≡ Some s) is_none g.0.0) in
+    (subst (λ o. name_type name o ≡ Some s) is_none g.0.0) in
     (typed_attribute s a.0, (g, no_slot, a.1), refl)
 
 select-has : (m : Maps) (ks : Kinds) (id : ℤ) (operand : CelTree) (field : List ℕ)
     (test_only : Bool) (s : ValueType) → ((u : ValueType) → Types m ks operand u
-      → Has m ks operand u)
+    → Has m ks operand u)
     → Types m ks (select id operand field test_only) s → (root : Option (List ℕ))
     → root_of operand ks ≡ root
     → SelectRule (get m.refs id) root (Types m ks operand) field test_only s
@@ -73,8 +73,7 @@ mutual
       select-has m ks id operand field test_only s (elaborated m ks operand) g
       (root_of operand ks) refl g.0
   elaborated m ks (call id name on args) s g =
-      let operands = target-elaborated m ks on args g.0.0 (each-elaborated m ks args) g.0.1 in
-      (
+      let operands = target-elaborated m ks on args g.0.0 (each-elaborated m ks args) g.0.1 in (
         typed_call s g.0.2 operands.0,
         (g, subst (λ ts. IsCall name (has_target on) ts g.0.2 s) (sym operands.2) g.0.3, operands.1),
         refl,
@@ -90,15 +89,22 @@ mutual
       let r = elaborated m ks range rule.walked rule.range in
       let i = elaborated m ks init rule.gathered rule.init in
       let c = elaborated m ((x, rule.element) ∷ (acc, rule.gathered) ∷ ks) condition bool_type
-          rule.condition in
+      rule.condition in
       let p = elaborated m ((x, rule.element) ∷ (acc, rule.gathered) ∷ ks) step rule.gathered
-          rule.step in
-      let e = elaborated m ((acc, rule.gathered) ∷ ks) result s rule.result in
-      (
+      rule.step in
+      let e = elaborated m ((acc, rule.gathered) ∷ ks) result s rule.result in (
         typed_loop s r.0 i.0 c.0 p.0 e.0,
         (
-          g, rule.element, rule.gathered, subst (λ w. IsOver w rule.element) (sym r.2) rule.over,
-          i.2, r.1, i.1, c.1, p.1, e.1,
+          g,
+          rule.element,
+          rule.gathered,
+          subst (λ w. IsOver w rule.element) (sym r.2) rule.over,
+          i.2,
+          r.1,
+          i.1,
+          c.1,
+          p.1,
+          e.1,
         ),
         refl,
       )
@@ -106,7 +112,7 @@ mutual
   target-elaborated : (m : Maps) (ks : Kinds) (on : CelTarget) (args : CelTrees)
       (ts : List ValueType)
       → ((us : List ValueType) → TypesEach m ks args us
-        → (es : TypedTrees) × ElaboratesEach m ks args es × (kinds es ≡ us))
+      → (es : TypedTrees) × ElaboratesEach m ks args es × (kinds es ≡ us))
       → TypesTarget m ks on (TypesEach m ks args) ts
       → (es : TypedTrees) × ElaboratesTarget m ks on (ElaboratesEach m ks args) es
       × (kinds es ≡ ts)
@@ -137,7 +143,7 @@ mutual
 
   list-elaborated : (m : Maps) (ks : Kinds) (ts : CelTrees) (entry : Option CelTypeEntry)
       (s : ValueType) → ((u : ValueType) → TypesAll m ks ts u
-        → (es : TypedTrees) × ElaboratesEach m ks ts es)
+      → (es : TypedTrees) × ElaboratesEach m ks ts es)
       → ListRule entry ts (TypesAll m ks ts) s → (es : TypedTrees) × ElaboratesEach m ks ts es
   list-elaborated m ks no_trees entry s all g = (no_typed, tt)
   list-elaborated m ks (tree t ts) entry s all g = all g.0 g.1
@@ -153,7 +159,7 @@ mutual
 
   map-elaborated : (m : Maps) (ks : Kinds) (es : CelTreeEntries) (entry : Option CelTypeEntry)
       (s : ValueType) → ((r u : ValueType) → TypesPairs m ks es r u
-        → (ps : TypedTrees) × ElaboratesPairs m ks es ps)
+      → (ps : TypedTrees) × ElaboratesPairs m ks es ps)
       → MapRule entry es (TypesPairs m ks es) s → (ps : TypedTrees) × ElaboratesPairs m ks es ps
   map-elaborated m ks no_tree_entries entry s pairs g = (no_typed, tt)
   map-elaborated m ks (tree_entry id key value es) entry s pairs g =

@@ -1,8 +1,7 @@
 -- An expression has one type at most: rule by rule, over the parts, and then by recursion.
-use Rattle.std.proofs.Common.{◌≡◌, ◌≢◌, ℕ, ℤ, Bool, true, false, List, [], ◌∷◌, Option, Some, None, refl, sym, ap, ap₂, ◌∙◌}
-use Rattle.std.proofs.lemmas.Option.{none-some}
+use Rattle.std.proofs.Common.{◌≡◌, ℕ, ℤ, Bool, true, false, List, [], ◌∷◌, Option, Some, None, refl, sym, ap, ap₂, ◌∙◌}
 use Rattle.std.specs.FinMap.{get}
-use Rattle.cel_value.specs.Types.{ValueType, bool_type, int_type, uint_type, text_type, bytes_type, list_type, map_type, type_of_key}
+use Rattle.cel_value.specs.Types.{ValueType, list_type, map_type, type_of_key}
 use Rattle.cel_value.specs.declared.cel_type.KeyType.{KeyType}
 use Rattle.cel_value.specs.declared.cel_type.KeyType.TheVariants as keys
 use Rattle.cel_tree.specs.Checked.{CelReference, CelTypeEntry, of_type, dyn_type, unsupported_type}
@@ -68,8 +67,8 @@ key-one keys.Text keys.Uint e = cc
 pub map-one : (entry : Option CelTypeEntry) (entries : CelTreeEntries)
     (Pairs : ValueType → ValueType → Type 0)
     → ((id : ℤ) (key value : CelTree) (others : CelTreeEntries)
-      → entries ≡ tree_entry id key value others → (j k s t : ValueType) → Pairs j s → Pairs k t
-      → (j ≡ k) × (s ≡ t))
+    → entries ≡ tree_entry id key value others → (j k s t : ValueType) → Pairs j s → Pairs k t
+    → (j ≡ k) × (s ≡ t))
     → OneAtMost (MapRule entry entries Pairs)
 map-one entry no_tree_entries Pairs one a b g h = given-one entry a b g.0 h.0
 map-one entry (tree_entry id key value others) Pairs one a b g h =

@@ -1,12 +1,12 @@
 -- Types of expressions, computed on examples.
-use Rattle.std.proofs.Common.{◌≡◌, ◌≢◌, ◌⊎◌, inl, inr, ℕ, ℤ, pos, negsuc, Bool, true, false, List, [], ◌∷◌, Option, Some, None, refl, sym, subst}
+use Rattle.std.proofs.Common.{◌≡◌, inl, inr, ℕ, ℤ, pos, true, false, List, [], ◌∷◌, Some, None, refl, sym, subst}
 use Rattle.std.specs.Prelude.{codes}
-use Rattle.std.specs.FinMap.{FinMap, find, from_entries, get, get-from_entries}
+use Rattle.std.specs.FinMap.{find, from_entries, get, get-from_entries}
 use Rattle.std.specs.Cmp.{int_cmp_total}
 use Rattle.std.specs.Ordering.{int_cmp}
 use Rattle.proto_wire.specs.declared.refusal.Refusal.TheVariants.{BadReference, BadTypeEntry, NeedsType, NoOverload, UnknownName, Unsupported}
 use Rattle.cel_value.specs.Types.{ValueType, bool_type, int_type, uint_type, text_type, list_type, map_type}
-use Rattle.cel_value.specs.Values.{bool, int, uint, text}
+use Rattle.cel_value.specs.Values.{int, uint, text}
 use Rattle.cel_value.specs.declared.cel_type.KeyType.TheVariants as keys
 use Rattle.cel_ops.specs.declared.comparison.CompareOp.TheVariants.{Equal}
 use Rattle.cel_ops.specs.declared.arithmetic.ArithmeticOp.TheVariants.{Add}
@@ -16,7 +16,7 @@ use Rattle.cel_tree.specs.Checked.{CelReference, CelTypeEntry, of_type, dyn_type
 use Rattle.cel_tree.specs.Tree.{CelTree, constant, ident, select, call, comprehension, list_literal, no_target, CelTrees, no_trees, tree}
 use Rattle.cel_overload.proofs.OneOverload.{unchosen}
 use Rattle.cel_types.specs.Typing.{Maps, RefAgrees, TypeAgrees, TypeGiven, Types, TypesEach, locals_in}
-use Rattle.cel_types.specs.TypingFaults.{CallsFault, ElementsFault, EntryFault, IdentFault, SaysNothing, SelectFault, TypeFault, another_type, of_another_kind, unsupported_kind, untold}
+use Rattle.cel_types.specs.TypingFaults.{CallsFault, ElementsFault, IdentFault, SaysNothing, SelectFault, TypeFault, another_type, of_another_kind, unsupported_kind, untold}
 
 -- ---- `request.method == "GET"`: the call has id 3, the Select 1, the Ident 2, the text 4
 
@@ -60,9 +60,15 @@ is_bool es on_select on_call on_constant = (
     text_type ∷ text_type ∷ [],
     (method_is_text es on_select, ((refl, agrees es (pos 4) text_type on_constant), tt)),
     overloads.Compare Equal,
-    (functions.Compare Equal, refl, record {
-      function = refl; shape = refl; operands = (text_type, tt, refl, refl);
-    }),
+    (
+      functions.Compare Equal,
+      refl,
+      record {
+        function = refl;
+        shape = refl;
+        operands = (text_type, tt, refl, refl);
+      },
+    ),
   ),
   agrees es (pos 3) bool_type on_call,
 )
@@ -111,8 +117,14 @@ has_method = inl (SelectFault.asked (codes "request") refl refl refl)
 hidden_root : Types (with_types []) ((codes "request", map_type keys.Text int_type) ∷ []) method
     int_type
 hidden_root = (
-  (int_type, ((refl, no_reference [] (pos 2) (codes "request")),
-    agrees [] (pos 2) (map_type keys.Text int_type) tt), refl),
+  (
+    int_type,
+    (
+      (refl, no_reference [] (pos 2) (codes "request")),
+      agrees [] (pos 2) (map_type keys.Text int_type) tt,
+    ),
+    refl,
+  ),
   agrees [] (pos 1) int_type tt,
 )
 
@@ -127,8 +139,8 @@ path_for_method = record {
 other_reference : TypeFault path_for_method [] (ident (pos 1) (codes "request.method")) BadReference
 other_reference = inl (IdentFault.other_reference text_type refl (λ same.
     let named = subst (λ o. RefAgrees o (codes "request.method"))
-        (get-from_entries int_cmp_total
-          ((pos 1, record { name = codes "request.path"; value = None }) ∷ []) (pos 1)) same in
+    (get-from_entries int_cmp_total
+    ((pos 1, record { name = codes "request.path"; value = None }) ∷ []) (pos 1)) same in
     cc) refl)
 
 -- `1 + 1u` and `[1, 2u]` are 10
@@ -143,9 +155,12 @@ int_and_uint = (
 )
 
 no_sum : TypeFault (with_types []) [] (call (pos 3) (codes "_+_") no_target one_and_one) NoOverload
-no_sum = inl (CallsFault.no_overload (int_type ∷ uint_type ∷ []) int_and_uint
-    (functions.Arithmetic Add, refl, unchosen (functions.Arithmetic Add) false
-      (int_type ∷ uint_type ∷ []) refl) refl)
+no_sum = inl (CallsFault.no_overload (int_type ∷ uint_type ∷ []) int_and_uint (
+  functions.Arithmetic Add,
+  refl,
+  unchosen (functions.Arithmetic Add) false
+      (int_type ∷ uint_type ∷ []) refl,
+) refl)
 
 no_list : TypeFault (with_types []) [] (list_literal (pos 3) one_and_one) NoOverload
 no_list = inl (ElementsFault.no_common_type (int_type ∷ uint_type ∷ []) (λ e. cc) int_and_uint

@@ -1,9 +1,9 @@
 -- How the examples of StandardFacts are written.
-use Rattle.std.proofs.Common.{◌≡◌, ℕ, ℤ, pos, Bool, true, false, List, [], ◌∷◌, Option, Some}
+use Rattle.std.proofs.Common.{ℕ, ℤ, pos, Bool, true, false, List, [], ◌∷◌, Option, Some}
 use Rattle.std.specs.Prelude.{codes}
 use Rattle.cel_value.specs.Values.{bool, int, uint, text, bytes, CelAnswer, value, fails}
 use Rattle.cel_value.specs.declared.error.CelError.{CelError}
-use Rattle.cel_tree.specs.Tree.{CelTree, constant, ident, select, call, list_literal, map_literal, comprehension, no_target, target, CelTrees, no_trees, tree, no_tree_entries, tree_entry}
+use Rattle.cel_tree.specs.Tree.{CelTree, constant, ident, call, list_literal, map_literal, comprehension, no_target, CelTrees, no_trees, tree, no_tree_entries, tree_entry}
 
 -- ids do not count for what an expression means
 abbrev pub node : ℤ

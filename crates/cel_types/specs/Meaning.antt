@@ -2,7 +2,7 @@
 -- Selection" and "Macros" (a macro is a comprehension); the order of errors is this project's choice.
 -- None stands for a value of a wrong kind or for a name that is not known, which a typed expression
 -- does not meet.
-use Rattle.std.specs.Prelude.{ℕ, Bool, true, false, List, [], ◌∷◌, ◌++◌, Option, Some, None, option_map}
+use Rattle.std.specs.Prelude.{ℕ, Bool, true, false, List, [], ◌∷◌, Option, Some, None, option_map}
 use Rattle.std.specs.Option.{option_and_then}
 use Rattle.attributes.specs.Request.{RequestValue}
 use Rattle.cel_value.specs.Values.{CelValue, bool, CelValues, no_items, item, CelAnswer, value, fails}
@@ -12,7 +12,7 @@ use Rattle.cel_ops.specs.Collections as collections
 use Rattle.cel_overload.specs.Answers.{function_answer}
 use Rattle.cel_overload.specs.Functions.{function_named}
 use Rattle.cel_types.specs.Attributes.{attribute, attribute_named}
-use Rattle.cel_types.specs.Names.{Scope, bare_root, joined_name, local, root_of}
+use Rattle.cel_types.specs.Names.{Scope, joined_name, local, root_of}
 
 -- what is known of locals: what they come to
 abbrev pub Locals : Type 0
@@ -89,10 +89,10 @@ abbrev mutual
       option_and_then collections.map_literal (eval_entries entries request ls)
   eval (comprehension id x acc range init condition step result) request ls =
       over (eval range request ls) (λ elements. option_and_then
-        (fold (λ v a. eval condition request ((x, value v) ∷ (acc, a) ∷ ls))
-          (λ v a. eval step request ((x, value v) ∷ (acc, a) ∷ ls))
-          (λ a. eval result request ((acc, a) ∷ ls)) elements)
-        (eval init request ls))
+      (fold (λ v a. eval condition request ((x, value v) ∷ (acc, a) ∷ ls))
+      (λ v a. eval step request ((x, value v) ∷ (acc, a) ∷ ls))
+      (λ a. eval result request ((acc, a) ∷ ls)) elements)
+      (eval init request ls))
 
   -- the operands of a call, the target first
   pub eval_target : CelTarget → RequestValue → Locals → Option (List CelAnswer)

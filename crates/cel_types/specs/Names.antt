@@ -1,6 +1,6 @@
 -- How names are resolved: CEL language definition, "Name Resolution"; the roots of attributes are
 -- those of Envoy, "Attributes".
-use Rattle.std.specs.Prelude.{ℕ, Bool, true, false, ◌||◌, List, [], ◌∷◌, ◌++◌, Option, Some, None, if◌then◌else◌, is_some, codes}
+use Rattle.std.specs.Prelude.{ℕ, Bool, false, ◌||◌, List, [], ◌∷◌, ◌++◌, Option, Some, None, if◌then◌else◌, is_some, codes}
 use Rattle.std.specs.Str.{bytes_eq}
 use Rattle.cel_tree.specs.Tree.{CelTree, ident}
 

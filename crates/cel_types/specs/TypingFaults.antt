@@ -4,7 +4,7 @@ use Rattle.std.specs.Prelude.{◌≡◌, ◌≢◌, ◌⊎◌, ◌<◌, ℕ, Boo
 use Rattle.std.specs.FinMap.{get}
 use Rattle.proto_wire.specs.declared.refusal.Refusal.{Refusal}
 use Rattle.proto_wire.specs.declared.refusal.Refusal.TheVariants.{BadReference, BadTypeEntry, Missing, NeedsType, NoOverload, OutOfRange, TooLarge, Unsupported, UnknownName}
-use Rattle.cel_value.specs.Types.{ValueType, bool_type, list_type, map_type, type_of_key}
+use Rattle.cel_value.specs.Types.{ValueType, bool_type, map_type, type_of_key}
 use Rattle.cel_value.specs.declared.cel_type.KeyType.{KeyType}
 use Rattle.cel_value.specs.declared.cel_type.KeyType.TheVariants as keys
 use Rattle.cel_tree.specs.Checked.{CelChecked, CelReference, CelTypeEntry, of_type, dyn_type, unsupported_type}
@@ -159,39 +159,39 @@ abbrev mutual
       EntryFault (get m.types id) (λ t. constant_type v ≡ Some t) e
   TypeFault m ks (ident id name) e = IdentFault (get m.refs id) ks name e
       ⊎ ((bare_root name ks ≡ false)
-        × EntryFault (get m.types id) (IdentRule (get m.refs id) ks name) e)
+      × EntryFault (get m.types id) (IdentRule (get m.refs id) ks name) e)
   TypeFault m ks (select id operand field test_only) e =
       SelectFault (get m.refs id) (root_of operand ks) (Types m ks operand)
       (TypeFault m ks operand) field test_only e
       ⊎ EntryFault (get m.types id) (SelectRule (get m.refs id) (root_of operand ks)
-        (Types m ks operand) field test_only) e
+      (Types m ks operand) field test_only) e
   TypeFault m ks (call id name on args) e =
       CallsFault name (has_target on) (TypesTarget m ks on (TypesEach m ks args))
       (λ d. TargetFault m ks on d ⊎ SomeFault m ks args d) e
       ⊎ EntryFault (get m.types id)
-        (CallRule name (has_target on) (TypesTarget m ks on (TypesEach m ks args))) e
+      (CallRule name (has_target on) (TypesTarget m ks on (TypesEach m ks args))) e
   TypeFault m ks (list_literal id elements) e =
       ListFault (get m.types id) elements (TypesEach m ks elements) (TypesAll m ks elements)
       (SomeFault m ks elements) e
       ⊎ EntryFault (get m.types id)
-        (ListRule (get m.types id) elements (TypesAll m ks elements)) e
+      (ListRule (get m.types id) elements (TypesAll m ks elements)) e
   TypeFault m ks (map_literal id entries) e =
       MapsFault (get m.types id) entries (TypesInTurn m ks entries) (TypesPairs m ks entries)
       (PairFault m ks entries) e
       ⊎ EntryFault (get m.types id)
-        (MapRule (get m.types id) entries (TypesPairs m ks entries)) e
+      (MapRule (get m.types id) entries (TypesPairs m ks entries)) e
   TypeFault m ks (comprehension id x acc range init condition step result) e =
       LoopFault x acc (Types m ks range) (Types m ks init)
       (λ s a. Types m ((x, s) ∷ (acc, a) ∷ ks) condition)
       (λ s a. Types m ((x, s) ∷ (acc, a) ∷ ks) step)
       (TypeFault m ks range) (TypeFault m ks init)
       (λ s a d. TypeFault m ((x, s) ∷ (acc, a) ∷ ks) condition d
-        ⊎ TypeFault m ((x, s) ∷ (acc, a) ∷ ks) step d)
+      ⊎ TypeFault m ((x, s) ∷ (acc, a) ∷ ks) step d)
       (λ a. TypeFault m ((acc, a) ∷ ks) result) e
       ⊎ EntryFault (get m.types id) (LoopRule x acc (Types m ks range) (Types m ks init)
-        (λ s a. Types m ((x, s) ∷ (acc, a) ∷ ks) condition)
-        (λ s a. Types m ((x, s) ∷ (acc, a) ∷ ks) step)
-        (λ a. Types m ((acc, a) ∷ ks) result)) e
+      (λ s a. Types m ((x, s) ∷ (acc, a) ∷ ks) condition)
+      (λ s a. Types m ((x, s) ∷ (acc, a) ∷ ks) step)
+      (λ a. Types m ((acc, a) ∷ ks) result)) e
 
   -- a fault of a target
   pub TargetFault : Maps → Kinds → CelTarget → Refusal → Type 0
