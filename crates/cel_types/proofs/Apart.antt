@@ -166,7 +166,8 @@ others-typed m ks (target on) Others (t ∷ ts) h = (ts, h.1)
 mutual
   pub typed-apart : (m : Maps) (ks : Kinds) (t : CelTree) (s : ValueType) (e : Refusal)
       → Types m ks t s → TypeFault m ks t e → ⊥
-  typed-apart m ks (constant id v) s e g fault =
+  typed-apart m ks (constant id v) s e g (inl fault) = none-some s (sym fault.0 ∙ g.0)
+  typed-apart m ks (constant id v) s e g (inr fault) =
       entry-apart (get m.types id) (λ t. constant_type v ≡ Some t) s e
       (one-some (constant_type v)) g.0 g.1 fault
   typed-apart m ks (ident id name) s e g (inl fault) =

@@ -5,6 +5,7 @@ use Rattle.std.specs.FinMap.{get}
 use Rattle.proto_wire.specs.declared.refusal.Refusal.{Refusal}
 use Rattle.proto_wire.specs.declared.refusal.Refusal.TheVariants.{BadReference, BadTypeEntry, Missing, NeedsType, NoOverload, OutOfRange, TooLarge, Unsupported, UnknownName}
 use Rattle.cel_value.specs.Types.{ValueType, bool_type, map_type, type_of_key}
+use Rattle.cel_value.specs.Values.{CelValue}
 use Rattle.cel_value.specs.declared.cel_type.KeyType.{KeyType}
 use Rattle.cel_value.specs.declared.cel_type.KeyType.TheVariants as keys
 use Rattle.cel_tree.specs.Checked.{CelChecked, CelReference, CelTypeEntry, of_type, dyn_type, unsupported_type}
@@ -43,6 +44,10 @@ pub data EmptyFault (entry : Option CelTypeEntry) (IsKind : ValueType → Type 0
         → e ≡ BadTypeEntry → EmptyFault entry IsKind e
 
 -- ---- nodes
+
+-- a constant is of a kind that is not supported
+abbrev pub ConstantFault : CelValue → Refusal → Type 0
+ConstantFault v e = (constant_type v ≡ None) × (e ≡ Unsupported)
 
 -- an Ident is neither a local nor an attribute, or its reference entry differs
 pub data IdentFault (ref : Option CelReference) (ks : Kinds) (name : List ℕ) (e : Refusal) : Type 0
@@ -156,7 +161,7 @@ abbrev mutual
   -- a fault of the node, of its entry, or of an expression inside
   pub TypeFault : Maps → Kinds → CelTree → Refusal → Type 0
   TypeFault m ks (constant id v) e =
-      EntryFault (get m.types id) (λ t. constant_type v ≡ Some t) e
+      ConstantFault v e ⊎ EntryFault (get m.types id) (λ t. constant_type v ≡ Some t) e
   TypeFault m ks (ident id name) e = IdentFault (get m.refs id) ks name e
       ⊎ ((bare_root name ks ≡ false)
       × EntryFault (get m.types id) (IdentRule (get m.refs id) ks name) e)

@@ -1,6 +1,6 @@
 //! Laws of meaning and typing.
 
-ghost use Rattle.std.specs.Prelude.{◌≡◌, ◌↔◌, ℕ, List, Some};
+ghost use Rattle.std.specs.Prelude.{◌≡◌, ◌↔◌, ◌⊎◌, ℕ, List, Some};
 ghost use Rattle.attributes.specs.Attributes.{attr_name};
 ghost use Rattle.attributes.specs.declared.attribute.AttrId.{AttrId};
 ghost use Rattle.cel_types.specs.Attributes.{attribute_named};
@@ -19,6 +19,11 @@ pub fn attribute_is_named()
 /// A checked expression has one type at most.
 pub fn typing_unique()
     ensures { (c : CelChecked) (s t : ValueType) → IsTyped c s → IsTyped c t → s ≡ t }
+{}
+
+/// A checked expression has a type or a fault.
+pub fn typing_total()
+    ensures { (c : CelChecked) → ((t : ValueType) × IsTyped c t) ⊎ ((e : Refusal) × CheckFault c e) }
 {}
 
 /// One that has a type has no fault.
