@@ -1,0 +1,5 @@
+use Rattle.cel_overload.proofs.OneOverload.{call-total}
+use Rattle.cel_overload.proofs.laws.overload_total.Goals as goal
+
+pub returns : goal.returns
+returns c = call-total

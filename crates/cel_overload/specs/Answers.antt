@@ -1,0 +1,113 @@
+-- What calls answer and are charged: CEL language definition, "List of Standard Definitions"; the
+-- operations are those of `cel_ops`. None stands for operands of a wrong kind or number.
+use Rattle.std.specs.Prelude.{ℕ, true, false, List, [], ◌∷◌, Option, Some, None}
+use Rattle.cel_value.specs.Values.{CelValue, bool, text, bytes, list, map_of, CelAnswer, value, fails}
+use Rattle.cel_value.specs.Types.{ValueType, AnswerHasType}
+use Rattle.cel_ops.specs.Strict.{strict_two}
+use Rattle.cel_ops.specs.Arithmetic.{arithmetic, arithmetic_of, opposite}
+use Rattle.cel_ops.specs.Logic.{conjunction, disjunction, logical_not, not_strictly_false}
+use Rattle.cel_ops.specs.Comparison.{comparison}
+use Rattle.cel_ops.specs.Parts.{joined, joined_of, text_test}
+use Rattle.cel_ops.specs.Collections.{entry_of, in_list, in_list_of, in_map, in_map_of, item_of, list_index, map_index, size}
+use Rattle.cel_ops.specs.Charges.{comparison_charge, in_list_charge, in_map_charge, joined_charge, map_index_charge, size_charge}
+use Rattle.cel_ops.specs.declared.arithmetic.ArithmeticOp.TheVariants.{Add}
+use Rattle.cel_overload.specs.declared.function.Function.{Function}
+use Rattle.cel_overload.specs.declared.function.Function.TheVariants as functions
+use Rattle.cel_overload.specs.declared.overload.Overload.{Overload}
+use Rattle.cel_overload.specs.declared.overload.Overload.TheVariants as overloads
+
+-- the answer to one, two or three operands
+abbrev pub on_one : (CelAnswer → Option CelAnswer) → List CelAnswer → Option CelAnswer
+on_one f (a ∷ []) = f a
+on_one f _ = None
+
+abbrev pub on_two : (CelAnswer → CelAnswer → Option CelAnswer) → List CelAnswer → Option CelAnswer
+on_two f (a ∷ b ∷ []) = f a b
+on_two f _ = None
+
+-- the branch that a condition chooses, or its error
+abbrev pub conditional : List CelAnswer → Option CelAnswer
+conditional (value (bool true) ∷ a ∷ b ∷ []) = Some a
+conditional (value (bool false) ∷ a ∷ b ∷ []) = Some b
+conditional (fails e ∷ a ∷ b ∷ []) = Some (fails e)
+conditional _ = None
+
+-- what an overload answers
+abbrev pub overload_answer : Overload → List CelAnswer → Option CelAnswer
+overload_answer overloads.LogicalAnd = on_two conjunction
+overload_answer overloads.LogicalOr = on_two disjunction
+overload_answer overloads.LogicalNot = on_one logical_not
+overload_answer overloads.NotStrictlyFalse = on_one not_strictly_false
+overload_answer overloads.Conditional = conditional
+overload_answer (overloads.Compare op) = on_two (comparison op)
+overload_answer (overloads.Arithmetic op) = on_two (arithmetic op)
+overload_answer overloads.Concat = on_two joined
+overload_answer overloads.Negate = on_one opposite
+overload_answer overloads.IndexList = on_two list_index
+overload_answer overloads.IndexMap = on_two map_index
+overload_answer overloads.InList = on_two in_list
+overload_answer overloads.InMap = on_two in_map
+overload_answer overloads.Size = on_one size
+overload_answer (overloads.TestText test) = on_two (text_test test)
+
+-- what an overload is charged; a conditional's jumps are charged where they stand
+abbrev pub charge_of_one : (CelAnswer → ℕ) → List CelAnswer → ℕ
+charge_of_one charge (a ∷ []) = charge a
+charge_of_one charge _ = 1
+
+abbrev pub charge_of_two : (CelAnswer → CelAnswer → ℕ) → List CelAnswer → ℕ
+charge_of_two charge (a ∷ b ∷ []) = charge a b
+charge_of_two charge _ = 1
+
+abbrev pub overload_charge : Overload → List CelAnswer → ℕ
+overload_charge (overloads.Compare op) = charge_of_two comparison_charge
+overload_charge overloads.Concat = charge_of_two joined_charge
+overload_charge overloads.IndexMap = charge_of_two map_index_charge
+overload_charge overloads.InList = charge_of_two in_list_charge
+overload_charge overloads.InMap = charge_of_two in_map_charge
+overload_charge overloads.Size = charge_of_one size_charge
+overload_charge (overloads.TestText test) = charge_of_two comparison_charge
+overload_charge _ = λ answers. 1
+
+-- ---- by the kinds of values, without types
+
+-- `+`: the sum of two numbers, or two texts, bytes or lists one after the other
+abbrev pub addition_of : CelValue → CelValue → Option CelAnswer
+addition_of (text a) w = joined_of (text a) w
+addition_of (bytes a) w = joined_of (bytes a) w
+addition_of (list a) w = joined_of (list a) w
+addition_of v w = arithmetic_of Add v w
+
+-- `_[_]`: the item of a list, or the value of a map
+abbrev pub index_of : CelValue → CelValue → Option CelAnswer
+index_of (list vs) w = item_of (list vs) w
+index_of (map_of es) w = entry_of (map_of es) w
+index_of _ w = None
+
+-- `in`: of a list, or of a map's keys
+abbrev pub in_of : CelValue → CelValue → Option CelAnswer
+in_of v (list vs) = in_list_of v (list vs)
+in_of v (map_of es) = in_map_of v (map_of es)
+in_of v _ = None
+
+-- what a function answers
+abbrev pub function_answer : Function → List CelAnswer → Option CelAnswer
+function_answer functions.And = on_two conjunction
+function_answer functions.Or = on_two disjunction
+function_answer functions.Not = on_one logical_not
+function_answer functions.NotStrictlyFalse = on_one not_strictly_false
+function_answer functions.Conditional = conditional
+function_answer (functions.Compare op) = on_two (comparison op)
+function_answer (functions.Arithmetic Add) = on_two (strict_two addition_of)
+function_answer (functions.Arithmetic op) = on_two (arithmetic op)
+function_answer functions.Negate = on_one opposite
+function_answer functions.Index = on_two (strict_two index_of)
+function_answer functions.In = on_two (strict_two in_of)
+function_answer functions.Size = on_one size
+function_answer (functions.TestText test) = on_two (text_test test)
+
+-- each answer has the type at its place
+abbrev pub HaveTypes : List CelAnswer → List ValueType → Type 0
+HaveTypes [] [] = Unit {0}
+HaveTypes (a ∷ answers) (t ∷ ts) = AnswerHasType a t × HaveTypes answers ts
+HaveTypes _ _ = ⊥

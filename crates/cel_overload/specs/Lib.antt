@@ -1,0 +1,5 @@
+pub mod Functions
+pub mod Overloads
+pub mod Answers
+pub mod View
+pub mod steps

@@ -1,0 +1,12 @@
+//! Functions and overloads of CEL: the table by which calls are typed, evaluated and charged.
+#![tactic(auto)]
+
+mod function;
+mod kinds;
+pub mod laws;
+mod overload;
+#[cfg(test)]
+mod tests;
+
+pub use function::Function;
+pub use overload::{Found, Overload, OverloadFault, ResultType, find_overload};

@@ -1,0 +1,236 @@
+//! Overloads: which one a call is, by its function and its operands' types.
+
+ghost use Rattle.std.specs.Prelude.{◌≡◌, IfErr, IfOk, option_map};
+ghost use Rattle.cel_value.specs.Texts.{points_of};
+ghost use Rattle.cel_value.specs.Types.{key_type_eq, type_eq, type_of_key, type_view};
+ghost use Rattle.cel_overload.specs.Overloads.{CallFault, IsCall};
+ghost use Rattle.cel_overload.specs.View.{found_view, result_view, types_of};
+ghost use Rattle.cel_overload.specs.steps.Choosing.{are_both, choose, choose_arithmetic, choose_binary, choose_comparison, choose_in, choose_index, choose_ternary, choose_unary, when};
+
+use crate::function::{Function, function_named, may_take};
+use crate::kinds::{has_key_type, is_joined, is_number, is_ordered, is_sized};
+use cel_ops::{ArithmeticOp, CompareOp, TextTest};
+use cel_value::CelType;
+
+/// What a call does. An operation that serves several types is one overload: `Arithmetic` stands for
+/// `add_int64` and `add_uint64`, `Concat` for `add_string`, `add_bytes` and `add_list`.
+#[derive(Clone, Copy, PartialEq, Eq, Debug)]
+pub enum Overload {
+    LogicalAnd,
+    LogicalOr,
+    LogicalNot,
+    NotStrictlyFalse,
+    Conditional,
+    Compare(CompareOp),
+    Arithmetic(ArithmeticOp),
+    Concat,
+    Negate,
+    IndexList,
+    IndexMap,
+    InList,
+    InMap,
+    Size,
+    TestText(TextTest),
+}
+
+/// The type of a call's result.
+#[derive(Clone, Copy)]
+pub enum ResultType<'a> {
+    Bool,
+    Int,
+    /// A type that an operand has, or holds.
+    Same(&'a CelType),
+}
+
+/// An overload with the type of its result.
+#[derive(Clone, Copy)]
+pub struct Found<'a> {
+    pub overload: Overload,
+    pub result: ResultType<'a>,
+}
+
+/// Why a call has no overload.
+#[derive(Clone, Copy, PartialEq, Eq, Debug)]
+pub enum OverloadFault {
+    /// No function has the name.
+    UnknownName,
+    /// The function takes no such target or operands.
+    NoOverload,
+}
+
+/// The overload of a call, by its function's name, whether it has a target, and its operands' types, a
+/// target first.
+pub fn find_overload<'a>(
+    name: &str,
+    has_target: bool,
+    operands: &[&'a CelType],
+) -> Result<Found<'a>, OverloadFault>
+    ensures found { IfOk result (λ f. IsCall (points_of name.now) has_target (types_of operands.now)
+        f.overload (result_view f.result)) }
+    ensures fault { IfErr result (CallFault (points_of name.now) has_target (types_of operands.now)) }
+{
+    match function_named(name) {
+        None => Err(OverloadFault::UnknownName),
+        Some(function) => match choose(function, has_target, operands) {
+            None => Err(OverloadFault::NoOverload),
+            Some(found) => Ok(found),
+        },
+    }
+}
+
+fn choose<'a>(function: Function, has_target: bool, operands: &[&'a CelType]) -> Option<Found<'a>>
+    ensures { option_map found_view result ≡ choose function has_target (types_of operands.now) }
+{
+    if !may_take(function, has_target) {
+        return None;
+    }
+    match operands {
+        [a] => choose_unary(function, a),
+        [a, b] => choose_binary(function, a, b),
+        [a, b, c] => choose_ternary(function, a, b, c),
+        _ => None,
+    }
+}
+
+// An overload, where its operands fit.
+fn when<'a>(fits: bool, overload: Overload, kind: ResultType<'a>) -> Option<Found<'a>>
+    ensures { option_map found_view result ≡ when fits overload (result_view kind.entry) }
+{
+    if fits {
+        Some(Found {
+            overload,
+            result: kind,
+        })
+    } else {
+        None
+    }
+}
+
+fn choose_unary<'a>(function: Function, operand: &'a CelType) -> Option<Found<'a>>
+    ensures { option_map found_view result ≡ choose_unary function (type_view operand.now) }
+{
+    match function {
+        Function::Not => when(
+            *operand == CelType::Bool,
+            Overload::LogicalNot,
+            ResultType::Bool,
+        ),
+        Function::NotStrictlyFalse => when(
+            *operand == CelType::Bool,
+            Overload::NotStrictlyFalse,
+            ResultType::Bool,
+        ),
+        Function::Negate => when(*operand == CelType::Int, Overload::Negate, ResultType::Int),
+        Function::Size => when(is_sized(operand), Overload::Size, ResultType::Int),
+        _ => None,
+    }
+}
+
+fn choose_binary<'a>(function: Function, left: &'a CelType, right: &'a CelType) -> Option<Found<'a>>
+    ensures { option_map found_view result ≡ choose_binary function (type_view left.now) (type_view right.now) }
+{
+    match function {
+        Function::And => when(
+            are_both(left, right, &CelType::Bool),
+            Overload::LogicalAnd,
+            ResultType::Bool,
+        ),
+        Function::Or => when(
+            are_both(left, right, &CelType::Bool),
+            Overload::LogicalOr,
+            ResultType::Bool,
+        ),
+        Function::Compare(op) => choose_comparison(op, left, right),
+        Function::Arithmetic(op) => choose_arithmetic(op, left, right),
+        Function::Index => choose_index(left, right),
+        Function::In => choose_in(left, right),
+        Function::TestText(test) => when(
+            are_both(left, right, &CelType::Text),
+            Overload::TestText(test),
+            ResultType::Bool,
+        ),
+        _ => None,
+    }
+}
+
+// Equality is of all types, order of those that have one.
+fn choose_comparison<'a>(op: CompareOp, left: &'a CelType, right: &'a CelType) -> Option<Found<'a>>
+    ensures { option_map found_view result ≡ choose_comparison op (type_view left.now) (type_view right.now) }
+{
+    let fits = match op {
+        CompareOp::Equal | CompareOp::NotEqual => *left == *right,
+        _ => is_ordered(left) && *left == *right,
+    };
+    when(fits, Overload::Compare(op), ResultType::Bool)
+}
+
+// Numbers are calculated; `_+_` joins texts, bytes and lists besides.
+fn choose_arithmetic<'a>(
+    op: ArithmeticOp,
+    left: &'a CelType,
+    right: &'a CelType,
+) -> Option<Found<'a>>
+    ensures { option_map found_view result ≡ choose_arithmetic op (type_view left.now) (type_view right.now) }
+{
+    if op == ArithmeticOp::Add && is_joined(left) {
+        return when(*left == *right, Overload::Concat, ResultType::Same(left));
+    }
+    when(
+        is_number(left) && *left == *right,
+        Overload::Arithmetic(op),
+        ResultType::Same(left),
+    )
+}
+
+fn choose_index<'a>(left: &'a CelType, right: &'a CelType) -> Option<Found<'a>>
+    ensures { option_map found_view result ≡ choose_index (type_view left.now) (type_view right.now) }
+{
+    match left {
+        CelType::List(items) => when(
+            *right == CelType::Int,
+            Overload::IndexList,
+            ResultType::Same(items),
+        ),
+        CelType::Map(keys, values) => when(
+            has_key_type(right, *keys),
+            Overload::IndexMap,
+            ResultType::Same(values),
+        ),
+        CelType::Bool | CelType::Int | CelType::Uint | CelType::Text | CelType::Bytes => None,
+    }
+}
+
+fn choose_in<'a>(left: &'a CelType, right: &'a CelType) -> Option<Found<'a>>
+    ensures { option_map found_view result ≡ choose_in (type_view left.now) (type_view right.now) }
+{
+    match right {
+        CelType::List(items) => when(*left == **items, Overload::InList, ResultType::Bool),
+        CelType::Map(keys, _) => when(has_key_type(left, *keys), Overload::InMap, ResultType::Bool),
+        CelType::Bool | CelType::Int | CelType::Uint | CelType::Text | CelType::Bytes => None,
+    }
+}
+
+fn choose_ternary<'a>(
+    function: Function,
+    first: &'a CelType,
+    second: &'a CelType,
+    third: &'a CelType,
+) -> Option<Found<'a>>
+    ensures { option_map found_view result ≡ choose_ternary function (type_view first.now) (type_view second.now) (type_view third.now) }
+{
+    match function {
+        Function::Conditional => when(
+            *first == CelType::Bool && *second == *third,
+            Overload::Conditional,
+            ResultType::Same(second),
+        ),
+        _ => None,
+    }
+}
+
+// Whether both are this type.
+fn are_both(left: &CelType, right: &CelType, both: &CelType) -> bool
+    ensures { result ≡ are_both (type_view left.now) (type_view right.now) (type_view both.now) }
+{
+    *left == *both && *right == *both
+}

@@ -1,0 +1,525 @@
+-- An expression has a type or a fault of typing: rule by rule, and then by recursion.
+use Rattle.std.proofs.Common.{◌≡◌, ◌≢◌, ◌⊎◌, inl, inr, ℕ, ℤ, Bool, true, false, List, [], ◌∷◌, Option, Some, None, option_map, refl, sym, ap, ◌∙◌, subst}
+use Rattle.std.specs.Prelude.{codes}
+use Rattle.std.specs.Str.{bytes_eq}
+use Rattle.std.specs.Cmp.Lexicographic.{bytes_decides}
+use Rattle.std.proofs.lemmas.Option.{none-some}
+use Rattle.std.specs.FinMap.{get}
+use Rattle.proto_wire.specs.declared.refusal.Refusal.{Refusal}
+use Rattle.proto_wire.specs.declared.refusal.Refusal.TheVariants.{BadReference, BadTypeEntry, Missing, NeedsType, NoOverload, OutOfRange, Unsupported, UnknownName}
+use Rattle.cel_value.specs.Values.{CelValue}
+use Rattle.cel_value.specs.Types.{ValueType, bool_type, int_type, uint_type, text_type, bytes_type, list_type, map_type, type_eq, type_of_key}
+use Rattle.cel_value.specs.EqualityLaws.{type_eq-Decides}
+use Rattle.cel_value.specs.declared.cel_type.KeyType.{KeyType}
+use Rattle.cel_value.specs.declared.cel_type.KeyType.TheVariants as keys
+use Rattle.cel_tree.specs.Checked.{CelReference, CelTypeEntry, of_type, dyn_type, unsupported_type}
+use Rattle.cel_tree.specs.Tree.{CelTree, constant, ident, select, call, list_literal, map_literal, comprehension, CelTarget, no_target, target, CelTrees, no_trees, tree, CelTreeEntries, no_tree_entries, tree_entry}
+use Rattle.cel_overload.specs.declared.overload.OverloadFault.TheVariants as calls
+use Rattle.cel_overload.proofs.OneOverload.{call-total}
+use Rattle.attributes.specs.declared.attribute.AttrId.{AttrId}
+use Rattle.cel_types.specs.Attributes.{attribute_named, attribute_type}
+use Rattle.cel_types.specs.Names.{bare_root, is_root, joined_name, local, root_of}
+use Rattle.cel_types.specs.Typing.{CallRule, IdentRule, IsList, IsMap, IsOver, Kinds, ListRule, LoopRule, MapRule, Maps, NamesDiffer, RefAgrees, SelectRule, TypeAgrees, TypeGiven, Types, TypesAll, TypesEach, TypesPairs, TypesTarget, constant_type, field_type, has_target, name_type}
+use Rattle.cel_types.specs.TypingFaults.{CallsFault, ConstantFault, ElementsFault, EmptyFault, EntryFault, IdentFault, ListFault, LoopFault, MapsFault, PairFault, PairsFault, RefDiffers, SelectFault, SomeFault, TargetFault, TypeFault, TypesInTurn}
+use Rattle.cel_types.specs.TypingFaults.{unsupported_kind, another_type, untold, of_another_kind, no_element_name, no_gathered_name, one_name, no_elements, no_condition, no_step, in_range, in_init, in_turn, in_result}
+use Rattle.cel_types.proofs.OneType.{one-type}
+
+-- a type by a rule, or a fault
+abbrev pub Decided : (ValueType → Type 0) → (Refusal → Type 0) → Type 0
+Decided Rule Fault = ((t : ValueType) × Rule t) ⊎ ((e : Refusal) × Fault e)
+
+-- a node's type by its rule and its entry, or a fault of one of them
+abbrev pub Settled : Option CelTypeEntry → (ValueType → Type 0) → (Refusal → Type 0) → Type 0
+Settled entry Rule Own =
+    ((t : ValueType) × Rule t × TypeAgrees entry t)
+    ⊎ ((e : Refusal) × (Own e ⊎ EntryFault entry Rule e))
+
+same_type : (s t : ValueType) → (s ≡ t) ⊎ (s ≢ t)
+same_type s t = at (type_eq s t) refl
+  where
+    at : (b : Bool) → type_eq s t ≡ b → (s ≡ t) ⊎ (s ≢ t)
+    at true e = inl ((type_eq-Decides s t).0 e)
+    at false e = inr (λ k. let same : type_eq s t ≡ true = (type_eq-Decides s t).1 k in cc)
+
+same_name : (a b : List ℕ) → (a ≡ b) ⊎ (a ≢ b)
+same_name a b = at (bytes_eq a b) refl
+  where
+    at : (t : Bool) → bytes_eq a b ≡ t → (a ≡ b) ⊎ (a ≢ b)
+    at true e = inl ((bytes_decides a b).0 e)
+    at false e = inr (λ k. let same : bytes_eq a b ≡ true = (bytes_decides a b).1 k in cc)
+
+-- what the entry says of a type by the node's rule
+entered : (entry : Option CelTypeEntry) (Rule : ValueType → Type 0) (Own : Refusal → Type 0)
+    (t : ValueType) → Rule t → Settled entry Rule Own
+entered None Rule Own t r = inl (t, r, tt)
+entered (Some dyn_type) Rule Own t r = inl (t, r, tt)
+entered (Some unsupported_type) Rule Own t r =
+    inr (Unsupported, inr (unsupported_kind refl refl))
+entered (Some (of_type s)) Rule Own t r = elim (same_type s t) [
+  | inl e ↦ inl (t, r, e)
+  | inr differs ↦ inr (BadTypeEntry, inr (another_type s t r refl differs refl))
+]
+
+settled : (entry : Option CelTypeEntry) (Rule : ValueType → Type 0) (Own : Refusal → Type 0)
+    → Decided Rule Own → Settled entry Rule Own
+settled entry Rule Own (inl (t, r)) = entered entry Rule Own t r
+settled entry Rule Own (inr (e, f)) = inr (e, inl f)
+
+-- ---- rules
+
+constant-total : (v : CelValue) → Decided (λ t. constant_type v ≡ Some t) (ConstantFault v)
+constant-total v = at (constant_type v) refl
+  where
+    at : (o : Option ValueType) → constant_type v ≡ o
+        → Decided (λ t. constant_type v ≡ Some t) (ConstantFault v)
+    at None e = inr (Unsupported, (e, refl))
+    at (Some t) e = inl (t, e)
+
+ref-decided : (ref : Option CelReference) (name : List ℕ) → RefAgrees ref name ⊎ RefDiffers ref name
+ref-decided None name = inl tt
+ref-decided (Some r) name = elim (same_name r.name name) [
+  | inl e ↦ value r.value refl e
+  | inr differs ↦ inr (λ a. differs a.0)
+]
+  where
+    value : (o : Option CelValue) → r.value ≡ o → r.name ≡ name
+        → RefAgrees (Some r) name ⊎ RefDiffers (Some r) name
+    value None is e = inl (e, is)
+    value (Some v) is e = inr (λ a. none-some v (sym a.1 ∙ is))
+
+ident-total : (ref : Option CelReference) (ks : Kinds) (name : List ℕ)
+    → Decided (IdentRule ref ks name) (IdentFault ref ks name)
+ident-total ref ks name = at (name_type name (local name ks)) refl
+  where
+    at : (o : Option ValueType) → name_type name (local name ks) ≡ o
+        → Decided (IdentRule ref ks name) (IdentFault ref ks name)
+    at None e = inr (UnknownName, IdentFault.unknown e refl)
+    at (Some t) e = elim (ref-decided ref name) [
+      | inl agrees ↦ inl (t, (e, agrees))
+      | inr differs ↦ inr (BadReference, IdentFault.other_reference t e differs refl)
+    ]
+
+-- a type of maps with names, and of what
+names_of : (s : ValueType) → ((t : ValueType) × (s ≡ map_type keys.Text t))
+    ⊎ ((t : ValueType) → s ≢ map_type keys.Text t)
+names_of (map_type keys.Text t) = inl (t, refl)
+names_of (map_type keys.Bool t) = inr (λ u e. cc)
+names_of (map_type keys.Int t) = inr (λ u e. cc)
+names_of (map_type keys.Uint t) = inr (λ u e. cc)
+names_of bool_type = inr (λ u e. cc)
+names_of int_type = inr (λ u e. cc)
+names_of uint_type = inr (λ u e. cc)
+names_of text_type = inr (λ u e. cc)
+names_of bytes_type = inr (λ u e. cc)
+names_of (list_type t) = inr (λ u e. cc)
+
+select-total : (ref : Option CelReference) (root : Option (List ℕ)) (Operand : ValueType → Type 0)
+    (InOperand : Refusal → Type 0) (field : List ℕ) (test_only : Bool)
+    → Decided Operand InOperand
+    → Decided (SelectRule ref root Operand field test_only)
+    (SelectFault ref root Operand InOperand field test_only)
+select-total ref (Some root) Operand InOperand field true inside =
+    inr (UnknownName, SelectFault.asked root refl refl refl)
+select-total ref (Some root) Operand InOperand field false inside =
+    at (attribute_named (joined_name root field)) refl
+  where
+    at : (o : Option AttrId) → attribute_named (joined_name root field) ≡ o
+        → Decided (SelectRule ref (Some root) Operand field false)
+        (SelectFault ref (Some root) Operand InOperand field false)
+    at None e = inr (UnknownName, SelectFault.unknown root refl e refl)
+    at (Some a) e =
+        let typed : option_map attribute_type (attribute_named (joined_name root field))
+        ≡ Some (attribute_type a) = ap (option_map attribute_type) e in
+        elim (ref-decided ref (joined_name root field)) [
+          | inl agrees ↦ inl (attribute_type a, (typed, agrees))
+          | inr differs ↦ inr (
+            BadReference,
+            SelectFault.other_reference root (attribute_type a)
+                refl refl typed differs refl,
+          )
+        ]
+select-total ref None Operand InOperand field test_only (inr (e, f)) =
+    inr (e, SelectFault.in_operand refl f)
+select-total ref None Operand InOperand field test_only (inl (s, h)) = elim (names_of s) [
+  | inl (t, is) ↦ inl (field_type test_only t, (t, subst Operand is h, refl))
+  | inr never ↦ inr (NoOverload, SelectFault.no_names s refl h never refl)
+]
+
+call-decided : (name : List ℕ) (on : Bool) (Operands : List ValueType → Type 0)
+    (InOperands : Refusal → Type 0)
+    → ((ts : List ValueType) × Operands ts) ⊎ ((e : Refusal) × InOperands e)
+    → Decided (CallRule name on Operands) (CallsFault name on Operands InOperands)
+call-decided name on Operands InOperands (inr (e, f)) = inr (e, CallsFault.in_operand f)
+call-decided name on Operands InOperands (inl (ts, h)) = elim (call-total name on ts) [
+  | inl (o, r, c) ↦ inl (r, (ts, h, o, c))
+  | inr (calls.UnknownName, f) ↦ inr (UnknownName, CallsFault.unknown f refl)
+  | inr (calls.NoOverload, f) ↦ inr (NoOverload, CallsFault.no_overload ts h f refl)
+]
+
+-- what an empty literal is by its entry
+empty-settled : (entry : Option CelTypeEntry) (IsKind : ValueType → Type 0)
+    → ((t : ValueType) → IsKind t ⊎ (IsKind t → ⊥))
+    → Settled entry (λ t. TypeGiven entry t × IsKind t) (EmptyFault entry IsKind)
+empty-settled None IsKind decide = inr (NeedsType, inl (untold tt refl))
+empty-settled (Some dyn_type) IsKind decide = inr (NeedsType, inl (untold tt refl))
+empty-settled (Some unsupported_type) IsKind decide =
+    inr (Unsupported, inr (unsupported_kind refl refl))
+empty-settled (Some (of_type s)) IsKind decide = elim (decide s) [
+  | inl kind ↦ inl (s, (refl, kind), refl)
+  | inr never ↦ inr (BadTypeEntry, inl (of_another_kind s refl never refl))
+]
+
+list-kind : (t : ValueType) → IsList t ⊎ (IsList t → ⊥)
+list-kind (list_type t) = inl tt
+list-kind (map_type k t) = inr (λ h. h)
+list-kind bool_type = inr (λ h. h)
+list-kind int_type = inr (λ h. h)
+list-kind uint_type = inr (λ h. h)
+list-kind text_type = inr (λ h. h)
+list-kind bytes_type = inr (λ h. h)
+
+map-kind : (t : ValueType) → IsMap t ⊎ (IsMap t → ⊥)
+map-kind (map_type k t) = inl tt
+map-kind (list_type t) = inr (λ h. h)
+map-kind bool_type = inr (λ h. h)
+map-kind int_type = inr (λ h. h)
+map-kind uint_type = inr (λ h. h)
+map-kind text_type = inr (λ h. h)
+map-kind bytes_type = inr (λ h. h)
+
+-- a type of keys
+key-kind : (t : ValueType) → ((k : KeyType) × (t ≡ type_of_key k)) ⊎ ((k : KeyType) → t ≢ type_of_key k)
+key-kind bool_type = inl (keys.Bool, refl)
+key-kind int_type = inl (keys.Int, refl)
+key-kind uint_type = inl (keys.Uint, refl)
+key-kind text_type = inl (keys.Text, refl)
+key-kind bytes_type = inr other
+  where
+    other : (k : KeyType) → bytes_type ≢ type_of_key k
+    other keys.Bool e = cc
+    other keys.Int e = cc
+    other keys.Uint e = cc
+    other keys.Text e = cc
+key-kind (list_type t) = inr other
+  where
+    other : (k : KeyType) → list_type t ≢ type_of_key k
+    other keys.Bool e = cc
+    other keys.Int e = cc
+    other keys.Uint e = cc
+    other keys.Text e = cc
+key-kind (map_type j t) = inr other
+  where
+    other : (k : KeyType) → map_type j t ≢ type_of_key k
+    other keys.Bool e = cc
+    other keys.Int e = cc
+    other keys.Uint e = cc
+    other keys.Text e = cc
+
+-- the elements of a range
+range-kind : (s : ValueType) → ((t : ValueType) × IsOver s t) ⊎ ((t : ValueType) → IsOver s t → ⊥)
+range-kind (list_type t) = inl (t, refl)
+range-kind (map_type k t) = inl (type_of_key k, refl)
+range-kind bool_type = inr (λ t h. h)
+range-kind int_type = inr (λ t h. h)
+range-kind uint_type = inr (λ t h. h)
+range-kind text_type = inr (λ t h. h)
+range-kind bytes_type = inr (λ t h. h)
+
+-- ---- elements and pairs of one type
+
+module _ (m : Maps) (ks : Kinds) where
+  all-decided : (ts : CelTrees) (us : List ValueType) (s : ValueType) → TypesEach m ks ts us
+      → TypesAll m ks ts s ⊎ (TypesAll m ks ts s → ⊥)
+  all-decided no_trees us s h = inl tt
+  all-decided (tree t ts) [] s h = absurd h
+  all-decided (tree t ts) (u ∷ us) s h = elim (same_type u s) [
+    | inr differs ↦ inr (λ all. differs (one-type m ks t u s h.0 all.0))
+    | inl e ↦ elim (all-decided ts us s h.1) [
+      | inl others ↦ inl (subst (λ v. Types m ks t v) e h.0, others)
+      | inr never ↦ inr (λ all. never all.1)
+    ]
+  ]
+
+  pairs-decided : (es : CelTreeEntries) (us : List ValueType) (r s : ValueType)
+      → TypesInTurn m ks es us → TypesPairs m ks es r s ⊎ (TypesPairs m ks es r s → ⊥)
+  pairs-decided no_tree_entries us r s h = inl tt
+  pairs-decided (tree_entry id key value es) [] r s h = absurd h
+  pairs-decided (tree_entry id key value es) (t ∷ []) r s h = absurd h
+  pairs-decided (tree_entry id key value es) (t ∷ u ∷ us) r s h = elim (same_type t r) [
+    | inr differs ↦ inr (λ all. differs (one-type m ks key t r h.0 all.0))
+    | inl d ↦ elim (same_type u s) [
+      | inr differs ↦ inr (λ all. differs (one-type m ks value u s h.1 all.1))
+      | inl e ↦ elim (pairs-decided es us r s h.2) [
+        | inl others ↦ inl (
+          subst (λ v. Types m ks key v) d h.0,
+          subst (λ v. Types m ks value v) e h.1,
+          others,
+        )
+        | inr never ↦ inr (λ all. never all.2)
+      ]
+    ]
+  ]
+
+  list-settled : (entry : Option CelTypeEntry) (ts : CelTrees)
+      → ((us : List ValueType) × TypesEach m ks ts us) ⊎ ((e : Refusal) × SomeFault m ks ts e)
+      → Settled entry (ListRule entry ts (TypesAll m ks ts))
+      (ListFault entry ts (TypesEach m ks ts) (TypesAll m ks ts) (SomeFault m ks ts))
+  list-settled entry no_trees each = empty-settled entry IsList list-kind
+  list-settled entry (tree t ts) (inr (e, f)) = inr (e, inl (ElementsFault.in_element f))
+  list-settled entry (tree t ts) (inl ([], h)) = absurd h
+  list-settled entry (tree t ts) (inl (u ∷ us, h)) = elim (all-decided (tree t ts) (u ∷ us) u h) [
+    | inl all ↦ entered entry (ListRule entry (tree t ts) (TypesAll m ks (tree t ts))) _
+        (list_type u) (u, all, refl)
+    | inr never ↦ inr (
+      NoOverload,
+      inl (ElementsFault.no_common_type (u ∷ us) (λ e. cc) h
+          (λ s all. never (subst (λ v. TypesAll m ks (tree t ts) v)
+          (one-type m ks t s u all.0 h.0) all)) refl),
+    )
+  ]
+
+  map-settled : (entry : Option CelTypeEntry) (es : CelTreeEntries)
+      → ((us : List ValueType) × TypesInTurn m ks es us) ⊎ ((e : Refusal) × PairFault m ks es e)
+      → Settled entry (MapRule entry es (TypesPairs m ks es))
+      (MapsFault entry es (TypesInTurn m ks es) (TypesPairs m ks es) (PairFault m ks es))
+  map-settled entry no_tree_entries each = empty-settled entry IsMap map-kind
+  map-settled entry (tree_entry id key value es) (inr (e, f)) = inr (e, inl (PairsFault.in_entry f))
+  map-settled entry (tree_entry id key value es) (inl ([], h)) = absurd h
+  map-settled entry (tree_entry id key value es) (inl (t ∷ [], h)) = absurd h
+  map-settled entry (tree_entry id key value es) (inl (t ∷ u ∷ us, h)) = elim (key-kind t) [
+    | inr never ↦ inr (
+      NoOverload,
+      inl (PairsFault.no_common_type (t ∷ u ∷ us) (λ e. cc) h
+          (λ k s all. never k (one-type m ks key t (type_of_key k) h.0 all.0)) refl),
+    )
+    | inl (k, is) ↦ elim (pairs-decided (tree_entry id key value es) (t ∷ u ∷ us) t u h) [
+      | inl all ↦ entered entry
+          (MapRule entry (tree_entry id key value es) (TypesPairs m ks (tree_entry id key value es)))
+          _ (map_type k u)
+          (k, u, subst (λ v. TypesPairs m ks (tree_entry id key value es) v u) is all, refl)
+      | inr never ↦ inr (
+        NoOverload,
+        inl (PairsFault.no_common_type (t ∷ u ∷ us) (λ e. cc) h
+            (λ j s all. never
+            (subst (λ v. TypesPairs m ks (tree_entry id key value es) v u)
+            (one-type m ks key (type_of_key j) t all.0 h.0)
+            (subst (λ v. TypesPairs m ks (tree_entry id key value es) (type_of_key j) v)
+            (one-type m ks value s u all.1 h.1) all))) refl),
+      )
+    ]
+  ]
+
+-- ---- comprehensions
+
+names-decided : (x acc : List ℕ) → NamesDiffer x acc ⊎ ((x ≡ []) ⊎ ((acc ≡ []) ⊎ (x ≡ acc)))
+names-decided [] acc = inr (inl refl)
+names-decided (c ∷ x) [] = inr (inr (inl refl))
+names-decided (c ∷ x) (d ∷ acc) = elim (same_name (c ∷ x) (d ∷ acc)) [
+  | inl e ↦ inr (inr (inr e))
+  | inr differs ↦ inl (record { element = λ e. cc; gathered = λ e. cc; differ = differs })
+]
+
+module _ (x acc : List ℕ) (Range Init : ValueType → Type 0)
+    (Condition Step : ValueType → ValueType → ValueType → Type 0)
+    (Result : ValueType → ValueType → Type 0) (InRange InInit : Refusal → Type 0)
+    (InCondition InStep : ValueType → ValueType → Refusal → Type 0)
+    (InResult : ValueType → Refusal → Type 0)
+    (range : Decided Range InRange) (init : Decided Init InInit)
+    (condition : (s a : ValueType) → Decided (Condition s a) (InCondition s a))
+    (step : (s a : ValueType) → Decided (Step s a) (InStep s a))
+    (result : (a : ValueType) → Decided (Result a) (InResult a)) where
+  abbrev Fault : Refusal → Type 0
+  Fault = LoopFault x acc Range Init Condition Step InRange InInit
+      (λ s a e. InCondition s a e ⊎ InStep s a e) InResult
+
+  abbrev Loop : Type 0
+  Loop = Decided (LoopRule x acc Range Init Condition Step Result) Fault
+
+  parts-total : NamesDiffer x acc → (w s a : ValueType) → Range w → IsOver w s → Init a
+      → Decided (Condition s a) (InCondition s a) → Decided (Step s a) (InStep s a)
+      → Decided (Result a) (InResult a) → Loop
+  parts-total names w s a r over i (inr (e, f)) step' result' =
+      inr (e, in_turn w s a r over i (inl f))
+  parts-total names w s a r over i (inl c) (inr (e, f)) result' =
+      inr (e, in_turn w s a r over i (inr f))
+  parts-total names w s a r over i (inl c) (inl p) (inr (e, f)) = inr (e, in_result a i f)
+  parts-total names w s a r over i (inl (t, c)) (inl (u, p)) (inl (v, q)) =
+      elim (same_type t bool_type) [
+        | inr differs ↦ inr (NoOverload, no_condition w s a t r over i c differs refl)
+        | inl is_bool ↦ elim (same_type u a) [
+          | inr differs ↦ inr (NoOverload, no_step w s a u r over i p differs refl)
+          | inl keeps ↦ inl (
+            v,
+            record {
+              names = names;
+              walked = w;
+              element = s;
+              gathered = a;
+              range = r;
+              over = over;
+              init = i;
+              condition = subst (λ t. Condition s a t) is_bool c;
+              step = subst (λ u. Step s a u) keeps p;
+              result = q;
+            },
+          )
+        ]
+      ]
+
+  loop-total : Loop
+  loop-total = elim (names-decided x acc) [
+    | inr (inl e) ↦ inr (Missing, no_element_name e refl)
+    | inr (inr (inl e)) ↦ inr (Missing, no_gathered_name e refl)
+    | inr (inr (inr e)) ↦ inr (OutOfRange, one_name e refl)
+    | inl names ↦ elim range [
+      | inr (e, f) ↦ inr (e, in_range f)
+      | inl (w, r) ↦ elim init [
+        | inr (e, f) ↦ inr (e, in_init f)
+        | inl (a, i) ↦ elim (range-kind w) [
+          | inr never ↦ inr (NoOverload, no_elements w r never refl)
+          | inl (s, over) ↦
+              parts-total names w s a r over i (condition s a) (step s a) (result a)
+        ]
+      ]
+    ]
+  ]
+
+-- ---- an Ident with a type is no bare root
+
+root-unnamed : (name : List ℕ) → is_root name ≡ true → attribute_named name ≡ None
+root-unnamed name e = at (bytes_eq name (codes "request")) (bytes_eq name (codes "source"))
+    (bytes_eq name (codes "destination")) (bytes_eq name (codes "connection")) refl refl refl refl e
+  where
+    at : (p q r s : Bool) → bytes_eq name (codes "request") ≡ p
+        → bytes_eq name (codes "source") ≡ q → bytes_eq name (codes "destination") ≡ r
+        → bytes_eq name (codes "connection") ≡ s
+        → is_root name ≡ true → attribute_named name ≡ None
+    at true q r s a b c d e = ap attribute_named ((bytes_decides name (codes "request")).0 a)
+    at false true r s a b c d e = ap attribute_named ((bytes_decides name (codes "source")).0 b)
+    at false false true s a b c d e =
+        ap attribute_named ((bytes_decides name (codes "destination")).0 c)
+    at false false false true a b c d e =
+        ap attribute_named ((bytes_decides name (codes "connection")).0 d)
+    at false false false false a b c d e =
+        let never : is_root name ≡ false = rw (a, b, c, d) refl in cc
+
+typed-no-root : (name : List ℕ) (ks : Kinds) (t : ValueType)
+    → name_type name (local name ks) ≡ Some t → bare_root name ks ≡ false
+typed-no-root name ks t e = at (local name ks) refl
+  where
+    root : (b : Bool) → is_root name ≡ b → local name ks ≡ None → is_root name ≡ false
+    root false is none = is
+    root true is none = absurd (none-some t
+        (sym (ap (option_map attribute_type) (root-unnamed name is))
+        ∙ subst (λ o. name_type name o ≡ Some t) none e))
+
+    at : (o : Option ValueType) → local name ks ≡ o → bare_root name ks ≡ false
+    at (Some u) is = rw is refl
+    at None is = rw is (root (is_root name) refl is)
+
+ident-settled : (m : Maps) (ks : Kinds) (id : ℤ) (name : List ℕ)
+    → Settled (get m.types id) (IdentRule (get m.refs id) ks name)
+    (IdentFault (get m.refs id) ks name)
+    → ((s : ValueType) × Types m ks (ident id name) s)
+    ⊎ ((e : Refusal) × TypeFault m ks (ident id name) e)
+ident-settled m ks id name (inl (t, r, agrees)) = inl (t, (r, agrees))
+ident-settled m ks id name (inr (e, inl f)) = inr (e, inl f)
+ident-settled m ks id name (inr (e, inr f)) = elim (ident-total (get m.refs id) ks name) [
+  | inl (t, r) ↦ inr (e, inr (typed-no-root name ks t r.0, f))
+  | inr (d, g) ↦ inr (d, inl g)
+]
+
+-- ---- expressions
+
+abbrev pub TypeOrFault : Maps → Kinds → CelTree → Type 0
+TypeOrFault m ks t = Decided (λ s. Types m ks t s) (TypeFault m ks t)
+
+-- the two parts of a type by rule and entry
+paired : (entry : Option CelTypeEntry) (Rule : ValueType → Type 0) (Own : Refusal → Type 0)
+    → Settled entry Rule Own → Decided (λ t. Rule t × TypeAgrees entry t)
+    (λ e. Own e ⊎ EntryFault entry Rule e)
+paired entry Rule Own (inl (t, r, agrees)) = inl (t, (r, agrees))
+paired entry Rule Own (inr f) = inr f
+
+mutual
+  pub type-total : (m : Maps) (ks : Kinds) (t : CelTree) → TypeOrFault m ks t
+  type-total m ks (constant id v) =
+      paired (get m.types id) _ _ (settled (get m.types id) (λ t. constant_type v ≡ Some t)
+      (ConstantFault v) (constant-total v))
+  type-total m ks (ident id name) =
+      ident-settled m ks id name (settled (get m.types id) (IdentRule (get m.refs id) ks name)
+      (IdentFault (get m.refs id) ks name) (ident-total (get m.refs id) ks name))
+  type-total m ks (select id operand field test_only) =
+      paired (get m.types id) _ _ (settled (get m.types id)
+      (SelectRule (get m.refs id) (root_of operand ks) (Types m ks operand) field test_only)
+      (SelectFault (get m.refs id) (root_of operand ks) (Types m ks operand)
+      (TypeFault m ks operand) field test_only)
+      (select-total (get m.refs id) (root_of operand ks) (Types m ks operand)
+      (TypeFault m ks operand) field test_only (type-total m ks operand)))
+  type-total m ks (call id name on args) =
+      paired (get m.types id) _ _ (settled (get m.types id)
+      (CallRule name (has_target on) (TypesTarget m ks on (TypesEach m ks args)))
+      (CallsFault name (has_target on) (TypesTarget m ks on (TypesEach m ks args))
+      (λ d. TargetFault m ks on d ⊎ SomeFault m ks args d))
+      (call-decided name (has_target on) (TypesTarget m ks on (TypesEach m ks args))
+      (λ d. TargetFault m ks on d ⊎ SomeFault m ks args d)
+      (target-total m ks on args (each-total m ks args))))
+  type-total m ks (list_literal id elements) =
+      paired (get m.types id) _ _ (list-settled m ks (get m.types id) elements
+      (each-total m ks elements))
+  type-total m ks (map_literal id entries) =
+      paired (get m.types id) _ _ (map-settled m ks (get m.types id) entries
+      (turn-total m ks entries))
+  type-total m ks (comprehension id x acc range init condition step result) =
+      paired (get m.types id) _ _ (settled (get m.types id)
+      (LoopRule x acc (Types m ks range) (Types m ks init)
+      (λ s a. Types m ((x, s) ∷ (acc, a) ∷ ks) condition)
+      (λ s a. Types m ((x, s) ∷ (acc, a) ∷ ks) step)
+      (λ a. Types m ((acc, a) ∷ ks) result)) _
+      (loop-total x acc (Types m ks range) (Types m ks init)
+      (λ s a. Types m ((x, s) ∷ (acc, a) ∷ ks) condition)
+      (λ s a. Types m ((x, s) ∷ (acc, a) ∷ ks) step)
+      (λ a. Types m ((acc, a) ∷ ks) result) (TypeFault m ks range) (TypeFault m ks init)
+      (λ s a. TypeFault m ((x, s) ∷ (acc, a) ∷ ks) condition)
+      (λ s a. TypeFault m ((x, s) ∷ (acc, a) ∷ ks) step)
+      (λ a. TypeFault m ((acc, a) ∷ ks) result)
+      (type-total m ks range) (type-total m ks init)
+      (λ s a. type-total m ((x, s) ∷ (acc, a) ∷ ks) condition)
+      (λ s a. type-total m ((x, s) ∷ (acc, a) ∷ ks) step)
+      (λ a. type-total m ((acc, a) ∷ ks) result)))
+
+  target-total : (m : Maps) (ks : Kinds) (on : CelTarget) (args : CelTrees)
+      → ((us : List ValueType) × TypesEach m ks args us) ⊎ ((e : Refusal) × SomeFault m ks args e)
+      → ((us : List ValueType) × TypesTarget m ks on (TypesEach m ks args) us)
+      ⊎ ((e : Refusal) × (TargetFault m ks on e ⊎ SomeFault m ks args e))
+  target-total m ks no_target args (inl h) = inl h
+  target-total m ks on args (inr (e, f)) = inr (e, inr f)
+  target-total m ks (target on) args (inl (us, h)) = elim (type-total m ks on) [
+    | inl (t, g) ↦ inl (t ∷ us, (g, h))
+    | inr (e, f) ↦ inr (e, inl f)
+  ]
+
+  each-total : (m : Maps) (ks : Kinds) (ts : CelTrees)
+      → ((us : List ValueType) × TypesEach m ks ts us) ⊎ ((e : Refusal) × SomeFault m ks ts e)
+  each-total m ks no_trees = inl ([], tt)
+  each-total m ks (tree t ts) = elim (type-total m ks t) [
+    | inr (e, f) ↦ inr (e, inl f)
+    | inl (u, g) ↦ elim (each-total m ks ts) [
+      | inr (e, f) ↦ inr (e, inr f)
+      | inl (us, h) ↦ inl (u ∷ us, (g, h))
+    ]
+  ]
+
+  turn-total : (m : Maps) (ks : Kinds) (es : CelTreeEntries)
+      → ((us : List ValueType) × TypesInTurn m ks es us) ⊎ ((e : Refusal) × PairFault m ks es e)
+  turn-total m ks no_tree_entries = inl ([], tt)
+  turn-total m ks (tree_entry id key value es) = elim (type-total m ks key) [
+    | inr (e, f) ↦ inr (e, inl f)
+    | inl (s, g) ↦ elim (type-total m ks value) [
+      | inr (e, f) ↦ inr (e, inr (inl f))
+      | inl (t, h) ↦ elim (turn-total m ks es) [
+        | inr (e, f) ↦ inr (e, inr (inr f))
+        | inl (us, k) ↦ inl (s ∷ t ∷ us, (g, h, k))
+      ]
+    ]
+  ]

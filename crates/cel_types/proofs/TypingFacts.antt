@@ -1,0 +1,220 @@
+-- Types of expressions, computed on examples.
+use Rattle.std.proofs.Common.{◌≡◌, inl, inr, ℕ, ℤ, pos, true, false, List, [], ◌∷◌, Some, None, refl, sym, subst}
+use Rattle.std.specs.Prelude.{codes}
+use Rattle.std.specs.FinMap.{find, from_entries, get, get-from_entries}
+use Rattle.std.specs.Cmp.{int_cmp_total}
+use Rattle.std.specs.Ordering.{int_cmp}
+use Rattle.proto_wire.specs.declared.refusal.Refusal.TheVariants.{BadReference, BadTypeEntry, NeedsType, NoOverload, UnknownName, Unsupported}
+use Rattle.cel_value.specs.Types.{ValueType, bool_type, int_type, uint_type, text_type, list_type, map_type}
+use Rattle.cel_value.specs.Values.{int, uint, text}
+use Rattle.cel_value.specs.declared.cel_type.KeyType.TheVariants as keys
+use Rattle.cel_ops.specs.declared.comparison.CompareOp.TheVariants.{Equal}
+use Rattle.cel_ops.specs.declared.arithmetic.ArithmeticOp.TheVariants.{Add}
+use Rattle.cel_overload.specs.declared.function.Function.TheVariants as functions
+use Rattle.cel_overload.specs.declared.overload.Overload.TheVariants as overloads
+use Rattle.cel_tree.specs.Checked.{CelReference, CelTypeEntry, of_type, dyn_type, unsupported_type}
+use Rattle.cel_tree.specs.Tree.{CelTree, constant, ident, select, call, comprehension, list_literal, no_target, CelTrees, no_trees, tree}
+use Rattle.cel_overload.proofs.OneOverload.{unchosen}
+use Rattle.cel_types.specs.Typing.{Maps, RefAgrees, TypeAgrees, TypeGiven, Types, TypesEach, locals_in}
+use Rattle.cel_types.specs.TypingFaults.{CallsFault, ElementsFault, IdentFault, SaysNothing, SelectFault, TypeFault, another_type, of_another_kind, unsupported_kind, untold}
+
+-- ---- `request.method == "GET"`: the call has id 3, the Select 1, the Ident 2, the text 4
+
+abbrev method : CelTree
+method = select (pos 1) (ident (pos 2) (codes "request")) (codes "method") false
+
+abbrev method_is_get : CelTree
+method_is_get = call (pos 3) (codes "_==_") no_target
+    (tree method (tree (constant (pos 4) (text (codes "GET"))) no_trees))
+
+-- type entries, and no references
+abbrev with_types : List (ℤ × CelTypeEntry) → Maps
+with_types es = record { types = from_entries es; refs = from_entries [] }
+
+-- an entry of the maps, where the list of entries says so
+agrees : (es : List (ℤ × CelTypeEntry)) (id : ℤ) (t : ValueType)
+    → TypeAgrees (find int_cmp id es) t → TypeAgrees (get (with_types es).types id) t
+agrees es id t h = subst (λ o. TypeAgrees o t) (sym (get-from_entries int_cmp_total es id)) h
+
+given : (es : List (ℤ × CelTypeEntry)) (id : ℤ) (t : ValueType)
+    → TypeGiven (find int_cmp id es) t → TypeGiven (get (with_types es).types id) t
+given es id t h = subst (λ o. TypeGiven o t) (sym (get-from_entries int_cmp_total es id)) h
+
+no_reference : (es : List (ℤ × CelTypeEntry)) (id : ℤ) (name : List ℕ)
+    → RefAgrees (get (with_types es).refs id) name
+no_reference es id name = subst (λ o. RefAgrees o name)
+    (sym (get-from_entries {X = CelReference} int_cmp_total [] id)) tt
+
+method_is_text : (es : List (ℤ × CelTypeEntry)) → TypeAgrees (find int_cmp (pos 1) es) text_type
+    → Types (with_types es) [] method text_type
+method_is_text es h =
+    ((refl, no_reference es (pos 1) (codes "request.method")), agrees es (pos 1) text_type h)
+
+-- without entries on the others, the call is a bool
+is_bool : (es : List (ℤ × CelTypeEntry)) → TypeAgrees (find int_cmp (pos 1) es) text_type
+    → TypeAgrees (find int_cmp (pos 3) es) bool_type
+    → TypeAgrees (find int_cmp (pos 4) es) text_type
+    → Types (with_types es) [] method_is_get bool_type
+is_bool es on_select on_call on_constant = (
+  (
+    text_type ∷ text_type ∷ [],
+    (method_is_text es on_select, ((refl, agrees es (pos 4) text_type on_constant), tt)),
+    overloads.Compare Equal,
+    (
+      functions.Compare Equal,
+      refl,
+      record {
+        function = refl;
+        shape = refl;
+        operands = (text_type, tt, refl, refl);
+      },
+    ),
+  ),
+  agrees es (pos 3) bool_type on_call,
+)
+
+without_entries : Types (with_types []) [] method_is_get bool_type
+without_entries = is_bool [] tt tt tt
+
+-- `dyn` says nothing, on the Select or on the bare root
+dyn_on_select : Types (with_types ((pos 1, dyn_type) ∷ [])) [] method_is_get bool_type
+dyn_on_select = is_bool ((pos 1, dyn_type) ∷ []) tt tt tt
+
+right_entry : Types (with_types ((pos 1, of_type text_type) ∷ [])) [] method_is_get bool_type
+right_entry = is_bool ((pos 1, of_type text_type) ∷ []) refl tt tt
+
+-- an entry of a bare root is not used, whatever it says
+entry_on_root : Types (with_types ((pos 2, unsupported_type) ∷ [])) [] method_is_get bool_type
+entry_on_root = is_bool ((pos 2, unsupported_type) ∷ []) tt tt tt
+
+-- the entry INT64 on the Select is 11
+
+int_on_select : TypeFault (with_types ((pos 1, of_type int_type) ∷ [])) [] method BadTypeEntry
+int_on_select = inr (another_type int_type text_type
+    (refl, no_reference ((pos 1, of_type int_type) ∷ []) (pos 1) (codes "request.method"))
+    (get-from_entries int_cmp_total ((pos 1, of_type int_type) ∷ []) (pos 1)) (λ e. cc) refl)
+
+-- `request.color` is 9, as an Ident and as a Select
+
+color : TypeFault (with_types []) []
+    (select (pos 1) (ident (pos 2) (codes "request")) (codes "color") false) UnknownName
+color = inl (SelectFault.unknown (codes "request") refl refl refl)
+
+dotted_color : TypeFault (with_types []) [] (ident (pos 1) (codes "request.color")) UnknownName
+dotted_color = inl (IdentFault.unknown refl refl)
+
+bare_root_alone : TypeFault (with_types []) [] (ident (pos 1) (codes "request")) UnknownName
+bare_root_alone = inl (IdentFault.unknown refl refl)
+
+-- `has(request.method)` is 9
+
+has_method : TypeFault (with_types []) []
+    (select (pos 1) (ident (pos 2) (codes "request")) (codes "method") true) UnknownName
+has_method = inl (SelectFault.asked (codes "request") refl refl refl)
+
+-- a local that is named like a root hides it: `request.method` of a local map
+
+hidden_root : Types (with_types []) ((codes "request", map_type keys.Text int_type) ∷ []) method
+    int_type
+hidden_root = (
+  (
+    int_type,
+    (
+      (refl, no_reference [] (pos 2) (codes "request")),
+      agrees [] (pos 2) (map_type keys.Text int_type) tt,
+    ),
+    refl,
+  ),
+  agrees [] (pos 1) int_type tt,
+)
+
+-- a reference that names another attribute is 12
+
+abbrev path_for_method : Maps
+path_for_method = record {
+  types = from_entries [];
+  refs = from_entries ((pos 1, record { name = codes "request.path"; value = None }) ∷ []);
+}
+
+other_reference : TypeFault path_for_method [] (ident (pos 1) (codes "request.method")) BadReference
+other_reference = inl (IdentFault.other_reference text_type refl (λ same.
+    let named = subst (λ o. RefAgrees o (codes "request.method"))
+    (get-from_entries int_cmp_total
+    ((pos 1, record { name = codes "request.path"; value = None }) ∷ []) (pos 1)) same in
+    cc) refl)
+
+-- `1 + 1u` and `[1, 2u]` are 10
+
+abbrev one_and_one : CelTrees
+one_and_one = tree (constant (pos 1) (int (pos 1))) (tree (constant (pos 2) (uint 1)) no_trees)
+
+int_and_uint : TypesEach (with_types []) [] one_and_one (int_type ∷ uint_type ∷ [])
+int_and_uint = (
+  (refl, agrees [] (pos 1) int_type tt),
+  ((refl, agrees [] (pos 2) uint_type tt), tt),
+)
+
+no_sum : TypeFault (with_types []) [] (call (pos 3) (codes "_+_") no_target one_and_one) NoOverload
+no_sum = inl (CallsFault.no_overload (int_type ∷ uint_type ∷ []) int_and_uint (
+  functions.Arithmetic Add,
+  refl,
+  unchosen (functions.Arithmetic Add) false
+      (int_type ∷ uint_type ∷ []) refl,
+) refl)
+
+no_list : TypeFault (with_types []) [] (list_literal (pos 3) one_and_one) NoOverload
+no_list = inl (ElementsFault.no_common_type (int_type ∷ uint_type ∷ []) (λ e. cc) int_and_uint
+    (λ t all. mixed t all.0.0 all.1.0.0) refl)
+  where
+    mixed : (t : ValueType) → Some int_type ≡ Some t → Some uint_type ≡ Some t → ⊥
+    mixed t g h = cc
+
+-- `[]` is 14 without an entry and with `dyn`, has its entry's type, and is 6 with a kind that is not
+-- supported and 11 with a map
+
+abbrev empty_list : CelTree
+empty_list = list_literal (pos 1) no_trees
+
+untold_list : TypeFault (with_types []) [] empty_list NeedsType
+untold_list = inl (untold (subst SaysNothing
+    (sym (get-from_entries {X = CelTypeEntry} int_cmp_total [] (pos 1))) tt) refl)
+
+dyn_list : TypeFault (with_types ((pos 1, dyn_type) ∷ [])) [] empty_list NeedsType
+dyn_list = inl (untold (subst SaysNothing
+    (sym (get-from_entries int_cmp_total ((pos 1, dyn_type) ∷ []) (pos 1))) tt) refl)
+
+told_list : Types (with_types ((pos 1, of_type (list_type int_type)) ∷ [])) [] empty_list
+    (list_type int_type)
+told_list = (
+  (given ((pos 1, of_type (list_type int_type)) ∷ []) (pos 1) (list_type int_type) refl, tt),
+  agrees ((pos 1, of_type (list_type int_type)) ∷ []) (pos 1) (list_type int_type) refl,
+)
+
+unsupported_list : TypeFault (with_types ((pos 1, unsupported_type) ∷ [])) [] empty_list Unsupported
+unsupported_list = inr (unsupported_kind
+    (get-from_entries int_cmp_total ((pos 1, unsupported_type) ∷ []) (pos 1)) refl)
+
+list_of_map_type : TypeFault (with_types ((pos 1, of_type (map_type keys.Int int_type)) ∷ [])) []
+    empty_list BadTypeEntry
+list_of_map_type = inl (of_another_kind (map_type keys.Int int_type)
+    (get-from_entries int_cmp_total ((pos 1, of_type (map_type keys.Int int_type)) ∷ []) (pos 1))
+    (λ h. h) refl)
+
+-- ---- how many locals are in scope
+
+-- a comprehension in the condition of a comprehension: the inner condition sees four
+
+abbrev one_loop : CelTree → CelTree
+one_loop condition = comprehension (pos 1) (codes "x") (codes "y") empty_list (ident (pos 2)
+    (codes "a")) condition (ident (pos 2) (codes "a")) (ident (pos 2) (codes "a"))
+
+two_in_one : locals_in (one_loop (ident (pos 2) (codes "a"))) ≡ 2
+two_in_one = refl
+
+four_in_two : locals_in (one_loop (one_loop (ident (pos 2) (codes "a")))) ≡ 4
+four_in_two = refl
+
+-- in a result the element is not in scope
+three_in_result : locals_in (comprehension (pos 1) (codes "x") (codes "y") empty_list empty_list
+    empty_list empty_list (one_loop empty_list)) ≡ 3
+three_in_result = refl

@@ -1,0 +1,5 @@
+use Rattle.cel_types.proofs.CheckLaws.{check-total}
+use Rattle.cel_types.proofs.laws.typing_total.Goals as goal
+
+pub returns : goal.returns
+returns c = check-total

@@ -1,0 +1,237 @@
+-- Which expressions have a type: CEL language definition, "Type Checking" and "Name Resolution", and
+-- `google/api/expr/v1alpha1/checked.proto`, CheckedExpr: the entries of its maps are compared with
+-- what is found, and tell the types of empty literals alone.
+use Rattle.std.specs.Prelude.{◌≡◌, ◌≢◌, ◌≤◌, ◌+◌, ℕ, Bool, true, false, max, List, [], ◌∷◌, Option, Some, None, option_map}
+use Rattle.std.specs.FinMap.{FinMap, get}
+use Rattle.std.specs.Ordering.{int_cmp}
+use Rattle.cel_value.specs.Types.{ValueType, bool_type, int_type, uint_type, text_type, bytes_type, list_type, map_type, type_of_key}
+use Rattle.cel_value.specs.Values.{CelValue, bool, int, uint, text, bytes}
+use Rattle.cel_value.specs.declared.cel_type.KeyType.{KeyType}
+use Rattle.cel_value.specs.declared.cel_type.KeyType.TheVariants as keys
+use Rattle.cel_tree.specs.Checked.{CelChecked, CelReference, CelTypeEntry, of_type, dyn_type, unsupported_type}
+use Rattle.cel_tree.specs.Tree.{CelTree, constant, ident, select, call, list_literal, map_literal, comprehension, CelTarget, no_target, target, CelTrees, no_trees, tree, CelTreeEntries, no_tree_entries, tree_entry}
+use Rattle.cel_overload.specs.Overloads.{IsCall}
+use Rattle.cel_overload.specs.declared.overload.Overload.{Overload}
+use Rattle.cel_types.specs.Attributes.{attribute_named, attribute_type}
+use Rattle.cel_types.specs.Names.{Scope, joined_name, local, root_of}
+
+-- how many locals may be in scope, shadowed ones too
+abbrev pub most_locals : ℕ
+most_locals = 64
+
+-- what is known of locals: their types
+abbrev pub Kinds : Type 0
+Kinds = Scope ValueType
+
+-- what a message says of nodes by their ids
+pub record Maps : Type 0 where
+  pub types : FinMap int_cmp CelTypeEntry
+  pub refs : FinMap int_cmp CelReference
+
+-- ---- entries
+
+-- a type entry says the type, or says nothing
+abbrev pub TypeAgrees : Option CelTypeEntry → ValueType → Type 0
+TypeAgrees None t = Unit {0}
+TypeAgrees (Some dyn_type) t = Unit {0}
+TypeAgrees (Some unsupported_type) t = ⊥
+TypeAgrees (Some (of_type s)) t = s ≡ t
+
+-- a type entry says the type
+abbrev pub TypeGiven : Option CelTypeEntry → ValueType → Type 0
+TypeGiven (Some (of_type s)) t = s ≡ t
+TypeGiven _ t = ⊥
+
+-- a reference entry names the variable and holds no value
+abbrev pub RefAgrees : Option CelReference → List ℕ → Type 0
+RefAgrees None name = Unit {0}
+RefAgrees (Some r) name = (r.name ≡ name) × (r.value ≡ None)
+
+-- ---- one rule for each kind of node, over what is known of its parts
+
+-- a constant has the type of its kind
+abbrev pub constant_type : CelValue → Option ValueType
+constant_type (bool b) = Some bool_type
+constant_type (int i) = Some int_type
+constant_type (uint n) = Some uint_type
+constant_type (text cs) = Some text_type
+constant_type (bytes bs) = Some bytes_type
+constant_type _ = None
+
+-- an Ident is the innermost local of its name, or the attribute
+abbrev pub name_type : List ℕ → Option ValueType → Option ValueType
+name_type name (Some t) = Some t
+name_type name None = option_map attribute_type (attribute_named name)
+
+abbrev pub IdentRule : Option CelReference → Kinds → List ℕ → ValueType → Type 0
+IdentRule ref ks name t = (name_type name (local name ks) ≡ Some t) × RefAgrees ref name
+
+-- a Select is the attribute of a bare root's field, or a map's value at a name, or whether the map
+-- has the name
+abbrev pub field_type : (test_only : Bool) → ValueType → ValueType
+field_type true t = bool_type
+field_type false t = t
+
+abbrev pub SelectRule : Option CelReference → Option (List ℕ) → (Operand : ValueType → Type 0)
+    → List ℕ → Bool → ValueType → Type 0
+SelectRule ref (Some root) Operand field true t = ⊥
+SelectRule ref (Some root) Operand field false t =
+    (option_map attribute_type (attribute_named (joined_name root field)) ≡ Some t)
+    × RefAgrees ref (joined_name root field)
+SelectRule ref None Operand field test_only t = (s : ValueType)
+    × Operand (map_type keys.Text s) × (t ≡ field_type test_only s)
+
+-- a call is an overload of its function that takes its operands, the target first
+abbrev pub has_target : CelTarget → Bool
+has_target no_target = false
+has_target (target on) = true
+
+abbrev pub CallRule : List ℕ → Bool → (Operands : List ValueType → Type 0) → ValueType → Type 0
+CallRule name on Operands t =
+    (ts : List ValueType) × Operands ts × (o : Overload) × IsCall name on ts o t
+
+-- the elements of a list literal have one type; an empty one has its entry's, a list type
+abbrev pub IsList : ValueType → Type 0
+IsList (list_type t) = Unit {0}
+IsList _ = ⊥
+
+abbrev pub ListRule : Option CelTypeEntry → CelTrees → (Elements : ValueType → Type 0)
+    → ValueType → Type 0
+ListRule entry no_trees Elements t = TypeGiven entry t × IsList t
+ListRule entry (tree first others) Elements t =
+    (s : ValueType) × Elements s × (t ≡ list_type s)
+
+-- the keys of a map literal have one type, and its values too; an empty one has its entry's, a map
+-- type
+abbrev pub IsMap : ValueType → Type 0
+IsMap (map_type k t) = Unit {0}
+IsMap _ = ⊥
+
+abbrev pub MapRule : Option CelTypeEntry → CelTreeEntries
+    → (Pairs : ValueType → ValueType → Type 0) → ValueType → Type 0
+MapRule entry no_tree_entries Pairs t = TypeGiven entry t × IsMap t
+MapRule entry (tree_entry id key value others) Pairs t = (k : KeyType) × (s : ValueType)
+    × Pairs (type_of_key k) s × (t ≡ map_type k s)
+
+-- the elements of a range: the items of a list, or the keys of a map
+abbrev pub IsOver : ValueType → ValueType → Type 0
+IsOver (list_type s) element = element ≡ s
+IsOver (map_type k s) element = element ≡ type_of_key k
+IsOver _ element = ⊥
+
+-- the names of a comprehension are given and differ
+pub record NamesDiffer (x acc : List ℕ) : Type 0 where
+  pub element : x ≢ []
+  pub gathered : acc ≢ []
+  pub differ : x ≢ acc
+
+-- a comprehension over the elements of its range: the condition is a bool, and each step keeps the
+-- type of what is gathered
+pub record LoopRule (x acc : List ℕ) (Range Init : ValueType → Type 0)
+    (Condition Step : ValueType → ValueType → ValueType → Type 0)
+    (Result : ValueType → ValueType → Type 0) (t : ValueType) : Type 0 where
+  pub names : NamesDiffer x acc
+  pub walked : ValueType
+  pub element : ValueType
+  pub gathered : ValueType
+  pub range : Range walked
+  pub over : IsOver walked element
+  pub init : Init gathered
+  pub condition : Condition element gathered bool_type
+  pub step : Step element gathered gathered
+  pub result : Result gathered t
+
+-- ---- expressions
+
+abbrev mutual
+  -- with these locals the expression has the type, by its node's rule, and its entry agrees
+  pub Types : Maps → Kinds → CelTree → ValueType → Type 0
+  Types m ks (constant id v) t = (constant_type v ≡ Some t) × TypeAgrees (get m.types id) t
+  Types m ks (ident id name) t =
+      IdentRule (get m.refs id) ks name t × TypeAgrees (get m.types id) t
+  Types m ks (select id operand field test_only) t =
+      SelectRule (get m.refs id) (root_of operand ks) (Types m ks operand) field test_only t
+      × TypeAgrees (get m.types id) t
+  Types m ks (call id name on args) t =
+      CallRule name (has_target on) (TypesTarget m ks on (TypesEach m ks args)) t
+      × TypeAgrees (get m.types id) t
+  Types m ks (list_literal id elements) t =
+      ListRule (get m.types id) elements (TypesAll m ks elements) t
+      × TypeAgrees (get m.types id) t
+  Types m ks (map_literal id entries) t =
+      MapRule (get m.types id) entries (TypesPairs m ks entries) t
+      × TypeAgrees (get m.types id) t
+  Types m ks (comprehension id x acc range init condition step result) t =
+      LoopRule x acc (Types m ks range) (Types m ks init)
+      (λ s a. Types m ((x, s) ∷ (acc, a) ∷ ks) condition)
+      (λ s a. Types m ((x, s) ∷ (acc, a) ∷ ks) step)
+      (λ a. Types m ((acc, a) ∷ ks) result) t
+      × TypeAgrees (get m.types id) t
+
+  -- the types of a target and of what follows it
+  pub TypesTarget : Maps → Kinds → CelTarget → (List ValueType → Type 0) → List ValueType → Type 0
+  TypesTarget m ks no_target Others ts = Others ts
+  TypesTarget m ks (target on) Others [] = ⊥
+  TypesTarget m ks (target on) Others (t ∷ ts) = Types m ks on t × Others ts
+
+  -- each expression has the type at its place
+  pub TypesEach : Maps → Kinds → CelTrees → List ValueType → Type 0
+  TypesEach m ks no_trees [] = Unit {0}
+  TypesEach m ks no_trees (t ∷ ts) = ⊥
+  TypesEach m ks (tree a others) [] = ⊥
+  TypesEach m ks (tree a others) (t ∷ ts) = Types m ks a t × TypesEach m ks others ts
+
+  -- each expression has the one type
+  pub TypesAll : Maps → Kinds → CelTrees → ValueType → Type 0
+  TypesAll m ks no_trees t = Unit {0}
+  TypesAll m ks (tree a others) t = Types m ks a t × TypesAll m ks others t
+
+  -- each key and each value has its one type
+  pub TypesPairs : Maps → Kinds → CelTreeEntries → ValueType → ValueType → Type 0
+  TypesPairs m ks no_tree_entries s t = Unit {0}
+  TypesPairs m ks (tree_entry id key value others) s t =
+      Types m ks key s × Types m ks value t × TypesPairs m ks others s t
+
+-- ---- scopes
+
+-- the greatest of five numbers
+abbrev pub greatest : (a b c d e : ℕ) → ℕ
+greatest a b c d e = max a (max b (max c (max d e)))
+
+abbrev mutual
+  -- how many locals some node of the expression has in scope, of those that the expression itself
+  -- brings in: in a comprehension's condition and step two, in its result one
+  pub locals_in : CelTree → ℕ
+  locals_in (constant id v) = 0
+  locals_in (ident id name) = 0
+  locals_in (select id operand field test_only) = locals_in operand
+  locals_in (call id name on args) = max (locals_in_target on) (locals_in_each args)
+  locals_in (list_literal id elements) = locals_in_each elements
+  locals_in (map_literal id entries) = locals_in_entries entries
+  locals_in (comprehension id x acc range init condition step result) =
+      greatest (locals_in range) (locals_in init) (2 + locals_in condition) (2 + locals_in step)
+      (1 + locals_in result)
+
+  pub locals_in_target : CelTarget → ℕ
+  locals_in_target no_target = 0
+  locals_in_target (target on) = locals_in on
+
+  pub locals_in_each : CelTrees → ℕ
+  locals_in_each no_trees = 0
+  locals_in_each (tree t ts) = max (locals_in t) (locals_in_each ts)
+
+  pub locals_in_entries : CelTreeEntries → ℕ
+  locals_in_entries no_tree_entries = 0
+  locals_in_entries (tree_entry id key value es) =
+      max (locals_in key) (max (locals_in value) (locals_in_entries es))
+
+-- ---- checked expressions
+
+-- the maps of a checked expression
+abbrev pub maps_of : CelChecked → Maps
+maps_of c = record { types = c.types; refs = c.refs }
+
+-- the checked expression has the type, and no node has too many locals in scope
+pub record IsTyped (c : CelChecked) (t : ValueType) : Type 0 where
+  pub few : locals_in c.tree ≤ most_locals
+  pub types : Types (maps_of c) [] c.tree t

@@ -1,0 +1,221 @@
+-- What is wrong with an expression that has no type, by the numbers of refusals: rule by rule as in
+-- Typing. Of several faults each is there.
+use Rattle.std.specs.Prelude.{◌≡◌, ◌≢◌, ◌⊎◌, ◌<◌, ℕ, Bool, true, false, List, [], ◌∷◌, Option, Some, None, option_map}
+use Rattle.std.specs.FinMap.{get}
+use Rattle.proto_wire.specs.declared.refusal.Refusal.{Refusal}
+use Rattle.proto_wire.specs.declared.refusal.Refusal.TheVariants.{BadReference, BadTypeEntry, Missing, NeedsType, NoOverload, OutOfRange, TooLarge, Unsupported, UnknownName}
+use Rattle.cel_value.specs.Types.{ValueType, bool_type, map_type, type_of_key}
+use Rattle.cel_value.specs.Values.{CelValue}
+use Rattle.cel_value.specs.declared.cel_type.KeyType.{KeyType}
+use Rattle.cel_value.specs.declared.cel_type.KeyType.TheVariants as keys
+use Rattle.cel_tree.specs.Checked.{CelChecked, CelReference, CelTypeEntry, of_type, dyn_type, unsupported_type}
+use Rattle.cel_tree.specs.Tree.{CelTree, constant, ident, select, call, list_literal, map_literal, comprehension, CelTarget, no_target, target, CelTrees, no_trees, tree, CelTreeEntries, no_tree_entries, tree_entry}
+use Rattle.cel_overload.specs.Functions.{function_named}
+use Rattle.cel_overload.specs.Overloads.{CallFault}
+use Rattle.cel_overload.specs.declared.overload.OverloadFault.TheVariants as calls
+use Rattle.cel_types.specs.Attributes.{attribute_named, attribute_type}
+use Rattle.cel_types.specs.Names.{bare_root, joined_name, local, root_of}
+use Rattle.cel_types.specs.Typing.{CallRule, IdentRule, IsList, IsMap, IsOver, Kinds, ListRule, LoopRule, MapRule, Maps, RefAgrees, SelectRule, Types, TypesAll, TypesEach, TypesPairs, TypesTarget, constant_type, has_target, locals_in, maps_of, most_locals, name_type}
+
+-- ---- entries
+
+-- a type entry is of a kind that is not supported, or says another type than the node's rule
+pub data EntryFault (entry : Option CelTypeEntry) (Rule : ValueType → Type 0) (e : Refusal) : Type 0
+  where
+    unsupported_kind : entry ≡ Some unsupported_type → e ≡ Unsupported → EntryFault entry Rule e
+    another_type : (s t : ValueType) → Rule t → entry ≡ Some (of_type s) → s ≢ t
+        → e ≡ BadTypeEntry → EntryFault entry Rule e
+
+-- a reference entry names another variable, or holds a value
+abbrev pub RefDiffers : Option CelReference → List ℕ → Type 0
+RefDiffers ref name = RefAgrees ref name → ⊥
+
+-- no entry says what an empty literal is
+abbrev pub SaysNothing : Option CelTypeEntry → Type 0
+SaysNothing None = Unit {0}
+SaysNothing (Some dyn_type) = Unit {0}
+SaysNothing (Some _) = ⊥
+
+-- an empty literal of some kind has no type by its entry
+pub data EmptyFault (entry : Option CelTypeEntry) (IsKind : ValueType → Type 0) (e : Refusal) : Type 0
+  where
+    untold : SaysNothing entry → e ≡ NeedsType → EmptyFault entry IsKind e
+    of_another_kind : (s : ValueType) → entry ≡ Some (of_type s) → (IsKind s → ⊥)
+        → e ≡ BadTypeEntry → EmptyFault entry IsKind e
+
+-- ---- nodes
+
+-- a constant is of a kind that is not supported
+abbrev pub ConstantFault : CelValue → Refusal → Type 0
+ConstantFault v e = (constant_type v ≡ None) × (e ≡ Unsupported)
+
+-- an Ident is neither a local nor an attribute, or its reference entry differs
+pub data IdentFault (ref : Option CelReference) (ks : Kinds) (name : List ℕ) (e : Refusal) : Type 0
+  where
+    unknown : name_type name (local name ks) ≡ None → e ≡ UnknownName → IdentFault ref ks name e
+    other_reference : (t : ValueType) → name_type name (local name ks) ≡ Some t
+        → RefDiffers ref name → e ≡ BadReference → IdentFault ref ks name e
+
+-- a Select of a bare root is no attribute, or asks whether it is there, or its reference entry
+-- differs; another Select is of what is no map with names
+pub data SelectFault (ref : Option CelReference) (root : Option (List ℕ))
+    (Operand : ValueType → Type 0) (InOperand : Refusal → Type 0) (field : List ℕ)
+    (test_only : Bool) (e : Refusal) : Type 0 where
+  unknown : (r : List ℕ) → root ≡ Some r → attribute_named (joined_name r field) ≡ None
+      → e ≡ UnknownName → SelectFault ref root Operand InOperand field test_only e
+  asked : (r : List ℕ) → root ≡ Some r → test_only ≡ true → e ≡ UnknownName
+      → SelectFault ref root Operand InOperand field test_only e
+  other_reference : (r : List ℕ) (t : ValueType) → root ≡ Some r → test_only ≡ false
+      → option_map attribute_type (attribute_named (joined_name r field)) ≡ Some t
+      → RefDiffers ref (joined_name r field) → e ≡ BadReference
+      → SelectFault ref root Operand InOperand field test_only e
+  no_names : (s : ValueType) → root ≡ None → Operand s
+      → ((t : ValueType) → s ≢ map_type keys.Text t) → e ≡ NoOverload
+      → SelectFault ref root Operand InOperand field test_only e
+  in_operand : root ≡ None → InOperand e
+      → SelectFault ref root Operand InOperand field test_only e
+
+-- a call's function is not known, or has no overload for the operands
+pub data CallsFault (name : List ℕ) (on : Bool) (Operands : List ValueType → Type 0)
+    (InOperands : Refusal → Type 0) (e : Refusal) : Type 0 where
+  unknown : function_named name ≡ None → e ≡ UnknownName
+      → CallsFault name on Operands InOperands e
+  no_overload : (ts : List ValueType) → Operands ts → CallFault name on ts calls.NoOverload
+      → e ≡ NoOverload → CallsFault name on Operands InOperands e
+  in_operand : InOperands e → CallsFault name on Operands InOperands e
+
+-- the elements of a list literal have types, and no one type
+pub data ElementsFault (elements : CelTrees) (Each : List ValueType → Type 0)
+    (All : ValueType → Type 0) (InElements : Refusal → Type 0) (e : Refusal) : Type 0 where
+  no_common_type : (ts : List ValueType) → elements ≢ no_trees → Each ts
+      → ((t : ValueType) → All t → ⊥) → e ≡ NoOverload
+      → ElementsFault elements Each All InElements e
+  in_element : InElements e → ElementsFault elements Each All InElements e
+
+-- the keys and values of a map literal have types, and not each one, or the keys' is no type of keys
+pub data PairsFault (entries : CelTreeEntries) (Each : List ValueType → Type 0)
+    (Pairs : ValueType → ValueType → Type 0) (InEntries : Refusal → Type 0) (e : Refusal) : Type 0
+  where
+    no_common_type : (ts : List ValueType) → entries ≢ no_tree_entries → Each ts
+        → ((k : KeyType) (t : ValueType) → Pairs (type_of_key k) t → ⊥) → e ≡ NoOverload
+        → PairsFault entries Each Pairs InEntries e
+    in_entry : InEntries e → PairsFault entries Each Pairs InEntries e
+
+-- a comprehension lacks a name, or has one twice; or its range has no elements; or its condition is
+-- no bool, or its step of another type than what is gathered
+pub data LoopFault (x acc : List ℕ) (Range Init : ValueType → Type 0)
+    (Condition Step : ValueType → ValueType → ValueType → Type 0)
+    (InRange InInit : Refusal → Type 0) (InTurn : ValueType → ValueType → Refusal → Type 0)
+    (InResult : ValueType → Refusal → Type 0) (e : Refusal) : Type 0 where
+  no_element_name : x ≡ [] → e ≡ Missing
+      → LoopFault x acc Range Init Condition Step InRange InInit InTurn InResult e
+  no_gathered_name : acc ≡ [] → e ≡ Missing
+      → LoopFault x acc Range Init Condition Step InRange InInit InTurn InResult e
+  one_name : x ≡ acc → e ≡ OutOfRange
+      → LoopFault x acc Range Init Condition Step InRange InInit InTurn InResult e
+  no_elements : (s : ValueType) → Range s → ((t : ValueType) → IsOver s t → ⊥) → e ≡ NoOverload
+      → LoopFault x acc Range Init Condition Step InRange InInit InTurn InResult e
+  no_condition : (s element gathered t : ValueType) → Range s → IsOver s element → Init gathered
+      → Condition element gathered t → t ≢ bool_type → e ≡ NoOverload
+      → LoopFault x acc Range Init Condition Step InRange InInit InTurn InResult e
+  no_step : (s element gathered t : ValueType) → Range s → IsOver s element → Init gathered
+      → Step element gathered t → t ≢ gathered → e ≡ NoOverload
+      → LoopFault x acc Range Init Condition Step InRange InInit InTurn InResult e
+  in_range : InRange e
+      → LoopFault x acc Range Init Condition Step InRange InInit InTurn InResult e
+  in_init : InInit e
+      → LoopFault x acc Range Init Condition Step InRange InInit InTurn InResult e
+  in_turn : (s element gathered : ValueType) → Range s → IsOver s element → Init gathered
+      → InTurn element gathered e
+      → LoopFault x acc Range Init Condition Step InRange InInit InTurn InResult e
+  in_result : (gathered : ValueType) → Init gathered → InResult gathered e
+      → LoopFault x acc Range Init Condition Step InRange InInit InTurn InResult e
+
+-- ---- expressions
+
+-- what is wrong with a list literal, empty or not
+abbrev pub ListFault : Option CelTypeEntry → CelTrees → (List ValueType → Type 0)
+    → (ValueType → Type 0) → (Refusal → Type 0) → Refusal → Type 0
+ListFault entry no_trees Each All InElements e = EmptyFault entry IsList e
+ListFault entry (tree t ts) Each All InElements e =
+    ElementsFault (tree t ts) Each All InElements e
+
+-- what is wrong with a map literal, empty or not
+abbrev pub MapsFault : Option CelTypeEntry → CelTreeEntries → (List ValueType → Type 0)
+    → (ValueType → ValueType → Type 0) → (Refusal → Type 0) → Refusal → Type 0
+MapsFault entry no_tree_entries Each Pairs InEntries e = EmptyFault entry IsMap e
+MapsFault entry (tree_entry id key value es) Each Pairs InEntries e =
+    PairsFault (tree_entry id key value es) Each Pairs InEntries e
+
+abbrev mutual
+  -- keys and values in turn have the types
+  pub TypesInTurn : Maps → Kinds → CelTreeEntries → List ValueType → Type 0
+  TypesInTurn m ks no_tree_entries [] = Unit {0}
+  TypesInTurn m ks no_tree_entries (t ∷ ts) = ⊥
+  TypesInTurn m ks (tree_entry id key value es) [] = ⊥
+  TypesInTurn m ks (tree_entry id key value es) (s ∷ []) = ⊥
+  TypesInTurn m ks (tree_entry id key value es) (s ∷ t ∷ ts) =
+      Types m ks key s × Types m ks value t × TypesInTurn m ks es ts
+
+abbrev mutual
+  -- a fault of the node, of its entry, or of an expression inside
+  pub TypeFault : Maps → Kinds → CelTree → Refusal → Type 0
+  TypeFault m ks (constant id v) e =
+      ConstantFault v e ⊎ EntryFault (get m.types id) (λ t. constant_type v ≡ Some t) e
+  TypeFault m ks (ident id name) e = IdentFault (get m.refs id) ks name e
+      ⊎ ((bare_root name ks ≡ false)
+      × EntryFault (get m.types id) (IdentRule (get m.refs id) ks name) e)
+  TypeFault m ks (select id operand field test_only) e =
+      SelectFault (get m.refs id) (root_of operand ks) (Types m ks operand)
+      (TypeFault m ks operand) field test_only e
+      ⊎ EntryFault (get m.types id) (SelectRule (get m.refs id) (root_of operand ks)
+      (Types m ks operand) field test_only) e
+  TypeFault m ks (call id name on args) e =
+      CallsFault name (has_target on) (TypesTarget m ks on (TypesEach m ks args))
+      (λ d. TargetFault m ks on d ⊎ SomeFault m ks args d) e
+      ⊎ EntryFault (get m.types id)
+      (CallRule name (has_target on) (TypesTarget m ks on (TypesEach m ks args))) e
+  TypeFault m ks (list_literal id elements) e =
+      ListFault (get m.types id) elements (TypesEach m ks elements) (TypesAll m ks elements)
+      (SomeFault m ks elements) e
+      ⊎ EntryFault (get m.types id)
+      (ListRule (get m.types id) elements (TypesAll m ks elements)) e
+  TypeFault m ks (map_literal id entries) e =
+      MapsFault (get m.types id) entries (TypesInTurn m ks entries) (TypesPairs m ks entries)
+      (PairFault m ks entries) e
+      ⊎ EntryFault (get m.types id)
+      (MapRule (get m.types id) entries (TypesPairs m ks entries)) e
+  TypeFault m ks (comprehension id x acc range init condition step result) e =
+      LoopFault x acc (Types m ks range) (Types m ks init)
+      (λ s a. Types m ((x, s) ∷ (acc, a) ∷ ks) condition)
+      (λ s a. Types m ((x, s) ∷ (acc, a) ∷ ks) step)
+      (TypeFault m ks range) (TypeFault m ks init)
+      (λ s a d. TypeFault m ((x, s) ∷ (acc, a) ∷ ks) condition d
+      ⊎ TypeFault m ((x, s) ∷ (acc, a) ∷ ks) step d)
+      (λ a. TypeFault m ((acc, a) ∷ ks) result) e
+      ⊎ EntryFault (get m.types id) (LoopRule x acc (Types m ks range) (Types m ks init)
+      (λ s a. Types m ((x, s) ∷ (acc, a) ∷ ks) condition)
+      (λ s a. Types m ((x, s) ∷ (acc, a) ∷ ks) step)
+      (λ a. Types m ((acc, a) ∷ ks) result)) e
+
+  -- a fault of a target
+  pub TargetFault : Maps → Kinds → CelTarget → Refusal → Type 0
+  TargetFault m ks no_target e = ⊥
+  TargetFault m ks (target on) e = TypeFault m ks on e
+
+  -- a fault of some of the expressions
+  pub SomeFault : Maps → Kinds → CelTrees → Refusal → Type 0
+  SomeFault m ks no_trees e = ⊥
+  SomeFault m ks (tree t ts) e = TypeFault m ks t e ⊎ SomeFault m ks ts e
+
+  -- a fault of some key or value
+  pub PairFault : Maps → Kinds → CelTreeEntries → Refusal → Type 0
+  PairFault m ks no_tree_entries e = ⊥
+  PairFault m ks (tree_entry id key value es) e =
+      TypeFault m ks key e ⊎ (TypeFault m ks value e ⊎ PairFault m ks es e)
+
+-- what is wrong with a checked expression: a node has too many locals in scope, or the expression
+-- has no type
+pub data CheckFault (c : CelChecked) (e : Refusal) : Type 0 where
+  too_many_locals : most_locals < locals_in c.tree → e ≡ TooLarge → CheckFault c e
+  untyped : TypeFault (maps_of c) [] c.tree e → CheckFault c e

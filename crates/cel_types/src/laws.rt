@@ -1,0 +1,38 @@
+//! Laws of meaning and typing.
+
+ghost use Rattle.std.specs.Prelude.{◌≡◌, ◌↔◌, ◌⊎◌, ℕ, List, Some};
+ghost use Rattle.attributes.specs.Attributes.{attr_name};
+ghost use Rattle.attributes.specs.declared.attribute.AttrId.{AttrId};
+ghost use Rattle.cel_types.specs.Attributes.{attribute_named};
+ghost use Rattle.cel_value.specs.Types.{ValueType};
+ghost use Rattle.cel_tree.specs.Checked.{CelChecked};
+ghost use Rattle.cel_types.specs.Elaborated.{IsElaborated, TypedTree, kind};
+ghost use Rattle.cel_types.specs.Typing.{IsTyped};
+ghost use Rattle.cel_types.specs.TypingFaults.{CheckFault};
+ghost use Rattle.proto_wire.specs.declared.refusal.Refusal.{Refusal};
+
+/// Each attribute is found under its name, and no other is.
+pub fn attribute_is_named()
+    ensures { (name : List ℕ) (id : AttrId) → (attribute_named name ≡ Some id) ↔ (name ≡ attr_name id) }
+{}
+
+/// A checked expression has one type at most.
+pub fn typing_unique()
+    ensures { (c : CelChecked) (s t : ValueType) → IsTyped c s → IsTyped c t → s ≡ t }
+{}
+
+/// A checked expression has a type or a fault.
+pub fn typing_total()
+    ensures { (c : CelChecked) → ((t : ValueType) × IsTyped c t) ⊎ ((e : Refusal) × CheckFault c e) }
+{}
+
+/// One that has a type has no fault.
+pub fn typing_disjoint()
+    ensures { (c : CelChecked) (t : ValueType) (e : Refusal) → IsTyped c t → CheckFault c e → ⊥ }
+{}
+
+/// One that has a type has an elaboration of that type.
+pub fn typed_is_elaborated()
+    ensures { (c : CelChecked) (t : ValueType) → IsTyped c t
+        → (e : TypedTree) × IsElaborated c e × (kind e ≡ t) }
+{}

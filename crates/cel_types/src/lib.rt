@@ -1,0 +1,4 @@
+//! What expressions of CEL mean, and which have a type.
+#![tactic(auto)]
+
+pub mod laws;
