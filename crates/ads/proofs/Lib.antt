@@ -1,2 +1,7 @@
 pub mod Lists
 pub mod ConfigLemmas
+pub mod NamedLemmas
+pub mod PlaceLemmas
+pub mod AnswerLemmas
+pub mod TakingLemmas
+pub mod JudgedLemmas

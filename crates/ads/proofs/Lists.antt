@@ -2,6 +2,10 @@
 use Rattle.std.proofs.Common.{◌≡◌, ℕ, zero, suc, ◌+◌, ◌<◌, ◌⊎◌, inl, inr, List, [], ◌∷◌, ◌++◌, length, map, take, get_or, arith}
 use Rattle.std.specs.List.{AllZip, AllByRecursion}
 use Rattle.std.proofs.lemmas.List.{map_more, map-append}
+use Rattle.std.specs.Prelude.{Result, IfErr, IsErrAnd}
+use Rattle.proto_wire.specs.Refusal.{MemoryOr}
+use Rattle.proto_wire.specs.declared.refusal.Refusal.{Refusal}
+use Rattle.proto_wire.proofs.Exits.{exit_memory_or}
 use Rattle.xds_wire.specs.Envelope.{SomeOf}
 
 -- the element at a place is one of the elements
@@ -60,3 +64,28 @@ zip_push R [] [] x y all more = (more, tt)
 zip_push R [] (b ∷ ys) x y all more = absurd all
 zip_push R (a ∷ xs) [] x y all more = absurd all
 zip_push R (a ∷ xs) (b ∷ ys) x y (first, all) more = (first, zip_push R xs ys x y all more)
+
+-- one pair more, both seen by views
+pub zip_more : {A B C D : Type 0} (R : B → D → Type 0) (seen : A → B) (view : C → D) (xs : List A)
+    (i : ℕ) (d : A) (items now : List C) (x : C)
+    → i < length xs → AllZip R (map seen (take i xs)) (map view items)
+    → R (seen (get_or xs i d)) (view x) → now ≡ items ++ x ∷ []
+    → AllZip R (map seen (take (i + 1) xs)) (map view now)
+zip_more R seen view xs i d items now x within so_far is pushed =
+    rw (pushed, map-append view items (x ∷ []), map_more seen xs i d within)
+    (zip_push R (map seen (take i xs)) (map view items) (seen (get_or xs i d)) (view x) so_far is)
+
+-- at a `?` on the reader of one element among others
+pub exit_each : {A B : Type 0} (P : B → Refusal → Type 0) (view : A → B) (xs : List A) (i : ℕ) (d : A)
+    → i < length xs → {T : Type 0} (r : Result T Refusal) (e : Refusal)
+    → IsErrAnd r (λ y. y ≡ e) → MemoryOr (P (view (get_or xs i d))) e
+    → IfErr r (MemoryOr (λ b. SomeOf (λ x. P x b) (map view xs)))
+exit_each P view xs i d within r e left fault =
+    exit_memory_or (P (view (get_or xs i d))) (λ b. SomeOf (λ x. P x b) (map view xs))
+    r e left fault (λ b bad. some_at (λ x. P x b) view xs i d within bad)
+
+-- one between others
+pub some_middle : {A : Type 0} (P : A → Type 0) (xs : List A) (y : A) (ys : List A) → P y
+    → SomeOf P (xs ++ y ∷ ys)
+some_middle P [] y ys p = inl p
+some_middle P (x ∷ xs) y ys p = inr (some_middle P xs y ys p)

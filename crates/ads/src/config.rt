@@ -97,7 +97,7 @@ impl Model for Config {
 
 impl Config {
     ghost use Rattle.ads.specs.Config.{IsSound, IsAtFault};
-    ghost use Rattle.ads.specs.steps.Views.{config_of};
+    ghost use Rattle.ads.specs.steps.Views.{config_of, entries_view};
 
     /// A configuration of these parts. Of several faults one that is there is answered.
     pub fn new(
@@ -147,11 +147,11 @@ impl Config {
         &self.limits
     }
 
-    /// How many filters there are.
-    pub fn len(&self) -> usize
-        ensures { result ≡ length self.now.filters }
+    /// The filters' names and budgets, in configured order.
+    pub fn filters(&self) -> &IndexMap<String, u64>
+        ensures { entries_view result.now.entries ≡ self.now.filters }
     {
-        self.filters.len()
+        &self.filters
     }
 }
 

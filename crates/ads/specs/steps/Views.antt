@@ -31,3 +31,7 @@ config_of node cluster filters limits = record {
   filters = filters_view filters;
   limits = limits;
 }
+
+-- the filter of this name and budget
+abbrev pub filter_of : List ℕ → ℕ → FilterValue
+filter_of name budget = record { name = name; budget = budget }
