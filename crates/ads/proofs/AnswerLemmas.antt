@@ -1,5 +1,5 @@
 -- The answers to messages, one after the other.
-use Rattle.std.proofs.Common.{◌≡◌, ◌≢◌, ◌⊎◌, inl, inr, ℕ, Bool, true, false, List, [], ◌∷◌, ◌++◌, Option, Some, None, length, map, suc, refl, ap, sym, ◌∙◌, append_assoc, append-nil, option_map}
+use Rattle.std.proofs.Common.{◌≡◌, ◌≢◌, ◌⊎◌, inl, inr, ℕ, Bool, true, false, List, [], ◌∷◌, ◌++◌, not, true≢false, Option, Some, None, length, map, suc, refl, ap, sym, ◌∙◌, append_assoc, append-nil, option_map}
 use Rattle.std.specs.Prelude.{Result, Ok, Err, OnOk, MatchBool}
 use Rattle.std.specs.List.{AllZip}
 use Rattle.std.specs.declared.alloc.AllocError.{AllocError}
@@ -96,3 +96,20 @@ pub same_draft : (old : List (Option Filter)) (told version : List ℕ) (given :
     → ◌≡◌ {A = Accepted} (record { version = told; policies = replaced old (policies_view given); generation = n })
     (record { version = version; policies = old; generation = n })
 same_draft old told version given n same none = rw (same, none, replaced_nothing old) refl
+
+-- what a test told
+pub told_no : (b : Bool) (P Q : Type 0) → b ≡ false → MatchBool b P Q → Q
+told_no true P Q is p = absurd (true≢false is)
+told_no false P Q is q = q
+
+pub told_yes : (b : Bool) (P Q : Type 0) → b ≡ true → MatchBool b P Q → P
+told_yes true P Q is p = p
+told_yes false P Q is q = absurd (true≢false (sym is))
+
+-- answers behind nothing
+pub from_answers : (c : ConfigValue) (a b d : Accepted) (ms : List (List ℕ)) (before after : List ℕ) (ends : Bool)
+    → b ≡ a → before ≡ [] → ((replies : List ℕ) × AreAnswered c b ms replies d ends × (after ≡ before ++ replies))
+    → AreAnswered c a ms after d ends
+from_answers c a b d ms before after ends same none (replies, answered, whole) =
+    let all : after ≡ replies = whole ∙ ap (λ xs. xs ++ replies) none in
+    rw (all, ← same) answered

@@ -1,5 +1,6 @@
 -- Filters whose names differ stand in a map in the order in which they were put there.
 use Rattle.std.proofs.Common.{◌≡◌, ℕ, Bool, true, false, ◌⊎◌, inl, inr, List, [], ◌∷◌, ◌++◌, map, refl, ap, sym, ◌∙◌, if◌then◌else◌, bytes_eq, true≢false}
+use Rattle.std.specs.List.{AllZip}
 use Rattle.std.specs.String.{string_bytes, string_eq}
 use Rattle.std.specs.declared.string.String.{String}
 use Rattle.std.specs.declared.alloc.Global.{Global}
@@ -51,3 +52,12 @@ ordered_more entries now before rest after all f distinct same whole next insert
     ap entries_view (inserted ∙ insert_new f.name f.budget entries none)
     ∙ map-append entry_view entries ((f.name, f.budget) ∷ [])
     ∙ ap (λ fs. fs ++ filter_view f ∷ []) same ∙ sym (map-append filter_view before (f ∷ []))
+
+-- entries that are clones of others stand for the same filters
+pub clones_view : (es fs : List (String Global × ℕ))
+    → AllZip (λ p q. (string_bytes q.0 ≡ string_bytes p.0) × (q.1 ≡ p.1)) es fs
+    → entries_view fs ≡ entries_view es
+clones_view [] [] all = refl
+clones_view [] (f ∷ fs) all = absurd all
+clones_view (e ∷ es) [] all = absurd all
+clones_view (e ∷ es) (f ∷ fs) (same, all) = rw (same.0, same.1, clones_view es fs all) refl

@@ -1,11 +1,12 @@
 -- A client of an update stream, and what each call on it does.
-use Rattle.std.specs.Prelude.{◌≡◌, ℕ, Bool, true, false, Option, Some, None, ◌⊎◌, List, [], ◌∷◌, ◌++◌, is_none}
+use Rattle.std.specs.Prelude.{◌≡◌, ℕ, Bool, true, false, Option, Some, None, ◌⊎◌, List, [], ◌∷◌, ◌++◌, is_none, bytes_eq, if◌then◌else◌}
 use Rattle.proto_wire.specs.declared.refusal.Refusal.{Refusal}
 use Rattle.xds_wire.specs.Frames.{Tail, unfinished, broken, Cut, frame_of}
 use Rattle.xds_wire.specs.Discovery.{RequestMessage, ResponseMessage, IsResponse, ResponseFault}
 use Rattle.xds_wire.specs.Written.{RequestWritten}
-use Rattle.ads.specs.Config.{ConfigValue}
-use Rattle.ads.specs.Answer.{Accepted, Answers, first_request}
+use Rattle.ads.specs.Config.{ConfigValue, FilterValue}
+use Rattle.rbac_policy.specs.Filter.{Filter}
+use Rattle.ads.specs.Answer.{Accepted, Answers, first_request, nothing_accepted}
 
 -- the most bytes of a message
 abbrev pub most_bytes : ℕ
@@ -49,13 +50,14 @@ pub record FeedsStream (old : ClientValue) (rest bytes replies : List ℕ) (new 
   pub stream : new.stream ≡ stream_after ends tail
   pub config : new.config ≡ old.config
 
--- bytes come: nothing is done with them where no stream is up
+-- bytes come, by the stream that is up: without one nothing is done with them
+abbrev pub FeedsBy : Option (List ℕ) → ClientValue → List ℕ → List ℕ → Bool → ClientValue → Type 0
+FeedsBy None old bytes replies is_broken new = (replies ≡ []) × (is_broken ≡ true) × (new ≡ old)
+FeedsBy (Some rest) old bytes replies is_broken new =
+    FeedsStream old rest bytes replies new × (is_broken ≡ is_none new.stream)
+
 abbrev pub Feeds : ClientValue → List ℕ → List ℕ → Bool → ClientValue → Type 0
-Feeds old bytes replies is_broken new = FeedsBy old.stream
-  where
-    FeedsBy : Option (List ℕ) → Type 0
-    FeedsBy None = (replies ≡ []) × (is_broken ≡ true) × (new ≡ old)
-    FeedsBy (Some rest) = FeedsStream old rest bytes replies new × (is_broken ≡ is_none new.stream)
+Feeds old bytes replies is_broken new = FeedsBy old.stream old bytes replies is_broken new
 
 -- the client with no stream, and with a new one
 abbrev pub stream_down : ClientValue → ClientValue
@@ -63,3 +65,16 @@ stream_down c = record { config = c.config; stream = None; accepted = c.accepted
 
 abbrev pub stream_up : ClientValue → ClientValue
 stream_up c = record { config = c.config; stream = Some []; accepted = c.accepted }
+
+-- a client that has accepted nothing
+abbrev pub new_client : ConfigValue → ClientValue
+new_client c = record { config = c; stream = None; accepted = nothing_accepted c }
+
+-- what the filter of this name has
+abbrev pub policies_at : List ℕ → List FilterValue → List (Option Filter) → Option Filter
+policies_at name [] policies = None
+policies_at name (f ∷ fs) [] = None
+policies_at name (f ∷ fs) (p ∷ ps) = if bytes_eq name f.name then p else policies_at name fs ps
+
+abbrev pub policies_of : ClientValue → List ℕ → Option Filter
+policies_of c name = policies_at name c.config.filters c.accepted.policies

@@ -1,12 +1,15 @@
 //! What a client has accepted, and what stands beside it while bytes are answered.
 
-ghost use Rattle.std.specs.Prelude.{◌≡◌, ◌≤◌, ◌+◌, ◌-◌, ◌^◌, min, [], List, Option, length, vec_len, IfOk, OnOk};
+ghost use Rattle.std.specs.Prelude.{◌≡◌, ◌≤◌, ◌+◌, ◌-◌, ◌^◌, min, [], None, List, Option, map, length, vec_len, IfOk, OnOk};
 ghost use Rattle.std.specs.String.{string_bytes};
 ghost use Rattle.rbac_policy.specs.Filter.{Filter};
-ghost use Rattle.ads.specs.Answer.{Accepted, replaced};
+ghost use Rattle.ads.specs.Answer.{nothing_accepted, replaced};
+ghost use Rattle.ads.specs.steps.Views.{entries_view};
 ghost use Rattle.ads.specs.steps.Taking.{policies_view};
 ghost use Rattle.ads.specs.steps.Drafts.{state_view, draft_view, Covers};
 
+use crate::config::Config;
+use indexmap::IndexMap;
 use rbac_policy::Admitted;
 use std::alloc::{AllocError, Global};
 
@@ -20,6 +23,17 @@ pub(crate) struct State {
 }
 
 impl State {
+    /// Nothing was accepted.
+    pub(crate) fn new(alloc: Global, config: &Config) -> Result<State, AllocError>
+        ensures { IfOk result (λ s. state_view s ≡ nothing_accepted config.now) }
+    {
+        Ok(State {
+            version: String::new(alloc),
+            policies: no_policies(alloc, config.filters())?,
+            generation: 0,
+        })
+    }
+
     /// Puts the draft's version, policies and generation in the place of the old, and gives its replies. It takes no
     /// memory.
     pub(crate) fn commit(&mut self, draft: Draft) -> Vec<u8>
@@ -33,6 +47,21 @@ impl State {
         self.generation = draft.generation;
         draft.replies
     }
+}
+
+/// Nothing for each of the filters.
+fn no_policies(
+    alloc: Global,
+    filters: &IndexMap<String, u64>,
+) -> Result<Vec<Option<Admitted>>, AllocError>
+    ensures { IfOk result (λ v. policies_view v.items ≡ map (λ f. None) (entries_view filters.now.entries)) }
+{
+    let mut policies = Vec::new(alloc);
+    for (name, _) in filters {
+        let _ = name;
+        policies.push(None)?;
+    }
+    Ok(policies)
 }
 
 /// What is accepted and replied while bytes are answered, beside the state that it will change.

@@ -126,6 +126,18 @@ impl Config {
         })
     }
 
+    /// The same configuration once more.
+    pub fn copy(&self) -> Result<Config, AllocError>
+        ensures { IfOk result (λ copy. copy ≡ self.now) }
+    {
+        Ok(Config {
+            node: self.node.clone()?,
+            cluster: self.cluster.clone()?,
+            filters: self.filters.clone()?,
+            limits: self.limits,
+        })
+    }
+
     /// The node.
     pub fn node(&self) -> &str
         ensures { result.now ≡ self.now.node }

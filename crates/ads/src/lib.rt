@@ -3,8 +3,11 @@
 
 mod accepted;
 mod answer;
+mod client;
 mod config;
 mod judging;
 mod reply;
+mod stream;
 
+pub use client::{Client, Fed};
 pub use config::{Config, ConfigFault, Filter};

@@ -2,15 +2,16 @@
 use Rattle.std.specs.Prelude.{◌≡◌, ◌⊎◌, ℕ, Bool, true, false, Option, Some, None, List, [], ◌++◌, length, map, option_map, IfSome}
 use Rattle.std.specs.String.{string_bytes}
 use Rattle.proto_wire.specs.declared.refusal.Refusal.{Refusal}
-use Rattle.xds_wire.specs.Frames.{Tail, unfinished, broken, frame_of}
-use Rattle.xds_wire.specs.Stream.{Kept, IsUnfinished}
+use Rattle.xds_wire.specs.Frames.{frame_of}
 use Rattle.xds_wire.specs.Discovery.{RequestMessage, ResponseMessage, IsResponse, ResponseFault}
 use Rattle.xds_wire.specs.Written.{RequestWritten}
 use Rattle.rbac_policy.specs.Filter.{Filter}
 use Rattle.rbac_policy.specs.declared.filter.Admitted.{Admitted}
 use Rattle.ads.specs.Config.{ConfigValue}
 use Rattle.ads.specs.Answer.{Accepted, Answers, replaced}
-use Rattle.ads.specs.Client.{most_bytes}
+use Rattle.ads.specs.Client.{ClientValue}
+use Rattle.ads.specs.steps.Streams.{stream_view}
+use Rattle.ads.specs.declared.client.Client.{Client}
 use Rattle.ads.specs.steps.Taking.{policies_view}
 use Rattle.ads.specs.declared.accepted.Draft.{Draft}
 use Rattle.ads.specs.declared.accepted.State.{State}
@@ -51,22 +52,10 @@ IsAnswered c old message before after new =
     (response : ResponseMessage) × (reply : RequestMessage) × IsResponse message response
     × Answers c response old reply new × AddsFrame reply before after
 
--- the bytes behind whole frames
-abbrev pub rest_of : Tail → List ℕ
-rest_of (unfinished rest) = rest
-rest_of (broken fault) = []
-
--- the unfinished bytes of a stream
-abbrev pub stream_view : Option Kept → Option (List ℕ)
-stream_view stream = option_map (λ kept. rest_of kept.tail) stream
-
--- what holds of a stream that is up: all its messages were taken, and it is not broken
-pub record IsUp (kept : Kept) : Type 0 where
-  pub max : kept.max ≡ most_bytes
-  pub taken : kept.messages ≡ []
-  pub whole : IsUnfinished kept.tail
-
--- the tail is broken
-abbrev pub IsBroken : Tail → Type 0
-IsBroken (unfinished rest) = ⊥
-IsBroken (broken fault) = Unit {0}
+-- what a client is
+abbrev pub client_view : Client → ClientValue
+client_view c = record {
+  config = c.config;
+  stream = stream_view c.stream;
+  accepted = state_view c.accepted;
+}

@@ -1,4 +1,4 @@
-use Rattle.std.proofs.Common.{◌≡◌, [], refl, ap, sym, ◌∙◌}
+use Rattle.std.proofs.Common.{◌≡◌, [], refl, ap, sym, ◌∙◌, eqb-true}
 use Rattle.std.specs.Prelude.{vec_len}
 use Rattle.ads.specs.Answer.{replaced}
 use Rattle.ads.specs.steps.Taking.{policies_view}
