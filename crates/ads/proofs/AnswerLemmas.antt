@@ -63,11 +63,12 @@ module _ (c : ConfigValue) (start : Accepted) (all : List (List ℕ)) (before : 
       → GoesOn c start all before next rest later
   goes_on_more now next message rest after later (done, so_far, whole)
       (response, reply, reads, answered, frame) =
-      let bytes = frame.0 in let added = frame.2 in
-      (done ++ frame_of bytes,
-      added ∙ ap (λ xs. xs ++ frame_of bytes) so_far ∙ append_assoc before done (frame_of bytes),
-      λ more new ends is. rw (append_assoc done (frame_of bytes) more) (whole (frame_of bytes ++ more) new ends
-      (inr (response, reply, next, more, reads, answered, (bytes, frame.1, refl), is))))
+      let bytes = frame.0 in let added = frame.2 in (
+        done ++ frame_of bytes,
+        added ∙ ap (λ xs. xs ++ frame_of bytes) so_far ∙ append_assoc before done (frame_of bytes),
+        λ more new ends is. rw (append_assoc done (frame_of bytes) more) (whole (frame_of bytes ++ more) new ends
+            (inr (response, reply, next, more, reads, answered, (bytes, frame.1, refl), is))),
+      )
 
   -- no message is left
   pub goes_on_end : (now : Accepted) (after : List ℕ) → GoesOn c start all before now [] after
@@ -85,8 +86,14 @@ module _ (c : ConfigValue) (start : Accepted) (all : List (List ℕ)) (before : 
 -- a request with an error
 pub with_error : (c : ConfigValue) (version nonce : List ℕ) (m : RequestMessage) (status told : StatusMessage)
     → m ≡ request_of c version None nonce None → told ≡ status
-    → ◌≡◌ {A = RequestMessage} (record { version_info = m.version_info; node = m.node; resource_names = m.resource_names;
-    type_url = m.type_url; response_nonce = m.response_nonce; error_detail = Some told; })
+    → ◌≡◌ {A = RequestMessage} (record {
+      version_info = m.version_info;
+      node = m.node;
+      resource_names = m.resource_names;
+      type_url = m.type_url;
+      response_nonce = m.response_nonce;
+      error_detail = Some told;
+    })
     (request_of c version None nonce (Some status))
 with_error c version nonce m status told same tells = rw (same, tells) refl
 

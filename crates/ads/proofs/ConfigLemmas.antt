@@ -45,10 +45,10 @@ pub ordered_more : (entries now : List (String Global × ℕ)) (before rest afte
     → (entries_view now ≡ filters_view (before ++ f ∷ []))
 ordered_more entries now before rest after all f distinct same whole next inserted =
     let seen : filters_view all ≡ filters_view before ++ filter_view f ∷ filters_view after =
-        rw (← whole, next) (map-append filter_view before (f ∷ after)) in
+    rw (← whole, next) (map-append filter_view before (f ∷ after)) in
     let none : SomeOf (HasName (string_bytes f.name)) (entries_view entries) → ⊥ =
-        λ some. distinct (rw seen (new_name (filters_view before) (filters_view after) (filter_view f)
-        (rw (← same) some))) in
+    λ some. distinct (rw seen (new_name (filters_view before) (filters_view after) (filter_view f)
+    (rw (← same) some))) in
     ap entries_view (inserted ∙ insert_new f.name f.budget entries none)
     ∙ map-append entry_view entries ((f.name, f.budget) ∷ [])
     ∙ ap (λ fs. fs ++ filter_view f ∷ []) same ∙ sym (map-append filter_view before (f ∷ []))

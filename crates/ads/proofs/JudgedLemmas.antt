@@ -35,6 +35,7 @@ some_named n P (r ∷ rs) (x ∷ xs) (is, all) some =
   where
     Later : Type 0
     Later = SomeOf (λ any. (x : ExtensionMessage) × IsResource any x × (x.name ≡ n) × P x) rs
+
     by : (b : Bool) → bytes_eq x.name n ≡ b → SomeOf P (if b then x ∷ named n xs else named n xs)
         → (SomeOf P (named n xs) → Later)
         → ((x : ExtensionMessage) × IsResource r x × (x.name ≡ n) × P x) ⊎ Later

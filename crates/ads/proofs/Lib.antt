@@ -4,5 +4,6 @@ pub mod NamedLemmas
 pub mod PlaceLemmas
 pub mod AnswerLemmas
 pub mod StreamLemmas
+pub mod CurrentLemmas
 pub mod TakingLemmas
 pub mod JudgedLemmas

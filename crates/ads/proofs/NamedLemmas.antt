@@ -46,14 +46,17 @@ pub doubled : (n : List ℕ) (xs : List TypedExtensionConfig) (i : ℕ) (d : Typ
 doubled n xs i d a within one is =
     let x : ExtensionMessage = extension_view (get_or xs i d) in
     let first : named n (map extension_view (take (i + 1) xs)) ≡ a ∷ x ∷ [] =
-        named_more n xs i d within ∙ ap (λ ys. ys ++ named n (x ∷ [])) one
-        ∙ ap (λ ys. a ∷ ys) (named_yes n x is) in
+    named_more n xs i d within ∙ ap (λ ys. ys ++ named n (x ∷ [])) one
+    ∙ ap (λ ys. a ∷ ys) (named_yes n x is) in
     let split : map extension_view xs
-        ≡ map extension_view (take (i + 1) xs) ++ map extension_view (drop (i + 1) xs) =
-        ap (map extension_view) (sym (take-append-drop (i + 1) xs))
-        ∙ map-append extension_view (take (i + 1) xs) (drop (i + 1) xs) in
-    (a, x, named n (map extension_view (drop (i + 1) xs)),
-    ap (named n) split ∙ named_append n _ _ ∙ ap (λ ys. ys ++ named n (map extension_view (drop (i + 1) xs))) first)
+    ≡ map extension_view (take (i + 1) xs) ++ map extension_view (drop (i + 1) xs) =
+    ap (map extension_view) (sym (take-append-drop (i + 1) xs))
+    ∙ map-append extension_view (take (i + 1) xs) (drop (i + 1) xs) in (
+      a,
+      x,
+      named n (map extension_view (drop (i + 1) xs)),
+      ap (named n) split ∙ named_append n _ _ ∙ ap (λ ys. ys ++ named n (map extension_view (drop (i + 1) xs))) first,
+    )
 
 -- a second extension of the name, behind the one that was found
 pub doubled_found : (n : List ℕ) (xs : List TypedExtensionConfig) (i : ℕ) (d : TypedExtensionConfig)

@@ -55,11 +55,13 @@ pub place_none : (policies given before : List (Option Admitted)) (last : Option
 place_none policies given before None all so_far within whole is =
     let few : length given < length policies = omega (arith, length-append given (None ∷ []), ap length whole) in
     let seen : policies_view before ≡ policies_view given ++ None ∷ [] =
-        ap policies_view whole ∙ map-append _ given (None ∷ []) in
+    ap policies_view whole ∙ map-append _ given (None ∷ []) in
     let less : length (policies_view given) < length (policies_view policies) =
-        rw (length-map given (option_map filter_view), length-map policies (option_map filter_view)) few in
-    (sym (replaced_none (policies_view policies) (policies_view given) less)
-    ∙ ap (replaced (policies_view policies)) (sym seen) ∙ so_far, omega arith)
+    rw (length-map given (option_map filter_view), length-map policies (option_map filter_view)) few in (
+      sym (replaced_none (policies_view policies) (policies_view given) less)
+          ∙ ap (replaced (policies_view policies)) (sym seen) ∙ so_far,
+      omega arith,
+    )
 place_none policies given before (Some a) all so_far within whole is = absurd (true≢false (sym is))
 
 pub place_some : (policies given before : List (Option Admitted)) (last : Option Admitted) (all : List (Option Filter))
@@ -73,17 +75,19 @@ place_some policies given before None all k at so_far within whole is = absurd (
 place_some policies given before (Some a) all k at so_far within whole is =
     let few : length given < length policies = omega (arith, length-append given (Some a ∷ []), ap length whole) in
     let seen : policies_view before ≡ policies_view given ++ Some (filter_view a) ∷ [] =
-        ap policies_view whole ∙ map-append _ given (Some a ∷ []) in
+    ap policies_view whole ∙ map-append _ given (Some a ∷ []) in
     let less : length (policies_view given) < length (policies_view policies) =
-        rw (length-map given (option_map filter_view), length-map policies (option_map filter_view)) few in
+    rw (length-map given (option_map filter_view), length-map policies (option_map filter_view)) few in
     let put : policies_view (set policies k (Some a))
-        ≡ set (policies_view policies) (length (policies_view given)) (Some (filter_view a)) =
-        rw (length-map given (option_map filter_view), at)
-        (map-set (option_map filter_view) policies (length given) (Some a)) in
-    (ap (λ xs. replaced xs (policies_view given)) put
-    ∙ sym (replaced_last (policies_view policies) (policies_view given) (filter_view a) less)
-    ∙ ap (replaced (policies_view policies)) (sym seen) ∙ so_far,
-    rw (length-set policies k (Some a)) (omega arith), length-set policies k (Some a))
+    ≡ set (policies_view policies) (length (policies_view given)) (Some (filter_view a)) =
+    rw (length-map given (option_map filter_view), at)
+    (map-set (option_map filter_view) policies (length given) (Some a)) in (
+      ap (λ xs. replaced xs (policies_view given)) put
+          ∙ sym (replaced_last (policies_view policies) (policies_view given) (filter_view a) less)
+          ∙ ap (replaced (policies_view policies)) (sym seen) ∙ so_far,
+      rw (length-set policies k (Some a)) (omega arith),
+      length-set policies k (Some a),
+    )
 
 -- a list without elements
 pub no_length : {A : Type 0} (xs : List A) → length xs ≡ 0 → xs ≡ []

@@ -15,6 +15,6 @@ pub fed_cut : (old new : Kept) (bytes : List ℕ) → IsUp old → Feeds old byt
     → Cut (rest_of old.tail ++ bytes) most_bytes new.messages new.tail × (new.max ≡ most_bytes)
 fed_cut old new bytes up (ms, resumes, same) =
     let messages : new.messages ≡ ms =
-        ap (λ (k : Kept). k.messages) same ∙ ap (λ xs. xs ++ ms) up.taken in
+    ap (λ (k : Kept). k.messages) same ∙ ap (λ xs. xs ++ ms) up.taken in
     let max : new.max ≡ most_bytes = ap (λ (k : Kept). k.max) same ∙ up.max in
     (rw (messages, ← up.max) (cut_of old.max old.tail bytes ms new.tail up.whole resumes), max)

@@ -36,9 +36,9 @@ module _ (limits : LimitsValue) (xs : List ExtensionMessage) (yielded : List (Bo
       → MemoryOr (λ e. SomeOf (λ f. TakeFault limits f xs e) (entries_view entries)) e
   take_fault e fault =
       let seen : entries_view entries ≡ entries_view (map deref_pair yielded)
-          ++ filter_of (string_bytes name.now) budget.now ∷ entries_view after =
-          ap entries_view (sym whole ∙ ap (λ ys. map deref_pair yielded ++ ys) next)
-          ∙ map-append entry_view (map deref_pair yielded) ((name.now, budget.now) ∷ after) in
+      ++ filter_of (string_bytes name.now) budget.now ∷ entries_view after =
+      ap entries_view (sym whole ∙ ap (λ ys. map deref_pair yielded ++ ys) next)
+      ∙ map-append entry_view (map deref_pair yielded) ((name.now, budget.now) ∷ after) in
       memory_or_weaker (TakeFault limits (filter_of text budget.now) xs)
       (λ e. SomeOf (λ f. TakeFault limits f xs e) (entries_view entries)) e
       (λ e bad. rw seen (some_middle (λ f. TakeFault limits f xs e) _ _ _ (rw same at bad))) fault
@@ -53,10 +53,15 @@ module _ (limits : LimitsValue) (xs : List ExtensionMessage) (yielded : List (Bo
       (entries_view (map deref_pair (yielded ++ (name, budget) ∷ []))) (policies_view now)
   take_more given now o so_far gives pushed =
       let more : map deref_pair (yielded ++ (name, budget) ∷ [])
-          ≡ map deref_pair yielded ++ (name.now, budget.now) ∷ [] = map-append deref_pair yielded _ in
-      (ap (λ ys. ys ++ after) more ∙ append_assoc (map deref_pair yielded) ((name.now, budget.now) ∷ []) after
-      ∙ ap (λ ys. map deref_pair yielded ++ ys) (sym next) ∙ whole,
-      rw (pushed, map-append (option_map filter_view) given (o ∷ []), more,
-      map-append entry_view (map deref_pair yielded) ((name.now, budget.now) ∷ []))
-      (zip_push (λ f. Gives limits f (named f.name xs)) (entries_view (map deref_pair yielded)) (policies_view given)
-      (filter_of (string_bytes name.now) budget.now) (option_map filter_view o) so_far (rw same at gives)))
+      ≡ map deref_pair yielded ++ (name.now, budget.now) ∷ [] = map-append deref_pair yielded _ in (
+        ap (λ ys. ys ++ after) more ∙ append_assoc (map deref_pair yielded) ((name.now, budget.now) ∷ []) after
+            ∙ ap (λ ys. map deref_pair yielded ++ ys) (sym next) ∙ whole,
+        rw (
+          pushed,
+          map-append (option_map filter_view) given (o ∷ []),
+          more,
+          map-append entry_view (map deref_pair yielded) ((name.now, budget.now) ∷ []),
+        )
+            (zip_push (λ f. Gives limits f (named f.name xs)) (entries_view (map deref_pair yielded)) (policies_view given)
+            (filter_of (string_bytes name.now) budget.now) (option_map filter_view o) so_far (rw same at gives)),
+      )

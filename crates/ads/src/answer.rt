@@ -99,7 +99,14 @@ fn answer_response(
         }
         Judged::Refused(refusal) => {
             let replies = &mut draft.replies;
-            put_nack(alloc, config, &draft.version, response.nonce, refusal, replies)
+            put_nack(
+                alloc,
+                config,
+                &draft.version,
+                response.nonce,
+                refusal,
+                replies,
+            )
         }
     }
 }

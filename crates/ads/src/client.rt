@@ -1,12 +1,11 @@
 //! What a client of an update stream is.
 
-ghost use Rattle.std.specs.Prelude.{◌≡◌, length, IfSome};
-ghost use Rattle.ads.specs.steps.Streams.{IsUp};
+ghost use Rattle.std.specs.Prelude.{◌≡◌, length};
 
 use crate::accepted::State;
 use crate::config::Config;
+use crate::stream::Stream;
 use std::alloc::Global;
-use xds_wire::Frames;
 
 /// What a call with bytes of the stream answers.
 #[derive(Debug, Drop)]
@@ -23,8 +22,7 @@ pub struct Fed {
 pub struct Client {
     pub(crate) alloc: Global,
     pub(crate) config: Config,
-    pub(crate) stream: Option<Frames>,
+    pub(crate) stream: Option<Stream>,
     pub(crate) accepted: State,
     ghost sized: { length accepted.policies.items ≡ length config.filters },
-    ghost up: { IfSome stream IsUp },
 }

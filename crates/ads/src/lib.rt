@@ -3,6 +3,7 @@
 
 mod accepted;
 mod answer;
+mod calls;
 mod client;
 mod config;
 mod judging;

@@ -120,7 +120,11 @@ fn request_of<'a>(
 }
 
 /// Appends the request's frame. A request of 2^32 bytes and more, which no frame holds, counts as want of memory.
-fn put_frame(alloc: Global, request: &DiscoveryRequest<'_>, out: &mut Vec<u8>) -> Result<(), AllocError>
+fn put_frame(
+    alloc: Global,
+    request: &DiscoveryRequest<'_>,
+    out: &mut Vec<u8>,
+) -> Result<(), AllocError>
     ensures { OnOk result (AddsFrame (request_view request.now) out.old.items out.new.items) }
 {
     let mut message = Vec::new(alloc);

@@ -1,121 +1,67 @@
-//! What a client does: its stream comes up, gives bytes, and is lost.
+//! A stream that is up, and what its bytes come to.
 
-ghost use Rattle.std.specs.Prelude.{◌≡◌, ◌++◌, ℕ, false, None, [], List, Bool, length, IfOk, IfSome, OnOk, OnErr, MatchOption, Some};
+ghost use Rattle.std.specs.Prelude.{◌≡◌, ◌++◌, ℕ, false, [], List, Bool, length, IfOk};
 ghost use Rattle.xds_wire.specs.Frames.{Cut, Tail};
 ghost use Rattle.xds_wire.specs.Stream as wire;
-ghost use Rattle.rbac_policy.specs.Admitted.{filter_view};
-ghost use Rattle.ads.specs.Answer.{first_request};
-ghost use Rattle.ads.specs.Client.{AreAnswered, IsFrameThen, most_bytes, stream_after};
+ghost use Rattle.ads.specs.Client.{AreAnswered, most_bytes, stream_after};
 ghost use Rattle.ads.specs.steps.Taking.{policies_view};
-ghost use Rattle.ads.specs.steps.Streams.{IsUp, StreamIsBroken, rest_of, stream_view};
+ghost use Rattle.ads.specs.steps.Streams.{StreamIsBroken};
 ghost use Rattle.ads.specs.steps.Drafts.{Covers, draft_view, state_view};
 
 use crate::accepted::{Draft, State};
 use crate::answer::answer_all;
-use crate::client::{Client, Fed};
 use crate::config::Config;
-use crate::reply::put_first;
-use rbac_policy::Admitted;
 use std::alloc::{AllocError, Global};
+use std::marker::Model;
 use xds_wire::{FrameError, Frames};
 
 /// The most bytes of a message.
 const MOST_BYTES: usize = 1_048_576;
 
-impl Client {
-    ghost use Rattle.ads.specs.Client.{Feeds, new_client, policies_of, stream_down, stream_up};
-    ghost use Rattle.ads.specs.steps.Drafts.{client_view};
+/// A stream that is up: all its whole messages were answered.
+#[derive(Debug, Drop)]
+pub(crate) struct Stream {
+    frames: Frames,
+}
 
-    /// A client that has accepted nothing, and whose stream is down.
-    pub fn new(alloc: Global, config: &Config) -> Result<Client, AllocError>
-        ensures { IfOk result (λ c. client_view c ≡ new_client config.now) }
-    {
-        let accepted = State::new(alloc, config)?;
-        let config = config.copy()?;
-        Ok(Client {
-            alloc,
-            config,
-            stream: None,
-            accepted,
-        })
-    }
+impl Model for Stream {
+    ghost use Rattle.std.specs.Prelude.{ℕ, List};
+    ghost use Rattle.ads.specs.steps.Streams.{IsUp, rest_of};
 
-    /// A stream comes up: the bytes to send first. A stream that is up is lost before. After an error all is as before
-    /// the call.
-    pub fn connected(&mut self) -> Result<Vec<u8>, AllocError>
-        ensures found { IfOk result (λ bytes.
-            IsFrameThen (first_request self.old.config (client_view self.old).accepted) bytes.items []) }
-        ensures up { OnOk result (client_view self.new ≡ stream_up (client_view self.old)) }
-        ensures fault { OnErr result (client_view self.new ≡ client_view self.old) }
-    {
-        let mut bytes = Vec::new(self.alloc);
-        put_first(self.alloc, &self.config, &self.accepted.version, &mut bytes)?;
-        self.stream = Some(Frames::new(self.alloc, MOST_BYTES));
-        Ok(bytes)
-    }
+    ghost Value = { List ℕ };
 
-    /// The stream gives bytes. Each response that they complete is answered, in order; a broken frame or a message that
-    /// is no response ends the stream. After an error all is as before the call.
-    pub fn feed(&mut self, bytes: &[u8]) -> Result<Fed, AllocError>
-        ensures found { IfOk result (λ fed. Feeds (client_view self.old) bytes.now
-            fed.replies.items fed.broken (client_view self.new)) }
-        ensures fault { OnErr result (client_view self.new ≡ client_view self.old) }
-    {
-        let Some(frames) = &self.stream else {
-            return Ok(Fed {
-                replies: Vec::new(self.alloc),
-                broken: true,
-            });
-        };
-        let (draft, stream) = answered(self.alloc, &self.config, &self.accepted, frames, bytes)?;
-        let broken = stream.is_none();
-        self.stream = stream;
-        let replies = self.accepted.commit(draft);
-        Ok(Fed { replies, broken })
-    }
+    ghost view = { λ stream. rest_of stream.frames.tail };
 
-    /// The stream is lost: its unfinished bytes are forgotten. What was accepted stays. It takes no memory.
-    pub fn lost(&mut self)
-        ensures { client_view self.new ≡ stream_down (client_view self.old) }
-    {
-        self.stream = None;
-    }
+    ghost invariant = { λ stream. IsUp stream.frames };
+}
 
-    /// The filter of this name, as it was accepted last. It takes no memory.
-    pub fn current(&self, name: &str) -> Option<&Admitted>
-        ensures { let found = policies_of (client_view self.now) name.now in
-            MatchOption result (found ≡ None) (λ a. found ≡ Some (filter_view a.now)) }
+impl Stream {
+    /// A stream of which nothing has come. It takes no memory.
+    pub(crate) fn new(alloc: Global) -> Stream
+        ensures { result ≡ [] }
     {
-        let place = self.config.filters().get_index_of(name)?;
-        self.accepted.policies.get(place)?.as_ref()
-    }
-
-    /// How many responses were accepted. It takes no memory.
-    pub fn generation(&self) -> u64
-        ensures { result ≡ (client_view self.now).accepted.generation }
-    {
-        self.accepted.generation
+        Stream {
+            frames: Frames::new(alloc, MOST_BYTES),
+        }
     }
 }
 
 /// What the bytes come to: the draft of what is accepted and replied, and the stream after them.
-fn answered(
+pub(crate) fn answered(
     alloc: Global,
     config: &Config,
     accepted: &State,
-    frames: &Frames,
+    stream: &Stream,
     bytes: &[u8],
-) -> Result<(Draft, Option<Frames>), AllocError>
-    requires { IsUp frames.now }
+) -> Result<(Draft, Option<Stream>), AllocError>
     ensures answered { IfOk result (λ r. (messages : List (List ℕ)) × (tail : Tail) × (ends : Bool)
-        × Cut (rest_of frames.now.tail ++ bytes.now) most_bytes messages tail
+        × Cut (stream.now ++ bytes.now) most_bytes messages tail
         × AreAnswered config.now (state_view accepted.now) messages r.0.replies.items
         (draft_view (policies_view accepted.now.policies.items) r.0) ends
-        × (stream_view r.1 ≡ stream_after ends tail)) }
+        × (r.1 ≡ stream_after ends tail)) }
     ensures covers { IfOk result (λ r. Covers (length config.now.filters) r.0.given.items) }
-    ensures up { IfOk result (λ r. IfSome r.1 IsUp) }
 {
-    let mut frames = frames.copy()?;
+    let mut frames = stream.frames.copy()?;
     let mut draft = Draft::new(alloc, accepted)?;
     let is_faulty = feed_frames(&mut frames, bytes)?;
     let ends = answer_all(alloc, config, &mut draft, &mut frames)?;
@@ -123,10 +69,11 @@ fn answered(
 }
 
 /// The stream, unless a message ended it or its frames are broken.
-fn kept(frames: Frames, ends: bool, is_faulty: bool) -> Option<Frames>
-    requires { StreamIsBroken is_faulty frames.tail }
-    ensures stream { stream_view result ≡ stream_after ends frames.tail }
-    ensures up { frames.max ≡ most_bytes → (ends ≡ false → frames.messages ≡ []) → IfSome result IsUp }
+fn kept(frames: Frames, ends: bool, is_faulty: bool) -> Option<Stream>
+    requires faulty { StreamIsBroken is_faulty frames.tail }
+    requires max { frames.max ≡ most_bytes }
+    requires taken { ends ≡ false → frames.messages ≡ [] }
+    ensures { result ≡ stream_after ends frames.tail }
 {
     if ends {
         return None;
@@ -134,7 +81,7 @@ fn kept(frames: Frames, ends: bool, is_faulty: bool) -> Option<Frames>
     if is_faulty {
         return None;
     }
-    Some(frames)
+    Some(Stream { frames })
 }
 
 /// Feeds the frames, and tells whether they are broken now.

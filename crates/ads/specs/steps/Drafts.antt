@@ -10,7 +10,6 @@ use Rattle.rbac_policy.specs.declared.filter.Admitted.{Admitted}
 use Rattle.ads.specs.Config.{ConfigValue}
 use Rattle.ads.specs.Answer.{Accepted, Answers, replaced}
 use Rattle.ads.specs.Client.{ClientValue}
-use Rattle.ads.specs.steps.Streams.{stream_view}
 use Rattle.ads.specs.declared.client.Client.{Client}
 use Rattle.ads.specs.steps.Taking.{policies_view}
 use Rattle.ads.specs.declared.accepted.Draft.{Draft}
@@ -56,6 +55,6 @@ IsAnswered c old message before after new =
 abbrev pub client_view : Client → ClientValue
 client_view c = record {
   config = c.config;
-  stream = stream_view c.stream;
+  stream = c.stream;
   accepted = state_view c.accepted;
 }

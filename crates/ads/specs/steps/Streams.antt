@@ -1,5 +1,5 @@
 -- A stream that is up, as its reader of frames keeps it.
-use Rattle.std.specs.Prelude.{◌≡◌, ℕ, Bool, true, false, Option, List, [], option_map}
+use Rattle.std.specs.Prelude.{◌≡◌, ℕ, Bool, true, false, List, []}
 use Rattle.xds_wire.specs.Frames.{Tail, unfinished, broken}
 use Rattle.xds_wire.specs.Stream.{Kept, IsUnfinished}
 use Rattle.ads.specs.Client.{most_bytes}
@@ -8,10 +8,6 @@ use Rattle.ads.specs.Client.{most_bytes}
 abbrev pub rest_of : Tail → List ℕ
 rest_of (unfinished rest) = rest
 rest_of (broken fault) = []
-
--- the unfinished bytes of a stream
-abbrev pub stream_view : Option Kept → Option (List ℕ)
-stream_view stream = option_map (λ kept. rest_of kept.tail) stream
 
 -- what holds of a stream that is up: all its messages were taken, and it is not broken
 pub record IsUp (kept : Kept) : Type 0 where

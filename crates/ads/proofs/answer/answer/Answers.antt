@@ -10,6 +10,10 @@ returns-in_ok-answer_response-in-Ok-clause-answered c old =
     (response_view c.in-Ok.response, p.0, c.in-Ok.ensures.found, p.1, p.2)
 
 pub returns-else-is_memory-clause-answered : goal.returns-else-is_memory-clause-answered
-returns-else-is_memory-clause-answered c old =
-    (c.in-Err.refusal, not_memory (ResponseFault c.args.message.now) c.in-Err.refusal c.in-Err.ensures.fault
-    c.if-is_memory.ensures, refl, refl)
+returns-else-is_memory-clause-answered c old = (
+  c.in-Err.refusal,
+  not_memory (ResponseFault c.args.message.now) c.in-Err.refusal c.in-Err.ensures.fault
+      c.if-is_memory.ensures,
+  refl,
+  refl,
+)

@@ -21,7 +21,7 @@ returns-clause-fault c =
     let bytes = c.in_ok-bytes.bytes.now in
     let F : Refusal → Type 0 = λ e. Fault e bytes c.args.limits.now c.args.budget in
     let G : Refusal → Type 0 = λ e. (name : List ℕ)
-        → ExtensionIsRefused c.args.limits.now (filter_of name c.args.budget) (extension_view c.args.extension.now) e in
+    → ExtensionIsRefused c.args.limits.now (filter_of name c.args.budget) (extension_view c.args.extension.now) e in
     IfErr-weaker c.admit.result (MemoryOr F) (MemoryOr G)
     (λ e bad. memory_or_weaker F G e (λ d fault name. not_admitted bytes c.in_ok-bytes.ensures.found fault) bad)
     c.admit.ensures.fault

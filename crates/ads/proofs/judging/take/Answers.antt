@@ -11,7 +11,7 @@ pub returns-in_err-admitted-in-Some-clause-fault : goal.returns-in_err-admitted-
 returns-in_err-admitted-in-Some-clause-fault c =
     let one = rw c.in-Some.is at c.in_ok-find.ensures.found in
     let F : Refusal → Type 0 = λ e. (name : List ℕ)
-        → ExtensionIsRefused c.args.limits.now (filter_of name c.args.budget) (extension_view c.in-Some.extension) e in
+    → ExtensionIsRefused c.args.limits.now (filter_of name c.args.budget) (extension_view c.in-Some.extension) e in
     exit_memory_or F (TakeFault c.args.limits.now (filter_of c.args.name.now c.args.budget)
     (map extension_view c.args.extensions.now))
     c.from_residual-in_err-admitted-in-Some.result _ c.from_residual-in_err-admitted-in-Some.ensures.1

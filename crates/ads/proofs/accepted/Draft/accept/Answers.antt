@@ -7,9 +7,9 @@ use Rattle.ads.proofs.accepted.Draft.accept.Goals as goal
 
 pub returns-then-is_empty-clause-policies : goal.returns-then-is_empty-clause-policies
 returns-then-is_empty-clause-policies c old =
-    let none : c.args.self.now.given.items ≡ [] = 
-        let zero : vec_len c.args.self.now.given ≡ 0 = eqb-true (vec_len c.args.self.now.given) 0 (sym c.if-is_empty.ensures) in
-        no_length c.args.self.now.given.items (sym c.args.self.now.given.ok.0 ∙ zero) in
+    let none : c.args.self.now.given.items ≡ [] =
+    let zero : vec_len c.args.self.now.given ≡ 0 = eqb-true (vec_len c.args.self.now.given) 0 (sym c.if-is_empty.ensures) in
+    no_length c.args.self.now.given.items (sym c.args.self.now.given.ok.0 ∙ zero) in
     rw (none, replaced_nothing old) refl
 
 pub returns-else-is_empty-clause-policies : goal.returns-else-is_empty-clause-policies
