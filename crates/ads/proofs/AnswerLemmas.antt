@@ -1,0 +1,122 @@
+-- The answers to messages, one after the other.
+use Rattle.std.proofs.Common.{◌≡◌, ◌≢◌, ◌⊎◌, inl, inr, ℕ, Bool, true, false, List, [], ◌∷◌, ◌++◌, not, true≢false, Option, Some, None, length, map, suc, refl, ap, sym, ◌∙◌, append_assoc, append-nil, option_map}
+use Rattle.std.specs.Prelude.{Result, Ok, Err, OnOk, MatchBool}
+use Rattle.std.specs.List.{AllZip}
+use Rattle.std.specs.declared.alloc.AllocError.{AllocError}
+use Rattle.std.proofs.lemmas.List.{length-map}
+use Rattle.proto_wire.specs.Refusal.{MemoryOr}
+use Rattle.proto_wire.specs.declared.refusal.Refusal.{Refusal}
+use Rattle.xds_wire.specs.Frames.{frame_of}
+use Rattle.xds_wire.specs.Discovery.{RequestMessage, ResponseMessage, StatusMessage}
+use Rattle.rbac_policy.specs.Filter.{Filter}
+use Rattle.rbac_policy.specs.Admitted.{filter_view}
+use Rattle.rbac_policy.specs.declared.filter.Admitted.{Admitted}
+use Rattle.ads.specs.Config.{ConfigValue, FilterValue}
+use Rattle.ads.specs.Answer.{Accepted, Answers, nack, no_memory, Refuses, nack_of, request_of, replaced}
+use Rattle.ads.specs.Client.{AreAnswered}
+use Rattle.ads.specs.steps.Taking.{policies_view}
+use Rattle.ads.proofs.PlaceLemmas.{replaced_nothing}
+use Rattle.ads.specs.steps.Drafts.{AddsFrame, IsAnswered, IsNoResponse, Covers}
+
+-- a fault that is no want of memory
+pub not_memory : (F : Refusal → Type 0) (e : Refusal) → MemoryOr F e → e ≢ Refusal.Memory → F e
+not_memory F e (inl memory) not = absurd (not memory)
+not_memory F e (inr fault) not = fault
+
+pub zip_length : {A B : Type 0} (R : A → B → Type 0) (xs : List A) (ys : List B) → AllZip R xs ys
+    → length xs ≡ length ys
+zip_length R [] [] all = refl
+zip_length R [] (y ∷ ys) all = absurd all
+zip_length R (x ∷ xs) [] all = absurd all
+zip_length R (x ∷ xs) (y ∷ ys) (first, all) = ap (λ n. suc n) (zip_length R xs ys all)
+
+-- what is given for each filter covers the filters
+pub given_length : (R : FilterValue → Option Filter → Type 0) (fs : List FilterValue) (given : List (Option Admitted))
+    → AllZip R fs (policies_view given) → length given ≡ length fs
+given_length R fs given all =
+    sym (length-map given (option_map filter_view)) ∙ sym (zip_length R fs (policies_view given) all)
+
+-- the answer to a response that is refused
+pub refused_answer : (c : ConfigValue) (response : ResponseMessage) (accepted : Accepted) (e : Refusal)
+    → MemoryOr (Refuses c response) e
+    → Answers c response accepted (nack_of c accepted response e) accepted
+refused_answer c response accepted e (inl memory) = rw memory (no_memory refl refl)
+refused_answer c response accepted e (inr fault) = nack e fault refl refl
+
+pub on_ok_weaker : {E : Type 0} (r : Result (Unit {0}) E) (P Q : Type 0) → (P → Q) → OnOk r P → OnOk r Q
+on_ok_weaker (Ok x) P Q weaker p = weaker p
+on_ok_weaker (Err e) P Q weaker p = tt
+
+-- what holds of the answers so far: whatever the other messages are answered, all are answered so
+abbrev pub GoesOn : ConfigValue → Accepted → List (List ℕ) → List ℕ → Accepted → List (List ℕ) → List ℕ → Type 0
+GoesOn c start all before now rest after =
+    (done : List ℕ) × (after ≡ before ++ done) × ((more : List ℕ) (new : Accepted) (ends : Bool)
+    → AreAnswered c now rest more new ends → AreAnswered c start all (done ++ more) new ends)
+
+module _ (c : ConfigValue) (start : Accepted) (all : List (List ℕ)) (before : List ℕ) where
+  pub goes_on_from : GoesOn c start all before start all before
+  goes_on_from = ([], sym (append-nil before), λ more new ends is. is)
+
+  -- one message more is answered
+  pub goes_on_more : (now next : Accepted) (message : List ℕ) (rest : List (List ℕ)) (after later : List ℕ)
+      → GoesOn c start all before now (message ∷ rest) after → IsAnswered c now message after later next
+      → GoesOn c start all before next rest later
+  goes_on_more now next message rest after later (done, so_far, whole)
+      (response, reply, reads, answered, frame) =
+      let bytes = frame.0 in let added = frame.2 in (
+        done ++ frame_of bytes,
+        added ∙ ap (λ xs. xs ++ frame_of bytes) so_far ∙ append_assoc before done (frame_of bytes),
+        λ more new ends is. rw (append_assoc done (frame_of bytes) more) (whole (frame_of bytes ++ more) new ends
+            (inr (response, reply, next, more, reads, answered, (bytes, frame.1, refl), is))),
+      )
+
+  -- no message is left
+  pub goes_on_end : (now : Accepted) (after : List ℕ) → GoesOn c start all before now [] after
+      → (replies : List ℕ) × AreAnswered c start all replies now false × (after ≡ before ++ replies)
+  goes_on_end now after (done, so_far, whole) =
+      (done, rw (append-nil done) at (whole [] now false (refl, refl, refl)), so_far)
+
+  -- a message that is no response ends the stream
+  pub goes_on_stop : (now next : Accepted) (message : List ℕ) (rest : List (List ℕ)) (after later : List ℕ)
+      → GoesOn c start all before now (message ∷ rest) after → IsNoResponse now message after later next
+      → (replies : List ℕ) × AreAnswered c start all replies next true × (later ≡ before ++ replies)
+  goes_on_stop now next message rest after later (done, so_far, whole) (e, fault, same, stays) =
+      (done, rw (append-nil done) at (whole [] next true (inl (e, fault, refl, stays, refl))), same ∙ so_far)
+
+-- a request with an error
+pub with_error : (c : ConfigValue) (version nonce : List ℕ) (m : RequestMessage) (status told : StatusMessage)
+    → m ≡ request_of c version None nonce None → told ≡ status
+    → ◌≡◌ {A = RequestMessage} (record {
+      version_info = m.version_info;
+      node = m.node;
+      resource_names = m.resource_names;
+      type_url = m.type_url;
+      response_nonce = m.response_nonce;
+      error_detail = Some told;
+    })
+    (request_of c version None nonce (Some status))
+with_error c version nonce m status told same tells = rw (same, tells) refl
+
+-- a draft that gives nothing
+pub same_draft : (old : List (Option Filter)) (told version : List ℕ) (given : List (Option Admitted)) (n : ℕ)
+    → told ≡ version → given ≡ []
+    → ◌≡◌ {A = Accepted} (record { version = told; policies = replaced old (policies_view given); generation = n })
+    (record { version = version; policies = old; generation = n })
+same_draft old told version given n same none = rw (same, none, replaced_nothing old) refl
+
+-- what a test told
+pub told_no : (b : Bool) (P Q : Type 0) → b ≡ false → MatchBool b P Q → Q
+told_no true P Q is p = absurd (true≢false is)
+told_no false P Q is q = q
+
+pub told_yes : (b : Bool) (P Q : Type 0) → b ≡ true → MatchBool b P Q → P
+told_yes true P Q is p = p
+told_yes false P Q is q = absurd (true≢false (sym is))
+
+-- answers behind nothing
+pub from_answers : (c : ConfigValue) (a b d : Accepted) (ms : List (List ℕ)) (before after : List ℕ) (ends : Bool)
+    → b ≡ a → before ≡ [] → ((replies : List ℕ) × AreAnswered c b ms replies d ends × (after ≡ before ++ replies))
+    → AreAnswered c a ms after d ends
+from_answers c a b d ms before after ends same none (replies, answered, whole) =
+    let all : after ≡ replies = whole ∙ ap (λ xs. xs ++ replies) none in
+    rw (all, ← same) answered

@@ -1,0 +1,122 @@
+-- From what filters take of the extensions to what a response gives, or what refuses it.
+use Rattle.std.proofs.Common.{◌≡◌, Bool, true, false, ◌⊎◌, inl, inr, ℕ, List, [], ◌∷◌, refl, ap, sym, ◌∙◌, bytes_eq, true≢false}
+use Rattle.std.specs.Prelude.{Result, Ok, Err, IfOk, OnOk, if◌then◌else◌}
+use Rattle.std.specs.Result.{is_ok}
+use Rattle.std.specs.List.{AllZip}
+use Rattle.std.specs.declared.alloc.AllocError.{AllocError}
+use Rattle.std.proofs.lemmas.Result.{IfOk-weaker}
+use Rattle.std.proofs.lemmas.Slice.Eq.{bytes_eq-Decides}
+use Rattle.attributes.specs.Limits.{LimitsValue}
+use Rattle.proto_wire.specs.Refusal.{MemoryOr}
+use Rattle.proto_wire.specs.declared.refusal.Refusal.{Refusal}
+use Rattle.proto_wire.proofs.Exits.{memory_or_weaker}
+use Rattle.xds_wire.specs.Discovery.{AnyMessage, ExtensionMessage, ResponseMessage}
+use Rattle.xds_wire.specs.Envelope.{SomeOf}
+use Rattle.ads.specs.Config.{ConfigValue, FilterValue}
+use Rattle.ads.specs.Answer.{named, IsResource, IsNamed, IsRefusedFor, TwoOf, Refuses, doubled, refused, ExtensionIsRefused, extension_type}
+use Rattle.ads.specs.steps.Taking.{IsDoubled, TakeFault, twice, bad, IsTaken, IsJudged}
+use Rattle.ads.specs.declared.judging.Judged.{Judged}
+use Rattle.ads.specs.declared.judging.Judged.TheVariants as judged
+use Rattle.ads.proofs.Lists.{some_weaker}
+
+-- the resource is an extension of this name, of which this holds
+Holds : List ℕ → (ExtensionMessage → Type 0) → AnyMessage → Type 0
+Holds n P any = (x : ExtensionMessage) × IsResource any x × (x.name ≡ n) × P x
+
+-- what holds of an extension of the name holds of its resource
+some_named : (n : List ℕ) (P : ExtensionMessage → Type 0) (rs : List AnyMessage) (xs : List ExtensionMessage)
+    → AllZip IsResource rs xs → SomeOf P (named n xs)
+    → SomeOf (λ any. (x : ExtensionMessage) × IsResource any x × (x.name ≡ n) × P x) rs
+some_named n P [] [] all some = absurd some
+some_named n P [] (x ∷ xs) all some = absurd all
+some_named n P (r ∷ rs) [] all some = absurd all
+some_named n P (r ∷ rs) (x ∷ xs) (is, all) some =
+    by (bytes_eq x.name n) refl some (some_named n P rs xs all)
+  where
+    Later : Type 0
+    Later = SomeOf (λ any. (x : ExtensionMessage) × IsResource any x × (x.name ≡ n) × P x) rs
+
+    by : (b : Bool) → bytes_eq x.name n ≡ b → SomeOf P (if b then x ∷ named n xs else named n xs)
+        → (SomeOf P (named n xs) → Later)
+        → ((x : ExtensionMessage) × IsResource r x × (x.name ≡ n) × P x) ⊎ Later
+    by true eq (inl p) more = inl (x, is, (bytes_eq-Decides x.name n).0 eq, p)
+    by true eq (inr p) more = inr (more p)
+    by false eq p more = inr (more p)
+
+-- two extensions of the name are two resources
+two_named : (n : List ℕ) (a b : ExtensionMessage) (more : List ExtensionMessage) (rs : List AnyMessage)
+    (xs : List ExtensionMessage) → AllZip IsResource rs xs → named n xs ≡ a ∷ b ∷ more
+    → TwoOf (IsNamed n) rs
+two_named n a b more [] [] all is = absurd cc
+two_named n a b more [] (x ∷ xs) all is = absurd all
+two_named n a b more (r ∷ rs) [] all is = absurd all
+two_named n a b more (r ∷ rs) (x ∷ xs) (is, all) two =
+    by (bytes_eq x.name n) refl two (two_named n a b more rs xs all)
+    (some_named n (λ x. Unit {0}) rs xs all)
+  where
+    by : (t : Bool) → bytes_eq x.name n ≡ t
+        → (if t then x ∷ named n xs else named n xs) ≡ a ∷ b ∷ more
+        → (named n xs ≡ a ∷ b ∷ more → TwoOf (IsNamed n) rs)
+        → (SomeOf (λ x. Unit {0}) (named n xs)
+        → SomeOf (λ any. (x : ExtensionMessage) × IsResource any x × (x.name ≡ n) × Unit {0}) rs)
+        → (IsNamed n r × SomeOf (IsNamed n) rs) ⊎ TwoOf (IsNamed n) rs
+    by true eq list rest some =
+        let tail : named n xs ≡ b ∷ more = cc in
+        let here : IsNamed n r = (x, is, (bytes_eq-Decides x.name n).0 eq) in
+        let there = some (rw tail (inl tt)) in
+        inl (here, some_weaker _ (IsNamed n) (λ any p. (p.0, p.1, p.2)) rs there)
+    by false eq list rest some = inr (rest list)
+
+module _ (c : ConfigValue) (response : ResponseMessage) (xs : List ExtensionMessage)
+    (reads : AllZip IsResource response.resources xs) where
+  -- a filter that can take nothing is doubled or refused
+  one_fault : (e : Refusal) (f : FilterValue) → TakeFault c.limits f xs e
+      → (TwoOf (IsNamed f.name) response.resources × (e ≡ Refusal.DuplicateResource))
+      ⊎ SomeOf (IsRefusedFor c.limits f e) response.resources
+  one_fault e f (twice two eq) = inl (two_named f.name two.0 two.1 two.2 response.resources xs reads two.3, eq)
+  one_fault e f (bad some) =
+      inr (some_named f.name (λ x. ExtensionIsRefused c.limits f x e) response.resources xs reads some)
+
+  some_fault : (e : Refusal) (fs : List FilterValue) → SomeOf (λ f. TakeFault c.limits f xs e) fs
+      → (SomeOf (λ f. TwoOf (IsNamed f.name) response.resources) fs × (e ≡ Refusal.DuplicateResource))
+      ⊎ SomeOf (λ f. SomeOf (IsRefusedFor c.limits f e) response.resources) fs
+  some_fault e [] some = absurd some
+  some_fault e (f ∷ fs) (inl here) = by (one_fault e f here)
+    where
+      by : (TwoOf (IsNamed f.name) response.resources × (e ≡ Refusal.DuplicateResource))
+          ⊎ SomeOf (IsRefusedFor c.limits f e) response.resources
+          → (SomeOf (λ f. TwoOf (IsNamed f.name) response.resources) (f ∷ fs) × (e ≡ Refusal.DuplicateResource))
+          ⊎ SomeOf (λ f. SomeOf (IsRefusedFor c.limits f e) response.resources) (f ∷ fs)
+      by (inl p) = inl (inl p.0, p.1)
+      by (inr some) = inr (inl some)
+  some_fault e (f ∷ fs) (inr later) = by (some_fault e fs later)
+    where
+      by : (SomeOf (λ f. TwoOf (IsNamed f.name) response.resources) fs × (e ≡ Refusal.DuplicateResource))
+          ⊎ SomeOf (λ f. SomeOf (IsRefusedFor c.limits f e) response.resources) fs
+          → (SomeOf (λ f. TwoOf (IsNamed f.name) response.resources) (f ∷ fs) × (e ≡ Refusal.DuplicateResource))
+          ⊎ SomeOf (λ f. SomeOf (IsRefusedFor c.limits f e) response.resources) (f ∷ fs)
+      by (inl p) = inl (inr p.0, p.1)
+      by (inr some) = inr (inr some)
+
+  refuses_by : (e : Refusal) → SomeOf (λ f. TakeFault c.limits f xs e) c.filters → Refuses c response e
+  refuses_by e some = elim (some_fault e c.filters some) [
+    | inl (two, eq) ↦ doubled two eq
+    | inr is ↦ refused is
+  ]
+
+  judged_by : response.type_url ≡ extension_type → (j : Judged) → IsTaken c.limits c.filters xs j
+      → IsJudged c response j
+  judged_by type_url (judged.Given given) gives = (type_url, xs, reads, gives)
+  judged_by type_url (judged.Refused e) fault =
+      memory_or_weaker (λ e. SomeOf (λ f. TakeFault c.limits f xs e) c.filters) (Refuses c response) e
+      (λ e some. refuses_by e some) fault
+
+  -- what the filters take of the extensions of a response
+  pub judged_from_taken : response.type_url ≡ extension_type → (r : Result Judged AllocError)
+      → IfOk r (IsTaken c.limits c.filters xs) → IfOk r (IsJudged c response)
+  judged_from_taken type_url r taken = IfOk-weaker r _ _ (λ j is. judged_by type_url j is) taken
+
+-- what holds where a call is right holds where it is no error
+pub on_right : (P : Type 0) (r : Result (Unit {0}) Refusal) → OnOk r P → is_ok r ≡ true → P
+on_right P (Ok x) p is = p
+on_right P (Err e) p is = absurd (true≢false (sym is))

@@ -1,0 +1,9 @@
+pub mod Lists
+pub mod ConfigLemmas
+pub mod NamedLemmas
+pub mod PlaceLemmas
+pub mod AnswerLemmas
+pub mod StreamLemmas
+pub mod CurrentLemmas
+pub mod TakingLemmas
+pub mod JudgedLemmas

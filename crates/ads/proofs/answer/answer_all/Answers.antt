@@ -1,0 +1,35 @@
+use Rattle.std.proofs.Common.{◌≡◌, sym, ap, ◌∙◌}
+use Rattle.xds_wire.specs.Stream.{Kept}
+use Rattle.ads.specs.steps.Drafts.{draft_view}
+use Rattle.ads.proofs.AnswerLemmas.{goes_on_more, goes_on_end, goes_on_stop, told_no, told_yes}
+use Rattle.ads.proofs.answer.answer_all.Goals as goal
+
+pub returns-then-not-branch-clause-answered : goal.returns-then-not-branch-clause-answered
+returns-then-not-branch-clause-answered c old =
+    let answered = told_no c.in_ok-answer.field-0 _ _ c.if-not-branch.true (c.in_ok-answer.ensures.answered old) in
+    let so_far = rw c.in-Some.ensures at c.loop-message.invariant.3 old in
+    goes_on_stop c.args.config.now (draft_view old c.args.draft.now) c.args.frames.now.messages
+    c.args.draft.now.replies.items (draft_view old c.loop-message.draft) (draft_view old c.answer.new.draft)
+    c.in-Some.message c.next.new.self.messages c.loop-message.draft.replies.items c.answer.new.draft.replies.items
+    so_far (rw c.as_slice.ensures at answered)
+
+pub loop-message-preserved : goal.loop-message-preserved
+loop-message-preserved c =
+    let same = c.in-Some.ensures in (
+      c.in_ok-answer.ensures.covers,
+      sym (ap (λ (k : Kept). k.max) same) ∙ c.loop-message.invariant.1,
+      sym (ap (λ (k : Kept). k.tail) same) ∙ c.loop-message.invariant.2,
+      λ old.
+          let answered = told_yes c.in_ok-answer.field-0 _ _ c.if-not-branch.false (c.in_ok-answer.ensures.answered old) in
+          goes_on_more c.args.config.now (draft_view old c.args.draft.now) c.args.frames.now.messages
+          c.args.draft.now.replies.items (draft_view old c.loop-message.draft) (draft_view old c.answer.new.draft)
+          c.in-Some.message c.next.new.self.messages c.loop-message.draft.replies.items c.answer.new.draft.replies.items
+          (rw c.in-Some.ensures at c.loop-message.invariant.3 old)
+          (rw c.as_slice.ensures at answered),
+    )
+
+pub returns-clause-answered : goal.returns-clause-answered
+returns-clause-answered c old =
+    goes_on_end c.args.config.now (draft_view old c.args.draft.now) c.args.frames.now.messages
+    c.args.draft.now.replies.items (draft_view old c.loop-message.draft) c.loop-message.draft.replies.items
+    (rw c.in_default.ensures.0 at c.loop-message.invariant.3 old)

@@ -1,0 +1,19 @@
+use Rattle.std.proofs.Common.{◌≡◌, map, get_or}
+use Rattle.proto_wire.proofs.Exits.{exit_memory_or}
+use Rattle.proto_wire.specs.declared.refusal.Refusal.{Refusal}
+use Rattle.xds_wire.specs.Envelope.{SomeOf}
+use Rattle.xds_wire.specs.View.{any_view, extension_view}
+use Rattle.ads.specs.Answer.{ResourceFault, IsResource}
+use Rattle.ads.proofs.Lists.{exit_each, zip_more}
+use Rattle.ads.proofs.judging.read_resources.Goals as goal
+
+pub returns-in_err-read_resource-clause-fault : goal.returns-in_err-read_resource-clause-fault
+returns-in_err-read_resource-clause-fault c =
+    exit_each ResourceFault any_view c.args.resources.now c.loop-resource.resource-index _
+    c.loop-resource-test.true c.from_residual.result _ c.from_residual.ensures.1 c.in_err-read_resource.ensures.fault
+
+pub loop-resource-preserved : goal.loop-resource-preserved
+loop-resource-preserved c =
+    zip_more IsResource any_view extension_view c.args.resources.now c.loop-resource.resource-index _
+    c.loop-resource.extensions.items _ _ c.loop-resource-test.true c.loop-resource.invariant
+    c.in_ok-read_resource.ensures.found c.in_ok-push.ensures.items

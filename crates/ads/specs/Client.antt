@@ -1,0 +1,80 @@
+-- A client of an update stream, and what each call on it does.
+use Rattle.std.specs.Prelude.{◌≡◌, ℕ, Bool, true, false, Option, Some, None, ◌⊎◌, List, [], ◌∷◌, ◌++◌, is_none, bytes_eq, if◌then◌else◌}
+use Rattle.proto_wire.specs.declared.refusal.Refusal.{Refusal}
+use Rattle.xds_wire.specs.Frames.{Tail, unfinished, broken, Cut, frame_of}
+use Rattle.xds_wire.specs.Discovery.{RequestMessage, ResponseMessage, IsResponse, ResponseFault}
+use Rattle.xds_wire.specs.Written.{RequestWritten}
+use Rattle.ads.specs.Config.{ConfigValue, FilterValue}
+use Rattle.rbac_policy.specs.Filter.{Filter}
+use Rattle.ads.specs.Answer.{Accepted, Answers, first_request, nothing_accepted}
+
+-- the most bytes of a message
+abbrev pub most_bytes : ℕ
+most_bytes = 1048576
+
+-- what a client is: its configuration, the unfinished bytes of the stream, where one is up, and what it has
+-- accepted
+pub record ClientValue : Type 0 where
+  pub config : ConfigValue
+  pub stream : Option (List ℕ)
+  pub accepted : Accepted
+
+-- the bytes are the request's frame, and then others
+abbrev pub IsFrameThen : RequestMessage → List ℕ → List ℕ → Type 0
+IsFrameThen request bytes more =
+    (message : List ℕ) × RequestWritten request message × (bytes ≡ frame_of message ++ more)
+
+-- what the messages of a stream are answered, in order, what is accepted after them, and whether one of
+-- them is no response, which ends the stream
+abbrev pub AreAnswered : ConfigValue → Accepted → List (List ℕ) → List ℕ → Accepted → Bool → Type 0
+AreAnswered c old [] replies new ends = (replies ≡ []) × (new ≡ old) × (ends ≡ false)
+AreAnswered c old (message ∷ messages) replies new ends =
+    ((e : Refusal) × ResponseFault message e × (replies ≡ []) × (new ≡ old) × (ends ≡ true))
+    ⊎ ((response : ResponseMessage) × (reply : RequestMessage) × (next : Accepted) × (more : List ℕ)
+    × IsResponse message response × Answers c response old reply next × IsFrameThen reply replies more
+    × AreAnswered c next messages more new ends)
+
+-- the stream after its messages: what stands behind them, unless it is broken or a message ended it
+abbrev pub stream_after : Bool → Tail → Option (List ℕ)
+stream_after false (unfinished rest) = Some rest
+stream_after false (broken fault) = None
+stream_after true tail = None
+
+-- bytes come behind the unfinished ones: their messages are answered
+pub record FeedsStream (old : ClientValue) (rest bytes replies : List ℕ) (new : ClientValue) : Type 0 where
+  pub messages : List (List ℕ)
+  pub tail : Tail
+  pub ends : Bool
+  pub cut : Cut (rest ++ bytes) most_bytes messages tail
+  pub answered : AreAnswered old.config old.accepted messages replies new.accepted ends
+  pub stream : new.stream ≡ stream_after ends tail
+  pub config : new.config ≡ old.config
+
+-- bytes come, by the stream that is up: without one nothing is done with them
+abbrev pub FeedsBy : Option (List ℕ) → ClientValue → List ℕ → List ℕ → Bool → ClientValue → Type 0
+FeedsBy None old bytes replies is_broken new = (replies ≡ []) × (is_broken ≡ true) × (new ≡ old)
+FeedsBy (Some rest) old bytes replies is_broken new =
+    FeedsStream old rest bytes replies new × (is_broken ≡ is_none new.stream)
+
+abbrev pub Feeds : ClientValue → List ℕ → List ℕ → Bool → ClientValue → Type 0
+Feeds old bytes replies is_broken new = FeedsBy old.stream old bytes replies is_broken new
+
+-- the client with no stream, and with a new one
+abbrev pub stream_down : ClientValue → ClientValue
+stream_down c = record { config = c.config; stream = None; accepted = c.accepted }
+
+abbrev pub stream_up : ClientValue → ClientValue
+stream_up c = record { config = c.config; stream = Some []; accepted = c.accepted }
+
+-- a client that has accepted nothing
+abbrev pub new_client : ConfigValue → ClientValue
+new_client c = record { config = c; stream = None; accepted = nothing_accepted c }
+
+-- what the filter of this name has
+abbrev pub policies_at : List ℕ → List FilterValue → List (Option Filter) → Option Filter
+policies_at name [] policies = None
+policies_at name (f ∷ fs) [] = None
+policies_at name (f ∷ fs) (p ∷ ps) = if bytes_eq name f.name then p else policies_at name fs ps
+
+abbrev pub policies_of : ClientValue → List ℕ → Option Filter
+policies_of c name = policies_at name c.config.filters c.accepted.policies

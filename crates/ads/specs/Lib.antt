@@ -1,0 +1,4 @@
+pub mod Config
+pub mod Answer
+pub mod Client
+pub mod steps

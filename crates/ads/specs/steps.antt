@@ -1,0 +1,4 @@
+pub mod Views
+pub mod Streams
+pub mod Taking
+pub mod Drafts

@@ -1,0 +1,60 @@
+-- What stands beside the accepted state while bytes are answered.
+use Rattle.std.specs.Prelude.{◌≡◌, ◌⊎◌, ℕ, Bool, true, false, Option, Some, None, List, [], ◌++◌, length, map, option_map, IfSome}
+use Rattle.std.specs.String.{string_bytes}
+use Rattle.proto_wire.specs.declared.refusal.Refusal.{Refusal}
+use Rattle.xds_wire.specs.Frames.{frame_of}
+use Rattle.xds_wire.specs.Discovery.{RequestMessage, ResponseMessage, IsResponse, ResponseFault}
+use Rattle.xds_wire.specs.Written.{RequestWritten}
+use Rattle.rbac_policy.specs.Filter.{Filter}
+use Rattle.rbac_policy.specs.declared.filter.Admitted.{Admitted}
+use Rattle.ads.specs.Config.{ConfigValue}
+use Rattle.ads.specs.Answer.{Accepted, Answers, replaced}
+use Rattle.ads.specs.Client.{ClientValue}
+use Rattle.ads.specs.declared.client.Client.{Client}
+use Rattle.ads.specs.steps.Taking.{policies_view}
+use Rattle.ads.specs.declared.accepted.Draft.{Draft}
+use Rattle.ads.specs.declared.accepted.State.{State}
+
+-- the accepted state that the code keeps
+abbrev pub state_view : State → Accepted
+state_view s = record {
+  version = string_bytes s.version;
+  policies = policies_view s.policies.items;
+  generation = s.generation;
+}
+
+-- the accepted state that the draft makes of these policies
+abbrev pub draft_view : List (Option Filter) → Draft → Accepted
+draft_view old draft = record {
+  version = string_bytes draft.version;
+  policies = replaced old (policies_view draft.given.items);
+  generation = draft.generation;
+}
+
+-- nothing is given, or something for each of n filters
+abbrev pub Covers : ℕ → List (Option Admitted) → Type 0
+Covers n given = (length given ≡ 0) ⊎ (length given ≡ n)
+
+-- the request's frame stands behind what was there
+abbrev pub AddsFrame : RequestMessage → List ℕ → List ℕ → Type 0
+AddsFrame request before after =
+    (message : List ℕ) × RequestWritten request message × (after ≡ before ++ frame_of message)
+
+-- the message is no response, and nothing is answered
+abbrev pub IsNoResponse : Accepted → List ℕ → List ℕ → List ℕ → Accepted → Type 0
+IsNoResponse old message before after new =
+    (e : Refusal) × ResponseFault message e × (after ≡ before) × (new ≡ old)
+
+-- the message is a response, and it is answered
+abbrev pub IsAnswered : ConfigValue → Accepted → List ℕ → List ℕ → List ℕ → Accepted → Type 0
+IsAnswered c old message before after new =
+    (response : ResponseMessage) × (reply : RequestMessage) × IsResponse message response
+    × Answers c response old reply new × AddsFrame reply before after
+
+-- what a client is
+abbrev pub client_view : Client → ClientValue
+client_view c = record {
+  config = c.config;
+  stream = c.stream;
+  accepted = state_view c.accepted;
+}

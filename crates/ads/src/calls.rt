@@ -1,0 +1,96 @@
+//! What a client does: its stream comes up, gives bytes, and is lost.
+
+ghost use Rattle.std.specs.Prelude.{◌≡◌, None, Some, [], IfOk, OnOk, OnErr, MatchOption};
+ghost use Rattle.rbac_policy.specs.Admitted.{filter_view};
+ghost use Rattle.ads.specs.Answer.{first_request};
+ghost use Rattle.ads.specs.Client.{IsFrameThen};
+
+use crate::accepted::State;
+use crate::client::{Client, Fed};
+use crate::config::Config;
+use crate::reply::put_first;
+use crate::stream::{Stream, answered};
+use rbac_policy::Admitted;
+use std::alloc::{AllocError, Global};
+
+impl Client {
+    ghost use Rattle.ads.specs.Client.{Feeds, new_client, policies_of, stream_down, stream_up};
+    ghost use Rattle.ads.specs.steps.Drafts.{client_view};
+
+    /// A client that has accepted nothing, and whose stream is down.
+    pub fn new(alloc: Global, config: &Config) -> Result<Client, AllocError>
+        ensures { IfOk result (λ c. client_view c ≡ new_client config.now) }
+    {
+        let accepted = State::new(alloc, config)?;
+        let config = config.copy()?;
+        Ok(Client {
+            alloc,
+            config,
+            stream: None,
+            accepted,
+        })
+    }
+
+    /// A stream comes up: the bytes to send first. A stream that is up is lost before. After an error all is as before
+    /// the call.
+    pub fn connected(&mut self) -> Result<Vec<u8>, AllocError>
+        ensures found { IfOk result (λ bytes.
+            IsFrameThen (first_request self.old.config (client_view self.old).accepted) bytes.items []) }
+        ensures up { OnOk result (client_view self.new ≡ stream_up (client_view self.old)) }
+        ensures fault { OnErr result (client_view self.new ≡ client_view self.old) }
+    {
+        let mut bytes = Vec::new(self.alloc);
+        put_first(self.alloc, &self.config, &self.accepted.version, &mut bytes)?;
+        self.stream = Some(Stream::new(self.alloc));
+        Ok(bytes)
+    }
+
+    /// The stream gives bytes. Each response that they complete is answered, in order; a broken frame or a message that
+    /// is no response ends the stream. After an error all is as before the call.
+    pub fn feed(&mut self, bytes: &[u8]) -> Result<Fed, AllocError>
+        ensures found { IfOk result (λ fed. Feeds (client_view self.old) bytes.now
+            fed.replies.items fed.broken (client_view self.new)) }
+        ensures fault { OnErr result (client_view self.new ≡ client_view self.old) }
+    {
+        let Some(stream) = &self.stream else {
+            return Ok(Fed {
+                replies: Vec::new(self.alloc),
+                broken: true,
+            });
+        };
+        let (draft, stream) = answered(self.alloc, &self.config, &self.accepted, stream, bytes)?;
+        let broken = stream.is_none();
+        self.stream = stream;
+        let replies = self.accepted.commit(draft);
+        Ok(Fed { replies, broken })
+    }
+
+    /// The stream is lost: its unfinished bytes are forgotten. What was accepted stays. It takes no memory.
+    pub fn lost(&mut self)
+        ensures { client_view self.new ≡ stream_down (client_view self.old) }
+    {
+        self.stream = None;
+    }
+
+    /// The filter of this name, as it was accepted last. It takes no memory.
+    pub fn current(&self, name: &str) -> Option<&Admitted>
+        ensures { let found = policies_of (client_view self.now) name.now in
+            MatchOption result (found ≡ None) (λ a. found ≡ Some (filter_view a.now)) }
+    {
+        let Some(place) = self.config.filters().get_index_of(name) else {
+            return None;
+        };
+        match self.accepted.policies.get(place) {
+            Some(Some(admitted)) => Some(admitted),
+            Some(None) => None,
+            None => None,
+        }
+    }
+
+    /// How many responses were accepted. It takes no memory.
+    pub fn generation(&self) -> u64
+        ensures { result ≡ (client_view self.now).accepted.generation }
+    {
+        self.accepted.generation
+    }
+}

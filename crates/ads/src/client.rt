@@ -1,0 +1,28 @@
+//! What a client of an update stream is.
+
+ghost use Rattle.std.specs.Prelude.{◌≡◌, length};
+
+use crate::accepted::State;
+use crate::config::Config;
+use crate::stream::Stream;
+use std::alloc::Global;
+
+/// What a call with bytes of the stream answers.
+#[derive(Debug, Drop)]
+pub struct Fed {
+    /// The bytes to send, in whole frames.
+    pub replies: Vec<u8>,
+    /// Whether no stream is up after it.
+    pub broken: bool,
+}
+
+/// A client that subscribes to the filters of a configuration, and keeps what it accepted of them (xDS, state of the
+/// world). It has no socket: bytes of the stream go in, and bytes to send come out.
+#[derive(Debug, Drop)]
+pub struct Client {
+    pub(crate) alloc: Global,
+    pub(crate) config: Config,
+    pub(crate) stream: Option<Stream>,
+    pub(crate) accepted: State,
+    ghost sized: { length accepted.policies.items ≡ length config.filters },
+}

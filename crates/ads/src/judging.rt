@@ -1,0 +1,199 @@
+//! The judging of a response, as a function of the response alone: what it gives each filter, or why it is refused.
+
+ghost use Rattle.std.specs.Prelude.{◌≡◌, ◌≢◌, ℕ, Some, [], ◌∷◌, List, map, IfOk, IfErr, OnOk, MatchOption};
+ghost use Rattle.std.specs.Option.{option_map};
+ghost use Rattle.std.specs.List.{AllZip};
+ghost use Rattle.proto_wire.specs.Refusal.{MemoryOr};
+ghost use Rattle.proto_wire.specs.declared.refusal.Refusal.TheVariants.{DuplicateResource, Missing, WrongType};
+ghost use Rattle.xds_wire.specs.Envelope.{SomeOf};
+ghost use Rattle.xds_wire.specs.View.{any_view, extension_view, response_view};
+ghost use Rattle.rbac_policy.specs.Admitted.{filter_view};
+ghost use Rattle.ads.specs.Config.{FilterValue};
+ghost use Rattle.ads.specs.Answer.{IsResource, ResourceFault, HoldsFilter, ExtensionIsRefused, Gives, named, extension_type};
+ghost use Rattle.ads.specs.steps.Views.{entries_view, filter_of};
+ghost use Rattle.ads.specs.steps.Taking.{IsDoubled, TakeFault, IsTaken, IsJudged, policies_view};
+
+use crate::config::Config;
+use attributes::Limits;
+use indexmap::IndexMap;
+use proto_wire::Refusal;
+use rbac_policy::{Admitted, admit};
+use std::alloc::{AllocError, Global};
+use xds_wire::{Any, DiscoveryResponse, TypedExtensionConfig, read_extension};
+
+/// The type of the resources that a client subscribes to.
+pub(crate) const EXTENSION_TYPE: &str =
+    "type.googleapis.com/envoy.config.core.v3.TypedExtensionConfig";
+
+/// The type of a filter's message.
+const FILTER_TYPE: &str = "type.googleapis.com/envoy.extensions.filters.http.rbac.v3.RBAC";
+
+/// What a response comes to.
+#[derive(Debug, Drop)]
+pub(crate) enum Judged {
+    /// What it gives each filter, in configured order.
+    Given(Vec<Option<Admitted>>),
+    /// Why it is refused.
+    Refused(Refusal),
+}
+
+/// Judges a response. An error tells that memory ran out elsewhere than in an admission.
+pub(crate) fn judge(
+    alloc: Global,
+    config: &Config,
+    response: &DiscoveryResponse<'_>,
+) -> Result<Judged, AllocError>
+    ensures { IfOk result (IsJudged config.now (response_view response.now)) }
+{
+    if check_type(response.type_url).is_err() {
+        return Ok(Judged::Refused(Refusal::WrongType));
+    }
+    let extensions = match read_resources(alloc, &response.resources) {
+        Ok(extensions) => extensions,
+        Err(Refusal::Memory) => return Err(AllocError),
+        Err(refusal) => return Ok(Judged::Refused(refusal)),
+    };
+    take_all(alloc, config.limits(), config.filters(), &extensions)
+}
+
+/// Refuses another type than that of the resources.
+fn check_type(type_url: &str) -> Result<(), Refusal>
+    ensures found { OnOk result (type_url.now ≡ extension_type) }
+    ensures fault { IfErr result (λ e. (type_url.now ≢ extension_type) × (e ≡ WrongType)) }
+{
+    if type_url != EXTENSION_TYPE {
+        return Err(Refusal::WrongType);
+    }
+    Ok(())
+}
+
+/// The resources as extensions, each of which has a name.
+fn read_resources<'a>(
+    alloc: Global,
+    resources: &[Any<'a>],
+) -> Result<Vec<TypedExtensionConfig<'a>>, Refusal>
+    ensures found { IfOk result (λ v.
+        AllZip IsResource (map any_view resources.now) (map extension_view v.items)) }
+    ensures fault { IfErr result (MemoryOr (λ e. SomeOf (λ any. ResourceFault any e) (map any_view resources.now))) }
+{
+    let mut extensions = Vec::new(alloc);
+    for resource in resources {
+        extensions.push(read_resource(alloc, resource)?)?;
+    }
+    Ok(extensions)
+}
+
+/// The resource as an extension, which has a name.
+fn read_resource<'a>(alloc: Global, resource: &Any<'a>) -> Result<TypedExtensionConfig<'a>, Refusal>
+    ensures found { IfOk result (λ x. IsResource (any_view resource.now) (extension_view x)) }
+    ensures fault { IfErr result (MemoryOr (ResourceFault (any_view resource.now))) }
+{
+    check_type(resource.type_url)?;
+    let extension = read_extension(alloc, resource.value)?;
+    require_name(&extension)?;
+    Ok(extension)
+}
+
+/// Refuses an extension without a name.
+fn require_name(extension: &TypedExtensionConfig<'_>) -> Result<(), Refusal>
+    ensures found { OnOk result (extension.now.name.now ≢ []) }
+    ensures fault { IfErr result (λ e. (extension.now.name.now ≡ []) × (e ≡ Missing)) }
+{
+    if extension.name.is_empty() {
+        return Err(Refusal::Missing);
+    }
+    Ok(())
+}
+
+/// What the extensions give each of the filters, or why they are refused.
+fn take_all(
+    alloc: Global,
+    limits: &Limits,
+    filters: &IndexMap<String, u64>,
+    extensions: &[TypedExtensionConfig<'_>],
+) -> Result<Judged, AllocError>
+    ensures { IfOk result
+        (IsTaken limits.now (entries_view filters.now.entries) (map extension_view extensions.now)) }
+{
+    let mut given = Vec::new(alloc);
+    for (name, budget) in filters {
+        match take(alloc, limits, name, *budget, extensions) {
+            Ok(policies) => given.push(policies)?,
+            Err(refusal) => return Ok(Judged::Refused(refusal)),
+        }
+    }
+    Ok(Judged::Given(given))
+}
+
+/// What the extensions give the filter of this name.
+fn take(
+    alloc: Global,
+    limits: &Limits,
+    name: &str,
+    budget: u64,
+    extensions: &[TypedExtensionConfig<'_>],
+) -> Result<Option<Admitted>, Refusal>
+    ensures found { IfOk result (λ given. Gives limits.now (filter_of name.now budget)
+        (named name.now (map extension_view extensions.now)) (option_map filter_view given)) }
+    ensures fault { IfErr result (MemoryOr
+        (TakeFault limits.now (filter_of name.now budget) (map extension_view extensions.now))) }
+{
+    match find(extensions, name)? {
+        None => Ok(None),
+        Some(extension) => {
+            let admitted = admit_extension(alloc, limits, budget, &extension)?;
+            Ok(Some(admitted))
+        }
+    }
+}
+
+/// The one extension of this name, where there is one.
+fn find<'a>(
+    extensions: &[TypedExtensionConfig<'a>],
+    name: &str,
+) -> Result<Option<TypedExtensionConfig<'a>>, Refusal>
+    ensures found { let xs = named name.now (map extension_view extensions.now) in
+        IfOk result (λ o. MatchOption o (xs ≡ []) (λ x. xs ≡ extension_view x ∷ [])) }
+    ensures fault { IfErr result (λ e. IsDoubled name.now (map extension_view extensions.now)
+        × (e ≡ DuplicateResource)) }
+{
+    let mut found = None;
+    for extension in extensions {
+        if extension.name != name {
+            continue;
+        }
+        if found.is_some() {
+            return Err(Refusal::DuplicateResource);
+        }
+        found = Some(*extension);
+    }
+    Ok(found)
+}
+
+/// Admits the filter that the extension holds.
+fn admit_extension(
+    alloc: Global,
+    limits: &Limits,
+    budget: u64,
+    extension: &TypedExtensionConfig<'_>,
+) -> Result<Admitted, Refusal>
+    ensures found { IfOk result (λ a. (name : List ℕ)
+        → Gives limits.now (filter_of name budget) (extension_view extension.now ∷ []) (Some (filter_view a))) }
+    ensures fault { IfErr result (MemoryOr (λ e. (name : List ℕ)
+        → ExtensionIsRefused limits.now (filter_of name budget) (extension_view extension.now) e)) }
+{
+    let bytes = filter_bytes(extension)?;
+    admit(alloc, bytes, limits, budget)
+}
+
+/// The bytes of the filter's message that the extension holds.
+fn filter_bytes<'a>(extension: &TypedExtensionConfig<'a>) -> Result<&'a [u8], Refusal>
+    ensures found { IfOk result (λ bytes. HoldsFilter (extension_view extension.now) bytes.now) }
+    ensures fault { IfErr result (λ e. (e ≡ WrongType)
+        × ((bytes : List ℕ) → HoldsFilter (extension_view extension.now) bytes → ⊥)) }
+{
+    match extension.typed_config {
+        Some(config) if config.type_url == FILTER_TYPE => Ok(config.value),
+        _ => Err(Refusal::WrongType),
+    }
+}

@@ -1,0 +1,97 @@
+//! A stream that is up, and what its bytes come to.
+
+ghost use Rattle.std.specs.Prelude.{◌≡◌, ◌++◌, ℕ, false, [], List, Bool, length, IfOk};
+ghost use Rattle.xds_wire.specs.Frames.{Cut, Tail};
+ghost use Rattle.xds_wire.specs.Stream as wire;
+ghost use Rattle.ads.specs.Client.{AreAnswered, most_bytes, stream_after};
+ghost use Rattle.ads.specs.steps.Taking.{policies_view};
+ghost use Rattle.ads.specs.steps.Streams.{StreamIsBroken};
+ghost use Rattle.ads.specs.steps.Drafts.{Covers, draft_view, state_view};
+
+use crate::accepted::{Draft, State};
+use crate::answer::answer_all;
+use crate::config::Config;
+use std::alloc::{AllocError, Global};
+use std::marker::Model;
+use xds_wire::{FrameError, Frames};
+
+/// The most bytes of a message.
+const MOST_BYTES: usize = 1_048_576;
+
+/// A stream that is up: all its whole messages were answered.
+#[derive(Debug, Drop)]
+pub(crate) struct Stream {
+    frames: Frames,
+}
+
+impl Model for Stream {
+    ghost use Rattle.std.specs.Prelude.{ℕ, List};
+    ghost use Rattle.ads.specs.steps.Streams.{IsUp, rest_of};
+
+    ghost Value = { List ℕ };
+
+    ghost view = { λ stream. rest_of stream.frames.tail };
+
+    ghost invariant = { λ stream. IsUp stream.frames };
+}
+
+impl Stream {
+    /// A stream of which nothing has come. It takes no memory.
+    pub(crate) fn new(alloc: Global) -> Stream
+        ensures { result ≡ [] }
+    {
+        Stream {
+            frames: Frames::new(alloc, MOST_BYTES),
+        }
+    }
+}
+
+/// What the bytes come to: the draft of what is accepted and replied, and the stream after them.
+pub(crate) fn answered(
+    alloc: Global,
+    config: &Config,
+    accepted: &State,
+    stream: &Stream,
+    bytes: &[u8],
+) -> Result<(Draft, Option<Stream>), AllocError>
+    ensures answered { IfOk result (λ r. (messages : List (List ℕ)) × (tail : Tail) × (ends : Bool)
+        × Cut (stream.now ++ bytes.now) most_bytes messages tail
+        × AreAnswered config.now (state_view accepted.now) messages r.0.replies.items
+        (draft_view (policies_view accepted.now.policies.items) r.0) ends
+        × (r.1 ≡ stream_after ends tail)) }
+    ensures covers { IfOk result (λ r. Covers (length config.now.filters) r.0.given.items) }
+{
+    let mut frames = stream.frames.copy()?;
+    let mut draft = Draft::new(alloc, accepted)?;
+    let is_faulty = feed_frames(&mut frames, bytes)?;
+    let ends = answer_all(alloc, config, &mut draft, &mut frames)?;
+    Ok((draft, kept(frames, ends, is_faulty)))
+}
+
+/// The stream, unless a message ended it or its frames are broken.
+fn kept(frames: Frames, ends: bool, is_faulty: bool) -> Option<Stream>
+    requires faulty { StreamIsBroken is_faulty frames.tail }
+    requires max { frames.max ≡ most_bytes }
+    requires taken { ends ≡ false → frames.messages ≡ [] }
+    ensures { result ≡ stream_after ends frames.tail }
+{
+    if ends {
+        return None;
+    }
+    if is_faulty {
+        return None;
+    }
+    Some(Stream { frames })
+}
+
+/// Feeds the frames, and tells whether they are broken now.
+fn feed_frames(frames: &mut Frames, bytes: &[u8]) -> Result<bool, AllocError>
+    ensures { IfOk result (λ is_faulty. wire.Feeds frames.old bytes.now frames.new
+        × StreamIsBroken is_faulty frames.new.tail) }
+{
+    match frames.feed(bytes) {
+        Ok(()) => Ok(false),
+        Err(FrameError::Memory) => Err(AllocError),
+        Err(FrameError::Compressed | FrameError::TooLong) => Ok(true),
+    }
+}
