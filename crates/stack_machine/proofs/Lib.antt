@@ -8,7 +8,7 @@ pub mod Forms
 pub mod KeptScalars
 pub mod KeptItems
 pub mod KeptMaps
-pub mod Kept
+pub mod KeptAttributes
 pub mod Sound
 pub mod Spending
 pub mod Literals
@@ -16,3 +16,5 @@ pub mod Chains
 pub mod LeastCharge
 pub mod Runs
 pub mod Outcomes
+pub mod PlainCharges
+pub mod PlainLoops

@@ -1,7 +1,7 @@
 pub mod Locals
 pub mod Instructions
 pub mod Slots
-pub mod Operations
+pub mod Attributes
 pub mod Charges
 pub mod Machine
 pub mod Loops
@@ -9,3 +9,4 @@ pub mod StateView
 pub mod Shapes
 pub mod Typable
 pub mod Groups
+pub mod steps

@@ -20,7 +20,8 @@ impl State {
     pub(crate) fn branch(&mut self, wanted: bool, target: u16) -> Result<(), AllocError>
         requires room { self.old.position < 2 ^ 32 }
         requires lives { branch wanted target (state_view self.old) ≢ stuck }
-        ensures went { OnOk result (branch wanted target (state_view self.old) ≡ goes (state_view self.new)) }
+        ensures went { OnOk result
+            (branch wanted target (state_view self.old) ≡ goes (state_view self.new)) }
         ensures fuel { self.new.fuel ≡ self.old.fuel }
     {
         let Some(answer) = self.stack.pop() else {
@@ -44,7 +45,8 @@ impl State {
     pub(crate) fn test(&mut self, otherwise: u16, failed: u16) -> Result<(), AllocError>
         requires room { self.old.position < 2 ^ 32 }
         requires lives { test otherwise failed (state_view self.old) ≢ stuck }
-        ensures went { OnOk result (test otherwise failed (state_view self.old) ≡ goes (state_view self.new)) }
+        ensures went { OnOk result
+            (test otherwise failed (state_view self.old) ≡ goes (state_view self.new)) }
         ensures fuel { self.new.fuel ≡ self.old.fuel }
     {
         let Some(answer) = self.stack.pop() else {
@@ -71,7 +73,8 @@ impl State {
     pub(crate) fn loop_start(&mut self, failed: u16) -> Result<(), RunError>
         requires room { self.old.position < 2 ^ 32 }
         requires lives { loop_start failed (state_view self.old) ≢ stuck }
-        ensures went { OnOk result (loop_start failed (state_view self.old) ≡ goes (state_view self.new)) }
+        ensures went { OnOk result
+            (loop_start failed (state_view self.old) ≡ goes (state_view self.new)) }
         ensures paid { OnOk result (Some self.new.fuel
             ≡ left_of self.old.fuel (of_one loop_charge (map answer_view self.old.stack))) }
         ensures out { IfErr result (λ e. e ≡ RunError.OutOfSteps → None
@@ -122,7 +125,8 @@ impl State {
     pub(crate) fn loop_next(&mut self, local: u8, done: u16) -> Result<(), AllocError>
         requires room { self.old.position < 2 ^ 32 }
         requires lives { loop_next local done (state_view self.old) ≢ stuck }
-        ensures went { OnOk result (loop_next local done (state_view self.old) ≡ goes (state_view self.new)) }
+        ensures went { OnOk result
+            (loop_next local done (state_view self.old) ≡ goes (state_view self.new)) }
         ensures fuel { self.new.fuel ≡ self.old.fuel }
     {
         let Some(mut innermost) = self.loops.pop() else {
@@ -145,7 +149,8 @@ impl State {
     pub(crate) fn loop_test(&mut self, done: u16, failed: u16) -> Result<(), AllocError>
         requires room { self.old.position < 2 ^ 32 }
         requires lives { loop_test done failed (state_view self.old) ≢ stuck }
-        ensures went { OnOk result (loop_test done failed (state_view self.old) ≡ goes (state_view self.new)) }
+        ensures went { OnOk result
+            (loop_test done failed (state_view self.old) ≡ goes (state_view self.new)) }
         ensures fuel { self.new.fuel ≡ self.old.fuel }
     {
         let Some(answer) = self.stack.pop() else {

@@ -9,16 +9,21 @@ pub mod laws;
 mod locals;
 mod open_loop;
 mod operations;
+mod plain;
+mod requests;
 mod running;
 mod stack;
 mod state;
 mod step;
+#[cfg(test)]
+mod tests;
 mod verified;
 
 pub use code::{Code, CodeFault};
 pub use error::RunError;
 pub use instr::{Constant, Instr};
 pub use locals::Locals;
+pub use plain::run_plainly;
 pub use running::{Outcome, run};
 pub use stack::Stack;
 pub use verified::Verified;

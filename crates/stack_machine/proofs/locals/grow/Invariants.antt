@@ -1,4 +1,4 @@
-use Rattle.std.proofs.Common.{◌≡◌, ℕ, ◌-◌, length}
+use Rattle.std.proofs.Common.{◌≡◌, ◌-◌, length}
 use Rattle.stack_machine.specs.Locals.{local_of}
 use Rattle.stack_machine.proofs.locals.grow.Given as goal
 

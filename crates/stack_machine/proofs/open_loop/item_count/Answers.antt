@@ -1,4 +1,4 @@
-use Rattle.std.proofs.Common.{sym, ◌∙◌}
+use Rattle.std.proofs.Common.{sym}
 use Rattle.cel_value.proofs.Views.{count-items}
 use Rattle.stack_machine.proofs.open_loop.item_count.Goals as goal
 

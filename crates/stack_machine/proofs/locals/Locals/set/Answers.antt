@@ -1,5 +1,5 @@
 use Rattle.std.proofs.Common.{◌∙◌, ap, arith}
-use Rattle.stack_machine.specs.Locals.{local_of, with_local}
+use Rattle.stack_machine.specs.Locals.{with_local}
 use Rattle.stack_machine.proofs.Places.{local_of-set}
 use Rattle.stack_machine.proofs.locals.Locals.set.Goals as goal
 

@@ -1,4 +1,4 @@
-use Rattle.std.proofs.Common.{arith, add-one, ◌∙◌, sym}
+use Rattle.std.proofs.Common.{arith, add-one}
 use Rattle.stack_machine.specs.Loops.{range_view}
 use Rattle.stack_machine.proofs.Walking.{from-past, from-found}
 use Rattle.stack_machine.proofs.open_loop.OpenLoop.next.Goals as goal
