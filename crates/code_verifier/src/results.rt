@@ -4,14 +4,14 @@ ghost use Rattle.std.specs.Prelude.{◌≡◌, IfOk, Some, option_map};
 ghost use Rattle.cel_value.specs.Texts.{text_view};
 ghost use Rattle.cel_value.specs.Types.{type_of_key, type_view};
 ghost use Rattle.cel_value.specs.Values.{int, text, uint};
-ghost use Rattle.stack_machine.specs.Operations.{attribute_slot};
+ghost use Rattle.stack_machine.specs.Attributes.{attribute_slot};
 ghost use Rattle.stack_machine.specs.Slots.{arithmetic_slot, compare_slot, concat_slot, constant_slot, field_slot, has_field_slot, has_order, has_size, in_list_slot, in_map_slot, is_a_key, key_type_of, list_index_slot, list_of, logic_slot, loop_slot, map_index_slot, map_of_slots, may_compare, negate_slot, not_slot, number_slot, of_type_if, sequence_slot, size_slot, text_test_slot};
 ghost use Rattle.stack_machine.specs.Instructions.{constant_view};
 ghost use Rattle.code_verifier.specs.steps.Results.{binary_slot, unary_slot};
 ghost use Rattle.code_verifier.specs.steps.SlotView.{slot_view};
 
 use crate::slot::Slot;
-use attributes::AttrId;
+use attributes::{AttrId, AttrType, attr_type};
 use cel_ops::CompareOp;
 use cel_value::{CelType, KeyType};
 use stack_machine::Constant;
@@ -111,10 +111,19 @@ fn text_slot(value: &RcStr) -> Slot
 }
 
 /// What an attribute leaves.
-pub(crate) fn attribute_slot(id: AttrId) -> Result<Slot, AllocError>
+pub(crate) fn attribute_slot(alloc: Global, id: AttrId) -> Result<Slot, AllocError>
     ensures { IfOk result (λ slot. slot_view slot ≡ attribute_slot id) }
 {
-    Ok(Slot::Of(CelType::Bool))
+    match attr_type(id) {
+        AttrType::Text => Ok(Slot::Of(CelType::Text)),
+        AttrType::Int => Ok(Slot::Of(CelType::Int)),
+        AttrType::Uint => Ok(Slot::Of(CelType::Uint)),
+        AttrType::Bool => Ok(Slot::Of(CelType::Bool)),
+        AttrType::TextMap => {
+            let values = Rc::new(alloc, CelType::Text)?;
+            Ok(Slot::Of(CelType::Map(KeyType::Text, values)))
+        }
+    }
 }
 
 // A slot of the type, where the test holds.

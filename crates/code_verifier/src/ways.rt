@@ -41,7 +41,7 @@ pub(crate) fn ways_of(
             leave(alloc, stacks, position, shape, Some(slot), shape.slots)
         }
         Instr::Attr(id) => {
-            let slot = attribute_slot(*id)?;
+            let slot = attribute_slot(alloc, *id)?;
             leave(alloc, stacks, position, shape, Some(slot), shape.slots)
         }
         Instr::Load(local) => {
