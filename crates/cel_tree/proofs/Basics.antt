@@ -1,5 +1,5 @@
 -- Small facts on lists: empty or not, and their last elements.
-use Rattle.std.proofs.Common.{◌≡◌, ◌≢◌, ◌⊎◌, inl, inr, ℕ, List, [], ◌∷◌, Bor, Option, Some, None, MatchOption, refl, sym, ◌∙◌}
+use Rattle.std.proofs.Common.{◌≡◌, ◌≢◌, ◌⊎◌, inl, inr, ℕ, List, [], ◌∷◌, Bor, Option, Some, None, MatchOption, refl}
 use Rattle.std.specs.Prelude.{MatchBool}
 use Rattle.std.specs.Option.{is_some}
 use Rattle.proto_wire.specs.Values.{last_of}

@@ -1,3 +1,15 @@
 pub mod Basics
 pub mod Readers
 pub mod Texts
+pub mod Entries
+pub mod Counting
+pub mod Insides
+pub mod TypeLevels
+pub mod IdMaps
+pub mod ReadingLaws
+pub mod ConstantLaws
+pub mod ReferenceLaws
+pub mod TypeLaws
+pub mod NodeLaws
+pub mod TreeLaws
+pub mod CheckedLaws

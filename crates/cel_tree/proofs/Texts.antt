@@ -1,10 +1,8 @@
 -- Texts among payloads: each is UTF-8, or one is not.
-use Rattle.std.proofs.Common.{◌≡◌, ◌++◌, ◌⊎◌, inl, inr, ℕ, List, [], ◌∷◌, Bor, Contains, refl}
+use Rattle.std.proofs.Common.{◌++◌, ℕ, List, [], ◌∷◌, Bor}
 use Rattle.std.specs.List.{AllByRecursion}
 use Rattle.std.specs.Str.{IsUtf8}
 use Rattle.proto_wire.specs.Merge.{parts_view}
-use Rattle.proto_wire.specs.Values.{Utf8Fault}
-use Rattle.cel_tree.proofs.Basics.{utf8_total, contains_first, contains_later}
 
 -- one text more
 pub texts_push : (slices : List (Bor (List ℕ))) (slice : Bor (List ℕ))

@@ -1,6 +1,6 @@
 -- Messages of single nodes, with the messages of the expressions inside as they stand:
 -- `google/api/expr/v1alpha1/syntax.proto`, Expr and the messages inside it.
-use Rattle.std.specs.Prelude.{◌≡◌, ◌≢◌, ◌⊎◌, ℕ, ℤ, Bool, true, false, List, [], ◌∷◌, ◌++◌, map, Option, Some, None, Contains, MatchOption}
+use Rattle.std.specs.Prelude.{◌≡◌, ◌≢◌, ◌⊎◌, ℕ, ℤ, Bool, true, false, List, [], ◌∷◌, ◌++◌, map, Option, Some, None, Contains}
 use Rattle.std.specs.Map.{keys_of}
 use Rattle.std.specs.Str.{IsUtf8}
 use Rattle.proto_wire.specs.Fields.{Wire}
@@ -63,6 +63,10 @@ abbrev pub entry_children : List EntryNode → List Parts
 entry_children [] = []
 entry_children (e ∷ es) = e.key ∷ e.value ∷ entry_children es
 
+-- the expressions of a comprehension
+abbrev pub loop_children : LoopNode → List Parts
+loop_children p = p.iter_range ∷ p.accu_init ∷ p.loop_condition ∷ p.loop_step ∷ p.result ∷ []
+
 -- the expressions inside a node, in order
 abbrev pub children : Node → List Parts
 children (constant_node v) = []
@@ -71,8 +75,7 @@ children (select_node operand field test_only) = operand ∷ []
 children (call_node function target args) = if_there target ++ singles args
 children (list_node elements) = singles elements
 children (map_node entries) = entry_children entries
-children (loop_node p) = p.iter_range ∷ p.accu_init ∷ p.loop_condition ∷ p.loop_step ∷ p.result
-    ∷ []
+children (loop_node p) = loop_children p
 
 -- ---- Ident
 
@@ -244,8 +247,12 @@ node_kinds = (len_key 3, Some kinds.Constant) ∷ (len_key 4, Some kinds.Ident)
     ∷ (len_key 5, Some kinds.Select) ∷ (len_key 6, Some kinds.Call) ∷ (len_key 7, Some kinds.List)
     ∷ (len_key 8, Some kinds.Struct) ∷ (len_key 9, Some kinds.Comprehension) ∷ []
 
+abbrev pub kind_keys : List Key
+kind_keys = keys_of node_kinds
+
+-- all fields
 abbrev pub node_keys : List Key
-node_keys = varint_key 2 ∷ keys_of node_kinds
+node_keys = varint_key 2 ∷ kind_keys
 
 -- the payloads of the member's run merge to a message that says the node
 abbrev pub KindSays : NodeKind → Parts → Node → Type 0
@@ -285,5 +292,5 @@ IsNode parts id node = Reads node_keys NodeSays parts (id, node)
 
 -- what is wrong with its own message
 abbrev pub NodeFault : Parts → Refusal → Type 0
-NodeFault = ReadFault node_keys (LacksMember node_kinds) 
+NodeFault = ReadFault node_keys (LacksMember node_kinds)
     (OneofFault node_kinds IsUnsupported MemberFails)

@@ -1,6 +1,6 @@
 -- Messages that say something by their fields, and what is wrong with them: Protocol Buffers
 -- encoding guide, "Message Structure", "Last One Wins" and "Oneofs".
-use Rattle.std.specs.Prelude.{◌≡◌, ◌⊎◌, ℕ, ◌==◌, List, Option, Some, None, MatchOption, option_map}
+use Rattle.std.specs.Prelude.{◌≡◌, ◌⊎◌, ℕ, ◌==◌, List, Option, None, MatchOption, option_map}
 use Rattle.std.specs.Map.{lookup, keys_of}
 use Rattle.std.specs.Option.{option_and_then}
 use Rattle.proto_wire.specs.Fields.{Wire}

@@ -1,6 +1,6 @@
 -- The abstract syntax tree of a checked expression, with no memory in it: CEL language definition,
 -- "Abstract Syntax", and `google/api/expr/v1alpha1/syntax.proto`, Expr.
-use Rattle.std.specs.Prelude.{ℕ, ℤ, Bool, List, [], ◌∷◌}
+use Rattle.std.specs.Prelude.{ℕ, ℤ, Bool, List}
 use Rattle.cel_value.specs.Values.{CelValue}
 
 mutual

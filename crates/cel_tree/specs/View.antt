@@ -3,6 +3,8 @@ use Rattle.std.specs.Prelude.{ℕ, ℤ, List, [], ◌∷◌, Option, Some, None,
 use Rattle.std.specs.Rc.{rc_slice_items}
 use Rattle.std.specs.FinMap.{FinMap, from_entries}
 use Rattle.std.specs.Ordering.{int_cmp}
+use Rattle.std.specs.declared.alloc.Global.{Global}
+use Rattle.std.specs.declared.boxed.Box.{Box}
 use Rattle.cel_value.specs.Texts.{text_view}
 use Rattle.cel_value.specs.Types.{type_view}
 use Rattle.cel_value.specs.Values.{CelValue, bool, int, uint, text, bytes}
@@ -110,6 +112,10 @@ tree_level (Tree-F.Comprehension id c) = loop_of id c.value
 -- the tree that a `Tree` stands for
 abbrev pub tree_view : Tree → CelTree
 tree_view = fold-Tree CelTree LoopParts EntryParts tree_level loop_level entry_level
+
+-- a tree in a box, where it is there
+abbrev pub boxed_view : Option (Box Tree Global) → Option CelTree
+boxed_view t = option_map (λ b. tree_view b.value) t
 
 -- trees one after the other
 abbrev pub trees_view : List Tree → CelTrees

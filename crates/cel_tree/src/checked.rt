@@ -1,7 +1,12 @@
 //! Checked expressions: a tree, and what is said of its nodes by their ids.
 
+ghost use Rattle.std.specs.Prelude.{◌≡◌, MatchResult, option_map};
+ghost use Rattle.std.specs.FinMap.{empty, get, insert};
+ghost use Rattle.cel_tree.specs.View.{reference_view, references_view, type_entry_view, types_view};
+
 use crate::tree::{Constant, Tree};
 use cel_value::CelType;
+use std::alloc::{AllocError, Global};
 use std::collections::BTreeMap;
 use std::rc::RcStr;
 
@@ -28,13 +33,13 @@ pub struct Reference {
 /// What a type map says of nodes, by their ids.
 #[derive(Drop)]
 pub struct TypeMap {
-    pub(crate) entries: BTreeMap<i64, TypeEntry>,
+    entries: BTreeMap<i64, TypeEntry>,
 }
 
 /// What a reference map says of nodes, by their ids.
 #[derive(Drop)]
 pub struct ReferenceMap {
-    pub(crate) entries: BTreeMap<i64, Reference>,
+    entries: BTreeMap<i64, Reference>,
 }
 
 /// A checked expression (`google.api.expr.v1alpha1.CheckedExpr`).
@@ -43,4 +48,60 @@ pub struct Checked {
     pub tree: Tree,
     pub types: TypeMap,
     pub refs: ReferenceMap,
+}
+
+impl TypeMap {
+    /// A map without entries.
+    pub fn new(alloc: Global) -> TypeMap
+        ensures { types_view result ≡ empty }
+    {
+        TypeMap {
+            entries: BTreeMap::new(alloc),
+        }
+    }
+
+    /// Puts an entry at an id, in the place of another; want of memory leaves all as it was.
+    pub fn insert(&mut self, id: i64, entry: TypeEntry) -> Result<(), AllocError>
+        ensures { MatchResult result
+            (λ done. types_view self.new ≡ insert (types_view self.old) id (type_entry_view entry))
+            (λ e. types_view self.new ≡ types_view self.old) }
+    {
+        self.entries.insert(id, entry)?;
+        Ok(())
+    }
+
+    /// What the map says of the node of this id.
+    pub fn get(&self, id: i64) -> Option<&TypeEntry>
+        ensures { option_map (λ entry. type_entry_view entry.now) result ≡ get (types_view self.now) id }
+    {
+        self.entries.get(&id)
+    }
+}
+
+impl ReferenceMap {
+    /// A map without entries.
+    pub fn new(alloc: Global) -> ReferenceMap
+        ensures { references_view result ≡ empty }
+    {
+        ReferenceMap {
+            entries: BTreeMap::new(alloc),
+        }
+    }
+
+    /// Puts an entry at an id, in the place of another; want of memory leaves all as it was.
+    pub fn insert(&mut self, id: i64, entry: Reference) -> Result<(), AllocError>
+        ensures { MatchResult result
+            (λ done. references_view self.new ≡ insert (references_view self.old) id (reference_view entry))
+            (λ e. references_view self.new ≡ references_view self.old) }
+    {
+        self.entries.insert(id, entry)?;
+        Ok(())
+    }
+
+    /// What the map says of the node of this id.
+    pub fn get(&self, id: i64) -> Option<&Reference>
+        ensures { option_map (λ entry. reference_view entry.now) result ≡ get (references_view self.now) id }
+    {
+        self.entries.get(&id)
+    }
 }

@@ -1,6 +1,7 @@
 //! What is asked of a message's fields: the last member of a oneof, a part that must be there.
 
 ghost use Rattle.std.specs.Prelude.{◌≡◌, ◌≢◌, [], map, OnOk, IfErr, MatchBool};
+ghost use Rattle.cel_value.specs.Types.{IsInt64};
 ghost use Rattle.proto_wire.specs.Fields.{field_view};
 ghost use Rattle.proto_wire.specs.Values.{payloads};
 ghost use Rattle.proto_wire.specs.declared.refusal.Refusal.TheVariants.{Missing};
@@ -32,4 +33,12 @@ pub(crate) fn require_part(fields: &[Field<'_>], number: u32) -> Result<(), Refu
         return Ok(());
     }
     Err(Refusal::Missing)
+}
+
+/// The number that is lent.
+pub(crate) fn number_of(number: &i64) -> i64
+    ensures value { result ≡ number.now }
+    ensures ranged { IsInt64 result }
+{
+    *number
 }

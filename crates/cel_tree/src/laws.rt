@@ -9,17 +9,14 @@ ghost use Rattle.cel_tree.specs.Message.{IsChecked, CheckedFault};
 /// Payloads are the message of a checked expression, or have a fault.
 pub fn checked_total()
     ensures { (parts : List (List ℕ)) → ((c : CelChecked) × IsChecked parts c) ⊎ ((e : Refusal) × CheckedFault parts e) }
-{
-}
+{}
 
 /// They are never both.
 pub fn checked_disjoint()
     ensures { (parts : List (List ℕ)) (c : CelChecked) (e : Refusal) → IsChecked parts c → CheckedFault parts e → ⊥ }
-{
-}
+{}
 
 /// They are the message of one checked expression at most.
 pub fn checked_unique()
     ensures { (parts : List (List ℕ)) (c d : CelChecked) → IsChecked parts c → IsChecked parts d → c ≡ d }
-{
-}
+{}

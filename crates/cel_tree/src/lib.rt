@@ -5,10 +5,21 @@ mod checked;
 mod constant;
 mod fields;
 pub mod laws;
+mod literals;
+mod loops;
+mod maps;
+mod message;
 mod node;
+mod operands;
+mod read;
 mod reference;
 mod tree;
+mod type_entry;
 mod type_node;
 
 pub use checked::{Checked, Reference, ReferenceMap, TypeEntry, TypeMap};
+pub use message::{read_checked, read_checked_parts};
 pub use tree::{Comprehension, Constant, Tree, TreeEntry};
+
+#[cfg(test)]
+mod tests;

@@ -1,13 +1,13 @@
 //! One message of a type, without the types inside it.
 
-ghost use Rattle.std.specs.Prelude.{◌≡◌, ◌≢◌, ◌⊎◌, [], Some, None, IfOk, IfErr, OnOk, MatchOption, map, option_map};
+ghost use Rattle.std.specs.Prelude.{◌≡◌, ◌≢◌, [], Some, None, IfOk, IfErr, OnOk, MatchOption, map};
 ghost use Rattle.proto_wire.specs.Fields.{field_view};
 ghost use Rattle.proto_wire.specs.Merge.{parts_view};
 ghost use Rattle.proto_wire.specs.Refusal.{MemoryOr};
 ghost use Rattle.proto_wire.specs.Values.{payloads};
 ghost use Rattle.proto_wire.specs.declared.refusal.Refusal.TheVariants.{OutOfRange};
 ghost use Rattle.cel_tree.specs.Reading.{last_number, member_in, Reads, ReadFault, ValuesFault, LacksNothing, OneofSays, Never, OneofFault};
-ghost use Rattle.cel_tree.specs.TypeEntries.{type_kinds, type_keys, list_type_keys, map_type_keys, elem_field, primitive_of, ListTypeSays, ListTypeWrong, MapTypeSays, MapTypeWrong, TypeSays, TypeFails, IsOfOtherKind, IsTypeNode, TypeNodeFault};
+ghost use Rattle.cel_tree.specs.TypeEntries.{type_kinds, type_keys, list_type_keys, map_type_keys, primitive_of, ListTypeSays, ListTypeWrong, MapTypeSays, MapTypeWrong, TypeSays, TypeFails, IsOfOtherKind, IsTypeNode, TypeNodeFault};
 ghost use Rattle.cel_tree.specs.View.{type_entry_view};
 ghost use Rattle.cel_tree.specs.steps.NodeViews.{type_node_view};
 
@@ -89,10 +89,7 @@ struct LastKind {
 }
 
 /// Reads a Type, whose message stands in the parts, without the types inside it.
-pub(crate) fn read_type_node<'a>(
-    alloc: Global,
-    parts: &[&'a [u8]],
-) -> Result<TypeNode<'a>, Refusal>
+pub(crate) fn read_type_node<'a>(alloc: Global, parts: &[&'a [u8]]) -> Result<TypeNode<'a>, Refusal>
     ensures found { IfOk result (λ node. IsTypeNode (parts_view parts.now) (type_node_view node)) }
     ensures fault { IfErr result (MemoryOr (TypeNodeFault (parts_view parts.now))) }
 {

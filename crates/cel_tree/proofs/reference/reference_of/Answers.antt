@@ -1,4 +1,4 @@
-use Rattle.std.proofs.Common.{◌≡◌, ℕ, List, map, inr, ap, ◌∙◌}
+use Rattle.std.proofs.Common.{◌≡◌, List, map, inr, ap, ◌∙◌}
 use Rattle.proto_wire.specs.Fields.{Wire, field_view}
 use Rattle.proto_wire.specs.Merge.{parts_view}
 use Rattle.proto_wire.specs.Values.{payloads}

@@ -1,0 +1,120 @@
+-- Maps from ids, as the code fills and reads them.
+use Rattle.std.proofs.Common.{◌≡◌, ℕ, ℤ, true, false, cond, List, [], ◌∷◌, ◌++◌, map, Option, Some, None, option_map, IsSomeAnd, MatchOption, Bor, refl, sym, ap, ◌∙◌}
+use Rattle.std.specs.BTreeMap.{insert_entry}
+use Rattle.std.specs.Cmp.{int_cmp_total}
+use Rattle.std.specs.FinMap.{FinMap, find, get, insert, empty, entries, from_entries, same_map, get-empty, get-entries, get-from_entries, get-insert, int_cmp-IsAntisymmetric}
+use Rattle.std.specs.FinMap.Entries.{put, by_order, find-put}
+use Rattle.std.specs.Map.{lookup}
+use Rattle.std.specs.Option.{option_copied}
+use Rattle.std.specs.Ordering.{int_cmp, eq_by_cmp, is_eq, match_ordering}
+use Rattle.std.specs.declared.cmp.Ordering.TheVariants.{Less, Equal, Greater}
+use Rattle.proto_wire.specs.Maps.{Entry, int64, AreValues}
+use Rattle.proto_wire.proofs.MapOrder.{tie}
+use Rattle.cel_tree.specs.steps.Named.{SomeValues}
+
+-- ---- entries, and what they stand for
+
+module _ {V X : Type 0} (view : V → X) where
+  -- the map that entries stand for
+  abbrev pub seen : List (ℤ × V) → FinMap int_cmp X
+  seen es = from_entries (map (λ e. (e.0, view e.1)) es)
+
+  view_insert : (es : List (ℤ × V)) (k : ℤ) (v : V)
+      → map (λ e. (e.0, view e.1)) (insert_entry int_cmp es k v) ≡ put int_cmp k (view v) (map (λ e. (e.0, view e.1)) es)
+  view_insert [] k v = refl
+  view_insert (e ∷ es) k v =
+      let rest : List (ℤ × X) = map (λ x. (x.0, view x.1)) es in
+      let new : ℤ × X = (k, view v) in
+      let old : ℤ × X = (e.0, view e.1) in
+      let over : ℤ × X = (e.0, view v) in
+      let put_in : ℤ × V = (k, v) in
+      let put_over : ℤ × V = (e.0, v) in
+      let seen_all : List (ℤ × V) → List (ℤ × X) = λ xs. map (λ x. (x.0, view x.1)) xs in
+      elim (int_cmp k e.0) as
+      (λ o. seen_all (match_ordering o (put_in ∷ e ∷ es) (put_over ∷ es) (e ∷ insert_entry int_cmp es k v))
+      ≡ by_order o (new ∷ old ∷ rest) (over ∷ rest) (old ∷ put int_cmp k (view v) rest)) [
+        | Less ↦ refl
+        | Equal ↦ refl
+        | Greater ↦ ap (λ xs. old ∷ xs) (view_insert es k v)
+      ]
+
+  -- one entry more
+  pub seen_insert : (es : List (ℤ × V)) (k : ℤ) (v : V) → seen (insert_entry int_cmp es k v) ≡ insert (seen es) k (view v)
+  seen_insert es k v = same_map int_cmp_total int_cmp-IsAntisymmetric _ _ (λ q.
+      get-from_entries int_cmp_total (map (λ e. (e.0, view e.1)) (insert_entry int_cmp es k v)) q
+      ∙ ap (find int_cmp q) (view_insert es k v)
+      ∙ find-put int_cmp int_cmp_total q k (view v) (map (λ e. (e.0, view e.1)) es)
+      ∙ ap (cond (eq_by_cmp int_cmp q k) (Some (view v))) (sym (get-from_entries int_cmp_total (map (λ e. (e.0, view e.1)) es) q))
+      ∙ sym (get-insert int_cmp_total (seen es) k (view v) q))
+
+  seen_find : (es : List (ℤ × V)) (k : ℤ)
+      → option_map view (lookup (λ x. is_eq (int_cmp k x)) es) ≡ find int_cmp k (map (λ e. (e.0, view e.1)) es)
+  seen_find [] k = refl
+  seen_find (e ∷ es) k = elim (is_eq (int_cmp k e.0)) as
+      (λ b. option_map view (cond b (Some e.1) (lookup (λ x. is_eq (int_cmp k x)) es))
+      ≡ cond b (Some (view e.1)) (find int_cmp k (map (λ x. (x.0, view x.1)) es))) [
+        | true ↦ refl
+        | false ↦ seen_find es k
+      ]
+
+  copied_map : (o : Option (Bor V)) → option_map (λ e. view e.now) o ≡ option_map view (option_copied o)
+  copied_map None = refl
+  copied_map (Some e) = refl
+
+  -- what stands at an id
+  pub seen_get : (es : List (ℤ × V)) (k : ℤ) (o : Option (Bor V)) → option_copied o ≡ lookup (λ x. is_eq (int_cmp k x)) es
+      → option_map (λ e. view e.now) o ≡ get (seen es) k
+  seen_get es k o is =
+      copied_map o ∙ ap (option_map view) is ∙ seen_find es k
+      ∙ sym (get-from_entries int_cmp_total (map (λ e. (e.0, view e.1)) es) k)
+
+-- ---- values
+
+module _ {V : Type 0} (IsValue : List (List ℕ) → V → Type 0) where
+  -- before the first
+  pub no_values : (whole : List (Entry int64)) (values : FinMap int_cmp V) → values ≡ empty → SomeValues IsValue whole [] values
+  no_values whole values is id = rw (is, get-empty {X = V} int_cmp id) refl
+
+  not_pushed : (read : List (Entry int64)) (k q : ℤ) (parts : List (List ℕ)) → eq_by_cmp int_cmp q k ≡ false
+      → find int_cmp q read ≡ None → find int_cmp q (read ++ (k, parts) ∷ []) ≡ None
+  not_pushed [] k q parts apart = λ none. rw apart refl
+  not_pushed (e ∷ read) k q parts apart = elim (eq_by_cmp int_cmp q e.0) as
+      (λ b. cond b (Some e.1) (find int_cmp q read) ≡ None → cond b (Some e.1) (find int_cmp q (read ++ (k, parts) ∷ [])) ≡ None) [
+        | true ↦ λ none. none
+        | false ↦ λ none. not_pushed read k q parts apart none
+      ]
+
+  -- one value more
+  pub some_more : (whole read : List (Entry int64)) (values : FinMap int_cmp V) (k : ℤ) (parts : List (List ℕ)) (v : V)
+      → SomeValues IsValue whole read values → find int_cmp k whole ≡ Some parts → IsValue parts v
+      → SomeValues IsValue whole (read ++ (k, parts) ∷ []) (insert values k v)
+  some_more whole read values k parts v so_far at is id =
+      rw (get-insert int_cmp_total values k v id)
+      (elim (eq_by_cmp int_cmp id k) as (λ b. eq_by_cmp int_cmp id k ≡ b
+      → MatchOption (cond b (Some v) (get values id)) (find int_cmp id (read ++ (k, parts) ∷ []) ≡ None)
+      (λ w. IsSomeAnd (find int_cmp id whole) (λ ps. IsValue ps w))) [
+        | true ↦ λ tied.
+            let same : id ≡ k = tie int_cmp int_cmp_total int_cmp-IsAntisymmetric id k tied in
+            rw (ap (λ x. find int_cmp x whole) same ∙ at) is
+        | false ↦ λ apart. elim (get values id) as (λ o.
+            MatchOption o (find int_cmp id read ≡ None) (λ w. IsSomeAnd (find int_cmp id whole) (λ ps. IsValue ps w))
+            → MatchOption o (find int_cmp id (read ++ (k, parts) ∷ []) ≡ None)
+            (λ w. IsSomeAnd (find int_cmp id whole) (λ ps. IsValue ps w))) [
+              | None ↦ λ none. not_pushed read k id parts apart none
+              | Some w ↦ λ h. h
+            ] (so_far id)
+      ] refl)
+
+  value_at : (found : Option (List (List ℕ))) (value : Option V)
+      → MatchOption value (found ≡ None) (λ v. IsSomeAnd found (λ parts. IsValue parts v))
+      → MatchOption found (value ≡ None) (λ parts. IsSomeAnd value (IsValue parts))
+  value_at None None h = refl
+  value_at None (Some v) h = absurd h
+  value_at (Some parts) None h = let clash : Some parts ≡ None = h in absurd cc
+  value_at (Some parts) (Some v) h = h
+
+  -- after the last
+  pub all_values : (named : FinMap int_cmp (List (List ℕ))) (values : FinMap int_cmp V)
+      → SomeValues IsValue (entries named) (entries named) values → AreValues int64 IsValue named values
+  all_values named values are id =
+      rw (get-entries named id) (value_at (find int_cmp id (entries named)) (get values id) (are id))

@@ -1,0 +1,59 @@
+-- Trees inside a node, as they are read one after the other: where they read, the nodes that are
+-- left and theirs are those that were left before.
+use Rattle.std.specs.Prelude.{◌≡◌, ◌⊎◌, ◌+◌, ℕ, ℤ, List, [], ◌∷◌, Option, Some, None}
+use Rattle.proto_wire.specs.declared.refusal.Refusal.{Refusal}
+use Rattle.cel_tree.specs.Tree.{CelTree, CelTrees, CelTreeEntries, no_tree_entries, tree_entry}
+use Rattle.cel_tree.specs.Nodes.{Parts, EntryNode, LoopNode, Node, children}
+use Rattle.cel_tree.specs.Trees.{IsTree, AreTrees, Makes, TreeFault, NodesFault, node_count, trees_count, entries_count}
+use Rattle.cel_tree.specs.View.{LoopParts}
+
+-- a tree has a fault, or more nodes than are left
+abbrev pub TreeFails : ℕ → ℕ → Parts → Refusal → Type 0
+TreeFails depth left parts e = TreeFault depth parts e ⊎ NodesFault depth left parts e
+
+-- so does the first of the trees that does not read
+abbrev pub SomeFails : ℕ → ℕ → List Parts → Refusal → Type 0
+SomeFails depth left [] e = ⊥
+SomeFails depth left (child ∷ children) e = TreeFails depth left child e
+    ⊎ ((t : CelTree) × (rest : ℕ) × IsTree depth child t × (rest + node_count t ≡ left)
+    × SomeFails depth rest children e)
+
+-- the node with its trees inside is this tree
+abbrev pub Inside : ℕ → ℤ → Node → CelTree → ℕ → ℕ → Type 0
+Inside depth id node t rest left = (ts : CelTrees) × AreTrees (IsTree depth) (children node) ts
+    × Makes id node ts t × (rest + trees_count ts ≡ left)
+
+-- the target of a call is this tree, or is not there
+abbrev pub IsTarget : ℕ → Parts → Option CelTree → Type 0
+IsTarget depth [] None = Unit {0}
+IsTarget depth (part ∷ parts) (Some t) = IsTree depth (part ∷ parts) t
+IsTarget depth _ _ = ⊥
+
+abbrev pub target_nodes : Option CelTree → ℕ
+target_nodes None = 0
+target_nodes (Some t) = node_count t
+
+-- the keys and values of entries are trees
+abbrev pub EntryTrees : ℕ → List EntryNode → CelTreeEntries → Type 0
+EntryTrees depth [] no_tree_entries = Unit {0}
+EntryTrees depth (e ∷ es) (tree_entry id key value others) = (id ≡ e.id)
+    × IsTree depth e.key key × IsTree depth e.value value × EntryTrees depth es others
+EntryTrees depth _ _ = ⊥
+
+abbrev pub AreEntryTrees : ℕ → List EntryNode → CelTreeEntries → ℕ → ℕ → Type 0
+AreEntryTrees depth es entries rest left =
+    EntryTrees depth es entries × (rest + entries_count entries ≡ left)
+
+-- the parts of a comprehension are trees
+pub record AreLoopTrees (depth : ℕ) (node : LoopNode) (parts : LoopParts) (rest : ℕ) (left : ℕ)
+    : Type 0 where
+  pub iter_var : parts.iter_var ≡ node.iter_var
+  pub accu_var : parts.accu_var ≡ node.accu_var
+  pub iter_range : IsTree depth node.iter_range parts.iter_range
+  pub accu_init : IsTree depth node.accu_init parts.accu_init
+  pub loop_condition : IsTree depth node.loop_condition parts.loop_condition
+  pub loop_step : IsTree depth node.loop_step parts.loop_step
+  pub result : IsTree depth node.result parts.result
+  pub count : rest + (node_count parts.iter_range + (node_count parts.accu_init
+      + (node_count parts.loop_condition + (node_count parts.loop_step
+      + node_count parts.result)))) ≡ left

@@ -1,0 +1,18 @@
+-- The values of a map from ids to payloads, as they are read one after the other.
+use Rattle.std.specs.Prelude.{◌≡◌, ℕ, ℤ, List, None, MatchOption, IsSomeAnd}
+use Rattle.std.specs.Borrow.{Bor}
+use Rattle.std.specs.FinMap.{FinMap, find, get}
+use Rattle.std.specs.Ordering.{int_cmp}
+use Rattle.std.specs.declared.alloc.Global.{Global}
+use Rattle.std.specs.declared.vec.Vec.{Vec}
+use Rattle.proto_wire.specs.Maps.{Entry, int64, entries_view}
+
+-- the ids of a map with the payloads at each, in order
+abbrev pub ids_view : List (ℤ × Vec (Bor (List ℕ)) Global) → List (Entry int64)
+ids_view = entries_view int64 (λ id. id)
+
+-- each value is that of its id's payloads, and each id that was read has one
+abbrev pub SomeValues : {V : Type 0} → (List (List ℕ) → V → Type 0) → (whole read : List (Entry int64))
+    → FinMap int_cmp V → Type 0
+SomeValues IsValue whole read values = (id : ℤ) → MatchOption (get values id)
+    (find int_cmp id read ≡ None) (λ v. IsSomeAnd (find int_cmp id whole) (λ parts. IsValue parts v))

@@ -1,0 +1,208 @@
+//! The messages CreateList, CreateStruct and its Entry, without the expressions inside them.
+
+ghost use Rattle.std.specs.Prelude.{◌≡◌, ◌≢◌, ℕ, List, [], true, false, Some, IfOk, IfErr, OnOk, MatchOption, Contains, map};
+ghost use Rattle.proto_wire.specs.Fields.{field_view};
+ghost use Rattle.proto_wire.specs.Merge.{parts_view};
+ghost use Rattle.proto_wire.specs.Refusal.{MemoryOr};
+ghost use Rattle.proto_wire.specs.Values.{has_field, bool_at, bytes_at};
+ghost use Rattle.proto_wire.specs.declared.refusal.Refusal.TheVariants.{Missing, Unsupported};
+ghost use Rattle.cel_tree.specs.Nodes.{list_keys, ListSays, ListWrong, key_members, map_key_field, entry_keys, EntrySays, EntryLacks, EntryWrong, IsEntry, EntryFault, AreEntries, struct_keys, StructSays, StructWrong};
+ghost use Rattle.cel_tree.specs.Reading.{Reads, ReadFault, ValuesFault, LacksNothing, last_number};
+ghost use Rattle.cel_tree.specs.steps.NodeViews.{node_view};
+ghost use Rattle.cel_tree.specs.steps.EntryViews.{entry_node_view, entry_nodes_view};
+
+use crate::fields::{last_number, require_part};
+use crate::node::Node;
+use proto_wire::{
+    Field, Key, Refusal, bool_at, bytes_at, has_field, int64_at, keys, member_run, payloads_of,
+    read_message,
+};
+use std::alloc::Global;
+
+/// The fields of a CreateList.
+const ELEMENTS: u32 = 1;
+
+const OPTIONAL_INDICES: u32 = 2;
+
+/// The fields of a CreateStruct.
+const MESSAGE_NAME: u32 = 1;
+
+const ENTRIES: u32 = 2;
+
+/// The fields of an Entry.
+const ID: u32 = 1;
+
+const FIELD_KEY: u32 = 2;
+
+const MAP_KEY: u32 = 3;
+
+const VALUE: u32 = 4;
+
+const OPTIONAL_ENTRY: u32 = 5;
+
+static LIST: [Key; 3] = keys![Len ELEMENTS, Len OPTIONAL_INDICES, Varint OPTIONAL_INDICES];
+
+static STRUCT: [Key; 2] = keys![Len MESSAGE_NAME, Len ENTRIES];
+
+static ENTRY: [Key; 5] =
+    keys![Varint ID, Len FIELD_KEY, Len MAP_KEY, Len VALUE, Varint OPTIONAL_ENTRY];
+
+static ENTRY_KEY: [Key; 2] = keys![Len FIELD_KEY, Len MAP_KEY];
+
+/// An entry whose own message is read, with the parts of its key and of its value.
+#[derive(Drop)]
+pub(crate) struct EntryNode<'a> {
+    pub id: i64,
+    pub key: Vec<&'a [u8]>,
+    pub value: Vec<&'a [u8]>,
+}
+
+/// Reads a CreateList, whose message stands in the parts.
+pub(crate) fn read_list<'a>(alloc: Global, parts: &[&'a [u8]]) -> Result<Node<'a>, Refusal>
+    ensures found { IfOk result (λ node. Reads list_keys ListSays (parts_view parts.now) (node_view node)) }
+    ensures fault { IfErr result (MemoryOr (ReadFault list_keys LacksNothing ListWrong (parts_view parts.now))) }
+{
+    let fields = read_message(alloc, parts, list_keys())?;
+    list_of(alloc, &fields)
+}
+
+/// The node that the fields of a CreateList say.
+fn list_of<'a>(alloc: Global, fields: &[Field<'a>]) -> Result<Node<'a>, Refusal>
+    ensures found { IfOk result (λ node. ListSays (map field_view fields.now) (node_view node)) }
+    ensures fault { IfErr result (MemoryOr (ValuesFault LacksNothing ListWrong (map field_view fields.now))) }
+{
+    refuse_optional_elements(fields)?;
+    Ok(Node::List(payloads_of(alloc, fields, ELEMENTS)?))
+}
+
+/// Refuses a list that says which of its elements are optional.
+fn refuse_optional_elements(fields: &[Field<'_>]) -> Result<(), Refusal>
+    ensures found { OnOk result (has_field 2 (map field_view fields.now) ≡ false) }
+    ensures fault { IfErr result (λ e. (has_field 2 (map field_view fields.now) ≡ true) × (e ≡ Unsupported)) }
+{
+    if has_field(fields, OPTIONAL_INDICES) {
+        return Err(Refusal::Unsupported);
+    }
+    Ok(())
+}
+
+/// Reads a CreateStruct, whose message stands in the parts.
+pub(crate) fn read_struct<'a>(alloc: Global, parts: &[&'a [u8]]) -> Result<Node<'a>, Refusal>
+    ensures found { IfOk result (λ node. Reads struct_keys StructSays (parts_view parts.now) (node_view node)) }
+    ensures fault { IfErr result (MemoryOr (ReadFault struct_keys LacksNothing StructWrong (parts_view parts.now))) }
+{
+    let fields = read_message(alloc, parts, struct_keys())?;
+    struct_of(alloc, &fields)
+}
+
+/// The node that the fields of a CreateStruct say.
+fn struct_of<'a>(alloc: Global, fields: &[Field<'a>]) -> Result<Node<'a>, Refusal>
+    ensures found { IfOk result (λ node. StructSays (map field_view fields.now) (node_view node)) }
+    ensures fault { IfErr result (MemoryOr (ValuesFault LacksNothing StructWrong (map field_view fields.now))) }
+{
+    refuse_message(fields)?;
+    let payloads = payloads_of(alloc, fields, ENTRIES)?;
+    let entries = read_entries(alloc, &payloads)?;
+    Ok(Node::Map(entries))
+}
+
+/// Refuses the construction of a message, which has a name.
+fn refuse_message(fields: &[Field<'_>]) -> Result<(), Refusal>
+    ensures found { OnOk result (bytes_at 1 (map field_view fields.now) ≡ []) }
+    ensures fault { IfErr result (λ e. (bytes_at 1 (map field_view fields.now) ≢ []) × (e ≡ Unsupported)) }
+{
+    if bytes_at(fields, MESSAGE_NAME).is_empty() {
+        return Ok(());
+    }
+    Err(Refusal::Unsupported)
+}
+
+/// Reads the entries of a map literal, of which each has one payload.
+fn read_entries<'a>(alloc: Global, payloads: &[&'a [u8]]) -> Result<Vec<EntryNode<'a>>, Refusal>
+    ensures found { IfOk result (λ entries. AreEntries (parts_view payloads.now) (entry_nodes_view entries.items)) }
+    ensures fault { IfErr result (MemoryOr (λ e.
+        (payload : List ℕ) × Contains (parts_view payloads.now) payload × EntryFault payload e)) }
+{
+    let mut entries = Vec::new(alloc);
+    for payload in payloads {
+        let entry = read_entry(alloc, payload)?;
+        entries.push(entry)?;
+    }
+    Ok(entries)
+}
+
+/// Reads an Entry, whose message is the payload.
+fn read_entry<'a>(alloc: Global, payload: &'a [u8]) -> Result<EntryNode<'a>, Refusal>
+    ensures found { IfOk result (λ entry. IsEntry payload.now (entry_node_view entry)) }
+    ensures fault { IfErr result (MemoryOr (EntryFault payload.now)) }
+{
+    let fields = read_message(alloc, &[payload], entry_keys())?;
+    entry_of(alloc, &fields)
+}
+
+/// The entry that the fields say.
+fn entry_of<'a>(alloc: Global, fields: &[Field<'a>]) -> Result<EntryNode<'a>, Refusal>
+    ensures found { IfOk result (λ entry. EntrySays (map field_view fields.now) (entry_node_view entry)) }
+    ensures fault { IfErr result (MemoryOr (ValuesFault EntryLacks EntryWrong (map field_view fields.now))) }
+{
+    refuse_optional_entry(fields)?;
+    require_map_key(fields)?;
+    require_part(fields, VALUE)?;
+    let run = member_run(alloc, fields, key_members())?;
+    let key = payloads_of(alloc, &run, MAP_KEY)?;
+    let value = payloads_of(alloc, fields, VALUE)?;
+    let id = int64_at(fields, ID);
+    Ok(EntryNode { id, key, value })
+}
+
+/// Refuses an entry that is optional.
+fn refuse_optional_entry(fields: &[Field<'_>]) -> Result<(), Refusal>
+    ensures found { OnOk result (bool_at 5 (map field_view fields.now) ≡ false) }
+    ensures fault { IfErr result (λ e. (bool_at 5 (map field_view fields.now) ≡ true) × (e ≡ Unsupported)) }
+{
+    if bool_at(fields, OPTIONAL_ENTRY) {
+        return Err(Refusal::Unsupported);
+    }
+    Ok(())
+}
+
+/// Refuses an entry without a key, and one whose key is that of a message.
+fn require_map_key(fields: &[Field<'_>]) -> Result<(), Refusal>
+    ensures found { OnOk result (last_number key_members (map field_view fields.now) ≡ Some map_key_field) }
+    ensures fault { IfErr result (λ e. MatchOption (last_number key_members (map field_view fields.now))
+        (e ≡ Missing) (λ n. (n ≢ map_key_field) × (e ≡ Unsupported))) }
+{
+    match last_number(fields, key_members()) {
+        Some(MAP_KEY) => Ok(()),
+        Some(_) => Err(Refusal::Unsupported),
+        None => Err(Refusal::Missing),
+    }
+}
+
+/// The fields of a CreateList.
+fn list_keys() -> &'static [Key]
+    ensures { result.now ≡ list_keys }
+{
+    &LIST
+}
+
+/// The fields of a CreateStruct.
+fn struct_keys() -> &'static [Key]
+    ensures { result.now ≡ struct_keys }
+{
+    &STRUCT
+}
+
+/// The fields of an Entry.
+fn entry_keys() -> &'static [Key]
+    ensures { result.now ≡ entry_keys }
+{
+    &ENTRY
+}
+
+/// The members of its oneof.
+fn key_members() -> &'static [Key]
+    ensures { result.now ≡ key_members }
+{
+    &ENTRY_KEY
+}

@@ -1,0 +1,118 @@
+//! The message Comprehension, without the expressions inside it.
+
+ghost use Rattle.std.specs.Prelude.{◌≡◌, ◌≢◌, [], IfOk, IfErr, OnOk, map};
+ghost use Rattle.proto_wire.specs.Fields.{field_view};
+ghost use Rattle.proto_wire.specs.Merge.{parts_view};
+ghost use Rattle.proto_wire.specs.Refusal.{MemoryOr};
+ghost use Rattle.proto_wire.specs.Values.{bytes_at};
+ghost use Rattle.proto_wire.specs.declared.refusal.Refusal.TheVariants.{Missing, Unsupported};
+ghost use Rattle.cel_tree.specs.Nodes.{loop_keys, NamesRead, PartsThere, LacksPart, LoopSays, LoopLacks, LoopWrong};
+ghost use Rattle.cel_tree.specs.Reading.{Reads, ReadFault, ValuesFault};
+ghost use Rattle.cel_tree.specs.steps.NodeViews.{node_view};
+
+use crate::fields::require_part;
+use crate::node::Node;
+use proto_wire::{Field, Key, Refusal, bytes_at, keys, payloads_of, read_message, text_at};
+use std::alloc::Global;
+use std::rc::RcStr;
+
+const ITER_VAR: u32 = 1;
+
+const ITER_RANGE: u32 = 2;
+
+const ACCU_VAR: u32 = 3;
+
+const ACCU_INIT: u32 = 4;
+
+const LOOP_CONDITION: u32 = 5;
+
+const LOOP_STEP: u32 = 6;
+
+const RESULT: u32 = 7;
+
+const ITER_VAR2: u32 = 8;
+
+static COMPREHENSION: [Key; 8] = keys![
+    Len ITER_VAR, Len ITER_RANGE, Len ACCU_VAR, Len ACCU_INIT, Len LOOP_CONDITION, Len LOOP_STEP,
+    Len RESULT, Len ITER_VAR2
+];
+
+/// A comprehension whose own message is read, with the parts of the expressions inside it.
+#[derive(Drop)]
+pub(crate) struct LoopNode<'a> {
+    pub iter_var: RcStr,
+    pub accu_var: RcStr,
+    pub iter_range: Vec<&'a [u8]>,
+    pub accu_init: Vec<&'a [u8]>,
+    pub loop_condition: Vec<&'a [u8]>,
+    pub loop_step: Vec<&'a [u8]>,
+    pub result: Vec<&'a [u8]>,
+}
+
+/// Reads a Comprehension, whose message stands in the parts.
+pub(crate) fn read_loop<'a>(alloc: Global, parts: &[&'a [u8]]) -> Result<Node<'a>, Refusal>
+    ensures found { IfOk result (λ node. Reads loop_keys LoopSays (parts_view parts.now) (node_view node)) }
+    ensures fault { IfErr result (MemoryOr (ReadFault loop_keys LoopLacks LoopWrong (parts_view parts.now))) }
+{
+    let fields = read_message(alloc, parts, loop_keys())?;
+    loop_of(alloc, &fields)
+}
+
+/// The node that the fields of a Comprehension say.
+fn loop_of<'a>(alloc: Global, fields: &[Field<'a>]) -> Result<Node<'a>, Refusal>
+    ensures found { IfOk result (λ node. LoopSays (map field_view fields.now) (node_view node)) }
+    ensures fault { IfErr result (MemoryOr (ValuesFault LoopLacks LoopWrong (map field_view fields.now))) }
+{
+    require_names(fields)?;
+    require_parts(fields)?;
+    let node = LoopNode {
+        iter_var: RcStr::from_str(alloc, text_at(fields, ITER_VAR)?)?,
+        accu_var: RcStr::from_str(alloc, text_at(fields, ACCU_VAR)?)?,
+        iter_range: payloads_of(alloc, fields, ITER_RANGE)?,
+        accu_init: payloads_of(alloc, fields, ACCU_INIT)?,
+        loop_condition: payloads_of(alloc, fields, LOOP_CONDITION)?,
+        loop_step: payloads_of(alloc, fields, LOOP_STEP)?,
+        result: payloads_of(alloc, fields, RESULT)?,
+    };
+    Ok(Node::Comprehension(node))
+}
+
+/// Refuses names that are no texts, and a second name of the element.
+fn require_names(fields: &[Field<'_>]) -> Result<(), Refusal>
+    ensures found { OnOk result (NamesRead (map field_view fields.now)) }
+    ensures fault { IfErr result (LoopWrong (map field_view fields.now)) }
+{
+    text_at(fields, ITER_VAR)?;
+    text_at(fields, ACCU_VAR)?;
+    refuse_second_name(fields)
+}
+
+/// Refuses a comprehension with two names of the element.
+fn refuse_second_name(fields: &[Field<'_>]) -> Result<(), Refusal>
+    ensures found { OnOk result (bytes_at 8 (map field_view fields.now) ≡ []) }
+    ensures fault { IfErr result (λ e. (bytes_at 8 (map field_view fields.now) ≢ []) × (e ≡ Unsupported)) }
+{
+    if bytes_at(fields, ITER_VAR2).is_empty() {
+        return Ok(());
+    }
+    Err(Refusal::Unsupported)
+}
+
+/// Refuses a comprehension without one of its parts.
+fn require_parts(fields: &[Field<'_>]) -> Result<(), Refusal>
+    ensures found { OnOk result (PartsThere (map field_view fields.now)) }
+    ensures fault { IfErr result (λ e. LacksPart (map field_view fields.now) × (e ≡ Missing)) }
+{
+    require_part(fields, ITER_RANGE)?;
+    require_part(fields, ACCU_INIT)?;
+    require_part(fields, LOOP_CONDITION)?;
+    require_part(fields, LOOP_STEP)?;
+    require_part(fields, RESULT)
+}
+
+/// The fields of a Comprehension.
+fn loop_keys() -> &'static [Key]
+    ensures { result.now ≡ loop_keys }
+{
+    &COMPREHENSION
+}

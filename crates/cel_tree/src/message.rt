@@ -1,0 +1,87 @@
+//! The reading of a checked expression (`google.api.expr.v1alpha1.CheckedExpr`).
+
+ghost use Rattle.std.specs.Prelude.{◌≡◌, ◌≤◌, [], ◌∷◌, IfOk, IfErr, map};
+ghost use Rattle.proto_wire.specs.Fields.{field_view};
+ghost use Rattle.proto_wire.specs.Merge.{parts_view};
+ghost use Rattle.proto_wire.specs.Refusal.{MemoryOr};
+ghost use Rattle.proto_wire.specs.Values.{payloads};
+ghost use Rattle.cel_tree.specs.Message.{checked_keys, expr_field, most_nodes, tree_depth, CheckedSays, CheckedLacks, CheckedWrong, IsChecked, CheckedFault};
+ghost use Rattle.cel_tree.specs.Reading.{ValuesFault};
+ghost use Rattle.cel_tree.specs.Trees.{IsTree, node_count};
+ghost use Rattle.cel_tree.specs.View.{checked_view, tree_view};
+ghost use Rattle.cel_tree.specs.steps.Inside.{TreeFails};
+
+use crate::checked::Checked;
+use crate::fields::require_part;
+use crate::maps::{TREE_DEPTH, references_of, types_of};
+use crate::read::read_tree;
+use crate::tree::Tree;
+use proto_wire::{Field, Key, Refusal, keys, payloads_of, read_message};
+use std::alloc::Global;
+
+/// How many nodes a tree may have.
+const MOST_NODES: u32 = 2048;
+
+const REFERENCE_MAP: u32 = 2;
+
+const TYPE_MAP: u32 = 3;
+
+const EXPR: u32 = 4;
+
+const SOURCE_INFO: u32 = 5;
+
+const EXPR_VERSION: u32 = 6;
+
+static CHECKED: [Key; 5] = keys![
+    Len REFERENCE_MAP, Len TYPE_MAP, Len EXPR, Len SOURCE_INFO, Len EXPR_VERSION
+];
+
+/// Reads the message of a checked expression: its tree, and both maps. It is taken whole or refused, for a fault that is
+/// there: `BadWire`, `BadText`, `UnknownField`, `Missing`, `OutOfRange`, `Unsupported` or `TooLarge`; or for want of
+/// memory.
+pub fn read_checked(alloc: Global, bytes: &[u8]) -> Result<Checked, Refusal>
+    ensures found { IfOk result (λ c. IsChecked (bytes.now ∷ []) (checked_view c)) }
+    ensures fault { IfErr result (MemoryOr (CheckedFault (bytes.now ∷ []))) }
+{
+    read_checked_parts(alloc, &[bytes])
+}
+
+/// The same of a message that stands in several payloads, each of them whole fields by itself.
+pub fn read_checked_parts(alloc: Global, parts: &[&[u8]]) -> Result<Checked, Refusal>
+    ensures found { IfOk result (λ c. IsChecked (parts_view parts.now) (checked_view c)) }
+    ensures fault { IfErr result (MemoryOr (CheckedFault (parts_view parts.now))) }
+{
+    let fields = read_message(alloc, parts, checked_keys())?;
+    checked_of(alloc, &fields)
+}
+
+/// The checked expression that the fields say.
+fn checked_of(alloc: Global, fields: &[Field<'_>]) -> Result<Checked, Refusal>
+    ensures found { IfOk result (λ c. CheckedSays (map field_view fields.now) (checked_view c)) }
+    ensures fault { IfErr result (MemoryOr (ValuesFault CheckedLacks CheckedWrong (map field_view fields.now))) }
+{
+    require_part(fields, EXPR)?;
+    let tree = tree_of(alloc, fields)?;
+    let types = types_of(alloc, fields)?;
+    let refs = references_of(alloc, fields)?;
+    Ok(Checked { tree, types, refs })
+}
+
+/// The tree of the fields.
+fn tree_of(alloc: Global, fields: &[Field<'_>]) -> Result<Tree, Refusal>
+    ensures found { IfOk result (λ t. IsTree tree_depth (payloads expr_field (map field_view fields.now)) (tree_view t)
+        × (node_count (tree_view t) ≤ most_nodes)) }
+    ensures fault { IfErr result (MemoryOr
+        (TreeFails tree_depth most_nodes (payloads expr_field (map field_view fields.now)))) }
+{
+    let parts = payloads_of(alloc, fields, EXPR)?;
+    let mut left = MOST_NODES;
+    read_tree(alloc, &parts, TREE_DEPTH, &mut left)
+}
+
+/// The fields of a CheckedExpr.
+fn checked_keys() -> &'static [Key]
+    ensures { result.now ≡ checked_keys }
+{
+    &CHECKED
+}

@@ -1,0 +1,202 @@
+//! The reading of trees, down to a depth and to a number of nodes.
+
+ghost use Rattle.std.specs.Prelude.{◌≡◌, ◌+◌, IfOk, IfErr, OnOk};
+ghost use Rattle.proto_wire.specs.Merge.{parts_view};
+ghost use Rattle.proto_wire.specs.Refusal.{MemoryOr};
+ghost use Rattle.proto_wire.specs.declared.refusal.Refusal.TheVariants.{TooLarge};
+ghost use Rattle.cel_tree.specs.Nodes.{children, entry_children, if_there, loop_children, singles};
+ghost use Rattle.cel_tree.specs.Trees.{IsTree, AreTrees, node_count, trees_count};
+ghost use Rattle.cel_tree.specs.View.{tree_view, trees_view, tree_entries_view, loop_view, boxed_view};
+ghost use Rattle.cel_tree.specs.steps.EntryViews.{entry_nodes_view};
+ghost use Rattle.cel_tree.specs.steps.Inside.{AreEntryTrees, AreLoopTrees, Inside, IsTarget, SomeFails, TreeFails, target_nodes};
+ghost use Rattle.cel_tree.specs.steps.NodeViews.{loop_node_view, node_view};
+
+use crate::fields::number_of;
+use crate::literals::EntryNode;
+use crate::loops::LoopNode;
+use crate::node::{Node, read_node};
+use crate::tree::{Comprehension, Tree, TreeEntry};
+use crate::type_entry::require_level;
+use proto_wire::Refusal;
+use std::alloc::Global;
+
+/// Reads a tree of at most `depth` levels and `left` nodes, whose message stands in the parts. Depth and number are
+/// looked at before anything of a node is read.
+#[cycle(read)]
+pub(crate) fn read_tree(
+    alloc: Global,
+    parts: &[&[u8]],
+    depth: u32,
+    left: &mut u32,
+) -> Result<Tree, Refusal>
+    ensures found { IfOk result (λ t. IsTree depth (parts_view parts.now) (tree_view t)
+        × (left.new + node_count (tree_view t) ≡ left.old)) }
+    ensures fault { IfErr result (MemoryOr (TreeFails depth left.old (parts_view parts.now))) }
+{
+    require_level(depth)?;
+    take_node(left)?;
+    let (id, node) = read_node(alloc, parts)?;
+    read_inside(alloc, id, node, depth - 1, left)
+}
+
+/// Reads the trees inside a node; each may have `depth` levels.
+#[cycle(read)]
+fn read_inside(
+    alloc: Global,
+    id: i64,
+    node: Node<'_>,
+    depth: u32,
+    left: &mut u32,
+) -> Result<Tree, Refusal>
+    ensures found { IfOk result (λ t. Inside depth id (node_view node.entry) (tree_view t) left.new left.old) }
+    ensures fault { IfErr result (MemoryOr (SomeFails depth left.old (children (node_view node.entry)))) }
+{
+    match node {
+        Node::Constant(value) => Ok(Tree::Constant { id, value }),
+        Node::Ident(name) => Ok(Tree::Ident { id, name }),
+        Node::Select {
+            operand,
+            field,
+            test_only,
+        } => {
+            let operand = read_tree(alloc, &operand, depth, left)?;
+            let operand = Box::new(alloc, operand)?;
+            Ok(Tree::Select {
+                id,
+                operand,
+                field,
+                test_only,
+            })
+        }
+        Node::Call {
+            function,
+            target,
+            args,
+        } => {
+            let target = read_target(alloc, &target, depth, left)?;
+            let args = read_trees(alloc, &args, depth, left)?;
+            Ok(Tree::Call {
+                id,
+                function,
+                target,
+                args,
+            })
+        }
+        Node::List(elements) => {
+            let elements = read_trees(alloc, &elements, depth, left)?;
+            Ok(Tree::List { id, elements })
+        }
+        Node::Map(entries) => {
+            let entries = read_entry_trees(alloc, &entries, depth, left)?;
+            Ok(Tree::Map { id, entries })
+        }
+        Node::Comprehension(node) => {
+            let parts = read_loop_trees(alloc, &node, depth, left)?;
+            let parts = Box::new(alloc, parts)?;
+            Ok(Tree::Comprehension { id, parts })
+        }
+    }
+}
+
+/// Reads the target of a call; none where there is no part of it.
+#[cycle(read)]
+fn read_target(
+    alloc: Global,
+    parts: &[&[u8]],
+    depth: u32,
+    left: &mut u32,
+) -> Result<Option<Box<Tree>>, Refusal>
+    ensures found { IfOk result (λ t. IsTarget depth (parts_view parts.now) (boxed_view t)
+        × (left.new + target_nodes (boxed_view t) ≡ left.old)) }
+    ensures fault { IfErr result (MemoryOr (SomeFails depth left.old (if_there (parts_view parts.now)))) }
+{
+    if parts.is_empty() {
+        return Ok(None);
+    }
+    let target = read_tree(alloc, parts, depth, left)?;
+    Ok(Some(Box::new(alloc, target)?))
+}
+
+/// Reads trees, of which each has one payload.
+#[cycle(read)]
+fn read_trees(
+    alloc: Global,
+    payloads: &[&[u8]],
+    depth: u32,
+    left: &mut u32,
+) -> Result<Vec<Tree>, Refusal>
+    ensures found { IfOk result (λ v. AreTrees (IsTree depth) (singles (parts_view payloads.now)) (trees_view v.items)
+        × (left.new + trees_count (trees_view v.items) ≡ left.old)) }
+    ensures fault { IfErr result (MemoryOr (SomeFails depth left.old (singles (parts_view payloads.now)))) }
+{
+    let mut trees = Vec::new(alloc);
+    for payload in payloads {
+        let tree = read_tree(alloc, &[*payload], depth, left)?;
+        trees.push(tree)?;
+    }
+    Ok(trees)
+}
+
+/// Reads the keys and values of a map literal's entries.
+#[cycle(read)]
+fn read_entry_trees(
+    alloc: Global,
+    nodes: &[EntryNode<'_>],
+    depth: u32,
+    left: &mut u32,
+) -> Result<Vec<TreeEntry>, Refusal>
+    ensures found { IfOk result (λ v.
+        AreEntryTrees depth (entry_nodes_view nodes.now) (tree_entries_view v.items) left.new left.old) }
+    ensures fault { IfErr result (MemoryOr (SomeFails depth left.old (entry_children (entry_nodes_view nodes.now)))) }
+{
+    let mut entries = Vec::new(alloc);
+    for node in nodes {
+        let key = read_tree(alloc, &node.key, depth, left)?;
+        let value = read_tree(alloc, &node.value, depth, left)?;
+        entries.push(TreeEntry {
+            id: number_of(&node.id),
+            key,
+            value,
+        })?;
+    }
+    Ok(entries)
+}
+
+/// Reads the trees of a comprehension.
+#[cycle(read)]
+fn read_loop_trees(
+    alloc: Global,
+    node: &LoopNode<'_>,
+    depth: u32,
+    left: &mut u32,
+) -> Result<Comprehension, Refusal>
+    ensures found { IfOk result (λ c. AreLoopTrees depth (loop_node_view node.now) (loop_view c) left.new left.old) }
+    ensures fault { IfErr result (MemoryOr (SomeFails depth left.old (loop_children (loop_node_view node.now)))) }
+{
+    let iter_range = read_tree(alloc, &node.iter_range, depth, left)?;
+    let accu_init = read_tree(alloc, &node.accu_init, depth, left)?;
+    let loop_condition = read_tree(alloc, &node.loop_condition, depth, left)?;
+    let loop_step = read_tree(alloc, &node.loop_step, depth, left)?;
+    let result = read_tree(alloc, &node.result, depth, left)?;
+    Ok(Comprehension {
+        iter_var: node.iter_var.clone()?,
+        accu_var: node.accu_var.clone()?,
+        iter_range,
+        accu_init,
+        loop_condition,
+        loop_step,
+        result,
+    })
+}
+
+/// Takes one of the nodes that are left; refuses where none is.
+fn take_node(left: &mut u32) -> Result<(), Refusal>
+    ensures found { OnOk result (left.new + 1 ≡ left.old) }
+    ensures fault { IfErr result (λ e. (left.old ≡ 0) × (e ≡ TooLarge)) }
+{
+    if *left == 0 {
+        return Err(Refusal::TooLarge);
+    }
+    *left -= 1;
+    Ok(())
+}

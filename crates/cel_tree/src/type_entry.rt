@@ -1,0 +1,97 @@
+//! The reading of types, down to a depth.
+
+ghost use Rattle.std.specs.Prelude.{◌≡◌, ◌<◌, IfOk, IfErr, OnOk};
+ghost use Rattle.proto_wire.specs.Merge.{parts_view};
+ghost use Rattle.proto_wire.specs.Refusal.{MemoryOr};
+ghost use Rattle.proto_wire.specs.declared.refusal.Refusal.TheVariants.{TooLarge};
+ghost use Rattle.cel_value.specs.Types.{type_view};
+ghost use Rattle.cel_tree.specs.TypeEntries.{list_entry, map_entry, key_type_of, Holds, HoldsFault, IsTypeEntry, TypeEntryFault};
+ghost use Rattle.cel_tree.specs.View.{type_entry_view};
+ghost use Rattle.cel_tree.specs.steps.NodeViews.{type_node_view};
+
+use crate::checked::TypeEntry;
+use crate::type_node::{TypeNode, read_type_node};
+use cel_value::{CelType, KeyType};
+use proto_wire::Refusal;
+use std::alloc::{AllocError, Global};
+use std::rc::Rc;
+
+/// Reads a Type of at most `depth` levels, whose message stands in the parts. The depth is looked at before anything of
+/// the type is read.
+#[cycle(type_entry)]
+pub(crate) fn read_type(alloc: Global, parts: &[&[u8]], depth: u32) -> Result<TypeEntry, Refusal>
+    ensures found { IfOk result (λ entry. IsTypeEntry depth (parts_view parts.now) (type_entry_view entry)) }
+    ensures fault { IfErr result (MemoryOr (TypeEntryFault depth (parts_view parts.now))) }
+{
+    require_level(depth)?;
+    let node = read_type_node(alloc, parts)?;
+    read_inner(alloc, node, depth - 1)
+}
+
+/// Reads the types inside, which may have `depth` levels, and puts them together.
+#[cycle(type_entry)]
+fn read_inner(alloc: Global, node: TypeNode<'_>, depth: u32) -> Result<TypeEntry, Refusal>
+    ensures found { IfOk result (λ entry.
+        Holds (IsTypeEntry depth) (type_node_view node.entry) (type_entry_view entry)) }
+    ensures fault { IfErr result (MemoryOr (HoldsFault (TypeEntryFault depth) (type_node_view node.entry))) }
+{
+    match node {
+        TypeNode::Plain(entry) => Ok(entry),
+        TypeNode::List { elem } => {
+            let item = read_type(alloc, &elem, depth)?;
+            Ok(list_entry(alloc, item)?)
+        }
+        TypeNode::Map { key, value } => {
+            let keys = read_type(alloc, &key, depth)?;
+            let values = read_type(alloc, &value, depth)?;
+            Ok(map_entry(alloc, keys, values)?)
+        }
+    }
+}
+
+/// Refuses a tree or a type where no level is left.
+pub(crate) fn require_level(depth: u32) -> Result<(), Refusal>
+    ensures found { OnOk result (0 < depth) }
+    ensures fault { IfErr result (λ e. (depth ≡ 0) × (e ≡ TooLarge)) }
+{
+    if depth == 0 {
+        return Err(Refusal::TooLarge);
+    }
+    Ok(())
+}
+
+/// A list of items of this type.
+fn list_entry(alloc: Global, item: TypeEntry) -> Result<TypeEntry, AllocError>
+    ensures { IfOk result (λ entry. type_entry_view entry ≡ list_entry (type_entry_view item)) }
+{
+    match item {
+        TypeEntry::Type(item) => Ok(TypeEntry::Type(CelType::List(Rc::new(alloc, item)?))),
+        TypeEntry::Dyn | TypeEntry::Unsupported => Ok(TypeEntry::Unsupported),
+    }
+}
+
+/// A map with keys and values of these types.
+fn map_entry(alloc: Global, keys: TypeEntry, values: TypeEntry) -> Result<TypeEntry, AllocError>
+    ensures { IfOk result (λ entry. type_entry_view entry ≡ map_entry (type_entry_view keys) (type_entry_view values)) }
+{
+    match (keys, values) {
+        (TypeEntry::Type(keys), TypeEntry::Type(values)) => match key_type(&keys) {
+            Some(keys) => Ok(TypeEntry::Type(CelType::Map(keys, Rc::new(alloc, values)?))),
+            None => Ok(TypeEntry::Unsupported),
+        },
+        _ => Ok(TypeEntry::Unsupported),
+    }
+}
+
+/// The type of keys that a type is; `None` where no key has it.
+fn key_type(keys: &CelType) -> Option<KeyType>
+    ensures { result ≡ key_type_of (type_view keys.now) }
+{
+    match keys {
+        CelType::Bool => Some(KeyType::Bool),
+        CelType::Int => Some(KeyType::Int),
+        CelType::Uint => Some(KeyType::Uint),
+        CelType::Text => Some(KeyType::Text),
+        _ => None,
+    }
+}
