@@ -1,12 +1,13 @@
 -- Types of expressions, computed on examples.
-use Rattle.std.proofs.Common.{◌≡◌, inl, inr, ℕ, ℤ, pos, true, false, List, [], ◌∷◌, Some, None, refl, sym, subst}
+use Rattle.std.proofs.Common.{◌≡◌, ◌≢◌, inl, inr, ℕ, ℤ, pos, true, false, List, [], ◌∷◌, Some, None, refl, sym, subst}
 use Rattle.std.specs.Prelude.{codes}
 use Rattle.std.specs.FinMap.{find, from_entries, get, get-from_entries}
 use Rattle.std.specs.Cmp.{int_cmp_total}
+use Rattle.std.specs.Cmp.Lexicographic.{bytes_decides}
 use Rattle.std.specs.Ordering.{int_cmp}
-use Rattle.proto_wire.specs.declared.refusal.Refusal.TheVariants.{BadReference, BadTypeEntry, NeedsType, NoOverload, UnknownName, Unsupported}
+use Rattle.proto_wire.specs.declared.refusal.Refusal.TheVariants.{BadReference, BadTypeEntry, Missing, NeedsType, NoOverload, OutOfRange, UnknownName, Unsupported}
 use Rattle.cel_value.specs.Types.{ValueType, bool_type, int_type, uint_type, text_type, list_type, map_type}
-use Rattle.cel_value.specs.Values.{int, uint, text}
+use Rattle.cel_value.specs.Values.{bool, int, uint, text}
 use Rattle.cel_value.specs.declared.cel_type.KeyType.TheVariants as keys
 use Rattle.cel_ops.specs.declared.comparison.CompareOp.TheVariants.{Equal}
 use Rattle.cel_ops.specs.declared.arithmetic.ArithmeticOp.TheVariants.{Add}
@@ -16,7 +17,9 @@ use Rattle.cel_tree.specs.Checked.{CelReference, CelTypeEntry, of_type, dyn_type
 use Rattle.cel_tree.specs.Tree.{CelTree, constant, ident, select, call, comprehension, list_literal, no_target, CelTrees, no_trees, tree}
 use Rattle.cel_overload.proofs.OneOverload.{unchosen}
 use Rattle.cel_types.specs.Typing.{Maps, RefAgrees, TypeAgrees, TypeGiven, Types, TypesEach, locals_in}
-use Rattle.cel_types.specs.TypingFaults.{CallsFault, ElementsFault, IdentFault, SaysNothing, SelectFault, TypeFault, another_type, of_another_kind, unsupported_kind, untold}
+use Rattle.cel_types.specs.TypingFaults.{CallsFault, ElementsFault, IdentFault, SaysNothing, SelectFault, TypeFault, another_type, of_another_kind, unsupported_kind, untold, no_element_name, no_elements, one_name}
+use Rattle.cel_types.specs.Elaborated.{Elaborates, no_typed, typed, typed_attribute, typed_call, typed_constant, typed_list, typed_local, typed_loop}
+use Rattle.attributes.specs.declared.attribute.AttrId.{AttrId}
 
 -- ---- `request.method == "GET"`: the call has id 3, the Select 1, the Ident 2, the text 4
 
@@ -218,3 +221,154 @@ four_in_two = refl
 three_in_result : locals_in (comprehension (pos 1) (codes "x") (codes "y") empty_list empty_list
     empty_list empty_list (one_loop empty_list)) ≡ 3
 three_in_result = refl
+
+-- ---- a comprehension over `[7]`: `y` is gathered from `true`, each step is `x == 7`
+
+abbrev seven_loop : (x y : List ℕ) → (range : CelTree) → CelTree
+seven_loop x y range = comprehension (pos 5) x y range (constant (pos 6) (bool true))
+    (ident (pos 7) y) (call (pos 8) (codes "_==_") no_target
+    (tree (ident (pos 9) x) (tree (constant (pos 10) (int (pos 7))) no_trees)))
+    (ident (pos 11) y)
+
+abbrev list_of_seven : CelTree
+list_of_seven = list_literal (pos 12) (tree (constant (pos 13) (int (pos 7))) no_trees)
+
+x_is_not_y : codes "x" ≢ codes "y"
+x_is_not_y e =
+    let same : false ≡ true = (bytes_decides (codes "x") (codes "y")).1 e in cc
+
+loop_is_bool : Types (with_types []) [] (seven_loop (codes "x") (codes "y") list_of_seven) bool_type
+loop_is_bool = (
+  record {
+    names = record { element = λ e. cc; gathered = λ e. cc; differ = x_is_not_y };
+    walked = list_type int_type;
+    element = int_type;
+    gathered = bool_type;
+    range = (
+      (int_type, ((refl, agrees [] (pos 13) int_type tt), tt), refl),
+      agrees [] (pos 12) (list_type int_type) tt,
+    );
+    over = refl;
+    init = (refl, agrees [] (pos 6) bool_type tt);
+    condition = ((refl, no_reference [] (pos 7) (codes "y")), agrees [] (pos 7) bool_type tt);
+    step = (
+      (
+        int_type ∷ int_type ∷ [],
+        (
+          ((refl, no_reference [] (pos 9) (codes "x")), agrees [] (pos 9) int_type tt),
+          ((refl, agrees [] (pos 10) int_type tt), tt),
+        ),
+        overloads.Compare Equal,
+        (
+          functions.Compare Equal,
+          refl,
+          record {
+            function = refl;
+            shape = refl;
+            operands = (int_type, tt, refl, refl);
+          },
+        ),
+      ),
+      agrees [] (pos 8) bool_type tt,
+    );
+    result = ((refl, no_reference [] (pos 11) (codes "y")), agrees [] (pos 11) bool_type tt);
+  },
+  agrees [] (pos 5) bool_type tt,
+)
+
+-- a name that is not given is 4, one name twice 5, a range of no list and no map 10
+
+nameless : TypeFault (with_types []) [] (seven_loop [] (codes "y") list_of_seven) Missing
+nameless = inl (no_element_name refl refl)
+
+one_name_twice : TypeFault (with_types []) [] (seven_loop (codes "y") (codes "y") list_of_seven)
+    OutOfRange
+one_name_twice = inl (one_name refl refl)
+
+range_of_an_int : TypeFault (with_types []) []
+    (seven_loop (codes "x") (codes "y") (constant (pos 12) (int (pos 7)))) NoOverload
+range_of_an_int =
+    inl (no_elements int_type (refl, agrees [] (pos 12) int_type tt) (λ t h. h) refl)
+
+-- ---- elaborations: the attribute, the overload, and locals by how many are outside
+
+method_elaborated : Elaborates (with_types []) [] method_is_get
+    (typed_call bool_type (overloads.Compare Equal)
+    (typed (typed_attribute text_type AttrId.RequestMethod)
+    (typed (typed_constant text_type (text (codes "GET"))) no_typed)))
+method_elaborated = (
+  without_entries,
+  (
+    functions.Compare Equal,
+    refl,
+    record {
+      function = refl;
+      shape = refl;
+      operands = (text_type, tt, refl, refl);
+    },
+  ),
+  (
+    (method_is_text [] tt, codes "request", refl, refl),
+    (((refl, agrees [] (pos 4) text_type tt), refl), tt),
+  ),
+)
+
+loop_elaborated : Elaborates (with_types []) [] (seven_loop (codes "x") (codes "y") list_of_seven)
+    (typed_loop bool_type
+    (typed_list (list_type int_type) (typed (typed_constant int_type (int (pos 7))) no_typed))
+    (typed_constant bool_type (bool true)) (typed_local bool_type 0)
+    (typed_call bool_type (overloads.Compare Equal)
+    (typed (typed_local int_type 1) (typed (typed_constant int_type (int (pos 7))) no_typed)))
+    (typed_local bool_type 0))
+loop_elaborated = (
+  loop_is_bool,
+  int_type,
+  bool_type,
+  refl,
+  refl,
+  (
+    (
+      (int_type, ((refl, agrees [] (pos 13) int_type tt), tt), refl),
+      agrees [] (pos 12) (list_type int_type) tt,
+    ),
+    (((refl, agrees [] (pos 13) int_type tt), refl), tt),
+  ),
+  ((refl, agrees [] (pos 6) bool_type tt), refl),
+  (((refl, no_reference [] (pos 7) (codes "y")), agrees [] (pos 7) bool_type tt), refl),
+  (
+    (
+      (
+        int_type ∷ int_type ∷ [],
+        (
+          ((refl, no_reference [] (pos 9) (codes "x")), agrees [] (pos 9) int_type tt),
+          ((refl, agrees [] (pos 10) int_type tt), tt),
+        ),
+        overloads.Compare Equal,
+        (
+          functions.Compare Equal,
+          refl,
+          record {
+            function = refl;
+            shape = refl;
+            operands = (int_type, tt, refl, refl);
+          },
+        ),
+      ),
+      agrees [] (pos 8) bool_type tt,
+    ),
+    (
+      functions.Compare Equal,
+      refl,
+      record {
+        function = refl;
+        shape = refl;
+        operands = (int_type, tt, refl, refl);
+      },
+    ),
+    (
+      (((refl, no_reference [] (pos 9) (codes "x")), agrees [] (pos 9) int_type tt), refl),
+      (((refl, agrees [] (pos 10) int_type tt), refl), tt),
+    ),
+  ),
+  (((refl, no_reference [] (pos 11) (codes "y")), agrees [] (pos 11) bool_type tt), refl),
+)
