@@ -36,6 +36,7 @@ pub(crate) fn read_authenticated(
 
 /// Whether the connection is known to be by mutual TLS and its peer's name passes the test, if
 /// there is one. The name is the first that is known of the URI SAN, the DNS SAN and the subject.
+#[inline(never)]
 pub(crate) fn authenticated_matches(name: &Option<TextMatcher>, request: &Request) -> bool
     ensures { result ≡ matcher_holds (Authenticated name.now) request.now }
 {

@@ -100,6 +100,7 @@ fn range_of(address: Ip, length: u32) -> Result<Cidr, Refusal>
 }
 
 /// Whether that address of the request is in the range; one that is not known is in none.
+#[inline(never)]
 pub(crate) fn address_matches(source: AddressSource, range: &Cidr, request: &Request) -> bool
     ensures { result ≡ matcher_holds (Address source range.now) request.now }
 {

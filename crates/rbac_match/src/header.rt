@@ -153,6 +153,7 @@ impl HeaderMatcher {
 
     /// Whether the request passes. A missing header passes no test of its value, inverted or not,
     /// unless it counts as one of the empty value. It takes no memory.
+    #[inline(never)]
     pub(crate) fn matches(&self, request: &Request) -> bool
         ensures { result ≡ matcher_holds (Header self.now) request.now }
     {
@@ -163,6 +164,7 @@ impl HeaderMatcher {
     }
 
     // Whether a request without the header passes.
+    #[inline(never)]
     fn matches_missing(&self) -> bool
         ensures { result ≡ specifier_holds self.now.specifier self.now.invert_match
             self.now.treat_missing_header_as_empty None }

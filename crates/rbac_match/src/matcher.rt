@@ -32,6 +32,7 @@ pub enum Matcher {
 }
 
 /// Whether the request passes. It takes no memory.
+#[inline(always)]
 pub(crate) fn passes(matcher: &Matcher, request: &Request) -> bool
     ensures { result ≡ matcher_holds matcher.now request.now }
 {

@@ -39,6 +39,7 @@ pub(crate) fn path_matches(matcher: &TextMatcher, request: &Request) -> bool
 
 /// Whether the server name that the client asked for passes the test; without one it is the empty
 /// text.
+#[inline(never)]
 pub(crate) fn server_name_matches(matcher: &TextMatcher, request: &Request) -> bool
     ensures { result ≡ matcher_holds (ServerName matcher.now) request.now }
 {

@@ -86,6 +86,7 @@ pub(crate) fn port_matches(port: u16, request: &Request) -> bool
 }
 
 /// Whether the request goes to one of these ports; one whose port is not known doesn't.
+#[inline(never)]
 pub(crate) fn port_range_matches(range: &PortRange, request: &Request) -> bool
     ensures { result ≡ matcher_holds (PortsInARow range.now) request.now }
 {

@@ -12,7 +12,7 @@ ghost use Rattle.proto_wire.specs.Values.{bytes_at};
 ghost use Rattle.proto_wire.specs.declared.refusal.Refusal.TheVariants.{Missing};
 ghost use Rattle.rbac_match.specs.Oneof.{last_number, member_in};
 ghost use Rattle.rbac_match.specs.steps.Search.{AreBordersOf};
-ghost use Rattle.rbac_match.specs.Text.{text_holds, pattern_holds, string_members, string_keys, IsFilled, IsSought, IsTextMatcher, SoughtFault, TextFault};
+ghost use Rattle.rbac_match.specs.Text.{is_substring, text_holds, pattern_holds, string_members, string_keys, IsFilled, IsSought, IsTextMatcher, SoughtFault, TextFault};
 
 use crate::fields::last_number;
 use crate::search::{borders_of, contains_ignore_case};
@@ -101,6 +101,7 @@ impl TextMatcher {
     }
 
     /// Whether the text passes the test. It takes no memory.
+    #[inline(always)]
     pub(crate) fn matches(&self, text: &str) -> bool
         ensures { result ≡ text_holds self.now text.now }
     {
@@ -186,6 +187,7 @@ fn string_keys() -> &'static [Key]
     &FIELDS
 }
 
+#[inline(always)]
 fn holds(pattern: Pattern, sought: &[u8], text: &[u8]) -> bool
     ensures { result ≡ pattern_holds pattern sought.now text.now }
 {
@@ -193,10 +195,19 @@ fn holds(pattern: Pattern, sought: &[u8], text: &[u8]) -> bool
         Pattern::Exact => text == sought,
         Pattern::Prefix => text.starts_with(sought),
         Pattern::Suffix => text.ends_with(sought),
-        Pattern::Contains => memmem::find(text, sought).is_some(),
+        Pattern::Contains => contains(text, sought),
     }
 }
 
+// Out of line, since the search is long code, and few patterns need it.
+#[inline(never)]
+fn contains(text: &[u8], part: &[u8]) -> bool
+    ensures { result ≡ is_substring part.now text.now }
+{
+    memmem::find(text, part).is_some()
+}
+
+#[inline(never)]
 fn holds_ignore_case(pattern: Pattern, sought: &[u8], borders: &[usize], text: &[u8]) -> bool
     requires filled { IsFilled pattern sought.now }
     requires borders { AreBordersOf pattern true sought.now borders.now }
