@@ -12,6 +12,3 @@ mod stream;
 
 pub use client::{Client, Fed};
 pub use config::{Config, ConfigFault, Filter};
-
-#[cfg(test)]
-mod tests;
