@@ -12,3 +12,6 @@ mod stream;
 
 pub use client::{Client, Fed};
 pub use config::{Config, ConfigFault, Filter};
+
+#[cfg(test)]
+mod tests;
