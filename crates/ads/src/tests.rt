@@ -17,6 +17,18 @@ const U: &[u8] = b"type.googleapis.com/envoy.config.core.v3.TypedExtensionConfig
 /// A filter that lets all through by its one policy.
 const ANY_ANY: &[u8] = b"\x0a\x0f\x12\x0d\x0a\x01\x70\x12\x08\x0a\x02\x18\x01\x12\x02\x18\x01";
 
+/// The first request of node `n` in cluster `c` for `f`.
+const FIRST_REQUEST: &[&[u8]] = &[
+    b"\x00\x00\x00\x00\x4a\x12\x06\x0a\x01\x6e\x12\x01\x63\x1a\x01\x66\x22\x3d",
+    U,
+];
+
+/// The first request of a later stream, once version `1` was accepted.
+const RESUMED_REQUEST: &[&[u8]] = &[
+    b"\x00\x00\x00\x00\x4d\x0a\x01\x31\x12\x06\x0a\x01\x6e\x12\x01\x63\x1a\x01\x66\x22\x3d",
+    U,
+];
+
 /// The acknowledgement of version `1` and nonce `n1`.
 const FIRST_ACK: &[&[u8]] = &[
     b"\x00\x00\x00\x00\x49\x0a\x01\x31\x1a\x01\x66\x22\x3d",
@@ -131,4 +143,15 @@ fn broken_streams(rt: HostRuntime) -> Result<(), Fail> {
     breaks(&rt, alloc, b"\x01\x00\x00\x00\x00")?;
     breaks(&rt, alloc, b"\x00\x00\x10\x00\x01")?;
     breaks(&rt, alloc, b"\x00\x00\x00\x00\x01\x0a")
+}
+
+#[test]
+fn first_requests(rt: HostRuntime) -> Result<(), Fail> {
+    let alloc = rt.alloc();
+    let mut client = client_of(alloc, &["f"])?;
+    assert!(rt; client.connected()? == joined(alloc, FIRST_REQUEST)?);
+    client.feed(&response(alloc, "1", "n1", &[])?)?;
+    assert_eq!(rt; client.generation(), 1);
+    assert!(rt; client.connected()? == joined(alloc, RESUMED_REQUEST)?);
+    Ok(())
 }
