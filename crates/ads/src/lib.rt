@@ -1,4 +1,4 @@
-//! The two ends of an update stream: a client that judges responses, and a control plane that sends them.
+//! The client of an update stream: it judges responses, answers them, and keeps what it accepts.
 #![tactic(auto)]
 
 mod accepted;

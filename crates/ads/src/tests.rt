@@ -17,15 +17,15 @@ const U: &[u8] = b"type.googleapis.com/envoy.config.core.v3.TypedExtensionConfig
 /// A filter that lets all through by its one policy.
 const ANY_ANY: &[u8] = b"\x0a\x0f\x12\x0d\x0a\x01\x70\x12\x08\x0a\x02\x18\x01\x12\x02\x18\x01";
 
-/// A filter without policies.
-const NO_POLICY: &[u8] = b"\x0a\x00";
-
-/// A filter with an unknown field.
-const UNKNOWN_FIELD: &[u8] = b"\x22\x00";
-
 /// The first request of node `n` in cluster `c` for `f`.
 const FIRST_REQUEST: &[&[u8]] = &[
     b"\x00\x00\x00\x00\x4a\x12\x06\x0a\x01\x6e\x12\x01\x63\x1a\x01\x66\x22\x3d",
+    U,
+];
+
+/// The first request of a later stream, once version `1` was accepted.
+const RESUMED_REQUEST: &[&[u8]] = &[
+    b"\x00\x00\x00\x00\x4d\x0a\x01\x31\x12\x06\x0a\x01\x6e\x12\x01\x63\x1a\x01\x66\x22\x3d",
     U,
 ];
 
@@ -34,19 +34,6 @@ const FIRST_ACK: &[&[u8]] = &[
     b"\x00\x00\x00\x00\x49\x0a\x01\x31\x1a\x01\x66\x22\x3d",
     U,
     b"\x2a\x02\x6e\x31",
-];
-
-/// The refusal of nonce `n2` by a client for `f` and `g`.
-const HALF_BAD_NACK: &[&[u8]] = &[
-    b"\x00\x00\x00\x00\x63\x0a\x01\x31\x1a\x01\x66\x1a\x01\x67\x22\x3d",
-    U,
-    b"\x2a\x02\x6e\x32\x32\x15\x08\x03\x12\x11policy refused: 3",
-];
-
-/// The first request of a later stream, once version `1` was accepted.
-const RESUMED_REQUEST: &[&[u8]] = &[
-    b"\x00\x00\x00\x00\x4d\x0a\x01\x31\x12\x06\x0a\x01\x6e\x12\x01\x63\x1a\x01\x66\x22\x3d",
-    U,
 ];
 
 /// The pieces in one.
@@ -73,14 +60,6 @@ fn config_of(
     let node = String::from_str(alloc, "n")?;
     let cluster = String::from_str(alloc, "c")?;
     Ok(Config::new(alloc, node, cluster, filters, limits))
-}
-
-/// The fault of such a configuration.
-fn fault_of(alloc: Global, names: &[&str], budget: u64) -> Result<Option<ConfigFault>, Fail> {
-    match config_of(alloc, names, budget)? {
-        Ok(_) => Ok(None),
-        Err(fault) => Ok(Some(fault)),
-    }
 }
 
 /// A client for these names.
@@ -141,58 +120,6 @@ fn policies(client: &Client, name: &str) -> Option<usize> {
     }
 }
 
-#[test]
-fn a_stream_and_the_next(rt: HostRuntime) -> Result<(), Fail> {
-    let alloc = rt.alloc();
-    let mut client = client_of(alloc, &["f"])?;
-    assert!(rt; client.connected()? == joined(alloc, FIRST_REQUEST)?);
-    assert!(rt; policies(&client, "f").is_none());
-    let filter = resource(alloc, "f", ANY_ANY)?;
-    let fed = client.feed(&response(alloc, "1", "n1", &[&filter])?)?;
-    assert!(rt; fed.replies == joined(alloc, FIRST_ACK)?);
-    assert!(rt; !fed.broken);
-    assert_eq!(rt; client.generation(), 1);
-    assert_eq!(rt; policies(&client, "f"), Some(1));
-    assert_eq!(rt; policies(&client, "g"), None);
-    let second = response(alloc, "2", "n2", &[&filter])?;
-    let half = second.get(..40).unwrap_or(&[]);
-    assert!(rt; client.feed(half)?.replies.is_empty());
-    client.lost();
-    assert!(rt; client.feed(&second)?.broken);
-    assert_eq!(rt; client.generation(), 1);
-    assert!(rt; client.connected()? == joined(alloc, RESUMED_REQUEST)?);
-    assert!(rt; !client.feed(&second)?.replies.is_empty());
-    assert_eq!(rt; client.generation(), 2);
-    Ok(())
-}
-
-#[test]
-fn half_bad_response(rt: HostRuntime) -> Result<(), Fail> {
-    let alloc = rt.alloc();
-    let mut client = client_of(alloc, &["f", "g"])?;
-    client.connected()?;
-    let f = resource(alloc, "f", ANY_ANY)?;
-    let g = resource(alloc, "g", ANY_ANY)?;
-    client.feed(&response(alloc, "1", "n1", &[&f, &g])?)?;
-    assert_eq!(rt; client.generation(), 1);
-    let good = resource(alloc, "f", NO_POLICY)?;
-    let bad = resource(alloc, "g", UNKNOWN_FIELD)?;
-    let fed = client.feed(&response(alloc, "2", "n2", &[&good, &bad])?)?;
-    assert!(rt; fed.replies == joined(alloc, HALF_BAD_NACK)?);
-    assert!(rt; !fed.broken);
-    assert_eq!(rt; client.generation(), 1);
-    assert_eq!(rt; policies(&client, "f"), Some(1));
-    assert_eq!(rt; policies(&client, "g"), Some(1));
-    let fed = client.feed(&response(alloc, "1", "n1", &[])?)?;
-    assert!(rt; !fed.broken);
-    assert_eq!(rt; client.generation(), 2);
-    assert_eq!(rt; policies(&client, "f"), Some(1));
-    client.feed(&response(alloc, "3", "n3", &[&good])?)?;
-    assert_eq!(rt; policies(&client, "f"), Some(0));
-    assert_eq!(rt; policies(&client, "g"), Some(1));
-    Ok(())
-}
-
 /// A stream of a client that has accepted a filter breaks, and the filter stays.
 fn breaks(rt: &impl Abort, alloc: Global, bytes: &[u8]) -> Result<(), Fail> {
     let mut client = client_of(alloc, &["f"])?;
@@ -219,26 +146,12 @@ fn broken_streams(rt: HostRuntime) -> Result<(), Fail> {
 }
 
 #[test]
-fn faults_of_configurations(rt: HostRuntime) -> Result<(), Fail> {
+fn first_requests(rt: HostRuntime) -> Result<(), Fail> {
     let alloc = rt.alloc();
-    assert_eq!(rt; fault_of(alloc, &[], 1)?, Some(ConfigFault::NoFilter));
-    assert_eq!(rt; fault_of(alloc, &["f"], 0)?, Some(ConfigFault::BadBudget));
-    assert_eq!(rt;
-        fault_of(alloc, &["f"], 100_000_001)?,
-        Some(ConfigFault::BadBudget)
-    );
-    assert_eq!(rt; fault_of(alloc, &["f"], 100_000_000)?, None);
-    assert_eq!(rt;
-        fault_of(alloc, &["f", "g", "f"], 1)?,
-        Some(ConfigFault::DoubledName)
-    );
-    assert_eq!(rt; fault_of(alloc, &["f", ""], 1)?, Some(ConfigFault::BadName));
-    let eight = &["a", "b", "c", "d", "e", "f", "g", "h"];
-    assert_eq!(rt; fault_of(alloc, eight, 1)?, None);
-    let nine = &["a", "b", "c", "d", "e", "f", "g", "h", "i"];
-    assert_eq!(rt;
-        fault_of(alloc, nine, 1)?,
-        Some(ConfigFault::TooManyFilters)
-    );
+    let mut client = client_of(alloc, &["f"])?;
+    assert!(rt; client.connected()? == joined(alloc, FIRST_REQUEST)?);
+    client.feed(&response(alloc, "1", "n1", &[])?)?;
+    assert_eq!(rt; client.generation(), 1);
+    assert!(rt; client.connected()? == joined(alloc, RESUMED_REQUEST)?);
     Ok(())
 }
