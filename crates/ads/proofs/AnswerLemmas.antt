@@ -1,8 +1,7 @@
 -- The answers to messages, one after the other.
-use Rattle.std.proofs.Common.{◌≡◌, ◌≢◌, ◌⊎◌, inl, inr, ℕ, Bool, true, false, List, [], ◌∷◌, ◌++◌, not, true≢false, Option, Some, None, length, map, suc, refl, ap, sym, ◌∙◌, append_assoc, append-nil, option_map}
+use Rattle.std.proofs.Common.{◌≡◌, ◌≢◌, inl, inr, ℕ, Bool, true, false, List, [], ◌∷◌, ◌++◌, not, true≢false, Option, Some, None, length, suc, refl, ap, sym, ◌∙◌, append_assoc, append-nil, option_map}
 use Rattle.std.specs.Prelude.{Result, Ok, Err, OnOk, MatchBool}
 use Rattle.std.specs.List.{AllZip}
-use Rattle.std.specs.declared.alloc.AllocError.{AllocError}
 use Rattle.std.proofs.lemmas.List.{length-map}
 use Rattle.proto_wire.specs.Refusal.{MemoryOr}
 use Rattle.proto_wire.specs.declared.refusal.Refusal.{Refusal}
@@ -16,7 +15,7 @@ use Rattle.ads.specs.Answer.{Accepted, Answers, nack, no_memory, Refuses, nack_o
 use Rattle.ads.specs.Client.{AreAnswered}
 use Rattle.ads.specs.steps.Taking.{policies_view}
 use Rattle.ads.proofs.PlaceLemmas.{replaced_nothing}
-use Rattle.ads.specs.steps.Drafts.{AddsFrame, IsAnswered, IsNoResponse, Covers}
+use Rattle.ads.specs.steps.Drafts.{IsAnswered, IsNoResponse}
 
 -- a fault that is no want of memory
 pub not_memory : (F : Refusal → Type 0) (e : Refusal) → MemoryOr F e → e ≢ Refusal.Memory → F e

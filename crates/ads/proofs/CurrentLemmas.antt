@@ -1,5 +1,5 @@
 -- What a filter has stands at the place of its name.
-use Rattle.std.proofs.Common.{◌≡◌, ℕ, zero, suc, ◌<◌, Bool, true, false, true≢false, Option, Some, None, List, [], ◌∷◌, length, map, get_or, refl, sym, ap, ◌∙◌, bytes_eq, option_map, position, arith}
+use Rattle.std.proofs.Common.{◌≡◌, ℕ, zero, suc, ◌<◌, Bool, true, false, Option, Some, None, List, [], ◌∷◌, length, get_or, refl, sym, bytes_eq, option_map, position, arith}
 use Rattle.std.specs.Prelude.{cond}
 use Rattle.std.specs.String.{string_bytes}
 use Rattle.std.specs.Map.{keys_of, lookup}
@@ -8,7 +8,6 @@ use Rattle.std.specs.declared.alloc.Global.{Global}
 use Rattle.std.proofs.lemmas.List.{length-map}
 use Rattle.std.proofs.lemmas.List.Quantifiers.{position-Some}
 use Rattle.indexmap.proofs.MapLemmas.{Missing-position}
-use Rattle.rbac_policy.specs.Filter.{Filter}
 use Rattle.rbac_policy.specs.Admitted.{filter_view}
 use Rattle.rbac_policy.specs.declared.filter.Admitted.{Admitted}
 use Rattle.ads.specs.Client.{policies_at}

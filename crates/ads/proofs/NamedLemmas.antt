@@ -1,5 +1,5 @@
 -- The extensions of a name, among the first extensions and among all.
-use Rattle.std.proofs.Common.{◌≡◌, ℕ, ◌+◌, ◌<◌, Bool, true, false, List, [], ◌∷◌, ◌++◌, length, map, take, drop, get_or, refl, ap, sym, ◌∙◌, bytes_eq, if◌then◌else◌, filter, Option, Some, None, is_some, true≢false, not}
+use Rattle.std.proofs.Common.{◌≡◌, ℕ, ◌+◌, ◌<◌, Bool, true, false, List, [], ◌∷◌, ◌++◌, length, map, take, drop, get_or, refl, ap, sym, ◌∙◌, bytes_eq, if◌then◌else◌, Option, Some, None, is_some, true≢false, not}
 use Rattle.std.specs.Prelude.{MatchOption}
 use Rattle.std.proofs.lemmas.List.{map_more, map-append, take-append-drop}
 use Rattle.xds_wire.specs.Discovery.{ExtensionMessage}

@@ -1,5 +1,5 @@
 -- What is given takes its place from the last to the first.
-use Rattle.std.proofs.Common.{◌≡◌, ℕ, zero, suc, ◌+◌, ◌<◌, ◌≤◌, Bool, true, false, true≢false, is_some, option_map, Option, Some, None, List, [], ◌∷◌, ◌++◌, length, map, refl, ap, sym, ◌∙◌, arith, set, length-set}
+use Rattle.std.proofs.Common.{◌≡◌, ℕ, ◌<◌, ◌≤◌, true, false, true≢false, is_some, option_map, Option, Some, None, List, [], ◌∷◌, ◌++◌, length, refl, ap, sym, ◌∙◌, arith, set, length-set}
 use Rattle.std.proofs.lemmas.List.{map-append, map-set, length-append, length-map}
 use Rattle.rbac_policy.specs.Admitted.{filter_view}
 use Rattle.rbac_policy.specs.declared.filter.Admitted.{Admitted}

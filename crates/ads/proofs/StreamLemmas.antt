@@ -1,5 +1,5 @@
 -- The bytes behind a stream that is up.
-use Rattle.std.proofs.Common.{◌≡◌, ℕ, List, [], ◌++◌, ap, sym, ◌∙◌}
+use Rattle.std.proofs.Common.{◌≡◌, ℕ, List, ◌++◌, ap, ◌∙◌}
 use Rattle.xds_wire.specs.Frames.{Tail, unfinished, broken, Cut}
 use Rattle.xds_wire.specs.Stream.{Kept, Resumes, Feeds, IsUnfinished}
 use Rattle.ads.specs.Client.{most_bytes}

@@ -15,7 +15,6 @@ use Rattle.xds_wire.specs.Discovery.{ExtensionMessage}
 use Rattle.xds_wire.specs.Envelope.{SomeOf}
 use Rattle.rbac_policy.specs.Admitted.{filter_view}
 use Rattle.rbac_policy.specs.declared.filter.Admitted.{Admitted}
-use Rattle.ads.specs.Config.{FilterValue}
 use Rattle.ads.specs.Answer.{Gives, named}
 use Rattle.ads.specs.steps.Views.{filter_of, entries_view, entry_view}
 use Rattle.ads.specs.steps.Taking.{TakeFault, policies_view}

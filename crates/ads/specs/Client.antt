@@ -6,7 +6,7 @@ use Rattle.xds_wire.specs.Discovery.{RequestMessage, ResponseMessage, IsResponse
 use Rattle.xds_wire.specs.Written.{RequestWritten}
 use Rattle.ads.specs.Config.{ConfigValue, FilterValue}
 use Rattle.rbac_policy.specs.Filter.{Filter}
-use Rattle.ads.specs.Answer.{Accepted, Answers, first_request, nothing_accepted}
+use Rattle.ads.specs.Answer.{Accepted, Answers, nothing_accepted}
 
 -- the most bytes of a message
 abbrev pub most_bytes : ℕ

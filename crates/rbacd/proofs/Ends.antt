@@ -1,5 +1,5 @@
 -- What a run comes to, by what was printed of it.
-use Rattle.std.proofs.Common.{◌≡◌, ◌⊎◌, ℕ, List, Option, Result, Ok, Err, IfErr, IfOk, inl, inr, refl, option_map, string_bytes, String, Global}
+use Rattle.std.proofs.Common.{◌≡◌, ◌⊎◌, ℕ, List, Option, Result, Ok, Err, IfErr, IfOk, inl, inr, option_map, string_bytes, String, Global}
 use Rattle.rbacd.specs.Run.{ComesTo, IsJudgedAs, Leaves, LeavesFault, PrintsOutcome, StopsBy}
 use Rattle.rbacd.specs.declared.outcome.Outcome.{Outcome}
 use Rattle.rbacd.specs.declared.outcome.Outcome.TheVariants as outcomes

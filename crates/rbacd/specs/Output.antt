@@ -1,5 +1,5 @@
 -- What a writer holds after a text was handed to it.
-use Rattle.std.specs.Prelude.{◌<◌, ◌⊎◌, ◌++◌, ℕ, List, Option, length, take}
+use Rattle.std.specs.Prelude.{◌<◌, ◌⊎◌, ℕ, List, Option, length, take}
 use Rattle.std.specs.Io.KnownBytes.{Appends}
 
 -- the writer took the beginning of the text and no more, so that the text's end is not there

@@ -1,10 +1,10 @@
 -- What a filter takes of the extensions of a response.
-use Rattle.std.specs.Prelude.{◌≡◌, ℕ, Option, List, [], ◌∷◌, map, option_map}
+use Rattle.std.specs.Prelude.{◌≡◌, ℕ, Option, List, ◌∷◌, map, option_map}
 use Rattle.std.specs.List.{AllZip}
 use Rattle.attributes.specs.Limits.{LimitsValue}
 use Rattle.proto_wire.specs.Refusal.{MemoryOr}
 use Rattle.proto_wire.specs.declared.refusal.Refusal.{Refusal}
-use Rattle.xds_wire.specs.Discovery.{AnyMessage, ExtensionMessage, ResponseMessage}
+use Rattle.xds_wire.specs.Discovery.{ExtensionMessage, ResponseMessage}
 use Rattle.xds_wire.specs.Envelope.{SomeOf}
 use Rattle.rbac_policy.specs.Filter.{Filter}
 use Rattle.rbac_policy.specs.Admitted.{filter_view}

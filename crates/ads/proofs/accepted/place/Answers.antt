@@ -1,6 +1,4 @@
-use Rattle.std.proofs.Common.{◌≡◌, length, ◌++◌, List, sym, ◌∙◌, [], ap}
-use Rattle.std.specs.Option.{option_to_list}
-use Rattle.ads.specs.Answer.{replaced}
+use Rattle.std.proofs.Common.{◌≡◌, length, sym, ◌∙◌, []}
 use Rattle.ads.specs.steps.Taking.{policies_view}
 use Rattle.ads.proofs.PlaceLemmas.{place_none, place_some, replaced_nothing, no_length}
 use Rattle.ads.proofs.accepted.place.Goals as goal

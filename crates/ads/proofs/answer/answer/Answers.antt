@@ -1,4 +1,4 @@
-use Rattle.std.proofs.Common.{◌≡◌, refl}
+use Rattle.std.proofs.Common.{refl}
 use Rattle.xds_wire.specs.Discovery.{ResponseFault}
 use Rattle.xds_wire.specs.View.{response_view}
 use Rattle.ads.proofs.AnswerLemmas.{not_memory}

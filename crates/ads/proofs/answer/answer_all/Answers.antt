@@ -1,4 +1,4 @@
-use Rattle.std.proofs.Common.{◌≡◌, sym, ap, ◌∙◌}
+use Rattle.std.proofs.Common.{sym, ap, ◌∙◌}
 use Rattle.xds_wire.specs.Stream.{Kept}
 use Rattle.ads.specs.steps.Drafts.{draft_view}
 use Rattle.ads.proofs.AnswerLemmas.{goes_on_more, goes_on_end, goes_on_stop, told_no, told_yes}

@@ -1,10 +1,9 @@
-use Rattle.std.proofs.Common.{◌≡◌, ◌∙◌, sym, inr, inl, length, List, Option}
+use Rattle.std.proofs.Common.{◌≡◌, ◌∙◌, sym, inr, inl, length}
 use Rattle.std.specs.Prelude.{vec_len}
 use Rattle.proto_wire.specs.Refusal.{MemoryOr}
 use Rattle.xds_wire.specs.View.{response_view}
-use Rattle.rbac_policy.specs.Filter.{Filter}
 use Rattle.ads.specs.Answer.{Refuses, nack_of}
-use Rattle.ads.specs.steps.Drafts.{draft_view, AddsFrame}
+use Rattle.ads.specs.steps.Drafts.{draft_view}
 use Rattle.ads.specs.steps.Taking.{IsJudged}
 use Rattle.ads.specs.declared.judging.Judged.TheVariants as judged
 use Rattle.ads.proofs.AnswerLemmas.{given_length, refused_answer, on_ok_weaker}

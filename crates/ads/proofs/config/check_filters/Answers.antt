@@ -1,4 +1,3 @@
-use Rattle.std.proofs.Common.{◌≡◌}
 use Rattle.std.proofs.lemmas.Result.{err_from_is_err_and}
 use Rattle.ads.specs.Config.{FilterIsAtFault}
 use Rattle.ads.specs.steps.Views.{filter_view}

@@ -1,4 +1,4 @@
-use Rattle.std.proofs.Common.{◌≡◌, inl, inr, refl, ap}
+use Rattle.std.proofs.Common.{inl, inr, refl}
 use Rattle.ads.specs.Config.{HasName, Repeats}
 use Rattle.ads.specs.steps.Views.{filters_view}
 use Rattle.xds_wire.specs.Envelope.{SomeOf}

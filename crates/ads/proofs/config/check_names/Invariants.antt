@@ -1,4 +1,4 @@
-use Rattle.std.proofs.Common.{◌≡◌, length, ◌⊎◌}
+use Rattle.std.proofs.Common.{length}
 use Rattle.ads.specs.Config.{Repeats}
 use Rattle.ads.specs.steps.Views.{filters_view}
 use Rattle.ads.proofs.config.check_names.Given as goal

@@ -1,4 +1,4 @@
-use Rattle.std.proofs.Common.{◌≡◌, take}
+use Rattle.std.proofs.Common.{take}
 use Rattle.xds_wire.specs.Envelope.{SomeOf}
 use Rattle.ads.specs.Config.{HasName}
 use Rattle.ads.specs.steps.Views.{filters_view}

@@ -1,4 +1,4 @@
-use Rattle.std.proofs.Common.{◌≡◌, ◌++◌, ◌∷◌, [], append_assoc, sym, ◌∙◌, ap}
+use Rattle.std.proofs.Common.{◌++◌, ◌∷◌, [], append_assoc, sym, ◌∙◌, ap}
 use Rattle.ads.proofs.ConfigLemmas.{ordered_more}
 use Rattle.ads.proofs.config.ordered.Goals as goal
 

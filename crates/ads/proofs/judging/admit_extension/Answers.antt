@@ -1,4 +1,4 @@
-use Rattle.std.proofs.Common.{◌≡◌, refl, inl, inr, ℕ, List, Some, ◌∷◌, []}
+use Rattle.std.proofs.Common.{refl, ℕ, List}
 use Rattle.std.proofs.lemmas.Result.{IfOk-weaker, IfErr-weaker}
 use Rattle.proto_wire.specs.Refusal.{MemoryOr}
 use Rattle.proto_wire.specs.declared.refusal.Refusal.{Refusal}
@@ -6,7 +6,7 @@ use Rattle.proto_wire.proofs.Exits.{memory_or_weaker}
 use Rattle.rbac_policy.specs.Admission.{Admits, Fault}
 use Rattle.rbac_policy.specs.Admitted.{filter_view}
 use Rattle.xds_wire.specs.View.{extension_view}
-use Rattle.ads.specs.Answer.{Gives, ExtensionIsRefused, not_admitted}
+use Rattle.ads.specs.Answer.{ExtensionIsRefused, not_admitted}
 use Rattle.ads.specs.steps.Views.{filter_of}
 use Rattle.ads.proofs.judging.admit_extension.Goals as goal
 

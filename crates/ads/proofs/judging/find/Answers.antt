@@ -1,4 +1,4 @@
-use Rattle.std.proofs.Common.{◌≡◌, refl, sym}
+use Rattle.std.proofs.Common.{refl}
 use Rattle.ads.proofs.NamedLemmas.{doubled_found, not_false}
 use Rattle.ads.proofs.judging.find.Goals as goal
 

@@ -1,7 +1,3 @@
-use Rattle.std.proofs.Common.{◌≡◌, map, get_or}
-use Rattle.proto_wire.proofs.Exits.{exit_memory_or}
-use Rattle.proto_wire.specs.declared.refusal.Refusal.{Refusal}
-use Rattle.xds_wire.specs.Envelope.{SomeOf}
 use Rattle.xds_wire.specs.View.{any_view, extension_view}
 use Rattle.ads.specs.Answer.{ResourceFault, IsResource}
 use Rattle.ads.proofs.Lists.{exit_each, zip_more}

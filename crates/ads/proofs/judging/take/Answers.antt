@@ -1,4 +1,4 @@
-use Rattle.std.proofs.Common.{◌≡◌, ℕ, List, inl, map}
+use Rattle.std.proofs.Common.{ℕ, List, inl, map}
 use Rattle.proto_wire.proofs.Exits.{exit_memory_or}
 use Rattle.proto_wire.specs.declared.refusal.Refusal.{Refusal}
 use Rattle.xds_wire.specs.View.{extension_view}

@@ -1,4 +1,4 @@
-use Rattle.std.proofs.Common.{◌≡◌, List, Option}
+use Rattle.std.proofs.Common.{List, Option}
 use Rattle.rbac_policy.specs.Filter.{Filter}
 use Rattle.ads.specs.steps.Taking.{policies_view}
 use Rattle.ads.specs.steps.Drafts.{state_view, draft_view}

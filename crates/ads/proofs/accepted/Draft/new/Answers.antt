@@ -1,4 +1,3 @@
-use Rattle.std.proofs.Common.{◌≡◌}
 use Rattle.std.specs.String.{string_bytes}
 use Rattle.ads.specs.steps.Taking.{policies_view}
 use Rattle.ads.proofs.AnswerLemmas.{same_draft}

@@ -1,4 +1,4 @@
-use Rattle.std.proofs.Common.{◌≡◌, refl, sym, ◌∙◌}
+use Rattle.std.proofs.Common.{◌≡◌}
 use Rattle.ads.specs.steps.Views.{entries_view}
 use Rattle.ads.proofs.ConfigLemmas.{clones_view}
 use Rattle.ads.proofs.config.Config.copy.Goals as goal
