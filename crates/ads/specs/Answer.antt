@@ -20,7 +20,7 @@ abbrev pub filter_type : List ℕ
 filter_type = codes "type.googleapis.com/envoy.extensions.filters.http.rbac.v3.RBAC"
 
 -- what was accepted: the last version, empty where there is none, what each filter has, in configured
--- order, and how many responses
+-- order, and how many responses, which stays at 2^64 - 1
 pub record Accepted : Type 0 where
   pub version : List ℕ
   pub policies : List (Option Filter)

@@ -87,7 +87,7 @@ impl Client {
         }
     }
 
-    /// How many responses were accepted. It takes no memory.
+    /// How many responses were accepted; it stays at 2^64 - 1. It takes no memory.
     pub fn generation(&self) -> u64
         ensures { result ≡ (client_view self.now).accepted.generation }
     {

@@ -1,6 +1,6 @@
 //! What is told below a line, so that its reader knows why: the cause, and a guess at what a file is.
 //!
-//! Nothing here bears on the outcome or the status, so no contract speaks of it.
+//! Nothing here bears on the outcome or the status, but that memory may run out here too; no contract speaks of the texts.
 use crate::facts::cause_of_bad_facts;
 use http_front::HeadFault;
 use proto_wire::Refusal;
