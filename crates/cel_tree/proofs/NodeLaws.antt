@@ -211,7 +211,7 @@ loop_total : (fs : List Wire) → ((node : Node) × LoopSays fs node) ⊎ ((e : 
 loop_total fs = elim (names_total fs) [
   | inr (e, bad) ↦ inr (e, inr bad)
   | inl names ↦ elim (parts_total fs) [
-    | inr lacks ↦ inr (Missing, inl ((names, lacks), refl))
+    | inr lacks ↦ inr (Missing, inl ((names.iter_var, names.accu_var, lacks), refl))
     | inl parts ↦ inl (loop_node (loop_at fs), (names, parts, refl))
   ]
 ]
@@ -224,7 +224,7 @@ parts_disjoint fs there (no_step none) = there.loop_step none
 parts_disjoint fs there (no_result none) = there.result none
 
 loop_disjoint : (fs : List Wire) (node : Node) (e : Refusal) → LoopSays fs node → ValuesFault LoopLacks LoopWrong fs e → ⊥
-loop_disjoint fs node e says (inl lacks) = parts_disjoint fs says.1 lacks.0.1
+loop_disjoint fs node e says (inl lacks) = parts_disjoint fs says.1 lacks.0.2
 loop_disjoint fs node e says (inr (bad_iter_var bad)) = bad.0 says.0.iter_var
 loop_disjoint fs node e says (inr (bad_accu_var bad)) = bad.0 says.0.accu_var
 loop_disjoint fs node e says (inr (two_variables two is)) = two says.0.one

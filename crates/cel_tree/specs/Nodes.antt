@@ -229,9 +229,9 @@ pub data LacksPart (fs : List Wire) : Type 0 where
   no_step : payloads 6 fs ≡ [] → LacksPart fs
   no_result : payloads 7 fs ≡ [] → LacksPart fs
 
--- that it lacks counts only where the names read
+-- that it lacks counts only where the names are texts, also beside a second name of the element
 abbrev pub LoopLacks : List Wire → Type 0
-LoopLacks fs = NamesRead fs × LacksPart fs
+LoopLacks fs = IsUtf8 (bytes_at 1 fs) × IsUtf8 (bytes_at 3 fs) × LacksPart fs
 
 pub data LoopWrong (fs : List Wire) (e : Refusal) : Type 0 where
   bad_iter_var : Utf8Fault (bytes_at 1 fs) e → LoopWrong fs e
