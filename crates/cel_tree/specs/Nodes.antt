@@ -181,6 +181,7 @@ StructSays fs node = (bytes_at 1 fs ≡ [])
     × (entries : List EntryNode) × AreEntries (payloads 2 fs) entries × (node ≡ map_node entries)
 
 pub data StructWrong (fs : List Wire) (e : Refusal) : Type 0 where
+  bad_name : Utf8Fault (bytes_at 1 fs) e → StructWrong fs e
   of_message : bytes_at 1 fs ≢ [] → e ≡ Unsupported → StructWrong fs e
   in_entry : (payload : List ℕ) → Contains (payloads 2 fs) payload → EntryFault payload e
       → StructWrong fs e
@@ -231,11 +232,13 @@ pub data LacksPart (fs : List Wire) : Type 0 where
 
 -- that it lacks counts only where the names are texts, also beside a second name of the element
 abbrev pub LoopLacks : List Wire → Type 0
-LoopLacks fs = IsUtf8 (bytes_at 1 fs) × IsUtf8 (bytes_at 3 fs) × LacksPart fs
+LoopLacks fs = IsUtf8 (bytes_at 1 fs) × IsUtf8 (bytes_at 3 fs) × IsUtf8 (bytes_at 8 fs)
+    × LacksPart fs
 
 pub data LoopWrong (fs : List Wire) (e : Refusal) : Type 0 where
   bad_iter_var : Utf8Fault (bytes_at 1 fs) e → LoopWrong fs e
   bad_accu_var : Utf8Fault (bytes_at 3 fs) e → LoopWrong fs e
+  bad_second_name : Utf8Fault (bytes_at 8 fs) e → LoopWrong fs e
   two_variables : bytes_at 8 fs ≢ [] → e ≡ Unsupported → LoopWrong fs e
 
 -- ---- Expr: id 2, and a oneof
