@@ -2,6 +2,9 @@ pub mod Basics
 pub mod Readers
 pub mod Texts
 pub mod Entries
+pub mod Standing
+pub mod ChildLaws
+pub mod InnerLaws
 pub mod Counting
 pub mod Insides
 pub mod TypeLevels
