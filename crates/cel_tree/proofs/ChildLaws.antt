@@ -4,7 +4,7 @@ use Rattle.proto_wire.specs.Fields.{Wire}
 use Rattle.proto_wire.specs.Merge.{Merges}
 use Rattle.proto_wire.specs.Values.{payloads}
 use Rattle.proto_wire.proofs.Unique.{merges_unique}
-use Rattle.cel_tree.specs.Nodes.{Parts, EntryNode, Node, singles, if_there, entry_children, children, loop_at, loop_children, IsEntry, AreEntries, EntrySays, node_kinds, KindSays, MemberSays, InEntry, InKind, IsChild, IsNode}
+use Rattle.cel_tree.specs.Nodes.{Parts, EntryNode, Node, singles, if_there, entry_children, children, loop_at, loop_children, IsEntry, AreEntries, node_kinds, KindSays, MemberSays, InEntry, InKind, IsChild, IsNode}
 use Rattle.cel_tree.specs.Reading.{Never}
 use Rattle.cel_tree.specs.declared.node.NodeKind.{NodeKind}
 use Rattle.cel_tree.specs.declared.node.NodeKind.TheVariants as kinds
@@ -119,23 +119,26 @@ in_kind kinds.List parts node child (fs, message, (plain, same)) here =
 in_kind kinds.Struct parts node child (fs, message, (plain, es, are, same)) here =
     (fs, message.0, in_entries (payloads 2 fs) es child are (rw same at here))
 in_kind kinds.Comprehension parts node child (fs, message, (names, there, same)) here =
-    let all : Contains (loop_children (loop_at fs)) child = rw same at here in
-    (fs, message.0, elim (contains_cases (payloads 2 fs) child (payloads 4 fs ∷ payloads 5 fs ∷ payloads 6 fs ∷ payloads 7 fs ∷ []) all) [
-      | inl is ↦ inl (there.iter_range, sym is)
-      | inr a ↦ inr (elim (contains_cases (payloads 4 fs) child (payloads 5 fs ∷ payloads 6 fs ∷ payloads 7 fs ∷ []) a) [
-        | inl is ↦ inl (there.accu_init, sym is)
-        | inr b ↦ inr (elim (contains_cases (payloads 5 fs) child (payloads 6 fs ∷ payloads 7 fs ∷ []) b) [
-          | inl is ↦ inl (there.loop_condition, sym is)
-          | inr d ↦ inr (elim (contains_cases (payloads 6 fs) child (payloads 7 fs ∷ []) d) [
-            | inl is ↦ inl (there.loop_step, sym is)
-            | inr e ↦ inr (elim (contains_cases (payloads 7 fs) child [] e) [
-              | inl is ↦ (there.result, sym is)
-              | inr none ↦ absurd (none_in child none)
+    let all : Contains (loop_children (loop_at fs)) child = rw same at here in (
+      fs,
+      message.0,
+      elim (contains_cases (payloads 2 fs) child (payloads 4 fs ∷ payloads 5 fs ∷ payloads 6 fs ∷ payloads 7 fs ∷ []) all) [
+        | inl is ↦ inl (there.iter_range, sym is)
+        | inr a ↦ inr (elim (contains_cases (payloads 4 fs) child (payloads 5 fs ∷ payloads 6 fs ∷ payloads 7 fs ∷ []) a) [
+          | inl is ↦ inl (there.accu_init, sym is)
+          | inr b ↦ inr (elim (contains_cases (payloads 5 fs) child (payloads 6 fs ∷ payloads 7 fs ∷ []) b) [
+            | inl is ↦ inl (there.loop_condition, sym is)
+            | inr d ↦ inr (elim (contains_cases (payloads 6 fs) child (payloads 7 fs ∷ []) d) [
+              | inl is ↦ inl (there.loop_step, sym is)
+              | inr e ↦ inr (elim (contains_cases (payloads 7 fs) child [] e) [
+                | inl is ↦ (there.result, sym is)
+                | inr none ↦ absurd (none_in child none)
+              ])
             ])
           ])
         ])
-      ])
-    ])
+      ],
+    )
 
 -- a part of a comprehension's message is inside it
 of_loop : (fs : List Wire) (child : Parts) → InKind kinds.Comprehension fs child
