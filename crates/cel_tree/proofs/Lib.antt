@@ -16,3 +16,5 @@ pub mod TypeLaws
 pub mod NodeLaws
 pub mod TreeLaws
 pub mod CheckedLaws
+pub mod Bounds
+pub mod GoodConstantLaws

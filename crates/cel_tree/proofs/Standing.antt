@@ -11,7 +11,7 @@ use Rattle.cel_tree.specs.Reading.{last_number, member_in, OneofSays, StandsIn}
 
 module _ {M T : Type 0} (table : List (Key × Option M)) (Without : T → Type 0) (Says : M → ℕ → List Wire → T → Type 0) where
   -- what a oneof says is what its last member says, or there is none that says something
-  oneof_opened : (fs : List Wire) (x : T) → OneofSays table Without Says fs x
+  pub oneof_opened : (fs : List Wire) (x : T) → OneofSays table Without Says fs x
       → Without x ⊎ ((n : ℕ) × (m : M) × (last_number (keys_of table) fs ≡ Some n) × (member_in table n ≡ Some m)
       × Says m n (member_run (keys_of table) fs) x)
   oneof_opened fs x says = (elim (last_number (keys_of table) fs) as (λ o. last_number (keys_of table) fs ≡ o
