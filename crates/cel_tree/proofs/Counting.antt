@@ -7,6 +7,7 @@ use Rattle.cel_tree.specs.Nodes.{Parts, EntryNode, Node, constant_node, ident_no
 use Rattle.cel_tree.specs.Trees.{MadeEntries, Makes, AreTrees, IsTree, TreeFault, in_child, node_count, trees_count, entries_count, AllHave, HasNodes}
 use Rattle.cel_tree.specs.steps.Inside.{TreeFails, SomeFails}
 use Rattle.cel_tree.proofs.Basics.{contains_first, contains_later}
+use Rattle.cel_tree.proofs.ChildLaws.{child_stands}
 
 -- ---- the node and the trees inside it
 
@@ -105,7 +106,7 @@ module _ (depth : ℕ) where
   pub node_fails : (parts : Parts) (id : ℤ) (node : Node) (rest left : ℕ) (e : Refusal) → IsNode parts id node
       → rest + 1 ≡ left → SomeFails depth rest (children node) e → TreeFails (suc depth) left parts e
   node_fails parts id node rest left e is sum bad = elim (some_splits (children node) rest e bad) [
-    | inl (child, here, fault) ↦ inl (in_child id node child is here fault)
+    | inl (child, here, fault) ↦ inl (in_child child (child_stands parts id node child is here) fault)
     | inr (n, has, more, at) ↦ inr (1 + n, inr (id, node, n, is, has, refl), omega (arith, sum, more), at)
   ]
 

@@ -2,6 +2,9 @@ pub mod Basics
 pub mod Readers
 pub mod Texts
 pub mod Entries
+pub mod Standing
+pub mod ChildLaws
+pub mod InnerLaws
 pub mod Counting
 pub mod Insides
 pub mod TypeLevels
@@ -13,3 +16,5 @@ pub mod TypeLaws
 pub mod NodeLaws
 pub mod TreeLaws
 pub mod CheckedLaws
+pub mod Bounds
+pub mod GoodConstantLaws

@@ -6,11 +6,11 @@ use Rattle.proto_wire.specs.Values.{bool_at, int64_at, bytes_at, payloads, has_f
 use Rattle.proto_wire.specs.declared.refusal.Refusal.{Refusal}
 use Rattle.proto_wire.specs.declared.refusal.Refusal.TheVariants.{BadText, Missing, Unsupported}
 use Rattle.cel_value.specs.Texts.{points_of}
-use Rattle.cel_tree.specs.Nodes.{EntryNode, Node, constant_node, ident_node, select_node, call_node, list_node, map_node, loop_node, ident_keys, IdentSays, IdentWrong, select_keys, SelectSays, SelectLacks, SelectWrong, call_keys, CallSays, CallWrong, list_keys, ListSays, ListWrong, key_members, map_key_field, entry_keys, EntrySays, EntryLacks, EntryWrong, optional, key_of_message, IsEntry, EntryFault, AreEntries, struct_keys, StructSays, StructWrong, of_message, in_entry, loop_keys, NamesRead, PartsThere, loop_at, LoopSays, LacksPart, no_range, no_init, no_condition, no_step, no_result, LoopLacks, LoopWrong, bad_iter_var, bad_accu_var, two_variables, node_kinds, node_keys, KindSays, KindFault, MemberSays, MemberFails, NodeSays, IsNode, NodeFault}
+use Rattle.cel_tree.specs.Nodes.{EntryNode, Node, constant_node, ident_node, select_node, call_node, list_node, map_node, loop_node, ident_keys, IdentSays, IdentWrong, select_keys, SelectSays, SelectLacks, SelectWrong, call_keys, CallSays, CallWrong, list_keys, ListSays, ListWrong, key_members, map_key_field, entry_keys, EntrySays, EntryLacks, EntryWrong, optional, key_of_message, IsEntry, EntryFault, AreEntries, struct_keys, StructSays, StructWrong, bad_name, of_message, in_entry, loop_keys, NamesRead, PartsThere, loop_at, LoopSays, LacksPart, no_range, no_init, no_condition, no_step, no_result, LoopLacks, LoopWrong, bad_iter_var, bad_accu_var, bad_second_name, two_variables, node_kinds, node_keys, KindSays, KindFault, MemberSays, MemberFails, NodeSays, IsNode, NodeFault}
 use Rattle.cel_tree.specs.Reading.{LacksNothing, ValuesFault, last_number, Never, LacksMember, IsUnsupported, OneofFault}
 use Rattle.cel_tree.specs.declared.node.NodeKind.{NodeKind}
 use Rattle.cel_tree.specs.declared.node.NodeKind.TheVariants as kinds
-use Rattle.cel_tree.proofs.Basics.{nil_or_not, same_or_not, utf8_total, contains_first, contains_later, contains_cases}
+use Rattle.cel_tree.proofs.Basics.{nil_or_not, empty_text, same_or_not, utf8_total, contains_first, contains_later, contains_cases}
 use Rattle.cel_tree.proofs.ConstantLaws.{constant_total, constant_disjoint, constant_unique}
 use Rattle.cel_tree.proofs.ReadingLaws.{reads_total, reads_disjoint, reads_unique, oneof_total, oneof_disjoint, oneof_unique}
 
@@ -168,6 +168,7 @@ struct_total fs = elim (nil_or_not (bytes_at 1 fs)) [
 
 struct_disjoint : (fs : List Wire) (node : Node) (e : Refusal) → StructSays fs node → ValuesFault LacksNothing StructWrong fs e → ⊥
 struct_disjoint fs node e says (inl none) = none.0
+struct_disjoint fs node e says (inr (bad_name bad)) = bad.0 (empty_text (bytes_at 1 fs) says.0)
 struct_disjoint fs node e says (inr (of_message named is)) = named says.0
 struct_disjoint fs node e (plain, es, are, same) (inr (in_entry p here bad)) = entries_disjoint (payloads 2 fs) es p e are here bad
 
@@ -211,7 +212,7 @@ loop_total : (fs : List Wire) → ((node : Node) × LoopSays fs node) ⊎ ((e : 
 loop_total fs = elim (names_total fs) [
   | inr (e, bad) ↦ inr (e, inr bad)
   | inl names ↦ elim (parts_total fs) [
-    | inr lacks ↦ inr (Missing, inl ((names, lacks), refl))
+    | inr lacks ↦ inr (Missing, inl ((names.iter_var, names.accu_var, empty_text (bytes_at 8 fs) names.one, lacks), refl))
     | inl parts ↦ inl (loop_node (loop_at fs), (names, parts, refl))
   ]
 ]
@@ -224,9 +225,10 @@ parts_disjoint fs there (no_step none) = there.loop_step none
 parts_disjoint fs there (no_result none) = there.result none
 
 loop_disjoint : (fs : List Wire) (node : Node) (e : Refusal) → LoopSays fs node → ValuesFault LoopLacks LoopWrong fs e → ⊥
-loop_disjoint fs node e says (inl lacks) = parts_disjoint fs says.1 lacks.0.1
+loop_disjoint fs node e says (inl lacks) = parts_disjoint fs says.1 lacks.0.3
 loop_disjoint fs node e says (inr (bad_iter_var bad)) = bad.0 says.0.iter_var
 loop_disjoint fs node e says (inr (bad_accu_var bad)) = bad.0 says.0.accu_var
+loop_disjoint fs node e says (inr (bad_second_name bad)) = bad.0 (empty_text (bytes_at 8 fs) says.0.one)
 loop_disjoint fs node e says (inr (two_variables two is)) = two says.0.one
 
 loop_unique : (fs : List Wire) (a b : Node) → LoopSays fs a → LoopSays fs b → a ≡ b

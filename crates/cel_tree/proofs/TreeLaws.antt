@@ -7,6 +7,7 @@ use Rattle.cel_tree.specs.Tree.{CelTree, constant, ident, select, call, list_lit
 use Rattle.cel_tree.specs.Nodes.{Parts, EntryNode, Node, constant_node, ident_node, select_node, call_node, list_node, map_node, loop_node, children, entry_children, IsNode}
 use Rattle.cel_tree.specs.Trees.{MadeEntries, Makes, AreTrees, IsTree, in_node, in_child, TreeFault, node_count, trees_count, AllHave, HasNodes}
 use Rattle.cel_tree.proofs.Basics.{contains_first, contains_later, contains_cases}
+use Rattle.cel_tree.proofs.ChildLaws.{child_stands, child_inside}
 use Rattle.cel_tree.proofs.Counting.{made_count}
 use Rattle.cel_tree.proofs.NodeLaws.{node_total, node_disjoint, node_unique}
 
@@ -120,7 +121,7 @@ tree_total zero parts = inr (TooLarge, refl)
 tree_total (suc depth) parts = elim (node_total parts) [
   | inr (e, bad) ↦ inr (e, in_node bad)
   | inl (id, node, is) ↦ elim (inside_total (IsTree depth) (TreeFault depth) (tree_total depth) (children node)) [
-    | inr (child, here, e, bad) ↦ inr (e, in_child id node child is here bad)
+    | inr (child, here, e, bad) ↦ inr (e, in_child child (child_stands parts id node child is here) bad)
     | inl (ts, are) ↦
         let t = made (IsTree depth) id node ts are in
         inl (t.0, record { id = id; node = node; is = is; inside = ts; are = are; makes = t.1 })
@@ -130,11 +131,9 @@ tree_total (suc depth) parts = elim (node_total parts) [
 pub tree_disjoint : (depth : ℕ) (parts : Parts) (t : CelTree) (e : Refusal) → IsTree depth parts t → TreeFault depth parts e → ⊥
 tree_disjoint zero parts t e is bad = is
 tree_disjoint (suc depth) parts t e is (in_node bad) = node_disjoint parts is.id is.node e is.is bad
-tree_disjoint (suc depth) parts t e is (in_child id node child also here bad) =
-    let same : (id, node) ≡ (is.id, is.node) = node_unique parts (id, node) (is.id, is.node) also is.is in
-    let P : ℤ × Node → Type 0 = λ x. Contains (children x.1) child in
+tree_disjoint (suc depth) parts t e is (in_child child stands bad) =
     inside_disjoint (IsTree depth) (TreeFault depth) (tree_disjoint depth) (children is.node) is.inside child e is.are
-    (subst P same here) bad
+    (child_inside parts is.id is.node child is.is stands) bad
 
 pub tree_unique : (depth : ℕ) (parts : Parts) (t u : CelTree) → IsTree depth parts t → IsTree depth parts u → t ≡ u
 tree_unique zero parts t u a b = absurd a

@@ -8,10 +8,12 @@ use Rattle.proto_wire.specs.declared.refusal.Refusal.{Refusal}
 use Rattle.proto_wire.specs.declared.refusal.Refusal.TheVariants.{OutOfRange, TooLarge}
 use Rattle.cel_tree.specs.Checked.{CelTypeEntry, dyn_type, unsupported_type}
 use Rattle.cel_tree.specs.Reading.{LacksNothing, ValuesFault, last_number, member_in, OneofSays, Never, OneofFault}
-use Rattle.cel_tree.specs.TypeEntries.{list_entry, map_entry, primitive_of, TypeNode, plain, list_of, map_of, type_kinds, type_keys, elem_field, key_field, value_field, list_type_keys, map_type_keys, ListTypeSays, ListTypeWrong, MapTypeSays, MapTypeWrong, TypeSays, TypeFails, IsOfOtherKind, IsTypeNode, TypeNodeFault, Holds, HoldsFault, IsTypeEntry, in_type, in_inner, TypeEntryFault}
+use Rattle.cel_tree.specs.TypeEntries.{list_entry, map_entry, primitive_of, TypeNode, plain, list_of, map_of, type_kinds, type_keys, elem_field, key_field, value_field, list_type_keys, map_type_keys, ListTypeSays, ListTypeWrong, MapTypeSays, MapTypeWrong, TypeSays, TypeFails, IsOfOtherKind, IsTypeNode, TypeNodeFault, Holds, IsTypeEntry, in_type, in_inner, TypeEntryFault}
+use Rattle.cel_tree.specs.steps.InnerTypes.{HoldsFault}
 use Rattle.cel_tree.specs.declared.type_node.TypeKind.{TypeKind}
 use Rattle.cel_tree.specs.declared.type_node.TypeKind.TheVariants as kinds
 use Rattle.cel_tree.proofs.Basics.{nil_or_not}
+use Rattle.cel_tree.proofs.InnerLaws.{inner_fault, inner_inside, inner_holds}
 use Rattle.cel_tree.proofs.ReadingLaws.{reads_total, reads_disjoint, reads_unique, oneof_unique}
 
 -- ---- one message
@@ -166,7 +168,9 @@ type_total (suc depth) parts = elim (node_total parts) [
   | inr (e, bad) ↦ inr (e, in_type bad)
   | inl (node, is) ↦ elim (holds_total (IsTypeEntry depth) (TypeEntryFault depth) (type_total depth) node) [
     | inl (entry, holds) ↦ inl (entry, (node, is, holds))
-    | inr (e, bad) ↦ inr (e, in_inner node is bad)
+    | inr (e, bad) ↦
+        let here = inner_fault (TypeEntryFault depth) parts node e is bad in
+        inr (e, in_inner here.0 here.1 here.2)
   ]
 ]
 
@@ -174,10 +178,9 @@ pub type_disjoint : (depth : ℕ) (parts : List (List ℕ)) (entry : CelTypeEntr
     → IsTypeEntry depth parts entry → TypeEntryFault depth parts e → ⊥
 type_disjoint zero parts entry e is bad = is
 type_disjoint (suc depth) parts entry e (node, is, holds) (in_type bad) = node_disjoint parts node e is bad
-type_disjoint (suc depth) parts entry e (node, is, holds) (in_inner other also bad) =
-    let P : TypeNode → Type 0 = λ n. HoldsFault (TypeEntryFault depth) n e in
+type_disjoint (suc depth) parts entry e (node, is, holds) (in_inner inner stands bad) =
     holds_disjoint (IsTypeEntry depth) (TypeEntryFault depth) (type_disjoint depth) node entry e holds
-    (subst P (node_unique parts other node also is) bad)
+    (inner_holds (TypeEntryFault depth) node inner e (inner_inside parts node inner is stands) bad)
 
 pub type_unique : (depth : ℕ) (parts : List (List ℕ)) (a b : CelTypeEntry)
     → IsTypeEntry depth parts a → IsTypeEntry depth parts b → a ≡ b

@@ -2,7 +2,9 @@
 use Rattle.std.proofs.Common.{◌≡◌, ◌-◌, ◌<◌, ℕ, zero, suc, List, arith}
 use Rattle.proto_wire.specs.declared.refusal.Refusal.{Refusal}
 use Rattle.cel_tree.specs.Checked.{CelTypeEntry}
-use Rattle.cel_tree.specs.TypeEntries.{TypeNode, IsTypeNode, Holds, HoldsFault, IsTypeEntry, TypeNodeFault, in_type, in_inner, TypeEntryFault}
+use Rattle.cel_tree.specs.TypeEntries.{TypeNode, IsTypeNode, Holds, IsTypeEntry, TypeNodeFault, in_type, in_inner, TypeEntryFault}
+use Rattle.cel_tree.specs.steps.InnerTypes.{HoldsFault}
+use Rattle.cel_tree.proofs.InnerLaws.{inner_fault}
 
 pub type_found : (depth : ℕ) (parts : List (List ℕ)) (node : TypeNode) (entry : CelTypeEntry) → 0 < depth
     → IsTypeNode parts node → Holds (IsTypeEntry (depth - 1)) node entry → IsTypeEntry depth parts entry
@@ -19,4 +21,6 @@ pub type_inner : (depth : ℕ) (parts : List (List ℕ)) (node : TypeNode) (e : 
     → IsTypeNode parts node → HoldsFault (TypeEntryFault (depth - 1)) node e → TypeEntryFault depth parts e
 type_inner zero parts node e more is bad = absurd (omega arith)
 type_inner (suc depth) parts node e more is bad =
-    let less : suc depth - 1 ≡ depth = omega arith in in_inner node is (rw less at bad)
+    let less : suc depth - 1 ≡ depth = omega arith in
+    let here = inner_fault (TypeEntryFault depth) parts node e is (rw less at bad) in
+    in_inner here.0 here.1 here.2

@@ -8,4 +8,5 @@ pub mod References
 pub mod Nodes
 pub mod Trees
 pub mod Message
+pub mod GoodConstants
 pub mod steps

@@ -5,6 +5,7 @@ use Rattle.std.specs.Map.{keys_of}
 use Rattle.std.specs.Str.{IsUtf8}
 use Rattle.proto_wire.specs.Fields.{Wire}
 use Rattle.proto_wire.specs.Keys.{len_key, varint_key}
+use Rattle.proto_wire.specs.Merge.{Merges}
 use Rattle.proto_wire.specs.Oneof.{member_run}
 use Rattle.proto_wire.specs.Values.{bool_at, int64_at, bytes_at, payloads, has_field, Utf8Fault}
 use Rattle.proto_wire.specs.declared.key.Key.{Key}
@@ -13,7 +14,7 @@ use Rattle.proto_wire.specs.declared.refusal.Refusal.TheVariants.{Unsupported}
 use Rattle.cel_value.specs.Texts.{points_of}
 use Rattle.cel_value.specs.Values.{CelValue}
 use Rattle.cel_tree.specs.Constants.{IsConstant, ConstantFault}
-use Rattle.cel_tree.specs.Reading.{Reads, ReadFault, LacksNothing, last_number, OneofSays, Never, LacksMember, IsUnsupported, OneofFault}
+use Rattle.cel_tree.specs.Reading.{Reads, ReadFault, LacksNothing, last_number, OneofSays, Never, LacksMember, IsUnsupported, OneofFault, IsPart, IsElement, StandsIn}
 use Rattle.cel_tree.specs.declared.node.NodeKind.{NodeKind}
 use Rattle.cel_tree.specs.declared.node.NodeKind.TheVariants as kinds
 
@@ -181,6 +182,7 @@ StructSays fs node = (bytes_at 1 fs ≡ [])
     × (entries : List EntryNode) × AreEntries (payloads 2 fs) entries × (node ≡ map_node entries)
 
 pub data StructWrong (fs : List Wire) (e : Refusal) : Type 0 where
+  bad_name : Utf8Fault (bytes_at 1 fs) e → StructWrong fs e
   of_message : bytes_at 1 fs ≢ [] → e ≡ Unsupported → StructWrong fs e
   in_entry : (payload : List ℕ) → Contains (payloads 2 fs) payload → EntryFault payload e
       → StructWrong fs e
@@ -229,13 +231,15 @@ pub data LacksPart (fs : List Wire) : Type 0 where
   no_step : payloads 6 fs ≡ [] → LacksPart fs
   no_result : payloads 7 fs ≡ [] → LacksPart fs
 
--- that it lacks counts only where the names read
+-- that it lacks counts only where the names are texts, also beside a second name of the element
 abbrev pub LoopLacks : List Wire → Type 0
-LoopLacks fs = NamesRead fs × LacksPart fs
+LoopLacks fs = IsUtf8 (bytes_at 1 fs) × IsUtf8 (bytes_at 3 fs) × IsUtf8 (bytes_at 8 fs)
+    × LacksPart fs
 
 pub data LoopWrong (fs : List Wire) (e : Refusal) : Type 0 where
   bad_iter_var : Utf8Fault (bytes_at 1 fs) e → LoopWrong fs e
   bad_accu_var : Utf8Fault (bytes_at 3 fs) e → LoopWrong fs e
+  bad_second_name : Utf8Fault (bytes_at 8 fs) e → LoopWrong fs e
   two_variables : bytes_at 8 fs ≢ [] → e ≡ Unsupported → LoopWrong fs e
 
 -- ---- Expr: id 2, and a oneof
@@ -294,3 +298,27 @@ IsNode parts id node = Reads node_keys NodeSays parts (id, node)
 abbrev pub NodeFault : Parts → Refusal → Type 0
 NodeFault = ReadFault node_keys (LacksMember node_kinds)
     (OneofFault node_kinds IsUnsupported MemberFails)
+
+-- ---- the expressions that stand in a node's message, also where other things are wrong with it
+
+-- in the fields of an Entry
+abbrev pub InEntry : List Wire → Parts → Type 0
+InEntry fs child =
+    ((last_number key_members fs ≡ Some map_key_field)
+    × (child ≡ payloads map_key_field (member_run key_members fs))) ⊎ IsPart 4 fs child
+
+-- in the fields of a member's message
+abbrev pub InKind : NodeKind → List Wire → Parts → Type 0
+InKind kinds.Constant fs child = ⊥
+InKind kinds.Ident fs child = ⊥
+InKind kinds.Select fs child = IsPart 1 fs child
+InKind kinds.Call fs child = IsPart 1 fs child ⊎ IsElement 3 fs child
+InKind kinds.List fs child = IsElement 1 fs child
+InKind kinds.Struct fs child = (entry : List ℕ) × (own : List Wire)
+    × Contains (payloads 2 fs) entry × Merges (entry ∷ []) own × InEntry own child
+InKind kinds.Comprehension fs child = IsPart 2 fs child ⊎ IsPart 4 fs child ⊎ IsPart 5 fs child
+    ⊎ IsPart 6 fs child ⊎ IsPart 7 fs child
+
+-- the child is an expression that stands in an Expr
+abbrev pub IsChild : Parts → Parts → Type 0
+IsChild = StandsIn node_kinds InKind

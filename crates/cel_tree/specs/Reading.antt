@@ -1,12 +1,13 @@
 -- Messages that say something by their fields, and what is wrong with them: Protocol Buffers
 -- encoding guide, "Message Structure", "Last One Wins" and "Oneofs".
-use Rattle.std.specs.Prelude.{◌≡◌, ◌⊎◌, ℕ, ◌==◌, List, Option, None, MatchOption, option_map}
+use Rattle.std.specs.Prelude.{◌≡◌, ◌≢◌, ◌⊎◌, ℕ, ◌==◌, List, [], ◌∷◌, Option, Some, None, MatchOption, option_map, Contains}
 use Rattle.std.specs.Map.{lookup, keys_of}
 use Rattle.std.specs.Option.{option_and_then}
 use Rattle.proto_wire.specs.Fields.{Wire}
 use Rattle.proto_wire.specs.Merge.{Merges}
 use Rattle.proto_wire.specs.Messages.{IsMessage, MessageFault}
 use Rattle.proto_wire.specs.Oneof.{last_member, member_run}
+use Rattle.proto_wire.specs.Values.{payloads}
 use Rattle.proto_wire.specs.declared.key.Key.{Key}
 use Rattle.proto_wire.specs.declared.refusal.Refusal.{Refusal}
 use Rattle.proto_wire.specs.declared.refusal.Refusal.TheVariants.{Missing, Unsupported}
@@ -71,3 +72,28 @@ abbrev pub OneofFault : {M : Type 0} → List (Key × Option M) → (Refusal →
 OneofFault table Refused Fails fs e = MatchOption (last_number (keys_of table) fs) ⊥
     (λ n. MatchOption (member_in table n) (Refused e)
     (λ m. Fails m n (member_run (keys_of table) fs) e))
+
+-- ---- messages inside, whatever else is wrong with the one that they stand in
+
+-- the fields of this number are one message, which is there
+abbrev pub IsPart : ℕ → List Wire → List (List ℕ) → Type 0
+IsPart n fs child = (payloads n fs ≢ []) × (child ≡ payloads n fs)
+
+-- each field of this number is a message, and this is one of them
+abbrev pub IsElement : ℕ → List Wire → List (List ℕ) → Type 0
+IsElement n fs child =
+    (payload : List ℕ) × Contains (payloads n fs) payload × (child ≡ payload ∷ [])
+
+-- the parts are whole fields, and so is the message of the member that counts, in which the child
+-- stands
+pub record StandsIn {M : Type 0} (table : List (Key × Option M))
+    (Inside : M → List Wire → List (List ℕ) → Type 0) (parts child : List (List ℕ)) : Type 0 where
+  pub fields : List Wire
+  pub merges : Merges parts fields
+  pub number : ℕ
+  pub last : last_number (keys_of table) fields ≡ Some number
+  pub member : M
+  pub is : member_in table number ≡ Some member
+  pub own : List Wire
+  pub whole : Merges (payloads number (member_run (keys_of table) fields)) own
+  pub inside : Inside member own child

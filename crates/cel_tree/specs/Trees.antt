@@ -1,9 +1,9 @@
 -- Messages of expressions, level by level: `google/api/expr/v1alpha1/syntax.proto`, Expr.
-use Rattle.std.specs.Prelude.{◌≡◌, ◌⊎◌, ◌≤◌, ◌<◌, ◌+◌, ℕ, zero, suc, ℤ, List, [], ◌∷◌, Contains}
+use Rattle.std.specs.Prelude.{◌≡◌, ◌⊎◌, ◌≤◌, ◌<◌, ◌+◌, ℕ, zero, suc, ℤ, List, [], ◌∷◌}
 use Rattle.proto_wire.specs.declared.refusal.Refusal.{Refusal}
 use Rattle.proto_wire.specs.declared.refusal.Refusal.TheVariants.{TooLarge}
 use Rattle.cel_tree.specs.Tree.{CelTree, constant, ident, select, call, list_literal, map_literal, comprehension, CelTarget, no_target, target, CelTrees, no_trees, tree, CelTreeEntries, no_tree_entries, tree_entry}
-use Rattle.cel_tree.specs.Nodes.{Parts, EntryNode, Node, constant_node, ident_node, select_node, call_node, list_node, map_node, loop_node, children, IsNode, NodeFault}
+use Rattle.cel_tree.specs.Nodes.{Parts, EntryNode, Node, constant_node, ident_node, select_node, call_node, list_node, map_node, loop_node, children, IsNode, NodeFault, IsChild}
 
 -- ---- trees of nodes
 
@@ -52,12 +52,12 @@ abbrev pub IsTree : ℕ → Parts → CelTree → Type 0
 IsTree zero parts t = ⊥
 IsTree (suc depth) parts t = IsLevel (IsTree depth) parts t
 
--- a fault of the node's own message, or of an expression inside
+-- a fault of the node's own message, or of an expression that stands in it, each of which may be
+-- there beside the other
 pub data TreeLevelFault (Below : Parts → Refusal → Type 0) (parts : Parts) (e : Refusal) : Type 0
   where
     in_node : NodeFault parts e → TreeLevelFault Below parts e
-    in_child : (id : ℤ) (node : Node) (child : Parts) → IsNode parts id node
-        → Contains (children node) child → Below child e → TreeLevelFault Below parts e
+    in_child : (child : Parts) → IsChild parts child → Below child e → TreeLevelFault Below parts e
 
 -- what is wrong with a tree that may have `depth` levels: past them any is one too deep, whatever
 -- it holds

@@ -11,7 +11,7 @@ use Rattle.cel_value.specs.Types.{ValueType, bool_type, int_type, uint_type, tex
 use Rattle.cel_value.specs.declared.cel_type.KeyType.{KeyType}
 use Rattle.cel_value.specs.declared.cel_type.KeyType.TheVariants as keys
 use Rattle.cel_tree.specs.Checked.{CelTypeEntry, of_type, dyn_type, unsupported_type}
-use Rattle.cel_tree.specs.Reading.{Reads, ReadFault, LacksNothing, OneofSays, Never, OneofFault}
+use Rattle.cel_tree.specs.Reading.{Reads, ReadFault, LacksNothing, OneofSays, Never, OneofFault, IsPart, StandsIn}
 use Rattle.cel_tree.specs.declared.type_node.TypeKind.{TypeKind}
 use Rattle.cel_tree.specs.declared.type_node.TypeKind.TheVariants as kinds
 
@@ -129,6 +129,18 @@ IsTypeNode = Reads type_keys (OneofSays type_kinds IsOfOtherKind TypeSays)
 abbrev pub TypeNodeFault : List (List ℕ) → Refusal → Type 0
 TypeNodeFault = ReadFault type_keys LacksNothing (OneofFault type_kinds Never TypeFails)
 
+-- ---- the types that stand in its message, also where other things are wrong with it
+
+-- in the fields of a member's message
+abbrev pub InTypeKind : TypeKind → List Wire → List (List ℕ) → Type 0
+InTypeKind kinds.List fs inner = IsPart elem_field fs inner
+InTypeKind kinds.Map fs inner = IsPart key_field fs inner ⊎ IsPart value_field fs inner
+InTypeKind _ fs inner = ⊥
+
+-- the inner one is a type that stands in a Type
+abbrev pub IsInner : List (List ℕ) → List (List ℕ) → Type 0
+IsInner = StandsIn type_kinds InTypeKind
+
 -- ---- all levels; `Below` stands for the types one level down
 
 -- the types inside make this entry
@@ -139,23 +151,18 @@ Holds Below (list_of elem) entry =
 Holds Below (map_of key value) entry =
     (k v : CelTypeEntry) × Below key k × Below value v × (entry ≡ map_entry k v)
 
--- a type inside has this fault
-abbrev pub HoldsFault : (List (List ℕ) → Refusal → Type 0) → TypeNode → Refusal → Type 0
-HoldsFault Below (plain own) e = ⊥
-HoldsFault Below (list_of elem) e = Below elem e
-HoldsFault Below (map_of key value) e = Below key e ⊎ Below value e
-
 -- the parts merge to a Type of at most `depth` levels, which says this
 abbrev pub IsTypeEntry : ℕ → List (List ℕ) → CelTypeEntry → Type 0
 IsTypeEntry zero parts entry = ⊥
 IsTypeEntry (suc depth) parts entry =
     (node : TypeNode) × IsTypeNode parts node × Holds (IsTypeEntry depth) node entry
 
--- a fault of its own message, or of a type inside
+-- a fault of its own message, or of a type that stands in it, each of which may be there beside the
+-- other
 pub data TypeLevelFault (Below : List (List ℕ) → Refusal → Type 0) (parts : List (List ℕ))
     (e : Refusal) : Type 0 where
   in_type : TypeNodeFault parts e → TypeLevelFault Below parts e
-  in_inner : (node : TypeNode) → IsTypeNode parts node → HoldsFault Below node e
+  in_inner : (inner : List (List ℕ)) → IsInner parts inner → Below inner e
       → TypeLevelFault Below parts e
 
 -- what is wrong with a Type that may have `depth` levels: past them any is one too deep, whatever

@@ -1,6 +1,7 @@
 -- What single steps of the code come to: clauses of private functions cite these, and no promise
 -- does.
 pub mod EntryViews
+pub mod InnerTypes
 pub mod Inside
 pub mod NodeViews
 pub mod Named

@@ -1,9 +1,10 @@
 //! Laws over the definitions: bytes are the message of one checked expression at most, and a message or a fault, never
-//! both.
+//! both; and its tree's constants have the types of their kinds.
 
 ghost use Rattle.std.specs.Prelude.{◌≡◌, ◌⊎◌, ℕ, List};
 ghost use Rattle.proto_wire.specs.declared.refusal.Refusal.{Refusal};
 ghost use Rattle.cel_tree.specs.Checked.{CelChecked};
+ghost use Rattle.cel_tree.specs.GoodConstants.{HasGoodConstants};
 ghost use Rattle.cel_tree.specs.Message.{IsChecked, CheckedFault};
 
 /// Payloads are the message of a checked expression, or have a fault.
@@ -19,4 +20,9 @@ pub fn checked_disjoint()
 /// They are the message of one checked expression at most.
 pub fn checked_unique()
     ensures { (parts : List (List ℕ)) (c d : CelChecked) → IsChecked parts c → IsChecked parts d → c ≡ d }
+{}
+
+/// Each constant of its tree has the type of its kind.
+pub fn constants_have_types()
+    ensures { (parts : List (List ℕ)) (c : CelChecked) → IsChecked parts c → HasGoodConstants c.tree }
 {}

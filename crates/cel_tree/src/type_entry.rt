@@ -5,8 +5,9 @@ ghost use Rattle.proto_wire.specs.Merge.{parts_view};
 ghost use Rattle.proto_wire.specs.Refusal.{MemoryOr};
 ghost use Rattle.proto_wire.specs.declared.refusal.Refusal.TheVariants.{TooLarge};
 ghost use Rattle.cel_value.specs.Types.{type_view};
-ghost use Rattle.cel_tree.specs.TypeEntries.{list_entry, map_entry, key_type_of, Holds, HoldsFault, IsTypeEntry, TypeEntryFault};
+ghost use Rattle.cel_tree.specs.TypeEntries.{list_entry, map_entry, key_type_of, Holds, IsTypeEntry, TypeEntryFault};
 ghost use Rattle.cel_tree.specs.View.{type_entry_view};
+ghost use Rattle.cel_tree.specs.steps.InnerTypes.{HoldsFault};
 ghost use Rattle.cel_tree.specs.steps.NodeViews.{type_node_view};
 
 use crate::checked::TypeEntry;
