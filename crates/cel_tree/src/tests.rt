@@ -487,6 +487,51 @@ fn cases(rt: HostRuntime) {
     }
 }
 
+/// Bytes with two faults, of which either may be answered.
+const EITHER: [(&[u8], Refusal, Refusal); 5] = [
+    // A call's name that is no UTF-8, and a null among its arguments.
+    (
+        b"\x22\x0b2\x09\x12\x01\xff\x1a\x04\x1a\x02\x08\x00",
+        Refusal::BadText,
+        Refusal::Unsupported,
+    ),
+    // An element without a member, and optional indices.
+    (
+        b"\x22\x08:\x06\x0a\x02\x1a\x00\x12\x00",
+        Refusal::Unsupported,
+        Refusal::Missing,
+    ),
+    // A map type without a key, and an unknown field in the type of its values.
+    (
+        b"\x1a\x0a\x08\x01\x12\x06:\x04\x12\x02Z\x00\x22\x04\x1a\x02\x10\x01",
+        Refusal::OutOfRange,
+        Refusal::UnknownField,
+    ),
+    // A message's name that is no UTF-8.
+    (
+        b"\x22\x05B\x03\x0a\x01\xff",
+        Refusal::BadText,
+        Refusal::Unsupported,
+    ),
+    // A comprehension with a second name, and without its parts.
+    (
+        b"\x22\x05J\x03B\x01y",
+        Refusal::Unsupported,
+        Refusal::Missing,
+    ),
+];
+
+#[test]
+fn either(rt: HostRuntime) {
+    for (bytes, one, other) in &EITHER {
+        let answer = read_checked(rt.alloc(), bytes).err();
+        assert!(rt;
+            answer == Some(*one) || answer == Some(*other),
+            "at {bytes:?}"
+        );
+    }
+}
+
 /// The message of a call of `!_` with this argument.
 fn negated(alloc: Global, arg: &[u8]) -> Result<Vec<u8>, AllocError> {
     let mut call = Writer::new(Vec::new(alloc));
