@@ -15,16 +15,16 @@ use Rattle.cel_overload.specs.Overloads.{CallFault}
 use Rattle.cel_overload.specs.declared.overload.OverloadFault.TheVariants as calls
 use Rattle.cel_types.specs.Attributes.{attribute_named, attribute_type}
 use Rattle.cel_types.specs.Names.{bare_root, joined_name, local, root_of}
-use Rattle.cel_types.specs.Typing.{CallRule, IdentRule, IsList, IsMap, IsOver, Kinds, ListRule, LoopRule, MapRule, Maps, RefAgrees, SelectRule, Types, TypesAll, TypesEach, TypesPairs, TypesTarget, constant_type, has_target, locals_in, maps_of, most_locals, name_type}
+use Rattle.cel_types.specs.Typing.{IsList, IsMap, IsOver, Kinds, Maps, RefAgrees, Types, TypesAll, TypesEach, TypesPairs, TypesTarget, constant_type, has_target, locals_in, maps_of, most_locals, name_type}
 
 -- ---- entries
 
--- a type entry is of a kind that is not supported, or says another type than the node's rule
-pub data EntryFault (entry : Option CelTypeEntry) (Rule : ValueType → Type 0) (e : Refusal) : Type 0
+-- a type entry is of a kind that is not supported, or says another type than the node has
+pub data EntryFault (entry : Option CelTypeEntry) (Has : ValueType → Type 0) (e : Refusal) : Type 0
   where
-    unsupported_kind : entry ≡ Some unsupported_type → e ≡ Unsupported → EntryFault entry Rule e
-    another_type : (s t : ValueType) → Rule t → entry ≡ Some (of_type s) → s ≢ t
-        → e ≡ BadTypeEntry → EntryFault entry Rule e
+    unsupported_kind : entry ≡ Some unsupported_type → e ≡ Unsupported → EntryFault entry Has e
+    another_type : (s t : ValueType) → Has t → entry ≡ Some (of_type s) → s ≢ t
+        → e ≡ BadTypeEntry → EntryFault entry Has e
 
 -- a reference entry names another variable, or holds a value
 abbrev pub RefDiffers : Option CelReference → List ℕ → Type 0
@@ -161,30 +161,26 @@ abbrev mutual
   -- a fault of the node, of its entry, or of an expression inside
   pub TypeFault : Maps → Kinds → CelTree → Refusal → Type 0
   TypeFault m ks (constant id v) e =
-      ConstantFault v e ⊎ EntryFault (get m.types id) (λ t. constant_type v ≡ Some t) e
+      ConstantFault v e ⊎ EntryFault (get m.types id) (Types m ks (constant id v)) e
   TypeFault m ks (ident id name) e = IdentFault (get m.refs id) ks name e
       ⊎ ((bare_root name ks ≡ false)
-      × EntryFault (get m.types id) (IdentRule (get m.refs id) ks name) e)
+      × EntryFault (get m.types id) (Types m ks (ident id name)) e)
   TypeFault m ks (select id operand field test_only) e =
       SelectFault (get m.refs id) (root_of operand ks) (Types m ks operand)
       (TypeFault m ks operand) field test_only e
-      ⊎ EntryFault (get m.types id) (SelectRule (get m.refs id) (root_of operand ks)
-      (Types m ks operand) field test_only) e
+      ⊎ EntryFault (get m.types id) (Types m ks (select id operand field test_only)) e
   TypeFault m ks (call id name on args) e =
       CallsFault name (has_target on) (TypesTarget m ks on (TypesEach m ks args))
       (λ d. TargetFault m ks on d ⊎ SomeFault m ks args d) e
-      ⊎ EntryFault (get m.types id)
-      (CallRule name (has_target on) (TypesTarget m ks on (TypesEach m ks args))) e
+      ⊎ EntryFault (get m.types id) (Types m ks (call id name on args)) e
   TypeFault m ks (list_literal id elements) e =
       ListFault (get m.types id) elements (TypesEach m ks elements) (TypesAll m ks elements)
       (SomeFault m ks elements) e
-      ⊎ EntryFault (get m.types id)
-      (ListRule (get m.types id) elements (TypesAll m ks elements)) e
+      ⊎ EntryFault (get m.types id) (Types m ks (list_literal id elements)) e
   TypeFault m ks (map_literal id entries) e =
       MapsFault (get m.types id) entries (TypesInTurn m ks entries) (TypesPairs m ks entries)
       (PairFault m ks entries) e
-      ⊎ EntryFault (get m.types id)
-      (MapRule (get m.types id) entries (TypesPairs m ks entries)) e
+      ⊎ EntryFault (get m.types id) (Types m ks (map_literal id entries)) e
   TypeFault m ks (comprehension id x acc range init condition step result) e =
       LoopFault x acc (Types m ks range) (Types m ks init)
       (λ s a. Types m ((x, s) ∷ (acc, a) ∷ ks) condition)
@@ -193,10 +189,8 @@ abbrev mutual
       (λ s a d. TypeFault m ((x, s) ∷ (acc, a) ∷ ks) condition d
       ⊎ TypeFault m ((x, s) ∷ (acc, a) ∷ ks) step d)
       (λ a. TypeFault m ((acc, a) ∷ ks) result) e
-      ⊎ EntryFault (get m.types id) (LoopRule x acc (Types m ks range) (Types m ks init)
-      (λ s a. Types m ((x, s) ∷ (acc, a) ∷ ks) condition)
-      (λ s a. Types m ((x, s) ∷ (acc, a) ∷ ks) step)
-      (λ a. Types m ((acc, a) ∷ ks) result)) e
+      ⊎ EntryFault (get m.types id)
+      (Types m ks (comprehension id x acc range init condition step result)) e
 
   -- a fault of a target
   pub TargetFault : Maps → Kinds → CelTarget → Refusal → Type 0
