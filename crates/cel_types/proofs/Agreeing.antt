@@ -10,7 +10,7 @@ use Rattle.cel_tree.specs.Checked.{CelReference, CelTypeEntry, of_type, dyn_type
 use Rattle.cel_tree.specs.Tree.{CelTree, constant, ident, select, call, list_literal, map_literal, comprehension, CelTarget, no_target, target, CelTrees, no_trees, tree, CelTreeEntries, no_tree_entries, tree_entry}
 use Rattle.cel_types.specs.Names.{joined_name, root_of}
 use Rattle.cel_types.specs.Typing.{EachAgrees, EntriesAgree, EntryAgrees, IsOver, Kinds, ListRule, MapRule, Maps, NameAgrees, PairsAgree, SelectAgrees, SelectRule, TargetAgrees, Types, TypesAll, TypesEach, TypesPairs, TypesTarget}
-use Rattle.cel_types.specs.TypingFaults.{ElementsFault, EntryFault, IdentFault, ListFault, MapsFault, PairFault, PairsFault, SelectFault, SomeFault, TargetFault, TypeFault, TypesInTurn, CallsFault}
+use Rattle.cel_types.specs.TypingFaults.{ItemTypes, KeyTypes, SomeTypes, ElementsFault, EntryFault, IdentFault, ListFault, MapsFault, PairFault, PairsFault, SelectFault, SomeFault, TargetFault, TypeFault, CallsFault}
 use Rattle.cel_types.specs.TypingFaults.{unsupported_kind, another_type, in_range, in_init, in_turn, in_result}
 use Rattle.cel_types.proofs.OneType.{OneAtMost, one-type, over-one}
 use Rattle.cel_types.proofs.Total.{ref-decided, same_type, type-total, typed-no-root}
@@ -201,7 +201,7 @@ mutual
       → Kept (EachAgrees m ks ts) (SomeFault m ks ts))
       → ListRule entry ts (TypesAll m ks ts) s
       → Kept (EachAgrees m ks ts)
-      (ListFault entry ts (TypesEach m ks ts) (TypesAll m ks ts) (SomeFault m ks ts))
+      (ListFault entry ts (SomeTypes m ks ts) (SomeFault m ks ts))
   list-kept m ks no_trees entry s all g = inl tt
   list-kept m ks (tree t ts) entry s all g = elim (all g.0 g.1) [
     | inl agree ↦ inl agree
@@ -227,7 +227,7 @@ mutual
       → Kept (PairsAgree m ks es) (PairFault m ks es))
       → MapRule entry es (TypesPairs m ks es) s
       → Kept (PairsAgree m ks es)
-      (MapsFault entry es (TypesInTurn m ks es) (TypesPairs m ks es) (PairFault m ks es))
+      (MapsFault entry es (KeyTypes m ks es) (ItemTypes m ks es) (PairFault m ks es))
   map-kept m ks no_tree_entries entry s pairs g = inl tt
   map-kept m ks (tree_entry id key value es) entry s pairs g =
       elim (pairs (type_of_key g.0) g.1 g.2) [

@@ -12,7 +12,7 @@ use Rattle.cel_overload.proofs.OneOverload.{call-disjoint}
 use Rattle.cel_types.specs.Attributes.{attribute_named, attribute_type}
 use Rattle.cel_types.specs.Names.{joined_name, root_of}
 use Rattle.cel_types.specs.Typing.{CallRule, EachAgrees, EntriesAgree, EntryAgrees, IdentRule, IsList, IsMap, IsOver, Kinds, ListRule, LoopRule, MapRule, Maps, NameAgrees, PairsAgree, RefAgrees, SelectAgrees, SelectRule, TargetAgrees, TypeAgrees, TypeGiven, Types, TypesAll, TypesEach, TypesPairs, TypesTarget, has_target}
-use Rattle.cel_types.specs.TypingFaults.{CallsFault, ElementsFault, EmptyFault, EntryFault, IdentFault, ListFault, LoopFault, MapsFault, PairFault, PairsFault, SaysNothing, SelectFault, SomeFault, TargetFault, TypeFault, TypesInTurn}
+use Rattle.cel_types.specs.TypingFaults.{CallsFault, ElementsFault, EmptyFault, EntryFault, IdentFault, ItemTypes, KeyTypes, ListFault, LoopFault, MapsFault, PairFault, PairsFault, SaysNothing, SelectFault, SomeFault, SomeTypes, TargetFault, TypeFault}
 use Rattle.cel_types.specs.TypingFaults.{unsupported_kind, another_type, untold, of_another_kind, no_element_name, no_gathered_name, one_name, no_elements, no_condition, no_step, in_range, in_init, in_turn, in_result}
 use Rattle.cel_types.proofs.OneType.{OneAtMost, one-each, one-target, one-type, over-one}
 
@@ -85,28 +85,62 @@ call-apart name on Operands InOperands t e one apart rule (CallsFault.no_overloa
 call-apart name on Operands InOperands t e one apart rule (CallsFault.in_operand inside) =
     apart rule.0 e rule.1 inside
 
-list-apart : (entry : Option CelTypeEntry) (elements : CelTrees) (Each : List ValueType → Type 0)
-    (All : ValueType → Type 0) (InElements : Refusal → Type 0) (t : ValueType) (e : Refusal)
+list-apart : (entry : Option CelTypeEntry) (elements : CelTrees) (All HasElement : ValueType → Type 0)
+    (InElements : Refusal → Type 0) (t : ValueType) (e : Refusal)
+    → ((s u : ValueType) → All s → HasElement u → s ≡ u)
     → ((s : ValueType) (e : Refusal) → All s → InElements e → ⊥)
-    → ListRule entry elements All t → ListFault entry elements Each All InElements e → ⊥
-list-apart entry no_trees Each All InElements t e apart rule fault =
+    → ListRule entry elements All t → ListFault entry elements HasElement InElements e → ⊥
+list-apart entry no_trees All HasElement InElements t e one apart rule fault =
     empty-apart entry IsList t e rule.0 rule.1 fault
-list-apart entry (tree a others) Each All InElements t e apart rule
-    (ElementsFault.no_common_type ts some each never _) = never rule.0 rule.1
-list-apart entry (tree a others) Each All InElements t e apart rule (ElementsFault.in_element inside) =
-    apart rule.0 e rule.1 inside
+list-apart entry (tree a others) All HasElement InElements t e one apart rule
+    (ElementsFault.two_types s u has other differs _) =
+    differs (sym (one rule.0 s rule.1 has) ∙ one rule.0 u rule.1 other)
+list-apart entry (tree a others) All HasElement InElements t e one apart rule
+    (ElementsFault.in_element inside) = apart rule.0 e rule.1 inside
 
 map-apart : (entry : Option CelTypeEntry) (entries : CelTreeEntries)
-    (Each : List ValueType → Type 0) (Pairs : ValueType → ValueType → Type 0)
+    (Pairs : ValueType → ValueType → Type 0) (HasKey HasValue : ValueType → Type 0)
     (InEntries : Refusal → Type 0) (t : ValueType) (e : Refusal)
+    → ((r s u : ValueType) → Pairs r s → HasKey u → r ≡ u)
+    → ((r s u : ValueType) → Pairs r s → HasValue u → s ≡ u)
     → ((r s : ValueType) (e : Refusal) → Pairs r s → InEntries e → ⊥)
-    → MapRule entry entries Pairs t → MapsFault entry entries Each Pairs InEntries e → ⊥
-map-apart entry no_tree_entries Each Pairs InEntries t e apart rule fault =
-    empty-apart entry IsMap t e rule.0 rule.1 fault
-map-apart entry (tree_entry id key value es) Each Pairs InEntries t e apart rule
-    (PairsFault.no_common_type ts some each never _) = never rule.0 rule.1 rule.2
-map-apart entry (tree_entry id key value es) Each Pairs InEntries t e apart rule
-    (PairsFault.in_entry inside) = apart (type_of_key rule.0) rule.1 e rule.2 inside
+    → MapRule entry entries Pairs t → MapsFault entry entries HasKey HasValue InEntries e → ⊥
+map-apart entry no_tree_entries Pairs HasKey HasValue InEntries t e on_keys on_values apart rule
+    fault = empty-apart entry IsMap t e rule.0 rule.1 fault
+map-apart entry (tree_entry id key value es) Pairs HasKey HasValue InEntries t e on_keys on_values
+    apart rule (PairsFault.two_key_types s u has other differs _) =
+    differs (sym (on_keys (type_of_key rule.0) rule.1 s rule.2 has)
+    ∙ on_keys (type_of_key rule.0) rule.1 u rule.2 other)
+map-apart entry (tree_entry id key value es) Pairs HasKey HasValue InEntries t e on_keys on_values
+    apart rule (PairsFault.two_value_types s u has other differs _) =
+    differs (sym (on_values (type_of_key rule.0) rule.1 s rule.2 has)
+    ∙ on_values (type_of_key rule.0) rule.1 u rule.2 other)
+map-apart entry (tree_entry id key value es) Pairs HasKey HasValue InEntries t e on_keys on_values
+    apart rule (PairsFault.no_key_type s has never _) =
+    never rule.0 (sym (on_keys (type_of_key rule.0) rule.1 s rule.2 has))
+map-apart entry (tree_entry id key value es) Pairs HasKey HasValue InEntries t e on_keys on_values
+    apart rule (PairsFault.in_entry inside) = apart (type_of_key rule.0) rule.1 e rule.2 inside
+
+-- what all have some has
+all-one : (m : Maps) (ks : Kinds) (ts : CelTrees) (s u : ValueType) → TypesAll m ks ts s
+    → SomeTypes m ks ts u → s ≡ u
+all-one m ks no_trees s u all some = absurd some
+all-one m ks (tree t ts) s u all (inl here) = one-type m ks t s u all.0 here
+all-one m ks (tree t ts) s u all (inr some) = all-one m ks ts s u all.1 some
+
+keys-one : (m : Maps) (ks : Kinds) (es : CelTreeEntries) (r s u : ValueType)
+    → TypesPairs m ks es r s → KeyTypes m ks es u → r ≡ u
+keys-one m ks no_tree_entries r s u all some = absurd some
+keys-one m ks (tree_entry id key value es) r s u all (inl here) = one-type m ks key r u all.0 here
+keys-one m ks (tree_entry id key value es) r s u all (inr some) = keys-one m ks es r s u all.2 some
+
+items-one : (m : Maps) (ks : Kinds) (es : CelTreeEntries) (r s u : ValueType)
+    → TypesPairs m ks es r s → ItemTypes m ks es u → s ≡ u
+items-one m ks no_tree_entries r s u all some = absurd some
+items-one m ks (tree_entry id key value es) r s u all (inl here) =
+    one-type m ks value s u all.1 here
+items-one m ks (tree_entry id key value es) r s u all (inr some) =
+    items-one m ks es r s u all.2 some
 
 module _ (x acc : List ℕ) (Range Init : ValueType → Type 0)
     (Condition Step : ValueType → ValueType → ValueType → Type 0)
@@ -197,14 +231,15 @@ mutual
   typed-apart m ks (call id name on args) s e g h (inr fault) =
       entry-apart (get m.types id) (Types m ks (call id name on args)) s e g h.0 fault
   typed-apart m ks (list_literal id elements) s e g h (inl fault) =
-      list-apart (get m.types id) elements (TypesEach m ks elements) (TypesAll m ks elements)
-      (SomeFault m ks elements) s e
+      list-apart (get m.types id) elements (TypesAll m ks elements) (SomeTypes m ks elements)
+      (SomeFault m ks elements) s e (all-one m ks elements)
       (λ u d all inside. all-apart m ks elements u d all h.1 inside) g fault
   typed-apart m ks (list_literal id elements) s e g h (inr fault) =
       entry-apart (get m.types id) (Types m ks (list_literal id elements)) s e g h.0 fault
   typed-apart m ks (map_literal id entries) s e g h (inl fault) =
-      map-apart (get m.types id) entries (TypesInTurn m ks entries) (TypesPairs m ks entries)
-      (PairFault m ks entries) s e
+      map-apart (get m.types id) entries (TypesPairs m ks entries) (KeyTypes m ks entries)
+      (ItemTypes m ks entries) (PairFault m ks entries) s e (keys-one m ks entries)
+      (items-one m ks entries)
       (λ r u d all inside. pairs-apart m ks entries r u d all h.1 inside) g fault
   typed-apart m ks (map_literal id entries) s e g h (inr fault) =
       entry-apart (get m.types id) (Types m ks (map_literal id entries)) s e g h.0 fault

@@ -20,9 +20,8 @@ use Rattle.attributes.specs.declared.attribute.AttrId.{AttrId}
 use Rattle.cel_types.specs.Attributes.{attribute_named, attribute_type}
 use Rattle.cel_types.specs.Names.{bare_root, is_root, joined_name, local, root_of}
 use Rattle.cel_types.specs.Typing.{CallRule, IdentRule, IsList, IsMap, IsOver, Kinds, ListRule, LoopRule, MapRule, Maps, NamesDiffer, RefAgrees, SelectRule, TypeGiven, Types, TypesAll, TypesEach, TypesPairs, TypesTarget, constant_type, field_type, has_target, name_type}
-use Rattle.cel_types.specs.TypingFaults.{CallsFault, ConstantFault, ElementsFault, EmptyFault, EntryFault, IdentFault, ListFault, LoopFault, MapsFault, PairFault, PairsFault, RefDiffers, SelectFault, SomeFault, TargetFault, TypeFault, TypesInTurn}
+use Rattle.cel_types.specs.TypingFaults.{CallsFault, ConstantFault, ElementsFault, EmptyFault, EntryFault, IdentFault, ItemTypes, KeyTypes, ListFault, LoopFault, MapsFault, PairFault, PairsFault, RefDiffers, SelectFault, SomeFault, SomeTypes, TargetFault, TypeFault}
 use Rattle.cel_types.specs.TypingFaults.{unsupported_kind, untold, of_another_kind, no_element_name, no_gathered_name, one_name, no_elements, no_condition, no_step, in_range, in_init, in_turn, in_result}
-use Rattle.cel_types.proofs.OneType.{one-type}
 
 -- a type by a rule, or a fault
 abbrev pub Decided : (ValueType → Type 0) → (Refusal → Type 0) → Type 0
@@ -192,35 +191,50 @@ range-kind bytes_type = inr (λ t h. h)
 
 -- ---- elements and pairs of one type
 
+-- keys and values in turn have the types
+abbrev TypesInTurn : Maps → Kinds → CelTreeEntries → List ValueType → Type 0
+TypesInTurn m ks no_tree_entries [] = Unit {0}
+TypesInTurn m ks no_tree_entries (t ∷ ts) = ⊥
+TypesInTurn m ks (tree_entry id key value es) [] = ⊥
+TypesInTurn m ks (tree_entry id key value es) (s ∷ []) = ⊥
+TypesInTurn m ks (tree_entry id key value es) (s ∷ t ∷ ts) =
+    Types m ks key s × Types m ks value t × TypesInTurn m ks es ts
+
 module _ (m : Maps) (ks : Kinds) where
+  -- some has another type
+  abbrev Differs : (ValueType → Type 0) → ValueType → Type 0
+  Differs Has s = (t : ValueType) × Has t × (s ≢ t)
+
   all-decided : (ts : CelTrees) (us : List ValueType) (s : ValueType) → TypesEach m ks ts us
-      → TypesAll m ks ts s ⊎ (TypesAll m ks ts s → ⊥)
+      → TypesAll m ks ts s ⊎ Differs (SomeTypes m ks ts) s
   all-decided no_trees us s h = inl tt
   all-decided (tree t ts) [] s h = absurd h
-  all-decided (tree t ts) (u ∷ us) s h = elim (same_type u s) [
-    | inr differs ↦ inr (λ all. differs (one-type m ks t u s h.0 all.0))
+  all-decided (tree t ts) (u ∷ us) s h = elim (same_type s u) [
+    | inr differs ↦ inr (u, inl h.0, differs)
     | inl e ↦ elim (all-decided ts us s h.1) [
-      | inl others ↦ inl (subst (λ v. Types m ks t v) e h.0, others)
-      | inr never ↦ inr (λ all. never all.1)
+      | inl others ↦ inl (subst (λ v. Types m ks t v) (sym e) h.0, others)
+      | inr (v, some, differs) ↦ inr (v, inr some, differs)
     ]
   ]
 
   pairs-decided : (es : CelTreeEntries) (us : List ValueType) (r s : ValueType)
-      → TypesInTurn m ks es us → TypesPairs m ks es r s ⊎ (TypesPairs m ks es r s → ⊥)
+      → TypesInTurn m ks es us → TypesPairs m ks es r s
+      ⊎ (Differs (KeyTypes m ks es) r ⊎ Differs (ItemTypes m ks es) s)
   pairs-decided no_tree_entries us r s h = inl tt
   pairs-decided (tree_entry id key value es) [] r s h = absurd h
   pairs-decided (tree_entry id key value es) (t ∷ []) r s h = absurd h
-  pairs-decided (tree_entry id key value es) (t ∷ u ∷ us) r s h = elim (same_type t r) [
-    | inr differs ↦ inr (λ all. differs (one-type m ks key t r h.0 all.0))
-    | inl d ↦ elim (same_type u s) [
-      | inr differs ↦ inr (λ all. differs (one-type m ks value u s h.1 all.1))
+  pairs-decided (tree_entry id key value es) (t ∷ u ∷ us) r s h = elim (same_type r t) [
+    | inr differs ↦ inr (inl (t, inl h.0, differs))
+    | inl d ↦ elim (same_type s u) [
+      | inr differs ↦ inr (inr (u, inl h.1, differs))
       | inl e ↦ elim (pairs-decided es us r s h.2) [
         | inl others ↦ inl (
-          subst (λ v. Types m ks key v) d h.0,
-          subst (λ v. Types m ks value v) e h.1,
+          subst (λ v. Types m ks key v) (sym d) h.0,
+          subst (λ v. Types m ks value v) (sym e) h.1,
           others,
         )
-        | inr never ↦ inr (λ all. never all.2)
+        | inr (inl (v, some, differs)) ↦ inr (inl (v, inr some, differs))
+        | inr (inr (v, some, differs)) ↦ inr (inr (v, inr some, differs))
       ]
     ]
   ]
@@ -228,50 +242,37 @@ module _ (m : Maps) (ks : Kinds) where
   list-decided : (entry : Option CelTypeEntry) (ts : CelTrees)
       → ((us : List ValueType) × TypesEach m ks ts us) ⊎ ((e : Refusal) × SomeFault m ks ts e)
       → Decided (ListRule entry ts (TypesAll m ks ts))
-      (λ e. ListFault entry ts (TypesEach m ks ts) (TypesAll m ks ts) (SomeFault m ks ts) e
+      (λ e. ListFault entry ts (SomeTypes m ks ts) (SomeFault m ks ts) e
       ⊎ EntryFault entry (ListRule entry ts (TypesAll m ks ts)) e)
   list-decided entry no_trees each = empty-decided entry IsList list-kind
   list-decided entry (tree t ts) (inr (e, f)) = inr (e, inl (ElementsFault.in_element f))
   list-decided entry (tree t ts) (inl ([], h)) = absurd h
   list-decided entry (tree t ts) (inl (u ∷ us, h)) = elim (all-decided (tree t ts) (u ∷ us) u h) [
     | inl all ↦ inl (list_type u, (u, all, refl))
-    | inr never ↦ inr (
-      NoOverload,
-      inl (ElementsFault.no_common_type (u ∷ us) (λ e. cc) h
-          (λ s all. never (subst (λ v. TypesAll m ks (tree t ts) v)
-          (one-type m ks t s u all.0 h.0) all)) refl),
-    )
+    | inr (v, some, differs) ↦
+        inr (NoOverload, inl (ElementsFault.two_types u v (inl h.0) some differs refl))
   ]
 
   map-decided : (entry : Option CelTypeEntry) (es : CelTreeEntries)
       → ((us : List ValueType) × TypesInTurn m ks es us) ⊎ ((e : Refusal) × PairFault m ks es e)
       → Decided (MapRule entry es (TypesPairs m ks es))
-      (λ e. MapsFault entry es (TypesInTurn m ks es) (TypesPairs m ks es) (PairFault m ks es) e
+      (λ e. MapsFault entry es (KeyTypes m ks es) (ItemTypes m ks es) (PairFault m ks es) e
       ⊎ EntryFault entry (MapRule entry es (TypesPairs m ks es)) e)
   map-decided entry no_tree_entries each = empty-decided entry IsMap map-kind
   map-decided entry (tree_entry id key value es) (inr (e, f)) = inr (e, inl (PairsFault.in_entry f))
   map-decided entry (tree_entry id key value es) (inl ([], h)) = absurd h
   map-decided entry (tree_entry id key value es) (inl (t ∷ [], h)) = absurd h
   map-decided entry (tree_entry id key value es) (inl (t ∷ u ∷ us, h)) = elim (key-kind t) [
-    | inr never ↦ inr (
-      NoOverload,
-      inl (PairsFault.no_common_type (t ∷ u ∷ us) (λ e. cc) h
-          (λ k s all. never k (one-type m ks key t (type_of_key k) h.0 all.0)) refl),
-    )
+    | inr never ↦ inr (NoOverload, inl (PairsFault.no_key_type t (inl h.0) never refl))
     | inl (k, is) ↦ elim (pairs-decided (tree_entry id key value es) (t ∷ u ∷ us) t u h) [
       | inl all ↦ inl (
         map_type k u,
         (k, u, subst (λ v. TypesPairs m ks (tree_entry id key value es) v u) is all, refl),
       )
-      | inr never ↦ inr (
-        NoOverload,
-        inl (PairsFault.no_common_type (t ∷ u ∷ us) (λ e. cc) h
-            (λ j s all. never
-            (subst (λ v. TypesPairs m ks (tree_entry id key value es) v u)
-            (one-type m ks key (type_of_key j) t all.0 h.0)
-            (subst (λ v. TypesPairs m ks (tree_entry id key value es) (type_of_key j) v)
-            (one-type m ks value s u all.1 h.1) all))) refl),
-      )
+      | inr (inl (v, some, differs)) ↦
+          inr (NoOverload, inl (PairsFault.two_key_types t v (inl h.0) some differs refl))
+      | inr (inr (v, some, differs)) ↦
+          inr (NoOverload, inl (PairsFault.two_value_types u v (inl h.1) some differs refl))
     ]
   ]
 

@@ -6,18 +6,19 @@ use Rattle.std.specs.Cmp.{int_cmp_total}
 use Rattle.std.specs.Cmp.Lexicographic.{bytes_decides}
 use Rattle.std.specs.Ordering.{int_cmp}
 use Rattle.proto_wire.specs.declared.refusal.Refusal.TheVariants.{BadReference, BadTypeEntry, Missing, NeedsType, NoOverload, OutOfRange, UnknownName, Unsupported}
-use Rattle.cel_value.specs.Types.{ValueType, bool_type, int_type, uint_type, text_type, list_type, map_type}
+use Rattle.cel_value.specs.Types.{ValueType, bool_type, int_type, uint_type, text_type, list_type, map_type, type_of_key}
 use Rattle.cel_value.specs.Values.{bool, int, uint, text}
+use Rattle.cel_value.specs.declared.cel_type.KeyType.{KeyType}
 use Rattle.cel_value.specs.declared.cel_type.KeyType.TheVariants as keys
 use Rattle.cel_ops.specs.declared.comparison.CompareOp.TheVariants.{Equal}
 use Rattle.cel_ops.specs.declared.arithmetic.ArithmeticOp.TheVariants.{Add}
 use Rattle.cel_overload.specs.declared.function.Function.TheVariants as functions
 use Rattle.cel_overload.specs.declared.overload.Overload.TheVariants as overloads
 use Rattle.cel_tree.specs.Checked.{CelChecked, CelReference, CelTypeEntry, of_type, dyn_type, unsupported_type}
-use Rattle.cel_tree.specs.Tree.{CelTree, constant, ident, select, call, comprehension, list_literal, no_target, CelTrees, no_trees, tree}
+use Rattle.cel_tree.specs.Tree.{CelTree, constant, ident, select, call, comprehension, list_literal, map_literal, no_target, no_tree_entries, tree_entry, CelTrees, no_trees, tree}
 use Rattle.cel_overload.proofs.OneOverload.{unchosen}
 use Rattle.cel_types.specs.Typing.{EntryAgrees, IsTyped, Maps, RefAgrees, TypeGiven, Types, TypesEach, locals_in}
-use Rattle.cel_types.specs.TypingFaults.{CallsFault, ElementsFault, IdentFault, SaysNothing, SelectFault, TypeFault, another_type, of_another_kind, unsupported_kind, untold, no_element_name, no_elements, one_name, in_init, in_turn}
+use Rattle.cel_types.specs.TypingFaults.{CallsFault, ElementsFault, IdentFault, PairsFault, SaysNothing, SelectFault, TypeFault, another_type, of_another_kind, unsupported_kind, untold, no_element_name, no_elements, one_name, in_init, in_turn}
 use Rattle.cel_types.specs.Elaborated.{Elaborates, no_typed, typed, typed_attribute, typed_call, typed_constant, typed_list, typed_local, typed_loop}
 use Rattle.attributes.specs.declared.attribute.AttrId.{AttrId}
 
@@ -244,11 +245,66 @@ no_sum = inl (CallsFault.no_overload (int_type ∷ uint_type ∷ []) int_and_uin
 ) refl)
 
 no_list : TypeFault (with_types []) [] (list_literal (pos 3) one_and_one) NoOverload
-no_list = inl (ElementsFault.no_common_type (int_type ∷ uint_type ∷ []) (λ e. cc) int_and_uint
-    (λ t all. mixed t all.0 all.1.0) refl)
+no_list = inl (ElementsFault.two_types int_type uint_type (inl refl) (inr (inl refl)) (λ e. cc) refl)
+
+-- `[1, 2u, nosuch]` is 9 and 10
+
+abbrev nosuch : CelTree
+nosuch = ident (pos 4) (codes "nosuch")
+
+abbrev three_elements : CelTree
+three_elements = list_literal (pos 3) (tree (constant (pos 1) (int (pos 1)))
+    (tree (constant (pos 2) (uint 2)) (tree nosuch no_trees)))
+
+different_elements : TypeFault (with_types []) [] three_elements NoOverload
+different_elements =
+    inl (ElementsFault.two_types int_type uint_type (inl refl) (inr (inl refl)) (λ e. cc) refl)
+
+unknown_element : TypeFault (with_types []) [] three_elements UnknownName
+unknown_element =
+    inl (ElementsFault.in_element (inr (inr (inl (inl (IdentFault.unknown refl refl))))))
+
+-- `{1: 2, 3u: nosuch}` is 9 and 10, and so is `{nosuch: 2, 1: "a"}`
+
+abbrev different_keys : CelTree
+different_keys = map_literal (pos 3)
+    (tree_entry (pos 5) (constant (pos 1) (int (pos 1))) (constant (pos 2) (int (pos 2)))
+    (tree_entry (pos 6) (constant (pos 7) (uint 3)) nosuch no_tree_entries))
+
+keys_differ : TypeFault (with_types []) [] different_keys NoOverload
+keys_differ =
+    inl (PairsFault.two_key_types int_type uint_type (inl refl) (inr (inl refl)) (λ e. cc) refl)
+
+unknown_value : TypeFault (with_types []) [] different_keys UnknownName
+unknown_value =
+    inl (PairsFault.in_entry (inr (inr (inr (inl (inl (IdentFault.unknown refl refl)))))))
+
+abbrev different_values : CelTree
+different_values = map_literal (pos 3)
+    (tree_entry (pos 5) nosuch (constant (pos 2) (int (pos 2)))
+    (tree_entry (pos 6) (constant (pos 7) (int (pos 1))) (constant (pos 8) (text (codes "a")))
+    no_tree_entries))
+
+values_differ : TypeFault (with_types []) [] different_values NoOverload
+values_differ =
+    inl (PairsFault.two_value_types int_type text_type (inl refl) (inr (inl refl)) (λ e. cc) refl)
+
+unknown_key : TypeFault (with_types []) [] different_values UnknownName
+unknown_key = inl (PairsFault.in_entry (inl (inl (IdentFault.unknown refl refl))))
+
+-- `{[1]: 2}` is 10
+
+list_as_key : TypeFault (with_types []) [] (map_literal (pos 3) (tree_entry (pos 5)
+    (list_literal (pos 6) (tree (constant (pos 1) (int (pos 1))) no_trees))
+    (constant (pos 2) (int (pos 2))) no_tree_entries)) NoOverload
+list_as_key = inl (PairsFault.no_key_type (list_type int_type) (inl (int_type, (refl, tt), refl))
+    no_key refl)
   where
-    mixed : (t : ValueType) → Some int_type ≡ Some t → Some uint_type ≡ Some t → ⊥
-    mixed t g h = cc
+    no_key : (k : KeyType) → list_type int_type ≢ type_of_key k
+    no_key keys.Bool e = cc
+    no_key keys.Int e = cc
+    no_key keys.Uint e = cc
+    no_key keys.Text e = cc
 
 -- `[]` is 14 without an entry and with `dyn`, has its entry's type, and is 6 with a kind that is not
 -- supported and 11 with a map
