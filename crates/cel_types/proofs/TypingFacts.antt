@@ -1,11 +1,11 @@
 -- Types of expressions, computed on examples.
-use Rattle.std.proofs.Common.{arith, ◌≡◌, ◌≢◌, inl, inr, ℕ, ℤ, pos, true, false, List, [], ◌∷◌, Some, None, refl, sym, subst}
+use Rattle.std.proofs.Common.{arith, ◌≡◌, ◌≢◌, inl, inr, ℕ, ℤ, pos, true, false, List, [], ◌∷◌, Some, None, refl, sym, subst, ◌≤◌, ◌<◌, zero, suc}
 use Rattle.std.specs.Prelude.{codes}
 use Rattle.std.specs.FinMap.{find, from_entries, get, get-from_entries}
 use Rattle.std.specs.Cmp.{int_cmp_total}
 use Rattle.std.specs.Cmp.Lexicographic.{bytes_decides}
 use Rattle.std.specs.Ordering.{int_cmp}
-use Rattle.proto_wire.specs.declared.refusal.Refusal.TheVariants.{BadReference, BadTypeEntry, Missing, NeedsType, NoOverload, OutOfRange, UnknownName, Unsupported}
+use Rattle.proto_wire.specs.declared.refusal.Refusal.TheVariants.{BadReference, BadTypeEntry, Missing, NeedsType, NoOverload, OutOfRange, TooLarge, UnknownName, Unsupported}
 use Rattle.cel_value.specs.Types.{ValueType, bool_type, int_type, uint_type, text_type, list_type, map_type, type_of_key}
 use Rattle.cel_value.specs.Values.{bool, int, uint, text}
 use Rattle.cel_value.specs.declared.cel_type.KeyType.{KeyType}
@@ -17,8 +17,8 @@ use Rattle.cel_overload.specs.declared.overload.Overload.TheVariants as overload
 use Rattle.cel_tree.specs.Checked.{CelChecked, CelReference, CelTypeEntry, of_type, dyn_type, unsupported_type}
 use Rattle.cel_tree.specs.Tree.{CelTree, constant, ident, select, call, comprehension, list_literal, map_literal, no_target, no_tree_entries, tree_entry, CelTrees, no_trees, tree}
 use Rattle.cel_overload.proofs.OneOverload.{unchosen}
-use Rattle.cel_types.specs.Typing.{EntryAgrees, IsTyped, Maps, RefAgrees, TypeGiven, Types, TypesEach, locals_in}
-use Rattle.cel_types.specs.TypingFaults.{CallsFault, ElementsFault, IdentFault, PairsFault, SaysNothing, SelectFault, TypeFault, another_type, of_another_kind, unsupported_kind, untold, no_element_name, no_elements, one_name, in_init, in_turn}
+use Rattle.cel_types.specs.Typing.{EntriesAgree, EntryAgrees, IsTyped, Kinds, Maps, NamesDiffer, RefAgrees, TypeGiven, Types, TypesEach, locals_in}
+use Rattle.cel_types.specs.TypingFaults.{CallsFault, CheckFault, too_many_locals, ElementsFault, IdentFault, PairsFault, SaysNothing, SelectFault, TypeFault, another_type, of_another_kind, unsupported_kind, untold, no_element_name, no_elements, one_name, in_init, in_turn}
 use Rattle.cel_types.specs.Elaborated.{Elaborates, no_typed, typed, typed_attribute, typed_call, typed_constant, typed_list, typed_local, typed_loop}
 use Rattle.attributes.specs.declared.attribute.AttrId.{AttrId}
 
@@ -476,3 +476,95 @@ loop_elaborated = (
   ),
   (refl, refl),
 )
+
+-- ---- 64 locals in scope are typed, 65 are too many: comprehensions over `[1]`, each in the step of
+-- the one around it
+
+abbrev one_range : CelTree
+one_range = list_literal (pos 3) (tree (constant (pos 4) (int (pos 1))) no_trees)
+
+abbrev loops : ℕ → CelTree
+loops zero = constant (pos 1) (bool true)
+loops (suc n) = comprehension (pos 2) (codes "x") (codes "y") one_range
+    (constant (pos 5) (bool true)) (ident (pos 6) (codes "y")) (loops n) (ident (pos 7) (codes "y"))
+
+-- all of them in the result of one more
+abbrev loops_in_result : ℕ → CelTree
+loops_in_result n = comprehension (pos 2) (codes "x") (codes "y") one_range
+    (constant (pos 5) (bool true)) (ident (pos 6) (codes "y")) (ident (pos 6) (codes "y")) (loops n)
+
+sixty_four : locals_in (loops 32) ≡ 64
+sixty_four = refl
+
+sixty_five : locals_in (loops_in_result 32) ≡ 65
+sixty_five = refl
+
+x_and_y : NamesDiffer (codes "x") (codes "y")
+x_and_y = record { element = λ e. cc; gathered = λ e. cc; differ = x_is_not_y }
+
+loops_are_bool : (ks : Kinds) (n : ℕ) → Types (with_types []) ks (loops n) bool_type
+loops_are_bool ks zero = refl
+loops_are_bool ks (suc n) = record {
+  names = x_and_y;
+  walked = list_type int_type;
+  element = int_type;
+  gathered = bool_type;
+  range = (int_type, (refl, tt), refl);
+  over = refl;
+  init = refl;
+  condition = refl;
+  step = loops_are_bool ((codes "x", int_type) ∷ (codes "y", bool_type) ∷ ks) n;
+  result = refl;
+}
+
+-- where there are no entries they agree
+no_entry : (id : ℤ) (Has : ValueType → Type 0) → EntryAgrees (get (with_types []).types id) Has
+no_entry id Has = says [] id Has (silent Has)
+
+y_agrees : (id : ℤ) (ks : Kinds) → EntriesAgree (with_types []) ks (ident id (codes "y"))
+y_agrees id ks = (
+  no_entry id (Types (with_types []) ks (ident id (codes "y"))),
+  (λ t h. no_reference [] id (codes "y")),
+)
+
+loops_agree : (ks : Kinds) (n : ℕ) → EntriesAgree (with_types []) ks (loops n)
+loops_agree ks zero = no_entry (pos 1) (Types (with_types []) ks (constant (pos 1) (bool true)))
+loops_agree ks (suc n) = (
+  no_entry (pos 2) (Types (with_types []) ks (loops (suc n))),
+  (
+    no_entry (pos 3) (Types (with_types []) ks one_range),
+    (no_entry (pos 4) (Types (with_types []) ks (constant (pos 4) (int (pos 1)))), tt),
+  ),
+  no_entry (pos 5) (Types (with_types []) ks (constant (pos 5) (bool true))),
+  (λ w s a range over init. (
+    y_agrees (pos 6) ((codes "x", s) ∷ (codes "y", a) ∷ ks),
+    loops_agree ((codes "x", s) ∷ (codes "y", a) ∷ ks) n,
+  )),
+  (λ a init. y_agrees (pos 7) ((codes "y", a) ∷ ks)),
+)
+
+sixty_four_are_typed : IsTyped (checked [] (loops 32)) bool_type
+sixty_four_are_typed = record {
+  few = subst (λ n. n ≤ 64) (sym sixty_four) (omega arith);
+  types = loops_are_bool [] 32;
+  entries = loops_agree [] 32;
+}
+
+-- the 65 have a type, and the fault all the same
+sixty_five_are_bool : Types (with_types []) [] (loops_in_result 32) bool_type
+sixty_five_are_bool = record {
+  names = x_and_y;
+  walked = list_type int_type;
+  element = int_type;
+  gathered = bool_type;
+  range = (int_type, (refl, tt), refl);
+  over = refl;
+  init = refl;
+  condition = refl;
+  step = refl;
+  result = loops_are_bool ((codes "y", bool_type) ∷ []) 32;
+}
+
+sixty_five_are_too_many : CheckFault (checked [] (loops_in_result 32)) TooLarge
+sixty_five_are_too_many =
+    too_many_locals (subst (λ n. 64 < n) (sym sixty_five) (omega arith)) refl
