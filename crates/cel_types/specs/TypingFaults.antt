@@ -1,5 +1,7 @@
--- What is wrong with an expression that has no type, by the numbers of refusals: rule by rule as in
--- Typing. Of several faults each is there.
+-- What is wrong with a checked expression, by the numbers of refusals: rule by rule as in Typing, and
+-- entry by entry. Of several faults each is there. A fault that compares types is there where the parts
+-- that it compares have types by their rules, whatever their entries say; and the faults of a
+-- comprehension's condition, step and result are there where the locals that they see have types.
 use Rattle.std.specs.Prelude.{◌≡◌, ◌≢◌, ◌⊎◌, ◌<◌, ℕ, Bool, true, false, List, [], ◌∷◌, Option, Some, None, option_map}
 use Rattle.std.specs.FinMap.{get}
 use Rattle.proto_wire.specs.declared.refusal.Refusal.{Refusal}
