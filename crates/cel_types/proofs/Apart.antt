@@ -11,17 +11,17 @@ use Rattle.cel_overload.specs.declared.overload.OverloadFault.TheVariants as cal
 use Rattle.cel_overload.proofs.OneOverload.{call-disjoint}
 use Rattle.cel_types.specs.Attributes.{attribute_named, attribute_type}
 use Rattle.cel_types.specs.Names.{joined_name, root_of}
-use Rattle.cel_types.specs.Typing.{CallRule, IdentRule, IsList, IsMap, IsOver, Kinds, ListRule, LoopRule, MapRule, Maps, RefAgrees, SelectRule, TypeAgrees, TypeGiven, Types, TypesAll, TypesEach, TypesPairs, TypesTarget, constant_type, has_target}
-use Rattle.cel_types.specs.TypingFaults.{CallsFault, ElementsFault, EmptyFault, EntryFault, IdentFault, ListFault, LoopFault, MapsFault, PairFault, PairsFault, SaysNothing, SelectFault, SomeFault, TargetFault, TypeFault, TypesInTurn}
+use Rattle.cel_types.specs.Typing.{CallRule, EachAgrees, EntriesAgree, EntryAgrees, IdentRule, IsList, IsMap, IsOver, Kinds, ListRule, LoopRule, MapRule, Maps, NameAgrees, PairsAgree, RefAgrees, SelectAgrees, SelectRule, TargetAgrees, TypeAgrees, TypeGiven, Types, TypesAll, TypesEach, TypesPairs, TypesTarget, has_target}
+use Rattle.cel_types.specs.TypingFaults.{CallsFault, ElementsFault, EmptyFault, EntryFault, IdentFault, ItemTypes, KeyTypes, ListFault, LoopFault, MapsFault, PairFault, PairsFault, SaysNothing, SelectFault, SomeFault, SomeTypes, TargetFault, TypeFault}
 use Rattle.cel_types.specs.TypingFaults.{unsupported_kind, another_type, untold, of_another_kind, no_element_name, no_gathered_name, one_name, no_elements, no_condition, no_step, in_range, in_init, in_turn, in_result}
-use Rattle.cel_types.proofs.OneType.{OneAtMost, call-one, list-one, loop-one, map-one, one-all, one-each, one-pair, one-some, one-target, one-type, over-one, select-one}
+use Rattle.cel_types.proofs.OneType.{OneAtMost, one-each, one-target, one-type, over-one}
 
-entry-apart : (entry : Option CelTypeEntry) (Rule : ValueType → Type 0) (t : ValueType)
-    (e : Refusal) → OneAtMost Rule → Rule t → TypeAgrees entry t → EntryFault entry Rule e → ⊥
-entry-apart entry Rule t e one rule agrees (unsupported_kind is _) =
-    subst (λ o. TypeAgrees o t) is agrees
-entry-apart entry Rule t e one rule agrees (another_type s u other is differs _) =
-    differs (subst (λ o. TypeAgrees o t) is agrees ∙ one t u rule other)
+entry-apart : (entry : Option CelTypeEntry) (Has : ValueType → Type 0) (t : ValueType)
+    (e : Refusal) → Has t → EntryAgrees entry Has → EntryFault entry Has e → ⊥
+entry-apart entry Has t e has agrees (unsupported_kind is _) =
+    subst (λ o. TypeAgrees o t) is (agrees t has)
+entry-apart entry Has t e has agrees (another_type s u other is differs _) =
+    differs (subst (λ o. TypeAgrees o u) is (agrees u other))
 
 told : (entry : Option CelTypeEntry) (t : ValueType) → TypeGiven entry t → SaysNothing entry → ⊥
 told None t given says = given
@@ -36,37 +36,42 @@ empty-apart entry IsKind t e given kind (of_another_kind s is never _) =
     never (subst IsKind (sym (subst (λ o. TypeGiven o t) is given)) kind)
 
 ident-apart : (ref : Option CelReference) (ks : Kinds) (name : List ℕ) (t : ValueType) (e : Refusal)
-    → IdentRule ref ks name t → IdentFault ref ks name e → ⊥
-ident-apart ref ks name t e rule (IdentFault.unknown is _) = none-some t (sym is ∙ rule.0)
-ident-apart ref ks name t e rule (IdentFault.other_reference u is differs _) = differs rule.1
+    → IdentRule ks name t → NameAgrees ref name (IdentRule ks name) → IdentFault ref ks name e → ⊥
+ident-apart ref ks name t e rule agrees (IdentFault.unknown is _) = none-some t (sym is ∙ rule)
+ident-apart ref ks name t e rule agrees (IdentFault.other_reference u is differs _) =
+    differs (agrees u is)
 
 module _ (ref : Option CelReference) (Operand : ValueType → Type 0) (InOperand : Refusal → Type 0)
-    (one : OneAtMost Operand) (apart : (s : ValueType) (e : Refusal) → Operand s → InOperand e → ⊥)
+    (Inside : Type 0) (one : OneAtMost Operand)
+    (apart : (s : ValueType) (e : Refusal) → Operand s → Inside → InOperand e → ⊥)
     (field : List ℕ) (t : ValueType) (e : Refusal) where
   select-apart : (root : Option (List ℕ)) (test_only : Bool)
-      → SelectRule ref root Operand field test_only t
+      → SelectRule root Operand field test_only t
+      → SelectAgrees ref root field (SelectRule root Operand field test_only) Inside
       → SelectFault ref root Operand InOperand field test_only e → ⊥
-  select-apart (Some root) true rule fault = rule
-  select-apart (Some root) false rule (SelectFault.unknown r is none _) =
+  select-apart (Some root) true rule agrees fault = rule
+  select-apart (Some root) false rule agrees (SelectFault.unknown r is none _) =
       let same : root ≡ r = cc in
       let here : attribute_named (joined_name root field) ≡ None =
       ap (λ r. attribute_named (joined_name r field)) same ∙ none in
-      none-some t (sym (ap (option_map attribute_type) here) ∙ rule.0)
-  select-apart (Some root) false rule (SelectFault.asked r is test _) = cc
-  select-apart (Some root) false rule (SelectFault.other_reference r u is test named differs _) =
+      none-some t (sym (ap (option_map attribute_type) here) ∙ rule)
+  select-apart (Some root) false rule agrees (SelectFault.asked r is test _) = cc
+  select-apart (Some root) false rule agrees
+      (SelectFault.other_reference r u is test named differs _) =
       let same : root ≡ r = cc in
-      differs (subst (λ r. RefAgrees ref (joined_name r field)) same rule.1)
-  select-apart (Some root) false rule (SelectFault.no_names s is operand never _) =
+      differs (subst (λ r. RefAgrees ref (joined_name r field)) same (agrees t rule))
+  select-apart (Some root) false rule agrees (SelectFault.no_names s is operand never _) =
       none-some root (sym is)
-  select-apart (Some root) false rule (SelectFault.in_operand is inside) = none-some root (sym is)
-  select-apart None test_only rule (SelectFault.unknown r is none _) = none-some r is
-  select-apart None test_only rule (SelectFault.asked r is test _) = none-some r is
-  select-apart None test_only rule (SelectFault.other_reference r u is test named differs _) =
-      none-some r is
-  select-apart None test_only rule (SelectFault.no_names s is operand never _) =
+  select-apart (Some root) false rule agrees (SelectFault.in_operand is inside) =
+      none-some root (sym is)
+  select-apart None test_only rule agrees (SelectFault.unknown r is none _) = none-some r is
+  select-apart None test_only rule agrees (SelectFault.asked r is test _) = none-some r is
+  select-apart None test_only rule agrees
+      (SelectFault.other_reference r u is test named differs _) = none-some r is
+  select-apart None test_only rule agrees (SelectFault.no_names s is operand never _) =
       never rule.0 (one s (map_type keys.Text rule.0) operand rule.1)
-  select-apart None test_only rule (SelectFault.in_operand is inside) =
-      apart (map_type keys.Text rule.0) e rule.1 inside
+  select-apart None test_only rule agrees (SelectFault.in_operand is inside) =
+      apart (map_type keys.Text rule.0) e rule.1 agrees inside
 
 call-apart : (name : List ℕ) (on : Bool) (Operands : List ValueType → Type 0)
     (InOperands : Refusal → Type 0) (t : ValueType) (e : Refusal) → OneAtMost Operands
@@ -80,28 +85,62 @@ call-apart name on Operands InOperands t e one apart rule (CallsFault.no_overloa
 call-apart name on Operands InOperands t e one apart rule (CallsFault.in_operand inside) =
     apart rule.0 e rule.1 inside
 
-list-apart : (entry : Option CelTypeEntry) (elements : CelTrees) (Each : List ValueType → Type 0)
-    (All : ValueType → Type 0) (InElements : Refusal → Type 0) (t : ValueType) (e : Refusal)
+list-apart : (entry : Option CelTypeEntry) (elements : CelTrees) (All HasElement : ValueType → Type 0)
+    (InElements : Refusal → Type 0) (t : ValueType) (e : Refusal)
+    → ((s u : ValueType) → All s → HasElement u → s ≡ u)
     → ((s : ValueType) (e : Refusal) → All s → InElements e → ⊥)
-    → ListRule entry elements All t → ListFault entry elements Each All InElements e → ⊥
-list-apart entry no_trees Each All InElements t e apart rule fault =
+    → ListRule entry elements All t → ListFault entry elements HasElement InElements e → ⊥
+list-apart entry no_trees All HasElement InElements t e one apart rule fault =
     empty-apart entry IsList t e rule.0 rule.1 fault
-list-apart entry (tree a others) Each All InElements t e apart rule
-    (ElementsFault.no_common_type ts some each never _) = never rule.0 rule.1
-list-apart entry (tree a others) Each All InElements t e apart rule (ElementsFault.in_element inside) =
-    apart rule.0 e rule.1 inside
+list-apart entry (tree a others) All HasElement InElements t e one apart rule
+    (ElementsFault.two_types s u has other differs _) =
+    differs (sym (one rule.0 s rule.1 has) ∙ one rule.0 u rule.1 other)
+list-apart entry (tree a others) All HasElement InElements t e one apart rule
+    (ElementsFault.in_element inside) = apart rule.0 e rule.1 inside
 
 map-apart : (entry : Option CelTypeEntry) (entries : CelTreeEntries)
-    (Each : List ValueType → Type 0) (Pairs : ValueType → ValueType → Type 0)
+    (Pairs : ValueType → ValueType → Type 0) (HasKey HasValue : ValueType → Type 0)
     (InEntries : Refusal → Type 0) (t : ValueType) (e : Refusal)
+    → ((r s u : ValueType) → Pairs r s → HasKey u → r ≡ u)
+    → ((r s u : ValueType) → Pairs r s → HasValue u → s ≡ u)
     → ((r s : ValueType) (e : Refusal) → Pairs r s → InEntries e → ⊥)
-    → MapRule entry entries Pairs t → MapsFault entry entries Each Pairs InEntries e → ⊥
-map-apart entry no_tree_entries Each Pairs InEntries t e apart rule fault =
-    empty-apart entry IsMap t e rule.0 rule.1 fault
-map-apart entry (tree_entry id key value es) Each Pairs InEntries t e apart rule
-    (PairsFault.no_common_type ts some each never _) = never rule.0 rule.1 rule.2
-map-apart entry (tree_entry id key value es) Each Pairs InEntries t e apart rule
-    (PairsFault.in_entry inside) = apart (type_of_key rule.0) rule.1 e rule.2 inside
+    → MapRule entry entries Pairs t → MapsFault entry entries HasKey HasValue InEntries e → ⊥
+map-apart entry no_tree_entries Pairs HasKey HasValue InEntries t e on_keys on_values apart rule
+    fault = empty-apart entry IsMap t e rule.0 rule.1 fault
+map-apart entry (tree_entry id key value es) Pairs HasKey HasValue InEntries t e on_keys on_values
+    apart rule (PairsFault.two_key_types s u has other differs _) =
+    differs (sym (on_keys (type_of_key rule.0) rule.1 s rule.2 has)
+    ∙ on_keys (type_of_key rule.0) rule.1 u rule.2 other)
+map-apart entry (tree_entry id key value es) Pairs HasKey HasValue InEntries t e on_keys on_values
+    apart rule (PairsFault.two_value_types s u has other differs _) =
+    differs (sym (on_values (type_of_key rule.0) rule.1 s rule.2 has)
+    ∙ on_values (type_of_key rule.0) rule.1 u rule.2 other)
+map-apart entry (tree_entry id key value es) Pairs HasKey HasValue InEntries t e on_keys on_values
+    apart rule (PairsFault.no_key_type s has never _) =
+    never rule.0 (sym (on_keys (type_of_key rule.0) rule.1 s rule.2 has))
+map-apart entry (tree_entry id key value es) Pairs HasKey HasValue InEntries t e on_keys on_values
+    apart rule (PairsFault.in_entry inside) = apart (type_of_key rule.0) rule.1 e rule.2 inside
+
+-- what all have some has
+all-one : (m : Maps) (ks : Kinds) (ts : CelTrees) (s u : ValueType) → TypesAll m ks ts s
+    → SomeTypes m ks ts u → s ≡ u
+all-one m ks no_trees s u all some = absurd some
+all-one m ks (tree t ts) s u all (inl here) = one-type m ks t s u all.0 here
+all-one m ks (tree t ts) s u all (inr some) = all-one m ks ts s u all.1 some
+
+keys-one : (m : Maps) (ks : Kinds) (es : CelTreeEntries) (r s u : ValueType)
+    → TypesPairs m ks es r s → KeyTypes m ks es u → r ≡ u
+keys-one m ks no_tree_entries r s u all some = absurd some
+keys-one m ks (tree_entry id key value es) r s u all (inl here) = one-type m ks key r u all.0 here
+keys-one m ks (tree_entry id key value es) r s u all (inr some) = keys-one m ks es r s u all.2 some
+
+items-one : (m : Maps) (ks : Kinds) (es : CelTreeEntries) (r s u : ValueType)
+    → TypesPairs m ks es r s → ItemTypes m ks es u → s ≡ u
+items-one m ks no_tree_entries r s u all some = absurd some
+items-one m ks (tree_entry id key value es) r s u all (inl here) =
+    one-type m ks value s u all.1 here
+items-one m ks (tree_entry id key value es) r s u all (inr some) =
+    items-one m ks es r s u all.2 some
 
 module _ (x acc : List ℕ) (Range Init : ValueType → Type 0)
     (Condition Step : ValueType → ValueType → ValueType → Type 0)
@@ -112,9 +151,9 @@ module _ (x acc : List ℕ) (Range Init : ValueType → Type 0)
     (step : (s a : ValueType) → OneAtMost (Step s a))
     (range-apart : (s : ValueType) (e : Refusal) → Range s → InRange e → ⊥)
     (init-apart : (s : ValueType) (e : Refusal) → Init s → InInit e → ⊥)
-    (turn-apart : (s a : ValueType) (e : Refusal) → Condition s a bool_type → Step s a a
-    → InTurn s a e → ⊥)
-    (result-apart : (a t : ValueType) (e : Refusal) → Result a t → InResult a e → ⊥) where
+    (turn-apart : (w s a : ValueType) (e : Refusal) → Range w → IsOver w s → Init a
+    → Condition s a bool_type → Step s a a → InTurn s a e → ⊥)
+    (result-apart : (a t : ValueType) (e : Refusal) → Init a → Result a t → InResult a e → ⊥) where
   -- what a fault says of the range and of what is gathered is what the rule says
   same-element : (t s element : ValueType)
       (rule : LoopRule x acc Range Init Condition Step Result t) → Range s → IsOver s element
@@ -149,11 +188,12 @@ module _ (x acc : List ℕ) (Range Init : ValueType → Type 0)
   loop-apart t e rule (in_turn s element gathered r over i inside) =
       let first = same-element t s element rule r over in
       let second = init rule.gathered gathered rule.init i in
-      turn-apart rule.element rule.gathered e rule.condition rule.step
+      turn-apart rule.walked rule.element rule.gathered e rule.range rule.over rule.init
+      rule.condition rule.step
       (subst (λ s. InTurn s rule.gathered e) (sym first)
       (subst (λ a. InTurn element a e) (sym second) inside))
   loop-apart t e rule (in_result gathered i inside) =
-      result-apart rule.gathered t e rule.result
+      result-apart rule.gathered t e rule.init rule.result
       (subst (λ a. InResult a e) (init gathered rule.gathered i rule.init) inside)
 
 -- the operands after a target
@@ -165,54 +205,45 @@ others-typed m ks (target on) Others (t ∷ ts) h = (ts, h.1)
 
 mutual
   pub typed-apart : (m : Maps) (ks : Kinds) (t : CelTree) (s : ValueType) (e : Refusal)
-      → Types m ks t s → TypeFault m ks t e → ⊥
-  typed-apart m ks (constant id v) s e g (inl fault) = none-some s (sym fault.0 ∙ g.0)
-  typed-apart m ks (constant id v) s e g (inr fault) =
-      entry-apart (get m.types id) (λ t. constant_type v ≡ Some t) s e
-      (one-some (constant_type v)) g.0 g.1 fault
-  typed-apart m ks (ident id name) s e g (inl fault) =
-      ident-apart (get m.refs id) ks name s e g.0 fault
-  typed-apart m ks (ident id name) s e g (inr fault) =
-      entry-apart (get m.types id) (IdentRule (get m.refs id) ks name) s e
-      (λ a b p q. one-some _ a b p.0 q.0) g.0 g.1 fault.1
-  typed-apart m ks (select id operand field test_only) s e g (inl fault) =
+      → Types m ks t s → EntriesAgree m ks t → TypeFault m ks t e → ⊥
+  typed-apart m ks (constant id v) s e g h (inl fault) = none-some s (sym fault.0 ∙ g)
+  typed-apart m ks (constant id v) s e g h (inr fault) =
+      entry-apart (get m.types id) (Types m ks (constant id v)) s e g h fault
+  typed-apart m ks (ident id name) s e g h (inl fault) =
+      ident-apart (get m.refs id) ks name s e g h.1 fault
+  typed-apart m ks (ident id name) s e g h (inr fault) =
+      entry-apart (get m.types id) (Types m ks (ident id name)) s e g h.0 fault.1
+  typed-apart m ks (select id operand field test_only) s e g h (inl fault) =
       select-apart (get m.refs id) (Types m ks operand) (TypeFault m ks operand)
-      (one-type m ks operand) (typed-apart m ks operand) field s e (root_of operand ks) test_only
-      g.0 fault
-  typed-apart m ks (select id operand field test_only) s e g (inr fault) =
-      entry-apart (get m.types id) (SelectRule (get m.refs id) (root_of operand ks)
-      (Types m ks operand) field test_only) s e
-      (select-one (get m.refs id) (root_of operand ks) (Types m ks operand) field test_only
-      (one-type m ks operand)) g.0 g.1 fault
-  typed-apart m ks (call id name on args) s e g (inl fault) =
+      (EntriesAgree m ks operand) (one-type m ks operand) (typed-apart m ks operand) field s e
+      (root_of operand ks) test_only g h.1 fault
+  typed-apart m ks (select id operand field test_only) s e g h (inr fault) =
+      entry-apart (get m.types id) (Types m ks (select id operand field test_only)) s e g h.0 fault
+  typed-apart m ks (call id name on args) s e g h (inl fault) =
       call-apart name (has_target on) (TypesTarget m ks on (TypesEach m ks args))
       (λ d. TargetFault m ks on d ⊎ SomeFault m ks args d) s e
       (one-target m ks on args (one-each m ks args)) (λ ts d typed inside. elim inside [
-        | inl f ↦ target-apart m ks on args ts d typed f
+        | inl f ↦ target-apart m ks on args ts d typed h.1 f
         | inr f ↦
             let others = others-typed m ks on (TypesEach m ks args) ts typed in
-            each-apart m ks args others.0 d others.1 f
-      ]) g.0 fault
-  typed-apart m ks (call id name on args) s e g (inr fault) =
-      entry-apart (get m.types id)
-      (CallRule name (has_target on) (TypesTarget m ks on (TypesEach m ks args))) s e
-      (call-one name (has_target on) (TypesTarget m ks on (TypesEach m ks args))
-      (one-target m ks on args (one-each m ks args))) g.0 g.1 fault
-  typed-apart m ks (list_literal id elements) s e g (inl fault) =
-      list-apart (get m.types id) elements (TypesEach m ks elements) (TypesAll m ks elements)
-      (SomeFault m ks elements) s e (all-apart m ks elements) g.0 fault
-  typed-apart m ks (list_literal id elements) s e g (inr fault) =
-      entry-apart (get m.types id) (ListRule (get m.types id) elements (TypesAll m ks elements)) s e
-      (list-one (get m.types id) elements (TypesAll m ks elements) (one-all m ks elements))
-      g.0 g.1 fault
-  typed-apart m ks (map_literal id entries) s e g (inl fault) =
-      map-apart (get m.types id) entries (TypesInTurn m ks entries) (TypesPairs m ks entries)
-      (PairFault m ks entries) s e (pairs-apart m ks entries) g.0 fault
-  typed-apart m ks (map_literal id entries) s e g (inr fault) =
-      entry-apart (get m.types id) (MapRule (get m.types id) entries (TypesPairs m ks entries)) s e
-      (map-one (get m.types id) entries (TypesPairs m ks entries) (one-pair m ks entries))
-      g.0 g.1 fault
-  typed-apart m ks (comprehension id x acc range init condition step result) s e g (inl fault) =
+            each-apart m ks args others.0 d others.1 h.2 f
+      ]) g fault
+  typed-apart m ks (call id name on args) s e g h (inr fault) =
+      entry-apart (get m.types id) (Types m ks (call id name on args)) s e g h.0 fault
+  typed-apart m ks (list_literal id elements) s e g h (inl fault) =
+      list-apart (get m.types id) elements (TypesAll m ks elements) (SomeTypes m ks elements)
+      (SomeFault m ks elements) s e (all-one m ks elements)
+      (λ u d all inside. all-apart m ks elements u d all h.1 inside) g fault
+  typed-apart m ks (list_literal id elements) s e g h (inr fault) =
+      entry-apart (get m.types id) (Types m ks (list_literal id elements)) s e g h.0 fault
+  typed-apart m ks (map_literal id entries) s e g h (inl fault) =
+      map-apart (get m.types id) entries (TypesPairs m ks entries) (KeyTypes m ks entries)
+      (ItemTypes m ks entries) (PairFault m ks entries) s e (keys-one m ks entries)
+      (items-one m ks entries)
+      (λ r u d all inside. pairs-apart m ks entries r u d all h.1 inside) g fault
+  typed-apart m ks (map_literal id entries) s e g h (inr fault) =
+      entry-apart (get m.types id) (Types m ks (map_literal id entries)) s e g h.0 fault
+  typed-apart m ks (comprehension id x acc range init condition step result) s e g h (inl fault) =
       loop-apart x acc (Types m ks range) (Types m ks init)
       (λ s a. Types m ((x, s) ∷ (acc, a) ∷ ks) condition)
       (λ s a. Types m ((x, s) ∷ (acc, a) ∷ ks) step)
@@ -222,49 +253,45 @@ mutual
       (λ a. TypeFault m ((acc, a) ∷ ks) result) (one-type m ks range) (one-type m ks init)
       (λ s a. one-type m ((x, s) ∷ (acc, a) ∷ ks) condition)
       (λ s a. one-type m ((x, s) ∷ (acc, a) ∷ ks) step)
-      (typed-apart m ks range) (typed-apart m ks init)
-      (λ s a d c p inside. elim inside [
-        | inl f ↦ typed-apart m ((x, s) ∷ (acc, a) ∷ ks) condition bool_type d c f
-        | inr f ↦ typed-apart m ((x, s) ∷ (acc, a) ∷ ks) step a d p f
-      ]) (λ a. typed-apart m ((acc, a) ∷ ks) result) s e g.0 fault
-  typed-apart m ks (comprehension id x acc range init condition step result) s e g (inr fault) =
-      entry-apart (get m.types id) (LoopRule x acc (Types m ks range) (Types m ks init)
-      (λ s a. Types m ((x, s) ∷ (acc, a) ∷ ks) condition)
-      (λ s a. Types m ((x, s) ∷ (acc, a) ∷ ks) step)
-      (λ a. Types m ((acc, a) ∷ ks) result)) s e
-      (loop-one x acc (Types m ks range) (Types m ks init)
-      (λ s a. Types m ((x, s) ∷ (acc, a) ∷ ks) condition)
-      (λ s a. Types m ((x, s) ∷ (acc, a) ∷ ks) step)
-      (λ a. Types m ((acc, a) ∷ ks) result) (one-type m ks range) (one-type m ks init)
-      (λ a. one-type m ((acc, a) ∷ ks) result)) g.0 g.1 fault
+      (λ u d r f. typed-apart m ks range u d r h.1 f)
+      (λ u d r f. typed-apart m ks init u d r h.2 f)
+      (λ w s a d r over i c p inside. elim inside [
+        | inl f ↦ typed-apart m ((x, s) ∷ (acc, a) ∷ ks) condition bool_type d c
+            (h.3 w s a r over i).0 f
+        | inr f ↦ typed-apart m ((x, s) ∷ (acc, a) ∷ ks) step a d p (h.3 w s a r over i).1 f
+      ]) (λ a u d i r f. typed-apart m ((acc, a) ∷ ks) result u d r (h.4 a i) f) s e g fault
+  typed-apart m ks (comprehension id x acc range init condition step result) s e g h (inr fault) =
+      entry-apart (get m.types id)
+      (Types m ks (comprehension id x acc range init condition step result)) s e g h.0 fault
 
   target-apart : (m : Maps) (ks : Kinds) (on : CelTarget) (args : CelTrees)
       (ts : List ValueType) (e : Refusal) → TypesTarget m ks on (TypesEach m ks args) ts
-      → TargetFault m ks on e → ⊥
-  target-apart m ks no_target args ts e g fault = fault
-  target-apart m ks (target on) args [] e g fault = g
-  target-apart m ks (target on) args (t ∷ ts) e g fault = typed-apart m ks on t e g.0 fault
+      → TargetAgrees m ks on → TargetFault m ks on e → ⊥
+  target-apart m ks no_target args ts e g h fault = fault
+  target-apart m ks (target on) args [] e g h fault = g
+  target-apart m ks (target on) args (t ∷ ts) e g h fault = typed-apart m ks on t e g.0 h fault
 
   each-apart : (m : Maps) (ks : Kinds) (args : CelTrees) (ts : List ValueType) (e : Refusal)
-      → TypesEach m ks args ts → SomeFault m ks args e → ⊥
-  each-apart m ks no_trees ts e g fault = fault
-  each-apart m ks (tree a others) [] e g fault = g
-  each-apart m ks (tree a others) (t ∷ ts) e g (inl fault) = typed-apart m ks a t e g.0 fault
-  each-apart m ks (tree a others) (t ∷ ts) e g (inr fault) =
-      each-apart m ks others ts e g.1 fault
+      → TypesEach m ks args ts → EachAgrees m ks args → SomeFault m ks args e → ⊥
+  each-apart m ks no_trees ts e g h fault = fault
+  each-apart m ks (tree a others) [] e g h fault = g
+  each-apart m ks (tree a others) (t ∷ ts) e g h (inl fault) =
+      typed-apart m ks a t e g.0 h.0 fault
+  each-apart m ks (tree a others) (t ∷ ts) e g h (inr fault) =
+      each-apart m ks others ts e g.1 h.1 fault
 
   all-apart : (m : Maps) (ks : Kinds) (args : CelTrees) (t : ValueType) (e : Refusal)
-      → TypesAll m ks args t → SomeFault m ks args e → ⊥
-  all-apart m ks no_trees t e g fault = fault
-  all-apart m ks (tree a others) t e g (inl fault) = typed-apart m ks a t e g.0 fault
-  all-apart m ks (tree a others) t e g (inr fault) = all-apart m ks others t e g.1 fault
+      → TypesAll m ks args t → EachAgrees m ks args → SomeFault m ks args e → ⊥
+  all-apart m ks no_trees t e g h fault = fault
+  all-apart m ks (tree a others) t e g h (inl fault) = typed-apart m ks a t e g.0 h.0 fault
+  all-apart m ks (tree a others) t e g h (inr fault) = all-apart m ks others t e g.1 h.1 fault
 
   pairs-apart : (m : Maps) (ks : Kinds) (es : CelTreeEntries) (r s : ValueType) (e : Refusal)
-      → TypesPairs m ks es r s → PairFault m ks es e → ⊥
-  pairs-apart m ks no_tree_entries r s e g fault = fault
-  pairs-apart m ks (tree_entry id key value es) r s e g (inl fault) =
-      typed-apart m ks key r e g.0 fault
-  pairs-apart m ks (tree_entry id key value es) r s e g (inr (inl fault)) =
-      typed-apart m ks value s e g.1 fault
-  pairs-apart m ks (tree_entry id key value es) r s e g (inr (inr fault)) =
-      pairs-apart m ks es r s e g.2 fault
+      → TypesPairs m ks es r s → PairsAgree m ks es → PairFault m ks es e → ⊥
+  pairs-apart m ks no_tree_entries r s e g h fault = fault
+  pairs-apart m ks (tree_entry id key value es) r s e g h (inl fault) =
+      typed-apart m ks key r e g.0 h.0 fault
+  pairs-apart m ks (tree_entry id key value es) r s e g h (inr (inl fault)) =
+      typed-apart m ks value s e g.1 h.1 fault
+  pairs-apart m ks (tree_entry id key value es) r s e g h (inr (inr fault)) =
+      pairs-apart m ks es r s e g.2 h.2 fault

@@ -43,7 +43,7 @@ ident-has : (m : Maps) (ks : Kinds) (id : ℤ) (name : List ℕ) (s : ValueType)
 ident-has m ks id name s g (inr (t, n, is_local, is_slot)) = (typed_local s n, (g, is_slot), refl)
 ident-has m ks id name s g (inl (is_none, no_slot)) =
     let a = mapped attribute_type (attribute_named name) s
-    (subst (λ o. name_type name o ≡ Some s) is_none g.0.0) in
+    (subst (λ o. name_type name o ≡ Some s) is_none g) in
     (typed_attribute s a.0, (g, no_slot, a.1), refl)
 
 select-has : (m : Maps) (ks : Kinds) (id : ℤ) (operand : CelTree) (field : List ℕ)
@@ -51,11 +51,11 @@ select-has : (m : Maps) (ks : Kinds) (id : ℤ) (operand : CelTree) (field : Lis
     → Has m ks operand u)
     → Types m ks (select id operand field test_only) s → (root : Option (List ℕ))
     → root_of operand ks ≡ root
-    → SelectRule (get m.refs id) root (Types m ks operand) field test_only s
+    → SelectRule root (Types m ks operand) field test_only s
     → Has m ks (select id operand field test_only) s
 select-has m ks id operand field true s inside g (Some root) is rule = absurd rule
 select-has m ks id operand field false s inside g (Some root) is rule =
-    let a = mapped attribute_type (attribute_named (joined_name root field)) s rule.0 in
+    let a = mapped attribute_type (attribute_named (joined_name root field)) s rule in
     (typed_attribute s a.0, (g, root, is, a.1), refl)
 select-has m ks id operand field true s inside g None is rule =
     let on = inside (map_type keys.Text rule.0) rule.1 in
@@ -71,21 +71,21 @@ mutual
   elaborated m ks (ident id name) s g = ident-has m ks id name s g (found name ks)
   elaborated m ks (select id operand field test_only) s g =
       select-has m ks id operand field test_only s (elaborated m ks operand) g
-      (root_of operand ks) refl g.0
+      (root_of operand ks) refl g
   elaborated m ks (call id name on args) s g =
-      let operands = target-elaborated m ks on args g.0.0 (each-elaborated m ks args) g.0.1 in (
-        typed_call s g.0.2 operands.0,
-        (g, subst (λ ts. IsCall name (has_target on) ts g.0.2 s) (sym operands.2) g.0.3, operands.1),
+      let operands = target-elaborated m ks on args g.0 (each-elaborated m ks args) g.1 in (
+        typed_call s g.2 operands.0,
+        (g, subst (λ ts. IsCall name (has_target on) ts g.2 s) (sym operands.2) g.3, operands.1),
         refl,
       )
   elaborated m ks (list_literal id elements) s g =
-      let es = list-elaborated m ks elements (get m.types id) s (all-elaborated m ks elements) g.0 in
+      let es = list-elaborated m ks elements (get m.types id) s (all-elaborated m ks elements) g in
       (typed_list s es.0, (g, es.1), refl)
   elaborated m ks (map_literal id entries) s g =
-      let es = map-elaborated m ks entries (get m.types id) s (pairs-elaborated m ks entries) g.0 in
+      let es = map-elaborated m ks entries (get m.types id) s (pairs-elaborated m ks entries) g in
       (typed_map s es.0, (g, es.1), refl)
   elaborated m ks (comprehension id x acc range init condition step result) s g =
-      let rule = g.0 in
+      let rule = g in
       let r = elaborated m ks range rule.walked rule.range in
       let i = elaborated m ks init rule.gathered rule.init in
       let c = elaborated m ((x, rule.element) ∷ (acc, rule.gathered) ∷ ks) condition bool_type

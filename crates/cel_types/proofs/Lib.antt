@@ -3,6 +3,7 @@ pub mod StandardFacts
 pub mod OneType
 pub mod Apart
 pub mod Total
+pub mod Agreeing
 pub mod CheckLaws
 pub mod Elaborating
 pub mod TypingFacts

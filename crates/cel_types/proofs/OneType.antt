@@ -4,7 +4,7 @@ use Rattle.std.specs.FinMap.{get}
 use Rattle.cel_value.specs.Types.{ValueType, list_type, map_type, type_of_key}
 use Rattle.cel_value.specs.declared.cel_type.KeyType.{KeyType}
 use Rattle.cel_value.specs.declared.cel_type.KeyType.TheVariants as keys
-use Rattle.cel_tree.specs.Checked.{CelReference, CelTypeEntry, of_type, dyn_type, unsupported_type}
+use Rattle.cel_tree.specs.Checked.{CelTypeEntry, of_type, dyn_type, unsupported_type}
 use Rattle.cel_tree.specs.Tree.{CelTree, constant, ident, select, call, list_literal, map_literal, comprehension, CelTarget, no_target, target, CelTrees, no_trees, tree, CelTreeEntries, no_tree_entries, tree_entry}
 use Rattle.cel_overload.proofs.OneOverload.{call-unique}
 use Rattle.cel_types.specs.Names.{root_of}
@@ -23,12 +23,11 @@ given-one (Some dyn_type) a b g h = absurd g
 given-one (Some unsupported_type) a b g h = absurd g
 given-one (Some (of_type s)) a b g h = sym g ∙ h
 
-pub select-one : (ref : Option CelReference) (root : Option (List ℕ)) (Operand : ValueType → Type 0)
-    (field : List ℕ) (test_only : Bool) → OneAtMost Operand
-    → OneAtMost (SelectRule ref root Operand field test_only)
-select-one ref (Some root) Operand field true one a b g h = absurd g
-select-one ref (Some root) Operand field false one a b g h = one-some _ a b g.0 h.0
-select-one ref None Operand field test_only one a b g h =
+pub select-one : (root : Option (List ℕ)) (Operand : ValueType → Type 0) (field : List ℕ)
+    (test_only : Bool) → OneAtMost Operand → OneAtMost (SelectRule root Operand field test_only)
+select-one (Some root) Operand field true one a b g h = absurd g
+select-one (Some root) Operand field false one a b g h = one-some _ a b g h
+select-one None Operand field test_only one a b g h =
     let same : map_type keys.Text g.0 ≡ map_type keys.Text h.0 = one _ _ g.1 h.1 in
     let values : g.0 ≡ h.0 = cc in
     g.2 ∙ rw values refl ∙ sym h.2
@@ -91,26 +90,26 @@ loop-one x acc Range Init Condition Step Result range init result a b g h =
 
 mutual
   pub one-type : (m : Maps) (ks : Kinds) (t : CelTree) → OneAtMost (Types m ks t)
-  one-type m ks (constant id v) a b g h = one-some _ a b g.0 h.0
-  one-type m ks (ident id name) a b g h = one-some _ a b g.0.0 h.0.0
+  one-type m ks (constant id v) a b g h = one-some _ a b g h
+  one-type m ks (ident id name) a b g h = one-some _ a b g h
   one-type m ks (select id operand field test_only) a b g h =
-      select-one (get m.refs id) (root_of operand ks) (Types m ks operand) field test_only
-      (one-type m ks operand) a b g.0 h.0
+      select-one (root_of operand ks) (Types m ks operand) field test_only
+      (one-type m ks operand) a b g h
   one-type m ks (call id name on args) a b g h =
       call-one name (has_target on) (TypesTarget m ks on (TypesEach m ks args))
-      (one-target m ks on args (one-each m ks args)) a b g.0 h.0
+      (one-target m ks on args (one-each m ks args)) a b g h
   one-type m ks (list_literal id elements) a b g h =
       list-one (get m.types id) elements (TypesAll m ks elements) (one-all m ks elements) a b
-      g.0 h.0
+      g h
   one-type m ks (map_literal id entries) a b g h =
       map-one (get m.types id) entries (TypesPairs m ks entries) (one-pair m ks entries) a b
-      g.0 h.0
+      g h
   one-type m ks (comprehension id x acc range init condition step result) a b g h =
       loop-one x acc (Types m ks range) (Types m ks init)
       (λ s a. Types m ((x, s) ∷ (acc, a) ∷ ks) condition)
       (λ s a. Types m ((x, s) ∷ (acc, a) ∷ ks) step)
       (λ a. Types m ((acc, a) ∷ ks) result) (one-type m ks range) (one-type m ks init)
-      (λ gathered. one-type m ((acc, gathered) ∷ ks) result) a b g.0 h.0
+      (λ gathered. one-type m ((acc, gathered) ∷ ks) result) a b g h
 
   pub one-target : (m : Maps) (ks : Kinds) (on : CelTarget) (args : CelTrees)
       → OneAtMost (TypesEach m ks args) → OneAtMost (TypesTarget m ks on (TypesEach m ks args))

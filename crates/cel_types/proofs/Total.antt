@@ -1,12 +1,12 @@
 -- An expression has a type or a fault of typing: rule by rule, and then by recursion.
-use Rattle.std.proofs.Common.{◌≡◌, ◌≢◌, ◌⊎◌, inl, inr, ℕ, ℤ, Bool, true, false, List, [], ◌∷◌, Option, Some, None, option_map, refl, sym, ap, ◌∙◌, subst}
+use Rattle.std.proofs.Common.{◌≡◌, ◌≢◌, ◌⊎◌, inl, inr, ℕ, Bool, true, false, List, [], ◌∷◌, Option, Some, None, option_map, refl, sym, ap, ◌∙◌, subst}
 use Rattle.std.specs.Prelude.{codes}
 use Rattle.std.specs.Str.{bytes_eq}
 use Rattle.std.specs.Cmp.Lexicographic.{bytes_decides}
 use Rattle.std.proofs.lemmas.Option.{none-some}
 use Rattle.std.specs.FinMap.{get}
 use Rattle.proto_wire.specs.declared.refusal.Refusal.{Refusal}
-use Rattle.proto_wire.specs.declared.refusal.Refusal.TheVariants.{BadReference, BadTypeEntry, Missing, NeedsType, NoOverload, OutOfRange, Unsupported, UnknownName}
+use Rattle.proto_wire.specs.declared.refusal.Refusal.TheVariants.{BadTypeEntry, Missing, NeedsType, NoOverload, OutOfRange, Unsupported, UnknownName}
 use Rattle.cel_value.specs.Values.{CelValue}
 use Rattle.cel_value.specs.Types.{ValueType, bool_type, int_type, uint_type, text_type, bytes_type, list_type, map_type, type_eq, type_of_key}
 use Rattle.cel_value.specs.EqualityLaws.{type_eq-Decides}
@@ -19,22 +19,15 @@ use Rattle.cel_overload.proofs.OneOverload.{call-total}
 use Rattle.attributes.specs.declared.attribute.AttrId.{AttrId}
 use Rattle.cel_types.specs.Attributes.{attribute_named, attribute_type}
 use Rattle.cel_types.specs.Names.{bare_root, is_root, joined_name, local, root_of}
-use Rattle.cel_types.specs.Typing.{CallRule, IdentRule, IsList, IsMap, IsOver, Kinds, ListRule, LoopRule, MapRule, Maps, NamesDiffer, RefAgrees, SelectRule, TypeAgrees, TypeGiven, Types, TypesAll, TypesEach, TypesPairs, TypesTarget, constant_type, field_type, has_target, name_type}
-use Rattle.cel_types.specs.TypingFaults.{CallsFault, ConstantFault, ElementsFault, EmptyFault, EntryFault, IdentFault, ListFault, LoopFault, MapsFault, PairFault, PairsFault, RefDiffers, SelectFault, SomeFault, TargetFault, TypeFault, TypesInTurn}
-use Rattle.cel_types.specs.TypingFaults.{unsupported_kind, another_type, untold, of_another_kind, no_element_name, no_gathered_name, one_name, no_elements, no_condition, no_step, in_range, in_init, in_turn, in_result}
-use Rattle.cel_types.proofs.OneType.{one-type}
+use Rattle.cel_types.specs.Typing.{CallRule, IdentRule, IsList, IsMap, IsOver, Kinds, ListRule, LoopRule, MapRule, Maps, NamesDiffer, RefAgrees, SelectRule, TypeGiven, Types, TypesAll, TypesEach, TypesPairs, TypesTarget, constant_type, field_type, has_target, name_type}
+use Rattle.cel_types.specs.TypingFaults.{CallsFault, ConstantFault, ElementsFault, EmptyFault, EntryFault, IdentFault, ItemTypes, KeyTypes, ListFault, LoopFault, MapsFault, PairFault, PairsFault, RefDiffers, SelectFault, SomeFault, SomeTypes, TargetFault, TypeFault}
+use Rattle.cel_types.specs.TypingFaults.{unsupported_kind, untold, of_another_kind, no_element_name, no_gathered_name, one_name, no_elements, no_condition, no_step, in_range, in_init, in_turn, in_result}
 
 -- a type by a rule, or a fault
 abbrev pub Decided : (ValueType → Type 0) → (Refusal → Type 0) → Type 0
 Decided Rule Fault = ((t : ValueType) × Rule t) ⊎ ((e : Refusal) × Fault e)
 
--- a node's type by its rule and its entry, or a fault of one of them
-abbrev pub Settled : Option CelTypeEntry → (ValueType → Type 0) → (Refusal → Type 0) → Type 0
-Settled entry Rule Own =
-    ((t : ValueType) × Rule t × TypeAgrees entry t)
-    ⊎ ((e : Refusal) × (Own e ⊎ EntryFault entry Rule e))
-
-same_type : (s t : ValueType) → (s ≡ t) ⊎ (s ≢ t)
+pub same_type : (s t : ValueType) → (s ≡ t) ⊎ (s ≢ t)
 same_type s t = at (type_eq s t) refl
   where
     at : (b : Bool) → type_eq s t ≡ b → (s ≡ t) ⊎ (s ≢ t)
@@ -48,23 +41,6 @@ same_name a b = at (bytes_eq a b) refl
     at true e = inl ((bytes_decides a b).0 e)
     at false e = inr (λ k. let same : bytes_eq a b ≡ true = (bytes_decides a b).1 k in cc)
 
--- what the entry says of a type by the node's rule
-entered : (entry : Option CelTypeEntry) (Rule : ValueType → Type 0) (Own : Refusal → Type 0)
-    (t : ValueType) → Rule t → Settled entry Rule Own
-entered None Rule Own t r = inl (t, r, tt)
-entered (Some dyn_type) Rule Own t r = inl (t, r, tt)
-entered (Some unsupported_type) Rule Own t r =
-    inr (Unsupported, inr (unsupported_kind refl refl))
-entered (Some (of_type s)) Rule Own t r = elim (same_type s t) [
-  | inl e ↦ inl (t, r, e)
-  | inr differs ↦ inr (BadTypeEntry, inr (another_type s t r refl differs refl))
-]
-
-settled : (entry : Option CelTypeEntry) (Rule : ValueType → Type 0) (Own : Refusal → Type 0)
-    → Decided Rule Own → Settled entry Rule Own
-settled entry Rule Own (inl (t, r)) = entered entry Rule Own t r
-settled entry Rule Own (inr (e, f)) = inr (e, inl f)
-
 -- ---- rules
 
 constant-total : (v : CelValue) → Decided (λ t. constant_type v ≡ Some t) (ConstantFault v)
@@ -75,7 +51,7 @@ constant-total v = at (constant_type v) refl
     at None e = inr (Unsupported, (e, refl))
     at (Some t) e = inl (t, e)
 
-ref-decided : (ref : Option CelReference) (name : List ℕ) → RefAgrees ref name ⊎ RefDiffers ref name
+pub ref-decided : (ref : Option CelReference) (name : List ℕ) → RefAgrees ref name ⊎ RefDiffers ref name
 ref-decided None name = inl tt
 ref-decided (Some r) name = elim (same_name r.name name) [
   | inl e ↦ value r.value refl e
@@ -88,16 +64,13 @@ ref-decided (Some r) name = elim (same_name r.name name) [
     value (Some v) is e = inr (λ a. none-some v (sym a.1 ∙ is))
 
 ident-total : (ref : Option CelReference) (ks : Kinds) (name : List ℕ)
-    → Decided (IdentRule ref ks name) (IdentFault ref ks name)
+    → Decided (IdentRule ks name) (IdentFault ref ks name)
 ident-total ref ks name = at (name_type name (local name ks)) refl
   where
     at : (o : Option ValueType) → name_type name (local name ks) ≡ o
-        → Decided (IdentRule ref ks name) (IdentFault ref ks name)
+        → Decided (IdentRule ks name) (IdentFault ref ks name)
     at None e = inr (UnknownName, IdentFault.unknown e refl)
-    at (Some t) e = elim (ref-decided ref name) [
-      | inl agrees ↦ inl (t, (e, agrees))
-      | inr differs ↦ inr (BadReference, IdentFault.other_reference t e differs refl)
-    ]
+    at (Some t) e = inl (t, e)
 
 -- a type of maps with names, and of what
 names_of : (s : ValueType) → ((t : ValueType) × (s ≡ map_type keys.Text t))
@@ -116,7 +89,7 @@ names_of (list_type t) = inr (λ u e. cc)
 select-total : (ref : Option CelReference) (root : Option (List ℕ)) (Operand : ValueType → Type 0)
     (InOperand : Refusal → Type 0) (field : List ℕ) (test_only : Bool)
     → Decided Operand InOperand
-    → Decided (SelectRule ref root Operand field test_only)
+    → Decided (SelectRule root Operand field test_only)
     (SelectFault ref root Operand InOperand field test_only)
 select-total ref (Some root) Operand InOperand field true inside =
     inr (UnknownName, SelectFault.asked root refl refl refl)
@@ -124,20 +97,10 @@ select-total ref (Some root) Operand InOperand field false inside =
     at (attribute_named (joined_name root field)) refl
   where
     at : (o : Option AttrId) → attribute_named (joined_name root field) ≡ o
-        → Decided (SelectRule ref (Some root) Operand field false)
+        → Decided (SelectRule (Some root) Operand field false)
         (SelectFault ref (Some root) Operand InOperand field false)
     at None e = inr (UnknownName, SelectFault.unknown root refl e refl)
-    at (Some a) e =
-        let typed : option_map attribute_type (attribute_named (joined_name root field))
-        ≡ Some (attribute_type a) = ap (option_map attribute_type) e in
-        elim (ref-decided ref (joined_name root field)) [
-          | inl agrees ↦ inl (attribute_type a, (typed, agrees))
-          | inr differs ↦ inr (
-            BadReference,
-            SelectFault.other_reference root (attribute_type a)
-                refl refl typed differs refl,
-          )
-        ]
+    at (Some a) e = inl (attribute_type a, ap (option_map attribute_type) e)
 select-total ref None Operand InOperand field test_only (inr (e, f)) =
     inr (e, SelectFault.in_operand refl f)
 select-total ref None Operand InOperand field test_only (inl (s, h)) = elim (names_of s) [
@@ -157,15 +120,16 @@ call-decided name on Operands InOperands (inl (ts, h)) = elim (call-total name o
 ]
 
 -- what an empty literal is by its entry
-empty-settled : (entry : Option CelTypeEntry) (IsKind : ValueType → Type 0)
+empty-decided : (entry : Option CelTypeEntry) (IsKind : ValueType → Type 0)
     → ((t : ValueType) → IsKind t ⊎ (IsKind t → ⊥))
-    → Settled entry (λ t. TypeGiven entry t × IsKind t) (EmptyFault entry IsKind)
-empty-settled None IsKind decide = inr (NeedsType, inl (untold tt refl))
-empty-settled (Some dyn_type) IsKind decide = inr (NeedsType, inl (untold tt refl))
-empty-settled (Some unsupported_type) IsKind decide =
+    → Decided (λ t. TypeGiven entry t × IsKind t)
+    (λ e. EmptyFault entry IsKind e ⊎ EntryFault entry (λ t. TypeGiven entry t × IsKind t) e)
+empty-decided None IsKind decide = inr (NeedsType, inl (untold tt refl))
+empty-decided (Some dyn_type) IsKind decide = inr (NeedsType, inl (untold tt refl))
+empty-decided (Some unsupported_type) IsKind decide =
     inr (Unsupported, inr (unsupported_kind refl refl))
-empty-settled (Some (of_type s)) IsKind decide = elim (decide s) [
-  | inl kind ↦ inl (s, (refl, kind), refl)
+empty-decided (Some (of_type s)) IsKind decide = elim (decide s) [
+  | inl kind ↦ inl (s, (refl, kind))
   | inr never ↦ inr (BadTypeEntry, inl (of_another_kind s refl never refl))
 ]
 
@@ -227,85 +191,88 @@ range-kind bytes_type = inr (λ t h. h)
 
 -- ---- elements and pairs of one type
 
+-- keys and values in turn have the types
+abbrev TypesInTurn : Maps → Kinds → CelTreeEntries → List ValueType → Type 0
+TypesInTurn m ks no_tree_entries [] = Unit {0}
+TypesInTurn m ks no_tree_entries (t ∷ ts) = ⊥
+TypesInTurn m ks (tree_entry id key value es) [] = ⊥
+TypesInTurn m ks (tree_entry id key value es) (s ∷ []) = ⊥
+TypesInTurn m ks (tree_entry id key value es) (s ∷ t ∷ ts) =
+    Types m ks key s × Types m ks value t × TypesInTurn m ks es ts
+
 module _ (m : Maps) (ks : Kinds) where
+  -- some has another type
+  abbrev Differs : (ValueType → Type 0) → ValueType → Type 0
+  Differs Has s = (t : ValueType) × Has t × (s ≢ t)
+
   all-decided : (ts : CelTrees) (us : List ValueType) (s : ValueType) → TypesEach m ks ts us
-      → TypesAll m ks ts s ⊎ (TypesAll m ks ts s → ⊥)
+      → TypesAll m ks ts s ⊎ Differs (SomeTypes m ks ts) s
   all-decided no_trees us s h = inl tt
   all-decided (tree t ts) [] s h = absurd h
-  all-decided (tree t ts) (u ∷ us) s h = elim (same_type u s) [
-    | inr differs ↦ inr (λ all. differs (one-type m ks t u s h.0 all.0))
+  all-decided (tree t ts) (u ∷ us) s h = elim (same_type s u) [
+    | inr differs ↦ inr (u, inl h.0, differs)
     | inl e ↦ elim (all-decided ts us s h.1) [
-      | inl others ↦ inl (subst (λ v. Types m ks t v) e h.0, others)
-      | inr never ↦ inr (λ all. never all.1)
+      | inl others ↦ inl (subst (λ v. Types m ks t v) (sym e) h.0, others)
+      | inr (v, some, differs) ↦ inr (v, inr some, differs)
     ]
   ]
 
   pairs-decided : (es : CelTreeEntries) (us : List ValueType) (r s : ValueType)
-      → TypesInTurn m ks es us → TypesPairs m ks es r s ⊎ (TypesPairs m ks es r s → ⊥)
+      → TypesInTurn m ks es us → TypesPairs m ks es r s
+      ⊎ (Differs (KeyTypes m ks es) r ⊎ Differs (ItemTypes m ks es) s)
   pairs-decided no_tree_entries us r s h = inl tt
   pairs-decided (tree_entry id key value es) [] r s h = absurd h
   pairs-decided (tree_entry id key value es) (t ∷ []) r s h = absurd h
-  pairs-decided (tree_entry id key value es) (t ∷ u ∷ us) r s h = elim (same_type t r) [
-    | inr differs ↦ inr (λ all. differs (one-type m ks key t r h.0 all.0))
-    | inl d ↦ elim (same_type u s) [
-      | inr differs ↦ inr (λ all. differs (one-type m ks value u s h.1 all.1))
+  pairs-decided (tree_entry id key value es) (t ∷ u ∷ us) r s h = elim (same_type r t) [
+    | inr differs ↦ inr (inl (t, inl h.0, differs))
+    | inl d ↦ elim (same_type s u) [
+      | inr differs ↦ inr (inr (u, inl h.1, differs))
       | inl e ↦ elim (pairs-decided es us r s h.2) [
         | inl others ↦ inl (
-          subst (λ v. Types m ks key v) d h.0,
-          subst (λ v. Types m ks value v) e h.1,
+          subst (λ v. Types m ks key v) (sym d) h.0,
+          subst (λ v. Types m ks value v) (sym e) h.1,
           others,
         )
-        | inr never ↦ inr (λ all. never all.2)
+        | inr (inl (v, some, differs)) ↦ inr (inl (v, inr some, differs))
+        | inr (inr (v, some, differs)) ↦ inr (inr (v, inr some, differs))
       ]
     ]
   ]
 
-  list-settled : (entry : Option CelTypeEntry) (ts : CelTrees)
+  list-decided : (entry : Option CelTypeEntry) (ts : CelTrees)
       → ((us : List ValueType) × TypesEach m ks ts us) ⊎ ((e : Refusal) × SomeFault m ks ts e)
-      → Settled entry (ListRule entry ts (TypesAll m ks ts))
-      (ListFault entry ts (TypesEach m ks ts) (TypesAll m ks ts) (SomeFault m ks ts))
-  list-settled entry no_trees each = empty-settled entry IsList list-kind
-  list-settled entry (tree t ts) (inr (e, f)) = inr (e, inl (ElementsFault.in_element f))
-  list-settled entry (tree t ts) (inl ([], h)) = absurd h
-  list-settled entry (tree t ts) (inl (u ∷ us, h)) = elim (all-decided (tree t ts) (u ∷ us) u h) [
-    | inl all ↦ entered entry (ListRule entry (tree t ts) (TypesAll m ks (tree t ts))) _
-        (list_type u) (u, all, refl)
-    | inr never ↦ inr (
-      NoOverload,
-      inl (ElementsFault.no_common_type (u ∷ us) (λ e. cc) h
-          (λ s all. never (subst (λ v. TypesAll m ks (tree t ts) v)
-          (one-type m ks t s u all.0 h.0) all)) refl),
-    )
+      → Decided (ListRule entry ts (TypesAll m ks ts))
+      (λ e. ListFault entry ts (SomeTypes m ks ts) (SomeFault m ks ts) e
+      ⊎ EntryFault entry (ListRule entry ts (TypesAll m ks ts)) e)
+  list-decided entry no_trees each = empty-decided entry IsList list-kind
+  list-decided entry (tree t ts) (inr (e, f)) = inr (e, inl (ElementsFault.in_element f))
+  list-decided entry (tree t ts) (inl ([], h)) = absurd h
+  list-decided entry (tree t ts) (inl (u ∷ us, h)) = elim (all-decided (tree t ts) (u ∷ us) u h) [
+    | inl all ↦ inl (list_type u, (u, all, refl))
+    | inr (v, some, differs) ↦
+        inr (NoOverload, inl (ElementsFault.two_types u v (inl h.0) some differs refl))
   ]
 
-  map-settled : (entry : Option CelTypeEntry) (es : CelTreeEntries)
+  map-decided : (entry : Option CelTypeEntry) (es : CelTreeEntries)
       → ((us : List ValueType) × TypesInTurn m ks es us) ⊎ ((e : Refusal) × PairFault m ks es e)
-      → Settled entry (MapRule entry es (TypesPairs m ks es))
-      (MapsFault entry es (TypesInTurn m ks es) (TypesPairs m ks es) (PairFault m ks es))
-  map-settled entry no_tree_entries each = empty-settled entry IsMap map-kind
-  map-settled entry (tree_entry id key value es) (inr (e, f)) = inr (e, inl (PairsFault.in_entry f))
-  map-settled entry (tree_entry id key value es) (inl ([], h)) = absurd h
-  map-settled entry (tree_entry id key value es) (inl (t ∷ [], h)) = absurd h
-  map-settled entry (tree_entry id key value es) (inl (t ∷ u ∷ us, h)) = elim (key-kind t) [
-    | inr never ↦ inr (
-      NoOverload,
-      inl (PairsFault.no_common_type (t ∷ u ∷ us) (λ e. cc) h
-          (λ k s all. never k (one-type m ks key t (type_of_key k) h.0 all.0)) refl),
-    )
+      → Decided (MapRule entry es (TypesPairs m ks es))
+      (λ e. MapsFault entry es (KeyTypes m ks es) (ItemTypes m ks es) (PairFault m ks es) e
+      ⊎ EntryFault entry (MapRule entry es (TypesPairs m ks es)) e)
+  map-decided entry no_tree_entries each = empty-decided entry IsMap map-kind
+  map-decided entry (tree_entry id key value es) (inr (e, f)) = inr (e, inl (PairsFault.in_entry f))
+  map-decided entry (tree_entry id key value es) (inl ([], h)) = absurd h
+  map-decided entry (tree_entry id key value es) (inl (t ∷ [], h)) = absurd h
+  map-decided entry (tree_entry id key value es) (inl (t ∷ u ∷ us, h)) = elim (key-kind t) [
+    | inr never ↦ inr (NoOverload, inl (PairsFault.no_key_type t (inl h.0) never refl))
     | inl (k, is) ↦ elim (pairs-decided (tree_entry id key value es) (t ∷ u ∷ us) t u h) [
-      | inl all ↦ entered entry
-          (MapRule entry (tree_entry id key value es) (TypesPairs m ks (tree_entry id key value es)))
-          _ (map_type k u)
-          (k, u, subst (λ v. TypesPairs m ks (tree_entry id key value es) v u) is all, refl)
-      | inr never ↦ inr (
-        NoOverload,
-        inl (PairsFault.no_common_type (t ∷ u ∷ us) (λ e. cc) h
-            (λ j s all. never
-            (subst (λ v. TypesPairs m ks (tree_entry id key value es) v u)
-            (one-type m ks key (type_of_key j) t all.0 h.0)
-            (subst (λ v. TypesPairs m ks (tree_entry id key value es) (type_of_key j) v)
-            (one-type m ks value s u all.1 h.1) all))) refl),
+      | inl all ↦ inl (
+        map_type k u,
+        (k, u, subst (λ v. TypesPairs m ks (tree_entry id key value es) v u) is all, refl),
       )
+      | inr (inl (v, some, differs)) ↦
+          inr (NoOverload, inl (PairsFault.two_key_types t v (inl h.0) some differs refl))
+      | inr (inr (v, some, differs)) ↦
+          inr (NoOverload, inl (PairsFault.two_value_types u v (inl h.1) some differs refl))
     ]
   ]
 
@@ -403,7 +370,7 @@ root-unnamed name e = at (bytes_eq name (codes "request")) (bytes_eq name (codes
     at false false false false a b c d e =
         let never : is_root name ≡ false = rw (a, b, c, d) refl in cc
 
-typed-no-root : (name : List ℕ) (ks : Kinds) (t : ValueType)
+pub typed-no-root : (name : List ℕ) (ks : Kinds) (t : ValueType)
     → name_type name (local name ks) ≡ Some t → bare_root name ks ≡ false
 typed-no-root name ks t e = at (local name ks) refl
   where
@@ -417,66 +384,34 @@ typed-no-root name ks t e = at (local name ks) refl
     at (Some u) is = rw is refl
     at None is = rw is (root (is_root name) refl is)
 
-ident-settled : (m : Maps) (ks : Kinds) (id : ℤ) (name : List ℕ)
-    → Settled (get m.types id) (IdentRule (get m.refs id) ks name)
-    (IdentFault (get m.refs id) ks name)
-    → ((s : ValueType) × Types m ks (ident id name) s)
-    ⊎ ((e : Refusal) × TypeFault m ks (ident id name) e)
-ident-settled m ks id name (inl (t, r, agrees)) = inl (t, (r, agrees))
-ident-settled m ks id name (inr (e, inl f)) = inr (e, inl f)
-ident-settled m ks id name (inr (e, inr f)) = elim (ident-total (get m.refs id) ks name) [
-  | inl (t, r) ↦ inr (e, inr (typed-no-root name ks t r.0, f))
-  | inr (d, g) ↦ inr (d, inl g)
-]
-
 -- ---- expressions
 
 abbrev pub TypeOrFault : Maps → Kinds → CelTree → Type 0
 TypeOrFault m ks t = Decided (λ s. Types m ks t s) (TypeFault m ks t)
 
--- the two parts of a type by rule and entry
-paired : (entry : Option CelTypeEntry) (Rule : ValueType → Type 0) (Own : Refusal → Type 0)
-    → Settled entry Rule Own → Decided (λ t. Rule t × TypeAgrees entry t)
-    (λ e. Own e ⊎ EntryFault entry Rule e)
-paired entry Rule Own (inl (t, r, agrees)) = inl (t, (r, agrees))
-paired entry Rule Own (inr f) = inr f
+-- the fault of a rule is a fault of the node
+own : {Rule : ValueType → Type 0} {Own Entry : Refusal → Type 0} → Decided Rule Own
+    → Decided Rule (λ e. Own e ⊎ Entry e)
+own (inl typed) = inl typed
+own (inr (e, f)) = inr (e, inl f)
 
 mutual
   pub type-total : (m : Maps) (ks : Kinds) (t : CelTree) → TypeOrFault m ks t
-  type-total m ks (constant id v) =
-      paired (get m.types id) _ _ (settled (get m.types id) (λ t. constant_type v ≡ Some t)
-      (ConstantFault v) (constant-total v))
-  type-total m ks (ident id name) =
-      ident-settled m ks id name (settled (get m.types id) (IdentRule (get m.refs id) ks name)
-      (IdentFault (get m.refs id) ks name) (ident-total (get m.refs id) ks name))
+  type-total m ks (constant id v) = own (constant-total v)
+  type-total m ks (ident id name) = own (ident-total (get m.refs id) ks name)
   type-total m ks (select id operand field test_only) =
-      paired (get m.types id) _ _ (settled (get m.types id)
-      (SelectRule (get m.refs id) (root_of operand ks) (Types m ks operand) field test_only)
-      (SelectFault (get m.refs id) (root_of operand ks) (Types m ks operand)
-      (TypeFault m ks operand) field test_only)
-      (select-total (get m.refs id) (root_of operand ks) (Types m ks operand)
-      (TypeFault m ks operand) field test_only (type-total m ks operand)))
+      own (select-total (get m.refs id) (root_of operand ks) (Types m ks operand)
+      (TypeFault m ks operand) field test_only (type-total m ks operand))
   type-total m ks (call id name on args) =
-      paired (get m.types id) _ _ (settled (get m.types id)
-      (CallRule name (has_target on) (TypesTarget m ks on (TypesEach m ks args)))
-      (CallsFault name (has_target on) (TypesTarget m ks on (TypesEach m ks args))
-      (λ d. TargetFault m ks on d ⊎ SomeFault m ks args d))
-      (call-decided name (has_target on) (TypesTarget m ks on (TypesEach m ks args))
+      own (call-decided name (has_target on) (TypesTarget m ks on (TypesEach m ks args))
       (λ d. TargetFault m ks on d ⊎ SomeFault m ks args d)
-      (target-total m ks on args (each-total m ks args))))
+      (target-total m ks on args (each-total m ks args)))
   type-total m ks (list_literal id elements) =
-      paired (get m.types id) _ _ (list-settled m ks (get m.types id) elements
-      (each-total m ks elements))
+      list-decided m ks (get m.types id) elements (each-total m ks elements)
   type-total m ks (map_literal id entries) =
-      paired (get m.types id) _ _ (map-settled m ks (get m.types id) entries
-      (turn-total m ks entries))
+      map-decided m ks (get m.types id) entries (turn-total m ks entries)
   type-total m ks (comprehension id x acc range init condition step result) =
-      paired (get m.types id) _ _ (settled (get m.types id)
-      (LoopRule x acc (Types m ks range) (Types m ks init)
-      (λ s a. Types m ((x, s) ∷ (acc, a) ∷ ks) condition)
-      (λ s a. Types m ((x, s) ∷ (acc, a) ∷ ks) step)
-      (λ a. Types m ((acc, a) ∷ ks) result)) _
-      (loop-total x acc (Types m ks range) (Types m ks init)
+      own (loop-total x acc (Types m ks range) (Types m ks init)
       (λ s a. Types m ((x, s) ∷ (acc, a) ∷ ks) condition)
       (λ s a. Types m ((x, s) ∷ (acc, a) ∷ ks) step)
       (λ a. Types m ((acc, a) ∷ ks) result) (TypeFault m ks range) (TypeFault m ks init)
@@ -486,7 +421,7 @@ mutual
       (type-total m ks range) (type-total m ks init)
       (λ s a. type-total m ((x, s) ∷ (acc, a) ∷ ks) condition)
       (λ s a. type-total m ((x, s) ∷ (acc, a) ∷ ks) step)
-      (λ a. type-total m ((acc, a) ∷ ks) result)))
+      (λ a. type-total m ((acc, a) ∷ ks) result))
 
   target-total : (m : Maps) (ks : Kinds) (on : CelTarget) (args : CelTrees)
       → ((us : List ValueType) × TypesEach m ks args us) ⊎ ((e : Refusal) × SomeFault m ks args e)

@@ -1,23 +1,24 @@
 -- Types of expressions, computed on examples.
-use Rattle.std.proofs.Common.{◌≡◌, ◌≢◌, inl, inr, ℕ, ℤ, pos, true, false, List, [], ◌∷◌, Some, None, refl, sym, subst}
+use Rattle.std.proofs.Common.{arith, ◌≡◌, ◌≢◌, inl, inr, ℕ, ℤ, pos, true, false, List, [], ◌∷◌, Some, None, refl, sym, subst, ◌≤◌, ◌<◌, zero, suc}
 use Rattle.std.specs.Prelude.{codes}
 use Rattle.std.specs.FinMap.{find, from_entries, get, get-from_entries}
 use Rattle.std.specs.Cmp.{int_cmp_total}
 use Rattle.std.specs.Cmp.Lexicographic.{bytes_decides}
 use Rattle.std.specs.Ordering.{int_cmp}
-use Rattle.proto_wire.specs.declared.refusal.Refusal.TheVariants.{BadReference, BadTypeEntry, Missing, NeedsType, NoOverload, OutOfRange, UnknownName, Unsupported}
-use Rattle.cel_value.specs.Types.{ValueType, bool_type, int_type, uint_type, text_type, list_type, map_type}
+use Rattle.proto_wire.specs.declared.refusal.Refusal.TheVariants.{BadReference, BadTypeEntry, Missing, NeedsType, NoOverload, OutOfRange, TooLarge, UnknownName, Unsupported}
+use Rattle.cel_value.specs.Types.{ValueType, bool_type, int_type, uint_type, text_type, list_type, map_type, type_of_key}
 use Rattle.cel_value.specs.Values.{bool, int, uint, text}
+use Rattle.cel_value.specs.declared.cel_type.KeyType.{KeyType}
 use Rattle.cel_value.specs.declared.cel_type.KeyType.TheVariants as keys
 use Rattle.cel_ops.specs.declared.comparison.CompareOp.TheVariants.{Equal}
 use Rattle.cel_ops.specs.declared.arithmetic.ArithmeticOp.TheVariants.{Add}
 use Rattle.cel_overload.specs.declared.function.Function.TheVariants as functions
 use Rattle.cel_overload.specs.declared.overload.Overload.TheVariants as overloads
-use Rattle.cel_tree.specs.Checked.{CelReference, CelTypeEntry, of_type, dyn_type, unsupported_type}
-use Rattle.cel_tree.specs.Tree.{CelTree, constant, ident, select, call, comprehension, list_literal, no_target, CelTrees, no_trees, tree}
+use Rattle.cel_tree.specs.Checked.{CelChecked, CelReference, CelTypeEntry, of_type, dyn_type, unsupported_type}
+use Rattle.cel_tree.specs.Tree.{CelTree, constant, ident, select, call, comprehension, list_literal, map_literal, no_target, no_tree_entries, tree_entry, CelTrees, no_trees, tree}
 use Rattle.cel_overload.proofs.OneOverload.{unchosen}
-use Rattle.cel_types.specs.Typing.{Maps, RefAgrees, TypeAgrees, TypeGiven, Types, TypesEach, locals_in}
-use Rattle.cel_types.specs.TypingFaults.{CallsFault, ElementsFault, IdentFault, SaysNothing, SelectFault, TypeFault, another_type, of_another_kind, unsupported_kind, untold, no_element_name, no_elements, one_name}
+use Rattle.cel_types.specs.Typing.{EntriesAgree, EntryAgrees, IsTyped, Kinds, Maps, NamesDiffer, RefAgrees, TypeGiven, Types, TypesEach, locals_in}
+use Rattle.cel_types.specs.TypingFaults.{CallsFault, CheckFault, too_many_locals, ElementsFault, IdentFault, PairsFault, SaysNothing, SelectFault, TypeFault, another_type, of_another_kind, unsupported_kind, untold, no_element_name, no_elements, one_name, in_init, in_turn}
 use Rattle.cel_types.specs.Elaborated.{Elaborates, no_typed, typed, typed_attribute, typed_call, typed_constant, typed_list, typed_local, typed_loop}
 use Rattle.attributes.specs.declared.attribute.AttrId.{AttrId}
 
@@ -34,10 +35,14 @@ method_is_get = call (pos 3) (codes "_==_") no_target
 abbrev with_types : List (ℤ × CelTypeEntry) → Maps
 with_types es = record { types = from_entries es; refs = from_entries [] }
 
--- an entry of the maps, where the list of entries says so
-agrees : (es : List (ℤ × CelTypeEntry)) (id : ℤ) (t : ValueType)
-    → TypeAgrees (find int_cmp id es) t → TypeAgrees (get (with_types es).types id) t
-agrees es id t h = subst (λ o. TypeAgrees o t) (sym (get-from_entries int_cmp_total es id)) h
+abbrev checked : List (ℤ × CelTypeEntry) → CelTree → CelChecked
+checked es t = record { tree = t; types = from_entries es; refs = from_entries [] }
+
+-- an entry of the maps is what the list of entries says
+says : (es : List (ℤ × CelTypeEntry)) (id : ℤ) (Has : ValueType → Type 0)
+    → EntryAgrees (find int_cmp id es) Has → EntryAgrees (get (with_types es).types id) Has
+says es id Has h =
+    subst (λ o. EntryAgrees o Has) (sym (get-from_entries int_cmp_total es id)) h
 
 given : (es : List (ℤ × CelTypeEntry)) (id : ℤ) (t : ValueType)
     → TypeGiven (find int_cmp id es) t → TypeGiven (get (with_types es).types id) t
@@ -48,53 +53,81 @@ no_reference : (es : List (ℤ × CelTypeEntry)) (id : ℤ) (name : List ℕ)
 no_reference es id name = subst (λ o. RefAgrees o name)
     (sym (get-from_entries {X = CelReference} int_cmp_total [] id)) tt
 
-method_is_text : (es : List (ℤ × CelTypeEntry)) → TypeAgrees (find int_cmp (pos 1) es) text_type
-    → Types (with_types es) [] method text_type
-method_is_text es h =
-    ((refl, no_reference es (pos 1) (codes "request.method")), agrees es (pos 1) text_type h)
+-- whatever the entries say, the Select is a text and the call a bool
+method_is_text : (m : Maps) → Types m [] method text_type
+method_is_text m = refl
 
--- without entries on the others, the call is a bool
-is_bool : (es : List (ℤ × CelTypeEntry)) → TypeAgrees (find int_cmp (pos 1) es) text_type
-    → TypeAgrees (find int_cmp (pos 3) es) bool_type
-    → TypeAgrees (find int_cmp (pos 4) es) text_type
-    → Types (with_types es) [] method_is_get bool_type
-is_bool es on_select on_call on_constant = (
+is_bool : (m : Maps) → Types m [] method_is_get bool_type
+is_bool m = (
+  text_type ∷ text_type ∷ [],
+  (refl, (refl, tt)),
+  overloads.Compare Equal,
   (
-    text_type ∷ text_type ∷ [],
-    (method_is_text es on_select, ((refl, agrees es (pos 4) text_type on_constant), tt)),
-    overloads.Compare Equal,
-    (
-      functions.Compare Equal,
-      refl,
-      record {
-        function = refl;
-        shape = refl;
-        operands = (text_type, tt, refl, refl);
-      },
-    ),
+    functions.Compare Equal,
+    refl,
+    record {
+      function = refl;
+      shape = refl;
+      operands = (text_type, tt, refl, refl);
+    },
   ),
-  agrees es (pos 3) bool_type on_call,
 )
 
-without_entries : Types (with_types []) [] method_is_get bool_type
-without_entries = is_bool [] tt tt tt
+-- an entry that is not there agrees with any type
+silent : (Has : ValueType → Type 0) → EntryAgrees None Has
+silent Has t h = tt
 
--- `dyn` says nothing, on the Select or on the bare root
-dyn_on_select : Types (with_types ((pos 1, dyn_type) ∷ [])) [] method_is_get bool_type
-dyn_on_select = is_bool ((pos 1, dyn_type) ∷ []) tt tt tt
+-- with no entries on call and text, and one on the Select that agrees
+get_is_typed : (es : List (ℤ × CelTypeEntry))
+    → EntryAgrees (find int_cmp (pos 1) es) (Types (with_types es) [] method)
+    → find int_cmp (pos 3) es ≡ None → find int_cmp (pos 4) es ≡ None
+    → IsTyped (checked es method_is_get) bool_type
+get_is_typed es on_select no_call no_text = record {
+  few = omega arith;
+  types = is_bool (with_types es);
+  entries = (
+    says es (pos 3) call_is
+        (subst (λ o. EntryAgrees o call_is) (sym no_call) (silent call_is)),
+    tt,
+    (
+      (
+        says es (pos 1) (Types (with_types es) [] method) on_select,
+        (λ t g. no_reference es (pos 1) (codes "request.method")),
+      ),
+      (
+        says es (pos 4) text_is
+            (subst (λ o. EntryAgrees o text_is) (sym no_text) (silent text_is)),
+        tt,
+      ),
+    ),
+  );
+}
+  where
+    call_is : ValueType → Type 0
+    call_is = Types (with_types es) [] method_is_get
 
-right_entry : Types (with_types ((pos 1, of_type text_type) ∷ [])) [] method_is_get bool_type
-right_entry = is_bool ((pos 1, of_type text_type) ∷ []) refl tt tt
+    text_is : ValueType → Type 0
+    text_is = Types (with_types es) [] (constant (pos 4) (text (codes "GET")))
+
+without_entries : IsTyped (checked [] method_is_get) bool_type
+without_entries = get_is_typed [] (λ t g. tt) refl refl
+
+-- `dyn` says nothing
+dyn_on_select : IsTyped (checked ((pos 1, dyn_type) ∷ []) method_is_get) bool_type
+dyn_on_select = get_is_typed ((pos 1, dyn_type) ∷ []) (λ t g. tt) refl refl
+
+right_entry : IsTyped (checked ((pos 1, of_type text_type) ∷ []) method_is_get) bool_type
+right_entry = get_is_typed ((pos 1, of_type text_type) ∷ [])
+    (λ t g. let same : Some text_type ≡ Some t = g in cc) refl refl
 
 -- an entry of a bare root is not used, whatever it says
-entry_on_root : Types (with_types ((pos 2, unsupported_type) ∷ [])) [] method_is_get bool_type
-entry_on_root = is_bool ((pos 2, unsupported_type) ∷ []) tt tt tt
+entry_on_root : IsTyped (checked ((pos 2, unsupported_type) ∷ []) method_is_get) bool_type
+entry_on_root = get_is_typed ((pos 2, unsupported_type) ∷ []) (λ t g. tt) refl refl
 
 -- the entry INT64 on the Select is 11
 
 int_on_select : TypeFault (with_types ((pos 1, of_type int_type) ∷ [])) [] method BadTypeEntry
-int_on_select = inr (another_type int_type text_type
-    (refl, no_reference ((pos 1, of_type int_type) ∷ []) (pos 1) (codes "request.method"))
+int_on_select = inr (another_type int_type text_type refl
     (get-from_entries int_cmp_total ((pos 1, of_type int_type) ∷ []) (pos 1)) (λ e. cc) refl)
 
 -- `request.color` is 9, as an Ident and as a Select
@@ -119,17 +152,7 @@ has_method = inl (SelectFault.asked (codes "request") refl refl refl)
 
 hidden_root : Types (with_types []) ((codes "request", map_type keys.Text int_type) ∷ []) method
     int_type
-hidden_root = (
-  (
-    int_type,
-    (
-      (refl, no_reference [] (pos 2) (codes "request")),
-      agrees [] (pos 2) (map_type keys.Text int_type) tt,
-    ),
-    refl,
-  ),
-  agrees [] (pos 1) int_type tt,
-)
+hidden_root = (int_type, refl, refl)
 
 -- a reference that names another attribute is 12
 
@@ -146,16 +169,72 @@ other_reference = inl (IdentFault.other_reference text_type refl (λ same.
     ((pos 1, record { name = codes "request.path"; value = None }) ∷ []) (pos 1)) same in
     cc) refl)
 
--- `1 + 1u` and `[1, 2u]` are 10
+-- ---- several faults, each of them there
+
+-- `request.method` with a reference entry named `request.path` and the type entry INT64: 11 and 12
+
+abbrev two_entries : Maps
+two_entries = record {
+  types = from_entries ((pos 1, of_type int_type) ∷ []);
+  refs = from_entries ((pos 1, record { name = codes "request.path"; value = None }) ∷ []);
+}
+
+type_differs : TypeFault two_entries [] (ident (pos 1) (codes "request.method")) BadTypeEntry
+type_differs = inr (
+  refl,
+  another_type int_type text_type refl
+      (get-from_entries int_cmp_total ((pos 1, of_type int_type) ∷ []) (pos 1)) (λ e. cc) refl,
+)
+
+name_differs : TypeFault two_entries [] (ident (pos 1) (codes "request.method")) BadReference
+name_differs = inl (IdentFault.other_reference text_type refl (λ same.
+    let named = subst (λ o. RefAgrees o (codes "request.method"))
+    (get-from_entries int_cmp_total
+    ((pos 1, record { name = codes "request.path"; value = None }) ∷ []) (pos 1)) same in
+    cc) refl)
+
+-- `request.method == 1` with the entry INT64 on the Select: 10 and 11
+
+abbrev int_entry : Maps
+int_entry = with_types ((pos 1, of_type int_type) ∷ [])
+
+abbrev method_is_one : CelTree
+method_is_one = call (pos 3) (codes "_==_") no_target
+    (tree method (tree (constant (pos 4) (int (pos 1))) no_trees))
+
+not_comparable : TypeFault int_entry [] method_is_one NoOverload
+not_comparable = inl (CallsFault.no_overload (text_type ∷ int_type ∷ []) (refl, (refl, tt)) (
+  functions.Compare Equal,
+  refl,
+  unchosen (functions.Compare Equal) false (text_type ∷ int_type ∷ []) refl,
+) refl)
+
+entry_differs : TypeFault int_entry [] method_is_one BadTypeEntry
+entry_differs = inl (CallsFault.in_operand (inr (inl int_on_select)))
+
+-- a comprehension that gathers from `true` with the entry INT64, its condition an unknown name: 9
+-- and 11
+
+abbrev unknown_condition : CelTree
+unknown_condition = comprehension (pos 5) (codes "x") (codes "y") (list_literal (pos 6)
+    (tree (constant (pos 7) (int (pos 7))) no_trees)) (constant (pos 1) (bool true))
+    (ident (pos 8) (codes "nosuch")) (ident (pos 9) (codes "y")) (ident (pos 10) (codes "y"))
+
+condition_unknown : TypeFault int_entry [] unknown_condition UnknownName
+condition_unknown = inl (in_turn (list_type int_type) int_type bool_type
+    (int_type, (refl, tt), refl) refl refl (inl (inl (IdentFault.unknown refl refl))))
+
+init_differs : TypeFault int_entry [] unknown_condition BadTypeEntry
+init_differs = inl (in_init (inr (another_type int_type bool_type refl
+    (get-from_entries int_cmp_total ((pos 1, of_type int_type) ∷ []) (pos 1)) (λ e. cc) refl)))
+
+-- ---- `1 + 1u` and `[1, 2u]` are 10
 
 abbrev one_and_one : CelTrees
 one_and_one = tree (constant (pos 1) (int (pos 1))) (tree (constant (pos 2) (uint 1)) no_trees)
 
 int_and_uint : TypesEach (with_types []) [] one_and_one (int_type ∷ uint_type ∷ [])
-int_and_uint = (
-  (refl, agrees [] (pos 1) int_type tt),
-  ((refl, agrees [] (pos 2) uint_type tt), tt),
-)
+int_and_uint = (refl, (refl, tt))
 
 no_sum : TypeFault (with_types []) [] (call (pos 3) (codes "_+_") no_target one_and_one) NoOverload
 no_sum = inl (CallsFault.no_overload (int_type ∷ uint_type ∷ []) int_and_uint (
@@ -166,11 +245,66 @@ no_sum = inl (CallsFault.no_overload (int_type ∷ uint_type ∷ []) int_and_uin
 ) refl)
 
 no_list : TypeFault (with_types []) [] (list_literal (pos 3) one_and_one) NoOverload
-no_list = inl (ElementsFault.no_common_type (int_type ∷ uint_type ∷ []) (λ e. cc) int_and_uint
-    (λ t all. mixed t all.0.0 all.1.0.0) refl)
+no_list = inl (ElementsFault.two_types int_type uint_type (inl refl) (inr (inl refl)) (λ e. cc) refl)
+
+-- `[1, 2u, nosuch]` is 9 and 10
+
+abbrev nosuch : CelTree
+nosuch = ident (pos 4) (codes "nosuch")
+
+abbrev three_elements : CelTree
+three_elements = list_literal (pos 3) (tree (constant (pos 1) (int (pos 1)))
+    (tree (constant (pos 2) (uint 2)) (tree nosuch no_trees)))
+
+different_elements : TypeFault (with_types []) [] three_elements NoOverload
+different_elements =
+    inl (ElementsFault.two_types int_type uint_type (inl refl) (inr (inl refl)) (λ e. cc) refl)
+
+unknown_element : TypeFault (with_types []) [] three_elements UnknownName
+unknown_element =
+    inl (ElementsFault.in_element (inr (inr (inl (inl (IdentFault.unknown refl refl))))))
+
+-- `{1: 2, 3u: nosuch}` is 9 and 10, and so is `{nosuch: 2, 1: "a"}`
+
+abbrev different_keys : CelTree
+different_keys = map_literal (pos 3)
+    (tree_entry (pos 5) (constant (pos 1) (int (pos 1))) (constant (pos 2) (int (pos 2)))
+    (tree_entry (pos 6) (constant (pos 7) (uint 3)) nosuch no_tree_entries))
+
+keys_differ : TypeFault (with_types []) [] different_keys NoOverload
+keys_differ =
+    inl (PairsFault.two_key_types int_type uint_type (inl refl) (inr (inl refl)) (λ e. cc) refl)
+
+unknown_value : TypeFault (with_types []) [] different_keys UnknownName
+unknown_value =
+    inl (PairsFault.in_entry (inr (inr (inr (inl (inl (IdentFault.unknown refl refl)))))))
+
+abbrev different_values : CelTree
+different_values = map_literal (pos 3)
+    (tree_entry (pos 5) nosuch (constant (pos 2) (int (pos 2)))
+    (tree_entry (pos 6) (constant (pos 7) (int (pos 1))) (constant (pos 8) (text (codes "a")))
+    no_tree_entries))
+
+values_differ : TypeFault (with_types []) [] different_values NoOverload
+values_differ =
+    inl (PairsFault.two_value_types int_type text_type (inl refl) (inr (inl refl)) (λ e. cc) refl)
+
+unknown_key : TypeFault (with_types []) [] different_values UnknownName
+unknown_key = inl (PairsFault.in_entry (inl (inl (IdentFault.unknown refl refl))))
+
+-- `{[1]: 2}` is 10
+
+list_as_key : TypeFault (with_types []) [] (map_literal (pos 3) (tree_entry (pos 5)
+    (list_literal (pos 6) (tree (constant (pos 1) (int (pos 1))) no_trees))
+    (constant (pos 2) (int (pos 2))) no_tree_entries)) NoOverload
+list_as_key = inl (PairsFault.no_key_type (list_type int_type) (inl (int_type, (refl, tt), refl))
+    no_key refl)
   where
-    mixed : (t : ValueType) → Some int_type ≡ Some t → Some uint_type ≡ Some t → ⊥
-    mixed t g h = cc
+    no_key : (k : KeyType) → list_type int_type ≢ type_of_key k
+    no_key keys.Bool e = cc
+    no_key keys.Int e = cc
+    no_key keys.Uint e = cc
+    no_key keys.Text e = cc
 
 -- `[]` is 14 without an entry and with `dyn`, has its entry's type, and is 6 with a kind that is not
 -- supported and 11 with a map
@@ -188,10 +322,8 @@ dyn_list = inl (untold (subst SaysNothing
 
 told_list : Types (with_types ((pos 1, of_type (list_type int_type)) ∷ [])) [] empty_list
     (list_type int_type)
-told_list = (
-  (given ((pos 1, of_type (list_type int_type)) ∷ []) (pos 1) (list_type int_type) refl, tt),
-  agrees ((pos 1, of_type (list_type int_type)) ∷ []) (pos 1) (list_type int_type) refl,
-)
+told_list =
+    (given ((pos 1, of_type (list_type int_type)) ∷ []) (pos 1) (list_type int_type) refl, tt)
 
 unsupported_list : TypeFault (with_types ((pos 1, unsupported_type) ∷ [])) [] empty_list Unsupported
 unsupported_list = inr (unsupported_kind
@@ -238,43 +370,31 @@ x_is_not_y e =
     let same : false ≡ true = (bytes_decides (codes "x") (codes "y")).1 e in cc
 
 loop_is_bool : Types (with_types []) [] (seven_loop (codes "x") (codes "y") list_of_seven) bool_type
-loop_is_bool = (
-  record {
-    names = record { element = λ e. cc; gathered = λ e. cc; differ = x_is_not_y };
-    walked = list_type int_type;
-    element = int_type;
-    gathered = bool_type;
-    range = (
-      (int_type, ((refl, agrees [] (pos 13) int_type tt), tt), refl),
-      agrees [] (pos 12) (list_type int_type) tt,
-    );
-    over = refl;
-    init = (refl, agrees [] (pos 6) bool_type tt);
-    condition = ((refl, no_reference [] (pos 7) (codes "y")), agrees [] (pos 7) bool_type tt);
-    step = (
-      (
-        int_type ∷ int_type ∷ [],
-        (
-          ((refl, no_reference [] (pos 9) (codes "x")), agrees [] (pos 9) int_type tt),
-          ((refl, agrees [] (pos 10) int_type tt), tt),
-        ),
-        overloads.Compare Equal,
-        (
-          functions.Compare Equal,
-          refl,
-          record {
-            function = refl;
-            shape = refl;
-            operands = (int_type, tt, refl, refl);
-          },
-        ),
-      ),
-      agrees [] (pos 8) bool_type tt,
-    );
-    result = ((refl, no_reference [] (pos 11) (codes "y")), agrees [] (pos 11) bool_type tt);
-  },
-  agrees [] (pos 5) bool_type tt,
-)
+loop_is_bool = record {
+  names = record { element = λ e. cc; gathered = λ e. cc; differ = x_is_not_y };
+  walked = list_type int_type;
+  element = int_type;
+  gathered = bool_type;
+  range = (int_type, (refl, tt), refl);
+  over = refl;
+  init = refl;
+  condition = refl;
+  step = (
+    int_type ∷ int_type ∷ [],
+    (refl, (refl, tt)),
+    overloads.Compare Equal,
+    (
+      functions.Compare Equal,
+      refl,
+      record {
+        function = refl;
+        shape = refl;
+        operands = (int_type, tt, refl, refl);
+      },
+    ),
+  );
+  result = refl;
+}
 
 -- a name that is not given is 4, one name twice 5, a range of no list and no map 10
 
@@ -287,8 +407,7 @@ one_name_twice = inl (one_name refl refl)
 
 range_of_an_int : TypeFault (with_types []) []
     (seven_loop (codes "x") (codes "y") (constant (pos 12) (int (pos 7)))) NoOverload
-range_of_an_int =
-    inl (no_elements int_type (refl, agrees [] (pos 12) int_type tt) (λ t h. h) refl)
+range_of_an_int = inl (no_elements int_type refl (λ t h. h) refl)
 
 -- ---- elaborations: the attribute, the overload, and locals by how many are outside
 
@@ -297,7 +416,7 @@ method_elaborated : Elaborates (with_types []) [] method_is_get
     (typed (typed_attribute text_type AttrId.RequestMethod)
     (typed (typed_constant text_type (text (codes "GET"))) no_typed)))
 method_elaborated = (
-  without_entries,
+  is_bool (with_types []),
   (
     functions.Compare Equal,
     refl,
@@ -308,8 +427,8 @@ method_elaborated = (
     },
   ),
   (
-    (method_is_text [] tt, codes "request", refl, refl),
-    (((refl, agrees [] (pos 4) text_type tt), refl), tt),
+    (method_is_text (with_types []), codes "request", refl, refl),
+    ((refl, refl), tt),
   ),
 )
 
@@ -326,35 +445,23 @@ loop_elaborated = (
   bool_type,
   refl,
   refl,
+  ((int_type, (refl, tt), refl), ((refl, refl), tt)),
+  (refl, refl),
+  (refl, refl),
   (
     (
-      (int_type, ((refl, agrees [] (pos 13) int_type tt), tt), refl),
-      agrees [] (pos 12) (list_type int_type) tt,
-    ),
-    (((refl, agrees [] (pos 13) int_type tt), refl), tt),
-  ),
-  ((refl, agrees [] (pos 6) bool_type tt), refl),
-  (((refl, no_reference [] (pos 7) (codes "y")), agrees [] (pos 7) bool_type tt), refl),
-  (
-    (
+      int_type ∷ int_type ∷ [],
+      (refl, (refl, tt)),
+      overloads.Compare Equal,
       (
-        int_type ∷ int_type ∷ [],
-        (
-          ((refl, no_reference [] (pos 9) (codes "x")), agrees [] (pos 9) int_type tt),
-          ((refl, agrees [] (pos 10) int_type tt), tt),
-        ),
-        overloads.Compare Equal,
-        (
-          functions.Compare Equal,
-          refl,
-          record {
-            function = refl;
-            shape = refl;
-            operands = (int_type, tt, refl, refl);
-          },
-        ),
+        functions.Compare Equal,
+        refl,
+        record {
+          function = refl;
+          shape = refl;
+          operands = (int_type, tt, refl, refl);
+        },
       ),
-      agrees [] (pos 8) bool_type tt,
     ),
     (
       functions.Compare Equal,
@@ -365,10 +472,99 @@ loop_elaborated = (
         operands = (int_type, tt, refl, refl);
       },
     ),
-    (
-      (((refl, no_reference [] (pos 9) (codes "x")), agrees [] (pos 9) int_type tt), refl),
-      (((refl, agrees [] (pos 10) int_type tt), refl), tt),
-    ),
+    ((refl, refl), ((refl, refl), tt)),
   ),
-  (((refl, no_reference [] (pos 11) (codes "y")), agrees [] (pos 11) bool_type tt), refl),
+  (refl, refl),
 )
+
+-- ---- 64 locals in scope are typed, 65 are too many: comprehensions over `[1]`, each in the step of
+-- the one around it
+
+abbrev one_range : CelTree
+one_range = list_literal (pos 3) (tree (constant (pos 4) (int (pos 1))) no_trees)
+
+abbrev loops : ℕ → CelTree
+loops zero = constant (pos 1) (bool true)
+loops (suc n) = comprehension (pos 2) (codes "x") (codes "y") one_range
+    (constant (pos 5) (bool true)) (ident (pos 6) (codes "y")) (loops n) (ident (pos 7) (codes "y"))
+
+-- all of them in the result of one more
+abbrev loops_in_result : ℕ → CelTree
+loops_in_result n = comprehension (pos 2) (codes "x") (codes "y") one_range
+    (constant (pos 5) (bool true)) (ident (pos 6) (codes "y")) (ident (pos 6) (codes "y")) (loops n)
+
+sixty_four : locals_in (loops 32) ≡ 64
+sixty_four = refl
+
+sixty_five : locals_in (loops_in_result 32) ≡ 65
+sixty_five = refl
+
+x_and_y : NamesDiffer (codes "x") (codes "y")
+x_and_y = record { element = λ e. cc; gathered = λ e. cc; differ = x_is_not_y }
+
+loops_are_bool : (ks : Kinds) (n : ℕ) → Types (with_types []) ks (loops n) bool_type
+loops_are_bool ks zero = refl
+loops_are_bool ks (suc n) = record {
+  names = x_and_y;
+  walked = list_type int_type;
+  element = int_type;
+  gathered = bool_type;
+  range = (int_type, (refl, tt), refl);
+  over = refl;
+  init = refl;
+  condition = refl;
+  step = loops_are_bool ((codes "x", int_type) ∷ (codes "y", bool_type) ∷ ks) n;
+  result = refl;
+}
+
+-- where there are no entries they agree
+no_entry : (id : ℤ) (Has : ValueType → Type 0) → EntryAgrees (get (with_types []).types id) Has
+no_entry id Has = says [] id Has (silent Has)
+
+y_agrees : (id : ℤ) (ks : Kinds) → EntriesAgree (with_types []) ks (ident id (codes "y"))
+y_agrees id ks = (
+  no_entry id (Types (with_types []) ks (ident id (codes "y"))),
+  (λ t h. no_reference [] id (codes "y")),
+)
+
+loops_agree : (ks : Kinds) (n : ℕ) → EntriesAgree (with_types []) ks (loops n)
+loops_agree ks zero = no_entry (pos 1) (Types (with_types []) ks (constant (pos 1) (bool true)))
+loops_agree ks (suc n) = (
+  no_entry (pos 2) (Types (with_types []) ks (loops (suc n))),
+  (
+    no_entry (pos 3) (Types (with_types []) ks one_range),
+    (no_entry (pos 4) (Types (with_types []) ks (constant (pos 4) (int (pos 1)))), tt),
+  ),
+  no_entry (pos 5) (Types (with_types []) ks (constant (pos 5) (bool true))),
+  (λ w s a range over init. (
+    y_agrees (pos 6) ((codes "x", s) ∷ (codes "y", a) ∷ ks),
+    loops_agree ((codes "x", s) ∷ (codes "y", a) ∷ ks) n,
+  )),
+  (λ a init. y_agrees (pos 7) ((codes "y", a) ∷ ks)),
+)
+
+sixty_four_are_typed : IsTyped (checked [] (loops 32)) bool_type
+sixty_four_are_typed = record {
+  few = subst (λ n. n ≤ 64) (sym sixty_four) (omega arith);
+  types = loops_are_bool [] 32;
+  entries = loops_agree [] 32;
+}
+
+-- the 65 have a type, and the fault all the same
+sixty_five_are_bool : Types (with_types []) [] (loops_in_result 32) bool_type
+sixty_five_are_bool = record {
+  names = x_and_y;
+  walked = list_type int_type;
+  element = int_type;
+  gathered = bool_type;
+  range = (int_type, (refl, tt), refl);
+  over = refl;
+  init = refl;
+  condition = refl;
+  step = refl;
+  result = loops_are_bool ((codes "y", bool_type) ∷ []) 32;
+}
+
+sixty_five_are_too_many : CheckFault (checked [] (loops_in_result 32)) TooLarge
+sixty_five_are_too_many =
+    too_many_locals (subst (λ n. 64 < n) (sym sixty_five) (omega arith)) refl

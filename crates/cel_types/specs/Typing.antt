@@ -1,6 +1,7 @@
 -- Which expressions have a type: CEL language definition, "Type Checking" and "Name Resolution", and
--- `google/api/expr/v1alpha1/checked.proto`, CheckedExpr: the entries of its maps are compared with
--- what is found, and tell the types of empty literals alone.
+-- `google/api/expr/v1alpha1/checked.proto`, CheckedExpr: types are found by rules from the tree, and
+-- the entries of the message's maps are then compared with what is found; they tell the types of empty
+-- literals alone.
 use Rattle.std.specs.Prelude.{◌≡◌, ◌≢◌, ◌≤◌, ◌+◌, ℕ, Bool, true, false, max, List, [], ◌∷◌, Option, Some, None, option_map}
 use Rattle.std.specs.FinMap.{FinMap, get}
 use Rattle.std.specs.Ordering.{int_cmp}
@@ -63,8 +64,8 @@ abbrev pub name_type : List ℕ → Option ValueType → Option ValueType
 name_type name (Some t) = Some t
 name_type name None = option_map attribute_type (attribute_named name)
 
-abbrev pub IdentRule : Option CelReference → Kinds → List ℕ → ValueType → Type 0
-IdentRule ref ks name t = (name_type name (local name ks) ≡ Some t) × RefAgrees ref name
+abbrev pub IdentRule : Kinds → List ℕ → ValueType → Type 0
+IdentRule ks name t = name_type name (local name ks) ≡ Some t
 
 -- a Select is the attribute of a bare root's field, or a map's value at a name, or whether the map
 -- has the name
@@ -72,13 +73,12 @@ abbrev pub field_type : (test_only : Bool) → ValueType → ValueType
 field_type true t = bool_type
 field_type false t = t
 
-abbrev pub SelectRule : Option CelReference → Option (List ℕ) → (Operand : ValueType → Type 0)
-    → List ℕ → Bool → ValueType → Type 0
-SelectRule ref (Some root) Operand field true t = ⊥
-SelectRule ref (Some root) Operand field false t =
-    (option_map attribute_type (attribute_named (joined_name root field)) ≡ Some t)
-    × RefAgrees ref (joined_name root field)
-SelectRule ref None Operand field test_only t = (s : ValueType)
+abbrev pub SelectRule : Option (List ℕ) → (Operand : ValueType → Type 0) → List ℕ → Bool
+    → ValueType → Type 0
+SelectRule (Some root) Operand field true t = ⊥
+SelectRule (Some root) Operand field false t =
+    option_map attribute_type (attribute_named (joined_name root field)) ≡ Some t
+SelectRule None Operand field test_only t = (s : ValueType)
     × Operand (map_type keys.Text s) × (t ≡ field_type test_only s)
 
 -- a call is an overload of its function that takes its operands, the target first
@@ -144,29 +144,23 @@ pub record LoopRule (x acc : List ℕ) (Range Init : ValueType → Type 0)
 -- ---- expressions
 
 abbrev mutual
-  -- with these locals the expression has the type, by its node's rule, and its entry agrees
+  -- with these locals the expression has the type, by its node's rule
   pub Types : Maps → Kinds → CelTree → ValueType → Type 0
-  Types m ks (constant id v) t = (constant_type v ≡ Some t) × TypeAgrees (get m.types id) t
-  Types m ks (ident id name) t =
-      IdentRule (get m.refs id) ks name t × TypeAgrees (get m.types id) t
+  Types m ks (constant id v) t = constant_type v ≡ Some t
+  Types m ks (ident id name) t = IdentRule ks name t
   Types m ks (select id operand field test_only) t =
-      SelectRule (get m.refs id) (root_of operand ks) (Types m ks operand) field test_only t
-      × TypeAgrees (get m.types id) t
+      SelectRule (root_of operand ks) (Types m ks operand) field test_only t
   Types m ks (call id name on args) t =
       CallRule name (has_target on) (TypesTarget m ks on (TypesEach m ks args)) t
-      × TypeAgrees (get m.types id) t
   Types m ks (list_literal id elements) t =
       ListRule (get m.types id) elements (TypesAll m ks elements) t
-      × TypeAgrees (get m.types id) t
   Types m ks (map_literal id entries) t =
       MapRule (get m.types id) entries (TypesPairs m ks entries) t
-      × TypeAgrees (get m.types id) t
   Types m ks (comprehension id x acc range init condition step result) t =
       LoopRule x acc (Types m ks range) (Types m ks init)
       (λ s a. Types m ((x, s) ∷ (acc, a) ∷ ks) condition)
       (λ s a. Types m ((x, s) ∷ (acc, a) ∷ ks) step)
       (λ a. Types m ((acc, a) ∷ ks) result) t
-      × TypeAgrees (get m.types id) t
 
   -- the types of a target and of what follows it
   pub TypesTarget : Maps → Kinds → CelTarget → (List ValueType → Type 0) → List ValueType → Type 0
@@ -191,6 +185,71 @@ abbrev mutual
   TypesPairs m ks no_tree_entries s t = Unit {0}
   TypesPairs m ks (tree_entry id key value others) s t =
       Types m ks key s × Types m ks value t × TypesPairs m ks others s t
+
+-- ---- entries of expressions
+
+-- a node's type entry agrees with the type that the node has
+abbrev pub EntryAgrees : Option CelTypeEntry → (Has : ValueType → Type 0) → Type 0
+EntryAgrees entry Has = (t : ValueType) → Has t → TypeAgrees entry t
+
+-- where a node is a variable, its reference entry agrees
+abbrev pub NameAgrees : Option CelReference → List ℕ → (Has : ValueType → Type 0) → Type 0
+NameAgrees ref name Has = (t : ValueType) → Has t → RefAgrees ref name
+
+-- of a Select of a bare root the reference entry agrees, of another the operand's entries
+abbrev pub SelectAgrees : Option CelReference → Option (List ℕ) → List ℕ
+    → (Has : ValueType → Type 0) → (Operand : Type 0) → Type 0
+SelectAgrees ref (Some root) field Has Operand = NameAgrees ref (joined_name root field) Has
+SelectAgrees ref None field Has Operand = Operand
+
+abbrev mutual
+  -- with these locals the entries of the expression's node and of all nodes inside agree; those of a
+  -- bare root under a Select are not used
+  pub EntriesAgree : Maps → Kinds → CelTree → Type 0
+  EntriesAgree m ks (constant id v) =
+      EntryAgrees (get m.types id) (Types m ks (constant id v))
+  EntriesAgree m ks (ident id name) =
+      EntryAgrees (get m.types id) (Types m ks (ident id name))
+      × NameAgrees (get m.refs id) name (Types m ks (ident id name))
+  EntriesAgree m ks (select id operand field test_only) =
+      EntryAgrees (get m.types id) (Types m ks (select id operand field test_only))
+      × SelectAgrees (get m.refs id) (root_of operand ks) field
+      (Types m ks (select id operand field test_only)) (EntriesAgree m ks operand)
+  EntriesAgree m ks (call id name on args) =
+      EntryAgrees (get m.types id) (Types m ks (call id name on args))
+      × TargetAgrees m ks on × EachAgrees m ks args
+  EntriesAgree m ks (list_literal id elements) =
+      EntryAgrees (get m.types id) (Types m ks (list_literal id elements))
+      × EachAgrees m ks elements
+  EntriesAgree m ks (map_literal id entries) =
+      EntryAgrees (get m.types id) (Types m ks (map_literal id entries))
+      × PairsAgree m ks entries
+  EntriesAgree m ks (comprehension id x acc range init condition step result) =
+      EntryAgrees (get m.types id)
+      (Types m ks (comprehension id x acc range init condition step result))
+      × EntriesAgree m ks range × EntriesAgree m ks init
+      × ((walked element gathered : ValueType) → Types m ks range walked → IsOver walked element
+      → Types m ks init gathered
+      → EntriesAgree m ((x, element) ∷ (acc, gathered) ∷ ks) condition
+      × EntriesAgree m ((x, element) ∷ (acc, gathered) ∷ ks) step)
+      × ((gathered : ValueType) → Types m ks init gathered
+      → EntriesAgree m ((acc, gathered) ∷ ks) result)
+
+  -- the entries of a target agree
+  pub TargetAgrees : Maps → Kinds → CelTarget → Type 0
+  TargetAgrees m ks no_target = Unit {0}
+  TargetAgrees m ks (target on) = EntriesAgree m ks on
+
+  -- the entries of each expression agree
+  pub EachAgrees : Maps → Kinds → CelTrees → Type 0
+  EachAgrees m ks no_trees = Unit {0}
+  EachAgrees m ks (tree a others) = EntriesAgree m ks a × EachAgrees m ks others
+
+  -- the entries of each key and value agree
+  pub PairsAgree : Maps → Kinds → CelTreeEntries → Type 0
+  PairsAgree m ks no_tree_entries = Unit {0}
+  PairsAgree m ks (tree_entry id key value others) =
+      EntriesAgree m ks key × EntriesAgree m ks value × PairsAgree m ks others
 
 -- ---- scopes
 
@@ -231,7 +290,8 @@ abbrev mutual
 abbrev pub maps_of : CelChecked → Maps
 maps_of c = record { types = c.types; refs = c.refs }
 
--- the checked expression has the type, and no node has too many locals in scope
+-- the checked expression has the type, its entries agree, and no node has too many locals in scope
 pub record IsTyped (c : CelChecked) (t : ValueType) : Type 0 where
   pub few : locals_in c.tree ≤ most_locals
   pub types : Types (maps_of c) [] c.tree t
+  pub entries : EntriesAgree (maps_of c) [] c.tree

@@ -1,5 +1,7 @@
--- What is wrong with an expression that has no type, by the numbers of refusals: rule by rule as in
--- Typing. Of several faults each is there.
+-- What is wrong with a checked expression, by the numbers of refusals: rule by rule as in Typing, and
+-- entry by entry. Of several faults each is there. A fault that compares types is there where the parts
+-- that it compares have types by their rules, whatever their entries say; and the faults of a
+-- comprehension's condition, step and result are there where the locals that they see have types.
 use Rattle.std.specs.Prelude.{◌≡◌, ◌≢◌, ◌⊎◌, ◌<◌, ℕ, Bool, true, false, List, [], ◌∷◌, Option, Some, None, option_map}
 use Rattle.std.specs.FinMap.{get}
 use Rattle.proto_wire.specs.declared.refusal.Refusal.{Refusal}
@@ -15,16 +17,16 @@ use Rattle.cel_overload.specs.Overloads.{CallFault}
 use Rattle.cel_overload.specs.declared.overload.OverloadFault.TheVariants as calls
 use Rattle.cel_types.specs.Attributes.{attribute_named, attribute_type}
 use Rattle.cel_types.specs.Names.{bare_root, joined_name, local, root_of}
-use Rattle.cel_types.specs.Typing.{CallRule, IdentRule, IsList, IsMap, IsOver, Kinds, ListRule, LoopRule, MapRule, Maps, RefAgrees, SelectRule, Types, TypesAll, TypesEach, TypesPairs, TypesTarget, constant_type, has_target, locals_in, maps_of, most_locals, name_type}
+use Rattle.cel_types.specs.Typing.{IsList, IsMap, IsOver, Kinds, Maps, RefAgrees, Types, TypesEach, TypesTarget, constant_type, has_target, locals_in, maps_of, most_locals, name_type}
 
 -- ---- entries
 
--- a type entry is of a kind that is not supported, or says another type than the node's rule
-pub data EntryFault (entry : Option CelTypeEntry) (Rule : ValueType → Type 0) (e : Refusal) : Type 0
+-- a type entry is of a kind that is not supported, or says another type than the node has
+pub data EntryFault (entry : Option CelTypeEntry) (Has : ValueType → Type 0) (e : Refusal) : Type 0
   where
-    unsupported_kind : entry ≡ Some unsupported_type → e ≡ Unsupported → EntryFault entry Rule e
-    another_type : (s t : ValueType) → Rule t → entry ≡ Some (of_type s) → s ≢ t
-        → e ≡ BadTypeEntry → EntryFault entry Rule e
+    unsupported_kind : entry ≡ Some unsupported_type → e ≡ Unsupported → EntryFault entry Has e
+    another_type : (s t : ValueType) → Has t → entry ≡ Some (of_type s) → s ≢ t
+        → e ≡ BadTypeEntry → EntryFault entry Has e
 
 -- a reference entry names another variable, or holds a value
 abbrev pub RefDiffers : Option CelReference → List ℕ → Type 0
@@ -84,22 +86,23 @@ pub data CallsFault (name : List ℕ) (on : Bool) (Operands : List ValueType →
       → e ≡ NoOverload → CallsFault name on Operands InOperands e
   in_operand : InOperands e → CallsFault name on Operands InOperands e
 
--- the elements of a list literal have types, and no one type
-pub data ElementsFault (elements : CelTrees) (Each : List ValueType → Type 0)
-    (All : ValueType → Type 0) (InElements : Refusal → Type 0) (e : Refusal) : Type 0 where
-  no_common_type : (ts : List ValueType) → elements ≢ no_trees → Each ts
-      → ((t : ValueType) → All t → ⊥) → e ≡ NoOverload
-      → ElementsFault elements Each All InElements e
-  in_element : InElements e → ElementsFault elements Each All InElements e
+-- two elements of a list literal have different types, whatever the others are
+pub data ElementsFault (HasElement : ValueType → Type 0) (InElements : Refusal → Type 0)
+    (e : Refusal) : Type 0 where
+  two_types : (s t : ValueType) → HasElement s → HasElement t → s ≢ t → e ≡ NoOverload
+      → ElementsFault HasElement InElements e
+  in_element : InElements e → ElementsFault HasElement InElements e
 
--- the keys and values of a map literal have types, and not each one, or the keys' is no type of keys
-pub data PairsFault (entries : CelTreeEntries) (Each : List ValueType → Type 0)
-    (Pairs : ValueType → ValueType → Type 0) (InEntries : Refusal → Type 0) (e : Refusal) : Type 0
-  where
-    no_common_type : (ts : List ValueType) → entries ≢ no_tree_entries → Each ts
-        → ((k : KeyType) (t : ValueType) → Pairs (type_of_key k) t → ⊥) → e ≡ NoOverload
-        → PairsFault entries Each Pairs InEntries e
-    in_entry : InEntries e → PairsFault entries Each Pairs InEntries e
+-- two keys of a map literal have different types, or two values; or a key's is no type of keys
+pub data PairsFault (HasKey HasValue : ValueType → Type 0) (InEntries : Refusal → Type 0)
+    (e : Refusal) : Type 0 where
+  two_key_types : (s t : ValueType) → HasKey s → HasKey t → s ≢ t → e ≡ NoOverload
+      → PairsFault HasKey HasValue InEntries e
+  two_value_types : (s t : ValueType) → HasValue s → HasValue t → s ≢ t → e ≡ NoOverload
+      → PairsFault HasKey HasValue InEntries e
+  no_key_type : (s : ValueType) → HasKey s → ((k : KeyType) → s ≢ type_of_key k)
+      → e ≡ NoOverload → PairsFault HasKey HasValue InEntries e
+  in_entry : InEntries e → PairsFault HasKey HasValue InEntries e
 
 -- a comprehension lacks a name, or has one twice; or its range has no elements; or its condition is
 -- no bool, or its step of another type than what is gathered
@@ -134,57 +137,56 @@ pub data LoopFault (x acc : List ℕ) (Range Init : ValueType → Type 0)
 -- ---- expressions
 
 -- what is wrong with a list literal, empty or not
-abbrev pub ListFault : Option CelTypeEntry → CelTrees → (List ValueType → Type 0)
-    → (ValueType → Type 0) → (Refusal → Type 0) → Refusal → Type 0
-ListFault entry no_trees Each All InElements e = EmptyFault entry IsList e
-ListFault entry (tree t ts) Each All InElements e =
-    ElementsFault (tree t ts) Each All InElements e
+abbrev pub ListFault : Option CelTypeEntry → CelTrees → (HasElement : ValueType → Type 0)
+    → (Refusal → Type 0) → Refusal → Type 0
+ListFault entry no_trees HasElement InElements e = EmptyFault entry IsList e
+ListFault entry (tree t ts) HasElement InElements e = ElementsFault HasElement InElements e
 
 -- what is wrong with a map literal, empty or not
-abbrev pub MapsFault : Option CelTypeEntry → CelTreeEntries → (List ValueType → Type 0)
-    → (ValueType → ValueType → Type 0) → (Refusal → Type 0) → Refusal → Type 0
-MapsFault entry no_tree_entries Each Pairs InEntries e = EmptyFault entry IsMap e
-MapsFault entry (tree_entry id key value es) Each Pairs InEntries e =
-    PairsFault (tree_entry id key value es) Each Pairs InEntries e
+abbrev pub MapsFault : Option CelTypeEntry → CelTreeEntries
+    → (HasKey HasValue : ValueType → Type 0) → (Refusal → Type 0) → Refusal → Type 0
+MapsFault entry no_tree_entries HasKey HasValue InEntries e = EmptyFault entry IsMap e
+MapsFault entry (tree_entry id key value es) HasKey HasValue InEntries e =
+    PairsFault HasKey HasValue InEntries e
 
-abbrev mutual
-  -- keys and values in turn have the types
-  pub TypesInTurn : Maps → Kinds → CelTreeEntries → List ValueType → Type 0
-  TypesInTurn m ks no_tree_entries [] = Unit {0}
-  TypesInTurn m ks no_tree_entries (t ∷ ts) = ⊥
-  TypesInTurn m ks (tree_entry id key value es) [] = ⊥
-  TypesInTurn m ks (tree_entry id key value es) (s ∷ []) = ⊥
-  TypesInTurn m ks (tree_entry id key value es) (s ∷ t ∷ ts) =
-      Types m ks key s × Types m ks value t × TypesInTurn m ks es ts
+-- some of the expressions has the type
+abbrev pub SomeTypes : Maps → Kinds → CelTrees → ValueType → Type 0
+SomeTypes m ks no_trees t = ⊥
+SomeTypes m ks (tree a others) t = Types m ks a t ⊎ SomeTypes m ks others t
+
+-- some of the keys has the type
+abbrev pub KeyTypes : Maps → Kinds → CelTreeEntries → ValueType → Type 0
+KeyTypes m ks no_tree_entries t = ⊥
+KeyTypes m ks (tree_entry id key value es) t = Types m ks key t ⊎ KeyTypes m ks es t
+
+-- some of the values has the type
+abbrev pub ItemTypes : Maps → Kinds → CelTreeEntries → ValueType → Type 0
+ItemTypes m ks no_tree_entries t = ⊥
+ItemTypes m ks (tree_entry id key value es) t = Types m ks value t ⊎ ItemTypes m ks es t
 
 abbrev mutual
   -- a fault of the node, of its entry, or of an expression inside
   pub TypeFault : Maps → Kinds → CelTree → Refusal → Type 0
   TypeFault m ks (constant id v) e =
-      ConstantFault v e ⊎ EntryFault (get m.types id) (λ t. constant_type v ≡ Some t) e
+      ConstantFault v e ⊎ EntryFault (get m.types id) (Types m ks (constant id v)) e
   TypeFault m ks (ident id name) e = IdentFault (get m.refs id) ks name e
       ⊎ ((bare_root name ks ≡ false)
-      × EntryFault (get m.types id) (IdentRule (get m.refs id) ks name) e)
+      × EntryFault (get m.types id) (Types m ks (ident id name)) e)
   TypeFault m ks (select id operand field test_only) e =
       SelectFault (get m.refs id) (root_of operand ks) (Types m ks operand)
       (TypeFault m ks operand) field test_only e
-      ⊎ EntryFault (get m.types id) (SelectRule (get m.refs id) (root_of operand ks)
-      (Types m ks operand) field test_only) e
+      ⊎ EntryFault (get m.types id) (Types m ks (select id operand field test_only)) e
   TypeFault m ks (call id name on args) e =
       CallsFault name (has_target on) (TypesTarget m ks on (TypesEach m ks args))
       (λ d. TargetFault m ks on d ⊎ SomeFault m ks args d) e
-      ⊎ EntryFault (get m.types id)
-      (CallRule name (has_target on) (TypesTarget m ks on (TypesEach m ks args))) e
+      ⊎ EntryFault (get m.types id) (Types m ks (call id name on args)) e
   TypeFault m ks (list_literal id elements) e =
-      ListFault (get m.types id) elements (TypesEach m ks elements) (TypesAll m ks elements)
-      (SomeFault m ks elements) e
-      ⊎ EntryFault (get m.types id)
-      (ListRule (get m.types id) elements (TypesAll m ks elements)) e
+      ListFault (get m.types id) elements (SomeTypes m ks elements) (SomeFault m ks elements) e
+      ⊎ EntryFault (get m.types id) (Types m ks (list_literal id elements)) e
   TypeFault m ks (map_literal id entries) e =
-      MapsFault (get m.types id) entries (TypesInTurn m ks entries) (TypesPairs m ks entries)
+      MapsFault (get m.types id) entries (KeyTypes m ks entries) (ItemTypes m ks entries)
       (PairFault m ks entries) e
-      ⊎ EntryFault (get m.types id)
-      (MapRule (get m.types id) entries (TypesPairs m ks entries)) e
+      ⊎ EntryFault (get m.types id) (Types m ks (map_literal id entries)) e
   TypeFault m ks (comprehension id x acc range init condition step result) e =
       LoopFault x acc (Types m ks range) (Types m ks init)
       (λ s a. Types m ((x, s) ∷ (acc, a) ∷ ks) condition)
@@ -193,10 +195,8 @@ abbrev mutual
       (λ s a d. TypeFault m ((x, s) ∷ (acc, a) ∷ ks) condition d
       ⊎ TypeFault m ((x, s) ∷ (acc, a) ∷ ks) step d)
       (λ a. TypeFault m ((acc, a) ∷ ks) result) e
-      ⊎ EntryFault (get m.types id) (LoopRule x acc (Types m ks range) (Types m ks init)
-      (λ s a. Types m ((x, s) ∷ (acc, a) ∷ ks) condition)
-      (λ s a. Types m ((x, s) ∷ (acc, a) ∷ ks) step)
-      (λ a. Types m ((acc, a) ∷ ks) result)) e
+      ⊎ EntryFault (get m.types id)
+      (Types m ks (comprehension id x acc range init condition step result)) e
 
   -- a fault of a target
   pub TargetFault : Maps → Kinds → CelTarget → Refusal → Type 0
