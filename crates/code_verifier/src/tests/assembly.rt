@@ -1,6 +1,6 @@
 //! Codes written as text.
 use crate::{VerifyFault, verify};
-use attributes::AttrId;
+use attributes::{AttrId, attr_named};
 use cel_ops::{ArithmeticOp, CompareOp};
 use cel_value::{CelType, KeyType};
 use stack_machine::{Code, Constant, Instr, Verified};
@@ -16,13 +16,18 @@ pub(crate) fn code_of(alloc: Global, text: &str) -> Result<Code, Fail> {
         return Ok(Code::new(instrs)?);
     }
     for line in text.split("; ") {
-        let (name, operands) = match line.split_once(' ') {
-            Some(parts) => parts,
-            None => (line, ""),
-        };
+        let (name, operands) = words_of(line);
         instrs.push(instr_of(alloc, name, operands)?)?;
     }
     Ok(Code::new(instrs)?)
+}
+
+/// The name and the operands of an instruction.
+pub(crate) fn words_of(line: &str) -> (&str, &str) {
+    match line.split_once(' ') {
+        Some(words) => words,
+        None => (line, ""),
+    }
 }
 
 /// The type of these words: `list` before the items' type, `map_text` before the values' type.
@@ -45,7 +50,8 @@ pub(crate) fn type_of(alloc: Global, text: &str) -> Result<CelType, Fail> {
     Ok(t)
 }
 
-fn instr_of(alloc: Global, name: &str, operands: &str) -> Result<Instr, Fail> {
+/// The instruction of this name with these operands.
+pub(crate) fn instr_of(alloc: Global, name: &str, operands: &str) -> Result<Instr, Fail> {
     Ok(match name {
         "true" => Instr::Const(Constant::Bool(true)),
         "false" => Instr::Const(Constant::Bool(false)),
@@ -54,6 +60,10 @@ fn instr_of(alloc: Global, name: &str, operands: &str) -> Result<Instr, Fail> {
         "text" => Instr::Const(Constant::Text(RcStr::from_str(alloc, operands)?)),
         "bytes" => Instr::Const(Constant::Bytes(RcSlice::from_slice(alloc, operands.as_bytes())?)),
         "mtls" => Instr::Attr(AttrId::ConnectionMtls),
+        "attr" => match attr_named(operands) {
+            Some(id) => Instr::Attr(id),
+            None => return Err(Fail::from("no attribute has this name")),
+        },
         "load" => Instr::Load(operands.parse()?),
         "store" => Instr::Store(operands.parse()?),
         "field" => Instr::Field(RcStr::from_str(alloc, operands)?),
@@ -104,6 +114,8 @@ fn two_operands(name: &str, operands: &str) -> Result<Instr, Fail> {
 fn plain_instr(name: &str) -> Result<Instr, Fail> {
     Ok(match name {
         "add" => Instr::Arith(ArithmeticOp::Add),
+        "subtract" => Instr::Arith(ArithmeticOp::Subtract),
+        "multiply" => Instr::Arith(ArithmeticOp::Multiply),
         "divide" => Instr::Arith(ArithmeticOp::Divide),
         "remainder" => Instr::Arith(ArithmeticOp::Remainder),
         "negate" => Instr::Negate,
@@ -114,6 +126,9 @@ fn plain_instr(name: &str) -> Result<Instr, Fail> {
         "equal" => Instr::Compare(CompareOp::Equal),
         "differs" => Instr::Compare(CompareOp::NotEqual),
         "less" => Instr::Compare(CompareOp::Less),
+        "at_most" => Instr::Compare(CompareOp::LessOrEqual),
+        "greater" => Instr::Compare(CompareOp::Greater),
+        "at_least" => Instr::Compare(CompareOp::GreaterOrEqual),
         "contains" => Instr::Contains,
         "starts_with" => Instr::StartsWith,
         "ends_with" => Instr::EndsWith,

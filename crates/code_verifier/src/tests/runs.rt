@@ -4,6 +4,7 @@ use attributes::{Conn, Request};
 use cel_value::{CelError, CelType, Value};
 use stack_machine::{RunError, run};
 use std::alloc::Global;
+use std::process::Abort;
 use std::rc::RcStr;
 use std::test::Fail;
 
@@ -65,39 +66,124 @@ const RUNS: [(&str, Result<bool, CelError>, u64); 10] = [
     ),
 ];
 
-fn plain_request(alloc: Global) -> Result<Request, Fail> {
-    let method = String::from_str(alloc, "GET")?;
-    let target = String::from_str(alloc, "/")?;
+// The same on a request with facts, where the client showed no certificate.
+const RUNS_WITH_FACTS: [(&str, Result<bool, CelError>, u64); 14] = [
+    ("mtls; test 3 4; jump 0; false", Ok(false), 3),
+    ("mtls; not", Ok(true), 2),
+    // `request.method == "GET"`
+    ("attr request.method; text GET; equal", Ok(true), 11),
+    ("attr source.port; int 7; equal", Ok(true), 5),
+    ("attr connection.id; uint 9; differs", Ok(false), 5),
+    ("attr connection.tls_version; text T; equal", Ok(true), 7),
+    (
+        "attr request.referer; text a; equal",
+        Err(CelError::MissingAttribute),
+        3,
+    ),
+    // `request.headers["x-user"] == "a"`
+    (
+        "attr request.headers; text x-user; map_index; text a; equal",
+        Err(CelError::NoKey),
+        33,
+    ),
+    // `has(request.headers.xuser)`
+    ("attr request.headers; has_field xuser", Ok(false), 26),
+    // `request.headers[":method"] == "GET"`
+    (
+        "attr request.headers; text :method; map_index; text GET; equal",
+        Ok(true),
+        45,
+    ),
+    (
+        "attr request.headers; field :authority; text h; equal",
+        Ok(true),
+        52,
+    ),
+    ("text :path; attr request.headers; in_map", Ok(true), 27),
+    // `request.headers.exists(k, k == ":path")`
+    (
+        "attr request.headers; loop_start 18; false; store 0; loop_next 1 17; load 0; not; nsf; \
+         loop_test 17 18; load 0; if_true 15; load 1; text :path; equal; or; store 0; jump 4; \
+         load 0",
+        Ok(true),
+        96,
+    ),
+    // `request.headers.exists(k, k == ":paths")`
+    (
+        "attr request.headers; loop_start 18; false; store 0; loop_next 1 17; load 0; not; nsf; \
+         loop_test 17 18; load 0; if_true 15; load 1; text :paths; equal; or; store 0; jump 4; \
+         load 0",
+        Ok(false),
+        123,
+    ),
+];
+
+/// `GET /` on a connection of which the scheme alone is known.
+pub(crate) fn plain_request(alloc: Global) -> Result<Request, Fail> {
     let conn = Conn::of_scheme(RcStr::from_str(alloc, "http")?);
-    Ok(Request::new(alloc, method, target, true, Vec::new(alloc), conn)?)
+    request_of(alloc, Vec::new(alloc), conn)
 }
 
-#[test]
-fn results_and_steps(rt: HostRuntime) -> Result<(), Fail> {
-    let alloc = rt.alloc();
-    let request = plain_request(alloc)?;
-    for (text, want, steps) in &RUNS {
-        let Some(code) = verified(&rt, alloc, code_of(alloc, text)?, &CelType::Bool)? else {
+/// `GET /` with the Host field `h`, on a connection of which more is known.
+pub(crate) fn request_with_facts(alloc: Global, mtls: bool) -> Result<Request, Fail> {
+    let host = (
+        String::from_str(alloc, "host")?,
+        String::from_str(alloc, "h")?,
+    );
+    let mut conn = Conn::of_scheme(RcStr::from_str(alloc, "http")?);
+    conn.mtls = Some(mtls);
+    conn.source_port = Some(7);
+    conn.connection_id = Some(9);
+    conn.tls_version = Some(RcStr::from_str(alloc, "T")?);
+    request_of(alloc, vec![in alloc; host]?, conn)
+}
+
+fn request_of(alloc: Global, lines: Vec<(String, String)>, conn: Conn) -> Result<Request, Fail> {
+    let method = String::from_str(alloc, "GET")?;
+    let target = String::from_str(alloc, "/")?;
+    Ok(Request::new(alloc, method, target, true, lines, conn)?)
+}
+
+fn compare(
+    rt: &impl Abort,
+    alloc: Global,
+    request: &Request,
+    rows: &[(&str, Result<bool, CelError>, u64)],
+) -> Result<(), Fail> {
+    for (text, want, steps) in rows {
+        let Some(code) = verified(rt, alloc, code_of(alloc, text)?, &CelType::Bool)? else {
             assert!(rt; false, "at {text}");
             return Ok(());
         };
-        let outcome = run(alloc, &code, &request, *steps)?;
+        let outcome = run(alloc, &code, request, *steps)?;
         assert!(rt; outcome.result == (*want).map(Value::Bool), "at {text}");
         assert!(rt; outcome.steps == *steps, "at {text}");
         for fuel in 0..*steps {
-            let short = run(alloc, &code, &request, fuel);
+            let short = run(alloc, &code, request, fuel);
             assert!(rt; matches!(short, Err(RunError::OutOfSteps)), "at {text}");
         }
     }
     Ok(())
 }
 
-// Jumps that go back end by fuel.
+#[test]
+fn results_and_steps(rt: HostRuntime) -> Result<(), Fail> {
+    let request = plain_request(rt.alloc())?;
+    compare(&rt, rt.alloc(), &request, &RUNS)
+}
+
+#[test]
+fn results_and_steps_with_facts(rt: HostRuntime) -> Result<(), Fail> {
+    let request = request_with_facts(rt.alloc(), false)?;
+    compare(&rt, rt.alloc(), &request, &RUNS_WITH_FACTS)
+}
+
+// Jumps that go back end by fuel: a certificate was shown at each turn.
 #[test]
 fn endless_code(rt: HostRuntime) -> Result<(), Fail> {
     let alloc = rt.alloc();
-    let request = plain_request(alloc)?;
-    let code = code_of(alloc, "true; test 3 4; jump 0; false")?;
+    let request = request_with_facts(alloc, true)?;
+    let code = code_of(alloc, "mtls; test 3 4; jump 0; false")?;
     let Some(code) = verified(&rt, alloc, code, &CelType::Bool)? else {
         assert!(rt; false);
         return Ok(());
