@@ -13,7 +13,7 @@ use Rattle.cel_types.specs.Typing.{EachAgrees, EntriesAgree, EntryAgrees, IsOver
 use Rattle.cel_types.specs.TypingFaults.{ItemTypes, KeyTypes, SomeTypes, ElementsFault, EntryFault, IdentFault, ListFault, MapsFault, PairFault, PairsFault, SelectFault, SomeFault, TargetFault, TypeFault, CallsFault}
 use Rattle.cel_types.specs.TypingFaults.{unsupported_kind, another_type, in_range, in_init, in_turn, in_result}
 use Rattle.cel_types.proofs.OneType.{OneAtMost, one-type, over-one}
-use Rattle.cel_types.proofs.Total.{ref-decided, same_type, type-total, typed-no-root}
+use Rattle.cel_types.proofs.Total.{each-turn, ref-decided, same_type, type-total, typed-no-root}
 
 -- it holds, or there is a fault
 abbrev pub Kept : Type 0 → (Refusal → Type 0) → Type 0
@@ -116,19 +116,27 @@ mutual
                 condition bool_type g.condition) [
                   | inr (e, f) ↦ inr (
                     e,
-                    inl (in_turn g.walked g.element g.gathered g.range g.over
-                        g.init (inl f)),
+                    inl (in_turn (each-turn (Types m ks range) (Types m ks init)
+                        (λ s a. TypeFault m ((x, s) ∷ (acc, a) ∷ ks) condition e
+                        ⊎ TypeFault m ((x, s) ∷ (acc, a) ∷ ks) step e) g.walked g.element g.gathered
+                        g.range g.over g.init (inl f))),
                   )
                   | inl on_condition ↦ elim (entries-kept m
                       ((x, g.element) ∷ (acc, g.gathered) ∷ ks) step g.gathered g.step) [
                         | inr (e, f) ↦ inr (
                           e,
-                          inl (in_turn g.walked g.element g.gathered g.range g.over
-                              g.init (inr f)),
+                          inl (in_turn (each-turn (Types m ks range) (Types m ks init)
+                              (λ s a. TypeFault m ((x, s) ∷ (acc, a) ∷ ks) condition e
+                              ⊎ TypeFault m ((x, s) ∷ (acc, a) ∷ ks) step e) g.walked g.element g.gathered
+                              g.range g.over g.init (inr f))),
                         )
                         | inl on_step ↦ elim (entries-kept m ((acc, g.gathered) ∷ ks) result s
                             g.result) [
-                              | inr (e, f) ↦ inr (e, inl (in_result g.gathered g.init f))
+                              | inr (e, f) ↦ inr (
+                                e,
+                                inl (in_result (λ b may. subst (λ b. TypeFault m ((acc, b) ∷ ks) result e)
+                                    (may g.gathered g.init) f)),
+                              )
                               | inl on_result ↦ inl (
                                 agrees,
                                 on_range,

@@ -12,7 +12,7 @@ use Rattle.cel_overload.proofs.OneOverload.{call-disjoint}
 use Rattle.cel_types.specs.Attributes.{attribute_named, attribute_type}
 use Rattle.cel_types.specs.Names.{joined_name, root_of}
 use Rattle.cel_types.specs.Typing.{CallRule, EachAgrees, EntriesAgree, EntryAgrees, IdentRule, IsList, IsMap, IsOver, Kinds, ListRule, LoopRule, MapRule, Maps, NameAgrees, PairsAgree, RefAgrees, SelectAgrees, SelectRule, TargetAgrees, TypeAgrees, TypeGiven, Types, TypesAll, TypesEach, TypesPairs, TypesTarget, has_target}
-use Rattle.cel_types.specs.TypingFaults.{CallsFault, ElementsFault, EmptyFault, EntryFault, IdentFault, ItemTypes, KeyTypes, ListFault, LoopFault, MapsFault, PairFault, PairsFault, SaysNothing, SelectFault, SomeFault, SomeTypes, TargetFault, TypeFault}
+use Rattle.cel_types.specs.TypingFaults.{CallsFault, ElementsFault, ElementOf, MayBe, EmptyFault, EntryFault, IdentFault, ItemTypes, KeyTypes, ListFault, LoopFault, MapsFault, PairFault, PairsFault, SaysNothing, SelectFault, SomeFault, SomeTypes, TargetFault, TypeFault}
 use Rattle.cel_types.specs.TypingFaults.{unsupported_kind, another_type, untold, of_another_kind, no_element_name, no_gathered_name, one_name, no_elements, no_condition, no_step, in_range, in_init, in_turn, in_result}
 use Rattle.cel_types.proofs.OneType.{OneAtMost, one-each, one-target, one-type, over-one}
 
@@ -154,13 +154,16 @@ module _ (x acc : List ℕ) (Range Init : ValueType → Type 0)
     (turn-apart : (w s a : ValueType) (e : Refusal) → Range w → IsOver w s → Init a
     → Condition s a bool_type → Step s a a → InTurn s a e → ⊥)
     (result-apart : (a t : ValueType) (e : Refusal) → Init a → Result a t → InResult a e → ⊥) where
-  -- what a fault says of the range and of what is gathered is what the rule says
-  same-element : (t s element : ValueType)
-      (rule : LoopRule x acc Range Init Condition Step Result t) → Range s → IsOver s element
-      → rule.element ≡ element
-  same-element t s element rule r over =
-      over-one s rule.element element
-      (subst (λ w. IsOver w rule.element) (range rule.walked s rule.range r) rule.over) over
+  -- what the rule says of locals they may be
+  may-element : (t : ValueType) (rule : LoopRule x acc Range Init Condition Step Result t)
+      → MayBe (ElementOf Range) rule.element
+  may-element t rule s found =
+      over-one rule.walked s rule.element
+      (subst (λ w. IsOver w s) (range found.0 rule.walked found.1 rule.range) found.2) rule.over
+
+  may-gathered : (t : ValueType) (rule : LoopRule x acc Range Init Condition Step Result t)
+      → MayBe Init rule.gathered
+  may-gathered t rule s found = init s rule.gathered found rule.init
 
   loop-apart : (t : ValueType) (e : Refusal)
       → LoopRule x acc Range Init Condition Step Result t
@@ -171,30 +174,21 @@ module _ (x acc : List ℕ) (Range Init : ValueType → Type 0)
   loop-apart t e rule (no_elements s r never _) =
       never rule.element (subst (λ w. IsOver w rule.element) (range rule.walked s rule.range r)
       rule.over)
-  loop-apart t e rule (no_condition s element gathered u r over i c differs _) =
-      let first = same-element t s element rule r over in
-      let second = init rule.gathered gathered rule.init i in
-      differs (condition element gathered u bool_type c
-      (subst (λ s. Condition s gathered bool_type) first
-      (subst (λ a. Condition rule.element a bool_type) second rule.condition)))
-  loop-apart t e rule (no_step s element gathered u r over i c differs _) =
-      let first = same-element t s element rule r over in
-      let second = init rule.gathered gathered rule.init i in
-      differs (step element gathered u gathered c
-      (subst (λ s. Step s gathered gathered) first
-      (subst (λ a. Step rule.element a a) second rule.step)))
+  loop-apart t e rule (no_condition other _) =
+      let it = other rule.element rule.gathered (may-element t rule) (may-gathered t rule) in
+      it.2 (condition rule.element rule.gathered it.0 bool_type it.1 rule.condition)
+  loop-apart t e rule (no_step other _) =
+      let it = other rule.element rule.gathered (may-element t rule) (may-gathered t rule) in
+      it.2 (step rule.element rule.gathered it.0 rule.gathered it.1 rule.step)
   loop-apart t e rule (in_range inside) = range-apart rule.walked e rule.range inside
   loop-apart t e rule (in_init inside) = init-apart rule.gathered e rule.init inside
-  loop-apart t e rule (in_turn s element gathered r over i inside) =
-      let first = same-element t s element rule r over in
-      let second = init rule.gathered gathered rule.init i in
+  loop-apart t e rule (in_turn inside) =
       turn-apart rule.walked rule.element rule.gathered e rule.range rule.over rule.init
       rule.condition rule.step
-      (subst (λ s. InTurn s rule.gathered e) (sym first)
-      (subst (λ a. InTurn element a e) (sym second) inside))
-  loop-apart t e rule (in_result gathered i inside) =
+      (inside rule.element rule.gathered (may-element t rule) (may-gathered t rule))
+  loop-apart t e rule (in_result inside) =
       result-apart rule.gathered t e rule.init rule.result
-      (subst (λ a. InResult a e) (init gathered rule.gathered i rule.init) inside)
+      (inside rule.gathered (may-gathered t rule))
 
 -- the operands after a target
 others-typed : (m : Maps) (ks : Kinds) (on : CelTarget) (Others : List ValueType → Type 0)

@@ -20,7 +20,7 @@ use Rattle.attributes.specs.declared.attribute.AttrId.{AttrId}
 use Rattle.cel_types.specs.Attributes.{attribute_named, attribute_type}
 use Rattle.cel_types.specs.Names.{bare_root, is_root, joined_name, local, root_of}
 use Rattle.cel_types.specs.Typing.{CallRule, IdentRule, IsList, IsMap, IsOver, Kinds, ListRule, LoopRule, MapRule, Maps, NamesDiffer, RefAgrees, SelectRule, TypeGiven, Types, TypesAll, TypesEach, TypesPairs, TypesTarget, constant_type, field_type, has_target, name_type}
-use Rattle.cel_types.specs.TypingFaults.{CallsFault, ConstantFault, ElementsFault, EmptyFault, EntryFault, IdentFault, ItemTypes, KeyTypes, ListFault, LoopFault, MapsFault, PairFault, PairsFault, RefDiffers, SelectFault, SomeFault, SomeTypes, TargetFault, TypeFault}
+use Rattle.cel_types.specs.TypingFaults.{CallsFault, ConstantFault, EachTurn, ElementsFault, EmptyFault, EntryFault, IdentFault, ItemTypes, KeyTypes, ListFault, LoopFault, MapsFault, PairFault, PairsFault, RefDiffers, SelectFault, SomeFault, SomeTypes, TargetFault, TypeFault}
 use Rattle.cel_types.specs.TypingFaults.{unsupported_kind, untold, of_another_kind, no_element_name, no_gathered_name, one_name, no_elements, no_condition, no_step, in_range, in_init, in_turn, in_result}
 
 -- a type by a rule, or a fault
@@ -286,6 +286,12 @@ names-decided (c ∷ x) (d ∷ acc) = elim (same_name (c ∷ x) (d ∷ acc)) [
   | inr differs ↦ inl (record { element = λ e. cc; gathered = λ e. cc; differ = differs })
 ]
 
+-- what is so with the types that are found is so with all that the locals may have
+pub each-turn : (Range Init : ValueType → Type 0) (IsSo : ValueType → ValueType → Type 0)
+    (w s a : ValueType) → Range w → IsOver w s → Init a → IsSo s a → EachTurn Range Init IsSo
+each-turn Range Init IsSo w s a r over i so u b may_u may_b =
+    subst (λ b. IsSo u b) (may_b a i) (subst (λ u. IsSo u a) (may_u s (w, r, over)) so)
+
 module _ (x acc : List ℕ) (Range Init : ValueType → Type 0)
     (Condition Step : ValueType → ValueType → ValueType → Type 0)
     (Result : ValueType → ValueType → Type 0) (InRange InInit : Refusal → Type 0)
@@ -306,15 +312,33 @@ module _ (x acc : List ℕ) (Range Init : ValueType → Type 0)
       → Decided (Condition s a) (InCondition s a) → Decided (Step s a) (InStep s a)
       → Decided (Result a) (InResult a) → Loop
   parts-total names w s a r over i (inr (e, f)) step' result' =
-      inr (e, in_turn w s a r over i (inl f))
+      inr (
+        e,
+        in_turn (each-turn Range Init (λ s a. InCondition s a e ⊎ InStep s a e) w s a r over i
+            (inl f)),
+      )
   parts-total names w s a r over i (inl c) (inr (e, f)) result' =
-      inr (e, in_turn w s a r over i (inr f))
-  parts-total names w s a r over i (inl c) (inl p) (inr (e, f)) = inr (e, in_result a i f)
+      inr (
+        e,
+        in_turn (each-turn Range Init (λ s a. InCondition s a e ⊎ InStep s a e) w s a r over i
+            (inr f)),
+      )
+  parts-total names w s a r over i (inl c) (inl p) (inr (e, f)) =
+      inr (e, in_result (λ b may. subst (λ b. InResult b e) (may a i) f))
   parts-total names w s a r over i (inl (t, c)) (inl (u, p)) (inl (v, q)) =
       elim (same_type t bool_type) [
-        | inr differs ↦ inr (NoOverload, no_condition w s a t r over i c differs refl)
+        | inr differs ↦ inr (
+          NoOverload,
+          no_condition (each-turn Range Init
+              (λ s a. (t : ValueType) × Condition s a t × (t ≢ bool_type)) w s a r over i
+              (t, c, differs)) refl,
+        )
         | inl is_bool ↦ elim (same_type u a) [
-          | inr differs ↦ inr (NoOverload, no_step w s a u r over i p differs refl)
+          | inr differs ↦ inr (
+            NoOverload,
+            no_step (each-turn Range Init (λ s a. (t : ValueType) × Step s a t × (t ≢ a)) w s a r
+                over i (u, p, differs)) refl,
+          )
           | inl keeps ↦ inl (
             v,
             record {

@@ -18,7 +18,7 @@ use Rattle.cel_tree.specs.Checked.{CelChecked, CelReference, CelTypeEntry, of_ty
 use Rattle.cel_tree.specs.Tree.{CelTree, constant, ident, select, call, comprehension, list_literal, map_literal, no_target, no_tree_entries, tree_entry, CelTrees, no_trees, tree}
 use Rattle.cel_overload.proofs.OneOverload.{unchosen}
 use Rattle.cel_types.specs.Typing.{EntriesAgree, EntryAgrees, IsTyped, Kinds, Maps, NamesDiffer, RefAgrees, TypeGiven, Types, TypesEach, locals_in}
-use Rattle.cel_types.specs.TypingFaults.{CallsFault, CheckFault, too_many_locals, ElementsFault, IdentFault, PairsFault, SaysNothing, SelectFault, TypeFault, another_type, of_another_kind, unsupported_kind, untold, no_element_name, no_elements, one_name, in_init, in_turn}
+use Rattle.cel_types.specs.TypingFaults.{CallsFault, CheckFault, too_many_locals, ElementsFault, IdentFault, PairsFault, SaysNothing, SelectFault, TypeFault, another_type, of_another_kind, unsupported_kind, untold, no_element_name, no_elements, one_name, in_init, in_range, in_result, in_turn, no_condition}
 use Rattle.cel_types.specs.Elaborated.{Elaborates, no_typed, typed, typed_attribute, typed_call, typed_constant, typed_list, typed_local, typed_loop}
 use Rattle.attributes.specs.declared.attribute.AttrId.{AttrId}
 
@@ -221,12 +221,28 @@ unknown_condition = comprehension (pos 5) (codes "x") (codes "y") (list_literal 
     (ident (pos 8) (codes "nosuch")) (ident (pos 9) (codes "y")) (ident (pos 10) (codes "y"))
 
 condition_unknown : TypeFault int_entry [] unknown_condition UnknownName
-condition_unknown = inl (in_turn (list_type int_type) int_type bool_type
-    (int_type, (refl, tt), refl) refl refl (inl (inl (IdentFault.unknown refl refl))))
+condition_unknown = inl (in_turn (λ s a may_s may_a. inl (inl (IdentFault.unknown refl refl))))
 
 init_differs : TypeFault int_entry [] unknown_condition BadTypeEntry
 init_differs = inl (in_init (inr (another_type int_type bool_type refl
     (get-from_entries int_cmp_total ((pos 1, of_type int_type) ∷ []) (pos 1)) (λ e. cc) refl)))
+
+-- a comprehension over an unknown name, its condition an int: 9 and 10; its result an unknown name
+-- too
+
+abbrev unknown_range : CelTree
+unknown_range = comprehension (pos 5) (codes "x") (codes "y") (ident (pos 6) (codes "nosuch"))
+    (constant (pos 1) (bool true)) (constant (pos 7) (int (pos 7))) (ident (pos 9) (codes "y"))
+    (ident (pos 10) (codes "x"))
+
+range_unknown : TypeFault (with_types []) [] unknown_range UnknownName
+range_unknown = inl (in_range (inl (IdentFault.unknown refl refl)))
+
+condition_is_int : TypeFault (with_types []) [] unknown_range NoOverload
+condition_is_int = inl (no_condition (λ s a may_s may_a. (int_type, refl, λ e. cc)) refl)
+
+result_unknown : TypeFault (with_types []) [] unknown_range UnknownName
+result_unknown = inl (in_result (λ a may_a. inl (IdentFault.unknown refl refl)))
 
 -- ---- `1 + 1u` and `[1, 2u]` are 10
 

@@ -1,7 +1,7 @@
 -- What is wrong with a checked expression, by the numbers of refusals: rule by rule as in Typing, and
 -- entry by entry. Of several faults each is there. A fault that compares types is there where the parts
--- that it compares have types by their rules, whatever their entries say; and the faults of a
--- comprehension's condition, step and result are there where the locals that they see have types.
+-- that it compares have types by their rules, whatever their entries say; and one that a local's type
+-- may decide, where no type is found for the local, if it is there with each type.
 use Rattle.std.specs.Prelude.{◌≡◌, ◌≢◌, ◌⊎◌, ◌<◌, ℕ, Bool, true, false, List, [], ◌∷◌, Option, Some, None, option_map}
 use Rattle.std.specs.FinMap.{get}
 use Rattle.proto_wire.specs.declared.refusal.Refusal.{Refusal}
@@ -104,6 +104,19 @@ pub data PairsFault (HasKey HasValue : ValueType → Type 0) (InEntries : Refusa
       → e ≡ NoOverload → PairsFault HasKey HasValue InEntries e
   in_entry : InEntries e → PairsFault HasKey HasValue InEntries e
 
+-- the types that a local may have: the one that is found for it, or any where none is found
+abbrev pub MayBe : (Found : ValueType → Type 0) → ValueType → Type 0
+MayBe Found t = (s : ValueType) → Found s → s ≡ t
+
+-- the type of the elements of a range
+abbrev pub ElementOf : (Range : ValueType → Type 0) → ValueType → Type 0
+ElementOf Range t = (s : ValueType) × Range s × IsOver s t
+
+-- it is so in a turn, whichever types the element and what is gathered may have
+abbrev pub EachTurn : (Range Init : ValueType → Type 0) → (ValueType → ValueType → Type 0) → Type 0
+EachTurn Range Init IsSo = (element gathered : ValueType) → MayBe (ElementOf Range) element
+    → MayBe Init gathered → IsSo element gathered
+
 -- a comprehension lacks a name, or has one twice; or its range has no elements; or its condition is
 -- no bool, or its step of another type than what is gathered
 pub data LoopFault (x acc : List ℕ) (Range Init : ValueType → Type 0)
@@ -118,20 +131,18 @@ pub data LoopFault (x acc : List ℕ) (Range Init : ValueType → Type 0)
       → LoopFault x acc Range Init Condition Step InRange InInit InTurn InResult e
   no_elements : (s : ValueType) → Range s → ((t : ValueType) → IsOver s t → ⊥) → e ≡ NoOverload
       → LoopFault x acc Range Init Condition Step InRange InInit InTurn InResult e
-  no_condition : (s element gathered t : ValueType) → Range s → IsOver s element → Init gathered
-      → Condition element gathered t → t ≢ bool_type → e ≡ NoOverload
+  no_condition : EachTurn Range Init (λ s a. (t : ValueType) × Condition s a t × (t ≢ bool_type))
+      → e ≡ NoOverload
       → LoopFault x acc Range Init Condition Step InRange InInit InTurn InResult e
-  no_step : (s element gathered t : ValueType) → Range s → IsOver s element → Init gathered
-      → Step element gathered t → t ≢ gathered → e ≡ NoOverload
+  no_step : EachTurn Range Init (λ s a. (t : ValueType) × Step s a t × (t ≢ a)) → e ≡ NoOverload
       → LoopFault x acc Range Init Condition Step InRange InInit InTurn InResult e
   in_range : InRange e
       → LoopFault x acc Range Init Condition Step InRange InInit InTurn InResult e
   in_init : InInit e
       → LoopFault x acc Range Init Condition Step InRange InInit InTurn InResult e
-  in_turn : (s element gathered : ValueType) → Range s → IsOver s element → Init gathered
-      → InTurn element gathered e
+  in_turn : EachTurn Range Init (λ s a. InTurn s a e)
       → LoopFault x acc Range Init Condition Step InRange InInit InTurn InResult e
-  in_result : (gathered : ValueType) → Init gathered → InResult gathered e
+  in_result : ((gathered : ValueType) → MayBe Init gathered → InResult gathered e)
       → LoopFault x acc Range Init Condition Step InRange InInit InTurn InResult e
 
 -- ---- expressions
