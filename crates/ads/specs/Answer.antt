@@ -138,6 +138,7 @@ abbrev pub code_of : Refusal → ℤ
 code_of Refusal.Memory = pos 8
 code_of other = pos 3
 
+-- what a request tells of a refusal
 abbrev pub status_of : Refusal → StatusMessage
 status_of e = record { code = code_of e; message = codes "policy refused: " ++ decimal (number_of e) }
 

@@ -56,6 +56,7 @@ FeedsBy None old bytes replies is_broken new = (replies ≡ []) × (is_broken �
 FeedsBy (Some rest) old bytes replies is_broken new =
     FeedsStream old rest bytes replies new × (is_broken ≡ is_none new.stream)
 
+-- bytes come: what is answered, whether the stream is broken, and what the client is then
 abbrev pub Feeds : ClientValue → List ℕ → List ℕ → Bool → ClientValue → Type 0
 Feeds old bytes replies is_broken new = FeedsBy old.stream old bytes replies is_broken new
 
@@ -63,6 +64,7 @@ Feeds old bytes replies is_broken new = FeedsBy old.stream old bytes replies is_
 abbrev pub stream_down : ClientValue → ClientValue
 stream_down c = record { config = c.config; stream = None; accepted = c.accepted }
 
+-- the client with a new stream, of which no bytes have come
 abbrev pub stream_up : ClientValue → ClientValue
 stream_up c = record { config = c.config; stream = Some []; accepted = c.accepted }
 
@@ -76,5 +78,6 @@ policies_at name [] policies = None
 policies_at name (f ∷ fs) [] = None
 policies_at name (f ∷ fs) (p ∷ ps) = if bytes_eq name f.name then p else policies_at name fs ps
 
+-- what the filter of this name has, of a client
 abbrev pub policies_of : ClientValue → List ℕ → Option Filter
 policies_of c name = policies_at name c.config.filters c.accepted.policies

@@ -21,6 +21,7 @@ abbrev pub on_one : (CelAnswer → Option CelAnswer) → List CelAnswer → Opti
 on_one f (a ∷ []) = f a
 on_one f _ = None
 
+-- the answer to two operands
 abbrev pub on_two : (CelAnswer → CelAnswer → Option CelAnswer) → List CelAnswer → Option CelAnswer
 on_two f (a ∷ b ∷ []) = f a b
 on_two f _ = None
@@ -55,10 +56,12 @@ abbrev pub charge_of_one : (CelAnswer → ℕ) → List CelAnswer → ℕ
 charge_of_one charge (a ∷ []) = charge a
 charge_of_one charge _ = 1
 
+-- the charge of two operands
 abbrev pub charge_of_two : (CelAnswer → CelAnswer → ℕ) → List CelAnswer → ℕ
 charge_of_two charge (a ∷ b ∷ []) = charge a b
 charge_of_two charge _ = 1
 
+-- what an overload is charged
 abbrev pub overload_charge : Overload → List CelAnswer → ℕ
 overload_charge (overloads.Compare op) = charge_of_two comparison_charge
 overload_charge overloads.Concat = charge_of_two joined_charge

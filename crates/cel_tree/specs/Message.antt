@@ -27,12 +27,15 @@ tree_depth = 64
 abbrev pub reference_map_field : ℕ
 reference_map_field = 2
 
+-- the number of the map of types
 abbrev pub type_map_field : ℕ
 type_map_field = 3
 
+-- the number of the expression
 abbrev pub expr_field : ℕ
 expr_field = 4
 
+-- all fields
 abbrev pub checked_keys : List Key
 checked_keys = len_key reference_map_field ∷ len_key type_map_field ∷ len_key expr_field
     ∷ len_key 5 ∷ len_key 6 ∷ []
@@ -62,9 +65,11 @@ pub record CheckedSays (fs : List Wire) (c : CelChecked) : Type 0 where
   pub types : IsMap (IsTypeEntry tree_depth) (payloads type_map_field fs) c.types
   pub refs : IsMap IsReference (payloads reference_map_field fs) c.refs
 
+-- no expression is there
 abbrev pub CheckedLacks : List Wire → Type 0
 CheckedLacks fs = payloads expr_field fs ≡ []
 
+-- what is wrong with the maps and the expression
 pub data CheckedWrong (fs : List Wire) (e : Refusal) : Type 0 where
   in_tree : payloads expr_field fs ≢ [] → TreeFault tree_depth (payloads expr_field fs) e
       → CheckedWrong fs e

@@ -80,20 +80,25 @@ children (loop_node p) = loop_children p
 
 -- ---- Ident
 
+-- all fields
 abbrev pub ident_keys : List Key
 ident_keys = len_key 1 ∷ []
 
+-- the fields say the node
 abbrev pub IdentSays : List Wire → Node → Type 0
 IdentSays fs node = IsUtf8 (bytes_at 1 fs) × (node ≡ ident_node (points_of (bytes_at 1 fs)))
 
+-- the name is no UTF-8
 abbrev pub IdentWrong : List Wire → Refusal → Type 0
 IdentWrong fs e = Utf8Fault (bytes_at 1 fs) e
 
 -- ---- Select: operand 1, field 2, test_only 3
 
+-- all fields
 abbrev pub select_keys : List Key
 select_keys = len_key 1 ∷ len_key 2 ∷ varint_key 3 ∷ []
 
+-- the fields say the node
 abbrev pub SelectSays : List Wire → Node → Type 0
 SelectSays fs node = IsUtf8 (bytes_at 2 fs) × (payloads 1 fs ≢ [])
     × (node ≡ select_node (payloads 1 fs) (points_of (bytes_at 2 fs)) (bool_at 3 fs))
@@ -102,35 +107,43 @@ SelectSays fs node = IsUtf8 (bytes_at 2 fs) × (payloads 1 fs ≢ [])
 abbrev pub SelectLacks : List Wire → Type 0
 SelectLacks fs = IsUtf8 (bytes_at 2 fs) × (payloads 1 fs ≡ [])
 
+-- the name of the field is no UTF-8
 abbrev pub SelectWrong : List Wire → Refusal → Type 0
 SelectWrong fs e = Utf8Fault (bytes_at 2 fs) e
 
 -- ---- Call: target 1, function 2, args 3
 
+-- all fields
 abbrev pub call_keys : List Key
 call_keys = len_key 1 ∷ len_key 2 ∷ len_key 3 ∷ []
 
+-- the fields say the node
 abbrev pub CallSays : List Wire → Node → Type 0
 CallSays fs node = IsUtf8 (bytes_at 2 fs)
     × (node ≡ call_node (points_of (bytes_at 2 fs)) (payloads 1 fs) (payloads 3 fs))
 
+-- the name of the function is no UTF-8
 abbrev pub CallWrong : List Wire → Refusal → Type 0
 CallWrong fs e = Utf8Fault (bytes_at 2 fs) e
 
 -- ---- CreateList: elements 1, optional_indices 2, which are not supported, packed or one by one
 
+-- all fields
 abbrev pub list_keys : List Key
 list_keys = len_key 1 ∷ len_key 2 ∷ varint_key 2 ∷ []
 
+-- the fields say the node
 abbrev pub ListSays : List Wire → Node → Type 0
 ListSays fs node = (has_field 2 fs ≡ false) × (node ≡ list_node (payloads 1 fs))
 
+-- indices of optional elements stand there
 abbrev pub ListWrong : List Wire → Refusal → Type 0
 ListWrong fs e = (has_field 2 fs ≡ true) × (e ≡ Unsupported)
 
 -- ---- CreateStruct.Entry: id 1, field_key 2, which is not supported, or map_key 3, value 4,
 -- optional_entry 5, which is not supported where it is true
 
+-- the number of the key
 abbrev pub map_key_field : ℕ
 map_key_field = 3
 
@@ -138,9 +151,11 @@ map_key_field = 3
 abbrev pub key_members : List Key
 key_members = len_key 2 ∷ len_key map_key_field ∷ []
 
+-- all fields
 abbrev pub entry_keys : List Key
 entry_keys = varint_key 1 ∷ len_key 2 ∷ len_key map_key_field ∷ len_key 4 ∷ varint_key 5 ∷ []
 
+-- the fields say the entry
 pub record EntrySays (fs : List Wire) (entry : EntryNode) : Type 0 where
   pub plain : bool_at 5 fs ≡ false
   pub keyed : last_number key_members fs ≡ Some map_key_field
@@ -149,9 +164,11 @@ pub record EntrySays (fs : List Wire) (entry : EntryNode) : Type 0 where
   pub key : entry.key ≡ payloads map_key_field (member_run key_members fs)
   pub value : entry.value ≡ payloads 4 fs
 
+-- no key or no value is there
 abbrev pub EntryLacks : List Wire → Type 0
 EntryLacks fs = (last_number key_members fs ≡ None) ⊎ (payloads 4 fs ≡ [])
 
+-- the entry is optional, or its key is that of a message
 pub data EntryWrong (fs : List Wire) (e : Refusal) : Type 0 where
   optional : bool_at 5 fs ≡ true → e ≡ Unsupported → EntryWrong fs e
   key_of_message : (n : ℕ) → last_number key_members fs ≡ Some n → n ≢ map_key_field
@@ -161,6 +178,7 @@ pub data EntryWrong (fs : List Wire) (e : Refusal) : Type 0 where
 abbrev pub IsEntry : List ℕ → EntryNode → Type 0
 IsEntry payload entry = Reads entry_keys EntrySays (payload ∷ []) entry
 
+-- what is wrong with the payload of an entry
 abbrev pub EntryFault : List ℕ → Refusal → Type 0
 EntryFault payload e = ReadFault entry_keys EntryLacks EntryWrong (payload ∷ []) e
 
@@ -174,13 +192,16 @@ AreEntries (payload ∷ payloads) (entry ∷ entries) =
 
 -- ---- CreateStruct: message_name 1, which is not supported where it is not empty, entries 2
 
+-- all fields
 abbrev pub struct_keys : List Key
 struct_keys = len_key 1 ∷ len_key 2 ∷ []
 
+-- the fields say the node
 abbrev pub StructSays : List Wire → Node → Type 0
 StructSays fs node = (bytes_at 1 fs ≡ [])
     × (entries : List EntryNode) × AreEntries (payloads 2 fs) entries × (node ≡ map_node entries)
 
+-- it has the name of a message, or an entry is wrong
 pub data StructWrong (fs : List Wire) (e : Refusal) : Type 0 where
   bad_name : Utf8Fault (bytes_at 1 fs) e → StructWrong fs e
   of_message : bytes_at 1 fs ≢ [] → e ≡ Unsupported → StructWrong fs e
@@ -190,6 +211,7 @@ pub data StructWrong (fs : List Wire) (e : Refusal) : Type 0 where
 -- ---- Comprehension: iter_var 1, iter_range 2, accu_var 3, accu_init 4, loop_condition 5,
 -- loop_step 6, result 7, iter_var2 8, which is not supported where it is not empty
 
+-- all fields
 abbrev pub loop_keys : List Key
 loop_keys = len_key 1 ∷ len_key 2 ∷ len_key 3 ∷ len_key 4 ∷ len_key 5 ∷ len_key 6 ∷ len_key 7
     ∷ len_key 8 ∷ []
@@ -220,6 +242,7 @@ loop_at fs = record {
   result = payloads 7 fs;
 }
 
+-- the fields say the node
 abbrev pub LoopSays : List Wire → Node → Type 0
 LoopSays fs node = NamesRead fs × PartsThere fs × (node ≡ loop_node (loop_at fs))
 
@@ -236,6 +259,7 @@ abbrev pub LoopLacks : List Wire → Type 0
 LoopLacks fs = IsUtf8 (bytes_at 1 fs) × IsUtf8 (bytes_at 3 fs) × IsUtf8 (bytes_at 8 fs)
     × LacksPart fs
 
+-- a name is no UTF-8, or there is a second name of the element
 pub data LoopWrong (fs : List Wire) (e : Refusal) : Type 0 where
   bad_iter_var : Utf8Fault (bytes_at 1 fs) e → LoopWrong fs e
   bad_accu_var : Utf8Fault (bytes_at 3 fs) e → LoopWrong fs e
@@ -279,9 +303,11 @@ KindFault kinds.List parts e = ReadFault list_keys LacksNothing ListWrong parts 
 KindFault kinds.Struct parts e = ReadFault struct_keys LacksNothing StructWrong parts e
 KindFault kinds.Comprehension parts e = ReadFault loop_keys LoopLacks LoopWrong parts e
 
+-- the run of the member says the node
 abbrev pub MemberSays : NodeKind → ℕ → List Wire → Node → Type 0
 MemberSays kind n run node = KindSays kind (payloads n run) node
 
+-- what is wrong with the run of the member
 abbrev pub MemberFails : NodeKind → ℕ → List Wire → Refusal → Type 0
 MemberFails kind n run e = KindFault kind (payloads n run) e
 

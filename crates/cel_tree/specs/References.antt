@@ -17,12 +17,15 @@ use Rattle.cel_tree.specs.Reading.{Reads, ReadFault, LacksNothing}
 abbrev pub name_field : ℕ
 name_field = 1
 
+-- the ids of overloads
 abbrev pub overload_id_field : ℕ
 overload_id_field = 3
 
+-- the value of a constant
 abbrev pub value_field : ℕ
 value_field = 4
 
+-- all fields
 abbrev pub reference_keys : List Key
 reference_keys = len_key name_field ∷ len_key overload_id_field ∷ len_key value_field ∷ []
 
@@ -31,6 +34,7 @@ abbrev pub IsValue : List (List ℕ) → Option CelValue → Type 0
 IsValue [] value = value ≡ None
 IsValue (part ∷ parts) value = (v : CelValue) × IsConstant (part ∷ parts) v × (value ≡ Some v)
 
+-- what is wrong with the value
 abbrev pub ValueFault : List (List ℕ) → Refusal → Type 0
 ValueFault [] e = ⊥
 ValueFault (part ∷ parts) e = ConstantFault (part ∷ parts) e

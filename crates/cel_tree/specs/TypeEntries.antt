@@ -72,15 +72,19 @@ type_keys = keys_of type_kinds
 abbrev pub elem_field : ℕ
 elem_field = 1
 
+-- all fields of a list type
 abbrev pub list_type_keys : List Key
 list_type_keys = len_key elem_field ∷ []
 
+-- the number of the keys' type
 abbrev pub key_field : ℕ
 key_field = 1
 
+-- the number of the values' type
 abbrev pub value_field : ℕ
 value_field = 2
 
+-- all fields of a map type
 abbrev pub map_type_keys : List Key
 map_type_keys = len_key key_field ∷ len_key value_field ∷ []
 

@@ -64,6 +64,7 @@ abbrev pub name_type : List ℕ → Option ValueType → Option ValueType
 name_type name (Some t) = Some t
 name_type name None = option_map attribute_type (attribute_named name)
 
+-- an Ident has the type of its name
 abbrev pub IdentRule : Kinds → List ℕ → ValueType → Type 0
 IdentRule ks name t = name_type name (local name ks) ≡ Some t
 
@@ -73,6 +74,7 @@ abbrev pub field_type : (test_only : Bool) → ValueType → ValueType
 field_type true t = bool_type
 field_type false t = t
 
+-- a Select has the type of the attribute, or of what its operand holds
 abbrev pub SelectRule : Option (List ℕ) → (Operand : ValueType → Type 0) → List ℕ → Bool
     → ValueType → Type 0
 SelectRule (Some root) Operand field true t = ⊥
@@ -86,6 +88,7 @@ abbrev pub has_target : CelTarget → Bool
 has_target no_target = false
 has_target (target on) = true
 
+-- a call has the type that an overload of its function gives
 abbrev pub CallRule : List ℕ → Bool → (Operands : List ValueType → Type 0) → ValueType → Type 0
 CallRule name on Operands t =
     (ts : List ValueType) × Operands ts × (o : Overload) × IsCall name on ts o t
@@ -95,6 +98,7 @@ abbrev pub IsList : ValueType → Type 0
 IsList (list_type t) = Unit {0}
 IsList _ = ⊥
 
+-- a list literal is a list of what its elements are, or of what its entry says
 abbrev pub ListRule : Option CelTypeEntry → CelTrees → (Elements : ValueType → Type 0)
     → ValueType → Type 0
 ListRule entry no_trees Elements t = TypeGiven entry t × IsList t
@@ -107,6 +111,7 @@ abbrev pub IsMap : ValueType → Type 0
 IsMap (map_type k t) = Unit {0}
 IsMap _ = ⊥
 
+-- a map literal likewise, of its keys and values
 abbrev pub MapRule : Option CelTypeEntry → CelTreeEntries
     → (Pairs : ValueType → ValueType → Type 0) → ValueType → Type 0
 MapRule entry no_tree_entries Pairs t = TypeGiven entry t × IsMap t
