@@ -1,3 +1,4 @@
+pub mod Attributes
 pub mod Strict
 pub mod Gathering
 pub mod Logic

@@ -4,3 +4,6 @@ pub mod Meaning
 pub mod Typing
 pub mod TypingFaults
 pub mod Elaborated
+pub mod TypedMeaning
+pub mod WellTyped
+pub mod View

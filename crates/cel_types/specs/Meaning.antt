@@ -11,7 +11,8 @@ use Rattle.cel_ops.specs.Collections.{elements_of, field, has_field}
 use Rattle.cel_ops.specs.Collections as collections
 use Rattle.cel_overload.specs.Answers.{function_answer}
 use Rattle.cel_overload.specs.Functions.{function_named}
-use Rattle.cel_types.specs.Attributes.{attribute, attribute_named}
+use Rattle.cel_ops.specs.Attributes.{attribute}
+use Rattle.cel_types.specs.Attributes.{attribute_named}
 use Rattle.cel_types.specs.Names.{Scope, joined_name, local, root_of}
 
 -- what is known of locals: what they come to

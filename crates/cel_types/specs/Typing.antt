@@ -13,7 +13,8 @@ use Rattle.cel_tree.specs.Checked.{CelChecked, CelReference, CelTypeEntry, of_ty
 use Rattle.cel_tree.specs.Tree.{CelTree, constant, ident, select, call, list_literal, map_literal, comprehension, CelTarget, no_target, target, CelTrees, no_trees, tree, CelTreeEntries, no_tree_entries, tree_entry}
 use Rattle.cel_overload.specs.Overloads.{IsCall}
 use Rattle.cel_overload.specs.declared.overload.Overload.{Overload}
-use Rattle.cel_types.specs.Attributes.{attribute_named, attribute_type}
+use Rattle.cel_ops.specs.Attributes.{attribute_type}
+use Rattle.cel_types.specs.Attributes.{attribute_named}
 use Rattle.cel_types.specs.Names.{Scope, joined_name, local, root_of}
 
 -- how many locals may be in scope, shadowed ones too

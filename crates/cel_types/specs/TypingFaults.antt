@@ -15,7 +15,8 @@ use Rattle.cel_tree.specs.Tree.{CelTree, constant, ident, select, call, list_lit
 use Rattle.cel_overload.specs.Functions.{function_named}
 use Rattle.cel_overload.specs.Overloads.{CallFault}
 use Rattle.cel_overload.specs.declared.overload.OverloadFault.TheVariants as calls
-use Rattle.cel_types.specs.Attributes.{attribute_named, attribute_type}
+use Rattle.cel_ops.specs.Attributes.{attribute_type}
+use Rattle.cel_types.specs.Attributes.{attribute_named}
 use Rattle.cel_types.specs.Names.{bare_root, joined_name, local, root_of}
 use Rattle.cel_types.specs.Typing.{IsList, IsMap, IsOver, Kinds, Maps, RefAgrees, Types, TypesEach, TypesTarget, constant_type, has_target, locals_in, maps_of, most_locals, name_type}
 

@@ -2,3 +2,6 @@
 #![tactic(auto)]
 
 pub mod laws;
+mod typed;
+
+pub use typed::{Typed, TypedExpr, TypedLoop};

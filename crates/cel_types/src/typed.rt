@@ -1,0 +1,76 @@
+//! Expressions with what checking found about them.
+
+use attributes::AttrId;
+use cel_overload::Overload;
+use cel_tree::Constant;
+use cel_value::CelType;
+use std::rc::RcStr;
+
+/// An expression of a tree that was checked: each node with its type, which local or attribute a name
+/// is, and which overload a call is. Constants and names are the tree's own.
+#[derive(Drop)]
+#[cycle(typed)]
+pub enum TypedExpr<'a> {
+    Constant {
+        cel_type: CelType,
+        value: &'a Constant,
+    },
+    /// A local, by how many are outside of it.
+    Local {
+        cel_type: CelType,
+        outside: u8,
+    },
+    Attribute {
+        cel_type: CelType,
+        id: AttrId,
+    },
+    /// A map's value at a name: `m.f`.
+    Field {
+        cel_type: CelType,
+        map: Box<TypedExpr<'a>>,
+        name: &'a RcStr,
+    },
+    /// Whether a map has a name: `has(m.f)`.
+    HasField {
+        cel_type: CelType,
+        map: Box<TypedExpr<'a>>,
+        name: &'a RcStr,
+    },
+    /// A call; its target, where it has one, is the first operand.
+    Call {
+        cel_type: CelType,
+        overload: Overload,
+        operands: Vec<TypedExpr<'a>>,
+    },
+    List {
+        cel_type: CelType,
+        elements: Vec<TypedExpr<'a>>,
+    },
+    /// A map literal: keys and values in turn.
+    Map {
+        cel_type: CelType,
+        pairs: Vec<TypedExpr<'a>>,
+    },
+    Loop {
+        cel_type: CelType,
+        parts: Box<TypedLoop<'a>>,
+    },
+}
+
+/// The parts of a comprehension. What is gathered is the next local of its scope, and the element the
+/// one after that.
+#[derive(Drop)]
+#[cycle(typed)]
+pub struct TypedLoop<'a> {
+    pub range: TypedExpr<'a>,
+    pub init: TypedExpr<'a>,
+    pub condition: TypedExpr<'a>,
+    pub step: TypedExpr<'a>,
+    pub result: TypedExpr<'a>,
+}
+
+/// A checked expression whole.
+#[derive(Drop)]
+pub struct Typed<'a> {
+    pub root: TypedExpr<'a>,
+}
