@@ -4,7 +4,9 @@
 use Rattle.std.specs.Prelude.{ℕ, ◌+◌, ◌*◌, ◌≤◌, max, length}
 use Rattle.cel_value.specs.Masses.{entry_count, item_count}
 use Rattle.cel_value.specs.Texts.{utf8_of}
-use Rattle.cel_value.specs.Types.{ValueType, bool_type, int_type, uint_type, text_type, bytes_type, list_type, map_type, type_of_key}
+use Rattle.cel_value.specs.Types.{ValueType, bool_type, int_type, uint_type, text_type, bytes_type, list_type, map_type}
+use Rattle.cel_value.specs.declared.cel_type.KeyType.{KeyType}
+use Rattle.cel_value.specs.declared.cel_type.KeyType.TheVariants as keys
 use Rattle.cel_value.specs.Values.{CelAnswer, CelEntries, CelKey, CelValue, CelValues, bool, bytes, entry, fails, int, item, list, map_of, no_entries, no_items, text, uint, value, bool_key, int_key, uint_key, text_key}
 
 -- the size of a bool, int or uint; of a text or bytes of so many bytes at most; of a list of so many
@@ -45,6 +47,13 @@ join (Table n k v) (Text m) = Table (max n m) k v
 join (Table n k v) (Many m f) = Table (max n m) (join k f) (join v f)
 join (Table n k v) (Table m l w) = Table (max n m) (join k l) (join v w)
 
+-- the least size of a type of keys
+abbrev pub least_key : KeyType → Size
+least_key keys.Bool = Flat
+least_key keys.Int = Flat
+least_key keys.Uint = Flat
+least_key keys.Text = Text 0
+
 -- the least size of a type
 abbrev pub least : ValueType → Size
 least bool_type = Flat
@@ -53,7 +62,7 @@ least uint_type = Flat
 least text_type = Text 0
 least bytes_type = Text 0
 least (list_type t) = Many 0 (least t)
-least (map_type k t) = Table 0 (least (type_of_key k)) (least t)
+least (map_type k t) = Table 0 (least_key k) (least t)
 
 -- a text or bytes of this length are within a size
 abbrev pub HasRoom : ℕ → Size → Type 0

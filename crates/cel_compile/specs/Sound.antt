@@ -1,0 +1,28 @@
+-- What is promised of compiled code: it comes to the expression's meaning, within its cost.
+use Rattle.std.specs.Prelude.{◌≡◌, ℕ, ◌≤◌, List, [], Some}
+use Rattle.attributes.specs.Limits.{InLimits, LimitsValue}
+use Rattle.attributes.specs.Request.{IsRequest, RequestValue}
+use Rattle.cel_value.specs.Types.{AnswerHasType}
+use Rattle.cel_value.specs.Values.{CelAnswer}
+use Rattle.cel_types.specs.Elaborated.{TypedTree, kind}
+use Rattle.cel_types.specs.TypedMeaning.{typed_answer}
+use Rattle.cost_bound.specs.Costs.{cost_of, size_of}
+use Rattle.cost_bound.specs.Sizes.{Within}
+use Rattle.stack_machine.specs.Instructions.{Instruction}
+use Rattle.stack_machine.specs.Machine.{Ends}
+
+-- the code's run on a request ends with what the expression comes to, of its type and within its size,
+-- in at most as many steps as its cost by the limits
+pub record RunsTo (code : List Instruction) (e : TypedTree) (request : RequestValue) (limits : LimitsValue) : Type 0 where
+  pub answer : CelAnswer
+  pub means : typed_answer e request [] ≡ Some answer
+  pub has_type : AnswerHasType answer (kind e)
+  pub within : Within answer (size_of e limits [])
+  pub steps : ℕ
+  pub ends : Ends code request answer steps
+  pub bounded : steps ≤ cost_of e limits []
+
+-- it does so on each request within the limits
+abbrev pub IsSound : List Instruction → TypedTree → Type 0
+IsSound code e = (request : RequestValue) (limits : LimitsValue) → IsRequest request
+    → InLimits request limits → RunsTo code e request limits

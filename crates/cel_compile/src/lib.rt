@@ -1,0 +1,2 @@
+//! Conditions as code of the machine.
+#![tactic(auto)]

@@ -1,0 +1,205 @@
+-- The size and the cost of an elaborated expression, from the limits of requests and the sizes of the
+-- locals in scope (this project's measure): the charges of its instructions at the sizes of their
+-- operands, in whole numbers without limit. One equation for each kind of node.
+use Rattle.std.specs.Prelude.{ℕ, zero, suc, ◌+◌, ◌*◌, max, List, [], ◌∷◌, length, Option, Some, None}
+use Rattle.attributes.specs.Limits.{LimitsValue}
+use Rattle.attributes.specs.declared.attribute.AttrId.{AttrId}
+use Rattle.cel_value.specs.Masses.{length_of}
+use Rattle.cel_value.specs.Texts.{utf8_of}
+use Rattle.cel_value.specs.Types.{ValueType, text_type, bytes_type}
+use Rattle.cel_value.specs.Values.{CelValue, text, bytes}
+use Rattle.cel_overload.specs.declared.overload.Overload.{Overload}
+use Rattle.cel_overload.specs.declared.overload.Overload.TheVariants as overloads
+use Rattle.cel_types.specs.Elaborated.{TypedTree, typed_constant, typed_local, typed_attribute, typed_field, typed_has, typed_call, typed_list, typed_map, typed_loop, TypedTrees, no_typed, typed, kinds}
+use Rattle.cel_types.specs.TypedMeaning.{local_at}
+use Rattle.cost_bound.specs.Sizes.{Size, Flat, Text, Many, Table, join, least, mass_of, most_of}
+
+-- ---- sizes
+
+-- a constant is as large as it is
+abbrev pub constant_size : CelValue → Size
+constant_size (text cs) = Text (length_of (text cs))
+constant_size (bytes bs) = Text (length_of (bytes bs))
+constant_size _ = Flat
+
+-- an attribute is as large as the limits let it be
+abbrev pub attribute_size : LimitsValue → AttrId → Size
+attribute_size l AttrId.RequestHeaders = Table l.fields (Text l.name) (Text l.value)
+attribute_size l AttrId.SourcePort = Flat
+attribute_size l AttrId.DestinationPort = Flat
+attribute_size l AttrId.ConnectionMtls = Flat
+attribute_size l AttrId.ConnectionId = Flat
+attribute_size l AttrId.RequestMethod = Text l.method
+attribute_size l AttrId.RequestPath = Text l.target
+attribute_size l AttrId.RequestUrlPath = Text l.target
+attribute_size l AttrId.RequestQuery = Text l.target
+attribute_size l AttrId.RequestHost = Text l.value
+attribute_size l AttrId.RequestReferer = Text l.value
+attribute_size l AttrId.RequestUseragent = Text l.value
+attribute_size l AttrId.RequestId = Text l.value
+attribute_size l _ = Text l.text
+
+-- the size that is known, or the least
+abbrev pub known : Option Size → Size
+known None = Flat
+known (Some s) = s
+
+-- what a loop's element may be: an item, or a key
+abbrev pub element_size : Size → Size
+element_size (Many n e) = e
+element_size (Table n k v) = k
+element_size _ = Flat
+
+-- what an index or a Select may give: an item, or a map's value
+abbrev pub value_size : Size → Size
+value_size (Many n e) = e
+value_size (Table n k v) = v
+value_size _ = Flat
+
+-- the same with another number of bytes, items or entries
+abbrev pub resized : ℕ → Size → Size
+resized n Flat = Flat
+resized n (Text m) = Text n
+resized n (Many m e) = Many n e
+resized n (Table m k v) = Table n k v
+
+-- one after the other: both lengths together
+abbrev pub concat_size : Size → Size → Size
+concat_size s t = resized (most_of s + most_of t) (join s t)
+
+-- what a call may answer, by the sizes of its operands
+abbrev pub call_size : Overload → List Size → Size
+call_size overloads.Conditional (c ∷ a ∷ b ∷ []) = join a b
+call_size overloads.Concat (s ∷ t ∷ []) = concat_size s t
+call_size overloads.IndexList (s ∷ t ∷ []) = value_size s
+call_size overloads.IndexMap (s ∷ t ∷ []) = value_size s
+call_size _ _ = Flat
+
+-- all of these joined
+abbrev pub join_all : List Size → Size
+join_all [] = Flat
+join_all (s ∷ ss) = join s (join_all ss)
+
+-- of keys and values in turn, the keys
+abbrev pub keys_of : List Size → List Size
+keys_of [] = []
+keys_of (k ∷ []) = k ∷ []
+keys_of (k ∷ v ∷ ss) = k ∷ keys_of ss
+
+-- of keys and values in turn, the values
+abbrev pub values_of : List Size → List Size
+values_of [] = []
+values_of (k ∷ []) = []
+values_of (k ∷ v ∷ ss) = v ∷ values_of ss
+
+-- a list literal has as many items as it is written with; an empty one has the least size of its type
+abbrev pub list_size : ValueType → List Size → Size
+list_size t [] = least t
+list_size t (s ∷ ss) = Many (length (s ∷ ss)) (join_all (s ∷ ss))
+
+-- a map literal likewise
+abbrev pub map_size : ValueType → List Size → Size
+map_size t [] = least t
+map_size t (s ∷ ss) = Table (length (keys_of (s ∷ ss))) (join_all (keys_of (s ∷ ss))) (join_all (values_of (s ∷ ss)))
+
+-- what is gathered after so many turns: each turn joins what it was with what the step makes of it
+abbrev pub grown : (next : Size → Size) → ℕ → Size → Size
+grown next zero s = s
+grown next (suc n) s = grown next n (join s (next s))
+
+abbrev mutual
+  -- how large what an expression comes to may be
+  pub size_of : TypedTree → LimitsValue → List Size → Size
+  size_of (typed_constant t v) l sizes = constant_size v
+  size_of (typed_local t outside) l sizes = known (local_at outside sizes)
+  size_of (typed_attribute t a) l sizes = attribute_size l a
+  size_of (typed_field t on name) l sizes = value_size (size_of on l sizes)
+  size_of (typed_has t on name) l sizes = Flat
+  size_of (typed_call t o operands) l sizes = call_size o (sizes_of operands l sizes)
+  size_of (typed_list t elements) l sizes = list_size t (sizes_of elements l sizes)
+  size_of (typed_map t pairs) l sizes = map_size t (sizes_of pairs l sizes)
+  size_of (typed_loop t range init condition step result) l sizes = size_of result l
+      (grown (λ s. size_of step l (element_size (size_of range l sizes) ∷ s ∷ sizes))
+      (most_of (size_of range l sizes)) (size_of init l sizes) ∷ sizes)
+
+  -- the sizes of expressions
+  pub sizes_of : TypedTrees → LimitsValue → List Size → List Size
+  sizes_of no_typed l sizes = []
+  sizes_of (typed e es) l sizes = size_of e l sizes ∷ sizes_of es l sizes
+
+-- ---- costs
+
+-- all of them together
+abbrev pub total : List ℕ → ℕ
+total [] = 0
+total (n ∷ ns) = n + total ns
+
+-- what counting takes: the length of a text or of bytes
+abbrev pub counted_cost : ValueType → Size → ℕ
+counted_cost text_type s = most_of s
+counted_cost bytes_type s = most_of s
+counted_cost _ s = 0
+
+-- the greatest charge of a call's instruction, by the types and sizes of its operands
+abbrev pub charge_at : Overload → List ValueType → List Size → ℕ
+charge_at (overloads.Compare op) ts (s ∷ t ∷ []) = 1 + (mass_of s + mass_of t)
+charge_at (overloads.TestText test) ts (s ∷ t ∷ []) = 1 + (mass_of s + mass_of t)
+charge_at overloads.Concat ts (s ∷ t ∷ []) = 1 + (most_of s + most_of t)
+charge_at overloads.IndexMap ts (m ∷ k ∷ []) = 1 + mass_of k * most_of m
+charge_at overloads.InMap ts (k ∷ m ∷ []) = 1 + mass_of k * most_of m
+charge_at overloads.InList ts (v ∷ s ∷ []) = 1 + (mass_of s + most_of s * mass_of v)
+charge_at overloads.Size (t ∷ []) (s ∷ []) = 1 + counted_cost t s
+charge_at _ ts sizes = 1
+
+-- what a call costs: its operands, and its instruction or jumps; of a conditional's branches one runs
+abbrev pub call_cost : Overload → List ValueType → (costs : List ℕ) → List Size → ℕ
+call_cost overloads.LogicalAnd ts (a ∷ b ∷ []) sizes = a + 1 + b + 1
+call_cost overloads.LogicalOr ts (a ∷ b ∷ []) sizes = a + 1 + b + 1
+call_cost overloads.Conditional ts (c ∷ a ∷ b ∷ []) sizes = c + 1 + max a b + 1
+call_cost o ts costs sizes = total costs + charge_at o ts sizes
+
+-- a name in a map of a size
+abbrev pub field_cost : List ℕ → Size → ℕ
+field_cost name s = 1 + (1 + length (utf8_of name)) * most_of s
+
+-- the masses of all of these together
+abbrev pub masses : List Size → ℕ
+masses [] = 0
+masses (s ∷ ss) = mass_of s + masses ss
+
+-- a map literal: the masses of its keys together, times how many entries it has
+abbrev pub map_cost : List Size → ℕ
+map_cost sizes = 1 + masses (keys_of sizes) * length (keys_of sizes)
+
+-- so many turns, each by what is gathered before it
+abbrev pub turns_cost : (next : Size → Size) → (turn : Size → ℕ) → ℕ → Size → ℕ
+turns_cost next turn zero s = 0
+turns_cost next turn (suc n) s = turn s + turns_cost next turn n (join s (next s))
+
+abbrev mutual
+  -- how many steps an expression takes at most
+  pub cost_of : TypedTree → LimitsValue → List Size → ℕ
+  cost_of (typed_constant t v) l sizes = 1
+  cost_of (typed_local t outside) l sizes = 1
+  cost_of (typed_attribute t a) l sizes = 1
+  cost_of (typed_field t on name) l sizes = cost_of on l sizes + field_cost name (size_of on l sizes)
+  cost_of (typed_has t on name) l sizes = cost_of on l sizes + field_cost name (size_of on l sizes)
+  cost_of (typed_call t o operands) l sizes =
+      call_cost o (kinds operands) (costs_of operands l sizes) (sizes_of operands l sizes)
+  cost_of (typed_list t elements) l sizes =
+      total (costs_of elements l sizes) + (1 + length (costs_of elements l sizes))
+  cost_of (typed_map t pairs) l sizes =
+      total (costs_of pairs l sizes) + map_cost (sizes_of pairs l sizes)
+  cost_of (typed_loop t range init condition step result) l sizes =
+      let n = most_of (size_of range l sizes) in
+      let turn_sizes : Size → List Size = λ s. element_size (size_of range l sizes) ∷ s ∷ sizes in
+      let next : Size → Size = λ s. size_of step l (turn_sizes s) in
+      cost_of range l sizes + (1 + n) + cost_of init l sizes + 1
+      + turns_cost next (λ s. cost_of condition l (turn_sizes s) + cost_of step l (turn_sizes s) + 4)
+      n (size_of init l sizes)
+      + 1 + cost_of result l (grown next n (size_of init l sizes) ∷ sizes)
+
+  -- the costs of expressions
+  pub costs_of : TypedTrees → LimitsValue → List Size → List ℕ
+  costs_of no_typed l sizes = []
+  costs_of (typed e es) l sizes = cost_of e l sizes ∷ costs_of es l sizes

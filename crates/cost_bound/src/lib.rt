@@ -1,0 +1,2 @@
+//! How many steps a condition takes at most.
+#![tactic(auto)]
