@@ -7,3 +7,4 @@ pub mod Agreeing
 pub mod CheckLaws
 pub mod Elaborating
 pub mod TypingFacts
+pub mod WellTypedAnswers

@@ -1,14 +1,18 @@
 //! Laws of meaning and typing.
 
-ghost use Rattle.std.specs.Prelude.{◌≡◌, ◌↔◌, ◌⊎◌, ℕ, List, Some};
+ghost use Rattle.std.specs.Prelude.{◌≡◌, ◌↔◌, ◌⊎◌, ℕ, List, [], Some};
 ghost use Rattle.attributes.specs.Attributes.{attr_name};
+ghost use Rattle.attributes.specs.Request.{IsRequest, RequestValue};
 ghost use Rattle.attributes.specs.declared.attribute.AttrId.{AttrId};
 ghost use Rattle.cel_types.specs.Attributes.{attribute_named};
-ghost use Rattle.cel_value.specs.Types.{ValueType};
+ghost use Rattle.cel_value.specs.Types.{AnswerHasType, ValueType};
+ghost use Rattle.cel_value.specs.Values.{CelAnswer};
 ghost use Rattle.cel_tree.specs.Checked.{CelChecked};
 ghost use Rattle.cel_types.specs.Elaborated.{IsElaborated, TypedTree, kind};
 ghost use Rattle.cel_types.specs.Typing.{IsTyped};
 ghost use Rattle.cel_types.specs.TypingFaults.{CheckFault};
+ghost use Rattle.cel_types.specs.TypedMeaning.{typed_answer};
+ghost use Rattle.cel_types.specs.WellTyped.{IsWellTyped};
 ghost use Rattle.proto_wire.specs.declared.refusal.Refusal.{Refusal};
 
 /// Each attribute is found under its name, and no other is.
@@ -35,4 +39,10 @@ pub fn typing_disjoint()
 pub fn typed_is_elaborated()
     ensures { (c : CelChecked) (t : ValueType) → IsTyped c t
         → (e : TypedTree) × IsElaborated c e × (kind e ≡ t) }
+{}
+
+/// One that is well typed has an answer of its type for each request.
+pub fn typed_answers_have_their_type()
+    ensures { (e : TypedTree) (r : RequestValue) → IsWellTyped [] e → IsRequest r
+        → (a : CelAnswer) × (typed_answer e r [] ≡ Some a) × AnswerHasType a (kind e) }
 {}
