@@ -1,0 +1,4 @@
+pub mod Placing
+pub mod Goes
+pub mod Answering
+pub mod Calls
