@@ -8,3 +8,4 @@ pub mod Bounds
 pub mod Sound
 pub mod Whole
 pub mod Built
+pub mod Operands

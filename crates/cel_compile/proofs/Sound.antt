@@ -22,12 +22,12 @@ use Rattle.cel_types.specs.TypedMeaning.{typed_answer, typed_answers}
 use Rattle.cel_types.specs.WellTyped.{AreKeyed, AreWellTyped, IsWellTyped}
 use Rattle.cel_types.proofs.WellTypedAnswers.{answer_typed, answers_typed, walked-typed}
 use Rattle.cost_bound.specs.Costs.{charge_at, cost_of, costs_of, element_size, grown, map_cost, size_of, sizes_of, total, turns_cost}
-use Rattle.cost_bound.specs.Sizes.{Fits, Size, Within, join, most_of}
+use Rattle.cost_bound.specs.Sizes.{AllWithin, Fits, Size, Within, join, most_of}
 use Rattle.stack_machine.specs.Instructions.{Instruction, Const, Attr, Load, Store, EmptyList, EmptyMap, Field, HasField, LoopStart, MakeList, MakeMap}
 use Rattle.stack_machine.specs.Machine.{gives, opened}
 use Rattle.cel_compile.specs.Codes.{count, instruction_of, list_instruction, map_instruction, pairs}
 use Rattle.cel_compile.proofs.Answering.{before_some, then_some}
-use Rattle.cel_compile.proofs.Bounds.{AllWithin, Bounds}
+use Rattle.cel_compile.proofs.Bounds.{Bounds}
 use Rattle.cel_compile.proofs.Calls.{IsStrict, Makes, call_makes, literal_makes, pushed_all}
 use Rattle.cel_compile.proofs.Goes.{Goes, Locals, at, at_most, held, one, plain, state, stay, stores, then_goes}
 use Rattle.cel_compile.proofs.Loop.{Parts, loop_goes}
@@ -67,11 +67,13 @@ counted : (es : TypedTrees) (request : RequestValue) (ls xs : List CelAnswer) �
 counted no_typed request ls xs e = let none : [] ≡ xs = cc in ap length (sym none)
 counted (typed t es) request ls xs e =
     let x = before_some (typed_answer t request ls) (typed_answers es request ls) xs e in
-    ap length x.4 ∙ ap suc (counted es request ls x.1 x.3)
+    let one_more = ap length x.4 in
+    let rest = counted es request ls x.1 x.3 in
+    omega (arith, one_more, rest)
 
 costs_counted : (es : TypedTrees) (limits : LimitsValue) (sizes : List Size) → length (costs_of es limits sizes) ≡ count es
 costs_counted no_typed limits sizes = refl
-costs_counted (typed t es) limits sizes = ap suc (costs_counted es limits sizes)
+costs_counted (typed t es) limits sizes = let rest = costs_counted es limits sizes in omega (arith, rest)
 
 paired : (es : TypedTrees) (k : KeyType) (t : ValueType) → AreKeyed k t (kinds es) → count es ≡ 2 * pairs es
 paired no_typed k t h = refl
@@ -88,11 +90,11 @@ empty_map : (t : ValueType) → (k : KeyType) × (s : ValueType) × (map_instruc
 empty_map (map_type k t) = (k, t, refl)
 empty_map t = (keys.Bool, t, refl)
 
-some_list : (t : ValueType) (e : TypedTree) (es : TypedTrees) → list_instruction t (typed e es) ≡ MakeList (count (typed e es))
+pub some_list : (t : ValueType) (e : TypedTree) (es : TypedTrees) → list_instruction t (typed e es) ≡ MakeList (count (typed e es))
 some_list (list_type t) e es = refl
 some_list t e es = refl
 
-some_map : (t : ValueType) (e : TypedTree) (es : TypedTrees) → map_instruction t (typed e es) ≡ MakeMap (pairs (typed e es))
+pub some_map : (t : ValueType) (e : TypedTree) (es : TypedTrees) → map_instruction t (typed e es) ≡ MakeMap (pairs (typed e es))
 some_map (map_type k t) e es = refl
 some_map t e es = refl
 
@@ -244,13 +246,14 @@ module _ (code : List Instruction) (request : RequestValue) (limits : LimitsValu
         (runs b (n + 1) q st ls lo sizes ks x.2 ht hw g.0.1.1.0 pb x.5)
     runs (typed_call t overloads.Conditional operands) p q st ls lo sizes ks r ht hw g placed is =
         let takes : kinds operands ≡ bool_type ∷ t ∷ t ∷ [] = g.1 in absurd cc
-    runs (typed_call t o operands) p q st ls lo sizes ks r ht hw g (m, po, h, e) is =
+    runs (typed_call t o operands) p q st ls lo sizes ks r ht hw g placed is =
+        let m = placed.0 in
         let all = then_some (overload_answer o) (typed_answers operands request ls) r is in
         let charged = bounds.call o (kinds operands) all.0 (sizes_of operands limits sizes) (answers_have_types operands ks ls all.0 ht g.0 all.1)
             (answers_within operands ls all.0 sizes hw all.1) in
-        rw e (makes_goes code request ls lo (instruction_of o) p m all.0 st r (total (costs_of operands limits sizes)) (overload_charge o all.0)
-        (total (costs_of operands limits sizes) + charge_at o (kinds operands) (sizes_of operands limits sizes)) h
-        (call_makes o all.0 r tt all.2) (omega (arith, charged)) (runs_all operands p m st ls lo sizes ks all.0 ht hw g.0 po all.1))
+        rw (placed.3) (makes_goes code request ls lo (instruction_of o) p m all.0 st r (total (costs_of operands limits sizes)) (overload_charge o all.0)
+        (total (costs_of operands limits sizes) + charge_at o (kinds operands) (sizes_of operands limits sizes)) placed.2
+        (call_makes o all.0 r tt all.2) (omega (arith, charged)) (runs_all operands p m st ls lo sizes ks all.0 ht hw g.0 placed.1 all.1))
     runs (typed_list t elements) p q st ls lo sizes ks r ht hw g (m, po, h, e) is =
         let all = then_some list_literal (typed_answers elements request ls) r is in
         let many = counted elements request ls all.0 all.1 in

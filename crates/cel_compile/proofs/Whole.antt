@@ -9,7 +9,7 @@ use Rattle.stack_machine.specs.Instructions.{Instruction}
 use Rattle.stack_machine.specs.Machine.{Reaches, begins, start}
 use Rattle.cel_compile.specs.Codes.{code_of, extent}
 use Rattle.cel_compile.specs.Sound.{IsSound, RunsTo}
-use Rattle.cel_compile.proofs.Bounds.{Bounds}
+use Rattle.cel_compile.proofs.Bounds.{Bounds, bounds_of}
 use Rattle.cel_compile.proofs.Goes.{reached, state}
 use Rattle.cel_compile.proofs.Placing.{extent_is, has_all, placed}
 use Rattle.cel_compile.proofs.Sound.{runs}
@@ -39,6 +39,6 @@ run_of e request limits g valid bounds =
       bounded = y.4;
     }
 
-pub code_is_sound : ((request : RequestValue) (limits : LimitsValue) → IsRequest request → InLimits request limits → Bounds request limits)
-    → (e : TypedTree) (code : List Instruction) → IsWellTyped [] e → code ≡ code_of 0 0 e → IsSound code e
-code_is_sound bounds e code g is request limits valid within = rw is (run_of e request limits g valid (bounds request limits valid within))
+pub code_is_sound : (e : TypedTree) (code : List Instruction) → IsWellTyped [] e → code ≡ code_of 0 0 e → IsSound code e
+code_is_sound e code g is request limits valid within =
+    rw is (run_of e request limits g valid (bounds_of request limits valid within))
