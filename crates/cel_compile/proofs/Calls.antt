@@ -101,7 +101,7 @@ below xs st = rw (pushed_reversed xs st, sym (length-reverse xs)) (drop-append_s
 enough : (xs st : List CelAnswer) → nat_le (length xs) (length (pushed_all xs st)) ≡ true
 enough xs st =
     let e : length (pushed_all xs st) ≡ length xs + length st =
-        ap length (pushed_reversed xs st) ∙ length-append (reverse xs) st ∙ ap (λ n. n + length st) (length-reverse xs) in
+    ap length (pushed_reversed xs st) ∙ length-append (reverse xs) st ∙ ap (λ n. n + length st) (length-reverse xs) in
     let le : length xs ≤ length (pushed_all xs st) = omega arith in
     grind (arith, nat_tests)
 

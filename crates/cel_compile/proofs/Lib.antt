@@ -7,5 +7,3 @@ pub mod Loop
 pub mod Bounds
 pub mod Sound
 pub mod Whole
-pub mod Built
-pub mod Operands

@@ -60,12 +60,12 @@ module _ (code : List Instruction) (request : RequestValue) (ls : List CelAnswer
         let c = value (bool true) in
         let gc = parts.condition v a s vs c hv ha ec in
         let g1 : Goes code request 1 (at k (c ∷ st) (value v ∷ a ∷ ls) (vs ∷ lo)) (at (k + 1) st (value v ∷ a ∷ ls) (vs ∷ lo)) =
-            plain code request (LoopTest (l + 1 + 1) q) k (c ∷ st) (value v ∷ a ∷ ls) (vs ∷ lo) (k + 1) st (vs ∷ lo) parts.tested (λ f. refl) in
+        plain code request (LoopTest (l + 1 + 1) q) k (c ∷ st) (value v ∷ a ∷ ls) (vs ∷ lo) (k + 1) st (vs ∷ lo) parts.tested (λ f. refl) in
         let gs = parts.body v a s vs b hv ha es in
         let g2 = forget code request (at l (b ∷ st) (value v ∷ a ∷ ls) (vs ∷ lo)) (at l (b ∷ st) ls (vs ∷ lo)) (λ f h. (h.1.1, refl)) in
         let g3 = stores code request l st ls (vs ∷ lo) b parts.kept in
         let g4 : Goes code request 1 (at (l + 1) st (b ∷ ls) (vs ∷ lo)) (at (n + 1) st (b ∷ ls) (vs ∷ lo)) =
-            plain code request (Jump (n + 1)) (l + 1) st (b ∷ ls) (vs ∷ lo) (n + 1) st (vs ∷ lo) parts.again (λ f. refl) in
+        plain code request (Jump (n + 1)) (l + 1) st (b ∷ ls) (vs ∷ lo) (n + 1) st (vs ∷ lo) parts.again (λ f. refl) in
         let on = rest b (parts.gathers v a s b hv ha es) is in
         at_most code request (omega arith)
         (then_goes code request (then_goes code request (then_goes code request (then_goes code request (then_goes code request (then_goes code request gc g1) gs) g2) g3) g4) on)
@@ -74,14 +74,14 @@ module _ (code : List Instruction) (request : RequestValue) (ls : List CelAnswer
         let s' = grown next m (join s (next s)) in
         let gc = parts.condition v a s vs c hv ha ec in
         let g1 : Goes code request 1 (at k (c ∷ st) (value v ∷ a ∷ ls) (vs ∷ lo)) (at (l + 1 + 1) st (value v ∷ a ∷ ls) lo) =
-            plain code request (LoopTest (l + 1 + 1) q) k (c ∷ st) (value v ∷ a ∷ ls) (vs ∷ lo) (l + 1 + 1) st lo parts.tested (λ f. refl) in
+        plain code request (LoopTest (l + 1 + 1) q) k (c ∷ st) (value v ∷ a ∷ ls) (vs ∷ lo) (l + 1 + 1) st lo parts.tested (λ f. refl) in
         let g2 = forget code request (at (l + 1 + 1) st (value v ∷ a ∷ ls) lo) (at (l + 1 + 1) st (a ∷ ls) lo) (λ f h. (h.1, refl)) in
         leaves (cost_c s + 1 + 0) _ _ a s' r (grown_keeps m a (join s (next s)) (parts.keeps a s ha)) is (omega arith) (then_goes code request (then_goes code request gc g1) g2)
     turn_goes v vs a s m r (Some (fails e)) os hv ha ec es is rest =
         let same : r ≡ fails e = cc in
         let gc = parts.condition v a s vs (fails e) hv ha ec in
         let g1 : Goes code request 1 (at k (fails e ∷ st) (value v ∷ a ∷ ls) (vs ∷ lo)) (at q (fails e ∷ st) (value v ∷ a ∷ ls) lo) =
-            plain code request (LoopTest (l + 1 + 1) q) k (fails e ∷ st) (value v ∷ a ∷ ls) (vs ∷ lo) q (fails e ∷ st) lo parts.tested (λ f. refl) in
+        plain code request (LoopTest (l + 1 + 1) q) k (fails e ∷ st) (value v ∷ a ∷ ls) (vs ∷ lo) q (fails e ∷ st) lo parts.tested (λ f. refl) in
         let g2 = forget code request (at q (fails e ∷ st) (value v ∷ a ∷ ls) lo) (at q (fails e ∷ st) ls lo) (λ f h. (h.1.1, refl)) in
         rw same (at_most code request (omega arith) (then_goes code request (then_goes code request gc g1) g2))
     turn_goes v vs a s m r (Some (value w)) os hv ha ec es is rest = absurd cc
@@ -92,13 +92,13 @@ module _ (code : List Instruction) (request : RequestValue) (ls : List CelAnswer
         → Goes code request (turns_cost next turn_cost m s + 1 + cost_r (grown next m s)) (at (n + 1) st (a ∷ ls) (vs ∷ lo)) (at q (r ∷ st) ls lo)
     loop_goes no_items m a s r ha each le is =
         let g : Goes code request 1 (at (n + 1) st (a ∷ ls) (no_items ∷ lo)) (at (l + 1 + 1) st (a ∷ ls) lo) =
-            plain code request (LoopNext (suc (length ls)) (l + 1 + 1)) (n + 1) st (a ∷ ls) (no_items ∷ lo) (l + 1 + 1) st lo parts.starts (λ f. refl) in
+        plain code request (LoopNext (suc (length ls)) (l + 1 + 1)) (n + 1) st (a ∷ ls) (no_items ∷ lo) (l + 1 + 1) st lo parts.starts (λ f. refl) in
         leaves 1 _ _ a (grown next m s) r (grown_keeps m a s ha) is (omega arith) g
     loop_goes (item v vs) zero a s r ha each le is = absurd (omega arith)
     loop_goes (item v vs) (suc m) a s r ha each le is =
         let g : Goes code request 1 (at (n + 1) st (a ∷ ls) (item v vs ∷ lo)) (at (n + 1 + 1) st (value v ∷ a ∷ ls) (vs ∷ lo)) =
-            one code request (LoopNext (suc (length ls)) (l + 1 + 1)) (n + 1) st (a ∷ ls) (item v vs ∷ lo) (at (n + 1 + 1) st (value v ∷ a ∷ ls) (vs ∷ lo)) parts.starts
-            (λ f h. (with_local f (suc (length ls)) (value v), holds_more (a ∷ ls) f (value v) h, refl)) in
+        one code request (LoopNext (suc (length ls)) (l + 1 + 1)) (n + 1) st (a ∷ ls) (item v vs ∷ lo) (at (n + 1 + 1) st (value v ∷ a ∷ ls) (vs ∷ lo)) parts.starts
+        (λ f h. (with_local f (suc (length ls)) (value v), holds_more (a ∷ ls) f (value v) h, refl)) in
         let on = turn_goes v vs a s m r (C v a) (S v a) each.0 ha refl refl is
-            (λ b hb more. loop_goes vs m b (join s (next s)) r hb each.1 (omega arith) more) in
+        (λ b hb more. loop_goes vs m b (join s (next s)) r hb each.1 (omega arith) more) in
         at_most code request (omega arith) (then_goes code request g on)

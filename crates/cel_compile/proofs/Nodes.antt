@@ -43,7 +43,7 @@ module _ (code : List Instruction) (request : RequestValue) (ls : List CelAnswer
   both_goes i j p m n st ca cb a b r h1 h2 makes charged does ga gb =
       let g = plain code request i m (a ∷ st) ls lo (m + 1) (a ∷ st) lo h1 does in
       let g1 : Goes code request (ca + 1 + cb) (at p st ls lo) (at n (b ∷ a ∷ st) ls lo) =
-          at_most code request (omega (arith, charged)) (then_goes code request (then_goes code request ga g) gb) in
+      at_most code request (omega (arith, charged)) (then_goes code request (then_goes code request ga g) gb) in
       makes_goes j p n (a ∷ b ∷ []) st r (ca + 1 + cb) 1 (ca + 1 + cb + 1) h2 makes (omega arith) g1
 
   pub and_goes : (p m n q : ℕ) (st : List CelAnswer) (ca cb : ℕ) (a b r : CelAnswer)
@@ -55,7 +55,7 @@ module _ (code : List Instruction) (request : RequestValue) (ls : List CelAnswer
       let same = false_stays b r is in
       let a = value (bool false) in
       let g : Goes code request 1 (at m (a ∷ st) ls lo) (at q (a ∷ st) ls lo) =
-          plain code request (IfFalse q) m (a ∷ st) ls lo q (a ∷ st) lo h1 (λ f. refl) in
+      plain code request (IfFalse q) m (a ∷ st) ls lo q (a ∷ st) lo h1 (λ f. refl) in
       rw same (at_most code request (omega arith) (then_goes code request ga g))
   and_goes p m n q st ca cb (value (bool true)) b r h1 h2 e is ga gb =
       let a = value (bool true) in
@@ -73,7 +73,7 @@ module _ (code : List Instruction) (request : RequestValue) (ls : List CelAnswer
       let same = true_stays b r is in
       let a = value (bool true) in
       let g : Goes code request 1 (at m (a ∷ st) ls lo) (at q (a ∷ st) ls lo) =
-          plain code request (IfTrue q) m (a ∷ st) ls lo q (a ∷ st) lo h1 (λ f. refl) in
+      plain code request (IfTrue q) m (a ∷ st) ls lo q (a ∷ st) lo h1 (λ f. refl) in
       rw same (at_most code request (omega arith) (then_goes code request ga g))
   or_goes p m n q st ca cb (value (bool false)) b r h1 h2 e is ga gb =
       let a = value (bool false) in
@@ -91,18 +91,18 @@ module _ (code : List Instruction) (request : RequestValue) (ls : List CelAnswer
   choice_goes p m n q st ck ca cb (value (bool true)) a b r h1 h2 is gc ga gb =
       let same : r ≡ a = cc in
       let g : Goes code request 1 (at m (value (bool true) ∷ st) ls lo) (at (m + 1) st ls lo) =
-          plain code request (Test (n + 1) q) m (value (bool true) ∷ st) ls lo (m + 1) st lo h1 (λ f. refl) in
+      plain code request (Test (n + 1) q) m (value (bool true) ∷ st) ls lo (m + 1) st lo h1 (λ f. refl) in
       let leave : Goes code request 1 (at n (a ∷ st) ls lo) (at q (a ∷ st) ls lo) =
-          plain code request (Jump q) n (a ∷ st) ls lo q (a ∷ st) lo h2 (λ f. refl) in
+      plain code request (Jump q) n (a ∷ st) ls lo q (a ∷ st) lo h2 (λ f. refl) in
       rw same (at_most code request (omega arith) (then_goes code request (then_goes code request (then_goes code request gc g) ga) leave))
   choice_goes p m n q st ck ca cb (value (bool false)) a b r h1 h2 is gc ga gb =
       let same : r ≡ b = cc in
       let g : Goes code request 1 (at m (value (bool false) ∷ st) ls lo) (at (n + 1) st ls lo) =
-          plain code request (Test (n + 1) q) m (value (bool false) ∷ st) ls lo (n + 1) st lo h1 (λ f. refl) in
+      plain code request (Test (n + 1) q) m (value (bool false) ∷ st) ls lo (n + 1) st lo h1 (λ f. refl) in
       rw same (at_most code request (omega arith) (then_goes code request (then_goes code request gc g) gb))
   choice_goes p m n q st ck ca cb (fails d) a b r h1 h2 is gc ga gb =
       let same : r ≡ fails d = cc in
       let g : Goes code request 1 (at m (fails d ∷ st) ls lo) (at q (fails d ∷ st) ls lo) =
-          plain code request (Test (n + 1) q) m (fails d ∷ st) ls lo q (fails d ∷ st) lo h1 (λ f. refl) in
+      plain code request (Test (n + 1) q) m (fails d ∷ st) ls lo q (fails d ∷ st) lo h1 (λ f. refl) in
       rw same (at_most code request (omega arith) (then_goes code request gc g))
   choice_goes p m n q st ck ca cb (value v) a b r h1 h2 is gc ga gb = absurd cc

@@ -198,6 +198,8 @@ module _ (code : List Instruction) where
 
     pub placed_all : (es : TypedTrees) (p d q : ℕ) → q ≡ p + extents es → HasAt code p (codes_of p d es) → PlacedAll code p d es q
     placed_all no_typed p d q e h = omega arith
-    placed_all (typed e es) p d q eq h =
-        (p + extent e, placed e p d (p + extent e) refl (has_front code p _ _ h),
-        placed_all es (p + extent e) d q (omega arith) (behind e p d _ h))
+    placed_all (typed e es) p d q eq h = (
+      p + extent e,
+      placed e p d (p + extent e) refl (has_front code p _ _ h),
+      placed_all es (p + extent e) d q (omega arith) (behind e p d _ h),
+    )

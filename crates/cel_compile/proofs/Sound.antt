@@ -135,7 +135,7 @@ module _ (code : List Instruction) (request : RequestValue) (st ls : List CelAns
       → Goes code request e (at p st ls lo) (at q (fails d ∷ st) ls lo)
   range_fails p m q c e d stands le way =
       let g : Goes code request 1 (at m (fails d ∷ st) ls lo) (at q (fails d ∷ st) ls lo) =
-          plain code request (LoopStart q) m (fails d ∷ st) ls lo q (fails d ∷ st) lo stands (λ f. refl) in
+      plain code request (LoopStart q) m (fails d ∷ st) ls lo q (fails d ∷ st) lo stands (λ f. refl) in
       at_most code request le (then_goes code request way g)
 
   range_walks : (p m n q cr ci cl most e : ℕ) (v : CelValue) (vs : CelValues) (a r : CelAnswer)
@@ -147,7 +147,7 @@ module _ (code : List Instruction) (request : RequestValue) (st ls : List CelAns
       → Goes code request e (at p st ls lo) (at q (r ∷ st) ls lo)
   range_walks p m n q cr ci cl most e v vs a r h1 h2 is charged le gr gi gl =
       let g : Goes code request (loop_charge (value v)) (at m (value v ∷ st) ls lo) (at (m + 1) st ls (vs ∷ lo)) =
-          plain code request (LoopStart q) m (value v ∷ st) ls lo (m + 1) st (vs ∷ lo) h1 (λ f. ap (λ o. opened o (state m (value v ∷ st) f lo) st) is) in
+      plain code request (LoopStart q) m (value v ∷ st) ls lo (m + 1) st (vs ∷ lo) h1 (λ f. ap (λ o. opened o (state m (value v ∷ st) f lo) st) is) in
       let g' : Goes code request (1 + most) (at m (value v ∷ st) ls lo) (at (m + 1) st ls (vs ∷ lo)) = at_most code request charged g in
       let kept = stores code request n st ls (vs ∷ lo) a h2 in
       at_most code request le (then_goes code request (then_goes code request (then_goes code request (then_goes code request gr g') gi) kept) gl)
@@ -250,7 +250,7 @@ module _ (code : List Instruction) (request : RequestValue) (limits : LimitsValu
         let m = placed.0 in
         let all = then_some (overload_answer o) (typed_answers operands request ls) r is in
         let charged = bounds.call o (kinds operands) all.0 (sizes_of operands limits sizes) (answers_have_types operands ks ls all.0 ht g.0 all.1)
-            (answers_within operands ls all.0 sizes hw all.1) in
+        (answers_within operands ls all.0 sizes hw all.1) in
         rw (placed.3) (makes_goes code request ls lo (instruction_of o) p m all.0 st r (total (costs_of operands limits sizes)) (overload_charge o all.0)
         (total (costs_of operands limits sizes) + charge_at o (kinds operands) (sizes_of operands limits sizes)) placed.2
         (call_makes o all.0 r tt all.2) (omega (arith, charged)) (runs_all operands p m st ls lo sizes ks all.0 ht hw g.0 placed.1 all.1))
@@ -287,9 +287,9 @@ module _ (code : List Instruction) (request : RequestValue) (limits : LimitsValu
           kept = h5;
           again = h6;
           condition = λ v a s vs c hv ha e. runs condition (n + 1 + 1) k st (value v ∷ a ∷ ls) (vs ∷ lo) (item_size ∷ s ∷ sizes) (element ∷ kind init ∷ ks) c
-            (hv.0, (ha.0, ht)) (hv.1, (ha.1, hw)) g.2.2 pc e;
+              (hv.0, (ha.0, ht)) (hv.1, (ha.1, hw)) g.2.2 pc e;
           body = λ v a s vs b hv ha e. runs step (k + 1) l st (value v ∷ a ∷ ls) (vs ∷ lo) (item_size ∷ s ∷ sizes) (element ∷ kind init ∷ ks) b
-            (hv.0, (ha.0, ht)) (hv.1, (ha.1, hw)) g.2.4 ps e;
+              (hv.0, (ha.0, ht)) (hv.1, (ha.1, hw)) g.2.4 ps e;
           gathers = λ v a s b hv ha e. (
             subst (λ z. AnswerHasType b z) g.2.5 (answer_has_type step (element ∷ kind init ∷ ks) (value v ∷ a ∷ ls) b (hv.0, (ha.0, ht)) g.2.4 e),
             bounds.right b s (next s) (bounds.answer step (value v ∷ a ∷ ls) (item_size ∷ s ∷ sizes) b (hv.1, (ha.1, hw)) e),
@@ -306,17 +306,18 @@ module _ (code : List Instruction) (request : RequestValue) (limits : LimitsValu
         h1 h2 (over_some (typed_answer range request ls) _ r is)
         (λ a e. runs range p m st ls lo sizes ks a ht hw g.0 pr e)
         (λ v vs e is_elements is_turns.
-            let x = then_some (fold C S R vs) (typed_answer init request ls) r is_turns in
-            let fit = bounds.answer range ls sizes (value v) hw e in
-            let range_typed = answer_has_type range ks ls (value v) ht g.0 e in
-            (x.0,
-            runs init (m + 1) n st ls (vs ∷ lo) sizes ks x.0 ht hw g.1 pi x.1,
-            bounds.long v over_size fit,
-            loop_goes code request ls lo st n k l q C S R cc cs cr next IsElement IsGathered parts vs most x.0 from r
-            (answer_has_type init ks ls x.0 ht g.1 x.1, bounds.answer init ls sizes x.0 hw x.1)
-            (both_each element item_size vs (elements_typed (elements_of v) vs element is_elements (walked-typed (kind range) element g.2.1 v range_typed))
-            (bounds.elements v vs over_size fit is_elements))
-            (bounds.few v vs over_size fit is_elements) x.2))
+        let x = then_some (fold C S R vs) (typed_answer init request ls) r is_turns in
+        let fit = bounds.answer range ls sizes (value v) hw e in
+        let range_typed = answer_has_type range ks ls (value v) ht g.0 e in (
+          x.0,
+          runs init (m + 1) n st ls (vs ∷ lo) sizes ks x.0 ht hw g.1 pi x.1,
+          bounds.long v over_size fit,
+          loop_goes code request ls lo st n k l q C S R cc cs cr next IsElement IsGathered parts vs most x.0 from r
+              (answer_has_type init ks ls x.0 ht g.1 x.1, bounds.answer init ls sizes x.0 hw x.1)
+              (both_each element item_size vs (elements_typed (elements_of v) vs element is_elements (walked-typed (kind range) element g.2.1 v range_typed))
+              (bounds.elements v vs over_size fit is_elements))
+              (bounds.few v vs over_size fit is_elements) x.2,
+        ))
         (omega arith)
 
     pub runs_all : (es : TypedTrees) (p q : ℕ) (st ls : List CelAnswer) (lo : List CelValues) (sizes : List Size) (ks : List ValueType) (xs : List CelAnswer)

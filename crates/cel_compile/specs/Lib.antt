@@ -1,4 +1,2 @@
 pub mod Codes
 pub mod Sound
-pub mod Slots
-pub mod steps

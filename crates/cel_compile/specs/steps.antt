@@ -1,2 +1,0 @@
--- Definitions that clauses of private functions cite.
-pub mod Emitting
