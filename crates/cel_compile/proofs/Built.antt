@@ -43,19 +43,23 @@ pub closed : (i0 i1 i2 : List Instr) (i : Instr) (n : ℕ) (F : Type 0) (w : Lis
     → (length i2 ≡ length i0 + (n + 1)) × (F → length i2 < 2 ^ 16 → code_view i2 ≡ code_view i0 ++ (w ++ j ∷ []))
 closed i0 i1 i2 i n F w j g e is =
     let l1 = g.0 in
-    let l2 = one_longer i1 i2 i e in
-    (omega arith, λ few short. seen i1 i2 i e ∙ ap (λ x. code_view i1 ++ x ∷ []) (is short)
-    ∙ ap (λ l. l ++ j ∷ []) (g.1 few (omega arith)) ∙ append_assoc (code_view i0) w (j ∷ []))
+    let l2 = one_longer i1 i2 i e in (
+      omega arith,
+      λ few short. seen i1 i2 i e ∙ ap (λ x. code_view i1 ++ x ∷ []) (is short)
+          ∙ ap (λ l. l ++ j ∷ []) (g.1 few (omega arith)) ∙ append_assoc (code_view i0) w (j ∷ []),
+    )
 
 -- one expression behind others
 pub first_built : (d : ℕ) (e : TypedTree) (es : TypedTrees) (i0 i1 i2 : List Instr) → Grows i0 i1 d e → GrowsAll i1 i2 d es → GrowsAll i0 i2 d (typed e es)
 first_built d e es i0 i1 i2 g gs =
     let l1 = g.0 in
-    let l2 = gs.0 in
-    (omega arith, λ few short.
-        gs.1 few.1 short ∙ ap (λ l. l ++ codes_of (length i1) d es) (g.1 few.0 (omega arith))
-        ∙ append_assoc (code_view i0) (code_of (length i0) d e) (codes_of (length i1) d es)
-        ∙ ap (λ n. code_view i0 ++ (code_of (length i0) d e ++ codes_of n d es)) l1)
+    let l2 = gs.0 in (
+      omega arith,
+      λ few short.
+          gs.1 few.1 short ∙ ap (λ l. l ++ codes_of (length i1) d es) (g.1 few.0 (omega arith))
+          ∙ append_assoc (code_view i0) (code_of (length i0) d e) (codes_of (length i1) d es)
+          ∙ ap (λ n. code_view i0 ++ (code_of (length i0) d e ++ codes_of n d es)) l1,
+    )
 
 -- `&&` and `||`
 pub both_built : (d : ℕ) (a b : TypedTree) (i0 i1 i2 i3 i4 i5 : List Instr) (x y z : Instr) (fork end : ℕ) (jump : ℕ → Instruction) (j : Instruction)
@@ -70,23 +74,25 @@ both_built d a b i0 i1 i2 i3 i4 i5 x y z fork end jump j ga f e2 gb e4 is ends e
     let l3 = gb.0 in
     let l4 = one_longer i3 i4 y e4 in
     let l5 : length i5 ≡ length i4 = ap length e5 ∙ length-set i4 fork z in
-    let p = length i0 in
-    (omega arith, λ few short.
-        let m2 : length i2 ≡ p + extent a + 1 = omega arith in
-        let m4 : end ≡ p + extent a + 1 + extent b + 1 = omega arith in
-        let A = code_of p d a in
-        let B = code_of (length i2) d b in
-        let s1 : code_view i1 ≡ code_view i0 ++ A = ga.1 few.0 (omega arith) in
-        let s2 = seen i1 i2 x e2 in
-        let s3 : code_view i3 ≡ code_view i2 ++ B = gb.1 few.1.0 (omega arith) in
-        let s4 : code_view i4 ≡ code_view i3 ++ j ∷ [] = seen i3 i4 y e4 ∙ ap (λ v. code_view i3 ++ v ∷ []) is in
-        let all : code_view i4 ≡ ((code_view i1 ++ instr_view x ∷ []) ++ B) ++ j ∷ [] = cc in
-        let flat : ((code_view i1 ++ instr_view x ∷ []) ++ B) ++ j ∷ [] ≡ code_view i1 ++ instr_view x ∷ (B ++ j ∷ []) = simp append_assoc in
-        patched i4 i5 fork z e5 (code_view i1) (B ++ j ∷ []) (instr_view x) (all ∙ flat) (f ∙ many i1)
-        ∙ ap (λ v. code_view i1 ++ v ∷ (B ++ j ∷ [])) (jumps (omega arith))
-        ∙ ap (λ l. l ++ jump end ∷ (B ++ j ∷ [])) s1 ∙ append_assoc (code_view i0) A (jump end ∷ (B ++ j ∷ []))
-        ∙ ap (λ n. code_view i0 ++ (A ++ jump n ∷ (B ++ j ∷ []))) m4
-        ∙ ap (λ n. code_view i0 ++ (A ++ jump (p + extent a + 1 + extent b + 1) ∷ (code_of n d b ++ j ∷ []))) m2)
+    let p = length i0 in (
+      omega arith,
+      λ few short.
+          let m2 : length i2 ≡ p + extent a + 1 = omega arith in
+          let m4 : end ≡ p + extent a + 1 + extent b + 1 = omega arith in
+          let A = code_of p d a in
+          let B = code_of (length i2) d b in
+          let s1 : code_view i1 ≡ code_view i0 ++ A = ga.1 few.0 (omega arith) in
+          let s2 = seen i1 i2 x e2 in
+          let s3 : code_view i3 ≡ code_view i2 ++ B = gb.1 few.1.0 (omega arith) in
+          let s4 : code_view i4 ≡ code_view i3 ++ j ∷ [] = seen i3 i4 y e4 ∙ ap (λ v. code_view i3 ++ v ∷ []) is in
+          let all : code_view i4 ≡ ((code_view i1 ++ instr_view x ∷ []) ++ B) ++ j ∷ [] = cc in
+          let flat : ((code_view i1 ++ instr_view x ∷ []) ++ B) ++ j ∷ [] ≡ code_view i1 ++ instr_view x ∷ (B ++ j ∷ []) = simp append_assoc in
+          patched i4 i5 fork z e5 (code_view i1) (B ++ j ∷ []) (instr_view x) (all ∙ flat) (f ∙ many i1)
+          ∙ ap (λ v. code_view i1 ++ v ∷ (B ++ j ∷ [])) (jumps (omega arith))
+          ∙ ap (λ l. l ++ jump end ∷ (B ++ j ∷ [])) s1 ∙ append_assoc (code_view i0) A (jump end ∷ (B ++ j ∷ []))
+          ∙ ap (λ n. code_view i0 ++ (A ++ jump n ∷ (B ++ j ∷ []))) m4
+          ∙ ap (λ n. code_view i0 ++ (A ++ jump (p + extent a + 1 + extent b + 1) ∷ (code_of n d b ++ j ∷ []))) m2,
+    )
 
 -- `?:`
 pub choice_built : (d : ℕ) (c a b : TypedTree) (i0 i1 i2 i3 i4 i5 i6 i7 : List Instr) (x y u v : Instr) (fork leave other end : ℕ) (t : ValueType)
@@ -102,36 +108,38 @@ choice_built d c a b i0 i1 i2 i3 i4 i5 i6 i7 x y u v fork leave other end t gc f
     let l5 = gb.0 in
     let l6 : length i6 ≡ length i5 = ap length e6 ∙ length-set i5 leave u in
     let l7 : length i7 ≡ length i6 = ap length e7 ∙ length-set i6 fork v in
-    let p = length i0 in
-    (omega arith, λ few short.
-        let m2 : length i2 ≡ p + extent c + 1 = omega arith in
-        let m4 : length i4 ≡ p + extent c + 1 + extent a + 1 = omega arith in
-        let mo : other ≡ p + extent c + 1 + extent a + 1 = omega arith in
-        let me : end ≡ p + extent c + 1 + extent a + 1 + extent b = omega arith in
-        let C = code_of p d c in
-        let A = code_of (length i2) d a in
-        let B = code_of (length i4) d b in
-        let s1 : code_view i1 ≡ code_view i0 ++ C = gc.1 few.0 (omega arith) in
-        let s2 = seen i1 i2 x e2 in
-        let s3 : code_view i3 ≡ code_view i2 ++ A = ga.1 few.1.0 (omega arith) in
-        let s4 = seen i3 i4 y e4 in
-        let s5 : code_view i5 ≡ code_view i4 ++ B = gb.1 few.1.1.0 (omega arith) in
-        let vx = instr_view x in
-        let vy = instr_view y in
-        let all : code_view i5 ≡ (((code_view i1 ++ vx ∷ []) ++ A) ++ vy ∷ []) ++ B = cc in
-        let flat : (((code_view i1 ++ vx ∷ []) ++ A) ++ vy ∷ []) ++ B ≡ (code_view i1 ++ vx ∷ A) ++ vy ∷ B = simp append_assoc in
-        let n1 : leave ≡ length (code_view i1 ++ vx ∷ A) =
-            omega (arith, length-append (code_view i1) (vx ∷ A), many i1, extent_is a (length i2) d) in
-        let d1 = patched i5 i6 leave u e6 (code_view i1 ++ vx ∷ A) B vy (all ∙ flat) n1 ∙ ap (λ z. (code_view i1 ++ vx ∷ A) ++ z ∷ B) (jumps (omega arith)) in
-        let again : (code_view i1 ++ vx ∷ A) ++ Jump end ∷ B ≡ code_view i1 ++ vx ∷ (A ++ Jump end ∷ B) = append_assoc (code_view i1) (vx ∷ A) (Jump end ∷ B) in
-        let d2 = patched i6 i7 fork v e7 (code_view i1) (A ++ Jump end ∷ B) vx (d1 ∙ again) (f ∙ many i1)
-            ∙ ap (λ z. code_view i1 ++ z ∷ (A ++ Jump end ∷ B)) (tests (omega arith) (omega arith)) in
-        let shape : code_of p d (typed_call t overloads.Conditional (typed c (typed a (typed b no_typed))))
-            ≡ C ++ Test (p + extent c + 1 + extent a + 1) (p + extent c + 1 + extent a + 1 + extent b)
-            ∷ (code_of (p + extent c + 1) d a ++ Jump (p + extent c + 1 + extent a + 1 + extent b) ∷ code_of (p + extent c + 1 + extent a + 1) d b) = refl in
-        let assoc = append_assoc (code_view i0) C (Test other end ∷ (A ++ Jump end ∷ B)) in
-        let last : code_view i1 ++ Test other end ∷ (A ++ Jump end ∷ B) ≡ code_view i0 ++ code_of p d (typed_call t overloads.Conditional (typed c (typed a (typed b no_typed)))) = cc in
-        d2 ∙ last)
+    let p = length i0 in (
+      omega arith,
+      λ few short.
+          let m2 : length i2 ≡ p + extent c + 1 = omega arith in
+          let m4 : length i4 ≡ p + extent c + 1 + extent a + 1 = omega arith in
+          let mo : other ≡ p + extent c + 1 + extent a + 1 = omega arith in
+          let me : end ≡ p + extent c + 1 + extent a + 1 + extent b = omega arith in
+          let C = code_of p d c in
+          let A = code_of (length i2) d a in
+          let B = code_of (length i4) d b in
+          let s1 : code_view i1 ≡ code_view i0 ++ C = gc.1 few.0 (omega arith) in
+          let s2 = seen i1 i2 x e2 in
+          let s3 : code_view i3 ≡ code_view i2 ++ A = ga.1 few.1.0 (omega arith) in
+          let s4 = seen i3 i4 y e4 in
+          let s5 : code_view i5 ≡ code_view i4 ++ B = gb.1 few.1.1.0 (omega arith) in
+          let vx = instr_view x in
+          let vy = instr_view y in
+          let all : code_view i5 ≡ (((code_view i1 ++ vx ∷ []) ++ A) ++ vy ∷ []) ++ B = cc in
+          let flat : (((code_view i1 ++ vx ∷ []) ++ A) ++ vy ∷ []) ++ B ≡ (code_view i1 ++ vx ∷ A) ++ vy ∷ B = simp append_assoc in
+          let n1 : leave ≡ length (code_view i1 ++ vx ∷ A) =
+          omega (arith, length-append (code_view i1) (vx ∷ A), many i1, extent_is a (length i2) d) in
+          let d1 = patched i5 i6 leave u e6 (code_view i1 ++ vx ∷ A) B vy (all ∙ flat) n1 ∙ ap (λ z. (code_view i1 ++ vx ∷ A) ++ z ∷ B) (jumps (omega arith)) in
+          let again : (code_view i1 ++ vx ∷ A) ++ Jump end ∷ B ≡ code_view i1 ++ vx ∷ (A ++ Jump end ∷ B) = append_assoc (code_view i1) (vx ∷ A) (Jump end ∷ B) in
+          let d2 = patched i6 i7 fork v e7 (code_view i1) (A ++ Jump end ∷ B) vx (d1 ∙ again) (f ∙ many i1)
+          ∙ ap (λ z. code_view i1 ++ z ∷ (A ++ Jump end ∷ B)) (tests (omega arith) (omega arith)) in
+          let shape : code_of p d (typed_call t overloads.Conditional (typed c (typed a (typed b no_typed))))
+          ≡ C ++ Test (p + extent c + 1 + extent a + 1) (p + extent c + 1 + extent a + 1 + extent b)
+          ∷ (code_of (p + extent c + 1) d a ++ Jump (p + extent c + 1 + extent a + 1 + extent b) ∷ code_of (p + extent c + 1 + extent a + 1) d b) = refl in
+          let assoc = append_assoc (code_view i0) C (Test other end ∷ (A ++ Jump end ∷ B)) in
+          let last : code_view i1 ++ Test other end ∷ (A ++ Jump end ∷ B) ≡ code_view i0 ++ code_of p d (typed_call t overloads.Conditional (typed c (typed a (typed b no_typed)))) = cc in
+          d2 ∙ last,
+    )
 
 -- what was written of a comprehension, in order: i0 to i14 are the code before and behind each call
 pub record Written (d : ℕ) (range init condition step result : TypedTree) (i0 i14 : List Instr) : Type 0 where
@@ -214,66 +222,68 @@ loop_built d t range init condition step result i0 i14 w =
     let turn = w.turn_is in
     let tested = w.tested_is in
     let after = w.after_is in
-    let end = w.end_is in
-    (omega arith, λ few short.
-        let D1 = w.d1_is few.0 in
-        let D2 = w.d2_is few.0 in
-        let again = p + extent range + 1 + extent init + 1 in
-        let behind = again + 1 + extent condition + 1 + extent step + 1 + 1 in
-        let m2 : length w.i2 ≡ p + extent range + 1 = omega arith in
-        let m4 : w.turn ≡ again = omega arith in
-        let m5 : length w.i5 ≡ again + 1 = omega arith in
-        let m7 : length w.i7 ≡ again + 1 + extent condition + 1 = omega arith in
-        let m10 : length w.i10 ≡ behind = omega arith in
-        let ma : w.after ≡ behind = omega arith in
-        let me : w.end ≡ behind + extent result = omega arith in
-        let A = code_of p d range in
-        let I = code_of (length w.i2) d init in
-        let C = code_of (length w.i5) w.d2 condition in
-        let S = code_of (length w.i7) w.d2 step in
-        let Q = code_of (length w.i10) w.d1 result in
-        let few_c : HasFewLocals w.d2 condition = rw D2 (few.3) in
-        let few_s : HasFewLocals w.d2 step = rw D2 (few.4) in
-        let few_r : HasFewLocals w.d1 result = rw D1 (few.5) in
-        let v1 : code_view w.i1 ≡ code_view i0 ++ A = w.g1.1 few.1 (omega arith) in
-        let v2 = seen w.i1 w.i2 w.x1 w.e2 in
-        let v3 : code_view w.i3 ≡ code_view w.i2 ++ I = w.g3.1 few.2 (omega arith) in
-        let v4 : code_view w.i4 ≡ code_view w.i3 ++ Store d ∷ [] = seen w.i3 w.i4 w.s1 w.e4 ∙ ap (λ v. code_view w.i3 ++ v ∷ []) w.s1_is in
-        let v5 = seen w.i4 w.i5 w.x2 w.e5 in
-        let v6 : code_view w.i6 ≡ code_view w.i5 ++ C = w.g6.1 few_c (omega arith) in
-        let v7 = seen w.i6 w.i7 w.x3 w.e7 in
-        let v8 : code_view w.i8 ≡ code_view w.i7 ++ S = w.g8.1 few_s (omega arith) in
-        let v9 : code_view w.i9 ≡ code_view w.i8 ++ Store d ∷ [] = seen w.i8 w.i9 w.s2 w.e9 ∙ ap (λ v. code_view w.i8 ++ v ∷ []) w.s2_is in
-        let v10 : code_view w.i10 ≡ code_view w.i9 ++ Jump w.turn ∷ [] = seen w.i9 w.i10 w.back w.e10 ∙ ap (λ v. code_view w.i9 ++ v ∷ []) (w.back_is (omega arith)) in
-        let v11 : code_view w.i11 ≡ code_view w.i10 ++ Q = w.g11.1 few_r (omega arith) in
-        let y1 = instr_view w.x1 in
-        let y2 = instr_view w.x2 in
-        let y3 = instr_view w.x3 in
-        let st = Store d in
-        let lt = LoopTest w.after w.end in
-        let ln = LoopNext w.d1 w.after in
-        let ls = LoopStart w.end in
-        let T = S ++ st ∷ (Jump w.turn ∷ Q) in
-        let all : code_view w.i11 ≡ (((((((((code_view w.i1 ++ y1 ∷ []) ++ I) ++ st ∷ []) ++ y2 ∷ []) ++ C) ++ y3 ∷ []) ++ S) ++ st ∷ []) ++ Jump w.turn ∷ []) ++ Q = cc in
-        let flat : (((((((((code_view w.i1 ++ y1 ∷ []) ++ I) ++ st ∷ []) ++ y2 ∷ []) ++ C) ++ y3 ∷ []) ++ S) ++ st ∷ []) ++ Jump w.turn ∷ []) ++ Q
-            ≡ code_view w.i1 ++ y1 ∷ (I ++ st ∷ (y2 ∷ (C ++ y3 ∷ T))) = simp append_assoc in
-        let p1 = patched w.i11 w.i12 w.start w.z1 w.e12 (code_view w.i1) (I ++ st ∷ (y2 ∷ (C ++ y3 ∷ T))) y1 (all ∙ flat) (start ∙ many w.i1)
-            ∙ ap (λ v. code_view w.i1 ++ v ∷ (I ++ st ∷ (y2 ∷ (C ++ y3 ∷ T)))) (w.z1_is (omega arith)) in
-        let before2 = code_view w.i1 ++ ls ∷ (I ++ st ∷ []) in
-        let flat2 : code_view w.i1 ++ ls ∷ (I ++ st ∷ (y2 ∷ (C ++ y3 ∷ T))) ≡ (code_view w.i1 ++ ls ∷ (I ++ st ∷ [])) ++ y2 ∷ (C ++ y3 ∷ T) = simp append_assoc in
-        let n2 : w.turn ≡ length before2 = omega (arith, many w.i1, length-append (code_view w.i1) (ls ∷ (I ++ st ∷ [])), length-append I (st ∷ []), extent_is init (length w.i2) d) in
-        let p2 = patched w.i12 w.i13 w.turn w.z2 w.e13 before2 (C ++ y3 ∷ T) y2 (p1 ∙ flat2) n2
-            ∙ ap (λ v. before2 ++ v ∷ (C ++ y3 ∷ T)) (w.z2_is (omega arith)) in
-        let before3 = before2 ++ ln ∷ C in
-        let n3 : w.tested ≡ length before3 = omega (arith, many w.i1, length-append before2 (ln ∷ C), length-append (code_view w.i1) (ls ∷ (I ++ st ∷ [])), length-append I (st ∷ []), extent_is init (length w.i2) d, extent_is condition (length w.i5) w.d2) in
-        let p3 = patched w.i13 i14 w.tested w.z3 w.e14 before3 T y3 (p2 ∙ sym (append_assoc before2 (ln ∷ C) (y3 ∷ T))) n3
-            ∙ ap (λ v. before3 ++ v ∷ T) (w.z3_is (omega arith) (omega arith)) in
-        let flat3 : ((code_view w.i1 ++ ls ∷ (I ++ st ∷ [])) ++ ln ∷ C) ++ lt ∷ T ≡ code_view w.i1 ++ ls ∷ (I ++ st ∷ (ln ∷ (C ++ lt ∷ T))) = simp append_assoc in
-        let assoc = append_assoc (code_view i0) A (ls ∷ (I ++ st ∷ (ln ∷ (C ++ lt ∷ T)))) in
-        let shape : code_of p d (typed_loop t range init condition step result) ≡ A ++ LoopStart (behind + extent result)
-            ∷ (code_of (p + extent range + 1) d init ++ Store d ∷ (LoopNext (d + 1) behind
-            ∷ (code_of (again + 1) (d + 2) condition ++ LoopTest behind (behind + extent result)
-            ∷ (code_of (again + 1 + extent condition + 1) (d + 2) step ++ Store d ∷ (Jump again
-            ∷ code_of behind (d + 1) result))))) = refl in
-        let last : code_view w.i1 ++ ls ∷ (I ++ st ∷ (ln ∷ (C ++ lt ∷ T))) ≡ code_view i0 ++ code_of p d (typed_loop t range init condition step result) = cc in
-        p3 ∙ flat3 ∙ last)
+    let end = w.end_is in (
+      omega arith,
+      λ few short.
+          let D1 = w.d1_is few.0 in
+          let D2 = w.d2_is few.0 in
+          let again = p + extent range + 1 + extent init + 1 in
+          let behind = again + 1 + extent condition + 1 + extent step + 1 + 1 in
+          let m2 : length w.i2 ≡ p + extent range + 1 = omega arith in
+          let m4 : w.turn ≡ again = omega arith in
+          let m5 : length w.i5 ≡ again + 1 = omega arith in
+          let m7 : length w.i7 ≡ again + 1 + extent condition + 1 = omega arith in
+          let m10 : length w.i10 ≡ behind = omega arith in
+          let ma : w.after ≡ behind = omega arith in
+          let me : w.end ≡ behind + extent result = omega arith in
+          let A = code_of p d range in
+          let I = code_of (length w.i2) d init in
+          let C = code_of (length w.i5) w.d2 condition in
+          let S = code_of (length w.i7) w.d2 step in
+          let Q = code_of (length w.i10) w.d1 result in
+          let few_c : HasFewLocals w.d2 condition = rw D2 (few.3) in
+          let few_s : HasFewLocals w.d2 step = rw D2 (few.4) in
+          let few_r : HasFewLocals w.d1 result = rw D1 (few.5) in
+          let v1 : code_view w.i1 ≡ code_view i0 ++ A = w.g1.1 few.1 (omega arith) in
+          let v2 = seen w.i1 w.i2 w.x1 w.e2 in
+          let v3 : code_view w.i3 ≡ code_view w.i2 ++ I = w.g3.1 few.2 (omega arith) in
+          let v4 : code_view w.i4 ≡ code_view w.i3 ++ Store d ∷ [] = seen w.i3 w.i4 w.s1 w.e4 ∙ ap (λ v. code_view w.i3 ++ v ∷ []) w.s1_is in
+          let v5 = seen w.i4 w.i5 w.x2 w.e5 in
+          let v6 : code_view w.i6 ≡ code_view w.i5 ++ C = w.g6.1 few_c (omega arith) in
+          let v7 = seen w.i6 w.i7 w.x3 w.e7 in
+          let v8 : code_view w.i8 ≡ code_view w.i7 ++ S = w.g8.1 few_s (omega arith) in
+          let v9 : code_view w.i9 ≡ code_view w.i8 ++ Store d ∷ [] = seen w.i8 w.i9 w.s2 w.e9 ∙ ap (λ v. code_view w.i8 ++ v ∷ []) w.s2_is in
+          let v10 : code_view w.i10 ≡ code_view w.i9 ++ Jump w.turn ∷ [] = seen w.i9 w.i10 w.back w.e10 ∙ ap (λ v. code_view w.i9 ++ v ∷ []) (w.back_is (omega arith)) in
+          let v11 : code_view w.i11 ≡ code_view w.i10 ++ Q = w.g11.1 few_r (omega arith) in
+          let y1 = instr_view w.x1 in
+          let y2 = instr_view w.x2 in
+          let y3 = instr_view w.x3 in
+          let st = Store d in
+          let lt = LoopTest w.after w.end in
+          let ln = LoopNext w.d1 w.after in
+          let ls = LoopStart w.end in
+          let T = S ++ st ∷ (Jump w.turn ∷ Q) in
+          let all : code_view w.i11 ≡ (((((((((code_view w.i1 ++ y1 ∷ []) ++ I) ++ st ∷ []) ++ y2 ∷ []) ++ C) ++ y3 ∷ []) ++ S) ++ st ∷ []) ++ Jump w.turn ∷ []) ++ Q = cc in
+          let flat : (((((((((code_view w.i1 ++ y1 ∷ []) ++ I) ++ st ∷ []) ++ y2 ∷ []) ++ C) ++ y3 ∷ []) ++ S) ++ st ∷ []) ++ Jump w.turn ∷ []) ++ Q
+          ≡ code_view w.i1 ++ y1 ∷ (I ++ st ∷ (y2 ∷ (C ++ y3 ∷ T))) = simp append_assoc in
+          let p1 = patched w.i11 w.i12 w.start w.z1 w.e12 (code_view w.i1) (I ++ st ∷ (y2 ∷ (C ++ y3 ∷ T))) y1 (all ∙ flat) (start ∙ many w.i1)
+          ∙ ap (λ v. code_view w.i1 ++ v ∷ (I ++ st ∷ (y2 ∷ (C ++ y3 ∷ T)))) (w.z1_is (omega arith)) in
+          let before2 = code_view w.i1 ++ ls ∷ (I ++ st ∷ []) in
+          let flat2 : code_view w.i1 ++ ls ∷ (I ++ st ∷ (y2 ∷ (C ++ y3 ∷ T))) ≡ (code_view w.i1 ++ ls ∷ (I ++ st ∷ [])) ++ y2 ∷ (C ++ y3 ∷ T) = simp append_assoc in
+          let n2 : w.turn ≡ length before2 = omega (arith, many w.i1, length-append (code_view w.i1) (ls ∷ (I ++ st ∷ [])), length-append I (st ∷ []), extent_is init (length w.i2) d) in
+          let p2 = patched w.i12 w.i13 w.turn w.z2 w.e13 before2 (C ++ y3 ∷ T) y2 (p1 ∙ flat2) n2
+          ∙ ap (λ v. before2 ++ v ∷ (C ++ y3 ∷ T)) (w.z2_is (omega arith)) in
+          let before3 = before2 ++ ln ∷ C in
+          let n3 : w.tested ≡ length before3 = omega (arith, many w.i1, length-append before2 (ln ∷ C), length-append (code_view w.i1) (ls ∷ (I ++ st ∷ [])), length-append I (st ∷ []), extent_is init (length w.i2) d, extent_is condition (length w.i5) w.d2) in
+          let p3 = patched w.i13 i14 w.tested w.z3 w.e14 before3 T y3 (p2 ∙ sym (append_assoc before2 (ln ∷ C) (y3 ∷ T))) n3
+          ∙ ap (λ v. before3 ++ v ∷ T) (w.z3_is (omega arith) (omega arith)) in
+          let flat3 : ((code_view w.i1 ++ ls ∷ (I ++ st ∷ [])) ++ ln ∷ C) ++ lt ∷ T ≡ code_view w.i1 ++ ls ∷ (I ++ st ∷ (ln ∷ (C ++ lt ∷ T))) = simp append_assoc in
+          let assoc = append_assoc (code_view i0) A (ls ∷ (I ++ st ∷ (ln ∷ (C ++ lt ∷ T)))) in
+          let shape : code_of p d (typed_loop t range init condition step result) ≡ A ++ LoopStart (behind + extent result)
+          ∷ (code_of (p + extent range + 1) d init ++ Store d ∷ (LoopNext (d + 1) behind
+          ∷ (code_of (again + 1) (d + 2) condition ++ LoopTest behind (behind + extent result)
+          ∷ (code_of (again + 1 + extent condition + 1) (d + 2) step ++ Store d ∷ (Jump again
+          ∷ code_of behind (d + 1) result))))) = refl in
+          let last : code_view w.i1 ++ ls ∷ (I ++ st ∷ (ln ∷ (C ++ lt ∷ T))) ≡ code_view i0 ++ code_of p d (typed_loop t range init condition step result) = cc in
+          p3 ∙ flat3 ∙ last,
+    )

@@ -12,7 +12,7 @@ use Rattle.stack_machine.specs.Instructions.{code_view, instr_view, And, IfFalse
 use Rattle.stack_machine.specs.declared.instr.Instr.{Instr}
 use Rattle.cel_compile.specs.Codes.{count, extent, extents, instruction_of, list_instruction, map_instruction, pairs, codes_of}
 use Rattle.cel_compile.specs.Slots.{HasFewLocals, HaveFewLocals}
-use Rattle.cel_compile.specs.steps.Emitting.{Grows, GrowsAll, IsPlain}
+use Rattle.cel_compile.specs.steps.Emitting.{Grows, GrowsAll}
 use Rattle.cel_compile.proofs.Built.{both_built, closed, first_built}
 use Rattle.cel_compile.proofs.Sound.{some_list, some_map}
 
@@ -73,12 +73,15 @@ three_operands (x ∷ y ∷ []) a b c d e f least less ea eb ec = absurd (omega 
 three_operands (x ∷ y ∷ z ∷ []) a b c d e f least less ea eb ec = rw (ea, eb, ec) refl
 three_operands (x ∷ y ∷ z ∷ w ∷ xs) a b c d e f least less ea eb ec = absurd (omega arith)
 
-pub plain_grows : (d : ℕ) (t : ValueType) (o : Overload) (xs : List TypedExpr) (i0 i1 i2 : List Instr) (i : Instr) → IsPlain o (length xs)
+pub plain_grows : (ba bo bc : Bool) (d : ℕ) (t : ValueType) (o : Overload) (xs : List TypedExpr) (i0 i1 i2 : List Instr) (i : Instr)
+    → (IsTrue ba ↔ ((o ≡ overloads.LogicalAnd) × (length xs ≡ 2))) → ba ≡ false
+    → (IsTrue bo ↔ ((o ≡ overloads.LogicalOr) × (length xs ≡ 2))) → bo ≡ false
+    → (IsTrue bc ↔ ((o ≡ overloads.Conditional) × (length xs ≡ 3))) → bc ≡ false
     → GrowsAll i0 i1 d (exprs_view xs) → i2 ≡ i1 ++ i ∷ [] → instr_view i ≡ instruction_of o → Grows i0 i2 d (typed_call t o (exprs_view xs))
-plain_grows d t overloads.LogicalAnd (x ∷ y ∷ []) i0 i1 i2 i plain g e is = absurd (plain refl)
-plain_grows d t overloads.LogicalOr (x ∷ y ∷ []) i0 i1 i2 i plain g e is = absurd (plain refl)
-plain_grows d t overloads.Conditional (x ∷ y ∷ z ∷ []) i0 i1 i2 i plain g e is = absurd (plain refl)
-plain_grows d t o xs i0 i1 i2 i plain g e is =
+plain_grows ba bo bc d t overloads.LogicalAnd (x ∷ y ∷ []) i0 i1 i2 i ha na ho n_o hc nc g e is = let h : ba ≡ true = ha.1 (refl, refl) in absurd cc
+plain_grows ba bo bc d t overloads.LogicalOr (x ∷ y ∷ []) i0 i1 i2 i ha na ho n_o hc nc g e is = let h : bo ≡ true = ho.1 (refl, refl) in absurd cc
+plain_grows ba bo bc d t overloads.Conditional (x ∷ y ∷ z ∷ []) i0 i1 i2 i ha na ho n_o hc nc g e is = let h : bc ≡ true = hc.1 (refl, refl) in absurd cc
+plain_grows ba bo bc d t o xs i0 i1 i2 i ha na ho n_o hc nc g e is =
     closed i0 i1 i2 i (extents (exprs_view xs)) (HaveFewLocals d (exprs_view xs)) (codes_of (length i0) d (exprs_view xs)) (instruction_of o) g e (λ short. is)
 
 -- ---- literals
@@ -133,12 +136,3 @@ module _ (depth : ℕ) (xs : List TypedExpr) (i : ℕ) (d : TypedExpr) (within :
     λ h. so_far.0 (subst (λ l. HaveFewLocals depth (exprs_view l)) (sym (drop_more xs i d within)) (here.0 is, h)),
     λ h. (subst (λ l. HaveFewLocals depth (exprs_view l)) (drop_more xs i d within) (so_far.1 h)).1,
   )
-
--- ---- calls with jumps
-
-pub two_by_index : (xs : List TypedExpr) (d e : TypedExpr) → length xs ≡ 2
-    → exprs_view xs ≡ typed (expr_view (get_or xs 0 d)) (typed (expr_view (get_or xs 1 e)) no_typed)
-two_by_index [] d e n = absurd (omega arith)
-two_by_index (x ∷ []) d e n = absurd (omega arith)
-two_by_index (x ∷ y ∷ []) d e n = refl
-two_by_index (x ∷ y ∷ z ∷ xs) d e n = absurd (omega arith)

@@ -1,8 +1,8 @@
 //! From elaborated expressions to code.
 
-ghost use Rattle.std.specs.Prelude.{◌≡◌, ◌<◌, ◌^◌, ◌⊎◌, List, [], ◌∷◌, ◌++◌, length, slice_set, IfErr, IfOk, OnOk};
+ghost use Rattle.std.specs.Prelude.{◌≡◌, ◌↔◌, IsTrue, ◌<◌, ◌^◌, ◌⊎◌, List, [], ◌∷◌, ◌++◌, length, slice_set, IfErr, IfOk, OnOk};
 ghost use Rattle.cel_value.specs.Types.{ValueType};
-ghost use Rattle.cel_types.specs.Elaborated.{no_typed, typed, typed_call};
+ghost use Rattle.cel_types.specs.Elaborated.{typed_call};
 ghost use Rattle.cel_overload.specs.declared.overload.Overload.TheVariants as Overload;
 ghost use Rattle.cel_types.specs.View.{expr_view, exprs_view, parts_view, loop_of, typed_view};
 ghost use Rattle.cel_types.specs.WellTyped.{IsWellTyped};
@@ -28,6 +28,15 @@ pub fn compile(alloc: Global, typed: &Typed<'_>) -> Result<Code, Refusal>
     ensures found { IfOk result (λ code. code_view code ≡ code_of 0 0 (typed_view typed.now)) }
     ensures sound { IfOk result (λ code. IsWellTyped [] (typed_view typed.now)
         → IsSound (code_view code) (typed_view typed.now)) }
+    ensures fault { IfErr result (MemoryOr (λ e. (e ≡ Refusal.TooLarge)
+        × ((65535 < extent (typed_view typed.now)) ⊎ (HasFewLocals 0 (typed_view typed.now) → ⊥)))) }
+{
+    compile_whole(alloc, typed)
+}
+
+// The same without what follows of the code's runs.
+fn compile_whole(alloc: Global, typed: &Typed<'_>) -> Result<Code, Refusal>
+    ensures found { IfOk result (λ code. code_view code ≡ code_of 0 0 (typed_view typed.now)) }
     ensures fault { IfErr result (MemoryOr (λ e. (e ≡ Refusal.TooLarge)
         × ((65535 < extent (typed_view typed.now)) ⊎ (HasFewLocals 0 (typed_view typed.now) → ⊥)))) }
 {
@@ -105,7 +114,9 @@ fn emit(code: &mut Vec<Instr>, depth: u8, expr: &TypedExpr<'_>) -> Result<(), Al
             Ok(())
         }
         TypedExpr::Call {
-            overload, operands, ..
+            overload,
+            operands,
+            ..
         } => {
             emit_call(code, depth, *overload, operands)?;
             Ok(())
@@ -151,35 +162,61 @@ fn emit_call(
     ensures grows { OnOk result ((t : ValueType) → Grows code.old.items code.new.items depth
         (typed_call t overload (exprs_view operands.now))) }
 {
-    if overload == Overload::LogicalAnd && operands.len() == 2 {
-        return emit_and(code, depth, &operands[0], &operands[1]);
+    if is_and(overload, operands.len()) {
+        emit_and(code, depth, operands)?;
+        return Ok(());
     }
-    if overload == Overload::LogicalOr && operands.len() == 2 {
-        return emit_or(code, depth, &operands[0], &operands[1]);
+    if is_or(overload, operands.len()) {
+        emit_or(code, depth, operands)?;
+        return Ok(());
     }
-    if overload == Overload::Conditional && operands.len() == 3 {
-        return emit_choice(code, depth, &operands[0], &operands[1], &operands[2]);
+    if is_choice(overload, operands.len()) {
+        emit_choice(code, depth, operands)?;
+        return Ok(());
     }
     emit_all(code, depth, operands)?;
     put(code, call_instr(overload))?;
     Ok(())
 }
 
+fn is_and(overload: Overload, count: usize) -> bool
+    ensures { IsTrue result ↔ ((overload ≡ Overload.LogicalAnd) × (count ≡ 2)) }
+{
+    match overload {
+        Overload::LogicalAnd => count == 2,
+        _ => false,
+    }
+}
+
+fn is_or(overload: Overload, count: usize) -> bool
+    ensures { IsTrue result ↔ ((overload ≡ Overload.LogicalOr) × (count ≡ 2)) }
+{
+    match overload {
+        Overload::LogicalOr => count == 2,
+        _ => false,
+    }
+}
+
+fn is_choice(overload: Overload, count: usize) -> bool
+    ensures { IsTrue result ↔ ((overload ≡ Overload.Conditional) × (count ≡ 3)) }
+{
+    match overload {
+        Overload::Conditional => count == 3,
+        _ => false,
+    }
+}
+
 // `&&`: the right side is passed over where the left one is false.
 #[cycle(emit)]
-fn emit_and(
-    code: &mut Vec<Instr>,
-    depth: u8,
-    a: &TypedExpr<'_>,
-    b: &TypedExpr<'_>,
-) -> Result<(), AllocError>
+fn emit_and(code: &mut Vec<Instr>, depth: u8, operands: &[TypedExpr<'_>]) -> Result<(), AllocError>
+    requires { length operands.now ≡ 2 }
     ensures grows { OnOk result ((t : ValueType) → Grows code.old.items code.new.items depth
-        (typed_call t Overload.LogicalAnd (typed (expr_view a.now) (typed (expr_view b.now) no_typed)))) }
+        (typed_call t Overload.LogicalAnd (exprs_view operands.now))) }
 {
-    emit(code, depth, a)?;
+    emit(code, depth, &operands[0])?;
     let fork = code.len();
     put(code, Instr::IfFalse(0))?;
-    emit(code, depth, b)?;
+    emit(code, depth, &operands[1])?;
     put(code, Instr::And)?;
     let end = code.len();
     patch(code, fork, Instr::IfFalse(target(end)));
@@ -188,19 +225,15 @@ fn emit_and(
 
 // `||`: the right side is passed over where the left one is true.
 #[cycle(emit)]
-fn emit_or(
-    code: &mut Vec<Instr>,
-    depth: u8,
-    a: &TypedExpr<'_>,
-    b: &TypedExpr<'_>,
-) -> Result<(), AllocError>
+fn emit_or(code: &mut Vec<Instr>, depth: u8, operands: &[TypedExpr<'_>]) -> Result<(), AllocError>
+    requires { length operands.now ≡ 2 }
     ensures grows { OnOk result ((t : ValueType) → Grows code.old.items code.new.items depth
-        (typed_call t Overload.LogicalOr (typed (expr_view a.now) (typed (expr_view b.now) no_typed)))) }
+        (typed_call t Overload.LogicalOr (exprs_view operands.now))) }
 {
-    emit(code, depth, a)?;
+    emit(code, depth, &operands[0])?;
     let fork = code.len();
     put(code, Instr::IfTrue(0))?;
-    emit(code, depth, b)?;
+    emit(code, depth, &operands[1])?;
     put(code, Instr::Or)?;
     let end = code.len();
     patch(code, fork, Instr::IfTrue(target(end)));
@@ -212,25 +245,24 @@ fn emit_or(
 fn emit_choice(
     code: &mut Vec<Instr>,
     depth: u8,
-    c: &TypedExpr<'_>,
-    a: &TypedExpr<'_>,
-    b: &TypedExpr<'_>,
+    operands: &[TypedExpr<'_>],
 ) -> Result<(), AllocError>
+    requires { length operands.now ≡ 3 }
     ensures grows { OnOk result ((t : ValueType) → Grows code.old.items code.new.items depth
-        (typed_call t Overload.Conditional
-        (typed (expr_view c.now) (typed (expr_view a.now) (typed (expr_view b.now) no_typed))))) }
+        (typed_call t Overload.Conditional (exprs_view operands.now))) }
 {
-    emit(code, depth, c)?;
+    emit(code, depth, &operands[0])?;
     let fork = code.len();
     put(code, Instr::Jump(0))?;
-    emit(code, depth, a)?;
+    emit(code, depth, &operands[1])?;
     let leave = code.len();
     put(code, Instr::Jump(0))?;
     let other = code.len();
-    emit(code, depth, b)?;
+    emit(code, depth, &operands[2])?;
     let end = code.len();
-    patch(code, leave, Instr::Jump(target(end)));
-    let (otherwise, failed) = (target(other), target(end));
+    let failed = target(end);
+    patch(code, leave, Instr::Jump(failed));
+    let otherwise = target(other);
     patch(code, fork, Instr::Test { otherwise, failed });
     Ok(())
 }
@@ -261,7 +293,14 @@ fn emit_loop(code: &mut Vec<Instr>, depth: u8, parts: &TypedLoop<'_>) -> Result<
     let end = target(code.len());
     let done = target(after);
     patch(code, start, Instr::LoopStart { failed: end });
-    patch(code, turn, Instr::LoopNext { local: gathered, done });
+    patch(
+        code,
+        turn,
+        Instr::LoopNext {
+            local: gathered,
+            done,
+        },
+    );
     patch(code, tested, Instr::LoopTest { done, failed: end });
     Ok(())
 }

@@ -14,15 +14,18 @@ use cel_overload::Overload;
 use cel_tree::Constant;
 use cel_types::TypedExpr;
 use cel_value::{CelType, KeyType};
-use stack_machine::Instr;
-use stack_machine::Constant as MachineConstant;
+use stack_machine::{Constant as MachineConstant, Instr};
 use std::alloc::AllocError;
 
 /// A position as a target; one that is too far stands in code that is refused as a whole.
 pub(crate) fn target(position: usize) -> u16
     ensures { position < 2 ^ 16 → result ≡ position }
 {
-    if position < 65_536 { position as u16 } else { 0 }
+    if position < 65_536 {
+        position as u16
+    } else {
+        0
+    }
 }
 
 /// The next local's number; where there is none, the expression has too many.
@@ -99,10 +102,7 @@ fn empty_list(cel_type: &CelType) -> Result<Instr, AllocError>
 }
 
 /// The instruction of a map literal.
-pub(crate) fn map_instr(
-    cel_type: &CelType,
-    pairs: &[TypedExpr<'_>],
-) -> Result<Instr, AllocError>
+pub(crate) fn map_instr(cel_type: &CelType, pairs: &[TypedExpr<'_>]) -> Result<Instr, AllocError>
     ensures { IfOk result (λ i. length pairs.now < 2 ^ 16
         → instr_view i ≡ map_instruction (type_view cel_type.now) (exprs_view pairs.now)) }
 {

@@ -1,7 +1,5 @@
 -- What the private functions of the compiler do to a list of instructions.
-use Rattle.std.specs.Prelude.{◌≡◌, ◌≢◌, ℕ, ◌+◌, ◌<◌, ◌^◌, List, ◌++◌, length}
-use Rattle.cel_overload.specs.declared.overload.Overload.{Overload}
-use Rattle.cel_overload.specs.declared.overload.Overload.TheVariants as overloads
+use Rattle.std.specs.Prelude.{◌≡◌, ℕ, ◌+◌, ◌<◌, ◌^◌, List, ◌++◌, length}
 use Rattle.cel_types.specs.Elaborated.{TypedTree, TypedTrees}
 use Rattle.stack_machine.specs.Instructions.{code_view}
 use Rattle.stack_machine.specs.declared.instr.Instr.{Instr}
@@ -19,10 +17,3 @@ abbrev pub GrowsAll : (old new : List Instr) → (scope : ℕ) → TypedTrees �
 GrowsAll old new d es = (length new ≡ length old + extents es)
     × (HaveFewLocals d es → length new < 2 ^ 16
     → code_view new ≡ code_view old ++ codes_of (length old) d es)
-
--- a call with so many operands has no jumps
-abbrev pub IsPlain : Overload → (count : ℕ) → Type 0
-IsPlain overloads.LogicalAnd n = n ≢ 2
-IsPlain overloads.LogicalOr n = n ≢ 2
-IsPlain overloads.Conditional n = n ≢ 3
-IsPlain o n = Unit {0}
