@@ -8,3 +8,4 @@ pub mod CheckLaws
 pub mod Elaborating
 pub mod TypingFacts
 pub mod WellTypedAnswers
+pub mod WellTypedElaborations

@@ -8,6 +8,7 @@ ghost use Rattle.cel_types.specs.Attributes.{attribute_named};
 ghost use Rattle.cel_value.specs.Types.{AnswerHasType, ValueType};
 ghost use Rattle.cel_value.specs.Values.{CelAnswer};
 ghost use Rattle.cel_tree.specs.Checked.{CelChecked};
+ghost use Rattle.cel_tree.specs.GoodConstants.{HasGoodConstants};
 ghost use Rattle.cel_types.specs.Elaborated.{IsElaborated, TypedTree, kind};
 ghost use Rattle.cel_types.specs.Typing.{IsTyped};
 ghost use Rattle.cel_types.specs.TypingFaults.{CheckFault};
@@ -39,6 +40,12 @@ pub fn typing_disjoint()
 pub fn typed_is_elaborated()
     ensures { (c : CelChecked) (t : ValueType) → IsTyped c t
         → (e : TypedTree) × IsElaborated c e × (kind e ≡ t) }
+{}
+
+/// The elaboration of an expression whose constants have the types of their kinds is well typed.
+pub fn elaboration_is_well_typed()
+    ensures { (c : CelChecked) (e : TypedTree) → HasGoodConstants c.tree → IsElaborated c e
+        → IsWellTyped [] e }
 {}
 
 /// One that is well typed has an answer of its type for each request.
