@@ -9,3 +9,5 @@ pub mod Elaborating
 pub mod TypingFacts
 pub mod WellTypedAnswers
 pub mod WellTypedElaborations
+pub mod MeansCalls
+pub mod MeansTheSame

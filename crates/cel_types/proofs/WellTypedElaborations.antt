@@ -181,7 +181,7 @@ module _ (m : Maps) (ks : Kinds) where
   )
 
   -- the types of a comprehension's parts
-  loop-kinds : (id : ℤ) (x acc : List ℕ) (range init condition step result : CelTree)
+  pub loop-kinds : (id : ℤ) (x acc : List ℕ) (range init condition step result : CelTree)
       (t : ValueType) (r i c s e : TypedTree)
       → (g : Elaborates m ks (comprehension id x acc range init condition step result)
       (typed_loop t r i c s e))

@@ -10,6 +10,7 @@ ghost use Rattle.cel_value.specs.Values.{CelAnswer};
 ghost use Rattle.cel_tree.specs.Checked.{CelChecked};
 ghost use Rattle.cel_tree.specs.GoodConstants.{HasGoodConstants};
 ghost use Rattle.cel_types.specs.Elaborated.{IsElaborated, TypedTree, kind};
+ghost use Rattle.cel_types.specs.Meaning.{eval};
 ghost use Rattle.cel_types.specs.Typing.{IsTyped};
 ghost use Rattle.cel_types.specs.TypingFaults.{CheckFault};
 ghost use Rattle.cel_types.specs.TypedMeaning.{typed_answer};
@@ -52,4 +53,17 @@ pub fn elaboration_is_well_typed()
 pub fn typed_answers_have_their_type()
     ensures { (e : TypedTree) (r : RequestValue) → IsWellTyped [] e → IsRequest r
         → (a : CelAnswer) × (typed_answer e r [] ≡ Some a) × AnswerHasType a (kind e) }
+{}
+
+/// An elaboration means what its expression means.
+pub fn elaboration_means_the_same()
+    ensures { (c : CelChecked) (e : TypedTree) (r : RequestValue) → HasGoodConstants c.tree
+        → IsElaborated c e → IsRequest r → eval c.tree r [] ≡ typed_answer e r [] }
+{}
+
+/// An expression with an elaboration has an answer of its type for each request.
+pub fn meaning_has_the_type()
+    ensures { (c : CelChecked) (e : TypedTree) (r : RequestValue) → HasGoodConstants c.tree
+        → IsElaborated c e → IsRequest r
+        → (a : CelAnswer) × (eval c.tree r [] ≡ Some a) × AnswerHasType a (kind e) }
 {}
