@@ -1,6 +1,6 @@
 -- On operands of an overload's types its function answers what the overload answers.
 use Rattle.std.proofs.Common.{◌≡◌, Bool, List, [], ◌∷◌, Option, refl, subst}
-use Rattle.cel_value.specs.Types.{AnswerHasType, HasType, ValueType, bytes_type, int_type, list_type, map_type, text_type, type_of_key, uint_type}
+use Rattle.cel_value.specs.Types.{HasType, ValueType, bytes_type, int_type, list_type, map_type, text_type, type_of_key, uint_type}
 use Rattle.cel_value.specs.Values.{CelAnswer, CelValue, bytes, fails, int, list, map_of, text, uint, value}
 use Rattle.cel_value.specs.declared.cel_type.KeyType.{KeyType}
 use Rattle.cel_ops.specs.Arithmetic.{arithmetic_of}

@@ -5,21 +5,20 @@ use Rattle.std.specs.Option.{option_and_then}
 use Rattle.std.specs.Str.{bytes_eq}
 use Rattle.attributes.specs.Request.{IsRequest, RequestValue}
 use Rattle.attributes.specs.declared.attribute.AttrId.{AttrId}
-use Rattle.cel_value.specs.Types.{AnswerHasType, EachItem, HasType, ValueType, bool_type}
-use Rattle.cel_value.specs.Values.{CelAnswer, CelValue, CelValues, bool, bytes, fails, int, item, list, map_of, no_items, text, uint, value}
+use Rattle.cel_value.specs.Types.{AnswerHasType, EachItem, HasType, ValueType}
+use Rattle.cel_value.specs.Values.{CelAnswer, CelValue, CelValues, bool, fails, item, no_items, value}
 use Rattle.cel_ops.specs.Attributes.{attribute}
-use Rattle.cel_ops.specs.Collections.{elements_of, field, has_field}
+use Rattle.cel_ops.specs.Collections.{elements_of}
 use Rattle.cel_ops.specs.Collections as collections
 use Rattle.cel_ops.specs.Typed.{Answers, ElementsHaveType}
 use Rattle.cel_overload.specs.Answers.{HaveTypes, function_answer, overload_answer}
-use Rattle.cel_overload.specs.Functions.{function_named}
 use Rattle.cel_tree.specs.GoodConstants.{AreGood, EntriesAreGood, HasGoodConstants, TargetIsGood}
 use Rattle.cel_tree.specs.Tree.{CelTree, constant, ident, select, call, list_literal, map_literal, comprehension, CelTarget, no_target, target, CelTrees, no_trees, tree, CelTreeEntries, no_tree_entries, tree_entry}
 use Rattle.cel_types.specs.Attributes.{attribute_named}
 use Rattle.cel_types.specs.Elaborated.{Elaborates, ElaboratesEach, ElaboratesPairs, ElaboratesTarget, TypedTree, TypedTrees, kind, kinds, no_typed, slot, typed, typed_attribute, typed_call, typed_constant, typed_field, typed_has, typed_list, typed_local, typed_loop, typed_map}
 use Rattle.cel_types.specs.Meaning.{Locals, before, eval, eval_each, eval_entries, eval_target, fold, name_answer, over, select_answer, turn}
-use Rattle.cel_types.specs.Names.{Scope, bare_root, is_root, joined_name, local, root_of}
-use Rattle.cel_types.specs.TypedMeaning.{local_at, typed_answer, typed_answers}
+use Rattle.cel_types.specs.Names.{Scope, is_root, joined_name, local, root_of}
+use Rattle.cel_types.specs.TypedMeaning.{typed_answer, typed_answers}
 use Rattle.cel_types.specs.Typing.{IsOver, Kinds, Maps, SelectRule, Types}
 use Rattle.cel_types.proofs.MeansCalls.{call-same}
 use Rattle.cel_types.proofs.WellTypedAnswers.{answer_typed, answers_typed, walked-typed}

@@ -15,7 +15,7 @@ use Rattle.cel_tree.specs.GoodConstants.{AreGood, EntriesAreGood, HasGoodConstan
 use Rattle.cel_tree.specs.Tree.{CelTree, constant, ident, select, call, list_literal, map_literal, comprehension, CelTarget, no_target, target, CelTrees, no_trees, tree, CelTreeEntries, no_tree_entries, tree_entry}
 use Rattle.cel_types.specs.Attributes.{attribute_named}
 use Rattle.cel_types.specs.Elaborated.{Elaborates, ElaboratesEach, ElaboratesPairs, ElaboratesTarget, TypedTree, TypedTrees, kind, kinds, no_typed, slot, typed, typed_attribute, typed_call, typed_constant, typed_field, typed_has, typed_list, typed_local, typed_loop, typed_map}
-use Rattle.cel_types.specs.Names.{Scope, joined_name, local, root_of}
+use Rattle.cel_types.specs.Names.{Scope, joined_name, local}
 use Rattle.cel_types.specs.TypedMeaning.{local_at}
 use Rattle.cel_types.specs.Typing.{IsList, IsMap, IsOver, Kinds, ListRule, MapRule, Maps, SelectRule, Types, TypesAll, TypesPairs, constant_type, field_type, name_type}
 use Rattle.cel_types.specs.WellTyped.{AreAll, AreKeyed, AreWellTyped, IsWellTyped}
