@@ -98,23 +98,23 @@ turn-same (Some (value (bool true))) (Some a) next others ended g h same = same 
 turn-same (Some (value (bool false))) step next others ended g h same = refl
 turn-same (Some (value _)) step next others ended g h same = refl
 
-module _ (condition criterion step stride : CelValue → CelAnswer → Option CelAnswer)
-    (result outcome : CelAnswer → Option CelAnswer) (x g : ValueType)
+module _ (condition condition' step step' : CelValue → CelAnswer → Option CelAnswer)
+    (result result' : CelAnswer → Option CelAnswer) (x g : ValueType)
     (conditions : (v : CelValue) (a : CelAnswer) → HasType v x → AnswerHasType a g
-    → condition v a ≡ criterion v a)
+    → condition v a ≡ condition' v a)
     (steps : (v : CelValue) (a : CelAnswer) → HasType v x → AnswerHasType a g
-    → step v a ≡ stride v a)
-    (results : (a : CelAnswer) → AnswerHasType a g → result a ≡ outcome a)
+    → step v a ≡ step' v a)
+    (results : (a : CelAnswer) → AnswerHasType a g → result a ≡ result' a)
     (stays : (v : CelValue) (a : CelAnswer) → HasType v x → AnswerHasType a g
-    → Answers (stride v a) g) where
+    → Answers (step' v a) g) where
   -- parts that mean the same for elements and answers of their types make the same fold
   fold-same : (vs : CelValues) (a : CelAnswer) → EachItem (λ v. HasType v x) vs
-      → AnswerHasType a g → fold condition step result vs a ≡ fold criterion stride outcome vs a
+      → AnswerHasType a g → fold condition step result vs a ≡ fold condition' step' result' vs a
   fold-same no_items a each h = results a h
   fold-same (item v vs) a each h =
       rw (conditions v a each.0 h, steps v a each.0 h, results a h)
-      (turn-same (criterion v a) (stride v a) (fold condition step result vs)
-      (fold criterion stride outcome vs) (outcome a) g (stays v a each.0 h)
+      (turn-same (condition' v a) (step' v a) (fold condition step result vs)
+      (fold condition' step' result' vs) (result' a) g (stays v a each.0 h)
       (λ b more. fold-same vs b each.1 more))
 
 over-same : (o : Option CelAnswer) (go others : CelValues → Option CelAnswer) (w x : ValueType)
