@@ -6,3 +6,4 @@ pub mod MadeMaps
 pub mod Operands
 pub mod Typing
 pub mod StandardFacts
+pub mod AttributeTypes

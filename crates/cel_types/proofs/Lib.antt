@@ -7,3 +7,7 @@ pub mod Agreeing
 pub mod CheckLaws
 pub mod Elaborating
 pub mod TypingFacts
+pub mod WellTypedAnswers
+pub mod WellTypedElaborations
+pub mod MeansCalls
+pub mod MeansTheSame

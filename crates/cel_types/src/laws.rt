@@ -1,14 +1,20 @@
 //! Laws of meaning and typing.
 
-ghost use Rattle.std.specs.Prelude.{◌≡◌, ◌↔◌, ◌⊎◌, ℕ, List, Some};
+ghost use Rattle.std.specs.Prelude.{◌≡◌, ◌↔◌, ◌⊎◌, ℕ, List, [], Some};
 ghost use Rattle.attributes.specs.Attributes.{attr_name};
+ghost use Rattle.attributes.specs.Request.{IsRequest, RequestValue};
 ghost use Rattle.attributes.specs.declared.attribute.AttrId.{AttrId};
 ghost use Rattle.cel_types.specs.Attributes.{attribute_named};
-ghost use Rattle.cel_value.specs.Types.{ValueType};
+ghost use Rattle.cel_value.specs.Types.{AnswerHasType, ValueType};
+ghost use Rattle.cel_value.specs.Values.{CelAnswer};
 ghost use Rattle.cel_tree.specs.Checked.{CelChecked};
+ghost use Rattle.cel_tree.specs.GoodConstants.{HasGoodConstants};
 ghost use Rattle.cel_types.specs.Elaborated.{IsElaborated, TypedTree, kind};
+ghost use Rattle.cel_types.specs.Meaning.{eval};
 ghost use Rattle.cel_types.specs.Typing.{IsTyped};
 ghost use Rattle.cel_types.specs.TypingFaults.{CheckFault};
+ghost use Rattle.cel_types.specs.TypedMeaning.{typed_answer};
+ghost use Rattle.cel_types.specs.WellTyped.{IsWellTyped};
 ghost use Rattle.proto_wire.specs.declared.refusal.Refusal.{Refusal};
 
 /// Each attribute is found under its name, and no other is.
@@ -35,4 +41,29 @@ pub fn typing_disjoint()
 pub fn typed_is_elaborated()
     ensures { (c : CelChecked) (t : ValueType) → IsTyped c t
         → (e : TypedTree) × IsElaborated c e × (kind e ≡ t) }
+{}
+
+/// The elaboration of an expression whose constants have the types of their kinds is well typed.
+pub fn elaboration_is_well_typed()
+    ensures { (c : CelChecked) (e : TypedTree) → HasGoodConstants c.tree → IsElaborated c e
+        → IsWellTyped [] e }
+{}
+
+/// One that is well typed has an answer of its type for each request.
+pub fn typed_answers_have_their_type()
+    ensures { (e : TypedTree) (r : RequestValue) → IsWellTyped [] e → IsRequest r
+        → (a : CelAnswer) × (typed_answer e r [] ≡ Some a) × AnswerHasType a (kind e) }
+{}
+
+/// An elaboration means what its expression means.
+pub fn elaboration_means_the_same()
+    ensures { (c : CelChecked) (e : TypedTree) (r : RequestValue) → HasGoodConstants c.tree
+        → IsElaborated c e → IsRequest r → eval c.tree r [] ≡ typed_answer e r [] }
+{}
+
+/// An expression with an elaboration has an answer of its type for each request.
+pub fn meaning_has_the_type()
+    ensures { (c : CelChecked) (e : TypedTree) (r : RequestValue) → HasGoodConstants c.tree
+        → IsElaborated c e → IsRequest r
+        → (a : CelAnswer) × (eval c.tree r [] ≡ Some a) × AnswerHasType a (kind e) }
 {}
