@@ -64,8 +64,7 @@ limit_fault limit n = if n == 0 then Some (Zero limit)
 
 -- the first fault of the limits in that order, if there is one
 abbrev pub first_fault : LimitsValue → Option LimitFault
-first_fault l =
-    slice_get (filter_map (λ limit. limit_fault limit (limit_of limit l)) every_limit) 0
+first_fault l = slice_get (filter_map (λ limit. limit_fault limit (limit_of limit l)) every_limit) 0
 
 -- what a fault prints
 abbrev pub fault_text : LimitFault → List ℕ
