@@ -16,10 +16,6 @@ BytesFault bytes e = IsBroken bytes × (e ≡ BadWire)
 abbrev pub PartsFault : List (List ℕ) → Refusal → Type 0
 PartsFault parts e = Breaks parts × (e ≡ BadWire)
 
--- some field is not known
-abbrev pub UnknownFault : List Key → List Wire → Refusal → Type 0
-UnknownFault keys fs e = SomeUnknown keys fs × (e ≡ UnknownField)
-
 -- the payloads, put one after the other, are these fields, and each field is known
 abbrev pub IsMessage : List Key → List (List ℕ) → List Wire → Type 0
 IsMessage keys parts fs = Merges parts fs × AllKnown keys fs

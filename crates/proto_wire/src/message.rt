@@ -2,9 +2,9 @@
 
 ghost use Rattle.std.specs.Prelude.{◌≡◌, ◌++◌, List, Err, map, IfOk, IfErr, OnOk, MatchResult};
 ghost use Rattle.proto_wire.specs.Fields.{Wire, Fields, BreaksAtOnce, field_view};
-ghost use Rattle.proto_wire.specs.Keys.{AllKnown};
+ghost use Rattle.proto_wire.specs.Keys.{AllKnown, SomeUnknown};
 ghost use Rattle.proto_wire.specs.Merge.{Merges, FirstBreaks, parts_view};
-ghost use Rattle.proto_wire.specs.Messages.{BytesFault, PartsFault, UnknownFault, IsMessage, MessageFault};
+ghost use Rattle.proto_wire.specs.Messages.{BytesFault, PartsFault, IsMessage, MessageFault};
 ghost use Rattle.proto_wire.specs.Refusal.{MemoryOr};
 
 use crate::field::Field;
@@ -65,7 +65,8 @@ pub fn read_message<'a>(
 /// Refuses fields of which some has none of the keys: `UnknownField`. It takes no memory.
 pub fn require_known(fields: &[Field<'_>], keys: &[Key]) -> Result<(), Refusal>
     ensures found { OnOk result (AllKnown keys.now (map field_view fields.now)) }
-    ensures fault { IfErr result (UnknownFault keys.now (map field_view fields.now)) }
+    ensures fault { IfErr result (λ e.
+        SomeUnknown keys.now (map field_view fields.now) × (e ≡ Refusal.UnknownField)) }
 {
     if !all_known(fields, keys) {
         return Err(Refusal::UnknownField);

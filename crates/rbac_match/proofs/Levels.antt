@@ -4,11 +4,10 @@ use Rattle.std.specs.Prelude.{MatchOption, Some, None}
 use Rattle.proto_wire.specs.Fields.{Wire}
 use Rattle.proto_wire.specs.Merge.{parts_view}
 use Rattle.proto_wire.specs.Messages.{IsMessage}
-use Rattle.proto_wire.specs.Oneof.{member_run}
+use Rattle.proto_wire.specs.Oneof.{member_run, last_number, member_in}
 use Rattle.proto_wire.specs.declared.refusal.Refusal.{Refusal}
 use Rattle.proto_wire.specs.declared.refusal.Refusal.TheVariants.{Missing, Unsupported}
 use Rattle.rbac_match.specs.Message.{members, rule_keys}
-use Rattle.rbac_match.specs.Oneof.{last_number, member_in}
 use Rattle.rbac_match.specs.declared.member.Member.{Member}
 use Rattle.rbac_match.specs.Formula.{Formula, and_of, or_of}
 use Rattle.rbac_match.specs.Rules.{AreRules, MemberSays, IsLevel, IsRule, MemberFault, LevelFault, no_member, in_member, RuleFault}

@@ -3,12 +3,11 @@
 use Rattle.std.specs.Prelude.{◌≡◌, ◌≢◌, ℕ, zero, suc, List, [], ◌∷◌, Contains, Option, Some, None}
 use Rattle.proto_wire.specs.Fields.{Wire}
 use Rattle.proto_wire.specs.Values.{payloads, varint_at}
-use Rattle.proto_wire.specs.Oneof.{member_run}
+use Rattle.proto_wire.specs.Oneof.{member_run, last_number, member_in}
 use Rattle.proto_wire.specs.Merge.{Merges}
 use Rattle.proto_wire.specs.Messages.{IsMessage, MessageFault}
 use Rattle.proto_wire.specs.declared.refusal.Refusal.{Refusal}
 use Rattle.proto_wire.specs.declared.refusal.Refusal.TheVariants.{Missing, OutOfRange, Unsupported, TooLarge}
-use Rattle.rbac_match.specs.Oneof.{last_number, member_in}
 use Rattle.rbac_match.specs.Message.{members, rule_keys, rules_field, set_keys}
 use Rattle.rbac_match.specs.Formula.{Formula, any, and_of, or_of, not_of, leaf, Formulas, end, formula}
 use Rattle.rbac_match.specs.Leaves.{IsLeaf, LeafFault}
