@@ -68,15 +68,13 @@ attribute RequestProtocol = (codes "request.protocol", λ r. Some (text (protoco
 attribute RequestQuery = (codes "request.query", λ r. Some (text (query_of r.target)))
 attribute SourceAddress = (codes "source.address", λ r. option_map text r.facts.source_address)
 attribute SourcePort = (codes "source.port", λ r. port_data r.facts.source_port)
-attribute DestinationAddress =
-    (codes "destination.address", λ r. option_map text r.facts.destination_address)
+attribute DestinationAddress = (codes "destination.address", λ r. option_map text r.facts.destination_address)
 attribute DestinationPort = (codes "destination.port", λ r. port_data r.facts.destination_port)
 attribute ConnectionMtls = (codes "connection.mtls", λ r. option_map bool r.facts.mtls)
 attribute ConnectionId = (codes "connection.id", λ r. option_map uint r.facts.connection_id)
 attribute ConnectionRequestedServerName =
     (codes "connection.requested_server_name", λ r. option_map text r.facts.requested_server_name)
-attribute ConnectionTlsVersion =
-    (codes "connection.tls_version", λ r. option_map text r.facts.tls_version)
+attribute ConnectionTlsVersion = (codes "connection.tls_version", λ r. option_map text r.facts.tls_version)
 attribute ConnectionSubjectPeerCertificate =
     (codes "connection.subject_peer_certificate", λ r. option_map text r.facts.subject_peer_certificate)
 attribute ConnectionDnsSanPeerCertificate =
