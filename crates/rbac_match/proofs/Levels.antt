@@ -70,15 +70,7 @@ module _ (side : Side) (depth : ℕ) (parts : List (List ℕ)) (fs : List Wire) 
     -- the formula that the last member's run says
     pub rule_found : (f : Formula)
         → MemberSays (IsRule side (depth - 1)) member n (member_run (rule_keys side) fs) f → IsRule side depth parts f
-    rule_found f says = rule_deeper side depth parts f more (record {
-      fields = fs;
-      message = message;
-      number = n;
-      last = last;
-      member = member;
-      is = is;
-      says = says;
-    })
+    rule_found f says = rule_deeper side depth parts f more (fs, message, rw (last, is) says)
 
     -- what is wrong with it
     pub member_fault : (e : Refusal)
