@@ -1,6 +1,6 @@
 -- What is known of a connection: the connection attributes of Envoy, "Attributes", and the
 -- addresses for CIDR ranges.
-use Rattle.std.specs.Prelude.{ℕ, ◌^◌, ◌<◌, Bool, Option, Some, None, List, [], ◌∷◌, IfSome, option_map}
+use Rattle.std.specs.Prelude.{ℕ, ◌^◌, ◌<◌, Option, Some, None, List, [], ◌∷◌, IfSome, option_map}
 use Rattle.std.specs.List.{AllByRecursion}
 use Rattle.std.specs.Str.{IsUtf8}
 use Rattle.std.specs.Rc.{rc_str_bytes}
@@ -8,7 +8,6 @@ use Rattle.std.specs.declared.rc.RcStr.{RcStr}
 use Rattle.std.specs.declared.alloc.Global.{Global}
 use Rattle.attributes.specs.declared.conn.Conn.{Conn}
 use Rattle.attributes.specs.Address.{IsAddress}
-use Rattle.attributes.specs.declared.address.Ip.{Ip}
 
 -- the facts of a connection (the fields of `Conn`); a text is its bytes
 abbrev pub Facts : Type 0
