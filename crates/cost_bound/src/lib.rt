@@ -1,2 +1,4 @@
 //! How many steps a condition takes at most.
 #![tactic(auto)]
+
+pub mod laws;
