@@ -47,6 +47,12 @@ pub record IsUnfinished (bytes : List ℕ) : Type 0 where
   pub hope : MayBecomeRequest bytes
   pub in_room : length bytes ≤ head_room
 
+-- what the bytes ask is settled: bytes that come behind them change nothing
+pub data IsSettled (bytes : List ℕ) : Type 0 where
+  whole : (h : HeadValue) (rest : List ℕ) → StartsHead bytes h rest → IsSettled bytes
+  hopeless : NeverHasRequest bytes → IsSettled bytes
+  long : head_room < length bytes → IsSettled bytes
+
 -- P of the request, if one is to be judged
 abbrev pub IfJudge : Option Ask → (RequestValue → Type 0) → Type 0
 IfJudge (Some (Judge r)) P = P r

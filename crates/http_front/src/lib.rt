@@ -9,4 +9,4 @@ pub mod laws;
 mod read;
 
 pub use fault::HeadFault;
-pub use read::{Ask, HEAD_ROOM, read_head};
+pub use read::{Ask, HEAD_ROOM, is_settled, read_head};

@@ -1,8 +1,9 @@
 //! What the head at the front of some bytes asks.
 ghost use Rattle.std.specs.Prelude.{◌≡◌, ◌==◌, IfNone, IfOk, count_by};
+ghost use Rattle.std.specs.Bool.{OnFalse, OnTrue};
 ghost use Rattle.attributes.specs.Conn.{conn_view};
 ghost use Rattle.httparse.specs.Ascii.{line_feed};
-ghost use Rattle.http_front.specs.Asks.{Asks, HasFault, IfFault, IfJudge, IsUnfinished};
+ghost use Rattle.http_front.specs.Asks.{Asks, HasFault, IfFault, IfJudge, IsSettled, IsUnfinished};
 ghost use Rattle.http_front.specs.steps.Asks.{IsAskOf};
 
 use crate::fault::HeadFault;
@@ -51,6 +52,23 @@ pub fn read_head(
                 Ok(None)
             }
         }
+    }
+}
+
+/// Whether what the bytes ask is settled: they hold a whole head, or can begin none whatever comes
+/// next, or are more than a head's room. Where it is not, more bytes have to be awaited.
+pub fn is_settled(alloc: Global, bytes: &[u8]) -> Result<bool, AllocError>
+    ensures settled { IfOk result (λ found. OnTrue found (IsSettled bytes.now)) }
+    ensures unfinished { IfOk result (λ found. OnFalse found (IsUnfinished bytes.now)) }
+{
+    if bytes.len() > HEAD_ROOM {
+        return Ok(true);
+    }
+    let mut fields = vec![in alloc; EMPTY_HEADER_SPAN; line_feeds(bytes)]?;
+    match parse(bytes, &mut fields) {
+        Parsed::Whole(_, _) => Ok(true),
+        Parsed::Hopeless => Ok(true),
+        Parsed::Unfinished => Ok(false),
     }
 }
 

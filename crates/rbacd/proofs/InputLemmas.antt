@@ -1,77 +1,86 @@
--- What the first bytes of an input say of all of it.
-use Rattle.std.proofs.Common.{◌≡◌, ℕ, suc, ◌++◌, List, [], Option, Some, None, take, arith}
-use Rattle.std.specs.Prelude.{IfSome, option_map}
+-- What the front of an input that settles its head says of all of it.
+use Rattle.std.proofs.Common.{◌≡◌, ◌⊎◌, ℕ, ◌++◌, List, [], Option, Some, None, append-nil, inl, inr}
+use Rattle.std.specs.Prelude.{IfSome}
+use Rattle.std.specs.Io.KnownBytes.{Consumes, IsAtEnd}
 use Rattle.attributes.specs.Conn.{Facts}
 use Rattle.attributes.specs.Limits.{largest}
-use Rattle.attributes.specs.Request.{RequestValue}
 use Rattle.http_front.specs.declared.fault.HeadFault.{HeadFault}
-use Rattle.http_front.specs.Asks.{Asks}
-use Rattle.http_front.specs.Head.{head_room}
-use Rattle.http_front.proofs.Rooms.{Asks-from_take, HasFault-from_take, IsUnfinished-from_take}
+use Rattle.http_front.specs.declared.fault.HeadFault.TheVariants.{BadRequest}
+use Rattle.http_front.specs.Asks.{HasFault, IsSettled, IsUnfinished}
+use Rattle.http_front.proofs.Rooms.{Asks-append, HasFault-append, NeverHasRequest-append, never_of_settled}
 use Rattle.rbac_policy.specs.Filter.{Filter}
 use Rattle.rbacd.specs.declared.outcome.Outcome.{Outcome}
 use Rattle.rbacd.specs.declared.outcome.Outcome.TheVariants as outcomes
-use Rattle.rbacd.specs.Judging.{InputFault, IsJudged, IsOutcomeOf, IsOutcomeUnder, first_bytes}
+use Rattle.rbacd.specs.Judging.{InputFault, IsJudged, IsOutcomeOf, IsOutcomeUnder}
+use Rattle.rbacd.specs.steps.Reading.{IsFront}
 
--- what a limited reader gave of known bytes
-pub given_first : (known : Option (List ℕ)) (n : ℕ) (given : List ℕ)
-    → IfSome (option_map (take n) known) (λ bytes. given ≡ [] ++ bytes) → n ≡ suc head_room
-    → IfSome known (λ bytes. given ≡ first_bytes bytes)
-unfolding first_bytes
-given_first None n given h e = tt
-given_first (Some bytes) n given h e = rw e at h
-
-module _ (facts : Facts) (bytes : List ℕ) where
-  -- the first bytes have the faults of all
-  InputFault-from_first : (fault : HeadFault) → InputFault facts (first_bytes bytes) fault
-      → InputFault facts bytes fault
-  unfolding first_bytes
-  InputFault-from_first fault x = elim x [
-    | InputFault.present there ↦ InputFault.present
-        (HasFault-from_take (suc head_room) bytes (omega arith) largest facts fault there)
-    | InputFault.unfinished half e ↦ InputFault.unfinished
-        (IsUnfinished-from_take (suc head_room) bytes (omega arith) largest facts half) e
+module _ (facts : Facts) (front rest : List ℕ) (decides : (rest ≡ []) ⊎ IsSettled front) where
+  -- a front that ends before its head does is all, or hopeless
+  fault_of_unfinished : (fault : HeadFault) → IsUnfinished front → fault ≡ BadRequest
+      → InputFault facts (front ++ rest) fault
+  fault_of_unfinished fault half e = elim decides [
+    | inl none ↦ InputFault.unfinished (rw (none, append-nil) half) e
+    | inr settled ↦ InputFault.present
+        (HasFault.hopeless (NeverHasRequest-append front rest (never_of_settled front settled half)) e)
   ]
 
-  -- and they ask for the same
-  Asks-from_first : (r : RequestValue) → Asks (first_bytes bytes) largest facts r
-      → Asks bytes largest facts r
-  unfolding first_bytes
-  Asks-from_first r asks =
-      Asks-from_take (suc head_room) bytes (omega arith) largest facts r asks
+  -- the front has the faults of all
+  InputFault-from_front : (fault : HeadFault) → InputFault facts front fault
+      → InputFault facts (front ++ rest) fault
+  InputFault-from_front fault x = elim x [
+    | InputFault.present there ↦
+        InputFault.present (HasFault-append front rest largest facts fault there)
+    | InputFault.unfinished half e ↦ fault_of_unfinished fault half e
+  ]
 
-  -- so their outcome is that of all
-  judged_of_first : (policy : List ℕ) (budget : ℕ) → IsJudged policy budget facts (first_bytes bytes)
-      → IsJudged policy budget facts bytes
-  judged_of_first policy budget j = record {
+  -- and asks for the same
+  judged_of_front : (policy : List ℕ) (budget : ℕ) → IsJudged policy budget facts front
+      → IsJudged policy budget facts (front ++ rest)
+  judged_of_front policy budget j = record {
     filter = j.filter;
     admitted = j.admitted;
     request = j.request;
-    asks = Asks-from_first j.request j.asks;
+    asks = Asks-append front rest largest facts j.request j.asks;
   }
 
-  IsOutcomeOf-from_first : (policy : List ℕ) (budget : ℕ) (outcome : Outcome)
-      → IsOutcomeOf policy budget facts (first_bytes bytes) outcome
-      → IsOutcomeOf policy budget facts bytes outcome
-  unfolding judged_of_first
-  IsOutcomeOf-from_first policy budget (outcomes.Allowed m) (j, verdict) =
-      (judged_of_first policy budget j, verdict)
-  IsOutcomeOf-from_first policy budget (outcomes.Denied m) (j, verdict) =
-      (judged_of_first policy budget j, verdict)
-  IsOutcomeOf-from_first policy budget outcomes.OutOfSteps (j, out) =
-      (judged_of_first policy budget j, out)
-  IsOutcomeOf-from_first policy budget (outcomes.Refused reason) x = x
-  IsOutcomeOf-from_first policy budget (outcomes.Fault fault) x =
-      (x.0, InputFault-from_first fault x.1)
-  IsOutcomeOf-from_first policy budget outcomes.Memory x = tt
+  -- so its outcome is that of all
+  pub IsOutcomeOf-from_front : (policy : List ℕ) (budget : ℕ) (outcome : Outcome)
+      → IsOutcomeOf policy budget facts front outcome
+      → IsOutcomeOf policy budget facts (front ++ rest) outcome
+  unfolding judged_of_front
+  IsOutcomeOf-from_front policy budget (outcomes.Allowed m) (j, verdict) =
+      (judged_of_front policy budget j, verdict)
+  IsOutcomeOf-from_front policy budget (outcomes.Denied m) (j, verdict) =
+      (judged_of_front policy budget j, verdict)
+  IsOutcomeOf-from_front policy budget outcomes.OutOfSteps (j, out) =
+      (judged_of_front policy budget j, out)
+  IsOutcomeOf-from_front policy budget (outcomes.Refused reason) x = x
+  IsOutcomeOf-from_front policy budget (outcomes.Fault fault) x =
+      (x.0, InputFault-from_front fault x.1)
+  IsOutcomeOf-from_front policy budget outcomes.Memory x = tt
 
--- and that of an input whose first bytes were given
-pub outcome_of_known : (filter : Filter) (facts : Facts) (known : Option (List ℕ)) (given : List ℕ)
-    (outcome : Outcome)
-    → IfSome known (λ bytes. given ≡ first_bytes bytes) → IsOutcomeUnder filter facts given outcome
+-- and that of an input whose front was read
+pub outcome_of_front : (filter : Filter) (facts : Facts) (known : Option (List ℕ))
+    (front : List ℕ) (outcome : Outcome) → IfSome known (IsFront front)
+    → IsOutcomeUnder filter facts front outcome
     → IfSome known (λ bytes. IsOutcomeUnder filter facts bytes outcome)
-outcome_of_known filter facts None given outcome h x = tt
-outcome_of_known filter facts (Some bytes) given outcome h x =
-    let first = rw h at x in
-    λ policy budget admits. IsOutcomeOf-from_first facts bytes policy budget outcome
-    (first policy budget admits)
+outcome_of_front filter facts None front outcome is x = tt
+outcome_of_front filter facts (Some bytes) front outcome is x = λ policy budget admits.
+    rw is.whole (IsOutcomeOf-from_front facts front is.rest is.decides policy budget outcome
+    (x policy budget admits))
+
+-- what was taken of an input is its front where it settles its head
+pub front_of_settled : (known left : Option (List ℕ)) (front : List ℕ)
+    → Consumes known left front → IsSettled front → IfSome known (IsFront front)
+front_of_settled None left front taken settled = tt
+front_of_settled (Some bytes) None front taken settled = absurd taken
+front_of_settled (Some bytes) (Some rest) front taken settled =
+    record { rest = rest; whole = taken; decides = inr settled }
+
+-- and where it is all
+pub front_of_all : (known left : Option (List ℕ)) (front : List ℕ) → Consumes known left front
+    → IsAtEnd left → IfSome known (IsFront front)
+front_of_all None left front taken end = tt
+front_of_all (Some bytes) None front taken end = absurd taken
+front_of_all (Some bytes) (Some rest) front taken end =
+    record { rest = rest; whole = taken; decides = inl end }

@@ -5,17 +5,18 @@ ghost use Rattle.std.specs.Io.KnownBytes.{Appends};
 ghost use Rattle.attributes.specs.Limits.{largest};
 ghost use Rattle.attributes.specs.Conn.{Facts, conn_view};
 ghost use Rattle.http_front.specs.Asks.{Asks};
-ghost use Rattle.rbacd.specs.Judging.{IsOutcomeOf, IsOutcomeUnder, first_bytes, plain_facts};
+ghost use Rattle.rbacd.specs.Judging.{IsOutcomeOf, IsOutcomeUnder, plain_facts};
 ghost use Rattle.rbac_policy.specs.Admitted.{filter_view};
 ghost use Rattle.rbac_policy.specs.Admission.{Admissible};
 ghost use Rattle.rbac_policy.specs.Verdict.{IsUnconditional};
 ghost use Rattle.rbacd.specs.Outcome.{line_of};
 ghost use Rattle.rbacd.specs.Output.{BreaksOff};
 
+use crate::input::read_front;
 use crate::outcome::Outcome;
 use crate::output::write_whole;
 use attributes::{Conn, Limits, Request};
-use http_front::{Ask, HEAD_ROOM, HeadFault, read_head};
+use http_front::{Ask, HeadFault, read_head};
 use rbac_policy::{Admitted, admit};
 use stack_machine::RunError;
 use std::alloc::{AllocError, Global};
@@ -121,19 +122,10 @@ fn head_outcome<R: Read + Drop>(
     ensures { IfOk result (λ outcome. IfSome (R.remaining input) (λ bytes.
         IsOutcomeUnder (filter_view admitted.now) (conn_view conn) bytes outcome)) }
 {
-    let bytes = read_room(alloc, input)?;
+    let mut input = input;
+    let bytes = read_front(alloc, &mut input)?;
     let outcome = judge_bytes(alloc, admitted, limits, conn, &bytes)?;
     Ok(outcome)
-}
-
-/// As much of the input as decides what its head asks: the room of a head and one byte.
-fn read_room<R: Read + Drop>(alloc: Global, input: R) -> io::Result<Vec<u8>>
-    ensures { IfOk result (λ v. IfSome (R.remaining input) (λ bytes.
-        v.items ≡ first_bytes bytes)) }
-{
-    let mut bytes = Vec::new(alloc);
-    input.take(HEAD_ROOM as u64 + 1).read_to_end(&mut bytes)?;
-    Ok(bytes)
 }
 
 /// The outcome of the head that the bytes begin with; there are no more.

@@ -1,6 +1,6 @@
 //! Heads, good and bad, with the answers that the rules give them.
 use attributes::{Conn, Limits};
-use http_front::{Ask, HEAD_ROOM, HeadFault, read_head};
+use http_front::{Ask, HEAD_ROOM, HeadFault, is_settled, read_head};
 use std::alloc::{AllocError, Global};
 use std::rc::RcStr;
 use std::test::Fail;
@@ -60,6 +60,7 @@ const LINES: [(&[u8], Answer); 21] = [
 fn answers_start_lines_and_hosts(rt: HostRuntime) -> Result<(), Fail> {
     for (bytes, expected) in LINES {
         assert_eq!(rt; answer_of(rt.alloc(), bytes)?, expected);
+        assert_eq!(rt; is_settled(rt.alloc(), bytes)?, expected != UNFINISHED);
     }
     Ok(())
 }
