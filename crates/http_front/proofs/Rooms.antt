@@ -10,7 +10,7 @@ use Rattle.httparse.proofs.GrammarLemmas.{ReadsRequest-append, request_unique}
 use Rattle.http_front.specs.declared.fault.HeadFault.{HeadFault}
 use Rattle.http_front.specs.declared.read.Ask.{Ask}
 use Rattle.http_front.specs.declared.read.Ask.TheVariants.{Judge, Fault}
-use Rattle.http_front.specs.Asks.{Asks, HasFault, IfFault, IfJudge, IsSettled, IsUnfinished, request_of_head}
+use Rattle.http_front.specs.Asks.{Asks, HasFault, IfFault, IfJudge, IsUnfinished, request_of_head}
 use Rattle.http_front.specs.steps.Asks.{IsAskOf}
 use Rattle.http_front.specs.Head.{HasNoHead, HeadValue, StartsHead, head_of, head_room}
 
@@ -80,7 +80,7 @@ module _ (bytes : List ℕ) (limits : LimitsValue) (facts : Facts) where
   pub asks_or_fault : (r : RequestValue) (fault : HeadFault) → Asks bytes limits facts r
       → HasFault bytes limits facts fault → ⊥
   asks_or_fault r fault asks x = elim x [
-    | HasFault.hopeless never e ↦ not_hopeless bytes asks.head asks.rest asks.starts never
+    | HasFault.hopeless part never e ↦ not_hopeless bytes asks.head asks.rest asks.starts never
     | HasFault.endless none long e ↦ none asks.head asks.rest asks.starts
     | HasFault.broken h rest starts faults ↦
         let same = (StartsHead-unique bytes h asks.head rest asks.rest starts asks.starts).0 in
@@ -128,7 +128,7 @@ module _ (bytes more : List ℕ) where
   }
 
   -- what is hopeless stays so
-  pub NeverHasRequest-append : NeverHasRequest bytes → NeverHasRequest (bytes ++ more)
+  NeverHasRequest-append : NeverHasRequest bytes → NeverHasRequest (bytes ++ more)
   NeverHasRequest-append never other h rest reads =
       never (more ++ other) h rest (rw append_assoc at reads)
 
@@ -154,18 +154,9 @@ module _ (bytes more : List ℕ) where
     pub HasFault-append : (fault : HeadFault) → HasFault bytes limits facts fault
         → HasFault (bytes ++ more) limits facts fault
     HasFault-append fault x = elim x [
-      | HasFault.hopeless never e ↦ HasFault.hopeless (NeverHasRequest-append never) e
+      | HasFault.hopeless part never e ↦ HasFault.hopeless part (NeverHasRequest-append never) e
       | HasFault.endless none long e ↦
           HasFault.endless (HasNoHead-append long none) (omega (arith, length-append bytes more)) e
       | HasFault.broken h rest starts faults ↦
           HasFault.broken h (rest ++ more) (StartsHead-append h rest starts) faults
     ]
-
--- settled bytes that are unfinished all the same end in a target that is no UTF-8
-pub never_of_settled : (bytes : List ℕ) → IsSettled bytes → IsUnfinished bytes
-    → NeverHasRequest bytes
-never_of_settled bytes settled x = elim settled [
-  | IsSettled.whole h rest s ↦ absurd (x.none s.tree rest s.reads)
-  | IsSettled.hopeless never ↦ never
-  | IsSettled.long long ↦ let short = x.in_room in absurd (omega arith)
-]

@@ -1,9 +1,8 @@
 //! What the head at the front of some bytes asks.
 ghost use Rattle.std.specs.Prelude.{◌≡◌, ◌==◌, IfNone, IfOk, count_by};
-ghost use Rattle.std.specs.Bool.{OnFalse, OnTrue};
 ghost use Rattle.attributes.specs.Conn.{conn_view};
 ghost use Rattle.httparse.specs.Ascii.{line_feed};
-ghost use Rattle.http_front.specs.Asks.{Asks, HasFault, IfFault, IfJudge, IsSettled, IsUnfinished};
+ghost use Rattle.http_front.specs.Asks.{Asks, HasFault, IfFault, IfJudge, IsUnfinished};
 ghost use Rattle.http_front.specs.steps.Asks.{IsAskOf};
 
 use crate::fault::HeadFault;
@@ -44,31 +43,14 @@ pub fn read_head(
     let mut fields = vec![in alloc; EMPTY_HEADER_SPAN; line_feeds(room)]?;
     match parse(room, &mut fields) {
         Parsed::Whole(head, _) => Ok(Some(ask_of(alloc, &head, limits, conn)?)),
-        Parsed::Hopeless => Ok(Some(Ask::Fault(HeadFault::BadRequest))),
+        Parsed::Hopeless(part) => Ok(Some(Ask::Fault(HeadFault::Malformed(part)))),
         Parsed::Unfinished => {
             if bytes.len() > HEAD_ROOM {
-                Ok(Some(Ask::Fault(HeadFault::TooLarge)))
+                Ok(Some(Ask::Fault(HeadFault::TooLong)))
             } else {
                 Ok(None)
             }
         }
-    }
-}
-
-/// Whether what the bytes ask is settled: they hold a whole head, or can begin none whatever comes
-/// next, or are more than a head's room. Where it is not, more bytes have to be awaited.
-pub fn is_settled(alloc: Global, bytes: &[u8]) -> Result<bool, AllocError>
-    ensures settled { IfOk result (λ found. OnTrue found (IsSettled bytes.now)) }
-    ensures unfinished { IfOk result (λ found. OnFalse found (IsUnfinished bytes.now)) }
-{
-    if bytes.len() > HEAD_ROOM {
-        return Ok(true);
-    }
-    let mut fields = vec![in alloc; EMPTY_HEADER_SPAN; line_feeds(bytes)]?;
-    match parse(bytes, &mut fields) {
-        Parsed::Whole(_, _) => Ok(true),
-        Parsed::Hopeless => Ok(true),
-        Parsed::Unfinished => Ok(false),
     }
 }
 
@@ -90,6 +72,6 @@ fn ask_of(alloc: Global, head: &Head<'_>, limits: &Limits, conn: Conn) -> Result
     if limits.fits(&request) {
         Ok(Ask::Judge(request))
     } else {
-        Ok(Ask::Fault(HeadFault::TooLarge))
+        Ok(Ask::Fault(HeadFault::OutsideLimits))
     }
 }

@@ -4,7 +4,7 @@ use Rattle.attributes.specs.Conn.{Facts, only_scheme}
 use Rattle.attributes.specs.Limits.{largest}
 use Rattle.attributes.specs.Request.{RequestValue}
 use Rattle.http_front.specs.declared.fault.HeadFault.{HeadFault}
-use Rattle.http_front.specs.declared.fault.HeadFault.TheVariants.{BadRequest}
+use Rattle.http_front.specs.declared.fault.HeadFault.TheVariants.{Unfinished}
 use Rattle.http_front.specs.Asks.{Asks, HasFault, IsUnfinished}
 use Rattle.proto_wire.specs.declared.refusal.Refusal.TheVariants.{Memory}
 use Rattle.rbac_policy.specs.Admission.{Admissible, Admits, Fault}
@@ -28,7 +28,7 @@ pub record IsJudged (policy : List ℕ) (budget : ℕ) (facts : Facts) (bytes : 
 -- the bytes, which are all that comes on a connection of these facts, ask for nothing, for this fault
 pub data InputFault (facts : Facts) (bytes : List ℕ) (fault : HeadFault) : Type 0 where
   present : HasFault bytes largest facts fault → InputFault facts bytes fault
-  unfinished : IsUnfinished bytes → fault ≡ BadRequest → InputFault facts bytes fault
+  unfinished : IsUnfinished bytes → fault ≡ Unfinished → InputFault facts bytes fault
 
 -- the filter gives the request this verdict, whatever its conditions answer: it has none
 abbrev pub Decides : Filter → RequestValue → Bool → Option ℕ → Type 0

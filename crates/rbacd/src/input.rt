@@ -1,31 +1,41 @@
 //! Reading the head that an input begins with, and no more than that.
-ghost use Rattle.std.specs.Prelude.{IfOk, IfSome};
+ghost use Rattle.std.specs.Prelude.{List, ℕ, IfOk, IfSome, OnOk};
 ghost use Rattle.std.specs.Io.{ReadsAtMost};
 ghost use Rattle.std.specs.Io.KnownBytes.{Consumes, ReadConsumes};
-ghost use Rattle.rbacd.specs.steps.Reading.{Grows, IsFront, IsJustEnough};
+ghost use Rattle.attributes.specs.Conn.{conn_view};
+ghost use Rattle.rbacd.specs.steps.Reading.{Grows, IsFound, IsJustEnough};
 
-use http_front::is_settled;
+use attributes::{Conn, Limits};
+use http_front::{Ask, read_head};
 use std::alloc::Global;
 use std::io::{self, ErrorKind, Read};
 
 /// One read takes at most so many bytes.
 const CHUNK: usize = 4_096;
 
-/// The front of the input that decides what its head asks. After each read it looks whether more
-/// bytes can change that, so that an input which stays open behind its head is not waited for.
-pub(crate) fn read_front<R: Read>(alloc: Global, input: &mut R) -> io::Result<Vec<u8>>
-    ensures front { IfOk result (λ v. IfSome (R.remaining input.old) (IsFront v.items)) }
-    ensures taken { IfOk result (λ v.
-        Consumes (R.remaining input.old) (R.remaining input.new) v.items) }
-    ensures no_more { IfOk result (λ v. IsJustEnough v.items) }
+/// What the head asks that the input begins with, on this connection; nothing where the input ends
+/// before its head does. It answers after the first read whose bytes decide that, so that an input
+/// which stays open behind its head is not waited for.
+pub(crate) fn read_ask<R: Read>(
+    alloc: Global,
+    limits: &Limits,
+    conn: &Conn,
+    input: &mut R,
+) -> io::Result<Option<Ask>>
+    ensures found { IfOk result (λ found. IfSome (R.remaining input.old) (λ bytes.
+        IsFound limits.now (conn_view conn.now) bytes found)) }
+    ensures no_more { OnOk result ((read : List ℕ)
+        × Consumes (R.remaining input.old) (R.remaining input.new) read × IsJustEnough read) }
 {
     let mut bytes = Vec::new(alloc);
     for _ in 0..u64::MAX {
-        if is_settled(alloc, &bytes)? {
-            return Ok(bytes);
-        }
-        if read_chunk(input, &mut bytes)? == 0 {
-            return Ok(bytes);
+        match read_head(alloc, &bytes, limits, conn.copy()?)? {
+            Some(ask) => return Ok(Some(ask)),
+            None => {
+                if read_chunk(input, &mut bytes)? == 0 {
+                    return Ok(None);
+                }
+            }
         }
     }
     Err(io::Error::from(ErrorKind::TimedOut))

@@ -11,12 +11,13 @@ ghost use Rattle.rbac_policy.specs.Admission.{Admissible};
 ghost use Rattle.rbac_policy.specs.Verdict.{IsUnconditional};
 ghost use Rattle.rbacd.specs.Outcome.{line_of};
 ghost use Rattle.rbacd.specs.Output.{BreaksOff};
+ghost use Rattle.rbacd.specs.steps.Reading.{IsFound};
 
-use crate::input::read_front;
+use crate::input::read_ask;
 use crate::outcome::Outcome;
 use crate::output::write_whole;
 use attributes::{Conn, Limits, Request};
-use http_front::{Ask, HeadFault, read_head};
+use http_front::{Ask, HeadFault};
 use rbac_policy::{Admitted, admit};
 use stack_machine::RunError;
 use std::alloc::{AllocError, Global};
@@ -123,26 +124,19 @@ fn head_outcome<R: Read + Drop>(
         IsOutcomeUnder (filter_view admitted.now) (conn_view conn) bytes outcome)) }
 {
     let mut input = input;
-    let bytes = read_front(alloc, &mut input)?;
-    let outcome = judge_bytes(alloc, admitted, limits, conn, &bytes)?;
-    Ok(outcome)
+    let found = read_ask(alloc, limits, &conn, &mut input)?;
+    Ok(outcome_of_found(admitted, found))
 }
 
-/// The outcome of the head that the bytes begin with; there are no more.
-fn judge_bytes(
-    alloc: Global,
-    admitted: &Admitted,
-    limits: &Limits,
-    conn: Conn,
-    bytes: &[u8],
-) -> Result<Outcome, AllocError>
-    requires { limits.now ≡ largest }
-    ensures { IfOk result (IsOutcomeUnder (filter_view admitted.now) (conn_view conn) bytes.now) }
+/// The outcome of what the head asks that some bytes begin with.
+fn outcome_of_found(admitted: &Admitted, found: Option<Ask>) -> Outcome
+    ensures { (facts : Facts) (bytes : List ℕ) → IsFound largest facts bytes found
+        → IsOutcomeUnder (filter_view admitted.now) facts bytes result }
 {
-    match read_head(alloc, bytes, limits, conn)? {
-        Some(Ask::Judge(request)) => Ok(decided(admitted, &request)),
-        Some(Ask::Fault(fault)) => Ok(Outcome::Fault(fault)),
-        None => Ok(Outcome::Fault(HeadFault::BadRequest)),
+    match found {
+        Some(Ask::Judge(request)) => decided(admitted, &request),
+        Some(Ask::Fault(fault)) => Outcome::Fault(fault),
+        None => Outcome::Fault(HeadFault::Unfinished),
     }
 }
 

@@ -1,7 +1,9 @@
 //! How much of an input is read: no more than decides what its head asks.
-use crate::input::read_front;
+use crate::input::read_ask;
 use crate::judge::{judge, plain_conn};
 use crate::tests::judging::ANY_ANY;
+use attributes::Limits;
+use http_front::{Ask, HeadFault};
 use std::io::{self, ErrorKind, Read};
 use std::test::Fail;
 
@@ -54,27 +56,27 @@ const SETTLED: [&[u8]; 8] = [
 
 #[test]
 fn reads_no_further_than_the_head(rt: HostRuntime) -> Result<(), Fail> {
+    let conn = plain_conn(rt.alloc())?;
     for bytes in SETTLED {
         let mut input = Pieces::new(bytes, 1);
-        let front = read_front(rt.alloc(), &mut input)?;
+        let found = read_ask(rt.alloc(), &Limits::largest(), &conn, &mut input)?;
+        assert!(rt; found.is_some());
         assert_eq!(rt; input.left, b"more".as_slice());
-        assert_eq!(rt; front.len() + 4, bytes.len());
     }
     Ok(())
 }
 
 #[test]
 fn reads_by_chunks(rt: HostRuntime) -> Result<(), Fail> {
-    for bytes in SETTLED {
-        let mut input = Pieces::new(bytes, usize::MAX);
-        let front = read_front(rt.alloc(), &mut input)?;
-        assert_eq!(rt; front.as_slice(), bytes);
-    }
+    let conn = plain_conn(rt.alloc())?;
     let long = vec![in rt.alloc(); b'a'; 70_000]?;
     let mut input = long.as_slice();
-    let front = read_front(rt.alloc(), &mut input)?;
-    assert_eq!(rt; front.len(), 69_632);
+    let found = read_ask(rt.alloc(), &Limits::largest(), &conn, &mut input)?;
+    assert!(rt; matches!(found, Some(Ask::Fault(HeadFault::TooLong))));
     assert_eq!(rt; input.len(), 368);
+    let mut unfinished = b"GET /".as_slice();
+    let found = read_ask(rt.alloc(), &Limits::largest(), &conn, &mut unfinished)?;
+    assert!(rt; found.is_none() && unfinished.is_empty());
     Ok(())
 }
 
