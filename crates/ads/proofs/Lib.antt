@@ -7,3 +7,4 @@ pub mod StreamLemmas
 pub mod CurrentLemmas
 pub mod TakingLemmas
 pub mod JudgedLemmas
+pub mod ServingLemmas

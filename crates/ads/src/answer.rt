@@ -71,7 +71,7 @@ fn answer(
 }
 
 /// Whether memory ran out.
-fn is_memory(refusal: Refusal) -> bool
+pub(crate) fn is_memory(refusal: Refusal) -> bool
     ensures { MatchBool result (refusal ≡ Memory) (refusal ≢ Memory) }
 {
     matches!(refusal, Refusal::Memory)

@@ -26,7 +26,8 @@ pub(crate) const EXTENSION_TYPE: &str =
     "type.googleapis.com/envoy.config.core.v3.TypedExtensionConfig";
 
 /// The type of a filter's message.
-const FILTER_TYPE: &str = "type.googleapis.com/envoy.extensions.filters.http.rbac.v3.RBAC";
+pub(crate) const FILTER_TYPE: &str =
+    "type.googleapis.com/envoy.extensions.filters.http.rbac.v3.RBAC";
 
 /// What a response comes to.
 #[derive(Debug, Drop)]
