@@ -8,3 +8,4 @@ pub mod CurrentLemmas
 pub mod TakingLemmas
 pub mod JudgedLemmas
 pub mod ServingLemmas
+pub mod AdmittedLemmas

@@ -4,7 +4,7 @@ use Rattle.std.specs.List.{AllZip, HoldsAt, list_any}
 use Rattle.std.specs.Prelude.{MatchOption, IfSome}
 use Rattle.std.specs.Borrow.{Bor}
 use Rattle.std.proofs.lemmas.List.{map_more, map-append, length-append, length-map}
-use Rattle.xds_wire.specs.Discovery.{RequestMessage, ResponseMessage, IsRequest}
+use Rattle.xds_wire.specs.Discovery.{RequestMessage, ResponseMessage}
 use Rattle.xds_wire.specs.Written.{ExtensionWritten, ResponseWritten}
 use Rattle.ads.specs.Control.{ResourceValue, ServedValue, AreServed, IsFirst, IsAck, IsNack, Sends, Advances, recorded, first, ack, nack, IsSnapshot, IsSentAs, IsResponseOf, asked, extension_of}
 use Rattle.ads.specs.Answer.{extension_type}

@@ -1,7 +1,7 @@
 -- What the parts of a control stand for, and what the serving of one request does.
-use Rattle.std.specs.Prelude.{◌≡◌, ℕ, Bool, Option, Some, None, List, [], ◌∷◌, ◌++◌, map}
+use Rattle.std.specs.Prelude.{◌≡◌, ℕ, Bool, List, [], ◌++◌, map}
 use Rattle.std.specs.String.{string_bytes}
-use Rattle.xds_wire.specs.Discovery.{AnyMessage, RequestMessage, ResponseMessage, IsRequest}
+use Rattle.xds_wire.specs.Discovery.{AnyMessage, RequestMessage, IsRequest}
 use Rattle.xds_wire.specs.Written.{ResponseWritten}
 use Rattle.ads.specs.Answer.{extension_type}
 use Rattle.ads.specs.Control.{ResourceValue, ServedValue, ControlValue, IsFirst, IsAck, IsNack, Serves, IsNoRequest}

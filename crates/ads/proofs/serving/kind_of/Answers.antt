@@ -1,4 +1,4 @@
-use Rattle.std.proofs.Common.{◌≡◌, rules, tests, length, arith}
+use Rattle.std.proofs.Common.{◌≡◌, rules, tests, length}
 use Rattle.ads.specs.Answer.{extension_type}
 use Rattle.ads.proofs.ServingLemmas.{no_bytes}
 use Rattle.ads.proofs.serving.kind_of.Goals as goal

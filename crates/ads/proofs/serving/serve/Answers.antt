@@ -1,4 +1,3 @@
-use Rattle.std.proofs.Common.{refl}
 use Rattle.std.proofs.lemmas.Result.{IfOk-weaker}
 use Rattle.xds_wire.specs.View.{request_view}
 use Rattle.ads.specs.steps.Serving.{a_request}
