@@ -57,7 +57,8 @@ fn a_request_in_bytes(rt: HostRuntime) -> Result<(), Fail> {
     let alloc = rt.alloc();
     let mut control = control_of(alloc, "g", &[ANY_ANY])?;
     let mut replies = Vec::new(alloc);
-    for byte in &joined(alloc, RESUMED_REQUEST)? {
+    let request = joined(alloc, RESUMED_REQUEST)?;
+    for byte in &request {
         let fed = control.feed(&[*byte])?;
         assert!(rt; !fed.broken);
         replies.extend_from_slice(&fed.replies)?;
