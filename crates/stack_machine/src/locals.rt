@@ -32,6 +32,7 @@ impl<T: Drop> Locals<T> {
     }
 
     /// What a local was set to, if it was.
+    #[inline(always)]
     pub fn get(&self, local: u8) -> Option<&T>
         ensures { option_copied result ≡ local_of self.now local }
     {
@@ -46,6 +47,7 @@ impl<T: Drop> Locals<T> {
     }
 
     /// Sets a local.
+    #[inline(always)]
     pub fn set(&mut self, local: u8, item: T) -> Result<(), AllocError>
         ensures { OnOk result (local_of self.new ≡ with_local (local_of self.old) local item) }
     {

@@ -38,6 +38,7 @@ impl<T: Drop> Stack<T> {
     }
 
     /// Puts an item on top.
+    #[inline(always)]
     pub fn push(&mut self, item: T) -> Result<(), AllocError>
         ensures { OnOk result (self.new ≡ item ∷ self.old) }
     {
@@ -46,6 +47,7 @@ impl<T: Drop> Stack<T> {
     }
 
     /// Takes the top, if there is one.
+    #[inline(always)]
     pub fn pop(&mut self) -> Option<T>
         ensures { MatchOption result ((self.old ≡ []) × (self.new ≡ []))
             (λ item. self.old ≡ item ∷ self.new) }
@@ -54,6 +56,7 @@ impl<T: Drop> Stack<T> {
     }
 
     /// The item below so many others.
+    #[inline(always)]
     pub fn peek(&self, depth: usize) -> Option<&T>
         ensures { option_copied result ≡ slice_get self.now depth }
     {
@@ -71,6 +74,16 @@ impl<T: Drop> Stack<T> {
     {
         let len = self.items.len();
         &self.items[len - count..]
+    }
+
+    /// Puts an item in the place of the top.
+    #[inline(always)]
+    pub(crate) fn replace_top(&mut self, item: T)
+        requires { 1 ≤ length self.old }
+        ensures { self.new ≡ item ∷ drop 1 self.old }
+    {
+        let at = self.items.len() - 1;
+        self.items[at] = item;
     }
 
     /// Takes the topmost items, so many, from the lowest of them up.
