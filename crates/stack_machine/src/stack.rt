@@ -1,6 +1,6 @@
 //! A stack, seen as the list of its items from the top down.
 
-ghost use Rattle.std.specs.Prelude.{◌≡◌, ◌≤◌, [], ◌∷◌, length, slice_get, reverse, take, drop, IfOk, MatchOption, OnOk};
+ghost use Rattle.std.specs.Prelude.{◌≡◌, ◌≤◌, [], ◌∷◌, IfErr, length, slice_get, reverse, take, drop, IfOk, MatchOption, OnOk};
 ghost use Rattle.std.specs.Option.{option_copied};
 
 use std::alloc::{AllocError, Global};
@@ -31,7 +31,7 @@ impl<T: Drop> Stack<T> {
     }
 
     /// How many items there are.
-    pub fn len(&self) -> usize
+    pub(crate) fn len(&self) -> usize
         ensures { result ≡ length self.now }
     {
         self.items.len()
@@ -40,7 +40,8 @@ impl<T: Drop> Stack<T> {
     /// Puts an item on top.
     #[inline(always)]
     pub fn push(&mut self, item: T) -> Result<(), AllocError>
-        ensures { OnOk result (self.new ≡ item ∷ self.old) }
+        ensures pushed { OnOk result (self.new ≡ item ∷ self.old) }
+        ensures kept { IfErr result (λ _. self.new ≡ self.old) }
     {
         self.items.push(item)?;
         Ok(())
@@ -57,7 +58,7 @@ impl<T: Drop> Stack<T> {
 
     /// The item below so many others.
     #[inline(always)]
-    pub fn peek(&self, depth: usize) -> Option<&T>
+    pub(crate) fn peek(&self, depth: usize) -> Option<&T>
         ensures { option_copied result ≡ slice_get self.now depth }
     {
         let len = self.items.len();
@@ -68,7 +69,7 @@ impl<T: Drop> Stack<T> {
     }
 
     /// The topmost items, so many, from the lowest of them up.
-    pub fn top(&self, count: usize) -> &[T]
+    pub(crate) fn top(&self, count: usize) -> &[T]
         requires { count ≤ length self.now }
         ensures { result.now ≡ reverse (take count self.now) }
     {
@@ -87,7 +88,7 @@ impl<T: Drop> Stack<T> {
     }
 
     /// Takes the topmost items, so many, from the lowest of them up.
-    pub fn pop_many(&mut self, count: usize) -> Result<Vec<T>, AllocError>
+    pub(crate) fn pop_many(&mut self, count: usize) -> Result<Vec<T>, AllocError>
         requires { count ≤ length self.old }
         ensures taken { IfOk result (λ items. items.items ≡ reverse (take count self.old)) }
         ensures left { OnOk result (self.new ≡ drop count self.old) }

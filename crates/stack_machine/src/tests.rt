@@ -1,3 +1,4 @@
+use crate::locals::Locals;
 use crate::*;
 use attributes::AttrId;
 use cel_ops::{ArithmeticOp, CompareOp};
