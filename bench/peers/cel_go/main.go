@@ -1,8 +1,8 @@
-// cel_go INPUTS ROUNDS MILLISECONDS: runs conditions by the engine and by cel-go in turn within each round, and prints a line
+// conditions INPUTS ROUNDS MILLISECONDS: runs conditions by the engine and by cel-go in turn within each round, and prints a line
 // for each: its name, the least and the median nanoseconds of an evaluation over all rounds. Time is the whole process's on a
 // processor, with Go on one alone, so that the work of Go's collector counts where it is done; the least counts, since other
 // work on the machine can only add to it. Every answer is checked.
-// cel_go INPUTS only NUMBER EVALUATIONS: runs one condition by the engine so often, for a profile.
+// conditions INPUTS only NUMBER EVALUATIONS: runs one condition by the engine so often, for a profile.
 package main
 
 /*
@@ -81,7 +81,7 @@ func must[T any](value T, err error) T {
 }
 
 func stop(why string) {
-	fmt.Fprintln(os.Stderr, "cel_go:", why)
+	fmt.Fprintln(os.Stderr, "conditions:", why)
 	os.Exit(1)
 }
 
@@ -167,7 +167,7 @@ func subjects(inputs string) []*subject {
 
 func main() {
 	if len(os.Args) != 4 && len(os.Args) != 5 {
-		stop("usage: cel_go INPUTS ROUNDS MILLISECONDS | cel_go INPUTS only NUMBER EVALUATIONS")
+		stop("usage: conditions INPUTS ROUNDS MILLISECONDS | conditions INPUTS only NUMBER EVALUATIONS")
 	}
 	all := subjects(os.Args[1])
 	if len(os.Args) == 5 {

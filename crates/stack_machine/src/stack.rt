@@ -31,7 +31,7 @@ impl<T: Drop> Stack<T> {
     }
 
     /// How many items there are.
-    pub(crate) fn len(&self) -> usize
+    pub fn len(&self) -> usize
         ensures { result ≡ length self.now }
     {
         self.items.len()

@@ -150,3 +150,13 @@ fn locals_that_are_set(rt: HostRuntime) -> Result<(), Fail> {
     assert!(rt; locals.get(0) == Some(&'b'));
     Ok(())
 }
+
+#[test]
+fn errors_as_texts(rt: HostRuntime) -> Result<(), Fail> {
+    let alloc = rt.alloc();
+    let memory = RunError::Memory.to_string(alloc)?;
+    assert_eq!(rt; memory.as_str(), "memory ran out");
+    let spent = RunError::OutOfSteps.to_string(alloc)?;
+    assert_eq!(rt; spent.as_str(), "the fuel is spent");
+    Ok(())
+}
