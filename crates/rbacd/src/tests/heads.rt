@@ -56,7 +56,7 @@ fn answer_of(alloc: Global, bytes: &[u8]) -> Result<Answer, AllocError> {
     }
 }
 
-const LINES: [(&[u8], Answer); 21] = [
+const LINES: [(&[u8], Answer); 23] = [
     (b"GET / HTTP/1.1\r\nHost: h\r\n\r\n", JUDGED),
     (b"GET / HTTP/1.1\nhost:h\n\n", JUDGED),
     (b"\r\n\r\nGET / HTTP/1.1\r\nHOST: h\r\n\r\n", JUDGED),
@@ -69,6 +69,8 @@ const LINES: [(&[u8], Answer); 21] = [
     (b"GET / HTTP/1.1\r\nHost: h\r\n", UNFINISHED),
     (b"GET / HTTP/1.1\r\nHost: h\r\n\r", UNFINISHED),
     (b"GET\n/ HTTP/1.1\r\nHost: h\r\n\r\n", METHOD),
+    (b" GET / HTTP/1.1\r\nHost: h\r\n\r\n", METHOD),
+    (b"GET / HTTP/1.1\r\nX A: b\r\n\r\n{\n  ", FIELD_NAME),
     (b"GET / HTTP/2.0\r\nHost: h\r\n\r\n", VERSION),
     (b"GET /\xff HTTP/1.1\r\nHost: h\r\n\r\n", TARGET),
     (b"GET /\x7f HTTP/1.1\r\nHost: h\r\n\r\n", TARGET),
