@@ -1,3 +1,4 @@
 pub mod Joins
 pub mod Within
 pub mod Charged
+pub mod StandardFacts
