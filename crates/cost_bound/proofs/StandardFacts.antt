@@ -10,9 +10,9 @@ use Rattle.cel_ops.specs.declared.arithmetic.ArithmeticOp.TheVariants.{Add, Divi
 use Rattle.cel_ops.specs.declared.comparison.CompareOp.TheVariants.{Equal, Greater}
 use Rattle.cel_overload.specs.declared.overload.Overload.{Overload}
 use Rattle.cel_overload.specs.declared.overload.Overload.TheVariants as overloads
-use Rattle.cel_types.specs.Elaborated.{TypedTree, TypedTrees, no_typed, typed, typed_attribute, typed_call, typed_constant, typed_has, typed_list, typed_local, typed_loop}
+use Rattle.cel_types.specs.Elaborated.{TypedTree, TypedTrees, no_typed, typed, typed_attribute, typed_call, typed_constant, typed_has, typed_list, typed_local, typed_loop, typed_map}
 use Rattle.cost_bound.specs.Costs.{cost_of, size_of}
-use Rattle.cost_bound.specs.Sizes.{Many, Size, Table, Text}
+use Rattle.cost_bound.specs.Sizes.{Flat, Many, Size, Table, Text}
 
 -- ---- how the examples are written
 
@@ -133,6 +133,24 @@ denied (suc n) = test overloads.LogicalNot (denied n ∷ [])
 denied_often : costs (denied 63) ≡ 64
 denied_often = refl
 
+-- `2 in [0, 1]`: 1 + 5 + (1 + 3 + 2 * 1)
+in_list : costs (test overloads.InList (number 2 ∷ numbers (number 0 ∷ number 1 ∷ []) ∷ [])) ≡ 12
+in_list = refl
+
+-- `{"a": 1, "bc": 2}`: 4 + (1 + (2 + 3) * 2)
+abbrev two_entries : TypedTree
+two_entries = typed_map (map_type KeyType.Text int_type)
+    (all_of (string (codes "a") ∷ number 1 ∷ string (codes "bc") ∷ number 2 ∷ []))
+
+map_literal : costs two_entries ≡ 15
+unfolding lib.Utf8.encode
+map_literal = refl
+
+-- `"a" in {"a": 1, "bc": 2}`
+in_map : costs (test overloads.InMap (string (codes "a") ∷ two_entries ∷ [])) ≡ 21
+unfolding lib.Utf8.encode
+in_map = refl
+
 -- ---- comprehensions
 
 -- `1 / x`
@@ -162,6 +180,33 @@ all_of_three = refl
 -- `[].all(x, x == 0)`: no turn
 all_of_none : costs (all (numbers []) (equals (element int_type) (number 0))) ≡ 6
 all_of_none = refl
+
+-- `[0, 1].exists_one(x, x == 1)`: 5 + 3 + 1 + 1 + 2 * (1 + 10 + 4) + 1 + 5
+exists_one : costs (typed_loop bool_type two_numbers (number 0) (truth true)
+    (choice (equals (element int_type) (number 1))
+    (typed_call int_type (overloads.Arithmetic Add) (all_of (gathered int_type ∷ number 1 ∷ [])))
+    (gathered int_type)) (equals (gathered int_type) (number 1))) ≡ 46
+exists_one = refl
+
+-- `[0, 1].map(x, x)`: 5 + 3 + 1 + 1 + (1 + 6 + 4) + (1 + 7 + 4) + 1 + 1
+abbrev same_numbers : TypedTree
+same_numbers = typed_loop (list_type int_type) two_numbers (numbers []) (truth true)
+    (typed_call (list_type int_type) overloads.Concat
+    (all_of (gathered (list_type int_type) ∷ numbers (element int_type ∷ []) ∷ [])))
+    (gathered (list_type int_type))
+
+map_macro : costs same_numbers ≡ 35
+map_macro = refl
+
+map_macro_size : sizes same_numbers ≡ Many 2 Flat
+map_macro_size = refl
+
+-- `[0, 1].all(x, [0, 1].all(y, true))`: 32 within, and 5 + 3 + 1 + 1 + 2 * (2 + 35 + 4) + 1 + 1
+nested : costs (all two_numbers (typed_loop bool_type two_numbers (truth true)
+    (test overloads.NotStrictlyFalse (typed_local bool_type 2 ∷ []))
+    (test overloads.LogicalAnd (typed_local bool_type 2 ∷ truth true ∷ []))
+    (typed_local bool_type 2))) ≡ 94
+nested = refl
 
 -- over the headers, `"a"` joined with itself at each turn, compared with `"a"` at last
 abbrev doubling : TypedTree
