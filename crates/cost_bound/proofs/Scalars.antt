@@ -17,7 +17,6 @@ use Rattle.cel_ops.specs.declared.arithmetic.ArithmeticOp.{ArithmeticOp}
 use Rattle.cel_ops.specs.declared.comparison.CompareOp.{CompareOp}
 use Rattle.cel_ops.specs.declared.texts.TextTest.{TextTest}
 use Rattle.cel_overload.specs.Answers.{on_one, on_two}
-use Rattle.cost_bound.specs.Costs.{size_of}
 
 -- a bool, a number, an error, or nothing
 abbrev pub IsScalar : Option CelAnswer → Type 0

@@ -1,5 +1,5 @@
 -- What an expression comes to is within its size.
-use Rattle.std.proofs.Common.{◌≡◌, ◌≤◌, ◌+◌, ◌-◌, ◌==◌, ℕ, zero, suc, pos, negsuc, All, Bool, true, false, cond, nat_eq, List, [], ◌∷◌, ◌++◌, length, IfSome, Option, Some, None, option_map, codes, refl, ap, subst, arith, length-append}
+use Rattle.std.proofs.Common.{◌≡◌, ◌≤◌, ◌+◌, ◌==◌, ℕ, zero, suc, pos, negsuc, All, Bool, true, false, cond, nat_eq, List, [], ◌∷◌, ◌++◌, length, IfSome, Option, Some, None, option_map, codes, refl, ap, subst, arith, length-append}
 use Rattle.std.specs.FinMap.{entries, len-entries}
 use Rattle.std.specs.List.{after_first, before_first, position_or_len}
 use Rattle.std.specs.Option.{option_and_then}
@@ -40,9 +40,9 @@ use Rattle.cel_overload.specs.declared.overload.Overload.TheVariants as overload
 use Rattle.cel_types.specs.Elaborated.{TypedTree, TypedTrees, no_typed, typed, typed_attribute, typed_call, typed_constant, typed_field, typed_has, typed_list, typed_local, typed_loop, typed_map}
 use Rattle.cel_types.specs.Meaning.{before, fold, over, turn}
 use Rattle.cel_types.specs.TypedMeaning.{local_at, typed_answer, typed_answers}
-use Rattle.cost_bound.specs.Costs.{attribute_size, call_size, concat_size, constant_size, element_size, grown, items_size, join_all, key_size, keys_of, known, list_size, map_keys_size, map_size, map_values_size, size_of, sizes_of, value_size, values_of}
+use Rattle.cost_bound.specs.Costs.{attribute_size, call_size, concat_size, element_size, grown, join_all, keys_of, known, list_size, map_size, size_of, sizes_of, value_size, values_of}
 use Rattle.cost_bound.specs.Sizes.{AllWithin, EachFits, EntriesFit, Fits, Flat, HasRoom, KeyFits, Many, Size, Table, Text, Within, join, most_of}
-use Rattle.cost_bound.proofs.Joins.{each_left, each_right, entries_right, fits_left, grown_within, key_left, within_left, within_right}
+use Rattle.cost_bound.proofs.Joins.{constant_within, each_left, each_right, entries_right, fits_left, grown_within, key_left, within_left, within_right}
 use Rattle.cost_bound.proofs.Scalars.{IsScalar, calculated, compared, conjoined, disjoined, listed, mapped, named, negated, one_operand, opposed, sized, strict_scalar, tested, two_operands, two_scalar, unstrict}
 
 -- an answer, if there is one, is within the size
@@ -59,40 +59,6 @@ IfAllWithin (Some answers) sizes = AllWithin answers sizes
 abbrev IfFits : Option CelValue → Size → Type 0
 IfFits None s = Unit {0}
 IfFits (Some v) s = Fits v s
-
--- ---- constants
-
-key_within : (k : CelKey) → KeyFits k (key_size k)
-key_within (bool_key b) = tt
-key_within (int_key i) = tt
-key_within (uint_key n) = tt
-key_within (text_key cs) = omega arith
-
-mutual
-  constant_within : (v : CelValue) → Fits v (constant_size v)
-  constant_within (bool b) = tt
-  constant_within (int i) = tt
-  constant_within (uint n) = tt
-  constant_within (text cs) = omega arith
-  constant_within (bytes bs) = omega arith
-  constant_within (list vs) = (omega arith, items_within vs)
-  constant_within (map_of es) = (omega arith, map_within es)
-
-  items_within : (vs : CelValues) → EachFits vs (items_size vs)
-  items_within no_items = tt
-  items_within (item v vs) = (
-    fits_left v (constant_size v) (items_size vs) (constant_within v),
-    each_right vs (constant_size v) (items_size vs) (items_within vs),
-  )
-
-  map_within : (es : CelEntries) → EntriesFit es (map_keys_size es) (map_values_size es)
-  map_within no_entries = tt
-  map_within (entry k v es) = (
-    key_left k (key_size k) (map_keys_size es) (key_within k),
-    fits_left v (constant_size v) (map_values_size es) (constant_within v),
-    entries_right es (key_size k) (constant_size v) (map_keys_size es) (map_values_size es)
-        (map_within es),
-  )
 
 -- ---- locals
 
