@@ -43,6 +43,11 @@ pub fn typed_is_elaborated()
         → (e : TypedTree) × IsElaborated c e × (kind e ≡ t) }
 {}
 
+/// A checked expression has one elaboration at most.
+pub fn elaboration_unique()
+    ensures { (c : CelChecked) (e f : TypedTree) → IsElaborated c e → IsElaborated c f → e ≡ f }
+{}
+
 /// The elaboration of an expression whose constants have the types of their kinds is well typed.
 pub fn elaboration_is_well_typed()
     ensures { (c : CelChecked) (e : TypedTree) → HasGoodConstants c.tree → IsElaborated c e
