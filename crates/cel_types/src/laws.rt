@@ -72,3 +72,10 @@ pub fn meaning_has_the_type()
         → IsElaborated c e → IsRequest r
         → (a : CelAnswer) × (eval c.tree r [] ≡ Some a) × AnswerHasType a (kind e) }
 {}
+
+/// A checked expression that has a type has an answer of that type for each request.
+pub fn typed_expression_means_something()
+    ensures { (c : CelChecked) (t : ValueType) (r : RequestValue) → IsTyped c t
+        → HasGoodConstants c.tree → IsRequest r
+        → (a : CelAnswer) × (eval c.tree r [] ≡ Some a) × AnswerHasType a t }
+{}
