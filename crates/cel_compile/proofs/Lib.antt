@@ -7,3 +7,5 @@ pub mod Loop
 pub mod Bounds
 pub mod Sound
 pub mod Whole
+pub mod Built
+pub mod Operands

@@ -1,2 +1,4 @@
 pub mod Codes
 pub mod Sound
+pub mod Slots
+pub mod steps

@@ -1,4 +1,9 @@
 //! Conditions as code of the machine.
 #![tactic(auto)]
 
+mod compiler;
+mod few_locals;
+mod instructions;
 pub mod laws;
+
+pub use compiler::compile;

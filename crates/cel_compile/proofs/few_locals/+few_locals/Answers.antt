@@ -1,0 +1,18 @@
+use Rattle.std.proofs.Common.{◌≡◌, ◌↔◌, get_or}
+use Rattle.std.specs.Prelude.{IsTrue}
+use Rattle.cel_types.specs.View.{expr_view}
+use Rattle.cel_compile.specs.Slots.{HasFewLocals}
+use Rattle.cel_compile.proofs.Operands.{not_here, still}
+use Rattle.cel_compile.proofs.few_locals.+few_locals.Goals as goal
+
+pub have_few_locals-returns-then-not-has_few_locals : goal.have_few_locals-returns-then-not-has_few_locals
+have_few_locals-returns-then-not-has_few_locals t c =
+    let here : IsTrue c.has_few_locals.result ↔ HasFewLocals c.args.depth (expr_view (get_or c.args.exprs.now c.loop-expr.expr-index c.expr-item.result)) =
+        rw (← c.expr-item.is) (c.has_few_locals.ensures) in
+    not_here c.args.depth c.args.exprs.now c.loop-expr.expr-index c.expr-item.result c.loop-expr-test.true c.has_few_locals.result here c.loop-expr.invariant c.if-not-has_few_locals.true
+
+pub have_few_locals-loop-expr-preserved : goal.have_few_locals-loop-expr-preserved
+have_few_locals-loop-expr-preserved t c =
+    let here : IsTrue c.has_few_locals.result ↔ HasFewLocals c.args.depth (expr_view (get_or c.args.exprs.now c.loop-expr.expr-index c.expr-item.result)) =
+        rw (← c.expr-item.is) (c.has_few_locals.ensures) in
+    still c.args.depth c.args.exprs.now c.loop-expr.expr-index c.expr-item.result c.loop-expr-test.true c.has_few_locals.result here c.loop-expr.invariant c.if-not-has_few_locals.false

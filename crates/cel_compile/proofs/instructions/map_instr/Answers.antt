@@ -1,0 +1,9 @@
+use Rattle.std.proofs.Common.{◌<◌, length, arith}
+use Rattle.std.proofs.lemmas.Grind.{common_steps}
+use Rattle.cel_compile.proofs.Operands.{made_map}
+use Rattle.cel_compile.proofs.instructions.map_instr.Goals as goal
+
+pub returns : goal.returns
+returns c = λ short.
+    let some : 0 < length c.args.pairs.now = grind (arith, common_steps) in
+    made_map _ c.args.pairs.now c.target.result some (c.target.ensures (omega (arith, short)))

@@ -1,0 +1,47 @@
+//! Whether an expression's locals have numbers of one byte.
+
+ghost use Rattle.std.specs.Prelude.{IsTrue, ◌↔◌};
+ghost use Rattle.cel_types.specs.View.{expr_view, exprs_view};
+ghost use Rattle.cel_compile.specs.Slots.{HasFewLocals, HaveFewLocals};
+
+use cel_types::TypedExpr;
+
+/// Whether no part of the expression has more than 255 locals in scope, with so many outside.
+#[cycle(few_locals)]
+pub(crate) fn has_few_locals(depth: u8, expr: &TypedExpr<'_>) -> bool
+    ensures { IsTrue result ↔ HasFewLocals depth (expr_view expr.now) }
+{
+    match expr {
+        TypedExpr::Constant { .. } => true,
+        TypedExpr::Local { .. } => true,
+        TypedExpr::Attribute { .. } => true,
+        TypedExpr::Field { map, .. } => has_few_locals(depth, map),
+        TypedExpr::HasField { map, .. } => has_few_locals(depth, map),
+        TypedExpr::Call { operands, .. } => have_few_locals(depth, operands),
+        TypedExpr::List { elements, .. } => have_few_locals(depth, elements),
+        TypedExpr::Map { pairs, .. } => have_few_locals(depth, pairs),
+        TypedExpr::Loop { parts, .. } => {
+            if depth > 253 {
+                return false;
+            }
+            has_few_locals(depth, &parts.range)
+                && has_few_locals(depth, &parts.init)
+                && has_few_locals(depth + 2, &parts.condition)
+                && has_few_locals(depth + 2, &parts.step)
+                && has_few_locals(depth + 1, &parts.result)
+        }
+    }
+}
+
+// The same of each of the expressions.
+#[cycle(few_locals)]
+fn have_few_locals(depth: u8, exprs: &[TypedExpr<'_>]) -> bool
+    ensures { IsTrue result ↔ HaveFewLocals depth (exprs_view exprs.now) }
+{
+    for expr in exprs {
+        if !has_few_locals(depth, expr) {
+            return false;
+        }
+    }
+    true
+}

@@ -1,0 +1,127 @@
+//! Single instructions of elaborated expressions.
+
+ghost use Rattle.std.specs.Prelude.{◌≡◌, ◌≢◌, ◌<◌, ◌+◌, ◌^◌, IfOk, length};
+ghost use Rattle.cel_value.specs.Types.{type_view};
+ghost use Rattle.cel_tree.specs.View.{constant_view};
+ghost use Rattle.cel_types.specs.View.{exprs_view};
+ghost use Rattle.cel_types.specs.Elaborated.{no_typed};
+ghost use Rattle.stack_machine.specs.Instructions.{instr_view};
+ghost use Rattle.stack_machine.specs.Instructions as machine;
+ghost use Rattle.cel_compile.specs.Codes.{instruction_of, list_instruction, map_instruction};
+
+use cel_ops::TextTest;
+use cel_overload::Overload;
+use cel_tree::Constant;
+use cel_types::TypedExpr;
+use cel_value::{CelType, KeyType};
+use stack_machine::Instr;
+use stack_machine::Constant as MachineConstant;
+use std::alloc::AllocError;
+
+/// A position as a target; one that is too far stands in code that is refused as a whole.
+pub(crate) fn target(position: usize) -> u16
+    ensures { position < 2 ^ 16 → result ≡ position }
+{
+    if position < 65_536 { position as u16 } else { 0 }
+}
+
+/// The next local's number; where there is none, the expression has too many.
+pub(crate) fn next_local(depth: u8) -> u8
+    ensures { depth < 255 → result ≡ depth + 1 }
+{
+    if depth < 255 { depth + 1 } else { depth }
+}
+
+/// The constant of the machine that shares the tree's text or bytes.
+pub(crate) fn constant_of(constant: &Constant) -> Result<MachineConstant, AllocError>
+    ensures { IfOk result (λ c. machine.constant_view c ≡ constant_view constant.now) }
+{
+    match constant {
+        Constant::Bool(b) => Ok(MachineConstant::Bool(*b)),
+        Constant::Int(i) => Ok(MachineConstant::Int(*i)),
+        Constant::Uint(n) => Ok(MachineConstant::Uint(*n)),
+        Constant::Text(text) => Ok(MachineConstant::Text(text.clone()?)),
+        Constant::Bytes(bytes) => Ok(MachineConstant::Bytes(bytes.clone()?)),
+    }
+}
+
+/// The instruction of a call that works on its operands' answers.
+pub(crate) fn call_instr(overload: Overload) -> Instr
+    ensures { instr_view result ≡ instruction_of overload }
+{
+    match overload {
+        Overload::LogicalAnd => Instr::And,
+        Overload::LogicalOr => Instr::Or,
+        Overload::LogicalNot => Instr::Not,
+        Overload::NotStrictlyFalse => Instr::Nsf,
+        Overload::Conditional => Instr::Nsf,
+        Overload::Compare(op) => Instr::Compare(op),
+        Overload::Arithmetic(op) => Instr::Arith(op),
+        Overload::Concat => Instr::Concat,
+        Overload::Negate => Instr::Negate,
+        Overload::IndexList => Instr::ListIndex,
+        Overload::IndexMap => Instr::MapIndex,
+        Overload::InList => Instr::InList,
+        Overload::InMap => Instr::InMap,
+        Overload::Size => Instr::Size,
+        Overload::TestText(TextTest::Contains) => Instr::Contains,
+        Overload::TestText(TextTest::StartsWith) => Instr::StartsWith,
+        Overload::TestText(TextTest::EndsWith) => Instr::EndsWith,
+    }
+}
+
+/// The instruction of a list literal.
+pub(crate) fn list_instr(
+    cel_type: &CelType,
+    elements: &[TypedExpr<'_>],
+) -> Result<Instr, AllocError>
+    ensures { IfOk result (λ i. length elements.now < 2 ^ 16
+        → instr_view i ≡ list_instruction (type_view cel_type.now) (exprs_view elements.now)) }
+{
+    if elements.is_empty() {
+        return empty_list(cel_type);
+    }
+    Ok(Instr::MakeList(target(elements.len())))
+}
+
+fn empty_list(cel_type: &CelType) -> Result<Instr, AllocError>
+    ensures { IfOk result (λ i. instr_view i ≡ list_instruction (type_view cel_type.now) no_typed) }
+{
+    match cel_type {
+        CelType::List(items) => Ok(Instr::EmptyList(items.copy()?)),
+        CelType::Bool => Ok(Instr::EmptyList(CelType::Bool)),
+        CelType::Int => Ok(Instr::EmptyList(CelType::Int)),
+        CelType::Uint => Ok(Instr::EmptyList(CelType::Uint)),
+        CelType::Text => Ok(Instr::EmptyList(CelType::Text)),
+        CelType::Bytes => Ok(Instr::EmptyList(CelType::Bytes)),
+        CelType::Map(keys, values) => Ok(Instr::EmptyList(CelType::Map(*keys, values.clone()?))),
+    }
+}
+
+/// The instruction of a map literal.
+pub(crate) fn map_instr(
+    cel_type: &CelType,
+    pairs: &[TypedExpr<'_>],
+) -> Result<Instr, AllocError>
+    ensures { IfOk result (λ i. length pairs.now < 2 ^ 16
+        → instr_view i ≡ map_instruction (type_view cel_type.now) (exprs_view pairs.now)) }
+{
+    if pairs.is_empty() {
+        return empty_map(cel_type);
+    }
+    Ok(Instr::MakeMap(target(pairs.len() / 2)))
+}
+
+fn empty_map(cel_type: &CelType) -> Result<Instr, AllocError>
+    ensures { IfOk result (λ i. instr_view i ≡ map_instruction (type_view cel_type.now) no_typed) }
+{
+    match cel_type {
+        CelType::Map(keys, values) => Ok(Instr::EmptyMap(*keys, values.copy()?)),
+        CelType::Bool => Ok(Instr::EmptyMap(KeyType::Bool, CelType::Bool)),
+        CelType::Int => Ok(Instr::EmptyMap(KeyType::Bool, CelType::Int)),
+        CelType::Uint => Ok(Instr::EmptyMap(KeyType::Bool, CelType::Uint)),
+        CelType::Text => Ok(Instr::EmptyMap(KeyType::Bool, CelType::Text)),
+        CelType::Bytes => Ok(Instr::EmptyMap(KeyType::Bool, CelType::Bytes)),
+        CelType::List(items) => Ok(Instr::EmptyMap(KeyType::Bool, CelType::List(items.clone()?))),
+    }
+}
