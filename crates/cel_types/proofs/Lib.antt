@@ -6,5 +6,9 @@ pub mod Total
 pub mod Agreeing
 pub mod CheckLaws
 pub mod Elaborating
+pub mod OneElaboration
 pub mod TypingFacts
 pub mod WellTypedAnswers
+pub mod WellTypedElaborations
+pub mod MeansCalls
+pub mod MeansTheSame

@@ -8,7 +8,9 @@ ghost use Rattle.cel_types.specs.Attributes.{attribute_named};
 ghost use Rattle.cel_value.specs.Types.{AnswerHasType, ValueType};
 ghost use Rattle.cel_value.specs.Values.{CelAnswer};
 ghost use Rattle.cel_tree.specs.Checked.{CelChecked};
+ghost use Rattle.cel_tree.specs.GoodConstants.{HasGoodConstants};
 ghost use Rattle.cel_types.specs.Elaborated.{IsElaborated, TypedTree, kind};
+ghost use Rattle.cel_types.specs.Meaning.{eval};
 ghost use Rattle.cel_types.specs.Typing.{IsTyped};
 ghost use Rattle.cel_types.specs.TypingFaults.{CheckFault};
 ghost use Rattle.cel_types.specs.TypedMeaning.{typed_answer};
@@ -41,8 +43,39 @@ pub fn typed_is_elaborated()
         → (e : TypedTree) × IsElaborated c e × (kind e ≡ t) }
 {}
 
+/// A checked expression has one elaboration at most.
+pub fn elaboration_unique()
+    ensures { (c : CelChecked) (e f : TypedTree) → IsElaborated c e → IsElaborated c f → e ≡ f }
+{}
+
+/// The elaboration of an expression whose constants have the types of their kinds is well typed.
+pub fn elaboration_is_well_typed()
+    ensures { (c : CelChecked) (e : TypedTree) → HasGoodConstants c.tree → IsElaborated c e
+        → IsWellTyped [] e }
+{}
+
 /// One that is well typed has an answer of its type for each request.
 pub fn typed_answers_have_their_type()
     ensures { (e : TypedTree) (r : RequestValue) → IsWellTyped [] e → IsRequest r
         → (a : CelAnswer) × (typed_answer e r [] ≡ Some a) × AnswerHasType a (kind e) }
+{}
+
+/// An elaboration means what its expression means.
+pub fn elaboration_means_the_same()
+    ensures { (c : CelChecked) (e : TypedTree) (r : RequestValue) → HasGoodConstants c.tree
+        → IsElaborated c e → IsRequest r → eval c.tree r [] ≡ typed_answer e r [] }
+{}
+
+/// An expression with an elaboration has an answer of its type for each request.
+pub fn meaning_has_the_type()
+    ensures { (c : CelChecked) (e : TypedTree) (r : RequestValue) → HasGoodConstants c.tree
+        → IsElaborated c e → IsRequest r
+        → (a : CelAnswer) × (eval c.tree r [] ≡ Some a) × AnswerHasType a (kind e) }
+{}
+
+/// A checked expression that has a type has an answer of that type for each request.
+pub fn typed_expression_means_something()
+    ensures { (c : CelChecked) (t : ValueType) (r : RequestValue) → IsTyped c t
+        → HasGoodConstants c.tree → IsRequest r
+        → (a : CelAnswer) × (eval c.tree r [] ≡ Some a) × AnswerHasType a t }
 {}

@@ -1,3 +1,5 @@
 pub mod Joins
+pub mod Scalars
 pub mod Within
 pub mod Charged
+pub mod StandardFacts

@@ -1,11 +1,10 @@
 -- What an expression comes to is within its size.
-use Rattle.std.proofs.Common.{◌≡◌, ◌≤◌, ◌+◌, ◌-◌, ◌*◌, ◌/◌, ◌%◌, ◌^◌, ◌==◌, ◌+ℤ◌, ◌-ℤ◌, ◌*ℤ◌, neg_ℤ, nat_lt, nat_le, int_div, int_rem, ℕ, zero, suc, ℤ, pos, negsuc, All, Bool, true, false, cond, nat_eq, List, [], ◌∷◌, ◌++◌, length, IfSome, Option, Some, None, option_map, codes, refl, ap, subst, arith, length-append}
+use Rattle.std.proofs.Common.{◌≡◌, ◌≤◌, ◌+◌, ◌==◌, ℕ, zero, suc, pos, negsuc, All, Bool, true, false, cond, nat_eq, List, [], ◌∷◌, ◌++◌, length, IfSome, Option, Some, None, option_map, codes, refl, ap, subst, arith, length-append}
 use Rattle.std.specs.FinMap.{entries, len-entries}
 use Rattle.std.specs.List.{after_first, before_first, position_or_len}
 use Rattle.std.specs.Option.{option_and_then}
-use Rattle.std.specs.Ordering.{int_eq, is_lt}
+use Rattle.std.specs.Ordering.{is_lt}
 use Rattle.std.specs.Str.{IsUtf8}
-use Rattle.std.specs.declared.cmp.Ordering.{Ordering}
 use Rattle.std.proofs.lemmas.List.{length-drop, length-take}
 use Rattle.std.proofs.lemmas.Str.{encodes-append, encodes-chars}
 use Rattle.attributes.specs.Attributes.{AttrData, HasAttrType, attr_of, attr_type, header_data, port_data, query_of, url_path_of, without_fragment}
@@ -26,27 +25,25 @@ use Rattle.cel_value.specs.Texts.{points_of, utf8_of}
 use Rattle.cel_value.specs.Types.{ValueType}
 use Rattle.cel_value.specs.Values.{CelAnswer, CelEntries, CelKey, CelValue, CelValues, bool, bool_key, bytes, entry, fails, int, int_key, item, list, map_of, no_entries, no_items, text, text_key, uint, uint_key, value, value_of_key}
 use Rattle.cel_value.specs.declared.error.CelError.{CelError}
-use Rattle.cel_value.specs.declared.error.CelError.TheVariants.{Overflow, RepeatedKey, ZeroDivisor}
-use Rattle.cel_ops.specs.Arithmetic.{arithmetic, arithmetic_of, opposite, int_answer, int_arithmetic, is_int64, opposite_of, uint_answer, uint_arithmetic}
+use Rattle.cel_value.specs.declared.error.CelError.TheVariants.{RepeatedKey}
+use Rattle.cel_ops.specs.Arithmetic.{arithmetic, arithmetic_of, opposite, opposite_of}
 use Rattle.cel_ops.specs.Attributes.{answer_of, attribute, header_entries}
-use Rattle.cel_ops.specs.Collections.{all_put, are_distinct, at_key, elements_of, entry_before, entry_of, field, field_of, found_or, has_field, has_field_of, has_key, in_list, in_list_of, in_map, in_map_of, size, item_of, list_literal, map_literal, map_made_of, value_at, written_entries}
+use Rattle.cel_ops.specs.Collections.{all_put, are_distinct, at_key, elements_of, entry_before, entry_of, field, field_of, found_or, has_field, has_field_of, in_list, in_list_of, in_map, in_map_of, size, item_of, list_literal, map_literal, map_made_of, value_at, written_entries}
 use Rattle.cel_ops.specs.Collections as collections
-use Rattle.cel_ops.specs.Comparison.{comparison, comparison_of, order_of, truth}
+use Rattle.cel_ops.specs.Comparison.{comparison, comparison_of}
 use Rattle.cel_ops.specs.Logic.{conjunction, disjunction, logical_not, negation_of, not_strictly_false}
 use Rattle.cel_ops.specs.Parts.{joined, joined_of, text_test, text_test_of}
 use Rattle.cel_ops.specs.Strict.{Gathered, all_values, first_error, gather, gathered_after, strict, strict_all, strict_two}
-use Rattle.cel_ops.specs.declared.arithmetic.ArithmeticOp.{ArithmeticOp}
-use Rattle.cel_ops.specs.declared.comparison.CompareOp.{CompareOp}
-use Rattle.cel_ops.specs.declared.texts.TextTest.{TextTest}
 use Rattle.cel_overload.specs.Answers.{conditional, on_one, on_two, overload_answer}
 use Rattle.cel_overload.specs.declared.overload.Overload.{Overload}
 use Rattle.cel_overload.specs.declared.overload.Overload.TheVariants as overloads
 use Rattle.cel_types.specs.Elaborated.{TypedTree, TypedTrees, no_typed, typed, typed_attribute, typed_call, typed_constant, typed_field, typed_has, typed_list, typed_local, typed_loop, typed_map}
 use Rattle.cel_types.specs.Meaning.{before, fold, over, turn}
 use Rattle.cel_types.specs.TypedMeaning.{local_at, typed_answer, typed_answers}
-use Rattle.cost_bound.specs.Costs.{attribute_size, call_size, concat_size, constant_size, element_size, grown, items_size, join_all, key_size, keys_of, known, list_size, map_keys_size, map_size, map_values_size, size_of, sizes_of, value_size, values_of}
+use Rattle.cost_bound.specs.Costs.{attribute_size, call_size, concat_size, element_size, grown, join_all, keys_of, known, list_size, map_size, size_of, sizes_of, value_size, values_of}
 use Rattle.cost_bound.specs.Sizes.{AllWithin, EachFits, EntriesFit, Fits, Flat, HasRoom, KeyFits, Many, Size, Table, Text, Within, join, most_of}
-use Rattle.cost_bound.proofs.Joins.{each_left, each_right, entries_right, fits_left, grown_within, key_left, within_left, within_right}
+use Rattle.cost_bound.proofs.Joins.{constant_within, each_left, each_right, entries_right, fits_left, grown_within, key_left, within_left, within_right}
+use Rattle.cost_bound.proofs.Scalars.{IsScalar, calculated, compared, conjoined, disjoined, listed, mapped, named, negated, one_operand, opposed, sized, strict_scalar, tested, two_operands, two_scalar, unstrict}
 
 -- an answer, if there is one, is within the size
 abbrev pub IfWithin : Option CelAnswer → Size → Type 0
@@ -62,40 +59,6 @@ IfAllWithin (Some answers) sizes = AllWithin answers sizes
 abbrev IfFits : Option CelValue → Size → Type 0
 IfFits None s = Unit {0}
 IfFits (Some v) s = Fits v s
-
--- ---- constants
-
-key_within : (k : CelKey) → KeyFits k (key_size k)
-key_within (bool_key b) = tt
-key_within (int_key i) = tt
-key_within (uint_key n) = tt
-key_within (text_key cs) = omega arith
-
-mutual
-  constant_within : (v : CelValue) → Fits v (constant_size v)
-  constant_within (bool b) = tt
-  constant_within (int i) = tt
-  constant_within (uint n) = tt
-  constant_within (text cs) = omega arith
-  constant_within (bytes bs) = omega arith
-  constant_within (list vs) = (omega arith, items_within vs)
-  constant_within (map_of es) = (omega arith, map_within es)
-
-  items_within : (vs : CelValues) → EachFits vs (items_size vs)
-  items_within no_items = tt
-  items_within (item v vs) = (
-    fits_left v (constant_size v) (items_size vs) (constant_within v),
-    each_right vs (constant_size v) (items_size vs) (items_within vs),
-  )
-
-  map_within : (es : CelEntries) → EntriesFit es (map_keys_size es) (map_values_size es)
-  map_within no_entries = tt
-  map_within (entry k v es) = (
-    key_left k (key_size k) (map_keys_size es) (key_within k),
-    fits_left v (constant_size v) (map_values_size es) (constant_within v),
-    entries_right es (key_size k) (constant_size v) (map_keys_size es) (map_values_size es)
-        (map_within es),
-  )
 
 -- ---- locals
 
@@ -256,14 +219,6 @@ module _ (l : LimitsValue) where
 
 -- ---- what is a bool, a number or an error is within every size
 
-abbrev IsScalar : Option CelAnswer → Type 0
-IsScalar (Some (value (bool b))) = Unit {0}
-IsScalar (Some (value (int i))) = Unit {0}
-IsScalar (Some (value (uint n))) = Unit {0}
-IsScalar (Some (value _)) = ⊥
-IsScalar (Some (fails e)) = Unit {0}
-IsScalar None = Unit {0}
-
 scalar_within : (o : Option CelAnswer) (s : Size) → IsScalar o → IfWithin o s
 scalar_within (Some (value (bool b))) s h = tt
 scalar_within (Some (value (int i))) s h = tt
@@ -271,140 +226,6 @@ scalar_within (Some (value (uint n))) s h = tt
 scalar_within (Some (fails e)) s h = tt
 scalar_within None s h = tt
 scalar_within (Some (value _)) s h = absurd h
-
-either : (b : Bool) (x y : CelAnswer) → IsScalar (Some x) → IsScalar (Some y)
-    → IsScalar (Some (cond b x y))
-either true x y h k = h
-either false x y h k = k
-
-ordered : (o : Option Ordering) (f : Ordering → Bool) → IsScalar (option_map (λ c. truth (f c)) o)
-ordered None f = tt
-ordered (Some c) f = tt
-
-compared : (op : CompareOp) (v w : CelValue) → IsScalar (comparison_of op v w)
-compared CompareOp.Equal v w = tt
-compared CompareOp.NotEqual v w = tt
-compared CompareOp.Less v w = ordered (order_of v w) _
-compared CompareOp.LessOrEqual v w = ordered (order_of v w) _
-compared CompareOp.Greater v w = ordered (order_of v w) _
-compared CompareOp.GreaterOrEqual v w = ordered (order_of v w) _
-
-int_scalar : (z : ℤ) → IsScalar (Some (int_answer z))
-int_scalar z = either (is_int64 z) (value (int z)) (fails Overflow) tt tt
-
-uint_scalar : (n : ℕ) → IsScalar (Some (uint_answer n))
-uint_scalar n = either (nat_lt n (2 ^ 64)) (value (uint n)) (fails Overflow) tt tt
-
-ints : (op : ArithmeticOp) (a b : ℤ) → IsScalar (Some (int_arithmetic op a b))
-ints ArithmeticOp.Add a b = int_scalar (a +ℤ b)
-ints ArithmeticOp.Subtract a b = int_scalar (a -ℤ b)
-ints ArithmeticOp.Multiply a b = int_scalar (a *ℤ b)
-ints ArithmeticOp.Divide a b =
-    either (int_eq b (pos 0)) (fails ZeroDivisor) (int_answer (int_div a b)) tt
-    (int_scalar (int_div a b))
-ints ArithmeticOp.Remainder a b =
-    let rest : CelAnswer = cond (is_int64 (int_div a b)) (value (int (int_rem a b))) (fails Overflow) in
-    either (int_eq b (pos 0)) (fails ZeroDivisor) rest tt
-    (either (is_int64 (int_div a b)) (value (int (int_rem a b))) (fails Overflow) tt tt)
-
-uints : (op : ArithmeticOp) (a b : ℕ) → IsScalar (Some (uint_arithmetic op a b))
-uints ArithmeticOp.Add a b = uint_scalar (a + b)
-uints ArithmeticOp.Subtract a b = either (nat_le b a) (value (uint (a - b))) (fails Overflow) tt tt
-uints ArithmeticOp.Multiply a b = uint_scalar (a * b)
-uints ArithmeticOp.Divide a b = either (b == 0) (fails ZeroDivisor) (value (uint (a / b))) tt tt
-uints ArithmeticOp.Remainder a b = either (b == 0) (fails ZeroDivisor) (value (uint (a % b))) tt tt
-
-calculated : (op : ArithmeticOp) (v w : CelValue) → IsScalar (arithmetic_of op v w)
-calculated op (int a) (int b) = ints op a b
-calculated op (uint a) (uint b) = uints op a b
-calculated op _ _ = tt
-
-opposed : (v : CelValue) → IsScalar (opposite_of v)
-opposed (int a) = int_scalar (neg_ℤ a)
-opposed _ = tt
-
-tested : (test : TextTest) (v w : CelValue) → IsScalar (text_test_of test v w)
-tested test (text a) (text b) = tt
-tested test _ _ = tt
-
-negated : (v : CelValue) → IsScalar (negation_of v)
-negated (bool b) = tt
-negated _ = tt
-
-sized : (v : CelValue) → IsScalar (collections.size_of v)
-sized (text cs) = int_scalar (pos (length cs))
-sized (bytes bs) = int_scalar (pos (length bs))
-sized (list vs) = int_scalar (pos (item_count vs))
-sized (map_of es) = int_scalar (pos (entry_count es))
-sized _ = tt
-
-listed : (v w : CelValue) → IsScalar (in_list_of v w)
-listed v (list vs) = tt
-listed v _ = tt
-
-keyed : (f : CelEntries → CelKey → CelAnswer) (es : CelEntries) (o : Option CelKey)
-    → ((k : CelKey) → IsScalar (Some (f es k))) → IsScalar (at_key f es o)
-keyed f es None h = tt
-keyed f es (Some k) h = at (is_ascending es)
-  where
-    at : (b : Bool) → IsScalar (cond b (Some (f es k)) None)
-    at true = h k
-    at false = tt
-
-mapped : (v w : CelValue) → IsScalar (in_map_of v w)
-mapped v (map_of es) = keyed has_key es (key_of_value v) (λ k. tt)
-mapped v _ = tt
-
-named : (name : List ℕ) (v : CelValue) → IsScalar (has_field_of name v)
-named name (map_of es) = keyed has_key es (Some (text_key name)) (λ k. tt)
-named name _ = tt
-
-conjoined : (a b : CelAnswer) → IsScalar (conjunction a b)
-conjoined (value (bool false)) (value (bool b)) = tt
-conjoined (value (bool false)) (fails e) = tt
-conjoined (value (bool true)) (value (bool b)) = tt
-conjoined (value (bool true)) (fails e) = tt
-conjoined (fails e) (value (bool false)) = tt
-conjoined (fails e) (value (bool true)) = tt
-conjoined (fails e) (fails d) = tt
-conjoined _ _ = tt
-
-disjoined : (a b : CelAnswer) → IsScalar (disjunction a b)
-disjoined (value (bool true)) (value (bool b)) = tt
-disjoined (value (bool true)) (fails e) = tt
-disjoined (value (bool false)) (value (bool b)) = tt
-disjoined (value (bool false)) (fails e) = tt
-disjoined (fails e) (value (bool true)) = tt
-disjoined (fails e) (value (bool false)) = tt
-disjoined (fails e) (fails d) = tt
-disjoined _ _ = tt
-
-unstrict : (a : CelAnswer) → IsScalar (not_strictly_false a)
-unstrict (value (bool b)) = tt
-unstrict (fails e) = tt
-unstrict _ = tt
-
-strict_scalar : (f : CelValue → Option CelAnswer) → ((v : CelValue) → IsScalar (f v))
-    → (a : CelAnswer) → IsScalar (strict f a)
-strict_scalar f h (value v) = h v
-strict_scalar f h (fails e) = tt
-
-two_scalar : (f : CelValue → CelValue → Option CelAnswer) → ((v w : CelValue) → IsScalar (f v w))
-    → (a b : CelAnswer) → IsScalar (strict_two f a b)
-two_scalar f h (value v) (value w) = h v w
-two_scalar f h (value v) (fails e) = tt
-two_scalar f h (fails e) b = tt
-
-one_operand : (f : CelAnswer → Option CelAnswer) → ((a : CelAnswer) → IsScalar (f a))
-    → (answers : List CelAnswer) → IsScalar (on_one f answers)
-one_operand f h (a ∷ []) = h a
-one_operand f h _ = tt
-
-two_operands : (f : CelAnswer → CelAnswer → Option CelAnswer)
-    → ((a b : CelAnswer) → IsScalar (f a b)) → (answers : List CelAnswer)
-    → IsScalar (on_two f answers)
-two_operands f h (a ∷ b ∷ []) = h a b
-two_operands f h _ = tt
 
 -- ---- what is found
 
