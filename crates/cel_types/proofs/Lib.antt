@@ -7,3 +7,6 @@ pub mod Agreeing
 pub mod CheckLaws
 pub mod Elaborating
 pub mod TypingFacts
+pub mod Checking
+pub mod CheckNames
+pub mod CheckSteps
