@@ -8,7 +8,6 @@ use cel_value::{CelType, KeyType};
 use check_rows::{CALLS, LEAVES, LITERALS, LOOPS, Row, SCOPES, SELECTS};
 use proto_wire::Refusal;
 use std::alloc::Global;
-use std::test::Fail;
 
 /// What `check` answers on a message: the letter of a type, or a refusal.
 fn answer(alloc: Global, bytes: &[u8]) -> Result<u8, Refusal> {
@@ -52,39 +51,42 @@ fn map_letter(key: KeyType, values: &CelType) -> u8 {
     }
 }
 
-fn all(rt: &HostRuntime, rows: &[Row]) -> Result<(), Fail> {
+/// The first row that is answered otherwise.
+fn first_wrong(alloc: Global, rows: &[Row]) -> Option<&'static str> {
     for (text, want, bytes) in rows {
-        assert!(rt; answer(rt.alloc(), bytes) == *want, "{text}");
+        if answer(alloc, bytes) != *want {
+            return Some(*text);
+        }
     }
-    Ok(())
+    None
 }
 
 #[test]
-fn leaves(rt: HostRuntime) -> Result<(), Fail> {
-    all(&rt, &LEAVES)
+fn leaves(rt: HostRuntime) {
+    assert_eq!(rt; first_wrong(rt.alloc(), &LEAVES), None);
 }
 
 #[test]
-fn selects(rt: HostRuntime) -> Result<(), Fail> {
-    all(&rt, &SELECTS)
+fn selects(rt: HostRuntime) {
+    assert_eq!(rt; first_wrong(rt.alloc(), &SELECTS), None);
 }
 
 #[test]
-fn calls(rt: HostRuntime) -> Result<(), Fail> {
-    all(&rt, &CALLS)
+fn calls(rt: HostRuntime) {
+    assert_eq!(rt; first_wrong(rt.alloc(), &CALLS), None);
 }
 
 #[test]
-fn literals(rt: HostRuntime) -> Result<(), Fail> {
-    all(&rt, &LITERALS)
+fn literals(rt: HostRuntime) {
+    assert_eq!(rt; first_wrong(rt.alloc(), &LITERALS), None);
 }
 
 #[test]
-fn loops(rt: HostRuntime) -> Result<(), Fail> {
-    all(&rt, &LOOPS)
+fn loops(rt: HostRuntime) {
+    assert_eq!(rt; first_wrong(rt.alloc(), &LOOPS), None);
 }
 
 #[test]
-fn scopes(rt: HostRuntime) -> Result<(), Fail> {
-    all(&rt, &SCOPES)
+fn scopes(rt: HostRuntime) {
+    assert_eq!(rt; first_wrong(rt.alloc(), &SCOPES), None);
 }

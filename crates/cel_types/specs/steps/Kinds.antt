@@ -45,17 +45,18 @@ abbrev pub NoListOf : Option CelTypeEntry → List ValueType → Refusal → Typ
 NoListOf entry [] e = NotTold entry IsList e
 NoListOf entry (s ∷ ss) e = (in_turn s s ss ≡ false) × (e ≡ NoOverload)
 
--- a map literal with keys and values of these types has the type
+-- a map literal with keys and values of these types has the type; each key has a value, so there is
+-- never one alone
 abbrev pub IsMapOf : Option CelTypeEntry → List ValueType → ValueType → Type 0
 IsMapOf entry [] t = TypeGiven entry t × IsMap t
-IsMapOf entry (r ∷ []) t = ⊥
+IsMapOf entry (r ∷ []) t = TypeGiven entry t × IsMap t
 IsMapOf entry (r ∷ s ∷ ss) t = (in_turn r s ss ≡ true) × (k : KeyType) × (r ≡ type_of_key k)
     × (t ≡ map_type k s)
 
 -- it has none
 abbrev pub NoMapOf : Option CelTypeEntry → List ValueType → Refusal → Type 0
 NoMapOf entry [] e = NotTold entry IsMap e
-NoMapOf entry (r ∷ []) e = ⊥
+NoMapOf entry (r ∷ []) e = NotTold entry IsMap e
 NoMapOf entry (r ∷ s ∷ ss) e =
     ((in_turn r s ss ≡ false) ⊎ ((k : KeyType) → r ≢ type_of_key k)) × (e ≡ NoOverload)
 
