@@ -1,6 +1,6 @@
 -- What the single steps of the check come to.
-use Rattle.std.proofs.Common.{arith, ◌≤◌, ◌*◌, max, ℤ, rules, ◌≡◌, ◌≢◌, ◌<◌, ◌+◌, ◌-◌, ◌&&◌, suc, inl, inr, ℕ, Bool, Bor, true, false, List, [], ◌∷◌, ◌++◌, drop, take, length, get_or, map-append, Option, Some, None, refl, sym, ap, ap₂, ◌∙◌}
-use Rattle.std.proofs.lemmas.List.{drop_more, take_more}
+use Rattle.std.proofs.Common.{arith, ◌≤◌, ◌*◌, max, ℤ, rules, ◌≡◌, ◌≢◌, ◌<◌, ◌+◌, ◌-◌, ◌&&◌, suc, inl, inr, ℕ, Bool, Bor, true, false, List, [], ◌∷◌, ◌++◌, drop, take, length, get_or, Option, Some, None, refl, sym, ap, ap₂, ◌∙◌}
+use Rattle.std.proofs.lemmas.List.{drop_more, map-append, take_more}
 use Rattle.std.specs.Prelude.{IsTrue, IsUtf8, ◌==◌}
 use Rattle.cel_overload.specs.View.{types_of}
 use Rattle.proto_wire.specs.declared.refusal.Refusal.{Refusal}
@@ -96,7 +96,7 @@ max-below a b n = at (nat_lt a n) refl (nat_lt b n) refl
     at true d true e =
         let first : a < n = grind (arith, nat_tests) in
         let second : b < n = grind (arith, nat_tests) in
-        let most : max a b ≤ n - 1 = max-le {a} {b} {n - 1} (omega arith) (omega arith) in
+        let most : max a b ≤ n - 1 = max-le {k = n - 1} (omega arith) (omega arith) in
         let below : max a b < n = omega (arith, most, first) in
         grind (arith, nat_tests)
     at true d false e =
@@ -120,7 +120,7 @@ few-at ts i d n b within is here so_far =
     ap (λ x. x && nat_lt (locals_in_each (trees_view (drop (i + 1) ts))) n)
     (sym here ∙ ap (λ t. nat_lt (locals_in (tree_view t)) n) is)
     ∙ sym (max-below (locals_in (tree_view (get_or ts i d)))
-        (locals_in_each (trees_view (drop (i + 1) ts))) n)
+    (locals_in_each (trees_view (drop (i + 1) ts))) n)
     ∙ ap (λ l. nat_lt (locals_in_each (trees_view l)) n) (sym (drop_more ts i d within)) ∙ so_far
 
 pub few-entries-at : (es : List TreeEntry) (i : ℕ) (d : TreeEntry) (n : ℕ) (b c : Bool)

@@ -1,7 +1,7 @@
 -- From what the check of a node's parts came to, to what the check of the node does: rule by rule.
-use Rattle.std.proofs.Common.{arith, ◌≡◌, ◌≢◌, ◌⊎◌, ◌&&◌, ◌<◌, ◌≤◌, ◌+◌, max, inl, inr, zero, suc, ℕ, ℤ, Bool, true, false, List, [], ◌∷◌, ◌++◌, Option, Some, None, refl, sym, ap, ap₂, ◌∙◌, append_assoc, map, map-append, take, length, get_or, subst}
+use Rattle.std.proofs.Common.{arith, ◌≡◌, ◌≢◌, ◌⊎◌, ◌&&◌, ◌<◌, ◌≤◌, ◌+◌, max, inl, inr, zero, suc, ℕ, ℤ, Bool, true, false, List, [], ◌∷◌, ◌++◌, Option, Some, None, refl, sym, ap, ap₂, ◌∙◌, append_assoc, map, take, length, get_or, subst}
 use Rattle.std.proofs.Math.Nat.{le-max_left, le-max_right}
-use Rattle.std.proofs.lemmas.List.{take_more}
+use Rattle.std.proofs.lemmas.List.{map-append, take_more}
 use Rattle.cel_tree.specs.declared.tree.Tree.{Tree}
 use Rattle.cel_tree.specs.declared.tree.TreeEntry.{TreeEntry}
 use Rattle.cel_types.specs.declared.typed.TypedExpr.{TypedExpr}
@@ -101,10 +101,12 @@ node-agrees m ks (comprehension id x acc range init condition step result) s g a
 pub node-found : (m : Maps) (ks : Kinds) (t : CelTree) (e : TypedTree) → IsNode m ks t e
     → TypeAgrees (get m.types (id_of t)) (kind e) → IsFound m ks t e
 node-found m ks t e node agrees =
-    let has = types-of m ks t e node.0 in
-    (node.0, node-agrees m ks t (kind e) has
-        (entry-agrees (get m.types (id_of t)) (Types m ks t) (kind e) (one-type m ks t) has agrees)
-        node.1)
+    let has = types-of m ks t e node.0 in (
+      node.0,
+      node-agrees m ks t (kind e) has
+          (entry-agrees (get m.types (id_of t)) (Types m ks t) (kind e) (one-type m ks t) has agrees)
+          node.1,
+    )
 
 -- one whose type entry does not agree has a fault
 pub entry-wrong : (m : Maps) (ks : Kinds) (t : CelTree) (e : TypedTree) → IsNode m ks t e
@@ -204,7 +206,7 @@ module _ (m : Maps) (ks : Kinds) (id : ℤ) (name : List ℕ) (ts : CelTrees) wh
   call-bad on before es e first others (inr (never, err)) =
       let all = operands on before es first others in
       inl (CallsFault.no_overload (kinds (typed_of es)) (target-types m ks on ts (typed_of es) all.0)
-          never err)
+      never err)
 
 -- ---- list literals
 
@@ -263,14 +265,14 @@ module _ (m : Maps) (ks : Kinds) where
   list-wrong : (id : ℤ) (ts : CelTrees) (es : List TypedTree) (e : Refusal)
       → ElaboratesEach m ks ts (typed_of es) → NoListOf (get m.types id) (kinds (typed_of es)) e
       → TypeFault m ks (list_literal id ts) e
-  list-wrong id no_trees [] e g (inl untold) = inl untold
+  list-wrong id no_trees [] e g (inl bad) = inl bad
   list-wrong id no_trees [] e g (inr (is, err)) = inr (unsupported_kind is err)
   list-wrong id no_trees (x ∷ es) e g f = absurd g
   list-wrong id (tree a ts) [] e g f = absurd g
   list-wrong id (tree a ts) (x ∷ es) e g (none, err) =
       let some = some-differs ts (typed_of es) (kind x) g.1 none in
       inl (ElementsFault.two_types (kind x) some.0 (inl (types-of m ks a x g.0)) (inr some.1) some.2
-          err)
+      err)
 
   pub list-bad : (id : ℤ) (ts : CelTrees) (es : List TypedTree) (e : Refusal)
       → AreFound m ks ts [] es → NoListOf (get m.types id) (kinds (typed_of es)) e
@@ -346,7 +348,7 @@ module _ (m : Maps) (ks : Kinds) where
   pub map-bad : (id : ℤ) (es : CelTreeEntries) (ps : TypedTrees) (e : Refusal)
       → ElaboratesPairs m ks es ps → NoMapOf (get m.types id) (kinds ps) e
       → TypeFault m ks (map_literal id es) e
-  map-bad id no_tree_entries no_typed e g (inl untold) = inl untold
+  map-bad id no_tree_entries no_typed e g (inl bad) = inl bad
   map-bad id no_tree_entries no_typed e g (inr (is, err)) = inr (unsupported_kind is err)
   map-bad id no_tree_entries (typed k ps) e g f = absurd g
   map-bad id (tree_entry i key value es) no_typed e g f = absurd g
@@ -387,75 +389,75 @@ module _ (m : Maps) (ks : Kinds) (id : ℤ) (p : LoopParts) where
     elements-none e never err = inl (no_elements (kind r) has_range never err)
 
     module _ (i : TypedTree) (init : IsFound m ks p.accu_init i) (s : ValueType) (over : IsOver (kind r) s)
-        where
-      has_init : Types m ks p.accu_init (kind i)
-      has_init = types-of m ks p.accu_init i init.0
+      where
+        has_init : Types m ks p.accu_init (kind i)
+        has_init = types-of m ks p.accu_init i init.0
 
-      turns : (IsSo : ValueType → ValueType → Type 0) → IsSo s (kind i)
-          → EachTurn (Types m ks p.iter_range) (Types m ks p.accu_init) IsSo
-      turns IsSo so = each-turn (Types m ks p.iter_range) (Types m ks p.accu_init) IsSo (kind r) s (kind i)
-          has_range over has_init so
+        turns : (IsSo : ValueType → ValueType → Type 0) → IsSo s (kind i)
+            → EachTurn (Types m ks p.iter_range) (Types m ks p.accu_init) IsSo
+        turns IsSo so = each-turn (Types m ks p.iter_range) (Types m ks p.accu_init) IsSo (kind r) s (kind i)
+            has_range over has_init so
 
-      pub turn-bad : (e : Refusal)
-          → TurnFault m (turn_of s (kind i)) p.loop_condition p.loop_step (kind i) e
-          → TypeFault m ks (loop_of id p) e
-      turn-bad e (inl f) = inl (faulty_turn (turns (λ s a. TypeFault m (turn_of s a) p.loop_condition e
-          ⊎ TypeFault m (turn_of s a) p.loop_step e) f))
-      turn-bad e (inr (inl (f, err))) = inl (no_condition (turns
-          (λ s a. (t : ValueType) × Types m (turn_of s a) p.loop_condition t × (t ≢ bool_type)) f) err)
-      turn-bad e (inr (inr (f, err))) = inl (no_step (turns
-          (λ s a. (t : ValueType) × Types m (turn_of s a) p.loop_step t × (t ≢ a)) f) err)
+        pub turn-bad : (e : Refusal)
+            → TurnFault m (turn_of s (kind i)) p.loop_condition p.loop_step (kind i) e
+            → TypeFault m ks (loop_of id p) e
+        turn-bad e (inl f) = inl (faulty_turn (turns (λ s a. TypeFault m (turn_of s a) p.loop_condition e
+            ⊎ TypeFault m (turn_of s a) p.loop_step e) f))
+        turn-bad e (inr (inl (f, err))) = inl (no_condition (turns
+            (λ s a. (t : ValueType) × Types m (turn_of s a) p.loop_condition t × (t ≢ bool_type)) f) err)
+        turn-bad e (inr (inr (f, err))) = inl (no_step (turns
+            (λ s a. (t : ValueType) × Types m (turn_of s a) p.loop_step t × (t ≢ a)) f) err)
 
-      pub result-bad : (e : Refusal) → TypeFault m ((p.accu_var, kind i) ∷ ks) p.result e
-          → TypeFault m ks (loop_of id p) e
-      result-bad e f = inl (in_result
-          (λ b may. subst (λ b. TypeFault m ((p.accu_var, b) ∷ ks) p.result e) (may (kind i) has_init) f))
+        pub result-bad : (e : Refusal) → TypeFault m ((p.accu_var, kind i) ∷ ks) p.result e
+            → TypeFault m ks (loop_of id p) e
+        result-bad e f = inl (in_result
+            (λ b may. subst (λ b. TypeFault m ((p.accu_var, b) ∷ ks) p.result e) (may (kind i) has_init) f))
 
-      pub loop-found : NamesDiffer p.iter_var p.accu_var → (c u e : TypedTree)
-          → IsTurn m (turn_of s (kind i)) p.loop_condition p.loop_step (kind i) c u
-          → IsFound m ((p.accu_var, kind i) ∷ ks) p.result e
-          → IsNode m ks (loop_of id p) (typed_loop (kind e) r i c u e)
-      loop-found names c u e (condition, is_bool, step, keeps) result = (
-        (
-          record {
-            names = names;
-            walked = kind r;
-            element = s;
-            gathered = kind i;
-            range = has_range;
-            over = over;
-            init = has_init;
-            condition = subst (Types m (turn_of s (kind i)) p.loop_condition) is_bool
-                (types-of m (turn_of s (kind i)) p.loop_condition c condition.0);
-            step = subst (Types m (turn_of s (kind i)) p.loop_step) keeps
-                (types-of m (turn_of s (kind i)) p.loop_step u step.0);
-            result = types-of m ((p.accu_var, kind i) ∷ ks) p.result e result.0;
-          },
-          s,
-          kind i,
-          over,
-          refl,
-          range.0,
-          init.0,
-          condition.0,
-          step.0,
-          result.0,
-        ),
-        (
-          range.1,
-          init.1,
-          (λ w v a is_range is_over is_init.
-              let elements : s ≡ v = over-one w s v
-              (subst (λ w. IsOver w s) (one-type m ks p.iter_range (kind r) w has_range is_range) over) is_over in
-              let gathered : kind i ≡ a = one-type m ks p.accu_init (kind i) a has_init is_init in
-              subst (λ v. EntriesAgree m (turn_of v a) p.loop_condition
-              × EntriesAgree m (turn_of v a) p.loop_step) elements
-              (subst (λ a. EntriesAgree m (turn_of s a) p.loop_condition
-              × EntriesAgree m (turn_of s a) p.loop_step) gathered (condition.1, step.1))),
-          (λ a is_init. subst (λ a. EntriesAgree m ((p.accu_var, a) ∷ ks) p.result)
-              (one-type m ks p.accu_init (kind i) a has_init is_init) result.1),
-        ),
-      )
+        pub loop-found : NamesDiffer p.iter_var p.accu_var → (c u e : TypedTree)
+            → IsTurn m (turn_of s (kind i)) p.loop_condition p.loop_step (kind i) c u
+            → IsFound m ((p.accu_var, kind i) ∷ ks) p.result e
+            → IsNode m ks (loop_of id p) (typed_loop (kind e) r i c u e)
+        loop-found names c u e (condition, is_bool, step, keeps) result = (
+          (
+            record {
+              names = names;
+              walked = kind r;
+              element = s;
+              gathered = kind i;
+              range = has_range;
+              over = over;
+              init = has_init;
+              condition = subst (Types m (turn_of s (kind i)) p.loop_condition) is_bool
+                  (types-of m (turn_of s (kind i)) p.loop_condition c condition.0);
+              step = subst (Types m (turn_of s (kind i)) p.loop_step) keeps
+                  (types-of m (turn_of s (kind i)) p.loop_step u step.0);
+              result = types-of m ((p.accu_var, kind i) ∷ ks) p.result e result.0;
+            },
+            s,
+            kind i,
+            over,
+            refl,
+            range.0,
+            init.0,
+            condition.0,
+            step.0,
+            result.0,
+          ),
+          (
+            range.1,
+            init.1,
+            (λ w v a is_range is_over is_init.
+                let elements : s ≡ v = over-one w s v
+                (subst (λ w. IsOver w s) (one-type m ks p.iter_range (kind r) w has_range is_range) over) is_over in
+                let gathered : kind i ≡ a = one-type m ks p.accu_init (kind i) a has_init is_init in
+                subst (λ v. EntriesAgree m (turn_of v a) p.loop_condition
+                × EntriesAgree m (turn_of v a) p.loop_step) elements
+                (subst (λ a. EntriesAgree m (turn_of s a) p.loop_condition
+                × EntriesAgree m (turn_of s a) p.loop_step) gathered (condition.1, step.1))),
+            (λ a is_init. subst (λ a. EntriesAgree m ((p.accu_var, a) ∷ ks) p.result)
+                (one-type m ks p.accu_init (kind i) a has_init is_init) result.1),
+          ),
+        )
 
 -- ---- one expression after another
 
@@ -549,7 +551,7 @@ module _ (m : Maps) (ks : Kinds) where
       take_more ts i d within ∙ ap (λ x. take i ts ++ (x ∷ [])) (sym is) in
       rw (more, map-append tree_view (take i ts) (d ∷ []), map-append expr_view es (e ∷ []))
       (each-push m ks (map tree_view (take i ts)) (tree_view d) before (map expr_view es) (expr_view e)
-          so_far found)
+      so_far found)
 
   pub pairs-more : (ts : List TreeEntry) (i : ℕ) (d : TreeEntry) (es : List TypedExpr)
       (k v : TypedExpr) → i < length ts → d ≡ get_or ts i d
@@ -568,7 +570,7 @@ module _ (m : Maps) (ks : Kinds) where
         map-append expr_view (es ++ (k ∷ [])) (v ∷ []),
         map-append expr_view es (k ∷ []),
       ) (pairs-push m ks (map entry_view (take i ts)) (entry_view d) (map expr_view es) (expr_view k)
-          (expr_view v) so_far.0 so_far.1 key value)
+      (expr_view v) so_far.0 so_far.1 key value)
 
 -- one of the trees has no more locals than they all
 pub each-within : (ts : List Tree) (i : ℕ) (d : Tree) → i < length ts → d ≡ get_or ts i d

@@ -65,10 +65,7 @@ pub(super) fn map_type(
         [key, value, others @ ..] => {
             let key_type = require_key(key.cel_type())?;
             require_in_turn(others, key.cel_type(), value.cel_type())?;
-            Ok(CelType::Map(
-                key_type,
-                Rc::new(alloc, value.cel_type().copy()?)?,
-            ))
+            Ok(CelType::Map(key_type, Rc::new(alloc, value.cel_type().copy()?)?))
         }
         _ => Ok(empty_map(entry)?.copy()?),
     }

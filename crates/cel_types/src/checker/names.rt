@@ -97,10 +97,7 @@ fn attribute_type(alloc: Global, id: AttrId) -> Result<CelType, AllocError>
         AttrType::Int => Ok(CelType::Int),
         AttrType::Uint => Ok(CelType::Uint),
         AttrType::Bool => Ok(CelType::Bool),
-        AttrType::TextMap => Ok(CelType::Map(
-            KeyType::Text,
-            Rc::new(alloc, CelType::Text)?,
-        )),
+        AttrType::TextMap => Ok(CelType::Map(KeyType::Text, Rc::new(alloc, CelType::Text)?)),
     }
 }
 

@@ -7,31 +7,15 @@ pub(super) type Row = (&'static str, Result<u8, Refusal>, &'static [u8]);
 
 /// Constants and names.
 pub(super) const LEAVES: [Row; 33] = [
-    (
-        "true",
-        Ok(b'b'),
-        b"\x22\x04\x1a\x02\x10\x01",
-    ),
+    ("true", Ok(b'b'), b"\x22\x04\x1a\x02\x10\x01"),
     (
         "-1",
         Ok(b'i'),
         b"\x22\x0d\x1a\x0b\x18\xff\xff\xff\xff\xff\xff\xff\xff\xff\x01",
     ),
-    (
-        "1u",
-        Ok(b'u'),
-        b"\x22\x04\x1a\x02 \x01",
-    ),
-    (
-        "'a'",
-        Ok(b's'),
-        b"\x22\x05\x1a\x032\x01a",
-    ),
-    (
-        "b'a'",
-        Ok(b'y'),
-        b"\x22\x05\x1a\x03:\x01a",
-    ),
+    ("1u", Ok(b'u'), b"\x22\x04\x1a\x02 \x01"),
+    ("'a'", Ok(b's'), b"\x22\x05\x1a\x032\x01a"),
+    ("b'a'", Ok(b'y'), b"\x22\x05\x1a\x03:\x01a"),
     (
         "true, type bool",
         Ok(b'b'),
@@ -103,11 +87,7 @@ pub(super) const LEAVES: [Row; 33] = [
         Err(Refusal::UnknownName),
         b"\x22\x02\x22\x00",
     ),
-    (
-        "x",
-        Err(Refusal::UnknownName),
-        b"\x22\x05\x22\x03\x0a\x01x",
-    ),
+    ("x", Err(Refusal::UnknownName), b"\x22\x05\x22\x03\x0a\x01x"),
     (
         "the dotted name request.color",
         Err(Refusal::UnknownName),
@@ -978,11 +958,7 @@ pub(super) const LITERALS: [Row; 42] = [
         Err(Refusal::UnknownName),
         b"\x22\x09:\x07\x0a\x05\x22\x03\x0a\x01x",
     ),
-    (
-        "[]",
-        Err(Refusal::NeedsType),
-        b"\x22\x02:\x00",
-    ),
+    ("[]", Err(Refusal::NeedsType), b"\x22\x02:\x00"),
     (
         "[], type dyn",
         Err(Refusal::NeedsType),
@@ -1111,11 +1087,7 @@ pub(super) const LITERALS: [Row; 42] = [
         b"\x1a\x06\x08\x02\x12\x02\x18\x02\x22\x13B\x11\x12\x0f\x1a\x07\x10\x02\x1a\x032\x01a\
           \x22\x04\x1a\x02\x18\x01",
     ),
-    (
-        "{}",
-        Err(Refusal::NeedsType),
-        b"\x22\x02B\x00",
-    ),
+    ("{}", Err(Refusal::NeedsType), b"\x22\x02B\x00"),
     (
         "{}, type dyn",
         Err(Refusal::NeedsType),

@@ -12,5 +12,5 @@ pub returns-else-eq-clause-fault : goal.returns-else-eq-clause-fault
 returns-else-eq-clause-fault c =
     rw c.in-Type.is (another_type (type_view c.in-Type.said) (type_view c.args.found.now) refl refl
     (λ k. let same : type_eq (type_view c.in-Type.said) (type_view c.args.found.now) ≡ true =
-        (type_eq-Decides _ _).1 k in
-        let eq = c.eq.ensures in let differs = c.if-eq.false in cc) refl)
+    (type_eq-Decides _ _).1 k in
+    let eq = c.eq.ensures in let differs = c.if-eq.false in cc) refl)

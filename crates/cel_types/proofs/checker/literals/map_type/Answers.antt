@@ -17,14 +17,17 @@ returns-in_ok-copy-in_default-clause-found c =
 
 pub returns-in_ok-new-in-len2-up-clause-found : goal.returns-in_ok-new-in-len2-up-clause-found
 returns-in_ok-new-in-len2-up-clause-found c =
-    rw (two-exprs c.args.pairs.now c.key-item.result c.value-item.result c.in-len2-up.len_at_least
-    c.key-item.is c.value-item.is, view-MapType c.in_ok-key_type-in-len2-up.key_type
-    c.in_ok-new-in-len2-up.field-0) (
+    rw (
+      two-exprs c.args.pairs.now c.key-item.result c.value-item.result c.in-len2-up.len_at_least
+          c.key-item.is c.value-item.is,
+      view-MapType c.in_ok-key_type-in-len2-up.key_type
+          c.in_ok-new-in-len2-up.field-0,
+    ) (
       rw (c.cel_type-in-len2-up.ensures, c.cel_type-in-len2-up-2.ensures)
-      at c.in_ok-require_in_turn-in-len2-up.ensures.found,
+          at c.in_ok-require_in_turn-in-len2-up.ensures.found,
       c.in_ok-key_type-in-len2-up.key_type,
       rw c.cel_type.ensures at c.in_ok-key_type-in-len2-up.ensures.found,
       ap (map_type c.in_ok-key_type-in-len2-up.key_type)
-      (ap type_view c.in_ok-new-in-len2-up.ensures.ok ∙ c.in_ok-copy-in-len2-up.ensures
-      ∙ c.cel_type-in-len2-up-3.ensures),
+          (ap type_view c.in_ok-new-in-len2-up.ensures.ok ∙ c.in_ok-copy-in-len2-up.ensures
+          ∙ c.cel_type-in-len2-up-3.ensures),
     )

@@ -74,9 +74,9 @@ check_list-returns-clause-found t c =
     let found = rw c.new.ensures.items at c.in_ok-elements.ensures.found in
     rw (view-List c.in_ok-cel_type.cel_type c.in_ok-elements.elements)
     (list-found (maps_of (checked_view c.args.checked.now)) (scope_view c.args.scope.now) c.args.id
-        (trees_view c.args.elements.now) (map expr_view c.in_ok-elements.elements.items)
-        (type_view c.in_ok-cel_type.cel_type) found
-        (rw (c.get.ensures, c.deref.ensures.value) at c.in_ok-cel_type.ensures.found))
+    (trees_view c.args.elements.now) (map expr_view c.in_ok-elements.elements.items)
+    (type_view c.in_ok-cel_type.cel_type) found
+    (rw (c.get.ensures, c.deref.ensures.value) at c.in_ok-cel_type.ensures.found))
 
 pub check_map-returns-in_err-cel_type-clause-fault : goal.check_map-returns-in_err-cel_type-clause-fault
 check_map-returns-in_err-cel_type-clause-fault t c =
@@ -91,9 +91,9 @@ check_map-returns-clause-found t c =
     let found = c.in_ok-pairs.ensures.found in
     rw (view-Map c.in_ok-cel_type.cel_type c.in_ok-pairs.pairs)
     (map-found (maps_of (checked_view c.args.checked.now)) (scope_view c.args.scope.now) c.args.id
-        (tree_entries_view c.args.entries.now) (exprs_view c.in_ok-pairs.pairs.items)
-        (type_view c.in_ok-cel_type.cel_type) found.0 found.1
-        (rw (c.get.ensures, c.deref.ensures.value) at c.in_ok-cel_type.ensures.found))
+    (tree_entries_view c.args.entries.now) (exprs_view c.in_ok-pairs.pairs.items)
+    (type_view c.in_ok-cel_type.cel_type) found.0 found.1
+    (rw (c.get.ensures, c.deref.ensures.value) at c.in_ok-cel_type.ensures.found))
 
 pub check_each-check_tree-requires : goal.check_each-check_tree-requires
 check_each-check_tree-requires t c =
@@ -112,9 +112,9 @@ pub check_each-loop-tree-preserved : goal.check_each-loop-tree-preserved
 check_each-loop-tree-preserved t c =
     rw c.in_ok-push.ensures.items
     (each-more (maps_of (checked_view c.args.checked.now)) (scope_view c.args.scope.now)
-        c.args.trees.now c.loop-tree.tree-index c.tree-item.result (map expr_view c.args.before.items)
-        c.loop-tree.typed.items c.in_ok-check_tree.field-0 c.loop-tree-test.true c.tree-item.is
-        c.loop-tree.invariant c.in_ok-check_tree.ensures.found)
+    c.args.trees.now c.loop-tree.tree-index c.tree-item.result (map expr_view c.args.before.items)
+    c.loop-tree.typed.items c.in_ok-check_tree.field-0 c.loop-tree-test.true c.tree-item.is
+    c.loop-tree.invariant c.in_ok-check_tree.ensures.found)
 
 pub check_pairs-check_tree-requires : goal.check_pairs-check_tree-requires
 check_pairs-check_tree-requires t c =
@@ -151,9 +151,9 @@ pub check_pairs-loop-entry-preserved : goal.check_pairs-loop-entry-preserved
 check_pairs-loop-entry-preserved t c =
     rw (c.in_ok-push-2.ensures.items, c.in_ok-push.ensures.items)
     (pairs-more (maps_of (checked_view c.args.checked.now)) (scope_view c.args.scope.now)
-        c.args.entries.now c.loop-entry.entry-index c.entry-item.result c.loop-entry.pairs.items
-        c.in_ok-check_tree.field-0 c.in_ok-check_tree-2.field-0 c.loop-entry-test.true c.entry-item.is
-        c.loop-entry.invariant c.in_ok-check_tree.ensures.found c.in_ok-check_tree-2.ensures.found)
+    c.args.entries.now c.loop-entry.entry-index c.entry-item.result c.loop-entry.pairs.items
+    c.in_ok-check_tree.field-0 c.in_ok-check_tree-2.field-0 c.loop-entry-test.true c.entry-item.is
+    c.loop-entry.invariant c.in_ok-check_tree.ensures.found c.in_ok-check_tree-2.ensures.found)
 
 pub check_node-returns-in-Ident-clause-fault : goal.check_node-returns-in-Ident-clause-fault
 check_node-returns-in-Ident-clause-fault t c =
@@ -186,8 +186,13 @@ pub check_loop-returns-in_err-condition-clause-fault : goal.check_loop-returns-i
 check_loop-returns-in_err-condition-clause-fault t c =
     let over = rw c.cel_type.ensures at c.in_ok-elements.ensures.found in
     exit_memory_or _ _ c.from_residual-in_err-condition.result _ c.from_residual-in_err-condition.ensures.1
-    (rw (c.with-2.ensures, c.with.ensures, c.in_ok-element.ensures, c.cel_type-2.ensures,
-    c.cel_type-3.ensures) at c.in_err-condition.ensures.fault)
+    (rw (
+      c.with-2.ensures,
+      c.with.ensures,
+      c.in_ok-element.ensures,
+      c.cel_type-2.ensures,
+      c.cel_type-3.ensures,
+    ) at c.in_err-condition.ensures.fault)
     (λ e bad. turn-bad (maps_of (checked_view c.args.checked.now)) (scope_view c.args.scope.now) c.args.id
     (loop_view c.args.parts.now) (expr_view c.in_ok-range.range) c.in_ok-range.ensures.found (expr_view c.in_ok-init.init) c.in_ok-init.ensures.found
     (elements_type c.in_ok-elements.elements) over e bad)

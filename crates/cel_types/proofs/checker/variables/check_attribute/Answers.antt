@@ -1,4 +1,4 @@
-use Rattle.std.proofs.Common.{◌≡◌, inl, inr, option_map, refl, ap, ap₂, ◌∙◌, subst, Some, None}
+use Rattle.std.proofs.Common.{◌≡◌, inl, inr, option_map, refl, ap, ◌∙◌, to_z, of_z, to_z-of_z, w64}
 use Rattle.cel_ops.specs.Attributes.{attribute_type}
 use Rattle.cel_value.specs.Texts.{points_of, text_view}
 use Rattle.cel_tree.proofs.Readers.{exit_fault}
@@ -21,8 +21,15 @@ pub returns-in_err-require_reference-clause-fault : goal.returns-in_err-require_
 returns-in_err-require_reference-clause-fault c =
     let named = rw (c.deref.ensures, c.in_ok-name.ensures, c.as_str.ensures.value, c.as_str-2.ensures.value)
     at c.in_ok-attribute.ensures.found in
-    let bad = rw (c.get.ensures, c.deref-2.ensures, c.in_ok-name.ensures, c.as_str.ensures.value,
-    c.as_str-2.ensures.value) at c.in_err-require_reference.ensures.fault in
+    let same : to_z w64 (of_z w64 c.args.id) ≡ c.args.id = to_z-of_z c.ranges.id.sfits in
+    let bad = rw (
+      c.get.ensures,
+      same,
+      c.deref-2.ensures,
+      c.in_ok-name.ensures,
+      c.as_str.ensures.value,
+      c.as_str-2.ensures.value,
+    ) at c.in_err-require_reference.ensures.fault in
     exit_fault _ c.from_residual-in_err-require_reference.result _
     c.from_residual-in_err-require_reference.ensures.1
     (SelectFault.other_reference (text_view c.args.root.now) (attribute_type c.in_ok-attribute.attribute)
