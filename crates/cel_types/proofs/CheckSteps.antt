@@ -1,5 +1,5 @@
 -- What the single steps of the check come to.
-use Rattle.std.proofs.Common.{arith, ◌≤◌, ◌*◌, max, ℤ, rules, ◌≡◌, ◌≢◌, ◌<◌, ◌+◌, ◌-◌, ◌&&◌, suc, inl, inr, ℕ, Bool, Bor, true, false, List, [], ◌∷◌, ◌++◌, drop, take, length, get_or, Option, Some, None, refl, sym, ap, ap₂, ◌∙◌}
+use Rattle.std.proofs.Common.{nat_lt, arith, ◌≤◌, ◌*◌, max, ℤ, rules, ◌≡◌, ◌≢◌, ◌<◌, ◌+◌, ◌-◌, ◌&&◌, suc, inl, inr, ℕ, Bool, Bor, true, false, List, [], ◌∷◌, ◌++◌, drop, take, length, get_or, Option, Some, None, refl, sym, ap, ap₂, ◌∙◌}
 use Rattle.std.proofs.lemmas.List.{drop_more, map-append, take_more}
 use Rattle.std.specs.Prelude.{IsTrue, IsUtf8, ◌==◌}
 use Rattle.cel_overload.specs.View.{types_of}
@@ -83,7 +83,7 @@ types-push ts t es i e within is so_far same =
 pub empty-name : (bs : List ℕ) → IsUtf8 bs → (b : Bool) → b ≡ (length bs == 0)
     → (IsTrue b → points_of bs ≡ []) × (points_of bs ≡ [] → IsTrue b)
 empty-name [] u b e = rw e (λ t. (nameless [] u).0 refl, λ k. refl)
-empty-name (x ∷ bs) u b e = rw e (λ t. cc, λ k. absurd (other ((nameless (x ∷ bs) u).1 k)))
+empty-name (x ∷ bs) u b e = rw e (λ t. absurd (let none : length (x ∷ bs) ≡ 0 = grind (arith, nat_tests) in omega (arith, none)), λ k. absurd (other ((nameless (x ∷ bs) u).1 k)))
   where
     other : x ∷ bs ≡ [] → ⊥
     other k = cc
