@@ -1,6 +1,6 @@
 -- What the single steps of the check come to.
 use Rattle.std.proofs.Common.{nat_lt, arith, ◌≤◌, ◌*◌, max, ℤ, rules, ◌≡◌, ◌≢◌, ◌<◌, ◌+◌, ◌-◌, ◌&&◌, suc, inl, inr, ℕ, Bool, Bor, true, false, List, [], ◌∷◌, ◌++◌, drop, take, length, get_or, Option, Some, None, refl, sym, ap, ap₂, ◌∙◌}
-use Rattle.std.proofs.lemmas.List.{drop_more, map-append, take_more}
+use Rattle.std.proofs.lemmas.List.{drop_more, length-drop, map-append, take_all, take_more}
 use Rattle.std.specs.Prelude.{IsTrue, IsUtf8, ◌==◌}
 use Rattle.cel_overload.specs.View.{types_of}
 use Rattle.proto_wire.specs.declared.refusal.Refusal.{Refusal}
@@ -189,6 +189,11 @@ two-exprs [] d e some first second = absurd (omega (arith, some))
 two-exprs (x ∷ []) d e some first second = absurd (omega (arith, some))
 two-exprs (x ∷ y ∷ es) d e some first second =
     ap₂ (λ a b. a ∷ b ∷ es) (sym first) (sym second)
+
+-- what is left behind the first ones is all of it
+pub all-left : (n : ℕ) (es : List TypedExpr) → take (length es - n) (drop n es) ≡ drop n es
+all-left n es =
+    let long = length-drop n es in take_all (length es - n) (drop n es) (omega (arith, long))
 
 -- fewer than two are no pair
 pub short-map : (entry : Option CelTypeEntry) (es : List TypedExpr) (t : ValueType) → length es < 2

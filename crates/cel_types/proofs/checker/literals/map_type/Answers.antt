@@ -2,7 +2,7 @@ use Rattle.std.proofs.Common.{◌≡◌, ap, sym, ◌∙◌}
 use Rattle.cel_value.proofs.Views.{view-MapType}
 use Rattle.cel_value.specs.Types.{map_type, type_view}
 use Rattle.cel_tree.proofs.Readers.{exit_fault}
-use Rattle.cel_types.proofs.CheckSteps.{short-fault, short-map, two-exprs}
+use Rattle.cel_types.proofs.CheckSteps.{all-left, short-fault, short-map, two-exprs}
 use Rattle.cel_types.proofs.checker.literals.map_type.Goals as goal
 
 pub returns-in_err-empty_map-in_default-clause-fault : goal.returns-in_err-empty_map-in_default-clause-fault
@@ -23,7 +23,7 @@ returns-in_ok-new-in-len2-up-clause-found c =
       view-MapType c.in_ok-key_type-in-len2-up.key_type
           c.in_ok-new-in-len2-up.field-0,
     ) (
-      rw (c.cel_type-in-len2-up.ensures, c.cel_type-in-len2-up-2.ensures)
+      rw (all-left 2 c.args.pairs.now, c.cel_type-in-len2-up.ensures, c.cel_type-in-len2-up-2.ensures)
           at c.in_ok-require_in_turn-in-len2-up.ensures.found,
       c.in_ok-key_type-in-len2-up.key_type,
       rw c.cel_type.ensures at c.in_ok-key_type-in-len2-up.ensures.found,

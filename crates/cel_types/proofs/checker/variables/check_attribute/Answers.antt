@@ -21,7 +21,7 @@ pub returns-in_err-require_reference-clause-fault : goal.returns-in_err-require_
 returns-in_err-require_reference-clause-fault c =
     let named = rw (c.deref.ensures, c.in_ok-name.ensures, c.as_str.ensures.value, c.as_str-2.ensures.value)
     at c.in_ok-attribute.ensures.found in
-    let same : to_z w64 (of_z w64 c.args.id) ≡ c.args.id = to_z-of_z c.ranges.id.sfits in
+    let same : to_z w64 (of_z w64 c.args.id) ≡ c.args.id = to_z-of_z c.ranges.id in
     let bad = rw (
       c.get.ensures,
       same,
