@@ -1,7 +1,7 @@
 -- What the single steps of the check come to.
 use Rattle.std.proofs.Common.{nat_lt, arith, ◌≤◌, ◌*◌, max, ℤ, rules, ◌≡◌, ◌≢◌, ◌<◌, ◌+◌, ◌-◌, ◌&&◌, suc, inl, inr, ℕ, Bool, Bor, true, false, List, [], ◌∷◌, ◌++◌, drop, take, length, get_or, Option, Some, None, refl, sym, ap, ap₂, ◌∙◌}
 use Rattle.std.proofs.lemmas.List.{drop_more, length-drop, map-append, take_all, take_more}
-use Rattle.std.specs.Prelude.{IsTrue, IsUtf8, ◌==◌}
+use Rattle.std.specs.Prelude.{is_some, IsTrue, IsUtf8, ◌==◌}
 use Rattle.cel_overload.specs.View.{types_of}
 use Rattle.proto_wire.specs.declared.refusal.Refusal.{Refusal}
 use Rattle.cel_types.proofs.CheckNames.{nameless}
@@ -11,8 +11,8 @@ use Rattle.std.specs.declared.alloc.Global.{Global}
 use Rattle.std.specs.declared.boxed.Box.{Box}
 use Rattle.std.specs.declared.vec.Vec.{Vec}
 use Rattle.cel_overload.specs.declared.overload.Overload.{Overload}
-use Rattle.cel_tree.specs.Tree.{ident, map_literal}
-use Rattle.cel_tree.specs.View.{loop_of as tree_loop, loop_view, tree_entries_view, tree_view, trees_view}
+use Rattle.cel_tree.specs.Tree.{call, ident, map_literal}
+use Rattle.cel_tree.specs.View.{boxed_view, loop_of as tree_loop, loop_view, target_of, tree_entries_view, tree_view, trees_view}
 use Rattle.cel_tree.specs.declared.tree.Comprehension.{Comprehension}
 use Rattle.cel_tree.specs.declared.tree.Tree.{Tree, the_lemmas as tree_lemmas}
 use Rattle.cel_tree.specs.declared.tree.Tree as trees
@@ -26,7 +26,7 @@ use Rattle.cel_value.specs.declared.cel_type.CelType.{CelType}
 use Rattle.cel_types.specs.Attributes.{attribute_named}
 use Rattle.cel_types.specs.Elaborated.{kind, kinds, typed_call, typed_list, typed_map}
 use Rattle.cel_types.specs.Names.{local}
-use Rattle.cel_types.specs.Typing.{IsMap, Kinds, TypeGiven, locals_in, locals_in_each, locals_in_entries, name_type}
+use Rattle.cel_types.specs.Typing.{IsMap, Kinds, TypeGiven, has_target, locals_in, locals_in_each, locals_in_entries, name_type}
 use Rattle.cel_types.specs.View.{expr_view, exprs_view, loop_of, parts_view}
 use Rattle.cel_types.specs.declared.checker.names.Name.{Name}
 use Rattle.cel_types.specs.declared.checker.names.Name.TheVariants as names
@@ -163,6 +163,17 @@ view-Loop t p = search (rules, expr_lemmas)
 
 pub tree-Ident : (id : ℤ) (n : RcStr Global) → tree_view (trees.Ident id n) ≡ ident id (text_view n)
 tree-Ident id n = search (rules, tree_lemmas)
+
+pub tree-Call : (id : ℤ) (f : RcStr Global) (on : Option (Box Tree Global)) (ts : Vec Tree Global)
+    → tree_view (trees.Call id f on ts)
+    ≡ call id (text_view f) (target_of (boxed_view on)) (trees_view ts.items)
+tree-Call id f on ts = search (rules, tree_lemmas)
+
+-- a call has a target where there is one in its box
+pub target-some : (on : Option (Box Tree Global))
+    → is_some on ≡ has_target (target_of (boxed_view on))
+target-some None = refl
+target-some (Some b) = refl
 
 pub tree-Map : (id : ℤ) (es : Vec TreeEntry Global)
     → tree_view (trees.Map id es) ≡ map_literal id (tree_entries_view es.items)

@@ -1,4 +1,6 @@
-use Rattle.std.proofs.Common.{arith, rules, ◌≡◌, ◌≤◌, ◌+◌, inl, inr, map, sym, ap, ◌∙◌}
+use Rattle.std.proofs.Common.{arith, rules, ◌≡◌, ◌≤◌, ◌+◌, inl, inr, map, sym, ap, ◌∙◌, to_z, of_z, to_z-of_z, w64}
+use Rattle.std.proofs.lemmas.Grind.{common_steps}
+use Rattle.cel_tree.specs.declared.tree.Tree.{the_lemmas}
 use Rattle.std.proofs.lemmas.Result.{MatchResult-weaker}
 use Rattle.cel_tree.proofs.Readers.{exit_fault, exit_memory_or, last_memory_or}
 use Rattle.cel_tree.specs.View.{checked_view, loop_view, tree_entries_view, tree_view, trees_view}
@@ -8,14 +10,15 @@ use Rattle.cel_types.specs.Typing.{maps_of}
 use Rattle.cel_types.specs.View.{expr_view, exprs_view}
 use Rattle.cel_types.specs.steps.Kinds.{elements_type}
 use Rattle.cel_types.specs.steps.Scopes.{scope_view}
-use Rattle.cel_types.proofs.CheckSteps.{tree-Comprehension, tree-Ident, tree-Map, view-List, view-Map}
-use Rattle.cel_types.proofs.Checking.{attribute-bad, each-more, each-within, elements-none, entry-within, entry-wrong, field-bad, field-found, list-bad, list-found, map-bad, map-found, node-found, pair-at, pairs-more, result-bad, some-at, turn-bad, types-of}
+use Rattle.cel_types.proofs.CheckSteps.{tree-Call, tree-Comprehension, tree-Ident, tree-Map, view-List, view-Loop, view-Map}
+use Rattle.cel_types.proofs.Checking.{attribute-bad, each-more, each-within, elements-none, entry-within, entry-wrong, field-bad, field-found, list-bad, list-found, loop-found, map-bad, map-found, node-found, pair-at, pairs-more, result-bad, some-at, turn-bad, types-of}
 use Rattle.cel_types.proofs.checker.nodes.+check.Goals as goal
 
 pub check_select-returns-in-Some-clause-fault : goal.check_select-returns-in-Some-clause-fault
 check_select-returns-in-Some-clause-fault t c =
     let is = rw c.in-Some.is at c.bare_root.ensures in
-    last_memory_or _ _ c.check_attribute.result c.check_attribute.ensures.fault
+    let same : to_z w64 (of_z w64 c.args.id) ≡ c.args.id = to_z-of_z c.ranges.id in
+    last_memory_or _ _ c.check_attribute.result (rw same at c.check_attribute.ensures.fault)
     (λ e bad. attribute-bad (maps_of (checked_view c.args.checked.now)) (scope_view c.args.scope.now)
     c.args.id (tree_view c.args.operand.now) (text_view c.in-Some.root.now) (text_view c.args.field.now)
     c.args.test_only e (sym is) bad)
@@ -38,16 +41,18 @@ check_select-returns-clause-fault t c =
 
 pub check_tree-returns-in_err-require_type-clause-fault : goal.check_tree-returns-in_err-require_type-clause-fault
 check_tree-returns-in_err-require_type-clause-fault t c =
+    let same : to_z w64 (of_z w64 c.id_of.result) ≡ c.id_of.result = search rules in
     exit_fault _ c.from_residual-in_err-require_type.result _ c.from_residual-in_err-require_type.ensures.1
     (entry-wrong (maps_of (checked_view c.args.checked.now)) (scope_view c.args.scope.now)
     (tree_view c.args.tree.now) (expr_view c.in_ok-typed.typed) c.in_ok-typed.ensures.found _
-    (rw (c.get.ensures, c.id_of.ensures, c.cel_type.ensures) at c.in_err-require_type.ensures.fault))
+    (rw (c.get.ensures, same, c.id_of.ensures, c.cel_type.ensures) at c.in_err-require_type.ensures.fault))
 
 pub check_tree-returns-clause-found : goal.check_tree-returns-clause-found
 check_tree-returns-clause-found t c =
+    let same : to_z w64 (of_z w64 c.id_of.result) ≡ c.id_of.result = search rules in
     node-found (maps_of (checked_view c.args.checked.now)) (scope_view c.args.scope.now)
     (tree_view c.args.tree.now) (expr_view c.in_ok-typed.typed) c.in_ok-typed.ensures.found
-    (rw (c.get.ensures, c.id_of.ensures, c.cel_type.ensures) at c.in_ok-require_type.ensures.found)
+    (rw (c.get.ensures, same, c.id_of.ensures, c.cel_type.ensures) at c.in_ok-require_type.ensures.found)
 
 pub check_turn-returns-in_err-require_bool-clause-fault : goal.check_turn-returns-in_err-require_bool-clause-fault
 check_turn-returns-in_err-require_bool-clause-fault t c =
@@ -63,44 +68,48 @@ check_turn-returns-in_err-require_same-clause-fault t c =
 
 pub check_list-returns-in_err-cel_type-clause-fault : goal.check_list-returns-in_err-cel_type-clause-fault
 check_list-returns-in_err-cel_type-clause-fault t c =
+    let same : to_z w64 (of_z w64 c.args.id) ≡ c.args.id = to_z-of_z c.ranges.id in
     let found = rw c.new.ensures.items at c.in_ok-elements.ensures.found in
     exit_memory_or _ _ c.from_residual-in_err-cel_type.result _ c.from_residual-in_err-cel_type.ensures.1
-    (rw (c.get.ensures, c.deref.ensures.value) at c.in_err-cel_type.ensures.fault)
+    (rw (c.get.ensures, same, c.deref.ensures.value) at c.in_err-cel_type.ensures.fault)
     (λ e bad. list-bad (maps_of (checked_view c.args.checked.now)) (scope_view c.args.scope.now) c.args.id
     (trees_view c.args.elements.now) (map expr_view c.in_ok-elements.elements.items) e found bad)
 
 pub check_list-returns-clause-found : goal.check_list-returns-clause-found
 check_list-returns-clause-found t c =
+    let same : to_z w64 (of_z w64 c.args.id) ≡ c.args.id = to_z-of_z c.ranges.id in
     let found = rw c.new.ensures.items at c.in_ok-elements.ensures.found in
     rw (view-List c.in_ok-cel_type.cel_type c.in_ok-elements.elements)
     (list-found (maps_of (checked_view c.args.checked.now)) (scope_view c.args.scope.now) c.args.id
     (trees_view c.args.elements.now) (map expr_view c.in_ok-elements.elements.items)
     (type_view c.in_ok-cel_type.cel_type) found
-    (rw (c.get.ensures, c.deref.ensures.value) at c.in_ok-cel_type.ensures.found))
+    (rw (c.get.ensures, same, c.deref.ensures.value) at c.in_ok-cel_type.ensures.found))
 
 pub check_map-returns-in_err-cel_type-clause-fault : goal.check_map-returns-in_err-cel_type-clause-fault
 check_map-returns-in_err-cel_type-clause-fault t c =
+    let same : to_z w64 (of_z w64 c.args.id) ≡ c.args.id = to_z-of_z c.ranges.id in
     let found = c.in_ok-pairs.ensures.found in
     exit_memory_or _ _ c.from_residual-in_err-cel_type.result _ c.from_residual-in_err-cel_type.ensures.1
-    (rw (c.get.ensures, c.deref.ensures.value) at c.in_err-cel_type.ensures.fault)
+    (rw (c.get.ensures, same, c.deref.ensures.value) at c.in_err-cel_type.ensures.fault)
     (λ e bad. map-bad (maps_of (checked_view c.args.checked.now)) (scope_view c.args.scope.now) c.args.id
     (tree_entries_view c.args.entries.now) (exprs_view c.in_ok-pairs.pairs.items) e found.0 bad)
 
 pub check_map-returns-clause-found : goal.check_map-returns-clause-found
 check_map-returns-clause-found t c =
+    let same : to_z w64 (of_z w64 c.args.id) ≡ c.args.id = to_z-of_z c.ranges.id in
     let found = c.in_ok-pairs.ensures.found in
     rw (view-Map c.in_ok-cel_type.cel_type c.in_ok-pairs.pairs)
     (map-found (maps_of (checked_view c.args.checked.now)) (scope_view c.args.scope.now) c.args.id
     (tree_entries_view c.args.entries.now) (exprs_view c.in_ok-pairs.pairs.items)
     (type_view c.in_ok-cel_type.cel_type) found.0 found.1
-    (rw (c.get.ensures, c.deref.ensures.value) at c.in_ok-cel_type.ensures.found))
+    (rw (c.get.ensures, same, c.deref.ensures.value) at c.in_ok-cel_type.ensures.found))
 
 pub check_each-check_tree-requires : goal.check_each-check_tree-requires
 check_each-check_tree-requires t c =
     let within = each-within c.args.trees.now c.loop-tree.tree-index c.tree-item.result
     c.loop-tree-test.true c.tree-item.is in
     let all = c.requires in
-    (search rules, omega (arith, within, all))
+    (first_of (search (rules, the_lemmas), grind (arith, the_lemmas), grind (arith, common_steps)), omega (arith, within, all))
 
 pub check_each-returns-in_err-check_tree-clause-fault : goal.check_each-returns-in_err-check_tree-clause-fault
 check_each-returns-in_err-check_tree-clause-fault t c =
@@ -122,7 +131,7 @@ check_pairs-check_tree-requires t c =
     c.loop-entry-test.true c.entry-item.is in
     let key = within.0 in
     let all = c.requires in
-    (search rules, omega (arith, key, all))
+    (first_of (search (rules, the_lemmas), grind (arith, the_lemmas), grind (arith, common_steps)), omega (arith, key, all))
 
 pub check_pairs-check_tree-requires-in-loop-entry : goal.check_pairs-check_tree-requires-in-loop-entry
 check_pairs-check_tree-requires-in-loop-entry t c =
@@ -130,7 +139,7 @@ check_pairs-check_tree-requires-in-loop-entry t c =
     c.loop-entry-test.true c.entry-item.is in
     let value = within.1 in
     let all = c.requires in
-    (search rules, omega (arith, value, all))
+    (first_of (search (rules, the_lemmas), grind (arith, the_lemmas), grind (arith, common_steps)), omega (arith, value, all))
 
 pub check_pairs-returns-in_err-check_tree-clause-fault : goal.check_pairs-returns-in_err-check_tree-clause-fault
 check_pairs-returns-in_err-check_tree-clause-fault t c =
@@ -157,18 +166,21 @@ check_pairs-loop-entry-preserved t c =
 
 pub check_node-returns-in-Ident-clause-fault : goal.check_node-returns-in-Ident-clause-fault
 check_node-returns-in-Ident-clause-fault t c =
-    last_memory_or _ _ c.check_ident.result c.check_ident.ensures.fault
+    let same : to_z w64 (of_z w64 c.in-Ident.id) ≡ c.in-Ident.id = search rules in
+    last_memory_or _ _ c.check_ident.result (rw same at c.check_ident.ensures.fault)
     (λ e bad. rw (c.in-Ident.is, tree-Ident c.in-Ident.id c.in-Ident.name) (inl bad))
 
 pub check_node-returns-in-Map-clause-found : goal.check_node-returns-in-Map-clause-found
 check_node-returns-in-Map-clause-found t c =
+    let same : to_z w64 (of_z w64 c.in-Map.id) ≡ c.in-Map.id = search rules in
     rw (c.in-Map.is, tree-Map c.in-Map.id c.in-Map.entries)
-    (rw c.deref-in-Map.ensures.value at c.check_map.ensures.found)
+    (rw (same, c.deref-in-Map.ensures.value) at c.check_map.ensures.found)
 
 pub check_node-returns-in-Map-clause-fault : goal.check_node-returns-in-Map-clause-fault
 check_node-returns-in-Map-clause-fault t c =
+    let same : to_z w64 (of_z w64 c.in-Map.id) ≡ c.in-Map.id = search rules in
     rw (c.in-Map.is, tree-Map c.in-Map.id c.in-Map.entries)
-    (rw c.deref-in-Map.ensures.value at c.check_map.ensures.fault)
+    (rw (same, c.deref-in-Map.ensures.value) at c.check_map.ensures.fault)
 
 pub check_node-returns-in-Comprehension-clause-found : goal.check_node-returns-in-Comprehension-clause-found
 check_node-returns-in-Comprehension-clause-found t c =
@@ -187,8 +199,8 @@ check_loop-returns-in_err-condition-clause-fault t c =
     let over = rw c.cel_type.ensures at c.in_ok-elements.ensures.found in
     exit_memory_or _ _ c.from_residual-in_err-condition.result _ c.from_residual-in_err-condition.ensures.1
     (rw (
-      c.with-2.ensures,
-      c.with.ensures,
+      c.with-turn.ensures,
+      c.with-inner.ensures,
       c.in_ok-element.ensures,
       c.cel_type-2.ensures,
       c.cel_type-3.ensures,
@@ -201,10 +213,36 @@ pub check_loop-returns-in_err-result-clause-fault : goal.check_loop-returns-in_e
 check_loop-returns-in_err-result-clause-fault t c =
     let over = rw c.cel_type.ensures at c.in_ok-elements.ensures.found in
     exit_memory_or _ _ c.from_residual-in_err-result.result _ c.from_residual-in_err-result.ensures.1
-    (rw (c.with.ensures, c.cel_type-2.ensures) at c.in_err-result.ensures.fault)
+    (rw (c.with-inner.ensures, c.cel_type-2.ensures) at c.in_err-result.ensures.fault)
     (λ e bad. result-bad (maps_of (checked_view c.args.checked.now)) (scope_view c.args.scope.now) c.args.id
     (loop_view c.args.parts.now) (expr_view c.in_ok-range.range) c.in_ok-range.ensures.found (expr_view c.in_ok-init.init) c.in_ok-init.ensures.found
     (elements_type c.in_ok-elements.elements) over e bad)
 
 pub check_loop-returns-clause-found : goal.check_loop-returns-clause-found
-check_loop-returns-clause-found t c = ?
+check_loop-returns-clause-found t c =
+    let over = rw c.cel_type.ensures at c.in_ok-elements.ensures.found in
+    let turn = rw (
+      c.with-turn.ensures,
+      c.with-inner.ensures,
+      c.in_ok-element.ensures,
+      c.cel_type-2.ensures,
+      c.cel_type-3.ensures,
+    ) at c.in_ok-condition.ensures.found in
+    let last = rw (c.with-inner.ensures, c.cel_type-2.ensures) at c.in_ok-result.ensures.found in
+    rw (
+      view-Loop c.in_ok-cel_type.cel_type c.in_ok-parts.parts,
+      c.in_ok-parts.ensures.ok,
+      c.in_ok-cel_type.ensures,
+      c.cel_type-4.ensures,
+    )
+    (loop-found (maps_of (checked_view c.args.checked.now)) (scope_view c.args.scope.now) c.args.id
+    (loop_view c.args.parts.now) (expr_view c.in_ok-range.range) c.in_ok-range.ensures.found (expr_view c.in_ok-init.init) c.in_ok-init.ensures.found
+    (elements_type c.in_ok-elements.elements) over c.in_ok-require_names_differ.ensures.found
+    (expr_view c.in_ok-condition.condition) (expr_view c.in_ok-condition.step)
+    (expr_view c.in_ok-result.result) turn last)
+
+pub check_node-returns-in_ok-operands-in-Call-clause-found : goal.check_node-returns-in_ok-operands-in-Call-clause-found
+check_node-returns-in_ok-operands-in-Call-clause-found t c = ?
+
+pub check_node-returns-in_ok-operands-in-Call-clause-fault : goal.check_node-returns-in_ok-operands-in-Call-clause-fault
+check_node-returns-in_ok-operands-in-Call-clause-fault t c = ?
