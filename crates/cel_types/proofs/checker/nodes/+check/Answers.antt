@@ -3,15 +3,15 @@ use Rattle.std.proofs.lemmas.Grind.{common_steps}
 use Rattle.cel_tree.specs.declared.tree.Tree.{the_lemmas}
 use Rattle.std.proofs.lemmas.Result.{MatchResult-weaker}
 use Rattle.cel_tree.proofs.Readers.{exit_fault, exit_memory_or, last_memory_or}
-use Rattle.cel_tree.specs.View.{checked_view, loop_view, tree_entries_view, tree_view, trees_view}
+use Rattle.cel_tree.specs.View.{boxed_view, checked_view, loop_view, target_of, tree_entries_view, tree_view, trees_view}
 use Rattle.cel_value.specs.Texts.{text_view}
 use Rattle.cel_value.specs.Types.{type_view}
 use Rattle.cel_types.specs.Typing.{maps_of}
 use Rattle.cel_types.specs.View.{expr_view, exprs_view}
 use Rattle.cel_types.specs.steps.Kinds.{elements_type}
 use Rattle.cel_types.specs.steps.Scopes.{scope_view}
-use Rattle.cel_types.proofs.CheckSteps.{tree-Call, tree-Comprehension, tree-Ident, tree-Map, view-List, view-Loop, view-Map}
-use Rattle.cel_types.proofs.Checking.{attribute-bad, each-more, each-within, elements-none, entry-within, entry-wrong, field-bad, field-found, list-bad, list-found, loop-found, map-bad, map-found, node-found, pair-at, pairs-more, result-bad, some-at, turn-bad, types-of}
+use Rattle.cel_types.proofs.CheckSteps.{target-some, tree-Call, tree-Comprehension, tree-Ident, tree-Map, view-List, view-Loop, view-Map}
+use Rattle.cel_types.proofs.Checking.{attribute-bad, call-bad, call-found, each-more, each-within, elements-none, entry-within, entry-wrong, field-bad, field-found, list-bad, list-found, loop-found, map-bad, map-found, node-found, pair-at, pairs-more, result-bad, some-at, turn-bad, types-of}
 use Rattle.cel_types.proofs.checker.nodes.+check.Goals as goal
 
 pub check_select-returns-in-Some-clause-fault : goal.check_select-returns-in-Some-clause-fault
@@ -242,7 +242,25 @@ check_loop-returns-clause-found t c =
     (expr_view c.in_ok-result.result) turn last)
 
 pub check_node-returns-in_ok-operands-in-Call-clause-found : goal.check_node-returns-in_ok-operands-in-Call-clause-found
-check_node-returns-in_ok-operands-in-Call-clause-found t c = ?
+check_node-returns-in_ok-operands-in-Call-clause-found t c =
+    let others = rw c.deref-in-Call.ensures.value at c.in_ok-operands-in-Call.ensures.found in
+    rw (c.in-Call.is, tree-Call c.in-Call.id c.in-Call.function c.in-Call.target c.in-Call.args)
+    (MatchResult-weaker c.call_expr.result c.call_expr.ensures.found
+    (λ e h. call-found (maps_of (checked_view c.args.checked.now)) (scope_view c.args.scope.now)
+    c.in-Call.id (text_view c.in-Call.function) (trees_view c.in-Call.args.items)
+    (target_of (boxed_view c.in-Call.target)) (map expr_view c.in_ok-first-in-Call.first.items)
+    (map expr_view c.in_ok-operands-in-Call.operands.items) (expr_view e)
+    c.in_ok-first-in-Call.ensures.found others
+    (rw (c.is_some.ensures, target-some c.in-Call.target) at h)) (λ _ _. tt))
 
 pub check_node-returns-in_ok-operands-in-Call-clause-fault : goal.check_node-returns-in_ok-operands-in-Call-clause-fault
-check_node-returns-in_ok-operands-in-Call-clause-fault t c = ?
+check_node-returns-in_ok-operands-in-Call-clause-fault t c =
+    let others = rw c.deref-in-Call.ensures.value at c.in_ok-operands-in-Call.ensures.found in
+    rw (c.in-Call.is, tree-Call c.in-Call.id c.in-Call.function c.in-Call.target c.in-Call.args)
+    (last_memory_or _ _ c.call_expr.result c.call_expr.ensures.fault
+    (λ e bad. call-bad (maps_of (checked_view c.args.checked.now)) (scope_view c.args.scope.now)
+    c.in-Call.id (text_view c.in-Call.function) (trees_view c.in-Call.args.items)
+    (target_of (boxed_view c.in-Call.target)) (map expr_view c.in_ok-first-in-Call.first.items)
+    (map expr_view c.in_ok-operands-in-Call.operands.items) e
+    c.in_ok-first-in-Call.ensures.found others
+    (rw (c.is_some.ensures, target-some c.in-Call.target) at bad)))
