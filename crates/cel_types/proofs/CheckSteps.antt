@@ -30,12 +30,15 @@ use Rattle.cel_types.specs.Typing.{IsMap, Kinds, TypeGiven, has_target, locals_i
 use Rattle.cel_types.specs.View.{expr_view, exprs_view, loop_of, parts_view}
 use Rattle.cel_types.specs.declared.checker.names.Name.{Name}
 use Rattle.cel_types.specs.declared.checker.names.Name.TheVariants as names
-use Rattle.cel_types.specs.declared.checker.scope.Scope.{Scope, Local, the_lemmas}
+use Rattle.cel_types.specs.declared.checker.scope.Scope.{Scope, Empty, Local, the_lemmas}
 use Rattle.cel_types.specs.declared.typed.TypedExpr.{TypedExpr, the_lemmas as expr_lemmas}
 use Rattle.cel_types.specs.declared.typed.TypedExpr as exprs
 use Rattle.cel_types.specs.declared.typed.TypedLoop.{TypedLoop}
 use Rattle.cel_types.specs.steps.Kinds.{IsMapOf, NoMapOf, NotTold, in_turn}
 use Rattle.cel_types.specs.steps.Scopes.{IsName, name_view, scope_view}
+
+pub view-Empty : scope_view Empty ≡ []
+view-Empty = search (rules, the_lemmas)
 
 pub view-Local : (n : Bor (RcStr Global)) (t : Bor CelType) (o : Bor Scope)
     → scope_view (Local n t o) ≡ (text_view n.now, type_view t.now) ∷ scope_view o.now
