@@ -12,3 +12,6 @@ pub mod WellTypedAnswers
 pub mod WellTypedElaborations
 pub mod MeansCalls
 pub mod MeansTheSame
+pub mod Checking
+pub mod CheckNames
+pub mod CheckSteps

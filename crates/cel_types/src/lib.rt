@@ -1,7 +1,12 @@
 //! What expressions of CEL mean, and which have a type.
 #![tactic(auto)]
 
+mod checker;
 pub mod laws;
 mod typed;
 
+pub use checker::check;
 pub use typed::{Typed, TypedExpr, TypedLoop};
+
+#[cfg(test)]
+mod tests;

@@ -1,0 +1,11 @@
+use Rattle.cel_types.proofs.CheckNames.{joined-points}
+use Rattle.cel_types.proofs.checker.names.joined_name.Goals as goal
+
+pub returns : goal.returns
+returns c =
+    rw (
+      c.in_ok-push_str-3.ensures.bytes,
+      c.in_ok-push_str-2.ensures.bytes,
+      c.in_ok-push_str.ensures.bytes,
+      c.new-name.ensures.bytes,
+    ) (joined-points c.args.root.now c.args.field.now c.utf8.root)

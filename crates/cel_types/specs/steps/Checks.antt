@@ -1,0 +1,86 @@
+-- What the check of a node comes to, and of nodes one after the other.
+use Rattle.std.specs.Prelude.{◌≡◌, ◌≢◌, ◌⊎◌, ℕ, Bool, false, List, [], ◌∷◌, ◌++◌, Option, Some}
+use Rattle.std.specs.FinMap.{get}
+use Rattle.attributes.specs.declared.attribute.AttrId.{AttrId}
+use Rattle.cel_ops.specs.Attributes.{attribute_type}
+use Rattle.cel_tree.specs.Checked.{CelReference}
+use Rattle.cel_tree.specs.Tree.{CelTree, constant, ident, select, call, list_literal, map_literal, comprehension, CelTarget, no_target, target, CelTrees}
+use Rattle.cel_value.specs.Types.{ValueType, bool_type}
+use Rattle.cel_overload.specs.Overloads.{IsCall}
+use Rattle.cel_overload.specs.declared.overload.Overload.{Overload}
+use Rattle.cel_types.specs.Attributes.{attribute_named}
+use Rattle.cel_types.specs.Elaborated.{Elaborates, ElaboratesEach, TypedTree, TypedTrees, kind, kinds, typed_attribute, typed_call}
+use Rattle.cel_types.specs.Names.{root_of}
+use Rattle.cel_types.specs.Typing.{EachAgrees, EntriesAgree, IsOver, Kinds, Maps, PairsAgree, RefAgrees, SelectAgrees, TargetAgrees, Types}
+use Rattle.cel_types.specs.TypingFaults.{TypeFault}
+use Rattle.cel_types.specs.View.{typed_of}
+use Rattle.proto_wire.specs.declared.refusal.Refusal.{Refusal}
+use Rattle.proto_wire.specs.declared.refusal.Refusal.TheVariants.{Missing, NoOverload, OutOfRange}
+
+-- the entries of an expression agree, but for the type entry of its own node
+abbrev pub InsideAgrees : Maps → Kinds → CelTree → Type 0
+InsideAgrees m ks (constant id v) = Unit {0}
+InsideAgrees m ks (ident id name) = RefAgrees (get m.refs id) name
+InsideAgrees m ks (select id operand field test_only) =
+    SelectAgrees (get m.refs id) (root_of operand ks) field
+    (Types m ks (select id operand field test_only)) (EntriesAgree m ks operand)
+InsideAgrees m ks (call id name on args) = TargetAgrees m ks on × EachAgrees m ks args
+InsideAgrees m ks (list_literal id elements) = EachAgrees m ks elements
+InsideAgrees m ks (map_literal id entries) = PairsAgree m ks entries
+InsideAgrees m ks (comprehension id x acc range init condition step result) =
+    EntriesAgree m ks range × EntriesAgree m ks init
+    × ((walked element gathered : ValueType) → Types m ks range walked → IsOver walked element
+    → Types m ks init gathered
+    → EntriesAgree m ((x, element) ∷ (acc, gathered) ∷ ks) condition
+    × EntriesAgree m ((x, element) ∷ (acc, gathered) ∷ ks) step)
+    × ((gathered : ValueType) → Types m ks init gathered
+    → EntriesAgree m ((acc, gathered) ∷ ks) result)
+
+-- the expression is elaborated so, and its entries agree
+abbrev pub IsFound : Maps → Kinds → CelTree → TypedTree → Type 0
+IsFound m ks t e = Elaborates m ks t e × EntriesAgree m ks t
+
+-- the same but for its own type entry
+abbrev pub IsNode : Maps → Kinds → CelTree → TypedTree → Type 0
+IsNode m ks t e = Elaborates m ks t e × InsideAgrees m ks t
+
+-- a Select of a bare root is this attribute
+abbrev pub IsAttribute : Option CelReference → List ℕ → Bool → TypedTree → Type 0
+IsAttribute ref name test_only e = (test_only ≡ false) × (id : AttrId)
+    × (attribute_named name ≡ Some id) × (e ≡ typed_attribute (attribute_type id) id)
+    × RefAgrees ref name
+
+-- behind those before, the expressions are elaborated so
+abbrev pub AreFound : Maps → Kinds → CelTrees → List TypedTree → List TypedTree → Type 0
+AreFound m ks ts before es = (others : List TypedTree) × (es ≡ before ++ others)
+    × ElaboratesEach m ks ts (typed_of others) × EachAgrees m ks ts
+
+-- a call's target is elaborated so, where there is one
+abbrev pub IsTarget : Maps → Kinds → CelTarget → List TypedTree → Type 0
+IsTarget m ks no_target es = es ≡ []
+IsTarget m ks (target on) es = (e : TypedTree) × (es ≡ e ∷ []) × IsFound m ks on e
+
+-- a call on these operands is this expression
+abbrev pub IsCalled : List ℕ → Bool → TypedTrees → TypedTree → Type 0
+IsCalled name on operands e = (o : Overload) × (t : ValueType)
+    × IsCall name on (kinds operands) o t × (e ≡ typed_call t o operands)
+
+-- a name of a comprehension is empty, or both are the same
+abbrev pub NamesFault : List ℕ → List ℕ → Refusal → Type 0
+NamesFault x acc e = ((x ≡ []) × (e ≡ Missing)) ⊎ (((acc ≡ []) × (e ≡ Missing))
+    ⊎ ((x ≡ acc) × (e ≡ OutOfRange)))
+
+-- the condition and the step of a comprehension are elaborated so, and keep the type of what is
+-- gathered
+abbrev pub IsTurn : Maps → Kinds → (condition step : CelTree) → (gathered : ValueType)
+    → TypedTree → TypedTree → Type 0
+IsTurn m ks condition step gathered c s = IsFound m ks condition c × (kind c ≡ bool_type)
+    × IsFound m ks step s × (kind s ≡ gathered)
+
+-- one of them has a fault, or is of another type
+abbrev pub TurnFault : Maps → Kinds → (condition step : CelTree) → (gathered : ValueType) → Refusal
+    → Type 0
+TurnFault m ks condition step gathered e =
+    (TypeFault m ks condition e ⊎ TypeFault m ks step e)
+    ⊎ ((((t : ValueType) × Types m ks condition t × (t ≢ bool_type)) × (e ≡ NoOverload))
+    ⊎ (((t : ValueType) × Types m ks step t × (t ≢ gathered)) × (e ≡ NoOverload)))

@@ -1,0 +1,71 @@
+-- Types of expressions, as the code compares them.
+use Rattle.std.specs.Prelude.{◌≡◌, ◌≢◌, ◌⊎◌, ◌&&◌, ℕ, Bool, true, false, List, [], ◌∷◌, Option, Some, None}
+use Rattle.cel_overload.specs.Functions.{function_named}
+use Rattle.cel_overload.specs.Overloads.{CallFault}
+use Rattle.cel_overload.specs.declared.overload.OverloadFault.TheVariants as calls
+use Rattle.cel_tree.specs.Checked.{CelTypeEntry, unsupported_type}
+use Rattle.cel_value.specs.Types.{ValueType, bool_type, list_type, map_type, type_eq, type_of_key, type_view}
+use Rattle.cel_value.specs.declared.cel_type.KeyType.{KeyType}
+use Rattle.cel_value.specs.declared.cel_type.KeyType.TheVariants as keys
+use Rattle.cel_types.specs.Elaborated.{TypedTree, typed_field, typed_has}
+use Rattle.cel_types.specs.Typing.{IsList, IsMap, TypeGiven}
+use Rattle.cel_types.specs.TypingFaults.{EmptyFault, SaysNothing}
+use Rattle.cel_types.specs.declared.checker.kinds.Elements.{Elements}
+use Rattle.cel_types.specs.declared.checker.kinds.Elements.TheVariants as elements
+use Rattle.proto_wire.specs.declared.refusal.Refusal.{Refusal}
+use Rattle.proto_wire.specs.declared.refusal.Refusal.TheVariants.{NeedsType, NoOverload, Unsupported, UnknownName}
+
+-- the types are these two in turn
+abbrev pub in_turn : ValueType → ValueType → List ValueType → Bool
+in_turn s t [] = true
+in_turn s t (u ∷ us) = type_eq u s && in_turn t s us
+
+-- the type of the elements
+abbrev pub elements_type : Elements → ValueType
+elements_type (elements.Items t) = type_view t.now
+elements_type (elements.Keys k) = type_of_key k
+
+-- an entry gives no type
+abbrev pub NotGiven : Option CelTypeEntry → Refusal → Type 0
+NotGiven entry e = (SaysNothing entry × (e ≡ NeedsType))
+    ⊎ ((entry ≡ Some unsupported_type) × (e ≡ Unsupported))
+
+-- an empty literal has no type
+abbrev pub NotTold : Option CelTypeEntry → (ValueType → Type 0) → Refusal → Type 0
+NotTold entry IsKind e = EmptyFault entry IsKind e
+    ⊎ ((entry ≡ Some unsupported_type) × (e ≡ Unsupported))
+
+-- a list literal with elements of these types has the type
+abbrev pub IsListOf : Option CelTypeEntry → List ValueType → ValueType → Type 0
+IsListOf entry [] t = TypeGiven entry t × IsList t
+IsListOf entry (s ∷ ss) t = (in_turn s s ss ≡ true) × (t ≡ list_type s)
+
+-- it has none
+abbrev pub NoListOf : Option CelTypeEntry → List ValueType → Refusal → Type 0
+NoListOf entry [] e = NotTold entry IsList e
+NoListOf entry (s ∷ ss) e = (in_turn s s ss ≡ false) × (e ≡ NoOverload)
+
+-- a map literal with keys and values of these types has the type; each key has a value, so there is
+-- never one alone
+abbrev pub IsMapOf : Option CelTypeEntry → List ValueType → ValueType → Type 0
+IsMapOf entry [] t = TypeGiven entry t × IsMap t
+IsMapOf entry (r ∷ []) t = TypeGiven entry t × IsMap t
+IsMapOf entry (r ∷ s ∷ ss) t = (in_turn r s ss ≡ true) × (k : KeyType) × (r ≡ type_of_key k)
+    × (t ≡ map_type k s)
+
+-- it has none
+abbrev pub NoMapOf : Option CelTypeEntry → List ValueType → Refusal → Type 0
+NoMapOf entry [] e = NotTold entry IsMap e
+NoMapOf entry (r ∷ []) e = NotTold entry IsMap e
+NoMapOf entry (r ∷ s ∷ ss) e =
+    ((in_turn r s ss ≡ false) ⊎ ((k : KeyType) → r ≢ type_of_key k)) × (e ≡ NoOverload)
+
+-- a call on operands of these types has no overload
+abbrev pub NoCall : List ℕ → Bool → List ValueType → Refusal → Type 0
+NoCall name on ts e = ((function_named name ≡ None) × (e ≡ UnknownName))
+    ⊎ (CallFault name on ts calls.NoOverload × (e ≡ NoOverload))
+
+-- a map's value at a name, or whether it is there
+abbrev pub field_of : Bool → ValueType → TypedTree → List ℕ → TypedTree
+field_of true t on name = typed_has bool_type on name
+field_of false t on name = typed_field t on name

@@ -1,0 +1,96 @@
+//! Which overload a call is.
+
+ghost use Rattle.std.specs.Prelude.{◌≡◌, IfErr, IfOk};
+ghost use Rattle.cel_overload.specs.Overloads.{IsCall};
+ghost use Rattle.cel_overload.specs.View.{result_view, types_of};
+ghost use Rattle.cel_value.specs.Texts.{points_of, text_view};
+ghost use Rattle.cel_value.specs.Types.{type_view};
+ghost use Rattle.cel_types.specs.Elaborated.{kinds};
+ghost use Rattle.cel_types.specs.View.{expr_view, exprs_view};
+ghost use Rattle.cel_types.specs.steps.Checks.{IsCalled};
+ghost use Rattle.cel_types.specs.steps.Kinds.{NoCall};
+ghost use Rattle.proto_wire.specs.Refusal.{MemoryOr};
+
+use crate::typed::TypedExpr;
+use cel_overload::{Found, Overload, OverloadFault, ResultType, find_overload};
+use cel_value::CelType;
+use proto_wire::Refusal;
+use std::alloc::{AllocError, Global};
+use std::rc::RcStr;
+
+/// A call on these operands, its target first.
+pub(super) fn call_expr<'a>(
+    alloc: Global,
+    function: &RcStr,
+    has_target: bool,
+    operands: Vec<TypedExpr<'a>>,
+) -> Result<TypedExpr<'a>, Refusal>
+    ensures found { IfOk result (λ e. IsCalled (text_view function.now) has_target (exprs_view operands.entry.items)
+        (expr_view e)) }
+    ensures fault { IfErr result (MemoryOr (NoCall (text_view function.now) has_target
+        (kinds (exprs_view operands.entry.items)))) }
+{
+    let (overload, cel_type) = call_type(alloc, function, has_target, &operands)?;
+    Ok(TypedExpr::Call {
+        cel_type,
+        overload,
+        operands,
+    })
+}
+
+/// The overload of a call on these operands, and the type of its result.
+fn call_type(
+    alloc: Global,
+    function: &RcStr,
+    has_target: bool,
+    operands: &[TypedExpr<'_>],
+) -> Result<(Overload, CelType), Refusal>
+    ensures found { IfOk result (λ r. IsCall (text_view function.now) has_target (kinds (exprs_view operands.now))
+        r.0 (type_view r.1)) }
+    ensures fault { IfErr result (MemoryOr (NoCall (text_view function.now) has_target
+        (kinds (exprs_view operands.now)))) }
+{
+    let types = types_of(alloc, operands)?;
+    let found = overload_of(function.as_str(), has_target, &types)?;
+    let cel_type = result_type(found.result)?;
+    Ok((found.overload, cel_type))
+}
+
+/// The types of expressions.
+fn types_of<'t>(alloc: Global, exprs: &'t [TypedExpr<'_>]) -> Result<Vec<&'t CelType>, AllocError>
+    ensures { IfOk result (λ v. types_of v.items ≡ kinds (exprs_view exprs.now)) }
+{
+    let mut types = Vec::new(alloc);
+    for expr in exprs {
+        types.push(expr.cel_type())?;
+    }
+    Ok(types)
+}
+
+/// The overload of a call; refuses a name that no function has, and operands that it does not take.
+fn overload_of<'t>(
+    name: &str,
+    has_target: bool,
+    types: &[&'t CelType],
+) -> Result<Found<'t>, Refusal>
+    ensures found { IfOk result (λ f. IsCall (points_of name.now) has_target (types_of types.now)
+        f.overload (result_view f.result)) }
+    ensures fault { IfErr result (NoCall (points_of name.now) has_target (types_of types.now)) }
+{
+    match find_overload(name, has_target, types) {
+        Ok(found) => Ok(found),
+        Err(OverloadFault::UnknownName) => Err(Refusal::UnknownName),
+        Err(OverloadFault::NoOverload) => Err(Refusal::NoOverload),
+    }
+}
+
+/// The type of a result.
+fn result_type(kind: ResultType<'_>) -> Result<CelType, AllocError>
+    ensures { IfOk result (λ t. type_view t ≡ result_view kind.entry) }
+{
+    match kind {
+        ResultType::Bool => Ok(CelType::Bool),
+        ResultType::Int => Ok(CelType::Int),
+        ResultType::Same(same) => same.copy(),
+    }
+}

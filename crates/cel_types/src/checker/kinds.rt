@@ -1,0 +1,214 @@
+//! Types of expressions that were checked.
+
+ghost use Rattle.std.specs.Prelude.{◌≡◌, ◌≢◌, IfErr, IfOk, OnOk, Some, false, true};
+ghost use Rattle.cel_tree.specs.View.{constant_view};
+ghost use Rattle.cel_value.specs.Types.{ValueType, bool_type, map_type, type_of_key, type_view};
+ghost use Rattle.cel_value.specs.declared.cel_type.KeyType.{KeyType};
+ghost use Rattle.cel_value.specs.declared.cel_type.KeyType.TheVariants as keys;
+ghost use Rattle.cel_types.specs.Elaborated.{kind, kinds};
+ghost use Rattle.cel_types.specs.Typing.{IsList, IsMap, IsOver, constant_type};
+ghost use Rattle.cel_types.specs.View.{expr_view, exprs_view};
+ghost use Rattle.cel_types.specs.steps.Kinds.{elements_type, in_turn};
+ghost use Rattle.proto_wire.specs.declared.refusal.Refusal.TheVariants.{BadTypeEntry, NoOverload};
+
+use crate::typed::TypedExpr;
+use cel_tree::Constant;
+use cel_value::{CelType, KeyType};
+use proto_wire::Refusal;
+use std::alloc::AllocError;
+
+impl<'a> TypedExpr<'a> {
+    /// The type of the expression.
+    pub fn cel_type(&self) -> &CelType
+        ensures { type_view result.now ≡ kind (expr_view self.now) }
+    {
+        match self {
+            TypedExpr::Constant { cel_type, .. } => cel_type,
+            TypedExpr::Local { cel_type, .. } => cel_type,
+            TypedExpr::Attribute { cel_type, .. } => cel_type,
+            TypedExpr::Field { cel_type, .. } => cel_type,
+            TypedExpr::HasField { cel_type, .. } => cel_type,
+            TypedExpr::Call { cel_type, .. } => cel_type,
+            TypedExpr::List { cel_type, .. } => cel_type,
+            TypedExpr::Map { cel_type, .. } => cel_type,
+            TypedExpr::Loop { cel_type, .. } => cel_type,
+        }
+    }
+}
+
+/// The elements of what a comprehension walks.
+#[derive(Clone, Copy)]
+pub(super) enum Elements<'t> {
+    /// The items of a list.
+    Items(&'t CelType),
+    /// The keys of a map.
+    Keys(KeyType),
+}
+
+/// The type of a constant.
+pub(super) fn constant_type(constant: &Constant) -> CelType
+    ensures { constant_type (constant_view constant.now) ≡ Some (type_view result) }
+{
+    match constant {
+        Constant::Bool(_) => CelType::Bool,
+        Constant::Int(_) => CelType::Int,
+        Constant::Uint(_) => CelType::Uint,
+        Constant::Text(_) => CelType::Text,
+        Constant::Bytes(_) => CelType::Bytes,
+    }
+}
+
+/// The type of a key as a value.
+pub(super) fn type_of_key(key: KeyType) -> CelType
+    ensures { type_view result ≡ type_of_key key }
+{
+    match key {
+        KeyType::Bool => CelType::Bool,
+        KeyType::Int => CelType::Int,
+        KeyType::Uint => CelType::Uint,
+        KeyType::Text => CelType::Text,
+    }
+}
+
+/// Refuses another type than bool.
+pub(super) fn require_bool(found: &CelType) -> Result<(), Refusal>
+    ensures found { OnOk result (type_view found.now ≡ bool_type) }
+    ensures fault { IfErr result (λ e. (type_view found.now ≢ bool_type) × (e ≡ NoOverload)) }
+{
+    if *found == CelType::Bool {
+        return Ok(());
+    }
+    Err(Refusal::NoOverload)
+}
+
+/// Refuses another type than the one wanted.
+pub(super) fn require_same(found: &CelType, wanted: &CelType) -> Result<(), Refusal>
+    ensures found { OnOk result (type_view found.now ≡ type_view wanted.now) }
+    ensures fault { IfErr result (λ e. (type_view found.now ≢ type_view wanted.now) × (e ≡ NoOverload)) }
+{
+    if *found == *wanted {
+        return Ok(());
+    }
+    Err(Refusal::NoOverload)
+}
+
+/// The type of the values of a map from names; refuses what is no such map.
+pub(super) fn require_names(found: &CelType) -> Result<&CelType, Refusal>
+    ensures found { IfOk result (λ t. type_view found.now ≡ map_type keys.Text (type_view t.now)) }
+    ensures fault { IfErr result (λ e. ((t : ValueType) → type_view found.now ≢ map_type keys.Text t)
+        × (e ≡ NoOverload)) }
+{
+    match found {
+        CelType::Map(key, values) => match key {
+            KeyType::Text => Ok(values),
+            KeyType::Bool | KeyType::Int | KeyType::Uint => Err(Refusal::NoOverload),
+        },
+        CelType::Bool
+        | CelType::Int
+        | CelType::Uint
+        | CelType::Text
+        | CelType::Bytes
+        | CelType::List(_) => Err(Refusal::NoOverload),
+    }
+}
+
+/// The elements of a range; refuses what has none.
+pub(super) fn elements_of(range: &CelType) -> Result<Elements<'_>, Refusal>
+    ensures found { IfOk result (λ s. IsOver (type_view range.now) (elements_type s)) }
+    ensures fault { IfErr result (λ e. ((t : ValueType) → IsOver (type_view range.now) t → ⊥)
+        × (e ≡ NoOverload)) }
+{
+    match range {
+        CelType::List(items) => Ok(Elements::Items(items)),
+        CelType::Map(key, _) => Ok(Elements::Keys(*key)),
+        _ => Err(Refusal::NoOverload),
+    }
+}
+
+/// The type of the elements.
+pub(super) fn element_type(elements: Elements<'_>) -> Result<CelType, AllocError>
+    ensures { IfOk result (λ t. type_view t ≡ elements_type elements.entry) }
+{
+    match elements {
+        Elements::Items(items) => items.copy(),
+        Elements::Keys(key) => Ok(type_of_key(key)),
+    }
+}
+
+/// The type of keys that a type is; refuses what is none.
+pub(super) fn require_key(found: &CelType) -> Result<KeyType, Refusal>
+    ensures found { IfOk result (λ k. type_view found.now ≡ type_of_key k) }
+    ensures fault { IfErr result (λ e. ((k : KeyType) → type_view found.now ≢ type_of_key k)
+        × (e ≡ NoOverload)) }
+{
+    match found {
+        CelType::Bool => Ok(KeyType::Bool),
+        CelType::Int => Ok(KeyType::Int),
+        CelType::Uint => Ok(KeyType::Uint),
+        CelType::Text => Ok(KeyType::Text),
+        _ => Err(Refusal::NoOverload),
+    }
+}
+
+/// Refuses a type entry of an empty list that is no list's.
+pub(super) fn require_list(given: &CelType) -> Result<(), Refusal>
+    ensures found { OnOk result (IsList (type_view given.now)) }
+    ensures fault { IfErr result (λ e. (IsList (type_view given.now) → ⊥) × (e ≡ BadTypeEntry)) }
+{
+    match given {
+        CelType::List(_) => Ok(()),
+        CelType::Bool
+        | CelType::Int
+        | CelType::Uint
+        | CelType::Text
+        | CelType::Bytes
+        | CelType::Map(_, _) => Err(Refusal::BadTypeEntry),
+    }
+}
+
+/// Refuses a type entry of an empty map that is no map's.
+pub(super) fn require_map(given: &CelType) -> Result<(), Refusal>
+    ensures found { OnOk result (IsMap (type_view given.now)) }
+    ensures fault { IfErr result (λ e. (IsMap (type_view given.now) → ⊥) × (e ≡ BadTypeEntry)) }
+{
+    match given {
+        CelType::Map(_, _) => Ok(()),
+        CelType::Bool
+        | CelType::Int
+        | CelType::Uint
+        | CelType::Text
+        | CelType::Bytes
+        | CelType::List(_) => Err(Refusal::BadTypeEntry),
+    }
+}
+
+/// Refuses expressions of other types than these two in turn.
+pub(super) fn require_in_turn(
+    exprs: &[TypedExpr<'_>],
+    first: &CelType,
+    second: &CelType,
+) -> Result<(), Refusal>
+    ensures found { OnOk result (in_turn (type_view first.now) (type_view second.now)
+        (kinds (exprs_view exprs.now)) ≡ true) }
+    ensures fault { IfErr result (λ e. (in_turn (type_view first.now) (type_view second.now)
+        (kinds (exprs_view exprs.now)) ≡ false) × (e ≡ NoOverload)) }
+{
+    if are_in_turn(exprs, first, second) {
+        return Ok(());
+    }
+    Err(Refusal::NoOverload)
+}
+
+fn are_in_turn(exprs: &[TypedExpr<'_>], first: &CelType, second: &CelType) -> bool
+    ensures { result ≡ in_turn (type_view first.now) (type_view second.now) (kinds (exprs_view exprs.now)) }
+{
+    let mut this = first;
+    let mut next = second;
+    for expr in exprs {
+        if *expr.cel_type() != *this {
+            return false;
+        }
+        (this, next) = (next, this);
+    }
+    true
+}

@@ -1,0 +1,91 @@
+//! How many locals are in scope.
+
+ghost use Rattle.std.specs.Prelude.{◌≡◌, ◌<◌, ◌≤◌, IfErr, OnOk, nat_lt, suc};
+ghost use Rattle.cel_tree.specs.View.{boxed_view, loop_view, target_of, tree_entries_view, tree_view, trees_view};
+ghost use Rattle.cel_types.specs.Typing.{locals_in, locals_in_each, locals_in_entries, locals_in_target, most_locals};
+ghost use Rattle.cel_types.specs.steps.Scopes.{locals_in_loop};
+ghost use Rattle.proto_wire.specs.declared.refusal.Refusal.TheVariants.{TooLarge};
+
+use cel_tree::{Comprehension, Tree, TreeEntry};
+use proto_wire::Refusal;
+
+const MOST_LOCALS: u8 = 64;
+
+/// Refuses an expression with a node that has too many locals in scope.
+pub(super) fn require_few_locals(tree: &Tree) -> Result<(), Refusal>
+    ensures found { OnOk result (locals_in (tree_view tree.now) ≤ most_locals) }
+    ensures fault { IfErr result (λ e. (most_locals < locals_in (tree_view tree.now)) × (e ≡ TooLarge)) }
+{
+    if has_few(tree, MOST_LOCALS) {
+        return Ok(());
+    }
+    Err(Refusal::TooLarge)
+}
+
+/// Whether the expression brings in no more than so many.
+#[cycle(locals)]
+fn has_few(tree: &Tree, most: u8) -> bool
+    ensures { result ≡ nat_lt (locals_in (tree_view tree.now)) (suc most) }
+{
+    match tree {
+        Tree::Constant { .. } => true,
+        Tree::Ident { .. } => true,
+        Tree::Select { operand, .. } => has_few(operand, most),
+        Tree::Call { target, args, .. } => target_has_few(target, most) && each_has_few(args, most),
+        Tree::List { elements, .. } => each_has_few(elements, most),
+        Tree::Map { entries, .. } => entries_have_few(entries, most),
+        Tree::Comprehension { parts, .. } => loop_has_few(parts, most),
+    }
+}
+
+#[cycle(locals)]
+fn target_has_few(target: &Option<Box<Tree>>, most: u8) -> bool
+    ensures { result ≡ nat_lt (locals_in_target (target_of (boxed_view target.now))) (suc most) }
+{
+    match target {
+        None => true,
+        Some(target) => has_few(target, most),
+    }
+}
+
+#[cycle(locals)]
+fn each_has_few(trees: &[Tree], most: u8) -> bool
+    ensures { result ≡ nat_lt (locals_in_each (trees_view trees.now)) (suc most) }
+{
+    for tree in trees {
+        if !has_few(tree, most) {
+            return false;
+        }
+    }
+    true
+}
+
+#[cycle(locals)]
+fn entries_have_few(entries: &[TreeEntry], most: u8) -> bool
+    ensures { result ≡ nat_lt (locals_in_entries (tree_entries_view entries.now)) (suc most) }
+{
+    for entry in entries {
+        if !has_few(&entry.key, most) {
+            return false;
+        }
+        if !has_few(&entry.value, most) {
+            return false;
+        }
+    }
+    true
+}
+
+/// Its condition and step have two locals more, its result one.
+#[cycle(locals)]
+fn loop_has_few(parts: &Comprehension, most: u8) -> bool
+    ensures { result ≡ nat_lt (locals_in_loop (loop_view parts.now)) (suc most) }
+{
+    if most < 2 {
+        return false;
+    }
+    has_few(&parts.iter_range, most)
+        && has_few(&parts.accu_init, most)
+        && has_few(&parts.loop_condition, most - 2)
+        && has_few(&parts.loop_step, most - 2)
+        && has_few(&parts.result, most - 1)
+}

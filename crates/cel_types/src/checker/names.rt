@@ -1,0 +1,143 @@
+//! Which local or attribute a name is.
+
+ghost use Rattle.std.specs.Prelude.{◌≡◌, ◌≤◌, ◌⊎◌, IfErr, IfOk, None, Some, false, length, option_map, true};
+ghost use Rattle.std.specs.String.{string_bytes};
+ghost use Rattle.cel_ops.specs.Attributes.{attribute_type};
+ghost use Rattle.cel_tree.specs.View.{tree_view};
+ghost use Rattle.cel_value.specs.Texts.{points_of, text_view};
+ghost use Rattle.cel_value.specs.Types.{type_view};
+ghost use Rattle.cel_types.specs.Attributes.{attribute_named};
+ghost use Rattle.cel_types.specs.Elaborated.{typed_attribute};
+ghost use Rattle.cel_types.specs.Names.{bare_root, is_root, joined_name, local, root_of};
+ghost use Rattle.cel_types.specs.Typing.{most_locals, name_type};
+ghost use Rattle.cel_types.specs.View.{expr_view};
+ghost use Rattle.cel_types.specs.steps.Scopes.{IsName, name_view, scope_view};
+ghost use Rattle.proto_wire.specs.declared.refusal.Refusal.TheVariants.{UnknownName};
+
+use crate::checker::scope::{FoundLocal, Scope};
+use crate::typed::TypedExpr;
+use attributes::{AttrId, AttrType, attr_named, attr_type};
+use cel_tree::Tree;
+use cel_value::{CelType, KeyType};
+use proto_wire::Refusal;
+use std::alloc::{AllocError, Global};
+use std::rc::{Rc, RcStr};
+
+/// What a name is.
+#[derive(Clone, Copy)]
+pub(super) enum Name<'s> {
+    Local(FoundLocal<'s>),
+    Attribute(AttrId),
+}
+
+/// The innermost local of a name, or the attribute of that name.
+pub(super) fn resolve<'s>(scope: &Scope<'s>, name: &RcStr) -> Result<Name<'s>, Refusal>
+    requires { length (scope_view scope.now) ≤ most_locals }
+    ensures found { IfOk result (IsName (text_view name.now) (scope_view scope.now)) }
+    ensures fault { IfErr result (λ e.
+        (name_type (text_view name.now) (local (text_view name.now) (scope_view scope.now)) ≡ None)
+        × (e ≡ UnknownName)) }
+{
+    if let Some(found) = scope.find(name) {
+        return Ok(Name::Local(found));
+    }
+    match attribute_named(name.as_str()) {
+        Some(id) => Ok(Name::Attribute(id)),
+        None => Err(Refusal::UnknownName),
+    }
+}
+
+/// The attribute of a root's field; it is not asked for being there.
+pub(super) fn resolve_field(name: &str, test_only: bool) -> Result<AttrId, Refusal>
+    ensures found { IfOk result (λ id. (test_only ≡ false) × (attribute_named (points_of name.now) ≡ Some id)) }
+    ensures fault { IfErr result (λ e. ((attribute_named (points_of name.now) ≡ None) ⊎ (test_only ≡ true))
+        × (e ≡ UnknownName)) }
+{
+    if test_only {
+        return Err(Refusal::UnknownName);
+    }
+    match attribute_named(name) {
+        Some(id) => Ok(id),
+        None => Err(Refusal::UnknownName),
+    }
+}
+
+fn attribute_named(name: &str) -> Option<AttrId>
+    ensures { result ≡ attribute_named (points_of name.now) }
+{
+    attr_named(name)
+}
+
+/// The expression that a name is.
+pub(super) fn name_expr<'a>(alloc: Global, name: Name<'_>) -> Result<TypedExpr<'a>, AllocError>
+    ensures { IfOk result (λ e. expr_view e ≡ name_view name.entry) }
+{
+    match name {
+        Name::Local(found) => Ok(TypedExpr::Local {
+            cel_type: found.cel_type.copy()?,
+            outside: found.outside,
+        }),
+        Name::Attribute(id) => attribute_expr(alloc, id),
+    }
+}
+
+/// The expression that an attribute is.
+pub(super) fn attribute_expr<'a>(alloc: Global, id: AttrId) -> Result<TypedExpr<'a>, AllocError>
+    ensures { IfOk result (λ e. expr_view e ≡ typed_attribute (attribute_type id) id) }
+{
+    let cel_type = attribute_type(alloc, id)?;
+    Ok(TypedExpr::Attribute { cel_type, id })
+}
+
+fn attribute_type(alloc: Global, id: AttrId) -> Result<CelType, AllocError>
+    ensures { IfOk result (λ t. type_view t ≡ attribute_type id) }
+{
+    match attr_type(id) {
+        AttrType::Text => Ok(CelType::Text),
+        AttrType::Int => Ok(CelType::Int),
+        AttrType::Uint => Ok(CelType::Uint),
+        AttrType::Bool => Ok(CelType::Bool),
+        AttrType::TextMap => Ok(CelType::Map(KeyType::Text, Rc::new(alloc, CelType::Text)?)),
+    }
+}
+
+/// The root that an expression is, where it is nothing but a root that no local hides.
+pub(super) fn bare_root<'t>(tree: &'t Tree, scope: &Scope<'_>) -> Option<&'t RcStr>
+    requires { length (scope_view scope.now) ≤ most_locals }
+    ensures { option_map (λ name. text_view name.now) result ≡ root_of (tree_view tree.now) (scope_view scope.now) }
+{
+    let Tree::Ident { name, .. } = tree else {
+        return None;
+    };
+    if is_bare_root(name, scope) {
+        return Some(name);
+    }
+    None
+}
+
+fn is_bare_root(name: &RcStr, scope: &Scope<'_>) -> bool
+    requires { length (scope_view scope.now) ≤ most_locals }
+    ensures { result ≡ bare_root (text_view name.now) (scope_view scope.now) }
+{
+    if scope.find(name).is_some() {
+        return false;
+    }
+    is_root(name.as_str())
+}
+
+fn is_root(name: &str) -> bool
+    ensures { result ≡ is_root (points_of name.now) }
+{
+    matches!(name, "request" | "source" | "destination" | "connection")
+}
+
+/// A root's name and a field's, joined by a dot.
+pub(super) fn joined_name(alloc: Global, root: &str, field: &str) -> Result<String, AllocError>
+    ensures { IfOk result (λ name. points_of (string_bytes name) ≡ joined_name (points_of root.now) (points_of field.now)) }
+{
+    let mut name = String::new(alloc);
+    name.push_str(root)?;
+    name.push_str(".")?;
+    name.push_str(field)?;
+    Ok(name)
+}

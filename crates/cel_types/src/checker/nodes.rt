@@ -1,0 +1,299 @@
+//! The check of nodes, and of the nodes inside them.
+
+ghost use Rattle.std.specs.Prelude.{◌≡◌, ◌≤◌, ◌+◌, IfErr, IfOk, length, map};
+ghost use Rattle.cel_tree.specs.Tree.{id_of, list_literal, map_literal, select};
+ghost use Rattle.cel_tree.specs.View.{boxed_view, checked_view, loop_of, loop_view, target_of, tree_entries_view, tree_view, trees_view};
+ghost use Rattle.cel_value.specs.Texts.{text_view};
+ghost use Rattle.cel_value.specs.Types.{type_view};
+ghost use Rattle.cel_types.specs.Elaborated.{ElaboratesPairs};
+ghost use Rattle.cel_types.specs.Typing.{PairsAgree, locals_in, locals_in_each, locals_in_entries, locals_in_target, maps_of, most_locals};
+ghost use Rattle.cel_types.specs.TypingFaults.{PairFault, SomeFault, TargetFault, TypeFault};
+ghost use Rattle.cel_types.specs.View.{expr_view, exprs_view};
+ghost use Rattle.cel_types.specs.steps.Checks.{AreFound, IsFound, IsNode, IsTarget, IsTurn, TurnFault};
+ghost use Rattle.cel_types.specs.steps.Scopes.{locals_in_loop, scope_view};
+ghost use Rattle.proto_wire.specs.Refusal.{MemoryOr};
+
+use crate::checker::calls::call_expr;
+use crate::checker::entries::require_type;
+use crate::checker::kinds::{constant_type, element_type, elements_of, require_bool, require_same};
+use crate::checker::literals::{list_type, map_type};
+use crate::checker::loops::require_names_differ;
+use crate::checker::names::bare_root;
+use crate::checker::scope::Scope;
+use crate::checker::variables::{check_attribute, check_ident, field_expr};
+use crate::typed::{TypedExpr, TypedLoop};
+use cel_tree::{Checked, Comprehension, Tree, TreeEntry};
+use cel_value::CelType;
+use proto_wire::Refusal;
+use std::alloc::Global;
+use std::rc::RcStr;
+
+/// Checks an expression: its node, and then the type entry of that.
+#[cycle(check)]
+pub(super) fn check_tree<'a>(
+    alloc: Global,
+    checked: &'a Checked,
+    scope: &Scope<'_>,
+    tree: &'a Tree,
+) -> Result<TypedExpr<'a>, Refusal>
+    requires { length (scope_view scope.now) + locals_in (tree_view tree.now) ≤ most_locals }
+    ensures found { IfOk result (λ e. IsFound (maps_of (checked_view checked.now)) (scope_view scope.now)
+        (tree_view tree.now) (expr_view e)) }
+    ensures fault { IfErr result (MemoryOr (TypeFault (maps_of (checked_view checked.now)) (scope_view scope.now)
+        (tree_view tree.now))) }
+{
+    let typed = check_node(alloc, checked, scope, tree)?;
+    require_type(checked.types.get(id_of(tree)), typed.cel_type())?;
+    Ok(typed)
+}
+
+/// The id of an expression's node.
+fn id_of(tree: &Tree) -> i64
+    ensures { result ≡ id_of (tree_view tree.now) }
+{
+    match tree {
+        Tree::Constant { id, .. } => *id,
+        Tree::Ident { id, .. } => *id,
+        Tree::Select { id, .. } => *id,
+        Tree::Call { id, .. } => *id,
+        Tree::List { id, .. } => *id,
+        Tree::Map { id, .. } => *id,
+        Tree::Comprehension { id, .. } => *id,
+    }
+}
+
+/// Checks an expression, but for the type entry of its own node.
+#[cycle(check)]
+fn check_node<'a>(
+    alloc: Global,
+    checked: &'a Checked,
+    scope: &Scope<'_>,
+    tree: &'a Tree,
+) -> Result<TypedExpr<'a>, Refusal>
+    requires { length (scope_view scope.now) + locals_in (tree_view tree.now) ≤ most_locals }
+    ensures found { IfOk result (λ e. IsNode (maps_of (checked_view checked.now)) (scope_view scope.now)
+        (tree_view tree.now) (expr_view e)) }
+    ensures fault { IfErr result (MemoryOr (TypeFault (maps_of (checked_view checked.now)) (scope_view scope.now)
+        (tree_view tree.now))) }
+{
+    match tree {
+        Tree::Constant { value, .. } => Ok(TypedExpr::Constant {
+            cel_type: constant_type(value),
+            value,
+        }),
+        Tree::Ident { id, name } => check_ident(alloc, checked, scope, *id, name),
+        Tree::Select {
+            id,
+            operand,
+            field,
+            test_only,
+        } => check_select(alloc, checked, scope, *id, operand, field, *test_only),
+        Tree::Call {
+            function,
+            target,
+            args,
+            ..
+        } => {
+            let first = check_target(alloc, checked, scope, target)?;
+            let operands = check_each(alloc, checked, scope, args, first)?;
+            call_expr(alloc, function, target.is_some(), operands)
+        }
+        Tree::List { id, elements } => check_list(alloc, checked, scope, *id, elements),
+        Tree::Map { id, entries } => check_map(alloc, checked, scope, *id, entries),
+        Tree::Comprehension { id, parts } => check_loop(alloc, checked, scope, *id, parts),
+    }
+}
+
+/// Checks a Select: the attribute of a bare root's field, or what its operand holds.
+#[cycle(check)]
+fn check_select<'a>(
+    alloc: Global,
+    checked: &'a Checked,
+    scope: &Scope<'_>,
+    id: i64,
+    operand: &'a Tree,
+    field: &'a RcStr,
+    test_only: bool,
+) -> Result<TypedExpr<'a>, Refusal>
+    requires { length (scope_view scope.now) + locals_in (tree_view operand.now) ≤ most_locals }
+    ensures found { IfOk result (λ e. IsNode (maps_of (checked_view checked.now)) (scope_view scope.now)
+        (select id (tree_view operand.now) (text_view field.now) test_only) (expr_view e)) }
+    ensures fault { IfErr result (MemoryOr (TypeFault (maps_of (checked_view checked.now)) (scope_view scope.now)
+        (select id (tree_view operand.now) (text_view field.now) test_only))) }
+{
+    if let Some(root) = bare_root(operand, scope) {
+        return check_attribute(alloc, &checked.refs, id, root, field, test_only);
+    }
+    let map = check_tree(alloc, checked, scope, operand)?;
+    field_expr(alloc, map, field, test_only)
+}
+
+/// Checks the target of a call, where it has one.
+#[cycle(check)]
+fn check_target<'a>(
+    alloc: Global,
+    checked: &'a Checked,
+    scope: &Scope<'_>,
+    target: &'a Option<Box<Tree>>,
+) -> Result<Vec<TypedExpr<'a>>, Refusal>
+    requires { length (scope_view scope.now) + locals_in_target (target_of (boxed_view target.now)) ≤ most_locals }
+    ensures found { IfOk result (λ v. IsTarget (maps_of (checked_view checked.now)) (scope_view scope.now)
+        (target_of (boxed_view target.now)) (map expr_view v.items)) }
+    ensures fault { IfErr result (MemoryOr (TargetFault (maps_of (checked_view checked.now)) (scope_view scope.now)
+        (target_of (boxed_view target.now)))) }
+{
+    let mut found = Vec::new(alloc);
+    match target {
+        None => Ok(found),
+        Some(target) => {
+            found.push(check_tree(alloc, checked, scope, target)?)?;
+            Ok(found)
+        }
+    }
+}
+
+/// Checks expressions one after the other, and puts them behind those before.
+#[cycle(check)]
+fn check_each<'a>(
+    alloc: Global,
+    checked: &'a Checked,
+    scope: &Scope<'_>,
+    trees: &'a [Tree],
+    before: Vec<TypedExpr<'a>>,
+) -> Result<Vec<TypedExpr<'a>>, Refusal>
+    requires { length (scope_view scope.now) + locals_in_each (trees_view trees.now) ≤ most_locals }
+    ensures found { IfOk result (λ v. AreFound (maps_of (checked_view checked.now)) (scope_view scope.now)
+        (trees_view trees.now) (map expr_view before.entry.items) (map expr_view v.items)) }
+    ensures fault { IfErr result (MemoryOr (SomeFault (maps_of (checked_view checked.now)) (scope_view scope.now)
+        (trees_view trees.now))) }
+{
+    let mut typed = before;
+    for tree in trees {
+        typed.push(check_tree(alloc, checked, scope, tree)?)?;
+    }
+    Ok(typed)
+}
+
+/// Checks a list literal: its elements, and then whether they have one type.
+#[cycle(check)]
+fn check_list<'a>(
+    alloc: Global,
+    checked: &'a Checked,
+    scope: &Scope<'_>,
+    id: i64,
+    elements: &'a [Tree],
+) -> Result<TypedExpr<'a>, Refusal>
+    requires { length (scope_view scope.now) + locals_in_each (trees_view elements.now) ≤ most_locals }
+    ensures found { IfOk result (λ e. IsNode (maps_of (checked_view checked.now)) (scope_view scope.now)
+        (list_literal id (trees_view elements.now)) (expr_view e)) }
+    ensures fault { IfErr result (MemoryOr (TypeFault (maps_of (checked_view checked.now)) (scope_view scope.now)
+        (list_literal id (trees_view elements.now)))) }
+{
+    let elements = check_each(alloc, checked, scope, elements, Vec::new(alloc))?;
+    let cel_type = list_type(alloc, checked.types.get(id), &elements)?;
+    Ok(TypedExpr::List { cel_type, elements })
+}
+
+/// Checks a map literal: its keys and values, and then whether each have one type.
+#[cycle(check)]
+fn check_map<'a>(
+    alloc: Global,
+    checked: &'a Checked,
+    scope: &Scope<'_>,
+    id: i64,
+    entries: &'a [TreeEntry],
+) -> Result<TypedExpr<'a>, Refusal>
+    requires { length (scope_view scope.now) + locals_in_entries (tree_entries_view entries.now) ≤ most_locals }
+    ensures found { IfOk result (λ e. IsNode (maps_of (checked_view checked.now)) (scope_view scope.now)
+        (map_literal id (tree_entries_view entries.now)) (expr_view e)) }
+    ensures fault { IfErr result (MemoryOr (TypeFault (maps_of (checked_view checked.now)) (scope_view scope.now)
+        (map_literal id (tree_entries_view entries.now)))) }
+{
+    let pairs = check_pairs(alloc, checked, scope, entries)?;
+    let cel_type = map_type(alloc, checked.types.get(id), &pairs)?;
+    Ok(TypedExpr::Map { cel_type, pairs })
+}
+
+/// Checks keys and values in turn.
+#[cycle(check)]
+fn check_pairs<'a>(
+    alloc: Global,
+    checked: &'a Checked,
+    scope: &Scope<'_>,
+    entries: &'a [TreeEntry],
+) -> Result<Vec<TypedExpr<'a>>, Refusal>
+    requires { length (scope_view scope.now) + locals_in_entries (tree_entries_view entries.now) ≤ most_locals }
+    ensures found { IfOk result (λ v. ElaboratesPairs (maps_of (checked_view checked.now)) (scope_view scope.now)
+        (tree_entries_view entries.now) (exprs_view v.items)
+        × PairsAgree (maps_of (checked_view checked.now)) (scope_view scope.now) (tree_entries_view entries.now)) }
+    ensures fault { IfErr result (MemoryOr (PairFault (maps_of (checked_view checked.now)) (scope_view scope.now)
+        (tree_entries_view entries.now))) }
+{
+    let mut pairs = Vec::new(alloc);
+    for entry in entries {
+        pairs.push(check_tree(alloc, checked, scope, &entry.key)?)?;
+        pairs.push(check_tree(alloc, checked, scope, &entry.value)?)?;
+    }
+    Ok(pairs)
+}
+
+/// Checks a comprehension: its names, what it walks and what it begins with, and then its turns.
+#[cycle(check)]
+fn check_loop<'a>(
+    alloc: Global,
+    checked: &'a Checked,
+    scope: &Scope<'_>,
+    id: i64,
+    parts: &'a Comprehension,
+) -> Result<TypedExpr<'a>, Refusal>
+    requires { length (scope_view scope.now) + locals_in_loop (loop_view parts.now) ≤ most_locals }
+    ensures found { IfOk result (λ e. IsNode (maps_of (checked_view checked.now)) (scope_view scope.now)
+        (loop_of id (loop_view parts.now)) (expr_view e)) }
+    ensures fault { IfErr result (MemoryOr (TypeFault (maps_of (checked_view checked.now)) (scope_view scope.now)
+        (loop_of id (loop_view parts.now)))) }
+{
+    require_names_differ(&parts.iter_var, &parts.accu_var)?;
+    let range = check_tree(alloc, checked, scope, &parts.iter_range)?;
+    let init = check_tree(alloc, checked, scope, &parts.accu_init)?;
+    let elements = elements_of(range.cel_type())?;
+    let element = element_type(elements)?;
+    let inner = (&*scope).with(&parts.accu_var, init.cel_type());
+    let turn = inner.with(&parts.iter_var, &element);
+    let (condition, step) = check_turn(alloc, checked, &turn, parts, init.cel_type())?;
+    let result = check_tree(alloc, checked, &inner, &parts.result)?;
+    let cel_type = result.cel_type().copy()?;
+    let parts = TypedLoop {
+        range,
+        init,
+        condition,
+        step,
+        result,
+    };
+    let parts = Box::new(alloc, parts)?;
+    Ok(TypedExpr::Loop { cel_type, parts })
+}
+
+/// Checks the condition and the step of a comprehension, in which what is gathered has this type.
+#[cycle(check)]
+fn check_turn<'a>(
+    alloc: Global,
+    checked: &'a Checked,
+    turn: &Scope<'_>,
+    parts: &'a Comprehension,
+    gathered: &CelType,
+) -> Result<(TypedExpr<'a>, TypedExpr<'a>), Refusal>
+    requires on_condition { length (scope_view turn.now) + locals_in (tree_view parts.now.loop_condition)
+        ≤ most_locals }
+    requires on_step { length (scope_view turn.now) + locals_in (tree_view parts.now.loop_step) ≤ most_locals }
+    ensures found { IfOk result (λ r. IsTurn (maps_of (checked_view checked.now)) (scope_view turn.now)
+        (tree_view parts.now.loop_condition) (tree_view parts.now.loop_step) (type_view gathered.now)
+        (expr_view r.0) (expr_view r.1)) }
+    ensures fault { IfErr result (MemoryOr (TurnFault (maps_of (checked_view checked.now)) (scope_view turn.now)
+        (tree_view parts.now.loop_condition) (tree_view parts.now.loop_step) (type_view gathered.now))) }
+{
+    let condition = check_tree(alloc, checked, turn, &parts.loop_condition)?;
+    require_bool(condition.cel_type())?;
+    let step = check_tree(alloc, checked, turn, &parts.loop_step)?;
+    require_same(step.cel_type(), gathered)?;
+    Ok((condition, step))
+}

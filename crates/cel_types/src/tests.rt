@@ -1,0 +1,92 @@
+//! Checked expressions that have a type, and ones that are refused.
+
+mod check_rows;
+
+use crate::check;
+use cel_tree::read_checked;
+use cel_value::{CelType, KeyType};
+use check_rows::{CALLS, LEAVES, LITERALS, LOOPS, Row, SCOPES, SELECTS};
+use proto_wire::Refusal;
+use std::alloc::Global;
+
+/// What `check` answers on a message: the letter of a type, or a refusal.
+fn answer(alloc: Global, bytes: &[u8]) -> Result<u8, Refusal> {
+    let checked = read_checked(alloc, bytes)?;
+    let typed = check(alloc, &checked)?;
+    Ok(letter(typed.root.cel_type()))
+}
+
+/// Types by letters: b, i, u, s and y are bool, int, uint, string and bytes; B, I, S and L are lists of
+/// bools, of ints, of strings and of lists of ints; m, p, q and w are maps from string to string, from
+/// int to string, from bool to lists of ints, and from uint to uint.
+fn letter(found: &CelType) -> u8 {
+    match found {
+        CelType::Bool => b'b',
+        CelType::Int => b'i',
+        CelType::Uint => b'u',
+        CelType::Text => b's',
+        CelType::Bytes => b'y',
+        CelType::List(items) => list_letter(items),
+        CelType::Map(key, values) => map_letter(*key, values),
+    }
+}
+
+fn list_letter(items: &CelType) -> u8 {
+    match items {
+        CelType::Bool => b'B',
+        CelType::Int => b'I',
+        CelType::Text => b'S',
+        CelType::List(inner) if **inner == CelType::Int => b'L',
+        _ => b'?',
+    }
+}
+
+fn map_letter(key: KeyType, values: &CelType) -> u8 {
+    match (key, values) {
+        (KeyType::Text, CelType::Text) => b'm',
+        (KeyType::Int, CelType::Text) => b'p',
+        (KeyType::Bool, CelType::List(items)) if **items == CelType::Int => b'q',
+        (KeyType::Uint, CelType::Uint) => b'w',
+        _ => b'?',
+    }
+}
+
+/// The first row that is answered otherwise.
+fn first_wrong(alloc: Global, rows: &[Row]) -> Option<&'static str> {
+    for (text, want, bytes) in rows {
+        if answer(alloc, bytes) != *want {
+            return Some(*text);
+        }
+    }
+    None
+}
+
+#[test]
+fn leaves(rt: HostRuntime) {
+    assert_eq!(rt; first_wrong(rt.alloc(), &LEAVES), None);
+}
+
+#[test]
+fn selects(rt: HostRuntime) {
+    assert_eq!(rt; first_wrong(rt.alloc(), &SELECTS), None);
+}
+
+#[test]
+fn calls(rt: HostRuntime) {
+    assert_eq!(rt; first_wrong(rt.alloc(), &CALLS), None);
+}
+
+#[test]
+fn literals(rt: HostRuntime) {
+    assert_eq!(rt; first_wrong(rt.alloc(), &LITERALS), None);
+}
+
+#[test]
+fn loops(rt: HostRuntime) {
+    assert_eq!(rt; first_wrong(rt.alloc(), &LOOPS), None);
+}
+
+#[test]
+fn scopes(rt: HostRuntime) {
+    assert_eq!(rt; first_wrong(rt.alloc(), &SCOPES), None);
+}
