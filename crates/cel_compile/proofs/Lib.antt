@@ -9,3 +9,4 @@ pub mod Sound
 pub mod Whole
 pub mod Built
 pub mod Operands
+pub mod Meaning

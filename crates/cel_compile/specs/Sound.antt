@@ -4,7 +4,9 @@ use Rattle.attributes.specs.Limits.{InLimits, LimitsValue}
 use Rattle.attributes.specs.Request.{IsRequest, RequestValue}
 use Rattle.cel_value.specs.Types.{AnswerHasType}
 use Rattle.cel_value.specs.Values.{CelAnswer}
+use Rattle.cel_tree.specs.Checked.{CelChecked}
 use Rattle.cel_types.specs.Elaborated.{TypedTree, kind}
+use Rattle.cel_types.specs.Meaning.{eval}
 use Rattle.cel_types.specs.TypedMeaning.{typed_answer}
 use Rattle.cost_bound.specs.Costs.{cost_of, size_of}
 use Rattle.cost_bound.specs.Sizes.{Within}
@@ -26,3 +28,14 @@ pub record RunsTo (code : List Instruction) (e : TypedTree) (request : RequestVa
 abbrev pub IsSound : List Instruction → TypedTree → Type 0
 IsSound code e = (request : RequestValue) (limits : LimitsValue) → IsRequest request
     → InLimits request limits → RunsTo code e request limits
+
+-- the same in the words of the checked expression that the code was made from: the run ends with what it
+-- means
+pub record RunsToMeaning (code : List Instruction) (c : CelChecked) (e : TypedTree) (request : RequestValue)
+    (limits : LimitsValue) : Type 0 where
+  pub answer : CelAnswer
+  pub means : eval c.tree request [] ≡ Some answer
+  pub has_type : AnswerHasType answer (kind e)
+  pub steps : ℕ
+  pub ends : Ends code request answer steps
+  pub bounded : steps ≤ cost_of e limits []

@@ -1,15 +1,27 @@
 //! What holds of every expression's code.
 
 ghost use Rattle.std.specs.Prelude.{◌≡◌, List, []};
-ghost use Rattle.cel_types.specs.Elaborated.{TypedTree};
+ghost use Rattle.attributes.specs.Limits.{InLimits, LimitsValue};
+ghost use Rattle.attributes.specs.Request.{IsRequest, RequestValue};
+ghost use Rattle.cel_tree.specs.Checked.{CelChecked};
+ghost use Rattle.cel_tree.specs.GoodConstants.{HasGoodConstants};
+ghost use Rattle.cel_types.specs.Elaborated.{IsElaborated, TypedTree};
 ghost use Rattle.cel_types.specs.WellTyped.{IsWellTyped};
 ghost use Rattle.stack_machine.specs.Instructions.{Instruction};
 ghost use Rattle.cel_compile.specs.Codes.{code_of};
-ghost use Rattle.cel_compile.specs.Sound.{IsSound};
+ghost use Rattle.cel_compile.specs.Sound.{IsSound, RunsToMeaning};
 
 /// The code of a well typed expression runs to what the expression comes to, on every request within
 /// the limits, within its cost.
 pub fn compiled_code_is_sound()
     ensures { (e : TypedTree) (code : List Instruction) → IsWellTyped [] e → code ≡ code_of 0 0 e
         → IsSound code e }
+{}
+
+/// The code of a checked expression's elaboration runs to what the expression means, on every request
+/// within the limits, within its cost.
+pub fn compiled_code_means_its_expression()
+    ensures { (c : CelChecked) (e : TypedTree) → HasGoodConstants c.tree → IsElaborated c e
+        → (request : RequestValue) (limits : LimitsValue) → IsRequest request → InLimits request limits
+        → RunsToMeaning (code_of 0 0 e) c e request limits }
 {}
