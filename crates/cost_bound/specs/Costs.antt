@@ -4,10 +4,10 @@
 use Rattle.std.specs.Prelude.{ℕ, zero, suc, ◌+◌, ◌*◌, max, List, [], ◌∷◌, length, Option, Some, None}
 use Rattle.attributes.specs.Limits.{LimitsValue}
 use Rattle.attributes.specs.declared.attribute.AttrId.{AttrId}
-use Rattle.cel_value.specs.Masses.{length_of}
+use Rattle.cel_value.specs.Masses.{entry_count, item_count, length_of}
 use Rattle.cel_value.specs.Texts.{utf8_of}
 use Rattle.cel_value.specs.Types.{ValueType, text_type, bytes_type}
-use Rattle.cel_value.specs.Values.{CelValue, text, bytes}
+use Rattle.cel_value.specs.Values.{CelEntries, no_entries, entry, CelValue, text, bytes, list, map_of, CelValues, no_items, item, CelKey, text_key}
 use Rattle.cel_overload.specs.declared.overload.Overload.{Overload}
 use Rattle.cel_overload.specs.declared.overload.Overload.TheVariants as overloads
 use Rattle.cel_types.specs.Elaborated.{TypedTree, typed_constant, typed_local, typed_attribute, typed_field, typed_has, typed_call, typed_list, typed_map, typed_loop, TypedTrees, no_typed, typed, kinds}
@@ -16,11 +16,34 @@ use Rattle.cost_bound.specs.Sizes.{Size, Flat, Text, Many, Table, join, least, m
 
 -- ---- sizes
 
--- a constant is as large as it is
-abbrev pub constant_size : CelValue → Size
-constant_size (text cs) = Text (length_of (text cs))
-constant_size (bytes bs) = Text (length_of (bytes bs))
-constant_size _ = Flat
+-- a key is as large as it is
+abbrev pub key_size : CelKey → Size
+key_size (text_key cs) = Text (length (utf8_of cs))
+key_size _ = Flat
+
+abbrev mutual
+  -- a constant is as large as it is
+  pub constant_size : CelValue → Size
+  constant_size (text cs) = Text (length_of (text cs))
+  constant_size (bytes bs) = Text (length_of (bytes bs))
+  constant_size (list vs) = Many (item_count vs) (items_size vs)
+  constant_size (map_of es) = Table (entry_count es) (map_keys_size es) (map_values_size es)
+  constant_size _ = Flat
+
+  -- the sizes of items joined, and of a map's keys and values likewise
+  pub items_size : CelValues → Size
+  items_size no_items = Flat
+  items_size (item v vs) = join (constant_size v) (items_size vs)
+
+  -- of keys
+  pub map_keys_size : CelEntries → Size
+  map_keys_size no_entries = Flat
+  map_keys_size (entry k v es) = join (key_size k) (map_keys_size es)
+
+  -- of values
+  pub map_values_size : CelEntries → Size
+  map_values_size no_entries = Flat
+  map_values_size (entry k v es) = join (constant_size v) (map_values_size es)
 
 -- an attribute is as large as the limits let it be
 abbrev pub attribute_size : LimitsValue → AttrId → Size
@@ -94,12 +117,12 @@ values_of (k ∷ v ∷ ss) = v ∷ values_of ss
 
 -- a list literal has as many items as it is written with; an empty one has the least size of its type
 abbrev pub list_size : ValueType → List Size → Size
-list_size t [] = least t
+list_size t [] = Many 0 (element_size (least t))
 list_size t (s ∷ ss) = Many (length (s ∷ ss)) (join_all (s ∷ ss))
 
 -- a map literal likewise
 abbrev pub map_size : ValueType → List Size → Size
-map_size t [] = least t
+map_size t [] = Table 0 (element_size (least t)) (value_size (least t))
 map_size t (s ∷ ss) = Table (length (keys_of (s ∷ ss))) (join_all (keys_of (s ∷ ss))) (join_all (values_of (s ∷ ss)))
 
 -- what is gathered after so many turns: each turn joins what it was with what the step makes of it
