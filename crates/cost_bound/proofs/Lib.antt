@@ -1,0 +1,5 @@
+pub mod Capped
+pub mod SizeViews
+pub mod Calls
+pub mod Turns
+pub mod ExprViews

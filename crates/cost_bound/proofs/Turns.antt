@@ -1,0 +1,30 @@
+-- Turns, one after the other: once what is gathered grows no more, the others cost the same each.
+use Rattle.std.proofs.Common.{◌≡◌, ℕ, suc, zero, ◌+◌, ◌*◌, ◌-◌, ◌<◌, ◌≤◌, List, [], ◌∷◌, ◌++◌, refl, sym, ap, ◌∙◌, arith, suc-mul, zero-mul}
+use Rattle.cost_bound.specs.Sizes.{Size, join}
+use Rattle.cost_bound.specs.Costs.{grown, turns_cost, total, costs_of, sizes_of, keys_of, values_of, cost_of, size_of}
+
+module _ (next : Size → Size) (turn : Size → ℕ) where
+  -- what no turn grows stays as it is
+  pub grown-still : (n : ℕ) (s : Size) → join s (next s) ≡ s → grown next n s ≡ s
+  grown-still zero s e = refl
+  grown-still (suc n) s e = ap (grown next n) e ∙ grown-still n s e
+
+  -- and each turn costs the same
+  pub turns-still : (n : ℕ) (s : Size) → join s (next s) ≡ s → turns_cost next turn n s ≡ n * turn s
+  turns-still zero s e = sym (zero-mul (turn s))
+  turns-still (suc n) s e =
+      let others : turns_cost next turn n (join s (next s)) ≡ n * turn s =
+          ap (turns_cost next turn n) e ∙ turns-still n s e in
+      let all : suc n * turn s ≡ n * turn s + turn s = suc-mul n (turn s) in
+      let whole : turns_cost next turn (suc n) s ≡ turn s + turns_cost next turn n (join s (next s)) = refl in
+      omega arith
+
+-- what is a key is a value of what stands before it
+pub keys-of-more : (s : Size) (ss : List Size) → keys_of (s ∷ ss) ≡ s ∷ values_of ss
+keys-of-more s [] = refl
+keys-of-more s (t ∷ []) = refl
+keys-of-more s (t ∷ u ∷ us) = ap (λ x. s ∷ x) (keys-of-more u us)
+
+pub values-of-more : (s : Size) (ss : List Size) → values_of (s ∷ ss) ≡ keys_of ss
+values-of-more s [] = refl
+values-of-more s (t ∷ ss) = sym (keys-of-more t ss)
