@@ -22,7 +22,7 @@ high-product m (suc n) h =
     let some : 1 ≤ capped (suc n) = omega arith in
     let greatest : capped m ≡ 2 ^ 64 - 1 = capped-high m h in
     let left : capped m * 1 ≤ capped m * capped (suc n) =
-        mul-le (capped m) 1 (capped m) (capped (suc n)) (omega arith) some in
+    mul-le (capped m) 1 (capped m) (capped (suc n)) (omega arith) some in
     let right : m * 1 ≤ m * suc n = mul-le m 1 m (suc n) (omega arith) (omega arith) in
     let one : capped m * 1 ≡ capped m = mul-one (capped m) in
     let other : m * 1 ≡ m = mul-one m in

@@ -3,3 +3,5 @@ pub mod SizeViews
 pub mod Calls
 pub mod Turns
 pub mod ExprViews
+pub mod Scopes
+pub mod Steps

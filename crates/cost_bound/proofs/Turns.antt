@@ -1,7 +1,9 @@
 -- Turns, one after the other: once what is gathered grows no more, the others cost the same each.
-use Rattle.std.proofs.Common.{◌≡◌, ℕ, suc, zero, ◌+◌, ◌*◌, ◌-◌, ◌<◌, ◌≤◌, List, [], ◌∷◌, ◌++◌, refl, sym, ap, ◌∙◌, arith, suc-mul, zero-mul}
+use Rattle.std.proofs.Common.{◌≡◌, ℕ, suc, zero, ◌+◌, ◌*◌, ◌-◌, ◌<◌, ◌≤◌, ◌/◌, ◌%◌, List, [], ◌∷◌, ◌++◌, length, refl, sym, ap, ◌∙◌, arith, suc-mul, zero-mul}
 use Rattle.cost_bound.specs.Sizes.{Size, join}
-use Rattle.cost_bound.specs.Costs.{grown, turns_cost, total, costs_of, sizes_of, keys_of, values_of, cost_of, size_of}
+use Rattle.cel_overload.specs.declared.overload.Overload.TheVariants as overloads
+use Rattle.cel_value.specs.Types.{ValueType}
+use Rattle.cost_bound.specs.Costs.{charge_at, grown, turns_cost, total, costs_of, sizes_of, keys_of, values_of, cost_of, size_of}
 
 module _ (next : Size → Size) (turn : Size → ℕ) where
   -- what no turn grows stays as it is
@@ -14,7 +16,7 @@ module _ (next : Size → Size) (turn : Size → ℕ) where
   turns-still zero s e = sym (zero-mul (turn s))
   turns-still (suc n) s e =
       let others : turns_cost next turn n (join s (next s)) ≡ n * turn s =
-          ap (turns_cost next turn n) e ∙ turns-still n s e in
+      ap (turns_cost next turn n) e ∙ turns-still n s e in
       let all : suc n * turn s ≡ n * turn s + turn s = suc-mul n (turn s) in
       let whole : turns_cost next turn (suc n) s ≡ turn s + turns_cost next turn n (join s (next s)) = refl in
       omega arith
@@ -28,3 +30,18 @@ keys-of-more s (t ∷ u ∷ us) = ap (λ x. s ∷ x) (keys-of-more u us)
 pub values-of-more : (s : Size) (ss : List Size) → values_of (s ∷ ss) ≡ keys_of ss
 values-of-more s [] = refl
 values-of-more s (t ∷ ss) = sym (keys-of-more t ss)
+
+-- of keys and values in turn, half are keys; an odd one is a key
+pub key-count : (ss : List Size) → length (keys_of ss) ≡ length ss / 2 + length ss % 2
+key-count [] = refl
+key-count (k ∷ []) = refl
+key-count (k ∷ v ∷ ss) = let more = key-count ss in omega arith
+
+-- counting takes nothing but of one operand
+pub no-count : (ts : List ValueType) (ss : List Size) → (length ss ≡ 1 → ⊥)
+    → charge_at overloads.Size ts ss ≡ 1
+no-count [] ss h = refl
+no-count (t ∷ []) [] h = refl
+no-count (t ∷ []) (s ∷ []) h = absurd (h refl)
+no-count (t ∷ []) (s ∷ u ∷ us) h = refl
+no-count (t ∷ j ∷ ts) ss h = refl

@@ -14,12 +14,7 @@ use std::alloc::Global;
 
 /// How many steps the expression takes at most, of each request within the limits: its cost, where
 /// that is within the budget. Otherwise it is refused, as `TooCostly` or for want of memory.
-pub fn bound(
-    alloc: Global,
-    typed: &Typed<'_>,
-    limits: &Limits,
-    budget: u64,
-) -> Result<u64, Refusal>
+pub fn bound(alloc: Global, typed: &Typed<'_>, limits: &Limits, budget: u64) -> Result<u64, Refusal>
     ensures found { IfOk result (λ n.
         (n ≡ cost_of (typed_view typed.now) limits.now []) × (n ≤ budget)) }
     ensures fault { IfErr result (MemoryOr (λ e.

@@ -1,6 +1,6 @@
 //! What instructions charge, and paying for it.
 
-ghost use Rattle.std.specs.Prelude.{◌≡◌, ◌≢◌, ◌+◌, ◌-◌, ◌*◌, List, IfErr, IfOk};
+ghost use Rattle.std.specs.Prelude.{◌≡◌, ◌≢◌, ◌+◌, ◌-◌, ◌*◌, List, [], ◌∷◌, IfErr, IfOk};
 ghost use Rattle.cel_overload.specs.declared.overload.Overload.TheVariants as overloads;
 ghost use Rattle.cel_types.specs.Elaborated.{kind, kinds};
 ghost use Rattle.cel_types.specs.View.{expr_view, exprs_view};
@@ -57,38 +57,50 @@ pub(crate) fn field_part(name: &RcStr, map: &ValueSize) -> u64
 pub(crate) fn call_part(overload: Overload, operands: &[TypedExpr<'_>], sizes: &[ValueSize]) -> u64
     ensures { result ≡ capped (call_part overload (kinds (exprs_view operands.now)) (sizes_view sizes.now)) }
 {
-    match overload {
-        Overload::Size => counted_part(operands, sizes),
-        _ => pair_part(overload, sizes),
+    if overload == Overload::Size {
+        return counted_part(operands, sizes);
     }
-}
-
-// What counting takes: the length of a text or of bytes.
-fn counted_part(operands: &[TypedExpr<'_>], sizes: &[ValueSize]) -> u64
-    ensures { result ≡ capped (charge_at overloads.Size (kinds (exprs_view operands.now))
-        (sizes_view sizes.now) - 1) }
-{
-    let [operand] = operands else {
-        return 0;
-    };
-    let [size] = sizes else {
-        return 0;
-    };
-    match type_of(operand) {
-        CelType::Text => size.most(),
-        CelType::Bytes => size.most(),
+    match sizes {
+        [first, second] => pair_part(overload, first, second),
         _ => 0,
     }
 }
 
-// What a call of two operands charges by their sizes.
-fn pair_part(overload: Overload, sizes: &[ValueSize]) -> u64
-    requires { overload ≢ overloads.Size }
-    ensures { (ts : List ValueType) → result ≡ capped (call_part overload ts (sizes_view sizes.now)) }
+// What counting takes, of one operand.
+fn counted_part(operands: &[TypedExpr<'_>], sizes: &[ValueSize]) -> u64
+    ensures { result ≡ capped (charge_at overloads.Size (kinds (exprs_view operands.now))
+        (sizes_view sizes.now) - 1) }
 {
-    let [first, second] = sizes else {
-        return 0;
-    };
+    match operands {
+        [operand] => match sizes {
+            [size] => counted(operand, size),
+            _ => 0,
+        },
+        _ => 0,
+    }
+}
+
+// What counting takes: the length of a text or of bytes.
+fn counted(operand: &TypedExpr<'_>, size: &ValueSize) -> u64
+    ensures { result ≡ capped (counted_cost (kind (expr_view operand.now)) (size_view size.now)) }
+{
+    match type_of(operand) {
+        CelType::Bool => 0,
+        CelType::Int => 0,
+        CelType::Uint => 0,
+        CelType::Text => size.most(),
+        CelType::Bytes => size.most(),
+        CelType::List(_) => 0,
+        CelType::Map(_, _) => 0,
+    }
+}
+
+// What a call of two operands charges by their sizes.
+fn pair_part(overload: Overload, first: &ValueSize, second: &ValueSize) -> u64
+    requires { overload ≢ overloads.Size }
+    ensures { (ts : List ValueType) → result
+        ≡ capped (call_part overload ts (size_view first.now ∷ size_view second.now ∷ [])) }
+{
     match overload {
         Overload::LogicalAnd => 1,
         Overload::LogicalOr => 1,

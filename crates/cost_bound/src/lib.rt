@@ -7,5 +7,7 @@ mod known;
 mod made;
 mod measure;
 mod size;
+#[cfg(test)]
+mod tests;
 
 pub use bounding::bound;

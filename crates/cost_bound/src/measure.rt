@@ -54,36 +54,59 @@ pub(crate) fn measure(
     match expr {
         TypedExpr::Constant { value, .. } => {
             let left = pay(left, 0)?;
-            Ok(Measured { size: constant_size(value), left })
+            Ok(Measured {
+                size: constant_size(value),
+                left,
+            })
         }
         TypedExpr::Local { outside, .. } => {
             let left = pay(left, 0)?;
-            Ok(Measured { size: local_size(scope, *outside)?, left })
+            Ok(Measured {
+                size: local_size(scope, *outside)?,
+                left,
+            })
         }
         TypedExpr::Attribute { id, .. } => {
             let left = pay(left, 0)?;
-            Ok(Measured { size: attribute_size(alloc, limits, *id)?, left })
+            Ok(Measured {
+                size: attribute_size(alloc, limits, *id)?,
+                left,
+            })
         }
         TypedExpr::Field { map, name, .. } => {
             let found = measure_field(alloc, limits, scope, map, name, left)?;
-            Ok(Measured { size: found.size.value()?, left: found.left })
+            Ok(Measured {
+                size: found.size.value()?,
+                left: found.left,
+            })
         }
         TypedExpr::HasField { map, name, .. } => {
             let found = measure_field(alloc, limits, scope, map, name, left)?;
-            Ok(Measured { size: ValueSize::Flat, left: found.left })
+            Ok(Measured {
+                size: ValueSize::Flat,
+                left: found.left,
+            })
         }
-        TypedExpr::Call { overload, operands, .. } => {
-            measure_call(alloc, limits, scope, *overload, operands, left)
-        }
+        TypedExpr::Call {
+            overload,
+            operands,
+            ..
+        } => { measure_call(alloc, limits, scope, *overload, operands, left) }
         TypedExpr::List { cel_type, elements } => {
             let found = measure_each(alloc, limits, scope, elements, left)?;
             let left = pay(found.left, elements.len() as u64)?;
-            Ok(Measured { size: list_size(alloc, cel_type, &found.sizes)?, left })
+            Ok(Measured {
+                size: list_size(alloc, cel_type, &found.sizes)?,
+                left,
+            })
         }
         TypedExpr::Map { cel_type, pairs } => {
             let found = measure_each(alloc, limits, scope, pairs, left)?;
             let left = pay(found.left, map_part(&found.sizes))?;
-            Ok(Measured { size: map_size(alloc, cel_type, &found.sizes)?, left })
+            Ok(Measured {
+                size: map_size(alloc, cel_type, &found.sizes)?,
+                left,
+            })
         }
         TypedExpr::Loop { parts, .. } => measure_loop(alloc, limits, scope, parts, left),
     }
@@ -102,16 +125,19 @@ fn measure_field(
     ensures found { IfOk result (λ m.
         (size_view m.size ≡ size_of (expr_view map.now) limits.now (scope_view scope.now))
         × (left ≡ cost_of (expr_view map.now) limits.now (scope_view scope.now)
-            + field_cost (text_view name.now) (size_of (expr_view map.now) limits.now (scope_view scope.now))
-            + m.left)) }
+        + field_cost (text_view name.now) (size_of (expr_view map.now) limits.now (scope_view scope.now))
+        + m.left)) }
     ensures fault { IfErr result (MemoryOr (CostsMore
         (cost_of (expr_view map.now) limits.now (scope_view scope.now)
-            + field_cost (text_view name.now) (size_of (expr_view map.now) limits.now (scope_view scope.now)))
+        + field_cost (text_view name.now) (size_of (expr_view map.now) limits.now (scope_view scope.now)))
         left)) }
 {
     let found = measure(alloc, limits, scope, map, left)?;
     let left = pay(found.left, field_part(name, &found.size))?;
-    Ok(Measured { size: found.size, left })
+    Ok(Measured {
+        size: found.size,
+        left,
+    })
 }
 
 // Expressions one after the other.
@@ -153,10 +179,10 @@ fn measure_call(
         let sizes = scope_view scope.now in
         (size_view m.size ≡ call_size overload (sizes_of es limits.now sizes))
         × (left ≡ call_cost overload (kinds es) (costs_of es limits.now sizes)
-            (sizes_of es limits.now sizes) + m.left)) }
+        (sizes_of es limits.now sizes) + m.left)) }
     ensures fault { let es = exprs_view operands.now in let sizes = scope_view scope.now in
         IfErr result (MemoryOr (CostsMore (call_cost overload (kinds es)
-            (costs_of es limits.now sizes) (sizes_of es limits.now sizes)) left)) }
+        (costs_of es limits.now sizes) (sizes_of es limits.now sizes)) left)) }
 {
     if overload == Overload::Conditional
         && let [condition, first, second] = operands
@@ -165,7 +191,10 @@ fn measure_call(
     }
     let found = measure_each(alloc, limits, scope, operands, left)?;
     let left = pay(found.left, call_part(overload, operands, &found.sizes))?;
-    Ok(Measured { size: call_size(alloc, overload, &found.sizes)?, left })
+    Ok(Measured {
+        size: call_size(alloc, overload, &found.sizes)?,
+        left,
+    })
 }
 
 #[cycle(measure)]
@@ -180,21 +209,24 @@ fn measure_conditional(
 ) -> Result<Measured, Refusal>
     ensures found { IfOk result (λ m. let sizes = scope_view scope.now in
         (size_view m.size ≡ join (size_of (expr_view first.now) limits.now sizes)
-            (size_of (expr_view second.now) limits.now sizes))
+        (size_of (expr_view second.now) limits.now sizes))
         × (left ≡ cost_of (expr_view condition.now) limits.now sizes + 1
-            + max (cost_of (expr_view first.now) limits.now sizes)
-                (cost_of (expr_view second.now) limits.now sizes) + 1 + m.left)) }
+        + max (cost_of (expr_view first.now) limits.now sizes)
+        (cost_of (expr_view second.now) limits.now sizes) + 1 + m.left)) }
     ensures fault { let sizes = scope_view scope.now in
         IfErr result (MemoryOr (CostsMore (cost_of (expr_view condition.now) limits.now sizes + 1
-            + max (cost_of (expr_view first.now) limits.now sizes)
-                (cost_of (expr_view second.now) limits.now sizes) + 1) left)) }
+        + max (cost_of (expr_view first.now) limits.now sizes)
+        (cost_of (expr_view second.now) limits.now sizes) + 1) left)) }
 {
     let tested = measure(alloc, limits, scope, condition, left)?;
     let before = pay(tested.left, 0)?;
     let one = measure(alloc, limits, scope, first, before)?;
     let other = measure(alloc, limits, scope, second, before)?;
     let left = pay(one.left.min(other.left), 0)?;
-    Ok(Measured { size: join(alloc, &one.size, &other.size)?, left })
+    Ok(Measured {
+        size: join(alloc, &one.size, &other.size)?,
+        left,
+    })
 }
 
 // A comprehension: the range, the turns over its elements, and the result.
@@ -218,7 +250,9 @@ fn measure_loop(
     let stored = pay(init.left, 0)?;
     let element = range.size.element()?;
     let turns = range.size.most();
-    let gathered = measure_turns(alloc, limits, scope, parts, &element, turns, init.size, stored)?;
+    let gathered = measure_turns(
+        alloc, limits, scope, parts, &element, turns, init.size, stored,
+    )?;
     let closed = pay(gathered.left, 0)?;
     let inner = with_local(alloc, scope, gathered.size)?;
     measure(alloc, limits, &inner, &parts.result, closed)
@@ -241,11 +275,11 @@ fn measure_turns(
         let sizes = scope_view scope.now in let e = size_view element.now in
         (size_view m.size ≡ grown (next_size p limits.now e sizes) turns (size_view init))
         × (left ≡ turns_cost (next_size p limits.now e sizes) (turn_cost p limits.now e sizes) turns
-            (size_view init) + m.left)) }
+        (size_view init) + m.left)) }
     ensures fault { let p = parts_view parts.now in
         let sizes = scope_view scope.now in let e = size_view element.now in
         IfErr result (MemoryOr (CostsMore (turns_cost (next_size p limits.now e sizes)
-            (turn_cost p limits.now e sizes) turns (size_view init)) left)) }
+        (turn_cost p limits.now e sizes) turns (size_view init)) left)) }
 {
     let mut gathered = init;
     let mut rest = left;
@@ -255,12 +289,18 @@ fn measure_turns(
         others -= 1;
         if same(&turn.size, &gathered) {
             let left = pay_turns(turn.left, others, rest - turn.left)?;
-            return Ok(Measured { size: gathered, left });
+            return Ok(Measured {
+                size: gathered,
+                left,
+            });
         }
         rest = turn.left;
         gathered = turn.size;
     }
-    Ok(Measured { size: gathered, left: rest })
+    Ok(Measured {
+        size: gathered,
+        left: rest,
+    })
 }
 
 // One turn, and what is gathered after it.
@@ -289,5 +329,8 @@ fn measure_turn(
     let tested = measure(alloc, limits, &inner, &parts.condition, left)?;
     let step = measure(alloc, limits, &inner, &parts.step, tested.left)?;
     let left = pay(step.left, 3)?;
-    Ok(Measured { size: join(alloc, gathered, &step.size)?, left })
+    Ok(Measured {
+        size: join(alloc, gathered, &step.size)?,
+        left,
+    })
 }

@@ -132,7 +132,12 @@ pub(crate) fn join(
             }
             ValueSize::Table(other, keys, values) => {
                 let first = join(alloc, items, keys)?;
-                table(alloc, (*most).max(*other), first, join(alloc, items, values)?)
+                table(
+                    alloc,
+                    (*most).max(*other),
+                    first,
+                    join(alloc, items, values)?,
+                )
             }
         },
         ValueSize::Table(most, keys, values) => match right {
@@ -142,11 +147,21 @@ pub(crate) fn join(
             }
             ValueSize::Many(other, items) => {
                 let first = join(alloc, keys, items)?;
-                table(alloc, (*most).max(*other), first, join(alloc, values, items)?)
+                table(
+                    alloc,
+                    (*most).max(*other),
+                    first,
+                    join(alloc, values, items)?,
+                )
             }
             ValueSize::Table(other, others, further) => {
                 let first = join(alloc, keys, others)?;
-                table(alloc, (*most).max(*other), first, join(alloc, values, further)?)
+                table(
+                    alloc,
+                    (*most).max(*other),
+                    first,
+                    join(alloc, values, further)?,
+                )
             }
         },
     }

@@ -11,7 +11,7 @@ use cel_types::{Typed, TypedExpr};
 use cel_value::CelType;
 use exprs::{attribute, binary, comprehension, constant, list, local, text, unary};
 use proto_wire::Refusal;
-use std::alloc::Global;
+use std::alloc::{AllocError, Global};
 use std::rc::Rc;
 use std::test::Fail;
 
@@ -59,7 +59,12 @@ fn conditional_counts_its_dearer_branch(rt: HostRuntime) -> Result<(), Fail> {
         overload: Overload::Conditional,
         operands: vec![in alloc; constant(&yes), quotient, constant(&two)]?,
     };
-    let root = binary(alloc, Overload::Compare(CompareOp::Equal), choice, constant(&two))?;
+    let root = binary(
+        alloc,
+        Overload::Compare(CompareOp::Equal),
+        choice,
+        constant(&two),
+    )?;
     let typed = Typed { root };
     assert!(rt; bound(alloc, &typed, &Limits::largest(), u64::MAX) == Ok(10));
     assert!(rt; bound(alloc, &typed, &Limits::largest(), 9) == Err(Refusal::TooCostly));
@@ -86,10 +91,10 @@ fn quotient_compares<'a>(
     alloc: Global,
     op: CompareOp,
     one: &'a Constant,
-) -> Result<TypedExpr<'a>, Fail> {
+) -> Result<TypedExpr<'a>, AllocError> {
     let divide = Overload::Arithmetic(ArithmeticOp::Divide);
     let quotient = binary(alloc, divide, constant(one), local(1))?;
-    Ok(binary(alloc, Overload::Compare(op), quotient, constant(one))?)
+    binary(alloc, Overload::Compare(op), quotient, constant(one))
 }
 
 // `[0, 1].exists(x, 1 / x == 1)`.
@@ -126,20 +131,34 @@ fn all_over_three(rt: HostRuntime) -> Result<(), Fail> {
     Ok(())
 }
 
-// `[].all(x, x == 0)`: no turn is counted.
-#[test]
-fn all_over_none(rt: HostRuntime) -> Result<(), Fail> {
-    let alloc = rt.alloc();
-    let yes = Constant::Bool(true);
-    let zero = Constant::Int(0);
+// `[].all(x, x == 0)`.
+fn all_of_none<'a>(
+    alloc: Global,
+    yes: &'a Constant,
+    zero: &'a Constant,
+) -> Result<TypedExpr<'a>, AllocError> {
     let range = TypedExpr::List {
         cel_type: CelType::List(Rc::new(alloc, CelType::Int)?),
         elements: Vec::new(alloc),
     };
     let condition = unary(alloc, Overload::NotStrictlyFalse, local(0))?;
-    let test = binary(alloc, Overload::Compare(CompareOp::Equal), local(1), constant(&zero))?;
+    let test = binary(
+        alloc,
+        Overload::Compare(CompareOp::Equal),
+        local(1),
+        constant(zero),
+    )?;
     let step = binary(alloc, Overload::LogicalAnd, local(0), test)?;
-    let root = comprehension(alloc, range, constant(&yes), condition, step, local(0))?;
+    comprehension(alloc, range, constant(yes), condition, step, local(0))
+}
+
+// No turn is counted.
+#[test]
+fn all_over_none(rt: HostRuntime) -> Result<(), Fail> {
+    let alloc = rt.alloc();
+    let yes = Constant::Bool(true);
+    let zero = Constant::Int(0);
+    let root = all_of_none(alloc, &yes, &zero)?;
     let typed = Typed { root };
     assert!(rt; bound(alloc, &typed, &Limits::largest(), 6) == Ok(6));
     Ok(())
@@ -163,22 +182,24 @@ fn all_with_zero_divisor(rt: HostRuntime) -> Result<(), Fail> {
 }
 
 // Over request.headers: init `"a"`, condition `true`, step `acc + acc`, result `acc == "a"`.
+fn doubling<'a>(
+    alloc: Global,
+    yes: &'a Constant,
+    letter: &'a Constant,
+) -> Result<TypedExpr<'a>, AllocError> {
+    let step = binary(alloc, Overload::Concat, local(0), local(0))?;
+    let equal = Overload::Compare(CompareOp::Equal);
+    let end = binary(alloc, equal, local(0), constant(letter))?;
+    let range = attribute(AttrId::RequestHeaders);
+    comprehension(alloc, range, constant(letter), constant(yes), step, end)
+}
+
 #[test]
 fn doubling_accumulator(rt: HostRuntime) -> Result<(), Fail> {
     let alloc = rt.alloc();
     let yes = Constant::Bool(true);
     let letter = text(alloc, "a")?;
-    let step = binary(alloc, Overload::Concat, local(0), local(0))?;
-    let equal = Overload::Compare(CompareOp::Equal);
-    let result = binary(alloc, equal, local(0), constant(&letter))?;
-    let root = comprehension(
-        alloc,
-        attribute(AttrId::RequestHeaders),
-        constant(&letter),
-        constant(&yes),
-        step,
-        result,
-    )?;
+    let root = doubling(alloc, &yes, &letter)?;
     let typed = Typed { root };
     assert!(rt; bound(alloc, &typed, &Limits::largest(), u64::MAX) == Err(Refusal::TooCostly));
     Ok(())

@@ -78,14 +78,14 @@ pub(super) fn comprehension<'a>(
     init: TypedExpr<'a>,
     condition: TypedExpr<'a>,
     step: TypedExpr<'a>,
-    result: TypedExpr<'a>,
+    end: TypedExpr<'a>,
 ) -> Result<TypedExpr<'a>, AllocError> {
     let parts = TypedLoop {
         range,
         init,
         condition,
         step,
-        result,
+        result: end,
     };
     Ok(TypedExpr::Loop {
         cel_type: CelType::Bool,

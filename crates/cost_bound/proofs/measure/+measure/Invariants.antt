@@ -8,10 +8,10 @@ use Rattle.cost_bound.proofs.measure.+measure.Given as goal
 abbrev pub invariant-measure_each-loop-expr : goal.invariant-measure_each-loop-expr
 invariant-measure_each-loop-expr l =
     (sizes_view l.sizes.items
-        ++ sizes_of (exprs_view (drop l.expr-index l.exprs)) l.limits (scope_view l.scope)
-        ≡ sizes_of (exprs_view l.exprs) l.limits (scope_view l.scope))
+    ++ sizes_of (exprs_view (drop l.expr-index l.exprs)) l.limits (scope_view l.scope)
+    ≡ sizes_of (exprs_view l.exprs) l.limits (scope_view l.scope))
     × (l.left + total (costs_of (exprs_view (drop l.expr-index l.exprs)) l.limits (scope_view l.scope))
-        ≡ total (costs_of (exprs_view l.exprs) l.limits (scope_view l.scope)) + l.rest)
+    ≡ total (costs_of (exprs_view l.exprs) l.limits (scope_view l.scope)) + l.rest)
 
 abbrev pub invariant-measure_turns-loop-others : goal.invariant-measure_turns-loop-others
 invariant-measure_turns-loop-others l =
@@ -19,7 +19,7 @@ invariant-measure_turns-loop-others l =
     let turn = turn_cost (parts_view l.parts) l.limits (size_view l.element) (scope_view l.scope) in
     (grown next l.others (size_view l.gathered) ≡ grown next l.turns (size_view l.initial.init))
     × (l.left + turns_cost next turn l.others (size_view l.gathered)
-        ≡ turns_cost next turn l.turns (size_view l.initial.init) + l.rest)
+    ≡ turns_cost next turn l.turns (size_view l.initial.init) + l.rest)
 
 abbrev pub decreases-measure_turns-loop-others : goal.decreases-measure_turns-loop-others
 decreases-measure_turns-loop-others l = l.others
