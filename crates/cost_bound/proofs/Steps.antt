@@ -5,6 +5,8 @@ use Rattle.attributes.specs.Limits.{LimitsValue}
 use Rattle.cel_types.specs.Elaborated.{TypedTrees, kinds, no_typed, typed}
 use Rattle.cel_types.specs.View.{expr_view, exprs_view}
 use Rattle.cel_types.specs.declared.typed.TypedExpr.{TypedExpr}
+use Rattle.std.specs.Prelude.{Result, IfErr, IsErrAnd}
+use Rattle.proto_wire.proofs.Exits.{exit_memory_or}
 use Rattle.proto_wire.specs.Refusal.{MemoryOr}
 use Rattle.proto_wire.specs.declared.refusal.Refusal.{Refusal}
 use Rattle.cost_bound.specs.Costs.{cost_of, costs_of, field_cost, size_of, sizes_of, total}
@@ -44,3 +46,16 @@ pub costs-from : (es : List TypedExpr) (i : ℕ) (d : TypedExpr) (l : LimitsValu
     → total (costs_of (exprs_view (drop i es)) l ss)
     ≡ cost_of (expr_view (get_or es i d)) l ss + total (costs_of (exprs_view (drop (i + 1) es)) l ss)
 costs-from es i d l ss within = ap (λ x. total (costs_of (exprs_view x) l ss)) (drop_more es i d within)
+
+-- at a `?` on a part: what costs more than was left for the part makes the whole cost more
+pub exit-more : {T : Type 0} (a rest b left : ℕ) (r : Result T Refusal) (e : Refusal)
+    → IsErrAnd r (λ y. y ≡ e) → MemoryOr (CostsMore a rest) e → (rest < a → left < b)
+    → IfErr r (MemoryOr (CostsMore b left))
+exit-more a rest b left r e told fault more =
+    exit_memory_or (CostsMore a rest) (CostsMore b left) r e told fault (λ d f. (f.0, more f.1))
+
+-- the same at a charge
+pub exit-charge : {T : Type 0} (a rest b left : ℕ) (r : Result T Refusal) (e : Refusal)
+    → IsErrAnd r (λ y. y ≡ e) → CostsMore a rest e → (rest < a → left < b)
+    → IfErr r (MemoryOr (CostsMore b left))
+exit-charge a rest b left r e told fault more = exit-more a rest b left r e told (inr fault) more

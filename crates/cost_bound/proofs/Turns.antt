@@ -21,6 +21,16 @@ module _ (next : Size → Size) (turn : Size → ℕ) where
       let whole : turns_cost next turn (suc n) s ≡ turn s + turns_cost next turn n (join s (next s)) = refl in
       omega arith
 
+  -- one turn of those that are left
+  pub grown-turn : (n : ℕ) (s : Size) → 0 < n → grown next n s ≡ grown next (n - 1) (join s (next s))
+  grown-turn zero s h = absurd (omega arith)
+  grown-turn (suc n) s h = refl
+
+  pub turns-turn : (n : ℕ) (s : Size) → 0 < n
+      → turns_cost next turn n s ≡ turn s + turns_cost next turn (n - 1) (join s (next s))
+  turns-turn zero s h = absurd (omega arith)
+  turns-turn (suc n) s h = refl
+
 -- what is a key is a value of what stands before it
 pub keys-of-more : (s : Size) (ss : List Size) → keys_of (s ∷ ss) ≡ s ∷ values_of ss
 keys-of-more s [] = refl
