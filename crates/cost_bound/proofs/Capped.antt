@@ -50,3 +50,7 @@ paid left part rest n fits is e = omega arith
 -- what is short of the capped is short of the whole
 pub short : (left part n : ℕ) → part ≡ capped n → left < 1 + part → left < 1 + n
 short left part n is h = omega arith
+
+-- one and more, less one
+pub one-less : (n : ℕ) → n ≡ 1 + n - 1
+one-less n = omega arith

@@ -17,7 +17,7 @@ use Rattle.cost_bound.proofs.Capped.{paid, short}
 
 -- a lookup of a field charges one and the rest of it
 pub field-once : (name : List ℕ) (s : Size) → field_cost name s ≡ 1 + (field_cost name s - 1)
-field-once name s = refl
+field-once name s = omega arith
 
 -- what more than is left costs, with more besides still does
 pub costs-more : (a b left : ℕ) (e : Refusal) → a ≤ b → CostsMore a left e → CostsMore b left e
