@@ -1,6 +1,7 @@
 -- Locals by the number of those outside: the code's scope has the innermost last.
-use Rattle.std.proofs.Common.{◌≡◌, ℕ, zero, suc, ◌+◌, ◌<◌, List, [], ◌∷◌, ◌++◌, length, map, reverse, drop, get_or, Option, Some, None, refl, sym, ap, ◌∙◌, arith}
+use Rattle.std.proofs.Common.{◌≡◌, nat_eq, false, ℕ, zero, suc, ◌+◌, ◌<◌, List, [], ◌∷◌, ◌++◌, length, map, reverse, drop, get_or, Option, Some, None, refl, sym, ap, ◌∙◌, arith}
 use Rattle.std.specs.Prelude.{slice_get, option_map}
+use Rattle.std.proofs.lemmas.Bool.Decides.{nat_tests}
 use Rattle.std.proofs.lemmas.List.{drop_more, map-append, reverse-append}
 use Rattle.std.proofs.lemmas.Option.{slice_get-map}
 use Rattle.cel_types.specs.TypedMeaning.{local_at}
@@ -8,6 +9,15 @@ use Rattle.cost_bound.specs.Costs.{known}
 use Rattle.cost_bound.specs.Sizes.{Size, Flat}
 use Rattle.cost_bound.specs.steps.SizeView.{scope_view, size_view, sizes_view}
 use Rattle.cost_bound.specs.declared.size.ValueSize.{ValueSize}
+
+zero-not : (n : ℕ) → nat_eq zero (suc n) ≡ false
+zero-not n = grind (arith, nat_tests)
+
+not-zero : (n : ℕ) → nat_eq (suc n) zero ≡ false
+not-zero n = grind (arith, nat_tests)
+
+both-more : (m n : ℕ) → nat_eq (suc m) (suc n) ≡ nat_eq m n
+both-more m n = grind (arith, nat_tests)
 
 module _ {A : Type 0} where
   length-push : (ys : List A) (a : A) → length (ys ++ (a ∷ [])) ≡ suc (length ys)
@@ -20,15 +30,12 @@ module _ {A : Type 0} where
   -- the outermost of all is the last
   pub outermost : (ys : List A) (a : A) → local_at zero (ys ++ (a ∷ [])) ≡ Some a
   outermost [] a = refl
-  outermost (y ∷ []) a = refl
-  outermost (y ∷ z ∷ ys) a = outermost (z ∷ ys) a
+  outermost (y ∷ ys) a = rw (length-push ys a, zero-not (length ys)) (outermost ys a)
 
   -- without it each other is one further out
   pub inner : (m : ℕ) (ys : List A) (a : A) → local_at (suc m) (ys ++ (a ∷ [])) ≡ local_at m ys
-  inner m [] a = refl
-  inner m (y ∷ ys) a =
-      let long : length (ys ++ (a ∷ [])) ≡ suc (length ys) = length-push ys a in
-      rw (long, inner m ys a) refl
+  inner m [] a = rw (not-zero m) refl
+  inner m (y ∷ ys) a = rw (length-push ys a, both-more m (length ys), inner m ys a) refl
 
   -- the local that has so many outside stands there from the outermost on
   pub local-at : (n : ℕ) (xs : List A) → local_at n (reverse xs) ≡ slice_get xs n

@@ -13,11 +13,11 @@ use Rattle.cost_bound.specs.Costs.{cost_of, costs_of, field_cost, size_of, sizes
 use Rattle.cost_bound.specs.Sizes.{Size}
 use Rattle.cost_bound.specs.steps.Measuring.{CostsMore}
 use Rattle.cost_bound.specs.steps.Numbers.{capped}
-use Rattle.cost_bound.proofs.Capped.{paid, short}
+use Rattle.cost_bound.proofs.Capped.{one-less, paid, short}
 
 -- a lookup of a field charges one and the rest of it
 pub field-once : (name : List ℕ) (s : Size) → field_cost name s ≡ 1 + (field_cost name s - 1)
-field-once name s = omega arith
+field-once name s = ap (λ k. 1 + k) (one-less _)
 
 -- what more than is left costs, with more besides still does
 pub costs-more : (a b left : ℕ) (e : Refusal) → a ≤ b → CostsMore a left e → CostsMore b left e

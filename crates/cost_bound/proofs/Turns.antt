@@ -5,6 +5,9 @@ use Rattle.cel_overload.specs.declared.overload.Overload.TheVariants as overload
 use Rattle.cel_value.specs.Types.{ValueType}
 use Rattle.cost_bound.specs.Costs.{charge_at, grown, turns_cost, total, costs_of, sizes_of, keys_of, values_of, cost_of, size_of}
 
+less : (n : ℕ) → n ≡ suc n - 1
+less n = omega arith
+
 module _ (next : Size → Size) (turn : Size → ℕ) where
   -- what no turn grows stays as it is
   pub grown-still : (n : ℕ) (s : Size) → join s (next s) ≡ s → grown next n s ≡ s
@@ -24,12 +27,12 @@ module _ (next : Size → Size) (turn : Size → ℕ) where
   -- one turn of those that are left
   pub grown-turn : (n : ℕ) (s : Size) → 0 < n → grown next n s ≡ grown next (n - 1) (join s (next s))
   grown-turn zero s h = absurd (omega arith)
-  grown-turn (suc n) s h = refl
+  grown-turn (suc n) s h = ap (λ k. grown next k (join s (next s))) (less n)
 
   pub turns-turn : (n : ℕ) (s : Size) → 0 < n
       → turns_cost next turn n s ≡ turn s + turns_cost next turn (n - 1) (join s (next s))
   turns-turn zero s h = absurd (omega arith)
-  turns-turn (suc n) s h = refl
+  turns-turn (suc n) s h = ap (λ k. turn s + turns_cost next turn k (join s (next s))) (less n)
 
 -- what is a key is a value of what stands before it
 pub keys-of-more : (s : Size) (ss : List Size) → keys_of (s ∷ ss) ≡ s ∷ values_of ss

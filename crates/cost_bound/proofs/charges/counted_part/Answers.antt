@@ -11,7 +11,7 @@ use Rattle.cost_bound.proofs.charges.counted_part.Goals as goal
 pub returns-in_default-2 : goal.returns-in_default-2
 returns-in_default-2 c =
     let long : length (sizes_view c.args.sizes.now) ≡ length c.args.sizes.now =
-        length-map size_view c.args.sizes.now in
+        length-map c.args.sizes.now size_view in
     let one : charge_at overloads.Size (kinds (exprs_view c.args.operands.now)) (sizes_view c.args.sizes.now)
         ≡ 1 = no-count _ _ (λ e. omega (arith, e)) in
     rw one refl

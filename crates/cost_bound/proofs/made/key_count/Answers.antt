@@ -8,5 +8,5 @@ pub returns : goal.returns
 returns c =
     let counted = key-count (sizes_view c.args.sizes.now) in
     let same : length (sizes_view c.args.sizes.now) ≡ length c.args.sizes.now =
-    length-map size_view c.args.sizes.now in
+    length-map c.args.sizes.now size_view in
     omega arith

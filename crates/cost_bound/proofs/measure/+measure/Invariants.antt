@@ -17,9 +17,9 @@ abbrev pub invariant-measure_turns-loop-others : goal.invariant-measure_turns-lo
 invariant-measure_turns-loop-others l =
     let next = next_size (parts_view l.parts) l.limits (size_view l.element) (scope_view l.scope) in
     let turn = turn_cost (parts_view l.parts) l.limits (size_view l.element) (scope_view l.scope) in
-    (grown next l.others (size_view l.gathered) ≡ grown next l.turns (size_view l.initial.init))
+    (grown next l.others (size_view l.gathered) ≡ grown next l.initial.others (size_view l.initial.gathered))
     × (l.left + turns_cost next turn l.others (size_view l.gathered)
-    ≡ turns_cost next turn l.turns (size_view l.initial.init) + l.rest)
+    ≡ turns_cost next turn l.initial.others (size_view l.initial.gathered) + l.rest)
 
 abbrev pub decreases-measure_turns-loop-others : goal.decreases-measure_turns-loop-others
 decreases-measure_turns-loop-others l = l.others
