@@ -5,3 +5,4 @@ pub mod Turns
 pub mod ExprViews
 pub mod Scopes
 pub mod Steps
+pub mod Counting

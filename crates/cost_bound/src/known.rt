@@ -119,14 +119,15 @@ pub(crate) fn local_size(scope: &[ValueSize], outside: u8) -> Result<ValueSize, 
 pub(crate) fn with_local(
     alloc: Global,
     scope: &[ValueSize],
-    local: ValueSize,
+    local: &ValueSize,
 ) -> Result<Vec<ValueSize>, AllocError>
-    ensures { IfOk result (λ inner. scope_view inner.items ≡ size_view local ∷ scope_view scope.now) }
+    ensures { IfOk result (λ inner. scope_view inner.items ≡ size_view local.now ∷ scope_view scope.now) }
 {
     let mut inner = Vec::with_capacity(alloc, scope.len())?;
     for size in scope {
         inner.push(size.copy()?)?;
     }
-    inner.push(local)?;
+    let innermost = local.copy()?;
+    inner.push(innermost)?;
     Ok(inner)
 }

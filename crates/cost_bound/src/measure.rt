@@ -254,7 +254,7 @@ fn measure_loop(
         alloc, limits, scope, parts, &element, turns, init.size, stored,
     )?;
     let closed = pay(gathered.left, 0)?;
-    let inner = with_local(alloc, scope, gathered.size)?;
+    let inner = with_local(alloc, scope, &gathered.size)?;
     measure(alloc, limits, &inner, &parts.result, closed)
 }
 
@@ -324,8 +324,8 @@ fn measure_turn(
         let s = size_view gathered.now in
         IfErr result (MemoryOr (CostsMore (turn_cost p limits.now e sizes s) left)) }
 {
-    let outer = with_local(alloc, scope, gathered.copy()?)?;
-    let inner = with_local(alloc, &outer, element.copy()?)?;
+    let outer = with_local(alloc, scope, gathered)?;
+    let inner = with_local(alloc, &outer, element)?;
     let tested = measure(alloc, limits, &inner, &parts.condition, left)?;
     let step = measure(alloc, limits, &inner, &parts.step, tested.left)?;
     let left = pay(step.left, 3)?;
