@@ -13,5 +13,5 @@ returns-in_default-2 c =
     let long = as-many-kinds c.args.operands.now in
     let enough : 2 ≤ length (kinds (exprs_view c.args.operands.now)) = omega arith in
     let one : charge_at overloads.Size (kinds (exprs_view c.args.operands.now)) (sizes_view c.args.sizes.now)
-        ≡ 1 = no-count-kinds _ _ enough in
+    ≡ 1 = no-count-kinds _ _ enough in
     rw one refl

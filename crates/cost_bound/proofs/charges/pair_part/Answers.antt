@@ -20,5 +20,5 @@ returns-in-Concat c = λ ts. rw c.in-Concat.is
 pub returns-in-InList : goal.returns-in-InList
 returns-in-InList c = λ ts. rw c.in-InList.is
     (c.sum-in-InList.ensures _ _ c.mass-in-InList.ensures
-        (c.product-in-InList.ensures _ _ c.most-in-InList.ensures.capped c.mass-in-InList-2.ensures)
+    (c.product-in-InList.ensures _ _ c.most-in-InList.ensures.capped c.mass-in-InList-2.ensures)
     ∙ ap capped (one-less _))
