@@ -1,5 +1,5 @@
 -- Locals by the number of those outside: the code's scope has the innermost last.
-use Rattle.std.proofs.Common.{◌≡◌, nat_eq, false, ℕ, zero, suc, ◌+◌, ◌<◌, List, [], ◌∷◌, ◌++◌, length, map, reverse, drop, get_or, Option, Some, None, refl, sym, ap, ◌∙◌, arith}
+use Rattle.std.proofs.Common.{◌≡◌, nat_eq, false, ℕ, zero, suc, ◌+◌, ◌-◌, ◌<◌, ◌≤◌, List, [], ◌∷◌, ◌++◌, length, map, reverse, drop, get_or, Option, Some, None, refl, sym, ap, ◌∙◌, arith}
 use Rattle.std.specs.Prelude.{slice_get, option_map}
 use Rattle.std.proofs.lemmas.Bool.Decides.{nat_tests}
 use Rattle.std.proofs.lemmas.List.{drop_more, map-append, reverse-append}
@@ -67,3 +67,11 @@ scope-more xs x = ap reverse (map-append size_view xs (x ∷ []))
 pub sizes-at : (xs : List ValueSize) (i : ℕ) (d : ValueSize) → i < length xs
     → sizes_view (drop i xs) ≡ size_view (get_or xs i d) ∷ sizes_view (drop (i + 1) xs)
 sizes-at xs i d within = ap sizes_view (drop_more xs i d within)
+
+-- the same from the place before
+pub place-before : (xs : List ValueSize) (place : ℕ) (x : ValueSize) → x ≡ get_or xs (place - 1) x → 0 < place
+    → place ≤ length xs → sizes_view (drop (place - 1) xs) ≡ size_view x ∷ sizes_view (drop place xs)
+place-before xs place x e some fits =
+    let back : place - 1 + 1 ≡ place = omega arith in
+    let whole = sizes-at xs (place - 1) x (omega arith) in
+    rw (← e, back) at whole
