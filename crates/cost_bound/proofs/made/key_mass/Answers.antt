@@ -10,10 +10,9 @@ pub loop-at-preserved : goal.loop-at-preserved
 loop-at-preserved c =
     let before = c.loop-at.invariant in
     let front = place-before c.args.sizes.now c.loop-at.at c.index-sizes-at.result c.index-sizes-at.is
-        c.loop-at-test.true before.0 in
-    (
+    c.loop-at-test.true before.0 in (
       omega (arith, before.0),
       c.sum-counted.ensures _ _ c.mass.ensures before.2
-      ∙ ap capped (sym (ap masses (ap keys_of front ∙ keys-of-more (size_view c.index-sizes-at.result) _))),
+          ∙ ap capped (sym (ap masses (ap keys_of front ∙ keys-of-more (size_view c.index-sizes-at.result) _))),
       before.1 ∙ ap capped (sym (ap masses (ap values_of front ∙ values-of-more (size_view c.index-sizes-at.result) _))),
     )
