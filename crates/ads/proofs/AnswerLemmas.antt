@@ -1,5 +1,5 @@
 -- The answers to messages, one after the other.
-use Rattle.std.proofs.Common.{◌≡◌, ◌≢◌, inl, inr, ℕ, Bool, true, false, List, [], ◌∷◌, ◌++◌, not, true≢false, Option, Some, None, length, suc, refl, ap, sym, ◌∙◌, append_assoc, append-nil, option_map}
+use Rattle.std.proofs.Common.{◌≡◌, ◌≢◌, ◌⊎◌, inl, inr, ℕ, Bool, true, false, List, [], ◌∷◌, ◌++◌, not, true≢false, Option, Some, None, length, suc, refl, ap, sym, ◌∙◌, append_assoc, append-nil, option_map}
 use Rattle.std.specs.Prelude.{Result, Ok, Err, OnOk, MatchBool}
 use Rattle.std.specs.List.{AllZip}
 use Rattle.std.proofs.lemmas.List.{length-map}
@@ -7,11 +7,11 @@ use Rattle.proto_wire.specs.Refusal.{MemoryOr}
 use Rattle.proto_wire.specs.declared.refusal.Refusal.{Refusal}
 use Rattle.xds_wire.specs.Frames.{frame_of}
 use Rattle.xds_wire.specs.Discovery.{RequestMessage, ResponseMessage, StatusMessage}
-use Rattle.rbac_policy.specs.Filter.{Filter}
-use Rattle.rbac_policy.specs.Admitted.{filter_view}
+use Rattle.ads.specs.Answer.{AdmittedValue}
+use Rattle.ads.specs.steps.Taking.{admitted_view}
 use Rattle.rbac_policy.specs.declared.filter.Admitted.{Admitted}
 use Rattle.ads.specs.Config.{ConfigValue, FilterValue}
-use Rattle.ads.specs.Answer.{Accepted, Answers, nack, no_memory, Refuses, nack_of, request_of, replaced}
+use Rattle.ads.specs.Answer.{Accepted, Answers, IsAdmitting, nack, no_memory, Refuses, nack_of, request_of, replaced}
 use Rattle.ads.specs.Client.{AreAnswered}
 use Rattle.ads.specs.steps.Taking.{policies_view}
 use Rattle.ads.proofs.PlaceLemmas.{replaced_nothing}
@@ -30,16 +30,16 @@ zip_length R (x ∷ xs) [] all = absurd all
 zip_length R (x ∷ xs) (y ∷ ys) (first, all) = ap (λ n. suc n) (zip_length R xs ys all)
 
 -- what is given for each filter covers the filters
-pub given_length : (R : FilterValue → Option Filter → Type 0) (fs : List FilterValue) (given : List (Option Admitted))
+pub given_length : (R : FilterValue → Option AdmittedValue → Type 0) (fs : List FilterValue) (given : List (Option Admitted))
     → AllZip R fs (policies_view given) → length given ≡ length fs
 given_length R fs given all =
-    sym (length-map given (option_map filter_view)) ∙ sym (zip_length R fs (policies_view given) all)
+    sym (length-map given (option_map admitted_view)) ∙ sym (zip_length R fs (policies_view given) all)
 
 -- the answer to a response that is refused
 pub refused_answer : (c : ConfigValue) (response : ResponseMessage) (accepted : Accepted) (e : Refusal)
-    → MemoryOr (Refuses c response) e
+    → ((e ≡ Refusal.Memory) × IsAdmitting c response) ⊎ Refuses c response e
     → Answers c response accepted (nack_of c accepted response e) accepted
-refused_answer c response accepted e (inl memory) = rw memory (no_memory refl refl)
+refused_answer c response accepted e (inl (memory, admitting)) = rw memory (no_memory admitting refl refl)
 refused_answer c response accepted e (inr fault) = nack e fault refl refl
 
 pub on_ok_weaker : {E : Type 0} (r : Result (Unit {0}) E) (P Q : Type 0) → (P → Q) → OnOk r P → OnOk r Q
@@ -97,7 +97,7 @@ pub with_error : (c : ConfigValue) (version nonce : List ℕ) (m : RequestMessag
 with_error c version nonce m status told same tells = rw (same, tells) refl
 
 -- a draft that gives nothing
-pub same_draft : (old : List (Option Filter)) (told version : List ℕ) (given : List (Option Admitted)) (n : ℕ)
+pub same_draft : (old : List (Option AdmittedValue)) (told version : List ℕ) (given : List (Option Admitted)) (n : ℕ)
     → told ≡ version → given ≡ []
     → ◌≡◌ {A = Accepted} (record { version = told; policies = replaced old (policies_view given); generation = n })
     (record { version = version; policies = old; generation = n })

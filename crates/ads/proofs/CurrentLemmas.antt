@@ -8,7 +8,7 @@ use Rattle.std.specs.declared.alloc.Global.{Global}
 use Rattle.std.proofs.lemmas.List.{length-map}
 use Rattle.std.proofs.lemmas.List.Quantifiers.{position-Some}
 use Rattle.indexmap.proofs.MapLemmas.{Missing-position}
-use Rattle.rbac_policy.specs.Admitted.{filter_view}
+use Rattle.ads.specs.steps.Taking.{admitted_view}
 use Rattle.rbac_policy.specs.declared.filter.Admitted.{Admitted}
 use Rattle.ads.specs.Client.{policies_at}
 use Rattle.ads.specs.steps.Views.{entries_view}
@@ -23,7 +23,7 @@ module _ (name : List ℕ) where
       (o : Option Admitted) → length ps ≡ length es → i < length es
       → is_key (get_or (keys_of es) i d) ≡ true
       → ((k : ℕ) → k < i → is_key (get_or (keys_of es) k d) ≡ false)
-      → policies_at name (entries_view es) (policies_view ps) ≡ option_map filter_view (get_or ps i o)
+      → policies_at name (entries_view es) (policies_view ps) ≡ option_map admitted_view (get_or ps i o)
   at_first [] ps i d o same within here before = absurd (omega arith)
   at_first (e ∷ es) [] i d o same within here before = absurd (omega (arith, same))
   at_first (e ∷ es) (p ∷ ps) zero d o same within here before = rw here refl
@@ -36,7 +36,7 @@ module _ (name : List ℕ) where
   pub found_at : (es : List (String Global × ℕ)) (ps : List (Option Admitted)) (i : ℕ)
       (o : Option Admitted) → length ps ≡ length es
       → Some i ≡ position (λ k. bytes_eq name (string_bytes k)) (keys_of es)
-      → policies_at name (entries_view es) (policies_view ps) ≡ option_map filter_view (get_or ps i o)
+      → policies_at name (entries_view es) (policies_view ps) ≡ option_map admitted_view (get_or ps i o)
   found_at [] ps i o same is = absurd cc
   found_at (e ∷ es) ps i o same is =
       let found = position-Some (λ k. bytes_eq name (string_bytes k)) (keys_of (e ∷ es)) i e.0 (sym is) in

@@ -1,5 +1,5 @@
 -- From what filters take of the extensions to what a response gives, or what refuses it.
-use Rattle.std.proofs.Common.{◌≡◌, Bool, true, false, ◌⊎◌, inl, inr, ℕ, List, [], ◌∷◌, refl, sym, bytes_eq, true≢false}
+use Rattle.std.proofs.Common.{◌≡◌, Bool, true, false, ◌⊎◌, inl, inr, ℕ, Some, List, [], ◌∷◌, refl, sym, bytes_eq, true≢false}
 use Rattle.std.specs.Prelude.{Result, Ok, Err, IfOk, OnOk, if◌then◌else◌}
 use Rattle.std.specs.Result.{is_ok}
 use Rattle.std.specs.List.{AllZip}
@@ -7,15 +7,19 @@ use Rattle.std.specs.declared.alloc.AllocError.{AllocError}
 use Rattle.std.proofs.lemmas.Result.{IfOk-weaker}
 use Rattle.std.proofs.lemmas.Slice.Eq.{bytes_eq-Decides}
 use Rattle.proto_wire.specs.declared.refusal.Refusal.{Refusal}
-use Rattle.proto_wire.proofs.Exits.{memory_or_weaker}
 use Rattle.xds_wire.specs.Discovery.{AnyMessage, ExtensionMessage, ResponseMessage}
 use Rattle.xds_wire.specs.Envelope.{SomeOf}
+use Rattle.attributes.specs.Limits.{LimitsValue}
+use Rattle.rbac_policy.specs.Admission.{Admits}
+use Rattle.rbac_policy.specs.Admitted.{filter_view, limits_view}
+use Rattle.rbac_policy.specs.declared.filter.Admitted.{Admitted}
 use Rattle.ads.specs.Config.{ConfigValue, FilterValue}
-use Rattle.ads.specs.Answer.{named, IsResource, IsNamed, IsRefusedFor, TwoOf, Refuses, doubled, refused, ExtensionIsRefused, extension_type}
-use Rattle.ads.specs.steps.Taking.{TakeFault, twice, bad, IsTaken, IsJudged}
+use Rattle.ads.specs.steps.Views.{filter_of}
+use Rattle.ads.specs.Answer.{Gives, HoldsFilter, HoldsSome, named, IsResource, IsNamed, IsRefusedFor, TwoOf, Refuses, doubled, refused, ExtensionIsRefused, HoldsFilterOf, IsAdmitting, extension_type}
+use Rattle.ads.specs.steps.Taking.{admitted_view, TakeFault, twice, bad, out_of_memory, IsTaken, IsJudged}
 use Rattle.ads.specs.declared.judging.Judged.{Judged}
 use Rattle.ads.specs.declared.judging.Judged.TheVariants as judged
-use Rattle.ads.proofs.Lists.{some_weaker}
+use Rattle.ads.proofs.Lists.{some_or, some_weaker, some_with}
 
 -- the resource is an extension of this name, of which this holds
 Holds : List ℕ → (ExtensionMessage → Type 0) → AnyMessage → Type 0
@@ -67,47 +71,39 @@ two_named n a b more (r ∷ rs) (x ∷ xs) (is, all) two =
 
 module _ (c : ConfigValue) (response : ResponseMessage) (xs : List ExtensionMessage)
     (reads : AllZip IsResource response.resources xs) where
-  -- a filter that can take nothing is doubled or refused
-  one_fault : (e : Refusal) (f : FilterValue) → TakeFault c.limits f xs e
-      → (TwoOf (IsNamed f.name) response.resources × (e ≡ Refusal.DuplicateResource))
-      ⊎ SomeOf (IsRefusedFor c.limits f e) response.resources
+  -- why one filter takes nothing, told of the resources
+  abbrev OneFault : Refusal → FilterValue → Type 0
+  OneFault e f = (TwoOf (IsNamed f.name) response.resources × (e ≡ Refusal.DuplicateResource))
+      ⊎ (SomeOf (IsRefusedFor c.limits f e) response.resources
+      ⊎ (SomeOf (HoldsFilterOf f) response.resources × (e ≡ Refusal.Memory)))
+
+  one_fault : (e : Refusal) (f : FilterValue) → TakeFault c.limits f xs e → OneFault e f
   one_fault e f (twice two eq) = inl (two_named f.name two.0 two.1 two.2 response.resources xs reads two.3, eq)
   one_fault e f (bad some) =
-      inr (some_named f.name (λ x. ExtensionIsRefused c.limits f x e) response.resources xs reads some)
+      inr (inl (some_named f.name (λ x. ExtensionIsRefused c.limits f x e) response.resources xs reads some))
+  one_fault e f (out_of_memory some eq) =
+      inr (inr (some_named f.name HoldsSome response.resources xs reads some, eq))
 
-  some_fault : (e : Refusal) (fs : List FilterValue) → SomeOf (λ f. TakeFault c.limits f xs e) fs
-      → (SomeOf (λ f. TwoOf (IsNamed f.name) response.resources) fs × (e ≡ Refusal.DuplicateResource))
-      ⊎ SomeOf (λ f. SomeOf (IsRefusedFor c.limits f e) response.resources) fs
-  some_fault e [] some = absurd some
-  some_fault e (f ∷ fs) (inl here) = by (one_fault e f here)
-    where
-      by : (TwoOf (IsNamed f.name) response.resources × (e ≡ Refusal.DuplicateResource))
-          ⊎ SomeOf (IsRefusedFor c.limits f e) response.resources
-          → (SomeOf (λ f. TwoOf (IsNamed f.name) response.resources) (f ∷ fs) × (e ≡ Refusal.DuplicateResource))
-          ⊎ SomeOf (λ f. SomeOf (IsRefusedFor c.limits f e) response.resources) (f ∷ fs)
-      by (inl p) = inl (inl p.0, p.1)
-      by (inr some) = inr (inl some)
-  some_fault e (f ∷ fs) (inr later) = by (some_fault e fs later)
-    where
-      by : (SomeOf (λ f. TwoOf (IsNamed f.name) response.resources) fs × (e ≡ Refusal.DuplicateResource))
-          ⊎ SomeOf (λ f. SomeOf (IsRefusedFor c.limits f e) response.resources) fs
-          → (SomeOf (λ f. TwoOf (IsNamed f.name) response.resources) (f ∷ fs) × (e ≡ Refusal.DuplicateResource))
-          ⊎ SomeOf (λ f. SomeOf (IsRefusedFor c.limits f e) response.resources) (f ∷ fs)
-      by (inl p) = inl (inr p.0, p.1)
-      by (inr some) = inr (inr some)
-
-  refuses_by : (e : Refusal) → SomeOf (λ f. TakeFault c.limits f xs e) c.filters → Refuses c response e
-  refuses_by e some = elim (some_fault e c.filters some) [
-    | inl (two, eq) ↦ doubled two eq
-    | inr is ↦ refused is
-  ]
+  -- a filter that can take nothing is doubled or refused, or memory ran out
+  refuses_by : response.type_url ≡ extension_type → (e : Refusal)
+      → SomeOf (λ f. TakeFault c.limits f xs e) c.filters
+      → ((e ≡ Refusal.Memory) × IsAdmitting c response) ⊎ Refuses c response e
+  refuses_by type_url e some =
+      elim (some_or (λ f. TwoOf (IsNamed f.name) response.resources × (e ≡ Refusal.DuplicateResource)) _ c.filters
+      (some_weaker _ (OneFault e) (one_fault e) c.filters some)) [
+        | inl two ↦ let told = some_with _ _ c.filters two in inr (doubled told.0 told.1)
+        | inr others ↦ elim (some_or (λ f. SomeOf (IsRefusedFor c.limits f e) response.resources) _ c.filters others) [
+          | inl is ↦ inr (refused is)
+          | inr full ↦
+              let told = some_with _ _ c.filters full in
+              inl (told.1, record { extensions = xs; type_url = type_url; reads = reads; asked = told.0 })
+        ]
+      ]
 
   judged_by : response.type_url ≡ extension_type → (j : Judged) → IsTaken c.limits c.filters xs j
       → IsJudged c response j
   judged_by type_url (judged.Given given) gives = (type_url, xs, reads, gives)
-  judged_by type_url (judged.Refused e) fault =
-      memory_or_weaker (λ e. SomeOf (λ f. TakeFault c.limits f xs e) c.filters) (Refuses c response) e
-      (λ e some. refuses_by e some) fault
+  judged_by type_url (judged.Refused e) fault = refuses_by type_url e fault
 
   -- what the filters take of the extensions of a response
   pub judged_from_taken : response.type_url ≡ extension_type → (r : Result Judged AllocError)
@@ -118,3 +114,12 @@ module _ (c : ConfigValue) (response : ResponseMessage) (xs : List ExtensionMess
 pub on_right : (P : Type 0) (r : Result (Unit {0}) Refusal) → OnOk r P → is_ok r ≡ true → P
 on_right P (Ok x) p is = p
 on_right P (Err e) p is = absurd (true≢false (sym is))
+
+-- what is admitted is given to a filter of any name
+pub admitted_gives : (limits : LimitsValue) (budget : ℕ) (x : ExtensionMessage) (bytes : List ℕ)
+    → HoldsFilter x bytes → (r : Result Admitted Refusal)
+    → IfOk r (λ a. Admits bytes limits budget (filter_view a)) → IfOk r (λ a. limits_view a ≡ limits)
+    → IfOk r (λ a. (name : List ℕ) → Gives limits (filter_of name budget) (x ∷ []) (Some (admitted_view a)))
+admitted_gives limits budget x bytes holds (Ok a) admits same =
+    λ name. (bytes, filter_view a, holds, admits, rw same refl)
+admitted_gives limits budget x bytes holds (Err e) admits same = tt

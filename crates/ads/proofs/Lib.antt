@@ -7,3 +7,5 @@ pub mod StreamLemmas
 pub mod CurrentLemmas
 pub mod TakingLemmas
 pub mod JudgedLemmas
+pub mod ServingLemmas
+pub mod AdmittedLemmas

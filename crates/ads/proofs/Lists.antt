@@ -89,3 +89,21 @@ pub some_middle : {A : Type 0} (P : A → Type 0) (xs : List A) (y : A) (ys : Li
     → SomeOf P (xs ++ y ∷ ys)
 some_middle P [] y ys p = inl p
 some_middle P (x ∷ xs) y ys p = inr (some_middle P xs y ys p)
+
+-- one of two properties holds of one of the elements
+pub some_or : {A : Type 0} (P Q : A → Type 0) (xs : List A) → SomeOf (λ x. P x ⊎ Q x) xs
+    → SomeOf P xs ⊎ SomeOf Q xs
+some_or P Q [] p = absurd p
+some_or P Q (x ∷ xs) (inl (inl p)) = inl (inl p)
+some_or P Q (x ∷ xs) (inl (inr q)) = inr (inl q)
+some_or P Q (x ∷ xs) (inr more) = elim (some_or P Q xs more) [
+  | inl p ↦ inl (inr p)
+  | inr q ↦ inr (inr q)
+]
+
+-- what does not speak of the element holds by itself
+pub some_with : {A : Type 0} (P : A → Type 0) (Q : Type 0) (xs : List A) → SomeOf (λ x. P x × Q) xs
+    → SomeOf P xs × Q
+some_with P Q [] p = absurd p
+some_with P Q (x ∷ xs) (inl (p, q)) = (inl p, q)
+some_with P Q (x ∷ xs) (inr more) = let told = some_with P Q xs more in (inr told.0, told.1)

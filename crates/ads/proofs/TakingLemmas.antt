@@ -8,12 +8,10 @@ use Rattle.std.specs.declared.string.String.{String}
 use Rattle.std.specs.declared.alloc.Global.{Global}
 use Rattle.std.proofs.lemmas.List.{map-append}
 use Rattle.attributes.specs.Limits.{LimitsValue}
-use Rattle.proto_wire.specs.Refusal.{MemoryOr}
 use Rattle.proto_wire.specs.declared.refusal.Refusal.{Refusal}
-use Rattle.proto_wire.proofs.Exits.{memory_or_weaker}
 use Rattle.xds_wire.specs.Discovery.{ExtensionMessage}
 use Rattle.xds_wire.specs.Envelope.{SomeOf}
-use Rattle.rbac_policy.specs.Admitted.{filter_view}
+use Rattle.ads.specs.steps.Taking.{admitted_view}
 use Rattle.rbac_policy.specs.declared.filter.Admitted.{Admitted}
 use Rattle.ads.specs.Answer.{Gives, named}
 use Rattle.ads.specs.steps.Views.{filter_of, entries_view, entry_view}
@@ -31,21 +29,19 @@ module _ (limits : LimitsValue) (xs : List ExtensionMessage) (yielded : List (Bo
     (whole : map deref_pair yielded ++ rest ≡ entries) (next : rest ≡ (name.now, budget.now) ∷ after)
     (same : text ≡ string_bytes name.now) where
   -- the filter is refused
-  pub take_fault : (e : Refusal) → MemoryOr (TakeFault limits (filter_of text budget.now) xs) e
-      → MemoryOr (λ e. SomeOf (λ f. TakeFault limits f xs e) (entries_view entries)) e
+  pub take_fault : (e : Refusal) → TakeFault limits (filter_of text budget.now) xs e
+      → SomeOf (λ f. TakeFault limits f xs e) (entries_view entries)
   take_fault e fault =
       let seen : entries_view entries ≡ entries_view (map deref_pair yielded)
       ++ filter_of (string_bytes name.now) budget.now ∷ entries_view after =
       ap entries_view (sym whole ∙ ap (λ ys. map deref_pair yielded ++ ys) next)
       ∙ map-append entry_view (map deref_pair yielded) ((name.now, budget.now) ∷ after) in
-      memory_or_weaker (TakeFault limits (filter_of text budget.now) xs)
-      (λ e. SomeOf (λ f. TakeFault limits f xs e) (entries_view entries)) e
-      (λ e bad. rw seen (some_middle (λ f. TakeFault limits f xs e) _ _ _ (rw same at bad))) fault
+      rw seen (some_middle (λ f. TakeFault limits f xs e) _ _ _ (rw same at fault))
 
   -- the filter takes what the extensions give
   pub take_more : (given now : List (Option Admitted)) (o : Option Admitted)
       → AllZip (λ f. Gives limits f (named f.name xs)) (entries_view (map deref_pair yielded)) (policies_view given)
-      → Gives limits (filter_of text budget.now) (named text xs) (option_map filter_view o)
+      → Gives limits (filter_of text budget.now) (named text xs) (option_map admitted_view o)
       → now ≡ given ++ o ∷ []
       → (map deref_pair (yielded ++ (name, budget) ∷ []) ++ after ≡ entries)
       × AllZip (λ f. Gives limits f (named f.name xs))
@@ -57,10 +53,10 @@ module _ (limits : LimitsValue) (xs : List ExtensionMessage) (yielded : List (Bo
             ∙ ap (λ ys. map deref_pair yielded ++ ys) (sym next) ∙ whole,
         rw (
           pushed,
-          map-append (option_map filter_view) given (o ∷ []),
+          map-append (option_map admitted_view) given (o ∷ []),
           more,
           map-append entry_view (map deref_pair yielded) ((name.now, budget.now) ∷ []),
         )
             (zip_push (λ f. Gives limits f (named f.name xs)) (entries_view (map deref_pair yielded)) (policies_view given)
-            (filter_of (string_bytes name.now) budget.now) (option_map filter_view o) so_far (rw same at gives)),
+            (filter_of (string_bytes name.now) budget.now) (option_map admitted_view o) so_far (rw same at gives)),
       )

@@ -19,11 +19,16 @@ extension_type = codes "type.googleapis.com/envoy.config.core.v3.TypedExtensionC
 abbrev pub filter_type : List ℕ
 filter_type = codes "type.googleapis.com/envoy.extensions.filters.http.rbac.v3.RBAC"
 
+-- what a filter has: the rules that were admitted, and the limits of requests for which they were
+pub record AdmittedValue : Type 0 where
+  pub filter : Filter
+  pub limits : LimitsValue
+
 -- what was accepted: the last version, empty where there is none, what each filter has, in configured
 -- order, and how many responses, which stays at 2^64 - 1
 pub record Accepted : Type 0 where
   pub version : List ℕ
-  pub policies : List (Option Filter)
+  pub policies : List (Option AdmittedValue)
   pub generation : ℕ
 
 -- nothing was accepted
@@ -49,6 +54,10 @@ abbrev pub HoldsFilter : ExtensionMessage → List ℕ → Type 0
 HoldsFilter extension bytes =
     IsSomeAnd extension.typed_config (λ any. (any.type_url ≡ filter_type) × (any.value ≡ bytes))
 
+-- the extension holds a filter's message
+abbrev pub HoldsSome : ExtensionMessage → Type 0
+HoldsSome extension = (bytes : List ℕ) × HoldsFilter extension bytes
+
 -- what is wrong with the extension of a filter: it is no filter's message, or that is not admitted
 pub data ExtensionIsRefused (limits : LimitsValue) (f : FilterValue) (extension : ExtensionMessage) (e : Refusal)
     : Type 0 where
@@ -63,14 +72,14 @@ named name extensions = filter (λ extension. bytes_eq extension.name name) exte
 
 -- what the extensions of a filter's name give it: nothing where there is none, and else the filter that
 -- the one of them is
-abbrev pub Gives : LimitsValue → FilterValue → List ExtensionMessage → Option Filter → Type 0
+abbrev pub Gives : LimitsValue → FilterValue → List ExtensionMessage → Option AdmittedValue → Type 0
 Gives limits f [] given = given ≡ None
 Gives limits f (extension ∷ []) given = (bytes : List ℕ) × (policies : Filter) × HoldsFilter extension bytes
-    × Admits bytes limits f.budget policies × (given ≡ Some policies)
+    × Admits bytes limits f.budget policies × (given ≡ Some (record { filter = policies; limits = limits }))
 Gives limits f (extension ∷ other ∷ more) given = ⊥
 
 -- what is given takes its place, and where nothing is given the old stays
-abbrev pub replaced : List (Option Filter) → List (Option Filter) → List (Option Filter)
+abbrev pub replaced : List (Option AdmittedValue) → List (Option AdmittedValue) → List (Option AdmittedValue)
 replaced [] given = given
 replaced (old ∷ olds) [] = old ∷ olds
 replaced (old ∷ olds) (Some new ∷ given) = Some new ∷ replaced olds given
@@ -79,7 +88,7 @@ replaced (old ∷ olds) (None ∷ given) = old ∷ replaced olds given
 -- all of the response is right, and what is accepted after it
 pub record Accepts (c : ConfigValue) (response : ResponseMessage) (old new : Accepted) : Type 0 where
   pub extensions : List ExtensionMessage
-  pub given : List (Option Filter)
+  pub given : List (Option AdmittedValue)
   pub type_url : response.type_url ≡ extension_type
   pub reads : AllZip IsResource response.resources extensions
   pub gives : AllZip (λ f. Gives c.limits f (named f.name extensions)) c.filters given
@@ -146,12 +155,25 @@ status_of e = record { code = code_of e; message = codes "policy refused: " ++ d
 abbrev pub nack_of : ConfigValue → Accepted → ResponseMessage → Refusal → RequestMessage
 nack_of c accepted response e = request_of c accepted.version None response.nonce (Some (status_of e))
 
+-- the resource is an extension of the filter's name, and holds a filter's message
+abbrev pub HoldsFilterOf : FilterValue → AnyMessage → Type 0
+HoldsFilterOf f any = (extension : ExtensionMessage) × IsResource any extension × (extension.name ≡ f.name)
+    × HoldsSome extension
+
+-- a filter of the response is judged for itself: all types are right, each resource reads, and one that was
+-- asked for holds a filter's message
+pub record IsAdmitting (c : ConfigValue) (response : ResponseMessage) : Type 0 where
+  pub extensions : List ExtensionMessage
+  pub type_url : response.type_url ≡ extension_type
+  pub reads : AllZip IsResource response.resources extensions
+  pub asked : SomeOf (λ f. SomeOf (HoldsFilterOf f) response.resources) c.filters
+
 -- the answer to a response, and what is accepted after it. Where memory runs out while a filter is
--- admitted, nothing is said of the response.
+-- admitted, nothing more is said of the response.
 pub data Answers (c : ConfigValue) (response : ResponseMessage) (old : Accepted) (reply : RequestMessage)
     (new : Accepted) : Type 0 where
   ack : Accepts c response old new → reply ≡ ack_of c response → Answers c response old reply new
   nack : (e : Refusal) → Refuses c response e → new ≡ old → reply ≡ nack_of c old response e
       → Answers c response old reply new
-  no_memory : new ≡ old → reply ≡ nack_of c old response Refusal.Memory
+  no_memory : IsAdmitting c response → new ≡ old → reply ≡ nack_of c old response Refusal.Memory
       → Answers c response old reply new

@@ -1,12 +1,14 @@
 -- A client of an update stream, and what each call on it does.
 use Rattle.std.specs.Prelude.{◌≡◌, ℕ, Bool, true, false, Option, Some, None, ◌⊎◌, List, [], ◌∷◌, ◌++◌, is_none, bytes_eq, if◌then◌else◌}
 use Rattle.proto_wire.specs.declared.refusal.Refusal.{Refusal}
+use Rattle.attributes.specs.Limits.{LimitsValue}
+use Rattle.xds_wire.specs.Envelope.{SomeOf}
 use Rattle.xds_wire.specs.Frames.{Tail, unfinished, broken, Cut, frame_of}
 use Rattle.xds_wire.specs.Discovery.{RequestMessage, ResponseMessage, IsResponse, ResponseFault}
 use Rattle.xds_wire.specs.Written.{RequestWritten}
 use Rattle.ads.specs.Config.{ConfigValue, FilterValue}
-use Rattle.rbac_policy.specs.Filter.{Filter}
-use Rattle.ads.specs.Answer.{Accepted, Answers, nothing_accepted}
+use Rattle.rbac_policy.specs.Admission.{Admits}
+use Rattle.ads.specs.Answer.{Accepted, AdmittedValue, Answers, nothing_accepted}
 
 -- the most bytes of a message
 abbrev pub most_bytes : ℕ
@@ -73,11 +75,21 @@ abbrev pub new_client : ConfigValue → ClientValue
 new_client c = record { config = c; stream = None; accepted = nothing_accepted c }
 
 -- what the filter of this name has
-abbrev pub policies_at : List ℕ → List FilterValue → List (Option Filter) → Option Filter
+abbrev pub policies_at : List ℕ → List FilterValue → List (Option AdmittedValue) → Option AdmittedValue
 policies_at name [] policies = None
 policies_at name (f ∷ fs) [] = None
 policies_at name (f ∷ fs) (p ∷ ps) = if bytes_eq name f.name then p else policies_at name fs ps
 
 -- what the filter of this name has, of a client
-abbrev pub policies_of : ClientValue → List ℕ → Option Filter
+abbrev pub policies_of : ClientValue → List ℕ → Option AdmittedValue
 policies_of c name = policies_at name c.config.filters c.accepted.policies
+
+-- what the filter has was admitted for these limits and its budget
+abbrev pub WasAdmitted : LimitsValue → FilterValue → Option AdmittedValue → Type 0
+WasAdmitted limits f None = Unit {0}
+WasAdmitted limits f (Some a) =
+    (a.limits ≡ limits) × (bytes : List ℕ) × Admits bytes limits f.budget a.filter
+
+-- what the filter of this name has was admitted for the configuration's limits and the filter's budget
+abbrev pub WasAdmittedAs : ConfigValue → List ℕ → AdmittedValue → Type 0
+WasAdmittedAs c name a = SomeOf (λ f. (f.name ≡ name) × WasAdmitted c.limits f (Some a)) c.filters

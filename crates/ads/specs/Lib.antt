@@ -1,4 +1,5 @@
 pub mod Config
 pub mod Answer
 pub mod Client
+pub mod Control
 pub mod steps

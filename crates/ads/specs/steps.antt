@@ -2,3 +2,4 @@ pub mod Views
 pub mod Streams
 pub mod Taking
 pub mod Drafts
+pub mod Serving

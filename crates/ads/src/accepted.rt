@@ -2,8 +2,7 @@
 
 ghost use Rattle.std.specs.Prelude.{◌≡◌, ◌≤◌, ◌+◌, ◌-◌, ◌^◌, min, [], None, List, Option, map, length, vec_len, IfOk, OnOk};
 ghost use Rattle.std.specs.String.{string_bytes};
-ghost use Rattle.rbac_policy.specs.Filter.{Filter};
-ghost use Rattle.ads.specs.Answer.{nothing_accepted, replaced};
+ghost use Rattle.ads.specs.Answer.{AdmittedValue, nothing_accepted, replaced};
 ghost use Rattle.ads.specs.steps.Views.{entries_view};
 ghost use Rattle.ads.specs.steps.Taking.{policies_view};
 ghost use Rattle.ads.specs.steps.Drafts.{state_view, draft_view, Covers};
@@ -94,7 +93,7 @@ impl Draft {
         requires { Covers (vec_len given) self.old.given.items }
         ensures version { string_bytes self.new.version ≡ string_bytes version }
         ensures generation { self.new.generation ≡ min (self.old.generation + 1) (2 ^ 64 - 1) }
-        ensures policies { (old : List (Option Filter)) → replaced old (policies_view self.new.given.items)
+        ensures policies { (old : List (Option AdmittedValue)) → replaced old (policies_view self.new.given.items)
             ≡ replaced (replaced old (policies_view self.old.given.items)) (policies_view given.items) }
         ensures length { vec_len self.new.given ≡ vec_len given }
         ensures replies { self.new.replies.items ≡ self.old.replies.items }

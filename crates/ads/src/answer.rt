@@ -2,10 +2,9 @@
 
 ghost use Rattle.std.specs.Prelude.{◌≡◌, ◌≢◌, ◌++◌, ℕ, false, [], List, Option, length, IfOk, OnOk, MatchBool};
 ghost use Rattle.proto_wire.specs.declared.refusal.Refusal.TheVariants.{Memory};
-ghost use Rattle.rbac_policy.specs.Filter.{Filter};
 ghost use Rattle.xds_wire.specs.Discovery.{RequestMessage};
 ghost use Rattle.xds_wire.specs.View.{response_view};
-ghost use Rattle.ads.specs.Answer.{Answers};
+ghost use Rattle.ads.specs.Answer.{AdmittedValue, Answers};
 ghost use Rattle.ads.specs.Client.{AreAnswered};
 ghost use Rattle.ads.specs.steps.Drafts.{AddsFrame, Covers, IsAnswered, IsNoResponse, draft_view};
 
@@ -26,7 +25,7 @@ pub(crate) fn answer_all(
     frames: &mut Frames,
 ) -> Result<bool, AllocError>
     requires { Covers (length config.now.filters) draft.old.given.items }
-    ensures answered { IfOk result (λ ends. (old : List (Option Filter)) → (replies : List ℕ)
+    ensures answered { IfOk result (λ ends. (old : List (Option AdmittedValue)) → (replies : List ℕ)
         × AreAnswered config.now (draft_view old draft.old) frames.old.messages replies (draft_view old draft.new) ends
         × (draft.new.replies.items ≡ draft.old.replies.items ++ replies)) }
     ensures covers { IfOk result (λ ends. Covers (length config.now.filters) draft.new.given.items) }
@@ -49,7 +48,7 @@ fn answer(
     message: &[u8],
 ) -> Result<bool, AllocError>
     requires { Covers (length config.now.filters) draft.old.given.items }
-    ensures answered { IfOk result (λ is_response. (old : List (Option Filter)) → MatchBool is_response
+    ensures answered { IfOk result (λ is_response. (old : List (Option AdmittedValue)) → MatchBool is_response
         (IsAnswered config.now (draft_view old draft.old) message.now draft.old.replies.items
         draft.new.replies.items (draft_view old draft.new))
         (IsNoResponse (draft_view old draft.old) message.now draft.old.replies.items
@@ -71,7 +70,7 @@ fn answer(
 }
 
 /// Whether memory ran out.
-fn is_memory(refusal: Refusal) -> bool
+pub(crate) fn is_memory(refusal: Refusal) -> bool
     ensures { MatchBool result (refusal ≡ Memory) (refusal ≢ Memory) }
 {
     matches!(refusal, Refusal::Memory)
@@ -85,7 +84,7 @@ fn answer_response(
     response: &DiscoveryResponse<'_>,
 ) -> Result<(), AllocError>
     requires { Covers (length config.now.filters) draft.old.given.items }
-    ensures answered { OnOk result ((old : List (Option Filter)) → (reply : RequestMessage)
+    ensures answered { OnOk result ((old : List (Option AdmittedValue)) → (reply : RequestMessage)
         × Answers config.now (response_view response.now) (draft_view old draft.old) reply (draft_view old draft.new)
         × AddsFrame reply draft.old.replies.items draft.new.replies.items) }
     ensures covers { OnOk result (Covers (length config.now.filters) draft.new.given.items) }

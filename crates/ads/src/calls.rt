@@ -1,7 +1,8 @@
 //! What a client does: its stream comes up, gives bytes, and is lost.
 
-ghost use Rattle.std.specs.Prelude.{◌≡◌, None, Some, [], IfOk, OnOk, OnErr, MatchOption};
-ghost use Rattle.rbac_policy.specs.Admitted.{filter_view};
+ghost use Rattle.std.specs.Prelude.{◌≡◌, None, Some, [], IfOk, IfSome, OnOk, OnErr, MatchOption};
+ghost use Rattle.rbac_policy.specs.Admitted.{limits_view};
+ghost use Rattle.ads.specs.steps.Taking.{admitted_view};
 ghost use Rattle.ads.specs.Answer.{first_request};
 ghost use Rattle.ads.specs.Client.{IsFrameThen};
 
@@ -14,7 +15,7 @@ use rbac_policy::Admitted;
 use std::alloc::{AllocError, Global};
 
 impl Client {
-    ghost use Rattle.ads.specs.Client.{Feeds, new_client, policies_of, stream_down, stream_up};
+    ghost use Rattle.ads.specs.Client.{Feeds, WasAdmittedAs, new_client, policies_of, stream_down, stream_up};
     ghost use Rattle.ads.specs.steps.Drafts.{client_view};
 
     /// A client that has accepted nothing, and whose stream is down.
@@ -72,10 +73,14 @@ impl Client {
         self.stream = None;
     }
 
-    /// The filter of this name, as it was accepted last. It takes no memory.
+    /// The filter of this name, as it was accepted last; it was admitted for the configuration's limits, under the
+    /// filter's budget. It takes no memory.
     pub fn current(&self, name: &str) -> Option<&Admitted>
-        ensures { let found = policies_of (client_view self.now) name.now in
-            MatchOption result (found ≡ None) (λ a. found ≡ Some (filter_view a.now)) }
+        ensures found { let found = policies_of (client_view self.now) name.now in
+            MatchOption result (found ≡ None) (λ a. found ≡ Some (admitted_view a.now)) }
+        ensures limits { IfSome result (λ a. limits_view a.now ≡ (client_view self.now).config.limits) }
+        ensures admitted { IfSome result (λ a.
+            ∥ WasAdmittedAs (client_view self.now).config name.now (admitted_view a.now) ∥₁) }
     {
         let Some(place) = self.config.filters().get_index_of(name) else {
             return None;

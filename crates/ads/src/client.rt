@@ -1,6 +1,9 @@
 //! What a client of an update stream is.
 
 ghost use Rattle.std.specs.Prelude.{◌≡◌, length};
+ghost use Rattle.std.specs.List.{AllZip};
+ghost use Rattle.ads.specs.Client.{WasAdmitted};
+ghost use Rattle.ads.specs.steps.Taking.{policies_view};
 
 use crate::accepted::State;
 use crate::config::Config;
@@ -25,4 +28,5 @@ pub struct Client {
     pub(crate) stream: Option<Stream>,
     pub(crate) accepted: State,
     ghost sized: { length accepted.policies.items ≡ length config.filters },
+    ghost admitted: { ∥ AllZip (WasAdmitted config.limits) config.filters (policies_view accepted.policies.items) ∥₁ },
 }

@@ -1,17 +1,16 @@
 //! The judging of a response, as a function of the response alone: what it gives each filter, or why it is refused.
 
-ghost use Rattle.std.specs.Prelude.{◌≡◌, ◌≢◌, ℕ, Some, [], ◌∷◌, List, map, IfOk, IfErr, OnOk, MatchOption};
+ghost use Rattle.std.specs.Prelude.{◌≡◌, ◌≢◌, ◌⊎◌, ℕ, Some, [], ◌∷◌, List, map, IfOk, IfErr, OnOk, MatchOption};
 ghost use Rattle.std.specs.Option.{option_map};
 ghost use Rattle.std.specs.List.{AllZip};
 ghost use Rattle.proto_wire.specs.Refusal.{MemoryOr};
-ghost use Rattle.proto_wire.specs.declared.refusal.Refusal.TheVariants.{DuplicateResource, Missing, WrongType};
+ghost use Rattle.proto_wire.specs.declared.refusal.Refusal.TheVariants.{DuplicateResource, Memory, Missing, WrongType};
 ghost use Rattle.xds_wire.specs.Envelope.{SomeOf};
 ghost use Rattle.xds_wire.specs.View.{any_view, extension_view, response_view};
-ghost use Rattle.rbac_policy.specs.Admitted.{filter_view};
 ghost use Rattle.ads.specs.Config.{FilterValue};
-ghost use Rattle.ads.specs.Answer.{IsResource, ResourceFault, HoldsFilter, ExtensionIsRefused, Gives, named, extension_type};
+ghost use Rattle.ads.specs.Answer.{IsResource, ResourceFault, HoldsFilter, HoldsSome, ExtensionIsRefused, Gives, named, extension_type};
 ghost use Rattle.ads.specs.steps.Views.{entries_view, filter_of};
-ghost use Rattle.ads.specs.steps.Taking.{IsDoubled, TakeFault, IsTaken, IsJudged, policies_view};
+ghost use Rattle.ads.specs.steps.Taking.{IsDoubled, TakeFault, IsTaken, IsJudged, admitted_view};
 
 use crate::config::Config;
 use attributes::Limits;
@@ -26,7 +25,8 @@ pub(crate) const EXTENSION_TYPE: &str =
     "type.googleapis.com/envoy.config.core.v3.TypedExtensionConfig";
 
 /// The type of a filter's message.
-const FILTER_TYPE: &str = "type.googleapis.com/envoy.extensions.filters.http.rbac.v3.RBAC";
+pub(crate) const FILTER_TYPE: &str =
+    "type.googleapis.com/envoy.extensions.filters.http.rbac.v3.RBAC";
 
 /// What a response comes to.
 #[derive(Debug, Drop)]
@@ -134,9 +134,9 @@ fn take(
     extensions: &[TypedExtensionConfig<'_>],
 ) -> Result<Option<Admitted>, Refusal>
     ensures found { IfOk result (λ given. Gives limits.now (filter_of name.now budget)
-        (named name.now (map extension_view extensions.now)) (option_map filter_view given)) }
-    ensures fault { IfErr result (MemoryOr
-        (TakeFault limits.now (filter_of name.now budget) (map extension_view extensions.now))) }
+        (named name.now (map extension_view extensions.now)) (option_map admitted_view given)) }
+    ensures fault { IfErr result
+        (TakeFault limits.now (filter_of name.now budget) (map extension_view extensions.now)) }
 {
     match find(extensions, name)? {
         None => Ok(None),
@@ -178,8 +178,9 @@ fn admit_extension(
     extension: &TypedExtensionConfig<'_>,
 ) -> Result<Admitted, Refusal>
     ensures found { IfOk result (λ a. (name : List ℕ)
-        → Gives limits.now (filter_of name budget) (extension_view extension.now ∷ []) (Some (filter_view a))) }
-    ensures fault { IfErr result (MemoryOr (λ e. (name : List ℕ)
+        → Gives limits.now (filter_of name budget) (extension_view extension.now ∷ []) (Some (admitted_view a))) }
+    ensures fault { IfErr result (λ e. ((e ≡ Memory) × HoldsSome (extension_view extension.now))
+        ⊎ ((name : List ℕ)
         → ExtensionIsRefused limits.now (filter_of name budget) (extension_view extension.now) e)) }
 {
     let bytes = filter_bytes(extension)?;

@@ -1,4 +1,5 @@
-//! The client of an update stream: it judges responses, answers them, and keeps what it accepts.
+//! The two ends of an update stream: the client, which judges responses, answers them and keeps what it accepts, and the
+//! control plane, which serves snapshots.
 #![tactic(auto)]
 
 mod accepted;
@@ -6,12 +7,18 @@ mod answer;
 mod calls;
 mod client;
 mod config;
+mod control;
 mod judging;
 mod reply;
+mod response;
+mod serving;
+mod snapshot;
 mod stream;
 
 pub use client::{Client, Fed};
 pub use config::{Config, ConfigFault, Filter};
+pub use control::Control;
+pub use snapshot::{Resource, Snapshot};
 
 #[cfg(test)]
 mod tests;

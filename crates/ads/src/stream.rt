@@ -7,16 +7,20 @@ ghost use Rattle.ads.specs.Client.{AreAnswered, most_bytes, stream_after};
 ghost use Rattle.ads.specs.steps.Taking.{policies_view};
 ghost use Rattle.ads.specs.steps.Streams.{StreamIsBroken};
 ghost use Rattle.ads.specs.steps.Drafts.{Covers, draft_view, state_view};
+ghost use Rattle.ads.specs.Control.{AreServed};
+ghost use Rattle.ads.specs.steps.Serving.{served_view, snapshots_view};
 
 use crate::accepted::{Draft, State};
 use crate::answer::answer_all;
 use crate::config::Config;
+use crate::serving::{Served, serve_all};
+use crate::snapshot::Snapshot;
 use std::alloc::{AllocError, Global};
 use std::marker::Model;
 use xds_wire::{FrameError, Frames};
 
 /// The most bytes of a message.
-const MOST_BYTES: usize = 1_048_576;
+pub(crate) const MOST_BYTES: usize = 1_048_576;
 
 /// A stream that is up: all its whole messages were answered.
 #[derive(Debug, Drop)]
@@ -66,6 +70,27 @@ pub(crate) fn answered(
     let is_faulty = feed_frames(&mut frames, bytes)?;
     let ends = answer_all(alloc, config, &mut draft, &mut frames)?;
     Ok((draft, kept(frames, ends, is_faulty)))
+}
+
+/// What the bytes come to at a control plane: what was served after them, what is sent, and the stream after them.
+pub(crate) fn served_by(
+    alloc: Global,
+    snapshots: &[Snapshot],
+    served: Served,
+    stream: &Stream,
+    bytes: &[u8],
+) -> Result<(Served, Vec<u8>, Option<Stream>), AllocError>
+    ensures { IfOk result (λ r. (messages : List (List ℕ)) × (tail : Tail) × (ends : Bool) × (numbers : List ℕ)
+        × Cut (stream.now ++ bytes.now) most_bytes messages tail
+        × AreServed (snapshots_view snapshots.now) (served_view served) messages r.1.items numbers
+        (served_view r.0) ends × (r.2 ≡ stream_after ends tail)) }
+{
+    let mut frames = stream.frames.copy()?;
+    let mut served = served;
+    let mut replies = Vec::new(alloc);
+    let is_faulty = feed_frames(&mut frames, bytes)?;
+    let ends = serve_all(alloc, snapshots, &mut served, &mut replies, &mut frames)?;
+    Ok((served, replies, kept(frames, ends, is_faulty)))
 }
 
 /// The stream, unless a message ended it or its frames are broken.

@@ -1,12 +1,13 @@
 -- The headers of entries: what they have at a name, and what one entry more changes.
-use Rattle.std.proofs.Common.{◌≡◌, ℕ, ◌+◌, ◌≤◌, true, false, List, [], ◌∷◌, ◌++◌, Option, Some, None, cond, filter, is_some, map, length, refl, sym, ◌∙◌, ap, append_assoc, append-nil, arith}
+use Rattle.std.proofs.Common.{◌≡◌, ◌≢◌, ℕ, ◌+◌, ◌≤◌, true, false, List, [], ◌∷◌, ◌++◌, Option, Some, None, cond, filter, is_some, map, length, refl, sym, ◌∙◌, ap, append_assoc, append-nil, arith}
 use Rattle.std.specs.Str.{bytes_eq}
 use Rattle.std.specs.FinMap.{entries, entries-insert, find, from_entries, get, get-entries, get-from_entries, get-insert, insert, len, len-empty, len-insert, same_map}
 use Rattle.std.specs.FinMap.Entries.{put}
 use Rattle.std.proofs.lemmas.Cmp.{nat_list_cmp_total}
 use Rattle.std.proofs.lemmas.List.{length-map, map-append}
 use Rattle.std.proofs.lemmas.List.Elements.{filter-append}
-use Rattle.attributes.specs.Headers.{AreJoined, Entry, HeaderMap, headers_of, joined, name_cmp, values_of, with_commas}
+use Rattle.attributes.specs.Headers.{Entry, HeaderMap, headers_of, name_cmp, values_of, with_commas}
+use Rattle.attributes.specs.steps.Headers.{AreJoined, joined}
 use Rattle.attributes.proofs.TextOrder.{names_differ, same_from_test, test_same, ties_by_test}
 
 -- the values of one more entry
@@ -76,10 +77,18 @@ AreJoined-headers_of es name =
     get-from_entries nat_list_cmp_total (map (λ e. (e.0, with_commas (values_of e.0 es))) es) name
     ∙ find-listed (λ k. with_commas (values_of k es)) name es ∙ present-joined (values_of name es)
 
+-- headers with the same value at each name are one map
+pub same_headers : (a b : HeaderMap) → ((name : List ℕ) → get a name ≡ get b name) → a ≡ b
+same_headers a b same = same_map nat_list_cmp_total names_differ a b same
+
+-- what a name with a value, and one without, are joined to
+joined-some : (vs : List (List ℕ)) → vs ≢ [] → joined vs ≡ Some (with_commas vs)
+joined-some [] some = absurd (some refl)
+joined-some (v ∷ vs) some = refl
+
 -- and no other map has
 pub same_joined : (es : List Entry) (m n : HeaderMap) → AreJoined es m → AreJoined es n → m ≡ n
-same_joined es m n h k =
-    same_map nat_list_cmp_total names_differ m n (λ name. h name ∙ sym (k name))
+same_joined es m n h k = same_headers m n (λ name. h name ∙ sym (k name))
 
 -- entries with the same values of each name have the same headers
 pub headers_of-same : (es ds : List Entry)
@@ -138,3 +147,12 @@ len-headers_of es =
     let few = len-from_entries (map whole es) in
     let long = length-map es whole in
     omega (arith, few, long)
+
+-- what the headers of entries have at a name
+pub joined-there : (es : List Entry) (name : List ℕ) → values_of name es ≢ []
+    → get (headers_of es) name ≡ Some (with_commas (values_of name es))
+joined-there es name some = AreJoined-headers_of es name ∙ joined-some (values_of name es) some
+
+pub joined-absent : (es : List Entry) (name : List ℕ) → values_of name es ≡ []
+    → get (headers_of es) name ≡ None
+joined-absent es name none = AreJoined-headers_of es name ∙ ap joined none

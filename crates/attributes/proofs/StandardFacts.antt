@@ -1,9 +1,10 @@
 -- The examples of RFC 4291 sections 2.2 and 2.3, so that a wrong rule in the specs does not check.
-use Rattle.std.proofs.Common.{◌≡◌, false, [], ◌∷◌, codes, inl, inr, refl, lit<, lit≤}
+use Rattle.std.proofs.Common.{◌≡◌, false, [], ◌∷◌, codes, inl, inr, refl, lit<, lit≤, true}
 use Rattle.std.specs.Fmt.{digits}
 use Rattle.std.specs.Net.Addr.{ipv4_bits, ipv6_bits}
 use Rattle.std.specs.Net.Grammar.{IsGroup}
-use Rattle.attributes.specs.Address.{IsInRange, IsIpText, Range, share_prefix}
+use Rattle.attributes.specs.Address.{IsIpText, share_prefix}
+use Rattle.attributes.specs.declared.address.Ip.{Ip}
 use Rattle.attributes.specs.declared.address.Ip.TheVariants.{V4, V6}
 
 -- groups of the examples, each with its number
@@ -577,20 +578,18 @@ addresses = record {
 }
 
 -- the prefix 2001:0DB8:0:CD30::/60 of section 2.3
-abbrev prefix : Range
-prefix = record { address = V6 42540766411283561827476688766981111808; size = 60 }
+abbrev prefix : Ip
+prefix = V6 42540766411283561827476688766981111808
 
 -- the node's address is in it; what the section calls an illegal spelling of it is another address,
 -- which is not
 pub record ArePrefixes : Type 0 where
-  pub itself : IsInRange prefix (V6 42540766411283561827476688766981111808)
-  pub node : IsInRange prefix (V6 42540766411283561827558674296197598703)
-  pub other : share_prefix 60 (V6 42540766411283561827476688766981111808)
-      (V6 42540766411282592856903984951653879088) ≡ false
-  pub next : share_prefix 60 (V6 42540766411283561827476688766981111808)
-      (V6 42540766411283562122624593946333937664) ≡ false
+  pub itself : share_prefix 60 prefix prefix ≡ true
+  pub node : share_prefix 60 prefix (V6 42540766411283561827558674296197598703) ≡ true
+  pub other : share_prefix 60 prefix (V6 42540766411282592856903984951653879088) ≡ false
+  pub next : share_prefix 60 prefix (V6 42540766411283562122624593946333937664) ≡ false
   pub family : share_prefix 0 (V4 0) (V6 0) ≡ false
-  pub all : IsInRange (record { address = V4 218186755; size = 0 }) (V4 1)
+  pub all : share_prefix 0 (V4 218186755) (V4 1) ≡ true
 
 pub prefixes : ArePrefixes
 prefixes = record {

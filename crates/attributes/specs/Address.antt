@@ -1,6 +1,6 @@
 -- IP addresses as text and as numbers: RFC 4291 sections 2.2 and 2.3, RFC 4632 section 3.1
 -- (ranges); IPv4 as in RFC 3986 section 3.2.2.
-use Rattle.std.specs.Prelude.{◌≡◌, ℕ, ◌-◌, ◌/◌, ◌^◌, ◌<◌, List, Bool, false, IsTrue, ◌==◌}
+use Rattle.std.specs.Prelude.{◌≡◌, ℕ, ◌-◌, ◌/◌, ◌^◌, ◌<◌, List, Bool, false, ◌==◌}
 use Rattle.std.specs.List.{list_any}
 use Rattle.std.specs.Net.Addr.{ipv4_bits, ipv6_bits}
 use Rattle.std.specs.Net.Grammar.{IsIpv4Text, IsIpv6Text}
@@ -40,7 +40,3 @@ share_prefix size a b = false
 pub record Range : Type 0 where
   pub address : Ip
   pub size : ℕ
-
--- the addresses of a range
-abbrev pub IsInRange : Range → Ip → Type 0
-IsInRange range ip = IsTrue (share_prefix range.size range.address ip)

@@ -7,6 +7,7 @@ use Rattle.std.specs.Rc.{rc_str_bytes}
 use Rattle.attributes.specs.Headers.{HeaderMap, headers_view, map_view, name_cmp}
 use Rattle.attributes.specs.Request.{AreTextHeaders, RequestValue, header_of, protocol_of}
 use Rattle.attributes.specs.declared.attribute.AttrId.{AttrId}
+use Rattle.attributes.specs.declared.attribute.AttrId.TheVariants.{RequestPath, RequestUrlPath, RequestHost, RequestScheme, RequestMethod, RequestHeaders, RequestReferer, RequestUseragent, RequestId, RequestProtocol, RequestQuery, SourceAddress, SourcePort, DestinationAddress, DestinationPort, ConnectionMtls, ConnectionId, ConnectionRequestedServerName, ConnectionTlsVersion, ConnectionSubjectPeerCertificate, ConnectionDnsSanPeerCertificate, ConnectionUriSanPeerCertificate}
 use Rattle.attributes.specs.declared.attribute.AttrType.{AttrType}
 use Rattle.attributes.specs.declared.attribute.AttrValue.{AttrValue}
 use Rattle.attributes.specs.declared.attribute.AttrValue.TheVariants as values
@@ -52,63 +53,50 @@ header_data r name = option_map text (header_of r name)
 abbrev pub port_data : Option ℕ → Option AttrData
 port_data port = option_map (λ n. int (pos n)) port
 
--- each attribute as a function of the request; none where it is absent
-abbrev pub attr_of : RequestValue → AttrId → Option AttrData
-attr_of r AttrId.RequestPath = Some (text r.target)
-attr_of r AttrId.RequestUrlPath = Some (text (url_path_of r.target))
-attr_of r AttrId.RequestHost = header_data r (codes ":authority")
-attr_of r AttrId.RequestScheme = Some (text r.facts.scheme)
-attr_of r AttrId.RequestMethod = Some (text r.method)
-attr_of r AttrId.RequestHeaders = Some (text_map r.headers)
-attr_of r AttrId.RequestReferer = header_data r (codes "referer")
-attr_of r AttrId.RequestUseragent = header_data r (codes "user-agent")
-attr_of r AttrId.RequestId = header_data r (codes "x-request-id")
-attr_of r AttrId.RequestProtocol = Some (text (protocol_of r.http11))
-attr_of r AttrId.RequestQuery = Some (text (query_of r.target))
-attr_of r AttrId.SourceAddress = option_map text r.facts.source_address
-attr_of r AttrId.SourcePort = port_data r.facts.source_port
-attr_of r AttrId.DestinationAddress = option_map text r.facts.destination_address
-attr_of r AttrId.DestinationPort = port_data r.facts.destination_port
-attr_of r AttrId.ConnectionMtls = option_map bool r.facts.mtls
-attr_of r AttrId.ConnectionId = option_map uint r.facts.connection_id
-attr_of r AttrId.ConnectionRequestedServerName = option_map text r.facts.requested_server_name
-attr_of r AttrId.ConnectionTlsVersion = option_map text r.facts.tls_version
-attr_of r AttrId.ConnectionSubjectPeerCertificate = option_map text r.facts.subject_peer_certificate
-attr_of r AttrId.ConnectionDnsSanPeerCertificate = option_map text r.facts.dns_san_peer_certificate
-attr_of r AttrId.ConnectionUriSanPeerCertificate = option_map text r.facts.uri_san_peer_certificate
+-- the name of each attribute, and its value as a function of the request; none where it is absent
+abbrev pub attribute : AttrId → List ℕ × (RequestValue → Option AttrData)
+attribute RequestPath = (codes "request.path", λ r. Some (text r.target))
+attribute RequestUrlPath = (codes "request.url_path", λ r. Some (text (url_path_of r.target)))
+attribute RequestHost = (codes "request.host", λ r. header_data r (codes ":authority"))
+attribute RequestScheme = (codes "request.scheme", λ r. Some (text r.facts.scheme))
+attribute RequestMethod = (codes "request.method", λ r. Some (text r.method))
+attribute RequestHeaders = (codes "request.headers", λ r. Some (text_map r.headers))
+attribute RequestReferer = (codes "request.referer", λ r. header_data r (codes "referer"))
+attribute RequestUseragent = (codes "request.useragent", λ r. header_data r (codes "user-agent"))
+attribute RequestId = (codes "request.id", λ r. header_data r (codes "x-request-id"))
+attribute RequestProtocol = (codes "request.protocol", λ r. Some (text (protocol_of r.http11)))
+attribute RequestQuery = (codes "request.query", λ r. Some (text (query_of r.target)))
+attribute SourceAddress = (codes "source.address", λ r. option_map text r.facts.source_address)
+attribute SourcePort = (codes "source.port", λ r. port_data r.facts.source_port)
+attribute DestinationAddress = (codes "destination.address", λ r. option_map text r.facts.destination_address)
+attribute DestinationPort = (codes "destination.port", λ r. port_data r.facts.destination_port)
+attribute ConnectionMtls = (codes "connection.mtls", λ r. option_map bool r.facts.mtls)
+attribute ConnectionId = (codes "connection.id", λ r. option_map uint r.facts.connection_id)
+attribute ConnectionRequestedServerName =
+    (codes "connection.requested_server_name", λ r. option_map text r.facts.requested_server_name)
+attribute ConnectionTlsVersion = (codes "connection.tls_version", λ r. option_map text r.facts.tls_version)
+attribute ConnectionSubjectPeerCertificate =
+    (codes "connection.subject_peer_certificate", λ r. option_map text r.facts.subject_peer_certificate)
+attribute ConnectionDnsSanPeerCertificate =
+    (codes "connection.dns_san_peer_certificate", λ r. option_map text r.facts.dns_san_peer_certificate)
+attribute ConnectionUriSanPeerCertificate =
+    (codes "connection.uri_san_peer_certificate", λ r. option_map text r.facts.uri_san_peer_certificate)
 
--- the name of each attribute
+-- the name of an attribute
 abbrev pub attr_name : AttrId → List ℕ
-attr_name AttrId.RequestPath = codes "request.path"
-attr_name AttrId.RequestUrlPath = codes "request.url_path"
-attr_name AttrId.RequestHost = codes "request.host"
-attr_name AttrId.RequestScheme = codes "request.scheme"
-attr_name AttrId.RequestMethod = codes "request.method"
-attr_name AttrId.RequestHeaders = codes "request.headers"
-attr_name AttrId.RequestReferer = codes "request.referer"
-attr_name AttrId.RequestUseragent = codes "request.useragent"
-attr_name AttrId.RequestId = codes "request.id"
-attr_name AttrId.RequestProtocol = codes "request.protocol"
-attr_name AttrId.RequestQuery = codes "request.query"
-attr_name AttrId.SourceAddress = codes "source.address"
-attr_name AttrId.SourcePort = codes "source.port"
-attr_name AttrId.DestinationAddress = codes "destination.address"
-attr_name AttrId.DestinationPort = codes "destination.port"
-attr_name AttrId.ConnectionMtls = codes "connection.mtls"
-attr_name AttrId.ConnectionId = codes "connection.id"
-attr_name AttrId.ConnectionRequestedServerName = codes "connection.requested_server_name"
-attr_name AttrId.ConnectionTlsVersion = codes "connection.tls_version"
-attr_name AttrId.ConnectionSubjectPeerCertificate = codes "connection.subject_peer_certificate"
-attr_name AttrId.ConnectionDnsSanPeerCertificate = codes "connection.dns_san_peer_certificate"
-attr_name AttrId.ConnectionUriSanPeerCertificate = codes "connection.uri_san_peer_certificate"
+attr_name id = (attribute id).0
+
+-- the value of an attribute of this request
+abbrev pub attr_of : RequestValue → AttrId → Option AttrData
+attr_of r id = (attribute id).1 r
 
 -- the type of each attribute: all but these five are texts
 abbrev pub attr_type : AttrId → AttrType
-attr_type AttrId.RequestHeaders = AttrType.TextMap
-attr_type AttrId.SourcePort = AttrType.Int
-attr_type AttrId.DestinationPort = AttrType.Int
-attr_type AttrId.ConnectionMtls = AttrType.Bool
-attr_type AttrId.ConnectionId = AttrType.Uint
+attr_type RequestHeaders = AttrType.TextMap
+attr_type SourcePort = AttrType.Int
+attr_type DestinationPort = AttrType.Int
+attr_type ConnectionMtls = AttrType.Bool
+attr_type ConnectionId = AttrType.Uint
 attr_type _ = AttrType.Text
 
 -- the value is one of the type: a text is UTF-8, and a number has 64 bits

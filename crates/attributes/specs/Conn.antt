@@ -1,6 +1,6 @@
 -- What is known of a connection: the connection attributes of Envoy, "Attributes", and the
 -- addresses for CIDR ranges.
-use Rattle.std.specs.Prelude.{ℕ, ◌^◌, ◌<◌, Bool, Option, Some, None, List, [], ◌∷◌, IfSome, option_map}
+use Rattle.std.specs.Prelude.{ℕ, ◌^◌, ◌<◌, Option, Some, None, List, [], ◌∷◌, IfSome, option_map}
 use Rattle.std.specs.List.{AllByRecursion}
 use Rattle.std.specs.Str.{IsUtf8}
 use Rattle.std.specs.Rc.{rc_str_bytes}
@@ -8,25 +8,10 @@ use Rattle.std.specs.declared.rc.RcStr.{RcStr}
 use Rattle.std.specs.declared.alloc.Global.{Global}
 use Rattle.attributes.specs.declared.conn.Conn.{Conn}
 use Rattle.attributes.specs.Address.{IsAddress}
-use Rattle.attributes.specs.declared.address.Ip.{Ip}
 
--- the facts of a connection; a text is its bytes
-pub record Facts : Type 0 where
-  pub source_address : Option (List ℕ)
-  pub source_port : Option ℕ
-  pub destination_address : Option (List ℕ)
-  pub destination_port : Option ℕ
-  pub mtls : Option Bool
-  pub connection_id : Option ℕ
-  pub requested_server_name : Option (List ℕ)
-  pub tls_version : Option (List ℕ)
-  pub subject_peer_certificate : Option (List ℕ)
-  pub dns_san_peer_certificate : Option (List ℕ)
-  pub uri_san_peer_certificate : Option (List ℕ)
-  pub direct_remote_ip : Option Ip
-  pub remote_ip : Option Ip
-  pub destination_ip : Option Ip
-  pub scheme : List ℕ
+-- the facts of a connection (the fields of `Conn`); a text is its bytes
+abbrev pub Facts : Type 0
+Facts = Conn (List ℕ)
 
 -- the texts among the facts
 abbrev pub texts_of : Facts → List (Option (List ℕ))
@@ -55,7 +40,7 @@ abbrev pub text_view : Option (RcStr Global) → Option (List ℕ)
 text_view = option_map rc_str_bytes
 
 -- the facts that a connection value holds
-abbrev pub conn_view : Conn → Facts
+abbrev pub conn_view : Conn (RcStr Global) → Facts
 conn_view c = record {
   source_address = text_view c.source_address;
   source_port = c.source_port;

@@ -1,10 +1,10 @@
 -- The headers of a request, one value for each name: RFC 9110 sections 5.2 and 5.3, and Envoy,
 -- "Attributes" (`request.headers`).
-use Rattle.std.specs.Prelude.{◌≡◌, ℕ, List, [], ◌∷◌, ◌++◌, Option, Some, None, if◌then◌else◌, codes, filter, map}
+use Rattle.std.specs.Prelude.{ℕ, List, [], ◌∷◌, ◌++◌, if◌then◌else◌, codes, filter, map}
 use Rattle.std.specs.List.{join_with_byte}
 use Rattle.std.specs.Ordering.{nat_cmp}
 use Rattle.std.specs.Cmp.Lexicographic.{slice_cmp}
-use Rattle.std.specs.FinMap.{FinMap, from_entries, from_sorted, get}
+use Rattle.std.specs.FinMap.{FinMap, from_entries, from_sorted}
 use Rattle.std.specs.Str.{bytes_eq}
 use Rattle.std.specs.Rc.{rc_str_bytes}
 use Rattle.std.specs.String.{string_bytes}
@@ -56,15 +56,6 @@ with_commas values = join_with_byte 44 values
 -- the headers of entries: each name that stands there, with all its values as one
 unfoldable pub headers_of : List Entry → HeaderMap
 headers_of es = from_entries (map (λ e. (e.0, with_commas (values_of e.0 es))) es)
-
--- the values of one name as one; none where there is none
-abbrev pub joined : List (List ℕ) → Option (List ℕ)
-joined [] = None
-joined (v ∷ vs) = Some (with_commas (v ∷ vs))
-
--- the headers have the entries' values at each name, and nothing at any other
-abbrev pub AreJoined : List Entry → HeaderMap → Type 0
-AreJoined es headers = (name : List ℕ) → get headers name ≡ joined (values_of name es)
 
 -- the name under which a field line stands: the Host field's is `:authority`
 abbrev pub header_name : List ℕ → List ℕ

@@ -34,23 +34,22 @@ declared fields name value method target text = record {
   text = text;
 }
 
--- the name by which a limit is declared
+-- the name by which each limit is declared, and which of the six it is
+abbrev pub limit_row : Limit → List ℕ × (LimitsValue → ℕ)
+limit_row Limit.Fields = (codes "fields", λ l. l.fields)
+limit_row Limit.Name = (codes "name", λ l. l.name)
+limit_row Limit.Value = (codes "value", λ l. l.value)
+limit_row Limit.Method = (codes "method", λ l. l.method)
+limit_row Limit.Target = (codes "target", λ l. l.target)
+limit_row Limit.Text = (codes "text", λ l. l.text)
+
+-- the name of a limit
 abbrev pub name_of : Limit → List ℕ
-name_of Limit.Fields = codes "fields"
-name_of Limit.Name = codes "name"
-name_of Limit.Value = codes "value"
-name_of Limit.Method = codes "method"
-name_of Limit.Target = codes "target"
-name_of Limit.Text = codes "text"
+name_of limit = (limit_row limit).0
 
 -- one of the six
 abbrev pub limit_of : Limit → LimitsValue → ℕ
-limit_of Limit.Fields l = l.fields
-limit_of Limit.Name l = l.name
-limit_of Limit.Value l = l.value
-limit_of Limit.Method l = l.method
-limit_of Limit.Target l = l.target
-limit_of Limit.Text l = l.text
+limit_of limit l = (limit_row limit).1 l
 
 -- the limits in the order of `Limits::new`
 abbrev pub every_limit : List Limit
@@ -64,8 +63,7 @@ limit_fault limit n = if n == 0 then Some (Zero limit)
 
 -- the first fault of the limits in that order, if there is one
 abbrev pub first_fault : LimitsValue → Option LimitFault
-first_fault l =
-    slice_get (filter_map (λ limit. limit_fault limit (limit_of limit l)) every_limit) 0
+first_fault l = slice_get (filter_map (λ limit. limit_fault limit (limit_of limit l)) every_limit) 0
 
 -- what a fault prints
 abbrev pub fault_text : LimitFault → List ℕ

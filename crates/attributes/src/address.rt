@@ -1,7 +1,7 @@
 //! IP addresses as numbers, their text, and ranges of them.
 ghost use Rattle.std.specs.Prelude.{◌≡◌, ◌-◌, ◌/◌, ◌^◌, ◌≤◌, ◌↔◌, IsTrue, MatchOption, false, true};
 ghost use Rattle.std.specs.Option.{SomeIff};
-ghost use Rattle.attributes.specs.Address.{IsInRange, IsIpText, has_dot, width_of};
+ghost use Rattle.attributes.specs.Address.{IsIpText, has_dot, share_prefix, width_of};
 
 use std::marker::Model;
 use std::net::{Ipv4Addr, Ipv6Addr};
@@ -92,7 +92,7 @@ impl Cidr {
 
     /// Whether the address is in the range; one of the other family is not.
     pub fn contains(&self, ip: Ip) -> bool
-        ensures { IsTrue result ↔ IsInRange self.now ip }
+        ensures { result ≡ share_prefix self.now.size self.now.address ip }
     {
         match (self.address, ip) {
             (Ip::V4(a), Ip::V4(b)) => share_v4(self.size, a, b),

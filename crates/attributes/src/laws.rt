@@ -1,7 +1,8 @@
 //! Laws of the definitions: functions without parameters, whose contracts are the laws.
-ghost use Rattle.std.specs.Prelude.{◌≡◌, ◌↔◌, ℕ, IfSome, List, None};
+ghost use Rattle.std.specs.Prelude.{◌≡◌, ◌≢◌, ◌↔◌, ℕ, IfSome, List, [], Some, None};
+ghost use Rattle.std.specs.FinMap.{get};
 ghost use Rattle.attributes.specs.Attributes.{HasAttrType, attr_name, attr_of, attr_type};
-ghost use Rattle.attributes.specs.Headers.{AreJoined, Entry, HeaderMap, headers_of};
+ghost use Rattle.attributes.specs.Headers.{Entry, HeaderMap, headers_of, values_of, with_commas};
 ghost use Rattle.attributes.specs.Limits.{AreLimits, LimitsValue, first_fault};
 ghost use Rattle.attributes.specs.Request.{IsRequest, RequestValue};
 ghost use Rattle.attributes.specs.declared.attribute.AttrId.{AttrId};
@@ -24,10 +25,13 @@ pub fn attribute_name_unique()
 
 /// The headers of entries have all values of each name, joined with commas, and no other name.
 pub fn headers_are_joined()
-    ensures { (es : List Entry) → AreJoined es (headers_of es) }
+    ensures there { (es : List Entry) (name : List ℕ) → values_of name es ≢ []
+        → get (headers_of es) name ≡ Some (with_commas (values_of name es)) }
+    ensures absent { (es : List Entry) (name : List ℕ) → values_of name es ≡ []
+        → get (headers_of es) name ≡ None }
 {}
 
-/// Entries have one map of joined headers.
+/// Headers that have the same value at each name are one map.
 pub fn joined_headers_unique()
-    ensures { (es : List Entry) (a b : HeaderMap) → AreJoined es a → AreJoined es b → a ≡ b }
+    ensures { (a b : HeaderMap) → ((name : List ℕ) → get a name ≡ get b name) → a ≡ b }
 {}

@@ -1,0 +1,9 @@
+pub mod Placing
+pub mod Goes
+pub mod Answering
+pub mod Calls
+pub mod Nodes
+pub mod Loop
+pub mod Bounds
+pub mod Sound
+pub mod Whole

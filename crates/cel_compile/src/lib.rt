@@ -1,2 +1,4 @@
 //! Conditions as code of the machine.
 #![tactic(auto)]
+
+pub mod laws;

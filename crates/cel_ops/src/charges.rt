@@ -11,13 +11,27 @@ use cel_value::{Answer, Value, length, spend, text_length};
 use std::rc::RcStr;
 
 /// What is left after a comparison or a test of texts: 1 and both masses.
+#[inline(always)]
 pub fn spend_comparison(left: &Answer, right: &Answer, fuel: u64) -> Option<u64>
     ensures { result ≡ left_of fuel (comparison_charge (answer_view left.now) (answer_view right.now)) }
 {
     let rest = fuel.checked_sub(1)?;
     match (left, right) {
-        (Ok(a), Ok(b)) => spend(b, spend(a, rest)?),
+        (Ok(a), Ok(b)) => spend_value(b, spend_value(a, rest)?),
         _ => Some(rest),
+    }
+}
+
+// What is left once the value's mass is taken, if it is enough. What has no parts needs no call.
+#[inline(always)]
+fn spend_value(value: &Value, left: u64) -> Option<u64>
+    ensures { result ≡ left_of left (mass (value_view value.now)) }
+{
+    match value {
+        Value::Bool(_) => left.checked_sub(1),
+        Value::Int(_) => left.checked_sub(1),
+        Value::Uint(_) => left.checked_sub(1),
+        _ => spend(value, left),
     }
 }
 

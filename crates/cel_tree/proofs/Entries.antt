@@ -4,7 +4,8 @@ use Rattle.proto_wire.specs.Fields.{Wire}
 use Rattle.proto_wire.specs.Merge.{parts_view}
 use Rattle.proto_wire.specs.declared.refusal.Refusal.{Refusal}
 use Rattle.proto_wire.specs.declared.refusal.Refusal.TheVariants.{Missing, Unsupported}
-use Rattle.cel_tree.specs.Reading.{ValuesFault, last_number}
+use Rattle.cel_tree.specs.Reading.{ValuesFault}
+use Rattle.proto_wire.specs.Oneof.{last_number}
 use Rattle.cel_tree.specs.Nodes.{key_members, map_key_field, EntryLacks, EntryWrong, key_of_message, IsEntry, AreEntries}
 use Rattle.cel_tree.specs.steps.EntryViews.{entry_node_view, entry_nodes_view}
 use Rattle.cel_tree.specs.declared.literals.EntryNode.{EntryNode}

@@ -1,13 +1,13 @@
 -- The payloads of a single node are one or have a fault, never both, and are one node at most.
 use Rattle.std.proofs.Common.{◌≡◌, ◌<◌, ◌⊎◌, inl, inr, ℕ, ℤ, Bool, true, false, List, [], ◌∷◌, Contains, Option, Some, None, arith, refl, sym, ap, subst, ◌∙◌}
 use Rattle.proto_wire.specs.Fields.{Wire}
-use Rattle.proto_wire.specs.Oneof.{member_run}
+use Rattle.proto_wire.specs.Oneof.{member_run, last_number}
 use Rattle.proto_wire.specs.Values.{bool_at, int64_at, bytes_at, payloads, has_field}
 use Rattle.proto_wire.specs.declared.refusal.Refusal.{Refusal}
 use Rattle.proto_wire.specs.declared.refusal.Refusal.TheVariants.{BadText, Missing, Unsupported}
 use Rattle.cel_value.specs.Texts.{points_of}
 use Rattle.cel_tree.specs.Nodes.{EntryNode, Node, constant_node, ident_node, select_node, call_node, list_node, map_node, loop_node, ident_keys, IdentSays, IdentWrong, select_keys, SelectSays, SelectLacks, SelectWrong, call_keys, CallSays, CallWrong, list_keys, ListSays, ListWrong, key_members, map_key_field, entry_keys, EntrySays, EntryLacks, EntryWrong, optional, key_of_message, IsEntry, EntryFault, AreEntries, struct_keys, StructSays, StructWrong, bad_name, of_message, in_entry, loop_keys, NamesRead, PartsThere, loop_at, LoopSays, LacksPart, no_range, no_init, no_condition, no_step, no_result, LoopLacks, LoopWrong, bad_iter_var, bad_accu_var, bad_second_name, two_variables, node_kinds, node_keys, KindSays, KindFault, MemberSays, MemberFails, NodeSays, IsNode, NodeFault}
-use Rattle.cel_tree.specs.Reading.{LacksNothing, ValuesFault, last_number, Never, LacksMember, IsUnsupported, OneofFault}
+use Rattle.cel_tree.specs.Reading.{LacksNothing, ValuesFault, Never, LacksMember, IsUnsupported, OneofFault}
 use Rattle.cel_tree.specs.declared.node.NodeKind.{NodeKind}
 use Rattle.cel_tree.specs.declared.node.NodeKind.TheVariants as kinds
 use Rattle.cel_tree.proofs.Basics.{nil_or_not, empty_text, same_or_not, utf8_total, contains_first, contains_later, contains_cases}

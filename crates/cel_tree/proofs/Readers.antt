@@ -5,13 +5,13 @@ use Rattle.std.specs.Map.{keys_of}
 use Rattle.std.proofs.lemmas.Result.{err_from_is_err_and, MatchResult-weaker}
 use Rattle.proto_wire.specs.Fields.{Wire}
 use Rattle.proto_wire.specs.Messages.{IsMessage, MessageFault}
-use Rattle.proto_wire.specs.Oneof.{member_run}
+use Rattle.proto_wire.specs.Oneof.{member_run, last_number, member_in}
 use Rattle.proto_wire.specs.Refusal.{MemoryOr}
 use Rattle.proto_wire.specs.declared.key.Key.{Key}
 use Rattle.proto_wire.specs.declared.refusal.Refusal.{Refusal}
 use Rattle.proto_wire.specs.declared.refusal.Refusal.TheVariants.{Missing, Unsupported}
 pub use Rattle.proto_wire.proofs.Exits.{exit_memory_or, exit_memory, memory_or_weaker}
-use Rattle.cel_tree.specs.Reading.{Reads, ReadFault, in_fields, lacking, in_values, ValuesFault, last_number, member_in, OneofSays, IsUnsupported, OneofFault, LacksMember}
+use Rattle.cel_tree.specs.Reading.{Reads, ReadFault, in_fields, lacking, in_values, ValuesFault, OneofSays, IsUnsupported, OneofFault, LacksMember}
 
 -- at a `?` on a callee without memory
 pub exit_fault : (G : Refusal → Type 0) {T : Type 0} (r : Result T Refusal) (e : Refusal)

@@ -3,13 +3,13 @@
 use Rattle.std.proofs.Common.{◌≡◌, ◌⊎◌, inl, inr, ℕ, List, Option, Some, None, MatchOption, refl, subst}
 use Rattle.std.specs.Map.{keys_of}
 use Rattle.proto_wire.specs.Fields.{Wire}
-use Rattle.proto_wire.specs.Oneof.{member_run}
+use Rattle.proto_wire.specs.Oneof.{member_run, last_number, member_in}
 use Rattle.proto_wire.specs.declared.key.Key.{Key}
 use Rattle.proto_wire.specs.declared.refusal.Refusal.{Refusal}
 use Rattle.proto_wire.specs.declared.refusal.Refusal.TheVariants.{Missing, Unsupported}
 use Rattle.proto_wire.proofs.Messages.{message_total, message_disjoint}
 use Rattle.proto_wire.proofs.Unique.{merges_unique}
-use Rattle.cel_tree.specs.Reading.{Reads, ReadFault, in_fields, lacking, in_values, ValuesFault, last_number, member_in, OneofSays, Never, OneofFault, IsUnsupported, LacksMember}
+use Rattle.cel_tree.specs.Reading.{Reads, ReadFault, in_fields, lacking, in_values, ValuesFault, OneofSays, Never, OneofFault, IsUnsupported, LacksMember}
 use Rattle.cel_tree.proofs.Readers.{values_fault}
 
 module _ {T : Type 0} (keys : List Key) (Says : List Wire → T → Type 0) where

@@ -6,7 +6,7 @@ use Rattle.std.specs.Str.{IsUtf8}
 use Rattle.proto_wire.specs.Fields.{Wire}
 use Rattle.proto_wire.specs.Keys.{len_key, varint_key}
 use Rattle.proto_wire.specs.Merge.{Merges}
-use Rattle.proto_wire.specs.Oneof.{member_run}
+use Rattle.proto_wire.specs.Oneof.{member_run, last_number}
 use Rattle.proto_wire.specs.Values.{bool_at, int64_at, bytes_at, payloads, has_field, Utf8Fault}
 use Rattle.proto_wire.specs.declared.key.Key.{Key}
 use Rattle.proto_wire.specs.declared.refusal.Refusal.{Refusal}
@@ -14,7 +14,7 @@ use Rattle.proto_wire.specs.declared.refusal.Refusal.TheVariants.{Unsupported}
 use Rattle.cel_value.specs.Texts.{points_of}
 use Rattle.cel_value.specs.Values.{CelValue}
 use Rattle.cel_tree.specs.Constants.{IsConstant, ConstantFault}
-use Rattle.cel_tree.specs.Reading.{Reads, ReadFault, LacksNothing, last_number, OneofSays, Never, LacksMember, IsUnsupported, OneofFault, IsPart, IsElement, StandsIn}
+use Rattle.cel_tree.specs.Reading.{Reads, ReadFault, LacksNothing, OneofSays, Never, LacksMember, IsUnsupported, OneofFault, IsPart, IsElement, StandsIn}
 use Rattle.cel_tree.specs.declared.node.NodeKind.{NodeKind}
 use Rattle.cel_tree.specs.declared.node.NodeKind.TheVariants as kinds
 

@@ -1,12 +1,11 @@
 -- Messages that say something by their fields, and what is wrong with them: Protocol Buffers
 -- encoding guide, "Message Structure", "Last One Wins" and "Oneofs".
-use Rattle.std.specs.Prelude.{◌≡◌, ◌≢◌, ◌⊎◌, ℕ, ◌==◌, List, [], ◌∷◌, Option, Some, None, MatchOption, option_map, Contains}
-use Rattle.std.specs.Map.{lookup, keys_of}
-use Rattle.std.specs.Option.{option_and_then}
+use Rattle.std.specs.Prelude.{◌≡◌, ◌≢◌, ◌⊎◌, ℕ, List, [], ◌∷◌, Option, Some, None, MatchOption, Contains}
+use Rattle.std.specs.Map.{keys_of}
 use Rattle.proto_wire.specs.Fields.{Wire}
 use Rattle.proto_wire.specs.Merge.{Merges}
 use Rattle.proto_wire.specs.Messages.{IsMessage, MessageFault}
-use Rattle.proto_wire.specs.Oneof.{last_member, member_run}
+use Rattle.proto_wire.specs.Oneof.{last_number, member_in, member_run}
 use Rattle.proto_wire.specs.Values.{payloads}
 use Rattle.proto_wire.specs.declared.key.Key.{Key}
 use Rattle.proto_wire.specs.declared.refusal.Refusal.{Refusal}
@@ -37,14 +36,6 @@ abbrev pub LacksNothing : List Wire → Type 0
 LacksNothing fs = ⊥
 
 -- ---- oneofs, by a table of their members; none stands for a member that is not supported
-
--- the number of the last member, by the members' keys
-abbrev pub last_number : List Key → List Wire → Option ℕ
-last_number keys fs = option_map (λ f. f.number) (last_member keys fs)
-
--- what the member of this number is
-abbrev pub member_in : {M : Type 0} → List (Key × Option M) → ℕ → Option M
-member_in table n = option_and_then (λ m. m) (lookup (λ key. key.number == n) table)
 
 -- the run of the last member says it; without a member, or where the last one is not supported,
 -- this is said

@@ -5,7 +5,7 @@ ghost use Rattle.cel_value.specs.Types.{IsInt64};
 ghost use Rattle.proto_wire.specs.Fields.{field_view};
 ghost use Rattle.proto_wire.specs.Values.{payloads};
 ghost use Rattle.proto_wire.specs.declared.refusal.Refusal.TheVariants.{Missing};
-ghost use Rattle.cel_tree.specs.Reading.{last_number};
+ghost use Rattle.proto_wire.specs.Oneof.{last_number};
 
 use proto_wire::{Field, Key, Refusal, last_len, last_member};
 

@@ -7,7 +7,8 @@ ghost use Rattle.proto_wire.specs.Refusal.{MemoryOr};
 ghost use Rattle.proto_wire.specs.Values.{has_field, bool_at, bytes_at};
 ghost use Rattle.proto_wire.specs.declared.refusal.Refusal.TheVariants.{Missing, Unsupported};
 ghost use Rattle.cel_tree.specs.Nodes.{list_keys, ListSays, ListWrong, key_members, map_key_field, entry_keys, EntrySays, EntryLacks, EntryWrong, IsEntry, EntryFault, AreEntries, struct_keys, StructSays, StructWrong};
-ghost use Rattle.cel_tree.specs.Reading.{Reads, ReadFault, ValuesFault, LacksNothing, last_number};
+ghost use Rattle.cel_tree.specs.Reading.{Reads, ReadFault, ValuesFault, LacksNothing};
+ghost use Rattle.proto_wire.specs.Oneof.{last_number};
 ghost use Rattle.cel_tree.specs.steps.NodeViews.{node_view};
 ghost use Rattle.cel_tree.specs.steps.EntryViews.{entry_node_view, entry_nodes_view};
 

@@ -7,7 +7,8 @@ ghost use Rattle.proto_wire.specs.Refusal.{MemoryOr};
 ghost use Rattle.proto_wire.specs.declared.refusal.Refusal.TheVariants.{Missing, Unsupported};
 ghost use Rattle.cel_value.specs.Types.{IsInt64};
 ghost use Rattle.cel_tree.specs.Nodes.{node_kinds, node_keys, kind_keys, KindSays, KindFault, MemberFails, NodeSays, IsNode, NodeFault};
-ghost use Rattle.cel_tree.specs.Reading.{last_number, member_in, ValuesFault, LacksMember, IsUnsupported, OneofFault};
+ghost use Rattle.cel_tree.specs.Reading.{ValuesFault, LacksMember, IsUnsupported, OneofFault};
+ghost use Rattle.proto_wire.specs.Oneof.{last_number, member_in};
 ghost use Rattle.cel_tree.specs.steps.NodeViews.{node_view, numbered_view};
 
 use crate::constant::read_constant;

@@ -6,6 +6,7 @@ pub mod Total
 pub mod Agreeing
 pub mod CheckLaws
 pub mod Elaborating
+pub mod OneElaboration
 pub mod TypingFacts
 pub mod WellTypedAnswers
 pub mod WellTypedElaborations

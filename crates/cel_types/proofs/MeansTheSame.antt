@@ -260,3 +260,11 @@ module _ (m : Maps) (request : RequestValue) (sound : IsRequest request) where
     pairs-same (tree_entry id key v ts) (typed e (typed f es)) ls h good g =
         ap₂ before (means-same key e ls h good.0 g.0)
         (ap₂ before (means-same v f ls h good.1 g.1) (pairs-same ts es ls h good.2 g.2))
+
+-- an expression with an elaboration has an answer of its type
+pub meaning-typed : (m : Maps) (request : RequestValue) → IsRequest request → (t : CelTree)
+    (e : TypedTree) → HasGoodConstants t → Elaborates m [] t e
+    → (a : CelAnswer) × (eval t request [] ≡ Some a) × AnswerHasType a (kind e)
+meaning-typed m request sound t e good g =
+    let a = answer_typed request sound e [] [] tt (elaborated-typed m [] t e good g) in
+    (a.0, means-same m request sound t e [] tt good g ∙ a.1, a.2)

@@ -139,7 +139,7 @@ module _ (request : RequestValue) (sound : IsRequest request) where
   mutual
     typed-here : (e : TypedTree) (ks : List ValueType) (ls : List CelAnswer) → HaveTypes ls ks
         → IsWellTyped ks e → Answers (typed_answer e request ls) (kind e)
-    typed-here (typed_constant t v) ks ls h g = g
+    typed-here (typed_constant t v) ks ls h g = g.1
     typed-here (typed_local t outside) ks ls h g = local-typed outside ls ks t h g
     typed-here (typed_attribute t a) ks ls h g = rw g (attribute-typed request sound a)
     typed-here (typed_field t on name) ks ls h g =

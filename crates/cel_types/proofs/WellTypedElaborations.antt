@@ -212,7 +212,7 @@ mutual
   pub elaborated-typed : (m : Maps) (ks : Kinds) (t : CelTree) (e : TypedTree)
       → HasGoodConstants t → Elaborates m ks t e → IsWellTyped (known ks) e
   elaborated-typed m ks (constant id v) (typed_constant t w) good g =
-      constant-typed v w t good g.0 g.1
+      (ap constant_type (sym g.1) ∙ g.0, constant-typed v w t good g.0 g.1)
   elaborated-typed m ks (constant id v) _ good g = absurd g
   elaborated-typed m ks (ident id name) (typed_local t outside) good g =
       let found = slot-known name ks outside g.1 in

@@ -1,5 +1,5 @@
 -- The elaborated expressions that the code's stand for.
-use Rattle.std.specs.Prelude.{ℕ, List, [], ◌∷◌, map}
+use Rattle.std.specs.Prelude.{List, [], ◌∷◌, map}
 use Rattle.cel_value.specs.Texts.{text_view}
 use Rattle.cel_value.specs.Types.{type_view}
 use Rattle.cel_tree.specs.View.{constant_view}

@@ -1,5 +1,5 @@
 -- Which elaborated expressions have the types that they say: CEL language definition, "Type Checking".
-use Rattle.std.specs.Prelude.{◌≡◌, ℕ, List, [], ◌∷◌, Some}
+use Rattle.std.specs.Prelude.{◌≡◌, List, [], ◌∷◌, Some}
 use Rattle.cel_value.specs.Types.{HasType, ValueType, bool_type, list_type, map_type, type_of_key}
 use Rattle.cel_value.specs.declared.cel_type.KeyType.{KeyType}
 use Rattle.cel_value.specs.declared.cel_type.KeyType.TheVariants as keys
@@ -7,7 +7,7 @@ use Rattle.cel_ops.specs.Attributes.{attribute_type}
 use Rattle.cel_overload.specs.Overloads.{Takes}
 use Rattle.cel_types.specs.Elaborated.{TypedTree, typed_constant, typed_local, typed_attribute, typed_field, typed_has, typed_call, typed_list, typed_map, typed_loop, TypedTrees, no_typed, typed, kind, kinds}
 use Rattle.cel_types.specs.TypedMeaning.{local_at}
-use Rattle.cel_types.specs.Typing.{IsList, IsMap, IsOver}
+use Rattle.cel_types.specs.Typing.{IsOver, constant_type}
 
 -- each of the types is this one
 abbrev pub AreAll : ValueType → List ValueType → Type 0
@@ -23,7 +23,7 @@ AreKeyed k t (j ∷ s ∷ ss) = (j ≡ type_of_key k) × (s ≡ t) × AreKeyed k
 abbrev mutual
   -- with locals of these types, the innermost first, each node's type is the one that its rule gives
   pub IsWellTyped : List ValueType → TypedTree → Type 0
-  IsWellTyped ks (typed_constant t v) = HasType v t
+  IsWellTyped ks (typed_constant t v) = (constant_type v ≡ Some t) × HasType v t
   IsWellTyped ks (typed_local t outside) = local_at outside ks ≡ Some t
   IsWellTyped ks (typed_attribute t a) = t ≡ attribute_type a
   IsWellTyped ks (typed_field t on name) =

@@ -43,6 +43,11 @@ pub fn typed_is_elaborated()
         → (e : TypedTree) × IsElaborated c e × (kind e ≡ t) }
 {}
 
+/// A checked expression has one elaboration at most.
+pub fn elaboration_unique()
+    ensures { (c : CelChecked) (e f : TypedTree) → IsElaborated c e → IsElaborated c f → e ≡ f }
+{}
+
 /// The elaboration of an expression whose constants have the types of their kinds is well typed.
 pub fn elaboration_is_well_typed()
     ensures { (c : CelChecked) (e : TypedTree) → HasGoodConstants c.tree → IsElaborated c e
@@ -66,4 +71,11 @@ pub fn meaning_has_the_type()
     ensures { (c : CelChecked) (e : TypedTree) (r : RequestValue) → HasGoodConstants c.tree
         → IsElaborated c e → IsRequest r
         → (a : CelAnswer) × (eval c.tree r [] ≡ Some a) × AnswerHasType a (kind e) }
+{}
+
+/// A checked expression that has a type has an answer of that type for each request.
+pub fn typed_expression_means_something()
+    ensures { (c : CelChecked) (t : ValueType) (r : RequestValue) → IsTyped c t
+        → HasGoodConstants c.tree → IsRequest r
+        → (a : CelAnswer) × (eval c.tree r [] ≡ Some a) × AnswerHasType a t }
 {}

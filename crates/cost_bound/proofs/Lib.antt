@@ -6,3 +6,8 @@ pub mod ExprViews
 pub mod Scopes
 pub mod Steps
 pub mod Counting
+pub mod Joins
+pub mod Scalars
+pub mod Within
+pub mod Charged
+pub mod StandardFacts

@@ -1,7 +1,7 @@
 -- Sizes: upper bounds of what a value holds, part by part (this project's measure). A greater kind of
 -- size has room for what a smaller one has room for, in the order Flat, Text, Many, Table; expressions
 -- that have a type never bring two kinds together.
-use Rattle.std.specs.Prelude.{ℕ, ◌+◌, ◌*◌, ◌≤◌, max, length}
+use Rattle.std.specs.Prelude.{ℕ, ◌+◌, ◌*◌, ◌≤◌, max, List, [], ◌∷◌, length}
 use Rattle.cel_value.specs.Masses.{entry_count, item_count}
 use Rattle.cel_value.specs.Texts.{utf8_of}
 use Rattle.cel_value.specs.Types.{ValueType, bool_type, int_type, uint_type, text_type, bytes_type, list_type, map_type}
@@ -109,3 +109,9 @@ abbrev mutual
 abbrev pub Within : CelAnswer → Size → Type 0
 Within (value v) s = Fits v s
 Within (fails e) s = Unit {0}
+
+-- each answer is within the size at its place
+abbrev pub AllWithin : List CelAnswer → List Size → Type 0
+AllWithin [] [] = Unit {0}
+AllWithin (a ∷ answers) (s ∷ sizes) = Within a s × AllWithin answers sizes
+AllWithin _ _ = ⊥

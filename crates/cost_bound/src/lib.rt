@@ -11,3 +11,4 @@ mod size;
 mod tests;
 
 pub use bounding::bound;
+pub mod laws;

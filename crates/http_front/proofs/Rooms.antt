@@ -1,7 +1,7 @@
 -- What the first bytes of a text say of all of it, and that a text starts with one head at most.
-use Rattle.std.proofs.Common.{◌≡◌, ◌∙◌, ℕ, ◌+◌, ◌-◌, ◌<◌, ◌≤◌, Some, List, [], ◌++◌, take, drop, length, min, append_assoc, append-nil, sym, ap, arith}
-use Rattle.std.proofs.Math.Seq.{take-append-add}
-use Rattle.std.proofs.lemmas.List.{length-take, take-append-drop, take_all, take_min}
+use Rattle.std.proofs.Common.{◌≡◌, ◌∙◌, ℕ, ◌+◌, ◌-◌, ◌<◌, ◌≤◌, Some, List, [], ◌++◌, take, drop, length, min, append_assoc, append-nil, length-append, sym, ap, arith}
+use Rattle.std.proofs.Math.Seq.{take-append-add, take-append_seam}
+use Rattle.std.proofs.lemmas.List.{take-append-drop, take_min}
 use Rattle.attributes.specs.Conn.{Facts}
 use Rattle.attributes.specs.Limits.{LimitsValue}
 use Rattle.attributes.specs.Request.{RequestValue}
@@ -80,7 +80,7 @@ module _ (bytes : List ℕ) (limits : LimitsValue) (facts : Facts) where
   pub asks_or_fault : (r : RequestValue) (fault : HeadFault) → Asks bytes limits facts r
       → HasFault bytes limits facts fault → ⊥
   asks_or_fault r fault asks x = elim x [
-    | HasFault.hopeless never e ↦ not_hopeless bytes asks.head asks.rest asks.starts never
+    | HasFault.hopeless part never e ↦ not_hopeless bytes asks.head asks.rest asks.starts never
     | HasFault.endless none long e ↦ none asks.head asks.rest asks.starts
     | HasFault.broken h rest starts faults ↦
         let same = (StartsHead-unique bytes h asks.head rest asks.rest starts asks.starts).0 in
@@ -114,43 +114,49 @@ module _ (bytes : List ℕ) (limits : LimitsValue) (facts : Facts) where
   fault_of_room n h rest (Fault fault) starts is =
       HasFault.broken h (rest ++ drop n bytes) (StartsHead-from_take n bytes h rest starts) is
 
--- ---- more first bytes than a head's room
+-- ---- bytes that come behind others
 
--- first bytes that are fewer are all
-take_short : (n m : ℕ) (bytes : List ℕ) → m < n → length (take n bytes) ≤ m → take n bytes ≡ bytes
-take_short n m bytes more short =
-    let count = length-take n bytes in take_all n bytes (omega arith)
-
--- first bytes that are more are no more than all
-take_long : (n m : ℕ) (bytes : List ℕ) → m < length (take n bytes) → m < length bytes
-take_long n m bytes long = let count = length-take n bytes in omega arith
-
-module _ (n : ℕ) (bytes : List ℕ) (enough : head_room < n) (limits : LimitsValue)
-    (facts : Facts) where
-  -- they have no fault but those of all bytes
-  pub HasFault-from_take : (fault : HeadFault) → HasFault (take n bytes) limits facts fault
-      → HasFault bytes limits facts fault
-  HasFault-from_take fault x = elim x [
-    | HasFault.hopeless never e ↦ HasFault.hopeless (NeverHasRequest-from_take n bytes never) e
-    | HasFault.endless none long e ↦
-        let none_at_all : HasNoHead bytes = λ h rest s.
-        let cut = StartsHead-to_take n bytes h rest (omega arith) s in none h cut.0 cut.1 in
-        HasFault.endless none_at_all (take_long n head_room bytes long) e
-    | HasFault.broken h rest starts faults ↦
-        HasFault.broken h (rest ++ drop n bytes) (StartsHead-from_take n bytes h rest starts) faults
-  ]
-
-  -- they ask for what all bytes ask for
-  pub Asks-from_take : (r : RequestValue) → Asks (take n bytes) limits facts r
-      → Asks bytes limits facts r
-  Asks-from_take r asks = record {
-    head = asks.head;
-    rest = asks.rest ++ drop n bytes;
-    starts = StartsHead-from_take n bytes asks.head asks.rest asks.starts;
-    request = asks.request;
-    no_fault = asks.no_fault;
+module _ (bytes more : List ℕ) where
+  -- a head stays
+  StartsHead-append : (h : HeadValue) (rest : List ℕ) → StartsHead bytes h rest
+      → StartsHead (bytes ++ more) h (rest ++ more)
+  StartsHead-append h rest s = record {
+    tree = s.tree;
+    reads = ReadsRequest-append bytes s.tree rest more s.reads;
+    in_room = s.in_room;
+    value = s.value;
   }
 
-  -- where they are unfinished, they are all
-  pub IsUnfinished-from_take : IsUnfinished (take n bytes) → IsUnfinished bytes
-  IsUnfinished-from_take x = rw (take_short n head_room bytes enough x.in_room) at x
+  -- what is hopeless stays so
+  NeverHasRequest-append : NeverHasRequest bytes → NeverHasRequest (bytes ++ more)
+  NeverHasRequest-append never other h rest reads =
+      never (more ++ other) h rest (rw append_assoc at reads)
+
+  -- behind more bytes than a head's room no head comes
+  HasNoHead-append : head_room < length bytes → HasNoHead bytes → HasNoHead (bytes ++ more)
+  HasNoHead-append long none h rest s =
+      let cut = StartsHead-to_take (length bytes) (bytes ++ more) h rest (omega arith) s in
+      none h cut.0 (rw take-append_seam at cut.1)
+
+  module _ (limits : LimitsValue) (facts : Facts) where
+    -- so what they ask stays
+    pub Asks-append : (r : RequestValue) → Asks bytes limits facts r
+        → Asks (bytes ++ more) limits facts r
+    Asks-append r asks = record {
+      head = asks.head;
+      rest = asks.rest ++ more;
+      starts = StartsHead-append asks.head asks.rest asks.starts;
+      request = asks.request;
+      no_fault = asks.no_fault;
+    }
+
+    -- and their faults do
+    pub HasFault-append : (fault : HeadFault) → HasFault bytes limits facts fault
+        → HasFault (bytes ++ more) limits facts fault
+    HasFault-append fault x = elim x [
+      | HasFault.hopeless part never e ↦ HasFault.hopeless part (NeverHasRequest-append never) e
+      | HasFault.endless none long e ↦
+          HasFault.endless (HasNoHead-append long none) (omega (arith, length-append bytes more)) e
+      | HasFault.broken h rest starts faults ↦
+          HasFault.broken h (rest ++ more) (StartsHead-append h rest starts) faults
+    ]

@@ -10,7 +10,7 @@ use Rattle.httparse.specs.Ascii.{crlf_bytes}
 use Rattle.httparse.specs.Grammar.{Field, IsField, IsRequestHead, IsToken, LineEnd, RequestHead, crlf, is_token_byte, is_uri_byte, is_value_byte, lf, print_request, trim_ows}
 use Rattle.httparse.proofs.OnLiterals.{httparse_on_literals}
 use Rattle.http_header.proofs.TokenLemmas.{AllPass-from_test}
-use Rattle.http_front.specs.declared.fault.HeadFault.TheVariants.{BadRequest, NotImplemented}
+use Rattle.http_front.specs.declared.fault.HeadFault.TheVariants.{NoHost, OtherForm, TransferCoding, TwoHosts}
 use Rattle.http_front.specs.Head.{HeadValue, StartsHead}
 use Rattle.http_front.specs.Rules.{LinesFault, RuleFault, lines_of}
 use Rattle.http_front.proofs.Texts.{utf8_of_literal}
@@ -143,19 +143,19 @@ plain_starts = record {
 }
 
 -- HTTP/1.1 wants a Host, and HTTP/1.0 wants none
-pub no_host : RuleFault (got (codes "/") []) BadRequest
+pub no_host : RuleFault (got (codes "/") []) NoHost
 no_host = RuleFault.lines (LinesFault.no_host refl refl refl)
 
 -- one Host is enough, and two are too many, in whatever case their names are
 pub two_hosts : RuleFault (got (codes "/") ((codes "Host", codes "h") ∷ (codes "HOST", codes "h") ∷ []))
-    BadRequest
+    TwoHosts
 two_hosts = RuleFault.lines (LinesFault.two_hosts (omega arith) refl)
 
 -- each transfer coding is refused as such
 pub coded : RuleFault (got (codes "/") ((codes "Host", codes "h")
-    ∷ (codes "Transfer-Encoding", codes "chunked") ∷ [])) NotImplemented
+    ∷ (codes "Transfer-Encoding", codes "chunked") ∷ [])) TransferCoding
 coded = RuleFault.lines (LinesFault.coded (omega arith) refl)
 
 -- a target in asterisk form is none in origin form (RFC 9112, section 3.2.4)
-pub asterisk : RuleFault (got (codes "*") ((codes "Host", codes "h") ∷ [])) BadRequest
+pub asterisk : RuleFault (got (codes "*") ((codes "Host", codes "h") ∷ [])) OtherForm
 asterisk = RuleFault.other_form (λ slash. let differ : 42 ≡ 47 = slash in omega arith) refl

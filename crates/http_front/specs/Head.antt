@@ -4,13 +4,14 @@ use Rattle.attributes.specs.Headers.{Entry}
 use Rattle.httparse.specs.Grammar.{RequestHead, ReadsRequest, print_request}
 use Rattle.httparse.specs.Spans.{name_and_value}
 use Rattle.http_front.specs.declared.fault.HeadFault.{HeadFault}
-use Rattle.http_front.specs.declared.fault.HeadFault.TheVariants.{BadRequest, TooLarge, NotImplemented}
+use Rattle.http_front.specs.declared.fault.HeadFault.TheVariants.{OutsideLimits, TooLong, TransferCoding}
 
--- the digits of the status that answers a fault
+-- the digits of the status that answers a fault (RFC 9110, section 15; RFC 6585, section 5)
 abbrev pub fault_text : HeadFault → List ℕ
-fault_text BadRequest = codes "400"
-fault_text TooLarge = codes "431"
-fault_text NotImplemented = codes "501"
+fault_text TooLong = codes "431"
+fault_text OutsideLimits = codes "431"
+fault_text TransferCoding = codes "501"
+fault_text _ = codes "400"
 
 -- a head as it was sent; a field is its name and its value without white space round it
 pub record HeadValue : Type 0 where

@@ -7,7 +7,7 @@ use Rattle.attributes.specs.Headers.{Entry}
 use Rattle.http_header.specs.Token.{AllPass, lowercase}
 use Rattle.http_header.specs.FieldName.{IsFieldName}
 use Rattle.http_front.specs.declared.fault.HeadFault.{HeadFault}
-use Rattle.http_front.specs.declared.fault.HeadFault.TheVariants.{BadRequest, NotImplemented}
+use Rattle.http_front.specs.declared.fault.HeadFault.TheVariants.{BadLength, BadName, BadText, NoHost, OtherForm, TransferCoding, TwoHosts, TwoLengths}
 use Rattle.http_front.specs.Head.{HeadValue}
 
 -- the field with its name in lower case
@@ -43,21 +43,21 @@ IsLength v = (1 ≤ length v) × (length v ≤ 18) × AllPass is_ascii_digit v
 abbrev pub IsBadLength : Entry → Type 0
 IsBadLength l = (l.0 ≡ codes "content-length") × (¬ (IsLength l.1))
 
--- the lines of a request of HTTP/1.1, or else of HTTP/1.0, break a rule, which this fault answers
+-- the lines of a request of HTTP/1.1, or else of HTTP/1.0, break a rule, which this fault names
 pub data LinesFault (http11 : Bool) (lines : List Entry) (fault : HeadFault) : Type 0 where
-  no_host : http11 ≡ true → count_named (codes "host") lines ≡ 0 → fault ≡ BadRequest
+  no_host : http11 ≡ true → count_named (codes "host") lines ≡ 0 → fault ≡ NoHost
       → LinesFault http11 lines fault
-  two_hosts : 1 < count_named (codes "host") lines → fault ≡ BadRequest
+  two_hosts : 1 < count_named (codes "host") lines → fault ≡ TwoHosts
       → LinesFault http11 lines fault
-  two_lengths : 1 < count_named (codes "content-length") lines → fault ≡ BadRequest
+  two_lengths : 1 < count_named (codes "content-length") lines → fault ≡ TwoLengths
       → LinesFault http11 lines fault
-  bad_length : Any IsBadLength lines → fault ≡ BadRequest → LinesFault http11 lines fault
-  coded : 0 < count_named (codes "transfer-encoding") lines → fault ≡ NotImplemented
+  bad_length : Any IsBadLength lines → fault ≡ BadLength → LinesFault http11 lines fault
+  coded : 0 < count_named (codes "transfer-encoding") lines → fault ≡ TransferCoding
       → LinesFault http11 lines fault
 
--- the head breaks a rule, which this fault answers
+-- the head breaks a rule, which this fault names
 pub data RuleFault (h : HeadValue) (fault : HeadFault) : Type 0 where
-  bad_name : Any IsBadName h.fields → fault ≡ BadRequest → RuleFault h fault
-  bad_text : Any IsBadText h.fields → fault ≡ BadRequest → RuleFault h fault
-  other_form : ¬ (IsOriginForm h.target) → fault ≡ BadRequest → RuleFault h fault
+  bad_name : Any IsBadName h.fields → fault ≡ BadName → RuleFault h fault
+  bad_text : Any IsBadText h.fields → fault ≡ BadText → RuleFault h fault
+  other_form : ¬ (IsOriginForm h.target) → fault ≡ OtherForm → RuleFault h fault
   lines : LinesFault h.http11 (lines_of h) fault → RuleFault h fault

@@ -10,9 +10,10 @@ ghost use Rattle.http_front.specs.Asks.{request_of_head};
 ghost use Rattle.http_front.specs.Head.{head_room};
 ghost use Rattle.http_front.specs.Rules.{IsBadName, IsBadText, IsOriginForm, RuleFault};
 
-use crate::fault::HeadFault;
+use crate::fault::{HeadFault, HeadPart};
 use crate::fields::{are_field_names, copy_text, lower_lines};
 use crate::framing::framing_of;
+use crate::part::part_of;
 use attributes::{Conn, Request};
 use httparse::spans::{HeaderSpan, parse_request};
 use httparse::{Error, Status};
@@ -63,8 +64,8 @@ pub(crate) enum Parsed<'a> {
     Whole(Head<'a>, &'a [u8]),
     /// The bytes end before their head does.
     Unfinished,
-    /// No head can come of the bytes.
-    Hopeless,
+    /// No head can come of the bytes; the parser stopped in this part.
+    Hopeless(HeadPart),
 }
 
 /// Reads the head that the bytes begin with; `fields` has room for as many as they have line feeds.
@@ -87,7 +88,7 @@ pub(crate) fn parse<'a>(bytes: &'a [u8], fields: &'a mut [HeaderSpan]) -> Parsed
         }
         Ok(Status::Partial) => Parsed::Unfinished,
         Err(Error::TooManyHeaders) => unreachable!(),
-        Err(_) => Parsed::Hopeless,
+        Err(error) => Parsed::Hopeless(part_of(error, bytes)),
     }
 }
 
@@ -98,8 +99,14 @@ impl<'a> Head<'a> {
         ensures texts { IfNone result (AreTexts self.now) }
         ensures fault { IfSome result (RuleFault self.now) }
     {
-        if !is_origin_form(self.target) || !self.is_text() || !self.has_field_names() {
-            return Some(HeadFault::BadRequest);
+        if !is_origin_form(self.target) {
+            return Some(HeadFault::OtherForm);
+        }
+        if !self.is_text() {
+            return Some(HeadFault::BadText);
+        }
+        if !self.has_field_names() {
+            return Some(HeadFault::BadName);
         }
         framing_of(self.bytes, self.fields).fault(self.is_http11)
     }

@@ -1,5 +1,5 @@
 //! Facts about what heads ask.
-ghost use Rattle.std.specs.Prelude.{◌≡◌, ℕ, List};
+ghost use Rattle.std.specs.Prelude.{◌≡◌, ◌++◌, ℕ, List};
 ghost use Rattle.attributes.specs.Conn.{Facts};
 ghost use Rattle.attributes.specs.Limits.{LimitsValue};
 ghost use Rattle.attributes.specs.Request.{RequestValue};
@@ -22,4 +22,16 @@ pub fn asks_unique()
 pub fn asks_unfinished_disjoint()
     ensures { (bytes : List ℕ) (limits : LimitsValue) (facts : Facts) (r : RequestValue)
         → Asks bytes limits facts r → ¬ (IsUnfinished bytes) }
+{}
+
+/// Bytes behind a head change nothing of what it asks.
+pub fn asks_extended()
+    ensures { (bytes more : List ℕ) (limits : LimitsValue) (facts : Facts) (r : RequestValue)
+        → Asks bytes limits facts r → Asks (bytes ++ more) limits facts r }
+{}
+
+/// A fault stays, whatever bytes come next.
+pub fn fault_extended()
+    ensures { (bytes more : List ℕ) (limits : LimitsValue) (facts : Facts) (fault : HeadFault)
+        → HasFault bytes limits facts fault → HasFault (bytes ++ more) limits facts fault }
 {}

@@ -6,7 +6,8 @@ mod fields;
 mod framing;
 mod head;
 pub mod laws;
+mod part;
 mod read;
 
-pub use fault::HeadFault;
+pub use fault::{HeadFault, HeadPart};
 pub use read::{Ask, HEAD_ROOM, read_head};

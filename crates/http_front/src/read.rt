@@ -43,10 +43,10 @@ pub fn read_head(
     let mut fields = vec![in alloc; EMPTY_HEADER_SPAN; line_feeds(room)]?;
     match parse(room, &mut fields) {
         Parsed::Whole(head, _) => Ok(Some(ask_of(alloc, &head, limits, conn)?)),
-        Parsed::Hopeless => Ok(Some(Ask::Fault(HeadFault::BadRequest))),
+        Parsed::Hopeless(part) => Ok(Some(Ask::Fault(HeadFault::Malformed(part)))),
         Parsed::Unfinished => {
             if bytes.len() > HEAD_ROOM {
-                Ok(Some(Ask::Fault(HeadFault::TooLarge)))
+                Ok(Some(Ask::Fault(HeadFault::TooLong)))
             } else {
                 Ok(None)
             }
@@ -72,6 +72,6 @@ fn ask_of(alloc: Global, head: &Head<'_>, limits: &Limits, conn: Conn) -> Result
     if limits.fits(&request) {
         Ok(Ask::Judge(request))
     } else {
-        Ok(Ask::Fault(HeadFault::TooLarge))
+        Ok(Ask::Fault(HeadFault::OutsideLimits))
     }
 }

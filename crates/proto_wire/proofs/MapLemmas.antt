@@ -12,7 +12,6 @@ use Rattle.std.specs.declared.vec.Vec.{Vec}
 use Rattle.std.specs.declared.alloc.Global.{Global}
 use Rattle.std.specs.declared.cmp.Ordering.{Ordering}
 use Rattle.std.specs.declared.cmp.Ordering.TheVariants.{Less, Equal, Greater}
-use Rattle.proto_wire.specs.Fields.{BreaksAtOnce}
 use Rattle.proto_wire.specs.Merge.{FirstBreaks, parts_view}
 use Rattle.proto_wire.specs.Maps.{KeyKind, text, int64, KeyOf, key_cmp, Entry, IsEntry, AreEntries, map_of, entries_view}
 use Rattle.proto_wire.proofs.Unique.{first_disjoint}
@@ -110,7 +109,7 @@ module _ (kind : KeyKind) where
       (es : List (Entry kind))
       → i < length parts
       → AreEntries kind (parts_view (take i parts)) es → FirstBreaks (parts_view parts)
-      → BreaksAtOnce (get_or parts i d).now
+      → FirstBreaks ((get_or parts i d).now ∷ [])
   entry_breaks_at i [] d es within are breaks = absurd breaks
   entry_breaks_at zero (p ∷ parts) d es within are breaks = breaks
   entry_breaks_at (suc i) (p ∷ parts) d es within are breaks =
@@ -118,5 +117,5 @@ module _ (kind : KeyKind) where
 
   -- an entry does not break at once
   pub entry_breaks_disjoint : (part : List ℕ) (e : Entry kind) → IsEntry kind part e
-      → BreaksAtOnce part → ⊥
+      → FirstBreaks (part ∷ []) → ⊥
   entry_breaks_disjoint part e is breaks = first_disjoint (part ∷ []) is.0 is.1.0 breaks

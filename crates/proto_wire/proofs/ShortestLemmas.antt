@@ -2,16 +2,21 @@
 -- by byte.
 use Rattle.std.proofs.Common.{◌≡◌, ℕ, zero, suc, ◌+◌, ◌-◌, ◌*◌, ◌/◌, ◌%◌, ◌^◌, ◌<◌, ◌≤◌, inl, inr, List, [], ◌∷◌, ◌++◌, length, get_or, refl, sym, ap, ap₂, ◌∙◌, arith, append_assoc, Ok, Err}
 use Rattle.std.specs.Prelude.{Result, OnOk, is_ok, if◌then◌else◌}
+use Rattle.std.specs.List.{AllByRecursion}
 use Rattle.std.proofs.Math.Nat.{pow-succ', pow-le-pow_right}
 use Rattle.std.proofs.lemmas.Bool.{cases_lt}
 use Rattle.std.proofs.lemmas.List.{length-append, append-nil}
 use Rattle.std.proofs.lemmas.Nat.{le_bytes_4, le_bytes_8}
 use Rattle.proto_wire.specs.Varint.{IsGroups, value_of}
 use Rattle.proto_wire.specs.Fields.{Payload, varint, i64, len, i32, Wire, wire_type_of, tag_bits, SpellsPayload, IsFieldNumber, SpellsField, StartsField, Fields}
-use Rattle.proto_wire.specs.Shortest.{AreBytes, ShortestVarint, ShortestPayload, ShortestField, Shortest, field_of, Appends}
+use Rattle.proto_wire.specs.Shortest.{ShortestVarint, ShortestPayload, ShortestField, Shortest, field_of, Appends}
 use Rattle.proto_wire.specs.steps.Writing.{AppendsVarint}
 use Rattle.proto_wire.proofs.VarintLemmas.{AllMore, value_append, value_below, groups_push, more_push}
 use Rattle.proto_wire.proofs.FieldLemmas.{some_group}
+
+-- each of them is a byte
+abbrev AreBytes : List ℕ → Type 0
+AreBytes bytes = AllByRecursion (λ b. b < 256) bytes
 
 -- ---- what is written reads back
 

@@ -3,9 +3,10 @@
 use Rattle.std.proofs.Common.{◌≡◌, ◌≢◌, ℕ, zero, suc, ◌+◌, ◌<◌, ◌≤◌, ◌⊎◌, List, [], ◌∷◌, ◌++◌, length, refl, sym, ap, ap₂, ◌∙◌, arith, inl, inr, append_assoc, take, get_or, Bor}
 use Rattle.std.specs.List.{concat}
 use Rattle.std.proofs.lemmas.List.{append-nil, map_more}
-use Rattle.proto_wire.specs.Fields.{Wire, StartsField, FailsField, After, Fields, Broken, IsBroken, BreaksAtOnce}
+use Rattle.proto_wire.specs.Fields.{Wire, StartsField, FailsField, After, Fields, Broken, IsBroken}
 use Rattle.proto_wire.specs.Merge.{Merges, Breaks, FirstBreaks, parts_view}
 use Rattle.proto_wire.specs.declared.fault.WireError.{WireError}
+use Rattle.proto_wire.specs.declared.refusal.Refusal.{Refusal}
 use Rattle.proto_wire.proofs.FieldLemmas.{field_unique, field_disjoint, field_fault_unique, field_total, field_shorter, field_extends}
 
 -- ---- one payload
@@ -113,7 +114,7 @@ fields_total bytes = fields_read_within (length bytes) bytes (omega arith)
 -- bytes that begin with a field do not break at once
 pub after_breaks_later : (bytes : List ℕ) (fs : List Wire) (rest : List ℕ) (f : Wire)
     (more : List ℕ)
-    → After bytes fs rest → StartsField rest f more → BreaksAtOnce bytes → ⊥
+    → After bytes fs rest → StartsField rest f more → FirstBreaks (bytes ∷ []) → ⊥
 after_breaks_later bytes [] rest f more a starts (e, broken) =
     field_disjoint bytes f more e (rw a starts) (rw broken.after broken.fails)
 after_breaks_later bytes (g ∷ fs) rest f more (behind, first, a) starts (e, broken) =
@@ -223,11 +224,15 @@ first_disjoint (part ∷ parts) fs (own, others, fields, rest, whole) (e, broken
 pub first_breaks_at : (i : ℕ) (parts : List (Bor (List ℕ))) (d : Bor (List ℕ)) (fs : List Wire)
     → i < length parts
     → Merges (parts_view (take i parts)) fs → FirstBreaks (parts_view parts)
-    → BreaksAtOnce (get_or parts i d).now
+    → FirstBreaks ((get_or parts i d).now ∷ [])
 first_breaks_at i [] d fs within merged breaks = absurd breaks
 first_breaks_at zero (p ∷ parts) d fs within merged breaks = breaks
 first_breaks_at (suc i) (p ∷ parts) d fs within merged breaks =
     absurd (first_disjoint (parts_view (p ∷ take i parts)) fs merged breaks)
+
+-- the refusal of bytes that are no list of whole fields
+abbrev pub BytesFault : List ℕ → Refusal → Type 0
+BytesFault bytes e = IsBroken bytes × (e ≡ Refusal.BadWire)
 
 -- a broken payload among others
 pub breaks_at : (i : ℕ) (parts : List (Bor (List ℕ))) (d : Bor (List ℕ)) → i < length parts

@@ -104,10 +104,6 @@ pub record Broken (bytes : List ℕ) (fs : List Wire) (e : WireError) : Type 0 w
 abbrev pub IsBroken : List ℕ → Type 0
 IsBroken bytes = (fs : List Wire) × (e : WireError) × Broken bytes fs e
 
--- the bytes begin with no field, and so break before anything of them is kept
-abbrev pub BreaksAtOnce : List ℕ → Type 0
-BreaksAtOnce bytes = (e : WireError) × Broken bytes [] e
-
 -- what the code's payload holds, without where it lies in memory
 abbrev pub payload_view : coded.Payload → Payload
 payload_view (payloads.Varint n) = varint n

@@ -1,8 +1,8 @@
 -- Which fields a message knows: Protocol Buffers encoding guide, "Message Structure". A field is
 -- known by its number and its wire type.
-use Rattle.std.specs.Prelude.{◌≡◌, ℕ, ◌==◌, ◌&&◌, Bool, true, false, List, IsTrue}
+use Rattle.std.specs.Prelude.{◌≡◌, ℕ, ◌==◌, ◌&&◌, Bool, false, List, IsTrue}
 use Rattle.std.specs.List.{list_any, list_all}
-use Rattle.proto_wire.specs.Fields.{Payload, varint, i64, len, i32, Wire}
+use Rattle.proto_wire.specs.Fields.{Wire, wire_type_of, tag_bits}
 use Rattle.proto_wire.specs.declared.key.Key.{Key}
 use Rattle.proto_wire.specs.declared.field.WireType.{WireType}
 
@@ -14,17 +14,10 @@ len_key n = record { number = n; wire_type = WireType.Len }
 abbrev pub varint_key : ℕ → Key
 varint_key n = record { number = n; wire_type = WireType.Varint }
 
--- whether the payload is of the wire type
-abbrev pub is_of_type : WireType → Payload → Bool
-is_of_type WireType.Varint (varint n) = true
-is_of_type WireType.I64 (i64 n) = true
-is_of_type WireType.Len (len bytes) = true
-is_of_type WireType.I32 (i32 n) = true
-is_of_type wire_type payload = false
-
 -- the field has the key's number and wire type
 abbrev pub has_key : Key → Wire → Bool
-has_key k f = (f.number == k.number) && is_of_type k.wire_type f.payload
+has_key k f =
+    (f.number == k.number) && (tag_bits (wire_type_of f.payload) == tag_bits k.wire_type)
 
 -- the field has one of the keys; a known number with another wire type has none of them
 abbrev pub is_known : List Key → Wire → Bool

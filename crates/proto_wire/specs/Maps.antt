@@ -5,6 +5,7 @@ use Rattle.std.specs.Prelude.{◌≡◌, ℕ, ℤ, ◌⊎◌, List, [], ◌∷�
 use Rattle.std.specs.Borrow.{Bor}
 use Rattle.std.specs.Ordering.{nat_cmp, int_cmp}
 use Rattle.std.specs.Cmp.Lexicographic.{slice_cmp}
+use Rattle.std.specs.List.{AllZip}
 use Rattle.std.specs.FinMap.{FinMap, get, find, from_entries}
 use Rattle.std.specs.declared.cmp.Ordering.{Ordering}
 use Rattle.std.specs.declared.vec.Vec.{Vec}
@@ -64,10 +65,7 @@ IsEntry kind bytes entry =
 
 -- each payload is an entry, in order
 abbrev pub AreEntries : (kind : KeyKind) → List (List ℕ) → List (Entry kind) → Type 0
-AreEntries kind [] [] = Unit {0}
-AreEntries kind (part ∷ parts) (entry ∷ entries) =
-    IsEntry kind part entry × AreEntries kind parts entries
-AreEntries kind parts entries = ⊥
+AreEntries kind parts entries = AllZip (IsEntry kind) parts entries
 
 -- the map of the entries: at each key the payloads of its last entry
 abbrev pub map_of : (kind : KeyKind) → List (Entry kind)

@@ -2,7 +2,8 @@
 -- (embedded message fields merge).
 use Rattle.std.specs.Prelude.{◌≡◌, ℕ, ◌⊎◌, List, [], ◌∷◌, ◌++◌, map}
 use Rattle.std.specs.Borrow.{Bor}
-use Rattle.proto_wire.specs.Fields.{Wire, Fields, IsBroken, BreaksAtOnce}
+use Rattle.proto_wire.specs.Fields.{Wire, Fields, Broken, IsBroken}
+use Rattle.proto_wire.specs.declared.fault.WireError.{WireError}
 
 -- the bytes of each slice
 abbrev pub parts_view : List (Bor (List ℕ)) → List (List ℕ)
@@ -20,7 +21,7 @@ abbrev pub Breaks : List (List ℕ) → Type 0
 Breaks [] = ⊥
 Breaks (part ∷ parts) = IsBroken part ⊎ Breaks parts
 
--- the first payload begins with no field
+-- the first payload begins with no field, and so breaks before anything is kept
 abbrev pub FirstBreaks : List (List ℕ) → Type 0
 FirstBreaks [] = ⊥
-FirstBreaks (part ∷ parts) = BreaksAtOnce part
+FirstBreaks (part ∷ parts) = (e : WireError) × Broken part [] e

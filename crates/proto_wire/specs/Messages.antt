@@ -1,24 +1,16 @@
 -- A message whose fields must all be known: Protocol Buffers encoding guide, "Message Structure";
 -- an unknown field is a fault here.
 use Rattle.std.specs.Prelude.{◌≡◌, ℕ, ◌⊎◌, List, [], ◌∷◌}
-use Rattle.proto_wire.specs.Fields.{Wire, Fields, IsBroken}
+use Rattle.proto_wire.specs.Fields.{Wire, Fields}
 use Rattle.proto_wire.specs.Keys.{AllKnown, SomeUnknown}
 use Rattle.proto_wire.specs.Merge.{Merges, Breaks}
 use Rattle.proto_wire.specs.declared.refusal.Refusal.{Refusal}
 use Rattle.proto_wire.specs.declared.refusal.Refusal.TheVariants.{BadWire, UnknownField}
 use Rattle.proto_wire.specs.declared.key.Key.{Key}
 
--- the bytes are no list of whole fields
-abbrev pub BytesFault : List ℕ → Refusal → Type 0
-BytesFault bytes e = IsBroken bytes × (e ≡ BadWire)
-
 -- some payload is no list of whole fields
 abbrev pub PartsFault : List (List ℕ) → Refusal → Type 0
 PartsFault parts e = Breaks parts × (e ≡ BadWire)
-
--- some field is not known
-abbrev pub UnknownFault : List Key → List Wire → Refusal → Type 0
-UnknownFault keys fs e = SomeUnknown keys fs × (e ≡ UnknownField)
 
 -- the payloads, put one after the other, are these fields, and each field is known
 abbrev pub IsMessage : List Key → List (List ℕ) → List Wire → Type 0

@@ -1,6 +1,8 @@
 -- Which member of a oneof counts: Protocol Buffers encoding guide, "Last One Wins" and "Oneofs".
-use Rattle.std.specs.Prelude.{◌==◌, cond, Option, List, [], ◌∷◌, filter}
+use Rattle.std.specs.Prelude.{ℕ, ◌==◌, cond, Option, List, [], ◌∷◌, filter, option_map}
 use Rattle.std.specs.List.{list_all}
+use Rattle.std.specs.Map.{lookup}
+use Rattle.std.specs.Option.{option_and_then}
 use Rattle.proto_wire.specs.Fields.{Wire}
 use Rattle.proto_wire.specs.Keys.{is_known}
 use Rattle.proto_wire.specs.Values.{last_of}
@@ -9,6 +11,14 @@ use Rattle.proto_wire.specs.declared.key.Key.{Key}
 -- the last field that has one of the keys: of a oneof the last member
 abbrev pub last_member : List Key → List Wire → Option Wire
 last_member keys fs = last_of (filter (is_known keys) fs)
+
+-- the number of the last member
+abbrev pub last_number : List Key → List Wire → Option ℕ
+last_number keys fs = option_map (λ f. f.number) (last_member keys fs)
+
+-- what the member of this number is, by a table of the members; none where it is not supported
+abbrev pub member_in : {M : Type 0} → List (Key × Option M) → ℕ → Option M
+member_in table n = option_and_then (λ m. m) (lookup (λ key. key.number == n) table)
 
 -- the longest end of a list whose fields all have one number: of a oneof, the occurrences of its
 -- last member that merge

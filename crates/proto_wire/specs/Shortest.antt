@@ -5,13 +5,9 @@ use Rattle.std.specs.List.{AllByRecursion}
 use Rattle.proto_wire.specs.Varint.{SpellsVarint}
 use Rattle.proto_wire.specs.Fields.{Payload, varint, len, Wire, wire_type_of, tag_bits, IsFieldNumber, SpellsPayload}
 
--- each of them is a byte
-abbrev pub AreBytes : List ℕ → Type 0
-AreBytes bytes = AllByRecursion (λ b. b < 256) bytes
-
 -- the bytes spell the number, and nothing shorter does
 pub record ShortestVarint (bytes : List ℕ) (n : ℕ) : Type 0 where
-  pub are_bytes : AreBytes bytes
+  pub are_bytes : AllByRecursion (λ b. b < 256) bytes
   pub spells : SpellsVarint bytes n
   pub shortest : (other : List ℕ) → SpellsVarint other n → length bytes ≤ length other
 
@@ -20,7 +16,7 @@ abbrev pub ShortestPayload : List ℕ → Payload → Type 0
 ShortestPayload bytes (varint n) = ShortestVarint bytes n
 ShortestPayload bytes (len inner) =
     (size : List ℕ) × ShortestVarint size (length inner) × (bytes ≡ size ++ inner)
-ShortestPayload bytes p = AreBytes bytes × SpellsPayload bytes p
+ShortestPayload bytes p = AllByRecursion (λ b. b < 256) bytes × SpellsPayload bytes p
 
 -- the bytes of a field: its tag, and then its payload
 pub record ShortestField (bytes : List ℕ) (f : Wire) : Type 0 where

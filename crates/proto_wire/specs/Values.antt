@@ -2,7 +2,7 @@
 -- "Signed Integers", "Last One Wins" and "Repeated Elements".
 use Rattle.std.specs.Prelude.{◌≡◌, ℕ, ℤ, ◌==◌, ◌%◌, ◌^◌, Bool, not, cond, Option, Some, None, List, [], ◌∷◌, unwrap_or}
 use Rattle.std.specs.Int.{cast_signed, w32, w64}
-use Rattle.std.specs.List.{filter_map, list_any}
+use Rattle.std.specs.List.{filter_map, last_or, list_any}
 use Rattle.std.specs.Str.{IsUtf8}
 use Rattle.proto_wire.specs.Fields.{Payload, varint, len, Wire}
 use Rattle.proto_wire.specs.Keys.{len_key, varint_key, is_known}
@@ -29,9 +29,7 @@ payloads k fs = filter_map (λ f. cond (f.number == k) (len_in f.payload) None) 
 
 -- the last of a list: of a singular scalar the last occurrence counts
 abbrev pub last_of : {A : Type 0} → List A → Option A
-last_of [] = None
-last_of (x ∷ []) = Some x
-last_of (x ∷ y ∷ xs) = last_of (y ∷ xs)
+last_of xs = last_or None xs
 
 -- whether a LEN or VARINT field of this number is there
 abbrev pub has_field : ℕ → List Wire → Bool

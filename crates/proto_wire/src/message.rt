@@ -1,10 +1,10 @@
 //! All fields of a message, and messages whose fields must all be known.
 
-ghost use Rattle.std.specs.Prelude.{◌≡◌, ◌++◌, List, Err, map, IfOk, IfErr, OnOk, MatchResult};
-ghost use Rattle.proto_wire.specs.Fields.{Wire, Fields, BreaksAtOnce, field_view};
-ghost use Rattle.proto_wire.specs.Keys.{AllKnown};
+ghost use Rattle.std.specs.Prelude.{◌≡◌, ◌++◌, List, [], ◌∷◌, Err, map, IfOk, IfErr, OnOk, MatchResult};
+ghost use Rattle.proto_wire.specs.Fields.{Wire, Fields, IsBroken, field_view};
+ghost use Rattle.proto_wire.specs.Keys.{AllKnown, SomeUnknown};
 ghost use Rattle.proto_wire.specs.Merge.{Merges, FirstBreaks, parts_view};
-ghost use Rattle.proto_wire.specs.Messages.{BytesFault, PartsFault, UnknownFault, IsMessage, MessageFault};
+ghost use Rattle.proto_wire.specs.Messages.{PartsFault, IsMessage, MessageFault};
 ghost use Rattle.proto_wire.specs.Refusal.{MemoryOr};
 
 use crate::field::Field;
@@ -17,8 +17,8 @@ use std::alloc::Global;
 /// field was there to keep.
 pub fn read_fields<'a>(alloc: Global, bytes: &'a [u8]) -> Result<Vec<Field<'a>>, Refusal>
     ensures found { IfOk result (λ v. Fields bytes.now (map field_view v.items)) }
-    ensures fault { IfErr result (MemoryOr (BytesFault bytes.now)) }
-    ensures at_once { BreaksAtOnce bytes.now → result ≡ Err Refusal.BadWire }
+    ensures fault { IfErr result (MemoryOr (λ e. IsBroken bytes.now × (e ≡ Refusal.BadWire))) }
+    ensures at_once { FirstBreaks (bytes.now ∷ []) → result ≡ Err Refusal.BadWire }
     ensures reads { (fs : List Wire) → Fields bytes.now fs
         → MatchResult result (λ v. map field_view v.items ≡ fs) (λ e. e ≡ Refusal.Memory) }
 {
@@ -65,7 +65,8 @@ pub fn read_message<'a>(
 /// Refuses fields of which some has none of the keys: `UnknownField`. It takes no memory.
 pub fn require_known(fields: &[Field<'_>], keys: &[Key]) -> Result<(), Refusal>
     ensures found { OnOk result (AllKnown keys.now (map field_view fields.now)) }
-    ensures fault { IfErr result (UnknownFault keys.now (map field_view fields.now)) }
+    ensures fault { IfErr result (λ e.
+        SomeUnknown keys.now (map field_view fields.now) × (e ≡ Refusal.UnknownField)) }
 {
     if !all_known(fields, keys) {
         return Err(Refusal::UnknownField);
@@ -77,8 +78,8 @@ pub fn require_known(fields: &[Field<'_>], keys: &[Key]) -> Result<(), Refusal>
 fn append_fields<'a>(bytes: &'a [u8], fields: &mut Vec<Field<'a>>) -> Result<(), Refusal>
     ensures found { OnOk result ((fs : List Wire) × Fields bytes.now fs
         × (map field_view fields.new.items ≡ map field_view fields.old.items ++ fs)) }
-    ensures fault { IfErr result (MemoryOr (BytesFault bytes.now)) }
-    ensures at_once { BreaksAtOnce bytes.now → result ≡ Err Refusal.BadWire }
+    ensures fault { IfErr result (MemoryOr (λ e. IsBroken bytes.now × (e ≡ Refusal.BadWire))) }
+    ensures at_once { FirstBreaks (bytes.now ∷ []) → result ≡ Err Refusal.BadWire }
 {
     let mut reader = Reader::new(bytes);
     while let Some(field) = reader.next()? {

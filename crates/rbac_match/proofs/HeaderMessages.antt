@@ -5,14 +5,13 @@ use Rattle.std.specs.Str.{IsUtf8, str_to_ascii_lowercase}
 use Rattle.std.proofs.lemmas.Str.Ascii.{lowercase-lowercase}
 use Rattle.proto_wire.specs.Values.{bool_at, bytes_at, int64_at, payloads}
 use Rattle.proto_wire.specs.Fields.{Wire}
-use Rattle.proto_wire.specs.Oneof.{member_run}
+use Rattle.proto_wire.specs.Oneof.{member_run, last_number, member_in}
 use Rattle.proto_wire.specs.Messages.{IsMessage, MessageFault}
 use Rattle.proto_wire.proofs.Unique.{merges_unique}
 use Rattle.proto_wire.proofs.Messages.{message_total, message_disjoint}
 use Rattle.proto_wire.specs.declared.refusal.Refusal.{Refusal}
 use Rattle.proto_wire.specs.declared.refusal.Refusal.TheVariants.{BadText, Missing, Unsupported}
 use Rattle.rbac_match.specs.Message.{start_field, end_field, range_keys}
-use Rattle.rbac_match.specs.Oneof.{last_number, member_in}
 use Rattle.rbac_match.specs.Int64Range.{IsRange}
 use Rattle.rbac_match.specs.Header.{HeaderTest, specifiers, name_field, invert_match_field, treat_missing_header_as_empty_field, header_keys, SaysMember, SaysSpecifier, says_nothing, says_member, IsHeader, HeaderMemberFault, MemberReads, HeaderFault, header_fields, name_unreadable, name_missing, in_specifier}
 use Rattle.rbac_match.specs.declared.int64_range.Int64Range.{Int64Range}

@@ -4,11 +4,10 @@ use Rattle.std.specs.Prelude.{MatchOption, Some, None}
 use Rattle.proto_wire.specs.Fields.{Wire}
 use Rattle.proto_wire.specs.Merge.{parts_view}
 use Rattle.proto_wire.specs.Messages.{IsMessage}
-use Rattle.proto_wire.specs.Oneof.{member_run}
+use Rattle.proto_wire.specs.Oneof.{member_run, last_number, member_in}
 use Rattle.proto_wire.specs.declared.refusal.Refusal.{Refusal}
 use Rattle.proto_wire.specs.declared.refusal.Refusal.TheVariants.{Missing, Unsupported}
 use Rattle.rbac_match.specs.Message.{members, rule_keys}
-use Rattle.rbac_match.specs.Oneof.{last_number, member_in}
 use Rattle.rbac_match.specs.declared.member.Member.{Member}
 use Rattle.rbac_match.specs.Formula.{Formula, and_of, or_of}
 use Rattle.rbac_match.specs.Rules.{AreRules, MemberSays, IsLevel, IsRule, MemberFault, LevelFault, no_member, in_member, RuleFault}
@@ -71,15 +70,7 @@ module _ (side : Side) (depth : ℕ) (parts : List (List ℕ)) (fs : List Wire) 
     -- the formula that the last member's run says
     pub rule_found : (f : Formula)
         → MemberSays (IsRule side (depth - 1)) member n (member_run (rule_keys side) fs) f → IsRule side depth parts f
-    rule_found f says = rule_deeper side depth parts f more (record {
-      fields = fs;
-      message = message;
-      number = n;
-      last = last;
-      member = member;
-      is = is;
-      says = says;
-    })
+    rule_found f says = rule_deeper side depth parts f more (fs, message, rw (last, is) says)
 
     -- what is wrong with it
     pub member_fault : (e : Refusal)

@@ -4,7 +4,7 @@ use Rattle.proto_wire.specs.Fields.{Wire}
 use Rattle.proto_wire.specs.Merge.{Merges}
 use Rattle.proto_wire.specs.declared.key.Key.{Key}
 use Rattle.proto_wire.proofs.Unique.{merges_unique}
-use Rattle.rbac_match.specs.Oneof.{last_number}
+use Rattle.proto_wire.specs.Oneof.{last_number}
 
 module _ (keys : List Key) (parts : List (List ℕ)) (fs : List Wire) (n : ℕ) (merged : Merges parts fs) (last : last_number keys fs ≡ Some n) where
   -- what is said of the payloads' fields and of their last member's number is said of these

@@ -8,8 +8,9 @@ use Rattle.proto_wire.proofs.Unique.{merges_unique}
 use Rattle.proto_wire.proofs.Messages.{message_total, message_disjoint}
 use Rattle.proto_wire.specs.declared.refusal.Refusal.{Refusal}
 use Rattle.proto_wire.specs.declared.refusal.Refusal.TheVariants.{OutOfRange}
+use Rattle.std.specs.declared.ops.Range.{Range}
 use Rattle.rbac_match.specs.Message.{start_field, end_field, range_keys}
-use Rattle.rbac_match.specs.Ports.{PortSpan, IsPort, PortFault, AreBounds, IsPortRange, PortRangeFault, range_fields, no_bounds}
+use Rattle.rbac_match.specs.Ports.{IsPort, PortFault, AreBounds, IsPortRange, PortRangeFault, range_fields, no_bounds}
 use Rattle.rbac_match.specs.steps.Ports.{AreNoBounds}
 
 -- a run says a port, or a number that is none
@@ -29,7 +30,7 @@ port_unique n run p q a b = a.0 ∙ sym b.0
 
 -- two bounds are those of some ports, or of none
 bounds_total : (fs : List Wire) (s e : ℤ) → int32_at start_field fs ≡ s → int32_at end_field fs ≡ e
-    → ((span : PortSpan) × AreBounds fs span) ⊎ AreNoBounds fs
+    → ((span : Range ℕ) × AreBounds fs span) ⊎ AreNoBounds fs
 bounds_total fs (negsuc m) e start end = inr (inl (omega (arith, ints, start)))
 bounds_total fs (pos m) (negsuc n) start end = inr (inr (inr (omega (arith, ints, start, end))))
 bounds_total fs (pos m) (pos n) start end = elim (cases_lt 65536 n) [
@@ -41,14 +42,14 @@ bounds_total fs (pos m) (pos n) start end = elim (cases_lt 65536 n) [
 ]
 
 -- never both
-pub bounds_disjoint : (fs : List Wire) (span : PortSpan) → AreBounds fs span → AreNoBounds fs → ⊥
+pub bounds_disjoint : (fs : List Wire) (span : Range ℕ) → AreBounds fs span → AreNoBounds fs → ⊥
 bounds_disjoint fs span are (inl below) = omega (arith, ints, are.0, below)
 bounds_disjoint fs span are (inr (inl above)) = omega (arith, ints, are.1, are.3, above)
 bounds_disjoint fs span are (inr (inr none)) = omega (arith, ints, are.0, are.1, are.2, none)
 
 -- a range of ports, or a fault
 pub port_range_total : (parts : List (List ℕ))
-    → ((span : PortSpan) × IsPortRange parts span) ⊎ ((e : Refusal) × PortRangeFault parts e)
+    → ((span : Range ℕ) × IsPortRange parts span) ⊎ ((e : Refusal) × PortRangeFault parts e)
 port_range_total parts = elim (message_total range_keys parts) [
   | inr bad ↦ inr (bad.0, range_fields bad.1)
   | inl (fs, message) ↦ elim (bounds_total fs _ _ refl refl) [
@@ -58,14 +59,14 @@ port_range_total parts = elim (message_total range_keys parts) [
 ]
 
 -- not both
-pub port_range_disjoint : (parts : List (List ℕ)) (span : PortSpan) (e : Refusal) → IsPortRange parts span
+pub port_range_disjoint : (parts : List (List ℕ)) (span : Range ℕ) (e : Refusal) → IsPortRange parts span
     → PortRangeFault parts e → ⊥
 port_range_disjoint parts span e (fs, message, are) (range_fields bad) = message_disjoint range_keys parts fs e message bad
 port_range_disjoint parts span e (fs, message, are) (no_bounds gs merged none is) =
     none span (subst (λ xs. AreBounds xs span) (sym (merges_unique parts gs fs merged message.0)) are)
 
 -- one range at most
-pub port_range_unique : (parts : List (List ℕ)) (v w : PortSpan) → IsPortRange parts v → IsPortRange parts w
+pub port_range_unique : (parts : List (List ℕ)) (v w : Range ℕ) → IsPortRange parts v → IsPortRange parts w
     → v ≡ w
 port_range_unique parts v w (fs, message, are) (gs, also, are') =
     let same : gs ≡ fs = merges_unique parts gs fs also.0 message.0 in

@@ -1,8 +1,9 @@
 -- A rule's payloads are a rule or have a fault, never both, and they say one formula at most.
 use Rattle.std.proofs.Common.{◌≡◌, ℕ, zero, suc, ◌<◌, ◌⊎◌, inl, inr, List, [], ◌∷◌, Contains, Option, Some, None, refl, sym, ap, subst, arith, ◌∙◌}
+use Rattle.std.specs.Prelude.{IsSomeAnd}
 use Rattle.proto_wire.specs.Fields.{Wire}
 use Rattle.proto_wire.specs.Values.{payloads, varint_at}
-use Rattle.proto_wire.specs.Oneof.{member_run}
+use Rattle.proto_wire.specs.Oneof.{member_run, last_number, member_in}
 use Rattle.proto_wire.specs.Messages.{IsMessage}
 use Rattle.proto_wire.proofs.Unique.{merges_unique}
 use Rattle.proto_wire.proofs.Messages.{message_total, message_disjoint}
@@ -10,7 +11,6 @@ use Rattle.proto_wire.specs.declared.refusal.Refusal.{Refusal}
 use Rattle.proto_wire.specs.declared.refusal.Refusal.TheVariants.{Missing, OutOfRange, Unsupported, TooLarge}
 use Rattle.rbac_match.specs.Formula.{Formula, any, and_of, or_of, not_of, leaf, Formulas, end, formula}
 use Rattle.rbac_match.specs.Message.{members, rule_keys, rules_field, set_keys}
-use Rattle.rbac_match.specs.Oneof.{last_number, member_in}
 use Rattle.rbac_match.specs.Rules.{AreRules, IsSet, MemberSays, IsLevel, IsRule, SetFault, set_fields, set_empty, in_rule, MemberFault, LevelFault, rule_fields, no_member, in_member, RuleFault}
 use Rattle.rbac_match.specs.declared.member.Member.{Member}
 use Rattle.rbac_match.specs.declared.member.Member.TheVariants.{And, Or, Any, Not, Leaf}
@@ -18,6 +18,37 @@ use Rattle.rbac_match.specs.declared.rule.Side.{Side}
 use Rattle.rbac_match.proofs.Basics.{nil_or_not, contains_first, contains_later, contains_cases, same_or_not}
 use Rattle.rbac_match.proofs.LeafMessages.{leaf_total, leaf_disjoint, leaf_unique}
 use Rattle.rbac_match.proofs.Oneofs.{of_last, some_last}
+
+-- the value of which something holds
+some_of : {T : Type 0} (o : Option T) (P : T → Type 0) → IsSomeAnd o P → (x : T) × (o ≡ Some x) × P x
+some_of None P h = absurd h
+some_of (Some x) P h = (x, refl, h)
+
+-- a level, and its last member
+record Level (side : Side) (Below : List (List ℕ) → Formula → Type 0) (parts : List (List ℕ)) (f : Formula) : Type 0 where
+  fields : List Wire
+  message : IsMessage (rule_keys side) parts fields
+  number : ℕ
+  last : last_number (rule_keys side) fields ≡ Some number
+  member : Member
+  is : member_in (members side) number ≡ Some member
+  says : MemberSays Below member number (member_run (rule_keys side) fields) f
+
+level_of : (side : Side) (Below : List (List ℕ) → Formula → Type 0) (parts : List (List ℕ)) (f : Formula)
+    → IsLevel side Below parts f → Level side Below parts f
+level_of side Below parts f (fs, message, here) =
+    let Says : ℕ → Member → Type 0 = λ n m. MemberSays Below m n (member_run (rule_keys side) fs) f in
+    let last = some_of (last_number (rule_keys side) fs) (λ n. IsSomeAnd (member_in (members side) n) (Says n)) here in
+    let member = some_of (member_in (members side) last.0) (Says last.0) last.2 in
+    record {
+      fields = fs;
+      message = message;
+      number = last.0;
+      last = last.1;
+      member = member.0;
+      is = member.1;
+      says = member.2;
+    }
 
 -- of one level: each rule one level down is one or has a fault
 module _ (Below : List (List ℕ) → Formula → Type 0) (Fails : List (List ℕ) → Refusal → Type 0) where
@@ -90,18 +121,7 @@ module _ (Below : List (List ℕ) → Formula → Type 0) (Fails : List (List �
         of_member fs message n last (Some member) is =
             elim (member_total member n (member_run (rule_keys side) fs)) [
               | inr (e, bad) ↦ inr (e, in_member fs n message.0 last (rw is bad))
-              | inl (f, says) ↦ inl (
-                f,
-                record {
-                  fields = fs;
-                  message = message;
-                  number = n;
-                  last = last;
-                  member = member;
-                  is = is;
-                  says = says;
-                },
-              )
+              | inl (f, says) ↦ inl (f, (fs, message, rw (last, is) says))
             ]
 
 -- a rule's payloads are a rule, or have a fault
@@ -154,11 +174,13 @@ module _ (Below : List (List ℕ) → Formula → Type 0) (Fails : List (List �
 
     level_disjoint : (side : Side) (parts : List (List ℕ)) (f : Formula) (e : Refusal)
         → IsLevel side Below parts f → LevelFault side Fails parts e → ⊥
-    level_disjoint side parts f e level (rule_fields bad) =
-        message_disjoint (rule_keys side) parts level.fields e level.message bad
-    level_disjoint side parts f e level (no_member gs also none is) =
+    level_disjoint side parts f e one (rule_fields bad) =
+        message_disjoint (rule_keys side) parts one.0 e one.1 bad
+    level_disjoint side parts f e one (no_member gs also none is) =
+        let level = level_of side Below parts f one in
         some_last (rule_keys side) parts level.fields level.number level.message.0 level.last gs also.0 none
-    level_disjoint side parts f e level (in_member gs n also last bad) =
+    level_disjoint side parts f e one (in_member gs n also last bad) =
+        let level = level_of side Below parts f one in
         let P : List Wire → ℕ → Type 0 = λ xs k.
         MemberFault Fails (member_in (members side) k) k (member_run (rule_keys side) xs) e in
         let here = of_last (rule_keys side) parts level.fields level.number level.message.0 level.last
@@ -210,7 +232,9 @@ module _ (Below : List (List ℕ) → Formula → Type 0) (below_unique : (parts
 
   level_unique : (side : Side) (parts : List (List ℕ)) (f g : Formula) → IsLevel side Below parts f
       → IsLevel side Below parts g → f ≡ g
-  level_unique side parts f g a b =
+  level_unique side parts f g x y =
+      let a = level_of side Below parts f x in
+      let b = level_of side Below parts g y in
       let P : List Wire → ℕ → Type 0 = λ xs k. (member_in (members side) k ≡ Some b.member)
       × MemberSays Below b.member k (member_run (rule_keys side) xs) g in
       let here = of_last (rule_keys side) parts a.fields a.number a.message.0 a.last P

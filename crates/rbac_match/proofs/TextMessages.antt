@@ -8,7 +8,7 @@ use Rattle.proto_wire.specs.Messages.{IsMessage}
 use Rattle.proto_wire.proofs.Messages.{message_total, message_disjoint}
 use Rattle.proto_wire.specs.declared.refusal.Refusal.{Refusal}
 use Rattle.proto_wire.specs.declared.refusal.Refusal.TheVariants.{BadText, Missing, OutOfRange, Unsupported}
-use Rattle.rbac_match.specs.Oneof.{last_number, member_in}
+use Rattle.proto_wire.specs.Oneof.{last_number, member_in}
 use Rattle.rbac_match.specs.Text.{TextTest, string_members, ignore_case_field, string_keys, IsFilled, IsSought, IsTextMatcher, SoughtFault, TextFault, text_fields, no_pattern, in_pattern}
 use Rattle.rbac_match.specs.declared.text.Pattern.{Pattern}
 use Rattle.rbac_match.specs.declared.text.Pattern.TheVariants.{Exact, Prefix, Suffix, Contains}

@@ -5,7 +5,7 @@ use Rattle.std.specs.Option.{is_some, option_or, option_map_or}
 use Rattle.std.specs.Str.{IsUtf8, str_to_ascii_lowercase}
 use Rattle.proto_wire.specs.Values.{bool_at, bytes_at, payloads}
 use Rattle.proto_wire.specs.Fields.{Wire}
-use Rattle.proto_wire.specs.Oneof.{member_run}
+use Rattle.proto_wire.specs.Oneof.{member_run, last_number, member_in}
 use Rattle.proto_wire.specs.Merge.{Merges}
 use Rattle.proto_wire.specs.Messages.{IsMessage, MessageFault}
 use Rattle.proto_wire.specs.declared.refusal.Refusal.{Refusal}
@@ -13,7 +13,7 @@ use Rattle.proto_wire.specs.declared.refusal.Refusal.TheVariants.{BadText, Missi
 use Rattle.proto_wire.specs.declared.key.Key.{Key}
 use Rattle.proto_wire.specs.Keys.{len_key, varint_key}
 use Rattle.rbac_match.specs.Message.{range_keys}
-use Rattle.rbac_match.specs.Oneof.{MadeOf, last_number, member_in}
+use Rattle.rbac_match.specs.Oneof.{MadeOf}
 use Rattle.rbac_match.specs.Text.{text_holds, IsSought, SoughtFault, IsTextMatcher, TextFault}
 use Rattle.rbac_match.specs.Int64Range.{range_holds, IsRange}
 use Rattle.rbac_match.specs.declared.header.HeaderMember.{HeaderMember}

@@ -1,6 +1,6 @@
 -- The leaves of permissions and principals, and what they say of a request: Envoy v3
 -- `config/rbac/v3/rbac.proto`.
-use Rattle.std.specs.Prelude.{Bool, false, ◌==◌, ◌&&◌, [], unwrap_or}
+use Rattle.std.specs.Prelude.{Bool, false, ◌==◌, ◌&&◌, nat_le, nat_lt, [], unwrap_or}
 use Rattle.std.specs.Option.{option_map_or}
 use Rattle.attributes.specs.Address.{share_prefix}
 use Rattle.attributes.specs.Attributes.{url_path_of}
@@ -8,7 +8,6 @@ use Rattle.attributes.specs.Request.{RequestValue, header_of}
 use Rattle.rbac_match.specs.Authenticated.{name_holds, peer_name}
 use Rattle.rbac_match.specs.Header.{specifier_holds}
 use Rattle.rbac_match.specs.Cidr.{source_ip}
-use Rattle.rbac_match.specs.Ports.{has_port}
 use Rattle.rbac_match.specs.Text.{text_holds}
 use Rattle.rbac_match.specs.declared.matcher.Matcher.{Matcher}
 use Rattle.rbac_match.specs.declared.matcher.Matcher.TheVariants.{Header, Address, Port, PortRange, ServerName, UrlPath, Authenticated}
@@ -23,7 +22,8 @@ matcher_holds (Header h) r = specifier_holds h.specifier h.invert_match
 matcher_holds (Address source range) r =
     option_map_or (share_prefix range.size range.address) (source_ip source r.facts) false
 matcher_holds (Port port) r = option_map_or (λ p. p == port) r.facts.destination_port false
-matcher_holds (PortRange span) r = option_map_or (has_port span) r.facts.destination_port false
+matcher_holds (PortRange span) r =
+    option_map_or (λ p. nat_le span.start p && nat_lt p span.end) r.facts.destination_port false
 matcher_holds (ServerName test) r = text_holds test (unwrap_or r.facts.requested_server_name [])
 matcher_holds (UrlPath test) r = text_holds test (url_path_of r.target)
 matcher_holds (Authenticated name) r =

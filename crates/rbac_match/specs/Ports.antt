@@ -1,6 +1,7 @@
 -- Ports and ranges of them: Envoy v3 `config/rbac/v3/rbac.proto` (`destination_port`,
 -- `destination_port_range`), `type/v3/range.proto` (Int32Range: start is in, end is not).
-use Rattle.std.specs.Prelude.{◌≡◌, ℕ, pos, ◌<◌, ◌≤◌, ◌&&◌, nat_lt, nat_le, Bool, List}
+use Rattle.std.specs.Prelude.{◌≡◌, ℕ, pos, ◌<◌, ◌≤◌, List}
+use Rattle.std.specs.declared.ops.Range.{Range}
 use Rattle.proto_wire.specs.Values.{uint32_at, int32_at}
 use Rattle.proto_wire.specs.Fields.{Wire}
 use Rattle.proto_wire.specs.Merge.{Merges}
@@ -8,11 +9,6 @@ use Rattle.proto_wire.specs.Messages.{IsMessage, MessageFault}
 use Rattle.proto_wire.specs.declared.refusal.Refusal.{Refusal}
 use Rattle.proto_wire.specs.declared.refusal.Refusal.TheVariants.{OutOfRange}
 use Rattle.rbac_match.specs.Message.{start_field, end_field, range_keys}
-
--- ports from `start` up to the one before `end`
-pub record PortSpan : Type 0 where
-  pub start : ℕ
-  pub end : ℕ
 
 -- the run of a permission's `destination_port`, which has this number, says this port
 abbrev pub IsPort : ℕ → List Wire → ℕ → Type 0
@@ -23,20 +19,16 @@ abbrev pub PortFault : ℕ → List Wire → Refusal → Type 0
 PortFault n run e = (65535 < uint32_at n run) × (e ≡ OutOfRange)
 
 -- the fields' bounds are those of the ports: there is some port, and each is from 0 to 65,535
-abbrev pub AreBounds : List Wire → PortSpan → Type 0
+abbrev pub AreBounds : List Wire → Range ℕ → Type 0
 AreBounds fs span = (int32_at start_field fs ≡ pos span.start)
     × (int32_at end_field fs ≡ pos span.end) × (span.start < span.end) × (span.end ≤ 65536)
 
 -- the parts merge to an Int32Range of these ports
-abbrev pub IsPortRange : List (List ℕ) → PortSpan → Type 0
+abbrev pub IsPortRange : List (List ℕ) → Range ℕ → Type 0
 IsPortRange parts span = (fs : List Wire) × IsMessage range_keys parts fs × AreBounds fs span
 
 -- a fault of an Int32Range of ports: of its own fields, or of its bounds
 pub data PortRangeFault (parts : List (List ℕ)) (e : Refusal) : Type 0 where
   range_fields : MessageFault range_keys parts e → PortRangeFault parts e
-  no_bounds : (fs : List Wire) → Merges parts fs → ((span : PortSpan) → ¬ (AreBounds fs span))
+  no_bounds : (fs : List Wire) → Merges parts fs → ((span : Range ℕ) → ¬ (AreBounds fs span))
       → e ≡ OutOfRange → PortRangeFault parts e
-
--- whether the port is one of these
-abbrev pub has_port : PortSpan → ℕ → Bool
-has_port span port = nat_le span.start port && nat_lt port span.end

@@ -1,14 +1,13 @@
 -- The messages Permission, Permission.Set, Principal and Principal.Set, level by level: Envoy v3
 -- `config/rbac/v3/rbac.proto`.
-use Rattle.std.specs.Prelude.{◌≡◌, ◌≢◌, ℕ, zero, suc, List, [], ◌∷◌, Contains, Option, Some, None}
+use Rattle.std.specs.Prelude.{◌≡◌, ◌≢◌, ℕ, zero, suc, List, [], ◌∷◌, Contains, IsSomeAnd, Option, Some, None}
 use Rattle.proto_wire.specs.Fields.{Wire}
 use Rattle.proto_wire.specs.Values.{payloads, varint_at}
-use Rattle.proto_wire.specs.Oneof.{member_run}
+use Rattle.proto_wire.specs.Oneof.{member_run, last_number, member_in}
 use Rattle.proto_wire.specs.Merge.{Merges}
 use Rattle.proto_wire.specs.Messages.{IsMessage, MessageFault}
 use Rattle.proto_wire.specs.declared.refusal.Refusal.{Refusal}
 use Rattle.proto_wire.specs.declared.refusal.Refusal.TheVariants.{Missing, OutOfRange, Unsupported, TooLarge}
-use Rattle.rbac_match.specs.Oneof.{last_number, member_in}
 use Rattle.rbac_match.specs.Message.{members, rule_keys, rules_field, set_keys}
 use Rattle.rbac_match.specs.Formula.{Formula, any, and_of, or_of, not_of, leaf, Formulas, end, formula}
 use Rattle.rbac_match.specs.Leaves.{IsLeaf, LeafFault}
@@ -40,15 +39,10 @@ MemberSays Below Not n run f = (g : Formula) × Below (payloads n run) g × (f �
 MemberSays Below (Leaf kind) n run f = (m : Matcher) × IsLeaf kind n run m × (f ≡ leaf m)
 
 -- the parts merge to fields that are all members, and the run of the last one says the formula
-pub record IsLevel (side : Side) (Below : List (List ℕ) → Formula → Type 0)
-    (parts : List (List ℕ)) (f : Formula) : Type 0 where
-  pub fields : List Wire
-  pub message : IsMessage (rule_keys side) parts fields
-  pub number : ℕ
-  pub last : last_number (rule_keys side) fields ≡ Some number
-  pub member : Member
-  pub is : member_in (members side) number ≡ Some member
-  pub says : MemberSays Below member number (member_run (rule_keys side) fields) f
+abbrev pub IsLevel : Side → (List (List ℕ) → Formula → Type 0) → List (List ℕ) → Formula → Type 0
+IsLevel side Below parts f = (fs : List Wire) × IsMessage (rule_keys side) parts fs
+    × IsSomeAnd (last_number (rule_keys side) fs) (λ n. IsSomeAnd (member_in (members side) n)
+    (λ member. MemberSays Below member n (member_run (rule_keys side) fs) f))
 
 -- the parts merge to a rule of at most `depth` levels, which says the formula
 abbrev pub IsRule : Side → ℕ → List (List ℕ) → Formula → Type 0

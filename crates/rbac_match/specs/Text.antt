@@ -11,7 +11,7 @@ use Rattle.proto_wire.specs.declared.refusal.Refusal.{Refusal}
 use Rattle.proto_wire.specs.declared.refusal.Refusal.TheVariants.{BadText, Missing, OutOfRange, Unsupported}
 use Rattle.proto_wire.specs.declared.key.Key.{Key}
 use Rattle.proto_wire.specs.Keys.{len_key, varint_key}
-use Rattle.rbac_match.specs.Oneof.{last_number, member_in}
+use Rattle.proto_wire.specs.Oneof.{last_number, member_in}
 use Rattle.rbac_match.specs.declared.text.Pattern.{Pattern}
 use Rattle.rbac_match.specs.declared.text.Pattern.TheVariants.{Exact, Prefix, Suffix, Contains}
 

@@ -6,7 +6,7 @@ ghost use Rattle.proto_wire.specs.Fields.{field_view};
 ghost use Rattle.proto_wire.specs.Merge.{parts_view};
 ghost use Rattle.proto_wire.specs.Values.{varint_at};
 ghost use Rattle.proto_wire.specs.declared.refusal.Refusal.TheVariants.{Missing, OutOfRange};
-ghost use Rattle.rbac_match.specs.Oneof.{last_number};
+ghost use Rattle.proto_wire.specs.Oneof.{last_number};
 
 use proto_wire::{Field, Key, Refusal, bool_at, last_member};
 

@@ -7,7 +7,7 @@ ghost use Rattle.std.specs.Int.{w64};
 ghost use Rattle.std.specs.List.{list_any};
 ghost use Rattle.std.specs.Str.{str_to_ascii_lowercase};
 ghost use Rattle.std.specs.Str.Parse.{IsNumeral, signed_digits_value, without_leading_sign};
-ghost use Rattle.attributes.specs.Address.{IsInRange, Range};
+ghost use Rattle.attributes.specs.Address.{Range, share_prefix};
 ghost use Rattle.attributes.specs.Request.{RequestValue, header_of};
 ghost use Rattle.attributes.specs.declared.address.Ip.{Ip};
 ghost use Rattle.proto_wire.specs.declared.refusal.Refusal.{Refusal};
@@ -15,7 +15,7 @@ ghost use Rattle.rbac_match.specs.Cidr.{source_ip};
 ghost use Rattle.rbac_match.specs.Header.{HeaderTest, IsHeader, HeaderFault, specifier_holds};
 ghost use Rattle.rbac_match.specs.Int64Range.{int64_in, is_within, range_holds};
 ghost use Rattle.rbac_match.specs.Matcher.{matcher_holds};
-ghost use Rattle.rbac_match.specs.Ports.{PortSpan};
+ghost use Rattle.std.specs.declared.ops.Range.{Range as PortSpan};
 ghost use Rattle.rbac_match.specs.Text.{pattern_holds, TextTest, text_holds};
 ghost use Rattle.rbac_match.specs.declared.cidr.AddressSource.{AddressSource};
 ghost use Rattle.rbac_match.specs.declared.header.Specifier.{Specifier};
@@ -210,7 +210,8 @@ pub fn header_unique()
 pub fn an_address_has_the_prefix()
     ensures { (source : AddressSource) (range : Range) (request : RequestValue)
         → IsTrue (matcher_holds (Address source range) request)
-        ↔ ((ip : Ip) × (source_ip source request.facts ≡ Some ip) × IsInRange range ip) }
+        ↔ ((ip : Ip) × (source_ip source request.facts ≡ Some ip)
+        × (share_prefix range.size range.address ip ≡ true)) }
 {}
 
 /// A port matches where the request's is known and is this one.
@@ -223,7 +224,7 @@ pub fn a_port_is_the_same()
 /// A range of ports is two comparisons with a port that is known: its start is in it, and its end
 /// is not.
 pub fn a_port_range_is_two_comparisons()
-    ensures { (span : PortSpan) (request : RequestValue)
+    ensures { (span : PortSpan ℕ) (request : RequestValue)
         → IsTrue (matcher_holds (PortRange span) request)
         ↔ ((port : ℕ) × (request.facts.destination_port ≡ Some port)
         × (span.start ≤ port) × (port < span.end)) }

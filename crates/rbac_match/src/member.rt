@@ -4,7 +4,7 @@ ghost use Rattle.std.specs.Prelude.{◌≡◌, Some, None, IfOk, IfErr, MatchOpt
 ghost use Rattle.proto_wire.specs.Fields.{field_view};
 ghost use Rattle.proto_wire.specs.declared.refusal.Refusal.TheVariants.{Missing, Unsupported};
 ghost use Rattle.rbac_match.specs.Message.{members, rule_keys};
-ghost use Rattle.rbac_match.specs.Oneof.{last_number, member_in};
+ghost use Rattle.proto_wire.specs.Oneof.{last_number, member_in};
 
 use crate::cidr::AddressSource;
 use crate::fields::last_number;

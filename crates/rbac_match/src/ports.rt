@@ -27,10 +27,10 @@ pub struct PortRange {
 }
 
 impl Model for PortRange {
-    ghost use Rattle.std.specs.Prelude.{◌<◌, ◌≤◌};
-    ghost use Rattle.rbac_match.specs.Ports.{PortSpan};
+    ghost use Rattle.std.specs.Prelude.{◌<◌, ◌≤◌, ℕ};
+    ghost use Rattle.std.specs.declared.ops.Range.{Range};
 
-    ghost Value = { PortSpan };
+    ghost Value = { Range ℕ };
 
     ghost view = { λ r. record { start = r.start; end = r.end } };
 

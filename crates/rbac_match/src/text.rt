@@ -10,7 +10,7 @@ ghost use Rattle.proto_wire.specs.Merge.{parts_view};
 ghost use Rattle.proto_wire.specs.Refusal.{MemoryOr};
 ghost use Rattle.proto_wire.specs.Values.{bytes_at};
 ghost use Rattle.proto_wire.specs.declared.refusal.Refusal.TheVariants.{Missing};
-ghost use Rattle.rbac_match.specs.Oneof.{last_number, member_in};
+ghost use Rattle.proto_wire.specs.Oneof.{last_number, member_in};
 ghost use Rattle.rbac_match.specs.steps.Search.{AreBordersOf};
 ghost use Rattle.rbac_match.specs.Text.{is_substring, text_holds, pattern_holds, string_members, string_keys, IsFilled, IsSought, IsTextMatcher, SoughtFault, TextFault};
 

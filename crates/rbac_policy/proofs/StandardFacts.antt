@@ -129,24 +129,16 @@ filter_fields = ([], len_starts 1 rules_bytes [] (omega arith) (omega arith) (om
 
 -- a rule of either side
 is_rule : (side : Side) → IsRule side rule_depth (rule_bytes ∷ []) any
-is_rule Permission = record {
-  fields = field 3 (varint 1) ∷ [];
-  message = (merged rule_bytes (field 3 (varint 1) ∷ []) rule_fields, refl);
-  number = 3;
-  last = refl;
-  member = _;
-  is = refl;
-  says = (λ e. omega (arith, e), refl);
-}
-is_rule Principal = record {
-  fields = field 3 (varint 1) ∷ [];
-  message = (merged rule_bytes (field 3 (varint 1) ∷ []) rule_fields, refl);
-  number = 3;
-  last = refl;
-  member = _;
-  is = refl;
-  says = (λ e. omega (arith, e), refl);
-}
+is_rule Permission = (
+  field 3 (varint 1) ∷ [],
+  (merged rule_bytes (field 3 (varint 1) ∷ []) rule_fields, refl),
+  (λ e. omega (arith, e), refl),
+)
+is_rule Principal = (
+  field 3 (varint 1) ∷ [],
+  (merged rule_bytes (field 3 (varint 1) ∷ []) rule_fields, refl),
+  (λ e. omega (arith, e), refl),
+)
 
 is_policy : IsPolicy (policy_bytes ∷ []) policy
 is_policy = record {

@@ -1,12 +1,11 @@
 -- Which outcome one head has under one policy file.
-use Rattle.std.specs.Prelude.{◌≡◌, ◌⊎◌, ⊤, true, false, ℕ, suc, Bool, List, Option, codes, take}
+use Rattle.std.specs.Prelude.{◌≡◌, ◌⊎◌, ⊤, true, false, ℕ, Bool, List, Option, codes}
 use Rattle.attributes.specs.Conn.{Facts, only_scheme}
 use Rattle.attributes.specs.Limits.{largest}
 use Rattle.attributes.specs.Request.{RequestValue}
 use Rattle.http_front.specs.declared.fault.HeadFault.{HeadFault}
-use Rattle.http_front.specs.declared.fault.HeadFault.TheVariants.{BadRequest}
+use Rattle.http_front.specs.declared.fault.HeadFault.TheVariants.{Unfinished}
 use Rattle.http_front.specs.Asks.{Asks, HasFault, IsUnfinished}
-use Rattle.http_front.specs.Head.{head_room}
 use Rattle.proto_wire.specs.declared.refusal.Refusal.TheVariants.{Memory}
 use Rattle.rbac_policy.specs.Admission.{Admissible, Admits, Fault}
 use Rattle.rbac_policy.specs.Filter.{Condition, Filter}
@@ -17,10 +16,6 @@ use Rattle.rbacd.specs.declared.outcome.Outcome.TheVariants as outcomes
 -- a connection of which nothing but the scheme `http` is known
 abbrev pub plain_facts : Facts
 plain_facts = only_scheme (codes "http")
-
--- as many bytes of an input as decide what its head asks: the room of a head and one byte
-unfoldable pub first_bytes : List ℕ → List ℕ
-first_bytes bytes = take (suc head_room) bytes
 
 -- the policy is admitted as this filter, and the bytes begin with a head that asks for this request on a
 -- connection of these facts
@@ -33,7 +28,7 @@ pub record IsJudged (policy : List ℕ) (budget : ℕ) (facts : Facts) (bytes : 
 -- the bytes, which are all that comes on a connection of these facts, ask for nothing, for this fault
 pub data InputFault (facts : Facts) (bytes : List ℕ) (fault : HeadFault) : Type 0 where
   present : HasFault bytes largest facts fault → InputFault facts bytes fault
-  unfinished : IsUnfinished bytes → fault ≡ BadRequest → InputFault facts bytes fault
+  unfinished : IsUnfinished bytes → fault ≡ Unfinished → InputFault facts bytes fault
 
 -- the filter gives the request this verdict, whatever its conditions answer: it has none
 abbrev pub Decides : Filter → RequestValue → Bool → Option ℕ → Type 0

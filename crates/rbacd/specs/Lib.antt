@@ -4,3 +4,4 @@ pub mod Judging
 pub mod Facts
 pub mod Output
 pub mod Run
+pub mod steps

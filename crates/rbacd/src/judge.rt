@@ -5,17 +5,19 @@ ghost use Rattle.std.specs.Io.KnownBytes.{Appends};
 ghost use Rattle.attributes.specs.Limits.{largest};
 ghost use Rattle.attributes.specs.Conn.{Facts, conn_view};
 ghost use Rattle.http_front.specs.Asks.{Asks};
-ghost use Rattle.rbacd.specs.Judging.{IsOutcomeOf, IsOutcomeUnder, first_bytes, plain_facts};
+ghost use Rattle.rbacd.specs.Judging.{IsOutcomeOf, IsOutcomeUnder, plain_facts};
 ghost use Rattle.rbac_policy.specs.Admitted.{filter_view};
 ghost use Rattle.rbac_policy.specs.Admission.{Admissible};
 ghost use Rattle.rbac_policy.specs.Verdict.{IsUnconditional};
 ghost use Rattle.rbacd.specs.Outcome.{line_of};
 ghost use Rattle.rbacd.specs.Output.{BreaksOff};
+ghost use Rattle.rbacd.specs.steps.Reading.{IsFound};
 
+use crate::input::read_ask;
 use crate::outcome::Outcome;
 use crate::output::write_whole;
 use attributes::{Conn, Limits, Request};
-use http_front::{Ask, HEAD_ROOM, HeadFault, read_head};
+use http_front::{Ask, HeadFault};
 use rbac_policy::{Admitted, admit};
 use stack_machine::RunError;
 use std::alloc::{AllocError, Global};
@@ -121,36 +123,20 @@ fn head_outcome<R: Read + Drop>(
     ensures { IfOk result (λ outcome. IfSome (R.remaining input) (λ bytes.
         IsOutcomeUnder (filter_view admitted.now) (conn_view conn) bytes outcome)) }
 {
-    let bytes = read_room(alloc, input)?;
-    let outcome = judge_bytes(alloc, admitted, limits, conn, &bytes)?;
-    Ok(outcome)
+    let mut input = input;
+    let found = read_ask(alloc, limits, &conn, &mut input)?;
+    Ok(outcome_of_found(admitted, found))
 }
 
-/// As much of the input as decides what its head asks: the room of a head and one byte.
-fn read_room<R: Read + Drop>(alloc: Global, input: R) -> io::Result<Vec<u8>>
-    ensures { IfOk result (λ v. IfSome (R.remaining input) (λ bytes.
-        v.items ≡ first_bytes bytes)) }
+/// The outcome of what the head asks that some bytes begin with.
+fn outcome_of_found(admitted: &Admitted, found: Option<Ask>) -> Outcome
+    ensures { (facts : Facts) (bytes : List ℕ) → IsFound largest facts bytes found
+        → IsOutcomeUnder (filter_view admitted.now) facts bytes result }
 {
-    let mut bytes = Vec::new(alloc);
-    input.take(HEAD_ROOM as u64 + 1).read_to_end(&mut bytes)?;
-    Ok(bytes)
-}
-
-/// The outcome of the head that the bytes begin with; there are no more.
-fn judge_bytes(
-    alloc: Global,
-    admitted: &Admitted,
-    limits: &Limits,
-    conn: Conn,
-    bytes: &[u8],
-) -> Result<Outcome, AllocError>
-    requires { limits.now ≡ largest }
-    ensures { IfOk result (IsOutcomeUnder (filter_view admitted.now) (conn_view conn) bytes.now) }
-{
-    match read_head(alloc, bytes, limits, conn)? {
-        Some(Ask::Judge(request)) => Ok(decided(admitted, &request)),
-        Some(Ask::Fault(fault)) => Ok(Outcome::Fault(fault)),
-        None => Ok(Outcome::Fault(HeadFault::BadRequest)),
+    match found {
+        Some(Ask::Judge(request)) => decided(admitted, &request),
+        Some(Ask::Fault(fault)) => Outcome::Fault(fault),
+        None => Outcome::Fault(HeadFault::Unfinished),
     }
 }
 

@@ -10,6 +10,7 @@ use std::{env, io};
 
 pub mod facts;
 pub mod files;
+mod input;
 pub mod judge;
 mod notes;
 pub mod outcome;

@@ -2,7 +2,7 @@
 //!
 //! Nothing here bears on the outcome or the status, but that memory may run out here too; no contract speaks of the texts.
 use crate::facts::cause_of_bad_facts;
-use http_front::HeadFault;
+use http_front::{HeadFault, HeadPart};
 use proto_wire::Refusal;
 use std::alloc::{AllocError, Global};
 use std::fmt;
@@ -129,12 +129,33 @@ pub(crate) fn meaning_of(refusal: Refusal) -> &'static str {
     }
 }
 
-/// Which rules a head may have broken that gets this status.
-pub(crate) fn rules_of(fault: HeadFault) -> &'static str {
+/// Which rule a head breaks that has this fault.
+pub(crate) fn rule_of(fault: HeadFault) -> &'static str {
     match fault {
-        HeadFault::BadRequest =>
-            "no whole HTTP/1 head, or one that breaks a rule of its target, fields, Host or Content-Length",
-        HeadFault::TooLarge => "a head of more than 65536 bytes, or a request outside the limits",
-        HeadFault::NotImplemented => "a Transfer-Encoding field",
+        HeadFault::Malformed(part) => wrong_part(part),
+        HeadFault::Unfinished => "the input ends before its head does",
+        HeadFault::TooLong => "the head is longer than 65536 bytes",
+        HeadFault::OtherForm => "the target does not begin with a slash",
+        HeadFault::BadName => "the name of a field is longer than 65535 bytes",
+        HeadFault::BadText => "the value of a field is not UTF-8",
+        HeadFault::NoHost => "a request of HTTP/1.1 has to have a Host field",
+        HeadFault::TwoHosts => "there is more than one Host field",
+        HeadFault::TwoLengths => "there is more than one Content-Length field",
+        HeadFault::BadLength => "a Content-Length is not 1 to 18 digits",
+        HeadFault::TransferCoding => "there is a Transfer-Encoding field",
+        HeadFault::OutsideLimits => "the request is outside the limits of sizes and numbers",
+    }
+}
+
+/// What is wrong with the part of a head where its parser stopped.
+fn wrong_part(part: HeadPart) -> &'static str {
+    match part {
+        HeadPart::Method => "the method is no token with a space behind it",
+        HeadPart::Target => "the target is empty, is not UTF-8, or has a byte that no target has",
+        HeadPart::Version => "the version is neither HTTP/1.0 nor HTTP/1.1",
+        HeadPart::LineEnd => "a line does not end in CR LF or LF",
+        HeadPart::FieldName => "the name of a field is no token with a colon behind it",
+        HeadPart::FieldValue => "the value of a field has a control byte",
+        HeadPart::FoldedLine => "a line begins with white space (obsolete folding)",
     }
 }

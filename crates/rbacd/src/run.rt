@@ -10,7 +10,7 @@ ghost use Rattle.rbacd.specs.declared.run.JobFault.{JobFault};
 use crate::facts::{FactsFault, read_conn};
 use crate::files::Source;
 use crate::judge::{outcome_of, plain_conn, print_outcome};
-use crate::notes::{Likeness, Notes, meaning_of, rules_of};
+use crate::notes::{Likeness, Notes, meaning_of, rule_of};
 use crate::outcome::Outcome;
 use crate::output::write_whole;
 use crate::words::{Job, read_words};
@@ -312,7 +312,7 @@ fn tell_cause<E: Write>(outcome: Outcome, policy: Option<Likeness>, errors: &mut
             }
         }
         Outcome::Fault(fault) => {
-            let _ = writeln!(errors, "  {}", rules_of(fault));
+            let _ = writeln!(errors, "  {}", rule_of(fault));
         }
         Outcome::Allowed(_) | Outcome::Denied(_) | Outcome::OutOfSteps | Outcome::Memory => {}
     }

@@ -5,6 +5,7 @@ mod filter_bytes;
 mod filters;
 mod headers;
 mod heads;
+mod input;
 mod judging;
 mod memory;
 mod rows;

@@ -12,6 +12,7 @@ pub mod KeptAttributes
 pub mod Sound
 pub mod Spending
 pub mod Literals
+pub mod Operands
 pub mod Chains
 pub mod LeastCharge
 pub mod Runs

@@ -1,9 +1,12 @@
 //! Instructions that go elsewhere by what is on top.
 
-ghost use Rattle.std.specs.Prelude.{◌≡◌, ◌≢◌, ◌<◌, ◌^◌, IfErr, None, OnOk, Some, map};
+ghost use Rattle.std.specs.Prelude.{◌≡◌, ◌≢◌, ◌<◌, ◌^◌, IfErr, MatchOption, None, OnOk, Some, map};
 ghost use Rattle.cel_value.specs.Masses.{left_of};
 ghost use Rattle.cel_value.specs.View.{answer_view};
+ghost use Rattle.cel_value.specs.Values.{bool, fails, value};
 ghost use Rattle.cel_ops.specs.Charges.{loop_charge};
+ghost use Rattle.cel_ops.specs.Logic.{not_strictly_false};
+ghost use Rattle.cel_value.specs.declared.error.CelError.{CelError};
 ghost use Rattle.stack_machine.specs.Charges.{of_one};
 ghost use Rattle.stack_machine.specs.Machine.{branch, goes, loop_next, loop_start, loop_test, opened, ranges_over, stuck, test};
 ghost use Rattle.stack_machine.specs.Loops.{range_view};
@@ -17,31 +20,28 @@ use cel_value::{Answer, Value};
 use std::alloc::AllocError;
 
 impl State {
-    pub(crate) fn branch(&mut self, wanted: bool, target: u16) -> Result<(), AllocError>
+    #[inline(always)]
+    pub(crate) fn branch(&mut self, wanted: bool, target: u16)
         requires room { self.old.position < 2 ^ 32 }
         requires lives { branch wanted target (state_view self.old) ≢ stuck }
-        ensures went { OnOk result
-            (branch wanted target (state_view self.old) ≡ goes (state_view self.new)) }
+        ensures went { branch wanted target (state_view self.old) ≡ goes (state_view self.new) }
         ensures fuel { self.new.fuel ≡ self.old.fuel }
     {
-        let Some(answer) = self.stack.pop() else {
+        let Some(answer) = self.stack.peek(0) else {
             unreachable!()
         };
-        match answer {
-            Ok(Value::Bool(found)) => {
-                self.stack.push(Ok(Value::Bool(found)))?;
-                if found == wanted {
-                    self.position = target as usize;
-                    return Ok(());
-                }
-                self.position += 1;
-                Ok(())
-            }
-            Err(error) => self.push(Err(error)),
-            Ok(_) => unreachable!(),
+        let Some(found) = truth_of(answer) else {
+            self.position += 1;
+            return;
+        };
+        if found == wanted {
+            self.position = target as usize;
+            return;
         }
+        self.position += 1;
     }
 
+    #[inline(always)]
     pub(crate) fn test(&mut self, otherwise: u16, failed: u16) -> Result<(), AllocError>
         requires room { self.old.position < 2 ^ 32 }
         requires lives { test otherwise failed (state_view self.old) ≢ stuck }
@@ -122,6 +122,7 @@ impl State {
         Ok(())
     }
 
+    #[inline(always)]
     pub(crate) fn loop_next(&mut self, local: u8, done: u16) -> Result<(), AllocError>
         requires room { self.old.position < 2 ^ 32 }
         requires lives { loop_next local done (state_view self.old) ≢ stuck }
@@ -146,6 +147,7 @@ impl State {
         }
     }
 
+    #[inline(always)]
     pub(crate) fn loop_test(&mut self, done: u16, failed: u16) -> Result<(), AllocError>
         requires room { self.old.position < 2 ^ 32 }
         requires lives { loop_test done failed (state_view self.old) ≢ stuck }
@@ -156,25 +158,41 @@ impl State {
         let Some(answer) = self.stack.pop() else {
             unreachable!()
         };
-        let Some(innermost) = self.loops.pop() else {
-            unreachable!()
-        };
         match answer {
             Ok(Value::Bool(true)) => {
-                self.loops.push(innermost)?;
                 self.position += 1;
                 Ok(())
             }
             Ok(Value::Bool(false)) => {
+                let Some(_) = self.loops.pop() else {
+                    unreachable!()
+                };
                 self.position = done as usize;
                 Ok(())
             }
             Err(error) => {
+                let Some(_) = self.loops.pop() else {
+                    unreachable!()
+                };
                 self.stack.push(Err(error))?;
                 self.position = failed as usize;
                 Ok(())
             }
             Ok(_) => unreachable!(),
         }
+    }
+}
+
+// The bool that a result is; an error is none.
+#[inline(always)]
+fn truth_of(answer: &Answer) -> Option<bool>
+    requires kinds { not_strictly_false (answer_view answer.now) ≢ None }
+    ensures { MatchOption result ((e : CelError) × (answer_view answer.now ≡ fails e))
+        (λ b. answer_view answer.now ≡ value (bool b)) }
+{
+    match answer {
+        Ok(Value::Bool(b)) => Some(*b),
+        Err(_) => None,
+        Ok(_) => unreachable!(),
     }
 }

@@ -22,7 +22,6 @@ mod verified;
 pub use code::{Code, CodeFault};
 pub use error::RunError;
 pub use instr::{Constant, Instr};
-pub use locals::Locals;
 pub use plain::run_plainly;
 pub use running::{Outcome, run};
 pub use stack::Stack;

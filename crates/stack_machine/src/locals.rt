@@ -9,7 +9,7 @@ use std::marker::Model;
 
 /// At most 256 locals.
 #[derive(Drop)]
-pub struct Locals<T: Drop> {
+pub(crate) struct Locals<T: Drop> {
     items: Vec<Option<T>>,
 }
 
@@ -23,7 +23,7 @@ impl<T: Drop> Model for Locals<T> {
 
 impl<T: Drop> Locals<T> {
     /// No local is set.
-    pub fn new(alloc: Global) -> Self
+    pub(crate) fn new(alloc: Global) -> Self
         ensures { result ≡ [] }
     {
         Locals {
@@ -32,7 +32,8 @@ impl<T: Drop> Locals<T> {
     }
 
     /// What a local was set to, if it was.
-    pub fn get(&self, local: u8) -> Option<&T>
+    #[inline(always)]
+    pub(crate) fn get(&self, local: u8) -> Option<&T>
         ensures { option_copied result ≡ local_of self.now local }
     {
         let at = local as usize;
@@ -46,7 +47,8 @@ impl<T: Drop> Locals<T> {
     }
 
     /// Sets a local.
-    pub fn set(&mut self, local: u8, item: T) -> Result<(), AllocError>
+    #[inline(always)]
+    pub(crate) fn set(&mut self, local: u8, item: T) -> Result<(), AllocError>
         ensures { OnOk result (local_of self.new ≡ with_local (local_of self.old) local item) }
     {
         let at = local as usize;

@@ -1,6 +1,6 @@
 //! A stack, seen as the list of its items from the top down.
 
-ghost use Rattle.std.specs.Prelude.{◌≡◌, ◌≤◌, [], ◌∷◌, length, slice_get, reverse, take, drop, IfOk, MatchOption, OnOk};
+ghost use Rattle.std.specs.Prelude.{◌≡◌, ◌≤◌, [], ◌∷◌, IfErr, length, slice_get, reverse, take, drop, IfOk, MatchOption, OnOk};
 ghost use Rattle.std.specs.Option.{option_copied};
 
 use std::alloc::{AllocError, Global};
@@ -38,14 +38,17 @@ impl<T: Drop> Stack<T> {
     }
 
     /// Puts an item on top.
+    #[inline(always)]
     pub fn push(&mut self, item: T) -> Result<(), AllocError>
-        ensures { OnOk result (self.new ≡ item ∷ self.old) }
+        ensures pushed { OnOk result (self.new ≡ item ∷ self.old) }
+        ensures kept { IfErr result (λ _. self.new ≡ self.old) }
     {
         self.items.push(item)?;
         Ok(())
     }
 
     /// Takes the top, if there is one.
+    #[inline(always)]
     pub fn pop(&mut self) -> Option<T>
         ensures { MatchOption result ((self.old ≡ []) × (self.new ≡ []))
             (λ item. self.old ≡ item ∷ self.new) }
@@ -54,7 +57,8 @@ impl<T: Drop> Stack<T> {
     }
 
     /// The item below so many others.
-    pub fn peek(&self, depth: usize) -> Option<&T>
+    #[inline(always)]
+    pub(crate) fn peek(&self, depth: usize) -> Option<&T>
         ensures { option_copied result ≡ slice_get self.now depth }
     {
         let len = self.items.len();
@@ -65,7 +69,7 @@ impl<T: Drop> Stack<T> {
     }
 
     /// The topmost items, so many, from the lowest of them up.
-    pub fn top(&self, count: usize) -> &[T]
+    pub(crate) fn top(&self, count: usize) -> &[T]
         requires { count ≤ length self.now }
         ensures { result.now ≡ reverse (take count self.now) }
     {
@@ -73,8 +77,18 @@ impl<T: Drop> Stack<T> {
         &self.items[len - count..]
     }
 
+    /// Puts an item in the place of the top.
+    #[inline(always)]
+    pub(crate) fn replace_top(&mut self, item: T)
+        requires { 1 ≤ length self.old }
+        ensures { self.new ≡ item ∷ drop 1 self.old }
+    {
+        let at = self.items.len() - 1;
+        self.items[at] = item;
+    }
+
     /// Takes the topmost items, so many, from the lowest of them up.
-    pub fn pop_many(&mut self, count: usize) -> Result<Vec<T>, AllocError>
+    pub(crate) fn pop_many(&mut self, count: usize) -> Result<Vec<T>, AllocError>
         requires { count ≤ length self.old }
         ensures taken { IfOk result (λ items. items.items ≡ reverse (take count self.old)) }
         ensures left { OnOk result (self.new ≡ drop count self.old) }

@@ -1,3 +1,4 @@
+use crate::locals::Locals;
 use crate::*;
 use attributes::AttrId;
 use cel_ops::{ArithmeticOp, CompareOp};
@@ -147,5 +148,15 @@ fn locals_that_are_set(rt: HostRuntime) -> Result<(), Fail> {
     locals.set(255, 'c')?;
     assert!(rt; locals.get(255) == Some(&'c'));
     assert!(rt; locals.get(0) == Some(&'b'));
+    Ok(())
+}
+
+#[test]
+fn errors_as_texts(rt: HostRuntime) -> Result<(), Fail> {
+    let alloc = rt.alloc();
+    let memory = RunError::Memory.to_string(alloc)?;
+    assert_eq!(rt; memory.as_str(), "memory ran out");
+    let spent = RunError::OutOfSteps.to_string(alloc)?;
+    assert_eq!(rt; spent.as_str(), "the fuel is spent");
     Ok(())
 }

@@ -5,10 +5,9 @@ use Rattle.proto_wire.specs.declared.refusal.Refusal.{Refusal}
 use Rattle.xds_wire.specs.Frames.{frame_of}
 use Rattle.xds_wire.specs.Discovery.{RequestMessage, ResponseMessage, IsResponse, ResponseFault}
 use Rattle.xds_wire.specs.Written.{RequestWritten}
-use Rattle.rbac_policy.specs.Filter.{Filter}
 use Rattle.rbac_policy.specs.declared.filter.Admitted.{Admitted}
 use Rattle.ads.specs.Config.{ConfigValue}
-use Rattle.ads.specs.Answer.{Accepted, Answers, replaced}
+use Rattle.ads.specs.Answer.{Accepted, AdmittedValue, Answers, replaced}
 use Rattle.ads.specs.Client.{ClientValue}
 use Rattle.ads.specs.declared.client.Client.{Client}
 use Rattle.ads.specs.steps.Taking.{policies_view}
@@ -24,7 +23,7 @@ state_view s = record {
 }
 
 -- the accepted state that the draft makes of these policies
-abbrev pub draft_view : List (Option Filter) → Draft → Accepted
+abbrev pub draft_view : List (Option AdmittedValue) → Draft → Accepted
 draft_view old draft = record {
   version = string_bytes draft.version;
   policies = replaced old (policies_view draft.given.items);

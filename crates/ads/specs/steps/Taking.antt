@@ -1,16 +1,14 @@
 -- What a filter takes of the extensions of a response.
-use Rattle.std.specs.Prelude.{◌≡◌, ℕ, Option, List, ◌∷◌, map, option_map}
+use Rattle.std.specs.Prelude.{◌≡◌, ◌⊎◌, ℕ, Option, List, ◌∷◌, map, option_map}
 use Rattle.std.specs.List.{AllZip}
 use Rattle.attributes.specs.Limits.{LimitsValue}
-use Rattle.proto_wire.specs.Refusal.{MemoryOr}
 use Rattle.proto_wire.specs.declared.refusal.Refusal.{Refusal}
 use Rattle.xds_wire.specs.Discovery.{ExtensionMessage, ResponseMessage}
 use Rattle.xds_wire.specs.Envelope.{SomeOf}
-use Rattle.rbac_policy.specs.Filter.{Filter}
-use Rattle.rbac_policy.specs.Admitted.{filter_view}
+use Rattle.rbac_policy.specs.Admitted.{filter_view, limits_view}
 use Rattle.rbac_policy.specs.declared.filter.Admitted.{Admitted}
 use Rattle.ads.specs.Config.{FilterValue, ConfigValue}
-use Rattle.ads.specs.Answer.{named, Gives, ExtensionIsRefused, IsResource, Refuses, extension_type}
+use Rattle.ads.specs.Answer.{AdmittedValue, HoldsSome, IsAdmitting, named, Gives, ExtensionIsRefused, IsResource, Refuses, extension_type}
 use Rattle.ads.specs.declared.judging.Judged.{Judged}
 use Rattle.ads.specs.declared.judging.Judged.TheVariants as judged
 
@@ -21,18 +19,23 @@ IsDoubled name xs = (x y : ExtensionMessage) × (more : List ExtensionMessage) �
 -- why a filter takes nothing of the extensions
 pub data TakeFault (limits : LimitsValue) (f : FilterValue) (xs : List ExtensionMessage) (e : Refusal) : Type 0 where
   twice : IsDoubled f.name xs → e ≡ Refusal.DuplicateResource → TakeFault limits f xs e
+  out_of_memory : SomeOf HoldsSome (named f.name xs) → e ≡ Refusal.Memory → TakeFault limits f xs e
   bad : SomeOf (λ x. ExtensionIsRefused limits f x e) (named f.name xs) → TakeFault limits f xs e
 
--- the policies that filters have
-abbrev pub policies_view : List (Option Admitted) → List (Option Filter)
-policies_view policies = map (option_map filter_view) policies
+-- what an `Admitted` stands for
+abbrev pub admitted_view : Admitted → AdmittedValue
+admitted_view a = record { filter = filter_view a; limits = limits_view a }
+
+-- what filters have
+abbrev pub policies_view : List (Option Admitted) → List (Option AdmittedValue)
+policies_view policies = map (option_map admitted_view) policies
 
 -- what the extensions give, or what refuses them
 abbrev pub IsTaken : LimitsValue → List FilterValue → List ExtensionMessage → Judged → Type 0
 IsTaken limits fs xs (judged.Given given) =
     AllZip (λ f. Gives limits f (named f.name xs)) fs (policies_view given.items)
 IsTaken limits fs xs (judged.Refused e) =
-    MemoryOr (λ e. SomeOf (λ f. TakeFault limits f xs e) fs) e
+    SomeOf (λ f. TakeFault limits f xs e) fs
 
 -- what the response gives, or what refuses it
 abbrev pub IsJudged : ConfigValue → ResponseMessage → Judged → Type 0
@@ -40,4 +43,4 @@ IsJudged c response (judged.Given given) =
     (response.type_url ≡ extension_type)
     × (extensions : List ExtensionMessage) × AllZip IsResource response.resources extensions
     × AllZip (λ f. Gives c.limits f (named f.name extensions)) c.filters (policies_view given.items)
-IsJudged c response (judged.Refused e) = MemoryOr (Refuses c response) e
+IsJudged c response (judged.Refused e) = ((e ≡ Refusal.Memory) × IsAdmitting c response) ⊎ Refuses c response e

@@ -1,13 +1,22 @@
 -- The steps by which the headers of a request are made and searched.
-use Rattle.std.specs.Prelude.{◌≡◌, ℕ, ◌≤◌, List, [], ◌∷◌, Some, None, Result, Ok, Err, length}
+use Rattle.std.specs.Prelude.{◌≡◌, ℕ, ◌≤◌, List, [], ◌∷◌, Option, Some, None, Result, Ok, Err, length}
 use Rattle.std.specs.Coded.{Coded, coded_list, coded_ℕ}
-use Rattle.std.specs.FinMap.{code, entries, find}
+use Rattle.std.specs.FinMap.{code, entries, find, get}
 use Rattle.std.specs.FinMap.Entries.{put}
 use Rattle.std.specs.List.{insert, slice_get, slice_set}
 use Rattle.std.specs.declared.alloc.Global.{Global}
 use Rattle.std.specs.declared.cmp.Ordering.TheVariants.{Less}
 use Rattle.std.specs.declared.rc.RcStr.{RcStr}
-use Rattle.attributes.specs.Headers.{Entry, HeaderMap, headers_of, headers_view, name_cmp}
+use Rattle.attributes.specs.Headers.{Entry, HeaderMap, headers_of, headers_view, name_cmp, values_of, with_commas}
+
+-- the values of one name as one; none where there is none
+abbrev pub joined : List (List ℕ) → Option (List ℕ)
+joined [] = None
+joined (v ∷ vs) = Some (with_commas (v ∷ vs))
+
+-- the headers have the entries' values at each name, and nothing at any other
+abbrev pub AreJoined : List Entry → HeaderMap → Type 0
+AreJoined es headers = (name : List ℕ) → get headers name ≡ joined (values_of name es)
 
 -- header maps are told apart by their entries
 abbrev pub header_map_code : Coded HeaderMap

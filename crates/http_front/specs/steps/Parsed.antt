@@ -30,7 +30,7 @@ pub record AreTexts (h : HeadValue) : Type 0 where
 abbrev pub IsParsed : List ℕ → Parsed → Type 0
 IsParsed bytes (Whole h rest) = StartsHead bytes h rest.now
 IsParsed bytes Unfinished = HasNoRequest bytes × MayBecomeRequest bytes
-IsParsed bytes Hopeless = NeverHasRequest bytes
+IsParsed bytes (Hopeless part) = NeverHasRequest bytes
 
 -- the counts and the tests are those of a head's lines
 pub record IsFraming (lines : List Entry) (f : Framing) : Type 0 where

@@ -1,6 +1,6 @@
 //! Heads, good and bad, with the answers that the rules give them.
 use attributes::{Conn, Limits};
-use http_front::{Ask, HEAD_ROOM, HeadFault, read_head};
+use http_front::{Ask, HEAD_ROOM, HeadFault, HeadPart, read_head};
 use std::alloc::{AllocError, Global};
 use std::rc::RcStr;
 use std::test::Fail;
@@ -17,11 +17,35 @@ const JUDGED: Answer = Answer::Judged;
 
 const UNFINISHED: Answer = Answer::Unfinished;
 
-const BAD: Answer = Answer::Fault(HeadFault::BadRequest);
+const METHOD: Answer = Answer::Fault(HeadFault::Malformed(HeadPart::Method));
 
-const LARGE: Answer = Answer::Fault(HeadFault::TooLarge);
+const TARGET: Answer = Answer::Fault(HeadFault::Malformed(HeadPart::Target));
 
-const CODED: Answer = Answer::Fault(HeadFault::NotImplemented);
+const VERSION: Answer = Answer::Fault(HeadFault::Malformed(HeadPart::Version));
+
+const FIELD_NAME: Answer = Answer::Fault(HeadFault::Malformed(HeadPart::FieldName));
+
+const FIELD_VALUE: Answer = Answer::Fault(HeadFault::Malformed(HeadPart::FieldValue));
+
+const FOLDED_LINE: Answer = Answer::Fault(HeadFault::Malformed(HeadPart::FoldedLine));
+
+const OTHER_FORM: Answer = Answer::Fault(HeadFault::OtherForm);
+
+const BAD_TEXT: Answer = Answer::Fault(HeadFault::BadText);
+
+const NO_HOST: Answer = Answer::Fault(HeadFault::NoHost);
+
+const TWO_HOSTS: Answer = Answer::Fault(HeadFault::TwoHosts);
+
+const TWO_LENGTHS: Answer = Answer::Fault(HeadFault::TwoLengths);
+
+const BAD_LENGTH: Answer = Answer::Fault(HeadFault::BadLength);
+
+const TRANSFER_CODING: Answer = Answer::Fault(HeadFault::TransferCoding);
+
+const OUTSIDE_LIMITS: Answer = Answer::Fault(HeadFault::OutsideLimits);
+
+const TOO_LONG: Answer = Answer::Fault(HeadFault::TooLong);
 
 fn answer_of(alloc: Global, bytes: &[u8]) -> Result<Answer, AllocError> {
     let conn = Conn::of_scheme(RcStr::from_str(alloc, "http")?);
@@ -32,7 +56,7 @@ fn answer_of(alloc: Global, bytes: &[u8]) -> Result<Answer, AllocError> {
     }
 }
 
-const LINES: [(&[u8], Answer); 21] = [
+const LINES: [(&[u8], Answer); 23] = [
     (b"GET / HTTP/1.1\r\nHost: h\r\n\r\n", JUDGED),
     (b"GET / HTTP/1.1\nhost:h\n\n", JUDGED),
     (b"\r\n\r\nGET / HTTP/1.1\r\nHOST: h\r\n\r\n", JUDGED),
@@ -44,16 +68,18 @@ const LINES: [(&[u8], Answer); 21] = [
     (b"GET / HTTP/1.1", UNFINISHED),
     (b"GET / HTTP/1.1\r\nHost: h\r\n", UNFINISHED),
     (b"GET / HTTP/1.1\r\nHost: h\r\n\r", UNFINISHED),
-    (b"GET\n/ HTTP/1.1\r\nHost: h\r\n\r\n", BAD),
-    (b"GET / HTTP/2.0\r\nHost: h\r\n\r\n", BAD),
-    (b"GET /\xff HTTP/1.1\r\nHost: h\r\n\r\n", BAD),
-    (b"GET /\x7f HTTP/1.1\r\nHost: h\r\n\r\n", BAD),
-    (b"OPTIONS * HTTP/1.1\r\nHost: h\r\n\r\n", BAD),
-    (b"CONNECT h:80 HTTP/1.1\r\nHost: h\r\n\r\n", BAD),
-    (b"GET http://h/ HTTP/1.1\r\nHost: h\r\n\r\n", BAD),
-    (b"GET / HTTP/1.1\r\n\r\n", BAD),
-    (b"GET / HTTP/1.1\r\nX-Host: h\r\n\r\n", BAD),
-    (b"GET / HTTP/1.1\r\nHost: h\r\nhost: h\r\n\r\n", BAD),
+    (b"GET\n/ HTTP/1.1\r\nHost: h\r\n\r\n", METHOD),
+    (b" GET / HTTP/1.1\r\nHost: h\r\n\r\n", METHOD),
+    (b"GET / HTTP/1.1\r\nX A: b\r\n\r\n{\n  ", FIELD_NAME),
+    (b"GET / HTTP/2.0\r\nHost: h\r\n\r\n", VERSION),
+    (b"GET /\xff HTTP/1.1\r\nHost: h\r\n\r\n", TARGET),
+    (b"GET /\x7f HTTP/1.1\r\nHost: h\r\n\r\n", TARGET),
+    (b"OPTIONS * HTTP/1.1\r\nHost: h\r\n\r\n", OTHER_FORM),
+    (b"CONNECT h:80 HTTP/1.1\r\nHost: h\r\n\r\n", OTHER_FORM),
+    (b"GET http://h/ HTTP/1.1\r\nHost: h\r\n\r\n", OTHER_FORM),
+    (b"GET / HTTP/1.1\r\n\r\n", NO_HOST),
+    (b"GET / HTTP/1.1\r\nX-Host: h\r\n\r\n", NO_HOST),
+    (b"GET / HTTP/1.1\r\nHost: h\r\nhost: h\r\n\r\n", TWO_HOSTS),
 ];
 
 #[test]
@@ -72,24 +98,24 @@ const FIELDS: [(&[u8], Answer); 25] = [
     (b"X-A: b\r\nX-A: c", JUDGED),
     (b"Content-Length: 5", JUDGED),
     (b"content-length:000000000000000005", JUDGED),
-    (b"X A: b", BAD),
-    (b"X-A : b", BAD),
-    (b": b", BAD),
-    (b"X-\xc3\xa9: b", BAD),
-    (b"X-A: b\r\n c", BAD),
-    (b"X-A: b\x00", BAD),
-    (b"X-A: b\x1fc", BAD),
-    (b"X-A: b\x7f", BAD),
-    (b"X-A: \xc3", BAD),
-    (b"Content-Length: 5\r\nContent-Length: 5", BAD),
-    (b"Content-Length: 5, 5", BAD),
-    (b"Content-Length:", BAD),
-    (b"Content-Length: +5", BAD),
-    (b"Content-Length: 5a", BAD),
-    (b"Content-Length: 0000000000000000005", BAD),
-    (b"Transfer-Encoding: chunked", CODED),
-    (b"transfer-encoding: identity", CODED),
-    (b"Transfer-Encoding:", CODED),
+    (b"X A: b", FIELD_NAME),
+    (b"X-A : b", FIELD_NAME),
+    (b": b", FIELD_NAME),
+    (b"X-\xc3\xa9: b", FIELD_NAME),
+    (b"X-A: b\r\n c", FOLDED_LINE),
+    (b"X-A: b\x00", FIELD_VALUE),
+    (b"X-A: b\x1fc", FIELD_VALUE),
+    (b"X-A: b\x7f", FIELD_VALUE),
+    (b"X-A: \xc3", BAD_TEXT),
+    (b"Content-Length: 5\r\nContent-Length: 5", TWO_LENGTHS),
+    (b"Content-Length: 5, 5", BAD_LENGTH),
+    (b"Content-Length:", BAD_LENGTH),
+    (b"Content-Length: +5", BAD_LENGTH),
+    (b"Content-Length: 5a", BAD_LENGTH),
+    (b"Content-Length: 0000000000000000005", BAD_LENGTH),
+    (b"Transfer-Encoding: chunked", TRANSFER_CODING),
+    (b"transfer-encoding: identity", TRANSFER_CODING),
+    (b"Transfer-Encoding:", TRANSFER_CODING),
     (b"TE: trailers", JUDGED),
 ];
 
@@ -132,10 +158,10 @@ fn sized(
 fn answers_borders_of_texts(rt: HostRuntime) -> Result<(), Fail> {
     let sizes = [
         (32, 4096, 128, 4096, JUDGED),
-        (33, 4096, 128, 4096, LARGE),
-        (32, 4097, 128, 4096, LARGE),
-        (32, 4096, 129, 4096, LARGE),
-        (32, 4096, 128, 4097, LARGE),
+        (33, 4096, 128, 4096, OUTSIDE_LIMITS),
+        (32, 4097, 128, 4096, OUTSIDE_LIMITS),
+        (32, 4096, 129, 4096, OUTSIDE_LIMITS),
+        (32, 4096, 128, 4097, OUTSIDE_LIMITS),
     ];
     for (method, target, name, value, expected) in sizes {
         let bytes = sized(rt.alloc(), method, target, name, value)?;
@@ -161,11 +187,11 @@ fn answers_borders_of_counts(rt: HostRuntime) -> Result<(), Fail> {
     // The joined value has a comma between each two, so two of 2,048 bytes are one too long.
     let counts = [
         (60, 1, JUDGED),
-        (61, 1, LARGE),
+        (61, 1, OUTSIDE_LIMITS),
         (60, 67, JUDGED),
-        (60, 68, LARGE),
+        (60, 68, OUTSIDE_LIMITS),
         (2, 2047, JUDGED),
-        (2, 2048, LARGE),
+        (2, 2048, OUTSIDE_LIMITS),
     ];
     for (fields, value, expected) in counts {
         let bytes = crowded(rt.alloc(), fields, value)?;
@@ -199,7 +225,7 @@ fn answers_borders_of_room(rt: HostRuntime) -> Result<(), Fail> {
     assert_eq!(rt; answer_of(alloc, &longest)?, JUDGED);
     let longer = long_head(alloc, HEAD_ROOM + 1)?;
     assert_eq!(rt; longer.len(), HEAD_ROOM + 1);
-    assert_eq!(rt; answer_of(alloc, &longer)?, LARGE);
+    assert_eq!(rt; answer_of(alloc, &longer)?, TOO_LONG);
     let unfinished = &longest[..longest.len() - 1];
     assert_eq!(rt; answer_of(alloc, unfinished)?, UNFINISHED);
     Ok(())
@@ -227,9 +253,18 @@ fn keeps_what_a_head_says(rt: HostRuntime) -> Result<(), Fail> {
 #[test]
 fn prints_faults(rt: HostRuntime) -> Result<(), Fail> {
     let faults = [
-        (HeadFault::BadRequest, "400"),
-        (HeadFault::TooLarge, "431"),
-        (HeadFault::NotImplemented, "501"),
+        (HeadFault::Malformed(HeadPart::LineEnd), "400"),
+        (HeadFault::Unfinished, "400"),
+        (HeadFault::OtherForm, "400"),
+        (HeadFault::BadName, "400"),
+        (HeadFault::BadText, "400"),
+        (HeadFault::NoHost, "400"),
+        (HeadFault::TwoHosts, "400"),
+        (HeadFault::TwoLengths, "400"),
+        (HeadFault::BadLength, "400"),
+        (HeadFault::TooLong, "431"),
+        (HeadFault::OutsideLimits, "431"),
+        (HeadFault::TransferCoding, "501"),
     ];
     for (fault, expected) in faults {
         assert_eq!(rt; fault.to_string(rt.alloc())?.as_str(), expected);

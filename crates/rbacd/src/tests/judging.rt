@@ -6,6 +6,7 @@ use crate::judge::{judge, plain_conn};
 use crate::outcome::Outcome;
 use http_front::HeadFault;
 use proto_wire::Refusal;
+use stack_machine::RunError;
 use std::alloc::{AllocError, Global};
 use std::io::{self, ErrorKind, Read, Write};
 use std::test::Fail;
@@ -98,7 +99,7 @@ fn judges_long_input(rt: HostRuntime) -> Result<(), Fail> {
         input.as_slice(),
         &mut out,
     )?;
-    assert_eq!(rt; outcome, Outcome::Fault(HeadFault::TooLarge));
+    assert_eq!(rt; outcome, Outcome::Fault(HeadFault::TooLong));
     assert_eq!(rt; out.as_slice(), b"head: 431\n".as_slice());
     Ok(())
 }
@@ -117,12 +118,24 @@ fn prints_outcomes(rt: HostRuntime) -> Result<(), Fail> {
             1,
         ),
         (Outcome::Refused(Refusal::Memory), "refused: 19 Memory", 5),
-        (Outcome::Fault(HeadFault::TooLarge), "head: 431", 4),
+        (Outcome::Fault(HeadFault::TooLong), "head: 431", 4),
         (Outcome::Memory, "memory", 5),
     ];
     for (outcome, line, status) in outcomes {
         assert_eq!(rt; outcome.to_string(rt.alloc())?.as_str(), line);
         assert_eq!(rt; outcome.status(), status);
+    }
+    Ok(())
+}
+
+#[test]
+fn says_why_a_run_has_no_result(rt: HostRuntime) -> Result<(), Fail> {
+    let texts = [
+        (RunError::Memory, "memory ran out"),
+        (RunError::OutOfSteps, "the fuel is spent"),
+    ];
+    for (error, expected) in texts {
+        assert_eq!(rt; error.to_string(rt.alloc())?.as_str(), expected);
     }
     Ok(())
 }

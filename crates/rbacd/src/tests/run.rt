@@ -96,7 +96,7 @@ type Case = (
     u8,
 );
 
-const CASES: [Case; 12] = [
+const CASES: [Case; 13] = [
     (&["--policy", "any"], PLAIN, "allow 0\n", "", 0),
     (
         &["--policy", "any", "--facts", "facts"],
@@ -117,7 +117,14 @@ const CASES: [Case; 12] = [
         &["--policy", "any"],
         b"GET",
         "head: 400\n",
-        "  no whole HTTP/1 head, ",
+        "  the input ends before its head does\n",
+        4,
+    ),
+    (
+        &["--policy", "any"],
+        b"GET / HTTP/1.1\r\n\r\n",
+        "head: 400\n",
+        "  a request of HTTP/1.1 has to have a Host field\n",
         4,
     ),
     (

@@ -1,5 +1,5 @@
 use Rattle.std.proofs.Common.{◌≡◌, length, List, Option}
-use Rattle.rbac_policy.specs.Filter.{Filter}
+use Rattle.ads.specs.Answer.{AdmittedValue}
 use Rattle.ads.specs.steps.Drafts.{Covers, draft_view}
 use Rattle.ads.proofs.AnswerLemmas.{GoesOn}
 use Rattle.ads.proofs.answer.answer_all.Given as goal
@@ -8,7 +8,7 @@ abbrev pub invariant-loop-message : goal.invariant-loop-message
 invariant-loop-message l =
     Covers (length l.config.filters) l.draft.given.items
     × (l.frames.max ≡ l.initial.frames.max) × (l.frames.tail ≡ l.initial.frames.tail)
-    × ((old : List (Option Filter)) → GoesOn l.config (draft_view old l.initial.draft) l.initial.frames.messages
+    × ((old : List (Option AdmittedValue)) → GoesOn l.config (draft_view old l.initial.draft) l.initial.frames.messages
     l.initial.draft.replies.items (draft_view old l.draft) l.frames.messages l.draft.replies.items)
 
 abbrev pub decreases-loop-message : goal.decreases-loop-message

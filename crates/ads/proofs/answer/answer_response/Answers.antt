@@ -1,8 +1,7 @@
 use Rattle.std.proofs.Common.{◌≡◌, ◌∙◌, sym, inr, inl, length}
 use Rattle.std.specs.Prelude.{vec_len}
-use Rattle.proto_wire.specs.Refusal.{MemoryOr}
 use Rattle.xds_wire.specs.View.{response_view}
-use Rattle.ads.specs.Answer.{Refuses, nack_of}
+use Rattle.ads.specs.Answer.{nack_of}
 use Rattle.ads.specs.steps.Drafts.{draft_view}
 use Rattle.ads.specs.steps.Taking.{IsJudged}
 use Rattle.ads.specs.declared.judging.Judged.TheVariants as judged
@@ -26,7 +25,7 @@ returns-in_ok-version-in-Given-clause-covers c =
 
 pub returns-in-Refused-clause-answered : goal.returns-in-Refused-clause-answered
 returns-in-Refused-clause-answered c =
-    let is : MemoryOr (Refuses c.args.config.now (response_view c.args.response.now)) c.in-Refused.refusal =
+    let is : IsJudged c.args.config.now (response_view c.args.response.now) (judged.Refused c.in-Refused.refusal) =
     rw c.in-Refused.is at c.in_ok-given.ensures in
     on_ok_weaker c.put_nack.result _ _
     (λ added old. (

@@ -1,5 +1,5 @@
 use Rattle.std.proofs.Common.{List, Option}
-use Rattle.rbac_policy.specs.Filter.{Filter}
+use Rattle.ads.specs.Answer.{AdmittedValue}
 use Rattle.ads.specs.steps.Taking.{policies_view}
 use Rattle.ads.specs.steps.Drafts.{state_view, draft_view}
 use Rattle.ads.proofs.AnswerLemmas.{from_answers}
@@ -8,7 +8,7 @@ use Rattle.ads.proofs.stream.answered.Goals as goal
 
 pub returns-clause-answered : goal.returns-clause-answered
 returns-clause-answered c =
-    let old : List (Option Filter) = policies_view c.args.accepted.now.policies.items in
+    let old : List (Option AdmittedValue) = policies_view c.args.accepted.now.policies.items in
     let fed = rw c.in_ok-frames.ensures at c.in_ok-is_faulty.ensures.0 in
     let cut = fed_cut c.stream.inside.frames c.feed_frames.new.frames c.args.bytes.now c.stream.invariant fed in
     let answers = from_answers c.args.config.now (state_view c.args.accepted.now)

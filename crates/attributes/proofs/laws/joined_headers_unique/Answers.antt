@@ -1,5 +1,5 @@
-use Rattle.attributes.proofs.Joining.{same_joined}
+use Rattle.attributes.proofs.Joining.{same_headers}
 use Rattle.attributes.proofs.laws.joined_headers_unique.Goals as goal
 
 pub returns : goal.returns
-returns c = same_joined
+returns c = same_headers

@@ -19,7 +19,7 @@ returns-in-Whole-clause-fault c =
 pub returns-in-Hopeless-clause-fault : goal.returns-in-Hopeless-clause-fault
 returns-in-Hopeless-clause-fault c =
     let never = rw (c.min.ensures, room_is head_room c.args.bytes.now) at c.in-Hopeless.ensures in
-    HasFault.hopeless (NeverHasRequest-from_take head_room c.args.bytes.now never) refl
+    HasFault.hopeless _ (NeverHasRequest-from_take head_room c.args.bytes.now never) refl
 
 pub returns-then-bytes-gt-HEAD_ROOM-clause-fault : goal.returns-then-bytes-gt-HEAD_ROOM-clause-fault
 returns-then-bytes-gt-HEAD_ROOM-clause-fault c =

@@ -1,9 +1,8 @@
 use Rattle.std.proofs.Common.{◌≡◌, List, ◌++◌, map, ap, ◌∙◌}
 use Rattle.proto_wire.specs.Fields.{field_view}
 use Rattle.proto_wire.specs.declared.field.Field.{Field}
-use Rattle.proto_wire.specs.Messages.{BytesFault}
 use Rattle.proto_wire.proofs.Exits.{exit_only_memory}
-use Rattle.proto_wire.proofs.Unique.{fields_unique, fields_disjoint}
+use Rattle.proto_wire.proofs.Unique.{BytesFault, fields_unique, fields_disjoint}
 use Rattle.proto_wire.proofs.message.read_fields.Goals as goal
 
 pub returns-in_err-append_fields-clause-reads : goal.returns-in_err-append_fields-clause-reads

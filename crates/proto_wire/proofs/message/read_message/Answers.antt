@@ -1,7 +1,9 @@
 use Rattle.std.proofs.Common.{◌≡◌, List, map, inr}
 use Rattle.proto_wire.specs.Fields.{Wire, field_view}
+use Rattle.proto_wire.specs.Keys.{SomeUnknown}
 use Rattle.proto_wire.specs.Merge.{parts_view}
-use Rattle.proto_wire.specs.Messages.{PartsFault, UnknownFault, MessageFault, not_known}
+use Rattle.proto_wire.specs.Messages.{PartsFault, MessageFault, not_known}
+use Rattle.proto_wire.specs.declared.refusal.Refusal.TheVariants.{UnknownField}
 use Rattle.proto_wire.proofs.Exits.{exit_memory_or, exit_only_memory}
 use Rattle.proto_wire.proofs.Unique.{merges_unique, merges_disjoint}
 use Rattle.proto_wire.proofs.KeyLemmas.{known_disjoint}
@@ -21,9 +23,9 @@ returns-in_err-require_known-clause-fault c =
     let keys = c.args.keys.now in
     let parts = parts_view c.args.parts.now in
     let fs : List Wire = map field_view c.in_ok-fields.fields.items in
-    let bad : UnknownFault keys fs c.in_err-require_known.field-0.0 =
+    let bad : SomeUnknown keys fs × (c.in_err-require_known.field-0.0 ≡ UnknownField) =
     rw (← c.deref.ensures.value) c.in_err-require_known.ensures.fault in
-    exit_memory_or (UnknownFault keys fs) (MessageFault keys parts) exit.result _ exit.ensures.1
+    exit_memory_or (λ e. SomeUnknown keys fs × (e ≡ UnknownField)) (MessageFault keys parts) exit.result _ exit.ensures.1
     (inr bad)
     (λ d fault. not_known (merged_unknown keys parts fs c.in_ok-fields.ensures.found fault.0) fault.1)
 
@@ -32,7 +34,7 @@ returns-in_err-require_known-clause-reads c gs is =
     let keys = c.args.keys.now in
     let parts = parts_view c.args.parts.now in
     let fs : List Wire = map field_view c.in_ok-fields.fields.items in
-    let bad : UnknownFault keys fs c.in_err-require_known.field-0.0 =
+    let bad : SomeUnknown keys fs × (c.in_err-require_known.field-0.0 ≡ UnknownField) =
     rw (← c.deref.ensures.value) c.in_err-require_known.ensures.fault in
     let same : fs ≡ gs = merges_unique parts fs gs c.in_ok-fields.ensures.found is.0 in
     absurd (known_disjoint keys gs is.1 (rw same at bad.0))

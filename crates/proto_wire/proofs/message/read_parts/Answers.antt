@@ -2,9 +2,9 @@ use Rattle.std.proofs.Common.{◌≡◌, map, get_or}
 use Rattle.std.proofs.lemmas.List.{take_all}
 use Rattle.proto_wire.specs.Fields.{field_view}
 use Rattle.proto_wire.specs.Merge.{Merges, parts_view}
-use Rattle.proto_wire.specs.Messages.{BytesFault, PartsFault}
+use Rattle.proto_wire.specs.Messages.{PartsFault}
 use Rattle.proto_wire.proofs.Exits.{exit_memory_or, exit_only_memory, exit_told}
-use Rattle.proto_wire.proofs.Unique.{merges_unique, merges_disjoint, merges_at, breaks_at, first_breaks_at, first_disjoint}
+use Rattle.proto_wire.proofs.Unique.{BytesFault, merges_unique, merges_disjoint, merges_at, breaks_at, first_breaks_at, first_disjoint}
 use Rattle.proto_wire.proofs.message.read_parts.Goals as goal
 
 pub returns-in_err-append_fields-clause-fault : goal.returns-in_err-append_fields-clause-fault

@@ -2,10 +2,9 @@ use Rattle.std.proofs.Common.{ℕ, ◌≡◌, List, map, refl}
 use Rattle.proto_wire.specs.Fields.{Wire, field_view}
 use Rattle.proto_wire.specs.Merge.{parts_view}
 use Rattle.proto_wire.specs.Messages.{IsMessage, MessageFault}
-use Rattle.proto_wire.specs.Oneof.{member_run}
+use Rattle.proto_wire.specs.Oneof.{member_run, last_number, member_in}
 use Rattle.std.specs.Map.{keys_of}
 use Rattle.std.specs.Prelude.{Some}
-use Rattle.rbac_match.specs.Oneof.{last_number, member_in}
 use Rattle.rbac_match.specs.Header.{specifiers, header_keys, HeaderMemberFault, SaysSpecifier, HeaderFault, header_fields, in_specifier}
 use Rattle.rbac_match.proofs.Exits.{exit_memory_or, exit_fault}
 use Rattle.rbac_match.proofs.HeaderMessages.{name_fault}

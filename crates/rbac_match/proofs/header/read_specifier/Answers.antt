@@ -2,8 +2,7 @@ use Rattle.std.proofs.Common.{◌≡◌, List, Some, map, sym}
 use Rattle.std.proofs.lemmas.Result.{MatchResult-weaker}
 use Rattle.std.specs.Map.{keys_of}
 use Rattle.proto_wire.specs.Fields.{Wire, field_view}
-use Rattle.proto_wire.specs.Oneof.{member_run}
-use Rattle.rbac_match.specs.Oneof.{last_number}
+use Rattle.proto_wire.specs.Oneof.{member_run, last_number}
 use Rattle.rbac_match.specs.Header.{specifiers, says_member}
 use Rattle.rbac_match.proofs.header.read_specifier.Goals as goal
 

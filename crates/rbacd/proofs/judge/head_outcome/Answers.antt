@@ -1,7 +1,7 @@
-use Rattle.rbacd.proofs.InputLemmas.{outcome_of_known}
+use Rattle.std.proofs.lemmas.Option.{IfSome_then}
 use Rattle.rbacd.proofs.judge.head_outcome.Goals as goal
 
 pub returns : goal.returns
 returns g c =
-    let given = rw c.deref.ensures.value at c.in_ok-outcome.ensures in
-    outcome_of_known _ _ (g.R.Read.remaining c.args.input) _ _ c.in_ok-bytes.ensures given
+    IfSome_then (g.R.Read.remaining c.args.input) c.in_ok-found.ensures.found
+    (λ bytes is. c.outcome_of_found.ensures _ bytes (rw c.requires at is))

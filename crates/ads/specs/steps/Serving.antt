@@ -1,0 +1,78 @@
+-- What the parts of a control stand for, and what the serving of one request does.
+use Rattle.std.specs.Prelude.{◌≡◌, ℕ, Bool, List, [], ◌++◌, map}
+use Rattle.std.specs.String.{string_bytes}
+use Rattle.xds_wire.specs.Discovery.{AnyMessage, RequestMessage, IsRequest}
+use Rattle.xds_wire.specs.Written.{ResponseWritten}
+use Rattle.ads.specs.Answer.{extension_type}
+use Rattle.ads.specs.Control.{ResourceValue, ServedValue, ControlValue, IsFirst, IsAck, IsNack, Serves, IsNoRequest}
+use Rattle.ads.specs.declared.snapshot.Resource.{Resource}
+use Rattle.ads.specs.declared.snapshot.Snapshot.{Snapshot}
+use Rattle.ads.specs.declared.serving.Served.{Served}
+use Rattle.ads.specs.declared.serving.Kind.{Kind}
+use Rattle.ads.specs.declared.control.Control.{Control}
+
+abbrev pub resource_view : Resource → ResourceValue
+resource_view r = record { name = string_bytes r.name; filter = r.filter.items }
+
+-- the resources of a snapshot
+abbrev pub snapshot_view : Snapshot → List ResourceValue
+snapshot_view s = map resource_view s.resources.items
+
+abbrev pub snapshots_view : List Snapshot → List (List ResourceValue)
+snapshots_view snapshots = map snapshot_view snapshots
+
+-- the resource that has these bytes
+abbrev pub any_of : List ℕ → AnyMessage
+any_of bytes = record { type_url = extension_type; value = bytes }
+
+-- the bytes are a response of this version, with this nonce and these resources
+abbrev pub ResponseIsOf : List ℕ → List ℕ → List AnyMessage → List ℕ → Type 0
+ResponseIsOf version nonce resources bytes = ResponseWritten (record {
+  version_info = version;
+  resources = resources;
+  type_url = extension_type;
+  nonce = nonce;
+}) bytes
+
+abbrev pub served_view : Served → ServedValue
+served_view s = record {
+  current = s.current;
+  sent = s.sent;
+  last = s.last;
+  acknowledged = s.acknowledged;
+}
+
+-- what a control is
+abbrev pub control_view : Control → ControlValue
+control_view c = record {
+  snapshots = snapshots_view c.snapshots.items;
+  stream = c.stream;
+  served = served_view c.served;
+}
+
+-- what a request is; all others are ignored
+abbrev pub IsKind : ServedValue → RequestMessage → Kind → Type 0
+IsKind old request Kind.First = IsFirst old request
+IsKind old request Kind.Ack = IsAck old request
+IsKind old request Kind.Nack = IsNack old request
+IsKind old request Kind.Ignored =
+    (IsFirst old request → ⊥) × (IsAck old request → ⊥) × (IsNack old request → ⊥)
+
+-- replies are put behind those that were there
+abbrev pub AddsReplies : (List ℕ → Type 0) → List ℕ → List ℕ → Type 0
+AddsReplies Are before after = (added : List ℕ) × Are added × (after ≡ before ++ added)
+
+-- a request is served, and the replies stand behind those that were there
+abbrev pub IsServed : List (List ResourceValue) → RequestMessage → ServedValue → List ℕ → List ℕ → ServedValue
+    → Bool → Type 0
+IsServed snapshots request old before after new ends = (numbers : List ℕ)
+    × AddsReplies (λ added. Serves snapshots request old added numbers new ends) before after
+
+-- a message is served where it is a request
+pub data MessageIsServed (snapshots : List (List ResourceValue)) (message : List ℕ) (old : ServedValue)
+    (before after : List ℕ) (new : ServedValue) (ends : Bool) : Type 0 where
+  a_request : (request : RequestMessage) → IsRequest message request
+      → IsServed snapshots request old before after new ends
+      → MessageIsServed snapshots message old before after new ends
+  no_request : IsNoRequest message old [] [] new ends → after ≡ before
+      → MessageIsServed snapshots message old before after new ends

@@ -1,0 +1,85 @@
+//! The control plane's end of the update stream.
+
+ghost use Rattle.std.specs.Prelude.{◌≡◌, ℕ, List, IfOk, OnErr};
+
+use crate::client::Fed;
+use crate::serving::Served;
+use crate::snapshot::Snapshot;
+use crate::stream::{Stream, served_by};
+use std::alloc::{AllocError, Global};
+
+/// A control plane that serves snapshots to one client, one after the other, each as it is answered (xDS, state of the
+/// world). It has no socket: bytes of the stream go in, and bytes to send come out.
+#[derive(Debug, Drop)]
+pub struct Control {
+    alloc: Global,
+    snapshots: Vec<Snapshot>,
+    stream: Option<Stream>,
+    served: Served,
+}
+
+impl Control {
+    ghost use Rattle.ads.specs.Control.{ServesBytes, new_control, stream_lost};
+    ghost use Rattle.ads.specs.steps.Serving.{control_view, snapshots_view};
+
+    /// A control plane of these snapshots, numbered from 1, of which nothing was asked. It takes no memory.
+    pub fn new(alloc: Global, snapshots: Vec<Snapshot>) -> Control
+        ensures { control_view result ≡ new_control (snapshots_view snapshots.items) }
+    {
+        Control {
+            alloc,
+            snapshots,
+            stream: Some(Stream::new(alloc)),
+            served: Served {
+                current: 1,
+                sent: 0,
+                last: None,
+                acknowledged: None,
+            },
+        }
+    }
+
+    /// The stream gives bytes. Each request that they complete is served, in order. A broken frame, a message that is
+    /// no request, and a response that is too long or has no number of 64 bits end the stream: from then on nothing is
+    /// sent until it is `lost`. After an error all is as before the call.
+    pub fn feed(&mut self, bytes: &[u8]) -> Result<Fed, AllocError>
+        ensures found { IfOk result (λ fed. (numbers : List ℕ)
+            × ServesBytes (control_view self.old) bytes.now fed.replies.items fed.broken numbers
+            (control_view self.new)) }
+        ensures fault { OnErr result (control_view self.new ≡ control_view self.old) }
+    {
+        let Some(stream) = &self.stream else {
+            return Ok(Fed {
+                replies: Vec::new(self.alloc),
+                broken: true,
+            });
+        };
+        let (served, replies, stream) = served_by(
+            self.alloc,
+            &self.snapshots,
+            self.served,
+            stream,
+            bytes,
+        )?;
+        let broken = stream.is_none();
+        self.stream = stream;
+        self.served = served;
+        Ok(Fed { replies, broken })
+    }
+
+    /// The stream is lost, and the next one begins: its unfinished bytes are forgotten. What was acknowledged stays, and
+    /// the current snapshot is sent again. It takes no memory.
+    pub fn lost(&mut self)
+        ensures { control_view self.new ≡ stream_lost (control_view self.old) }
+    {
+        self.stream = Some(Stream::new(self.alloc));
+        self.served.last = None;
+    }
+
+    /// The number of the snapshot that was acknowledged last. It takes no memory.
+    pub fn acknowledged(&self) -> Option<u64>
+        ensures { result ≡ (control_view self.now).served.acknowledged }
+    {
+        self.served.acknowledged
+    }
+}

@@ -1,0 +1,199 @@
+//! The serving of the requests of a stream, in order.
+
+ghost use Rattle.std.specs.Prelude.{◌≡◌, ◌≢◌, ◌++◌, ℕ, false, [], List, decimal, IfOk, MatchBool, MatchOption};
+ghost use Rattle.xds_wire.specs.View.{request_view, texts_view};
+ghost use Rattle.ads.specs.Control.{AreServed, Sends, Advances, IsSnapshot, ResourceValue};
+ghost use Rattle.ads.specs.steps.Serving.{snapshot_view, snapshots_view, served_view, IsKind, AddsReplies, IsServed, MessageIsServed};
+
+use crate::answer::is_memory;
+use crate::judging::EXTENSION_TYPE;
+use crate::response::{decimal_text, response_bytes};
+use crate::snapshot::Snapshot;
+use crate::stream::MOST_BYTES;
+use std::alloc::{AllocError, Global};
+use xds_wire::{DiscoveryRequest, Frames, read_request, write_frame};
+
+/// What was served: the current snapshot's number, how many responses were sent, the last of them on this stream, and
+/// the number that was acknowledged last.
+#[derive(Clone, Copy, Debug)]
+pub(crate) struct Served {
+    pub(crate) current: usize,
+    pub(crate) sent: u64,
+    pub(crate) last: Option<u64>,
+    pub(crate) acknowledged: Option<u64>,
+}
+
+/// What a request is.
+#[derive(Clone, Copy, Debug)]
+pub(crate) enum Kind {
+    /// The first one of a stream.
+    First,
+    /// It accepts the last response.
+    Ack,
+    /// It refuses the last response.
+    Nack,
+    /// Nothing is done with it.
+    Ignored,
+}
+
+/// Serves the messages that have come whole, up to one that ends the stream; tells whether one does.
+pub(crate) fn serve_all(
+    alloc: Global,
+    snapshots: &[Snapshot],
+    served: &mut Served,
+    replies: &mut Vec<u8>,
+    frames: &mut Frames,
+) -> Result<bool, AllocError>
+    ensures served { IfOk result (λ ends. (numbers : List ℕ) × AddsReplies
+        (λ added. AreServed (snapshots_view snapshots.now) (served_view served.old) frames.old.messages added
+        numbers (served_view served.new) ends) replies.old.items replies.new.items) }
+    ensures frames { (frames.new.max ≡ frames.old.max) × (frames.new.tail ≡ frames.old.tail) }
+    ensures taken { IfOk result (λ ends. ends ≡ false → frames.new.messages ≡ []) }
+{
+    while let Some(message) = frames.next() {
+        if serve(alloc, snapshots, served, replies, message.as_slice())? {
+            return Ok(true);
+        }
+    }
+    Ok(false)
+}
+
+/// Serves a message; tells whether it ends the stream, as one that is no request does.
+fn serve(
+    alloc: Global,
+    snapshots: &[Snapshot],
+    served: &mut Served,
+    replies: &mut Vec<u8>,
+    message: &[u8],
+) -> Result<bool, AllocError>
+    ensures { IfOk result (MessageIsServed (snapshots_view snapshots.now) message.now (served_view served.old)
+        replies.old.items replies.new.items (served_view served.new)) }
+{
+    match read_request(alloc, message) {
+        Ok(request) => serve_request(alloc, snapshots, served, replies, &request),
+        Err(refusal) => {
+            if is_memory(refusal) {
+                return Err(AllocError);
+            }
+            Ok(true)
+        }
+    }
+}
+
+/// Serves a request; tells whether that ends the stream.
+fn serve_request(
+    alloc: Global,
+    snapshots: &[Snapshot],
+    served: &mut Served,
+    replies: &mut Vec<u8>,
+    request: &DiscoveryRequest<'_>,
+) -> Result<bool, AllocError>
+    ensures { IfOk result (IsServed (snapshots_view snapshots.now) (request_view request.now)
+        (served_view served.old) replies.old.items replies.new.items (served_view served.new)) }
+{
+    let names = &request.resource_names;
+    match kind_of(alloc, request, served)? {
+        Kind::First => send(alloc, snapshots, served, replies, names),
+        Kind::Ack => {
+            served.acknowledged = Some(served.current as u64);
+            advance(alloc, snapshots, served, replies, names)
+        }
+        Kind::Nack => advance(alloc, snapshots, served, replies, names),
+        Kind::Ignored => Ok(false),
+    }
+}
+
+/// What a request is, behind what was served.
+fn kind_of(
+    alloc: Global,
+    request: &DiscoveryRequest<'_>,
+    served: &Served,
+) -> Result<Kind, AllocError>
+    ensures { IfOk result (IsKind (served_view served.now) (request_view request.now)) }
+{
+    if request.type_url != EXTENSION_TYPE {
+        return Ok(Kind::Ignored);
+    }
+    let Some(last) = served.last else {
+        if request.response_nonce.is_empty() {
+            return Ok(Kind::First);
+        }
+        return Ok(Kind::Ignored);
+    };
+    if !is_number(alloc, request.response_nonce, last)? {
+        return Ok(Kind::Ignored);
+    }
+    if request.error_detail.is_some() {
+        return Ok(Kind::Nack);
+    }
+    if is_number(alloc, request.version_info, served.current as u64)? {
+        return Ok(Kind::Ack);
+    }
+    Ok(Kind::Ignored)
+}
+
+/// Whether the text is the number in decimal.
+fn is_number(alloc: Global, text: &str, number: u64) -> Result<bool, AllocError>
+    ensures { IfOk result (λ is. MatchBool is (text.now ≡ decimal number) (text.now ≢ decimal number)) }
+{
+    let digits = decimal_text(alloc, number)?;
+    Ok(digits.as_str() == text)
+}
+
+/// Makes the next snapshot, where there is one, the current one and sends it; tells whether that ends the stream.
+fn advance(
+    alloc: Global,
+    snapshots: &[Snapshot],
+    served: &mut Served,
+    replies: &mut Vec<u8>,
+    names: &[&str],
+) -> Result<bool, AllocError>
+    ensures { IfOk result (λ ends. AddsReplies (λ added. Advances (snapshots_view snapshots.now)
+        (texts_view names.now) (served_view served.old) added (served_view served.new) ends)
+        replies.old.items replies.new.items) }
+{
+    if served.current >= snapshots.len() {
+        return Ok(false);
+    }
+    served.current += 1;
+    send(alloc, snapshots, served, replies, names)
+}
+
+/// Sends the current snapshot, where there is one. A response that is too long, or that has no number of 64 bits, is
+/// not sent and ends the stream; tells whether it does.
+fn send(
+    alloc: Global,
+    snapshots: &[Snapshot],
+    served: &mut Served,
+    replies: &mut Vec<u8>,
+    names: &[&str],
+) -> Result<bool, AllocError>
+    ensures { IfOk result (λ ends. AddsReplies (λ added. Sends (snapshots_view snapshots.now)
+        (texts_view names.now) (served_view served.old) added (served_view served.new) ends)
+        replies.old.items replies.new.items) }
+{
+    let Some(snapshot) = snapshot_at(snapshots, served.current) else {
+        return Ok(false);
+    };
+    let Some(count) = served.sent.checked_add(1) else {
+        return Ok(true);
+    };
+    let message = response_bytes(alloc, snapshot, names, served.current, count)?;
+    if message.len() > MOST_BYTES {
+        return Ok(true);
+    }
+    write_frame(&message, replies)?;
+    served.sent = count;
+    served.last = Some(count);
+    Ok(false)
+}
+
+/// The snapshot of this number.
+fn snapshot_at(snapshots: &[Snapshot], number: usize) -> Option<&Snapshot>
+    ensures { MatchOption result
+        ((s : List ResourceValue) → IsSnapshot (snapshots_view snapshots.now) number s → ⊥)
+        (λ s. IsSnapshot (snapshots_view snapshots.now) number (snapshot_view s.now)) }
+{
+    let place = number.checked_sub(1)?;
+    snapshots.get(place)
+}

@@ -1,0 +1,124 @@
+//! Worked cases of the client: what it answers, and what it has accepted then.
+use super::making::{answers, client_of, client_with, policies, resource, response};
+use super::vectors::{ANY_ANY, FIRST_ACK, HALF_BAD_NACK, RESUMED_REQUEST, U, joined};
+use std::alloc::Global;
+use std::process::Abort;
+use std::test::Fail;
+
+/// A filter without policies.
+const NO_POLICIES: &[u8] = b"\x0a\x00";
+
+/// A response that gives `f` a filter, and `g` one with an unknown field.
+fn half_bad(alloc: Global) -> Result<Vec<u8>, Fail> {
+    let good = resource(alloc, "f", NO_POLICIES)?;
+    let bad = resource(alloc, "g", b"\x22\x00")?;
+    response(alloc, "2", "n2", &[&good, &bad])
+}
+
+#[test]
+fn half_bad_nack(rt: HostRuntime) -> Result<(), Fail> {
+    let alloc = rt.alloc();
+    let mut client = client_with(alloc, &["f", "g"], ANY_ANY)?;
+    let half_bad = half_bad(alloc)?;
+    answers(&rt, alloc, &mut client, &half_bad, HALF_BAD_NACK)
+}
+
+#[test]
+fn half_bad_response(rt: HostRuntime) -> Result<(), Fail> {
+    let alloc = rt.alloc();
+    let mut client = client_with(alloc, &["f", "g"], ANY_ANY)?;
+    let generation = client.generation();
+    client.feed(&half_bad(alloc)?)?;
+    assert_eq!(rt; policies(&client, "f"), Some(1));
+    assert_eq!(rt; policies(&client, "g"), Some(1));
+    assert_eq!(rt; client.generation(), generation);
+    Ok(())
+}
+
+/// The stream is lost when this many bytes of a second response came; its bytes are forgotten.
+fn lost_after(rt: &impl Abort, alloc: Global, count: usize) -> Result<(), Fail> {
+    let mut client = client_with(alloc, &["f"], ANY_ANY)?;
+    let filter = resource(alloc, "f", NO_POLICIES)?;
+    let second = response(alloc, "2", "n2", &[&filter])?;
+    let fed = client.feed(second.get(..count).unwrap_or(&[]))?;
+    assert!(rt; !fed.broken && fed.replies.is_empty());
+    client.lost();
+    assert!(rt; client.connected()? == joined(alloc, RESUMED_REQUEST)?);
+    client.feed(&second)?;
+    assert_eq!(rt; policies(&client, "f"), Some(0));
+    Ok(())
+}
+
+#[test]
+fn lost_mid_response(rt: HostRuntime) -> Result<(), Fail> {
+    let alloc = rt.alloc();
+    lost_after(&rt, alloc, 0)?;
+    lost_after(&rt, alloc, 4)?;
+    lost_after(&rt, alloc, 80)
+}
+
+#[test]
+fn empty_response(rt: HostRuntime) -> Result<(), Fail> {
+    let alloc = rt.alloc();
+    let mut client = client_with(alloc, &["f"], ANY_ANY)?;
+    let empty = response(alloc, "1", "n1", &[])?;
+    answers(&rt, alloc, &mut client, &empty, FIRST_ACK)?;
+    assert_eq!(rt; policies(&client, "f"), Some(1));
+    assert_eq!(rt; client.generation(), 2);
+    Ok(())
+}
+
+/// A name that was not asked for is ignored, also twice.
+#[test]
+fn names_not_asked_for(rt: HostRuntime) -> Result<(), Fail> {
+    let alloc = rt.alloc();
+    let mut client = client_of(alloc, &["f"])?;
+    client.connected()?;
+    let other = resource(alloc, "x", b"\x22\x00")?;
+    let filter = resource(alloc, "f", ANY_ANY)?;
+    let all = response(alloc, "1", "n1", &[&other, &filter, &other])?;
+    answers(&rt, alloc, &mut client, &all, FIRST_ACK)?;
+    assert_eq!(rt; policies(&client, "f"), Some(1));
+    assert_eq!(rt; policies(&client, "x"), None);
+    Ok(())
+}
+
+/// The refusal of a response with nonce `n2` for `f`, after version `1`, with this number.
+fn refuses(rt: &impl Abort, alloc: Global, response: &[u8], number: &[u8]) -> Result<(), Fail> {
+    let mut client = client_with(alloc, &["f"], ANY_ANY)?;
+    let nack: &[&[u8]] = &[
+        b"\x00\x00\x00\x00\x61\x0a\x01\x31\x1a\x01\x66\x22\x3d",
+        U,
+        b"\x2a\x02\x6e\x32\x32\x16\x08\x03\x12\x12",
+        b"policy refused: ",
+        number,
+    ];
+    answers(rt, alloc, &mut client, response, nack)?;
+    assert_eq!(rt; policies(&client, "f"), Some(1));
+    assert_eq!(rt; client.generation(), 1);
+    Ok(())
+}
+
+#[test]
+fn doubled_names(rt: HostRuntime) -> Result<(), Fail> {
+    let alloc = rt.alloc();
+    let filter = resource(alloc, "f", ANY_ANY)?;
+    let twice = response(alloc, "4", "n2", &[&filter, &filter])?;
+    refuses(&rt, alloc, &twice, b"16")
+}
+
+/// The response's type is another.
+#[test]
+fn wrong_types(rt: HostRuntime) -> Result<(), Fail> {
+    let alloc = rt.alloc();
+    let bytes = b"\x00\x00\x00\x00\x0a\x0a\x01\x33\x22\x01\x78\x2a\x02\x6e\x32";
+    refuses(&rt, alloc, bytes, b"17")
+}
+
+/// A resource without a configuration.
+#[test]
+fn no_configuration(rt: HostRuntime) -> Result<(), Fail> {
+    let alloc = rt.alloc();
+    let bare = response(alloc, "3", "n2", &[b"\x0a\x01\x66"])?;
+    refuses(&rt, alloc, &bare, b"17")
+}

@@ -1,0 +1,42 @@
+//! A client over bytes.
+use super::making::{client_of, policies, resource, response};
+use super::vectors::{ANY_ANY, FIRST_ACK, FIRST_REQUEST, RESUMED_REQUEST, joined};
+use std::alloc::Global;
+use std::process::Abort;
+use std::test::Fail;
+
+/// A stream of a client that has accepted a filter breaks, and the filter stays.
+fn breaks(rt: &impl Abort, alloc: Global, bytes: &[u8]) -> Result<(), Fail> {
+    let mut client = client_of(alloc, &["f"])?;
+    client.connected()?;
+    let filter = resource(alloc, "f", ANY_ANY)?;
+    let mut all = response(alloc, "1", "n1", &[&filter])?;
+    all.extend_from_slice(bytes)?;
+    let fed = client.feed(&all)?;
+    assert!(rt; fed.broken);
+    assert!(rt; fed.replies == joined(alloc, FIRST_ACK)?);
+    assert_eq!(rt; policies(&client, "f"), Some(1));
+    let fed = client.feed(&all)?;
+    assert!(rt; fed.broken);
+    assert!(rt; fed.replies.is_empty());
+    Ok(())
+}
+
+#[test]
+fn broken_streams(rt: HostRuntime) -> Result<(), Fail> {
+    let alloc = rt.alloc();
+    breaks(&rt, alloc, b"\x01\x00\x00\x00\x00")?;
+    breaks(&rt, alloc, b"\x00\x00\x10\x00\x01")?;
+    breaks(&rt, alloc, b"\x00\x00\x00\x00\x01\x0a")
+}
+
+#[test]
+fn first_requests(rt: HostRuntime) -> Result<(), Fail> {
+    let alloc = rt.alloc();
+    let mut client = client_of(alloc, &["f"])?;
+    assert!(rt; client.connected()? == joined(alloc, FIRST_REQUEST)?);
+    client.feed(&response(alloc, "1", "n1", &[])?)?;
+    assert_eq!(rt; client.generation(), 1);
+    assert!(rt; client.connected()? == joined(alloc, RESUMED_REQUEST)?);
+    Ok(())
+}

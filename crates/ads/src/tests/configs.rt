@@ -1,0 +1,55 @@
+//! Configurations and their faults.
+use super::making::config_of;
+use crate::ConfigFault;
+use std::test::Fail;
+
+/// Names, a budget, and the fault of a configuration with both.
+const FAULTS: [(&[&str], u64, Option<ConfigFault>); 7] = [
+    (&[], 1, Some(ConfigFault::NoFilter)),
+    (&["a", "b", "c", "d", "e", "f", "g", "h"], 1, None),
+    (
+        &["a", "b", "c", "d", "e", "f", "g", "h", "i"],
+        1,
+        Some(ConfigFault::TooManyFilters),
+    ),
+    (&["a", "b", "a"], 1, Some(ConfigFault::DoubledName)),
+    (&["a", ""], 1, Some(ConfigFault::BadName)),
+    (&["a"], 0, Some(ConfigFault::BadBudget)),
+    (&["a"], 100_000_001, Some(ConfigFault::BadBudget)),
+];
+
+#[test]
+fn faults(rt: HostRuntime) -> Result<(), Fail> {
+    let alloc = rt.alloc();
+    for (names, budget, fault) in &FAULTS {
+        let config = config_of(alloc, "n", names, *budget)?;
+        assert_eq!(rt; config.err(), *fault);
+    }
+    Ok(())
+}
+
+/// A text of so many bytes.
+fn long(alloc: std::alloc::Global, count: usize) -> Result<String, Fail> {
+    let mut text = String::new(alloc);
+    for _ in 0..count {
+        text.push('a')?;
+    }
+    Ok(text)
+}
+
+#[test]
+fn long_names(rt: HostRuntime) -> Result<(), Fail> {
+    let alloc = rt.alloc();
+    let fits = long(alloc, 256)?;
+    assert!(rt; config_of(alloc, &fits, &[&fits], 100_000_000)?.is_ok());
+    let more = long(alloc, 257)?;
+    assert_eq!(rt;
+        config_of(alloc, "n", &[&more], 1)?.err(),
+        Some(ConfigFault::BadName)
+    );
+    assert_eq!(rt;
+        config_of(alloc, &more, &["f"], 1)?.err(),
+        Some(ConfigFault::BadName)
+    );
+    Ok(())
+}

@@ -1,0 +1,96 @@
+//! A control plane of two snapshots over bytes: the first gives `f` the filter with a condition, the second the other.
+use super::making::{control_of, sends};
+use super::vectors::{ANY_ANY, FIRST_REQUEST, R, RESUMED_REQUEST, TRUE_AND_TRUE, U};
+use crate::Control;
+use std::alloc::Global;
+use std::process::Abort;
+use std::test::Fail;
+
+/// The first snapshot with this nonce, a digit.
+const FIRST: &[&[u8]] = &[
+    b"\x00\x00\x00\x00\xff\x0a\x01\x31\x12\xb7\x01\x0a\x3d",
+    U,
+    b"\x12\x76\x0a\x01\x66\x12\x71\x0a\x3e",
+    R,
+    b"\x12\x2f",
+    TRUE_AND_TRUE,
+    b"\x22\x3d",
+    U,
+    b"\x2a\x01\x31",
+];
+
+/// Its acknowledgement.
+const ACK: &[&[u8]] = &[
+    b"\x00\x00\x00\x00\x48\x0a\x01\x31\x1a\x01\x66\x22\x3d",
+    U,
+    b"\x2a\x01\x31",
+];
+
+/// The second snapshot with nonce `2`.
+const SECOND: &[&[u8]] = &[
+    b"\x00\x00\x00\x00\xe1\x0a\x01\x32\x12\x99\x01\x0a\x3d",
+    U,
+    b"\x12\x58\x0a\x01\x66\x12\x53\x0a\x3e",
+    R,
+    b"\x12\x11",
+    ANY_ANY,
+    b"\x22\x3d",
+    U,
+    b"\x2a\x01\x32",
+];
+
+/// The same with nonce `3`.
+const SECOND_AGAIN: &[&[u8]] = &[
+    b"\x00\x00\x00\x00\xe1\x0a\x01\x32\x12\x99\x01\x0a\x3d",
+    U,
+    b"\x12\x58\x0a\x01\x66\x12\x53\x0a\x3e",
+    R,
+    b"\x12\x11",
+    ANY_ANY,
+    b"\x22\x3d",
+    U,
+    b"\x2a\x01\x33",
+];
+
+/// Its refusal after version `1`, with an error of no bytes.
+const NACK: &[&[u8]] = &[
+    b"\x00\x00\x00\x00\x4a\x0a\x01\x31\x1a\x01\x66\x22\x3d",
+    U,
+    b"\x2a\x01\x33\x32\x00",
+];
+
+/// The control plane, after its first snapshot was sent and acknowledged.
+fn acknowledged(rt: &impl Abort, alloc: Global) -> Result<Control, Fail> {
+    let mut control = control_of(alloc, "f", &[TRUE_AND_TRUE, ANY_ANY])?;
+    sends(rt, alloc, &mut control, FIRST_REQUEST, FIRST)?;
+    assert_eq!(rt; control.acknowledged(), None);
+    sends(rt, alloc, &mut control, ACK, SECOND)?;
+    Ok(control)
+}
+
+#[test]
+fn serves_the_next(rt: HostRuntime) -> Result<(), Fail> {
+    let alloc = rt.alloc();
+    let control = acknowledged(&rt, alloc)?;
+    assert_eq!(rt; control.acknowledged(), Some(1));
+    Ok(())
+}
+
+#[test]
+fn ignores_a_stale_one(rt: HostRuntime) -> Result<(), Fail> {
+    let alloc = rt.alloc();
+    let mut control = acknowledged(&rt, alloc)?;
+    sends(&rt, alloc, &mut control, ACK, &[])?;
+    sends(&rt, alloc, &mut control, FIRST_REQUEST, &[])
+}
+
+#[test]
+fn sends_again_after_a_loss(rt: HostRuntime) -> Result<(), Fail> {
+    let alloc = rt.alloc();
+    let mut control = acknowledged(&rt, alloc)?;
+    control.lost();
+    sends(&rt, alloc, &mut control, RESUMED_REQUEST, SECOND_AGAIN)?;
+    sends(&rt, alloc, &mut control, NACK, &[])?;
+    assert_eq!(rt; control.acknowledged(), Some(1));
+    Ok(())
+}

@@ -1,0 +1,138 @@
+//! Clients, control planes and responses for tests.
+use super::vectors::{EXTENSION_TYPE, FILTER_TYPE, joined};
+use crate::{Client, Config, ConfigFault, Control, Filter, Resource, Snapshot};
+use attributes::Limits;
+use std::alloc::Global;
+use std::process::Abort;
+use std::test::Fail;
+use xds_wire::{
+    Any, DiscoveryResponse, TypedExtensionConfig, write_extension, write_frame, write_response,
+};
+
+/// What a configuration of this node, and of filters with these names and this budget, answers.
+pub fn config_of(
+    alloc: Global,
+    node: &str,
+    names: &[&str],
+    budget: u64,
+) -> Result<Result<Config, ConfigFault>, Fail> {
+    let mut filters = Vec::new(alloc);
+    for name in names {
+        let name = String::from_str(alloc, name)?;
+        filters.push(Filter { name, budget })?;
+    }
+    let limits = Limits::new(64, 128, 4096, 32, 4096, 1024)?;
+    let node = String::from_str(alloc, node)?;
+    let cluster = String::from_str(alloc, "c")?;
+    Ok(Config::new(alloc, node, cluster, filters, limits))
+}
+
+/// A client for these names.
+pub fn client_of(alloc: Global, names: &[&str]) -> Result<Client, Fail> {
+    let config = config_of(alloc, "n", names, 1_000_000)??;
+    Ok(Client::new(alloc, &config)?)
+}
+
+/// The resource that gives a name this filter.
+pub fn resource(alloc: Global, name: &str, filter: &[u8]) -> Result<Vec<u8>, Fail> {
+    let extension = TypedExtensionConfig {
+        name,
+        typed_config: Some(Any {
+            type_url: FILTER_TYPE,
+            value: filter,
+        }),
+    };
+    let mut bytes = Vec::new(alloc);
+    write_extension(&extension, &mut bytes)?;
+    Ok(bytes)
+}
+
+/// The frame of a response with these resources.
+pub fn response(
+    alloc: Global,
+    version: &str,
+    nonce: &str,
+    resources: &[&[u8]],
+) -> Result<Vec<u8>, Fail> {
+    let mut each = Vec::new(alloc);
+    for value in resources {
+        each.push(Any {
+            type_url: EXTENSION_TYPE,
+            value: *value,
+        })?;
+    }
+    let response = DiscoveryResponse {
+        version_info: version,
+        resources: each,
+        type_url: EXTENSION_TYPE,
+        nonce,
+    };
+    let mut message = Vec::new(alloc);
+    write_response(&response, &mut message)?;
+    if message.len() > 100_000_000 {
+        return Err(Fail::from("a message too long for a test"));
+    }
+    let mut frame = Vec::new(alloc);
+    write_frame(&message, &mut frame)?;
+    Ok(frame)
+}
+
+/// How many policies the filter of this name has.
+pub fn policies(client: &Client, name: &str) -> Option<usize> {
+    match client.current(name) {
+        Some(admitted) => Some(admitted.policies()),
+        None => None,
+    }
+}
+
+/// A client whose stream is up, and which has accepted this filter for each of its names as version `1`.
+pub fn client_with(alloc: Global, names: &[&str], filter: &[u8]) -> Result<Client, Fail> {
+    let mut client = client_of(alloc, names)?;
+    client.connected()?;
+    for name in names {
+        let resource = resource(alloc, name, filter)?;
+        client.feed(&response(alloc, "1", "n1", &[&resource])?)?;
+    }
+    Ok(client)
+}
+
+/// The client answers the response with these bytes, and its stream stays up.
+pub fn answers(
+    rt: &impl Abort,
+    alloc: Global,
+    client: &mut Client,
+    response: &[u8],
+    reply: &[&[u8]],
+) -> Result<(), Fail> {
+    let fed = client.feed(response)?;
+    assert!(rt; !fed.broken);
+    assert!(rt; fed.replies == joined(alloc, reply)?);
+    Ok(())
+}
+
+/// A control plane of snapshots that each give this name one of the filters.
+pub fn control_of(alloc: Global, name: &str, filters: &[&[u8]]) -> Result<Control, Fail> {
+    let mut snapshots = Vec::new(alloc);
+    for filter in filters {
+        let name = String::from_str(alloc, name)?;
+        let filter = Vec::from_slice(alloc, filter)?;
+        let mut resources = Vec::new(alloc);
+        resources.push(Resource { name, filter })?;
+        snapshots.push(Snapshot { resources })?;
+    }
+    Ok(Control::new(alloc, snapshots))
+}
+
+/// The control plane sends these bytes for a request, and its stream is not broken.
+pub fn sends(
+    rt: &impl Abort,
+    alloc: Global,
+    control: &mut Control,
+    request: &[&[u8]],
+    reply: &[&[u8]],
+) -> Result<(), Fail> {
+    let fed = control.feed(&joined(alloc, request)?)?;
+    assert!(rt; !fed.broken);
+    assert!(rt; fed.replies == joined(alloc, reply)?);
+    Ok(())
+}

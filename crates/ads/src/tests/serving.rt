@@ -1,0 +1,104 @@
+//! Streams of a control plane that ask for nothing, in pieces, or badly.
+use super::making::{control_of, sends};
+use super::vectors::{ANY_ANY, FIRST_REQUEST, RESUMED_REQUEST, U, joined};
+use std::alloc::Global;
+use std::process::Abort;
+use std::test::Fail;
+
+/// The first snapshot, where `f` has no filter in it, with nonce `1`.
+const NOTHING: &[&[u8]] = &[
+    b"\x00\x00\x00\x00\x45\x0a\x01\x31\x22\x3d",
+    U,
+    b"\x2a\x01\x31",
+];
+
+/// Requests to which nothing is sent: of another type, and with a nonce that no response had.
+const OTHERS: [&[&[u8]]; 4] = [
+    &[b"\x00\x00\x00\x00\x00"],
+    &[b"\x00\x00\x00\x00\x06\x1a\x01\x66\x22\x01\x78"],
+    &[
+        b"\x00\x00\x00\x00\x45\x1a\x01\x66\x22\x3d",
+        U,
+        b"\x2a\x01\x31",
+    ],
+    &[b"\x00\x00\x00\x00\x44\x22\x3d", U, b"\x2a\x01\x32\x32\x00"],
+];
+
+#[test]
+fn names_that_are_not_there(rt: HostRuntime) -> Result<(), Fail> {
+    let alloc = rt.alloc();
+    let mut control = control_of(alloc, "g", &[ANY_ANY])?;
+    sends(&rt, alloc, &mut control, FIRST_REQUEST, NOTHING)
+}
+
+#[test]
+fn no_snapshots(rt: HostRuntime) -> Result<(), Fail> {
+    let alloc = rt.alloc();
+    let mut control = control_of(alloc, "f", &[])?;
+    sends(&rt, alloc, &mut control, FIRST_REQUEST, &[])?;
+    assert_eq!(rt; control.acknowledged(), None);
+    Ok(())
+}
+
+/// Readable requests before the first one are ignored.
+#[test]
+fn requests_before_the_first(rt: HostRuntime) -> Result<(), Fail> {
+    let alloc = rt.alloc();
+    let mut control = control_of(alloc, "g", &[ANY_ANY])?;
+    for other in &OTHERS {
+        let fed = control.feed(&joined(alloc, other)?)?;
+        assert!(rt; fed.replies.is_empty() && !fed.broken);
+    }
+    sends(&rt, alloc, &mut control, FIRST_REQUEST, NOTHING)
+}
+
+#[test]
+fn a_request_in_bytes(rt: HostRuntime) -> Result<(), Fail> {
+    let alloc = rt.alloc();
+    let mut control = control_of(alloc, "g", &[ANY_ANY])?;
+    let mut replies = Vec::new(alloc);
+    let request = joined(alloc, RESUMED_REQUEST)?;
+    for byte in &request {
+        let fed = control.feed(&[*byte])?;
+        assert!(rt; !fed.broken);
+        replies.extend_from_slice(&fed.replies)?;
+    }
+    assert!(rt; replies == joined(alloc, NOTHING)?);
+    Ok(())
+}
+
+/// A first request and then these bytes break the stream, and it stays so until it is lost.
+fn breaks(rt: &impl Abort, alloc: Global, bytes: &[u8]) -> Result<(), Fail> {
+    let mut control = control_of(alloc, "g", &[ANY_ANY])?;
+    let mut all = joined(alloc, FIRST_REQUEST)?;
+    all.extend_from_slice(bytes)?;
+    let fed = control.feed(&all)?;
+    assert!(rt; fed.broken && fed.replies == joined(alloc, NOTHING)?);
+    let fed = control.feed(&all)?;
+    assert!(rt; fed.broken && fed.replies.is_empty());
+    control.lost();
+    assert!(rt; !control.feed(b"")?.broken);
+    Ok(())
+}
+
+#[test]
+fn broken_streams(rt: HostRuntime) -> Result<(), Fail> {
+    let alloc = rt.alloc();
+    breaks(&rt, alloc, b"\x01")?;
+    breaks(&rt, alloc, b"\x00\x00\x10\x00\x01")?;
+    breaks(&rt, alloc, b"\x00\x00\x00\x00\x01\x0a")
+}
+
+/// A response longer than a message may be is not sent, and ends the stream.
+#[test]
+fn too_long_a_response(rt: HostRuntime) -> Result<(), Fail> {
+    let alloc = rt.alloc();
+    let mut filter = Vec::new(alloc);
+    for _ in 0..1_048_576 {
+        filter.push(0)?;
+    }
+    let mut control = control_of(alloc, "f", &[&filter])?;
+    let fed = control.feed(&joined(alloc, FIRST_REQUEST)?)?;
+    assert!(rt; fed.broken && fed.replies.is_empty());
+    Ok(())
+}

@@ -1,0 +1,56 @@
+//! Bytes of the update stream, written by hand from the encoding guide: each as the pieces that it is made of.
+use std::alloc::{AllocError, Global};
+
+/// The type of the resources.
+pub const EXTENSION_TYPE: &str = "type.googleapis.com/envoy.config.core.v3.TypedExtensionConfig";
+
+/// The type of the filter in a resource.
+pub const FILTER_TYPE: &str = "type.googleapis.com/envoy.extensions.filters.http.rbac.v3.RBAC";
+
+/// The bytes of both.
+pub const U: &[u8] = b"type.googleapis.com/envoy.config.core.v3.TypedExtensionConfig";
+
+pub const R: &[u8] = b"type.googleapis.com/envoy.extensions.filters.http.rbac.v3.RBAC";
+
+/// A filter that lets all through by its one policy.
+pub const ANY_ANY: &[u8] = b"\x0a\x0f\x12\x0d\x0a\x01\x70\x12\x08\x0a\x02\x18\x01\x12\x02\x18\x01";
+
+/// A filter with the condition `true && true`.
+pub const TRUE_AND_TRUE: &[u8] =
+    b"\x0a\x2d\x12\x2b\x0a\x01\x70\x12\x26\x0a\x02\x18\x01\x12\x02\x18\x01\x22\x1c\x22\x1a\x10\x02\x32\x16\x12\x04\x5f\x26\x26\x5f\x1a\x06\x10\x01\x1a\x02\x10\x01\x1a\x06\x10\x03\x1a\x02\x10\x01";
+
+/// The first request of node `n` in cluster `c` for `f`.
+pub const FIRST_REQUEST: &[&[u8]] = &[
+    b"\x00\x00\x00\x00\x4a\x12\x06\x0a\x01\x6e\x12\x01\x63\x1a\x01\x66\x22\x3d",
+    U,
+];
+
+/// The first request of a later stream, once version `1` was accepted.
+pub const RESUMED_REQUEST: &[&[u8]] = &[
+    b"\x00\x00\x00\x00\x4d\x0a\x01\x31\x12\x06\x0a\x01\x6e\x12\x01\x63\x1a\x01\x66\x22\x3d",
+    U,
+];
+
+/// The acknowledgement of version `1` and nonce `n1`.
+pub const FIRST_ACK: &[&[u8]] = &[
+    b"\x00\x00\x00\x00\x49\x0a\x01\x31\x1a\x01\x66\x22\x3d",
+    U,
+    b"\x2a\x02\x6e\x31",
+];
+
+/// The refusal, after version `1`, of a response for `f` and `g` with nonce `n2`.
+pub const HALF_BAD_NACK: &[&[u8]] = &[
+    b"\x00\x00\x00\x00\x63\x0a\x01\x31\x1a\x01\x66\x1a\x01\x67\x22\x3d",
+    U,
+    b"\x2a\x02\x6e\x32\x32\x15\x08\x03\x12\x11",
+    b"policy refused: 3",
+];
+
+/// The pieces in one.
+pub fn joined(alloc: Global, pieces: &[&[u8]]) -> Result<Vec<u8>, AllocError> {
+    let mut bytes = Vec::new(alloc);
+    for piece in pieces {
+        bytes.extend_from_slice(piece)?;
+    }
+    Ok(bytes)
+}

@@ -1,0 +1,22 @@
+//! Laws of sizes and costs.
+
+ghost use Rattle.std.specs.Prelude.{◌≡◌, List, Some};
+ghost use Rattle.attributes.specs.Limits.{InLimits, LimitsValue};
+ghost use Rattle.attributes.specs.Request.{IsRequest, RequestValue};
+ghost use Rattle.cel_value.specs.Types.{ValueType};
+ghost use Rattle.cel_value.specs.Values.{CelAnswer};
+ghost use Rattle.cel_overload.specs.Answers.{HaveTypes};
+ghost use Rattle.cel_types.specs.Elaborated.{TypedTree};
+ghost use Rattle.cel_types.specs.TypedMeaning.{typed_answer};
+ghost use Rattle.cel_types.specs.WellTyped.{IsWellTyped};
+ghost use Rattle.cost_bound.specs.Costs.{size_of};
+ghost use Rattle.cost_bound.specs.Sizes.{AllWithin, Size, Within};
+
+/// What a well typed expression comes to is within its size, of each request within the limits and
+/// with locals of their types within their sizes.
+pub fn results_are_within_their_size()
+    ensures { (e : TypedTree) (r : RequestValue) (l : LimitsValue) (ks : List ValueType)
+        (ls : List CelAnswer) (sizes : List Size) (a : CelAnswer)
+        → IsWellTyped ks e → IsRequest r → InLimits r l → HaveTypes ls ks → AllWithin ls sizes
+        → typed_answer e r ls ≡ Some a → Within a (size_of e l sizes) }
+{}

@@ -1,0 +1,71 @@
+//! Reading the head that an input begins with, and no more than that.
+ghost use Rattle.std.specs.Prelude.{List, ℕ, IfOk, IfSome, OnOk};
+ghost use Rattle.std.specs.Io.{ReadsAtMost};
+ghost use Rattle.std.specs.Io.KnownBytes.{Consumes, ReadConsumes};
+ghost use Rattle.attributes.specs.Conn.{conn_view};
+ghost use Rattle.rbacd.specs.steps.Reading.{Grows, IsFound, IsJustEnough};
+
+use attributes::{Conn, Limits};
+use http_front::{Ask, read_head};
+use std::alloc::Global;
+use std::io::{self, ErrorKind, Read};
+
+/// One read takes at most so many bytes.
+const CHUNK: usize = 4_096;
+
+/// What the head asks that the input begins with, on this connection; nothing where the input ends
+/// before its head does. It answers after the first read whose bytes decide that, so that an input
+/// which stays open behind its head is not waited for.
+pub(crate) fn read_ask<R: Read>(
+    alloc: Global,
+    limits: &Limits,
+    conn: &Conn,
+    input: &mut R,
+) -> io::Result<Option<Ask>>
+    ensures found { IfOk result (λ found. IfSome (R.remaining input.old) (λ bytes.
+        IsFound limits.now (conn_view conn.now) bytes found)) }
+    ensures no_more { OnOk result ((read : List ℕ)
+        × Consumes (R.remaining input.old) (R.remaining input.new) read × IsJustEnough read) }
+{
+    let mut bytes = Vec::new(alloc);
+    for _ in 0..u64::MAX {
+        match read_head(alloc, &bytes, limits, conn.copy()?)? {
+            Some(ask) => return Ok(Some(ask)),
+            None => {
+                if read_chunk(input, &mut bytes)? == 0 {
+                    return Ok(None);
+                }
+            }
+        }
+    }
+    Err(io::Error::from(ErrorKind::TimedOut))
+}
+
+/// Appends what one read gives; how many bytes. At the end of the input there are none.
+fn read_chunk<R: Read>(input: &mut R, bytes: &mut Vec<u8>) -> io::Result<usize>
+    ensures { IfOk result (Grows bytes.old.items bytes.new.items (R.remaining input.old)
+        (R.remaining input.new)) }
+{
+    let mut room = [0u8; CHUNK];
+    let count = read_some(input, &mut room)?;
+    bytes.extend_from_slice(&room[..count])?;
+    Ok(count)
+}
+
+/// One read, which is tried again where a signal interrupts it.
+fn read_some<R: Read>(input: &mut R, room: &mut [u8]) -> io::Result<usize>
+    ensures bound { ReadsAtMost result room.new }
+    ensures bytes { ReadConsumes (R.remaining input.old) (R.remaining input.new) result room.new }
+{
+    for _ in 0..u64::MAX {
+        match input.read(room) {
+            Ok(count) => return Ok(count),
+            Err(error) => {
+                if error.kind() != ErrorKind::Interrupted {
+                    return Err(error);
+                }
+            }
+        }
+    }
+    Err(io::Error::from(ErrorKind::TimedOut))
+}
