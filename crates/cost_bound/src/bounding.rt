@@ -21,6 +21,6 @@ pub fn bound(alloc: Global, typed: &Typed<'_>, limits: &Limits, budget: u64) -> 
         (e ≡ TooCostly) × (budget < cost_of (typed_view typed.now) limits.now []))) }
 {
     let scope = Vec::new(alloc);
-    let measured = measure(alloc, limits, &scope, &typed.root, budget)?;
+    let measured = measure(alloc, &typed.root, limits, &scope, budget)?;
     Ok(budget - measured.left)
 }

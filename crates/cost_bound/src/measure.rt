@@ -1,14 +1,15 @@
 //! Measuring expressions: how large what they come to may be, and what they cost.
 
-ghost use Rattle.std.specs.Prelude.{◌≡◌, ◌+◌, ◌*◌, ℕ, IfErr, IfOk, length, max};
+ghost use Rattle.std.specs.Prelude.{◌≡◌, ◌+◌, ◌*◌, ℕ, IfErr, IfOk, length};
 ghost use Rattle.proto_wire.specs.Refusal.{MemoryOr};
+ghost use Rattle.cel_overload.specs.declared.overload.Overload.TheVariants.{Conditional};
 ghost use Rattle.cel_types.specs.Elaborated.{kinds, typed_loop};
 ghost use Rattle.cel_types.specs.View.{expr_view, exprs_view, loop_of, parts_view};
 ghost use Rattle.cel_value.specs.Texts.{text_view};
 ghost use Rattle.cel_value.specs.Types.{ValueType};
 ghost use Rattle.cost_bound.specs.Costs.{call_cost, call_size, cost_of, costs_of, field_cost, grown, size_of, sizes_of, total, turns_cost};
 ghost use Rattle.cost_bound.specs.Sizes.{join};
-ghost use Rattle.cost_bound.specs.steps.Measuring.{CostsMore, next_size, turn_cost};
+ghost use Rattle.cost_bound.specs.steps.Measuring.{CostsMore, call_part, next_size, turn_cost};
 ghost use Rattle.cost_bound.specs.steps.SizeView.{scope_view, size_view, sizes_view};
 
 use crate::charges::{call_part, field_part, pay, pay_turns};
@@ -40,9 +41,9 @@ struct MeasuredEach {
 #[cycle(measure)]
 pub(crate) fn measure(
     alloc: Global,
+    expr: &TypedExpr<'_>,
     limits: &Limits,
     scope: &[ValueSize],
-    expr: &TypedExpr<'_>,
     left: u64,
 ) -> Result<Measured, Refusal>
     ensures found { IfOk result (λ m.
@@ -74,14 +75,14 @@ pub(crate) fn measure(
             })
         }
         TypedExpr::Field { map, name, .. } => {
-            let found = measure_field(alloc, limits, scope, map, name, left)?;
+            let found = measure_field(alloc, map, limits, scope, name, left)?;
             Ok(Measured {
                 size: found.size.value()?,
                 left: found.left,
             })
         }
         TypedExpr::HasField { map, name, .. } => {
-            let found = measure_field(alloc, limits, scope, map, name, left)?;
+            let found = measure_field(alloc, map, limits, scope, name, left)?;
             Ok(Measured {
                 size: ValueSize::Flat,
                 left: found.left,
@@ -91,9 +92,9 @@ pub(crate) fn measure(
             overload,
             operands,
             ..
-        } => { measure_call(alloc, limits, scope, *overload, operands, left) }
+        } => { measure_call(alloc, operands, limits, scope, *overload, left) }
         TypedExpr::List { cel_type, elements } => {
-            let found = measure_each(alloc, limits, scope, elements, left)?;
+            let found = measure_each(alloc, elements, limits, scope, left)?;
             let left = pay(found.left, elements.len() as u64)?;
             Ok(Measured {
                 size: list_size(alloc, cel_type, &found.sizes)?,
@@ -101,14 +102,14 @@ pub(crate) fn measure(
             })
         }
         TypedExpr::Map { cel_type, pairs } => {
-            let found = measure_each(alloc, limits, scope, pairs, left)?;
+            let found = measure_each(alloc, pairs, limits, scope, left)?;
             let left = pay(found.left, map_part(&found.sizes))?;
             Ok(Measured {
                 size: map_size(alloc, cel_type, &found.sizes)?,
                 left,
             })
         }
-        TypedExpr::Loop { parts, .. } => measure_loop(alloc, limits, scope, parts, left),
+        TypedExpr::Loop { parts, .. } => measure_loop(alloc, parts, limits, scope, left),
     }
 }
 
@@ -116,9 +117,9 @@ pub(crate) fn measure(
 #[cycle(measure)]
 fn measure_field(
     alloc: Global,
+    map: &TypedExpr<'_>,
     limits: &Limits,
     scope: &[ValueSize],
-    map: &TypedExpr<'_>,
     name: &RcStr,
     left: u64,
 ) -> Result<Measured, Refusal>
@@ -132,7 +133,7 @@ fn measure_field(
         + field_cost (text_view name.now) (size_of (expr_view map.now) limits.now (scope_view scope.now)))
         left)) }
 {
-    let found = measure(alloc, limits, scope, map, left)?;
+    let found = measure(alloc, map, limits, scope, left)?;
     let left = pay(found.left, field_part(name, &found.size))?;
     Ok(Measured {
         size: found.size,
@@ -144,9 +145,9 @@ fn measure_field(
 #[cycle(measure)]
 fn measure_each(
     alloc: Global,
+    exprs: &[TypedExpr<'_>],
     limits: &Limits,
     scope: &[ValueSize],
-    exprs: &[TypedExpr<'_>],
     left: u64,
 ) -> Result<MeasuredEach, Refusal>
     ensures found { IfOk result (λ m.
@@ -158,7 +159,7 @@ fn measure_each(
     let mut sizes = Vec::with_capacity(alloc, exprs.len())?;
     let mut rest = left;
     for expr in exprs {
-        let found = measure(alloc, limits, scope, expr, rest)?;
+        let found = measure(alloc, expr, limits, scope, rest)?;
         sizes.push(found.size)?;
         rest = found.left;
     }
@@ -169,10 +170,10 @@ fn measure_each(
 #[cycle(measure)]
 fn measure_call(
     alloc: Global,
+    operands: &[TypedExpr<'_>],
     limits: &Limits,
     scope: &[ValueSize],
     overload: Overload,
-    operands: &[TypedExpr<'_>],
     left: u64,
 ) -> Result<Measured, Refusal>
     ensures found { IfOk result (λ m. let es = exprs_view operands.now in
@@ -184,12 +185,31 @@ fn measure_call(
         IfErr result (MemoryOr (CostsMore (call_cost overload (kinds es)
         (costs_of es limits.now sizes) (sizes_of es limits.now sizes)) left)) }
 {
-    if overload == Overload::Conditional
-        && let [condition, first, second] = operands
-    {
-        return measure_conditional(alloc, limits, scope, condition, first, second, left);
+    if overload == Overload::Conditional && operands.len() == 3 {
+        return measure_conditional(alloc, operands, limits, scope, left);
     }
-    let found = measure_each(alloc, limits, scope, operands, left)?;
+    measure_operands(alloc, operands, limits, scope, overload, left)
+}
+
+// A call of which each operand is asked for.
+#[cycle(measure)]
+fn measure_operands(
+    alloc: Global,
+    operands: &[TypedExpr<'_>],
+    limits: &Limits,
+    scope: &[ValueSize],
+    overload: Overload,
+    left: u64,
+) -> Result<Measured, Refusal>
+    ensures found { let es = exprs_view operands.now in let sizes = scope_view scope.now in
+        IfOk result (λ m. (size_view m.size ≡ call_size overload (sizes_of es limits.now sizes))
+        × (left ≡ total (costs_of es limits.now sizes)
+        + (1 + call_part overload (kinds es) (sizes_of es limits.now sizes)) + m.left)) }
+    ensures fault { let es = exprs_view operands.now in let sizes = scope_view scope.now in
+        IfErr result (MemoryOr (CostsMore (total (costs_of es limits.now sizes)
+        + (1 + call_part overload (kinds es) (sizes_of es limits.now sizes))) left)) }
+{
+    let found = measure_each(alloc, operands, limits, scope, left)?;
     let left = pay(found.left, call_part(overload, operands, &found.sizes))?;
     Ok(Measured {
         size: call_size(alloc, overload, &found.sizes)?,
@@ -197,45 +217,47 @@ fn measure_call(
     })
 }
 
+// A conditional of three operands.
 #[cycle(measure)]
 fn measure_conditional(
     alloc: Global,
+    operands: &[TypedExpr<'_>],
     limits: &Limits,
     scope: &[ValueSize],
-    condition: &TypedExpr<'_>,
-    first: &TypedExpr<'_>,
-    second: &TypedExpr<'_>,
     left: u64,
 ) -> Result<Measured, Refusal>
-    ensures found { IfOk result (λ m. let sizes = scope_view scope.now in
-        (size_view m.size ≡ join (size_of (expr_view first.now) limits.now sizes)
-        (size_of (expr_view second.now) limits.now sizes))
-        × (left ≡ cost_of (expr_view condition.now) limits.now sizes + 1
-        + max (cost_of (expr_view first.now) limits.now sizes)
-        (cost_of (expr_view second.now) limits.now sizes) + 1 + m.left)) }
-    ensures fault { let sizes = scope_view scope.now in
-        IfErr result (MemoryOr (CostsMore (cost_of (expr_view condition.now) limits.now sizes + 1
-        + max (cost_of (expr_view first.now) limits.now sizes)
-        (cost_of (expr_view second.now) limits.now sizes) + 1) left)) }
+    requires { length operands.now ≡ 3 }
+    ensures found { let es = exprs_view operands.now in let sizes = scope_view scope.now in
+        IfOk result (λ m. (size_view m.size ≡ call_size Conditional (sizes_of es limits.now sizes))
+        × (left ≡ call_cost Conditional (kinds es) (costs_of es limits.now sizes)
+        (sizes_of es limits.now sizes) + m.left)) }
+    ensures fault { let es = exprs_view operands.now in let sizes = scope_view scope.now in
+        IfErr result (MemoryOr (CostsMore (call_cost Conditional (kinds es)
+        (costs_of es limits.now sizes) (sizes_of es limits.now sizes)) left)) }
 {
-    let tested = measure(alloc, limits, scope, condition, left)?;
-    let before = pay(tested.left, 0)?;
-    let one = measure(alloc, limits, scope, first, before)?;
-    let other = measure(alloc, limits, scope, second, before)?;
-    let left = pay(one.left.min(other.left), 0)?;
-    Ok(Measured {
-        size: join(alloc, &one.size, &other.size)?,
-        left,
-    })
+    match operands {
+        [condition, first, second] => {
+            let tested = measure(alloc, condition, limits, scope, left)?;
+            let before = pay(tested.left, 0)?;
+            let one = measure(alloc, first, limits, scope, before)?;
+            let other = measure(alloc, second, limits, scope, before)?;
+            let left = pay(one.left.min(other.left), 0)?;
+            Ok(Measured {
+                size: join(alloc, &one.size, &other.size)?,
+                left,
+            })
+        }
+        _ => unreachable!(),
+    }
 }
 
 // A comprehension: the range, the turns over its elements, and the result.
 #[cycle(measure)]
 fn measure_loop(
     alloc: Global,
+    parts: &TypedLoop<'_>,
     limits: &Limits,
     scope: &[ValueSize],
-    parts: &TypedLoop<'_>,
     left: u64,
 ) -> Result<Measured, Refusal>
     ensures found { (t : ValueType) → IfOk result (λ m.
@@ -244,18 +266,18 @@ fn measure_loop(
     ensures fault { (t : ValueType) → IfErr result (MemoryOr
         (CostsMore (cost_of (loop_of t (parts_view parts.now)) limits.now (scope_view scope.now)) left)) }
 {
-    let range = measure(alloc, limits, scope, &parts.range, left)?;
+    let range = measure(alloc, &parts.range, limits, scope, left)?;
     let opened = pay(range.left, range.size.most())?;
-    let init = measure(alloc, limits, scope, &parts.init, opened)?;
+    let init = measure(alloc, &parts.init, limits, scope, opened)?;
     let stored = pay(init.left, 0)?;
     let element = range.size.element()?;
     let turns = range.size.most();
     let gathered = measure_turns(
-        alloc, limits, scope, parts, &element, turns, init.size, stored,
+        alloc, parts, limits, scope, &element, turns, init.size, stored,
     )?;
     let closed = pay(gathered.left, 0)?;
     let inner = with_local(alloc, scope, &gathered.size)?;
-    measure(alloc, limits, &inner, &parts.result, closed)
+    measure(alloc, &parts.result, limits, &inner, closed)
 }
 
 // So many turns, one after the other, until what is gathered grows no more: then the others cost as
@@ -263,9 +285,9 @@ fn measure_loop(
 #[cycle(measure)]
 fn measure_turns(
     alloc: Global,
+    parts: &TypedLoop<'_>,
     limits: &Limits,
     scope: &[ValueSize],
-    parts: &TypedLoop<'_>,
     element: &ValueSize,
     turns: u64,
     init: ValueSize,
@@ -285,7 +307,7 @@ fn measure_turns(
     let mut rest = left;
     let mut others = turns;
     while others > 0 {
-        let turn = measure_turn(alloc, limits, scope, parts, element, &gathered, rest)?;
+        let turn = measure_turn(alloc, parts, limits, scope, element, &gathered, rest)?;
         others -= 1;
         if same(&turn.size, &gathered) {
             let left = pay_turns(turn.left, others, rest - turn.left)?;
@@ -307,9 +329,9 @@ fn measure_turns(
 #[cycle(measure)]
 fn measure_turn(
     alloc: Global,
+    parts: &TypedLoop<'_>,
     limits: &Limits,
     scope: &[ValueSize],
-    parts: &TypedLoop<'_>,
     element: &ValueSize,
     gathered: &ValueSize,
     left: u64,
@@ -326,8 +348,8 @@ fn measure_turn(
 {
     let outer = with_local(alloc, scope, gathered)?;
     let inner = with_local(alloc, &outer, element)?;
-    let tested = measure(alloc, limits, &inner, &parts.condition, left)?;
-    let step = measure(alloc, limits, &inner, &parts.step, tested.left)?;
+    let tested = measure(alloc, &parts.condition, limits, &inner, left)?;
+    let step = measure(alloc, &parts.step, limits, &inner, tested.left)?;
     let left = pay(step.left, 3)?;
     Ok(Measured {
         size: join(alloc, gathered, &step.size)?,
