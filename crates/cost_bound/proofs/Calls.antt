@@ -51,17 +51,12 @@ charge-some (overloads.TestText test) ts (s ∷ t ∷ u ∷ us) = omega arith
 one-more : (n t : ℕ) → 1 ≤ n → t + n ≡ t + (1 + (n - 1))
 one-more n t h = omega arith
 
--- three operands
-abbrev pub IsThree : {A : Type 0} → List A → Type 0
-IsThree [] = ⊥
-IsThree (a ∷ []) = ⊥
-IsThree (a ∷ b ∷ []) = ⊥
-IsThree (a ∷ b ∷ c ∷ []) = Unit {0}
-IsThree (a ∷ b ∷ c ∷ d ∷ es) = ⊥
+one-at-most : (n : ℕ) → n ≤ 1 + (n - 1)
+one-at-most n = omega arith
 
 -- any call but a conditional of three costs its operands, one, and its part
 pub call-costs : (o : Overload) (ts : List ValueType) (costs : List ℕ) (sizes : List Size)
-    → length costs ≡ length sizes → (o ≡ overloads.Conditional → IsThree costs → ⊥)
+    → length costs ≡ length sizes → (o ≡ overloads.Conditional → length costs ≡ 3 → ⊥)
     → call_cost o ts costs sizes ≡ total costs + (1 + call_part o ts sizes)
 call-costs overloads.LogicalAnd ts [] [] e h = omega arith
 call-costs overloads.LogicalAnd ts [] (s ∷ []) e h = absurd (omega arith)
@@ -99,7 +94,7 @@ call-costs overloads.Conditional ts [] sizes e h = omega arith
 call-costs overloads.Conditional ts (a ∷ []) sizes e h = omega arith
 call-costs overloads.Conditional ts (a ∷ b ∷ []) sizes e h = omega arith
 call-costs overloads.Conditional ts (a ∷ b ∷ c ∷ d ∷ cs) sizes e h = omega arith
-call-costs overloads.Conditional ts (a ∷ b ∷ c ∷ []) sizes e h = absurd (h refl tt)
+call-costs overloads.Conditional ts (a ∷ b ∷ c ∷ []) sizes e h = absurd (h refl (omega arith))
 call-costs overloads.LogicalNot ts costs sizes e h = one-more (charge_at overloads.LogicalNot ts sizes) (total costs) (charge-some overloads.LogicalNot ts sizes)
 call-costs overloads.NotStrictlyFalse ts costs sizes e h = one-more (charge_at overloads.NotStrictlyFalse ts sizes) (total costs) (charge-some overloads.NotStrictlyFalse ts sizes)
 call-costs (overloads.Compare op) ts costs sizes e h = one-more (charge_at (overloads.Compare op) ts sizes) (total costs) (charge-some (overloads.Compare op) ts sizes)
@@ -112,6 +107,31 @@ call-costs overloads.InList ts costs sizes e h = one-more (charge_at overloads.I
 call-costs overloads.InMap ts costs sizes e h = one-more (charge_at overloads.InMap ts sizes) (total costs) (charge-some overloads.InMap ts sizes)
 call-costs overloads.Size ts costs sizes e h = one-more (charge_at overloads.Size ts sizes) (total costs) (charge-some overloads.Size ts sizes)
 call-costs (overloads.TestText test) ts costs sizes e h = one-more (charge_at (overloads.TestText test) ts sizes) (total costs) (charge-some (overloads.TestText test) ts sizes)
+
+-- a charge is one and its part at most
+pub part-covers : (o : Overload) (ts : List ValueType) (sizes : List Size)
+    → charge_at o ts sizes ≤ 1 + call_part o ts sizes
+part-covers overloads.LogicalAnd ts [] = omega arith
+part-covers overloads.LogicalAnd ts (s ∷ []) = omega arith
+part-covers overloads.LogicalAnd ts (s ∷ t ∷ []) = omega arith
+part-covers overloads.LogicalAnd ts (s ∷ t ∷ u ∷ us) = omega arith
+part-covers overloads.LogicalOr ts [] = omega arith
+part-covers overloads.LogicalOr ts (s ∷ []) = omega arith
+part-covers overloads.LogicalOr ts (s ∷ t ∷ []) = omega arith
+part-covers overloads.LogicalOr ts (s ∷ t ∷ u ∷ us) = omega arith
+part-covers overloads.LogicalNot ts sizes = omega arith
+part-covers overloads.NotStrictlyFalse ts sizes = omega arith
+part-covers overloads.Conditional ts sizes = omega arith
+part-covers (overloads.Compare op) ts sizes = one-at-most (charge_at (overloads.Compare op) ts sizes)
+part-covers (overloads.Arithmetic op) ts sizes = omega arith
+part-covers overloads.Concat ts sizes = one-at-most (charge_at overloads.Concat ts sizes)
+part-covers overloads.Negate ts sizes = omega arith
+part-covers overloads.IndexList ts sizes = omega arith
+part-covers overloads.IndexMap ts sizes = one-at-most (charge_at overloads.IndexMap ts sizes)
+part-covers overloads.InList ts sizes = one-at-most (charge_at overloads.InList ts sizes)
+part-covers overloads.InMap ts sizes = one-at-most (charge_at overloads.InMap ts sizes)
+part-covers overloads.Size ts sizes = one-at-most (charge_at overloads.Size ts sizes)
+part-covers (overloads.TestText test) ts sizes = one-at-most (charge_at (overloads.TestText test) ts sizes)
 
 -- of two operands these overloads alone answer with more than the least size
 pub other-pair : (o : Overload) → (o ≡ overloads.Concat → ⊥) → (o ≡ overloads.IndexList → ⊥)

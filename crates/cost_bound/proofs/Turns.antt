@@ -34,6 +34,46 @@ module _ (next : Size → Size) (turn : Size → ℕ) where
   turns-turn zero s h = absurd (omega arith)
   turns-turn (suc n) s h = ap (λ k. turn s + turns_cost next turn k (join s (next s))) (less n)
 
+  -- after one turn, what is gathered in the end is the same
+  pub grown-next : (n : ℕ) (s s' whole : Size) → 0 < n → s' ≡ join s (next s) → grown next n s ≡ whole
+      → grown next (n - 1) s' ≡ whole
+  grown-next n s s' whole some one e = ap (grown next (n - 1)) one ∙ sym (grown-turn n s some) ∙ e
+
+  -- and what the turns that are left cost is less by it
+  pub turns-next : (n : ℕ) (s s' : Size) (left whole rest rest' : ℕ) → 0 < n → s' ≡ join s (next s)
+      → left + turns_cost next turn n s ≡ whole + rest → rest ≡ turn s + rest'
+      → left + turns_cost next turn (n - 1) s' ≡ whole + rest'
+  turns-next n s s' left whole rest rest' some one e paid =
+      let others = turns-turn n s some in
+      let same : turns_cost next turn (n - 1) s' ≡ turns_cost next turn (n - 1) (join s (next s)) =
+      ap (turns_cost next turn (n - 1)) one in
+      omega arith
+
+  -- where a turn gathers nothing more, the others cost as much as it each
+  still-all : (n : ℕ) (s s' : Size) (left whole rest rest' : ℕ) → 0 < n → s' ≡ join s (next s) → s' ≡ s
+      → left + turns_cost next turn n s ≡ whole + rest → rest ≡ turn s + rest'
+      → left + (n - 1) * (rest - rest') ≡ whole + rest'
+  still-all n s s' left whole rest rest' some one still e paid =
+      let more = turns-next n s s' left whole rest rest' some one e paid in
+      let each : rest - rest' ≡ turn s = omega arith in
+      let all : turns_cost next turn (n - 1) s' ≡ (n - 1) * turn s =
+      ap (turns_cost next turn (n - 1)) still ∙ turns-still (n - 1) s (sym one ∙ still) in
+      rw (each, ← all) more
+
+  pub still-short : (n : ℕ) (s s' : Size) (left whole rest rest' : ℕ) → 0 < n → s' ≡ join s (next s)
+      → s' ≡ s → left + turns_cost next turn n s ≡ whole + rest → rest ≡ turn s + rest'
+      → rest' < (n - 1) * (rest - rest') → left < whole
+  still-short n s s' left whole rest rest' some one still e paid less =
+      let all = still-all n s s' left whole rest rest' some one still e paid in
+      omega arith
+
+  pub still-paid : (n : ℕ) (s s' : Size) (left whole rest rest' out : ℕ) → 0 < n → s' ≡ join s (next s)
+      → s' ≡ s → left + turns_cost next turn n s ≡ whole + rest → rest ≡ turn s + rest'
+      → rest' ≡ (n - 1) * (rest - rest') + out → left ≡ whole + out
+  still-paid n s s' left whole rest rest' out some one still e paid others =
+      let all = still-all n s s' left whole rest rest' some one still e paid in
+      omega arith
+
 -- what is a key is a value of what stands before it
 pub keys-of-more : (s : Size) (ss : List Size) → keys_of (s ∷ ss) ≡ s ∷ values_of ss
 keys-of-more s [] = refl

@@ -1,6 +1,6 @@
 //! Measuring expressions: how large what they come to may be, and what they cost.
 
-ghost use Rattle.std.specs.Prelude.{◌≡◌, ◌+◌, ◌*◌, ℕ, IfErr, IfOk, length};
+ghost use Rattle.std.specs.Prelude.{◌≡◌, ◌+◌, ◌*◌, ◌↔◌, ℕ, IfErr, IfOk, IsTrue, length};
 ghost use Rattle.proto_wire.specs.Refusal.{MemoryOr};
 ghost use Rattle.cel_overload.specs.declared.overload.Overload.TheVariants.{Conditional};
 ghost use Rattle.cel_types.specs.Elaborated.{kinds, typed_loop};
@@ -185,10 +185,17 @@ fn measure_call(
         IfErr result (MemoryOr (CostsMore (call_cost overload (kinds es)
         (costs_of es limits.now sizes) (sizes_of es limits.now sizes)) left)) }
 {
-    if overload == Overload::Conditional && operands.len() == 3 {
+    if is_choice(overload, operands) {
         return measure_conditional(alloc, operands, limits, scope, left);
     }
     measure_operands(alloc, operands, limits, scope, overload, left)
+}
+
+// Whether of a call's operands one alone of the last two is asked for.
+fn is_choice(overload: Overload, operands: &[TypedExpr<'_>]) -> bool
+    ensures { IsTrue result ↔ ((overload ≡ Conditional) × (length operands.now ≡ 3)) }
+{
+    overload == Overload::Conditional && operands.len() == 3
 }
 
 // A call of which each operand is asked for.
