@@ -1,6 +1,6 @@
 -- Numbers of 64 bits that stand for whole numbers without limit: what holds of sums and products of
 -- the whole numbers holds of theirs.
-use Rattle.std.proofs.Common.{◌≡◌, ℕ, zero, suc, ◌+◌, ◌*◌, ◌-◌, ◌<◌, ◌≤◌, ◌^◌, refl, sym, ap, ◌∙◌, arith, inl, inr, mul-zero, zero-mul, mul_comm, mul-one, one-mul}
+use Rattle.std.proofs.Common.{◌≡◌, ℕ, zero, suc, ◌+◌, ◌*◌, ◌-◌, ◌<◌, ◌≤◌, ◌^◌, refl, sym, ◌∙◌, arith, inl, inr, mul-zero, mul_comm, mul-one}
 use Rattle.std.proofs.lemmas.Bool.{cases_lt}
 use Rattle.std.proofs.lemmas.Nat.{mul-le}
 use Rattle.cost_bound.specs.steps.Numbers.{capped}

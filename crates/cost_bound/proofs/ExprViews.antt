@@ -1,5 +1,5 @@
 -- How expressions are seen, constructor by constructor.
-use Rattle.std.proofs.Common.{◌≡◌, ℕ, rules, Bor, List, [], ◌∷◌, map}
+use Rattle.std.proofs.Common.{◌≡◌, ℕ, rules, Bor}
 use Rattle.std.specs.declared.boxed.Box.{Box}
 use Rattle.std.specs.declared.rc.RcStr.{RcStr}
 use Rattle.std.specs.declared.vec.Vec.{Vec}
@@ -8,7 +8,7 @@ use Rattle.attributes.specs.declared.attribute.AttrId.{AttrId}
 use Rattle.cel_overload.specs.declared.overload.Overload.{Overload}
 use Rattle.cel_tree.specs.declared.tree.Constant.{Constant}
 use Rattle.cel_tree.specs.View.{constant_view}
-use Rattle.cel_types.specs.Elaborated.{typed_constant, typed_local, typed_attribute, typed_field, typed_has, typed_call, typed_list, typed_map, typed_loop}
+use Rattle.cel_types.specs.Elaborated.{typed_constant, typed_local, typed_attribute, typed_field, typed_has, typed_call, typed_list, typed_map}
 use Rattle.cel_types.specs.View.{expr_view, exprs_view, loop_of, parts_view}
 use Rattle.cel_types.specs.declared.typed.TypedExpr.{TypedExpr, Constant as ConstantExpr, Local as LocalExpr, Attribute as AttributeExpr, Field as FieldExpr, HasField as HasExpr, Call as CallExpr, List as ListExpr, Map as MapExpr, Loop as LoopExpr, the_lemmas}
 use Rattle.cel_types.specs.declared.typed.TypedLoop.{TypedLoop}

@@ -1,12 +1,12 @@
 -- Locals by the number of those outside: the code's scope has the innermost last.
-use Rattle.std.proofs.Common.{◌≡◌, nat_eq, false, ℕ, zero, suc, ◌+◌, ◌-◌, ◌<◌, ◌≤◌, List, [], ◌∷◌, ◌++◌, length, map, reverse, drop, get_or, Option, Some, None, refl, sym, ap, ◌∙◌, arith}
+use Rattle.std.proofs.Common.{◌≡◌, nat_eq, false, ℕ, zero, suc, ◌+◌, ◌-◌, ◌<◌, ◌≤◌, List, [], ◌∷◌, ◌++◌, length, reverse, drop, get_or, Some, None, refl, ap, ◌∙◌, arith}
 use Rattle.std.specs.Prelude.{slice_get, option_map}
 use Rattle.std.proofs.lemmas.Bool.Decides.{nat_tests}
 use Rattle.std.proofs.lemmas.List.{drop_more, map-append, reverse-append}
 use Rattle.std.proofs.lemmas.Option.{slice_get-map}
 use Rattle.cel_types.specs.TypedMeaning.{local_at}
 use Rattle.cost_bound.specs.Costs.{known}
-use Rattle.cost_bound.specs.Sizes.{Size, Flat}
+use Rattle.cost_bound.specs.Sizes.{Flat}
 use Rattle.cost_bound.specs.steps.SizeView.{scope_view, size_view, sizes_view}
 use Rattle.cost_bound.specs.declared.size.ValueSize.{ValueSize}
 

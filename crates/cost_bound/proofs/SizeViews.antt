@@ -1,5 +1,5 @@
 -- How sizes are seen, constructor by constructor.
-use Rattle.std.proofs.Common.{◌≡◌, ℕ, refl, sym, ap, ◌∙◌, rules}
+use Rattle.std.proofs.Common.{◌≡◌, ℕ, refl, ◌∙◌, rules}
 use Rattle.std.specs.declared.rc.Rc.{Rc}
 use Rattle.std.specs.declared.alloc.Global.{Global}
 use Rattle.cost_bound.specs.Sizes.{Size, Flat, Text, Many, Table}

@@ -1,8 +1,8 @@
 -- What each step of measuring adds up to.
-use Rattle.std.proofs.Common.{◌≡◌, ℕ, zero, suc, ◌+◌, ◌*◌, ◌-◌, ◌<◌, ◌≤◌, ◌^◌, List, [], ◌∷◌, ◌++◌, length, map, drop, get_or, refl, sym, ap, ◌∙◌, arith, inl, inr}
-use Rattle.std.proofs.lemmas.List.{drop_more, map-append}
+use Rattle.std.proofs.Common.{◌≡◌, ℕ, suc, ◌+◌, ◌-◌, ◌<◌, ◌≤◌, List, [], ◌∷◌, length, drop, get_or, refl, ap, ◌∙◌, arith, inr}
+use Rattle.std.proofs.lemmas.List.{drop_more}
 use Rattle.attributes.specs.Limits.{LimitsValue}
-use Rattle.cel_types.specs.Elaborated.{TypedTrees, kinds, no_typed, typed}
+use Rattle.cel_types.specs.Elaborated.{TypedTrees, no_typed, typed}
 use Rattle.cel_types.specs.View.{TypedParts, expr_view, exprs_view, loop_of}
 use Rattle.cel_types.specs.declared.typed.TypedExpr.{TypedExpr}
 use Rattle.cel_value.specs.Types.{ValueType}
@@ -13,8 +13,7 @@ use Rattle.proto_wire.specs.declared.refusal.Refusal.{Refusal}
 use Rattle.cost_bound.specs.Costs.{cost_of, costs_of, element_size, field_cost, grown, size_of, sizes_of, total, turns_cost}
 use Rattle.cost_bound.specs.Sizes.{Size, most_of}
 use Rattle.cost_bound.specs.steps.Measuring.{CostsMore, next_size, turn_cost}
-use Rattle.cost_bound.specs.steps.Numbers.{capped}
-use Rattle.cost_bound.proofs.Capped.{one-less, paid, short}
+use Rattle.cost_bound.proofs.Capped.{one-less, paid}
 
 -- a lookup of a field charges one and the rest of it
 pub field-once : (name : List ℕ) (s : Size) → field_cost name s ≡ 1 + (field_cost name s - 1)

@@ -11,4 +11,5 @@ mod size;
 mod tests;
 
 pub use bounding::bound;
+
 pub mod laws;

@@ -1,16 +1,15 @@
 -- What measuring an expression answers: its size and what its cost leaves, or that its cost is more
 -- than there is.
-use Rattle.std.specs.Prelude.{ℕ, zero, suc, ◌≡◌, ◌<◌, ◌+◌, ◌-◌, ◌*◌, List, [], ◌∷◌, length}
+use Rattle.std.specs.Prelude.{ℕ, ◌≡◌, ◌<◌, ◌+◌, ◌-◌, List, [], ◌∷◌}
 use Rattle.proto_wire.specs.declared.refusal.Refusal.{Refusal}
 use Rattle.proto_wire.specs.declared.refusal.Refusal.TheVariants.{TooCostly}
 use Rattle.attributes.specs.Limits.{LimitsValue}
 use Rattle.cel_overload.specs.declared.overload.Overload.{Overload}
 use Rattle.cel_overload.specs.declared.overload.Overload.TheVariants as overloads
-use Rattle.cel_types.specs.Elaborated.{TypedTree, TypedTrees}
 use Rattle.cel_types.specs.View.{TypedParts}
 use Rattle.cel_value.specs.Types.{ValueType}
-use Rattle.cost_bound.specs.Sizes.{Size, join}
-use Rattle.cost_bound.specs.Costs.{charge_at, cost_of, costs_of, element_size, grown, size_of, sizes_of, total, turns_cost}
+use Rattle.cost_bound.specs.Sizes.{Size}
+use Rattle.cost_bound.specs.Costs.{charge_at, cost_of, size_of}
 
 -- the cost is more than is left
 abbrev pub CostsMore : (cost left : ℕ) → Refusal → Type 0

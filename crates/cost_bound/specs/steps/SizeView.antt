@@ -1,5 +1,5 @@
 -- The sizes that the code's stand for.
-use Rattle.std.specs.Prelude.{ℕ, List, map, reverse}
+use Rattle.std.specs.Prelude.{List, map, reverse}
 use Rattle.cost_bound.specs.Sizes.{Size, Flat, Text, Many, Table}
 use Rattle.cost_bound.specs.declared.size.ValueSize.{ValueSize, fold-ValueSize}
 use Rattle.cost_bound.specs.declared.size.ValueSize.TheOpen.{ValueSize-F}

@@ -1,4 +1,4 @@
-use Rattle.std.proofs.Common.{◌≡◌, sym, ap, ◌∙◌, arith}
+use Rattle.std.proofs.Common.{sym, ap, ◌∙◌, arith}
 use Rattle.cost_bound.specs.Costs.{join_all, keys_of, values_of}
 use Rattle.cost_bound.specs.Sizes.{join}
 use Rattle.cost_bound.specs.steps.SizeView.{size_view}

@@ -1,13 +1,12 @@
-use Rattle.std.proofs.Common.{◌≡◌, false, true, ◌+◌, ◌*◌, ◌-◌, ◌<◌, ◌≤◌, ◌^◌, ◌∙◌, ◌∷◌, ap, sym, refl, arith, length}
+use Rattle.std.proofs.Common.{◌≡◌, false, true, ◌+◌, ◌<◌, ◌^◌, ◌∙◌, ap, sym, arith}
 use Rattle.std.proofs.lemmas.Result.{IfOk-weaker}
 use Rattle.cel_types.specs.Elaborated.{kinds}
 use Rattle.cel_types.specs.View.{expr_view, exprs_view, parts_view}
 use Rattle.cel_value.specs.Types.{type_view}
-use Rattle.cost_bound.specs.Costs.{call_cost, charge_at, cost_of, costs_of, element_size, grown, size_of, sizes_of, total}
-use Rattle.cost_bound.specs.Sizes.{join, most_of}
+use Rattle.cost_bound.specs.Costs.{charge_at, sizes_of}
 use Rattle.cost_bound.specs.steps.Measuring.{call_part, next_size, turn_cost}
 use Rattle.cost_bound.specs.steps.Numbers.{capped}
-use Rattle.cost_bound.specs.steps.SizeView.{scope_view, size_view, sizes_view}
+use Rattle.cost_bound.specs.steps.SizeView.{scope_view, size_view}
 use Rattle.cost_bound.proofs.Calls.{call-costs, part-covers}
 use Rattle.cost_bound.proofs.Capped.{paid}
 use Rattle.cost_bound.proofs.ExprViews.{view-List, view-Loop}
@@ -23,7 +22,7 @@ measure-returns-in_err-left-in-List-clause-fault t c =
     let counted = cost-count c.in-List.elements.items c.args.limits.now (scope_view c.args.scope.now) in
     let many = c.len.ensures in
     rw seen (exit-charge _ _ _ _ exit.result _ exit.ensures.1 c.in_err-left-in-List.ensures.fault
-        (λ more. omega (arith, more, found.1)))
+    (λ more. omega (arith, more, found.1)))
 
 pub measure-returns-in_ok-list_size-in-List-clause-found : goal.measure-returns-in_ok-list_size-in-List-clause-found
 measure-returns-in_ok-list_size-in-List-clause-found t c =
@@ -53,7 +52,7 @@ measure_call-returns-clause-found t c =
     let whole = call-costs c.args.overload (kinds (exprs_view c.args.operands.now)) _ _
     (as-many (exprs_view c.args.operands.now) c.args.limits.now (scope_view c.args.scope.now))
     (λ is three. absurd (let g : false ≡ true = sym c.if-is_choice.false
-        ∙ c.is_choice.ensures.1 (is, sym counted ∙ three) in cc)) in
+    ∙ c.is_choice.ensures.1 (is, sym counted ∙ three) in cc)) in
     rw whole c.measure_operands.ensures.found
 
 pub measure_call-returns-clause-fault : goal.measure_call-returns-clause-fault
@@ -62,7 +61,7 @@ measure_call-returns-clause-fault t c =
     let whole = call-costs c.args.overload (kinds (exprs_view c.args.operands.now)) _ _
     (as-many (exprs_view c.args.operands.now) c.args.limits.now (scope_view c.args.scope.now))
     (λ is three. absurd (let g : false ≡ true = sym c.if-is_choice.false
-        ∙ c.is_choice.ensures.1 (is, sym counted ∙ three) in cc)) in
+    ∙ c.is_choice.ensures.1 (is, sym counted ∙ three) in cc)) in
     rw whole c.measure_operands.ensures.fault
 
 pub measure_loop-returns-clause-found : goal.measure_loop-returns-clause-found
@@ -122,7 +121,7 @@ measure_turns-returns-in_err-left-clause-fault t c =
     let some = c.loop-others-test.true in
     let still = c.same.ensures.0 c.if-same.true in
     exit-charge _ _ _ _ exit.result _ exit.ensures.1 c.in_err-left.ensures.fault
-        (λ more. still-short next cost _ _ _ _ _ _ _ some turn.0 still before.1 turn.1 more)
+    (λ more. still-short next cost _ _ _ _ _ _ _ some turn.0 still before.1 turn.1 more)
 
 pub measure_turns-returns-then-same-clause-found : goal.measure_turns-returns-then-same-clause-found
 measure_turns-returns-then-same-clause-found t c =

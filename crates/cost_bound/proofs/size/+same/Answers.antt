@@ -1,4 +1,4 @@
-use Rattle.std.proofs.Common.{◌≡◌, false, true, sym, ◌∙◌}
+use Rattle.std.proofs.Common.{◌≡◌, false, true}
 use Rattle.cost_bound.specs.steps.SizeView.{size_view}
 use Rattle.cost_bound.proofs.SizeViews.{view-Text, view-Many, view-Table, no-text, no-many, no-table}
 use Rattle.cost_bound.proofs.size.+same.Goals as goal

@@ -1,5 +1,4 @@
-use Rattle.std.proofs.Common.{◌≡◌, ap, ◌∙◌}
-use Rattle.cost_bound.specs.steps.Numbers.{capped}
+use Rattle.std.proofs.Common.{◌∙◌}
 use Rattle.cost_bound.proofs.Capped.{capped-product}
 use Rattle.cost_bound.proofs.size.product.Goals as goal
 
