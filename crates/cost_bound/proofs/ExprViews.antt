@@ -1,0 +1,52 @@
+-- How expressions are seen, constructor by constructor.
+use Rattle.std.proofs.Common.{◌≡◌, ℕ, rules, Bor}
+use Rattle.std.specs.declared.boxed.Box.{Box}
+use Rattle.std.specs.declared.rc.RcStr.{RcStr}
+use Rattle.std.specs.declared.vec.Vec.{Vec}
+use Rattle.std.specs.declared.alloc.Global.{Global}
+use Rattle.attributes.specs.declared.attribute.AttrId.{AttrId}
+use Rattle.cel_overload.specs.declared.overload.Overload.{Overload}
+use Rattle.cel_tree.specs.declared.tree.Constant.{Constant}
+use Rattle.cel_tree.specs.View.{constant_view}
+use Rattle.cel_types.specs.Elaborated.{typed_constant, typed_local, typed_attribute, typed_field, typed_has, typed_call, typed_list, typed_map}
+use Rattle.cel_types.specs.View.{expr_view, exprs_view, loop_of, parts_view}
+use Rattle.cel_types.specs.declared.typed.TypedExpr.{TypedExpr, Constant as ConstantExpr, Local as LocalExpr, Attribute as AttributeExpr, Field as FieldExpr, HasField as HasExpr, Call as CallExpr, List as ListExpr, Map as MapExpr, Loop as LoopExpr, the_lemmas}
+use Rattle.cel_types.specs.declared.typed.TypedLoop.{TypedLoop}
+use Rattle.cel_value.specs.Texts.{text_view}
+use Rattle.cel_value.specs.Types.{type_view}
+use Rattle.cel_value.specs.declared.cel_type.CelType.{CelType}
+
+pub view-Constant : (t : CelType) (c : Bor Constant) → expr_view (ConstantExpr t c)
+    ≡ typed_constant (type_view t) (constant_view c.now)
+view-Constant t c = search (rules, the_lemmas)
+
+pub view-Local : (t : CelType) (n : ℕ) → expr_view (LocalExpr t n) ≡ typed_local (type_view t) n
+view-Local t n = search (rules, the_lemmas)
+
+pub view-Attribute : (t : CelType) (a : AttrId) → expr_view (AttributeExpr t a)
+    ≡ typed_attribute (type_view t) a
+view-Attribute t a = search (rules, the_lemmas)
+
+pub view-Field : (t : CelType) (m : Box TypedExpr Global) (n : Bor (RcStr Global))
+    → expr_view (FieldExpr t m n) ≡ typed_field (type_view t) (expr_view m.value) (text_view n.now)
+view-Field t m n = search (rules, the_lemmas)
+
+pub view-HasField : (t : CelType) (m : Box TypedExpr Global) (n : Bor (RcStr Global))
+    → expr_view (HasExpr t m n) ≡ typed_has (type_view t) (expr_view m.value) (text_view n.now)
+view-HasField t m n = search (rules, the_lemmas)
+
+pub view-Call : (t : CelType) (o : Overload) (es : Vec TypedExpr Global) → expr_view (CallExpr t o es)
+    ≡ typed_call (type_view t) o (exprs_view es.items)
+view-Call t o es = search (rules, the_lemmas)
+
+pub view-List : (t : CelType) (es : Vec TypedExpr Global) → expr_view (ListExpr t es)
+    ≡ typed_list (type_view t) (exprs_view es.items)
+view-List t es = search (rules, the_lemmas)
+
+pub view-Map : (t : CelType) (es : Vec TypedExpr Global) → expr_view (MapExpr t es)
+    ≡ typed_map (type_view t) (exprs_view es.items)
+view-Map t es = search (rules, the_lemmas)
+
+pub view-Loop : (t : CelType) (p : Box TypedLoop Global) → expr_view (LoopExpr t p)
+    ≡ loop_of (type_view t) (parts_view p.value)
+view-Loop t p = search (rules, the_lemmas)

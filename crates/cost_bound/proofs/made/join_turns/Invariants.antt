@@ -1,0 +1,13 @@
+use Rattle.std.proofs.Common.{◌≡◌, ◌≤◌, length, drop}
+use Rattle.cost_bound.specs.Costs.{join_all, keys_of, values_of}
+use Rattle.cost_bound.specs.steps.SizeView.{size_view, sizes_view}
+use Rattle.cost_bound.proofs.made.join_turns.Given as goal
+
+abbrev pub invariant-loop-at : goal.invariant-loop-at
+invariant-loop-at l =
+    (l.at ≤ length l.sizes)
+    × (size_view l.keys ≡ join_all (keys_of (sizes_view (drop l.at l.sizes))))
+    × (size_view l.values ≡ join_all (values_of (sizes_view (drop l.at l.sizes))))
+
+abbrev pub decreases-loop-at : goal.decreases-loop-at
+decreases-loop-at l = l.at

@@ -1,0 +1,25 @@
+use Rattle.std.proofs.Common.{◌≡◌, ◌+◌, ◌++◌, drop}
+use Rattle.cel_types.specs.View.{exprs_view, parts_view}
+use Rattle.cost_bound.specs.Costs.{costs_of, grown, sizes_of, total, turns_cost}
+use Rattle.cost_bound.specs.steps.Measuring.{next_size, turn_cost}
+use Rattle.cost_bound.specs.steps.SizeView.{scope_view, size_view, sizes_view}
+use Rattle.cost_bound.proofs.measure.+measure.Given as goal
+
+abbrev pub invariant-measure_each-loop-expr : goal.invariant-measure_each-loop-expr
+invariant-measure_each-loop-expr l =
+    (sizes_view l.sizes.items
+    ++ sizes_of (exprs_view (drop l.expr-index l.exprs)) l.limits (scope_view l.scope)
+    ≡ sizes_of (exprs_view l.exprs) l.limits (scope_view l.scope))
+    × (l.left + total (costs_of (exprs_view (drop l.expr-index l.exprs)) l.limits (scope_view l.scope))
+    ≡ total (costs_of (exprs_view l.exprs) l.limits (scope_view l.scope)) + l.rest)
+
+abbrev pub invariant-measure_turns-loop-others : goal.invariant-measure_turns-loop-others
+invariant-measure_turns-loop-others l =
+    let next = next_size (parts_view l.parts) l.limits (size_view l.element) (scope_view l.scope) in
+    let turn = turn_cost (parts_view l.parts) l.limits (size_view l.element) (scope_view l.scope) in
+    (grown next l.others (size_view l.gathered) ≡ grown next l.initial.others (size_view l.initial.gathered))
+    × (l.left + turns_cost next turn l.others (size_view l.gathered)
+    ≡ turns_cost next turn l.initial.others (size_view l.initial.gathered) + l.rest)
+
+abbrev pub decreases-measure_turns-loop-others : goal.decreases-measure_turns-loop-others
+decreases-measure_turns-loop-others l = l.others

@@ -1,0 +1,24 @@
+-- The sizes that the code's stand for.
+use Rattle.std.specs.Prelude.{List, map, reverse}
+use Rattle.cost_bound.specs.Sizes.{Size, Flat, Text, Many, Table}
+use Rattle.cost_bound.specs.declared.size.ValueSize.{ValueSize, fold-ValueSize}
+use Rattle.cost_bound.specs.declared.size.ValueSize.TheOpen.{ValueSize-F}
+
+-- one level of a size, with each size inside already seen
+abbrev pub size_level : ValueSize-F Size → Size
+size_level ValueSize-F.Flat = Flat
+size_level (ValueSize-F.Text n) = Text n
+size_level (ValueSize-F.Many n e) = Many n e.value
+size_level (ValueSize-F.Table n k v) = Table n k.value v.value
+
+-- the size that a `ValueSize` stands for
+abbrev pub size_view : ValueSize → Size
+size_view = fold-ValueSize Size size_level
+
+-- the same of each of a list
+abbrev pub sizes_view : List ValueSize → List Size
+sizes_view ss = map size_view ss
+
+-- the sizes of the locals in scope: the code has the innermost last
+abbrev pub scope_view : List ValueSize → List Size
+scope_view ss = reverse (sizes_view ss)

@@ -1,0 +1,132 @@
+//! What instructions charge, and paying for it.
+
+ghost use Rattle.std.specs.Prelude.{◌≡◌, ◌≢◌, ◌+◌, ◌-◌, ◌*◌, List, [], ◌∷◌, IfErr, IfOk};
+ghost use Rattle.cel_overload.specs.declared.overload.Overload.TheVariants as overloads;
+ghost use Rattle.cel_types.specs.Elaborated.{kind, kinds};
+ghost use Rattle.cel_types.specs.View.{expr_view, exprs_view};
+ghost use Rattle.cel_value.specs.Texts.{text_view};
+ghost use Rattle.cel_value.specs.Types.{ValueType, type_view};
+ghost use Rattle.cost_bound.specs.Costs.{charge_at, counted_cost, field_cost, map_cost};
+ghost use Rattle.cost_bound.specs.steps.Measuring.{CostsMore, call_part};
+ghost use Rattle.cost_bound.specs.steps.Numbers.{capped};
+ghost use Rattle.cost_bound.specs.steps.SizeView.{size_view, sizes_view};
+
+use crate::size::{ValueSize, product, sum};
+use cel_overload::Overload;
+use cel_types::TypedExpr;
+use cel_value::{CelType, text_length};
+use proto_wire::Refusal;
+use std::rc::RcStr;
+
+/// What is left of the budget once 1 and a part are paid. A part that is capped is more than any
+/// budget has besides the 1.
+pub(crate) fn pay(left: u64, part: u64) -> Result<u64, Refusal>
+    ensures found { IfOk result (λ rest. left ≡ 1 + part + rest) }
+    ensures fault { IfErr result (CostsMore (1 + part) left) }
+{
+    if part < left {
+        return Ok(left - part - 1);
+    }
+    Err(Refusal::TooCostly)
+}
+
+/// What is left of the budget once so many turns are paid, each of the same cost.
+pub(crate) fn pay_turns(left: u64, turns: u64, cost: u64) -> Result<u64, Refusal>
+    ensures found { IfOk result (λ rest. left ≡ turns * cost + rest) }
+    ensures fault { IfErr result (CostsMore (turns * cost) left) }
+{
+    match turns.checked_mul(cost) {
+        Some(all) => {
+            if all <= left {
+                return Ok(left - all);
+            }
+            Err(Refusal::TooCostly)
+        }
+        None => Err(Refusal::TooCostly),
+    }
+}
+
+/// What a name's search in a map of a size charges, less 1.
+pub(crate) fn field_part(name: &RcStr, map: &ValueSize) -> u64
+    ensures { result ≡ capped (field_cost (text_view name.now) (size_view map.now) - 1) }
+{
+    product(sum(1, text_length(name)), map.most())
+}
+
+/// What a call charges besides its operands, less 1. A conditional of three operands is not asked.
+pub(crate) fn call_part(overload: Overload, operands: &[TypedExpr<'_>], sizes: &[ValueSize]) -> u64
+    ensures { result ≡ capped (call_part overload (kinds (exprs_view operands.now)) (sizes_view sizes.now)) }
+{
+    if overload == Overload::Size {
+        return counted_part(operands, sizes);
+    }
+    match sizes {
+        [first, second] => pair_part(overload, first, second),
+        _ => 0,
+    }
+}
+
+// What counting takes, of one operand.
+fn counted_part(operands: &[TypedExpr<'_>], sizes: &[ValueSize]) -> u64
+    ensures { result ≡ capped (charge_at overloads.Size (kinds (exprs_view operands.now))
+        (sizes_view sizes.now) - 1) }
+{
+    match operands {
+        [operand] => match sizes {
+            [size] => counted(operand, size),
+            _ => 0,
+        },
+        _ => 0,
+    }
+}
+
+// What counting takes: the length of a text or of bytes.
+fn counted(operand: &TypedExpr<'_>, size: &ValueSize) -> u64
+    ensures { result ≡ capped (counted_cost (kind (expr_view operand.now)) (size_view size.now)) }
+{
+    match type_of(operand) {
+        CelType::Bool => 0,
+        CelType::Int => 0,
+        CelType::Uint => 0,
+        CelType::Text => size.most(),
+        CelType::Bytes => size.most(),
+        CelType::List(_) => 0,
+        CelType::Map(_, _) => 0,
+    }
+}
+
+// What a call of two operands charges by their sizes.
+fn pair_part(overload: Overload, first: &ValueSize, second: &ValueSize) -> u64
+    requires { overload ≢ overloads.Size }
+    ensures { (ts : List ValueType) → result
+        ≡ capped (call_part overload ts (size_view first.now ∷ size_view second.now ∷ [])) }
+{
+    match overload {
+        Overload::LogicalAnd => 1,
+        Overload::LogicalOr => 1,
+        Overload::Compare(_) => sum(first.mass(), second.mass()),
+        Overload::TestText(_) => sum(first.mass(), second.mass()),
+        Overload::Concat => sum(first.most(), second.most()),
+        Overload::IndexMap => product(second.mass(), first.most()),
+        Overload::InMap => product(first.mass(), second.most()),
+        Overload::InList => sum(second.mass(), product(second.most(), first.mass())),
+        _ => 0,
+    }
+}
+
+// The type of an expression.
+fn type_of<'a>(expr: &'a TypedExpr<'_>) -> &'a CelType
+    ensures { type_view result.now ≡ kind (expr_view expr.now) }
+{
+    match expr {
+        TypedExpr::Constant { cel_type, .. } => cel_type,
+        TypedExpr::Local { cel_type, .. } => cel_type,
+        TypedExpr::Attribute { cel_type, .. } => cel_type,
+        TypedExpr::Field { cel_type, .. } => cel_type,
+        TypedExpr::HasField { cel_type, .. } => cel_type,
+        TypedExpr::Call { cel_type, .. } => cel_type,
+        TypedExpr::List { cel_type, .. } => cel_type,
+        TypedExpr::Map { cel_type, .. } => cel_type,
+        TypedExpr::Loop { cel_type, .. } => cel_type,
+    }
+}

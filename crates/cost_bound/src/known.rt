@@ -1,0 +1,133 @@
+//! The sizes of what is known before an expression runs: constants, attributes, types, locals.
+
+ghost use Rattle.std.specs.Prelude.{◌≡◌, ◌∷◌, IfOk};
+ghost use Rattle.attributes.specs.Limits.{limit_of};
+ghost use Rattle.attributes.specs.declared.attribute.AttrId.TheVariants.{RequestHeaders};
+ghost use Rattle.cel_tree.specs.View.{constant_view};
+ghost use Rattle.cel_types.specs.TypedMeaning.{local_at};
+ghost use Rattle.cel_value.specs.Types.{type_view};
+ghost use Rattle.cost_bound.specs.Costs.{attribute_size, constant_size, known};
+ghost use Rattle.cost_bound.specs.Sizes.{Text, least, least_key};
+ghost use Rattle.cost_bound.specs.steps.SizeView.{scope_view, size_view};
+
+use crate::size::{ValueSize, many, table};
+use attributes::{AttrId, Limit, Limits};
+use cel_tree::Constant;
+use cel_value::{CelType, KeyType, text_length};
+use std::alloc::{AllocError, Global};
+
+/// A constant is as large as it is.
+pub(crate) fn constant_size(constant: &Constant) -> ValueSize
+    ensures { size_view result ≡ constant_size (constant_view constant.now) }
+{
+    match constant {
+        Constant::Text(text) => ValueSize::Text(text_length(text)),
+        Constant::Bytes(bytes) => ValueSize::Text(bytes.len() as u64),
+        _ => ValueSize::Flat,
+    }
+}
+
+fn limit_of(limits: &Limits, limit: Limit) -> ValueSize
+    ensures { size_view result ≡ Text (limit_of limit limits.now) }
+{
+    ValueSize::Text(limits.get(limit) as u64)
+}
+
+/// An attribute is as large as the limits let it be.
+pub(crate) fn attribute_size(
+    alloc: Global,
+    limits: &Limits,
+    id: AttrId,
+) -> Result<ValueSize, AllocError>
+    ensures { IfOk result (λ size. size_view size ≡ attribute_size limits.now id) }
+{
+    match id {
+        AttrId::RequestHeaders => headers_size(alloc, limits),
+        AttrId::SourcePort => Ok(ValueSize::Flat),
+        AttrId::DestinationPort => Ok(ValueSize::Flat),
+        AttrId::ConnectionMtls => Ok(ValueSize::Flat),
+        AttrId::ConnectionId => Ok(ValueSize::Flat),
+        AttrId::RequestMethod => Ok(limit_of(limits, Limit::Method)),
+        AttrId::RequestPath => Ok(limit_of(limits, Limit::Target)),
+        AttrId::RequestUrlPath => Ok(limit_of(limits, Limit::Target)),
+        AttrId::RequestQuery => Ok(limit_of(limits, Limit::Target)),
+        AttrId::RequestHost => Ok(limit_of(limits, Limit::Value)),
+        AttrId::RequestReferer => Ok(limit_of(limits, Limit::Value)),
+        AttrId::RequestUseragent => Ok(limit_of(limits, Limit::Value)),
+        AttrId::RequestId => Ok(limit_of(limits, Limit::Value)),
+        AttrId::RequestScheme => Ok(limit_of(limits, Limit::Text)),
+        AttrId::RequestProtocol => Ok(limit_of(limits, Limit::Text)),
+        AttrId::SourceAddress => Ok(limit_of(limits, Limit::Text)),
+        AttrId::DestinationAddress => Ok(limit_of(limits, Limit::Text)),
+        AttrId::ConnectionRequestedServerName => Ok(limit_of(limits, Limit::Text)),
+        AttrId::ConnectionTlsVersion => Ok(limit_of(limits, Limit::Text)),
+        AttrId::ConnectionSubjectPeerCertificate => Ok(limit_of(limits, Limit::Text)),
+        AttrId::ConnectionDnsSanPeerCertificate => Ok(limit_of(limits, Limit::Text)),
+        AttrId::ConnectionUriSanPeerCertificate => Ok(limit_of(limits, Limit::Text)),
+    }
+}
+
+fn headers_size(alloc: Global, limits: &Limits) -> Result<ValueSize, AllocError>
+    ensures { IfOk result (λ size. size_view size ≡ attribute_size limits.now RequestHeaders) }
+{
+    let fields = limits.get(Limit::Fields) as u64;
+    table(
+        alloc,
+        fields,
+        limit_of(limits, Limit::Name),
+        limit_of(limits, Limit::Value),
+    )
+}
+
+/// The least size of a type.
+pub(crate) fn least(alloc: Global, cel_type: &CelType) -> Result<ValueSize, AllocError>
+    ensures { IfOk result (λ size. size_view size ≡ least (type_view cel_type.now)) }
+{
+    match cel_type {
+        CelType::Bool => Ok(ValueSize::Flat),
+        CelType::Int => Ok(ValueSize::Flat),
+        CelType::Uint => Ok(ValueSize::Flat),
+        CelType::Text => Ok(ValueSize::Text(0)),
+        CelType::Bytes => Ok(ValueSize::Text(0)),
+        CelType::List(items) => many(alloc, 0, least(alloc, items)?),
+        CelType::Map(keys, values) => table(alloc, 0, least_key(*keys), least(alloc, values)?),
+    }
+}
+
+fn least_key(keys: KeyType) -> ValueSize
+    ensures { size_view result ≡ least_key keys }
+{
+    match keys {
+        KeyType::Bool => ValueSize::Flat,
+        KeyType::Int => ValueSize::Flat,
+        KeyType::Uint => ValueSize::Flat,
+        KeyType::Text => ValueSize::Text(0),
+    }
+}
+
+/// The size of a local; the innermost one in scope is the last.
+pub(crate) fn local_size(scope: &[ValueSize], outside: u8) -> Result<ValueSize, AllocError>
+    ensures { IfOk result (λ size. size_view size ≡ known (local_at outside (scope_view scope.now))) }
+{
+    match scope.get(outside as usize) {
+        Some(size) => size.copy(),
+        None => Ok(ValueSize::Flat),
+    }
+}
+
+/// The scope with one more local, the innermost.
+pub(crate) fn with_local(
+    alloc: Global,
+    scope: &[ValueSize],
+    local: &ValueSize,
+) -> Result<Vec<ValueSize>, AllocError>
+    ensures { IfOk result (λ inner. scope_view inner.items ≡ size_view local.now ∷ scope_view scope.now) }
+{
+    let mut inner = Vec::with_capacity(alloc, scope.len())?;
+    for size in scope {
+        inner.push(size.copy()?)?;
+    }
+    let innermost = local.copy()?;
+    inner.push(innermost)?;
+    Ok(inner)
+}

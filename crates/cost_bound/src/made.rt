@@ -1,0 +1,153 @@
+//! The sizes of what calls and literals make, by the sizes of their operands.
+
+ghost use Rattle.std.specs.Prelude.{◌≡◌, ◌<◌, ◌+◌, ◌-◌, ◌^◌, List, IfOk, length};
+ghost use Rattle.cel_value.specs.Types.{ValueType, type_view};
+ghost use Rattle.cost_bound.specs.Costs.{call_size, charge_at, concat_size, join_all, keys_of, list_size, map_cost, map_size, masses, values_of};
+ghost use Rattle.cost_bound.specs.Sizes.{most_of};
+ghost use Rattle.cost_bound.specs.steps.Numbers.{capped};
+ghost use Rattle.cost_bound.specs.steps.SizeView.{size_view, sizes_view};
+
+use crate::known::least;
+use crate::size::{ValueSize, join, many, product, sum, table};
+use cel_overload::Overload;
+use cel_value::CelType;
+use std::alloc::{AllocError, Global};
+
+/// What a call may answer. Its charge has been paid, so lengths that it adds up are within 64 bits.
+pub(crate) fn call_size(
+    alloc: Global,
+    overload: Overload,
+    sizes: &[ValueSize],
+) -> Result<ValueSize, AllocError>
+    ensures { IfOk result (λ size. (ts : List ValueType)
+        → charge_at overload ts (sizes_view sizes.now) < 2 ^ 64
+        → size_view size ≡ call_size overload (sizes_view sizes.now)) }
+{
+    match sizes {
+        [first, second] => match overload {
+            Overload::Concat => concat_size(alloc, first, second),
+            Overload::IndexList => first.value(),
+            Overload::IndexMap => first.value(),
+            _ => Ok(ValueSize::Flat),
+        },
+        [_, first, second] => match overload {
+            Overload::Conditional => join(alloc, first, second),
+            _ => Ok(ValueSize::Flat),
+        },
+        _ => Ok(ValueSize::Flat),
+    }
+}
+
+// One after the other: both lengths together.
+fn concat_size(
+    alloc: Global,
+    first: &ValueSize,
+    second: &ValueSize,
+) -> Result<ValueSize, AllocError>
+    ensures { IfOk result (λ size.
+        most_of (size_view first.now) + most_of (size_view second.now) < 2 ^ 64
+        → size_view size ≡ concat_size (size_view first.now) (size_view second.now)) }
+{
+    let joined = join(alloc, first, second)?;
+    Ok(joined.resized(sum(first.most(), second.most())))
+}
+
+/// A list literal has as many items as it is written with.
+pub(crate) fn list_size(
+    alloc: Global,
+    cel_type: &CelType,
+    sizes: &[ValueSize],
+) -> Result<ValueSize, AllocError>
+    ensures { IfOk result (λ size. size_view size
+        ≡ list_size (type_view cel_type.now) (sizes_view sizes.now)) }
+{
+    if sizes.is_empty() {
+        return many(alloc, 0, least(alloc, cel_type)?.element()?);
+    }
+    many(alloc, sizes.len() as u64, join_all(alloc, sizes)?)
+}
+
+fn join_all(alloc: Global, sizes: &[ValueSize]) -> Result<ValueSize, AllocError>
+    ensures { IfOk result (λ size. size_view size ≡ join_all (sizes_view sizes.now)) }
+{
+    let mut joined = ValueSize::Flat;
+    let mut at = sizes.len();
+    while at > 0 {
+        at -= 1;
+        joined = join(alloc, &sizes[at], &joined)?;
+    }
+    Ok(joined)
+}
+
+/// A map literal likewise; keys and values stand in turn.
+pub(crate) fn map_size(
+    alloc: Global,
+    cel_type: &CelType,
+    sizes: &[ValueSize],
+) -> Result<ValueSize, AllocError>
+    ensures { IfOk result (λ size. size_view size
+        ≡ map_size (type_view cel_type.now) (sizes_view sizes.now)) }
+{
+    if sizes.is_empty() {
+        let any = least(alloc, cel_type)?;
+        return table(alloc, 0, any.element()?, any.value()?);
+    }
+    let joined = join_turns(alloc, sizes)?;
+    table(alloc, key_count(sizes), joined.keys, joined.values)
+}
+
+// What every other size joins to.
+#[derive(Drop)]
+struct Joined {
+    keys: ValueSize,
+    values: ValueSize,
+}
+
+// Keys and values joined, each by themselves. From the last to the first: what was a key is a value
+// of what stands before it.
+fn join_turns(alloc: Global, sizes: &[ValueSize]) -> Result<Joined, AllocError>
+    ensures { IfOk result (λ joined.
+        (size_view joined.keys ≡ join_all (keys_of (sizes_view sizes.now)))
+        × (size_view joined.values ≡ join_all (values_of (sizes_view sizes.now)))) }
+{
+    let mut keys = ValueSize::Flat;
+    let mut values = ValueSize::Flat;
+    let mut at = sizes.len();
+    while at > 0 {
+        at -= 1;
+        let joined = join(alloc, &sizes[at], &values)?;
+        values = keys;
+        keys = joined;
+    }
+    Ok(Joined { keys, values })
+}
+
+fn key_count(sizes: &[ValueSize]) -> u64
+    ensures { result ≡ length (keys_of (sizes_view sizes.now)) }
+{
+    let count = sizes.len() as u64;
+    count / 2 + count % 2
+}
+
+/// What a map literal charges besides its parts, less 1: its keys' masses, times their number.
+pub(crate) fn map_part(sizes: &[ValueSize]) -> u64
+    ensures { result ≡ capped (map_cost (sizes_view sizes.now) - 1) }
+{
+    product(key_mass(sizes), key_count(sizes))
+}
+
+// From the last to the first, as sizes are joined.
+fn key_mass(sizes: &[ValueSize]) -> u64
+    ensures { result ≡ capped (masses (keys_of (sizes_view sizes.now))) }
+{
+    let mut keys = 0;
+    let mut values = 0;
+    let mut at = sizes.len();
+    while at > 0 {
+        at -= 1;
+        let counted = sum(sizes[at].mass(), values);
+        values = keys;
+        keys = counted;
+    }
+    keys
+}

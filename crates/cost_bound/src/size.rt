@@ -1,0 +1,216 @@
+//! Sizes: how large what an expression comes to may be.
+
+ghost use Rattle.std.specs.Prelude.{◌≡◌, ◌+◌, ◌*◌, ◌↔◌, ℕ, IfOk, IsTrue};
+ghost use Rattle.cost_bound.specs.Costs.{element_size, resized, value_size};
+ghost use Rattle.cost_bound.specs.Sizes.{Flat, Many, Table, Text, join, mass_of, most_of};
+ghost use Rattle.cost_bound.specs.steps.Numbers.{capped};
+ghost use Rattle.cost_bound.specs.steps.SizeView.{size_view};
+
+use std::alloc::{AllocError, Global};
+use std::rc::Rc;
+
+/// How many bytes, items or entries there are at most, and how large they are; its parts are shared.
+#[derive(Drop)]
+pub(crate) enum ValueSize {
+    /// A bool, int or uint.
+    Flat,
+    /// A text, or bytes.
+    Text(u64),
+    /// A list of so many items.
+    Many(u64, Rc<ValueSize>),
+    /// A map of so many entries: its keys and its values.
+    Table(u64, Rc<ValueSize>, Rc<ValueSize>),
+}
+
+impl ValueSize {
+    /// Another owner of the same size.
+    pub(crate) fn copy(&self) -> Result<ValueSize, AllocError>
+        ensures { IfOk result (λ copy. size_view copy ≡ size_view self.now) }
+    {
+        match self {
+            ValueSize::Flat => Ok(ValueSize::Flat),
+            ValueSize::Text(most) => Ok(ValueSize::Text(*most)),
+            ValueSize::Many(most, items) => Ok(ValueSize::Many(*most, items.clone()?)),
+            ValueSize::Table(most, keys, values) => {
+                Ok(ValueSize::Table(*most, keys.clone()?, values.clone()?))
+            }
+        }
+    }
+
+    /// How many bytes, items or entries there may be.
+    pub(crate) fn most(&self) -> u64
+        ensures most { result ≡ most_of (size_view self.now) }
+        ensures capped { result ≡ capped (most_of (size_view self.now)) }
+    {
+        match self {
+            ValueSize::Flat => 0,
+            ValueSize::Text(most) => *most,
+            ValueSize::Many(most, _) => *most,
+            ValueSize::Table(most, _, _) => *most,
+        }
+    }
+
+    /// The mass of the greatest value of this size, or the greatest number where that is less.
+    pub(crate) fn mass(&self) -> u64
+        ensures { result ≡ capped (mass_of (size_view self.now)) }
+    {
+        match self {
+            ValueSize::Flat => 1,
+            ValueSize::Text(most) => sum(1, *most),
+            ValueSize::Many(most, items) => sum(1, product(*most, items.mass())),
+            ValueSize::Table(most, keys, values) => {
+                sum(1, product(*most, sum(keys.mass(), values.mass())))
+            }
+        }
+    }
+
+    /// What a loop's element may be: an item, or a key.
+    pub(crate) fn element(&self) -> Result<ValueSize, AllocError>
+        ensures { IfOk result (λ size. size_view size ≡ element_size (size_view self.now)) }
+    {
+        match self {
+            ValueSize::Many(_, items) => items.copy(),
+            ValueSize::Table(_, keys, _) => keys.copy(),
+            _ => Ok(ValueSize::Flat),
+        }
+    }
+
+    /// What an index or a Select may give: an item, or a map's value.
+    pub(crate) fn value(&self) -> Result<ValueSize, AllocError>
+        ensures { IfOk result (λ size. size_view size ≡ value_size (size_view self.now)) }
+    {
+        match self {
+            ValueSize::Many(_, items) => items.copy(),
+            ValueSize::Table(_, _, values) => values.copy(),
+            _ => Ok(ValueSize::Flat),
+        }
+    }
+
+    /// The same with another number of bytes, items or entries.
+    pub(crate) fn resized(self, most: u64) -> ValueSize
+        ensures { size_view result ≡ resized most (size_view self) }
+    {
+        match self {
+            ValueSize::Flat => ValueSize::Flat,
+            ValueSize::Text(_) => ValueSize::Text(most),
+            ValueSize::Many(_, items) => ValueSize::Many(most, items),
+            ValueSize::Table(_, keys, values) => ValueSize::Table(most, keys, values),
+        }
+    }
+}
+
+/// Both together, or the greatest number where that is less.
+pub(crate) fn sum(left: u64, right: u64) -> u64
+    ensures { (m n : ℕ) → left ≡ capped m → right ≡ capped n → result ≡ capped (m + n) }
+{
+    left.saturating_add(right)
+}
+
+/// The one times the other, or the greatest number where that is less.
+pub(crate) fn product(left: u64, right: u64) -> u64
+    ensures { (m n : ℕ) → left ≡ capped m → right ≡ capped n → result ≡ capped (m * n) }
+{
+    left.saturating_mul(right)
+}
+
+/// Room for what two sizes have room for: the greater of each part.
+pub(crate) fn join(
+    alloc: Global,
+    left: &ValueSize,
+    right: &ValueSize,
+) -> Result<ValueSize, AllocError>
+    ensures { IfOk result (λ size. size_view size ≡ join (size_view left.now) (size_view right.now)) }
+{
+    match left {
+        ValueSize::Flat => right.copy(),
+        ValueSize::Text(most) => join_text(*most, right),
+        ValueSize::Many(most, items) => match right {
+            ValueSize::Flat => left.copy(),
+            ValueSize::Text(other) => Ok(ValueSize::Many((*most).max(*other), items.clone()?)),
+            ValueSize::Many(other, others) => {
+                many(alloc, (*most).max(*other), join(alloc, items, others)?)
+            }
+            ValueSize::Table(other, keys, values) => {
+                let first = join(alloc, items, keys)?;
+                table(
+                    alloc,
+                    (*most).max(*other),
+                    first,
+                    join(alloc, items, values)?,
+                )
+            }
+        },
+        ValueSize::Table(most, keys, values) => match right {
+            ValueSize::Flat => left.copy(),
+            ValueSize::Text(other) => {
+                Ok(ValueSize::Table((*most).max(*other), keys.clone()?, values.clone()?))
+            }
+            ValueSize::Many(other, items) => {
+                let first = join(alloc, keys, items)?;
+                table(
+                    alloc,
+                    (*most).max(*other),
+                    first,
+                    join(alloc, values, items)?,
+                )
+            }
+            ValueSize::Table(other, others, further) => {
+                let first = join(alloc, keys, others)?;
+                table(
+                    alloc,
+                    (*most).max(*other),
+                    first,
+                    join(alloc, values, further)?,
+                )
+            }
+        },
+    }
+}
+
+fn join_text(most: u64, right: &ValueSize) -> Result<ValueSize, AllocError>
+    ensures { IfOk result (λ size. size_view size ≡ join (Text most) (size_view right.now)) }
+{
+    match right {
+        ValueSize::Flat => Ok(ValueSize::Text(most)),
+        ValueSize::Text(other) => Ok(ValueSize::Text(most.max(*other))),
+        ValueSize::Many(other, items) => Ok(ValueSize::Many(most.max(*other), items.clone()?)),
+        ValueSize::Table(other, keys, values) => {
+            Ok(ValueSize::Table(most.max(*other), keys.clone()?, values.clone()?))
+        }
+    }
+}
+
+/// The size of lists of at most so many items, each of a size.
+pub(crate) fn many(alloc: Global, most: u64, items: ValueSize) -> Result<ValueSize, AllocError>
+    ensures { IfOk result (λ size. size_view size ≡ Many most (size_view items)) }
+{
+    Ok(ValueSize::Many(most, Rc::new(alloc, items)?))
+}
+
+/// The size of maps of at most so many entries, keys and values of a size each.
+pub(crate) fn table(
+    alloc: Global,
+    most: u64,
+    keys: ValueSize,
+    values: ValueSize,
+) -> Result<ValueSize, AllocError>
+    ensures { IfOk result (λ size. size_view size ≡ Table most (size_view keys) (size_view values)) }
+{
+    let shared = Rc::new(alloc, keys)?;
+    Ok(ValueSize::Table(most, shared, Rc::new(alloc, values)?))
+}
+
+/// Whether two sizes are the same.
+pub(crate) fn same(left: &ValueSize, right: &ValueSize) -> bool
+    ensures { IsTrue result ↔ (size_view left.now ≡ size_view right.now) }
+{
+    match (left, right) {
+        (ValueSize::Flat, ValueSize::Flat) => true,
+        (ValueSize::Text(n), ValueSize::Text(m)) => n == m,
+        (ValueSize::Many(n, a), ValueSize::Many(m, b)) => n == m && same(a, b),
+        (ValueSize::Table(n, j, a), ValueSize::Table(m, k, b)) => {
+            n == m && same(j, k) && same(a, b)
+        }
+        _ => false,
+    }
+}
