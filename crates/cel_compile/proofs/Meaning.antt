@@ -21,9 +21,9 @@ pub code_means : (c : CelChecked) (e : TypedTree) → HasGoodConstants c.tree �
 code_means c e good elaborated request limits valid within =
     let typed : IsWellTyped [] e = elaborated-typed (maps_of c) [] c.tree e good elaborated.elaborates in
     let run : RunsTo (code_of 0 0 e) e request limits =
-        code_is_sound e (code_of 0 0 e) typed refl request limits valid within in
+    code_is_sound e (code_of 0 0 e) typed refl request limits valid within in
     let same : eval c.tree request [] ≡ typed_answer e request [] =
-        means-same (maps_of c) request valid c.tree e [] tt good elaborated.elaborates in
+    means-same (maps_of c) request valid c.tree e [] tt good elaborated.elaborates in
     record {
       answer = run.answer;
       means = let means = run.means in cc;

@@ -7,3 +7,6 @@ mod instructions;
 pub mod laws;
 
 pub use compiler::compile;
+
+#[cfg(test)]
+mod tests;
