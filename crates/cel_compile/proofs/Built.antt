@@ -225,8 +225,8 @@ loop_built d t range init condition step result i0 i14 w =
     let end = w.end_is in (
       omega arith,
       λ few short.
-          let D1 = w.d1_is few.0 in
-          let D2 = w.d2_is few.0 in
+          let outer_is = w.d1_is few.0 in
+          let inner_is = w.d2_is few.0 in
           let again = p + extent range + 1 + extent init + 1 in
           let behind = again + 1 + extent condition + 1 + extent step + 1 + 1 in
           let m2 : length w.i2 ≡ p + extent range + 1 = omega arith in
@@ -241,9 +241,9 @@ loop_built d t range init condition step result i0 i14 w =
           let C = code_of (length w.i5) w.d2 condition in
           let S = code_of (length w.i7) w.d2 step in
           let Q = code_of (length w.i10) w.d1 result in
-          let few_c : HasFewLocals w.d2 condition = rw D2 (few.3) in
-          let few_s : HasFewLocals w.d2 step = rw D2 (few.4) in
-          let few_r : HasFewLocals w.d1 result = rw D1 (few.5) in
+          let few_c : HasFewLocals w.d2 condition = rw inner_is (few.3) in
+          let few_s : HasFewLocals w.d2 step = rw inner_is (few.4) in
+          let few_r : HasFewLocals w.d1 result = rw outer_is (few.5) in
           let v1 : code_view w.i1 ≡ code_view i0 ++ A = w.g1.1 few.1 (omega arith) in
           let v2 = seen w.i1 w.i2 w.x1 w.e2 in
           let v3 : code_view w.i3 ≡ code_view w.i2 ++ I = w.g3.1 few.2 (omega arith) in
