@@ -1,3 +1,4 @@
+-- What private clauses and proofs of this crate cite.
 pub mod Views
 pub mod Streams
 pub mod Taking

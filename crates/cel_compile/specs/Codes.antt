@@ -12,7 +12,8 @@ use Rattle.cel_overload.specs.declared.overload.Overload.TheVariants as overload
 use Rattle.cel_types.specs.Elaborated.{TypedTree, typed_constant, typed_local, typed_attribute, typed_field, typed_has, typed_call, typed_list, typed_map, typed_loop, TypedTrees, no_typed, typed}
 use Rattle.stack_machine.specs.Instructions.{Instruction, Const, Attr, Load, Store, Arith, Negate, Not, Nsf, And, Or, Compare, Contains, StartsWith, EndsWith, Concat, Size, ListIndex, MapIndex, InMap, Field, HasField, InList, MakeList, EmptyList, MakeMap, EmptyMap, Jump, IfFalse, IfTrue, Test, LoopStart, LoopNext, LoopTest}
 
--- the instruction of a call that works on its operands' answers; a conditional has none
+-- the instruction of a call that works on its operands' answers; what stands for a conditional is met by no
+-- well typed expression, since a conditional has three operands and jumps
 abbrev pub instruction_of : Overload → Instruction
 instruction_of overloads.LogicalAnd = And
 instruction_of overloads.LogicalOr = Or
@@ -43,13 +44,13 @@ pairs no_typed = 0
 pairs (typed e no_typed) = 0
 pairs (typed k (typed v es)) = 1 + pairs es
 
--- a list of so many elements is made; an empty one of its type
+-- a list of so many elements is made; an empty one of its type, which is a list's in each well typed expression
 abbrev pub list_instruction : ValueType → TypedTrees → Instruction
 list_instruction (list_type t) no_typed = EmptyList t
 list_instruction t no_typed = EmptyList t
 list_instruction t es = MakeList (count es)
 
--- a map likewise
+-- a map likewise, of so many pairs
 abbrev pub map_instruction : ValueType → TypedTrees → Instruction
 map_instruction (map_type k t) no_typed = EmptyMap k t
 map_instruction t no_typed = EmptyMap keys.Bool t

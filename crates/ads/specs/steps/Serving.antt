@@ -11,6 +11,7 @@ use Rattle.ads.specs.declared.serving.Served.{Served}
 use Rattle.ads.specs.declared.serving.Kind.{Kind}
 use Rattle.ads.specs.declared.control.Control.{Control}
 
+-- the resource that a `Resource` stands for
 abbrev pub resource_view : Resource → ResourceValue
 resource_view r = record { name = string_bytes r.name; filter = r.filter.items }
 
@@ -18,6 +19,7 @@ resource_view r = record { name = string_bytes r.name; filter = r.filter.items }
 abbrev pub snapshot_view : Snapshot → List ResourceValue
 snapshot_view s = map resource_view s.resources.items
 
+-- the snapshots in order
 abbrev pub snapshots_view : List Snapshot → List (List ResourceValue)
 snapshots_view snapshots = map snapshot_view snapshots
 
@@ -34,6 +36,7 @@ ResponseIsOf version nonce resources bytes = ResponseWritten (record {
   nonce = nonce;
 }) bytes
 
+-- what was served, as a `Served` keeps it
 abbrev pub served_view : Served → ServedValue
 served_view s = record {
   current = s.current;
