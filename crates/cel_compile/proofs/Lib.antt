@@ -10,3 +10,4 @@ pub mod Whole
 pub mod Built
 pub mod Operands
 pub mod Meaning
+pub mod Short
