@@ -7,9 +7,10 @@ ghost use Rattle.cel_tree.specs.Checked.{CelChecked};
 ghost use Rattle.cel_tree.specs.GoodConstants.{HasGoodConstants};
 ghost use Rattle.cel_tree.specs.Message.{IsChecked};
 ghost use Rattle.cel_tree.specs.Trees.{node_count};
-ghost use Rattle.cel_types.specs.Elaborated.{IsElaborated, TypedTree};
+ghost use Rattle.cel_types.specs.Elaborated.{IsElaborated, TypedTree, kind};
 ghost use Rattle.cel_types.specs.WellTyped.{IsWellTyped};
 ghost use Rattle.stack_machine.specs.Instructions.{Instruction};
+ghost use Rattle.stack_machine.specs.Typable.{Forward};
 ghost use Rattle.cel_compile.specs.Codes.{code_of};
 ghost use Rattle.cel_compile.specs.Slots.{HasFewLocals};
 ghost use Rattle.cel_compile.specs.Sound.{IsSound, RunsToMeaning};
@@ -37,4 +38,13 @@ pub fn compiled_code_is_short()
         → length (code_of 0 0 e) ≤ 6 * node_count c.tree }
     ensures room { (parts : List (List ℕ)) (c : CelChecked) (e : TypedTree) → IsChecked parts c
         → IsElaborated c e → (length (code_of 0 0 e) ≤ 65535) × HasFewLocals 0 e }
+{}
+
+/// One pass over the code of a well typed expression, and so over that of a checked expression's
+/// elaboration, finds a table of shapes that fits the code, with the expression's type: a verifier that
+/// finds a table wherever one pass does refuses no compiled code.
+pub fn compiled_code_is_forward()
+    ensures typed { (e : TypedTree) → IsWellTyped [] e → Forward (code_of 0 0 e) (kind e) }
+    ensures checked { (c : CelChecked) (e : TypedTree) → HasGoodConstants c.tree → IsElaborated c e
+        → Forward (code_of 0 0 e) (kind e) }
 {}
