@@ -19,7 +19,7 @@ use Rattle.cel_compile.specs.Codes.{code_of, extent, instruction_of, list_instru
 use Rattle.cel_compile.proofs.Forks.{both_flow, choice_flow, if_false, if_true, less_serves, loop_flow, tests}
 use Rattle.cel_compile.proofs.Leading.{call_leaves, constant_known, known_local, list_leaves, loop_known, map_leaves, pushed, shape, to, walked, walked_is}
 use Rattle.cel_compile.proofs.Placing.{Placed, PlacedAll, extent_is, has_all, placed}
-use Rattle.cel_compile.proofs.Settling.{Agrees, Flows, Settled, back, cut, front, here, known, next, plain, serves_same, serves_trans, then_flows}
+use Rattle.cel_compile.proofs.Settling.{Agrees, Flows, Settled, back, cut, front, here, known, next, plain, serves_same, serves_trans, spot, then_flows}
 use Rattle.cel_compile.proofs.Tables.{last, longer, longer_all, table_of, tables_of}
 
 -- ---- what a field leaves
@@ -48,6 +48,25 @@ module _ (code : List Instruction) (table : Table) where
         back table _ _ p m q agrees le m (omega arith) (omega (arith, e)),
       )
 
+  -- the tables of two operands of which the second may be passed over, and the shapes behind them
+  both_tables : (a b : TypedTree) (p d m n q : ℕ) (x : Placed code p d a m) (y : Placed code (m + 1) d b n) → q ≡ n + 1
+      → (ks : List ValueType) (slots loops : List Slot)
+      → Agrees table (cut m (table_of code a p d m x ks slots loops) (spot m (shape (of (kind a) ∷ slots) ks loops)
+      (cut n (table_of code b (m + 1) d n y ks (of (kind a) ∷ slots) loops) (last (shape (of (kind b) ∷ of (kind a) ∷ slots) ks loops))))) p q
+      → Agrees table (table_of code a p d m x ks slots loops) p m × (table m ≡ shape (of (kind a) ∷ slots) ks loops)
+      × Agrees table (table_of code b (m + 1) d n y ks (of (kind a) ∷ slots) loops) (m + 1) n
+      × (table n ≡ shape (of (kind b) ∷ of (kind a) ∷ slots) ks loops)
+  both_tables a b p d m n q x y e ks slots loops agrees =
+      let la = longer code a p d m x in
+      let lb = longer code b (m + 1) d n y in
+      let from_m = back table _ _ p m q agrees (omega (arith, la)) in
+      let from_b = next table _ (shape (of (kind a) ∷ slots) ks loops) m q from_m in (
+        front table _ _ p m q agrees (omega (arith, lb, e)),
+        here table _ (shape (of (kind a) ∷ slots) ks loops) m q from_m (omega (arith, lb, e)),
+        front table _ _ (m + 1) n q from_b (omega (arith, e)),
+        back table _ _ (m + 1) n q from_b (omega (arith, lb)) n (omega arith) (omega (arith, e)),
+      )
+
   -- operands, and an instruction that leaves one slot in their place
   call_flow : (ks : List ValueType) (slots loops : List Slot) (ts : List ValueType) (t : ValueType) (i : Instruction) (p m q : ℕ)
       → slice_get code m ≡ Some i → q ≡ m + 1 → table m ≡ shape (pushed ts slots) ks loops
@@ -72,11 +91,9 @@ module _ (code : List Instruction) (table : Table) where
     begins (typed_has t on name) p d q (m, po, h, e) ks slots loops agrees =
         begins on p d m po ks slots loops (front table _ _ p m q agrees (omega arith))
     begins (typed_call t overloads.LogicalAnd (typed a (typed b no_typed))) p d q (m, n, pa, h1, pb, h2, e) ks slots loops agrees =
-        let lb = longer code b (m + 1) d n pb in
-        begins a p d m pa ks slots loops (front table _ _ p m q agrees (omega (arith, lb, e)))
+        begins a p d m pa ks slots loops (both_tables a b p d m n q pa pb e ks slots loops agrees).0
     begins (typed_call t overloads.LogicalOr (typed a (typed b no_typed))) p d q (m, n, pa, h1, pb, h2, e) ks slots loops agrees =
-        let lb = longer code b (m + 1) d n pb in
-        begins a p d m pa ks slots loops (front table _ _ p m q agrees (omega (arith, lb, e)))
+        begins a p d m pa ks slots loops (both_tables a b p d m n q pa pb e ks slots loops agrees).0
     begins (typed_call t overloads.Conditional (typed c (typed a (typed b no_typed)))) p d q (m, n, pc, h1, pa, h2, pb) ks slots loops agrees =
         let la = longer code a (m + 1) d n pa in
         let lb = longer code b (n + 1) d q pb in
@@ -144,46 +161,31 @@ module _ (code : List Instruction) (table : Table) where
     flows (typed_call t overloads.LogicalAnd (typed a (typed b no_typed))) p q ks slots loops g (m, n, pa, h1, pb, h2, e) agrees le settled serves =
         let takes : kind a ∷ kind b ∷ [] ≡ bool_type ∷ bool_type ∷ [] = g.1.0 in
         let is_a : kind a ≡ bool_type = cc (takes) in
-        let is_b : kind b ≡ bool_type = cc (takes) in
-        let la = longer code a p (length ks) m pa in
         let lb = longer code b (m + 1) (length ks) n pb in
         let left = of (kind a) ∷ slots in
-        let s = shape left ks loops in
-        let u = shape (of (kind b) ∷ left) ks loops in
-        let from_m = back table _ _ p m q agrees (omega (arith, la)) in
-        let at_m = here table _ s m q from_m (omega (arith, lb, e)) in
-        let from_b = next table _ s m q from_m in
-        let in_b = front table _ _ (m + 1) n q from_b (omega (arith, e)) in
-        let at_n = back table _ _ (m + 1) n q from_b (omega (arith, lb)) n (omega arith) (omega (arith, e)) in
-        let made : ways And n u ≡ Some (to (n + 1) (shape (of t ∷ slots) ks loops) ∷ []) =
+        let (in_a, at_m, in_b, at_n) = both_tables a b p (length ks) m n q pa pb e ks slots loops agrees in
+        let made : ways And n (shape (of (kind b) ∷ left) ks loops) ≡ Some (to (n + 1) (shape (of t ∷ slots) ks loops) ∷ []) =
         call_leaves n slots ks loops overloads.LogicalAnd (kind a ∷ kind b ∷ []) t tt g.1 in
         both_flow code table ks slots loops (IfFalse q) And (kind a) (kind b) t p m n q
         (record { at = h1; is = at_m; found = if_false ks slots loops m (kind a) is_a q })
         (record { at = h2; is = at_n; found = made })
         e (omega (arith, lb)) le (is_a ∙ sym g.1.1) (begins b (m + 1) (length ks) n pb ks left loops in_b) serves
-        (flows a p m ks slots loops g.0.0 pa (front table _ _ p m q agrees (omega (arith, lb, e))) (omega (arith, lb, e, le)) settled (serves_same s (table m) (sym at_m)))
-        (λ there. flows b (m + 1) n ks left loops g.0.1.0 pb in_b (omega (arith, e, le)) there (serves_same u (table n) (sym at_n)))
+        (flows a p m ks slots loops g.0.0 pa in_a (omega (arith, lb, e, le)) settled (serves_same _ (table m) (sym at_m)))
+        (λ there. flows b (m + 1) n ks left loops g.0.1.0 pb in_b (omega (arith, e, le)) there (serves_same _ (table n) (sym at_n)))
     flows (typed_call t overloads.LogicalOr (typed a (typed b no_typed))) p q ks slots loops g (m, n, pa, h1, pb, h2, e) agrees le settled serves =
         let takes : kind a ∷ kind b ∷ [] ≡ bool_type ∷ bool_type ∷ [] = g.1.0 in
         let is_a : kind a ≡ bool_type = cc (takes) in
-        let la = longer code a p (length ks) m pa in
         let lb = longer code b (m + 1) (length ks) n pb in
         let left = of (kind a) ∷ slots in
-        let s = shape left ks loops in
-        let u = shape (of (kind b) ∷ left) ks loops in
-        let from_m = back table _ _ p m q agrees (omega (arith, la)) in
-        let at_m = here table _ s m q from_m (omega (arith, lb, e)) in
-        let from_b = next table _ s m q from_m in
-        let in_b = front table _ _ (m + 1) n q from_b (omega (arith, e)) in
-        let at_n = back table _ _ (m + 1) n q from_b (omega (arith, lb)) n (omega arith) (omega (arith, e)) in
-        let made : ways Or n u ≡ Some (to (n + 1) (shape (of t ∷ slots) ks loops) ∷ []) =
+        let (in_a, at_m, in_b, at_n) = both_tables a b p (length ks) m n q pa pb e ks slots loops agrees in
+        let made : ways Or n (shape (of (kind b) ∷ left) ks loops) ≡ Some (to (n + 1) (shape (of t ∷ slots) ks loops) ∷ []) =
         call_leaves n slots ks loops overloads.LogicalOr (kind a ∷ kind b ∷ []) t tt g.1 in
         both_flow code table ks slots loops (IfTrue q) Or (kind a) (kind b) t p m n q
         (record { at = h1; is = at_m; found = if_true ks slots loops m (kind a) is_a q })
         (record { at = h2; is = at_n; found = made })
         e (omega (arith, lb)) le (is_a ∙ sym g.1.1) (begins b (m + 1) (length ks) n pb ks left loops in_b) serves
-        (flows a p m ks slots loops g.0.0 pa (front table _ _ p m q agrees (omega (arith, lb, e))) (omega (arith, lb, e, le)) settled (serves_same s (table m) (sym at_m)))
-        (λ there. flows b (m + 1) n ks left loops g.0.1.0 pb in_b (omega (arith, e, le)) there (serves_same u (table n) (sym at_n)))
+        (flows a p m ks slots loops g.0.0 pa in_a (omega (arith, lb, e, le)) settled (serves_same _ (table m) (sym at_m)))
+        (λ there. flows b (m + 1) n ks left loops g.0.1.0 pb in_b (omega (arith, e, le)) there (serves_same _ (table n) (sym at_n)))
     flows (typed_call t overloads.Conditional (typed c (typed a (typed b no_typed)))) p q ks slots loops g (m, n, pc, h1, pa, h2, pb) agrees le settled serves =
         let takes : kind c ∷ kind a ∷ kind b ∷ [] ≡ bool_type ∷ t ∷ t ∷ [] = g.1 in
         let is_c : kind c ≡ bool_type = cc (takes) in

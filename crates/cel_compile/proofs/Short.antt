@@ -1,5 +1,5 @@
--- The code of an elaboration is short: at most six instructions a node, and few locals.
-use Rattle.std.proofs.Common.{◌≡◌, ℕ, ◌+◌, ◌*◌, ◌≤◌, List, [], max, refl, arith, length}
+-- The code of an elaboration is short: fewer than two instructions a node, and few locals.
+use Rattle.std.proofs.Common.{◌≡◌, ℕ, ◌+◌, ◌*◌, ◌<◌, ◌≤◌, List, [], max, refl, arith, length}
 use Rattle.std.proofs.Math.Nat.{le-max_left, le-max_right}
 use Rattle.cel_value.specs.Types.{ValueType}
 use Rattle.cel_overload.specs.declared.overload.Overload.{Overload}
@@ -10,14 +10,14 @@ use Rattle.cel_tree.specs.Tree.{CelTree, constant, ident, select, call, list_lit
 use Rattle.cel_tree.specs.Trees.{entries_count, node_count, target_count, trees_count}
 use Rattle.cel_types.specs.Elaborated.{Elaborates, ElaboratesEach, ElaboratesPairs, ElaboratesTarget, IsElaborated, TypedTree, TypedTrees, no_typed, typed, typed_attribute, typed_call, typed_constant, typed_field, typed_has, typed_list, typed_local, typed_loop, typed_map}
 use Rattle.cel_types.specs.Typing.{Kinds, Maps, locals_in, locals_in_each, locals_in_entries, locals_in_target, maps_of}
-use Rattle.cel_compile.specs.Codes.{code_of, extent, extents}
+use Rattle.cel_compile.specs.Codes.{code_of, count, extent, extents}
 use Rattle.cel_compile.specs.Slots.{HasFewLocals, HaveFewLocals}
 use Rattle.cel_compile.proofs.Placing.{extent_is}
 
 -- ---- lengths
 
--- a call has at most two instructions beside its operands'
-call_extent : (t : ValueType) (o : Overload) (es : TypedTrees) → extent (typed_call t o es) ≤ extents es + 2
+-- a call has one instruction beside its operands', or two where it has as many operands
+call_extent : (t : ValueType) (o : Overload) (es : TypedTrees) → extent (typed_call t o es) < extents es + count es + 2
 call_extent t overloads.LogicalAnd (typed a (typed b no_typed)) = omega arith
 call_extent t overloads.LogicalOr (typed a (typed b no_typed)) = omega arith
 call_extent t overloads.Conditional (typed c (typed a (typed b no_typed))) = omega arith
@@ -25,8 +25,8 @@ call_extent t o es =
     let one : extent (typed_call t o es) ≡ extents es + 1 = refl in omega (arith, one)
 
 mutual
-  -- at most six instructions for each node
-  extent_bound : (m : Maps) (ks : Kinds) (t : CelTree) (e : TypedTree) → Elaborates m ks t e → extent e ≤ 6 * node_count t
+  -- fewer than two instructions for each node
+  extent_bound : (m : Maps) (ks : Kinds) (t : CelTree) (e : TypedTree) → Elaborates m ks t e → extent e < 2 * node_count t
   extent_bound m ks (constant id v) (typed_constant t w) g = omega arith
   extent_bound m ks (constant id v) _ g = absurd g
   extent_bound m ks (ident id name) (typed_local t outside) g = omega arith
@@ -59,8 +59,8 @@ mutual
   extent_bound m ks (comprehension id x acc range init condition step result) _ g = absurd g
 
   target_bound : (m : Maps) (ks : Kinds) (on : CelTarget) (args : CelTrees) (es : TypedTrees)
-      → ((fs : TypedTrees) → ElaboratesEach m ks args fs → extents fs ≤ 6 * trees_count args)
-      → ElaboratesTarget m ks on (ElaboratesEach m ks args) es → extents es ≤ 6 * (target_count on + trees_count args)
+      → ((fs : TypedTrees) → ElaboratesEach m ks args fs → extents fs + count fs ≤ 2 * trees_count args)
+      → ElaboratesTarget m ks on (ElaboratesEach m ks args) es → extents es + count es ≤ 2 * (target_count on + trees_count args)
   target_bound m ks no_target args es others g = let inside = others es g in omega (arith, inside)
   target_bound m ks (target on) args no_typed others g = absurd g
   target_bound m ks (target on) args (typed e es) others g =
@@ -68,7 +68,7 @@ mutual
       let inside = others es g.1 in
       omega (arith, first, inside)
 
-  each_bound : (m : Maps) (ks : Kinds) (ts : CelTrees) (es : TypedTrees) → ElaboratesEach m ks ts es → extents es ≤ 6 * trees_count ts
+  each_bound : (m : Maps) (ks : Kinds) (ts : CelTrees) (es : TypedTrees) → ElaboratesEach m ks ts es → extents es + count es ≤ 2 * trees_count ts
   each_bound m ks no_trees no_typed g = omega arith
   each_bound m ks no_trees (typed e es) g = absurd g
   each_bound m ks (tree t ts) no_typed g = absurd g
@@ -77,7 +77,7 @@ mutual
       let others = each_bound m ks ts es g.1 in
       omega (arith, first, others)
 
-  pairs_bound : (m : Maps) (ks : Kinds) (ts : CelTreeEntries) (es : TypedTrees) → ElaboratesPairs m ks ts es → extents es ≤ 6 * entries_count ts
+  pairs_bound : (m : Maps) (ks : Kinds) (ts : CelTreeEntries) (es : TypedTrees) → ElaboratesPairs m ks ts es → extents es + count es ≤ 2 * entries_count ts
   pairs_bound m ks no_tree_entries no_typed g = omega arith
   pairs_bound m ks no_tree_entries (typed e es) g = absurd g
   pairs_bound m ks (tree_entry id key value ts) no_typed g = absurd g
@@ -171,16 +171,14 @@ mutual
 
 -- ---- checked expressions
 
-pub short_code : (c : CelChecked) (e : TypedTree) → IsElaborated c e → length (code_of 0 0 e) ≤ 6 * node_count c.tree
-short_code c e is =
-    let long = extent_is e 0 0 in
-    let bound = extent_bound (maps_of c) [] c.tree e is.elaborates in
-    omega (arith, long, bound)
+pub short_code : (c : CelChecked) (e : TypedTree) → IsElaborated c e → extent e < 2 * node_count c.tree
+short_code c e is = extent_bound (maps_of c) [] c.tree e is.elaborates
 
 pub fitting_code : (parts : List (List ℕ)) (c : CelChecked) (e : TypedTree) → IsChecked parts c → IsElaborated c e
     → (length (code_of 0 0 e) ≤ 65535) × HasFewLocals 0 e
 fitting_code parts c e (fs, message, says) is =
+    let long = extent_is e 0 0 in
     let bound = short_code c e is in
     let nodes = says.few in
     let locals = is.typed.few in
-    (omega (arith, bound, nodes), few (maps_of c) [] c.tree e 0 is.elaborates (omega (arith, locals)))
+    (omega (arith, long, bound, nodes), few (maps_of c) [] c.tree e 0 is.elaborates (omega (arith, locals)))

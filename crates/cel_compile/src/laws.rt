@@ -1,6 +1,6 @@
 //! What holds of every expression's code.
 
-ghost use Rattle.std.specs.Prelude.{◌≡◌, ◌≤◌, ◌*◌, ℕ, List, [], length};
+ghost use Rattle.std.specs.Prelude.{◌≡◌, ◌≤◌, ◌<◌, ◌*◌, ℕ, List, [], length};
 ghost use Rattle.attributes.specs.Limits.{InLimits, LimitsValue};
 ghost use Rattle.attributes.specs.Request.{IsRequest, RequestValue};
 ghost use Rattle.cel_tree.specs.Checked.{CelChecked};
@@ -11,7 +11,7 @@ ghost use Rattle.cel_types.specs.Elaborated.{IsElaborated, TypedTree, kind};
 ghost use Rattle.cel_types.specs.WellTyped.{IsWellTyped};
 ghost use Rattle.stack_machine.specs.Instructions.{Instruction};
 ghost use Rattle.stack_machine.specs.Typable.{Forward};
-ghost use Rattle.cel_compile.specs.Codes.{code_of};
+ghost use Rattle.cel_compile.specs.Codes.{code_of, extent};
 ghost use Rattle.cel_compile.specs.Slots.{HasFewLocals};
 ghost use Rattle.cel_compile.specs.Sound.{IsSound, RunsToMeaning};
 
@@ -30,12 +30,14 @@ pub fn compiled_code_means_its_expression()
         → RunsToMeaning (code_of 0 0 e) c e request limits }
 {}
 
-/// The code of an elaboration has at most six instructions for each node of the expression. So an
-/// expression that was read, which has at most 2,048 nodes, and which is typed, with at most 64 locals
-/// in scope, is never too large for a code.
+/// The code of an expression has as many instructions as its extent, and that of an elaboration fewer
+/// than two for each node of the expression. So an expression that was read, which has at most 2,048
+/// nodes, and that is typed, with at most 64 locals in scope, is never too large for a code: it has
+/// at most 4,095 instructions.
 pub fn compiled_code_is_short()
+    ensures extent { (e : TypedTree) (p d : ℕ) → length (code_of p d e) ≡ extent e }
     ensures short { (c : CelChecked) (e : TypedTree) → IsElaborated c e
-        → length (code_of 0 0 e) ≤ 6 * node_count c.tree }
+        → extent e < 2 * node_count c.tree }
     ensures room { (parts : List (List ℕ)) (c : CelChecked) (e : TypedTree) → IsChecked parts c
         → IsElaborated c e → (length (code_of 0 0 e) ≤ 65535) × HasFewLocals 0 e }
 {}
