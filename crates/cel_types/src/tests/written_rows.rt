@@ -4,7 +4,7 @@
 use crate::tests::check_rows::Row;
 use proto_wire::Refusal;
 
-pub(super) const WRITTEN: [Row; 13] = [
+pub(super) const WRITTEN: [Row; 16] = [
     (
         "request.method == \"GET\", a type at each node and overloads at the call",
         Ok(b'b'),
@@ -50,6 +50,24 @@ pub(super) const WRITTEN: [Row; 13] = [
         Err(Refusal::BadTypeEntry),
         b"\x1a\x06\x08\x07\x12\x02\x18\x05\x222\x10\x072.\x12\x04_==_\x1a\x1b\x10\x07*\x17\x0a\
           \x0d\x10\x07\x22\x09\x0a\x07request\x12\x06method\x1a\x09\x10\x07\x1a\x052\x03GET",
+    ),
+    (
+        "the same with type dyn at the root alone",
+        Ok(b'b'),
+        b"\x1a\x06\x08\x01\x12\x02\x0a\x00\x222\x10\x032.\x12\x04_==_\x1a\x1b\x10\x02*\x17\x0a\
+          \x0d\x10\x01\x22\x09\x0a\x07request\x12\x06method\x1a\x09\x10\x04\x1a\x052\x03GET",
+    ),
+    (
+        "the same with type dyn at the attribute alone",
+        Ok(b'b'),
+        b"\x1a\x06\x08\x02\x12\x02\x0a\x00\x222\x10\x032.\x12\x04_==_\x1a\x1b\x10\x02*\x17\x0a\
+          \x0d\x10\x01\x22\x09\x0a\x07request\x12\x06method\x1a\x09\x10\x04\x1a\x052\x03GET",
+    ),
+    (
+        "the same with type int at the attribute",
+        Err(Refusal::BadTypeEntry),
+        b"\x1a\x06\x08\x02\x12\x02\x18\x02\x222\x10\x032.\x12\x04_==_\x1a\x1b\x10\x02*\x17\x0a\
+          \x0d\x10\x01\x22\x09\x0a\x07request\x12\x06method\x1a\x09\x10\x04\x1a\x052\x03GET",
     ),
     (
         "the same with entries at ids that no node has",
