@@ -18,3 +18,4 @@ pub mod TreeLaws
 pub mod CheckedLaws
 pub mod Bounds
 pub mod GoodConstantLaws
+pub mod IdLaws

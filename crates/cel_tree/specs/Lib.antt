@@ -9,4 +9,5 @@ pub mod Nodes
 pub mod Trees
 pub mod Message
 pub mod GoodConstants
+pub mod Ids
 pub mod steps

@@ -1,10 +1,11 @@
 //! Laws over the definitions: bytes are the message of one checked expression at most, and a message or a fault, never
-//! both; and its tree's constants have the types of their kinds.
+//! both; its tree's constants have the types of their kinds, and its ids are int64.
 
 ghost use Rattle.std.specs.Prelude.{◌≡◌, ◌⊎◌, ℕ, List};
 ghost use Rattle.proto_wire.specs.declared.refusal.Refusal.{Refusal};
 ghost use Rattle.cel_tree.specs.Checked.{CelChecked};
 ghost use Rattle.cel_tree.specs.GoodConstants.{HasGoodConstants};
+ghost use Rattle.cel_tree.specs.Ids.{IdsAreInt64};
 ghost use Rattle.cel_tree.specs.Message.{IsChecked, CheckedFault};
 
 /// Payloads are the message of a checked expression, or have a fault.
@@ -25,4 +26,9 @@ pub fn checked_unique()
 /// Each constant of its tree has the type of its kind.
 pub fn constants_have_types()
     ensures { (parts : List (List ℕ)) (c : CelChecked) → IsChecked parts c → HasGoodConstants c.tree }
+{}
+
+/// The id of each of its nodes, and each id of its maps, is from -2^63 to 2^63 - 1.
+pub fn ids_are_int64()
+    ensures { (parts : List (List ℕ)) (c : CelChecked) → IsChecked parts c → IdsAreInt64 c }
 {}

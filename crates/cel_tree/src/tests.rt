@@ -599,6 +599,106 @@ fn levels(rt: HostRuntime) -> Result<(), Fail> {
     Ok(())
 }
 
+/// A place of an expression inside another.
+#[derive(Clone, Copy, Debug)]
+enum Place {
+    Operand,
+    Target,
+    Arg,
+    Element,
+    Key,
+    Value,
+    /// A part of a comprehension, by its number.
+    Part(u32),
+}
+
+const PLACES: [Place; 11] = [
+    Place::Operand,
+    Place::Target,
+    Place::Arg,
+    Place::Element,
+    Place::Key,
+    Place::Value,
+    Place::Part(2),
+    Place::Part(4),
+    Place::Part(5),
+    Place::Part(6),
+    Place::Part(7),
+];
+
+/// The numbers of a comprehension's parts.
+const PARTS: [u32; 5] = [2, 4, 5, 6, 7];
+
+/// The constant true.
+const LEAF: &[u8] = b"\x1a\x02\x10\x01";
+
+/// A message with this one field.
+fn of_field(alloc: Global, number: u32, payload: &[u8]) -> Result<Vec<u8>, AllocError> {
+    let mut out = Writer::new(Vec::new(alloc));
+    out.message(number, payload)?;
+    Ok(out.into_bytes())
+}
+
+/// A map literal of this key and value.
+fn map(alloc: Global, key: &[u8], value: &[u8]) -> Result<Vec<u8>, AllocError> {
+    let mut entry = Writer::new(Vec::new(alloc));
+    entry.message(3, key)?;
+    entry.message(4, value)?;
+    let entries = of_field(alloc, 2, &entry.into_bytes())?;
+    of_field(alloc, 8, &entries)
+}
+
+/// A comprehension with the expression as this part.
+fn comprehension(alloc: Global, part: u32, expr: &[u8]) -> Result<Vec<u8>, AllocError> {
+    let mut parts = Writer::new(Vec::new(alloc));
+    for number in PARTS {
+        if number == part {
+            parts.message(number, expr)?;
+        } else {
+            parts.message(number, LEAF)?;
+        }
+    }
+    of_field(alloc, 9, &parts.into_bytes())
+}
+
+/// An expression around another at this place.
+fn around(alloc: Global, place: Place, expr: &[u8]) -> Result<Vec<u8>, AllocError> {
+    match place {
+        Place::Operand => of_field(alloc, 5, &of_field(alloc, 1, expr)?),
+        Place::Target => of_field(alloc, 6, &of_field(alloc, 1, expr)?),
+        Place::Arg => of_field(alloc, 6, &of_field(alloc, 3, expr)?),
+        Place::Element => of_field(alloc, 7, &of_field(alloc, 1, expr)?),
+        Place::Key => map(alloc, expr, LEAF),
+        Place::Value => map(alloc, LEAF, expr),
+        Place::Part(number) => comprehension(alloc, number, expr),
+    }
+}
+
+/// A checked expression of so many around a constant, each at this place of the next.
+fn nested(alloc: Global, place: Place, count: usize) -> Result<Vec<u8>, AllocError> {
+    let mut expr = Vec::new(alloc);
+    expr.extend_from_slice(LEAF)?;
+    for _ in 0..count {
+        expr = around(alloc, place, &expr)?;
+    }
+    of_field(alloc, 4, &expr)
+}
+
+/// At each place an expression of 64 levels is read, and one of 65 is too deep.
+#[test]
+fn levels_at_each_place(rt: HostRuntime) -> Result<(), Fail> {
+    let alloc = rt.alloc();
+    for place in PLACES {
+        assert!(rt;
+            read_checked(alloc, &nested(alloc, place, 63)?).is_ok(),
+            "at {place:?}"
+        );
+        let deeper = read_checked(alloc, &nested(alloc, place, 64)?).err();
+        assert!(rt; deeper == Some(Refusal::TooLarge), "at {place:?}");
+    }
+    Ok(())
+}
+
 /// A list and its elements are 2,048 nodes, or one too many.
 #[test]
 fn nodes(rt: HostRuntime) -> Result<(), Fail> {

@@ -1,13 +1,20 @@
-//! Checked expressions that have a type, and ones that are refused.
+//! Checked expressions that have a type, ones that are refused, and what expressions come to.
 
+mod answer_rows;
 mod check_rows;
+mod written_rows;
 
-use crate::check;
+use crate::{check, evaluate_plainly};
+use answer_rows::ANSWERS;
+use attributes::{Conn, Request};
 use cel_tree::read_checked;
-use cel_value::{CelType, KeyType};
+use cel_value::{Answer, CelType, KeyType, Value};
 use check_rows::{CALLS, LEAVES, LITERALS, LOOPS, Row, SCOPES, SELECTS};
 use proto_wire::Refusal;
-use std::alloc::Global;
+use std::alloc::{AllocError, Global};
+use std::rc::RcStr;
+use std::test::Fail;
+use written_rows::WRITTEN;
 
 /// What `check` answers on a message: the letter of a type, or a refusal.
 fn answer(alloc: Global, bytes: &[u8]) -> Result<u8, Refusal> {
@@ -89,4 +96,40 @@ fn loops(rt: HostRuntime) {
 #[test]
 fn scopes(rt: HostRuntime) {
     assert_eq!(rt; first_wrong(rt.alloc(), &SCOPES), None);
+}
+
+#[test]
+fn written(rt: HostRuntime) {
+    assert_eq!(rt; first_wrong(rt.alloc(), &WRITTEN), None);
+}
+
+/// `GET /a?b` over plain HTTP, without fields.
+fn get(alloc: Global) -> Result<Request, AllocError> {
+    let method = String::from_str(alloc, "GET")?;
+    let target = String::from_str(alloc, "/a?b")?;
+    let conn = Conn::of_scheme(RcStr::from_str(alloc, "http")?);
+    Request::new(alloc, method, target, true, Vec::new(alloc), conn)
+}
+
+/// An answer in a word.
+fn word(answer: &Option<Answer>) -> &'static str {
+    match answer {
+        None => "nothing",
+        Some(Ok(Value::Bool(true))) => "true",
+        Some(Ok(Value::Bool(false))) => "false",
+        Some(Ok(_)) => "another value",
+        Some(Err(error)) => error.name(),
+    }
+}
+
+#[test]
+fn answers(rt: HostRuntime) -> Result<(), Fail> {
+    let alloc = rt.alloc();
+    let request = get(alloc)?;
+    for (text, want, bytes) in &ANSWERS {
+        let checked = read_checked(alloc, bytes)?;
+        let answer = evaluate_plainly(alloc, &checked.tree, &request)?;
+        assert!(rt; word(&answer) == *want, "at {text}");
+    }
+    Ok(())
 }
