@@ -67,7 +67,7 @@ const FUNCTIONS: [(&'static str, Function); 26] = [
 ];
 
 /// The function of a name; `None` where no function has it.
-pub(crate) fn function_named(name: &str) -> Option<Function>
+pub fn function_named(name: &str) -> Option<Function>
     ensures { result ≡ function_named (points_of name.now) }
 {
     find_function(&FUNCTIONS, name)

@@ -8,5 +8,5 @@ mod overload;
 #[cfg(test)]
 mod tests;
 
-pub use function::Function;
+pub use function::{Function, function_named};
 pub use overload::{Found, Overload, OverloadFault, ResultType, find_overload};

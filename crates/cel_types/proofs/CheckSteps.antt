@@ -1,5 +1,5 @@
 -- What the single steps of the check come to.
-use Rattle.std.proofs.Common.{nat_lt, arith, ◌≤◌, ◌*◌, max, ℤ, rules, ◌≡◌, ◌≢◌, ◌<◌, ◌+◌, ◌-◌, ◌&&◌, suc, inl, inr, ℕ, Bool, Bor, true, false, List, [], ◌∷◌, ◌++◌, drop, take, length, get_or, Option, Some, None, refl, sym, ap, ap₂, ◌∙◌}
+use Rattle.std.proofs.Common.{nat_lt, arith, ◌≤◌, max, ℤ, rules, ◌≡◌, ◌<◌, ◌+◌, ◌-◌, ◌&&◌, ℕ, Bool, Bor, true, false, List, [], ◌∷◌, ◌++◌, drop, take, length, get_or, Option, Some, None, refl, sym, ap, ap₂, ◌∙◌}
 use Rattle.std.proofs.lemmas.List.{drop_more, length-drop, map-append, take_all, take_more}
 use Rattle.std.specs.Prelude.{is_some, IsTrue, IsUtf8, ◌==◌}
 use Rattle.cel_overload.specs.View.{types_of}
@@ -19,11 +19,9 @@ use Rattle.cel_tree.specs.declared.tree.Tree as trees
 use Rattle.cel_tree.specs.declared.tree.TreeEntry.{TreeEntry}
 use Rattle.std.specs.declared.rc.RcStr.{RcStr}
 use Rattle.cel_tree.specs.Checked.{CelTypeEntry, of_type, dyn_type, unsupported_type}
-use Rattle.cel_ops.specs.Attributes.{attribute_type}
 use Rattle.cel_value.specs.Texts.{points_of, text_view}
 use Rattle.cel_value.specs.Types.{ValueType, type_eq, type_view}
 use Rattle.cel_value.specs.declared.cel_type.CelType.{CelType}
-use Rattle.cel_types.specs.Attributes.{attribute_named}
 use Rattle.cel_types.specs.Elaborated.{kind, kinds, typed_call, typed_list, typed_map}
 use Rattle.cel_types.specs.Names.{local}
 use Rattle.cel_types.specs.Typing.{IsMap, Kinds, TypeGiven, has_target, locals_in, locals_in_each, locals_in_entries, name_type}

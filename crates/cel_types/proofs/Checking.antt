@@ -6,20 +6,14 @@ use Rattle.cel_tree.specs.declared.tree.Tree.{Tree}
 use Rattle.cel_tree.specs.declared.tree.TreeEntry.{TreeEntry}
 use Rattle.cel_types.specs.declared.typed.TypedExpr.{TypedExpr}
 use Rattle.std.specs.FinMap.{get}
-use Rattle.attributes.specs.declared.attribute.AttrId.{AttrId}
-use Rattle.cel_ops.specs.Attributes.{attribute_type}
-use Rattle.cel_overload.specs.Overloads.{IsCall}
-use Rattle.cel_overload.specs.declared.overload.Overload.{Overload}
-use Rattle.cel_tree.specs.Checked.{CelReference, CelTypeEntry, of_type, dyn_type, unsupported_type}
+use Rattle.cel_tree.specs.Checked.{CelTypeEntry}
 use Rattle.cel_tree.specs.Tree.{CelTree, constant, ident, select, call, list_literal, map_literal, comprehension, CelTarget, no_target, target, CelTrees, no_trees, tree, CelTreeEntries, no_tree_entries, tree_entry, id_of}
 use Rattle.cel_value.specs.EqualityLaws.{type_eq-Decides}
-use Rattle.cel_value.specs.Types.{ValueType, bool_type, list_type, map_type, type_eq, type_of_key}
-use Rattle.cel_value.specs.declared.cel_type.KeyType.{KeyType}
+use Rattle.cel_value.specs.Types.{ValueType, bool_type, map_type, type_eq, type_of_key}
 use Rattle.cel_value.specs.declared.cel_type.KeyType.TheVariants as keys
-use Rattle.cel_types.specs.Attributes.{attribute_named}
 use Rattle.cel_types.specs.Elaborated.{Elaborates, ElaboratesEach, ElaboratesPairs, ElaboratesTarget, TypedTree, TypedTrees, kind, kinds, no_typed, typed, typed_attribute, typed_call, typed_constant, typed_field, typed_has, typed_list, typed_local, typed_loop, typed_map}
-use Rattle.cel_types.specs.Names.{joined_name, local, root_of}
-use Rattle.cel_types.specs.Typing.{EachAgrees, EntriesAgree, EntryAgrees, IsList, IsMap, ListRule, LoopRule, MapRule, IsOver, Kinds, Maps, NamesDiffer, PairsAgree, RefAgrees, TargetAgrees, TypeAgrees, TypeGiven, Types, TypesAll, TypesEach, TypesPairs, TypesTarget, has_target, locals_in, locals_in_each, locals_in_entries}
+use Rattle.cel_types.specs.Names.{joined_name, root_of}
+use Rattle.cel_types.specs.Typing.{EachAgrees, EntriesAgree, EntryAgrees, ListRule, MapRule, IsOver, Kinds, Maps, NamesDiffer, PairsAgree, TargetAgrees, TypeAgrees, Types, TypesAll, TypesEach, TypesPairs, TypesTarget, has_target, locals_in, locals_in_each, locals_in_entries}
 use Rattle.cel_types.specs.TypingFaults.{CallsFault, ElementsFault, EntryFault, ItemTypes, KeyTypes, PairFault, PairsFault, SelectFault, SomeFault, SomeTypes, TargetFault, TypeFault}
 use Rattle.cel_types.specs.TypingFaults.{EachTurn, unsupported_kind, another_type, no_element_name, no_gathered_name, one_name, no_elements, no_condition, no_step, in_range, in_init, in_turn as faulty_turn, in_result}
 use Rattle.cel_types.specs.View.{expr_view, exprs_view, typed_of}

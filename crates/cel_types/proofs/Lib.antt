@@ -15,3 +15,4 @@ pub mod MeansTheSame
 pub mod Checking
 pub mod CheckNames
 pub mod CheckSteps
+pub mod PlainSteps

@@ -13,9 +13,9 @@ mod kinds;
 mod literals;
 mod locals;
 mod loops;
-mod names;
+pub(crate) mod names;
 mod nodes;
-mod scope;
+pub(crate) mod scope;
 mod variables;
 
 use crate::typed::Typed;

@@ -3,9 +3,11 @@
 
 mod checker;
 pub mod laws;
+mod plain;
 mod typed;
 
 pub use checker::check;
+pub use plain::evaluate_plainly;
 pub use typed::{Typed, TypedExpr, TypedLoop};
 
 #[cfg(test)]

@@ -6,7 +6,6 @@ use Rattle.cel_overload.specs.declared.overload.OverloadFault.TheVariants as cal
 use Rattle.cel_tree.specs.Checked.{CelTypeEntry, unsupported_type}
 use Rattle.cel_value.specs.Types.{ValueType, bool_type, list_type, map_type, type_eq, type_of_key, type_view}
 use Rattle.cel_value.specs.declared.cel_type.KeyType.{KeyType}
-use Rattle.cel_value.specs.declared.cel_type.KeyType.TheVariants as keys
 use Rattle.cel_types.specs.Elaborated.{TypedTree, typed_field, typed_has}
 use Rattle.cel_types.specs.Typing.{IsList, IsMap, TypeGiven}
 use Rattle.cel_types.specs.TypingFaults.{EmptyFault, SaysNothing}

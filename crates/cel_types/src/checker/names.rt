@@ -62,7 +62,8 @@ pub(super) fn resolve_field(name: &str, test_only: bool) -> Result<AttrId, Refus
     }
 }
 
-fn attribute_named(name: &str) -> Option<AttrId>
+/// The attribute of a name with a dot.
+pub(crate) fn attribute_named(name: &str) -> Option<AttrId>
     ensures { result ≡ attribute_named (points_of name.now) }
 {
     attr_named(name)
@@ -125,14 +126,15 @@ fn is_bare_root(name: &RcStr, scope: &Scope<'_>) -> bool
     is_root(name.as_str())
 }
 
-fn is_root(name: &str) -> bool
+/// Whether the name is a root of attributes' names.
+pub(crate) fn is_root(name: &str) -> bool
     ensures { result ≡ is_root (points_of name.now) }
 {
     matches!(name, "request" | "source" | "destination" | "connection")
 }
 
 /// A root's name and a field's, joined by a dot.
-pub(super) fn joined_name(alloc: Global, root: &str, field: &str) -> Result<String, AllocError>
+pub(crate) fn joined_name(alloc: Global, root: &str, field: &str) -> Result<String, AllocError>
     ensures { IfOk result (λ name. points_of (string_bytes name) ≡ joined_name (points_of root.now) (points_of field.now)) }
 {
     let mut name = String::new(alloc);

@@ -1,5 +1,4 @@
-use Rattle.std.proofs.Common.{◌≡◌, ◌∙◌, sym, refl, true}
-use Rattle.std.specs.Str.{bytes_eq}
+use Rattle.std.proofs.Common.{refl}
 use Rattle.std.specs.Cmp.Lexicographic.{bytes_decides}
 use Rattle.cel_value.specs.Texts.{points_of, text_view}
 use Rattle.cel_types.proofs.checker.entries.agrees.Goals as goal

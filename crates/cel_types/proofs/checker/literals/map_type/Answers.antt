@@ -1,4 +1,4 @@
-use Rattle.std.proofs.Common.{◌≡◌, ap, sym, ◌∙◌}
+use Rattle.std.proofs.Common.{ap, ◌∙◌}
 use Rattle.cel_value.proofs.Views.{view-MapType}
 use Rattle.cel_value.specs.Types.{map_type, type_view}
 use Rattle.cel_tree.proofs.Readers.{exit_fault}

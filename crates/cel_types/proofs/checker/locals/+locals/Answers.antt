@@ -1,5 +1,5 @@
 use Rattle.std.proofs.Common.{false, suc, sym, ◌∙◌}
-use Rattle.cel_types.proofs.CheckSteps.{few-at, few-entries-at}
+use Rattle.cel_types.proofs.CheckSteps.{few-at}
 use Rattle.cel_types.proofs.checker.locals.+locals.Goals as goal
 
 pub each_has_few-returns-then-not-has_few : goal.each_has_few-returns-then-not-has_few

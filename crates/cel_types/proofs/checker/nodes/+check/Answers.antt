@@ -1,4 +1,4 @@
-use Rattle.std.proofs.Common.{arith, rules, ◌≡◌, ◌≤◌, ◌+◌, inl, inr, map, sym, ap, ◌∙◌, to_z, of_z, to_z-of_z, w64}
+use Rattle.std.proofs.Common.{arith, rules, ◌≡◌, inl, inr, map, sym, to_z, of_z, to_z-of_z, w64}
 use Rattle.std.proofs.lemmas.Grind.{common_steps}
 use Rattle.cel_tree.specs.declared.tree.Tree.{the_lemmas}
 use Rattle.std.proofs.lemmas.Result.{MatchResult-weaker}
