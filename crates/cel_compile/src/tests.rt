@@ -1,13 +1,15 @@
 //! Worked expressions, from their bytes to bounds, codes and answers.
 
+mod beside_meaning;
 mod container_rows;
 mod loop_rows;
 mod operator_rows;
+mod random_trees;
 mod worked_rows;
 
 use crate::compile;
 use attributes::{Conn, Limits, Request};
-use cel_tree::{Checked, read_checked};
+use cel_tree::read_checked;
 use cel_types::{Typed, check};
 use cel_value::{CelError, Value};
 use code_verifier::verify;

@@ -35,10 +35,12 @@ emit-returns-in_ok-instr-in-Map t c =
 pub emit-returns-in-Loop : goal.emit-returns-in-Loop
 emit-returns-in-Loop t c =
     let seen : expr_view c.args.expr.now ≡ loop_of (type_view c.in-Loop.cel_type) (parts_view c.in-Loop.parts.value) = rw (c.in-Loop.is) (search (rules, exprs.the_lemmas)) in
-    record { grows = MatchResult-weaker c.emit_loop.result c.emit_loop.ensures.grows (λ u grows.
-        let inner : Grows c.args.code.now.items c.emit_loop.new.code.items c.args.depth (loop_of (type_view c.in-Loop.cel_type) (parts_view c.in-Loop.parts.value)) =
-        rw (← c.deref-in-Loop.ensures) (grows (type_view c.in-Loop.cel_type)) in
-        rw seen inner) (λ e h. h); }
+    record {
+      grows = MatchResult-weaker c.emit_loop.result c.emit_loop.ensures.grows (λ u grows.
+          let inner : Grows c.args.code.now.items c.emit_loop.new.code.items c.args.depth (loop_of (type_view c.in-Loop.cel_type) (parts_view c.in-Loop.parts.value)) =
+          rw (← c.deref-in-Loop.ensures) (grows (type_view c.in-Loop.cel_type)) in
+          rw seen inner) (λ e h. h);
+    }
 
 pub emit_all-loop-expr-preserved : goal.emit_all-loop-expr-preserved
 emit_all-loop-expr-preserved t c =
