@@ -63,7 +63,7 @@ const LOOPS: [(&'static str, usize, usize, &'static str); 21] = [
 ];
 
 /// The kind of an expression without parts, and its template.
-pub(super) const LEAVES: [(&'static str, &'static str); 48] = [
+pub(super) const LEAVES: [(&'static str, &'static str); 47] = [
     ("bool", "true"),
     ("bool", "false"),
     ("bool", "attr connection mtls"),
@@ -111,12 +111,11 @@ pub(super) const LEAVES: [(&'static str, &'static str); 48] = [
     ("flags", "no_flags"),
     ("names", "attr request headers"),
     ("names", "ident request.headers"),
-    ("text", "attr request method"),
     ("int", "int 2"),
 ];
 
 /// The kind of an expression, and its template: a call with its operands' kinds, or another node.
-pub(super) const TEMPLATES: [(&'static str, &'static str); 84] = [
+pub(super) const TEMPLATES: [(&'static str, &'static str); 79] = [
     ("bool", "call _&&_ bool bool"),
     ("bool", "call _||_ bool bool"),
     ("bool", "call !_ bool"),
@@ -195,13 +194,7 @@ pub(super) const TEMPLATES: [(&'static str, &'static str); 84] = [
     ("flags", "map int bool int bool"),
     ("names", "map text text"),
     ("names", "map text text text text"),
-    // What `all`, `exists`, `exists_one`, `map` and `filter` make of their parts.
     ("bool", "call __not_strictly_false__ bool"),
-    ("bool", "call _&&_ bool bool"),
-    ("bool", "call _||_ bool bool"),
-    ("int", "call _?_:_ bool int int"),
-    ("ints", "call _+_ ints ints"),
-    ("ints", "call _?_:_ bool ints ints"),
 ];
 
 // The types of the empty literals with ids 1 to 4: `ints`, `texts`, `counts` and `flags`.
