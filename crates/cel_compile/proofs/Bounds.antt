@@ -12,6 +12,7 @@ use Rattle.cel_overload.specs.Answers.{HaveTypes, overload_charge}
 use Rattle.cel_overload.specs.declared.overload.Overload.{Overload}
 use Rattle.cel_types.specs.Elaborated.{TypedTree}
 use Rattle.cel_types.specs.TypedMeaning.{typed_answer}
+use Rattle.cel_types.specs.WellTyped.{IsWellTyped}
 use Rattle.cost_bound.specs.Costs.{charge_at, element_size, field_cost, map_cost, size_of}
 use Rattle.cost_bound.proofs.Charged.{field_charged, list_charged, map_charged, overload_charged}
 use Rattle.cost_bound.proofs.Joins.{length_within, within_left, within_right}
@@ -20,7 +21,7 @@ use Rattle.cost_bound.specs.Sizes.{AllWithin, EachFits, Fits, Size, Within, join
 
 -- of a request and its limits
 pub record Bounds (request : RequestValue) (limits : LimitsValue) : Type 0 where
-  pub answer : (e : TypedTree) (ls : List CelAnswer) (sizes : List Size) (a : CelAnswer) → AllWithin ls sizes
+  pub answer : (e : TypedTree) (ks : List ValueType) (ls : List CelAnswer) (sizes : List Size) (a : CelAnswer) → IsWellTyped ks e → AllWithin ls sizes
       → typed_answer e request ls ≡ Some a → Within a (size_of e limits sizes)
   pub call : (o : Overload) (ts : List ValueType) (xs : List CelAnswer) (sizes : List Size) → HaveTypes xs ts → AllWithin xs sizes
       → overload_charge o xs ≤ charge_at o ts sizes
@@ -47,7 +48,7 @@ found_elements v vs s h e = absurd cc
 
 pub bounds_of : (request : RequestValue) (limits : LimitsValue) → IsRequest request → InLimits request limits → Bounds request limits
 bounds_of request limits valid within = record {
-  answer = λ e ls sizes a h is. answer_within e request valid limits within ls sizes h a is;
+  answer = λ e ks ls sizes a g h is. answer_within e ks g request valid limits within ls sizes h a is;
   call = λ o ts xs sizes types h. overload_charged o xs ts sizes h types;
   field = field_charged;
   listed = list_charged;

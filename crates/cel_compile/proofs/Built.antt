@@ -1,5 +1,5 @@
 -- Code that is written piece by piece is an expression's code; jumps are written last.
-use Rattle.std.proofs.Common.{◌≡◌, ℕ, suc, ◌+◌, ◌<◌, ◌≤◌, ◌^◌, List, [], ◌∷◌, ◌++◌, length, refl, sym, ap, ◌∙◌, subst, arith, append_assoc, length-append}
+use Rattle.std.proofs.Common.{◌≡◌, ℕ, suc, ◌+◌, ◌<◌, ◌≤◌, ◌^◌, ◌⊎◌, inl, inr, List, [], ◌∷◌, ◌++◌, length, refl, sym, ap, ◌∙◌, subst, arith, append_assoc, length-append}
 use Rattle.std.proofs.Math.Seq.{set-append_seam}
 use Rattle.std.proofs.lemmas.List.{map-append, map-set, length-map, length-set}
 use Rattle.std.specs.Prelude.{slice_set}
@@ -11,7 +11,7 @@ use Rattle.stack_machine.specs.Instructions.{Instruction, code_view, instr_view,
 use Rattle.stack_machine.specs.declared.instr.Instr.{Instr}
 use Rattle.cel_compile.specs.Codes.{code_of, codes_of, extent, extents, instruction_of}
 use Rattle.cel_compile.specs.Slots.{HasFewLocals, HaveFewLocals}
-use Rattle.cel_compile.specs.steps.Emitting.{Grows, GrowsAll}
+use Rattle.cel_compile.specs.steps.Emitting.{Grows, GrowsAll, passing_over}
 use Rattle.cel_compile.proofs.Placing.{extent_is, extents_is}
 
 -- one more instruction
@@ -93,6 +93,18 @@ both_built d a b i0 i1 i2 i3 i4 i5 x y z fork end jump j ga f e2 gb e4 is ends e
           ∙ ap (λ n. code_view i0 ++ (A ++ jump n ∷ (B ++ j ∷ []))) m4
           ∙ ap (λ n. code_view i0 ++ (A ++ jump (p + extent a + 1 + extent b + 1) ∷ (code_of n d b ++ j ∷ []))) m2,
     )
+
+-- either of them
+pub junction_built : (d : ℕ) (a b : TypedTree) (i0 i1 i2 i3 i4 i5 : List Instr) (x y z : Instr) (fork end : ℕ) (t : ValueType) (o : Overload)
+    → (o ≡ overloads.LogicalAnd) ⊎ (o ≡ overloads.LogicalOr)
+    → Grows i0 i1 d a → fork ≡ length i1 → i2 ≡ i1 ++ x ∷ [] → Grows i2 i3 d b → i4 ≡ i3 ++ y ∷ [] → instr_view y ≡ instruction_of o → end ≡ length i4
+    → i5 ≡ slice_set i4 fork z → (end < 2 ^ 16 → instr_view z ≡ passing_over o end)
+    → Grows i0 i5 d (typed_call t o (typed a (typed b no_typed)))
+junction_built d a b i0 i1 i2 i3 i4 i5 x y z fork end t o which ga f e2 gb e4 is ends e5 jumps =
+    elim which [
+      | inl e ↦ rw e (both_built d a b i0 i1 i2 i3 i4 i5 x y z fork end IfFalse And ga f e2 gb e4 (is ∙ ap instruction_of e) ends e5 (λ short. jumps short ∙ ap (λ v. passing_over v end) e))
+      | inr e ↦ rw e (both_built d a b i0 i1 i2 i3 i4 i5 x y z fork end IfTrue Or ga f e2 gb e4 (is ∙ ap instruction_of e) ends e5 (λ short. jumps short ∙ ap (λ v. passing_over v end) e))
+    ]
 
 -- `?:`
 pub choice_built : (d : ℕ) (c a b : TypedTree) (i0 i1 i2 i3 i4 i5 i6 i7 : List Instr) (x y u v : Instr) (fork leave other end : ℕ) (t : ValueType)

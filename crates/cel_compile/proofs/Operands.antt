@@ -1,5 +1,5 @@
 -- Lists of the code's expressions, as the definitions see them.
-use Rattle.std.proofs.Common.{◌≡◌, ◌≢◌, ℕ, suc, ◌+◌, ◌/◌, ◌<◌, ◌≤◌, ◌^◌, ◌↔◌, Bool, true, false, List, [], ◌∷◌, ◌++◌, length, drop, get_or, map, refl, sym, ap, ◌∙◌, subst, arith, append-nil, length-append}
+use Rattle.std.proofs.Common.{◌≡◌, ◌≢◌, ℕ, suc, ◌+◌, ◌/◌, ◌<◌, ◌≤◌, ◌^◌, ◌↔◌, ◌⊎◌, inl, inr, Bool, true, false, List, [], ◌∷◌, ◌++◌, length, drop, get_or, map, refl, sym, ap, ◌∙◌, subst, arith, append-nil, length-append}
 use Rattle.std.specs.Prelude.{IsTrue}
 use Rattle.std.proofs.lemmas.List.{drop_all, drop_more}
 use Rattle.cel_value.specs.Types.{ValueType}
@@ -73,15 +73,14 @@ three_operands (x ∷ y ∷ []) a b c d e f least less ea eb ec = absurd (omega 
 three_operands (x ∷ y ∷ z ∷ []) a b c d e f least less ea eb ec = rw (ea, eb, ec) refl
 three_operands (x ∷ y ∷ z ∷ w ∷ xs) a b c d e f least less ea eb ec = absurd (omega arith)
 
-pub plain_grows : (ba bo bc : Bool) (d : ℕ) (t : ValueType) (o : Overload) (xs : List TypedExpr) (i0 i1 i2 : List Instr) (i : Instr)
-    → (IsTrue ba ↔ ((o ≡ overloads.LogicalAnd) × (length xs ≡ 2))) → ba ≡ false
-    → (IsTrue bo ↔ ((o ≡ overloads.LogicalOr) × (length xs ≡ 2))) → bo ≡ false
+pub plain_grows : (bj bc : Bool) (d : ℕ) (t : ValueType) (o : Overload) (xs : List TypedExpr) (i0 i1 i2 : List Instr) (i : Instr)
+    → (IsTrue bj ↔ (((o ≡ overloads.LogicalAnd) ⊎ (o ≡ overloads.LogicalOr)) × (length xs ≡ 2))) → bj ≡ false
     → (IsTrue bc ↔ ((o ≡ overloads.Conditional) × (length xs ≡ 3))) → bc ≡ false
     → GrowsAll i0 i1 d (exprs_view xs) → i2 ≡ i1 ++ i ∷ [] → instr_view i ≡ instruction_of o → Grows i0 i2 d (typed_call t o (exprs_view xs))
-plain_grows ba bo bc d t overloads.LogicalAnd (x ∷ y ∷ []) i0 i1 i2 i ha na ho n_o hc nc g e is = let h : ba ≡ true = ha.1 (refl, refl) in absurd cc
-plain_grows ba bo bc d t overloads.LogicalOr (x ∷ y ∷ []) i0 i1 i2 i ha na ho n_o hc nc g e is = let h : bo ≡ true = ho.1 (refl, refl) in absurd cc
-plain_grows ba bo bc d t overloads.Conditional (x ∷ y ∷ z ∷ []) i0 i1 i2 i ha na ho n_o hc nc g e is = let h : bc ≡ true = hc.1 (refl, refl) in absurd cc
-plain_grows ba bo bc d t o xs i0 i1 i2 i ha na ho n_o hc nc g e is =
+plain_grows bj bc d t overloads.LogicalAnd (x ∷ y ∷ []) i0 i1 i2 i hj nj hc nc g e is = let h : bj ≡ true = hj.1 (inl refl, refl) in absurd cc
+plain_grows bj bc d t overloads.LogicalOr (x ∷ y ∷ []) i0 i1 i2 i hj nj hc nc g e is = let h : bj ≡ true = hj.1 (inr refl, refl) in absurd cc
+plain_grows bj bc d t overloads.Conditional (x ∷ y ∷ z ∷ []) i0 i1 i2 i hj nj hc nc g e is = let h : bc ≡ true = hc.1 (refl, refl) in absurd cc
+plain_grows bj bc d t o xs i0 i1 i2 i hj nj hc nc g e is =
     closed i0 i1 i2 i (extents (exprs_view xs)) (HaveFewLocals d (exprs_view xs)) (codes_of (length i0) d (exprs_view xs)) (instruction_of o) g e (λ short. is)
 
 -- ---- literals

@@ -191,13 +191,13 @@ module _ (code : List Instruction) (request : RequestValue) (limits : LimitsValu
       let same : x.0 ≡ xs = cc (both) in
       subst (λ z. HaveTypes z (kinds es)) same x.2
 
-  answers_within : (es : TypedTrees) (ls xs : List CelAnswer) (sizes : List Size) → AllWithin ls sizes
+  answers_within : (es : TypedTrees) (ks : List ValueType) (ls xs : List CelAnswer) (sizes : List Size) → AreWellTyped ks es → AllWithin ls sizes
       → typed_answers es request ls ≡ Some xs → AllWithin xs (sizes_of es limits sizes)
-  answers_within no_typed ls xs sizes h is = let none : [] ≡ xs = cc in subst (λ z. AllWithin z []) none tt
-  answers_within (typed e es) ls xs sizes h is =
+  answers_within no_typed ks ls xs sizes g h is = let none : [] ≡ xs = cc in subst (λ z. AllWithin z []) none tt
+  answers_within (typed e es) ks ls xs sizes g h is =
       let x = before_some (typed_answer e request ls) (typed_answers es request ls) xs is in
       subst (λ z. AllWithin z (size_of e limits sizes ∷ sizes_of es limits sizes)) (sym x.4)
-      (bounds.answer e ls sizes x.0 h x.2, answers_within es ls x.1 sizes h x.3)
+      (bounds.answer e ks ls sizes x.0 g.0 h x.2, answers_within es ks ls x.1 sizes g.1 h x.3)
 
   mutual
     pub runs : (e : TypedTree) (p q : ℕ) (st ls : List CelAnswer) (lo : List CelValues) (sizes : List Size) (ks : List ValueType) (r : CelAnswer)
@@ -213,14 +213,14 @@ module _ (code : List Instruction) (request : RequestValue) (limits : LimitsValu
         rw e (plain code request (Attr a) p st ls lo (p + 1) (r ∷ st) lo h (λ f. ap (λ o. gives o (state p st f lo) st) is))
     runs (typed_field t on name) p q st ls lo sizes ks r ht hw g (m, po, h, e) is =
         let x = then_some (field name) (typed_answer on request ls) r is in
-        let w = bounds.answer on ls sizes x.0 hw x.1 in
+        let w = bounds.answer on ks ls sizes x.0 g.0 hw x.1 in
         let charged = bounds.field name x.0 (size_of on limits sizes) w in
         rw e (makes_goes code request ls lo (Field name) p m (x.0 ∷ []) st r (cost_of on limits sizes) _ _ h
         (record { does = λ q' p' st' f lo'. ap (λ o. gives o (state p' (x.0 ∷ st') f lo') st') x.2; costs = λ st'. refl })
         (omega (arith, charged)) (runs on p m st ls lo sizes ks x.0 ht hw g.0 po x.1))
     runs (typed_has t on name) p q st ls lo sizes ks r ht hw g (m, po, h, e) is =
         let x = then_some (has_field name) (typed_answer on request ls) r is in
-        let w = bounds.answer on ls sizes x.0 hw x.1 in
+        let w = bounds.answer on ks ls sizes x.0 g.0 hw x.1 in
         let charged = bounds.field name x.0 (size_of on limits sizes) w in
         rw e (makes_goes code request ls lo (HasField name) p m (x.0 ∷ []) st r (cost_of on limits sizes) _ _ h
         (record { does = λ q' p' st' f lo'. ap (λ o. gives o (state p' (x.0 ∷ st') f lo') st') x.2; costs = λ st'. refl })
@@ -250,7 +250,7 @@ module _ (code : List Instruction) (request : RequestValue) (limits : LimitsValu
         let m = placed.0 in
         let all = then_some (overload_answer o) (typed_answers operands request ls) r is in
         let charged = bounds.call o (kinds operands) all.0 (sizes_of operands limits sizes) (answers_have_types operands ks ls all.0 ht g.0 all.1)
-        (answers_within operands ls all.0 sizes hw all.1) in
+        (answers_within operands ks ls all.0 sizes g.0 hw all.1) in
         rw (placed.3) (makes_goes code request ls lo (instruction_of o) p m all.0 st r (total (costs_of operands limits sizes)) (overload_charge o all.0)
         (total (costs_of operands limits sizes) + charge_at o (kinds operands) (sizes_of operands limits sizes)) placed.2
         (call_makes o all.0 r tt all.2) (omega (arith, charged)) (runs_all operands p m st ls lo sizes ks all.0 ht hw g.0 placed.1 all.1))
@@ -264,7 +264,7 @@ module _ (code : List Instruction) (request : RequestValue) (limits : LimitsValu
     runs (typed_map t entries) p q st ls lo sizes ks r ht hw g (m, po, h, e) is =
         let all = then_some map_literal (typed_answers entries request ls) r is in
         let many = counted entries request ls all.0 all.1 ∙ paired entries g.1.0 g.1.1 g.1.3 in
-        let charged = bounds.mapped all.0 (sizes_of entries limits sizes) (answers_within entries ls all.0 sizes hw all.1) in
+        let charged = bounds.mapped all.0 (sizes_of entries limits sizes) (answers_within entries ks ls all.0 sizes g.0 hw all.1) in
         rw e (makes_goes code request ls lo (map_instruction t entries) p m all.0 st r (total (costs_of entries limits sizes)) (map_literal_charge all.0)
         (total (costs_of entries limits sizes) + map_cost (sizes_of entries limits sizes)) h
         (map_makes t entries all.0 r many all.2) (omega (arith, charged)) (runs_all entries p m st ls lo sizes ks all.0 ht hw g.0 po all.1))
@@ -292,7 +292,7 @@ module _ (code : List Instruction) (request : RequestValue) (limits : LimitsValu
               (hv.0, (ha.0, ht)) (hv.1, (ha.1, hw)) g.2.4 ps e;
           gathers = λ v a s b hv ha e. (
             subst (λ z. AnswerHasType b z) g.2.5 (answer_has_type step (element ∷ kind init ∷ ks) (value v ∷ a ∷ ls) b (hv.0, (ha.0, ht)) g.2.4 e),
-            bounds.right b s (next s) (bounds.answer step (value v ∷ a ∷ ls) (item_size ∷ s ∷ sizes) b (hv.1, (ha.1, hw)) e),
+            bounds.right b s (next s) (bounds.answer step (element ∷ kind init ∷ ks) (value v ∷ a ∷ ls) (item_size ∷ s ∷ sizes) b g.2.4 (hv.1, (ha.1, hw)) e),
           );
           keeps = λ a s ha. (ha.0, bounds.left a s (next s) ha.1);
           result = λ a s b ha e. runs result (l + 1 + 1) q st (a ∷ ls) lo (s ∷ sizes) (kind init ∷ ks) b (ha.0, ht) (ha.1, hw) g.3 pe e;
@@ -307,13 +307,13 @@ module _ (code : List Instruction) (request : RequestValue) (limits : LimitsValu
         (λ a e. runs range p m st ls lo sizes ks a ht hw g.0 pr e)
         (λ v vs e is_elements is_turns.
         let x = then_some (fold C S R vs) (typed_answer init request ls) r is_turns in
-        let fit = bounds.answer range ls sizes (value v) hw e in
+        let fit = bounds.answer range ks ls sizes (value v) g.0 hw e in
         let range_typed = answer_has_type range ks ls (value v) ht g.0 e in (
           x.0,
           runs init (m + 1) n st ls (vs ∷ lo) sizes ks x.0 ht hw g.1 pi x.1,
           bounds.long v over_size fit,
           loop_goes code request ls lo st n k l q C S R cc cs cr next IsElement IsGathered parts vs most x.0 from r
-              (answer_has_type init ks ls x.0 ht g.1 x.1, bounds.answer init ls sizes x.0 hw x.1)
+              (answer_has_type init ks ls x.0 ht g.1 x.1, bounds.answer init ks ls sizes x.0 g.1 hw x.1)
               (both_each element item_size vs (elements_typed (elements_of v) vs element is_elements (walked-typed (kind range) element g.2.1 v range_typed))
               (bounds.elements v vs over_size fit is_elements))
               (bounds.few v vs over_size fit is_elements) x.2,

@@ -14,13 +14,15 @@ ghost use Rattle.cel_compile.specs.Sound.{IsSound};
 ghost use Rattle.cel_compile.specs.steps.Emitting.{Grows, GrowsAll};
 
 use crate::few_locals::has_few_locals;
-use crate::instructions::{call_instr, constant_of, list_instr, map_instr, next_local, target};
+use crate::instructions::{
+    call_instr, constant_instr, field_instr, has_field_instr, list_instr, map_instr, next_local,
+    passing_over, target,
+};
 use cel_overload::Overload;
 use cel_types::{Typed, TypedExpr, TypedLoop};
 use proto_wire::Refusal;
 use stack_machine::{Code, CodeFault, Instr};
 use std::alloc::{AllocError, Global};
-use std::rc::RcStr;
 
 /// The code of an expression, which shares its texts. It is `TooLarge` where it has more than 65,535
 /// instructions, or somewhere more than 255 locals in scope.
@@ -88,55 +90,33 @@ fn emit(code: &mut Vec<Instr>, depth: u8, expr: &TypedExpr<'_>) -> Result<(), Al
     ensures grows { OnOk result (Grows code.old.items code.new.items depth (expr_view expr.now)) }
 {
     match expr {
-        TypedExpr::Constant { value, .. } => {
-            let constant = constant_of(value)?;
-            put(code, Instr::Const(constant))?;
-            Ok(())
-        }
-        TypedExpr::Local { outside, .. } => {
-            put(code, Instr::Load(*outside))?;
-            Ok(())
-        }
-        TypedExpr::Attribute { id, .. } => {
-            put(code, Instr::Attr(*id))?;
-            Ok(())
-        }
+        TypedExpr::Constant { value, .. } => put(code, constant_instr(value)?),
+        TypedExpr::Local { outside, .. } => put(code, Instr::Load(*outside)),
+        TypedExpr::Attribute { id, .. } => put(code, Instr::Attr(*id)),
         TypedExpr::Field { map, name, .. } => {
             emit(code, depth, map)?;
-            let text: &RcStr = name;
-            put(code, Instr::Field(text.clone()?))?;
-            Ok(())
+            put(code, field_instr(name)?)
         }
         TypedExpr::HasField { map, name, .. } => {
             emit(code, depth, map)?;
-            let text: &RcStr = name;
-            put(code, Instr::HasField(text.clone()?))?;
-            Ok(())
+            put(code, has_field_instr(name)?)
         }
         TypedExpr::Call {
             overload,
             operands,
             ..
-        } => {
-            emit_call(code, depth, *overload, operands)?;
-            Ok(())
-        }
+        } => emit_call(code, depth, *overload, operands),
         TypedExpr::List { cel_type, elements } => {
             emit_all(code, depth, elements)?;
             let instr = list_instr(cel_type, elements)?;
-            put(code, instr)?;
-            Ok(())
+            put(code, instr)
         }
         TypedExpr::Map { cel_type, pairs } => {
             emit_all(code, depth, pairs)?;
             let instr = map_instr(cel_type, pairs)?;
-            put(code, instr)?;
-            Ok(())
+            put(code, instr)
         }
-        TypedExpr::Loop { parts, .. } => {
-            emit_loop(code, depth, parts)?;
-            Ok(())
-        }
+        TypedExpr::Loop { parts, .. } => emit_loop(code, depth, parts),
     }
 }
 
@@ -162,12 +142,8 @@ fn emit_call(
     ensures grows { OnOk result ((t : ValueType) → Grows code.old.items code.new.items depth
         (typed_call t overload (exprs_view operands.now))) }
 {
-    if is_and(overload, operands.len()) {
-        emit_and(code, depth, operands)?;
-        return Ok(());
-    }
-    if is_or(overload, operands.len()) {
-        emit_or(code, depth, operands)?;
+    if is_junction(overload, operands.len()) {
+        emit_junction(code, depth, overload, operands)?;
         return Ok(());
     }
     if is_choice(overload, operands.len()) {
@@ -179,19 +155,11 @@ fn emit_call(
     Ok(())
 }
 
-fn is_and(overload: Overload, count: usize) -> bool
-    ensures { IsTrue result ↔ ((overload ≡ Overload.LogicalAnd) × (count ≡ 2)) }
+fn is_junction(overload: Overload, count: usize) -> bool
+    ensures { IsTrue result ↔ (((overload ≡ Overload.LogicalAnd) ⊎ (overload ≡ Overload.LogicalOr)) × (count ≡ 2)) }
 {
     match overload {
         Overload::LogicalAnd => count == 2,
-        _ => false,
-    }
-}
-
-fn is_or(overload: Overload, count: usize) -> bool
-    ensures { IsTrue result ↔ ((overload ≡ Overload.LogicalOr) × (count ≡ 2)) }
-{
-    match overload {
         Overload::LogicalOr => count == 2,
         _ => false,
     }
@@ -206,37 +174,26 @@ fn is_choice(overload: Overload, count: usize) -> bool
     }
 }
 
-// `&&`: the right side is passed over where the left one is false.
+// `&&` or `||`: the right side is passed over where the left one decides.
 #[cycle(emit)]
-fn emit_and(code: &mut Vec<Instr>, depth: u8, operands: &[TypedExpr<'_>]) -> Result<(), AllocError>
-    requires { length operands.now ≡ 2 }
+fn emit_junction(
+    code: &mut Vec<Instr>,
+    depth: u8,
+    overload: Overload,
+    operands: &[TypedExpr<'_>],
+) -> Result<(), AllocError>
+    requires two { length operands.now ≡ 2 }
+    requires junction { (overload ≡ Overload.LogicalAnd) ⊎ (overload ≡ Overload.LogicalOr) }
     ensures grows { OnOk result ((t : ValueType) → Grows code.old.items code.new.items depth
-        (typed_call t Overload.LogicalAnd (exprs_view operands.now))) }
+        (typed_call t overload (exprs_view operands.now))) }
 {
     emit(code, depth, &operands[0])?;
     let fork = code.len();
-    put(code, Instr::IfFalse(0))?;
+    put(code, passing_over(overload, 0))?;
     emit(code, depth, &operands[1])?;
-    put(code, Instr::And)?;
+    put(code, call_instr(overload))?;
     let end = code.len();
-    patch(code, fork, Instr::IfFalse(target(end)));
-    Ok(())
-}
-
-// `||`: the right side is passed over where the left one is true.
-#[cycle(emit)]
-fn emit_or(code: &mut Vec<Instr>, depth: u8, operands: &[TypedExpr<'_>]) -> Result<(), AllocError>
-    requires { length operands.now ≡ 2 }
-    ensures grows { OnOk result ((t : ValueType) → Grows code.old.items code.new.items depth
-        (typed_call t Overload.LogicalOr (exprs_view operands.now))) }
-{
-    emit(code, depth, &operands[0])?;
-    let fork = code.len();
-    put(code, Instr::IfTrue(0))?;
-    emit(code, depth, &operands[1])?;
-    put(code, Instr::Or)?;
-    let end = code.len();
-    patch(code, fork, Instr::IfTrue(target(end)));
+    patch(code, fork, passing_over(overload, target(end)));
     Ok(())
 }
 

@@ -5,9 +5,11 @@ ghost use Rattle.cel_value.specs.Types.{type_view};
 ghost use Rattle.cel_tree.specs.View.{constant_view};
 ghost use Rattle.cel_types.specs.View.{exprs_view};
 ghost use Rattle.cel_types.specs.Elaborated.{no_typed};
-ghost use Rattle.stack_machine.specs.Instructions.{instr_view};
+ghost use Rattle.stack_machine.specs.Instructions.{instr_view, Const, Field, HasField};
 ghost use Rattle.stack_machine.specs.Instructions as machine;
+ghost use Rattle.cel_value.specs.Texts.{text_view};
 ghost use Rattle.cel_compile.specs.Codes.{instruction_of, list_instruction, map_instruction};
+ghost use Rattle.cel_compile.specs.steps.Emitting.{passing_over};
 
 use cel_ops::TextTest;
 use cel_overload::Overload;
@@ -16,6 +18,7 @@ use cel_types::TypedExpr;
 use cel_value::{CelType, KeyType};
 use stack_machine::{Constant as MachineConstant, Instr};
 use std::alloc::AllocError;
+use std::rc::RcStr;
 
 /// A position as a target; one that is too far stands in code that is refused as a whole.
 pub(crate) fn target(position: usize) -> u16
@@ -35,8 +38,15 @@ pub(crate) fn next_local(depth: u8) -> u8
     if depth < 255 { depth + 1 } else { depth }
 }
 
-/// The constant of the machine that shares the tree's text or bytes.
-pub(crate) fn constant_of(constant: &Constant) -> Result<MachineConstant, AllocError>
+/// The push of a constant, which shares the tree's text or bytes.
+pub(crate) fn constant_instr(constant: &Constant) -> Result<Instr, AllocError>
+    ensures { IfOk result (λ i. instr_view i ≡ Const (constant_view constant.now)) }
+{
+    Ok(Instr::Const(constant_of(constant)?))
+}
+
+// The constant of the machine.
+fn constant_of(constant: &Constant) -> Result<MachineConstant, AllocError>
     ensures { IfOk result (λ c. machine.constant_view c ≡ constant_view constant.now) }
 {
     match constant {
@@ -45,6 +55,30 @@ pub(crate) fn constant_of(constant: &Constant) -> Result<MachineConstant, AllocE
         Constant::Uint(n) => Ok(MachineConstant::Uint(*n)),
         Constant::Text(text) => Ok(MachineConstant::Text(text.clone()?)),
         Constant::Bytes(bytes) => Ok(MachineConstant::Bytes(bytes.clone()?)),
+    }
+}
+
+/// The look-up of a name in a map, which shares the tree's text.
+pub(crate) fn field_instr(name: &RcStr) -> Result<Instr, AllocError>
+    ensures { IfOk result (λ i. instr_view i ≡ Field (text_view name.now)) }
+{
+    Ok(Instr::Field(name.clone()?))
+}
+
+/// The test whether a map has a name, likewise.
+pub(crate) fn has_field_instr(name: &RcStr) -> Result<Instr, AllocError>
+    ensures { IfOk result (λ i. instr_view i ≡ HasField (text_view name.now)) }
+{
+    Ok(Instr::HasField(name.clone()?))
+}
+
+/// The jump of `&&` or `||` over its right side: where the left one is false, or true.
+pub(crate) fn passing_over(overload: Overload, end: u16) -> Instr
+    ensures { instr_view result ≡ passing_over overload end }
+{
+    match overload {
+        Overload::LogicalOr => Instr::IfTrue(end),
+        _ => Instr::IfFalse(end),
     }
 }
 

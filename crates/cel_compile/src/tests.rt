@@ -1,46 +1,156 @@
-//! Codes of worked expressions.
+//! Worked expressions, from their bytes to bounds, codes and answers.
+
+mod beside_meaning;
+mod container_rows;
+mod loop_rows;
+mod operator_rows;
+mod random_trees;
+mod worked_rows;
 
 use crate::compile;
-use cel_overload::Overload;
-use cel_tree::Constant;
-use cel_types::{Typed, TypedExpr};
-use cel_value::CelType;
-use stack_machine::Instr;
-use std::alloc::{AllocError, Global};
+use attributes::{Conn, Limits, Request};
+use cel_tree::read_checked;
+use cel_types::{Typed, check};
+use cel_value::{CelError, Value};
+use code_verifier::verify;
+use container_rows::CONTAINERS;
+use cost_bound::bound;
+use loop_rows::{FOLDS, LOOPS};
+use operator_rows::{CHOICES, OPERATORS};
+use proto_wire::Refusal;
+use stack_machine::{Instr, RunError, Verified, run};
+use std::alloc::Global;
+use std::process::Abort;
+use std::rc::RcStr;
 use std::test::Fail;
+use worked_rows::{REFUSED, WORKED};
 
-fn constant(value: &Constant) -> TypedExpr<'_> {
-    TypedExpr::Constant {
-        cel_type: CelType::Bool,
-        value,
+/// An expression, what it comes to, in how many steps, its bound, and its message.
+type Row = (
+    &'static str,
+    Result<bool, CelError>,
+    u64,
+    u64,
+    &'static [u8],
+);
+
+// `GET /` with the Host field `h`, on a connection of which the scheme alone is known.
+fn plain_get(alloc: Global) -> Result<Request, Fail> {
+    let host = (
+        String::from_str(alloc, "host")?,
+        String::from_str(alloc, "h")?,
+    );
+    let method = String::from_str(alloc, "GET")?;
+    let target = String::from_str(alloc, "/")?;
+    let conn = Conn::of_scheme(RcStr::from_str(alloc, "http")?);
+    let lines = vec![in alloc; host]?;
+    Ok(Request::new(alloc, method, target, true, lines, conn)?)
+}
+
+// Whether the bound is this: a budget of one less is too small.
+fn has_bound(alloc: Global, typed: &Typed<'_>, most: u64) -> bool {
+    bound(alloc, typed, &Limits::largest(), most) == Ok(most)
+        && bound(alloc, typed, &Limits::largest(), most.saturating_sub(1))
+            == Err(Refusal::TooCostly)
+}
+
+// The code of an expression, which is verified for results of its type.
+fn verified(alloc: Global, typed: &Typed<'_>) -> Result<Verified, Fail> {
+    let code = compile(alloc, typed)?;
+    match verify(alloc, code, typed.root.cel_type()) {
+        Ok(verified) => Ok(verified),
+        Err(_) => Err(Fail::from("a code is not verified")),
     }
 }
 
-fn call<'a>(
+// Whether the code comes to this in so many steps, with this fuel; with too little it has no answer.
+fn comes_to(
     alloc: Global,
-    overload: Overload,
-    first: TypedExpr<'a>,
-    second: TypedExpr<'a>,
-) -> Result<TypedExpr<'a>, AllocError> {
-    let mut operands = Vec::new(alloc);
-    operands.push(first)?;
-    operands.push(second)?;
-    Ok(TypedExpr::Call {
-        cel_type: CelType::Bool,
-        overload,
-        operands,
-    })
+    code: &Verified,
+    request: &Request,
+    want: Result<bool, CelError>,
+    steps: u64,
+    fuel: u64,
+) -> Result<bool, Fail> {
+    let outcome = run(alloc, code, request, fuel)?;
+    let short = run(alloc, code, request, steps.saturating_sub(1));
+    Ok(
+        outcome.steps == steps
+            && outcome.result == want.map(Value::Bool)
+            && matches!(short, Err(RunError::OutOfSteps)),
+    )
+}
+
+// Whether the expression does as its row says.
+fn is_right(alloc: Global, request: &Request, row: &Row) -> Result<bool, Fail> {
+    let (_, want, steps, most, bytes) = row;
+    let checked = read_checked(alloc, bytes)?;
+    let typed = check(alloc, &checked)?;
+    let code = verified(alloc, &typed)?;
+    Ok(has_bound(alloc, &typed, *most) && comes_to(alloc, &code, request, *want, *steps, *most)?)
+}
+
+fn check_rows(rt: &impl Abort, alloc: Global, rows: &[Row]) -> Result<(), Fail> {
+    let request = plain_get(alloc)?;
+    for row in rows {
+        let right = is_right(alloc, &request, row)?;
+        assert!(rt; right, "at {}", row.0);
+    }
+    Ok(())
+}
+
+#[test]
+fn worked(rt: HostRuntime) -> Result<(), Fail> {
+    check_rows(&rt, rt.alloc(), &WORKED)
+}
+
+#[test]
+fn operators(rt: HostRuntime) -> Result<(), Fail> {
+    check_rows(&rt, rt.alloc(), &OPERATORS)
+}
+
+#[test]
+fn choices(rt: HostRuntime) -> Result<(), Fail> {
+    check_rows(&rt, rt.alloc(), &CHOICES)
+}
+
+#[test]
+fn containers(rt: HostRuntime) -> Result<(), Fail> {
+    check_rows(&rt, rt.alloc(), &CONTAINERS)
+}
+
+#[test]
+fn macros(rt: HostRuntime) -> Result<(), Fail> {
+    check_rows(&rt, rt.alloc(), &LOOPS)
+}
+
+#[test]
+fn comprehensions(rt: HostRuntime) -> Result<(), Fail> {
+    check_rows(&rt, rt.alloc(), &FOLDS)
+}
+
+// The bound of a message's expression.
+fn bound_of(alloc: Global, bytes: &[u8]) -> Result<u64, Refusal> {
+    let checked = read_checked(alloc, bytes)?;
+    let typed = check(alloc, &checked)?;
+    bound(alloc, &typed, &Limits::largest(), u64::MAX)
+}
+
+#[test]
+fn refused(rt: HostRuntime) -> Result<(), Fail> {
+    for (text, fault, bytes) in &REFUSED {
+        assert!(rt; bound_of(rt.alloc(), bytes) == Err(*fault), "at {text}");
+    }
+    Ok(())
 }
 
 // `true && true`: the right side is passed over where the left one is false.
 #[test]
-fn true_and_true(rt: HostRuntime) -> Result<(), Fail> {
+fn code_of_true_and_true(rt: HostRuntime) -> Result<(), Fail> {
     let alloc = rt.alloc();
-    let yes = Constant::Bool(true);
-    let root = call(alloc, Overload::LogicalAnd, constant(&yes), constant(&yes))?;
-    let Ok(code) = compile(alloc, &Typed { root }) else {
-        return Err(Fail::from("true && true has no code"));
-    };
+    let checked = read_checked(alloc, WORKED[0].4)?;
+    let typed = check(alloc, &checked)?;
+    let code = compile(alloc, &typed)?;
     assert!(rt; code.len() == 4);
     assert!(rt; matches!(code.instr(1)?, Some(Instr::IfFalse(4))));
     assert!(rt; matches!(code.instr(3)?, Some(Instr::And)));

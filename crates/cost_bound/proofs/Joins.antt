@@ -1,9 +1,11 @@
 -- A join is an upper bound of both sizes, and masses and lengths are within those of sizes.
-use Rattle.std.proofs.Common.{◌≡◌, ℕ, zero, suc, ◌+◌, ◌*◌, ◌≤◌, length, arith, mul-le-mul_right, mul-le-mul_left, le_trans, mul-le-mul, suc-mul}
+use Rattle.std.proofs.Common.{◌≡◌, ℕ, zero, suc, ◌+◌, ◌*◌, ◌≤◌, Some, length, arith, mul-le-mul_right, mul-le-mul_left, le_trans, mul-le-mul, suc-mul}
 use Rattle.cel_value.specs.Masses.{entries_mass, entry_count, item_count, items_mass, key_mass, length_of, mass}
 use Rattle.cel_value.specs.Texts.{utf8_of}
+use Rattle.cel_value.specs.Types.{ValueType}
 use Rattle.cel_value.specs.Values.{CelAnswer, CelEntries, CelKey, CelValue, CelValues, bool, bool_key, bytes, entry, fails, int, int_key, item, list, map_of, no_entries, no_items, text, text_key, uint, uint_key, value}
-use Rattle.cost_bound.specs.Costs.{constant_size, grown, items_size, key_size, map_keys_size, map_values_size}
+use Rattle.cel_types.specs.Typing.{constant_type}
+use Rattle.cost_bound.specs.Costs.{constant_size, grown}
 use Rattle.cost_bound.specs.Sizes.{EachFits, EntriesFit, Fits, Flat, HasRoom, KeyFits, Many, Size, Table, Text, Within, join, mass_of, most_of}
 
 pub room_left : (l : ℕ) (s t : Size) → HasRoom l s → HasRoom l (join s t)
@@ -244,34 +246,11 @@ length_within (map_of es) (Table n k v) h = h.0
 
 -- ---- constants
 
-key_within : (k : CelKey) → KeyFits k (key_size k)
-key_within (bool_key b) = tt
-key_within (int_key i) = tt
-key_within (uint_key n) = tt
-key_within (text_key cs) = omega arith
-
-mutual
-  pub constant_within : (v : CelValue) → Fits v (constant_size v)
-  constant_within (bool b) = tt
-  constant_within (int i) = tt
-  constant_within (uint n) = tt
-  constant_within (text cs) = omega arith
-  constant_within (bytes bs) = omega arith
-  constant_within (list vs) = (omega arith, items_within vs)
-  constant_within (map_of es) = (omega arith, map_within es)
-
-  items_within : (vs : CelValues) → EachFits vs (items_size vs)
-  items_within no_items = tt
-  items_within (item v vs) = (
-    fits_left v (constant_size v) (items_size vs) (constant_within v),
-    each_right vs (constant_size v) (items_size vs) (items_within vs),
-  )
-
-  map_within : (es : CelEntries) → EntriesFit es (map_keys_size es) (map_values_size es)
-  map_within no_entries = tt
-  map_within (entry k v es) = (
-    key_left k (key_size k) (map_keys_size es) (key_within k),
-    fits_left v (constant_size v) (map_values_size es) (constant_within v),
-    entries_right es (key_size k) (constant_size v) (map_keys_size es) (map_values_size es)
-        (map_within es),
-  )
+pub constant_within : (v : CelValue) (t : ValueType) → constant_type v ≡ Some t → Fits v (constant_size v)
+constant_within (bool b) t e = tt
+constant_within (int i) t e = tt
+constant_within (uint n) t e = tt
+constant_within (text cs) t e = omega arith
+constant_within (bytes bs) t e = omega arith
+constant_within (list vs) t e = absurd cc
+constant_within (map_of es) t e = absurd cc

@@ -37,7 +37,8 @@ use Rattle.cel_ops.specs.Strict.{Gathered, all_values, first_error, gather, gath
 use Rattle.cel_overload.specs.Answers.{conditional, on_one, on_two, overload_answer}
 use Rattle.cel_overload.specs.declared.overload.Overload.{Overload}
 use Rattle.cel_overload.specs.declared.overload.Overload.TheVariants as overloads
-use Rattle.cel_types.specs.Elaborated.{TypedTree, TypedTrees, no_typed, typed, typed_attribute, typed_call, typed_constant, typed_field, typed_has, typed_list, typed_local, typed_loop, typed_map}
+use Rattle.cel_types.specs.WellTyped.{AreWellTyped, IsWellTyped}
+use Rattle.cel_types.specs.Elaborated.{TypedTree, TypedTrees, kind, no_typed, typed, typed_attribute, typed_call, typed_constant, typed_field, typed_has, typed_list, typed_local, typed_loop, typed_map}
 use Rattle.cel_types.specs.Meaning.{before, fold, over, turn}
 use Rattle.cel_types.specs.TypedMeaning.{local_at, typed_answer, typed_answers}
 use Rattle.cost_bound.specs.Costs.{attribute_size, call_size, concat_size, element_size, grown, join_all, keys_of, known, list_size, map_size, size_of, sizes_of, value_size, values_of}
@@ -711,32 +712,32 @@ has_within name a s =
 
 module _ (l : LimitsValue) (r : RequestValue) (sound : IsRequest r) (fits : InLimits r l) where
   mutual
-    within_here : (e : TypedTree) (ls : List CelAnswer) (sizes : List Size) → AllWithin ls sizes
+    within_here : (e : TypedTree) (ks : List ValueType) → IsWellTyped ks e → (ls : List CelAnswer) (sizes : List Size) → AllWithin ls sizes
         → IfWithin (typed_answer e r ls) (size_of e l sizes)
-    within_here (typed_constant t v) ls sizes h = constant_within v
-    within_here (typed_local t outside) ls sizes h = local_within outside ls sizes h
-    within_here (typed_attribute t a) ls sizes h = attribute_within l r sound fits a
-    within_here (typed_field t on name) ls sizes h =
+    within_here (typed_constant t v) ks g ls sizes h = constant_within v t g.0
+    within_here (typed_local t outside) ks g ls sizes h = local_within outside ls sizes h
+    within_here (typed_attribute t a) ks g ls sizes h = attribute_within l r sound fits a
+    within_here (typed_field t on name) ks g ls sizes h =
         then_within (field name) (typed_answer on r ls) (size_of on l sizes)
-        (value_size (size_of on l sizes)) (within_here on ls sizes h)
+        (value_size (size_of on l sizes)) (within_here on ks g.0 ls sizes h)
         (λ a ha. select_within name a (size_of on l sizes) ha)
-    within_here (typed_has t on name) ls sizes h =
+    within_here (typed_has t on name) ks g ls sizes h =
         then_within (has_field name) (typed_answer on r ls) (size_of on l sizes) Flat
-        (within_here on ls sizes h) (λ a ha. has_within name a Flat)
-    within_here (typed_call t o operands) ls sizes h =
+        (within_here on ks g.0 ls sizes h) (λ a ha. has_within name a Flat)
+    within_here (typed_call t o operands) ks g ls sizes h =
         all_then_within (overload_answer o) (typed_answers operands r ls)
         (sizes_of operands l sizes) (call_size o (sizes_of operands l sizes))
-        (all_within_here operands ls sizes h)
+        (all_within_here operands ks g.0 ls sizes h)
         (λ answers have. overload_within o answers (sizes_of operands l sizes) have)
-    within_here (typed_list t elements) ls sizes h =
+    within_here (typed_list t elements) ks g ls sizes h =
         all_then_within list_literal (typed_answers elements r ls) (sizes_of elements l sizes)
-        (list_size t (sizes_of elements l sizes)) (all_within_here elements ls sizes h)
+        (list_size t (sizes_of elements l sizes)) (all_within_here elements ks g.0 ls sizes h)
         (λ answers have. list_within t answers (sizes_of elements l sizes) have)
-    within_here (typed_map t pairs) ls sizes h =
+    within_here (typed_map t pairs) ks g ls sizes h =
         all_then_within map_literal (typed_answers pairs r ls) (sizes_of pairs l sizes)
-        (map_size t (sizes_of pairs l sizes)) (all_within_here pairs ls sizes h)
+        (map_size t (sizes_of pairs l sizes)) (all_within_here pairs ks g.0 ls sizes h)
         (λ answers have. map_literal_within t answers (sizes_of pairs l sizes) have)
-    within_here (typed_loop t range init condition step result) ls sizes h =
+    within_here (typed_loop t range init condition step result) ks g ls sizes h =
         let over_size : Size = size_of range l sizes in
         let first : Size = size_of init l sizes in
         let next : Size → Size = λ s. size_of step l (element_size over_size ∷ s ∷ sizes) in
@@ -748,36 +749,36 @@ module _ (l : LimitsValue) (r : RequestValue) (sound : IsRequest r) (fits : InLi
         over_within (typed_answer range r ls)
         (λ vs. option_and_then (λ a. go a vs) (typed_answer init r ls))
         over_size (ended (grown next (most_of over_size) first))
-        (within_here range ls sizes h)
+        (within_here range ks g.0 ls sizes h)
         (λ vs few each. then_within (λ a. go a vs) (typed_answer init r ls) first
-        (ended (grown next (most_of over_size) first)) (within_here init ls sizes h)
+        (ended (grown next (most_of over_size) first)) (within_here init ks g.1 ls sizes h)
         (λ a ha. fold_within (λ v b. typed_answer condition r (value v ∷ b ∷ ls))
         (λ v b. typed_answer step r (value v ∷ b ∷ ls))
         (λ b. typed_answer result r (b ∷ ls)) next (element_size over_size) ended
-        (λ v b s hv hb. within_here step (value v ∷ b ∷ ls) (element_size over_size ∷ s ∷ sizes)
+        (λ v b s hv hb. within_here step (g.2.0 ∷ kind init ∷ ks) g.2.4 (value v ∷ b ∷ ls) (element_size over_size ∷ s ∷ sizes)
         (hv, (hb, h)))
-        (λ b s hb. within_here result (b ∷ ls) (s ∷ sizes) (hb, h))
+        (λ b s hb. within_here result (kind init ∷ ks) g.3 (b ∷ ls) (s ∷ sizes) (hb, h))
         vs (most_of over_size) a first few each ha))
 
-    all_within_here : (es : TypedTrees) (ls : List CelAnswer) (sizes : List Size)
+    all_within_here : (es : TypedTrees) (ks : List ValueType) → AreWellTyped ks es → (ls : List CelAnswer) (sizes : List Size)
         → AllWithin ls sizes → IfAllWithin (typed_answers es r ls) (sizes_of es l sizes)
-    all_within_here no_typed ls sizes h = tt
-    all_within_here (typed e es) ls sizes h =
+    all_within_here no_typed ks g ls sizes h = tt
+    all_within_here (typed e es) ks g ls sizes h =
         before_within (typed_answer e r ls) (typed_answers es r ls) (size_of e l sizes)
-        (sizes_of es l sizes) (within_here e ls sizes h) (all_within_here es ls sizes h)
+        (sizes_of es l sizes) (within_here e ks g.0 ls sizes h) (all_within_here es ks g.1 ls sizes h)
 
 -- what an expression comes to is within its size
-pub answer_within : (e : TypedTree) (r : RequestValue) → IsRequest r → (l : LimitsValue)
+pub answer_within : (e : TypedTree) (ks : List ValueType) → IsWellTyped ks e → (r : RequestValue) → IsRequest r → (l : LimitsValue)
     → InLimits r l → (ls : List CelAnswer) (sizes : List Size) → AllWithin ls sizes
     → (a : CelAnswer) → typed_answer e r ls ≡ Some a → Within a (size_of e l sizes)
-answer_within e r sound l fits ls sizes h a is =
-    subst (λ o. IfWithin o (size_of e l sizes)) is (within_here l r sound fits e ls sizes h)
+answer_within e ks g r sound l fits ls sizes h a is =
+    subst (λ o. IfWithin o (size_of e l sizes)) is (within_here l r sound fits e ks g ls sizes h)
 
 -- and so is each of expressions one after the other
-pub answers_within : (es : TypedTrees) (r : RequestValue) → IsRequest r → (l : LimitsValue)
+pub answers_within : (es : TypedTrees) (ks : List ValueType) → AreWellTyped ks es → (r : RequestValue) → IsRequest r → (l : LimitsValue)
     → InLimits r l → (ls : List CelAnswer) (sizes : List Size) → AllWithin ls sizes
     → (answers : List CelAnswer) → typed_answers es r ls ≡ Some answers
     → AllWithin answers (sizes_of es l sizes)
-answers_within es r sound l fits ls sizes h answers is =
+answers_within es ks g r sound l fits ls sizes h answers is =
     subst (λ o. IfAllWithin o (sizes_of es l sizes)) is
-    (all_within_here l r sound fits es ls sizes h)
+    (all_within_here l r sound fits es ks g ls sizes h)

@@ -1,13 +1,16 @@
 -- The size and the cost of an elaborated expression, from the limits of requests and the sizes of the
 -- locals in scope (this project's measure): the charges of its instructions at the sizes of their
--- operands, in whole numbers without limit. One equation for each kind of node.
+-- operands, in whole numbers without limit. One equation for each kind of node. Both are worked out from
+-- the leaves up: a size says how large the value may be, a cost how many steps it may take. A loop's body
+-- counts once for each element that its range has room for, each time at the size that what is gathered
+-- may have reached by then. Both are asked of well typed expressions alone.
 use Rattle.std.specs.Prelude.{ℕ, zero, suc, ◌+◌, ◌*◌, max, List, [], ◌∷◌, length, Option, Some, None}
 use Rattle.attributes.specs.Limits.{LimitsValue}
 use Rattle.attributes.specs.declared.attribute.AttrId.{AttrId}
-use Rattle.cel_value.specs.Masses.{entry_count, item_count, length_of}
+use Rattle.cel_value.specs.Masses.{length_of}
 use Rattle.cel_value.specs.Texts.{utf8_of}
 use Rattle.cel_value.specs.Types.{ValueType, text_type, bytes_type}
-use Rattle.cel_value.specs.Values.{CelEntries, no_entries, entry, CelValue, text, bytes, list, map_of, CelValues, no_items, item, CelKey, text_key}
+use Rattle.cel_value.specs.Values.{CelValue, text, bytes}
 use Rattle.cel_overload.specs.declared.overload.Overload.{Overload}
 use Rattle.cel_overload.specs.declared.overload.Overload.TheVariants as overloads
 use Rattle.cel_types.specs.Elaborated.{TypedTree, typed_constant, typed_local, typed_attribute, typed_field, typed_has, typed_call, typed_list, typed_map, typed_loop, TypedTrees, no_typed, typed, kinds}
@@ -16,34 +19,11 @@ use Rattle.cost_bound.specs.Sizes.{Size, Flat, Text, Many, Table, join, least, m
 
 -- ---- sizes
 
--- a key is as large as it is
-abbrev pub key_size : CelKey → Size
-key_size (text_key cs) = Text (length (utf8_of cs))
-key_size _ = Flat
-
-abbrev mutual
-  -- a constant is as large as it is
-  pub constant_size : CelValue → Size
-  constant_size (text cs) = Text (length_of (text cs))
-  constant_size (bytes bs) = Text (length_of (bytes bs))
-  constant_size (list vs) = Many (item_count vs) (items_size vs)
-  constant_size (map_of es) = Table (entry_count es) (map_keys_size es) (map_values_size es)
-  constant_size _ = Flat
-
-  -- the sizes of items joined, and of a map's keys and values likewise
-  pub items_size : CelValues → Size
-  items_size no_items = Flat
-  items_size (item v vs) = join (constant_size v) (items_size vs)
-
-  -- of keys
-  pub map_keys_size : CelEntries → Size
-  map_keys_size no_entries = Flat
-  map_keys_size (entry k v es) = join (key_size k) (map_keys_size es)
-
-  -- of values
-  pub map_values_size : CelEntries → Size
-  map_values_size no_entries = Flat
-  map_values_size (entry k v es) = join (constant_size v) (map_values_size es)
+-- a constant is as large as it is; none is a list or a map
+abbrev pub constant_size : CelValue → Size
+constant_size (text cs) = Text (length_of (text cs))
+constant_size (bytes bs) = Text (length_of (bytes bs))
+constant_size _ = Flat
 
 -- an attribute is as large as the limits let it be
 abbrev pub attribute_size : LimitsValue → AttrId → Size

@@ -84,7 +84,7 @@ fn counted_part(operands: &[TypedExpr<'_>], sizes: &[ValueSize]) -> u64
 fn counted(operand: &TypedExpr<'_>, size: &ValueSize) -> u64
     ensures { result ≡ capped (counted_cost (kind (expr_view operand.now)) (size_view size.now)) }
 {
-    match type_of(operand) {
+    match operand.cel_type() {
         CelType::Bool => 0,
         CelType::Int => 0,
         CelType::Uint => 0,
@@ -111,22 +111,5 @@ fn pair_part(overload: Overload, first: &ValueSize, second: &ValueSize) -> u64
         Overload::InMap => product(first.mass(), second.most()),
         Overload::InList => sum(second.mass(), product(second.most(), first.mass())),
         _ => 0,
-    }
-}
-
-// The type of an expression.
-fn type_of<'a>(expr: &'a TypedExpr<'_>) -> &'a CelType
-    ensures { type_view result.now ≡ kind (expr_view expr.now) }
-{
-    match expr {
-        TypedExpr::Constant { cel_type, .. } => cel_type,
-        TypedExpr::Local { cel_type, .. } => cel_type,
-        TypedExpr::Attribute { cel_type, .. } => cel_type,
-        TypedExpr::Field { cel_type, .. } => cel_type,
-        TypedExpr::HasField { cel_type, .. } => cel_type,
-        TypedExpr::Call { cel_type, .. } => cel_type,
-        TypedExpr::List { cel_type, .. } => cel_type,
-        TypedExpr::Map { cel_type, .. } => cel_type,
-        TypedExpr::Loop { cel_type, .. } => cel_type,
     }
 }

@@ -1,7 +1,9 @@
 -- What the private functions of the compiler do to a list of instructions.
 use Rattle.std.specs.Prelude.{◌≡◌, ℕ, ◌+◌, ◌<◌, ◌^◌, List, ◌++◌, length}
 use Rattle.cel_types.specs.Elaborated.{TypedTree, TypedTrees}
-use Rattle.stack_machine.specs.Instructions.{code_view}
+use Rattle.cel_overload.specs.declared.overload.Overload.{Overload}
+use Rattle.cel_overload.specs.declared.overload.Overload.TheVariants as overloads
+use Rattle.stack_machine.specs.Instructions.{Instruction, IfFalse, IfTrue, code_view}
 use Rattle.stack_machine.specs.declared.instr.Instr.{Instr}
 use Rattle.cel_compile.specs.Codes.{code_of, codes_of, extent, extents}
 use Rattle.cel_compile.specs.Slots.{HasFewLocals, HaveFewLocals}
@@ -17,3 +19,8 @@ abbrev pub GrowsAll : (old new : List Instr) → (scope : ℕ) → TypedTrees �
 GrowsAll old new d es = (length new ≡ length old + extents es)
     × (HaveFewLocals d es → length new < 2 ^ 16
     → code_view new ≡ code_view old ++ codes_of (length old) d es)
+
+-- the jump of `&&` or `||` over its right side
+abbrev pub passing_over : Overload → ℕ → Instruction
+passing_over overloads.LogicalOr end = IfTrue end
+passing_over _ end = IfFalse end

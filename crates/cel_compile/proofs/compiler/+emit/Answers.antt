@@ -1,4 +1,5 @@
 use Rattle.std.proofs.Common.{◌≡◌, rules, ◌++◌, [], ◌∷◌, length, get_or, refl, sym, ap, ap₂, ◌∙◌, arith}
+use Rattle.std.proofs.lemmas.Result.{MatchResult-weaker}
 use Rattle.std.specs.declared.alloc.Global.{Global}
 use Rattle.cel_value.specs.Types.{type_view}
 use Rattle.cel_types.specs.Elaborated.{no_typed, typed, typed_call, typed_list, typed_map}
@@ -8,35 +9,38 @@ use Rattle.cel_types.specs.declared.typed.TypedExpr as exprs
 use Rattle.stack_machine.specs.Instructions.{And, IfFalse, IfTrue, Jump, LoopNext, LoopStart, LoopTest, Or, Test, instr_view}
 use Rattle.stack_machine.specs.declared.instr.Instr.TheVariants as instrs
 use Rattle.cel_compile.specs.Codes.{list_instruction, map_instruction}
-use Rattle.cel_compile.specs.steps.Emitting.{Grows, GrowsAll}
+use Rattle.cel_compile.specs.steps.Emitting.{Grows, GrowsAll, passing_over}
 use Rattle.cel_compile.proofs.Operands.{goes_on, list_grows, map_grows, plain_grows, three_operands, two_operands}
-use Rattle.cel_compile.proofs.Built.{both_built, choice_built, loop_built}
+use Rattle.cel_compile.proofs.Built.{choice_built, junction_built, loop_built}
 use Rattle.cel_compile.proofs.compiler.+emit.Goals as goal
 
-pub emit-returns-in_ok-put-in-List : goal.emit-returns-in_ok-put-in-List
-emit-returns-in_ok-put-in-List t c =
+pub emit-returns-in_ok-instr-in-List : goal.emit-returns-in_ok-instr-in-List
+emit-returns-in_ok-instr-in-List t c =
     let seen : expr_view c.args.expr.now ≡ typed_list (type_view c.in-List.cel_type) (exprs_view c.in-List.elements.items) = rw (c.in-List.is) (search (rules, exprs.the_lemmas)) in
     let all : GrowsAll c.args.code.now.items c.emit_all.new.code.items c.args.depth (exprs_view c.in-List.elements.items) = rw (← c.deref-in-List.ensures.value) (c.in_ok-emit_all-in-List.ensures.grows) in
     record {
-      grows = list_grows c.args.depth (type_view c.in-List.cel_type) (expr_view c.args.expr.now) c.in-List.elements.items c.args.code.now.items c.emit_all.new.code.items c.put-in-List.new.code.items c.in_ok-instr-in-List.instr
-          seen all c.in_ok-put-in-List.ensures.found (rw (← c.deref-in-List-2.ensures.value) (c.in_ok-instr-in-List.ensures));
+      grows = MatchResult-weaker c.put-in-List.result c.put-in-List.ensures.found (λ u put. list_grows c.args.depth (type_view c.in-List.cel_type) (expr_view c.args.expr.now) c.in-List.elements.items c.args.code.now.items c.emit_all.new.code.items c.put-in-List.new.code.items c.in_ok-instr-in-List.instr
+          seen all put (rw (← c.deref-in-List-2.ensures.value) (c.in_ok-instr-in-List.ensures))) (λ e h. h);
     }
 
-pub emit-returns-in_ok-put-in-Map : goal.emit-returns-in_ok-put-in-Map
-emit-returns-in_ok-put-in-Map t c =
+pub emit-returns-in_ok-instr-in-Map : goal.emit-returns-in_ok-instr-in-Map
+emit-returns-in_ok-instr-in-Map t c =
     let seen : expr_view c.args.expr.now ≡ typed_map (type_view c.in-Map.cel_type) (exprs_view c.in-Map.pairs.items) = rw (c.in-Map.is) (search (rules, exprs.the_lemmas)) in
     let all : GrowsAll c.args.code.now.items c.emit_all-in-Map.new.code.items c.args.depth (exprs_view c.in-Map.pairs.items) = rw (← c.deref-in-Map.ensures.value) (c.in_ok-emit_all-in-Map.ensures.grows) in
     record {
-      grows = map_grows c.args.depth (type_view c.in-Map.cel_type) (expr_view c.args.expr.now) c.in-Map.pairs.items c.args.code.now.items c.emit_all-in-Map.new.code.items c.put-in-Map.new.code.items c.in_ok-instr-in-Map.instr
-          seen all c.in_ok-put-in-Map.ensures.found (rw (← c.deref-in-Map-2.ensures.value) (c.in_ok-instr-in-Map.ensures));
+      grows = MatchResult-weaker c.put-in-Map.result c.put-in-Map.ensures.found (λ u put. map_grows c.args.depth (type_view c.in-Map.cel_type) (expr_view c.args.expr.now) c.in-Map.pairs.items c.args.code.now.items c.emit_all-in-Map.new.code.items c.put-in-Map.new.code.items c.in_ok-instr-in-Map.instr
+          seen all put (rw (← c.deref-in-Map-2.ensures.value) (c.in_ok-instr-in-Map.ensures))) (λ e h. h);
     }
 
-pub emit-returns-in_ok-emit_loop-in-Loop : goal.emit-returns-in_ok-emit_loop-in-Loop
-emit-returns-in_ok-emit_loop-in-Loop t c =
+pub emit-returns-in-Loop : goal.emit-returns-in-Loop
+emit-returns-in-Loop t c =
     let seen : expr_view c.args.expr.now ≡ loop_of (type_view c.in-Loop.cel_type) (parts_view c.in-Loop.parts.value) = rw (c.in-Loop.is) (search (rules, exprs.the_lemmas)) in
-    let inner : Grows c.args.code.now.items c.emit_loop.new.code.items c.args.depth (loop_of (type_view c.in-Loop.cel_type) (parts_view c.in-Loop.parts.value)) =
-    rw (← c.deref-in-Loop.ensures) (c.in_ok-emit_loop-in-Loop.ensures.grows (type_view c.in-Loop.cel_type)) in
-    record { grows = rw seen inner }
+    record {
+      grows = MatchResult-weaker c.emit_loop.result c.emit_loop.ensures.grows (λ u grows.
+          let inner : Grows c.args.code.now.items c.emit_loop.new.code.items c.args.depth (loop_of (type_view c.in-Loop.cel_type) (parts_view c.in-Loop.parts.value)) =
+          rw (← c.deref-in-Loop.ensures) (grows (type_view c.in-Loop.cel_type)) in
+          rw seen inner) (λ e h. h);
+    }
 
 pub emit_all-loop-expr-preserved : goal.emit_all-loop-expr-preserved
 emit_all-loop-expr-preserved t c =
@@ -109,25 +113,16 @@ emit_loop-returns t c = record {
   };
 }
 
-pub emit_and-returns : goal.emit_and-returns
-emit_and-returns t c =
+pub emit_junction-returns : goal.emit_junction-returns
+emit_junction-returns t c =
     let ops : exprs_view c.args.operands.now ≡ typed (expr_view c.index-operands-0.result) (typed (expr_view c.index-operands-1.result) no_typed) =
-    two_operands c.args.operands.now c.index-operands-0.result c.index-operands-1.result _ _ (omega (arith, c.requires)) (omega (arith, c.requires)) c.index-operands-0.is c.index-operands-1.is in
-    let built = both_built c.args.depth (expr_view c.index-operands-0.result) (expr_view c.index-operands-1.result) c.args.code.now.items c.emit.new.code.items c.put.new.code.items c.emit-2.new.code.items c.put-2.new.code.items c.patch.new.code.items
-    (instrs.IfFalse 0) instrs.And (instrs.IfFalse c.target.result) c.len-fork.result c.len-end.result IfFalse And
-    c.in_ok-emit.ensures.grows (c.len-fork.ensures ∙ c.emit.new.code.ok.0) c.in_ok-put.ensures.found c.in_ok-emit-2.ensures.grows c.in_ok-put-2.ensures.found refl
-    (c.len-end.ensures ∙ c.put-2.new.code.ok.0) c.patch.ensures.found (λ short. ap IfFalse (c.target.ensures short)) in
-    record { grows = λ kind. rw ops built }
-
-pub emit_or-returns : goal.emit_or-returns
-emit_or-returns t c =
-    let ops : exprs_view c.args.operands.now ≡ typed (expr_view c.index-operands-0.result) (typed (expr_view c.index-operands-1.result) no_typed) =
-    two_operands c.args.operands.now c.index-operands-0.result c.index-operands-1.result _ _ (omega (arith, c.requires)) (omega (arith, c.requires)) c.index-operands-0.is c.index-operands-1.is in
-    let built = both_built c.args.depth (expr_view c.index-operands-0.result) (expr_view c.index-operands-1.result) c.args.code.now.items c.emit.new.code.items c.put.new.code.items c.emit-2.new.code.items c.put-2.new.code.items c.patch.new.code.items
-    (instrs.IfTrue 0) instrs.Or (instrs.IfTrue c.target.result) c.len-fork.result c.len-end.result IfTrue Or
-    c.in_ok-emit.ensures.grows (c.len-fork.ensures ∙ c.emit.new.code.ok.0) c.in_ok-put.ensures.found c.in_ok-emit-2.ensures.grows c.in_ok-put-2.ensures.found refl
-    (c.len-end.ensures ∙ c.put-2.new.code.ok.0) c.patch.ensures.found (λ short. ap IfTrue (c.target.ensures short)) in
-    record { grows = λ kind. rw ops built }
+    two_operands c.args.operands.now c.index-operands-0.result c.index-operands-1.result _ _ (omega (arith, c.requires.two)) (omega (arith, c.requires.two)) c.index-operands-0.is c.index-operands-1.is in
+    record {
+      grows = λ kind. rw ops (junction_built c.args.depth (expr_view c.index-operands-0.result) (expr_view c.index-operands-1.result) c.args.code.now.items c.emit.new.code.items c.put.new.code.items c.emit-2.new.code.items c.put-2.new.code.items c.patch.new.code.items
+          c.passing_over.result c.call_instr.result c.passing_over-2.result c.len-fork.result c.len-end.result kind c.args.overload c.requires.junction
+          c.in_ok-emit.ensures.grows (c.len-fork.ensures ∙ c.emit.new.code.ok.0) c.in_ok-put.ensures.found c.in_ok-emit-2.ensures.grows c.in_ok-put-2.ensures.found c.call_instr.ensures
+          (c.len-end.ensures ∙ c.put-2.new.code.ok.0) c.patch.ensures.found (λ short. c.passing_over-2.ensures ∙ ap (passing_over c.args.overload) (c.target.ensures short)));
+    }
 
 pub emit_choice-returns : goal.emit_choice-returns
 emit_choice-returns t c =
@@ -143,6 +138,6 @@ emit_choice-returns t c =
 
 pub emit_call-returns : goal.emit_call-returns
 emit_call-returns t c = record {
-  grows = λ kind. plain_grows c.is_and.result c.is_or.result c.is_choice.result c.args.depth kind c.args.overload c.args.operands.now c.args.code.now.items c.emit_all.new.code.items c.put.new.code.items c.call_instr.result
-      c.is_and.ensures c.if-is_and.false c.is_or.ensures c.if-is_or.false c.is_choice.ensures c.if-is_choice.false c.in_ok-emit_all.ensures.grows c.in_ok-put.ensures.found c.call_instr.ensures;
+  grows = λ kind. plain_grows c.is_junction.result c.is_choice.result c.args.depth kind c.args.overload c.args.operands.now c.args.code.now.items c.emit_all.new.code.items c.put.new.code.items c.call_instr.result
+      c.is_junction.ensures c.if-is_junction.false c.is_choice.ensures c.if-is_choice.false c.in_ok-emit_all.ensures.grows c.in_ok-put.ensures.found c.call_instr.ensures;
 }
