@@ -9,3 +9,8 @@ pub mod TakingLemmas
 pub mod JudgedLemmas
 pub mod ServingLemmas
 pub mod AdmittedLemmas
+pub mod PartLemmas
+pub mod Flights
+pub mod ClientWalk
+pub mod ControlWalk
+pub mod ScheduleLemmas

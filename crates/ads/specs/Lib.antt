@@ -2,4 +2,5 @@ pub mod Config
 pub mod Answer
 pub mod Client
 pub mod Control
+pub mod Schedules
 pub mod steps

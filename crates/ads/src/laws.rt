@@ -1,0 +1,14 @@
+//! The law of both ends of an update stream.
+
+ghost use Rattle.std.specs.Prelude.{List};
+ghost use Rattle.ads.specs.Config.{ConfigValue};
+ghost use Rattle.ads.specs.Control.{ResourceValue};
+ghost use Rattle.ads.specs.Schedules.{AreInStep, Joined, Runs, new_joined};
+
+/// Whatever steps a new client and a new control plane take on streams that open, bring bytes in pieces of any length
+/// and are lost: the numbers that were recorded never fall, they are part of the versions that the client accepted, and
+/// the client's version is the last of them or a later one.
+pub fn schedules()
+    ensures { (c : ConfigValue) (snapshots : List (List ResourceValue)) (states : List Joined) (end : Joined)
+        → Runs (new_joined c snapshots) states end → AreInStep end }
+{}
