@@ -14,3 +14,4 @@ pub mod Flights
 pub mod ClientWalk
 pub mod ControlWalk
 pub mod ScheduleLemmas
+pub mod Apart

@@ -1,9 +1,18 @@
-//! The law of both ends of an update stream.
+//! Laws of answers, and of both ends of an update stream.
 
 ghost use Rattle.std.specs.Prelude.{List};
+ghost use Rattle.proto_wire.specs.declared.refusal.Refusal.{Refusal};
+ghost use Rattle.xds_wire.specs.Discovery.{ResponseMessage};
+ghost use Rattle.ads.specs.Answer.{Accepted, Accepts, Refuses};
 ghost use Rattle.ads.specs.Config.{ConfigValue};
 ghost use Rattle.ads.specs.Control.{ResourceValue};
 ghost use Rattle.ads.specs.Schedules.{AreInStep, Joined, Runs, new_joined};
+
+/// No response is both accepted and refused.
+pub fn answer_disjoint()
+    ensures { (c : ConfigValue) (response : ResponseMessage) (old new : Accepted) (e : Refusal)
+        → Accepts c response old new → Refuses c response e → ⊥ }
+{}
 
 /// Whatever steps a new client and a new control plane take on streams that open, bring bytes in pieces of any length
 /// and are lost: the numbers that were recorded never fall, they are part of the versions that the client accepted, and
