@@ -15,3 +15,5 @@ pub mod ClientWalk
 pub mod ControlWalk
 pub mod ScheduleLemmas
 pub mod Apart
+pub mod ServeTurns
+pub mod ServeStreams
