@@ -82,22 +82,25 @@ answer_admitted c response old new reply (no_memory admitting same told) all = r
 
 -- whatever is answered
 all_admitted : (c : ConfigValue) (old : Accepted) (messages : List (List ℕ)) (replies : List ℕ)
-    (new : Accepted) (ends : Bool) → AreAnswered c old messages replies new ends
+    (versions : List (List ℕ)) (new : Accepted) (ends : Bool)
+    → AreAnswered c old messages replies versions new ends
     → AllZip (WasAdmitted c.limits) c.filters old.policies
     → AllZip (WasAdmitted c.limits) c.filters new.policies
-all_admitted c old [] replies new ends (none, same, goes_on) all = rw same all
-all_admitted c old (m ∷ messages) replies new ends (inl (e, fault, none, same, stops)) all = rw same all
-all_admitted c old (m ∷ messages) replies new ends
-    (inr (response, reply, next, more, reads, answers, frame, others)) all =
-    all_admitted c next messages more new ends others (answer_admitted c response old next reply answers all)
+all_admitted c old [] replies versions new ends (none, nothing, same, goes_on) all = rw same all
+all_admitted c old (m ∷ messages) replies versions new ends (inl (fault, none, nothing, same, stops)) all =
+    rw same all
+all_admitted c old (m ∷ messages) replies versions new ends
+    (inr (response, reply, next, more, later, reads, answers, frame, told, others)) all =
+    all_admitted c next messages more later new ends others (answer_admitted c response old next reply answers all)
 
 -- told of a client's ghost field
-pub merely_all : (c : ConfigValue) (old new : Accepted) (messages : List (List ℕ)) (replies : List ℕ) (ends : Bool)
-    → AreAnswered c old messages replies new ends
+pub merely_all : (c : ConfigValue) (old new : Accepted) (messages : List (List ℕ)) (replies : List ℕ)
+    (versions : List (List ℕ)) (ends : Bool)
+    → AreAnswered c old messages replies versions new ends
     → ∥ AllZip (WasAdmitted c.limits) c.filters old.policies ∥₁
     → ∥ AllZip (WasAdmitted c.limits) c.filters new.policies ∥₁
-merely_all c old new messages replies ends answered all =
-    ∥∥₁_elim all ∥∥₁_prop (λ each. merely (all_admitted c old messages replies new ends answered each))
+merely_all c old new messages replies versions ends answered all =
+    ∥∥₁_elim all ∥∥₁_prop (λ each. merely (all_admitted c old messages replies versions new ends answered each))
 
 -- of a client that has accepted nothing
 pub merely_none : (c d : ConfigValue) (ps : List (Option AdmittedValue)) → d ≡ c → ps ≡ map (λ f. None) c.filters

@@ -12,7 +12,7 @@ use Rattle.ads.specs.steps.Taking.{admitted_view}
 use Rattle.rbac_policy.specs.declared.filter.Admitted.{Admitted}
 use Rattle.ads.specs.Config.{ConfigValue, FilterValue}
 use Rattle.ads.specs.Answer.{Accepted, Answers, IsAdmitting, nack, no_memory, Refuses, nack_of, request_of, replaced}
-use Rattle.ads.specs.Client.{AreAnswered}
+use Rattle.ads.specs.Client.{AreAnswered, accepted_by}
 use Rattle.ads.specs.steps.Taking.{policies_view}
 use Rattle.ads.proofs.PlaceLemmas.{replaced_nothing}
 use Rattle.ads.specs.steps.Drafts.{IsAnswered, IsNoResponse}
@@ -49,38 +49,54 @@ on_ok_weaker (Err e) P Q weaker p = tt
 -- what holds of the answers so far: whatever the other messages are answered, all are answered so
 abbrev pub GoesOn : ConfigValue → Accepted → List (List ℕ) → List ℕ → Accepted → List (List ℕ) → List ℕ → Type 0
 GoesOn c start all before now rest after =
-    (done : List ℕ) × (after ≡ before ++ done) × ((more : List ℕ) (new : Accepted) (ends : Bool)
-    → AreAnswered c now rest more new ends → AreAnswered c start all (done ++ more) new ends)
+    (done : List ℕ) × (told : List (List ℕ)) × (after ≡ before ++ done)
+    × ((more : List ℕ) (later : List (List ℕ)) (new : Accepted) (ends : Bool)
+    → AreAnswered c now rest more later new ends
+    → AreAnswered c start all (done ++ more) (told ++ later) new ends)
 
 module _ (c : ConfigValue) (start : Accepted) (all : List (List ℕ)) (before : List ℕ) where
   pub goes_on_from : GoesOn c start all before start all before
-  goes_on_from = ([], sym (append-nil before), λ more new ends is. is)
+  goes_on_from = ([], [], sym (append-nil before), λ more later new ends is. is)
 
   -- one message more is answered
   pub goes_on_more : (now next : Accepted) (message : List ℕ) (rest : List (List ℕ)) (after later : List ℕ)
       → GoesOn c start all before now (message ∷ rest) after → IsAnswered c now message after later next
       → GoesOn c start all before next rest later
-  goes_on_more now next message rest after later (done, so_far, whole)
+  goes_on_more now next message rest after later (done, told, so_far, whole)
       (response, reply, reads, answered, frame) =
-      let bytes = frame.0 in let added = frame.2 in (
+      let bytes = frame.0 in let added = frame.3 in (
         done ++ frame_of bytes,
+        told ++ accepted_by reply,
         added ∙ ap (λ xs. xs ++ frame_of bytes) so_far ∙ append_assoc before done (frame_of bytes),
-        λ more new ends is. rw (append_assoc done (frame_of bytes) more) (whole (frame_of bytes ++ more) new ends
-            (inr (response, reply, next, more, reads, answered, (bytes, frame.1, refl), is))),
+        λ more last new ends is.
+            rw (append_assoc done (frame_of bytes) more, append_assoc told (accepted_by reply) last)
+            (whole (frame_of bytes ++ more) (accepted_by reply ++ last) new ends
+            (inr (response, reply, next, more, last, reads, answered, (bytes, frame.1, frame.2, refl), refl, is))),
       )
 
   -- no message is left
   pub goes_on_end : (now : Accepted) (after : List ℕ) → GoesOn c start all before now [] after
-      → (replies : List ℕ) × AreAnswered c start all replies now false × (after ≡ before ++ replies)
-  goes_on_end now after (done, so_far, whole) =
-      (done, rw (append-nil done) at (whole [] now false (refl, refl, refl)), so_far)
+      → (replies : List ℕ) × (versions : List (List ℕ)) × AreAnswered c start all replies versions now false
+      × (after ≡ before ++ replies)
+  goes_on_end now after (done, told, so_far, whole) = (
+    done,
+    told,
+    rw (append-nil done, append-nil told) at (whole [] [] now false (refl, refl, refl, refl)),
+    so_far,
+  )
 
   -- a message that is no response ends the stream
   pub goes_on_stop : (now next : Accepted) (message : List ℕ) (rest : List (List ℕ)) (after later : List ℕ)
       → GoesOn c start all before now (message ∷ rest) after → IsNoResponse now message after later next
-      → (replies : List ℕ) × AreAnswered c start all replies next true × (later ≡ before ++ replies)
-  goes_on_stop now next message rest after later (done, so_far, whole) (e, fault, same, stays) =
-      (done, rw (append-nil done) at (whole [] next true (inl (e, fault, refl, stays, refl))), same ∙ so_far)
+      → (replies : List ℕ) × (versions : List (List ℕ)) × AreAnswered c start all replies versions next true
+      × (later ≡ before ++ replies)
+  goes_on_stop now next message rest after later (done, told, so_far, whole) (e, fault, same, stays) = (
+    done,
+    told,
+    rw (append-nil done, append-nil told) at
+        (whole [] [] next true (inl ((e, fault), refl, refl, stays, refl))),
+    same ∙ so_far,
+  )
 
 -- a request with an error
 pub with_error : (c : ConfigValue) (version nonce : List ℕ) (m : RequestMessage) (status told : StatusMessage)
@@ -114,8 +130,9 @@ told_yes false P Q is q = absurd (true≢false (sym is))
 
 -- answers behind nothing
 pub from_answers : (c : ConfigValue) (a b d : Accepted) (ms : List (List ℕ)) (before after : List ℕ) (ends : Bool)
-    → b ≡ a → before ≡ [] → ((replies : List ℕ) × AreAnswered c b ms replies d ends × (after ≡ before ++ replies))
-    → AreAnswered c a ms after d ends
-from_answers c a b d ms before after ends same none (replies, answered, whole) =
+    → b ≡ a → before ≡ [] → ((replies : List ℕ) × (versions : List (List ℕ))
+    × AreAnswered c b ms replies versions d ends × (after ≡ before ++ replies))
+    → (versions : List (List ℕ)) × AreAnswered c a ms after versions d ends
+from_answers c a b d ms before after ends same none (replies, versions, answered, whole) =
     let all : after ≡ replies = whole ∙ ap (λ xs. xs ++ replies) none in
-    rw (all, ← same) answered
+    (versions, rw (all, ← same) answered)

@@ -9,3 +9,11 @@ pub mod TakingLemmas
 pub mod JudgedLemmas
 pub mod ServingLemmas
 pub mod AdmittedLemmas
+pub mod PartLemmas
+pub mod Flights
+pub mod ClientWalk
+pub mod ControlWalk
+pub mod ScheduleLemmas
+pub mod Apart
+pub mod ServeTurns
+pub mod ServeStreams

@@ -1,5 +1,5 @@
 -- A client of an update stream, and what each call on it does.
-use Rattle.std.specs.Prelude.{◌≡◌, ℕ, Bool, true, false, Option, Some, None, ◌⊎◌, List, [], ◌∷◌, ◌++◌, is_none, bytes_eq, if◌then◌else◌}
+use Rattle.std.specs.Prelude.{◌≡◌, ℕ, ◌<◌, ◌^◌, Bool, true, false, Option, Some, None, ◌⊎◌, List, [], ◌∷◌, ◌++◌, length, is_none, bytes_eq, if◌then◌else◌}
 use Rattle.proto_wire.specs.declared.refusal.Refusal.{Refusal}
 use Rattle.attributes.specs.Limits.{LimitsValue}
 use Rattle.xds_wire.specs.Envelope.{SomeOf}
@@ -21,20 +21,32 @@ pub record ClientValue : Type 0 where
   pub stream : Option (List ℕ)
   pub accepted : Accepted
 
--- the bytes are the request's frame, and then others
+-- the bytes are the request's frame, whose length four bytes hold, and then others
 abbrev pub IsFrameThen : RequestMessage → List ℕ → List ℕ → Type 0
 IsFrameThen request bytes more =
-    (message : List ℕ) × RequestWritten request message × (bytes ≡ frame_of message ++ more)
+    (message : List ℕ) × RequestWritten request message × (length message < 2 ^ 32)
+    × (bytes ≡ frame_of message ++ more)
 
--- what the messages of a stream are answered, in order, what is accepted after them, and whether one of
--- them is no response, which ends the stream
-abbrev pub AreAnswered : ConfigValue → Accepted → List (List ℕ) → List ℕ → Accepted → Bool → Type 0
-AreAnswered c old [] replies new ends = (replies ≡ []) × (new ≡ old) × (ends ≡ false)
-AreAnswered c old (message ∷ messages) replies new ends =
-    ((e : Refusal) × ResponseFault message e × (replies ≡ []) × (new ≡ old) × (ends ≡ true))
+-- the version that a response's answer accepts: an answer with an error accepts none
+abbrev pub accepted_by : RequestMessage → List (List ℕ)
+accepted_by reply = if is_none reply.error_detail then reply.version_info ∷ [] else []
+
+-- the message is no response, which ends the stream
+abbrev pub EndsStream : List ℕ → Accepted → List ℕ → List (List ℕ) → Accepted → Bool → Type 0
+EndsStream message old replies versions new ends = ((e : Refusal) × ResponseFault message e)
+    × (replies ≡ []) × (versions ≡ []) × (new ≡ old) × (ends ≡ true)
+
+-- what the messages of a stream are answered, in order, which versions are accepted, what is accepted after
+-- them, and whether one of them ends the stream
+abbrev pub AreAnswered : ConfigValue → Accepted → List (List ℕ) → List ℕ → List (List ℕ) → Accepted → Bool → Type 0
+AreAnswered c old [] replies versions new ends =
+    (replies ≡ []) × (versions ≡ []) × (new ≡ old) × (ends ≡ false)
+AreAnswered c old (message ∷ messages) replies versions new ends =
+    EndsStream message old replies versions new ends
     ⊎ ((response : ResponseMessage) × (reply : RequestMessage) × (next : Accepted) × (more : List ℕ)
-    × IsResponse message response × Answers c response old reply next × IsFrameThen reply replies more
-    × AreAnswered c next messages more new ends)
+    × (later : List (List ℕ)) × IsResponse message response × Answers c response old reply next
+    × IsFrameThen reply replies more × (versions ≡ accepted_by reply ++ later)
+    × AreAnswered c next messages more later new ends)
 
 -- the stream after its messages: what stands behind them, unless it is broken or a message ended it
 abbrev pub stream_after : Bool → Tail → Option (List ℕ)
@@ -43,24 +55,27 @@ stream_after false (broken fault) = None
 stream_after true tail = None
 
 -- bytes come behind the unfinished ones: their messages are answered
-pub record FeedsStream (old : ClientValue) (rest bytes replies : List ℕ) (new : ClientValue) : Type 0 where
+pub record FeedsStream (old : ClientValue) (rest bytes replies : List ℕ) (versions : List (List ℕ))
+    (new : ClientValue) : Type 0 where
   pub messages : List (List ℕ)
   pub tail : Tail
   pub ends : Bool
   pub cut : Cut (rest ++ bytes) most_bytes messages tail
-  pub answered : AreAnswered old.config old.accepted messages replies new.accepted ends
+  pub answered : AreAnswered old.config old.accepted messages replies versions new.accepted ends
   pub stream : new.stream ≡ stream_after ends tail
   pub config : new.config ≡ old.config
 
 -- bytes come, by the stream that is up: without one nothing is done with them
-abbrev pub FeedsBy : Option (List ℕ) → ClientValue → List ℕ → List ℕ → Bool → ClientValue → Type 0
-FeedsBy None old bytes replies is_broken new = (replies ≡ []) × (is_broken ≡ true) × (new ≡ old)
-FeedsBy (Some rest) old bytes replies is_broken new =
-    FeedsStream old rest bytes replies new × (is_broken ≡ is_none new.stream)
+abbrev pub FeedsBy : Option (List ℕ) → ClientValue → List ℕ → List ℕ → Bool → List (List ℕ) → ClientValue → Type 0
+FeedsBy None old bytes replies is_broken versions new =
+    (replies ≡ []) × (is_broken ≡ true) × (versions ≡ []) × (new ≡ old)
+FeedsBy (Some rest) old bytes replies is_broken versions new =
+    FeedsStream old rest bytes replies versions new × (is_broken ≡ is_none new.stream)
 
--- bytes come: what is answered, whether the stream is broken, and what the client is then
-abbrev pub Feeds : ClientValue → List ℕ → List ℕ → Bool → ClientValue → Type 0
-Feeds old bytes replies is_broken new = FeedsBy old.stream old bytes replies is_broken new
+-- bytes come: what is answered, whether the stream is broken, which versions are accepted, and what the client
+-- is then
+abbrev pub Feeds : ClientValue → List ℕ → List ℕ → Bool → List (List ℕ) → ClientValue → Type 0
+Feeds old bytes replies is_broken versions new = FeedsBy old.stream old bytes replies is_broken versions new
 
 -- the client with no stream, and with a new one
 abbrev pub stream_down : ClientValue → ClientValue

@@ -26,7 +26,8 @@ pub(crate) fn answer_all(
 ) -> Result<bool, AllocError>
     requires { Covers (length config.now.filters) draft.old.given.items }
     ensures answered { IfOk result (λ ends. (old : List (Option AdmittedValue)) → (replies : List ℕ)
-        × AreAnswered config.now (draft_view old draft.old) frames.old.messages replies (draft_view old draft.new) ends
+        × (versions : List (List ℕ)) × AreAnswered config.now (draft_view old draft.old) frames.old.messages
+        replies versions (draft_view old draft.new) ends
         × (draft.new.replies.items ≡ draft.old.replies.items ++ replies)) }
     ensures covers { IfOk result (λ ends. Covers (length config.now.filters) draft.new.given.items) }
     ensures frames { (frames.new.max ≡ frames.old.max) × (frames.new.tail ≡ frames.old.tail) }

@@ -1,6 +1,6 @@
 //! What a client does: its stream comes up, gives bytes, and is lost.
 
-ghost use Rattle.std.specs.Prelude.{◌≡◌, None, Some, [], IfOk, IfSome, OnOk, OnErr, MatchOption};
+ghost use Rattle.std.specs.Prelude.{◌≡◌, ℕ, List, None, Some, [], IfOk, IfSome, OnOk, OnErr, MatchOption};
 ghost use Rattle.rbac_policy.specs.Admitted.{limits_view};
 ghost use Rattle.ads.specs.steps.Taking.{admitted_view};
 ghost use Rattle.ads.specs.Answer.{first_request};
@@ -49,8 +49,8 @@ impl Client {
     /// The stream gives bytes. Each response that they complete is answered, in order; a broken frame or a message that
     /// is no response ends the stream. After an error all is as before the call.
     pub fn feed(&mut self, bytes: &[u8]) -> Result<Fed, AllocError>
-        ensures found { IfOk result (λ fed. Feeds (client_view self.old) bytes.now
-            fed.replies.items fed.broken (client_view self.new)) }
+        ensures found { IfOk result (λ fed. (versions : List (List ℕ))
+            × Feeds (client_view self.old) bytes.now fed.replies.items fed.broken versions (client_view self.new)) }
         ensures fault { OnErr result (client_view self.new ≡ client_view self.old) }
     {
         let Some(stream) = &self.stream else {

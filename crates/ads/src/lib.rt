@@ -9,6 +9,7 @@ mod client;
 mod config;
 mod control;
 mod judging;
+pub mod laws;
 mod reply;
 mod response;
 mod serving;

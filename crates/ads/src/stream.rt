@@ -58,9 +58,9 @@ pub(crate) fn answered(
     stream: &Stream,
     bytes: &[u8],
 ) -> Result<(Draft, Option<Stream>), AllocError>
-    ensures answered { IfOk result (λ r. (messages : List (List ℕ)) × (tail : Tail) × (ends : Bool)
+    ensures answered { IfOk result (λ r. (messages versions : List (List ℕ)) × (tail : Tail) × (ends : Bool)
         × Cut (stream.now ++ bytes.now) most_bytes messages tail
-        × AreAnswered config.now (state_view accepted.now) messages r.0.replies.items
+        × AreAnswered config.now (state_view accepted.now) messages r.0.replies.items versions
         (draft_view (policies_view accepted.now.policies.items) r.0) ends
         × (r.1 ≡ stream_after ends tail)) }
     ensures covers { IfOk result (λ r. Covers (length config.now.filters) r.0.given.items) }

@@ -3,6 +3,7 @@ mod cases;
 mod client;
 mod configs;
 mod control;
+mod hostile;
 mod making;
 mod serving;
 mod vectors;

@@ -1,13 +1,13 @@
 -- Frames are cut to their messages, and a part of them to the first of those; a rest is the beginning of a frame.
-use Rattle.std.proofs.Common.{◌≡◌, ◌≢◌, ℕ, zero, suc, ◌+◌, ◌-◌, ◌<◌, ◌≤◌, ◌^◌, ◌⊎◌, inl, inr, List, [], ◌∷◌, ◌++◌, length, take, drop, replicate, refl, ap, ap₂, ◌∙◌, sym, arith, append_assoc, append-nil, length-append, All}
+use Rattle.std.proofs.Common.{◌≡◌, ◌≢◌, ℕ, ◌-◌, ◌<◌, ◌⊎◌, inl, inr, List, [], ◌∷◌, ◌++◌, length, take, drop, replicate, refl, ap, ap₂, ◌∙◌, sym, arith, append_assoc, append-nil, length-append, All}
 use Rattle.std.proofs.lemmas.List.{length-replicate, take-append-le, take-append-drop}
 use Rattle.std.proofs.lemmas.List.Elements.{All-tail, All-same, All-append, All-replicate}
 use Rattle.std.proofs.lemmas.Nat.{be_bytes_4}
 use Rattle.std.proofs.lemmas.Bool.{cases_lt}
-use Rattle.std.specs.Int.{w32, to_be_bytes, from_be_bytes}
-use Rattle.xds_wire.specs.Frames.{head_of, frame_of, frames_of, IsLength, AreAllowed, IsBeginning, nothing, part_of_head, part_of_message, IsTail, Tail, unfinished, broken, Cut}
+use Rattle.std.specs.Int.{w32, from_be_bytes}
+use Rattle.xds_wire.specs.Frames.{head_of, frame_of, frames_of, IsLength, AreAllowed, IsBeginning, nothing, part_of_head, part_of_message, unfinished, Cut}
 use Rattle.xds_wire.proofs.CutLemmas.{frames-none, frames-one, cut_of, cut_behind}
-use Rattle.xds_wire.proofs.EachCut.{four_fit, small_at}
+use Rattle.xds_wire.proofs.EachCut.{small_at}
 
 -- one list split at two places: either place may come first
 split_twice : (a b c d : List ℕ) → a ++ b ≡ c ++ d

@@ -1,10 +1,8 @@
 -- Frames behind frames, and what is cut when more bytes come.
 use Rattle.std.proofs.Common.{◌≡◌, ℕ, ◌<◌, List, [], ◌∷◌, ◌++◌, length, refl, ap, ◌∙◌, sym, arith, append-nil, append_assoc, length-append}
-use Rattle.std.proofs.lemmas.List.{flat_map_more}
 use Rattle.std.proofs.lemmas.List.Concat.{flat_map-append}
 use Rattle.std.specs.List.{AllByRecursion}
-use Rattle.xds_wire.specs.Frames.{head_of, frame_of, frames_of, IsLength, AreAllowed, IsTail, Tail, unfinished, broken, Cut, Breaks, compressed, too_long, part_of_message}
-use Rattle.xds_wire.specs.Stream.{Resumes}
+use Rattle.xds_wire.specs.Frames.{head_of, frame_of, frames_of, IsLength, AreAllowed, IsTail, Tail, unfinished, Cut, part_of_message}
 
 -- all of two lists
 pub all-append : {A : Type 0} (P : A → Type 0) (xs ys : List A) → AllByRecursion P xs

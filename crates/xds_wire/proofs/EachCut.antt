@@ -1,11 +1,11 @@
 -- Bytes are cut in some way.
-use Rattle.std.proofs.Common.{◌≡◌, ◌≢◌, ℕ, zero, suc, ◌+◌, ◌<◌, ◌≤◌, ◌^◌, ◌⊎◌, inl, inr, List, [], ◌∷◌, ◌++◌, length, take, drop, get_or, refl, ap, ap₂, ◌∙◌, sym, arith, append_assoc, length-append, All}
+use Rattle.std.proofs.Common.{◌≡◌, ℕ, zero, suc, ◌<◌, ◌≤◌, ◌^◌, inl, inr, List, [], ◌∷◌, ◌++◌, length, take, drop, get_or, refl, ap, ap₂, ◌∙◌, sym, arith, append_assoc, All}
 use Rattle.std.proofs.lemmas.List.{take-append-drop, length-take-le, length-drop, get_or_past}
-use Rattle.std.proofs.lemmas.List.Elements.{All-take, All-drop, All-tail, All-get_or}
+use Rattle.std.proofs.lemmas.List.Elements.{All-take, All-drop, All-tail}
 use Rattle.std.proofs.lemmas.Nat.{be_bytes_4}
 use Rattle.std.proofs.lemmas.Bool.{cases_eq, cases_lt}
-use Rattle.std.specs.Int.{w32, to_be_bytes, from_be_bytes}
-use Rattle.xds_wire.specs.Frames.{head_of, frame_of, frames_of, IsLength, IsBeginning, nothing, part_of_head, part_of_message, Breaks, compressed, too_long, IsTail, Tail, unfinished, broken, Cut}
+use Rattle.std.specs.Int.{w32, from_be_bytes}
+use Rattle.xds_wire.specs.Frames.{head_of, frame_of, IsLength, nothing, part_of_head, part_of_message, compressed, too_long, IsTail, Tail, unfinished, broken, Cut}
 use Rattle.xds_wire.specs.declared.fault.FrameFault.TheVariants.{Compressed, TooLong}
 use Rattle.xds_wire.proofs.CutLemmas.{frames-none, frames-one, cut_of, cut_behind}
 

@@ -1,17 +1,17 @@
 -- The value of a number, where its fields are those that a writer writes of the value.
-use Rattle.std.proofs.Common.{◌≡◌, ◌≢◌, ℕ, ℤ, pos, negsuc, ◌==◌, ◌%◌, ◌^◌, ◌<◌, Bool, true, false, cond, Option, Some, None, unwrap_or, List, [], ◌∷◌, ◌++◌, map, refl, sym, ap, ap₂, subst, ◌∙◌, arith, append-nil, to_z-of_z, inl, inr}
+use Rattle.std.proofs.Common.{◌≡◌, ℕ, ℤ, pos, negsuc, ◌==◌, ◌%◌, ◌^◌, true, Option, Some, None, unwrap_or, List, [], ◌∷◌, refl, sym, ap, subst, ◌∙◌, arith, to_z-of_z, inl, inr}
 use Rattle.std.specs.Prelude.{IsUtf8, IfSome, FitsSigned}
 use Rattle.std.specs.Int.{w32, w64, cast_unsigned, cast_signed}
 use Rattle.std.specs.List.{AllByRecursion, AllZip}
 use Rattle.std.proofs.lemmas.Bool.{cases_Bool, eqb-true}
-use Rattle.proto_wire.specs.Fields.{Payload, Wire, varint, len}
+use Rattle.proto_wire.specs.Fields.{Wire, varint, len}
 use Rattle.proto_wire.specs.Values.{varints, payloads, last_of, bytes_at, varint_at, int32_at}
 use Rattle.proto_wire.specs.Shortest.{field_of}
 use Rattle.xds_wire.specs.Envelope.{IsString, AreStrings, IsMerged, AreRepeated}
 use Rattle.xds_wire.specs.Written.{string_fields, strings_fields, int32_fields, AreOptional, AreEach}
 
 module _ (k : ℕ) (is : (k == k) ≡ true) where
-  one_len : (bytes : List ℕ) → payloads k (field_of k (len bytes) ∷ []) ≡ bytes ∷ []
+  pub one_len : (bytes : List ℕ) → payloads k (field_of k (len bytes) ∷ []) ≡ bytes ∷ []
   one_len bytes = rw is refl
 
   first_len : (bytes : List ℕ) (fs : List Wire)
@@ -31,7 +31,7 @@ module _ (k : ℕ) (is : (k == k) ≡ true) where
       → IsUtf8 t → IsString k fs t
   string_back fs t same utf8 = (bytes_back fs t same, utf8)
 
-  strings_own : (ts : List (List ℕ)) → payloads k (strings_fields k ts) ≡ ts
+  pub strings_own : (ts : List (List ℕ)) → payloads k (strings_fields k ts) ≡ ts
   strings_own [] = refl
   strings_own (t ∷ ts) =
       first_len t (strings_fields k ts) ∙ ap (λ (xs : List (List ℕ)). t ∷ xs) (strings_own ts)

@@ -1,14 +1,11 @@
 -- Which values stand in groups of written fields: each number's values are those of its own group.
-use Rattle.std.proofs.Common.{◌≡◌, ◌≢◌, ℕ, ℤ, pos, negsuc, ◌==◌, ◌%◌, ◌^◌, Bool, true, false, cond, Option, Some, None, List, [], ◌∷◌, ◌++◌, map, refl, sym, ap, ap₂, ◌∙◌, arith, append-nil, to_z-of_z, inl, inr}
-use Rattle.std.specs.Prelude.{IsUtf8, IfSome, FitsSigned}
-use Rattle.std.specs.Int.{w32, w64, cast_unsigned, cast_signed}
-use Rattle.std.specs.List.{flat_map, filter_map, AllByRecursion, AllZip}
+use Rattle.std.proofs.Common.{◌≡◌, ℕ, ℤ, ◌==◌, false, cond, Option, Some, None, List, [], ◌∷◌, ◌++◌, refl, ap, ap₂, ◌∙◌, append-nil, inl, inr}
+use Rattle.std.specs.Int.{w64, cast_unsigned}
+use Rattle.std.specs.List.{flat_map, filter_map, AllByRecursion}
 use Rattle.std.proofs.lemmas.List.Elements.{filter_map-append}
-use Rattle.std.proofs.lemmas.Bool.{cases_Bool, eqb-true}
+use Rattle.std.proofs.lemmas.Bool.{cases_Bool}
 use Rattle.proto_wire.specs.Fields.{Payload, Wire, varint, len}
-use Rattle.proto_wire.specs.Values.{varint_in, len_in, varints, payloads, last_of, bytes_at, varint_at, int32_at}
 use Rattle.proto_wire.specs.Shortest.{field_of}
-use Rattle.xds_wire.specs.Envelope.{IsString, AreStrings, IsMerged, AreRepeated}
 use Rattle.xds_wire.specs.Written.{string_fields, strings_fields, int32_fields, AreOptional, AreEach}
 
 -- the groups one after the other

@@ -1,10 +1,9 @@
 -- What a head's bytes say: five bytes that begin with 0 are the head of one length.
-use Rattle.std.proofs.Common.{◌≡◌, ◌≢◌, ℕ, zero, suc, ◌+◌, ◌*◌, ◌<◌, ◌≤◌, ◌^◌, ◌⊎◌, inl, inr, List, [], ◌∷◌, ◌++◌, length, take, get_or, refl, ap, ◌∙◌, sym, arith}
+use Rattle.std.proofs.Common.{◌≡◌, ℕ, zero, suc, ◌+◌, ◌*◌, ◌<◌, ◌≤◌, List, [], ◌∷◌, ◌++◌, length, take, get_or, refl, ap, ◌∙◌, sym, arith}
 use Rattle.std.proofs.lemmas.List.{take_all, length-take-le}
 use Rattle.std.proofs.lemmas.Nat.{be_bytes_4}
-use Rattle.std.specs.Int.{w32, from_be_bytes}
-use Rattle.xds_wire.specs.Frames.{head_of, Breaks, compressed, too_long, IsBeginning, nothing, part_of_head}
-use Rattle.xds_wire.specs.declared.fault.FrameFault.TheVariants.{Compressed, TooLong}
+use Rattle.xds_wire.specs.Frames.{head_of, Breaks, compressed, IsBeginning, nothing, part_of_head}
+use Rattle.xds_wire.specs.declared.fault.FrameFault.TheVariants.{Compressed}
 
 -- the bytes of a head, when all five have come
 pub whole_head : (head : List ℕ) (count n : ℕ) → length head ≡ 5 → 5 ≤ count

@@ -12,3 +12,4 @@ pub mod WriteLemmas
 pub mod Groups
 pub mod GroupValues
 pub mod ReadBack
+pub mod AsWritten

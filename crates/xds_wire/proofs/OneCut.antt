@@ -1,8 +1,9 @@
 -- Bytes are cut in one way at most.
-use Rattle.std.proofs.Common.{◌≡◌, ◌≢◌, ℕ, ◌<◌, ◌≤◌, ◌^◌, List, [], ◌∷◌, ◌++◌, length, take, drop, refl, ap, ap₂, ◌∙◌, sym, arith, append_assoc, length-append}
+use Rattle.std.proofs.Common.{◌≡◌, ℕ, ◌+◌, ◌<◌, ◌^◌, List, [], ◌∷◌, ◌++◌, length, take, drop, refl, ap, ap₂, ◌∙◌, sym, arith, append_assoc, length-append}
 use Rattle.std.proofs.lemmas.List.{take_at, drop_at}
 use Rattle.std.proofs.lemmas.Nat.{from_be_bytes-to_be_bytes_4}
 use Rattle.std.specs.Int.{w32, to_be_bytes, from_be_bytes}
+use Rattle.std.specs.List.{AllByRecursion}
 use Rattle.xds_wire.specs.Frames.{head_of, frame_of, frames_of, IsLength, AreAllowed, IsBeginning, nothing, part_of_head, part_of_message, Breaks, compressed, too_long, IsTail, Tail, unfinished, broken, Cut}
 use Rattle.xds_wire.specs.declared.fault.FrameFault.{FrameFault}
 
@@ -112,3 +113,32 @@ pub cut_one : (bytes : List ℕ) (max : ℕ) (ms ns : List (List ℕ)) (t u : Ta
     → Cut bytes max ms t → Cut bytes max ns u → (ms ≡ ns) × (t ≡ u)
 cut_one bytes max ms ns t u a b =
     frames_one_list bytes max ms ns a.rest b.rest t u a.whole a.allowed a.ends b.whole b.allowed b.ends
+
+-- the messages of frames that any frame may hold
+abbrev pub AreFramed : List (List ℕ) → Type 0
+AreFramed messages = AllByRecursion (λ message. length message < 2 ^ 32) messages
+
+-- messages that are cut off frames are the first of theirs, and what is left are the frames of the others
+pub frames_first : (ms messages : List (List ℕ)) (max : ℕ) (rest : List ℕ) → AreAllowed max ms
+    → AreFramed messages → frames_of ms ++ rest ≡ frames_of messages
+    → (others : List (List ℕ)) × (messages ≡ ms ++ others) × (rest ≡ frames_of others)
+frames_first [] messages max rest allowed framed whole = (messages, refl, whole)
+frames_first (m ∷ ms) [] max rest allowed framed whole = absurd cc
+frames_first (m ∷ ms) (n ∷ ns) max rest allowed framed whole =
+    let both : ℕ = length m + length n in
+    let first = frame_one both m n (frames_of ms ++ rest) (frames_of ns)
+    (allowed.0.0, omega arith) (framed.0, omega arith)
+    (sym (append_assoc (frame_of m) (frames_of ms) rest) ∙ whole) in
+    let more = frames_first ms ns max rest allowed.1 framed.1 first.1 in (
+      more.0,
+      ap₂ (λ (x : List ℕ) (xs : List (List ℕ)). x ∷ xs) (sym first.0) more.1,
+      more.2,
+    )
+
+-- bytes that begin frames are cut to the first of their messages
+pub cut_first : (bytes more : List ℕ) (max : ℕ) (messages ms : List (List ℕ)) (t : Tail)
+    → AreFramed messages → bytes ++ more ≡ frames_of messages → (cut : Cut bytes max ms t)
+    → (others : List (List ℕ)) × (messages ≡ ms ++ others) × (cut.rest ++ more ≡ frames_of others)
+cut_first bytes more max messages ms t framed whole cut =
+    frames_first ms messages max (cut.rest ++ more) cut.allowed framed
+    (sym (append_assoc (frames_of ms) cut.rest more) ∙ ap (λ xs. xs ++ more) (sym cut.whole) ∙ whole)

@@ -1,18 +1,17 @@
 -- What is written of a discovery message is read back as that message, and there is one way to write it.
-use Rattle.std.proofs.Common.{◌≡◌, ℕ, Option, Some, None, List, [], ◌∷◌, ◌++◌, refl, sym, ap, ap₂, subst, ◌∙◌, append-nil}
-use Rattle.std.specs.Prelude.{IsUtf8}
+use Rattle.std.proofs.Common.{◌≡◌, ℕ, Option, Some, None, List, [], ◌∷◌, refl, sym, ap, ap₂, subst, ◌∙◌, append-nil}
 use Rattle.proto_wire.specs.Fields.{Wire, len}
 use Rattle.proto_wire.specs.Merge.{Merges}
 use Rattle.proto_wire.specs.Shortest.{Shortest, field_of}
 use Rattle.proto_wire.specs.Values.{varint_in, len_in, payloads, varints}
 use Rattle.proto_wire.proofs.ShortestLemmas.{shortest_reads, shortest_unique}
-use Rattle.xds_wire.specs.Discovery.{AnyMessage, AreAnyFields, IsAny, StatusMessage, AreStatusFields, IsStatus, NodeMessage, AreNodeFields, IsNode, RequestMessage, AreRequestFields, IsRequest, ResponseMessage, AreResponseFields, IsResponse, ExtensionMessage, AreExtensionFields, IsExtension}
-use Rattle.xds_wire.specs.Written.{string_fields, strings_fields, int32_fields, AreOptional, AreEach, SpellsGroups, AnyWritten, IsSoundAny, StatusWritten, IsSoundStatus, NodeWritten, IsSoundNode, RequestWritten, IsSoundRequest, ResponseWritten, IsSoundResponse, ExtensionWritten, IsSoundExtension}
+use Rattle.xds_wire.specs.Discovery.{AnyMessage, IsAny, StatusMessage, IsStatus, NodeMessage, IsNode, RequestMessage, IsRequest, ResponseMessage, IsResponse, ExtensionMessage, IsExtension}
+use Rattle.xds_wire.specs.Written.{string_fields, strings_fields, int32_fields, AreOptional, AreEach, AnyWritten, IsSoundAny, StatusWritten, IsSoundStatus, NodeWritten, IsSoundNode, RequestWritten, IsSoundRequest, ResponseWritten, IsSoundResponse, ExtensionWritten, IsSoundExtension}
 use Rattle.xds_wire.proofs.Groups.{in_row, picks_own, string_other, strings_other, int32_other, optional_other, each_other}
 use Rattle.xds_wire.proofs.GroupValues.{bytes_back, string_back, strings_back, merged_back, repeated_back, code_back}
 
 -- the fields that are written are the message's
-merges_one : (fs : List Wire) (bytes : List ℕ) → Shortest fs bytes → Merges (bytes ∷ []) fs
+pub merges_one : (fs : List Wire) (bytes : List ℕ) → Shortest fs bytes → Merges (bytes ∷ []) fs
 merges_one fs bytes spells = (fs, [], shortest_reads fs bytes spells, refl, sym (append-nil fs))
 
 pub any_back : (m : AnyMessage) (bytes : List ℕ) → IsSoundAny m → AnyWritten m bytes
@@ -75,73 +74,101 @@ node_back m bytes sound w =
       },
     )
 
+-- which payloads of the fields are the request's
+pub record OfRequest (m : RequestMessage) (node error_detail fs : List Wire) : Type 0 where
+  pub of_version_info : payloads 1 fs ≡ payloads 1 (string_fields 1 m.version_info)
+  pub of_node : payloads 2 fs ≡ payloads 2 (node)
+  pub of_resource_names : payloads 3 fs ≡ payloads 3 (strings_fields 3 m.resource_names)
+  pub of_type_url : payloads 4 fs ≡ payloads 4 (string_fields 4 m.type_url)
+  pub of_response_nonce : payloads 5 fs ≡ payloads 5 (string_fields 5 m.response_nonce)
+  pub of_error_detail : payloads 6 fs ≡ payloads 6 (error_detail)
+
+-- the fields of a request that is written
+abbrev pub request_row : RequestMessage → List Wire → List Wire → List Wire
+request_row m node error_detail =
+    in_row ((string_fields 1 m.version_info) ∷ node ∷ (strings_fields 3 m.resource_names) ∷ (string_fields 4 m.type_url) ∷ (string_fields 5 m.response_nonce) ∷ error_detail ∷ [])
+
+pub request_own : (m : RequestMessage) (bytes : List ℕ) (w : RequestWritten m bytes)
+    → OfRequest m w.node w.error_detail (request_row m w.node w.error_detail)
+request_own m bytes w = record {
+  of_version_info = picks_own len_in 1 ([]) (string_fields 1 m.version_info) (w.node ∷ (strings_fields 3 m.resource_names) ∷ (string_fields 4 m.type_url) ∷ (string_fields 5 m.response_nonce) ∷ w.error_detail ∷ [])
+      tt
+      (optional_other len_in 1 NodeWritten 2 m.node w.node w.node_fields refl, (strings_other len_in 1 3 m.resource_names refl, (string_other len_in 1 4 m.type_url refl, (string_other len_in 1 5 m.response_nonce refl, (optional_other len_in 1 StatusWritten 6 m.error_detail w.error_detail w.error_fields refl, tt)))));
+  of_node = picks_own len_in 2 ((string_fields 1 m.version_info) ∷ []) (w.node) ((strings_fields 3 m.resource_names) ∷ (string_fields 4 m.type_url) ∷ (string_fields 5 m.response_nonce) ∷ w.error_detail ∷ [])
+      (string_other len_in 2 1 m.version_info refl, tt)
+      (strings_other len_in 2 3 m.resource_names refl, (string_other len_in 2 4 m.type_url refl, (string_other len_in 2 5 m.response_nonce refl, (optional_other len_in 2 StatusWritten 6 m.error_detail w.error_detail w.error_fields refl, tt))));
+  of_resource_names = picks_own len_in 3 ((string_fields 1 m.version_info) ∷ w.node ∷ []) (strings_fields 3 m.resource_names) ((string_fields 4 m.type_url) ∷ (string_fields 5 m.response_nonce) ∷ w.error_detail ∷ [])
+      (string_other len_in 3 1 m.version_info refl, (optional_other len_in 3 NodeWritten 2 m.node w.node w.node_fields refl, tt))
+      (string_other len_in 3 4 m.type_url refl, (string_other len_in 3 5 m.response_nonce refl, (optional_other len_in 3 StatusWritten 6 m.error_detail w.error_detail w.error_fields refl, tt)));
+  of_type_url = picks_own len_in 4 ((string_fields 1 m.version_info) ∷ w.node ∷ (strings_fields 3 m.resource_names) ∷ []) (string_fields 4 m.type_url) ((string_fields 5 m.response_nonce) ∷ w.error_detail ∷ [])
+      (string_other len_in 4 1 m.version_info refl, (optional_other len_in 4 NodeWritten 2 m.node w.node w.node_fields refl, (strings_other len_in 4 3 m.resource_names refl, tt)))
+      (string_other len_in 4 5 m.response_nonce refl, (optional_other len_in 4 StatusWritten 6 m.error_detail w.error_detail w.error_fields refl, tt));
+  of_response_nonce = picks_own len_in 5 ((string_fields 1 m.version_info) ∷ w.node ∷ (strings_fields 3 m.resource_names) ∷ (string_fields 4 m.type_url) ∷ []) (string_fields 5 m.response_nonce) (w.error_detail ∷ [])
+      (string_other len_in 5 1 m.version_info refl, (optional_other len_in 5 NodeWritten 2 m.node w.node w.node_fields refl, (strings_other len_in 5 3 m.resource_names refl, (string_other len_in 5 4 m.type_url refl, tt))))
+      (optional_other len_in 5 StatusWritten 6 m.error_detail w.error_detail w.error_fields refl, tt);
+  of_error_detail = picks_own len_in 6 ((string_fields 1 m.version_info) ∷ w.node ∷ (strings_fields 3 m.resource_names) ∷ (string_fields 4 m.type_url) ∷ (string_fields 5 m.response_nonce) ∷ []) (w.error_detail) ([])
+      (string_other len_in 6 1 m.version_info refl, (optional_other len_in 6 NodeWritten 2 m.node w.node w.node_fields refl, (strings_other len_in 6 3 m.resource_names refl, (string_other len_in 6 4 m.type_url refl, (string_other len_in 6 5 m.response_nonce refl, tt)))))
+      tt;
+}
+
 pub request_back : (m : RequestMessage) (bytes : List ℕ) → IsSoundRequest m → RequestWritten m bytes
     → IsRequest bytes m
 request_back m bytes sound w =
-    let fs : List Wire = in_row ((string_fields 1 m.version_info) ∷ w.node ∷ (strings_fields 3 m.resource_names) ∷ (string_fields 4 m.type_url) ∷ (string_fields 5 m.response_nonce) ∷ w.error_detail ∷ []) in
-    let own_1 : payloads 1 fs ≡ payloads 1 (string_fields 1 m.version_info) =
-    picks_own len_in 1 ([]) (string_fields 1 m.version_info) (w.node ∷ (strings_fields 3 m.resource_names) ∷ (string_fields 4 m.type_url) ∷ (string_fields 5 m.response_nonce) ∷ w.error_detail ∷ [])
-    tt
-    (optional_other len_in 1 NodeWritten 2 m.node w.node w.node_fields refl, (strings_other len_in 1 3 m.resource_names refl, (string_other len_in 1 4 m.type_url refl, (string_other len_in 1 5 m.response_nonce refl, (optional_other len_in 1 StatusWritten 6 m.error_detail w.error_detail w.error_fields refl, tt))))) in
-    let own_2 : payloads 2 fs ≡ payloads 2 (w.node) =
-    picks_own len_in 2 ((string_fields 1 m.version_info) ∷ []) (w.node) ((strings_fields 3 m.resource_names) ∷ (string_fields 4 m.type_url) ∷ (string_fields 5 m.response_nonce) ∷ w.error_detail ∷ [])
-    (string_other len_in 2 1 m.version_info refl, tt)
-    (strings_other len_in 2 3 m.resource_names refl, (string_other len_in 2 4 m.type_url refl, (string_other len_in 2 5 m.response_nonce refl, (optional_other len_in 2 StatusWritten 6 m.error_detail w.error_detail w.error_fields refl, tt)))) in
-    let own_3 : payloads 3 fs ≡ payloads 3 (strings_fields 3 m.resource_names) =
-    picks_own len_in 3 ((string_fields 1 m.version_info) ∷ w.node ∷ []) (strings_fields 3 m.resource_names) ((string_fields 4 m.type_url) ∷ (string_fields 5 m.response_nonce) ∷ w.error_detail ∷ [])
-    (string_other len_in 3 1 m.version_info refl, (optional_other len_in 3 NodeWritten 2 m.node w.node w.node_fields refl, tt))
-    (string_other len_in 3 4 m.type_url refl, (string_other len_in 3 5 m.response_nonce refl, (optional_other len_in 3 StatusWritten 6 m.error_detail w.error_detail w.error_fields refl, tt))) in
-    let own_4 : payloads 4 fs ≡ payloads 4 (string_fields 4 m.type_url) =
-    picks_own len_in 4 ((string_fields 1 m.version_info) ∷ w.node ∷ (strings_fields 3 m.resource_names) ∷ []) (string_fields 4 m.type_url) ((string_fields 5 m.response_nonce) ∷ w.error_detail ∷ [])
-    (string_other len_in 4 1 m.version_info refl, (optional_other len_in 4 NodeWritten 2 m.node w.node w.node_fields refl, (strings_other len_in 4 3 m.resource_names refl, tt)))
-    (string_other len_in 4 5 m.response_nonce refl, (optional_other len_in 4 StatusWritten 6 m.error_detail w.error_detail w.error_fields refl, tt)) in
-    let own_5 : payloads 5 fs ≡ payloads 5 (string_fields 5 m.response_nonce) =
-    picks_own len_in 5 ((string_fields 1 m.version_info) ∷ w.node ∷ (strings_fields 3 m.resource_names) ∷ (string_fields 4 m.type_url) ∷ []) (string_fields 5 m.response_nonce) (w.error_detail ∷ [])
-    (string_other len_in 5 1 m.version_info refl, (optional_other len_in 5 NodeWritten 2 m.node w.node w.node_fields refl, (strings_other len_in 5 3 m.resource_names refl, (string_other len_in 5 4 m.type_url refl, tt))))
-    (optional_other len_in 5 StatusWritten 6 m.error_detail w.error_detail w.error_fields refl, tt) in
-    let own_6 : payloads 6 fs ≡ payloads 6 (w.error_detail) =
-    picks_own len_in 6 ((string_fields 1 m.version_info) ∷ w.node ∷ (strings_fields 3 m.resource_names) ∷ (string_fields 4 m.type_url) ∷ (string_fields 5 m.response_nonce) ∷ []) (w.error_detail) ([])
-    (string_other len_in 6 1 m.version_info refl, (optional_other len_in 6 NodeWritten 2 m.node w.node w.node_fields refl, (strings_other len_in 6 3 m.resource_names refl, (string_other len_in 6 4 m.type_url refl, (string_other len_in 6 5 m.response_nonce refl, tt)))))
-    tt in (
+    let fs : List Wire = request_row m w.node w.error_detail in
+    let own = request_own m bytes w in (
       fs,
       merges_one fs bytes w.spells,
       record {
-        version_info = string_back 1 refl fs m.version_info own_1 sound.version_info;
-        node = merged_back 2 refl IsNode NodeWritten IsSoundNode node_back fs w.node m.node own_2 w.node_fields sound.node;
-        resource_names = strings_back 3 refl fs m.resource_names own_3 sound.resource_names;
-        type_url = string_back 4 refl fs m.type_url own_4 sound.type_url;
-        response_nonce = string_back 5 refl fs m.response_nonce own_5 sound.response_nonce;
-        error_detail = merged_back 6 refl IsStatus StatusWritten IsSoundStatus status_back fs w.error_detail m.error_detail own_6 w.error_fields sound.error_detail;
+        version_info = string_back 1 refl fs m.version_info own.of_version_info sound.version_info;
+        node = merged_back 2 refl IsNode NodeWritten IsSoundNode node_back fs w.node m.node own.of_node w.node_fields sound.node;
+        resource_names = strings_back 3 refl fs m.resource_names own.of_resource_names sound.resource_names;
+        type_url = string_back 4 refl fs m.type_url own.of_type_url sound.type_url;
+        response_nonce = string_back 5 refl fs m.response_nonce own.of_response_nonce sound.response_nonce;
+        error_detail = merged_back 6 refl IsStatus StatusWritten IsSoundStatus status_back fs w.error_detail m.error_detail own.of_error_detail w.error_fields sound.error_detail;
       },
     )
+
+-- which payloads of the fields are the response's
+pub record OfResponse (m : ResponseMessage) (resources fs : List Wire) : Type 0 where
+  pub of_version_info : payloads 1 fs ≡ payloads 1 (string_fields 1 m.version_info)
+  pub of_resources : payloads 2 fs ≡ payloads 2 (resources)
+  pub of_type_url : payloads 4 fs ≡ payloads 4 (string_fields 4 m.type_url)
+  pub of_nonce : payloads 5 fs ≡ payloads 5 (string_fields 5 m.nonce)
+
+-- the fields of a response that is written
+abbrev pub response_row : ResponseMessage → List Wire → List Wire
+response_row m resources =
+    in_row ((string_fields 1 m.version_info) ∷ resources ∷ (string_fields 4 m.type_url) ∷ (string_fields 5 m.nonce) ∷ [])
+
+pub response_own : (m : ResponseMessage) (bytes : List ℕ) (w : ResponseWritten m bytes)
+    → OfResponse m w.resources (response_row m w.resources)
+response_own m bytes w = record {
+  of_version_info = picks_own len_in 1 ([]) (string_fields 1 m.version_info) (w.resources ∷ (string_fields 4 m.type_url) ∷ (string_fields 5 m.nonce) ∷ [])
+      tt
+      (each_other len_in 1 AnyWritten 2 m.resources w.resources w.resource_fields refl, (string_other len_in 1 4 m.type_url refl, (string_other len_in 1 5 m.nonce refl, tt)));
+  of_resources = picks_own len_in 2 ((string_fields 1 m.version_info) ∷ []) (w.resources) ((string_fields 4 m.type_url) ∷ (string_fields 5 m.nonce) ∷ [])
+      (string_other len_in 2 1 m.version_info refl, tt)
+      (string_other len_in 2 4 m.type_url refl, (string_other len_in 2 5 m.nonce refl, tt));
+  of_type_url = picks_own len_in 4 ((string_fields 1 m.version_info) ∷ w.resources ∷ []) (string_fields 4 m.type_url) ((string_fields 5 m.nonce) ∷ [])
+      (string_other len_in 4 1 m.version_info refl, (each_other len_in 4 AnyWritten 2 m.resources w.resources w.resource_fields refl, tt))
+      (string_other len_in 4 5 m.nonce refl, tt);
+  of_nonce = picks_own len_in 5 ((string_fields 1 m.version_info) ∷ w.resources ∷ (string_fields 4 m.type_url) ∷ []) (string_fields 5 m.nonce) ([])
+      (string_other len_in 5 1 m.version_info refl, (each_other len_in 5 AnyWritten 2 m.resources w.resources w.resource_fields refl, (string_other len_in 5 4 m.type_url refl, tt)))
+      tt;
+}
 
 pub response_back : (m : ResponseMessage) (bytes : List ℕ) → IsSoundResponse m → ResponseWritten m bytes
     → IsResponse bytes m
 response_back m bytes sound w =
-    let fs : List Wire = in_row ((string_fields 1 m.version_info) ∷ w.resources ∷ (string_fields 4 m.type_url) ∷ (string_fields 5 m.nonce) ∷ []) in
-    let own_1 : payloads 1 fs ≡ payloads 1 (string_fields 1 m.version_info) =
-    picks_own len_in 1 ([]) (string_fields 1 m.version_info) (w.resources ∷ (string_fields 4 m.type_url) ∷ (string_fields 5 m.nonce) ∷ [])
-    tt
-    (each_other len_in 1 AnyWritten 2 m.resources w.resources w.resource_fields refl, (string_other len_in 1 4 m.type_url refl, (string_other len_in 1 5 m.nonce refl, tt))) in
-    let own_2 : payloads 2 fs ≡ payloads 2 (w.resources) =
-    picks_own len_in 2 ((string_fields 1 m.version_info) ∷ []) (w.resources) ((string_fields 4 m.type_url) ∷ (string_fields 5 m.nonce) ∷ [])
-    (string_other len_in 2 1 m.version_info refl, tt)
-    (string_other len_in 2 4 m.type_url refl, (string_other len_in 2 5 m.nonce refl, tt)) in
-    let own_4 : payloads 4 fs ≡ payloads 4 (string_fields 4 m.type_url) =
-    picks_own len_in 4 ((string_fields 1 m.version_info) ∷ w.resources ∷ []) (string_fields 4 m.type_url) ((string_fields 5 m.nonce) ∷ [])
-    (string_other len_in 4 1 m.version_info refl, (each_other len_in 4 AnyWritten 2 m.resources w.resources w.resource_fields refl, tt))
-    (string_other len_in 4 5 m.nonce refl, tt) in
-    let own_5 : payloads 5 fs ≡ payloads 5 (string_fields 5 m.nonce) =
-    picks_own len_in 5 ((string_fields 1 m.version_info) ∷ w.resources ∷ (string_fields 4 m.type_url) ∷ []) (string_fields 5 m.nonce) ([])
-    (string_other len_in 5 1 m.version_info refl, (each_other len_in 5 AnyWritten 2 m.resources w.resources w.resource_fields refl, (string_other len_in 5 4 m.type_url refl, tt)))
-    tt in (
+    let fs : List Wire = response_row m w.resources in
+    let own = response_own m bytes w in (
       fs,
       merges_one fs bytes w.spells,
       record {
-        version_info = string_back 1 refl fs m.version_info own_1 sound.version_info;
-        resources = repeated_back 2 refl IsAny AnyWritten IsSoundAny any_back fs w.resources m.resources own_2 w.resource_fields sound.resources;
-        type_url = string_back 4 refl fs m.type_url own_4 sound.type_url;
-        nonce = string_back 5 refl fs m.nonce own_5 sound.nonce;
+        version_info = string_back 1 refl fs m.version_info own.of_version_info sound.version_info;
+        resources = repeated_back 2 refl IsAny AnyWritten IsSoundAny any_back fs w.resources m.resources own.of_resources w.resource_fields sound.resources;
+        type_url = string_back 4 refl fs m.type_url own.of_type_url sound.type_url;
+        nonce = string_back 5 refl fs m.nonce own.of_nonce sound.nonce;
       },
     )
 

@@ -1,5 +1,5 @@
 -- What a reader of an envelope passes on from the readers of its parts.
-use Rattle.std.proofs.Common.{◌≡◌, ◌≢◌, inl, inr, List, [], ◌∷◌, ℕ, ◌<◌, length, get_or, refl, ◌∙◌}
+use Rattle.std.proofs.Common.{◌≡◌, ◌≢◌, inr, List, [], ◌∷◌, ℕ, ◌<◌, length, get_or, refl, ◌∙◌}
 use Rattle.std.specs.Borrow.{Bor}
 use Rattle.std.specs.Prelude.{Result, IfOk, IfErr, IsErrAnd}
 use Rattle.std.proofs.lemmas.Result.{IfOk-weaker, IfErr-weaker}

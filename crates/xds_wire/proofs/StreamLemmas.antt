@@ -1,9 +1,9 @@
 -- Calls on a reader cut all the bytes that were fed.
-use Rattle.std.proofs.Common.{◌≡◌, ℕ, ◌<◌, Option, Some, None, List, [], ◌∷◌, ◌++◌, length, refl, ap, ap₂, ◌∙◌, sym, append_assoc, append-nil}
+use Rattle.std.proofs.Common.{◌≡◌, ℕ, Some, None, List, [], ◌∷◌, ◌++◌, refl, ap, ◌∙◌, sym, append_assoc, append-nil}
 use Rattle.xds_wire.specs.Frames.{head_of, frames_of, Breaks, compressed, too_long, nothing, Tail, unfinished, broken, Cut}
-use Rattle.xds_wire.specs.Stream.{Kept, start, Resumes, Feeds, Takes, Call, fed, taken, Steps, Runs, bytes_fed, messages_taken}
+use Rattle.xds_wire.specs.Stream.{Kept, start, Resumes, Feeds, Takes, Call, fed, taken, Runs, bytes_fed, messages_taken}
 use Rattle.xds_wire.specs.declared.fault.FrameFault.{FrameFault}
-use Rattle.xds_wire.proofs.CutLemmas.{Frames, frames-none, cut_of, cut_behind}
+use Rattle.xds_wire.proofs.CutLemmas.{frames-none, cut_of, cut_behind}
 
 -- what breaks stays broken when more bytes come
 breaks-append : (max : ℕ) (rest more : List ℕ) (fault : FrameFault) → Breaks max rest fault

@@ -1,9 +1,9 @@
 -- Fields that are written behind others.
 use Rattle.std.proofs.Common.{◌≡◌, ℕ, ◌+◌, ◌<◌, List, [], ◌∷◌, ◌++◌, length, map, take, get_or, refl, sym, ap, ◌∙◌, append-nil, append_assoc}
 use Rattle.std.specs.Borrow.{Bor}
-use Rattle.std.proofs.lemmas.List.{map_more, map-append, take_at}
+use Rattle.std.proofs.lemmas.List.{map_more, map-append}
 use Rattle.proto_wire.specs.Fields.{Wire, len}
-use Rattle.proto_wire.specs.Shortest.{Shortest, field_of}
+use Rattle.proto_wire.specs.Shortest.{field_of}
 use Rattle.proto_wire.specs.steps.Writing.{Keeps}
 use Rattle.proto_wire.proofs.ShortestLemmas.{shortest_append}
 use Rattle.xds_wire.specs.View.{texts_view}

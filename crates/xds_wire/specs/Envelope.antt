@@ -1,6 +1,6 @@
 -- Messages whose unknown fields are skipped, and the values of their fields: Protocol Buffers encoding
 -- guide, "Last One Wins", "Repeated Elements" and "Message Structure".
-use Rattle.std.specs.Prelude.{◌≡◌, ◌≢◌, ℕ, ℤ, Option, Some, None, ◌⊎◌, List, [], ◌∷◌, IsUtf8}
+use Rattle.std.specs.Prelude.{◌≡◌, ◌≢◌, ℕ, Option, Some, None, ◌⊎◌, List, [], ◌∷◌, IsUtf8}
 use Rattle.std.specs.List.{AllZip, AllByRecursion}
 use Rattle.proto_wire.specs.Fields.{Wire}
 use Rattle.proto_wire.specs.Merge.{Merges}

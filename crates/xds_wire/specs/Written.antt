@@ -1,6 +1,6 @@
 -- What writers write of the discovery messages: Protocol Buffers encoding guide. Fields stand in ascending
 -- order of number, each number in its shortest spelling, and defaults are left out.
-use Rattle.std.specs.Prelude.{◌≡◌, ℕ, ℤ, ◌==◌, Option, Some, None, List, [], ◌∷◌, ◌++◌, map, if◌then◌else◌, IsUtf8, IfSome, FitsSigned}
+use Rattle.std.specs.Prelude.{◌≡◌, ℕ, ℤ, ◌==◌, Option, Some, None, List, [], ◌∷◌, map, if◌then◌else◌, IsUtf8, IfSome, FitsSigned}
 use Rattle.std.specs.Int.{w32, w64, cast_unsigned}
 use Rattle.std.specs.List.{AllByRecursion, flat_map}
 use Rattle.proto_wire.specs.Fields.{Wire, varint, len}

@@ -1,7 +1,8 @@
 //! Laws of frames: bytes are cut in one way, and calls cut all the bytes that they are fed, wherever those are cut
 //! into pieces. Laws of discovery messages: bytes are one message at most, or have a fault, and never both.
 
-ghost use Rattle.std.specs.Prelude.{◌≡◌, ◌≢◌, ◌⊎◌, ℕ, ◌<◌, All, [], List, ◌++◌};
+ghost use Rattle.std.specs.Prelude.{◌≡◌, ◌≢◌, ◌⊎◌, ◌↔◌, ℕ, ◌<◌, ◌^◌, All, None, [], List, ◌++◌, length};
+ghost use Rattle.std.specs.List.{AllByRecursion};
 ghost use Rattle.xds_wire.specs.Frames.{Tail, unfinished, Cut, AreAllowed, IsBeginning, frame_of, frames_of};
 ghost use Rattle.xds_wire.specs.Discovery.{RequestMessage, IsRequest, RequestFault, ResponseMessage, IsResponse, ResponseFault, ExtensionMessage, IsExtension, ExtensionFault};
 ghost use Rattle.xds_wire.specs.Stream.{Kept, start, Call, Runs, Resumes, bytes_fed, messages_taken};
@@ -55,6 +56,15 @@ pub fn part_of_frames_is_cut()
         → AreAllowed max messages → bytes ++ more ≡ frames_of messages
         → (first others : List (List ℕ)) × (rest : List ℕ)
         × (messages ≡ first ++ others) × Cut bytes max first (unfinished rest) }
+{}
+
+/// Bytes that begin frames, of any length that a frame can name, are cut to the first of their messages, also where a
+/// longer one then breaks them; what is left begins the frames of the others.
+pub fn beginning_of_frames_is_cut()
+    ensures { (bytes more : List ℕ) (max : ℕ) (messages ms : List (List ℕ)) (t : Tail)
+        → AllByRecursion (λ message. length message < 2 ^ 32) messages → bytes ++ more ≡ frames_of messages
+        → (cut : Cut bytes max ms t) → (others : List (List ℕ))
+        × (messages ≡ ms ++ others) × (cut.rest ++ more ≡ frames_of others) }
 {}
 
 /// A rest is a proper beginning of a frame: further bytes make it one.
@@ -125,6 +135,13 @@ pub fn request_written_unique()
     ensures { (m : RequestMessage) (a b : List ℕ) → RequestWritten m a → RequestWritten m b → a ≡ b }
 {}
 
+/// What reads of a written request has its version, names, type and nonce, and an error where it has one.
+pub fn request_is_as_written()
+    ensures { (m n : RequestMessage) (bytes : List ℕ) → RequestWritten m bytes → IsRequest bytes n
+        → (n.version_info ≡ m.version_info) × (n.resource_names ≡ m.resource_names) × (n.type_url ≡ m.type_url)
+        × (n.response_nonce ≡ m.response_nonce) × ((n.error_detail ≡ None) ↔ (m.error_detail ≡ None)) }
+{}
+
 /// What is written of a response reads back.
 pub fn response_reads_back()
     ensures { (m : ResponseMessage) (bytes : List ℕ) → IsSoundResponse m → ResponseWritten m bytes
@@ -134,6 +151,12 @@ pub fn response_reads_back()
 /// There is one way at most to write a response.
 pub fn response_written_unique()
     ensures { (m : ResponseMessage) (a b : List ℕ) → ResponseWritten m a → ResponseWritten m b → a ≡ b }
+{}
+
+/// What reads of a written response has its version, type and nonce.
+pub fn response_is_as_written()
+    ensures { (m n : ResponseMessage) (bytes : List ℕ) → ResponseWritten m bytes → IsResponse bytes n
+        → (n.version_info ≡ m.version_info) × (n.type_url ≡ m.type_url) × (n.nonce ≡ m.nonce) }
 {}
 
 /// What is written of an extension reads back.

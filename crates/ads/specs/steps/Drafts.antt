@@ -1,5 +1,5 @@
 -- What stands beside the accepted state while bytes are answered.
-use Rattle.std.specs.Prelude.{◌≡◌, ◌⊎◌, ℕ, Option, List, ◌++◌, length}
+use Rattle.std.specs.Prelude.{◌≡◌, ◌⊎◌, ℕ, ◌<◌, ◌^◌, Option, List, ◌++◌, length}
 use Rattle.std.specs.String.{string_bytes}
 use Rattle.proto_wire.specs.declared.refusal.Refusal.{Refusal}
 use Rattle.xds_wire.specs.Frames.{frame_of}
@@ -37,7 +37,8 @@ Covers n given = (length given ≡ 0) ⊎ (length given ≡ n)
 -- the request's frame stands behind what was there
 abbrev pub AddsFrame : RequestMessage → List ℕ → List ℕ → Type 0
 AddsFrame request before after =
-    (message : List ℕ) × RequestWritten request message × (after ≡ before ++ frame_of message)
+    (message : List ℕ) × RequestWritten request message × (length message < 2 ^ 32)
+    × (after ≡ before ++ frame_of message)
 
 -- the message is no response, and nothing is answered
 abbrev pub IsNoResponse : Accepted → List ℕ → List ℕ → List ℕ → Accepted → Type 0

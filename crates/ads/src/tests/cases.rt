@@ -1,6 +1,6 @@
 //! Worked cases of the client: what it answers, and what it has accepted then.
-use super::making::{answers, client_of, client_with, policies, resource, response};
-use super::vectors::{ANY_ANY, FIRST_ACK, HALF_BAD_NACK, RESUMED_REQUEST, U, joined};
+use super::making::{answers, client_of, client_with, policies, refuses, resource, response};
+use super::vectors::{ANY_ANY, FIRST_ACK, HALF_BAD_NACK, RESUMED_REQUEST, joined};
 use std::alloc::Global;
 use std::process::Abort;
 use std::test::Fail;
@@ -83,42 +83,10 @@ fn names_not_asked_for(rt: HostRuntime) -> Result<(), Fail> {
     Ok(())
 }
 
-/// The refusal of a response with nonce `n2` for `f`, after version `1`, with this number.
-fn refuses(rt: &impl Abort, alloc: Global, response: &[u8], number: &[u8]) -> Result<(), Fail> {
-    let mut client = client_with(alloc, &["f"], ANY_ANY)?;
-    let nack: &[&[u8]] = &[
-        b"\x00\x00\x00\x00\x61\x0a\x01\x31\x1a\x01\x66\x22\x3d",
-        U,
-        b"\x2a\x02\x6e\x32\x32\x16\x08\x03\x12\x12",
-        b"policy refused: ",
-        number,
-    ];
-    answers(rt, alloc, &mut client, response, nack)?;
-    assert_eq!(rt; policies(&client, "f"), Some(1));
-    assert_eq!(rt; client.generation(), 1);
-    Ok(())
-}
-
 #[test]
 fn doubled_names(rt: HostRuntime) -> Result<(), Fail> {
     let alloc = rt.alloc();
     let filter = resource(alloc, "f", ANY_ANY)?;
     let twice = response(alloc, "4", "n2", &[&filter, &filter])?;
     refuses(&rt, alloc, &twice, b"16")
-}
-
-/// The response's type is another.
-#[test]
-fn wrong_types(rt: HostRuntime) -> Result<(), Fail> {
-    let alloc = rt.alloc();
-    let bytes = b"\x00\x00\x00\x00\x0a\x0a\x01\x33\x22\x01\x78\x2a\x02\x6e\x32";
-    refuses(&rt, alloc, bytes, b"17")
-}
-
-/// A resource without a configuration.
-#[test]
-fn no_configuration(rt: HostRuntime) -> Result<(), Fail> {
-    let alloc = rt.alloc();
-    let bare = response(alloc, "3", "n2", &[b"\x0a\x01\x66"])?;
-    refuses(&rt, alloc, &bare, b"17")
 }

@@ -19,6 +19,7 @@ fn breaks(rt: &impl Abort, alloc: Global, bytes: &[u8]) -> Result<(), Fail> {
     let fed = client.feed(&all)?;
     assert!(rt; fed.broken);
     assert!(rt; fed.replies.is_empty());
+    assert!(rt; client.connected()? == joined(alloc, RESUMED_REQUEST)?);
     Ok(())
 }
 
@@ -27,7 +28,10 @@ fn broken_streams(rt: HostRuntime) -> Result<(), Fail> {
     let alloc = rt.alloc();
     breaks(&rt, alloc, b"\x01\x00\x00\x00\x00")?;
     breaks(&rt, alloc, b"\x00\x00\x10\x00\x01")?;
-    breaks(&rt, alloc, b"\x00\x00\x00\x00\x01\x0a")
+    breaks(&rt, alloc, b"\x00\x00\x00\x00\x01\x0a")?;
+    breaks(&rt, alloc, b"\x00\x00\x00\x00\x03\x0a\x01\xff")?;
+    breaks(&rt, alloc, b"\x00\x00\x00\x00\x03\x22\x01\xff")?;
+    breaks(&rt, alloc, b"\x00\x00\x00\x00\x03\x2a\x01\xff")
 }
 
 #[test]

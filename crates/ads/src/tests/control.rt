@@ -94,3 +94,49 @@ fn sends_again_after_a_loss(rt: HostRuntime) -> Result<(), Fail> {
     assert_eq!(rt; control.acknowledged(), Some(1));
     Ok(())
 }
+
+/// Answers to the second snapshot whose nonce is not the last one: of an earlier response, of a later one, spelt otherwise,
+/// empty and absent.
+const OTHER_NONCES: [&[&[u8]]; 5] = [
+    &[
+        b"\x00\x00\x00\x00\x48\x0a\x01\x32\x1a\x01f\x22\x3d",
+        U,
+        b"\x2a\x011",
+    ],
+    &[
+        b"\x00\x00\x00\x00\x48\x0a\x01\x32\x1a\x01f\x22\x3d",
+        U,
+        b"\x2a\x013",
+    ],
+    &[
+        b"\x00\x00\x00\x00\x49\x0a\x01\x32\x1a\x01f\x22\x3d",
+        U,
+        b"\x2a\x0202",
+    ],
+    &[
+        b"\x00\x00\x00\x00\x47\x0a\x01\x32\x1a\x01f\x22\x3d",
+        U,
+        b"\x2a\x00",
+    ],
+    &[b"\x00\x00\x00\x00\x45\x0a\x01\x32\x1a\x01f\x22\x3d", U],
+];
+
+/// The acknowledgement of the second snapshot.
+const SECOND_ACK: &[&[u8]] = &[
+    b"\x00\x00\x00\x00\x48\x0a\x01\x32\x1a\x01f\x22\x3d",
+    U,
+    b"\x2a\x012",
+];
+
+#[test]
+fn ignores_other_nonces(rt: HostRuntime) -> Result<(), Fail> {
+    let alloc = rt.alloc();
+    let mut control = acknowledged(&rt, alloc)?;
+    for answer in &OTHER_NONCES {
+        sends(&rt, alloc, &mut control, answer, &[])?;
+        assert_eq!(rt; control.acknowledged(), Some(1));
+    }
+    sends(&rt, alloc, &mut control, SECOND_ACK, &[])?;
+    assert_eq!(rt; control.acknowledged(), Some(2));
+    Ok(())
+}

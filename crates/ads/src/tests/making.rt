@@ -1,5 +1,5 @@
 //! Clients, control planes and responses for tests.
-use super::vectors::{EXTENSION_TYPE, FILTER_TYPE, joined};
+use super::vectors::{ANY_ANY, EXTENSION_TYPE, FILTER_TYPE, RESUMED_REQUEST, U, joined};
 use crate::{Client, Config, ConfigFault, Control, Filter, Resource, Snapshot};
 use attributes::Limits;
 use std::alloc::Global;
@@ -107,6 +107,35 @@ pub fn answers(
     let fed = client.feed(response)?;
     assert!(rt; !fed.broken);
     assert!(rt; fed.replies == joined(alloc, reply)?);
+    Ok(())
+}
+
+/// The start of the refusal's frame, and what stands between the type and the text, for a number of one digit and of two.
+const ONE_DIGIT: (&[u8], &[u8]) = (
+    b"\x00\x00\x00\x00\x60\x0a\x01\x31\x1a\x01\x66\x22\x3d",
+    b"\x2a\x02\x6e\x32\x32\x15\x08\x03\x12\x11",
+);
+
+const TWO_DIGITS: (&[u8], &[u8]) = (
+    b"\x00\x00\x00\x00\x61\x0a\x01\x31\x1a\x01\x66\x22\x3d",
+    b"\x2a\x02\x6e\x32\x32\x16\x08\x03\x12\x12",
+);
+
+/// A client for `f` that has accepted version `1` refuses a response with nonce `n2` by this number. What it accepted
+/// stays, and a later stream goes on from there.
+pub fn refuses(rt: &impl Abort, alloc: Global, response: &[u8], number: &[u8]) -> Result<(), Fail> {
+    let mut client = client_with(alloc, &["f"], ANY_ANY)?;
+    let (head, status) = if number.len() == 1 {
+        ONE_DIGIT
+    } else {
+        TWO_DIGITS
+    };
+    let nack: &[&[u8]] = &[head, U, status, b"policy refused: ", number];
+    answers(rt, alloc, &mut client, response, nack)?;
+    assert_eq!(rt; policies(&client, "f"), Some(1));
+    assert_eq!(rt; client.generation(), 1);
+    client.lost();
+    assert!(rt; client.connected()? == joined(alloc, RESUMED_REQUEST)?);
     Ok(())
 }
 

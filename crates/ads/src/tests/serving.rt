@@ -102,3 +102,14 @@ fn too_long_a_response(rt: HostRuntime) -> Result<(), Fail> {
     assert!(rt; fed.broken && fed.replies.is_empty());
     Ok(())
 }
+
+/// A million requests without bytes, in one call, are ignored.
+#[test]
+fn a_million_empty_requests(rt: HostRuntime) -> Result<(), Fail> {
+    let alloc = rt.alloc();
+    let mut control = control_of(alloc, "g", &[ANY_ANY])?;
+    let empty = vec![in alloc; 0u8; 5_000_000]?;
+    let fed = control.feed(&empty)?;
+    assert!(rt; fed.replies.is_empty() && !fed.broken);
+    sends(&rt, alloc, &mut control, FIRST_REQUEST, NOTHING)
+}

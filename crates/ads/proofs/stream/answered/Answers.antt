@@ -17,9 +17,10 @@ returns-clause-answered c =
     c.in_ok-ends.ends c.in_ok-draft.ensures.same c.in_ok-draft.ensures.replies (c.in_ok-ends.ensures.answered old) in
     let a = c.kept.ensures in let b = c.in_ok-ends.ensures.frames in let d = c.stream.view_is in (
       c.feed_frames.new.frames.messages,
+      answers.0,
       c.feed_frames.new.frames.tail,
       c.in_ok-ends.ends,
       rw (← d) cut.0,
-      answers,
+      answers.1,
       rw (← b.1) a,
     )

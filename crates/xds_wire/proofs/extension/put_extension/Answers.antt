@@ -1,9 +1,9 @@
 -- The fields of the message stand behind what was there.
-use Rattle.std.proofs.Common.{List, ℕ, [], ◌∷◌, ◌++◌}
+use Rattle.std.proofs.Common.{List, [], ◌++◌}
 use Rattle.std.proofs.lemmas.Result.{on_ok_weaker}
 use Rattle.proto_wire.specs.Fields.{Wire}
-use Rattle.xds_wire.specs.View.{extension_view, texts_view}
-use Rattle.xds_wire.specs.Written.{string_fields, strings_fields}
+use Rattle.xds_wire.specs.View.{extension_view}
+use Rattle.xds_wire.specs.Written.{string_fields}
 use Rattle.xds_wire.proofs.WriteLemmas.{adds_more, adds_last}
 use Rattle.xds_wire.proofs.extension.put_extension.Goals as goal
 

@@ -1,4 +1,4 @@
-use Rattle.std.proofs.Common.{◌≡◌, ◌<◌, ◌++◌, length, vec_len, ap, ◌∙◌, sym, rules, arith}
+use Rattle.std.proofs.Common.{◌≡◌, ◌<◌, ◌++◌, length, vec_len, ap, ◌∙◌, sym, arith}
 use Rattle.std.proofs.lemmas.List.{length-take}
 use Rattle.xds_wire.specs.Frames.{head_of, unfinished, part_of_message}
 use Rattle.xds_wire.specs.steps.Pieces.{head_view}

@@ -1,4 +1,4 @@
-use Rattle.std.proofs.Common.{◌≡◌, ℕ, ◌-◌, List, [], ◌∷◌, ◌++◌, length, vec_len, take, drop, ap, ap₂, set, ◌∙◌, sym, rules, arith, append_assoc, length-append}
+use Rattle.std.proofs.Common.{◌≡◌, ℕ, List, [], ◌∷◌, ◌++◌, length, ap, ap₂, set, ◌∙◌, sym, rules, arith, append_assoc, length-append}
 use Rattle.std.proofs.lemmas.List.{take-append-drop, set_at}
 use Rattle.xds_wire.specs.Frames.{Cut}
 use Rattle.xds_wire.specs.steps.Pieces.{tail_view}

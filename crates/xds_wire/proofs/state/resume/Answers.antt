@@ -1,7 +1,4 @@
-use Rattle.std.proofs.Common.{◌≡◌, ℕ, ◌<◌, List, [], ◌++◌, length, append-nil, sym, arith, rules}
-use Rattle.xds_wire.specs.Frames.{IsLength, Tail, unfinished, head_of}
-use Rattle.xds_wire.specs.Stream.{Resumes}
-use Rattle.xds_wire.specs.steps.Pieces.{tail_view, IsState}
+use Rattle.std.proofs.Common.{ℕ, ◌<◌, List, [], length, append-nil, sym, rules}
 use Rattle.xds_wire.proofs.CutLemmas.{cut_more_data}
 use Rattle.xds_wire.proofs.state.resume.Goals as goal
 

@@ -1,8 +1,9 @@
-use Rattle.std.proofs.Common.{ap}
+use Rattle.std.proofs.Common.{ap, refl}
 use Rattle.ads.specs.Answer.{Accepted}
-use Rattle.ads.specs.steps.Drafts.{draft_view, state_view}
+use Rattle.ads.specs.steps.Drafts.{client_view, draft_view, state_view}
 use Rattle.ads.specs.steps.Taking.{policies_view}
 use Rattle.ads.proofs.AdmittedLemmas.{merely_all}
+use Rattle.ads.proofs.StreamLemmas.{fed_stream, none_of}
 use Rattle.ads.proofs.client.Client.feed.Goals as goal
 
 pub invariant_of-self-2-clause-admitted : goal.invariant_of-self-2-clause-admitted
@@ -12,4 +13,14 @@ invariant_of-self-2-clause-admitted c =
     let answered = c.in_ok-draft.ensures.answered in
     rw (ap (λ (a : Accepted). a.policies) c.commit-replies.ensures.state)
     (merely_all c.args.self.now.config (state_view old) (draft_view (policies_view old.policies.items) draft)
-    answered.0 draft.replies.items answered.2 answered.4 c.args.self.now.admitted)
+    answered.0 draft.replies.items answered.1 answered.3 answered.5 c.args.self.now.admitted)
+
+pub returns-clause-found : goal.returns-clause-found
+returns-clause-found c =
+    let told = c.in_ok-draft.ensures.answered in (
+      told.1,
+      fed_stream (client_view c.args.self.now) _ c.in-Some.stream c.args.bytes.now _ told.0 told.1 told.2 told.3
+          c.commit-replies.result.items c.in_ok-draft.draft.replies.items c.is_none-broken.result
+          c.in-Some.is told.4 told.5 c.commit-replies.ensures.replies c.commit-replies.ensures.state told.6 refl
+          (none_of c.in_ok-draft.stream c.is_none-broken.result c.is_none-broken.ensures),
+    )

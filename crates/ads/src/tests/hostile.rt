@@ -1,0 +1,149 @@
+//! Responses of a hostile control plane: each is refused by its number, and what was accepted stays.
+use super::making::{answers, client_of, client_with, policies, refuses, resource, response};
+use super::vectors::{ANY_ANY, FIRST_ACK, U, joined};
+use std::alloc::Global;
+use std::process::Abort;
+use std::test::Fail;
+
+/// The type of the resources in another case of letters.
+const OTHER_CASE: &[u8] = b"Type.googleapis.com/envoy.config.core.v3.TypedExtensionConfig";
+
+/// Responses whose type, or whose resource's type, is empty, absent, short or of another case.
+const TYPES: [&[&[u8]]; 7] = [
+    &[b"\x00\x00\x00\x00\x09\x0a\x01\x32\x22\x00\x2a\x02n2"],
+    &[b"\x00\x00\x00\x00\x07\x0a\x01\x32\x2a\x02n2"],
+    &[b"\x00\x00\x00\x00\x0a\x0a\x01\x32\x22\x01x\x2a\x02n2"],
+    &[
+        b"\x00\x00\x00\x00\x46\x0a\x01\x32\x22\x3d",
+        OTHER_CASE,
+        b"\x2a\x02n2",
+    ],
+    &[
+        b"\x00\x00\x00\x00\x4f\x0a\x01\x32\x12\x07\x0a\x00\x12\x03\x0a\x01f\x22\x3d",
+        U,
+        b"\x2a\x02n2",
+    ],
+    &[
+        b"\x00\x00\x00\x00\x4d\x0a\x01\x32\x12\x05\x12\x03\x0a\x01f\x22\x3d",
+        U,
+        b"\x2a\x02n2",
+    ],
+    &[
+        b"\x00\x00\x00\x00\x8c\x0a\x01\x32\x12\x44\x0a\x3d",
+        OTHER_CASE,
+        b"\x12\x03\x0a\x01f\x22\x3d",
+        U,
+        b"\x2a\x02n2",
+    ],
+];
+
+#[test]
+fn wrong_types(rt: HostRuntime) -> Result<(), Fail> {
+    let alloc = rt.alloc();
+    for pieces in &TYPES {
+        let response = joined(alloc, pieces)?;
+        refuses(&rt, alloc, &response, b"17")?;
+    }
+    Ok(())
+}
+
+/// Resources and the number of their refusal: bytes that don't read, no name, no configuration, and one of another type;
+/// of one that was not asked for the bytes and the name count, and nothing else.
+const RESOURCES: [(&[u8], &[u8]); 8] = [
+    (b"\x0a", b"1"),
+    (b"\x0a\x05f", b"1"),
+    (b"\x0a\x01\xff", b"2"),
+    (b"", b"4"),
+    (b"\x12\x03\x0a\x01x", b"4"),
+    (b"\x0a\x01f", b"17"),
+    (b"\x0a\x01f\x12\x00", b"17"),
+    (b"\x0a\x01f\x12\x03\x0a\x01x", b"17"),
+];
+
+#[test]
+fn bad_resources(rt: HostRuntime) -> Result<(), Fail> {
+    let alloc = rt.alloc();
+    for (bytes, number) in &RESOURCES {
+        let response = response(alloc, "2", "n2", &[*bytes])?;
+        refuses(&rt, alloc, &response, number)?;
+    }
+    Ok(())
+}
+
+/// A version and a nonce that are empty, and those that were accepted last.
+#[test]
+fn empty_and_repeated(rt: HostRuntime) -> Result<(), Fail> {
+    let alloc = rt.alloc();
+    let mut client = client_with(alloc, &["f"], ANY_ANY)?;
+    let again = response(alloc, "1", "n1", &[])?;
+    answers(&rt, alloc, &mut client, &again, FIRST_ACK)?;
+    let empty = response(alloc, "", "", &[])?;
+    let ack: &[&[u8]] = &[b"\x00\x00\x00\x00\x42\x1a\x01f\x22\x3d", U];
+    answers(&rt, alloc, &mut client, &empty, ack)?;
+    assert_eq!(rt; client.generation(), 3);
+    assert_eq!(rt; policies(&client, "f"), Some(1));
+    Ok(())
+}
+
+/// A version of 65,536 bytes.
+#[test]
+fn a_long_version(rt: HostRuntime) -> Result<(), Fail> {
+    let alloc = rt.alloc();
+    let mut version = String::new(alloc);
+    for _ in 0..65_536 {
+        version.push('v')?;
+    }
+    let mut client = client_of(alloc, &["f"])?;
+    client.connected()?;
+    let long = response(alloc, &version, "n1", &[])?;
+    let ack: &[&[u8]] = &[
+        b"\x00\x00\x01\x00\x4a\x0a\x80\x80\x04",
+        version.as_bytes(),
+        b"\x1a\x01f\x22\x3d",
+        U,
+        b"\x2a\x02n1",
+    ];
+    answers(&rt, alloc, &mut client, &long, ack)
+}
+
+/// 10,000 resources that nobody asked for.
+#[test]
+fn many_others(rt: HostRuntime) -> Result<(), Fail> {
+    let alloc = rt.alloc();
+    let mut others: Vec<&[u8]> = Vec::new(alloc);
+    for _ in 0..10_000 {
+        others.push(b"\x0a\x01x")?;
+    }
+    let mut client = client_with(alloc, &["f"], ANY_ANY)?;
+    let all = response(alloc, "1", "n1", &others)?;
+    answers(&rt, alloc, &mut client, &all, FIRST_ACK)?;
+    assert_eq!(rt; policies(&client, "f"), Some(1));
+    assert_eq!(rt; policies(&client, "x"), None);
+    Ok(())
+}
+
+/// A client for `f` gets the bytes in two pieces and acknowledges them.
+fn cut_at(rt: &impl Abort, alloc: Global, bytes: &[u8], place: usize) -> Result<(), Fail> {
+    let mut client = client_of(alloc, &["f"])?;
+    client.connected()?;
+    let first = client.feed(bytes.get(..place).unwrap_or(bytes))?;
+    assert!(rt; !first.broken);
+    let mut replies = first.replies;
+    let second = client.feed(bytes.get(place..).unwrap_or(&[]))?;
+    assert!(rt; !second.broken);
+    replies.extend_from_slice(&second.replies)?;
+    assert!(rt; replies == joined(alloc, FIRST_ACK)?);
+    assert_eq!(rt; policies(&client, "f"), Some(1));
+    Ok(())
+}
+
+#[test]
+fn a_response_cut_at_each_place(rt: HostRuntime) -> Result<(), Fail> {
+    let alloc = rt.alloc();
+    let filter = resource(alloc, "f", ANY_ANY)?;
+    let bytes = response(alloc, "1", "n1", &[&filter])?;
+    for place in 0..=bytes.len() {
+        cut_at(&rt, alloc, &bytes, place)?;
+    }
+    Ok(())
+}

@@ -1,0 +1,92 @@
+//! Fields that no message knows, of every wire type and in every envelope, and wire types that there are not.
+use super::vectors::joined;
+use crate::{read_extension, read_request, read_response};
+use proto_wire::Refusal;
+use std::alloc::Global;
+use std::process::Abort;
+use std::test::Fail;
+
+/// Field 99: VARINT, I64, LEN, LEN without bytes, I32.
+const UNKNOWN: [&[u8]; 5] = [
+    b"\x98\x06\x01",
+    b"\x99\x06\x01\x02\x03\x04\x05\x06\x07\x08",
+    b"\x9a\x06\x02hi",
+    b"\x9a\x06\x00",
+    b"\x9d\x06\x01\x02\x03\x04",
+];
+
+/// Field 99 as a start and an end of a group, and of wire types 6 and 7.
+const BAD: [&[u8]; 4] = [b"\x9b\x06", b"\x9c\x06", b"\x9e\x06", b"\x9f\x06"];
+
+/// A LEN field of this tag.
+fn message(alloc: Global, tag: u8, pieces: &[&[u8]]) -> Result<Vec<u8>, Fail> {
+    let payload = joined(alloc, pieces)?;
+    let length = u8::try_from(payload.len())?;
+    Ok(joined(alloc, &[&[tag, length], &payload])?)
+}
+
+/// A request, a response and an extension whose messages all have the field, before and behind the known ones.
+fn envelopes(alloc: Global, field: &[u8]) -> Result<(Vec<u8>, Vec<u8>, Vec<u8>), Fail> {
+    let node = message(alloc, 0x12, &[field, b"\x0a\x01n", field])?;
+    let error = message(alloc, 0x32, &[field, b"\x08\x03", field])?;
+    let request = joined(alloc, &[field, &node, b"\x1a\x01f", field, &error])?;
+    let any = message(alloc, 0x12, &[field, b"\x12\x01v", field])?;
+    let response = joined(alloc, &[field, b"\x0a\x011", &any, field])?;
+    let extension = joined(alloc, &[b"\x0a\x01f", field, &any, field])?;
+    Ok((request, response, extension))
+}
+
+/// The field is skipped in all of them.
+fn is_skipped(rt: &impl Abort, alloc: Global, field: &[u8]) -> Result<(), Fail> {
+    let (request, response, extension) = envelopes(alloc, field)?;
+    let request = read_request(alloc, &request)?;
+    assert!(rt; matches!(request.node, Some(node) if node.id == "n"));
+    assert!(rt; matches!(request.error_detail, Some(error) if error.code == 3));
+    assert!(rt; request.resource_names.as_slice() == ["f"].as_slice());
+    let response = read_response(alloc, &response)?;
+    assert_eq!(rt; response.version_info, "1");
+    assert_eq!(rt; response.resources.len(), 1);
+    let extension = read_extension(alloc, &extension)?;
+    assert_eq!(rt; extension.name, "f");
+    assert!(rt; matches!(extension.typed_config, Some(any) if any.value == b"v".as_slice()));
+    Ok(())
+}
+
+#[test]
+fn unknown_fields(rt: HostRuntime) -> Result<(), Fail> {
+    let alloc = rt.alloc();
+    for field in &UNKNOWN {
+        is_skipped(&rt, alloc, field)?;
+    }
+    Ok(())
+}
+
+#[test]
+fn bad_wire_types(rt: HostRuntime) -> Result<(), Fail> {
+    let alloc = rt.alloc();
+    for field in &BAD {
+        let (request, response, extension) = envelopes(alloc, field)?;
+        assert!(rt; matches!(read_request(alloc, &request), Err(Refusal::BadWire)));
+        assert!(rt; matches!(read_response(alloc, &response), Err(Refusal::BadWire)));
+        assert!(rt; matches!(read_extension(alloc, &extension), Err(Refusal::BadWire)));
+    }
+    Ok(())
+}
+
+/// A field of the wrong wire type is as one that is not known.
+#[test]
+fn known_numbers_of_other_types(rt: HostRuntime) -> Result<(), Fail> {
+    let alloc = rt.alloc();
+    let request = read_request(
+        alloc,
+        b"\x08\x01\x15abcd\x19abcdefgh\x20\x01\x28\x01\x35abcd",
+    )?;
+    assert_eq!(rt; request.version_info, "");
+    assert_eq!(rt; request.node, None);
+    assert!(rt; request.resource_names.is_empty());
+    assert_eq!(rt; request.error_detail, None);
+    let response = read_response(alloc, b"\x08\x01\x10\x01\x25abcd\x29abcdefgh")?;
+    assert!(rt; response.resources.is_empty());
+    assert_eq!(rt; response.nonce, "");
+    Ok(())
+}
