@@ -1,5 +1,7 @@
 //! Messages that are read, and messages that are refused.
 
+ghost use Rattle.std.specs.Prelude.{◌≤◌};
+
 use crate::*;
 use proto_wire::{Refusal, Writer};
 use std::alloc::{AllocError, Global};
@@ -608,8 +610,11 @@ enum Place {
     Element,
     Key,
     Value,
-    /// A part of a comprehension, by its number.
-    Part(u32),
+    Range,
+    Init,
+    Condition,
+    Step,
+    Result,
 }
 
 const PLACES: [Place; 11] = [
@@ -619,21 +624,21 @@ const PLACES: [Place; 11] = [
     Place::Element,
     Place::Key,
     Place::Value,
-    Place::Part(2),
-    Place::Part(4),
-    Place::Part(5),
-    Place::Part(6),
-    Place::Part(7),
+    Place::Range,
+    Place::Init,
+    Place::Condition,
+    Place::Step,
+    Place::Result,
 ];
-
-/// The numbers of a comprehension's parts.
-const PARTS: [u32; 5] = [2, 4, 5, 6, 7];
 
 /// The constant true.
 const LEAF: &[u8] = b"\x1a\x02\x10\x01";
 
 /// A message with this one field.
-fn of_field(alloc: Global, number: u32, payload: &[u8]) -> Result<Vec<u8>, AllocError> {
+fn of_field(alloc: Global, number: u32, payload: &[u8]) -> Result<Vec<u8>, AllocError>
+    requires least { 1 ≤ number }
+    requires most { number ≤ 536870911 }
+{
     let mut out = Writer::new(Vec::new(alloc));
     out.message(number, payload)?;
     Ok(out.into_bytes())
@@ -648,17 +653,16 @@ fn map(alloc: Global, key: &[u8], value: &[u8]) -> Result<Vec<u8>, AllocError> {
     of_field(alloc, 8, &entries)
 }
 
-/// A comprehension with the expression as this part.
-fn comprehension(alloc: Global, part: u32, expr: &[u8]) -> Result<Vec<u8>, AllocError> {
-    let mut parts = Writer::new(Vec::new(alloc));
-    for number in PARTS {
-        if number == part {
-            parts.message(number, expr)?;
-        } else {
-            parts.message(number, LEAF)?;
-        }
-    }
-    of_field(alloc, 9, &parts.into_bytes())
+/// A comprehension of these parts: its range, beginning, condition, step and result.
+fn comprehension(alloc: Global, parts: [&[u8]; 5]) -> Result<Vec<u8>, AllocError> {
+    let [range, init, condition, step, last] = parts;
+    let mut out = Writer::new(Vec::new(alloc));
+    out.message(2, range)?;
+    out.message(4, init)?;
+    out.message(5, condition)?;
+    out.message(6, step)?;
+    out.message(7, last)?;
+    of_field(alloc, 9, &out.into_bytes())
 }
 
 /// An expression around another at this place.
@@ -670,7 +674,11 @@ fn around(alloc: Global, place: Place, expr: &[u8]) -> Result<Vec<u8>, AllocErro
         Place::Element => of_field(alloc, 7, &of_field(alloc, 1, expr)?),
         Place::Key => map(alloc, expr, LEAF),
         Place::Value => map(alloc, LEAF, expr),
-        Place::Part(number) => comprehension(alloc, number, expr),
+        Place::Range => comprehension(alloc, [expr, LEAF, LEAF, LEAF, LEAF]),
+        Place::Init => comprehension(alloc, [LEAF, expr, LEAF, LEAF, LEAF]),
+        Place::Condition => comprehension(alloc, [LEAF, LEAF, expr, LEAF, LEAF]),
+        Place::Step => comprehension(alloc, [LEAF, LEAF, LEAF, expr, LEAF]),
+        Place::Result => comprehension(alloc, [LEAF, LEAF, LEAF, LEAF, expr]),
     }
 }
 
