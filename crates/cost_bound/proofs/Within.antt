@@ -22,7 +22,8 @@ use Rattle.cel_value.specs.Keys.{get, is_ascending, key_cmp, key_of_value, put}
 use Rattle.cel_value.specs.Equality.{key_eq}
 use Rattle.cel_value.specs.Masses.{entry_count, item_count}
 use Rattle.cel_value.specs.Texts.{points_of, utf8_of}
-use Rattle.cel_value.specs.Types.{ValueType}
+use Rattle.cel_value.specs.Types.{ValueType, list_type, map_type}
+use Rattle.cel_value.specs.declared.cel_type.KeyType.{KeyType}
 use Rattle.cel_value.specs.Values.{CelAnswer, CelEntries, CelKey, CelValue, CelValues, bool, bool_key, bytes, entry, fails, int, int_key, item, list, map_of, no_entries, no_items, text, text_key, uint, uint_key, value, value_of_key}
 use Rattle.cel_value.specs.declared.error.CelError.{CelError}
 use Rattle.cel_value.specs.declared.error.CelError.TheVariants.{RepeatedKey}
@@ -465,11 +466,11 @@ items_gathered (value v ∷ answers) (s ∷ ss) h = at (gather answers) (items_g
     at (first_error e) more = tt
 
 -- a list literal is within its size
-pub list_within : (t : ValueType) (answers : List CelAnswer) (sizes : List Size)
+pub list_within : (t k : ValueType) (answers : List CelAnswer) (sizes : List Size) → t ≡ list_type k
     → AllWithin answers sizes → IfWithin (list_literal answers) (list_size t sizes)
-list_within t [] [] h = (omega arith, tt)
-list_within t (a ∷ answers) [] h = absurd h
-list_within t answers (s ∷ ss) h = at (gather answers) (items_gathered answers (s ∷ ss) h)
+list_within t k [] [] e h = rw e (omega arith, tt)
+list_within t k (a ∷ answers) [] e h = absurd h
+list_within t k answers (s ∷ ss) e h = at (gather answers) (items_gathered answers (s ∷ ss) h)
   where
     at : (g : Gathered) → ItemsFit g (length (s ∷ ss)) (join_all (s ∷ ss))
         → IfWithin (strict_all (λ vs. Some (value (list vs))) g) (list_size t (s ∷ ss))
@@ -579,11 +580,11 @@ written_within None n k v h = tt
 written_within (Some es) n k v h = made_within es n k v h.0 h.1
 
 -- a map literal is within its size
-pub map_literal_within : (t : ValueType) (answers : List CelAnswer) (sizes : List Size)
+pub map_literal_within : (t : ValueType) (k : KeyType) (v : ValueType) (answers : List CelAnswer) (sizes : List Size) → t ≡ map_type k v
     → AllWithin answers sizes → IfWithin (map_literal answers) (map_size t sizes)
-map_literal_within t [] [] h = (omega arith, tt)
-map_literal_within t (a ∷ answers) [] h = absurd h
-map_literal_within t answers (s ∷ ss) h = at (gather answers) (pairs_gathered answers (s ∷ ss) h)
+map_literal_within t k v [] [] e h = rw e (omega arith, tt)
+map_literal_within t k v (a ∷ answers) [] e h = absurd h
+map_literal_within t k v answers (s ∷ ss) e h = at (gather answers) (pairs_gathered answers (s ∷ ss) h)
   where
     at : (g : Gathered) → PairsFit g (length (keys_of (s ∷ ss))) (join_all (keys_of (s ∷ ss)))
         (join_all (values_of (s ∷ ss)))
@@ -732,11 +733,11 @@ module _ (l : LimitsValue) (r : RequestValue) (sound : IsRequest r) (fits : InLi
     within_here (typed_list t elements) ks g ls sizes h =
         all_then_within list_literal (typed_answers elements r ls) (sizes_of elements l sizes)
         (list_size t (sizes_of elements l sizes)) (all_within_here elements ks g.0 ls sizes h)
-        (λ answers have. list_within t answers (sizes_of elements l sizes) have)
+        (λ answers have. list_within t g.1.0 answers (sizes_of elements l sizes) g.1.1 have)
     within_here (typed_map t pairs) ks g ls sizes h =
         all_then_within map_literal (typed_answers pairs r ls) (sizes_of pairs l sizes)
         (map_size t (sizes_of pairs l sizes)) (all_within_here pairs ks g.0 ls sizes h)
-        (λ answers have. map_literal_within t answers (sizes_of pairs l sizes) have)
+        (λ answers have. map_literal_within t g.1.0 g.1.1 answers (sizes_of pairs l sizes) g.1.2 have)
     within_here (typed_loop t range init condition step result) ks g ls sizes h =
         let over_size : Size = size_of range l sizes in
         let first : Size = size_of init l sizes in

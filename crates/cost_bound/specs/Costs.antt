@@ -97,12 +97,12 @@ values_of (k ∷ v ∷ ss) = v ∷ values_of ss
 
 -- a list literal has as many items as it is written with; an empty one has the least size of its type
 abbrev pub list_size : ValueType → List Size → Size
-list_size t [] = Many 0 (element_size (least t))
+list_size t [] = least t
 list_size t (s ∷ ss) = Many (length (s ∷ ss)) (join_all (s ∷ ss))
 
 -- a map literal likewise
 abbrev pub map_size : ValueType → List Size → Size
-map_size t [] = Table 0 (element_size (least t)) (value_size (least t))
+map_size t [] = least t
 map_size t (s ∷ ss) = Table (length (keys_of (s ∷ ss))) (join_all (keys_of (s ∷ ss))) (join_all (values_of (s ∷ ss)))
 
 -- what is gathered after so many turns: each turn joins what it was with what the step makes of it

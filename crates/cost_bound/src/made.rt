@@ -62,7 +62,7 @@ pub(crate) fn list_size(
         ≡ list_size (type_view cel_type.now) (sizes_view sizes.now)) }
 {
     if sizes.is_empty() {
-        return many(alloc, 0, least(alloc, cel_type)?.element()?);
+        return least(alloc, cel_type);
     }
     many(alloc, sizes.len() as u64, join_all(alloc, sizes)?)
 }
@@ -89,8 +89,7 @@ pub(crate) fn map_size(
         ≡ map_size (type_view cel_type.now) (sizes_view sizes.now)) }
 {
     if sizes.is_empty() {
-        let any = least(alloc, cel_type)?;
-        return table(alloc, 0, any.element()?, any.value()?);
+        return least(alloc, cel_type);
     }
     let joined = join_turns(alloc, sizes)?;
     table(alloc, key_count(sizes), joined.keys, joined.values)
