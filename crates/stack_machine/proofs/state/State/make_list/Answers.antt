@@ -1,4 +1,4 @@
-use Rattle.std.proofs.Common.{◌≡◌, ◌∙◌, sym, ap, ap₂, map, drop, Some}
+use Rattle.std.proofs.Common.{◌∙◌, sym, ap, ap₂, map, drop, Some}
 use Rattle.std.specs.List.{drop-map}
 use Rattle.cel_value.specs.Masses.{left_of}
 use Rattle.cel_value.specs.View.{answer_view}
