@@ -96,6 +96,16 @@ pub fn spend_field(name: &RcStr, operand: &Answer, fuel: u64) -> Option<u64>
     }
 }
 
+/// What is left after a look-up of a name among so many entries: 1, and one more than the name's length
+/// for each of them.
+#[inline(always)]
+pub fn spend_look_up(name: &RcStr, entries: u64, fuel: u64) -> Option<u64>
+    ensures { result ≡ left_of fuel (1 + (1 + length (utf8_of (text_view name.now))) * entries) }
+{
+    let rest = fuel.checked_sub(1)?;
+    spend_product(text_length(name), entries, rest.checked_sub(entries)?)
+}
+
 /// What is left after a test whether a list (right) has a value (left): 1, the list's mass, and the
 /// list's length times the value's mass.
 pub fn spend_in_list(left: &Answer, right: &Answer, fuel: u64) -> Option<u64>
@@ -188,6 +198,7 @@ fn spend_times(value: &Value, times: u64, left: u64) -> Option<u64>
 }
 
 // What is left once the product is taken, if it is enough.
+#[inline(always)]
 fn spend_product(count: u64, times: u64, left: u64) -> Option<u64>
     ensures { result ≡ left_of left (count * times) }
 {

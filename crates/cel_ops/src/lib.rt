@@ -15,7 +15,7 @@ mod texts;
 pub use arithmetic::{ArithmeticOp, calculate, negate};
 pub use charges::{
     spend_comparison, spend_field, spend_in_list, spend_in_map, spend_join, spend_list_literal,
-    spend_loop, spend_map_index, spend_map_literal, spend_size,
+    spend_look_up, spend_loop, spend_map_index, spend_map_literal, spend_size,
 };
 pub use collections::{
     element_at, has_field, index_list, index_map, is_in_list, is_in_map, select_field, size,

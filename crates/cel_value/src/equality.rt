@@ -12,8 +12,8 @@ ghost use Rattle.cel_value.specs.View.{entries_view, key_view, map_view, pairs_v
 use crate::value::{Key, Map, Value};
 use std::rc::RcStr;
 
-// Whether the texts have the same code points: they are compared by their bytes.
-fn same_texts(left: &RcStr, right: &RcStr) -> bool
+/// Whether the texts have the same code points: they are compared by their bytes.
+pub fn same_texts(left: &RcStr, right: &RcStr) -> bool
     ensures { result ≡ pointwise nat_eq (text_view left.now) (text_view right.now) }
 {
     left == right

@@ -11,8 +11,9 @@ mod mass;
 mod value;
 
 pub use cel_type::{CelType, KeyType};
+pub use equality::same_texts;
 pub use error::CelError;
 pub use key::{LentKey, compare_keys, compare_texts};
-pub use map::insert_entry;
+pub use map::{find_pair, insert_entry};
 pub use mass::{item_count, length, spend, spend_key, text_length};
 pub use value::{Answer, Key, Map, Value, copy_answer};

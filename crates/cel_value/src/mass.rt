@@ -9,6 +9,7 @@ use crate::value::{Key, Map, Value};
 use std::rc::RcStr;
 
 /// How many UTF-8 bytes a text has.
+#[inline(always)]
 pub fn text_length(text: &RcStr) -> u64
     ensures { result ≡ length (utf8_of (text_view text.now)) }
 {

@@ -1,6 +1,7 @@
 pub mod Places
 pub mod Tops
 pub mod Walking
+pub mod Headers
 pub mod Settings
 pub mod Fitting
 pub mod Asked

@@ -5,6 +5,7 @@ pub mod Attributes
 pub mod Charges
 pub mod Machine
 pub mod Loops
+pub mod Held
 pub mod StateView
 pub mod Shapes
 pub mod Typable

@@ -2,7 +2,7 @@
 
 ghost use Rattle.std.specs.Prelude.{◌≡◌, ◌≢◌, ◌<◌, ◌^◌, IfErr, MatchOption, None, OnOk, Some, map};
 ghost use Rattle.cel_value.specs.Masses.{left_of};
-ghost use Rattle.cel_value.specs.View.{answer_view};
+ghost use Rattle.stack_machine.specs.Held.{held_view};
 ghost use Rattle.cel_value.specs.Values.{bool, fails, value};
 ghost use Rattle.cel_ops.specs.Charges.{loop_charge};
 ghost use Rattle.cel_ops.specs.Logic.{not_strictly_false};
@@ -13,13 +13,14 @@ ghost use Rattle.stack_machine.specs.Loops.{range_view};
 ghost use Rattle.stack_machine.specs.StateView.{state_view};
 
 use crate::error::RunError;
+use crate::held::Held;
 use crate::open_loop::{OpenLoop, Range};
 use crate::state::{State, set_local};
 use cel_ops::spend_loop;
-use cel_value::{Answer, Value};
+use cel_value::Map;
 use std::alloc::AllocError;
 
-impl State {
+impl<'a> State<'a> {
     #[inline(always)]
     pub(crate) fn branch(&mut self, wanted: bool, target: u16)
         requires room { self.old.position < 2 ^ 32 }
@@ -53,20 +54,20 @@ impl State {
             unreachable!()
         };
         match answer {
-            Ok(Value::Bool(true)) => {
+            Held::Bool(true) => {
                 self.position += 1;
                 Ok(())
             }
-            Ok(Value::Bool(false)) => {
+            Held::Bool(false) => {
                 self.position = otherwise as usize;
                 Ok(())
             }
-            Err(error) => {
-                self.stack.push(Err(error))?;
+            Held::Fails(error) => {
+                self.stack.push(Held::Fails(error))?;
                 self.position = failed as usize;
                 Ok(())
             }
-            Ok(_) => unreachable!(),
+            _ => unreachable!(),
         }
     }
 
@@ -76,14 +77,14 @@ impl State {
         ensures went { OnOk result
             (loop_start failed (state_view self.old) ≡ goes (state_view self.new)) }
         ensures paid { OnOk result (Some self.new.fuel
-            ≡ left_of self.old.fuel (of_one loop_charge (map answer_view self.old.stack))) }
+            ≡ left_of self.old.fuel (of_one loop_charge (map held_view self.old.stack))) }
         ensures out { IfErr result (λ e. e ≡ RunError.OutOfSteps → None
-            ≡ left_of self.old.fuel (of_one loop_charge (map answer_view self.old.stack))) }
+            ≡ left_of self.old.fuel (of_one loop_charge (map held_view self.old.stack))) }
     {
         let Some(answer) = self.stack.pop() else {
             unreachable!()
         };
-        let Some(fuel) = spend_loop(&answer, self.fuel) else {
+        let Some(fuel) = spend_loop(&answer.answer()?, self.fuel) else {
             return Err(RunError::OutOfSteps);
         };
         self.fuel = fuel;
@@ -91,30 +92,32 @@ impl State {
         Ok(())
     }
 
-    fn range_over(&mut self, answer: Answer, failed: u16) -> Result<(), AllocError>
+    fn range_over(&mut self, answer: Held<'a>, failed: u16) -> Result<(), AllocError>
         requires room { self.old.position < 2 ^ 32 }
         requires lives { let s = state_view self.old in
-            ranges_over (answer_view answer) failed s s.stack ≢ stuck }
+            ranges_over (held_view answer) failed s s.stack ≢ stuck }
         ensures went { let s = state_view self.old in OnOk result
-            (ranges_over (answer_view answer) failed s s.stack ≡ goes (state_view self.new)) }
+            (ranges_over (held_view answer.entry) failed s s.stack ≡ goes (state_view self.new)) }
         ensures fuel { self.new.fuel ≡ self.old.fuel }
     {
         match answer {
-            Ok(Value::List(items)) => self.open(Range::Items(items)),
-            Ok(Value::Map(map)) => self.open(Range::Keys(map)),
-            Err(error) => {
-                self.stack.push(Err(error))?;
+            Held::List(items) => self.open(Range::Items(items)),
+            Held::Headers(headers) => self.open(Range::Names(headers)),
+            Held::Entries(entries) => self.open(Range::Keys(Map::Entries(entries))),
+            Held::Texts(pairs) => self.open(Range::Keys(Map::Texts(pairs))),
+            Held::Fails(error) => {
+                self.stack.push(Held::Fails(error))?;
                 self.position = failed as usize;
                 Ok(())
             }
-            Ok(_) => unreachable!(),
+            _ => unreachable!(),
         }
     }
 
-    fn open(&mut self, range: Range) -> Result<(), AllocError>
+    fn open(&mut self, range: Range<'a>) -> Result<(), AllocError>
         requires { self.old.position < 2 ^ 32 }
         ensures went { let s = state_view self.old in
-            OnOk result (opened (Some (range_view range)) s s.stack ≡ goes (state_view self.new)) }
+            OnOk result (opened (Some (range_view range.entry)) s s.stack ≡ goes (state_view self.new)) }
         ensures fuel { self.new.fuel ≡ self.old.fuel }
     {
         self.loops.push(OpenLoop::new(range))?;
@@ -136,7 +139,7 @@ impl State {
         match innermost.next()? {
             Some(value) => {
                 self.loops.push(innermost)?;
-                set_local(&mut self.locals, local, Ok(value))?;
+                set_local(&mut self.locals, local, value)?;
                 self.position += 1;
                 Ok(())
             }
@@ -159,40 +162,40 @@ impl State {
             unreachable!()
         };
         match answer {
-            Ok(Value::Bool(true)) => {
+            Held::Bool(true) => {
                 self.position += 1;
                 Ok(())
             }
-            Ok(Value::Bool(false)) => {
+            Held::Bool(false) => {
                 let Some(_) = self.loops.pop() else {
                     unreachable!()
                 };
                 self.position = done as usize;
                 Ok(())
             }
-            Err(error) => {
+            Held::Fails(error) => {
                 let Some(_) = self.loops.pop() else {
                     unreachable!()
                 };
-                self.stack.push(Err(error))?;
+                self.stack.push(Held::Fails(error))?;
                 self.position = failed as usize;
                 Ok(())
             }
-            Ok(_) => unreachable!(),
+            _ => unreachable!(),
         }
     }
 }
 
 // The bool that a result is; an error is none.
 #[inline(always)]
-fn truth_of(answer: &Answer) -> Option<bool>
-    requires kinds { not_strictly_false (answer_view answer.now) ≢ None }
-    ensures { MatchOption result ((e : CelError) × (answer_view answer.now ≡ fails e))
-        (λ b. answer_view answer.now ≡ value (bool b)) }
+fn truth_of(answer: &Held<'_>) -> Option<bool>
+    requires kinds { not_strictly_false (held_view answer.now) ≢ None }
+    ensures { MatchOption result ((e : CelError) × (held_view answer.now ≡ fails e))
+        (λ b. held_view answer.now ≡ value (bool b)) }
 {
     match answer {
-        Ok(Value::Bool(b)) => Some(*b),
-        Err(_) => None,
-        Ok(_) => unreachable!(),
+        Held::Bool(b) => Some(*b),
+        Held::Fails(_) => None,
+        _ => unreachable!(),
     }
 }

@@ -2,8 +2,11 @@
 
 ghost use Rattle.std.specs.Prelude.{◌≡◌, IfOk};
 ghost use Rattle.cel_value.specs.View.{value_view};
+ghost use Rattle.cel_value.specs.Values.{value};
+ghost use Rattle.stack_machine.specs.Held.{held_view};
 ghost use Rattle.stack_machine.specs.Instructions.{constant_view, instr_view};
 
+use crate::held::Held;
 use attributes::AttrId;
 use cel_ops::{ArithmeticOp, CompareOp};
 use cel_value::{CelType, KeyType, Value};
@@ -124,6 +127,20 @@ impl Constant {
             Constant::Uint(n) => Ok(Constant::Uint(*n)),
             Constant::Text(text) => Ok(Constant::Text(text.clone()?)),
             Constant::Bytes(bytes) => Ok(Constant::Bytes(bytes.clone()?)),
+        }
+    }
+
+    /// The constant, its text lent.
+    #[inline(always)]
+    pub(crate) fn lend(&self) -> Result<Held<'_>, AllocError>
+        ensures { IfOk result (λ held. held_view held ≡ value (constant_view self.now)) }
+    {
+        match self {
+            Constant::Bool(b) => Ok(Held::Bool(*b)),
+            Constant::Int(i) => Ok(Held::Int(*i)),
+            Constant::Uint(n) => Ok(Held::Uint(*n)),
+            Constant::Text(text) => Ok(Held::Lent(text)),
+            Constant::Bytes(bytes) => Ok(Held::Bytes(bytes.clone()?)),
         }
     }
 

@@ -1,9 +1,11 @@
 //! The stack machine that runs conditions: instructions, code and its runs.
 #![tactic(auto)]
 
+mod at_hand;
 mod branches;
 mod code;
 mod error;
+mod held;
 mod instr;
 pub mod laws;
 mod locals;
