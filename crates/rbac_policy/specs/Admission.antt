@@ -45,3 +45,8 @@ pub record HoldsRefusedCode (bytes : List ℕ) (limits : LimitsValue) : Type 0 w
   pub has : PolicyHas policy.1 condition
   pub compiled : IsProgramOf limits condition program
   pub refused : (65535 < length program.code) ⊎ (Forward program.code bool_type → ⊥)
+
+-- some bytes were admitted as the filter, under some budget, and this is enforced of it
+abbrev pub IsAdmittedAs : LimitsValue → Filter CelChecked → Filter Program → Type 0
+IsAdmittedAs limits filter enforced =
+    (bytes : List ℕ) × (budget : ℕ) × Admits bytes limits budget filter enforced
