@@ -1,3 +1,7 @@
+pub mod Besides
+pub mod FewLocals
+pub mod Programs
+pub mod Enforcing
 pub mod Totality
 pub mod Texts
 pub mod First

@@ -29,9 +29,13 @@ pub fn filter_unique()
         → Admits bytes limits budget f g → Admits bytes limits budget f' g' → (f ≡ f') × (g ≡ g') }
 {}
 
-/// A filter gives a request one verdict at most, by which of its conditions the request meets.
+/// A filter gives a request one verdict at most, by which of its conditions the request meets: as it is
+/// written, and as it is enforced.
 pub fn verdict_unique()
-    ensures { {C : Type 0} (is_met : C → Bool) (r : RequestValue) (filter : Filter C) (a b : Bool)
-        (m n : Option ℕ)
+    ensures written { (is_met : CelChecked → Bool) (r : RequestValue) (filter : Filter CelChecked)
+        (a b : Bool) (m n : Option ℕ)
+        → IsVerdict is_met r filter a m → IsVerdict is_met r filter b n → (a ≡ b) × (m ≡ n) }
+    ensures enforced { (is_met : Program → Bool) (r : RequestValue) (filter : Filter Program)
+        (a b : Bool) (m n : Option ℕ)
         → IsVerdict is_met r filter a m → IsVerdict is_met r filter b n → (a ≡ b) × (m ≡ n) }
 {}
