@@ -1,5 +1,5 @@
 -- Lists of names with something at each, one beside the other, and maps that relate name by name.
-use Rattle.std.proofs.Common.{◌≡◌, ℕ, Bool, true, false, cond, T, ◌&&◌, List, [], ◌∷◌, Option, Some, None, MatchOption, IsSomeAnd, refl, sym, ap, ◌∙◌}
+use Rattle.std.proofs.Common.{◌≡◌, ℕ, Bool, true, false, cond, T, IsTrue, ◌&&◌, List, [], ◌∷◌, Option, Some, None, MatchOption, IsSomeAnd, refl, sym, ap, ◌∙◌}
 use Rattle.std.specs.Ordering.{eq_by_cmp, is_eq, is_lt}
 use Rattle.std.specs.Cmp.{tied_itself}
 use Rattle.std.specs.Cmp.Lexicographic.{nat_list_cmp_total}
@@ -8,7 +8,12 @@ use Rattle.std.specs.FinMap.Entries.{below_all}
 use Rattle.attributes.specs.Headers.{name_cmp}
 use Rattle.proto_wire.proofs.MapOrder.{both_first, both_second, tie, found_later}
 
--- names that compare xs equal are equal
+-- a test that is true
+pub t_of : (b : Bool) → IsTrue b → T b
+t_of true e = tt
+t_of false e = let clash : false ≡ true = e in absurd cc
+
+-- names that compare as equal are equal
 pub name_same : IsAntisymmetric name_cmp
 name_same = slice_cmp-IsAntisymmetric nat_cmp-IsAntisymmetric
 

@@ -1,7 +1,7 @@
 -- What is enforced of policies, in lists and in maps, and what their conditions cost together.
 use Rattle.std.proofs.Common.{arith, ◌≡◌, ◌≢◌, ◌≤◌, ◌+◌, ◌⊎◌, inl, inr, ℕ, List, [], ◌∷◌, ◌++◌, Option, Some, None, MatchOption, IsSomeAnd, T, refl, sym, ap, subst, ◌∙◌, zero-add}
 use Rattle.std.specs.Cmp.Lexicographic.{nat_list_cmp_total}
-use Rattle.std.specs.FinMap.{FinMap, entries, entries_sorted, find, from_entries, get, get-entries, same_map}
+use Rattle.std.specs.FinMap.{FinMap, entries, entries_sorted, find, from_entries, get, get-entries, is_sorted, same_map}
 use Rattle.attributes.specs.Headers.{name_cmp}
 use Rattle.attributes.specs.Limits.{LimitsValue}
 use Rattle.cel_tree.specs.Checked.{CelChecked}
@@ -97,6 +97,11 @@ module _ (limits : LimitsValue) where
       let it = beside_map (IsEnforced limits) enforced.policies (entries named) (entries_sorted named) each in
       let order = subst (λ b. T b) (sorted_beside (IsEnforced limits) (entries named) it.0 it.1) (entries_sorted named) in
       (it.0, it.1, ap (λ m. bounds_of (entries m)) it.2 ∙ ap bounds_of (entries_from_entries name_cmp nat_list_cmp_total it.0 order))
+
+  -- what the policies of a map may take is what they may take in their order
+  pub total_of : (action : Action) (vs : List (List ℕ × Policy Program)) → T (is_sorted name_cmp vs)
+      → total_bound (record { action = action; policies = from_entries vs }) ≡ bounds_of vs
+  total_of action vs sorted = ap bounds_of (entries_from_entries name_cmp nat_list_cmp_total vs sorted)
 
   -- ---- what policies cost
 

@@ -121,9 +121,19 @@ fn compiled(alloc: Global, typed: &Typed<'_>) -> Result<Code, Refusal>
 {
     match compile(alloc, typed) {
         Ok(code) => Ok(code),
-        Err(Refusal::Memory) => Err(Refusal::Memory),
-        Err(_) => Err(Refusal::CodeRefused),
+        Err(refusal) => Err(code_refusal(refusal)),
     }
+}
+
+/// What the compiler's refusal is of a policy: code that is too large is refused.
+fn code_refusal(refusal: Refusal) -> Refusal
+    ensures memory { refusal ≡ Refusal.Memory → result ≡ Refusal.Memory }
+    ensures too_large { refusal ≡ Refusal.TooLarge → result ≡ CodeRefused }
+{
+    if refusal == Refusal::TooLarge {
+        return Refusal::CodeRefused;
+    }
+    refusal
 }
 
 /// The code, verified to answer a bool; other code is refused.

@@ -2,6 +2,7 @@
 
 ghost use Rattle.std.specs.Prelude.{◌≡◌, ◌≢◌, ◌⊎◌, Err, IfErr, IfOk, IsOk, map};
 ghost use Rattle.attributes.specs.Limits.{InLimits};
+ghost use Rattle.attributes.specs.Request.{IsRequest};
 ghost use Rattle.cel_tree.specs.Checked.{CelChecked};
 ghost use Rattle.rbac_policy.specs.Admission.{IsAdmittedAs};
 ghost use Rattle.rbac_policy.specs.Admitted.{filter_view, limits_view};
@@ -43,6 +44,7 @@ impl Admitted {
             → IsAdmittedAs (limits_view self.now) filter (filter_view self.now)
             → InLimits request.now (limits_view self.now) → result ≢ Err RunError.OutOfSteps }
     {
+        request_is_sound(request);
         let policies = self.named_policies();
         let matched = first_match(*policies.allocator(), policies, request)?;
         let allowed = self.action().allows(matched.is_some());
@@ -91,4 +93,11 @@ fn sides_match(policy: &NamedPolicy, request: &Request) -> bool
     ensures { result ≡ sides_match request.now (policy_view policy.now) }
 {
     any_matches(&policy.permissions, request) && any_matches(&policy.principals, request)
+}
+
+/// What holds of each request.
+fn request_is_sound(request: &Request)
+    ensures { IsRequest request.now }
+{
+    request.conn();
 }

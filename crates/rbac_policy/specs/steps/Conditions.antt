@@ -52,8 +52,8 @@ IsEnforced limits parts enforced =
 -- why policies are not admitted with so many steps left, for what their conditions cost or compile to
 pub data ConditionsFault (policies : List (Entry text)) (limits : LimitsValue) (left : ℕ) (e : Refusal)
     : Type 0 where
-  too_costly : (cost : ℕ) → SomeCost limits policies cost → left < cost → e ≡ TooCostly
+  cost_too_much : (cost : ℕ) → SomeCost limits policies cost → left < cost → e ≡ TooCostly
       → ConditionsFault policies limits left e
-  refused : (policy : Entry text) (condition : CelChecked) (program : Program)
+  some_refused : (policy : Entry text) (condition : CelChecked) (program : Program)
       → Contains policies policy → PolicyHas policy.1 condition → IsProgramOf limits condition program
       → IsRefused program.code → e ≡ CodeRefused → ConditionsFault policies limits left e
