@@ -26,6 +26,7 @@ uint64_t engine_httparse(const char* head, size_t length, uint64_t rounds);
 uint64_t engine_decide(const char* filter, size_t filter_length, const char* head, size_t head_length, uint64_t copies,
                        uint64_t rounds);
 uint64_t engine_stream(const char* stream, size_t length, size_t piece, uint64_t rounds);
+uint64_t engine_feed(const char* stream, size_t length, size_t piece, uint64_t rounds);
 uint64_t rust_httparse(const char* head, size_t length, uint64_t rounds);
 uint64_t rust_head(const char* head, size_t length, uint64_t rounds);
 }
@@ -159,6 +160,22 @@ static void AddStream(const std::string& size, uint64_t resources) {
   });
 }
 
+// The large stream fed to a client, beside the admissions of its eight filters alone.
+static void AddFeed() {
+  const std::string& stream = Input("responses_large.bin");
+  const std::string& filter = Input("path_256.bin");
+  auto add = [&](const std::string& name, size_t piece) {
+    Add(name, [=, &stream](uint64_t calls) {
+      Expect(engine_feed(stream.data(), stream.size(), piece, calls) == calls, name);
+    });
+  };
+  add("engine_feed_in_pieces", kPiece);
+  add("engine_feed_at_once", stream.size());
+  Add("engine_admissions", [&](uint64_t calls) {
+    Expect(engine_admit(filter.data(), filter.size(), 8 * calls) == 8 * 256 * calls, "the admissions");
+  });
+}
+
 static double Now() {
   timespec time;
   clock_gettime(CLOCK_THREAD_CPUTIME_ID, &time);
@@ -205,6 +222,7 @@ int main(int count, char** words) {
   for (int fields : {4, 60}) AddHead(fields);
   AddStream("large", 8);
   AddStream("small", 500);
+  AddFeed();
   if (count == 5 && std::string(words[2]) == "only") {
     for (Subject& subject : subjects)
       if (subject.name == words[3]) {

@@ -5,6 +5,12 @@
 //   probe head HEAD [ROUNDS]
 //   probe judge FILTER HEAD [ROUNDS]      admission and head once, the decision so often
 //   probe stream STREAM [ROUNDS [PIECE]]  frames and discovery responses, in pieces of so many bytes
+//   probe feed STREAM [ROUNDS [PIECE]]    the same, fed to a client
+//   probe expression EXPRESSION [ROUNDS [PART]]
+//                                         a condition from its bytes to its tree (PART 1), its type (2), its bound (3), its code (4)
+//                                         or until its code is verified (5)
+//   probe bound EXPRESSION [ROUNDS [BUDGET]]
+//                                         the bound of an expression that was read and checked once
 // `kept` is what stands when a filter was admitted (work `keep`), `peak` the most that ever stood; both count the blocks as
 // malloc makes them.
 #include <malloc.h>
@@ -19,10 +25,19 @@ uint64_t engine_head(const char *head, size_t length, uint64_t rounds);
 uint64_t engine_decide(const char *filter, size_t filter_length, const char *head, size_t head_length, uint64_t copies,
                        uint64_t rounds);
 uint64_t engine_stream(const char *stream, size_t length, size_t piece, uint64_t rounds);
+uint64_t engine_feed(const char *stream, size_t length, size_t piece, uint64_t rounds);
+uint64_t engine_expression(const char *bytes, size_t length, uint64_t part, uint64_t budget, uint64_t rounds);
+uint64_t engine_bound(const char *bytes, size_t length, uint64_t budget, uint64_t rounds);
 
 void *__real_malloc(size_t size);
 void *__real_realloc(void *block, size_t size);
 void __real_free(void *block);
+
+// The greatest budget of a filter.
+static const uint64_t BUDGET = 100000000;
+
+// The last part of a condition's way.
+enum { VERIFIED = 5 };
 
 // A size that nothing else asks for: the engine takes such a block when its filter is there.
 enum { MARK = 7654321 };
@@ -79,7 +94,8 @@ static struct bytes contents_of(const char *name) {
 
 int main(int count, char **words) {
   if (count < 3) {
-    fprintf(stderr, "usage: probe admit|keep|head|stream FILE [ROUNDS [PIECE]] | probe judge FILTER HEAD [ROUNDS]\n");
+    fprintf(stderr, "usage: probe admit|keep|head|stream|feed|expression|bound FILE [ROUNDS [PIECE, PART or BUDGET]] | "
+                    "probe judge FILTER HEAD [ROUNDS]\n");
     return 2;
   }
   const char *work = words[1];
@@ -90,6 +106,12 @@ int main(int count, char **words) {
   if (!strcmp(work, "head")) answer = engine_head(input.start, input.length, rounds);
   if (!strcmp(work, "stream"))
     answer = engine_stream(input.start, input.length, count > 4 ? strtoull(words[4], 0, 10) : 16384, rounds);
+  if (!strcmp(work, "feed"))
+    answer = engine_feed(input.start, input.length, count > 4 ? strtoull(words[4], 0, 10) : 16384, rounds);
+  if (!strcmp(work, "expression"))
+    answer = engine_expression(input.start, input.length, count > 4 ? strtoull(words[4], 0, 10) : VERIFIED, BUDGET, rounds);
+  if (!strcmp(work, "bound"))
+    answer = engine_bound(input.start, input.length, count > 4 ? strtoull(words[4], 0, 10) : BUDGET, rounds);
   if (!strcmp(work, "judge") && count > 3) {
     struct bytes head = contents_of(words[3]);
     answer = engine_decide(input.start, input.length, head.start, head.length, 1, count > 4 ? strtoull(words[4], 0, 10) : 1);

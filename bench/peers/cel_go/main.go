@@ -2,6 +2,7 @@
 // for each: its name, the least and the median nanoseconds of an evaluation over all rounds. Time is the whole process's on a
 // processor, with Go on one alone, so that the work of Go's collector counts where it is done; the least counts, since other
 // work on the machine can only add to it. Every answer is checked.
+// It measures as well the way from a condition's bytes to what can be run: see expressions.go.
 // conditions INPUTS only NUMBER EVALUATIONS: runs one condition by the engine so often, for a profile.
 package main
 
@@ -162,7 +163,7 @@ func subjects(inputs string) []*subject {
 			&subject{name: "engine_condition_" + c.name, evaluate: byEngine(number, c.holds, head)},
 			&subject{name: "cel_go_condition_" + c.name, evaluate: byCelGo(c.text, c.holds, string(head))})
 	}
-	return all
+	return append(all, expressionSubjects(inputs)...)
 }
 
 func main() {
