@@ -10,6 +10,8 @@ use Rattle.proto_wire.specs.declared.refusal.Refusal.{Refusal}
 use Rattle.xds_wire.specs.Discovery.{AnyMessage, ExtensionMessage, ResponseMessage}
 use Rattle.xds_wire.specs.Envelope.{SomeOf}
 use Rattle.attributes.specs.Limits.{LimitsValue}
+use Rattle.cel_tree.specs.Checked.{CelChecked}
+use Rattle.rbac_policy.specs.Filter.{Filter}
 use Rattle.rbac_policy.specs.Admission.{Admits}
 use Rattle.rbac_policy.specs.Admitted.{filter_view, limits_view}
 use Rattle.rbac_policy.specs.declared.filter.Admitted.{Admitted}
@@ -118,8 +120,9 @@ on_right P (Err e) p is = absurd (true≢false (sym is))
 -- what is admitted is given to a filter of any name
 pub admitted_gives : (limits : LimitsValue) (budget : ℕ) (x : ExtensionMessage) (bytes : List ℕ)
     → HoldsFilter x bytes → (r : Result Admitted Refusal)
-    → IfOk r (λ a. Admits bytes limits budget (filter_view a)) → IfOk r (λ a. limits_view a ≡ limits)
+    → IfOk r (λ a. (policies : Filter CelChecked) × Admits bytes limits budget policies (filter_view a))
+    → IfOk r (λ a. limits_view a ≡ limits)
     → IfOk r (λ a. (name : List ℕ) → Gives limits (filter_of name budget) (x ∷ []) (Some (admitted_view a)))
-admitted_gives limits budget x bytes holds (Ok a) admits same =
-    λ name. (bytes, filter_view a, holds, admits, rw same refl)
+admitted_gives limits budget x bytes holds (Ok a) (policies, admits) same =
+    λ name. (bytes, policies, filter_view a, holds, admits, rw same refl)
 admitted_gives limits budget x bytes holds (Err e) admits same = tt

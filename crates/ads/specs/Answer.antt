@@ -7,8 +7,10 @@ use Rattle.proto_wire.specs.Refusal.{number_of}
 use Rattle.proto_wire.specs.declared.refusal.Refusal.{Refusal}
 use Rattle.xds_wire.specs.Discovery.{AnyMessage, RequestMessage, ResponseMessage, ExtensionMessage, NodeMessage, StatusMessage, IsExtension, ExtensionFault}
 use Rattle.xds_wire.specs.Envelope.{SomeOf}
+use Rattle.cel_tree.specs.Checked.{CelChecked}
+use Rattle.rbac_policy.specs.Condition.{Program}
 use Rattle.rbac_policy.specs.Filter.{Filter}
-use Rattle.rbac_policy.specs.Admission.{Admits, Fault}
+use Rattle.rbac_policy.specs.Admission.{Admits, Fault, HoldsRefusedCode}
 use Rattle.ads.specs.Config.{ConfigValue, FilterValue, names_of}
 
 -- the type of the resources
@@ -19,9 +21,10 @@ extension_type = codes "type.googleapis.com/envoy.config.core.v3.TypedExtensionC
 abbrev pub filter_type : List ℕ
 filter_type = codes "type.googleapis.com/envoy.extensions.filters.http.rbac.v3.RBAC"
 
--- what a filter has: the rules that were admitted, and the limits of requests for which they were
+-- what a filter has: what is enforced of the rules that were admitted, and the limits of requests for which
+-- they were
 pub record AdmittedValue : Type 0 where
-  pub filter : Filter
+  pub filter : Filter Program
   pub limits : LimitsValue
 
 -- what was accepted: the last version, empty where there is none, what each filter has, in configured
@@ -58,24 +61,28 @@ HoldsFilter extension bytes =
 abbrev pub HoldsSome : ExtensionMessage → Type 0
 HoldsSome extension = (bytes : List ℕ) × HoldsFilter extension bytes
 
--- what is wrong with the extension of a filter: it is no filter's message, or that is not admitted
+-- what is wrong with the extension of a filter: it is no filter's message, or that is not admitted, for a fault
+-- or for the code of a condition
 pub data ExtensionIsRefused (limits : LimitsValue) (f : FilterValue) (extension : ExtensionMessage) (e : Refusal)
     : Type 0 where
   no_filter : ((bytes : List ℕ) → HoldsFilter extension bytes → ⊥) → e ≡ Refusal.WrongType
       → ExtensionIsRefused limits f extension e
   not_admitted : (bytes : List ℕ) → HoldsFilter extension bytes → Fault e bytes limits f.budget
       → ExtensionIsRefused limits f extension e
+  code_refused : (bytes : List ℕ) → HoldsFilter extension bytes → HoldsRefusedCode bytes limits
+      → e ≡ Refusal.CodeRefused → ExtensionIsRefused limits f extension e
 
 -- the extensions of this name
 abbrev pub named : List ℕ → List ExtensionMessage → List ExtensionMessage
 named name extensions = filter (λ extension. bytes_eq extension.name name) extensions
 
--- what the extensions of a filter's name give it: nothing where there is none, and else the filter that
--- the one of them is
+-- what the extensions of a filter's name give it: nothing where there is none, and else what is enforced of
+-- the filter that the one of them is
 abbrev pub Gives : LimitsValue → FilterValue → List ExtensionMessage → Option AdmittedValue → Type 0
 Gives limits f [] given = given ≡ None
-Gives limits f (extension ∷ []) given = (bytes : List ℕ) × (policies : Filter) × HoldsFilter extension bytes
-    × Admits bytes limits f.budget policies × (given ≡ Some (record { filter = policies; limits = limits }))
+Gives limits f (extension ∷ []) given = (bytes : List ℕ) × (policies : Filter CelChecked)
+    × (enforced : Filter Program) × HoldsFilter extension bytes × Admits bytes limits f.budget policies enforced
+    × (given ≡ Some (record { filter = enforced; limits = limits }))
 Gives limits f (extension ∷ other ∷ more) given = ⊥
 
 -- what is given takes its place, and where nothing is given the old stays

@@ -7,6 +7,8 @@ use Rattle.xds_wire.specs.Frames.{Tail, unfinished, broken, Cut, frame_of}
 use Rattle.xds_wire.specs.Discovery.{RequestMessage, ResponseMessage, IsResponse, ResponseFault}
 use Rattle.xds_wire.specs.Written.{RequestWritten}
 use Rattle.ads.specs.Config.{ConfigValue, FilterValue}
+use Rattle.cel_tree.specs.Checked.{CelChecked}
+use Rattle.rbac_policy.specs.Filter.{Filter}
 use Rattle.rbac_policy.specs.Admission.{Admits}
 use Rattle.ads.specs.Answer.{Accepted, AdmittedValue, Answers, nothing_accepted}
 
@@ -103,7 +105,8 @@ policies_of c name = policies_at name c.config.filters c.accepted.policies
 abbrev pub WasAdmitted : LimitsValue → FilterValue → Option AdmittedValue → Type 0
 WasAdmitted limits f None = Unit {0}
 WasAdmitted limits f (Some a) =
-    (a.limits ≡ limits) × (bytes : List ℕ) × Admits bytes limits f.budget a.filter
+    (a.limits ≡ limits) × (bytes : List ℕ) × (policies : Filter CelChecked)
+    × Admits bytes limits f.budget policies a.filter
 
 -- what the filter of this name has was admitted for the configuration's limits and the filter's budget
 abbrev pub WasAdmittedAs : ConfigValue → List ℕ → AdmittedValue → Type 0

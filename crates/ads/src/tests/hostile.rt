@@ -1,6 +1,6 @@
 //! Responses of a hostile control plane: each is refused by its number, and what was accepted stays.
 use super::making::{answers, client_of, client_with, policies, refuses, resource, response};
-use super::vectors::{ANY_ANY, FIRST_ACK, U, joined};
+use super::vectors::{ANY_ANY, FIRST_ACK, HALF_BAD_NACK, RESUMED_REQUEST, U, joined};
 use std::alloc::Global;
 use std::process::Abort;
 use std::test::Fail;
@@ -145,5 +145,41 @@ fn a_response_cut_at_each_place(rt: HostRuntime) -> Result<(), Fail> {
     for place in 0..=bytes.len() {
         cut_at(&rt, alloc, &bytes, place)?;
     }
+    Ok(())
+}
+
+/// A client's own requests, sent back to it: one without a node reads as a response without resources, which is
+/// acknowledged; a node reads as a resource of another type.
+#[test]
+fn requests_as_responses(rt: HostRuntime) -> Result<(), Fail> {
+    let alloc = rt.alloc();
+    let mut client = client_of(alloc, &["f"])?;
+    client.connected()?;
+    answers(
+        &rt,
+        alloc,
+        &mut client,
+        &joined(alloc, FIRST_ACK)?,
+        FIRST_ACK,
+    )?;
+    let ack: &[&[u8]] = &[
+        b"\x00\x00\x00\x00\x49\x0a\x01\x31\x1a\x01f\x22\x3d",
+        U,
+        b"\x2a\x02n2",
+    ];
+    answers(&rt, alloc, &mut client, &joined(alloc, HALF_BAD_NACK)?, ack)?;
+    let nack: &[&[u8]] = &[
+        b"\x00\x00\x00\x00\x5d\x0a\x01\x31\x1a\x01f\x22\x3d",
+        U,
+        b"\x32\x16\x08\x03\x12\x12policy refused: 17",
+    ];
+    answers(
+        &rt,
+        alloc,
+        &mut client,
+        &joined(alloc, RESUMED_REQUEST)?,
+        nack,
+    )?;
+    assert_eq!(rt; client.generation(), 2);
     Ok(())
 }
