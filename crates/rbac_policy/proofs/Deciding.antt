@@ -1,5 +1,5 @@
 -- What the runs of conditions say of a filter's answer.
-use Rattle.std.proofs.Common.{◌≡◌, ◌≢◌, ◌⊎◌, inl, inr, ℕ, ◌+◌, Bool, true, false, cond, T, IsTrue, ◌&&◌, List, [], ◌∷◌, Option, Some, None, MatchOption, IsSomeAnd, IfSome, is_some, map, refl, sym, ap, ap₂, subst, ◌∙◌}
+use Rattle.std.proofs.Common.{◌≡◌, inl, inr, ℕ, ◌+◌, Bool, true, false, cond, T, IsTrue, ◌&&◌, List, [], ◌∷◌, Option, Some, None, MatchOption, IsSomeAnd, IfSome, is_some, map, refl, sym, ap, ap₂, subst, ◌∙◌}
 use Rattle.std.specs.List.{position_from}
 use Rattle.std.specs.Ordering.{eq_by_cmp, is_lt}
 use Rattle.std.specs.Cmp.Lexicographic.{nat_list_cmp_total}
@@ -20,11 +20,11 @@ use Rattle.rbac_policy.specs.Enforced.{EnforcesPolicy}
 use Rattle.rbac_policy.specs.Filter.{Filter, Policy}
 use Rattle.rbac_policy.specs.Keys.{checked_condition_field}
 use Rattle.rbac_policy.specs.Message.{IsCondition, IsPolicy}
-use Rattle.rbac_policy.specs.Named.{named_view, named_views, policy_view}
+use Rattle.rbac_policy.specs.Named.{named_views, policy_view}
 use Rattle.rbac_policy.specs.Verdict.{IsUnconditional, IsVerdict, SomeAsked, condition_holds, policy_matches, sides_match}
 use Rattle.rbac_policy.specs.declared.policy.NamedPolicy.{NamedPolicy}
 use Rattle.rbac_policy.specs.steps.Action.{allows}
-use Rattle.rbac_policy.specs.steps.Runs.{HaveNoConditions, IsFirst, PassesBound, RunsAs, SomePasses, Tells}
+use Rattle.rbac_policy.specs.steps.Runs.{HaveNoConditions, IsFirst, RunsAs, SomePasses, Tells}
 use Rattle.rbac_policy.proofs.Besides.{Beside, beside_map, found_itself, name_same, sorted_beside, t_of, there}
 use Rattle.rbac_policy.proofs.First.{Passes, in_rest, least_first, lesser_in_list, lesser_in_map, stands, verdict}
 use Rattle.rbac_policy.proofs.Programs.{not_both, program_unique, run_is_met, within_bound}

@@ -1,5 +1,5 @@
 -- The elaboration of an expression that has few locals in scope has few.
-use Rattle.std.proofs.Common.{arith, ◌≡◌, ◌≤◌, ◌+◌, ℕ, [], ◌∷◌, refl}
+use Rattle.std.proofs.Common.{arith, ◌≤◌, ◌+◌, ℕ, [], ◌∷◌}
 use Rattle.std.specs.Prelude.{max}
 use Rattle.std.proofs.Math.Nat.{le-max_left, le-max_right}
 use Rattle.cel_tree.specs.Checked.{CelChecked}

@@ -1,15 +1,13 @@
-use Rattle.std.proofs.Common.{◌≡◌, ◌<◌, ◌⊎◌, inl, inr, [], length, refl, sym, ap, ◌∙◌}
+use Rattle.std.proofs.Common.{◌≡◌, ◌<◌, ◌⊎◌, inl, inr, [], length, refl}
 use Rattle.cel_value.specs.Types.{bool_type}
 use Rattle.cel_tree.specs.Checked.{CelChecked}
 use Rattle.cel_tree.specs.View.{checked_view}
 use Rattle.cel_types.specs.Elaborated.{IsElaborated, TypedTree, kind}
-use Rattle.cel_types.specs.TypingFaults.{CheckFault}
 use Rattle.cel_types.specs.View.{typed_view}
 use Rattle.cost_bound.specs.Costs.{cost_of}
 use Rattle.cel_compile.specs.Codes.{code_of}
 use Rattle.cel_compile.specs.Slots.{HasFewLocals}
-use Rattle.proto_wire.specs.declared.refusal.Refusal.TheVariants.{CodeRefused, NotBool, TooCostly}
-use Rattle.stack_machine.specs.Instructions.{code_view}
+use Rattle.proto_wire.specs.declared.refusal.Refusal.TheVariants.{CodeRefused, TooCostly}
 use Rattle.stack_machine.specs.Typable.{Forward}
 use Rattle.proto_wire.proofs.Exits.{exit_memory_or}
 use Rattle.rbac_policy.specs.Condition.{IsProgramOf, Program}

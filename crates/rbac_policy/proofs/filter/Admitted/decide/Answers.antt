@@ -1,10 +1,9 @@
-use Rattle.std.proofs.Common.{◌≡◌, false, true, inl, inr, is_some, map, refl, sym, ap, subst, ◌∙◌, List}
+use Rattle.std.proofs.Common.{◌≡◌, false, true, inl, inr, is_some, map, refl, ap, ◌∙◌}
 use Rattle.std.proofs.lemmas.Result.{err_from_is_err_and}
 use Rattle.rbac_policy.specs.Admitted.{filter_view, limits_view}
 use Rattle.rbac_policy.specs.Named.{policy_view}
-use Rattle.rbac_policy.specs.declared.policy.NamedPolicy.{NamedPolicy}
 use Rattle.rbac_policy.specs.steps.Action.{allows}
-use Rattle.rbac_policy.specs.steps.Runs.{HaveNoConditions, IsFirst, SomePasses}
+use Rattle.rbac_policy.specs.steps.Runs.{IsFirst}
 use Rattle.rbac_policy.proofs.Deciding.{asked_is_told, found_verdict, have_none, none_passes, passing_asked}
 use Rattle.rbac_policy.proofs.FirstRun.{memory_is_other}
 use Rattle.rbac_policy.proofs.filter.Admitted.decide.Goals as goal
