@@ -64,17 +64,20 @@ pub conditions_fail : (bytes : List ℕ) (limits : LimitsValue) (budget : ℕ) (
     → ((e ≡ CodeRefused) × HoldsRefusedCode bytes limits) ⊎ Fault e bytes limits budget
 conditions_fail bytes limits budget e policies holds (cost_too_much cost costs above is) =
     inr (too_costly policies cost holds costs above is)
-conditions_fail bytes limits budget e policies holds (some_refused policy c program here has of why is) = inl (is, record {
-  policies = policies;
-  policy = policy;
-  condition = c;
-  program = program;
-  holds = holds;
-  one = here;
-  has = has;
-  compiled = of;
-  refused = why;
-})
+conditions_fail bytes limits budget e policies holds (some_refused policy c program here has of why is) = inl (
+  is,
+  record {
+    policies = policies;
+    policy = policy;
+    condition = c;
+    program = program;
+    holds = holds;
+    one = here;
+    has = has;
+    compiled = of;
+    refused = why;
+  },
+)
 
 -- what holds of an answer in two ways
 pub both_ok : {S E : Type 0} (P Q R : S → Type 0) (r : Result S E) → IfOk r P → IfOk r Q

@@ -297,15 +297,18 @@ module _ (limits : LimitsValue) where
       | inl more ↦
           let listed = listed_in bytes filter enforced is enforces in
           let ns : List (Entry text) = entries (map_of text is.rules.entries) in
-          inr (TooCostly, too_costly ns (bounds_of listed.0) (record {
-            top = is.top;
-            fs = is.fs;
-            read = is.rules.entries;
-            outer = is.message.0;
-            inner = is.inner.0;
-            readable = entries_readable text (payloads 2 is.fs) is.rules.entries is.rules.read;
-            named = refl;
-          }) (all_cost limits ns listed.0 listed.1) (rw (← listed.2) more) refl)
+          inr (
+            TooCostly,
+            too_costly ns (bounds_of listed.0) (record {
+              top = is.top;
+              fs = is.fs;
+              read = is.rules.entries;
+              outer = is.message.0;
+              inner = is.inner.0;
+              readable = entries_readable text (payloads 2 is.fs) is.rules.entries is.rules.read;
+              named = refl;
+            }) (all_cost limits ns listed.0 listed.1) (rw (← listed.2) more) refl,
+          )
     ]
   ]
 

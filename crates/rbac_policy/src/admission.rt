@@ -34,12 +34,7 @@ pub const MOST_POLICIES: usize = 256;
 /// `OutOfRange`, `Unsupported`, `BothConditions`, `TooLarge`, `UnknownName`, `NoOverload`,
 /// `BadTypeEntry`, `BadReference`, `NotBool`, `NeedsType` or `TooCostly`; or as `CodeRefused`, where a
 /// condition's code is too long or is not verified; or for want of memory.
-pub fn admit(
-    alloc: Global,
-    bytes: &[u8],
-    limits: &Limits,
-    budget: u64,
-) -> Result<Admitted, Refusal>
+pub fn admit(alloc: Global, bytes: &[u8], limits: &Limits, budget: u64) -> Result<Admitted, Refusal>
     ensures found { IfOk result (λ a. (filter : Filter CelChecked)
         × Admits bytes.now limits.now budget filter (filter_view a)) }
     ensures limits { IfOk result (λ a. limits_view a ≡ limits.now) }

@@ -45,8 +45,7 @@ impl Admitted {
             → InLimits request.now (limits_view self.now) → result ≢ Err RunError.OutOfSteps }
     {
         request_is_sound(request);
-        let policies = self.named_policies();
-        let matched = first_match(*policies.allocator(), policies, request)?;
+        let matched = first_match(self.alloc(), self.named_policies(), request)?;
         let allowed = self.action().allows(matched.is_some());
         Ok(Verdict { allowed, matched })
     }

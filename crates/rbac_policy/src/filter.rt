@@ -8,6 +8,7 @@ ghost use Rattle.rbac_policy.specs.Named.{named_views};
 
 use crate::policy::NamedPolicy;
 use attributes::Limits;
+use std::alloc::Global;
 
 /// What a filter does with a request that some policy matches.
 #[derive(Clone, Copy, PartialEq, Eq, Debug)]
@@ -105,10 +106,15 @@ impl Admitted {
     }
 
     /// The policies in ascending order of their names.
-    pub(crate) fn named_policies(&self) -> &Vec<NamedPolicy>
-        ensures { result.now ≡ self.now.rules.policies }
+    pub(crate) fn named_policies(&self) -> &[NamedPolicy]
+        ensures { result.now ≡ self.now.rules.policies.items }
     {
         &self.rules.policies
+    }
+
+    /// The allocator of its policies, from which runs of conditions take their memory.
+    pub(crate) fn alloc(&self) -> Global {
+        *self.rules.policies.allocator()
     }
 
     /// The limits of the requests for which it was admitted.

@@ -64,15 +64,19 @@ returns-clause-fault c =
     (Fails c.args.bytes.now c.args.limits.now c.args.budget) e
     (λ d bad. elim bad [
       | inl own ↦ inl (in_rules top fs c.in_ok-top.ensures.found.0 there inner.0 own)
-      | inr (read, readable, cost) ↦ inr (entries (map_of text read), record {
-        top = top;
-        fs = fs;
-        read = read;
-        outer = c.in_ok-top.ensures.found.0;
-        inner = inner.0;
-        readable = readable;
-        named = refl;
-      }, cost)
+      | inr (read, readable, cost) ↦ inr (
+        entries (map_of text read),
+        record {
+          top = top;
+          fs = fs;
+          read = read;
+          outer = c.in_ok-top.ensures.found.0;
+          inner = inner.0;
+          readable = readable;
+          named = refl;
+        },
+        cost,
+      )
     ]) (rw c.deref-4.ensures.value at h))
 
 pub returns-clause-found : goal.returns-clause-found
@@ -87,8 +91,11 @@ returns-clause-found c =
     (λ rules. total_bound (rules_view rules) ≤ c.args.budget)
     (λ rules. (filter : Filter CelChecked) × Admits c.args.bytes.now c.args.limits.now c.args.budget filter (rules_view rules))
     c.read_rules.result (rw c.deref-4.ensures.value at c.read_rules.ensures.found) c.read_rules.ensures.cheap
-    (λ rules (filter, are, enforces) cheap. (filter, record {
-      message = record { top = top; fs = fs; message = message; there = there; inner = inner; rules = are };
-      enforces = enforces;
-      cheap = cheap;
-    }))
+    (λ rules (filter, are, enforces) cheap. (
+      filter,
+      record {
+        message = record { top = top; fs = fs; message = message; there = there; inner = inner; rules = are };
+        enforces = enforces;
+        cheap = cheap;
+      },
+    ))

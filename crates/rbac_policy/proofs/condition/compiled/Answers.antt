@@ -9,8 +9,11 @@ returns-in-Err-clause-fault c =
     let size : length (code_of 0 0 (typed_view c.args.typed.now)) ≡ extent (typed_view c.args.typed.now) = extent_is (typed_view c.args.typed.now) 0 0 in
     elim c.in-Err.ensures.fault [
       | inl memory ↦ inl (c.code_refusal.ensures.memory memory)
-      | inr (large, why) ↦ inr (c.code_refusal.ensures.too_large large, elim why [
-        | inl long ↦ inl (rw size long)
-        | inr many ↦ inr many
-      ])
+      | inr (large, why) ↦ inr (
+        c.code_refusal.ensures.too_large large,
+        elim why [
+          | inl long ↦ inl (rw size long)
+          | inr many ↦ inr many
+        ],
+      )
     ]

@@ -47,7 +47,7 @@ returns-in_err-policy-clause-fault c =
     (λ e bad. elim bad [
       | inl own ↦ inl (c.in-Some.name.now.now, _, found, own)
       | inr cost ↦ inr (rw split (one_fails c.args.limits.now c.args.budget c.loop-name.spent e (names_view (map deref_pair c.loop-name.yielded)) n (names_view c.next.new.self)
-      (named_views c.loop-name.policies.items) c.loop-name.invariant.0 c.loop-name.invariant.1 cost))
+          (named_views c.loop-name.policies.items) c.loop-name.invariant.0 c.loop-name.invariant.1 cost))
     ])
 
 pub loop-name-preserved : goal.loop-name-preserved

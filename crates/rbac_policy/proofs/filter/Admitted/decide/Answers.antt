@@ -12,7 +12,7 @@ use Rattle.rbac_policy.proofs.filter.Admitted.decide.Goals as goal
 pub returns-clause-found : goal.returns-clause-found
 returns-clause-found c =
     let rules = c.args.self.now.rules in
-    let given : c.deref.result.now ≡ rules.policies.items = c.deref.ensures.value ∙ ap (λ v. v.items) c.named_policies-policies.ensures in
+    let given : c.named_policies.result.now ≡ rules.policies.items = c.named_policies.ensures in
     let first : IsFirst c.args.request.now 0 (map policy_view rules.policies.items) c.in_ok-matched.matched = rw given at c.in_ok-matched.ensures.found in
     let answer : c.allows-allowed.result ≡ allows rules.action (is_some c.in_ok-matched.matched) =
     c.allows-allowed.ensures ∙ ap (λ a. allows a c.is_some.result) c.action.ensures ∙ ap (allows rules.action) c.is_some.ensures in
@@ -22,35 +22,38 @@ returns-clause-found c =
 pub returns-in_err-matched-clause-always : goal.returns-in_err-matched-clause-always
 returns-in_err-matched-clause-always c =
     let rules = c.args.self.now.rules in
-    let given : c.deref.result.now ≡ rules.policies.items = c.deref.ensures.value ∙ ap (λ v. v.items) c.named_policies-policies.ensures in
+    let given : c.named_policies.result.now ≡ rules.policies.items = c.named_policies.ensures in
     λ none. let clash : false ≡ true = c.in_err-matched.ensures.always (rw given (have_none (filter_view c.args.self.now) rules.policies.items rules.ordered refl none)) in absurd cc
 
 pub returns-in_err-matched-clause-fault : goal.returns-in_err-matched-clause-fault
 returns-in_err-matched-clause-fault c =
     let rules = c.args.self.now.rules in
-    let given : c.deref.result.now ≡ rules.policies.items = c.deref.ensures.value ∙ ap (λ v. v.items) c.named_policies-policies.ensures in
+    let given : c.named_policies.result.now ≡ rules.policies.items = c.named_policies.ensures in
     let p = err_from_is_err_and c.from_residual.result c.from_residual.ensures.1 in
     rw (p.1, p.2) (elim (rw given at c.in_err-matched.ensures.fault) [
       | inl memory ↦ inl memory
-      | inr (out, passes) ↦ inr (out, λ filter admitted. passing_asked (filter_view c.args.self.now) rules.policies.items rules.ordered refl
-      (limits_view c.args.self.now) c.args.request.now c.request_is_sound.ensures filter admitted passes)
+      | inr (out, passes) ↦ inr (
+        out,
+        λ filter admitted. passing_asked (filter_view c.args.self.now) rules.policies.items rules.ordered refl
+            (limits_view c.args.self.now) c.args.request.now c.request_is_sound.ensures filter admitted passes,
+      )
     ])
 
 pub returns-in_err-matched-clause-within : goal.returns-in_err-matched-clause-within
 returns-in_err-matched-clause-within c =
     let rules = c.args.self.now.rules in
-    let given : c.deref.result.now ≡ rules.policies.items = c.deref.ensures.value ∙ ap (λ v. v.items) c.named_policies-policies.ensures in
+    let given : c.named_policies.result.now ≡ rules.policies.items = c.named_policies.ensures in
     let p = err_from_is_err_and c.from_residual.result c.from_residual.ensures.1 in
     λ filter admitted inside is. elim (rw given at c.in_err-matched.ensures.fault) [
       | inl memory ↦ memory_is_other c.from_residual.result p.0 c.in_err-matched.field-0.0 p.1 p.2 memory is
       | inr (out, passes) ↦ none_passes (filter_view c.args.self.now) rules.policies.items rules.ordered refl
-      (limits_view c.args.self.now) c.args.request.now c.request_is_sound.ensures filter admitted inside passes
+          (limits_view c.args.self.now) c.args.request.now c.request_is_sound.ensures filter admitted inside passes
     ]
 
 pub returns-clause-told : goal.returns-clause-told
 returns-clause-told c =
     let rules = c.args.self.now.rules in
-    let given : c.deref.result.now ≡ rules.policies.items = c.deref.ensures.value ∙ ap (λ v. v.items) c.named_policies-policies.ensures in
+    let given : c.named_policies.result.now ≡ rules.policies.items = c.named_policies.ensures in
     λ filter admitted asked. absurd (asked_is_told (filter_view c.args.self.now) rules.policies.items rules.ordered refl
     (limits_view c.args.self.now) c.args.request.now c.request_is_sound.ensures filter admitted asked c.in_ok-matched.matched
     (rw given at c.in_ok-matched.ensures.found))
