@@ -10,3 +10,9 @@ pub mod Whole
 pub mod Built
 pub mod Operands
 pub mod Meaning
+pub mod Short
+pub mod Leading
+pub mod Settling
+pub mod Tables
+pub mod Forks
+pub mod Forwards

@@ -1,14 +1,18 @@
 //! What holds of every expression's code.
 
-ghost use Rattle.std.specs.Prelude.{◌≡◌, List, []};
+ghost use Rattle.std.specs.Prelude.{◌≡◌, ◌≤◌, ◌<◌, ◌*◌, ℕ, List, [], length};
 ghost use Rattle.attributes.specs.Limits.{InLimits, LimitsValue};
 ghost use Rattle.attributes.specs.Request.{IsRequest, RequestValue};
 ghost use Rattle.cel_tree.specs.Checked.{CelChecked};
 ghost use Rattle.cel_tree.specs.GoodConstants.{HasGoodConstants};
-ghost use Rattle.cel_types.specs.Elaborated.{IsElaborated, TypedTree};
+ghost use Rattle.cel_tree.specs.Message.{IsChecked};
+ghost use Rattle.cel_tree.specs.Trees.{node_count};
+ghost use Rattle.cel_types.specs.Elaborated.{IsElaborated, TypedTree, kind};
 ghost use Rattle.cel_types.specs.WellTyped.{IsWellTyped};
 ghost use Rattle.stack_machine.specs.Instructions.{Instruction};
-ghost use Rattle.cel_compile.specs.Codes.{code_of};
+ghost use Rattle.stack_machine.specs.Typable.{Forward};
+ghost use Rattle.cel_compile.specs.Codes.{code_of, extent};
+ghost use Rattle.cel_compile.specs.Slots.{HasFewLocals};
 ghost use Rattle.cel_compile.specs.Sound.{IsSound, RunsToMeaning};
 
 /// The code of a well typed expression runs to what the expression comes to, on every request within
@@ -24,4 +28,25 @@ pub fn compiled_code_means_its_expression()
     ensures { (c : CelChecked) (e : TypedTree) → HasGoodConstants c.tree → IsElaborated c e
         → (request : RequestValue) (limits : LimitsValue) → IsRequest request → InLimits request limits
         → RunsToMeaning (code_of 0 0 e) c e request limits }
+{}
+
+/// The code of an expression has as many instructions as its extent, and that of an elaboration fewer
+/// than two for each node of the expression. So an expression that was read, which has at most 2,048
+/// nodes, and that is typed, with at most 64 locals in scope, is never too large for a code: it has
+/// at most 4,095 instructions.
+pub fn compiled_code_is_short()
+    ensures extent { (e : TypedTree) (p d : ℕ) → length (code_of p d e) ≡ extent e }
+    ensures short { (c : CelChecked) (e : TypedTree) → IsElaborated c e
+        → extent e < 2 * node_count c.tree }
+    ensures room { (parts : List (List ℕ)) (c : CelChecked) (e : TypedTree) → IsChecked parts c
+        → IsElaborated c e → (length (code_of 0 0 e) ≤ 65535) × HasFewLocals 0 e }
+{}
+
+/// One pass over the code of a well typed expression, and so over that of a checked expression's
+/// elaboration, finds a table of shapes that fits the code, with the expression's type: a verifier that
+/// finds a table wherever one pass does refuses no compiled code.
+pub fn compiled_code_is_forward()
+    ensures typed { (e : TypedTree) → IsWellTyped [] e → Forward (code_of 0 0 e) (kind e) }
+    ensures checked { (c : CelChecked) (e : TypedTree) → HasGoodConstants c.tree → IsElaborated c e
+        → Forward (code_of 0 0 e) (kind e) }
 {}

@@ -275,6 +275,7 @@ node_kinds = (len_key 3, Some kinds.Constant) ∷ (len_key 4, Some kinds.Ident)
     ∷ (len_key 5, Some kinds.Select) ∷ (len_key 6, Some kinds.Call) ∷ (len_key 7, Some kinds.List)
     ∷ (len_key 8, Some kinds.Struct) ∷ (len_key 9, Some kinds.Comprehension) ∷ []
 
+-- their fields
 abbrev pub kind_keys : List Key
 kind_keys = keys_of node_kinds
 

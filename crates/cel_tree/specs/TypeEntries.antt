@@ -45,6 +45,7 @@ abbrev pub primitives : List (ℕ × CelTypeEntry)
 primitives = (1, of_type bool_type) ∷ (2, of_type int_type) ∷ (3, of_type uint_type)
     ∷ (4, unsupported_type) ∷ (5, of_type text_type) ∷ (6, of_type bytes_type) ∷ []
 
+-- the primitive type of a number
 abbrev pub primitive_of : ℕ → Option CelTypeEntry
 primitive_of n = lookup (λ k. k == n) primitives
 
@@ -92,6 +93,7 @@ map_type_keys = len_key key_field ∷ len_key value_field ∷ []
 abbrev pub ListTypeSays : List Wire → TypeNode → Type 0
 ListTypeSays fs node = (payloads elem_field fs ≢ []) × (node ≡ list_of (payloads elem_field fs))
 
+-- a ListType lacks its part
 abbrev pub ListTypeWrong : List Wire → Refusal → Type 0
 ListTypeWrong fs e = (payloads elem_field fs ≡ []) × (e ≡ OutOfRange)
 
@@ -100,6 +102,7 @@ abbrev pub MapTypeSays : List Wire → TypeNode → Type 0
 MapTypeSays fs node = (payloads key_field fs ≢ []) × (payloads value_field fs ≢ [])
     × (node ≡ map_of (payloads key_field fs) (payloads value_field fs))
 
+-- a MapType lacks a part
 abbrev pub MapTypeWrong : List Wire → Refusal → Type 0
 MapTypeWrong fs e =
     ((payloads key_field fs ≡ []) ⊎ (payloads value_field fs ≡ [])) × (e ≡ OutOfRange)

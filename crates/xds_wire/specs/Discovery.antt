@@ -23,9 +23,11 @@ pub record AreAnyFields (fs : List Wire) (m : AnyMessage) : Type 0 where
 pub data AnyFieldsFault (fs : List Wire) (e : Refusal) : Type 0 where
   bad_any_type : StringFault 1 fs e → AnyFieldsFault fs e
 
+-- the payloads merge to this Any
 abbrev pub IsAny : List (List ℕ) → AnyMessage → Type 0
 IsAny = IsEnvelope AreAnyFields
 
+-- they merge to no Any, for this fault
 abbrev pub AnyFault : List (List ℕ) → Refusal → Type 0
 AnyFault = EnvelopeFault AnyFieldsFault
 
@@ -45,9 +47,11 @@ pub record AreStatusFields (fs : List Wire) (m : StatusMessage) : Type 0 where
 pub data StatusFieldsFault (fs : List Wire) (e : Refusal) : Type 0 where
   bad_status_message : StringFault 2 fs e → StatusFieldsFault fs e
 
+-- the payloads merge to this status
 abbrev pub IsStatus : List (List ℕ) → StatusMessage → Type 0
 IsStatus = IsEnvelope AreStatusFields
 
+-- they merge to no status, for this fault
 abbrev pub StatusFault : List (List ℕ) → Refusal → Type 0
 StatusFault = EnvelopeFault StatusFieldsFault
 
@@ -68,9 +72,11 @@ pub data NodeFieldsFault (fs : List Wire) (e : Refusal) : Type 0 where
   bad_node_id : StringFault 1 fs e → NodeFieldsFault fs e
   bad_node_cluster : StringFault 2 fs e → NodeFieldsFault fs e
 
+-- the payloads merge to this node
 abbrev pub IsNode : List (List ℕ) → NodeMessage → Type 0
 IsNode = IsEnvelope AreNodeFields
 
+-- they merge to no node, for this fault
 abbrev pub NodeFault : List (List ℕ) → Refusal → Type 0
 NodeFault = EnvelopeFault NodeFieldsFault
 

@@ -13,15 +13,19 @@ use Rattle.xds_wire.specs.declared.extension.TypedExtensionConfig.{TypedExtensio
 abbrev pub texts_view : List (Bor (List ℕ)) → List (List ℕ)
 texts_view texts = map (λ text. text.now) texts
 
+-- the message that an Any stands for
 abbrev pub any_view : Any → AnyMessage
 any_view any = record { type_url = any.type_url.now; value = any.value.now }
 
+-- the message that a status stands for
 abbrev pub status_view : Status → StatusMessage
 status_view status = record { code = status.code; message = status.message.now }
 
+-- the message that a node stands for
 abbrev pub node_view : Node → NodeMessage
 node_view node = record { id = node.id.now; cluster = node.cluster.now }
 
+-- the message that a request stands for
 abbrev pub request_view : DiscoveryRequest → RequestMessage
 request_view request = record {
   version_info = request.version_info.now;
@@ -32,6 +36,7 @@ request_view request = record {
   error_detail = option_map status_view request.error_detail;
 }
 
+-- the message that a response stands for
 abbrev pub response_view : DiscoveryResponse → ResponseMessage
 response_view response = record {
   version_info = response.version_info.now;
@@ -40,6 +45,7 @@ response_view response = record {
   nonce = response.nonce.now;
 }
 
+-- the message that an extension stands for
 abbrev pub extension_view : TypedExtensionConfig → ExtensionMessage
 extension_view extension = record {
   name = extension.name.now;

@@ -38,15 +38,19 @@ AreEach Written k (m ∷ ms) fs =
 abbrev pub SpellsGroups : List (List Wire) → List ℕ → Type 0
 SpellsGroups groups bytes = Shortest (flat_map (λ fs. fs) groups) bytes
 
+-- the bytes are what is written of an Any
 abbrev pub AnyWritten : AnyMessage → List ℕ → Type 0
 AnyWritten m bytes = SpellsGroups (string_fields 1 m.type_url ∷ string_fields 2 m.value ∷ []) bytes
 
+-- of a status
 abbrev pub StatusWritten : StatusMessage → List ℕ → Type 0
 StatusWritten m bytes = SpellsGroups (int32_fields 1 m.code ∷ string_fields 2 m.message ∷ []) bytes
 
+-- of a node
 abbrev pub NodeWritten : NodeMessage → List ℕ → Type 0
 NodeWritten m bytes = SpellsGroups (string_fields 1 m.id ∷ string_fields 2 m.cluster ∷ []) bytes
 
+-- of a request
 pub record RequestWritten (m : RequestMessage) (bytes : List ℕ) : Type 0 where
   pub node : List Wire
   pub error_detail : List Wire
@@ -56,6 +60,7 @@ pub record RequestWritten (m : RequestMessage) (bytes : List ℕ) : Type 0 where
       (string_fields 1 m.version_info ∷ node ∷ strings_fields 3 m.resource_names
       ∷ string_fields 4 m.type_url ∷ string_fields 5 m.response_nonce ∷ error_detail ∷ []) bytes
 
+-- of a response
 pub record ResponseWritten (m : ResponseMessage) (bytes : List ℕ) : Type 0 where
   pub resources : List Wire
   pub resource_fields : AreEach AnyWritten 2 m.resources resources
@@ -63,6 +68,7 @@ pub record ResponseWritten (m : ResponseMessage) (bytes : List ℕ) : Type 0 whe
       (string_fields 1 m.version_info ∷ resources ∷ string_fields 4 m.type_url
       ∷ string_fields 5 m.nonce ∷ []) bytes
 
+-- of an extension
 pub record ExtensionWritten (m : ExtensionMessage) (bytes : List ℕ) : Type 0 where
   pub typed_config : List Wire
   pub config_fields : AreOptional AnyWritten 2 m.typed_config typed_config
@@ -70,15 +76,19 @@ pub record ExtensionWritten (m : ExtensionMessage) (bytes : List ℕ) : Type 0 w
 
 -- ---- which messages may be written so that the same is read: strings are UTF-8, and a code is an int32
 
+-- an Any that may be written
 abbrev pub IsSoundAny : AnyMessage → Type 0
 IsSoundAny m = IsUtf8 m.type_url
 
+-- a status
 abbrev pub IsSoundStatus : StatusMessage → Type 0
 IsSoundStatus m = FitsSigned w32 m.code × IsUtf8 m.message
 
+-- a node
 abbrev pub IsSoundNode : NodeMessage → Type 0
 IsSoundNode m = IsUtf8 m.id × IsUtf8 m.cluster
 
+-- a request
 pub record IsSoundRequest (m : RequestMessage) : Type 0 where
   pub version_info : IsUtf8 m.version_info
   pub node : IfSome m.node IsSoundNode
@@ -87,12 +97,14 @@ pub record IsSoundRequest (m : RequestMessage) : Type 0 where
   pub response_nonce : IsUtf8 m.response_nonce
   pub error_detail : IfSome m.error_detail IsSoundStatus
 
+-- a response
 pub record IsSoundResponse (m : ResponseMessage) : Type 0 where
   pub version_info : IsUtf8 m.version_info
   pub resources : AllByRecursion IsSoundAny m.resources
   pub type_url : IsUtf8 m.type_url
   pub nonce : IsUtf8 m.nonce
 
+-- an extension
 pub record IsSoundExtension (m : ExtensionMessage) : Type 0 where
   pub name : IsUtf8 m.name
   pub typed_config : IfSome m.typed_config IsSoundAny

@@ -13,22 +13,26 @@ use Rattle.cel_overload.specs.declared.overload.Overload.TheVariants as overload
 
 -- kinds of types as tests
 
+-- whether values of the type are calculated
 abbrev pub is_number : ValueType → Bool
 is_number int_type = true
 is_number uint_type = true
 is_number _ = false
 
+-- whether they are compared by size
 abbrev pub is_ordered : ValueType → Bool
 is_ordered (list_type t) = false
 is_ordered (map_type k t) = false
 is_ordered _ = true
 
+-- whether two of them are put one after the other
 abbrev pub is_joined : ValueType → Bool
 is_joined text_type = true
 is_joined bytes_type = true
 is_joined (list_type t) = true
 is_joined _ = false
 
+-- whether they have a size
 abbrev pub is_sized : ValueType → Bool
 is_sized text_type = true
 is_sized bytes_type = true
@@ -48,6 +52,7 @@ Choice = Option (Overload × ValueType)
 abbrev pub when : Bool → Overload → ValueType → Choice
 when fits o r = if fits then Some (o, r) else None
 
+-- the choice for one operand
 abbrev pub choose_unary : Function → ValueType → Choice
 choose_unary functions.Not a = when (type_eq a bool_type) overloads.LogicalNot bool_type
 choose_unary functions.NotStrictlyFalse a =
@@ -62,6 +67,7 @@ are_compared Equal a b = type_eq a b
 are_compared NotEqual a b = type_eq a b
 are_compared _ a b = is_ordered a && type_eq a b
 
+-- two operands are compared
 abbrev pub choose_comparison : CompareOp → ValueType → ValueType → Choice
 choose_comparison op a b = when (are_compared op a b) (overloads.Compare op) bool_type
 
@@ -75,16 +81,19 @@ choose_arithmetic Add a b =
     if is_joined a then when (type_eq a b) overloads.Concat a else calculated Add a b
 choose_arithmetic op a b = calculated op a b
 
+-- an element of a list, or the value of a key
 abbrev pub choose_index : ValueType → ValueType → Choice
 choose_index (list_type t) b = when (type_eq b int_type) overloads.IndexList t
 choose_index (map_type k t) b = when (type_eq b (type_of_key k)) overloads.IndexMap t
 choose_index _ b = None
 
+-- whether an element stands in a list, or a key in a map
 abbrev pub choose_in : ValueType → ValueType → Choice
 choose_in a (list_type t) = when (type_eq a t) overloads.InList bool_type
 choose_in a (map_type k t) = when (type_eq a (type_of_key k)) overloads.InMap bool_type
 choose_in a _ = None
 
+-- the choice for two operands
 abbrev pub choose_binary : Function → ValueType → ValueType → Choice
 choose_binary functions.And a b = when (are_both a b bool_type) overloads.LogicalAnd bool_type
 choose_binary functions.Or a b = when (are_both a b bool_type) overloads.LogicalOr bool_type
@@ -96,6 +105,7 @@ choose_binary (functions.TestText test) a b =
     when (are_both a b text_type) (overloads.TestText test) bool_type
 choose_binary _ a b = None
 
+-- the choice for three
 abbrev pub choose_ternary : Function → ValueType → ValueType → ValueType → Choice
 choose_ternary functions.Conditional a b c =
     when (type_eq a bool_type && type_eq b c) overloads.Conditional b
@@ -108,5 +118,6 @@ choose_on f (a ∷ b ∷ []) = choose_binary f a b
 choose_on f (a ∷ b ∷ c ∷ []) = choose_ternary f a b c
 choose_on f _ = None
 
+-- the choice for a call of the function, where it may have a target or lack one
 abbrev pub choose : Function → Bool → List ValueType → Choice
 choose f target ts = if may_take f target then choose_on f ts else None

@@ -29,6 +29,7 @@ IsTarget depth [] None = Unit {0}
 IsTarget depth (part ∷ parts) (Some t) = IsTree depth (part ∷ parts) t
 IsTarget depth _ _ = ⊥
 
+-- how many nodes the target of a call has
 abbrev pub target_nodes : Option CelTree → ℕ
 target_nodes None = 0
 target_nodes (Some t) = node_count t
@@ -40,6 +41,7 @@ EntryTrees depth (e ∷ es) (tree_entry id key value others) = (id ≡ e.id)
     × IsTree depth e.key key × IsTree depth e.value value × EntryTrees depth es others
 EntryTrees depth _ _ = ⊥
 
+-- the same, and so many nodes are counted with them
 abbrev pub AreEntryTrees : ℕ → List EntryNode → CelTreeEntries → ℕ → ℕ → Type 0
 AreEntryTrees depth es entries rest left =
     EntryTrees depth es entries × (rest + entries_count entries ≡ left)
