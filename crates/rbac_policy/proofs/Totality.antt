@@ -16,9 +16,7 @@ use Rattle.cel_value.specs.Types.{ValueType, bool_type, bytes_type, int_type, li
 use Rattle.cel_tree.specs.Checked.{CelChecked}
 use Rattle.cel_tree.specs.Message.{IsChecked, CheckedFault}
 use Rattle.cel_tree.proofs.CheckedLaws.{checked_disjoint, checked_total, checked_unique}
-use Rattle.cel_types.specs.Elaborated.{TypedTree, IsElaborated, kind}
 use Rattle.cel_types.specs.Typing.{IsTyped, maps_of}
-use Rattle.cel_types.specs.TypingFaults.{CheckFault}
 use Rattle.cel_types.proofs.CheckLaws.{check-disjoint, check-total}
 use Rattle.cel_types.proofs.Elaborating.{elaborated}
 use Rattle.cel_types.proofs.OneType.{one-type}
@@ -30,11 +28,11 @@ use Rattle.rbac_match.specs.declared.rule.Side.{Side}
 use Rattle.rbac_match.specs.declared.rule.Side.TheVariants.{Permission, Principal}
 use Rattle.rbac_match.proofs.Basics.{nil_or_not, same_or_not}
 use Rattle.rbac_match.proofs.RuleMessages.{rules_total, rules_disjoint}
-use Rattle.rbac_policy.specs.Admission.{Admissible, Admits, Fault, in_message, too_costly}
+use Rattle.rbac_policy.specs.Admission.{Admissible, Fault, in_message, too_costly}
 use Rattle.rbac_policy.specs.Condition.{IsProgramOf, Program}
 use Rattle.rbac_policy.specs.Enforced.{Enforces, EnforcesPolicy, bounds_of, total_bound}
 use Rattle.rbac_policy.specs.Filter.{Policy, Filter}
-use Rattle.rbac_policy.specs.Keys.{checked_condition_field, condition_field, filter_keys, rules_field, rules_keys, policies_field, policy_keys}
+use Rattle.rbac_policy.specs.Keys.{checked_condition_field, condition_field, filter_keys, rules_keys, policy_keys}
 use Rattle.rbac_policy.specs.Message.{rule_depth, most_policies, HasBothSides, IsCondition, IsPolicy, action_in, action_number, AreFilterRules, IsFilter}
 use Rattle.proto_wire.specs.Maps.{Entry, text, AreEntries, AreValues, Readable, map_of, SomeValueFault}
 use Rattle.proto_wire.proofs.MapLaws.{entries_total, entries_disjoint, entries_readable, readable_unique}
@@ -42,7 +40,7 @@ use Rattle.proto_wire.proofs.MapValues.{held_are_values, values_total, values_di
 use Rattle.rbac_policy.specs.Fault.{PolicyFault, PolicyHas, SomeCost, HoldsPolicies, policy_fields, lacks_side, both_conditions, unchecked, unreadable, untyped, not_bool, in_permission, in_principal, RulesFault, bad_action, audited, in_entry, in_faulty_entry, too_many, in_policy, FilterFault, filter_fields, no_rules, rules_fields, in_rules}
 use Rattle.rbac_policy.specs.declared.filter.Action.{Action}
 use Rattle.rbac_policy.specs.declared.filter.Action.TheVariants.{Allow, Deny, Log}
-use Rattle.rbac_policy.specs.steps.Conditions.{HasProgram, IsEnforced}
+use Rattle.rbac_policy.specs.steps.Conditions.{IsEnforced}
 use Rattle.rbac_policy.proofs.Besides.{Beside, beside_map, in_a_row}
 use Rattle.rbac_policy.proofs.Enforcing.{all_cost, apart, cost_most, enforced_beside, filter_enforced}
 use Rattle.rbac_policy.proofs.Programs.{nothing_read}
@@ -318,7 +316,7 @@ module _ (limits : LimitsValue) where
   rules_fields_disjoint fs filter enforced e is enforces (bad_action large at) = action_small (action_in fs) filter.action is.action large
   rules_fields_disjoint fs filter enforced e is enforces (audited there at) = there is.unaudited
   rules_fields_disjoint fs filter enforced e is enforces (in_entry bad) = entries_disjoint text (payloads 2 fs) is.entries e is.read bad
-  rules_fields_disjoint fs filter enforced e is enforces (in_faulty_entry part own reason here bad whole inner) =
+  rules_fields_disjoint fs filter enforced e is enforces (in_faulty_entry part own reason here bad whole there inner) =
       entries_disjoint text (payloads 2 fs) is.entries reason is.read (part, here, bad)
   rules_fields_disjoint fs filter enforced e is enforces (too_many es reads many at) =
       let few : len (map_of text is.entries) ≤ most_policies = is.few in
