@@ -24,7 +24,7 @@ use Rattle.rbac_policy.specs.Named.{named_views, policy_view}
 use Rattle.rbac_policy.specs.Verdict.{IsUnconditional, IsVerdict, SomeAsked, condition_holds, policy_matches, sides_match}
 use Rattle.rbac_policy.specs.declared.policy.NamedPolicy.{NamedPolicy}
 use Rattle.rbac_policy.specs.steps.Action.{allows}
-use Rattle.rbac_policy.specs.steps.Runs.{HaveNoConditions, IsFirst, RunsAs, SomePasses, Tells}
+use Rattle.rbac_policy.specs.steps.Runs.{HaveNoConditions, IsFirst, PassesBound, RunsAs, SomeAsks, Tells}
 use Rattle.rbac_policy.proofs.Besides.{Beside, beside_map, found_itself, name_same, sorted_beside, t_of, there}
 use Rattle.rbac_policy.proofs.First.{Passes, in_rest, least_first, lesser_in_list, lesser_in_map, stands, verdict}
 use Rattle.rbac_policy.proofs.Programs.{not_both, program_unique, run_is_met, within_bound}
@@ -75,14 +75,17 @@ module _ (limits : LimitsValue) (r : RequestValue) (valid : IsRequest r) where
       let sides : sides_match r p ≡ true = sym (same_sides p v is) ∙ does in
       condition_told b p.condition v.condition is.condition good runs ∙ sym (ap (λ s. s && condition_holds (is_met r) p.condition) sides)
 
-  -- a run that passes its bound is that of the condition
-  passes_here : (c : Option CelChecked) (q : Option Program)
+  -- this holds of the condition's program
+  abbrev ItsProgram : (Program → Type 0) → CelChecked → Type 0
+  ItsProgram P c = (program : Program) × IsProgramOf limits c program × P program
+
+  -- what is asked for is the condition's
+  asks_here : (P : Program → Type 0) (c : Option CelChecked) (q : Option Program)
       → MatchOption c (q ≡ None) (λ d. IsSomeAnd q (IsProgramOf limits d)) → GoodCondition c
-      → IsSomeAnd q (λ program. RunsOut program.code r program.bound)
-      → (d : CelChecked) × (c ≡ Some d) × HasGoodConstants d.tree × TakesTooLong limits r d
-  passes_here c None is good out = absurd out
-  passes_here None (Some q) is good out = let clash : Some q ≡ None = is in cc
-  passes_here (Some d) (Some q) is good out = (d, refl, good, (q, is, out))
+      → IsSomeAnd q P → (d : CelChecked) × (c ≡ Some d) × HasGoodConstants d.tree × ItsProgram P d
+  asks_here P c None is good out = absurd out
+  asks_here P None (Some q) is good out = let clash : Some q ≡ None = is in cc
+  asks_here P (Some d) (Some q) is good out = (d, refl, good, (q, is, out))
 
   -- no run both tells and passes its bound
   tells_or_passes : (c : CelChecked) → TakesTooLong limits r c → (p : Policy CelChecked) (v : Policy Program) → Stands v p
@@ -123,14 +126,14 @@ module _ (limits : LimitsValue) (r : RequestValue) (valid : IsRequest r) where
     condition : policy.condition ≡ Some c
     least : (other : List ℕ) → Passes matches ps other → is_lt (name_cmp other name) ≡ false
 
-  -- a run that passes its bound is that of a condition that is asked for
-  passes_asked : (vs : List (List ℕ × Policy Program)) (ps : List (List ℕ × Policy CelChecked)) → T (is_sorted name_cmp ps)
-      → Beside Stands vs ps → SomePasses r (map (λ e. e.1) vs)
-      → (c : CelChecked) × AskedIn ps c × HasGoodConstants c.tree × TakesTooLong limits r c
-  passes_asked [] ps sorted beside none = absurd none
-  passes_asked (v ∷ vs) ps sorted (p, others, (is, good), rest, made) (inl (does, out)) =
+  -- so the program is that of a condition that is asked for
+  asks_asked : (P : Program → Type 0) (vs : List (List ℕ × Policy Program)) (ps : List (List ℕ × Policy CelChecked)) → T (is_sorted name_cmp ps)
+      → Beside Stands vs ps → SomeAsks P r (map (λ e. e.1) vs)
+      → (c : CelChecked) × AskedIn ps c × HasGoodConstants c.tree × ItsProgram P c
+  asks_asked P [] ps sorted beside none = absurd none
+  asks_asked P (v ∷ vs) ps sorted (p, others, (is, good), rest, made) (inl (does, out)) =
       let order : T (is_sorted name_cmp ((v.0, p) ∷ others)) = subst (λ xs. T (is_sorted name_cmp xs)) made sorted in
-      let here = passes_here p.condition v.1.condition is.condition good out in
+      let here = asks_here P p.condition v.1.condition is.condition good out in
       let asked : AskedIn ((v.0, p) ∷ others) here.0 = record {
         name = v.0;
         policy = p;
@@ -140,9 +143,9 @@ module _ (limits : LimitsValue) (r : RequestValue) (valid : IsRequest r) where
         least = least_first matches 0 (v.0, p) others order;
       } in
       (here.0, subst (λ xs. AskedIn xs here.0) (sym made) asked, here.2, here.3)
-  passes_asked (v ∷ vs) ps sorted (p, others, stand, rest, made) (inr (fails_to, later)) =
+  asks_asked P (v ∷ vs) ps sorted (p, others, stand, rest, made) (inr (fails_to, later)) =
       let order : T (is_sorted name_cmp ((v.0, p) ∷ others)) = subst (λ xs. T (is_sorted name_cmp xs)) made sorted in
-      let it = passes_asked vs others (both_second _ _ order) rest later in
+      let it = asks_asked P vs others (both_second _ _ order) rest later in
       let asked : AskedIn ((v.0, p) ∷ others) it.0 = record {
         name = it.1.name;
         policy = it.1.policy;
@@ -260,16 +263,17 @@ module _ (enforced : Filter Program) (items : List NamedPolicy) (ordered : IsTru
         rw admitted.2.enforces.action (verdict (is_met r) r listed.0 order filter listed.2 o
         (first_is limits r valid 0 (named_views items) listed.0 o listed.1 by_runs))
 
-    passing_one : SomePasses r (map policy_view items)
-        → (c : CelChecked) × AskedIn limits r valid listed.0 c × HasGoodConstants c.tree × TakesTooLong limits r c
-    passing_one passes =
-        passes_asked limits r valid (named_views items) listed.0 order listed.1
-        (subst (λ xs. SomePasses r xs) (sym (views_are items)) passes)
+    asking_one : (P : Program → Type 0) → SomeAsks P r (map policy_view items)
+        → (c : CelChecked) × AskedIn limits r valid listed.0 c × HasGoodConstants c.tree × ItsProgram limits r valid P c
+    asking_one P asks =
+        asks_asked limits r valid P (named_views items) listed.0 order listed.1
+        (subst (λ xs. SomeAsks P r xs) (sym (views_are items)) asks)
 
-    -- a run that passes its bound is of a condition that the verdict asks for
-    pub passing_asked : SomePasses r (map policy_view items) → SomeAsked (is_met r) (TakesTooLong limits r) r filter
-    passing_asked passes =
-        let it = passing_one passes in
+    -- a program that is asked for is of a condition that the verdict asks for
+    pub asking : (P : Program → Type 0) → SomeAsks P r (map policy_view items)
+        → SomeAsked (is_met r) (λ c. (program : Program) × IsProgramOf limits c program × P program) r filter
+    asking P asks =
+        let it = asking_one P asks in
         let stand : get filter.policies it.1.name ≡ Some it.1.policy = stands (is_met r) r listed.0 order filter listed.2 it.1.name ∙ it.1.found in (
           it.0,
           (
@@ -281,9 +285,9 @@ module _ (enforced : Filter Program) (items : List NamedPolicy) (ordered : IsTru
         )
 
     -- on a request within the limits no run passes its bound
-    pub none_passes : InLimits r limits → SomePasses r (map policy_view items) → ⊥
+    pub none_passes : InLimits r limits → SomeAsks (PassesBound r) r (map policy_view items) → ⊥
     none_passes inside passes =
-        let it = passing_one passes in
+        let it = asking_one (PassesBound r) passes in
         let (q, of, out) = it.3 in
         within_bound limits it.0 q it.2 of r valid inside out
 

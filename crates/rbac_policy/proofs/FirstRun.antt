@@ -9,7 +9,7 @@ use Rattle.rbac_policy.specs.Condition.{Program}
 use Rattle.rbac_policy.specs.Filter.{Policy}
 use Rattle.rbac_policy.specs.Named.{policy_view}
 use Rattle.rbac_policy.specs.declared.policy.NamedPolicy.{NamedPolicy}
-use Rattle.rbac_policy.specs.steps.Runs.{HaveNoConditions, IsFirst, PassesBound, SomePasses, Tells}
+use Rattle.rbac_policy.specs.steps.Runs.{Asks, HaveNoConditions, IsFirst, SomeAsks, Tells}
 
 module _ (r : RequestValue) where
   -- all told that they do not match
@@ -31,10 +31,10 @@ module _ (r : RequestValue) where
   none_first [] i failed = refl
   none_first (p ∷ ps) i failed = inr (failed.0, none_first ps (i + 1) failed.1)
 
-  one_passes : (ps qs : List (Policy Program)) (p : Policy Program) → Failed ps → PassesBound r p
-      → SomePasses r (ps ++ p ∷ qs)
-  one_passes [] qs p failed this = inl this
-  one_passes (x ∷ ps) qs p failed this = inr (failed.0, one_passes ps qs p failed.1 this)
+  one_asks : (P : Program → Type 0) (ps qs : List (Policy Program)) (p : Policy Program) → Failed ps → Asks P r p
+      → SomeAsks P r (ps ++ p ∷ qs)
+  one_asks P [] qs p failed this = inl this
+  one_asks P (x ∷ ps) qs p failed this = inr (failed.0, one_asks P ps qs p failed.1 this)
 
   none_at : (ps qs : List (Policy Program)) (p : Policy Program) → HaveNoConditions (ps ++ p ∷ qs) → p.condition ≡ None
   none_at [] qs p none = none.0
@@ -63,10 +63,10 @@ module _ (r : RequestValue) where
         rw split (subst (λ n. IsFirst r 0 (map policy_view (take i items) ++ policy_view item ∷ map policy_view (drop (i + 1) items)) (Some n))
         (zero-add _ ∙ count) (one_first (map policy_view (take i items)) (map policy_view (drop (i + 1) items)) (policy_view item) 0 failed this))
 
-    pub this_passes : Failed (map policy_view (take i items)) → PassesBound r (policy_view item)
-        → SomePasses r (map policy_view items)
-    this_passes failed this =
-        rw split (one_passes (map policy_view (take i items)) (map policy_view (drop (i + 1) items)) (policy_view item) failed this)
+    pub this_asks : (P : Program → Type 0) → Failed (map policy_view (take i items)) → Asks P r (policy_view item)
+        → SomeAsks P r (map policy_view items)
+    this_asks P failed this =
+        rw split (one_asks P (map policy_view (take i items)) (map policy_view (drop (i + 1) items)) (policy_view item) failed this)
 
     pub this_has_none : HaveNoConditions (map policy_view items) → (policy_view item).condition ≡ None
     this_has_none none =

@@ -1,5 +1,4 @@
 pub mod Besides
-pub mod FewLocals
 pub mod Programs
 pub mod Enforcing
 pub mod Spending

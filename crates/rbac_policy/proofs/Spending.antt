@@ -1,23 +1,21 @@
 -- What is wrong with the condition of one policy, and of one among others that spent some of the budget.
 use Rattle.std.proofs.Common.{arith, ◌≡◌, ◌≢◌, ◌+◌, ◌-◌, ◌⊎◌, inl, inr, ℕ, List, [], ◌∷◌, ◌++◌, refl, sym, add-zero}
-use Rattle.std.proofs.lemmas.List.Elements.{Contains-append_left, Contains-append_right}
 use Rattle.attributes.specs.Limits.{LimitsValue}
 use Rattle.proto_wire.specs.Fields.{Wire}
 use Rattle.proto_wire.specs.Maps.{Entry, text}
 use Rattle.proto_wire.specs.Merge.{Merges}
 use Rattle.proto_wire.specs.Values.{payloads}
 use Rattle.proto_wire.specs.declared.refusal.Refusal.{Refusal}
-use Rattle.proto_wire.specs.declared.refusal.Refusal.TheVariants.{CodeRefused}
 use Rattle.std.specs.Prelude.{Result, Ok, Err, IfOk}
 use Rattle.cel_tree.specs.Checked.{CelChecked}
 use Rattle.rbac_policy.specs.Condition.{Program}
 use Rattle.rbac_policy.specs.Enforced.{bound_of, bounds_of}
-use Rattle.rbac_policy.specs.Admission.{Fault, HoldsRefusedCode, too_costly}
+use Rattle.rbac_policy.specs.Admission.{Fault, too_costly}
 use Rattle.rbac_policy.specs.Fault.{HoldsPolicies, PolicyFault, PolicyHas, not_bool, unreadable, untyped}
 use Rattle.rbac_policy.specs.Filter.{Policy}
 use Rattle.rbac_policy.specs.Keys.{checked_condition_field}
 use Rattle.rbac_policy.specs.steps.Conditions as step
-use Rattle.rbac_policy.specs.steps.Conditions.{ConditionFault, ConditionsFault, ExpressionFault, IsEnforced, cost_too_much, some_refused}
+use Rattle.rbac_policy.specs.steps.Conditions.{ConditionFault, ConditionsFault, ExpressionFault, IsEnforced, cost_too_much}
 use Rattle.rbac_policy.proofs.Besides.{Beside}
 use Rattle.rbac_policy.proofs.Enforcing.{all_cost, cost_of_one, costs_append}
 
@@ -28,10 +26,8 @@ module _ (limits : LimitsValue) (name : List ℕ) (parts : List (List ℕ)) (lef
   expression_fails c has (step.not_bool t typed other is) = inl (not_bool c t has typed other is)
   expression_fails c has (step.too_costly program of above is) =
       inr (cost_too_much program.bound (inr (c, program, 0, has, of, refl, sym (add-zero program.bound))) above is)
-  expression_fails c has (step.refused program of why is) =
-      inr (some_refused (name, parts) c program (0, omega arith, refl) has of why is)
 
-  -- the fault of a policy's condition is one of the policy, or one of its cost or its code
+  -- the fault of a policy's condition is one of the policy, or one of its cost
   pub condition_fails : (fs : List Wire) → Merges parts fs → payloads checked_condition_field fs ≢ []
       → ConditionFault (payloads checked_condition_field fs) limits left e
       → PolicyFault parts e ⊎ ConditionsFault ((name, parts) ∷ []) limits left e
@@ -54,30 +50,13 @@ one_fails limits budget spent e ns n more vs held sum (cost_too_much cost costs 
     cost_too_much (spent + cost)
     (costs_append limits ns (n ∷ more) spent cost (rw sum (all_cost limits ns vs held)) (cost_of_one limits n more cost costs))
     (omega (arith, above)) is
-one_fails limits budget spent e ns n more vs held sum (some_refused policy c program here has of why is) =
-    some_refused policy c program
-    (Contains-append_right ns (n ∷ more) policy (Contains-append_left (n ∷ []) more policy here)) has of why is
 
--- what is wrong with the costs or the code of a filter's conditions is wrong with its bytes
+-- what is wrong with the costs of a filter's conditions is wrong with its bytes
 pub conditions_fail : (bytes : List ℕ) (limits : LimitsValue) (budget : ℕ) (e : Refusal) (policies : List (Entry text))
     → HoldsPolicies bytes policies → ConditionsFault policies limits budget e
-    → ((e ≡ CodeRefused) × HoldsRefusedCode bytes limits) ⊎ Fault e bytes limits budget
+    → Fault e bytes limits budget
 conditions_fail bytes limits budget e policies holds (cost_too_much cost costs above is) =
-    inr (too_costly policies cost holds costs above is)
-conditions_fail bytes limits budget e policies holds (some_refused policy c program here has of why is) = inl (
-  is,
-  record {
-    policies = policies;
-    policy = policy;
-    condition = c;
-    program = program;
-    holds = holds;
-    one = here;
-    has = has;
-    compiled = of;
-    refused = why;
-  },
-)
+    too_costly policies cost holds costs above is
 
 -- what holds of an answer in two ways
 pub both_ok : {S E : Type 0} (P Q R : S → Type 0) (r : Result S E) → IfOk r P → IfOk r Q

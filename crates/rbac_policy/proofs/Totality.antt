@@ -316,7 +316,7 @@ module _ (limits : LimitsValue) where
   rules_fields_disjoint fs filter enforced e is enforces (bad_action large at) = action_small (action_in fs) filter.action is.action large
   rules_fields_disjoint fs filter enforced e is enforces (audited there at) = there is.unaudited
   rules_fields_disjoint fs filter enforced e is enforces (in_entry bad) = entries_disjoint text (payloads 2 fs) is.entries e is.read bad
-  rules_fields_disjoint fs filter enforced e is enforces (in_faulty_entry part own reason here bad whole inner) =
+  rules_fields_disjoint fs filter enforced e is enforces (in_faulty_entry part own reason here bad whole there inner) =
       entries_disjoint text (payloads 2 fs) is.entries reason is.read (part, here, bad)
   rules_fields_disjoint fs filter enforced e is enforces (too_many es reads many at) =
       let few : len (map_of text is.entries) ≤ most_policies = is.few in

@@ -48,15 +48,15 @@ pub data PolicyFault (parts : List (List ℕ)) (e : Refusal) : Type 0 where
       → SomeRuleFault Principal rule_depth (payloads principals_field fs) e → PolicyFault parts e
 
 -- a fault of what the fields of the filter's rules hold: the action, an entry, the policy of a
--- name. An entry with a fault of its own is no part of the map, and its policy's faults are there
--- all the same
+-- name. An entry with a fault of its own is no part of the map, and the faults of the policy that
+-- it has are there all the same
 pub data RulesFault (fs : List Wire) (e : Refusal) : Type 0 where
   bad_action : 2 < action_in fs → e ≡ OutOfRange → RulesFault fs e
   audited : payloads audit_logging_options_field fs ≢ [] → e ≡ Unsupported → RulesFault fs e
   in_entry : SomeEntryFault text (payloads policies_field fs) e → RulesFault fs e
   in_faulty_entry : (part : List ℕ) (own : List Wire) (reason : Refusal)
       → Contains (payloads policies_field fs) part → EntryFault text part reason → Fields part own
-      → PolicyFault (payloads 2 own) e → RulesFault fs e
+      → payloads 2 own ≢ [] → PolicyFault (payloads 2 own) e → RulesFault fs e
   too_many : (read : List (Entry text)) → Readable text (payloads policies_field fs) read
       → most_policies < len (map_of text read) → e ≡ TooLarge → RulesFault fs e
   in_policy : (read : List (Entry text)) → Readable text (payloads policies_field fs) read

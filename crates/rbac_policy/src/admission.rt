@@ -7,13 +7,13 @@ ghost use Rattle.proto_wire.specs.Fields.{field_view};
 ghost use Rattle.proto_wire.specs.Refusal.{MemoryOr};
 ghost use Rattle.proto_wire.specs.Values.{payloads};
 ghost use Rattle.proto_wire.specs.Maps.{Entry, text, Readable, map_of};
-ghost use Rattle.proto_wire.specs.declared.refusal.Refusal.TheVariants.{CodeRefused, Missing, OutOfRange, TooLarge, Unsupported};
+ghost use Rattle.proto_wire.specs.declared.refusal.Refusal.TheVariants.{Missing, OutOfRange, TooLarge, Unsupported};
 ghost use Rattle.rbac_policy.specs.Enforced.{Enforces, total_bound};
 ghost use Rattle.rbac_policy.specs.Filter.{Filter};
 ghost use Rattle.rbac_policy.specs.Keys.{audit_logging_options_field, policies_field, rules_field};
 ghost use Rattle.rbac_policy.specs.Message.{AreFilterRules, action_in, action_number, most_policies};
 ghost use Rattle.rbac_policy.specs.Fault.{FilterFault, HoldsPolicies, RulesFault};
-ghost use Rattle.rbac_policy.specs.Admission.{Admits, Fault, HoldsRefusedCode};
+ghost use Rattle.rbac_policy.specs.Admission.{Admits, Fault};
 ghost use Rattle.rbac_policy.specs.steps.Conditions.{ConditionsFault};
 ghost use Rattle.rbac_policy.specs.Admitted.{filter_view, limits_view, rules_view};
 
@@ -32,15 +32,13 @@ pub const MOST_POLICIES: usize = 256;
 /// requests within the limits and with a budget of steps for its conditions together. It is taken
 /// whole or refused whole, for a fault that is there: `BadWire`, `BadText`, `UnknownField`, `Missing`,
 /// `OutOfRange`, `Unsupported`, `BothConditions`, `TooLarge`, `UnknownName`, `NoOverload`,
-/// `BadTypeEntry`, `BadReference`, `NotBool`, `NeedsType` or `TooCostly`; or as `CodeRefused`, where a
-/// condition's code is too long or is not verified; or for want of memory.
+/// `BadTypeEntry`, `BadReference`, `NotBool`, `NeedsType` or `TooCostly`; or for want of memory. There
+/// is always room for a condition's code, and it is always verified: `CodeRefused` never comes.
 pub fn admit(alloc: Global, bytes: &[u8], limits: &Limits, budget: u64) -> Result<Admitted, Refusal>
     ensures found { IfOk result (λ a. (filter : Filter CelChecked)
         × Admits bytes.now limits.now budget filter (filter_view a)) }
     ensures limits { IfOk result (λ a. limits_view a ≡ limits.now) }
-    ensures fault { IfErr result (MemoryOr (λ e.
-        ((e ≡ CodeRefused) × HoldsRefusedCode bytes.now limits.now)
-        ⊎ Fault e bytes.now limits.now budget)) }
+    ensures fault { IfErr result (MemoryOr (λ e. Fault e bytes.now limits.now budget)) }
 {
     let rules = read_filter(alloc, bytes, limits, budget)?;
     Ok(Admitted::new(rules, *limits))

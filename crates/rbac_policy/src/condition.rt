@@ -1,16 +1,13 @@
 //! Conditions: how one is admitted, and its runs.
 
-ghost use Rattle.std.specs.Prelude.{◌≡◌, ◌≢◌, ◌≤◌, ◌<◌, ◌⊎◌, IfErr, IfOk, OnOk, Some, length};
-ghost use Rattle.cel_compile.specs.Codes.{code_of};
-ghost use Rattle.cel_compile.specs.Slots.{HasFewLocals};
+ghost use Rattle.std.specs.Prelude.{◌≡◌, ◌≢◌, ◌≤◌, ◌⊎◌, ℕ, List, IfErr, IfOk, OnOk, Some};
 ghost use Rattle.cel_tree.specs.Checked.{CelChecked};
 ghost use Rattle.cel_tree.specs.Message.{IsChecked};
 ghost use Rattle.cel_tree.specs.View.{checked_view};
-ghost use Rattle.cel_types.specs.View.{typed_view};
 ghost use Rattle.cel_value.specs.Types.{bool_type, type_view};
 ghost use Rattle.proto_wire.specs.Merge.{parts_view};
 ghost use Rattle.proto_wire.specs.Refusal.{MemoryOr};
-ghost use Rattle.proto_wire.specs.declared.refusal.Refusal.TheVariants.{CodeRefused, NotBool};
+ghost use Rattle.proto_wire.specs.declared.refusal.Refusal.TheVariants.{NotBool};
 ghost use Rattle.cel_value.specs.View.{answer_view};
 ghost use Rattle.rbac_policy.specs.Condition.{IsProgramOf, came_true};
 ghost use Rattle.rbac_policy.specs.Named.{program_view};
@@ -23,7 +20,7 @@ ghost use Rattle.stack_machine.specs.Typable.{Forward};
 use attributes::{Limits, Request};
 use cel_compile::compile;
 use cel_tree::{Checked, read_checked_parts};
-use cel_types::{Typed, check};
+use cel_types::check;
 use cel_value::{Answer, CelType, Value};
 use code_verifier::{VerifyFault, verify};
 use cost_bound::bound;
@@ -82,13 +79,15 @@ pub(crate) fn read_condition(
     condition_of(alloc, &checked, limits, left)
 }
 
-/// The condition that the expression is.
+/// The condition that the expression is. The expression was read from some parts, so a code has room
+/// for it, and the code is verified.
 fn condition_of(
     alloc: Global,
     checked: &Checked,
     limits: &Limits,
     left: u64,
 ) -> Result<Condition, Refusal>
+    requires { (parts : List (List ℕ)) × IsChecked parts (checked_view checked.now) }
     ensures found { IfOk result (λ c. IsProgramOf limits.now (checked_view checked.now) (program_view c)) }
     ensures cheap { IfOk result (λ c. c.bound ≤ left) }
     ensures fault { IfErr result (MemoryOr (ExpressionFault (checked_view checked.now) limits.now left)) }
@@ -96,7 +95,7 @@ fn condition_of(
     let typed = check(alloc, checked)?;
     require_bool(typed.root.cel_type())?;
     let steps = bound(alloc, &typed, limits, left)?;
-    let code = compiled(alloc, &typed)?;
+    let code = compile(alloc, &typed)?;
     let code = verified(alloc, code)?;
     Ok(Condition { code, bound: steps })
 }
@@ -112,39 +111,15 @@ fn require_bool(found: &CelType) -> Result<(), Refusal>
     Err(Refusal::NotBool)
 }
 
-/// The code of an expression; one that is too long is refused.
-fn compiled(alloc: Global, typed: &Typed<'_>) -> Result<Code, Refusal>
-    ensures found { IfOk result (λ code. code_view code ≡ code_of 0 0 (typed_view typed.now)) }
-    ensures fault { IfErr result (MemoryOr (λ e. (e ≡ CodeRefused)
-        × ((65535 < length (code_of 0 0 (typed_view typed.now)))
-        ⊎ (HasFewLocals 0 (typed_view typed.now) → ⊥)))) }
-{
-    match compile(alloc, typed) {
-        Ok(code) => Ok(code),
-        Err(refusal) => Err(code_refusal(refusal)),
-    }
-}
-
-/// What the compiler's refusal is of a policy: code that is too large is refused.
-fn code_refusal(refusal: Refusal) -> Refusal
-    ensures memory { refusal ≡ Refusal.Memory → result ≡ Refusal.Memory }
-    ensures too_large { refusal ≡ Refusal.TooLarge → result ≡ CodeRefused }
-{
-    if refusal == Refusal::TooLarge {
-        return Refusal::CodeRefused;
-    }
-    refusal
-}
-
-/// The code, verified to answer a bool; other code is refused.
+/// The code, verified to answer a bool.
 fn verified(alloc: Global, code: Code) -> Result<Verified, Refusal>
+    requires { Forward (code_view code) bool_type }
     ensures found { IfOk result (λ v. v ≡ code) }
-    ensures fault { IfErr result (MemoryOr (λ e. (e ≡ CodeRefused)
-        × (Forward (code_view code) bool_type → ⊥))) }
+    ensures fault { IfErr result (λ e. e ≡ Refusal.Memory) }
 {
     match verify(alloc, code, &CelType::Bool) {
         Ok(verified) => Ok(verified),
         Err((_, VerifyFault::Memory)) => Err(Refusal::Memory),
-        Err((_, VerifyFault::NotTypable(_))) => Err(Refusal::CodeRefused),
+        Err((_, VerifyFault::NotTypable(_))) => unreachable!(),
     }
 }

@@ -10,7 +10,7 @@ ghost use Rattle.rbac_policy.specs.Condition.{TakesTooLong, is_met};
 ghost use Rattle.rbac_policy.specs.Filter.{Filter};
 ghost use Rattle.rbac_policy.specs.Named.{policy_view};
 ghost use Rattle.rbac_policy.specs.Verdict.{IsUnconditional, IsVerdict, SomeAsked, sides_match};
-ghost use Rattle.rbac_policy.specs.steps.Runs.{HaveNoConditions, IsFirst, PassesBound, SomePasses, Tells};
+ghost use Rattle.rbac_policy.specs.steps.Runs.{AnyProgram, Asks, HaveNoConditions, IsFirst, PassesBound, SomeAsks, Tells};
 
 use crate::filter::{Admitted, Verdict};
 use crate::policy::NamedPolicy;
@@ -22,14 +22,17 @@ use std::alloc::Global;
 impl Admitted {
     /// What the filter answers the request. Its conditions have their meaning in CEL, and an error is
     /// no match. A condition is run only where a permission and a principal match and no policy before
-    /// matched. A filter without conditions always answers, and takes no memory. With conditions it may
-    /// answer `Memory`; and `OutOfSteps`, for a request outside the limits, exactly where a condition
-    /// that is asked for takes more steps than it may.
+    /// matched. Where no condition is asked for, it always answers, and takes no memory; so does a filter
+    /// without conditions. Else it may answer `Memory`; and `OutOfSteps`, for a request outside the
+    /// limits, exactly where a condition that is asked for takes more steps than it may.
     pub fn decide(&self, request: &Request) -> Result<Verdict, RunError>
         ensures found { IfOk result (λ v. (filter : Filter CelChecked)
             → IsAdmittedAs (limits_view self.now) filter (filter_view self.now)
             → IsVerdict (is_met request.now) request.now filter v.allowed v.matched) }
         ensures always { IsUnconditional (filter_view self.now) → IsOk result }
+        ensures unasked { (filter : Filter CelChecked)
+            → IsAdmittedAs (limits_view self.now) filter (filter_view self.now)
+            → SomeAsked (is_met request.now) (λ c. Unit {0}) request.now filter ⊎ IsOk result }
         ensures fault { IfErr result (λ e. (e ≡ RunError.Memory) ⊎ ((e ≡ RunError.OutOfSteps)
             × ((filter : Filter CelChecked)
             → IsAdmittedAs (limits_view self.now) filter (filter_view self.now)
@@ -60,8 +63,10 @@ fn first_match(
     ensures found { IfOk result (λ matched.
         IsFirst request.now 0 (map policy_view policies.now) matched) }
     ensures always { HaveNoConditions (map policy_view policies.now) → IsOk result }
+    ensures asked { IfErr result (λ _. SomeAsks AnyProgram request.now
+        (map policy_view policies.now)) }
     ensures fault { IfErr result (λ e. (e ≡ RunError.Memory) ⊎ ((e ≡ RunError.OutOfSteps)
-        × SomePasses request.now (map policy_view policies.now))) }
+        × SomeAsks (PassesBound request.now) request.now (map policy_view policies.now))) }
 {
     for (number, policy) in policies.iter().enumerate() {
         if policy_matches(alloc, policy, request)? {
@@ -75,8 +80,9 @@ fn first_match(
 fn policy_matches(alloc: Global, policy: &NamedPolicy, request: &Request) -> Result<bool, RunError>
     ensures found { IfOk result (Tells request.now (policy_view policy.now)) }
     ensures always { (policy_view policy.now).condition ≡ None → IsOk result }
+    ensures asked { IfErr result (λ _. Asks AnyProgram request.now (policy_view policy.now)) }
     ensures fault { IfErr result (λ e. (e ≡ RunError.Memory) ⊎ ((e ≡ RunError.OutOfSteps)
-        × PassesBound request.now (policy_view policy.now))) }
+        × Asks (PassesBound request.now) request.now (policy_view policy.now))) }
 {
     if !sides_match(policy, request) {
         return Ok(false);

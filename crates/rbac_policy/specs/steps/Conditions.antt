@@ -1,5 +1,5 @@
 -- Why conditions are not admitted, step by step.
-use Rattle.std.specs.Prelude.{◌≡◌, ◌≢◌, ◌⊎◌, ◌<◌, ℕ, List, Option, None, length, Contains, IsSomeAnd, MatchOption}
+use Rattle.std.specs.Prelude.{◌≡◌, ◌≢◌, ◌<◌, ℕ, List, Option, None, IsSomeAnd, MatchOption}
 use Rattle.attributes.specs.Limits.{LimitsValue}
 use Rattle.cel_value.specs.Types.{ValueType, bool_type}
 use Rattle.cel_tree.specs.Checked.{CelChecked}
@@ -8,18 +8,12 @@ use Rattle.cel_types.specs.Typing.{IsTyped}
 use Rattle.cel_types.specs.TypingFaults.{CheckFault}
 use Rattle.proto_wire.specs.Maps.{Entry, text}
 use Rattle.proto_wire.specs.declared.refusal.Refusal.{Refusal}
-use Rattle.proto_wire.specs.declared.refusal.Refusal.TheVariants.{CodeRefused, NotBool, TooCostly}
-use Rattle.stack_machine.specs.Instructions.{Instruction}
-use Rattle.stack_machine.specs.Typable.{Forward}
+use Rattle.proto_wire.specs.declared.refusal.Refusal.TheVariants.{NotBool, TooCostly}
 use Rattle.rbac_policy.specs.Condition.{IsProgramOf, Program}
 use Rattle.rbac_policy.specs.Enforced.{EnforcesPolicy}
-use Rattle.rbac_policy.specs.Fault.{PolicyHas, SomeCost}
+use Rattle.rbac_policy.specs.Fault.{SomeCost}
 use Rattle.rbac_policy.specs.Filter.{Policy}
 use Rattle.rbac_policy.specs.Message.{IsCondition, IsPolicy}
-
--- the code is too long, or one pass finds no table of it
-abbrev pub IsRefused : List Instruction → Type 0
-IsRefused code = (65535 < length code) ⊎ (Forward code bool_type → ⊥)
 
 -- why a condition is not admitted with so many steps left
 pub data ExpressionFault (condition : CelChecked) (limits : LimitsValue) (left : ℕ) (e : Refusal)
@@ -29,8 +23,6 @@ pub data ExpressionFault (condition : CelChecked) (limits : LimitsValue) (left :
       → ExpressionFault condition limits left e
   too_costly : (program : Program) → IsProgramOf limits condition program → left < program.bound
       → e ≡ TooCostly → ExpressionFault condition limits left e
-  refused : (program : Program) → IsProgramOf limits condition program → IsRefused program.code
-      → e ≡ CodeRefused → ExpressionFault condition limits left e
 
 -- the same of a condition's payloads, which may not read
 pub data ConditionFault (parts : List (List ℕ)) (limits : LimitsValue) (left : ℕ) (e : Refusal)
@@ -49,11 +41,8 @@ abbrev pub IsEnforced : LimitsValue → List (List ℕ) → Policy Program → T
 IsEnforced limits parts enforced =
     (policy : Policy CelChecked) × IsPolicy parts policy × EnforcesPolicy limits policy enforced
 
--- why policies are not admitted with so many steps left, for what their conditions cost or compile to
+-- why policies are not admitted with so many steps left, for what their conditions cost
 pub data ConditionsFault (policies : List (Entry text)) (limits : LimitsValue) (left : ℕ) (e : Refusal)
     : Type 0 where
   cost_too_much : (cost : ℕ) → SomeCost limits policies cost → left < cost → e ≡ TooCostly
       → ConditionsFault policies limits left e
-  some_refused : (policy : Entry text) (condition : CelChecked) (program : Program)
-      → Contains policies policy → PolicyHas policy.1 condition → IsProgramOf limits condition program
-      → IsRefused program.code → e ≡ CodeRefused → ConditionsFault policies limits left e

@@ -24,15 +24,22 @@ IsFirst r i [] first = first ≡ None
 IsFirst r i (p ∷ ps) first =
     (Tells r p true × (first ≡ Some i)) ⊎ (Tells r p false × IsFirst r (i + 1) ps first)
 
--- the run of a condition that is asked for passes its bound
-abbrev pub PassesBound : RequestValue → Policy Program → Type 0
-PassesBound r p = (sides_match r p ≡ true)
-    × IsSomeAnd p.condition (λ program. RunsOut program.code r program.bound)
+-- the policy's sides match, and this holds of its condition's program
+abbrev pub Asks : (Program → Type 0) → RequestValue → Policy Program → Type 0
+Asks P r p = (sides_match r p ≡ true) × IsSomeAnd p.condition P
 
 -- the same of the first policy that does not tell that it does not match
-abbrev pub SomePasses : RequestValue → List (Policy Program) → Type 0
-SomePasses r [] = ⊥
-SomePasses r (p ∷ ps) = PassesBound r p ⊎ (Tells r p false × SomePasses r ps)
+abbrev pub SomeAsks : (Program → Type 0) → RequestValue → List (Policy Program) → Type 0
+SomeAsks P r [] = ⊥
+SomeAsks P r (p ∷ ps) = Asks P r p ⊎ (Tells r p false × SomeAsks P r ps)
+
+-- the program's run passes its bound
+abbrev pub PassesBound : RequestValue → Program → Type 0
+PassesBound r program = RunsOut program.code r program.bound
+
+-- whatever the program
+abbrev pub AnyProgram : Program → Type 0
+AnyProgram program = Unit {0}
 
 -- none of the policies has a condition
 abbrev pub HaveNoConditions : List (Policy Program) → Type 0

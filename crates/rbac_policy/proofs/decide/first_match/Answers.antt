@@ -2,7 +2,8 @@ use Rattle.std.proofs.Common.{◌≡◌, false, true, inl, inr, map, subst}
 use Rattle.std.proofs.lemmas.List.{take_all}
 use Rattle.std.proofs.lemmas.Result.{err_from_is_err_and}
 use Rattle.rbac_policy.specs.Named.{policy_view}
-use Rattle.rbac_policy.proofs.FirstRun.{Failed, next_failed, none_first, this_first, this_has_none, this_passes}
+use Rattle.rbac_policy.specs.steps.Runs.{AnyProgram, PassesBound}
+use Rattle.rbac_policy.proofs.FirstRun.{Failed, next_failed, none_first, this_first, this_asks, this_has_none}
 use Rattle.rbac_policy.proofs.decide.first_match.Goals as goal
 
 pub loop-number-init : goal.loop-number-init
@@ -13,12 +14,18 @@ returns-in_err-policy_matches-clause-always c = λ none.
     let clash : false ≡ true = c.in_err-policy_matches.ensures.always
     (this_has_none c.args.request.now c.args.policies.now c.loop-number.number c.index-policies-number.result c.loop-number-test.true c.index-policies-number.is none) in absurd cc
 
+pub returns-in_err-policy_matches-clause-asked : goal.returns-in_err-policy_matches-clause-asked
+returns-in_err-policy_matches-clause-asked c =
+    let p = err_from_is_err_and c.from_residual.result c.from_residual.ensures.1 in
+    rw p.1 (this_asks c.args.request.now c.args.policies.now c.loop-number.number c.index-policies-number.result c.loop-number-test.true c.index-policies-number.is
+    AnyProgram c.loop-number.invariant c.in_err-policy_matches.ensures.asked)
+
 pub returns-in_err-policy_matches-clause-fault : goal.returns-in_err-policy_matches-clause-fault
 returns-in_err-policy_matches-clause-fault c =
     let p = err_from_is_err_and c.from_residual.result c.from_residual.ensures.1 in
     rw (p.1, p.2) (elim c.in_err-policy_matches.ensures.fault [
       | inl memory ↦ inl memory
-      | inr (out, passes) ↦ inr (out, this_passes c.args.request.now c.args.policies.now c.loop-number.number c.index-policies-number.result c.loop-number-test.true c.index-policies-number.is c.loop-number.invariant passes)
+      | inr (out, passes) ↦ inr (out, this_asks c.args.request.now c.args.policies.now c.loop-number.number c.index-policies-number.result c.loop-number-test.true c.index-policies-number.is (PassesBound c.args.request.now) c.loop-number.invariant passes)
     ])
 
 pub returns-then-branch-clause-found : goal.returns-then-branch-clause-found

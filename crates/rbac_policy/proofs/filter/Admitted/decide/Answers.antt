@@ -3,8 +3,8 @@ use Rattle.std.proofs.lemmas.Result.{err_from_is_err_and}
 use Rattle.rbac_policy.specs.Admitted.{filter_view, limits_view}
 use Rattle.rbac_policy.specs.Named.{policy_view}
 use Rattle.rbac_policy.specs.steps.Action.{allows}
-use Rattle.rbac_policy.specs.steps.Runs.{IsFirst}
-use Rattle.rbac_policy.proofs.Deciding.{asked_is_told, found_verdict, have_none, none_passes, passing_asked}
+use Rattle.rbac_policy.specs.steps.Runs.{AnyProgram, IsFirst, PassesBound}
+use Rattle.rbac_policy.proofs.Deciding.{asked_is_told, asking, found_verdict, have_none, none_passes}
 use Rattle.rbac_policy.proofs.FirstRun.{memory_is_other}
 use Rattle.rbac_policy.proofs.filter.Admitted.decide.Goals as goal
 
@@ -24,6 +24,15 @@ returns-in_err-matched-clause-always c =
     let given : c.named_policies.result.now ≡ rules.policies.items = c.named_policies.ensures in
     λ none. let clash : false ≡ true = c.in_err-matched.ensures.always (rw given (have_none (filter_view c.args.self.now) rules.policies.items rules.ordered refl none)) in absurd cc
 
+pub returns-in_err-matched-clause-unasked : goal.returns-in_err-matched-clause-unasked
+returns-in_err-matched-clause-unasked c =
+    let rules = c.args.self.now.rules in
+    let given : c.named_policies.result.now ≡ rules.policies.items = c.named_policies.ensures in
+    λ filter admitted.
+    let it = asking (filter_view c.args.self.now) rules.policies.items rules.ordered refl
+    (limits_view c.args.self.now) c.args.request.now c.request_is_sound.ensures filter admitted AnyProgram (rw given at c.in_err-matched.ensures.asked) in
+    inl (it.0, it.1, tt)
+
 pub returns-in_err-matched-clause-fault : goal.returns-in_err-matched-clause-fault
 returns-in_err-matched-clause-fault c =
     let rules = c.args.self.now.rules in
@@ -33,8 +42,8 @@ returns-in_err-matched-clause-fault c =
       | inl memory ↦ inl memory
       | inr (out, passes) ↦ inr (
         out,
-        λ filter admitted. passing_asked (filter_view c.args.self.now) rules.policies.items rules.ordered refl
-            (limits_view c.args.self.now) c.args.request.now c.request_is_sound.ensures filter admitted passes,
+        λ filter admitted. asking (filter_view c.args.self.now) rules.policies.items rules.ordered refl
+            (limits_view c.args.self.now) c.args.request.now c.request_is_sound.ensures filter admitted (PassesBound c.args.request.now) passes,
       )
     ])
 
