@@ -1,5 +1,6 @@
--- Which outcome one head has under one policy file.
+-- Which outcome a policy file has, and one head under it.
 use Rattle.std.specs.Prelude.{◌≡◌, ◌⊎◌, ⊤, true, false, ℕ, Bool, List, Option, codes}
+use Rattle.std.specs.FinMap.{len}
 use Rattle.attributes.specs.Conn.{Facts, only_scheme}
 use Rattle.attributes.specs.Limits.{largest}
 use Rattle.attributes.specs.Request.{RequestValue}
@@ -40,8 +41,18 @@ abbrev pub TakesTooLong : Filter → RequestValue → Type 0
 TakesTooLong filter request =
     (is_met is_too_long : Condition → Bool) → RunsOut is_met is_too_long request filter
 
+-- the outcome is what the policy gives by itself
+abbrev pub IsCheckOf : List ℕ → ℕ → Outcome → Type 0
+IsCheckOf policy budget (outcomes.Admitted policies bound) = (filter : Filter)
+    × Admits policy largest budget filter × (policies ≡ len filter.policies) × (bound ≡ 0)
+IsCheckOf policy budget (outcomes.Refused reason) =
+    (reason ≡ Memory) ⊎ Fault reason policy largest budget
+IsCheckOf policy budget outcomes.Memory = ⊤
+IsCheckOf policy budget _ = ⊥
+
 -- the outcome is what the policy, the facts and the bytes give
 abbrev pub IsOutcomeOf : List ℕ → ℕ → Facts → List ℕ → Outcome → Type 0
+IsOutcomeOf policy budget facts bytes (outcomes.Admitted policies bound) = ⊥
 IsOutcomeOf policy budget facts bytes (outcomes.Allowed matched) =
     (judged : IsJudged policy budget facts bytes) × Decides judged.filter judged.request true matched
 IsOutcomeOf policy budget facts bytes (outcomes.Denied matched) =

@@ -1,20 +1,21 @@
-//! Judging one request head by one policy file.
-ghost use Rattle.std.specs.Prelude.{◌≡◌, ◌≢◌, ◌⊎◌, ℕ, List, Err, IfErr, IfOk, IfSome, OnErr};
+//! Checking a policy file, and judging a request head by it.
+ghost use Rattle.std.specs.Prelude.{◌≡◌, ◌≢◌, ◌⊎◌, ◌++◌, ◌∷◌, [], ℕ, List, Err, IfErr, IfOk, IfSome, OnErr, codes};
 ghost use Rattle.std.specs.IoError.{error_kind};
 ghost use Rattle.std.specs.Io.KnownBytes.{Appends};
 ghost use Rattle.attributes.specs.Limits.{largest};
 ghost use Rattle.attributes.specs.Conn.{Facts, conn_view};
 ghost use Rattle.http_front.specs.Asks.{Asks};
-ghost use Rattle.rbacd.specs.Judging.{IsOutcomeOf, IsOutcomeUnder, plain_facts};
+ghost use Rattle.rbacd.specs.Judging.{IsCheckOf, IsOutcomeOf, IsOutcomeUnder, plain_facts};
 ghost use Rattle.rbac_policy.specs.Admitted.{filter_view};
 ghost use Rattle.rbac_policy.specs.Admission.{Admissible};
 ghost use Rattle.rbac_policy.specs.Verdict.{IsUnconditional};
-ghost use Rattle.rbacd.specs.Outcome.{line_of};
+ghost use Rattle.rbacd.specs.Outcome.{IsPrintedFor, line_of, plain};
+ghost use Rattle.rbacd.specs.declared.outcome.Report.{Report};
 ghost use Rattle.rbacd.specs.Output.{BreaksOff};
 ghost use Rattle.rbacd.specs.steps.Reading.{IsFound};
 
 use crate::input::read_ask;
-use crate::outcome::Outcome;
+use crate::outcome::{Outcome, Report};
 use crate::output::write_whole;
 use attributes::{Conn, Limits, Request};
 use http_front::{Ask, HeadFault};
@@ -38,36 +39,89 @@ pub fn judge<R: Read + Drop, W: Write>(
     ensures outcome { IfOk result (λ outcome. IfSome (R.remaining input) (λ bytes.
         IsOutcomeOf policy.now budget (conn_view conn) bytes outcome)) }
     ensures line { IfOk result (λ outcome. Appends (W.contents out.old) (W.contents out.new)
-        (line_of outcome)) }
+        (line_of (plain outcome))) }
     ensures part { OnErr result ((out.new ≡ out.old) ⊎ ((outcome : Outcome)
-        × BreaksOff (W.contents out.old) (W.contents out.new) (line_of outcome))) }
+        × BreaksOff (W.contents out.old) (W.contents out.new) (line_of (plain outcome)))) }
 {
     let outcome = outcome_of(alloc, policy, budget, conn, input)?;
-    print_outcome(alloc, outcome, out)
+    print_plain(alloc, outcome, out)
 }
 
-/// Prints the line of the outcome, or that of want of memory; answers the one that is printed.
-pub(crate) fn print_outcome<W: Write>(
+/// Checks the policy, an HTTP RBAC filter whose conditions may cost `budget`, and prints the outcome's
+/// line. An error is one of the output, which may hold the beginning of the line.
+pub fn check<W: Write>(
     alloc: Global,
-    outcome: Outcome,
+    policy: &[u8],
+    budget: u64,
     out: &mut W,
 ) -> io::Result<Outcome>
+    ensures outcome { IfOk result (IsCheckOf policy.now budget) }
+    ensures line { IfOk result (λ outcome. Appends (W.contents out.old) (W.contents out.new)
+        (line_of (plain outcome))) }
+    ensures part { OnErr result ((outcome : Outcome)
+        × BreaksOff (W.contents out.old) (W.contents out.new) (line_of (plain outcome))) }
+{
+    print_plain(alloc, check_of(alloc, policy, budget), out)
+}
+
+/// What `check` prints.
+pub(crate) fn check_of(alloc: Global, policy: &[u8], budget: u64) -> Outcome
+    ensures { IsCheckOf policy.now budget result }
+{
+    match admit(alloc, policy, &Limits::largest(), budget) {
+        Ok(admitted) => Outcome::Admitted {
+            policies: admitted.policies(),
+            bound: admitted.bound(),
+        },
+        Err(refusal) => Outcome::Refused(refusal),
+    }
+}
+
+/// Prints the outcome in words, or want of memory; answers the one that is printed.
+fn print_plain<W: Write>(alloc: Global, outcome: Outcome, out: &mut W) -> io::Result<Outcome>
     ensures same { IfOk result (λ printed. (printed ≡ outcome) ⊎ (printed ≡ Outcome.Memory)) }
     ensures line { IfOk result (λ printed. Appends (W.contents out.old) (W.contents out.new)
-        (line_of printed)) }
+        (line_of (plain printed))) }
     ensures part { OnErr result ((printed : Outcome)
-        × ((printed ≡ outcome) ⊎ (printed ≡ Outcome.Memory))
+        × BreaksOff (W.contents out.old) (W.contents out.new) (line_of (plain printed))) }
+{
+    let printed = print_report(alloc, Report::plain(outcome), out)?;
+    Ok(printed.outcome)
+}
+
+/// Prints the line of the report, or that of want of memory; answers the one that is printed.
+pub(crate) fn print_report<W: Write>(
+    alloc: Global,
+    report: Report,
+    out: &mut W,
+) -> io::Result<Report>
+    ensures same { IfOk result (IsPrintedFor report) }
+    ensures line { IfOk result (λ printed. Appends (W.contents out.old) (W.contents out.new)
+        (line_of printed)) }
+    ensures part { OnErr result ((printed : Report) × IsPrintedFor report printed
         × BreaksOff (W.contents out.old) (W.contents out.new) (line_of printed)) }
 {
-    match outcome.line(alloc) {
+    match report.line(alloc) {
         Ok(line) => {
             write_whole(out, line.as_bytes())?;
-            Ok(outcome)
+            Ok(report)
         }
         Err(AllocError) => {
-            write_whole(out, b"memory\n")?;
-            Ok(Outcome::Memory)
+            let report = report.without_memory();
+            write_whole(out, memory_line(report.json))?;
+            Ok(report)
         }
+    }
+}
+
+/// The line of want of memory.
+pub(crate) fn memory_line(json: bool) -> &'static [u8]
+    ensures { result.now ≡ line_of (record { outcome = Outcome.Memory; json = json }) }
+{
+    if json {
+        b"{\"memory\":true}\n"
+    } else {
+        b"memory\n"
     }
 }
 
