@@ -1,6 +1,13 @@
+pub mod Besides
+pub mod FewLocals
+pub mod Programs
+pub mod Enforcing
+pub mod Spending
 pub mod Totality
 pub mod Texts
 pub mod First
+pub mod FirstRun
+pub mod Deciding
 pub mod Uniqueness
 pub mod OneVerdict
 pub mod StandardFacts

@@ -6,7 +6,7 @@ use Rattle.std.specs.declared.cmp.Ordering.TheVariants.{Less, Equal, Greater}
 use Rattle.std.specs.Cmp.Lexicographic.{nat_list_cmp_total}
 use Rattle.std.specs.FinMap.{slice_cmp-IsAntisymmetric, nat_cmp-IsAntisymmetric}
 use Rattle.attributes.specs.Request.{RequestValue}
-use Rattle.rbac_policy.specs.Filter.{Condition, Filter}
+use Rattle.rbac_policy.specs.Filter.{Filter}
 use Rattle.attributes.specs.Headers.{name_cmp}
 use Rattle.rbac_policy.specs.Verdict.{SomeMatches, IsLeastMatch, number_of, IsVerdict}
 
@@ -30,7 +30,7 @@ name_unique a b e f =
     ap is_lt (sym (nat_list_cmp_total.antisymm b a)) ∙ f in
     slice_cmp-IsAntisymmetric nat_cmp-IsAntisymmetric a b (equal_by (name_cmp a b) e back)
 
-module _ (is_met : Condition → Bool) (r : RequestValue) (filter : Filter) where
+module _ {C : Type 0} (is_met : C → Bool) (r : RequestValue) (filter : Filter C) where
   -- the number that is reported, or none
   abbrev Reported : Option ℕ → Type 0
   Reported m = MatchOption m (SomeMatches is_met r filter → ⊥)

@@ -19,7 +19,8 @@ use Rattle.rbac_match.specs.Formula.{any, end, formula}
 use Rattle.rbac_match.specs.Rules.{IsRule}
 use Rattle.rbac_match.specs.declared.rule.Side.{Side}
 use Rattle.rbac_match.specs.declared.rule.Side.TheVariants.{Permission, Principal}
-use Rattle.rbac_policy.specs.Filter.{Condition, Filter, Policy}
+use Rattle.cel_tree.specs.Checked.{CelChecked}
+use Rattle.rbac_policy.specs.Filter.{Filter, Policy}
 use Rattle.rbac_policy.specs.Message.{AreFilterRules, IsFilter, IsPolicy, rule_depth}
 use Rattle.rbac_policy.specs.Verdict.{IsVerdict, Matches, policy_matches}
 use Rattle.rbac_policy.specs.declared.filter.Action.TheVariants.{Allow}
@@ -51,13 +52,13 @@ filter_bytes = 10 ∷ 15 ∷ rules_bytes
 abbrev field : ℕ → Payload → Wire
 field n p = record { number = n; payload = p }
 
-abbrev pub policy : Policy
+abbrev pub policy : Policy CelChecked
 policy = record { permissions = formula any end; principals = formula any end; condition = None }
 
-abbrev policies : List (List ℕ × Policy)
+abbrev policies : List (List ℕ × Policy CelChecked)
 policies = (codes "p", policy) ∷ []
 
-abbrev pub filter : Filter
+abbrev pub filter : Filter CelChecked
 filter = record { action = Allow; policies = from_entries policies }
 
 -- ---- one field
@@ -144,8 +145,8 @@ is_policy : IsPolicy (policy_bytes ∷ []) policy
 is_policy = record {
   fs = field 1 (len_of rule_bytes) ∷ field 2 (len_of rule_bytes) ∷ [];
   message = (merged policy_bytes (field 1 (len_of rule_bytes) ∷ field 2 (len_of rule_bytes) ∷ []) policy_fields, refl);
-  lacks = (refl, refl);
-  unconditional = refl;
+  unchecked = refl;
+  condition = refl;
   sides = (λ e. cc, λ e. cc);
   permissions = (is_rule Permission, tt);
   principals = (is_rule Principal, tt);
@@ -206,7 +207,7 @@ policy_at name = get-from_entries nat_list_cmp_total policies name
 one_name : keys filter.policies ≡ codes "p" ∷ []
 one_name = ap (map (λ e. e.0)) (entries_from_entries name_cmp nat_list_cmp_total policies tt)
 
-module _ (is_met : Condition → Bool) (r : RequestValue) where
+module _ (is_met : CelChecked → Bool) (r : RequestValue) where
   matches : Matches is_met r filter (codes "p")
   matches = rw (policy_at (codes "p")) refl
 

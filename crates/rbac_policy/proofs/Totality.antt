@@ -1,7 +1,9 @@
 -- The bytes of a filter are its message or have a fault, and never both.
-use Rattle.std.proofs.Common.{◌≡◌, ℕ, ◌<◌, ◌≤◌, ◌⊎◌, inl, inr, List, [], ◌∷◌, Contains, None, refl, subst, arith}
+use Rattle.std.proofs.Common.{◌≡◌, ◌≢◌, ℕ, ◌<◌, ◌≤◌, ◌⊎◌, inl, inr, List, [], ◌∷◌, Contains, Option, Some, None, MatchOption, IsSomeAnd, refl, sym, ap, subst, arith, ◌∙◌}
 use Rattle.std.proofs.lemmas.Bool.{cases_lt}
-use Rattle.std.specs.FinMap.{len, entries}
+use Rattle.std.specs.FinMap.{FinMap, from_entries, len, entries, entries_sorted, get, get-entries}
+use Rattle.attributes.specs.Headers.{name_cmp}
+use Rattle.attributes.specs.Limits.{LimitsValue}
 use Rattle.proto_wire.specs.Fields.{Wire}
 use Rattle.proto_wire.specs.Values.{payloads}
 use Rattle.proto_wire.specs.Merge.{Merges}
@@ -9,38 +11,48 @@ use Rattle.proto_wire.specs.Messages.{IsMessage, MessageFault}
 use Rattle.proto_wire.proofs.Unique.{merges_unique}
 use Rattle.proto_wire.proofs.Messages.{message_total, message_disjoint}
 use Rattle.proto_wire.specs.declared.refusal.Refusal.{Refusal}
-use Rattle.proto_wire.specs.declared.refusal.Refusal.TheVariants.{Missing, OutOfRange, Unsupported, TooLarge}
+use Rattle.proto_wire.specs.declared.refusal.Refusal.TheVariants.{BothConditions, Missing, NotBool, OutOfRange, TooCostly, TooLarge, Unsupported}
+use Rattle.cel_value.specs.Types.{ValueType, bool_type, bytes_type, int_type, list_type, map_type, text_type, uint_type}
+use Rattle.cel_tree.specs.Checked.{CelChecked}
+use Rattle.cel_tree.specs.Message.{IsChecked, CheckedFault}
+use Rattle.cel_tree.proofs.CheckedLaws.{checked_disjoint, checked_total, checked_unique}
+use Rattle.cel_types.specs.Elaborated.{TypedTree, IsElaborated, kind}
+use Rattle.cel_types.specs.Typing.{IsTyped, maps_of}
+use Rattle.cel_types.specs.TypingFaults.{CheckFault}
+use Rattle.cel_types.proofs.CheckLaws.{check-disjoint, check-total}
+use Rattle.cel_types.proofs.Elaborating.{elaborated}
+use Rattle.cel_types.proofs.OneType.{one-type}
+use Rattle.cost_bound.specs.Costs.{cost_of}
+use Rattle.cel_compile.specs.Codes.{code_of}
 use Rattle.rbac_match.specs.Rules.{IsRule, AreRules, RuleFault}
 use Rattle.rbac_match.specs.Formula.{Formulas}
 use Rattle.rbac_match.specs.declared.rule.Side.{Side}
 use Rattle.rbac_match.specs.declared.rule.Side.TheVariants.{Permission, Principal}
 use Rattle.rbac_match.proofs.Basics.{nil_or_not, same_or_not}
 use Rattle.rbac_match.proofs.RuleMessages.{rules_total, rules_disjoint}
+use Rattle.rbac_policy.specs.Admission.{Admissible, Admits, Fault, in_message, too_costly}
+use Rattle.rbac_policy.specs.Condition.{IsProgramOf, Program}
+use Rattle.rbac_policy.specs.Enforced.{Enforces, EnforcesPolicy, bounds_of, total_bound}
 use Rattle.rbac_policy.specs.Filter.{Policy, Filter}
-use Rattle.rbac_policy.specs.Keys.{filter_keys, rules_keys, policy_keys}
-use Rattle.rbac_policy.specs.Message.{rule_depth, most_policies, LacksConditions, HasBothSides, IsPolicy, action_in, action_number, AreFilterRules, IsFilter}
-use Rattle.proto_wire.specs.Maps.{Entry, text, AreEntries, map_of, SomeValueFault}
+use Rattle.rbac_policy.specs.Keys.{checked_condition_field, condition_field, filter_keys, rules_field, rules_keys, policies_field, policy_keys}
+use Rattle.rbac_policy.specs.Message.{rule_depth, most_policies, HasBothSides, IsCondition, IsPolicy, action_in, action_number, AreFilterRules, IsFilter}
+use Rattle.proto_wire.specs.Maps.{Entry, text, AreEntries, AreValues, Readable, map_of, SomeValueFault}
 use Rattle.proto_wire.proofs.MapLaws.{entries_total, entries_disjoint, entries_readable, readable_unique}
-use Rattle.proto_wire.proofs.MapValues.{values_total, values_disjoint}
-use Rattle.rbac_policy.specs.Fault.{PolicyFault, policy_fields, lacks_side, conditional, in_permission, in_principal, RulesFault, bad_action, audited, in_entry, in_faulty_entry, too_many, in_policy, FilterFault, filter_fields, no_rules, rules_fields, in_rules}
+use Rattle.proto_wire.proofs.MapValues.{held_are_values, values_total, values_disjoint}
+use Rattle.rbac_policy.specs.Fault.{PolicyFault, PolicyHas, SomeCost, HoldsPolicies, policy_fields, lacks_side, both_conditions, unchecked, unreadable, untyped, not_bool, in_permission, in_principal, RulesFault, bad_action, audited, in_entry, in_faulty_entry, too_many, in_policy, FilterFault, filter_fields, no_rules, rules_fields, in_rules}
 use Rattle.rbac_policy.specs.declared.filter.Action.{Action}
 use Rattle.rbac_policy.specs.declared.filter.Action.TheVariants.{Allow, Deny, Log}
+use Rattle.rbac_policy.specs.steps.Conditions.{HasProgram, IsEnforced}
+use Rattle.rbac_policy.proofs.Besides.{Beside, beside_map, in_a_row}
+use Rattle.rbac_policy.proofs.Enforcing.{all_cost, apart, cost_most, enforced_beside, filter_enforced}
+use Rattle.rbac_policy.proofs.Programs.{nothing_read}
 
 -- payloads are a policy or have a fault
 ruled : (side : Side) (fs : List Wire) (k : ℕ)
     → ((gs : Formulas) × AreRules (IsRule side rule_depth) (payloads k fs) gs) ⊎ ((child : List ℕ) × Contains (payloads k fs) child × (e : Refusal) × RuleFault side rule_depth (child ∷ []) e)
 ruled side fs k = rules_total side rule_depth (payloads k fs)
 
--- fields have a condition or none, and both sides or not
-conditions_total : (fs : List Wire) → LacksConditions fs ⊎ ¬ (LacksConditions fs)
-conditions_total fs = elim (nil_or_not (payloads 3 fs)) [
-  | inr there ↦ inr (λ lacks. there lacks.0)
-  | inl plain ↦ elim (nil_or_not (payloads 4 fs)) [
-    | inr there ↦ inr (λ lacks. there lacks.1)
-    | inl none ↦ inl (plain, none)
-  ]
-]
-
+-- fields have both sides or not
 sides_total : (fs : List Wire) → HasBothSides fs ⊎ ¬ (HasBothSides fs)
 sides_total fs = elim (nil_or_not (payloads 1 fs)) [
   | inl none ↦ inr (λ sides. sides.0 none)
@@ -50,55 +62,145 @@ sides_total fs = elim (nil_or_not (payloads 1 fs)) [
   ]
 ]
 
-fields_total : (parts : List (List ℕ)) (fs : List Wire) → IsMessage policy_keys parts fs
-    → LacksConditions fs → HasBothSides fs
-    → ((policy : Policy) × IsPolicy parts policy) ⊎ ((e : Refusal) × PolicyFault parts e)
-fields_total parts fs message plain sides = elim (ruled Permission fs 1) [
-  | inr bad ↦ inr (bad.2, in_permission fs message.0 (bad.0, bad.1, bad.3))
-  | inl permissions ↦ elim (ruled Principal fs 2) [
-    | inr bad ↦ inr (bad.2, in_principal fs message.0 (bad.0, bad.1, bad.3))
-    | inl principals ↦ inl (
-      record { permissions = permissions.0; principals = principals.0; condition = None },
-      record {
-        fs = fs;
-        message = message;
-        lacks = plain;
-        unconditional = refl;
-        sides = sides;
-        permissions = permissions.1;
-        principals = principals.1;
-      },
-    )
-  ]
-]
+-- a type is bool or not
+bool_or_not : (t : ValueType) → (t ≡ bool_type) ⊎ (t ≢ bool_type)
+bool_or_not bool_type = inl refl
+bool_or_not int_type = inr (λ e. cc)
+bool_or_not uint_type = inr (λ e. cc)
+bool_or_not text_type = inr (λ e. cc)
+bool_or_not bytes_type = inr (λ e. cc)
+bool_or_not (list_type s) = inr (λ e. cc)
+bool_or_not (map_type k s) = inr (λ e. cc)
 
-policy_total : (parts : List (List ℕ))
-    → ((policy : Policy) × IsPolicy parts policy) ⊎ ((e : Refusal) × PolicyFault parts e)
-policy_total parts = elim (message_total policy_keys parts) [
-  | inr bad ↦ inr (bad.0, policy_fields bad.1)
-  | inl message ↦ elim (conditions_total message.0) [
-    | inr bad ↦ inr (Unsupported, conditional message.0 message.1.0 bad refl)
-    | inl plain ↦ elim (sides_total message.0) [
-      | inr bad ↦ inr (Missing, lacks_side message.0 message.1 bad refl)
-      | inl sides ↦ fields_total parts message.0 message.1 plain sides
+module _ (limits : LimitsValue) where
+  -- a condition of type bool has a program
+  program_there : (c : CelChecked) → IsTyped c bool_type → (program : Program) × IsProgramOf limits c program
+  program_there c typed =
+      let e = elaborated (maps_of c) [] c.tree bool_type typed.types in (
+        record { code = code_of 0 0 e.0; bound = cost_of e.0 limits [] },
+        record {
+          e = e.0;
+          elaborated = record { typed = subst (λ u. IsTyped c u) (sym e.2) typed; elaborates = e.1 };
+          has_type = e.2;
+          code = refl;
+          bound = refl;
+        },
+      )
+
+  -- the condition in the payloads has a program, or has a fault, or there is none
+  condition_total : (parts : List (List ℕ)) (fs : List Wire) → Merges parts fs
+      → ((condition : Option CelChecked) × (program : Option Program) × IsCondition (payloads checked_condition_field fs) condition
+      × MatchOption condition (program ≡ None) (λ c. IsSomeAnd program (IsProgramOf limits c)))
+      ⊎ ((e : Refusal) × PolicyFault parts e)
+  condition_total parts fs merges = elim (nil_or_not (payloads checked_condition_field fs)) [
+    | inl none ↦ inl (None, None, none, refl)
+    | inr there ↦ elim (checked_total (payloads checked_condition_field fs)) [
+      | inr bad ↦ inr (bad.0, unreadable fs merges there bad.1)
+      | inl reads ↦
+          let has : PolicyHas parts reads.0 = record { fs = fs; merges = merges; reads = reads.1 } in
+          elim (check-total reads.0) [
+            | inr bad ↦ inr (bad.0, untyped reads.0 has bad.1)
+            | inl typed ↦ elim (bool_or_not typed.0) [
+              | inr other ↦ inr (NotBool, not_bool reads.0 typed.0 has typed.1 other refl)
+              | inl is ↦
+                  let program = program_there reads.0 (subst (IsTyped reads.0) is typed.1) in
+                  inl (Some reads.0, Some program.0, (there, reads.1), program.1)
+            ]
+          ]
     ]
   ]
-]
 
--- not both
-module _ (parts : List (List ℕ)) (policy : Policy) (is : IsPolicy parts policy) where
-  -- the parts merge to the policy's fields alone
-  moved : (P : List Wire → Type 0) (gs : List Wire) → Merges parts gs → P gs → P is.fs
-  moved P gs also h = subst P (merges_unique parts gs is.fs also is.message.0) h
+  fields_total : (parts : List (List ℕ)) (fs : List Wire) → IsMessage policy_keys parts fs
+      → payloads condition_field fs ≡ [] → HasBothSides fs
+      → ((enforced : Policy Program) × IsEnforced limits parts enforced) ⊎ ((e : Refusal) × PolicyFault parts e)
+  fields_total parts fs message plain sides = elim (ruled Permission fs 1) [
+    | inr bad ↦ inr (bad.2, in_permission fs message.0 (bad.0, bad.1, bad.3))
+    | inl permissions ↦ elim (ruled Principal fs 2) [
+      | inr bad ↦ inr (bad.2, in_principal fs message.0 (bad.0, bad.1, bad.3))
+      | inl principals ↦ elim (condition_total parts fs message.0) [
+        | inr bad ↦ inr bad
+        | inl (condition, program, reads, is) ↦ inl (
+          record { permissions = permissions.0; principals = principals.0; condition = program },
+          (
+            record { permissions = permissions.0; principals = principals.0; condition = condition },
+            record {
+              fs = fs;
+              message = message;
+              unchecked = plain;
+              condition = reads;
+              sides = sides;
+              permissions = permissions.1;
+              principals = principals.1;
+            },
+            record { permissions = refl; principals = refl; condition = is },
+          ),
+        )
+      ]
+    ]
+  ]
 
-  policy_disjoint : (e : Refusal) → PolicyFault parts e → ⊥
-  policy_disjoint e (policy_fields bad) = message_disjoint policy_keys parts is.fs e is.message bad
-  policy_disjoint e (lacks_side gs also bad at) = moved (λ xs. ¬ (HasBothSides xs)) gs also.0 bad is.sides
-  policy_disjoint e (conditional gs also bad at) = moved (λ xs. ¬ (LacksConditions xs)) gs also bad is.lacks
-  policy_disjoint e (in_permission gs also (child, here, bad)) =
-      rules_disjoint Permission rule_depth (payloads 1 is.fs) policy.permissions child e is.permissions (moved (λ xs. Contains (payloads 1 xs) child) gs also here) bad
-  policy_disjoint e (in_principal gs also (child, here, bad)) =
-      rules_disjoint Principal rule_depth (payloads 2 is.fs) policy.principals child e is.principals (moved (λ xs. Contains (payloads 2 xs) child) gs also here) bad
+  policy_total : (parts : List (List ℕ))
+      → ((enforced : Policy Program) × IsEnforced limits parts enforced) ⊎ ((e : Refusal) × PolicyFault parts e)
+  policy_total parts = elim (message_total policy_keys parts) [
+    | inr bad ↦ inr (bad.0, policy_fields bad.1)
+    | inl message ↦ elim (nil_or_not (payloads condition_field message.0)) [
+      | inr there ↦ elim (nil_or_not (payloads checked_condition_field message.0)) [
+        | inl none ↦ inr (Unsupported, unchecked message.0 message.1.0 there none refl)
+        | inr also ↦ inr (BothConditions, both_conditions message.0 message.1.0 there also refl)
+      ]
+      | inl plain ↦ elim (sides_total message.0) [
+        | inr bad ↦ inr (Missing, lacks_side message.0 message.1 bad refl)
+        | inl sides ↦ fields_total parts message.0 message.1 plain sides
+      ]
+    ]
+  ]
+
+  -- not both
+  module _ (parts : List (List ℕ)) (enforced : Policy Program) (whole : IsEnforced limits parts enforced) where
+    abbrev policy : Policy CelChecked
+    policy = whole.0
+
+    abbrev is : IsPolicy parts policy
+    is = whole.1
+
+    -- the parts merge to the policy's fields alone
+    moved : (P : List Wire → Type 0) (gs : List Wire) → Merges parts gs → P gs → P is.fs
+    moved P gs also h = subst P (merges_unique parts gs is.fs also is.message.0) h
+
+    -- a condition that the parts have is of type bool
+    has_bool : (c : CelChecked) → PolicyHas parts c → IsTyped c bool_type
+    has_bool c has =
+        by (moved (λ fs. IsChecked (payloads checked_condition_field fs) c) has.fs has.merges has.reads)
+        policy.condition enforced.condition is.condition whole.2.condition
+      where
+        by : IsChecked (payloads checked_condition_field is.fs) c → (d : Option CelChecked) (x : Option Program)
+            → IsCondition (payloads checked_condition_field is.fs) d
+            → MatchOption d (x ≡ None) (λ e. IsSomeAnd x (IsProgramOf limits e)) → IsTyped c bool_type
+        by reads None x none h = absurd (nothing_read c (subst (λ ps. IsChecked ps c) none reads))
+        by reads (Some d) None there h = absurd h
+        by reads (Some d) (Some x) there h =
+            let same : d ≡ c = checked_unique (payloads checked_condition_field is.fs) d c there.1 reads in
+            subst (λ e. IsTyped e bool_type) same (subst (IsTyped d) h.has_type h.elaborated.typed)
+
+    policy_disjoint : (e : Refusal) → PolicyFault parts e → ⊥
+    policy_disjoint e (policy_fields bad) = message_disjoint policy_keys parts is.fs e is.message bad
+    policy_disjoint e (lacks_side gs also bad at) = moved (λ xs. ¬ (HasBothSides xs)) gs also.0 bad is.sides
+    policy_disjoint e (both_conditions gs also there checked at) = moved (λ xs. payloads condition_field xs ≢ []) gs also there is.unchecked
+    policy_disjoint e (unchecked gs also there none at) = moved (λ xs. payloads condition_field xs ≢ []) gs also there is.unchecked
+    policy_disjoint e (unreadable gs also there bad) =
+        reads policy.condition is.condition (moved (λ xs. payloads checked_condition_field xs ≢ []) gs also there) (moved (λ xs. CheckedFault (payloads checked_condition_field xs) e) gs also bad)
+      where
+        reads : (d : Option CelChecked) → IsCondition (payloads checked_condition_field is.fs) d
+            → payloads checked_condition_field is.fs ≢ [] → CheckedFault (payloads checked_condition_field is.fs) e → ⊥
+        reads None none some fault = some none
+        reads (Some d) has some fault = checked_disjoint (payloads checked_condition_field is.fs) d e has.1 fault
+    policy_disjoint e (untyped c has bad) = check-disjoint c bool_type e (has_bool c has) bad
+    policy_disjoint e (not_bool c t has typed other at) =
+        other (one-type (maps_of c) [] c.tree t bool_type typed.types (has_bool c has).types)
+    policy_disjoint e (in_permission gs also (child, here, bad)) =
+        rules_disjoint Permission rule_depth (payloads 1 is.fs) policy.permissions child e is.permissions (moved (λ xs. Contains (payloads 1 xs) child) gs also here) bad
+    policy_disjoint e (in_principal gs also (child, here, bad)) =
+        rules_disjoint Principal rule_depth (payloads 2 is.fs) policy.principals child e is.principals (moved (λ xs. Contains (payloads 2 xs) child) gs also here) bad
 
 -- the number of an action is one of three, or too great
 action_total : (n : ℕ) → ((action : Action) × (n ≡ action_number action)) ⊎ (2 < n)
@@ -118,86 +220,152 @@ action_small n Allow is large = absurd (omega arith)
 action_small n Deny is large = absurd (omega arith)
 action_small n Log is large = absurd (omega arith)
 
--- the fields of the rules are the filter's or have a fault
-entries_done : (fs : List Wire) (action : Action) → payloads 3 fs ≡ []
-    → action_in fs ≡ action_number action → (es : List (Entry text)) → AreEntries text (payloads 2 fs) es
-    → ((filter : Filter) × AreFilterRules fs filter) ⊎ ((e : Refusal) × RulesFault fs e)
-entries_done fs action unaudited is es are = elim (cases_lt most_policies (len (map_of text es))) [
-  | inl many ↦ inr (TooLarge, too_many es (entries_readable text (payloads 2 fs) es are) many refl)
-  | inr few ↦ elim (values_total text IsPolicy PolicyFault policy_total (map_of text es)) [
-    | inr bad ↦ inr (bad.0, in_policy es (entries_readable text (payloads 2 fs) es are) bad.1)
-    | inl held ↦ inl (
-      record { action = action; policies = held.0 },
-      record {
-        entries = es;
-        unaudited = unaudited;
-        action = is;
-        read = are;
-        few = few;
-        policies = held.1;
-      },
-    )
-  ]
-]
+module _ (limits : LimitsValue) where
+  -- the fields of the rules are the filter's or have a fault
+  abbrev FilterOf : (Filter CelChecked → Type 0) → Type 0
+  FilterOf Is = (filter : Filter CelChecked) × (enforced : Filter Program) × Is filter × Enforces limits filter enforced
 
-rules_fields_total : (fs : List Wire)
-    → ((filter : Filter) × AreFilterRules fs filter) ⊎ ((e : Refusal) × RulesFault fs e)
-rules_fields_total fs = elim (nil_or_not (payloads 3 fs)) [
-  | inr there ↦ inr (Unsupported, audited there refl)
-  | inl unaudited ↦ elim (action_total (action_in fs)) [
-    | inr large ↦ inr (OutOfRange, bad_action large refl)
-    | inl action ↦ elim (entries_total text (payloads 2 fs)) [
-      | inr bad ↦ inr (bad.0, in_entry bad.1)
-      | inl read ↦ entries_done fs action.0 unaudited action.1 read.0 read.1
+  entries_done : (fs : List Wire) (action : Action) → payloads 3 fs ≡ []
+      → action_in fs ≡ action_number action → (es : List (Entry text)) → AreEntries text (payloads 2 fs) es
+      → FilterOf (AreFilterRules fs) ⊎ ((e : Refusal) × RulesFault fs e)
+  entries_done fs action unaudited is es are = elim (cases_lt most_policies (len (map_of text es))) [
+    | inl many ↦ inr (TooLarge, too_many es (entries_readable text (payloads 2 fs) es are) many refl)
+    | inr few ↦ elim (values_total text (IsEnforced limits) PolicyFault (policy_total limits) (map_of text es)) [
+      | inr bad ↦ inr (bad.0, in_policy es (entries_readable text (payloads 2 fs) es are) bad.1)
+      | inl held ↦
+          let named : FinMap name_cmp (List (List ℕ)) = map_of text es in
+          let listed = beside_map (IsEnforced limits) held.0 (entries named) (entries_sorted named) (λ name. rw (← get-entries named name) (held.1 name)) in
+          let split = apart limits (entries named) listed.0 listed.1 in inl (
+            record { action = action; policies = from_entries split.0 },
+            record { action = action; policies = from_entries listed.0 },
+            record {
+              entries = es;
+              unaudited = unaudited;
+              action = is;
+              read = are;
+              few = few;
+              policies = held_are_values text IsPolicy named split.0 split.1;
+            },
+            filter_enforced limits action split.0 listed.0 split.2,
+          )
     ]
   ]
-]
 
--- bytes are the message of a filter or have a fault
-pub filter_total : (bytes : List ℕ)
-    → ((filter : Filter) × IsFilter bytes filter) ⊎ ((e : Refusal) × FilterFault bytes e)
-filter_total bytes = elim (message_total filter_keys (bytes ∷ [])) [
-  | inr bad ↦ inr (bad.0, filter_fields bad.1)
-  | inl top ↦ elim (nil_or_not (payloads 1 top.0)) [
-    | inl none ↦ inr (Missing, no_rules top.0 top.1 none refl)
-    | inr there ↦ elim (message_total rules_keys (payloads 1 top.0)) [
-      | inr bad ↦ inr (bad.0, rules_fields top.0 top.1.0 there bad.1)
-      | inl inner ↦ elim (rules_fields_total inner.0) [
-        | inr bad ↦ inr (bad.0, in_rules top.0 inner.0 top.1.0 there inner.1.0 bad.1)
-        | inl rules ↦ inl (rules.0, record { top = top.0; fs = inner.0; message = top.1; there = there; inner = inner.1; rules = rules.1 })
+  rules_fields_total : (fs : List Wire) → FilterOf (AreFilterRules fs) ⊎ ((e : Refusal) × RulesFault fs e)
+  rules_fields_total fs = elim (nil_or_not (payloads 3 fs)) [
+    | inr there ↦ inr (Unsupported, audited there refl)
+    | inl unaudited ↦ elim (action_total (action_in fs)) [
+      | inr large ↦ inr (OutOfRange, bad_action large refl)
+      | inl action ↦ elim (entries_total text (payloads 2 fs)) [
+        | inr bad ↦ inr (bad.0, in_entry bad.1)
+        | inl read ↦ entries_done fs action.0 unaudited action.1 read.0 read.1
       ]
     ]
   ]
-]
 
--- the rules of a filter have no fault
-rules_fields_disjoint : (fs : List Wire) (filter : Filter) (e : Refusal) → AreFilterRules fs filter
-    → RulesFault fs e → ⊥
-rules_fields_disjoint fs filter e is (bad_action large at) = action_small (action_in fs) filter.action is.action large
-rules_fields_disjoint fs filter e is (audited there at) = there is.unaudited
-rules_fields_disjoint fs filter e is (in_entry bad) = entries_disjoint text (payloads 2 fs) is.entries e is.read bad
-rules_fields_disjoint fs filter e is (in_faulty_entry part own reason here bad whole inner) =
-    entries_disjoint text (payloads 2 fs) is.entries reason is.read (part, here, bad)
-rules_fields_disjoint fs filter e is (too_many es reads many at) =
-    let few : len (map_of text is.entries) ≤ most_policies = is.few in
-    let P : List (Entry text) → Type 0 = λ xs. most_policies < len (map_of text xs) in
-    let more : most_policies < len (map_of text is.entries) = subst P (readable_unique text (payloads 2 fs) is.entries es is.read reads) many in absurd (omega arith)
-rules_fields_disjoint fs filter e is (in_policy es reads bad) =
-    let P : List (Entry text) → Type 0 = λ xs. SomeValueFault text PolicyFault (entries (map_of text xs)) e in
-    values_disjoint text IsPolicy PolicyFault (λ parts p d held fault. policy_disjoint parts p held d fault) (map_of text is.entries) filter.policies e is.policies
-    (subst P (readable_unique text (payloads 2 fs) is.entries es is.read reads) bad)
+  -- bytes are the message of a filter of which something is enforced, or have a fault
+  filter_total : (bytes : List ℕ) → FilterOf (IsFilter bytes) ⊎ ((e : Refusal) × FilterFault bytes e)
+  filter_total bytes = elim (message_total filter_keys (bytes ∷ [])) [
+    | inr bad ↦ inr (bad.0, filter_fields bad.1)
+    | inl top ↦ elim (nil_or_not (payloads 1 top.0)) [
+      | inl none ↦ inr (Missing, no_rules top.0 top.1 none refl)
+      | inr there ↦ elim (message_total rules_keys (payloads 1 top.0)) [
+        | inr bad ↦ inr (bad.0, rules_fields top.0 top.1.0 there bad.1)
+        | inl inner ↦ elim (rules_fields_total inner.0) [
+          | inr bad ↦ inr (bad.0, in_rules top.0 inner.0 top.1.0 there inner.1.0 bad.1)
+          | inl rules ↦ inl (rules.0, rules.1, record { top = top.0; fs = inner.0; message = top.1; there = there; inner = inner.1; rules = rules.2 }, rules.3)
+        ]
+      ]
+    ]
+  ]
 
--- the message of a filter has no fault
-pub filter_disjoint : (bytes : List ℕ) (filter : Filter) (e : Refusal) → IsFilter bytes filter
-    → FilterFault bytes e → ⊥
-filter_disjoint bytes filter e is (filter_fields bad) = message_disjoint filter_keys (bytes ∷ []) is.top e is.message bad
-filter_disjoint bytes filter e is (no_rules gs also none at) =
-    is.there (let P : List Wire → Type 0 = λ xs. payloads 1 xs ≡ [] in subst P (merges_unique (bytes ∷ []) gs is.top also.0 is.message.0) none)
-filter_disjoint bytes filter e is (rules_fields gs also there bad) =
-    let P : List Wire → Type 0 = λ xs. MessageFault rules_keys (payloads 1 xs) e in
-    message_disjoint rules_keys (payloads 1 is.top) is.fs e is.inner (subst P (merges_unique (bytes ∷ []) gs is.top also is.message.0) bad)
-filter_disjoint bytes filter e is (in_rules gs hs also there merges bad) =
-    let P : List Wire → Type 0 = λ xs. Merges (payloads 1 xs) hs in
-    let same : hs ≡ is.fs = merges_unique (payloads 1 is.top) hs is.fs (subst P (merges_unique (bytes ∷ []) gs is.top also is.message.0) merges) is.inner.0 in
-    let Q : List Wire → Type 0 = λ xs. RulesFault xs e in
-    rules_fields_disjoint is.fs filter e is.rules (subst Q same bad)
+  -- what is enforced of a filter stands beside the payloads of its policies
+  listed_in : (bytes : List ℕ) (filter : Filter CelChecked) (enforced : Filter Program) (is : IsFilter bytes filter)
+      → Enforces limits filter enforced
+      → (vs : List (List ℕ × Policy Program)) × Beside (IsEnforced limits) (entries (map_of text is.rules.entries)) vs
+      × (total_bound enforced ≡ bounds_of vs)
+  listed_in bytes filter enforced is enforces =
+      enforced_beside limits (map_of text is.rules.entries) filter enforced is.rules.policies enforces
+
+  -- bytes are admissible or have a fault
+  pub bytes_total : (bytes : List ℕ) (budget : ℕ)
+      → Admissible bytes limits budget ⊎ ((e : Refusal) × Fault e bytes limits budget)
+  bytes_total bytes budget = elim (filter_total bytes) [
+    | inr bad ↦ inr (bad.0, in_message bad.1)
+    | inl (filter, enforced, is, enforces) ↦ elim (cases_lt budget (total_bound enforced)) [
+      | inr cheap ↦ inl (filter, enforced, record { message = is; enforces = enforces; cheap = cheap })
+      | inl more ↦
+          let listed = listed_in bytes filter enforced is enforces in
+          let ns : List (Entry text) = entries (map_of text is.rules.entries) in
+          inr (
+            TooCostly,
+            too_costly ns (bounds_of listed.0) (record {
+              top = is.top;
+              fs = is.fs;
+              read = is.rules.entries;
+              outer = is.message.0;
+              inner = is.inner.0;
+              readable = entries_readable text (payloads 2 is.fs) is.rules.entries is.rules.read;
+              named = refl;
+            }) (all_cost limits ns listed.0 listed.1) (rw (← listed.2) more) refl,
+          )
+    ]
+  ]
+
+  -- the rules of a filter have no fault
+  rules_fields_disjoint : (fs : List Wire) (filter : Filter CelChecked) (enforced : Filter Program) (e : Refusal)
+      → AreFilterRules fs filter → Enforces limits filter enforced → RulesFault fs e → ⊥
+  rules_fields_disjoint fs filter enforced e is enforces (bad_action large at) = action_small (action_in fs) filter.action is.action large
+  rules_fields_disjoint fs filter enforced e is enforces (audited there at) = there is.unaudited
+  rules_fields_disjoint fs filter enforced e is enforces (in_entry bad) = entries_disjoint text (payloads 2 fs) is.entries e is.read bad
+  rules_fields_disjoint fs filter enforced e is enforces (in_faulty_entry part own reason here bad whole inner) =
+      entries_disjoint text (payloads 2 fs) is.entries reason is.read (part, here, bad)
+  rules_fields_disjoint fs filter enforced e is enforces (too_many es reads many at) =
+      let few : len (map_of text is.entries) ≤ most_policies = is.few in
+      let P : List (Entry text) → Type 0 = λ xs. most_policies < len (map_of text xs) in
+      let more : most_policies < len (map_of text is.entries) = subst P (readable_unique text (payloads 2 fs) is.entries es is.read reads) many in absurd (omega arith)
+  rules_fields_disjoint fs filter enforced e is enforces (in_policy es reads bad) =
+      let named : FinMap name_cmp (List (List ℕ)) = map_of text is.entries in
+      let P : List (Entry text) → Type 0 = λ xs. SomeValueFault text PolicyFault (entries (map_of text xs)) e in
+      let are : AreValues text (IsEnforced limits) named enforced.policies = (λ name.
+      in_a_row IsPolicy (EnforcesPolicy limits) (IsEnforced limits) (λ parts p v policy enf. (p, policy, enf))
+      (get named name) (get filter.policies name) (get enforced.policies name) (is.policies name) (enforces.policies name)) in
+      values_disjoint text (IsEnforced limits) PolicyFault (λ parts v d held fault. policy_disjoint limits parts v held d fault) named enforced.policies e are
+      (subst P (readable_unique text (payloads 2 fs) is.entries es is.read reads) bad)
+
+  -- the message of a filter has no fault
+  filter_disjoint : (bytes : List ℕ) (filter : Filter CelChecked) (enforced : Filter Program) (e : Refusal)
+      → IsFilter bytes filter → Enforces limits filter enforced → FilterFault bytes e → ⊥
+  filter_disjoint bytes filter enforced e is enforces (filter_fields bad) = message_disjoint filter_keys (bytes ∷ []) is.top e is.message bad
+  filter_disjoint bytes filter enforced e is enforces (no_rules gs also none at) =
+      is.there (let P : List Wire → Type 0 = λ xs. payloads 1 xs ≡ [] in subst P (merges_unique (bytes ∷ []) gs is.top also.0 is.message.0) none)
+  filter_disjoint bytes filter enforced e is enforces (rules_fields gs also there bad) =
+      let P : List Wire → Type 0 = λ xs. MessageFault rules_keys (payloads 1 xs) e in
+      message_disjoint rules_keys (payloads 1 is.top) is.fs e is.inner (subst P (merges_unique (bytes ∷ []) gs is.top also is.message.0) bad)
+  filter_disjoint bytes filter enforced e is enforces (in_rules gs hs also there merges bad) =
+      let P : List Wire → Type 0 = λ xs. Merges (payloads 1 xs) hs in
+      let same : hs ≡ is.fs = merges_unique (payloads 1 is.top) hs is.fs (subst P (merges_unique (bytes ∷ []) gs is.top also is.message.0) merges) is.inner.0 in
+      let Q : List Wire → Type 0 = λ xs. RulesFault xs e in
+      rules_fields_disjoint is.fs filter enforced e is.rules enforces (subst Q same bad)
+
+  -- the policies of a filter's message are those alone
+  policies_are : (bytes : List ℕ) (filter : Filter CelChecked) (is : IsFilter bytes filter) (policies : List (Entry text))
+      → HoldsPolicies bytes policies → policies ≡ entries (map_of text is.rules.entries)
+  policies_are bytes filter is policies holds =
+      let P : List Wire → Type 0 = λ xs. Merges (payloads 1 xs) holds.fs in
+      let same : holds.fs ≡ is.fs = merges_unique (payloads 1 is.top) holds.fs is.fs (subst P (merges_unique (bytes ∷ []) holds.top is.top holds.outer is.message.0) holds.inner) is.inner.0 in
+      let Q : List Wire → Type 0 = λ xs. Readable text (payloads 2 xs) holds.read in
+      holds.named ∙ ap (λ es. entries (map_of text es)) (readable_unique text (payloads 2 is.fs) is.rules.entries holds.read is.rules.read (subst Q same holds.readable))
+
+  -- admissible bytes have no fault
+  pub bytes_disjoint : (e : Refusal) (bytes : List ℕ) (budget : ℕ) → Admissible bytes limits budget
+      → Fault e bytes limits budget → ⊥
+  bytes_disjoint e bytes budget (filter, enforced, is) (in_message bad) = filter_disjoint bytes filter enforced e is.message is.enforces bad
+  bytes_disjoint e bytes budget (filter, enforced, is) (too_costly policies cost holds costs above at) =
+      let listed = listed_in bytes filter enforced is.message is.enforces in
+      let same = policies_are bytes filter is.message policies holds in
+      let most : cost ≤ bounds_of listed.0 =
+      cost_most limits (entries (map_of text is.message.rules.entries)) listed.0 cost listed.1 (subst (λ ns. SomeCost limits ns cost) same costs) in
+      let cheap : total_bound enforced ≤ budget = is.cheap in
+      let sum : total_bound enforced ≡ bounds_of listed.0 = listed.2 in
+      absurd (omega (arith, most, cheap, above, sum))

@@ -1,5 +1,5 @@
 -- Bytes are the message of one filter at most.
-use Rattle.std.proofs.Common.{◌≡◌, ℕ, List, [], ◌∷◌, Option, refl, sym, ap, ap₂, subst, arith, ◌∙◌}
+use Rattle.std.proofs.Common.{◌≡◌, ℕ, List, [], ◌∷◌, Option, Some, None, refl, sym, ap, ap₂, subst, arith, ◌∙◌}
 use Rattle.std.specs.FinMap.{FinMap}
 use Rattle.proto_wire.specs.Fields.{Wire}
 use Rattle.proto_wire.specs.Values.{payloads}
@@ -10,18 +10,32 @@ use Rattle.rbac_match.specs.Rules.{AreRules, IsRule}
 use Rattle.rbac_match.specs.declared.rule.Side.{Side}
 use Rattle.rbac_match.specs.declared.rule.Side.TheVariants.{Permission, Principal}
 use Rattle.rbac_match.proofs.RuleMessages.{rules_unique as rules_one}
-use Rattle.rbac_policy.specs.Filter.{Condition, Policy, Filter}
+use Rattle.attributes.specs.Limits.{LimitsValue}
+use Rattle.cel_tree.specs.Checked.{CelChecked}
+use Rattle.cel_tree.proofs.CheckedLaws.{checked_unique}
+use Rattle.rbac_policy.specs.Admission.{Admits}
+use Rattle.rbac_policy.specs.Condition.{Program}
+use Rattle.rbac_policy.specs.Enforced.{Enforces}
+use Rattle.rbac_policy.specs.Filter.{Policy, Filter}
 use Rattle.attributes.specs.Headers.{name_cmp}
-use Rattle.rbac_policy.specs.Keys.{rules_keys}
-use Rattle.rbac_policy.specs.Message.{rule_depth, IsPolicy, action_number, AreFilterRules, IsFilter}
+use Rattle.rbac_policy.specs.Keys.{checked_condition_field, rules_keys}
+use Rattle.rbac_policy.specs.Message.{rule_depth, IsCondition, IsPolicy, action_number, AreFilterRules, IsFilter}
 use Rattle.rbac_policy.specs.declared.filter.Action.{Action}
 use Rattle.rbac_policy.specs.declared.filter.Action.TheVariants.{Allow, Deny, Log}
 use Rattle.proto_wire.specs.Maps.{Entry, text, AreValues, map_of}
 use Rattle.proto_wire.proofs.MapLaws.{entries_unique}
 use Rattle.proto_wire.proofs.MapValues.{values_unique}
+use Rattle.rbac_policy.proofs.Enforcing.{enforces_unique}
+
+-- payloads have one condition, or none
+condition_unique : (parts : List (List ℕ)) (x y : Option CelChecked) → IsCondition parts x → IsCondition parts y → x ≡ y
+condition_unique parts None None a b = refl
+condition_unique parts None (Some d) a b = absurd (b.0 a)
+condition_unique parts (Some c) None a b = absurd (a.0 b)
+condition_unique parts (Some c) (Some d) a b = ap Some (checked_unique parts c d a.1 b.1)
 
 -- payloads merge to one policy
-module _ (parts : List (List ℕ)) (p q : Policy) (a : IsPolicy parts p) (b : IsPolicy parts q) where
+module _ (parts : List (List ℕ)) (p q : Policy CelChecked) (a : IsPolicy parts p) (b : IsPolicy parts q) where
   -- what the same fields say of one side is the same
   side_unique : (side : Side) (k : ℕ) (x y : Formulas)
       → AreRules (IsRule side rule_depth) (payloads k a.fs) x → AreRules (IsRule side rule_depth) (payloads k b.fs) y → x ≡ y
@@ -32,12 +46,12 @@ module _ (parts : List (List ℕ)) (p q : Policy) (a : IsPolicy parts p) (b : Is
 
   policy_unique : p ≡ q
   policy_unique =
-      let make : Formulas → Formulas → Option Condition → Policy =
-      λ x y z. record { permissions = x; principals = y; condition = z } in
-      ap₂ (λ x y. make x y p.condition)
-      (side_unique Permission 1 p.permissions q.permissions a.permissions b.permissions)
-      (side_unique Principal 2 p.principals q.principals a.principals b.principals)
-      ∙ ap (make q.permissions q.principals) (a.unconditional ∙ sym b.unconditional)
+      let permissions : p.permissions ≡ q.permissions = side_unique Permission 1 p.permissions q.permissions a.permissions b.permissions in
+      let principals : p.principals ≡ q.principals = side_unique Principal 2 p.principals q.principals a.principals b.principals in
+      let P : List Wire → Type 0 = λ fs. IsCondition (payloads checked_condition_field fs) q.condition in
+      let condition : p.condition ≡ q.condition = condition_unique (payloads checked_condition_field a.fs) p.condition q.condition a.condition
+      (subst P (merges_unique parts b.fs a.fs b.message.0 a.message.0) b.condition) in
+      λ i. record { permissions = permissions i; principals = principals i; condition = condition i }
 
 -- a number is that of one action
 action_unique : (x y : Action) → action_number x ≡ action_number y → x ≡ y
@@ -52,19 +66,27 @@ action_unique Log Allow e = absurd (omega (arith, e))
 action_unique Log Deny e = absurd (omega (arith, e))
 
 -- fields are the rules of one filter
-rules_unique : (fs : List Wire) (f g : Filter) → AreFilterRules fs f → AreFilterRules fs g → f ≡ g
+rules_unique : (fs : List Wire) (f g : Filter CelChecked) → AreFilterRules fs f → AreFilterRules fs g → f ≡ g
 rules_unique fs f g a b =
-    let make : Action → FinMap name_cmp Policy → Filter = λ x m. record { action = x; policies = m } in
+    let make : Action → FinMap name_cmp (Policy CelChecked) → Filter CelChecked = λ x m. record { action = x; policies = m } in
     let P : List (Entry text) → Type 0 = λ es. AreValues text IsPolicy (map_of text es) g.policies in
     let same : b.entries ≡ a.entries = entries_unique text (payloads 2 fs) b.entries a.entries b.read a.read in
     ap₂ make (action_unique f.action g.action (sym a.action ∙ b.action))
     (values_unique text IsPolicy policy_unique (map_of text a.entries) f.policies g.policies a.policies (subst P same b.policies))
 
 -- bytes are the message of one filter
-pub filter_unique : (bytes : List ℕ) (f g : Filter) → IsFilter bytes f → IsFilter bytes g → f ≡ g
+pub filter_unique : (bytes : List ℕ) (f g : Filter CelChecked) → IsFilter bytes f → IsFilter bytes g → f ≡ g
 filter_unique bytes f g a b =
     let P : List Wire → Type 0 = λ top. IsMessage rules_keys (payloads 1 top) b.fs in
     let top : b.top ≡ a.top = merges_unique (bytes ∷ []) b.top a.top b.message.0 a.message.0 in
     let same : b.fs ≡ a.fs = merges_unique (payloads 1 a.top) b.fs a.fs (subst P top b.inner).0 a.inner.0 in
     let Q : List Wire → Type 0 = λ fs. AreFilterRules fs g in
     rules_unique a.fs f g a.rules (subst Q same b.rules)
+
+-- bytes are admitted as one filter, of which one thing is enforced
+pub admits_unique : (bytes : List ℕ) (limits : LimitsValue) (budget : ℕ) (f f' : Filter CelChecked)
+    (g g' : Filter Program) → Admits bytes limits budget f g → Admits bytes limits budget f' g'
+    → (f ≡ f') × (g ≡ g')
+admits_unique bytes limits budget f f' g g' a b =
+    let same : f ≡ f' = filter_unique bytes f f' a.message b.message in
+    (same, enforces_unique limits f' g g' (subst (λ x. Enforces limits x g) same a.enforces) b.enforces)

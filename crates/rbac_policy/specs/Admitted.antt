@@ -1,18 +1,19 @@
 -- The filter that an `Admitted` stands for, and the limits that it was admitted for.
 use Rattle.std.specs.FinMap.{from_entries}
 use Rattle.attributes.specs.Limits.{LimitsValue}
+use Rattle.rbac_policy.specs.Condition.{Program}
 use Rattle.rbac_policy.specs.Filter.{Filter}
 use Rattle.rbac_policy.specs.Named.{named_views}
 use Rattle.rbac_policy.specs.declared.filter.Admitted.{Admitted}
 use Rattle.rbac_policy.specs.declared.filter.FilterRules.{FilterRules}
 
 -- the filter that its rules stand for
-abbrev pub rules_view : FilterRules → Filter
+abbrev pub rules_view : FilterRules → Filter Program
 rules_view rules =
     record { action = rules.action; policies = from_entries (named_views rules.policies.items) }
 
 -- the filter that an `Admitted` stands for
-abbrev pub filter_view : Admitted → Filter
+abbrev pub filter_view : Admitted → Filter Program
 filter_view a = rules_view a.rules
 
 -- the limits of the requests for which it was admitted

@@ -1,5 +1,5 @@
 -- What is wrong with bytes that are no admissible filter; each fault names its refusal.
-use Rattle.std.specs.Prelude.{◌≡◌, ◌≢◌, ℕ, ◌<◌, List, [], ◌∷◌, Contains}
+use Rattle.std.specs.Prelude.{◌≡◌, ◌≢◌, ◌⊎◌, ℕ, ◌+◌, ◌<◌, List, [], ◌∷◌, Contains}
 use Rattle.std.specs.FinMap.{entries, len}
 use Rattle.proto_wire.specs.Fields.{Wire, Fields}
 use Rattle.proto_wire.specs.Values.{payloads}
@@ -7,20 +7,41 @@ use Rattle.proto_wire.specs.Merge.{Merges}
 use Rattle.proto_wire.specs.Maps.{Entry, text, EntryFault, SomeEntryFault, Readable, map_of, SomeValueFault}
 use Rattle.proto_wire.specs.Messages.{IsMessage, MessageFault}
 use Rattle.proto_wire.specs.declared.refusal.Refusal.{Refusal}
-use Rattle.proto_wire.specs.declared.refusal.Refusal.TheVariants.{Missing, OutOfRange, Unsupported, TooLarge}
+use Rattle.proto_wire.specs.declared.refusal.Refusal.TheVariants.{BothConditions, Missing, NotBool, OutOfRange, Unsupported, TooLarge}
+use Rattle.attributes.specs.Limits.{LimitsValue}
+use Rattle.cel_value.specs.Types.{ValueType, bool_type}
+use Rattle.cel_tree.specs.Checked.{CelChecked}
+use Rattle.cel_tree.specs.Message.{CheckedFault, IsChecked}
+use Rattle.cel_types.specs.Typing.{IsTyped}
+use Rattle.cel_types.specs.TypingFaults.{CheckFault}
+use Rattle.rbac_policy.specs.Condition.{IsProgramOf, Program}
 use Rattle.rbac_match.specs.Rules.{SomeRuleFault}
 use Rattle.rbac_match.specs.declared.rule.Side.TheVariants.{Permission, Principal}
-use Rattle.rbac_policy.specs.Keys.{filter_keys, rules_keys, policy_keys, rules_field, policies_field, audit_logging_options_field, permissions_field, principals_field}
-use Rattle.rbac_policy.specs.Message.{rule_depth, most_policies, action_in, HasBothSides, LacksConditions}
+use Rattle.rbac_policy.specs.Keys.{filter_keys, rules_keys, policy_keys, rules_field, policies_field, audit_logging_options_field, permissions_field, principals_field, condition_field, checked_condition_field}
+use Rattle.rbac_policy.specs.Message.{rule_depth, most_policies, action_in, HasBothSides}
 
--- a fault of a policy: of its own fields, that it lacks permissions or principals, that it has a
--- condition, or of its rules
+-- the policy in these parts has this condition
+pub record PolicyHas (parts : List (List ℕ)) (condition : CelChecked) : Type 0 where
+  pub fs : List Wire
+  pub merges : Merges parts fs
+  pub reads : IsChecked (payloads checked_condition_field fs) condition
+
+-- a fault of a policy: of its own fields, that it lacks permissions or principals, of its rules, that it has an
+-- unchecked condition, alone or beside a checked one, or of its checked condition: it does not read, has no type,
+-- or has another than bool
 pub data PolicyFault (parts : List (List ℕ)) (e : Refusal) : Type 0 where
   policy_fields : MessageFault policy_keys parts e → PolicyFault parts e
   lacks_side : (fs : List Wire) → IsMessage policy_keys parts fs → ¬ (HasBothSides fs) → e ≡ Missing
       → PolicyFault parts e
-  conditional : (fs : List Wire) → Merges parts fs → ¬ (LacksConditions fs) → e ≡ Unsupported
-      → PolicyFault parts e
+  both_conditions : (fs : List Wire) → Merges parts fs → payloads condition_field fs ≢ []
+      → payloads checked_condition_field fs ≢ [] → e ≡ BothConditions → PolicyFault parts e
+  unchecked : (fs : List Wire) → Merges parts fs → payloads condition_field fs ≢ []
+      → payloads checked_condition_field fs ≡ [] → e ≡ Unsupported → PolicyFault parts e
+  unreadable : (fs : List Wire) → Merges parts fs → payloads checked_condition_field fs ≢ []
+      → CheckedFault (payloads checked_condition_field fs) e → PolicyFault parts e
+  untyped : (condition : CelChecked) → PolicyHas parts condition → CheckFault condition e → PolicyFault parts e
+  not_bool : (condition : CelChecked) (t : ValueType) → PolicyHas parts condition → IsTyped condition t
+      → t ≢ bool_type → e ≡ NotBool → PolicyFault parts e
   in_permission : (fs : List Wire) → Merges parts fs
       → SomeRuleFault Permission rule_depth (payloads permissions_field fs) e → PolicyFault parts e
   in_principal : (fs : List Wire) → Merges parts fs
@@ -50,3 +71,20 @@ pub data FilterFault (bytes : List ℕ) (e : Refusal) : Type 0 where
       → MessageFault rules_keys (payloads rules_field top) e → FilterFault bytes e
   in_rules : (top fs : List Wire) → Merges (bytes ∷ []) top → payloads rules_field top ≢ []
       → Merges (payloads rules_field top) fs → RulesFault fs e → FilterFault bytes e
+
+-- the filter's message holds these policies by their names
+pub record HoldsPolicies (bytes : List ℕ) (policies : List (Entry text)) : Type 0 where
+  pub top : List Wire
+  pub fs : List Wire
+  pub read : List (Entry text)
+  pub outer : Merges (bytes ∷ []) top
+  pub inner : Merges (payloads rules_field top) fs
+  pub readable : Readable text (payloads policies_field fs) read
+  pub named : policies ≡ entries (map_of text read)
+
+-- some of the policies have conditions of type bool that cost this together
+abbrev pub SomeCost : LimitsValue → List (Entry text) → ℕ → Type 0
+SomeCost limits [] cost = cost ≡ 0
+SomeCost limits ((name, parts) ∷ others) cost = SomeCost limits others cost
+    ⊎ ((condition : CelChecked) × (program : Program) × (rest : ℕ) × PolicyHas parts condition
+    × IsProgramOf limits condition program × SomeCost limits others rest × (cost ≡ program.bound + rest))

@@ -1,4 +1,6 @@
 pub mod Filter
+pub mod Condition
+pub mod Enforced
 pub mod Keys
 pub mod Message
 pub mod Fault

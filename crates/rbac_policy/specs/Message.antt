@@ -1,11 +1,13 @@
 -- The messages of an RBAC filter: Envoy v3 `extensions/filters/http/rbac/v3/rbac.proto` and
 -- `config/rbac/v3/rbac.proto`.
-use Rattle.std.specs.Prelude.{◌≡◌, ◌≢◌, ℕ, ◌≤◌, List, [], ◌∷◌, None}
+use Rattle.std.specs.Prelude.{◌≡◌, ◌≢◌, ℕ, ◌≤◌, List, [], ◌∷◌, Option, Some, None}
 use Rattle.std.specs.FinMap.{len}
 use Rattle.proto_wire.specs.Fields.{Wire}
 use Rattle.proto_wire.specs.Values.{payloads, uint32_at}
 use Rattle.proto_wire.specs.Maps.{Entry, text, AreEntries, map_of, AreValues}
 use Rattle.proto_wire.specs.Messages.{IsMessage}
+use Rattle.cel_tree.specs.Checked.{CelChecked}
+use Rattle.cel_tree.specs.Message.{IsChecked}
 use Rattle.rbac_match.specs.Rules.{AreRules, IsRule}
 use Rattle.rbac_match.specs.declared.rule.Side.TheVariants.{Permission, Principal}
 use Rattle.rbac_policy.specs.Filter.{Policy, Filter}
@@ -25,17 +27,17 @@ most_policies = 256
 abbrev pub HasBothSides : List Wire → Type 0
 HasBothSides fs = (payloads permissions_field fs ≢ []) × (payloads principals_field fs ≢ [])
 
--- no condition, neither checked nor unchecked
-abbrev pub LacksConditions : List Wire → Type 0
-LacksConditions fs =
-    (payloads condition_field fs ≡ []) × (payloads checked_condition_field fs ≡ [])
+-- the payloads of a condition: there are none, or they merge to a checked expression
+abbrev pub IsCondition : List (List ℕ) → Option CelChecked → Type 0
+IsCondition parts None = parts ≡ []
+IsCondition parts (Some condition) = (parts ≢ []) × IsChecked parts condition
 
 -- the parts merge to a policy
-pub record IsPolicy (parts : List (List ℕ)) (policy : Policy) : Type 0 where
+pub record IsPolicy (parts : List (List ℕ)) (policy : Policy CelChecked) : Type 0 where
   pub fs : List Wire
   pub message : IsMessage policy_keys parts fs
-  pub lacks : LacksConditions fs
-  pub unconditional : policy.condition ≡ None
+  pub unchecked : payloads condition_field fs ≡ []
+  pub condition : IsCondition (payloads checked_condition_field fs) policy.condition
   pub sides : HasBothSides fs
   pub permissions :
       AreRules (IsRule Permission rule_depth) (payloads permissions_field fs) policy.permissions
@@ -53,7 +55,7 @@ action_number Deny = 1
 action_number Log = 2
 
 -- the fields are rules of the filter
-pub record AreFilterRules (fs : List Wire) (filter : Filter) : Type 0 where
+pub record AreFilterRules (fs : List Wire) (filter : Filter CelChecked) : Type 0 where
   pub entries : List (Entry text)
   pub unaudited : payloads audit_logging_options_field fs ≡ []
   pub action : action_in fs ≡ action_number filter.action
@@ -62,7 +64,7 @@ pub record AreFilterRules (fs : List Wire) (filter : Filter) : Type 0 where
   pub policies : AreValues text IsPolicy (map_of text entries) filter.policies
 
 -- the bytes are the message of the filter
-pub record IsFilter (bytes : List ℕ) (filter : Filter) : Type 0 where
+pub record IsFilter (bytes : List ℕ) (filter : Filter CelChecked) : Type 0 where
   pub top : List Wire
   pub fs : List Wire
   pub message : IsMessage filter_keys (bytes ∷ []) top

@@ -1,22 +1,29 @@
 -- What the code's policies stand for.
-use Rattle.std.specs.Prelude.{ℕ, List, None, map}
+use Rattle.std.specs.Prelude.{ℕ, List, map, option_map}
 use Rattle.std.specs.String.{string_bytes}
 use Rattle.rbac_match.specs.View.{rules_view}
+use Rattle.stack_machine.specs.Instructions.{code_view}
+use Rattle.rbac_policy.specs.Condition.{Program}
 use Rattle.rbac_policy.specs.Filter.{Policy}
+use Rattle.rbac_policy.specs.declared.condition.Condition.{Condition}
 use Rattle.rbac_policy.specs.declared.policy.NamedPolicy.{NamedPolicy}
 
+-- the program that is a condition
+abbrev pub program_view : Condition → Program
+program_view c = record { code = code_view c.code; bound = c.bound }
+
 -- what a policy asks
-abbrev pub policy_view : NamedPolicy → Policy
+abbrev pub policy_view : NamedPolicy → Policy Program
 policy_view p = record {
   permissions = rules_view p.permissions.items;
   principals = rules_view p.principals.items;
-  condition = None;
+  condition = option_map program_view p.condition;
 }
 
 -- the name of a policy, and what the policy asks
-abbrev pub named_view : NamedPolicy → List ℕ × Policy
+abbrev pub named_view : NamedPolicy → List ℕ × Policy Program
 named_view p = (string_bytes p.name, policy_view p)
 
 -- the names and policies, in order
-abbrev pub named_views : List NamedPolicy → List (List ℕ × Policy)
+abbrev pub named_views : List NamedPolicy → List (List ℕ × Policy Program)
 named_views ps = map named_view ps

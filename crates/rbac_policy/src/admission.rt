@@ -1,14 +1,20 @@
 //! Admission: from the bytes of a filter's message to the filter, or to why it is refused.
 
-ghost use Rattle.std.specs.Prelude.{◌≡◌, ◌≢◌, ◌<◌, ◌≤◌, [], IfOk, IfErr, OnOk, MatchResult, map};
+ghost use Rattle.std.specs.Prelude.{◌≡◌, ◌≢◌, ◌<◌, ◌≤◌, ◌⊎◌, List, [], IfOk, IfErr, OnOk, MatchResult, map};
+ghost use Rattle.std.specs.FinMap.{entries};
+ghost use Rattle.cel_tree.specs.Checked.{CelChecked};
 ghost use Rattle.proto_wire.specs.Fields.{field_view};
 ghost use Rattle.proto_wire.specs.Refusal.{MemoryOr};
 ghost use Rattle.proto_wire.specs.Values.{payloads};
-ghost use Rattle.proto_wire.specs.declared.refusal.Refusal.TheVariants.{Missing, OutOfRange, TooLarge, Unsupported};
-ghost use Rattle.rbac_policy.specs.Keys.{audit_logging_options_field, rules_field};
-ghost use Rattle.rbac_policy.specs.Message.{AreFilterRules, IsFilter, action_in, action_number, most_policies};
-ghost use Rattle.rbac_policy.specs.Fault.{FilterFault, RulesFault};
-ghost use Rattle.rbac_policy.specs.Admission.{Admits, Fault};
+ghost use Rattle.proto_wire.specs.Maps.{Entry, text, Readable, map_of};
+ghost use Rattle.proto_wire.specs.declared.refusal.Refusal.TheVariants.{CodeRefused, Missing, OutOfRange, TooLarge, Unsupported};
+ghost use Rattle.rbac_policy.specs.Enforced.{Enforces, total_bound};
+ghost use Rattle.rbac_policy.specs.Filter.{Filter};
+ghost use Rattle.rbac_policy.specs.Keys.{audit_logging_options_field, policies_field, rules_field};
+ghost use Rattle.rbac_policy.specs.Message.{AreFilterRules, action_in, action_number, most_policies};
+ghost use Rattle.rbac_policy.specs.Fault.{FilterFault, HoldsPolicies, RulesFault};
+ghost use Rattle.rbac_policy.specs.Admission.{Admits, Fault, HoldsRefusedCode};
+ghost use Rattle.rbac_policy.specs.steps.Conditions.{ConditionsFault};
 ghost use Rattle.rbac_policy.specs.Admitted.{filter_view, limits_view, rules_view};
 
 use crate::filter::{Action, Admitted, FilterRules};
@@ -23,33 +29,41 @@ use std::alloc::Global;
 pub const MOST_POLICIES: usize = 256;
 
 /// Reads the message of an HTTP RBAC filter (`envoy.extensions.filters.http.rbac.v3.RBAC`), for
-/// requests within the limits and with a budget of steps for its conditions. It is taken whole or
-/// refused whole, for a fault that is there: `BadWire`, `BadText`, `UnknownField`, `Missing`,
-/// `OutOfRange`, `Unsupported` or `TooLarge`; or for want of memory.
-pub fn admit(
-    alloc: Global,
-    bytes: &[u8],
-    limits: &Limits,
-    _budget: u64,
-) -> Result<Admitted, Refusal>
-    ensures found { IfOk result (λ a. Admits bytes.now limits.now _budget (filter_view a)) }
+/// requests within the limits and with a budget of steps for its conditions together. It is taken
+/// whole or refused whole, for a fault that is there: `BadWire`, `BadText`, `UnknownField`, `Missing`,
+/// `OutOfRange`, `Unsupported`, `BothConditions`, `TooLarge`, `UnknownName`, `NoOverload`,
+/// `BadTypeEntry`, `BadReference`, `NotBool`, `NeedsType` or `TooCostly`; or as `CodeRefused`, where a
+/// condition's code is too long or is not verified; or for want of memory.
+pub fn admit(alloc: Global, bytes: &[u8], limits: &Limits, budget: u64) -> Result<Admitted, Refusal>
+    ensures found { IfOk result (λ a. (filter : Filter CelChecked)
+        × Admits bytes.now limits.now budget filter (filter_view a)) }
     ensures limits { IfOk result (λ a. limits_view a ≡ limits.now) }
-    ensures fault { IfErr result (MemoryOr (λ e. Fault e bytes.now limits.now _budget)) }
+    ensures fault { IfErr result (MemoryOr (λ e.
+        ((e ≡ CodeRefused) × HoldsRefusedCode bytes.now limits.now)
+        ⊎ Fault e bytes.now limits.now budget)) }
 {
-    let rules = read_filter(alloc, bytes)?;
+    let rules = read_filter(alloc, bytes, limits, budget)?;
     Ok(Admitted::new(rules, *limits))
 }
 
 /// Reads the filter's message.
-fn read_filter(alloc: Global, bytes: &[u8]) -> Result<FilterRules, Refusal>
-    ensures found { IfOk result (λ rules. IsFilter bytes.now (rules_view rules)) }
-    ensures fault { IfErr result (MemoryOr (FilterFault bytes.now)) }
+fn read_filter(
+    alloc: Global,
+    bytes: &[u8],
+    limits: &Limits,
+    budget: u64,
+) -> Result<FilterRules, Refusal>
+    ensures found { IfOk result (λ rules. (filter : Filter CelChecked)
+        × Admits bytes.now limits.now budget filter (rules_view rules)) }
+    ensures fault { IfErr result (MemoryOr (λ e. FilterFault bytes.now e
+        ⊎ ((policies : List (Entry text)) × HoldsPolicies bytes.now policies
+        × ConditionsFault policies limits.now budget e))) }
 {
     let top = read_message(alloc, &[bytes], filter_keys())?;
     require_rules(&top)?;
     let parts = payloads_of(alloc, &top, RULES)?;
     let fields = read_message(alloc, &parts, rules_keys())?;
-    read_rules(alloc, &fields)
+    read_rules(alloc, &fields, limits, budget)
 }
 
 /// Refuses a filter without rules.
@@ -65,18 +79,28 @@ fn require_rules(top: &[Field<'_>]) -> Result<(), Refusal>
 }
 
 /// Reads the filter's rules from their fields, all of which are known.
-fn read_rules(alloc: Global, fields: &[Field<'_>]) -> Result<FilterRules, Refusal>
-    ensures found { IfOk result (λ rules. AreFilterRules (map field_view fields.now)
-        (rules_view rules)) }
-    ensures fault { IfErr result (MemoryOr (RulesFault (map field_view fields.now))) }
+fn read_rules(
+    alloc: Global,
+    fields: &[Field<'_>],
+    limits: &Limits,
+    budget: u64,
+) -> Result<FilterRules, Refusal>
+    ensures found { IfOk result (λ rules. (filter : Filter CelChecked)
+        × AreFilterRules (map field_view fields.now) filter
+        × Enforces limits.now filter (rules_view rules)) }
+    ensures cheap { IfOk result (λ rules. total_bound (rules_view rules) ≤ budget) }
+    ensures fault { IfErr result (MemoryOr (λ e. RulesFault (map field_view fields.now) e
+        ⊎ ((read : List (Entry text))
+        × Readable text (payloads policies_field (map field_view fields.now)) read
+        × ConditionsFault (entries (map_of text read)) limits.now budget e))) }
 {
     refuse_audit_options(fields)?;
     let action = read_action(fields)?;
     let entries = payloads_of(alloc, fields, POLICIES)?;
     let named = read_entries(alloc, &entries)?;
     refuse_many(named.len())?;
-    let policies = read_policies(alloc, &named)?;
-    Ok(FilterRules::new(action, policies))
+    let (policies, bound) = read_policies(alloc, &named, limits, budget)?;
+    Ok(FilterRules::new(action, policies, bound))
 }
 
 /// Refuses rules with options of an audit log.

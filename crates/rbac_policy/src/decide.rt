@@ -1,43 +1,90 @@
 //! Decisions of an admitted filter.
 
-ghost use Rattle.std.specs.Prelude.{◌≡◌, ◌⊎◌, Bool, IfErr, IfOk, IsOk};
-ghost use Rattle.std.specs.List.{position_from};
-ghost use Rattle.rbac_policy.specs.Admitted.{filter_view};
-ghost use Rattle.rbac_policy.specs.Filter.{Condition};
-ghost use Rattle.rbac_policy.specs.Verdict.{IsUnconditional, IsVerdict, RunsOut, sides_match};
+ghost use Rattle.std.specs.Prelude.{◌≡◌, ◌≢◌, ◌⊎◌, Err, IfErr, IfOk, IsOk, map};
+ghost use Rattle.attributes.specs.Limits.{InLimits};
+ghost use Rattle.attributes.specs.Request.{IsRequest};
+ghost use Rattle.cel_tree.specs.Checked.{CelChecked};
+ghost use Rattle.rbac_policy.specs.Admission.{IsAdmittedAs};
+ghost use Rattle.rbac_policy.specs.Admitted.{filter_view, limits_view};
+ghost use Rattle.rbac_policy.specs.Condition.{TakesTooLong, is_met};
+ghost use Rattle.rbac_policy.specs.Filter.{Filter};
 ghost use Rattle.rbac_policy.specs.Named.{policy_view};
+ghost use Rattle.rbac_policy.specs.Verdict.{IsUnconditional, IsVerdict, SomeAsked, sides_match};
+ghost use Rattle.rbac_policy.specs.steps.Runs.{HaveNoConditions, IsFirst, PassesBound, SomePasses, Tells};
 
 use crate::filter::{Admitted, Verdict};
 use crate::policy::NamedPolicy;
 use attributes::Request;
 use rbac_match::any_matches;
 use stack_machine::RunError;
+use std::alloc::Global;
 
 impl Admitted {
-    /// What the filter answers the request. A filter without conditions always answers, and takes
-    /// no memory. With conditions it may answer `Memory`, and `OutOfSteps` where one that it asks
-    /// for takes more steps than it may.
+    /// What the filter answers the request. Its conditions have their meaning in CEL, and an error is
+    /// no match. A condition is run only where a permission and a principal match and no policy before
+    /// matched. A filter without conditions always answers, and takes no memory. With conditions it may
+    /// answer `Memory`; and `OutOfSteps`, for a request outside the limits, exactly where a condition
+    /// that is asked for takes more steps than it may.
     pub fn decide(&self, request: &Request) -> Result<Verdict, RunError>
-        ensures found { IfOk result (λ v. (is_met : Condition → Bool)
-            → IsVerdict is_met request.now (filter_view self.now) v.allowed v.matched) }
+        ensures found { IfOk result (λ v. (filter : Filter CelChecked)
+            → IsAdmittedAs (limits_view self.now) filter (filter_view self.now)
+            → IsVerdict (is_met request.now) request.now filter v.allowed v.matched) }
         ensures always { IsUnconditional (filter_view self.now) → IsOk result }
-        ensures fault { IfErr result (λ e. (e ≡ RunError.Memory)
-            ⊎ ((e ≡ RunError.OutOfSteps) × ((is_met is_too_long : Condition → Bool)
-            → RunsOut is_met is_too_long request.now (filter_view self.now)))) }
+        ensures fault { IfErr result (λ e. (e ≡ RunError.Memory) ⊎ ((e ≡ RunError.OutOfSteps)
+            × ((filter : Filter CelChecked)
+            → IsAdmittedAs (limits_view self.now) filter (filter_view self.now)
+            → SomeAsked (is_met request.now) (TakesTooLong (limits_view self.now) request.now)
+            request.now filter))) }
+        ensures told { (filter : Filter CelChecked)
+            → IsAdmittedAs (limits_view self.now) filter (filter_view self.now)
+            → SomeAsked (is_met request.now) (TakesTooLong (limits_view self.now) request.now)
+            request.now filter
+            → (result ≡ Err RunError.Memory) ⊎ (result ≡ Err RunError.OutOfSteps) }
+        ensures within { (filter : Filter CelChecked)
+            → IsAdmittedAs (limits_view self.now) filter (filter_view self.now)
+            → InLimits request.now (limits_view self.now) → result ≢ Err RunError.OutOfSteps }
     {
-        let matched = first_match(self.named_policies(), request);
+        request_is_sound(request);
+        let matched = first_match(self.alloc(), self.named_policies(), request)?;
         let allowed = self.action().allows(matched.is_some());
         Ok(Verdict { allowed, matched })
     }
 }
 
-/// The first of the policies that matches the request; none of them has a condition.
-fn first_match(policies: &[NamedPolicy], request: &Request) -> Option<usize>
-    ensures { result ≡ position_from (λ p. sides_match request.now (policy_view p)) 0 policies.now }
+/// The number of the first of the policies that matches the request.
+fn first_match(
+    alloc: Global,
+    policies: &[NamedPolicy],
+    request: &Request,
+) -> Result<Option<usize>, RunError>
+    ensures found { IfOk result (λ matched.
+        IsFirst request.now 0 (map policy_view policies.now) matched) }
+    ensures always { HaveNoConditions (map policy_view policies.now) → IsOk result }
+    ensures fault { IfErr result (λ e. (e ≡ RunError.Memory) ⊎ ((e ≡ RunError.OutOfSteps)
+        × SomePasses request.now (map policy_view policies.now))) }
 {
-    policies
-        .iter()
-        .position(|policy| sides_match(policy, request))
+    for (number, policy) in policies.iter().enumerate() {
+        if policy_matches(alloc, policy, request)? {
+            return Ok(Some(number));
+        }
+    }
+    Ok(None)
+}
+
+/// Whether the policy matches the request: its sides, and then its condition, if it has one.
+fn policy_matches(alloc: Global, policy: &NamedPolicy, request: &Request) -> Result<bool, RunError>
+    ensures found { IfOk result (Tells request.now (policy_view policy.now)) }
+    ensures always { (policy_view policy.now).condition ≡ None → IsOk result }
+    ensures fault { IfErr result (λ e. (e ≡ RunError.Memory) ⊎ ((e ≡ RunError.OutOfSteps)
+        × PassesBound request.now (policy_view policy.now))) }
+{
+    if !sides_match(policy, request) {
+        return Ok(false);
+    }
+    match &policy.condition {
+        None => Ok(true),
+        Some(condition) => condition.is_met(alloc, request),
+    }
 }
 
 /// Whether some permission and some principal of the policy match the request.
@@ -45,4 +92,11 @@ fn sides_match(policy: &NamedPolicy, request: &Request) -> bool
     ensures { result ≡ sides_match request.now (policy_view policy.now) }
 {
     any_matches(&policy.permissions, request) && any_matches(&policy.principals, request)
+}
+
+/// What holds of each request.
+fn request_is_sound(request: &Request)
+    ensures { IsRequest request.now }
+{
+    request.conn();
 }

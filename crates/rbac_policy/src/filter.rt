@@ -1,12 +1,14 @@
 //! An admitted filter, and what it answers.
 
-ghost use Rattle.std.specs.Prelude.{IsTrue};
+ghost use Rattle.std.specs.Prelude.{◌≡◌, IsTrue};
 ghost use Rattle.std.specs.FinMap.{is_sorted};
 ghost use Rattle.attributes.specs.Headers.{name_cmp};
+ghost use Rattle.rbac_policy.specs.Enforced.{bounds_of};
 ghost use Rattle.rbac_policy.specs.Named.{named_views};
 
 use crate::policy::NamedPolicy;
 use attributes::Limits;
+use std::alloc::Global;
 
 /// What a filter does with a request that some policy matches.
 #[derive(Clone, Copy, PartialEq, Eq, Debug)]
@@ -20,7 +22,6 @@ pub enum Action {
 }
 
 impl Action {
-    ghost use Rattle.std.specs.Prelude.{◌≡◌};
     ghost use Rattle.rbac_policy.specs.steps.Action.{allows};
 
     /// Whether it lets a request through, by whether some policy matches.
@@ -44,28 +45,36 @@ pub struct Verdict {
     pub matched: Option<usize>,
 }
 
-/// What a filter enforces: its policies stand in ascending order of their names, each name once.
+/// What a filter enforces: its policies stand in ascending order of their names, each name once, and
+/// their conditions may take so many steps together.
 #[derive(Debug, Drop)]
 pub(crate) struct FilterRules {
     action: Action,
     policies: Vec<NamedPolicy>,
+    bound: u64,
     ghost ordered: { IsTrue (is_sorted name_cmp (named_views policies.items)) },
+    ghost bounded: { bound ≡ bounds_of (named_views policies.items) },
 }
 
 impl FilterRules {
-    ghost use Rattle.std.specs.Prelude.{◌≡◌};
     ghost use Rattle.std.specs.FinMap.{from_entries};
     ghost use Rattle.rbac_policy.specs.Admitted.{rules_view};
 
-    /// The rules of an action and policies, which stand in ascending order of their names.
-    pub(crate) fn new(action: Action, policies: Vec<NamedPolicy>) -> FilterRules
-        requires { IsTrue (is_sorted name_cmp (named_views policies.items)) }
+    /// The rules of an action and policies, which stand in ascending order of their names, and whose
+    /// conditions may take so many steps together.
+    pub(crate) fn new(action: Action, policies: Vec<NamedPolicy>, bound: u64) -> FilterRules
+        requires ordered { IsTrue (is_sorted name_cmp (named_views policies.items)) }
+        requires bounded { bound ≡ bounds_of (named_views policies.items) }
         ensures { rules_view result ≡ record {
           action = action;
           policies = from_entries (named_views policies.items);
         } }
     {
-        FilterRules { action, policies }
+        FilterRules {
+            action,
+            policies,
+            bound,
+        }
     }
 }
 
@@ -77,9 +86,9 @@ pub struct Admitted {
 }
 
 impl Admitted {
-    ghost use Rattle.std.specs.Prelude.{◌≡◌};
     ghost use Rattle.std.specs.FinMap.{len};
     ghost use Rattle.rbac_policy.specs.Admitted.{rules_view, filter_view, limits_view};
+    ghost use Rattle.rbac_policy.specs.Enforced.{total_bound};
 
     /// The filter of these rules, for requests within the limits.
     pub(crate) fn new(rules: FilterRules, limits: Limits) -> Admitted
@@ -103,6 +112,11 @@ impl Admitted {
         &self.rules.policies
     }
 
+    /// The allocator of its policies, from which runs of conditions take their memory.
+    pub(crate) fn alloc(&self) -> Global {
+        *self.rules.policies.allocator()
+    }
+
     /// The limits of the requests for which it was admitted.
     pub fn limits(&self) -> &Limits
         ensures { result.now ≡ limits_view self.now }
@@ -117,11 +131,10 @@ impl Admitted {
         self.rules.policies.len()
     }
 
-    /// How many steps its conditions take at most, together: none, while filters have no
-    /// conditions.
+    /// How many steps its conditions may take together.
     pub fn bound(&self) -> u64
-        ensures { result ≡ 0 }
+        ensures { result ≡ total_bound (filter_view self.now) }
     {
-        0
+        self.rules.bound
     }
 }

@@ -5,7 +5,9 @@ ghost use Rattle.attributes.specs.Limits.{LimitsValue};
 ghost use Rattle.proto_wire.specs.declared.refusal.Refusal.{Refusal};
 ghost use Rattle.rbac_policy.specs.Admission.{Admissible, Admits, Fault};
 ghost use Rattle.attributes.specs.Request.{RequestValue};
-ghost use Rattle.rbac_policy.specs.Filter.{Condition, Filter};
+ghost use Rattle.cel_tree.specs.Checked.{CelChecked};
+ghost use Rattle.rbac_policy.specs.Condition.{Program};
+ghost use Rattle.rbac_policy.specs.Filter.{Filter};
 ghost use Rattle.rbac_policy.specs.Verdict.{IsVerdict};
 
 /// No bytes are both admissible and at fault.
@@ -20,15 +22,20 @@ pub fn admission_total()
         → Admissible bytes limits budget ⊎ ((e : Refusal) × Fault e bytes limits budget) }
 {}
 
-/// No bytes are the message of two filters.
+/// Bytes are admitted as one filter at most, and as one that is enforced.
 pub fn filter_unique()
-    ensures { (bytes : List ℕ) (limits : LimitsValue) (budget : ℕ) (f g : Filter)
-        → Admits bytes limits budget f → Admits bytes limits budget g → f ≡ g }
+    ensures { (bytes : List ℕ) (limits : LimitsValue) (budget : ℕ) (f f' : Filter CelChecked)
+        (g g' : Filter Program)
+        → Admits bytes limits budget f g → Admits bytes limits budget f' g' → (f ≡ f') × (g ≡ g') }
 {}
 
-/// A filter gives a request one verdict at most, by what its conditions answer.
+/// A filter gives a request one verdict at most, by which of its conditions the request meets: as it is
+/// written, and as it is enforced.
 pub fn verdict_unique()
-    ensures { (is_met : Condition → Bool) (r : RequestValue) (filter : Filter) (a b : Bool)
-        (m n : Option ℕ)
+    ensures written { (is_met : CelChecked → Bool) (r : RequestValue) (filter : Filter CelChecked)
+        (a b : Bool) (m n : Option ℕ)
+        → IsVerdict is_met r filter a m → IsVerdict is_met r filter b n → (a ≡ b) × (m ≡ n) }
+    ensures enforced { (is_met : Program → Bool) (r : RequestValue) (filter : Filter Program)
+        (a b : Bool) (m n : Option ℕ)
         → IsVerdict is_met r filter a m → IsVerdict is_met r filter b n → (a ≡ b) × (m ≡ n) }
 {}

@@ -2,6 +2,7 @@
 #![tactic(auto)]
 
 mod admission;
+mod condition;
 mod decide;
 mod filter;
 mod keys;

@@ -1,6 +1,6 @@
 //! Policies, and the reading of their messages.
 
-ghost use Rattle.std.specs.Prelude.{◌≡◌, ◌≢◌, ◌⊎◌, [], IfOk, IfErr, OnOk, MatchBool, map};
+ghost use Rattle.std.specs.Prelude.{◌≡◌, ◌≢◌, ◌≤◌, ◌+◌, ◌⊎◌, ◌∷◌, [], IfOk, IfErr, OnOk, MatchBool, map, option_map};
 ghost use Rattle.std.specs.String.{string_bytes};
 ghost use Rattle.proto_wire.specs.Fields.{field_view};
 ghost use Rattle.proto_wire.specs.Values.{payloads};
@@ -10,76 +10,143 @@ ghost use Rattle.proto_wire.specs.Refusal.{MemoryOr};
 ghost use Rattle.proto_wire.specs.Merge.{parts_view};
 ghost use Rattle.rbac_match.specs.Rules.{IsRule, AreRules, SomeRuleFault};
 ghost use Rattle.rbac_match.specs.View.{rules_view};
-ghost use Rattle.rbac_policy.specs.Message.{IsPolicy, LacksConditions, HasBothSides, rule_depth};
+ghost use Rattle.rbac_policy.specs.Enforced.{bound_of, bounds_of};
+ghost use Rattle.rbac_policy.specs.Keys.{checked_condition_field, condition_field};
+ghost use Rattle.rbac_policy.specs.Message.{HasBothSides, rule_depth};
 ghost use Rattle.rbac_policy.specs.Fault.{PolicyFault};
-ghost use Rattle.rbac_policy.specs.Named.{policy_view, named_views};
+ghost use Rattle.rbac_policy.specs.Named.{named_views, policy_view, program_view};
+ghost use Rattle.rbac_policy.specs.steps.Conditions.{ConditionFault, ConditionsFault, HasProgram, IsEnforced};
 ghost use Rattle.rbac_policy.specs.steps.Named.{names_view};
-ghost use Rattle.proto_wire.specs.declared.refusal.Refusal.TheVariants.{Missing, Unsupported};
+ghost use Rattle.proto_wire.specs.declared.refusal.Refusal.TheVariants.{BothConditions, Missing, Unsupported};
 
+use crate::condition::{Condition, read_condition};
 use crate::keys::{has_payload, policy_keys};
 use crate::numbers::{CHECKED_CONDITION, CONDITION, PERMISSIONS, PRINCIPALS};
-use proto_wire::{Field, Refusal, last_len, payloads_of, read_message};
+use attributes::Limits;
+use proto_wire::{Field, Refusal, payloads_of, read_message};
 use rbac_match::{RULE_DEPTH, Rule, Side, read_rules};
 use std::alloc::Global;
 use std::collections::BTreeMap;
 
-/// A policy with its name: it matches where some permission and some principal do.
+/// A policy with its name: it matches where some permission, some principal and the condition do, if
+/// it has one.
 #[derive(Debug, Drop)]
 pub(crate) struct NamedPolicy {
     pub name: String,
     pub permissions: Vec<Rule>,
     pub principals: Vec<Rule>,
+    pub condition: Option<Condition>,
 }
 
-/// Reads each policy of the map, in ascending order of names.
+impl NamedPolicy {
+    /// How many steps its condition may take.
+    fn bound(&self) -> u64
+        ensures { result ≡ bound_of (policy_view self.now).condition }
+    {
+        match &self.condition {
+            None => 0,
+            Some(condition) => condition.bound,
+        }
+    }
+}
+
+/// Reads each policy of the map, in ascending order of names, for requests within the limits; their
+/// conditions may take so many steps together. Gives besides how many they take.
 pub(crate) fn read_policies(
     alloc: Global,
     named: &BTreeMap<&str, Vec<&[u8]>>,
-) -> Result<Vec<NamedPolicy>, Refusal>
-    ensures found { IfOk result (λ policies. Held text IsPolicy (names_view named.now.entries)
-        (named_views policies.items)) }
-    ensures fault { IfErr result (MemoryOr (SomeValueFault text PolicyFault
-        (names_view named.now.entries))) }
+    limits: &Limits,
+    budget: u64,
+) -> Result<(Vec<NamedPolicy>, u64), Refusal>
+    ensures found { IfOk result (λ r. Held text (IsEnforced limits.now)
+        (names_view named.now.entries) (named_views r.0.items)) }
+    ensures cost { IfOk result (λ r. r.1 ≡ bounds_of (named_views r.0.items)) }
+    ensures cheap { IfOk result (λ r. r.1 ≤ budget) }
+    ensures fault { IfErr result (MemoryOr (λ e.
+        SomeValueFault text PolicyFault (names_view named.now.entries) e
+        ⊎ ConditionsFault (names_view named.now.entries) limits.now budget e)) }
 {
     let mut policies = Vec::new(alloc);
+    let mut spent = 0;
     for (name, parts) in named {
-        policies.push(read_policy(alloc, name, parts)?)?;
+        let policy = read_policy(alloc, name, parts, limits, budget - spent)?;
+        spent += policy.bound();
+        policies.push(policy)?;
     }
-    Ok(policies)
+    Ok((policies, spent))
 }
 
-/// Reads the policy that stands in the parts. Its conditions are not read yet, and refused.
-fn read_policy(alloc: Global, name: &str, parts: &[&[u8]]) -> Result<NamedPolicy, Refusal>
+/// Reads the policy that stands in the parts, for requests within the limits, with so many steps
+/// left for its condition.
+fn read_policy(
+    alloc: Global,
+    name: &str,
+    parts: &[&[u8]],
+    limits: &Limits,
+    left: u64,
+) -> Result<NamedPolicy, Refusal>
     ensures named { IfOk result (λ policy. string_bytes policy.name ≡ name.now) }
-    ensures found { IfOk result (λ policy. IsPolicy (parts_view parts.now) (policy_view policy)) }
-    ensures fault { IfErr result (MemoryOr (PolicyFault (parts_view parts.now))) }
+    ensures found { IfOk result (λ policy. IsEnforced limits.now (parts_view parts.now)
+        (policy_view policy)) }
+    ensures cheap { IfOk result (λ policy. bound_of (policy_view policy).condition ≤ left) }
+    ensures fault { IfErr result (MemoryOr (λ e. PolicyFault (parts_view parts.now) e
+        ⊎ ConditionsFault ((name.now, parts_view parts.now) ∷ []) limits.now left e)) }
 {
     let fields = read_message(alloc, parts, policy_keys())?;
-    refuse_conditions(&fields)?;
+    refuse_unchecked(&fields)?;
     require_sides(&fields)?;
     let permissions = read_side(alloc, Side::Permission, &fields, PERMISSIONS)?;
     let principals = read_side(alloc, Side::Principal, &fields, PRINCIPALS)?;
+    let condition = read_checked(alloc, &fields, limits, left)?;
     let name = String::from_str(alloc, name)?;
     Ok(NamedPolicy {
         name,
         permissions,
         principals,
+        condition,
     })
 }
 
-/// Refuses a policy that has a condition.
-fn refuse_conditions(fields: &[Field<'_>]) -> Result<(), Refusal>
-    ensures found { OnOk result (LacksConditions (map field_view fields.now)) }
-    ensures fault { IfErr result (λ e. ¬ (LacksConditions (map field_view fields.now))
-        × (e ≡ Unsupported)) }
+/// Refuses a policy that has an unchecked condition, alone or beside a checked one.
+fn refuse_unchecked(fields: &[Field<'_>]) -> Result<(), Refusal>
+    ensures found { OnOk result (payloads condition_field (map field_view fields.now) ≡ []) }
+    ensures fault { IfErr result (λ e. (payloads condition_field (map field_view fields.now) ≢ [])
+        × (((e ≡ BothConditions)
+        × (payloads checked_condition_field (map field_view fields.now) ≢ []))
+        ⊎ ((e ≡ Unsupported)
+        × (payloads checked_condition_field (map field_view fields.now) ≡ [])))) }
 {
-    if has_payload(fields, CONDITION) {
-        return Err(Refusal::Unsupported);
+    if !has_payload(fields, CONDITION) {
+        return Ok(());
     }
     if has_payload(fields, CHECKED_CONDITION) {
-        return Err(Refusal::Unsupported);
+        return Err(Refusal::BothConditions);
     }
-    Ok(())
+    Err(Refusal::Unsupported)
+}
+
+/// Reads the condition that a type checker left, if there is one.
+fn read_checked(
+    alloc: Global,
+    fields: &[Field<'_>],
+    limits: &Limits,
+    left: u64,
+) -> Result<Option<Condition>, Refusal>
+    ensures found { IfOk result (λ found. HasProgram limits.now
+        (payloads checked_condition_field (map field_view fields.now))
+        (option_map program_view found)) }
+    ensures cheap { IfOk result (λ found. bound_of (option_map program_view found) ≤ left) }
+    ensures fault { IfErr result (MemoryOr (λ e.
+        (payloads checked_condition_field (map field_view fields.now) ≢ [])
+        × ConditionFault (payloads checked_condition_field (map field_view fields.now)) limits.now
+        left e)) }
+{
+    if !has_payload(fields, CHECKED_CONDITION) {
+        return Ok(None);
+    }
+    let parts = payloads_of(alloc, fields, CHECKED_CONDITION)?;
+    let condition = read_condition(alloc, &parts, limits, left)?;
+    Ok(Some(condition))
 }
 
 /// Refuses a policy that lacks permissions or principals.

@@ -1,4 +1,9 @@
-use Rattle.std.proofs.Common.{◌≡◌, ◌≢◌, ◌∷◌, [], List, map, inr, ap, ◌∙◌}
+use Rattle.std.proofs.Common.{◌≡◌, ◌≢◌, ◌≤◌, ◌⊎◌, ◌∷◌, [], ℕ, List, map, inl, inr, refl, ap, ◌∙◌}
+use Rattle.std.specs.FinMap.{entries}
+use Rattle.attributes.specs.Limits.{LimitsValue}
+use Rattle.cel_tree.specs.Checked.{CelChecked}
+use Rattle.proto_wire.specs.Maps.{Entry, text, Readable, map_of}
+use Rattle.proto_wire.specs.declared.refusal.Refusal.{Refusal}
 use Rattle.std.proofs.lemmas.Result.{MatchResult-weaker}
 use Rattle.proto_wire.specs.Fields.{Wire, field_view}
 use Rattle.proto_wire.specs.Values.{payloads}
@@ -6,14 +11,26 @@ use Rattle.proto_wire.specs.Merge.{parts_view}
 use Rattle.proto_wire.specs.Messages.{IsMessage, MessageFault}
 use Rattle.proto_wire.proofs.Exits.{exit_memory_or, memory_or_weaker}
 use Rattle.rbac_policy.specs.Keys.{filter_keys, rules_keys, rules_field}
-use Rattle.rbac_policy.specs.Fault.{FilterFault, RulesFault, filter_fields, no_rules, rules_fields, in_rules}
+use Rattle.rbac_policy.specs.Admission.{Admits}
+use Rattle.rbac_policy.specs.Admitted.{rules_view}
+use Rattle.rbac_policy.specs.Enforced.{Enforces, total_bound}
+use Rattle.rbac_policy.specs.Filter.{Filter}
+use Rattle.rbac_policy.specs.Message.{AreFilterRules}
+use Rattle.rbac_policy.specs.steps.Conditions.{ConditionsFault}
+use Rattle.rbac_policy.proofs.Spending.{both_ok}
+use Rattle.rbac_policy.specs.Fault.{FilterFault, HoldsPolicies, RulesFault, filter_fields, no_rules, rules_fields, in_rules}
 use Rattle.rbac_policy.proofs.admission.read_filter.Goals as goal
+
+-- what is wrong with the filter
+abbrev Fails : List ℕ → LimitsValue → ℕ → Refusal → Type 0
+Fails bytes limits budget e = FilterFault bytes e ⊎ ((policies : List (Entry text)) × HoldsPolicies bytes policies
+    × ConditionsFault policies limits budget e)
 
 pub returns-in_err-top-clause-fault : goal.returns-in_err-top-clause-fault
 returns-in_err-top-clause-fault c =
-    exit_memory_or (MessageFault filter_keys (c.args.bytes.now ∷ [])) (FilterFault c.args.bytes.now)
+    exit_memory_or (MessageFault filter_keys (c.args.bytes.now ∷ [])) (Fails c.args.bytes.now c.args.limits.now c.args.budget)
     c.from_residual.result _ c.from_residual.ensures.1 (rw c.filter_keys.ensures at c.in_err-top.ensures.fault)
-    (λ e bad. filter_fields bad)
+    (λ e bad. inl (filter_fields bad))
 
 pub returns-in_err-require_rules-clause-fault : goal.returns-in_err-require_rules-clause-fault
 returns-in_err-require_rules-clause-fault c =
@@ -21,19 +38,19 @@ returns-in_err-require_rules-clause-fault c =
     let message : IsMessage filter_keys (c.args.bytes.now ∷ []) top = rw c.filter_keys.ensures at c.in_ok-top.ensures.found in
     let bad = c.in_err-require_rules.ensures.fault in
     let none : payloads rules_field top ≡ [] = rw c.deref.ensures.value at bad.1 in
-    exit_memory_or (FilterFault c.args.bytes.now) (FilterFault c.args.bytes.now)
+    exit_memory_or (Fails c.args.bytes.now c.args.limits.now c.args.budget) (Fails c.args.bytes.now c.args.limits.now c.args.budget)
     c.from_residual-in_err-require_rules.result _ c.from_residual-in_err-require_rules.ensures.1
-    (inr (no_rules top message none bad.0)) (λ e fault. fault)
+    (inr (inl (no_rules top message none bad.0))) (λ e fault. fault)
 
 pub returns-in_err-fields-clause-fault : goal.returns-in_err-fields-clause-fault
 returns-in_err-fields-clause-fault c =
     let top : List Wire = map field_view c.in_ok-top.top.items in
     let there : payloads rules_field top ≢ [] = rw c.deref.ensures.value at c.in_ok-require_rules.ensures.found in
     let parts : parts_view c.deref-3.result.now ≡ payloads rules_field top = ap parts_view c.deref-3.ensures.value ∙ (rw c.deref-2.ensures.value at c.in_ok-parts.ensures) in
-    exit_memory_or (MessageFault rules_keys (payloads rules_field top)) (FilterFault c.args.bytes.now)
+    exit_memory_or (MessageFault rules_keys (payloads rules_field top)) (Fails c.args.bytes.now c.args.limits.now c.args.budget)
     c.from_residual-in_err-fields.result _ c.from_residual-in_err-fields.ensures.1
     (rw (parts, c.rules_keys.ensures) at c.in_err-fields.ensures.fault)
-    (λ e bad. rules_fields top c.in_ok-top.ensures.found.0 there bad)
+    (λ e bad. inl (rules_fields top c.in_ok-top.ensures.found.0 there bad))
 
 pub returns-clause-fault : goal.returns-clause-fault
 returns-clause-fault c =
@@ -43,8 +60,24 @@ returns-clause-fault c =
     let parts : parts_view c.deref-3.result.now ≡ payloads rules_field top = ap parts_view c.deref-3.ensures.value ∙ (rw c.deref-2.ensures.value at c.in_ok-parts.ensures) in
     let inner : IsMessage rules_keys (payloads rules_field top) fs = rw (parts, c.rules_keys.ensures) at c.in_ok-fields.ensures.found in
     MatchResult-weaker c.read_rules.result c.read_rules.ensures.fault (λ _ _. tt)
-    (λ e h. memory_or_weaker (RulesFault fs) (FilterFault c.args.bytes.now) e
-    (λ d bad. in_rules top fs c.in_ok-top.ensures.found.0 there inner.0 bad) (rw c.deref-4.ensures.value at h))
+    (λ e h. memory_or_weaker (λ d. RulesFault fs d ⊎ ((read : List (Entry text)) × Readable text (payloads 2 fs) read × ConditionsFault (entries (map_of text read)) c.args.limits.now c.args.budget d))
+    (Fails c.args.bytes.now c.args.limits.now c.args.budget) e
+    (λ d bad. elim bad [
+      | inl own ↦ inl (in_rules top fs c.in_ok-top.ensures.found.0 there inner.0 own)
+      | inr (read, readable, cost) ↦ inr (
+        entries (map_of text read),
+        record {
+          top = top;
+          fs = fs;
+          read = read;
+          outer = c.in_ok-top.ensures.found.0;
+          inner = inner.0;
+          readable = readable;
+          named = refl;
+        },
+        cost,
+      )
+    ]) (rw c.deref-4.ensures.value at h))
 
 pub returns-clause-found : goal.returns-clause-found
 returns-clause-found c =
@@ -54,11 +87,15 @@ returns-clause-found c =
     let parts : parts_view c.deref-3.result.now ≡ payloads rules_field top = ap parts_view c.deref-3.ensures.value ∙ (rw c.deref-2.ensures.value at c.in_ok-parts.ensures) in
     let message : IsMessage filter_keys (c.args.bytes.now ∷ []) top = rw c.filter_keys.ensures at c.in_ok-top.ensures.found in
     let inner : IsMessage rules_keys (payloads rules_field top) fs = rw (parts, c.rules_keys.ensures) at c.in_ok-fields.ensures.found in
-    MatchResult-weaker c.read_rules.result c.read_rules.ensures.found (λ rules h. record {
-      top = top;
-      fs = fs;
-      message = message;
-      there = there;
-      inner = inner;
-      rules = rw c.deref-4.ensures.value at h;
-    }) (λ _ _. tt)
+    both_ok (λ rules. (filter : Filter CelChecked) × AreFilterRules fs filter × Enforces c.args.limits.now filter (rules_view rules))
+    (λ rules. total_bound (rules_view rules) ≤ c.args.budget)
+    (λ rules. (filter : Filter CelChecked) × Admits c.args.bytes.now c.args.limits.now c.args.budget filter (rules_view rules))
+    c.read_rules.result (rw c.deref-4.ensures.value at c.read_rules.ensures.found) c.read_rules.ensures.cheap
+    (λ rules (filter, are, enforces) cheap. (
+      filter,
+      record {
+        message = record { top = top; fs = fs; message = message; there = there; inner = inner; rules = are };
+        enforces = enforces;
+        cheap = cheap;
+      },
+    ))

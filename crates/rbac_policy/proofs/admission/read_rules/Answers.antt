@@ -1,31 +1,46 @@
-use Rattle.std.proofs.Common.{◌≡◌, ◌<◌, ◌≤◌, List, map, length, inr, sym, ap, ◌∙◌, arith}
+use Rattle.std.proofs.Common.{◌≡◌, ◌<◌, ◌≤◌, ◌⊎◌, ℕ, List, T, inl, inr, map, length, sym, ap, subst, arith, ◌∙◌}
 use Rattle.std.proofs.lemmas.List.{length-map}
-use Rattle.std.specs.FinMap.{entries, len, len-entries}
+use Rattle.std.specs.FinMap.{FinMap, entries, entries_sorted, from_entries, is_sorted, len, len-entries}
+use Rattle.attributes.specs.Headers.{name_cmp}
+use Rattle.attributes.specs.Limits.{LimitsValue}
+use Rattle.cel_tree.specs.Checked.{CelChecked}
 use Rattle.proto_wire.specs.Fields.{Wire, field_view}
 use Rattle.proto_wire.specs.Values.{payloads}
 use Rattle.proto_wire.specs.Merge.{parts_view}
 use Rattle.proto_wire.specs.declared.refusal.Refusal.{Refusal}
 use Rattle.proto_wire.proofs.Exits.{exit_memory_or}
+use Rattle.rbac_policy.specs.Admitted.{rules_view}
+use Rattle.rbac_policy.specs.Condition.{Program}
+use Rattle.rbac_policy.specs.Enforced.{bounds_of, total_bound}
+use Rattle.rbac_policy.specs.Filter.{Filter, Policy}
 use Rattle.rbac_policy.specs.Message.{IsPolicy, most_policies}
 use Rattle.rbac_policy.specs.Fault.{PolicyFault, RulesFault, in_entry, too_many, in_policy}
 use Rattle.rbac_policy.specs.Named.{named_views}
-use Rattle.proto_wire.specs.Maps.{Entry, text, AreEntries, map_of, SomeEntryFault, SomeValueFault}
+use Rattle.rbac_policy.specs.steps.Conditions.{ConditionsFault, IsEnforced}
+use Rattle.proto_wire.specs.Maps.{Entry, text, AreEntries, Readable, map_of, SomeEntryFault, SomeValueFault}
 use Rattle.proto_wire.specs.steps.Maps.{Held}
 use Rattle.proto_wire.proofs.MapLaws.{entries_readable}
 use Rattle.proto_wire.proofs.MapValues.{held_ordered, held_are_values}
+use Rattle.rbac_policy.proofs.Besides.{sorted_beside}
+use Rattle.rbac_policy.proofs.Enforcing.{apart, filter_enforced, total_of}
 use Rattle.rbac_policy.proofs.admission.read_rules.Goals as goal
+
+-- what is wrong with the rules
+abbrev Fails : List Wire → LimitsValue → ℕ → Refusal → Type 0
+Fails fs limits budget e = RulesFault fs e ⊎ ((read : List (Entry text)) × Readable text (payloads 2 fs) read
+    × ConditionsFault (entries (map_of text read)) limits budget e)
 
 pub returns-in_err-named-clause-fault : goal.returns-in_err-named-clause-fault
 returns-in_err-named-clause-fault c =
     let fs : List Wire = map field_view c.args.fields.now in
     let parts : parts_view c.deref.result.now ≡ payloads 2 fs = ap parts_view c.deref.ensures.value ∙ c.in_ok-entries.ensures in
-    exit_memory_or (SomeEntryFault text (payloads 2 fs)) (RulesFault fs)
+    exit_memory_or (SomeEntryFault text (payloads 2 fs)) (Fails fs c.args.limits.now c.args.budget)
     c.from_residual-in_err-named.result _ c.from_residual-in_err-named.ensures.1 (rw parts at c.in_err-named.ensures.fault)
-    (λ e bad. in_entry bad)
+    (λ e bad. inl (in_entry bad))
 
 pub returns-in_err-refuse_many-clause-fault : goal.returns-in_err-refuse_many-clause-fault
 returns-in_err-refuse_many-clause-fault c =
-    let F : Refusal → Type 0 = RulesFault (map field_view c.args.fields.now) in
+    let F : Refusal → Type 0 = Fails (map field_view c.args.fields.now) c.args.limits.now c.args.budget in
     let parts : parts_view c.deref.result.now ≡ payloads 2 (map field_view c.args.fields.now) = ap parts_view c.deref.ensures.value ∙ c.in_ok-entries.ensures in
     let es : List (Entry text) = c.in_ok-named.ensures.found.0 in
     let read : AreEntries text (payloads 2 (map field_view c.args.fields.now)) es = rw parts at c.in_ok-named.ensures.found.1 in
@@ -34,7 +49,7 @@ returns-in_err-refuse_many-clause-fault c =
     let above : most_policies < c.len.result = bad.1 in
     let many : most_policies < len (map_of text es) = omega (arith, size, c.len.ensures.len, above) in
     exit_memory_or F F c.from_residual-in_err-refuse_many.result _ c.from_residual-in_err-refuse_many.ensures.1
-    (inr (too_many es (entries_readable text _ es read) many bad.0)) (λ e fault. fault)
+    (inr (inl (too_many es (entries_readable text _ es read) many bad.0))) (λ e fault. fault)
 
 pub returns-in_err-policies-clause-fault : goal.returns-in_err-policies-clause-fault
 returns-in_err-policies-clause-fault c =
@@ -42,25 +57,51 @@ returns-in_err-policies-clause-fault c =
     let parts : parts_view c.deref.result.now ≡ payloads 2 fs = ap parts_view c.deref.ensures.value ∙ c.in_ok-entries.ensures in
     let es : List (Entry text) = c.in_ok-named.ensures.found.0 in
     let read : AreEntries text (payloads 2 fs) es = rw parts at c.in_ok-named.ensures.found.1 in
-    exit_memory_or (SomeValueFault text PolicyFault (entries (map_of text es))) (RulesFault fs)
+    let readable : Readable text (payloads 2 fs) es = entries_readable text _ es read in
+    exit_memory_or (λ e. SomeValueFault text PolicyFault (entries (map_of text es)) e ⊎ ConditionsFault (entries (map_of text es)) c.args.limits.now c.args.budget e)
+    (Fails fs c.args.limits.now c.args.budget)
     c.from_residual-in_err-policies.result _ c.from_residual-in_err-policies.ensures.1
     (rw c.in_ok-named.ensures.found.2 at c.in_err-policies.ensures.fault)
-    (λ e bad. in_policy es (entries_readable text _ es read) bad)
+    (λ e bad. elim bad [
+      | inl own ↦ inl (in_policy es readable own)
+      | inr cost ↦ inr (es, readable, cost)
+    ])
 
-pub new-requires : goal.new-requires
-new-requires c = held_ordered text IsPolicy (map_of text c.in_ok-named.ensures.found.0) (named_views c.in_ok-policies.policies.items) (rw c.in_ok-named.ensures.found.2 at c.in_ok-policies.ensures.found)
+pub new-requires-clause-ordered : goal.new-requires-clause-ordered
+new-requires-clause-ordered c = held_ordered text (IsEnforced c.args.limits.now) (map_of text c.in_ok-named.ensures.found.0) (named_views c.in_ok-policies.policies.items) (rw c.in_ok-named.ensures.found.2 at c.in_ok-policies.ensures.found)
+
+pub new-requires-clause-bounded : goal.new-requires-clause-bounded
+new-requires-clause-bounded c = c.in_ok-policies.ensures.cost
 
 pub returns-clause-found : goal.returns-clause-found
 returns-clause-found c =
     let parts : parts_view c.deref.result.now ≡ payloads 2 (map field_view c.args.fields.now) = ap parts_view c.deref.ensures.value ∙ c.in_ok-entries.ensures in
     let es : List (Entry text) = c.in_ok-named.ensures.found.0 in
-    let held : Held text IsPolicy (entries (map_of text es)) (named_views c.in_ok-policies.policies.items) = rw c.in_ok-named.ensures.found.2 at c.in_ok-policies.ensures.found in
-    let size : len (map_of text es) ≡ length c.in_ok-named.named.entries = len-entries (map_of text es) ∙ ap length (sym c.in_ok-named.ensures.found.2) ∙ length-map c.in_ok-named.named.entries _ in
-    rw c.new.ensures (record {
-      entries = es;
-      unaudited = c.in_ok-refuse_audit_options.ensures.found;
-      action = c.in_ok-action.ensures;
-      read = rw parts at c.in_ok-named.ensures.found.1;
-      few = (let few : c.len.result ≤ most_policies = c.in_ok-refuse_many.ensures.found in omega (arith, size, c.len.ensures.len, few));
-      policies = held_are_values text IsPolicy (map_of text es) (named_views c.in_ok-policies.policies.items) held;
-    })
+    let vs : List (List ℕ × Policy Program) = named_views c.in_ok-policies.policies.items in
+    let held : Held text (IsEnforced c.args.limits.now) (entries (map_of text es)) vs = rw c.in_ok-named.ensures.found.2 at c.in_ok-policies.ensures.found in
+    let split = apart c.args.limits.now (entries (map_of text es)) vs held in
+    let size : len (map_of text es) ≡ length c.in_ok-named.named.entries = len-entries (map_of text es) ∙ ap length (sym c.in_ok-named.ensures.found.2) ∙ length-map c.in_ok-named.named.entries _ in (
+      record { action = c.in_ok-action.action; policies = from_entries split.0 },
+      record {
+        entries = es;
+        unaudited = c.in_ok-refuse_audit_options.ensures.found;
+        action = c.in_ok-action.ensures;
+        read = rw parts at c.in_ok-named.ensures.found.1;
+        few = (let few : c.len.result ≤ most_policies = c.in_ok-refuse_many.ensures.found in omega (arith, size, c.len.ensures.len, few));
+        policies = held_are_values text IsPolicy (map_of text es) split.0 split.1;
+      },
+      rw c.new.ensures (filter_enforced c.args.limits.now c.in_ok-action.action split.0 vs split.2),
+    )
+
+pub returns-clause-cheap : goal.returns-clause-cheap
+returns-clause-cheap c =
+    let es : List (Entry text) = c.in_ok-named.ensures.found.0 in
+    let named : FinMap name_cmp (List (List ℕ)) = map_of text es in
+    let vs : List (List ℕ × Policy Program) = named_views c.in_ok-policies.policies.items in
+    let held : Held text (IsEnforced c.args.limits.now) (entries named) vs = rw c.in_ok-named.ensures.found.2 at c.in_ok-policies.ensures.found in
+    let sorted : T (is_sorted name_cmp vs) = subst T (sorted_beside (IsEnforced c.args.limits.now) (entries named) vs held) (entries_sorted named) in
+    let sum = total_of c.args.limits.now c.in_ok-action.action vs sorted in
+    let cost = c.in_ok-policies.ensures.cost in
+    let cheap = c.in_ok-policies.ensures.cheap in
+    let total : total_bound (rules_view c.new.result) ≡ bounds_of vs = ap total_bound c.new.ensures ∙ sum in
+    omega (arith, total, cost, cheap)

@@ -1,11 +1,13 @@
 use Rattle.std.specs.Map.Iter.{deref_pair}
-use Rattle.std.proofs.Common.{map}
+use Rattle.std.proofs.Common.{◌≡◌, ◌≤◌, map}
 use Rattle.proto_wire.specs.Maps.{text}
 use Rattle.proto_wire.specs.steps.Maps.{Held}
-use Rattle.rbac_policy.specs.Message.{IsPolicy}
+use Rattle.rbac_policy.specs.Enforced.{bounds_of}
 use Rattle.rbac_policy.specs.Named.{named_views}
+use Rattle.rbac_policy.specs.steps.Conditions.{IsEnforced}
 use Rattle.rbac_policy.specs.steps.Named.{names_view}
 use Rattle.rbac_policy.proofs.policy.read_policies.Given as goal
 
 abbrev pub invariant-loop-name : goal.invariant-loop-name
-invariant-loop-name l = Held text IsPolicy (names_view (map deref_pair l.yielded)) (named_views l.policies.items)
+invariant-loop-name l = Held text (IsEnforced l.limits) (names_view (map deref_pair l.yielded)) (named_views l.policies.items)
+    × (l.spent ≡ bounds_of (named_views l.policies.items)) × (l.spent ≤ l.budget)

@@ -1,51 +1,95 @@
-use Rattle.std.proofs.Common.{List, map, inr}
+use Rattle.std.proofs.Common.{ℕ, ◌≢◌, refl, ◌⊎◌, inl, inr, List, [], ◌∷◌, map, option_map}
+use Rattle.attributes.specs.Limits.{LimitsValue}
 use Rattle.proto_wire.specs.Fields.{Wire, field_view}
 use Rattle.proto_wire.specs.Values.{payloads}
 use Rattle.proto_wire.specs.Merge.{parts_view}
 use Rattle.proto_wire.specs.Messages.{IsMessage, MessageFault}
+use Rattle.proto_wire.specs.declared.refusal.Refusal.{Refusal}
 use Rattle.proto_wire.proofs.Exits.{exit_memory_or}
 use Rattle.rbac_match.specs.Rules.{SomeRuleFault}
+use Rattle.rbac_match.specs.View.{rules_view}
 use Rattle.rbac_match.specs.declared.rule.Side.TheVariants.{Permission, Principal}
-use Rattle.rbac_policy.specs.Keys.{policy_keys, permissions_field, principals_field}
+use Rattle.rbac_policy.specs.Keys.{policy_keys, permissions_field, principals_field, checked_condition_field}
 use Rattle.rbac_policy.specs.Message.{rule_depth}
-use Rattle.rbac_policy.specs.Fault.{PolicyFault, policy_fields, lacks_side, conditional, in_permission, in_principal}
+use Rattle.rbac_policy.specs.Fault.{PolicyFault, policy_fields, lacks_side, both_conditions, unchecked, in_permission, in_principal}
+use Rattle.rbac_policy.specs.Named.{program_view}
+use Rattle.rbac_policy.specs.steps.Conditions.{ConditionFault, ConditionsFault, HasProgram}
+use Rattle.rbac_policy.proofs.Spending.{condition_fails}
 use Rattle.rbac_policy.proofs.policy.read_policy.Goals as goal
+
+-- what is wrong with the policy
+abbrev Fails : List ℕ → List (List ℕ) → LimitsValue → ℕ → Refusal → Type 0
+Fails name parts limits left e = PolicyFault parts e ⊎ ConditionsFault ((name, parts) ∷ []) limits left e
 
 pub returns-in_err-fields-clause-fault : goal.returns-in_err-fields-clause-fault
 returns-in_err-fields-clause-fault c =
-    exit_memory_or (MessageFault policy_keys (parts_view c.args.parts.now)) (PolicyFault (parts_view c.args.parts.now))
+    exit_memory_or (MessageFault policy_keys (parts_view c.args.parts.now)) (Fails c.args.name.now (parts_view c.args.parts.now) c.args.limits.now c.args.left)
     c.from_residual.result _ c.from_residual.ensures.1 (rw c.policy_keys.ensures at c.in_err-fields.ensures.fault)
-    (λ e bad. policy_fields bad)
+    (λ e bad. inl (policy_fields bad))
 
-pub returns-in_err-refuse_conditions-clause-fault : goal.returns-in_err-refuse_conditions-clause-fault
-returns-in_err-refuse_conditions-clause-fault c =
-    let F = PolicyFault (parts_view c.args.parts.now) in
+pub returns-in_err-refuse_unchecked-clause-fault : goal.returns-in_err-refuse_unchecked-clause-fault
+returns-in_err-refuse_unchecked-clause-fault c =
+    let F = Fails c.args.name.now (parts_view c.args.parts.now) c.args.limits.now c.args.left in
     let fs : List Wire = map field_view c.in_ok-fields.fields.items in
-    let bad = rw c.deref.ensures.value at c.in_err-refuse_conditions.ensures.fault in
-    exit_memory_or F F c.from_residual-in_err-refuse_conditions.result _ c.from_residual-in_err-refuse_conditions.ensures.1
-    (inr (conditional fs c.in_ok-fields.ensures.found.0 bad.0 bad.1)) (λ e fault. fault)
+    let bad = rw c.deref.ensures.value at c.in_err-refuse_unchecked.ensures.fault in
+    exit_memory_or F F c.from_residual-in_err-refuse_unchecked.result _ c.from_residual-in_err-refuse_unchecked.ensures.1
+    (inr (inl (elim bad.1 [
+      | inl both ↦ both_conditions fs c.in_ok-fields.ensures.found.0 bad.0 both.1 both.0
+      | inr alone ↦ unchecked fs c.in_ok-fields.ensures.found.0 bad.0 alone.1 alone.0
+    ]))) (λ e fault. fault)
 
 pub returns-in_err-require_sides-clause-fault : goal.returns-in_err-require_sides-clause-fault
 returns-in_err-require_sides-clause-fault c =
-    let F = PolicyFault (parts_view c.args.parts.now) in
+    let F = Fails c.args.name.now (parts_view c.args.parts.now) c.args.limits.now c.args.left in
     let fs : List Wire = map field_view c.in_ok-fields.fields.items in
     let message : IsMessage policy_keys (parts_view c.args.parts.now) fs = rw c.policy_keys.ensures at c.in_ok-fields.ensures.found in
     let bad = rw c.deref-2.ensures.value at c.in_err-require_sides.ensures.fault in
     exit_memory_or F F c.from_residual-in_err-require_sides.result _ c.from_residual-in_err-require_sides.ensures.1
-    (inr (lacks_side fs message bad.0 bad.1)) (λ e fault. fault)
+    (inr (inl (lacks_side fs message bad.0 bad.1))) (λ e fault. fault)
 
 pub returns-in_err-permissions-clause-fault : goal.returns-in_err-permissions-clause-fault
 returns-in_err-permissions-clause-fault c =
     let fs : List Wire = map field_view c.in_ok-fields.fields.items in
-    exit_memory_or (SomeRuleFault Permission rule_depth (payloads permissions_field fs)) (PolicyFault (parts_view c.args.parts.now))
+    exit_memory_or (SomeRuleFault Permission rule_depth (payloads permissions_field fs)) (Fails c.args.name.now (parts_view c.args.parts.now) c.args.limits.now c.args.left)
     c.from_residual-in_err-permissions.result _ c.from_residual-in_err-permissions.ensures.1
     (rw c.deref-3.ensures.value at c.in_err-permissions.ensures.fault)
-    (λ e bad. in_permission fs c.in_ok-fields.ensures.found.0 bad)
+    (λ e bad. inl (in_permission fs c.in_ok-fields.ensures.found.0 bad))
 
 pub returns-in_err-principals-clause-fault : goal.returns-in_err-principals-clause-fault
 returns-in_err-principals-clause-fault c =
     let fs : List Wire = map field_view c.in_ok-fields.fields.items in
-    exit_memory_or (SomeRuleFault Principal rule_depth (payloads principals_field fs)) (PolicyFault (parts_view c.args.parts.now))
+    exit_memory_or (SomeRuleFault Principal rule_depth (payloads principals_field fs)) (Fails c.args.name.now (parts_view c.args.parts.now) c.args.limits.now c.args.left)
     c.from_residual-in_err-principals.result _ c.from_residual-in_err-principals.ensures.1
     (rw c.deref-4.ensures.value at c.in_err-principals.ensures.fault)
-    (λ e bad. in_principal fs c.in_ok-fields.ensures.found.0 bad)
+    (λ e bad. inl (in_principal fs c.in_ok-fields.ensures.found.0 bad))
+
+pub returns-in_err-condition-clause-fault : goal.returns-in_err-condition-clause-fault
+returns-in_err-condition-clause-fault c =
+    let fs : List Wire = map field_view c.in_ok-fields.fields.items in
+    let given : List (List ℕ) = payloads checked_condition_field fs in
+    exit_memory_or (λ e. (given ≢ []) × ConditionFault given c.args.limits.now c.args.left e) (Fails c.args.name.now (parts_view c.args.parts.now) c.args.limits.now c.args.left)
+    c.from_residual-in_err-condition.result _ c.from_residual-in_err-condition.ensures.1
+    (rw c.deref-5.ensures.value at c.in_err-condition.ensures.fault)
+    (λ e bad. condition_fails c.args.limits.now c.args.name.now (parts_view c.args.parts.now) c.args.left e fs c.in_ok-fields.ensures.found.0 bad.0 bad.1)
+
+pub returns-clause-found : goal.returns-clause-found
+returns-clause-found c =
+    let fs : List Wire = map field_view c.in_ok-fields.fields.items in
+    let has : HasProgram c.args.limits.now (payloads checked_condition_field fs) (option_map program_view c.in_ok-condition.condition) =
+    rw c.deref-5.ensures.value at c.in_ok-condition.ensures.found in (
+      record {
+        permissions = rules_view c.in_ok-permissions.permissions.items;
+        principals = rules_view c.in_ok-principals.principals.items;
+        condition = has.0;
+      },
+      record {
+        fs = fs;
+        message = rw c.policy_keys.ensures at c.in_ok-fields.ensures.found;
+        unchecked = rw c.deref.ensures.value at c.in_ok-refuse_unchecked.ensures.found;
+        condition = has.1;
+        sides = rw c.deref-2.ensures.value at c.in_ok-require_sides.ensures.found;
+        permissions = rw c.deref-3.ensures.value at c.in_ok-permissions.ensures.found;
+        principals = rw c.deref-4.ensures.value at c.in_ok-principals.ensures.found;
+      },
+      record { permissions = refl; principals = refl; condition = has.2 },
+    )

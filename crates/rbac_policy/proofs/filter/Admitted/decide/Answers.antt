@@ -1,16 +1,59 @@
-use Rattle.std.proofs.Common.{◌≡◌, is_some, refl, ap, ◌∙◌}
-use Rattle.std.specs.List.{position_from}
-use Rattle.rbac_policy.specs.Verdict.{sides_match}
-use Rattle.rbac_policy.specs.steps.Action.{allows}
+use Rattle.std.proofs.Common.{◌≡◌, false, true, inl, inr, is_some, map, refl, sym, ap, subst, ◌∙◌, List}
+use Rattle.std.proofs.lemmas.Result.{err_from_is_err_and}
+use Rattle.rbac_policy.specs.Admitted.{filter_view, limits_view}
 use Rattle.rbac_policy.specs.Named.{policy_view}
-use Rattle.rbac_policy.specs.Admitted.{filter_view}
-use Rattle.rbac_policy.proofs.First.{verdict}
+use Rattle.rbac_policy.specs.declared.policy.NamedPolicy.{NamedPolicy}
+use Rattle.rbac_policy.specs.steps.Action.{allows}
+use Rattle.rbac_policy.specs.steps.Runs.{HaveNoConditions, IsFirst, SomePasses}
+use Rattle.rbac_policy.proofs.Deciding.{asked_is_told, found_verdict, have_none, none_passes, passing_asked}
+use Rattle.rbac_policy.proofs.FirstRun.{memory_is_other}
 use Rattle.rbac_policy.proofs.filter.Admitted.decide.Goals as goal
 
 pub returns-clause-found : goal.returns-clause-found
 returns-clause-found c =
-    let first : c.first_match-matched.result ≡ position_from (λ p. sides_match c.args.request.now (policy_view p)) 0 c.args.self.now.rules.policies.items =
-    c.first_match-matched.ensures ∙ ap (position_from (λ p. sides_match c.args.request.now (policy_view p)) 0) c.named_policies.ensures in
-    let answer : c.allows-allowed.result ≡ allows c.args.self.now.rules.action (is_some c.first_match-matched.result) =
-    c.allows-allowed.ensures ∙ ap (λ a. allows a c.is_some.result) c.action.ensures ∙ ap (allows c.args.self.now.rules.action) c.is_some.ensures in
-    λ is_met. rw answer (verdict is_met c.args.request.now (filter_view c.args.self.now) c.args.self.now.rules.policies.items c.args.self.now.rules.ordered refl c.first_match-matched.result first)
+    let rules = c.args.self.now.rules in
+    let given : c.named_policies.result.now ≡ rules.policies.items = c.named_policies.ensures in
+    let first : IsFirst c.args.request.now 0 (map policy_view rules.policies.items) c.in_ok-matched.matched = rw given at c.in_ok-matched.ensures.found in
+    let answer : c.allows-allowed.result ≡ allows rules.action (is_some c.in_ok-matched.matched) =
+    c.allows-allowed.ensures ∙ ap (λ a. allows a c.is_some.result) c.action.ensures ∙ ap (allows rules.action) c.is_some.ensures in
+    λ filter admitted. rw answer (found_verdict (filter_view c.args.self.now) rules.policies.items rules.ordered refl
+    (limits_view c.args.self.now) c.args.request.now c.request_is_sound.ensures filter admitted c.in_ok-matched.matched first)
+
+pub returns-in_err-matched-clause-always : goal.returns-in_err-matched-clause-always
+returns-in_err-matched-clause-always c =
+    let rules = c.args.self.now.rules in
+    let given : c.named_policies.result.now ≡ rules.policies.items = c.named_policies.ensures in
+    λ none. let clash : false ≡ true = c.in_err-matched.ensures.always (rw given (have_none (filter_view c.args.self.now) rules.policies.items rules.ordered refl none)) in absurd cc
+
+pub returns-in_err-matched-clause-fault : goal.returns-in_err-matched-clause-fault
+returns-in_err-matched-clause-fault c =
+    let rules = c.args.self.now.rules in
+    let given : c.named_policies.result.now ≡ rules.policies.items = c.named_policies.ensures in
+    let p = err_from_is_err_and c.from_residual.result c.from_residual.ensures.1 in
+    rw (p.1, p.2) (elim (rw given at c.in_err-matched.ensures.fault) [
+      | inl memory ↦ inl memory
+      | inr (out, passes) ↦ inr (
+        out,
+        λ filter admitted. passing_asked (filter_view c.args.self.now) rules.policies.items rules.ordered refl
+            (limits_view c.args.self.now) c.args.request.now c.request_is_sound.ensures filter admitted passes,
+      )
+    ])
+
+pub returns-in_err-matched-clause-within : goal.returns-in_err-matched-clause-within
+returns-in_err-matched-clause-within c =
+    let rules = c.args.self.now.rules in
+    let given : c.named_policies.result.now ≡ rules.policies.items = c.named_policies.ensures in
+    let p = err_from_is_err_and c.from_residual.result c.from_residual.ensures.1 in
+    λ filter admitted inside is. elim (rw given at c.in_err-matched.ensures.fault) [
+      | inl memory ↦ memory_is_other c.from_residual.result p.0 c.in_err-matched.field-0.0 p.1 p.2 memory is
+      | inr (out, passes) ↦ none_passes (filter_view c.args.self.now) rules.policies.items rules.ordered refl
+          (limits_view c.args.self.now) c.args.request.now c.request_is_sound.ensures filter admitted inside passes
+    ]
+
+pub returns-clause-told : goal.returns-clause-told
+returns-clause-told c =
+    let rules = c.args.self.now.rules in
+    let given : c.named_policies.result.now ≡ rules.policies.items = c.named_policies.ensures in
+    λ filter admitted asked. absurd (asked_is_told (filter_view c.args.self.now) rules.policies.items rules.ordered refl
+    (limits_view c.args.self.now) c.args.request.now c.request_is_sound.ensures filter admitted asked c.in_ok-matched.matched
+    (rw given at c.in_ok-matched.ensures.found))

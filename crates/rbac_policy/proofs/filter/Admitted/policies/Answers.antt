@@ -3,7 +3,7 @@ use Rattle.std.proofs.lemmas.List.{length-map}
 use Rattle.std.specs.FinMap.{len, from_entries, len-entries}
 use Rattle.attributes.specs.Headers.{name_cmp}
 use Rattle.rbac_policy.specs.Named.{named_view, named_views}
-use Rattle.rbac_policy.proofs.First.{t_of}
+use Rattle.rbac_policy.proofs.Besides.{t_of}
 use Rattle.std.specs.Cmp.Lexicographic.{nat_list_cmp_total}
 use Rattle.proto_wire.proofs.MapOrder.{entries_from_entries}
 use Rattle.rbac_policy.proofs.filter.Admitted.policies.Goals as goal

@@ -1,0 +1,175 @@
+-- What is enforced of policies, in lists and in maps, and what their conditions cost together.
+use Rattle.std.proofs.Common.{arith, ◌≡◌, ◌≢◌, ◌≤◌, ◌+◌, ◌⊎◌, inl, inr, ℕ, List, [], ◌∷◌, ◌++◌, Option, Some, None, MatchOption, IsSomeAnd, T, refl, sym, ap, subst, ◌∙◌, zero-add}
+use Rattle.std.specs.Cmp.Lexicographic.{nat_list_cmp_total}
+use Rattle.std.specs.FinMap.{FinMap, entries, entries_sorted, find, from_entries, get, get-entries, is_sorted, same_map}
+use Rattle.attributes.specs.Headers.{name_cmp}
+use Rattle.attributes.specs.Limits.{LimitsValue}
+use Rattle.cel_tree.specs.Checked.{CelChecked}
+use Rattle.cel_tree.specs.Message.{IsChecked}
+use Rattle.cel_tree.proofs.CheckedLaws.{checked_unique}
+use Rattle.proto_wire.specs.Fields.{Wire}
+use Rattle.proto_wire.specs.Maps.{Entry, text, AreValues}
+use Rattle.proto_wire.specs.Merge.{Merges}
+use Rattle.proto_wire.specs.Values.{payloads}
+use Rattle.proto_wire.specs.steps.Maps.{Held}
+use Rattle.proto_wire.proofs.MapOrder.{entries_from_entries}
+use Rattle.proto_wire.proofs.Unique.{merges_unique}
+use Rattle.rbac_match.specs.Formula.{Formulas}
+use Rattle.rbac_policy.specs.Condition.{IsProgramOf, Program}
+use Rattle.rbac_policy.specs.Enforced.{Enforces, EnforcesPolicy, bound_of, bounds_of, total_bound}
+use Rattle.rbac_policy.specs.Fault.{PolicyHas, SomeCost}
+use Rattle.rbac_policy.specs.Filter.{Filter, Policy}
+use Rattle.rbac_policy.specs.Keys.{checked_condition_field}
+use Rattle.rbac_policy.specs.Message.{IsCondition, IsPolicy}
+use Rattle.rbac_policy.specs.declared.filter.Action.{Action}
+use Rattle.rbac_policy.specs.steps.Conditions.{IsEnforced}
+use Rattle.rbac_policy.proofs.Besides.{Beside, beside_find, beside_map, beside_maps, in_a_row, name_same, sorted_beside}
+use Rattle.rbac_policy.proofs.Programs.{nothing_read, program_unique}
+
+module _ (limits : LimitsValue) where
+  -- ---- one policy
+
+  -- of a policy one thing is enforced at most
+  pub enforced_unique : (policy : Policy CelChecked) (a b : Policy Program) → EnforcesPolicy limits policy a
+      → EnforcesPolicy limits policy b → a ≡ b
+  enforced_unique policy a b g h =
+      let permissions : a.permissions ≡ b.permissions = g.permissions ∙ sym h.permissions in
+      let principals : a.principals ≡ b.principals = g.principals ∙ sym h.principals in
+      let condition : a.condition ≡ b.condition = one policy.condition a.condition b.condition g.condition h.condition in
+      λ i. record { permissions = permissions i; principals = principals i; condition = condition i }
+    where
+      one : (c : Option CelChecked) (x y : Option Program)
+          → MatchOption c (x ≡ None) (λ d. IsSomeAnd x (IsProgramOf limits d))
+          → MatchOption c (y ≡ None) (λ d. IsSomeAnd y (IsProgramOf limits d)) → x ≡ y
+      one None x y g h = g ∙ sym h
+      one (Some c) None y g h = absurd g
+      one (Some c) (Some p) None g h = absurd h
+      one (Some c) (Some p) (Some q) g h = ap Some (program_unique limits c p q g h)
+
+  -- ---- a filter
+
+  -- of a filter one thing is enforced at most
+  pub enforces_unique : (filter : Filter CelChecked) (a b : Filter Program) → Enforces limits filter a
+      → Enforces limits filter b → a ≡ b
+  enforces_unique filter a b g h =
+      let action : a.action ≡ b.action = g.action ∙ sym h.action in
+      let policies : a.policies ≡ b.policies = same_map nat_list_cmp_total name_same a.policies b.policies
+      (λ name. one (get filter.policies name) (get a.policies name) (get b.policies name) (g.policies name) (h.policies name)) in
+      λ i. record { action = action i; policies = policies i }
+    where
+      one : (o : Option (Policy CelChecked)) (x y : Option (Policy Program))
+          → MatchOption o (x ≡ None) (λ p. IsSomeAnd x (EnforcesPolicy limits p))
+          → MatchOption o (y ≡ None) (λ p. IsSomeAnd y (EnforcesPolicy limits p)) → x ≡ y
+      one None x y g h = g ∙ sym h
+      one (Some p) None y g h = absurd g
+      one (Some p) (Some u) None g h = absurd h
+      one (Some p) (Some u) (Some v) g h = ap Some (enforced_unique p u v g h)
+
+  -- policies of which this is enforced are those of the payloads
+  pub apart : (ns : List (Entry text)) (vs : List (List ℕ × Policy Program))
+      → Beside (IsEnforced limits) ns vs
+      → (ps : List (List ℕ × Policy CelChecked)) × Held text IsPolicy ns ps × Beside (EnforcesPolicy limits) ps vs
+  apart [] vs held = ([], refl, held)
+  apart (n ∷ ns) vs (v, others, (p, is, enforces), rest, made) =
+      let r = apart ns others rest in
+      ((n.0, p) ∷ r.0, (p, r.0, is, r.1, refl), (v, others, enforces, r.2, made))
+
+  -- what is enforced of each policy of a map is enforced of the filter
+  pub filter_enforced : (action : Action) (ps : List (List ℕ × Policy CelChecked))
+      (vs : List (List ℕ × Policy Program)) → Beside (EnforcesPolicy limits) ps vs
+      → Enforces limits (record { action = action; policies = from_entries ps })
+      (record { action = action; policies = from_entries vs })
+  filter_enforced action ps vs beside = record {
+    action = refl;
+    policies = λ name. beside_maps (EnforcesPolicy limits) ps vs beside name;
+  }
+
+  -- what is enforced of a filter stands beside the payloads of its policies
+  pub enforced_beside : (named : FinMap name_cmp (List (List ℕ))) (filter : Filter CelChecked)
+      (enforced : Filter Program) → AreValues text IsPolicy named filter.policies → Enforces limits filter enforced
+      → (vs : List (List ℕ × Policy Program)) × Beside (IsEnforced limits) (entries named) vs
+      × (total_bound enforced ≡ bounds_of vs)
+  enforced_beside named filter enforced are enforces =
+      let each : (name : List ℕ) → MatchOption (find name_cmp name (entries named)) (get enforced.policies name ≡ None)
+      (λ parts. IsSomeAnd (get enforced.policies name) (IsEnforced limits parts)) =
+      (λ name. rw (← get-entries named name) (in_a_row IsPolicy (EnforcesPolicy limits) (IsEnforced limits) (λ parts p v is enf. (p, is, enf))
+      (get named name) (get filter.policies name) (get enforced.policies name) (are name) (enforces.policies name))) in
+      let it = beside_map (IsEnforced limits) enforced.policies (entries named) (entries_sorted named) each in
+      let order = subst (λ b. T b) (sorted_beside (IsEnforced limits) (entries named) it.0 it.1) (entries_sorted named) in
+      (it.0, it.1, ap (λ m. bounds_of (entries m)) it.2 ∙ ap bounds_of (entries_from_entries name_cmp nat_list_cmp_total it.0 order))
+
+  -- what the policies of a map may take is what they may take in their order
+  pub total_of : (action : Action) (vs : List (List ℕ × Policy Program)) → T (is_sorted name_cmp vs)
+      → total_bound (record { action = action; policies = from_entries vs }) ≡ bounds_of vs
+  total_of action vs sorted = ap bounds_of (entries_from_entries name_cmp nat_list_cmp_total vs sorted)
+
+  -- ---- what policies cost
+
+  -- no policy need count
+  pub costs_nothing : (ns : List (Entry text)) → SomeCost limits ns 0
+  costs_nothing [] = refl
+  costs_nothing (n ∷ ns) = inl (costs_nothing ns)
+
+  -- the cost of one policy among others
+  pub cost_of_one : (n : Entry text) (more : List (Entry text)) (cost : ℕ) → SomeCost limits (n ∷ []) cost
+      → SomeCost limits (n ∷ more) cost
+  cost_of_one n more cost (inl none) = inl (rw none (costs_nothing more))
+  cost_of_one n more cost (inr (c, p, rest, has, is, none, sum)) =
+      inr (c, p, 0, has, is, costs_nothing more, sum ∙ ap (λ k. p.bound + k) none)
+
+  -- the costs of some policies and of some that follow
+  pub costs_append : (ns ms : List (Entry text)) (a b : ℕ) → SomeCost limits ns a → SomeCost limits ms b
+      → SomeCost limits (ns ++ ms) (a + b)
+  costs_append [] ms a b g h = rw (g, zero-add b) h
+  costs_append (n ∷ ns) ms a b (inl g) h = inl (costs_append ns ms a b g h)
+  costs_append (n ∷ ns) ms a b (inr (c, p, rest, has, is, g, sum)) h =
+      inr (c, p, rest + b, has, is, costs_append ns ms rest b g h, omega (arith, sum))
+
+  -- what is enforced of a policy costs that
+  pub one_costs : (n : Entry text) (more : List (Entry text)) (v : Policy Program) (cost : ℕ)
+      → IsEnforced limits n.1 v → SomeCost limits more cost → SomeCost limits (n ∷ more) (bound_of v.condition + cost)
+  one_costs n more v cost (p, is, enforces) others =
+      by p.condition v.condition is.condition enforces.condition
+    where
+      by : (c : Option CelChecked) (q : Option Program) → IsCondition (payloads checked_condition_field is.fs) c
+          → MatchOption c (q ≡ None) (λ d. IsSomeAnd q (IsProgramOf limits d))
+          → SomeCost limits (n ∷ more) (bound_of q + cost)
+      by None q reads none = inl (rw (none, zero-add cost) others)
+      by (Some c) None reads h = absurd h
+      by (Some c) (Some q) reads h =
+          inr (c, q, cost, record { fs = is.fs; merges = is.message.0; reads = reads.1 }, h, others, refl)
+
+  -- so do all
+  pub all_cost : (ns : List (Entry text)) (vs : List (List ℕ × Policy Program))
+      → Beside (IsEnforced limits) ns vs → SomeCost limits ns (bounds_of vs)
+  all_cost [] vs beside = rw beside refl
+  all_cost (n ∷ ns) vs (v, others, is, rest, made) =
+      let cost : SomeCost limits (n ∷ ns) (bound_of v.condition + bounds_of others) =
+      one_costs n ns v (bounds_of others) is (all_cost ns others rest) in
+      rw made cost
+
+  -- and none cost more
+  pub cost_most : (ns : List (Entry text)) (vs : List (List ℕ × Policy Program)) (cost : ℕ)
+      → Beside (IsEnforced limits) ns vs → SomeCost limits ns cost → cost ≤ bounds_of vs
+  cost_most [] vs cost beside none = omega (arith, none)
+  cost_most (n ∷ ns) vs cost (v, others, is, rest, made) (inl skipped) =
+      let most = cost_most ns others cost rest skipped in
+      rw made (omega (arith, most))
+  cost_most (n ∷ ns) vs cost (v, others, (p, is, enforces), rest, made) (inr (c, q, less, has, of, g, sum)) =
+      let most = cost_most ns others less rest g in
+      let reads : IsChecked (payloads checked_condition_field is.fs) c =
+      subst (λ fs. IsChecked (payloads checked_condition_field fs) c) (merges_unique n.1 has.fs is.fs has.merges is.message.0) has.reads in
+      let same : q.bound ≤ bound_of v.condition = by reads p.condition v.condition is.condition enforces.condition in
+      rw made (omega (arith, most, same, sum))
+    where
+      by : IsChecked (payloads checked_condition_field is.fs) c → (d : Option CelChecked) (x : Option Program)
+          → IsCondition (payloads checked_condition_field is.fs) d
+          → MatchOption d (x ≡ None) (λ e. IsSomeAnd x (IsProgramOf limits e)) → q.bound ≤ bound_of x
+      by reads None x none h =
+          absurd (nothing_read c (subst (λ parts. IsChecked parts c) none reads))
+      by reads (Some d) None there h = absurd h
+      by reads (Some d) (Some x) there h =
+          let one : c ≡ d = checked_unique (payloads checked_condition_field is.fs) c d reads there.1 in
+          let same : q ≡ x = program_unique limits d q x (subst (λ e. IsProgramOf limits e q) one of) h in
+          let bounds : q.bound ≡ x.bound = ap (λ y. y.bound) same in
+          omega (arith, bounds)

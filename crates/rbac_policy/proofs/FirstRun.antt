@@ -1,0 +1,79 @@
+-- The loop over a filter's policies: those before the present one told that they do not match.
+use Rattle.std.proofs.Common.{arith, ◌≡◌, inl, inr, ℕ, ◌+◌, ◌<◌, Bool, true, false, List, [], ◌∷◌, ◌++◌, length, take, drop, get_or, map, Option, Some, None, refl, sym, ap, subst, ◌∙◌, add-zero, zero-add}
+use Rattle.std.proofs.lemmas.List.{append_assoc, length-map, map-append, take-append-drop, length-take-le, take_more}
+use Rattle.std.specs.List.{AllByRecursion}
+use Rattle.std.specs.Prelude.{Result, Err}
+use Rattle.stack_machine.specs.declared.error.RunError.{RunError}
+use Rattle.attributes.specs.Request.{RequestValue}
+use Rattle.rbac_policy.specs.Condition.{Program}
+use Rattle.rbac_policy.specs.Filter.{Policy}
+use Rattle.rbac_policy.specs.Named.{policy_view}
+use Rattle.rbac_policy.specs.declared.policy.NamedPolicy.{NamedPolicy}
+use Rattle.rbac_policy.specs.steps.Runs.{HaveNoConditions, IsFirst, PassesBound, SomePasses, Tells}
+
+module _ (r : RequestValue) where
+  -- all told that they do not match
+  abbrev pub Failed : List (Policy Program) → Type 0
+  Failed ps = AllByRecursion (λ p. Tells r p false) ps
+
+  pub failed_push : (ps : List (Policy Program)) (p : Policy Program) → Failed ps → Tells r p false → Failed (ps ++ p ∷ [])
+  failed_push [] p failed this = (this, tt)
+  failed_push (x ∷ ps) p failed this = (failed.0, failed_push ps p failed.1 this)
+
+  one_first : (ps qs : List (Policy Program)) (p : Policy Program) (i : ℕ) → Failed ps → Tells r p true
+      → IsFirst r i (ps ++ p ∷ qs) (Some (i + length ps))
+  one_first [] qs p i failed this = inl (this, ap Some (add-zero i))
+  one_first (x ∷ ps) qs p i failed this =
+      let count : (i + 1) + length ps ≡ i + length (x ∷ ps) = omega arith in
+      inr (failed.0, subst (λ n. IsFirst r (i + 1) (ps ++ p ∷ qs) (Some n)) count (one_first ps qs p (i + 1) failed.1 this))
+
+  pub none_first : (ps : List (Policy Program)) (i : ℕ) → Failed ps → IsFirst r i ps None
+  none_first [] i failed = refl
+  none_first (p ∷ ps) i failed = inr (failed.0, none_first ps (i + 1) failed.1)
+
+  one_passes : (ps qs : List (Policy Program)) (p : Policy Program) → Failed ps → PassesBound r p
+      → SomePasses r (ps ++ p ∷ qs)
+  one_passes [] qs p failed this = inl this
+  one_passes (x ∷ ps) qs p failed this = inr (failed.0, one_passes ps qs p failed.1 this)
+
+  none_at : (ps qs : List (Policy Program)) (p : Policy Program) → HaveNoConditions (ps ++ p ∷ qs) → p.condition ≡ None
+  none_at [] qs p none = none.0
+  none_at (x ∷ ps) qs p none = none_at ps qs p none.1
+
+  -- the policies before the present one, that one, and those after it
+  module _ (items : List NamedPolicy) (i : ℕ) (item : NamedPolicy) (within : i < length items) (is : item ≡ get_or items i item) where
+    more : take (i + 1) items ≡ take i items ++ item ∷ []
+    more = take_more items i item within ∙ ap (λ x. take i items ++ x ∷ []) (sym is)
+
+    split : map policy_view items ≡ map policy_view (take i items) ++ policy_view item ∷ map policy_view (drop (i + 1) items)
+    split =
+        ap (map policy_view) (sym (take-append-drop (i + 1) items) ∙ ap (λ xs. xs ++ drop (i + 1) items) more ∙ append_assoc (take i items) (item ∷ []) (drop (i + 1) items))
+        ∙ map-append policy_view (take i items) (item ∷ drop (i + 1) items)
+
+    pub next_failed : Failed (map policy_view (take i items)) → Tells r (policy_view item) false
+        → Failed (map policy_view (take (i + 1) items))
+    next_failed failed this =
+        rw (ap (map policy_view) more ∙ map-append policy_view (take i items) (item ∷ []))
+        (failed_push (map policy_view (take i items)) (policy_view item) failed this)
+
+    pub this_first : Failed (map policy_view (take i items)) → Tells r (policy_view item) true
+        → IsFirst r 0 (map policy_view items) (Some i)
+    this_first failed this =
+        let count : length (map policy_view (take i items)) ≡ i = length-map (take i items) policy_view ∙ length-take-le i items (omega (arith, within)) in
+        rw split (subst (λ n. IsFirst r 0 (map policy_view (take i items) ++ policy_view item ∷ map policy_view (drop (i + 1) items)) (Some n))
+        (zero-add _ ∙ count) (one_first (map policy_view (take i items)) (map policy_view (drop (i + 1) items)) (policy_view item) 0 failed this))
+
+    pub this_passes : Failed (map policy_view (take i items)) → PassesBound r (policy_view item)
+        → SomePasses r (map policy_view items)
+    this_passes failed this =
+        rw split (one_passes (map policy_view (take i items)) (map policy_view (drop (i + 1) items)) (policy_view item) failed this)
+
+    pub this_has_none : HaveNoConditions (map policy_view items) → (policy_view item).condition ≡ None
+    this_has_none none =
+        none_at (map policy_view (take i items)) (map policy_view (drop (i + 1) items)) (policy_view item) (rw split at none)
+
+-- want of memory is no passing of a bound
+pub memory_is_other : {V : Type 0} (answer : Result V RunError) (x y : RunError) → answer ≡ Err x → x ≡ y
+    → y ≡ RunError.Memory → answer ≡ Err RunError.OutOfSteps → ⊥
+memory_is_other {V} answer x y is same memory out =
+    let clash : ◌≡◌ {A = Result V RunError} (Err x) (Err RunError.OutOfSteps) = sym is ∙ out in absurd cc

@@ -1,0 +1,40 @@
+-- Conditions: Envoy RBAC, "Policy.checked_condition"; CEL language definition, "Evaluation".
+use Rattle.std.specs.Prelude.{◌≡◌, ℕ, Bool, true, false, List, [], Option, Some}
+use Rattle.attributes.specs.Limits.{LimitsValue}
+use Rattle.attributes.specs.Request.{RequestValue}
+use Rattle.cel_value.specs.Types.{bool_type}
+use Rattle.cel_value.specs.Values.{CelAnswer, bool, value}
+use Rattle.cel_tree.specs.Checked.{CelChecked}
+use Rattle.cel_types.specs.Elaborated.{IsElaborated, TypedTree, kind}
+use Rattle.cel_types.specs.Meaning.{eval}
+use Rattle.cost_bound.specs.Costs.{cost_of}
+use Rattle.cel_compile.specs.Codes.{code_of}
+use Rattle.stack_machine.specs.Instructions.{Instruction}
+use Rattle.stack_machine.specs.Machine.{RunsOut}
+
+-- whether an expression came to true: an error and any other value did not
+abbrev pub came_true : Option CelAnswer → Bool
+came_true (Some (value (bool true))) = true
+came_true _ = false
+
+-- whether the request meets the condition
+abbrev pub is_met : RequestValue → CelChecked → Bool
+is_met request condition = came_true (eval condition.tree request [])
+
+-- what is enforced of a condition: its code, and how many steps that may take
+pub record Program : Type 0 where
+  pub code : List Instruction
+  pub bound : ℕ
+
+-- the condition has the type bool, and this is its code and what it costs of requests within the limits
+pub record IsProgramOf (limits : LimitsValue) (condition : CelChecked) (program : Program) : Type 0 where
+  pub e : TypedTree
+  pub elaborated : IsElaborated condition e
+  pub has_type : kind e ≡ bool_type
+  pub code : program.code ≡ code_of 0 0 e
+  pub bound : program.bound ≡ cost_of e limits []
+
+-- on the request, the condition's code takes more steps than it may
+abbrev pub TakesTooLong : LimitsValue → RequestValue → CelChecked → Type 0
+TakesTooLong limits request condition = (program : Program) × IsProgramOf limits condition program
+    × RunsOut program.code request program.bound

@@ -1,0 +1,59 @@
+-- Why conditions are not admitted, step by step.
+use Rattle.std.specs.Prelude.{◌≡◌, ◌≢◌, ◌⊎◌, ◌<◌, ℕ, List, Option, None, length, Contains, IsSomeAnd, MatchOption}
+use Rattle.attributes.specs.Limits.{LimitsValue}
+use Rattle.cel_value.specs.Types.{ValueType, bool_type}
+use Rattle.cel_tree.specs.Checked.{CelChecked}
+use Rattle.cel_tree.specs.Message.{CheckedFault, IsChecked}
+use Rattle.cel_types.specs.Typing.{IsTyped}
+use Rattle.cel_types.specs.TypingFaults.{CheckFault}
+use Rattle.proto_wire.specs.Maps.{Entry, text}
+use Rattle.proto_wire.specs.declared.refusal.Refusal.{Refusal}
+use Rattle.proto_wire.specs.declared.refusal.Refusal.TheVariants.{CodeRefused, NotBool, TooCostly}
+use Rattle.stack_machine.specs.Instructions.{Instruction}
+use Rattle.stack_machine.specs.Typable.{Forward}
+use Rattle.rbac_policy.specs.Condition.{IsProgramOf, Program}
+use Rattle.rbac_policy.specs.Enforced.{EnforcesPolicy}
+use Rattle.rbac_policy.specs.Fault.{PolicyHas, SomeCost}
+use Rattle.rbac_policy.specs.Filter.{Policy}
+use Rattle.rbac_policy.specs.Message.{IsCondition, IsPolicy}
+
+-- the code is too long, or one pass finds no table of it
+abbrev pub IsRefused : List Instruction → Type 0
+IsRefused code = (65535 < length code) ⊎ (Forward code bool_type → ⊥)
+
+-- why a condition is not admitted with so many steps left
+pub data ExpressionFault (condition : CelChecked) (limits : LimitsValue) (left : ℕ) (e : Refusal)
+    : Type 0 where
+  untyped : CheckFault condition e → ExpressionFault condition limits left e
+  not_bool : (t : ValueType) → IsTyped condition t → t ≢ bool_type → e ≡ NotBool
+      → ExpressionFault condition limits left e
+  too_costly : (program : Program) → IsProgramOf limits condition program → left < program.bound
+      → e ≡ TooCostly → ExpressionFault condition limits left e
+  refused : (program : Program) → IsProgramOf limits condition program → IsRefused program.code
+      → e ≡ CodeRefused → ExpressionFault condition limits left e
+
+-- the same of a condition's payloads, which may not read
+pub data ConditionFault (parts : List (List ℕ)) (limits : LimitsValue) (left : ℕ) (e : Refusal)
+    : Type 0 where
+  unreadable : CheckedFault parts e → ConditionFault parts limits left e
+  expression : (condition : CelChecked) → IsChecked parts condition
+      → ExpressionFault condition limits left e → ConditionFault parts limits left e
+
+-- the program is that of the condition in the payloads; there is none where there are no payloads
+abbrev pub HasProgram : LimitsValue → List (List ℕ) → Option Program → Type 0
+HasProgram limits parts program = (condition : Option CelChecked) × IsCondition parts condition
+    × MatchOption condition (program ≡ None) (λ c. IsSomeAnd program (IsProgramOf limits c))
+
+-- the parts are a policy of which this is enforced
+abbrev pub IsEnforced : LimitsValue → List (List ℕ) → Policy Program → Type 0
+IsEnforced limits parts enforced =
+    (policy : Policy CelChecked) × IsPolicy parts policy × EnforcesPolicy limits policy enforced
+
+-- why policies are not admitted with so many steps left, for what their conditions cost or compile to
+pub data ConditionsFault (policies : List (Entry text)) (limits : LimitsValue) (left : ℕ) (e : Refusal)
+    : Type 0 where
+  cost_too_much : (cost : ℕ) → SomeCost limits policies cost → left < cost → e ≡ TooCostly
+      → ConditionsFault policies limits left e
+  some_refused : (policy : Entry text) (condition : CelChecked) (program : Program)
+      → Contains policies policy → PolicyHas policy.1 condition → IsProgramOf limits condition program
+      → IsRefused program.code → e ≡ CodeRefused → ConditionsFault policies limits left e

@@ -1,0 +1,40 @@
+-- What runs of conditions come to, policy by policy.
+use Rattle.std.specs.Prelude.{◌≡◌, ◌≤◌, ◌⊎◌, ◌+◌, ℕ, Bool, true, false, List, [], ◌∷◌, Option, Some, None, MatchOption, IsSomeAnd}
+use Rattle.attributes.specs.Request.{RequestValue}
+use Rattle.cel_value.specs.Values.{CelAnswer}
+use Rattle.stack_machine.specs.Machine.{Ends, RunsOut}
+use Rattle.rbac_policy.specs.Condition.{Program, came_true}
+use Rattle.rbac_policy.specs.Filter.{Policy}
+use Rattle.rbac_policy.specs.Verdict.{sides_match}
+
+-- the program's run ends within its bound, and came to true or not
+abbrev pub RunsAs : RequestValue → Program → Bool → Type 0
+RunsAs r program is_true = (answer : CelAnswer) × (steps : ℕ) × Ends program.code r answer steps
+    × (steps ≤ program.bound) × (is_true ≡ came_true (Some answer))
+
+-- whether the policy matches: by its sides, and then by the run of its condition
+abbrev pub Tells : RequestValue → Policy Program → Bool → Type 0
+Tells r p matches = ((sides_match r p ≡ false) × (matches ≡ false))
+    ⊎ ((sides_match r p ≡ true)
+    × MatchOption p.condition (matches ≡ true) (λ program. RunsAs r program matches))
+
+-- the number of the first policy that matches, counted on from a number
+abbrev pub IsFirst : RequestValue → ℕ → List (Policy Program) → Option ℕ → Type 0
+IsFirst r i [] first = first ≡ None
+IsFirst r i (p ∷ ps) first =
+    (Tells r p true × (first ≡ Some i)) ⊎ (Tells r p false × IsFirst r (i + 1) ps first)
+
+-- the run of a condition that is asked for passes its bound
+abbrev pub PassesBound : RequestValue → Policy Program → Type 0
+PassesBound r p = (sides_match r p ≡ true)
+    × IsSomeAnd p.condition (λ program. RunsOut program.code r program.bound)
+
+-- the same of the first policy that does not tell that it does not match
+abbrev pub SomePasses : RequestValue → List (Policy Program) → Type 0
+SomePasses r [] = ⊥
+SomePasses r (p ∷ ps) = PassesBound r p ⊎ (Tells r p false × SomePasses r ps)
+
+-- none of the policies has a condition
+abbrev pub HaveNoConditions : List (Policy Program) → Type 0
+HaveNoConditions [] = Unit {0}
+HaveNoConditions (p ∷ ps) = (p.condition ≡ None) × HaveNoConditions ps

@@ -1,0 +1,150 @@
+//! Conditions: how one is admitted, and its runs.
+
+ghost use Rattle.std.specs.Prelude.{◌≡◌, ◌≢◌, ◌≤◌, ◌<◌, ◌⊎◌, IfErr, IfOk, OnOk, Some, length};
+ghost use Rattle.cel_compile.specs.Codes.{code_of};
+ghost use Rattle.cel_compile.specs.Slots.{HasFewLocals};
+ghost use Rattle.cel_tree.specs.Checked.{CelChecked};
+ghost use Rattle.cel_tree.specs.Message.{IsChecked};
+ghost use Rattle.cel_tree.specs.View.{checked_view};
+ghost use Rattle.cel_types.specs.View.{typed_view};
+ghost use Rattle.cel_value.specs.Types.{bool_type, type_view};
+ghost use Rattle.proto_wire.specs.Merge.{parts_view};
+ghost use Rattle.proto_wire.specs.Refusal.{MemoryOr};
+ghost use Rattle.proto_wire.specs.declared.refusal.Refusal.TheVariants.{CodeRefused, NotBool};
+ghost use Rattle.cel_value.specs.View.{answer_view};
+ghost use Rattle.rbac_policy.specs.Condition.{IsProgramOf, came_true};
+ghost use Rattle.rbac_policy.specs.Named.{program_view};
+ghost use Rattle.rbac_policy.specs.steps.Conditions.{ConditionFault, ExpressionFault};
+ghost use Rattle.rbac_policy.specs.steps.Runs.{RunsAs};
+ghost use Rattle.stack_machine.specs.Instructions.{code_view};
+ghost use Rattle.stack_machine.specs.Machine.{RunsOut};
+ghost use Rattle.stack_machine.specs.Typable.{Forward};
+
+use attributes::{Limits, Request};
+use cel_compile::compile;
+use cel_tree::{Checked, read_checked_parts};
+use cel_types::{Typed, check};
+use cel_value::{Answer, CelType, Value};
+use code_verifier::{VerifyFault, verify};
+use cost_bound::bound;
+use proto_wire::Refusal;
+use stack_machine::{Code, RunError, Verified, run};
+use std::alloc::Global;
+use std::fmt;
+
+/// A condition that was admitted: its code, and how many steps that may take.
+#[derive(Drop)]
+pub(crate) struct Condition {
+    pub code: Verified,
+    pub bound: u64,
+}
+
+impl fmt::Debug for Condition {
+    fn fmt<W: fmt::Write>(&self, f: &mut fmt::Formatter<W>) -> fmt::Result {
+        write!(f, "a condition of at most {} steps", self.bound)
+    }
+}
+
+impl Condition {
+    /// Whether the request meets the condition: its code comes to true. An error is no match.
+    pub(crate) fn is_met(&self, alloc: Global, request: &Request) -> Result<bool, RunError>
+        ensures found { IfOk result (λ met. RunsAs request.now (program_view self.now) met) }
+        ensures fault { IfErr result (λ e. (e ≡ RunError.Memory) ⊎ ((e ≡ RunError.OutOfSteps)
+            × RunsOut (code_view self.now.code) request.now self.now.bound)) }
+    {
+        let outcome = run(alloc, &self.code, request, self.bound)?;
+        Ok(is_true(&outcome.result))
+    }
+}
+
+/// Whether an answer is true.
+fn is_true(answer: &Answer) -> bool
+    ensures { result ≡ came_true (Some (answer_view answer.now)) }
+{
+    matches!(answer, Ok(Value::Bool(true)))
+}
+
+/// Reads the condition that stands in the parts, for requests within the limits, with so many steps
+/// left for it. Its tree is not kept.
+pub(crate) fn read_condition(
+    alloc: Global,
+    parts: &[&[u8]],
+    limits: &Limits,
+    left: u64,
+) -> Result<Condition, Refusal>
+    ensures found { IfOk result (λ c. (condition : CelChecked)
+        × IsChecked (parts_view parts.now) condition
+        × IsProgramOf limits.now condition (program_view c)) }
+    ensures cheap { IfOk result (λ c. c.bound ≤ left) }
+    ensures fault { IfErr result (MemoryOr (ConditionFault (parts_view parts.now) limits.now left)) }
+{
+    let checked = read_checked_parts(alloc, parts)?;
+    condition_of(alloc, &checked, limits, left)
+}
+
+/// The condition that the expression is.
+fn condition_of(
+    alloc: Global,
+    checked: &Checked,
+    limits: &Limits,
+    left: u64,
+) -> Result<Condition, Refusal>
+    ensures found { IfOk result (λ c. IsProgramOf limits.now (checked_view checked.now) (program_view c)) }
+    ensures cheap { IfOk result (λ c. c.bound ≤ left) }
+    ensures fault { IfErr result (MemoryOr (ExpressionFault (checked_view checked.now) limits.now left)) }
+{
+    let typed = check(alloc, checked)?;
+    require_bool(typed.root.cel_type())?;
+    let steps = bound(alloc, &typed, limits, left)?;
+    let code = compiled(alloc, &typed)?;
+    let code = verified(alloc, code)?;
+    Ok(Condition { code, bound: steps })
+}
+
+/// Refuses another type than bool.
+fn require_bool(found: &CelType) -> Result<(), Refusal>
+    ensures found { OnOk result (type_view found.now ≡ bool_type) }
+    ensures fault { IfErr result (λ e. (type_view found.now ≢ bool_type) × (e ≡ NotBool)) }
+{
+    if *found == CelType::Bool {
+        return Ok(());
+    }
+    Err(Refusal::NotBool)
+}
+
+/// The code of an expression; one that is too long is refused.
+fn compiled(alloc: Global, typed: &Typed<'_>) -> Result<Code, Refusal>
+    ensures found { IfOk result (λ code. code_view code ≡ code_of 0 0 (typed_view typed.now)) }
+    ensures fault { IfErr result (MemoryOr (λ e. (e ≡ CodeRefused)
+        × ((65535 < length (code_of 0 0 (typed_view typed.now)))
+        ⊎ (HasFewLocals 0 (typed_view typed.now) → ⊥)))) }
+{
+    match compile(alloc, typed) {
+        Ok(code) => Ok(code),
+        Err(refusal) => Err(code_refusal(refusal)),
+    }
+}
+
+/// What the compiler's refusal is of a policy: code that is too large is refused.
+fn code_refusal(refusal: Refusal) -> Refusal
+    ensures memory { refusal ≡ Refusal.Memory → result ≡ Refusal.Memory }
+    ensures too_large { refusal ≡ Refusal.TooLarge → result ≡ CodeRefused }
+{
+    if refusal == Refusal::TooLarge {
+        return Refusal::CodeRefused;
+    }
+    refusal
+}
+
+/// The code, verified to answer a bool; other code is refused.
+fn verified(alloc: Global, code: Code) -> Result<Verified, Refusal>
+    ensures found { IfOk result (λ v. v ≡ code) }
+    ensures fault { IfErr result (MemoryOr (λ e. (e ≡ CodeRefused)
+        × (Forward (code_view code) bool_type → ⊥))) }
+{
+    match verify(alloc, code, &CelType::Bool) {
+        Ok(verified) => Ok(verified),
+        Err((_, VerifyFault::Memory)) => Err(Refusal::Memory),
+        Err((_, VerifyFault::NotTypable(_))) => Err(Refusal::CodeRefused),
+    }
+}
