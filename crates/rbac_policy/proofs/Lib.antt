@@ -11,3 +11,4 @@ pub mod Deciding
 pub mod Uniqueness
 pub mod OneVerdict
 pub mod StandardFacts
+mod PolicyNames

@@ -1,8 +1,9 @@
 -- What a run comes to, by what was printed of it.
-use Rattle.std.proofs.Common.{◌≡◌, ◌≢◌, ◌⊎◌, ℕ, List, Option, Result, Ok, Err, IfErr, IfOk, ap, inl, inr, refl}
-use Rattle.rbacd.specs.Outcome.{IsPrintedFor, without_memory}
+use Rattle.std.proofs.Common.{◌≡◌, ◌≢◌, ◌⊎◌, ℕ, List, Option, None, Result, Ok, Err, IfErr, IfOk, ap, inl, inr, refl, option_map, string_bytes}
+use Rattle.rbacd.specs.Outcome.{IsPrintedFor}
 use Rattle.rbacd.specs.Run.{ComesTo, Finds, IsStoppedBy, Leaves, LeavesFault, PrintsReport, RunsTo, StopsBy}
 use Rattle.rbacd.specs.Words.{is_json}
+use Rattle.rbacd.specs.declared.judge.Finding.{Finding}
 use Rattle.rbacd.specs.declared.outcome.Outcome.{Outcome}
 use Rattle.rbacd.specs.declared.outcome.Outcome.TheVariants as outcomes
 use Rattle.rbacd.specs.declared.outcome.Report.{Report}
@@ -23,14 +24,15 @@ module _ (holds : List ℕ → List ℕ → Type 0) (lacks : List ℕ → Type 0
   ]
 
   -- the job comes to the report of what it finds
-  pub comes_to : (job : Job) (found : Result Outcome JobFault) (ended : Result Report JobFault)
-      → IfOk found (Finds holds lacks input job)
+  pub comes_to : (job : Job) (found : Result Finding JobFault) (ended : Result Report JobFault)
+      → IfOk found (λ f. Finds holds lacks input job (option_map string_bytes f.name) f.outcome)
       → IfErr found (λ e. (e ≡ faults.Memory) ⊎ IsStoppedBy holds lacks input job e)
-      → IfOk found (λ o. ended ≡ Ok (record { outcome = o; json = is_json job }))
-      → (found ≡ Err faults.Memory → ended ≡ Ok (record { outcome = outcomes.Memory; json = is_json job }))
+      → IfOk found (λ f. ended ≡ Ok (record { outcome = f.outcome; name = f.name; json = is_json job }))
+      → (found ≡ Err faults.Memory
+      → ended ≡ Ok (record { outcome = outcomes.Memory; name = None; json = is_json job }))
       → IfErr found (λ e. e ≢ faults.Memory → ended ≡ Err e)
       → ComesTo holds lacks input job ended
-  comes_to job (Ok outcome) ended finds stops kept memory others = rw kept (refl, inr finds)
+  comes_to job (Ok finding) ended finds stops kept memory others = rw kept (refl, inr finds)
   comes_to job (Err e) ended finds (inl none) kept memory others =
       rw (memory (ap Err none)) (refl, inl refl)
   comes_to job (Err e) ended finds (inr stops) kept memory others =
@@ -39,7 +41,7 @@ module _ (holds : List ℕ → List ℕ → Type 0) (lacks : List ℕ → Type 0
   module _ (words : List (List ℕ)) where
     -- where a report is printed, want of memory is printed in the same way
     runs_without : (report : Report) → RunsTo holds lacks words input (Ok report)
-        → RunsTo holds lacks words input (Ok (without_memory report))
+        → RunsTo holds lacks words input (Ok (record report { outcome = outcomes.Memory }))
     runs_without report runs = elim runs [
       | RunsTo.job job is comes ↦ RunsTo.job job is (comes.0, inl refl)
       | RunsTo.mistaken other ↦ absurd other
@@ -48,14 +50,14 @@ module _ (holds : List ℕ → List ℕ → Type 0) (lacks : List ℕ → Type 0
 
     module _ (out out_new errors errors_new : Option (List ℕ)) (status : ℕ) where
       -- it is the report that was printed, or want of memory
-      pub end_of_printed : (report printed : Report) → RunsTo holds lacks words input (Ok report)
-          → IsPrintedFor report printed
-          → PrintsReport out out_new errors errors_new status printed
+      pub end_of_printed : (report : Report) (printed : Outcome)
+          → RunsTo holds lacks words input (Ok report) → IsPrintedFor report.outcome printed
+          → PrintsReport out out_new errors errors_new status (record report { outcome = printed })
           → (found : Result Report JobFault) × RunsTo holds lacks words input found
           × Leaves out out_new errors errors_new status found
       end_of_printed report printed runs (inl same) left = (Ok report, runs, rw same at left)
       end_of_printed report printed runs (inr none) left =
-          (Ok (without_memory report), runs_without report runs, rw none at left)
+          (Ok (record report { outcome = outcomes.Memory }), runs_without report runs, rw none at left)
 
       -- and the fault that was told, or want of memory
       pub end_of_told : (fault told : JobFault) → RunsTo holds lacks words input (Err fault)

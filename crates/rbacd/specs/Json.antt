@@ -18,23 +18,29 @@ abbrev pub matched_json : Option ℕ → Data
 matched_json (Some policy) = number (unsigned policy)
 matched_json None = null
 
--- a verdict
-abbrev pub verdict_json : List ℕ → Option ℕ → Data
-verdict_json word matched = object (member (codes "policy") (matched_json matched)
-    (member (codes "verdict") (string word) no_members))
+-- its name, or `null`
+abbrev pub name_json : Option (List ℕ) → Data
+name_json (Some name) = string name
+name_json None = null
+
+-- a verdict, with the name and the number of the policy that matched
+abbrev pub verdict_json : List ℕ → Option (List ℕ) → Option ℕ → Data
+verdict_json word name matched = object (member (codes "name") (name_json name)
+    (member (codes "policy") (matched_json matched)
+    (member (codes "verdict") (string word) no_members)))
 
 -- a policy that is refused
 abbrev pub refused_json : Refusal → Data
 refused_json reason = object (member (codes "name") (string (name_of reason))
     (member (codes "refused") (number (unsigned (number_of reason))) no_members))
 
--- each outcome
-abbrev pub json_of : Outcome → Data
-json_of (outcomes.Admitted policies bound) = admitted_json policies bound
-json_of (outcomes.Allowed matched) = verdict_json (codes "allow") matched
-json_of (outcomes.Denied matched) = verdict_json (codes "deny") matched
-json_of outcomes.OutOfSteps = object (member (codes "out_of_steps") (boolean true)
+-- each outcome, with the name of the policy that matched
+abbrev pub json_of : Option (List ℕ) → Outcome → Data
+json_of name (outcomes.Admitted policies bound) = admitted_json policies bound
+json_of name (outcomes.Allowed matched) = verdict_json (codes "allow") name matched
+json_of name (outcomes.Denied matched) = verdict_json (codes "deny") name matched
+json_of name outcomes.OutOfSteps = object (member (codes "out_of_steps") (boolean true)
     (member (codes "verdict") (string (codes "deny")) no_members))
-json_of (outcomes.Refused reason) = refused_json reason
-json_of (outcomes.Fault fault) = object (member (codes "head") (number (unsigned (fault_status fault))) no_members)
-json_of outcomes.Memory = object (member (codes "memory") (boolean true) no_members)
+json_of name (outcomes.Refused reason) = refused_json reason
+json_of name (outcomes.Fault fault) = object (member (codes "head") (number (unsigned (fault_status fault))) no_members)
+json_of name outcomes.Memory = object (member (codes "memory") (boolean true) no_members)

@@ -1,5 +1,5 @@
 -- The line that is printed of an outcome, and its exit status.
-use Rattle.std.specs.Prelude.{◌≡◌, ◌⊎◌, ℕ, List, [], ◌∷◌, ◌++◌, Bool, true, false, if◌then◌else◌, Option, Some, None, codes}
+use Rattle.std.specs.Prelude.{◌≡◌, ◌⊎◌, ℕ, List, [], ◌∷◌, ◌++◌, Bool, true, false, if◌then◌else◌, Option, Some, None, codes, option_map, string_bytes}
 use Rattle.std.specs.Fmt.{decimal}
 use Rattle.http_front.specs.Head.{fault_text}
 use Rattle.proto_wire.specs.Refusal as refusal
@@ -29,19 +29,16 @@ text_of outcomes.Memory = codes "memory"
 -- the line of the outcome, as a JSON object or in words
 abbrev pub line_of : Report → List ℕ
 line_of report =
-    (if report.json then compact_text (json_of report.outcome) else text_of report.outcome) ++ 10 ∷ []
+    (if report.json then compact_text (json_of (option_map string_bytes report.name) report.outcome)
+    else text_of report.outcome) ++ 10 ∷ []
 
 -- the outcome, printed in words
 abbrev pub plain : Outcome → Report
-plain outcome = record { outcome = outcome; json = false }
+plain outcome = record { outcome = outcome; name = None; json = false }
 
--- want of memory, printed in the same way
-abbrev pub without_memory : Report → Report
-without_memory report = record report { outcome = outcomes.Memory }
-
--- what is printed for the report: itself, or want of memory
-abbrev pub IsPrintedFor : Report → Report → Type 0
-IsPrintedFor report printed = (printed ≡ report) ⊎ (printed ≡ without_memory report)
+-- what is printed for an outcome: itself, or want of memory
+abbrev pub IsPrintedFor : Outcome → Outcome → Type 0
+IsPrintedFor outcome printed = (printed ≡ outcome) ⊎ (printed ≡ outcomes.Memory)
 
 -- the exit status
 abbrev pub status_of : Outcome → ℕ

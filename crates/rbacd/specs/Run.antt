@@ -61,13 +61,13 @@ module _ (holds : Text → Text → Type 0) (lacks : Text → Type 0) where
 
   -- to judge by that policy file, that facts file, if any, and that budget, with this input
   module _ (policy_path : Text) (facts_path : Option Text) (budget : ℕ) (input : Option Text) where
-    -- the outcome is that of the files and of all of the input
-    pub record IsJudgedAs (outcome : Outcome) : Type 0 where
+    -- the outcome is that of the files and of all of the input, with the name of the policy that matched
+    pub record IsJudgedAs (name : Option Text) (outcome : Outcome) : Type 0 where
       pub policy : Text
       pub facts : Facts
       pub read : holds policy_path policy
       pub conn : IsConnOf facts_path facts
-      pub found : IfSome input (λ bytes. IsOutcomeOf policy budget facts bytes outcome)
+      pub found : IfSome input (λ bytes. IsOutcomeOf policy budget facts bytes name outcome)
 
     -- the fault is there, and nothing that is looked at before it has one
     pub data StopsBy (fault : JobFault) : Type 0 where
@@ -80,11 +80,11 @@ module _ (holds : Text → Text → Type 0) (lacks : Text → Type 0) where
           → IsConnOf facts_path facts → Admissible policy largest budget → IsInputFault fault
           → StopsBy fault
 
-  -- the job with this input finds this outcome
-  abbrev pub Finds : Option Text → Job → Outcome → Type 0
-  Finds input (Check policy budget json) outcome = IsCheckedAs (string_bytes policy) budget outcome
-  Finds input (Judge policy facts budget json) outcome =
-      IsJudgedAs (string_bytes policy) (option_map string_bytes facts) budget input outcome
+  -- the job with this input finds this outcome, and the name of the policy that matched
+  abbrev pub Finds : Option Text → Job → Option Text → Outcome → Type 0
+  Finds input (Check policy budget json) name outcome = IsCheckedAs (string_bytes policy) budget outcome
+  Finds input (Judge policy facts budget json) name outcome =
+      IsJudgedAs (string_bytes policy) (option_map string_bytes facts) budget input name outcome
 
   -- the job with this input is stopped by this fault
   abbrev pub IsStoppedBy : Option Text → Job → JobFault → Type 0
@@ -95,7 +95,8 @@ module _ (holds : Text → Text → Type 0) (lacks : Text → Type 0) where
   -- the job with this input comes to this
   abbrev pub ComesTo : Option Text → Job → Result Report JobFault → Type 0
   ComesTo input job (Ok report) = (report.json ≡ is_json job)
-      × ((report.outcome ≡ outcomes.Memory) ⊎ Finds input job report.outcome)
+      × ((report.outcome ≡ outcomes.Memory)
+      ⊎ Finds input job (option_map string_bytes report.name) report.outcome)
   ComesTo input job (Err fault) = IsStoppedBy input job fault
 
   -- what the job that the words name comes to, or why they name none

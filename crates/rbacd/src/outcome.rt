@@ -1,6 +1,7 @@
 //! What the program finds, the line that it prints of it and the status that it ends with.
 ghost use Rattle.std.specs.Prelude.{◌≡◌, IfOk, string_bytes, true};
-ghost use Rattle.rbacd.specs.Outcome.{line_of, plain, status_of, without_memory};
+ghost use Rattle.rbacd.specs.Outcome.{line_of, plain, status_of};
+ghost use Rattle.rbacd.specs.steps.Judged.{matched_in};
 
 use crate::json::value_of;
 use http_front::HeadFault;
@@ -33,6 +34,21 @@ pub enum Outcome {
 }
 
 impl Outcome {
+    /// The number of the policy that matched, if one did.
+    pub(crate) fn matched(self) -> Option<usize>
+        ensures { result ≡ matched_in self }
+    {
+        match self {
+            Outcome::Allowed(matched) => matched,
+            Outcome::Denied(matched) => matched,
+            Outcome::Admitted { .. } => None,
+            Outcome::OutOfSteps => None,
+            Outcome::Refused(_) => None,
+            Outcome::Fault(_) => None,
+            Outcome::Memory => None,
+        }
+    }
+
     /// The exit status: 0 admitted or let through, 1 policy refused, 3 denied, 4 head fault, 5 want of
     /// memory.
     pub fn status(self) -> u8
@@ -76,10 +92,12 @@ impl fmt::Display for Outcome {
 }
 
 /// An outcome, and how it is printed.
-#[derive(Clone, Copy, Debug, PartialEq, Eq)]
+#[derive(Debug, Drop)]
 pub struct Report {
     /// What was found.
     pub outcome: Outcome,
+    /// The name of the policy that matched, if one did.
+    pub name: Option<String>,
     /// Whether it is printed as a JSON object, and not in words.
     pub json: bool,
 }
@@ -91,37 +109,29 @@ impl Report {
     {
         Report {
             outcome,
+            name: None,
             json: false,
         }
     }
 
-    /// Want of memory, printed in the same way.
-    pub(crate) fn without_memory(self) -> Report
-        ensures { result ≡ without_memory self }
-    {
-        Report {
-            outcome: Outcome::Memory,
-            json: self.json,
-        }
-    }
-
     /// The whole line, with its end.
-    pub(crate) fn line(self, alloc: Global) -> Result<String, AllocError>
-        ensures { IfOk result (λ line. string_bytes line ≡ line_of self) }
+    pub(crate) fn line(&self, alloc: Global) -> Result<String, AllocError>
+        ensures { IfOk result (λ line. string_bytes line ≡ line_of self.now) }
     {
         if self.json {
-            json_line(alloc, self.outcome)
+            self.json_line(alloc)
         } else {
             format!(in alloc; "{}\n", self.outcome)
         }
     }
-}
 
-/// The line of the outcome as JSON.
-fn json_line(alloc: Global, outcome: Outcome) -> Result<String, AllocError>
-    ensures { IfOk result (λ line. string_bytes line ≡ line_of (record { outcome = outcome; json = true })) }
-{
-    let mut line = value_of(alloc, outcome)?.to_string(alloc)?;
-    line.push('\n')?;
-    Ok(line)
+    /// The line of the outcome as JSON.
+    fn json_line(&self, alloc: Global) -> Result<String, AllocError>
+        requires { self.now.json ≡ true }
+        ensures { IfOk result (λ line. string_bytes line ≡ line_of self.now) }
+    {
+        let mut line = value_of(alloc, self.outcome, &self.name)?.to_string(alloc)?;
+        line.push('\n')?;
+        Ok(line)
+    }
 }

@@ -1,16 +1,17 @@
 //! The whole job of the program, from its words to its status.
-ghost use Rattle.std.specs.Prelude.{◌≡◌, ◌≢◌, ◌⊎◌, ◌↔◌, ℕ, Err, IfErr, IfOk, IsTrue, List, Ok, Result, Some, map, option_map, string_bytes};
+ghost use Rattle.std.specs.Prelude.{◌≡◌, ◌≢◌, ◌⊎◌, ◌↔◌, ℕ, Err, IfErr, IfOk, IsTrue, List, None, Ok, Result, Some, map, option_map, string_bytes};
 ghost use Rattle.attributes.specs.Conn.{conn_view};
 ghost use Rattle.std.specs.Io.{StartsWith};
 ghost use Rattle.rbacd.specs.Outcome.{line_of, plain};
 ghost use Rattle.rbacd.specs.Output.{Takes};
 ghost use Rattle.rbacd.specs.Run.{ComesTo, HasBadFacts, IsCheckedAs, IsConnOf, IsJudgedAs, IsQuiet, IsShown, IsUnread, Leaves, LeavesFault, Prints, RunsTo, StopsBy, first_line};
+ghost use Rattle.rbacd.specs.declared.judge.Finding.{Finding};
 ghost use Rattle.rbacd.specs.declared.outcome.Report.{Report};
 ghost use Rattle.rbacd.specs.declared.run.JobFault.{JobFault};
 
 use crate::facts::{FactsFault, read_conn};
 use crate::files::Source;
-use crate::judge::{check_of, memory_line, outcome_of, plain_conn, print_report};
+use crate::judge::{Finding, check_of, finding_of, plain_conn, print_report};
 use crate::notes::{Likeness, Notes, meaning_of, rule_of};
 use crate::outcome::{Outcome, Report};
 use crate::output::write_whole;
@@ -71,10 +72,10 @@ pub fn run<S: AsStr, F: Source, R: Read + Drop, W: Write, E: Write>(
 {
     let mut notes = Notes::new(alloc);
     match run_words(alloc, words, files, input, &mut notes) {
-        Ok(report) => match print_report(alloc, report, out) {
+        Ok(report) => match print_report(alloc, &report, out) {
             Ok(printed) => {
-                tell_cause(printed.outcome, notes.policy, errors);
-                printed.outcome.status()
+                tell_cause(printed, notes.policy, errors);
+                printed.status()
             }
             Err(cause) => tell_output(cause, errors),
         },
@@ -132,16 +133,25 @@ fn run_job<F: Source, R: Read + Drop>(
 }
 
 /// The report of what a job finds. Want of memory is an outcome of it.
-fn report_of(found: Result<Outcome, JobFault>, json: bool) -> Result<Report, JobFault>
-    ensures kept { IfOk found (λ outcome. result ≡ Ok (record { outcome = outcome; json = json })) }
+fn report_of(found: Result<Finding, JobFault>, json: bool) -> Result<Report, JobFault>
+    ensures kept { IfOk found (λ finding. result ≡ Ok (record {
+      outcome = finding.outcome;
+      name = finding.name;
+      json = json;
+    })) }
     ensures memory { found ≡ Err JobFault.Memory
-        → result ≡ Ok (record { outcome = Outcome.Memory; json = json }) }
+        → result ≡ Ok (record { outcome = Outcome.Memory; name = None; json = json }) }
     ensures others { IfErr found (λ e. e ≢ JobFault.Memory → result ≡ Err e) }
 {
     match found {
-        Ok(outcome) => Ok(Report { outcome, json }),
+        Ok(finding) => Ok(Report {
+            outcome: finding.outcome,
+            name: finding.name,
+            json,
+        }),
         Err(JobFault::Memory) => Ok(Report {
             outcome: Outcome::Memory,
+            name: None,
             json,
         }),
         Err(fault) => Err(fault),
@@ -155,15 +165,18 @@ fn check_file<F: Source>(
     budget: u64,
     files: &F,
     notes: &mut Notes,
-) -> Result<Outcome, JobFault>
-    ensures found { IfOk result (IsCheckedAs (F.holds files.now) (F.lacks files.now) policy.now
-        budget) }
+) -> Result<Finding, JobFault>
+    ensures found { IfOk result (λ finding. IsCheckedAs (F.holds files.now) (F.lacks files.now)
+        policy.now budget finding.outcome) }
     ensures fault { IfErr result (λ e. (e ≡ JobFault.Memory)
         ⊎ IsUnread (F.holds files.now) (F.lacks files.now) policy.now e) }
 {
     let bytes = read_file(alloc, files, policy)?;
     notes.look_at_policy(&bytes);
-    Ok(check_of(alloc, &bytes, budget))
+    Ok(Finding {
+        outcome: check_of(alloc, &bytes, budget),
+        name: None,
+    })
 }
 
 /// Judges the head that the input begins with by a policy file, on the connection of a facts file.
@@ -175,17 +188,18 @@ fn judge_files<F: Source, R: Read + Drop>(
     files: &F,
     input: R,
     notes: &mut Notes,
-) -> Result<Outcome, JobFault>
-    ensures found { IfOk result (IsJudgedAs (F.holds files.now) (F.lacks files.now) policy.now
-        (option_map string_bytes facts) budget (R.remaining input)) }
+) -> Result<Finding, JobFault>
+    ensures found { IfOk result (λ finding. IsJudgedAs (F.holds files.now) (F.lacks files.now)
+        policy.now (option_map string_bytes facts) budget (R.remaining input)
+        (option_map string_bytes finding.name) finding.outcome) }
     ensures fault { IfErr result (λ e. (e ≡ JobFault.Memory) ⊎ StopsBy (F.holds files.now)
         (F.lacks files.now) policy.now (option_map string_bytes facts) budget (R.remaining input) e) }
 {
     let bytes = read_file(alloc, files, policy)?;
     notes.look_at_policy(&bytes);
     let conn = conn_of(alloc, facts, files, notes)?;
-    match outcome_of(alloc, &bytes, budget, conn, input) {
-        Ok(outcome) => Ok(outcome),
+    match finding_of(alloc, &bytes, budget, conn, input) {
+        Ok(finding) => Ok(finding),
         Err(cause) => Err(JobFault::Input(cause)),
     }
 }
@@ -321,7 +335,7 @@ fn end_by_memory<W: Write, E: Write>(out: &mut W, errors: &mut E) -> u8
     ensures { Prints (W.contents out.old) (W.contents out.new) (E.contents errors.old)
         (E.contents errors.new) result 5 (line_of (plain Outcome.Memory)) }
 {
-    show(memory_line(false), Outcome::Memory.status(), out, errors)
+    show(b"memory\n", Outcome::Memory.status(), out, errors)
 }
 
 /// Ends with this status and this text on standard output.

@@ -44,9 +44,9 @@ const JUDGE_HELP: &str = "The line on standard output, and the status:
   memory           5  memory ran out
 With no line there, standard error has one: 2 for words, a file or an output that fails, 6 for bad facts.
 
-With --json the line is one of these objects; M is null where no policy matched:
-  {\"policy\":M,\"verdict\":\"allow\"}
-  {\"policy\":M,\"verdict\":\"deny\"}
+With --json the line is one of these objects; no policy matched where \"name\" and \"policy\" are null:
+  {\"name\":\"p\",\"policy\":M,\"verdict\":\"allow\"}
+  {\"name\":\"p\",\"policy\":M,\"verdict\":\"deny\"}
   {\"out_of_steps\":true,\"verdict\":\"deny\"}
   {\"name\":\"NAME\",\"refused\":N}
   {\"head\":S}

@@ -179,14 +179,14 @@ const CASES: [Case; 24] = [
     (
         &["judge", "--json", "--policy", "any"],
         PLAIN,
-        "{\"policy\":0,\"verdict\":\"allow\"}\n",
+        "{\"name\":\"p\",\"policy\":0,\"verdict\":\"allow\"}\n",
         "",
         0,
     ),
     (
         &["judge", "--policy", "empty", "--json"],
         PLAIN,
-        "{\"policy\":null,\"verdict\":\"deny\"}\n",
+        "{\"name\":null,\"policy\":null,\"verdict\":\"deny\"}\n",
         "",
         3,
     ),
