@@ -7,12 +7,6 @@ pub map-take_more : {X Y : Type 0} (f : X → Y) (xs : List X) (i : ℕ) (d : X)
     → map f (take (i + 1) xs) ≡ map f (take i xs) ++ f (get_or xs i d) ∷ []
 map-take_more f xs i d lt = rw (take_more xs i d lt, map-append f (take i xs)) refl
 
--- the image of the element at i is among the images
-pub Any-map_at : {X Y : Type 0} (P : Y → Type 0) (f : X → Y) (xs : List X) (i : ℕ) (d : X)
-    → i < length xs → P (f (get_or xs i d)) → Any P (map f xs)
-Any-map_at P f xs i d lt p =
-    (i, f (get_or xs i d), rw length-map lt, get_or-map f xs i d _ lt, p)
-
 -- the image of the element at i has what all images have
 pub All-map_at : {X Y : Type 0} (P : Y → Type 0) (f : X → Y) (xs : List X) (i : ℕ) (d : X)
     → i < length xs → All P (map f xs) → P (f (get_or xs i d))

@@ -1,5 +1,5 @@
 -- A head is UTF-8 exactly where its values are: all its other bytes are in any case.
-use Rattle.std.proofs.Common.{◌≡◌, ◌∙◌, ℕ, suc, ◌+◌, ◌<◌, codes, ◌≤◌, ◌==◌, Bool, true, false, List, [], ◌∷◌, ◌++◌, length, map, ap, refl, sym, arith, reverse, append_assoc, append-nil, All, Any, ◌⊎◌, inl, inr}
+use Rattle.std.proofs.Common.{◌≡◌, ◌∙◌, ℕ, suc, ◌<◌, codes, ◌≤◌, Bool, true, false, List, [], ◌∷◌, ◌++◌, map, ap, refl, sym, arith, reverse, append_assoc, append-nil, All, Any, ◌⊎◌, inl, inr}
 use Rattle.std.specs.Prelude.{IsTrue, IsUtf8}
 use Rattle.std.specs.Str.{is_utf8}
 use Rattle.std.specs.List.{flat_map}

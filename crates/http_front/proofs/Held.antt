@@ -1,5 +1,5 @@
 -- From the spans that the parser answers to the head that the code holds.
-use Rattle.std.proofs.Common.{◌≡◌, ◌∙◌, ℕ, ◌≤◌, ◌==◌, List, ◌++◌, length, take, drop, map, ap, sym, arith}
+use Rattle.std.proofs.Common.{◌≡◌, ◌∙◌, ℕ, ◌≤◌, ◌==◌, List, ◌++◌, length, take, drop, map, ap, arith}
 use Rattle.std.proofs.Math.Seq.{take-append_seam}
 use Rattle.std.proofs.lemmas.List.{length-take-le}
 use Rattle.httparse.specs.Grammar.{RequestHead, print_request}

@@ -1,5 +1,6 @@
 pub mod FieldLists
 pub mod LineFeeds
+pub mod FieldNames
 pub mod Texts
 pub mod HeadTexts
 pub mod Rooms

@@ -10,7 +10,7 @@ use Rattle.httparse.proofs.GrammarLemmas.{ReadsRequest-append, request_unique}
 use Rattle.http_front.specs.declared.fault.HeadFault.{HeadFault}
 use Rattle.http_front.specs.declared.read.Ask.{Ask}
 use Rattle.http_front.specs.declared.read.Ask.TheVariants.{Judge, Fault}
-use Rattle.http_front.specs.Asks.{Asks, HasFault, IfFault, IfJudge, IsUnfinished, request_of_head}
+use Rattle.http_front.specs.Asks.{Asks, HasFault, IfFault, IfJudge, request_of_head}
 use Rattle.http_front.specs.steps.Asks.{IsAskOf}
 use Rattle.http_front.specs.Head.{HasNoHead, HeadValue, StartsHead, head_of, head_room}
 

@@ -1,5 +1,5 @@
 -- Spans that lie in the front of a text cover the same there as in all of it.
-use Rattle.std.proofs.Common.{◌≡◌, ◌∙◌, ℕ, zero, suc, ◌+◌, ◌-◌, ◌≤◌, List, [], ◌∷◌, take, drop, map, ap, ap₂, refl, sym, arith, slice_range}
+use Rattle.std.proofs.Common.{◌≡◌, ◌∙◌, ℕ, zero, suc, ◌+◌, ◌-◌, ◌≤◌, List, [], ◌∷◌, take, drop, map, ap, ap₂, refl, arith, slice_range}
 use Rattle.std.specs.Prelude.{All}
 use Rattle.std.proofs.lemmas.List.{drop-take}
 use Rattle.std.proofs.lemmas.List.Elements.{All-head, All-tail}

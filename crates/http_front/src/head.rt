@@ -1,17 +1,16 @@
 //! A request head where it lies in the bytes that it was read from.
-ghost use Rattle.std.specs.Prelude.{◌≡◌, ◌≤◌, ◌↔◌, ◌==◌, All, Any, IfNone, IfOk, IfSome, IsTrue, count_by, length};
+ghost use Rattle.std.specs.Prelude.{◌≡◌, ◌≤◌, ◌↔◌, ◌==◌, Any, IfNone, IfOk, IfSome, IsTrue, count_by, length};
 ghost use Rattle.std.specs.Bool.{OnFalse, OnTrue};
 ghost use Rattle.attributes.specs.Conn.{conn_view};
-ghost use Rattle.http_header.specs.FieldName.{IsFieldName};
 ghost use Rattle.httparse.specs.Ascii.{line_feed};
 ghost use Rattle.http_front.specs.declared.fault.HeadFault.{HeadFault};
 ghost use Rattle.http_front.specs.steps.Parsed.{AreTexts, IsParsed};
 ghost use Rattle.http_front.specs.Asks.{request_of_head};
 ghost use Rattle.http_front.specs.Head.{head_room};
-ghost use Rattle.http_front.specs.Rules.{IsBadName, IsBadText, IsOriginForm, RuleFault};
+ghost use Rattle.http_front.specs.Rules.{IsBadText, IsOriginForm, RuleFault};
 
 use crate::fault::{HeadFault, HeadPart};
-use crate::fields::{are_field_names, copy_text, lower_lines};
+use crate::fields::{copy_text, lower_lines};
 use crate::framing::framing_of;
 use crate::part::part_of;
 use attributes::{Conn, Request};
@@ -105,9 +104,6 @@ impl<'a> Head<'a> {
         if !self.is_text() {
             return Some(HeadFault::BadText);
         }
-        if !self.has_field_names() {
-            return Some(HeadFault::BadName);
-        }
         framing_of(self.bytes, self.fields).fault(self.is_http11)
     }
 
@@ -117,14 +113,6 @@ impl<'a> Head<'a> {
         ensures others { OnFalse result (Any IsBadText self.now.fields) }
     {
         str::from_utf8(self.bytes).is_ok()
-    }
-
-    /// Whether each field has a name that is one (RFC 9110, section 5.1).
-    fn has_field_names(&self) -> bool
-        ensures names { OnTrue result (All (λ f. IsFieldName f.0) self.now.fields) }
-        ensures others { OnFalse result (Any IsBadName self.now.fields) }
-    {
-        are_field_names(self.bytes, self.fields)
     }
 
     /// The request that the head makes on this connection.

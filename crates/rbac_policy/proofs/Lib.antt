@@ -10,3 +10,4 @@ pub mod Deciding
 pub mod Uniqueness
 pub mod OneVerdict
 pub mod StandardFacts
+mod PolicyNames

@@ -1,6 +1,6 @@
 //! An admitted filter, and what it answers.
 
-ghost use Rattle.std.specs.Prelude.{◌≡◌, IsTrue};
+ghost use Rattle.std.specs.Prelude.{◌≡◌, IsTrue, option_map, slice_get, string_bytes};
 ghost use Rattle.std.specs.FinMap.{is_sorted};
 ghost use Rattle.attributes.specs.Headers.{name_cmp};
 ghost use Rattle.rbac_policy.specs.Enforced.{bounds_of};
@@ -86,7 +86,7 @@ pub struct Admitted {
 }
 
 impl Admitted {
-    ghost use Rattle.std.specs.FinMap.{len};
+    ghost use Rattle.std.specs.FinMap.{keys, len};
     ghost use Rattle.rbac_policy.specs.Admitted.{rules_view, filter_view, limits_view};
     ghost use Rattle.rbac_policy.specs.Enforced.{total_bound};
 
@@ -131,10 +131,29 @@ impl Admitted {
         self.rules.policies.len()
     }
 
+    /// The name of the policy of this number, counted from 0 in ascending order of names.
+    pub fn policy_name(&self, number: usize) -> Option<&str>
+        ensures { option_map (λ name. name.now) result
+            ≡ slice_get (keys (filter_view self.now).policies) number }
+    {
+        name_in(&self.rules.policies, number)
+    }
+
     /// How many steps its conditions may take together.
     pub fn bound(&self) -> u64
         ensures { result ≡ total_bound (filter_view self.now) }
     {
         self.rules.bound
+    }
+}
+
+/// The name of the policy that stands at this place.
+fn name_in(policies: &[NamedPolicy], place: usize) -> Option<&str>
+    ensures { option_map (λ name. name.now) result
+        ≡ option_map (λ p. string_bytes p.name) (slice_get policies.now place) }
+{
+    match policies.get(place) {
+        Some(policy) => Some(policy.name.as_str()),
+        None => None,
     }
 }

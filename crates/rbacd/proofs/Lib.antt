@@ -2,3 +2,4 @@ pub mod InputLemmas
 pub mod WordLemmas
 mod Writing
 mod Ends
+mod JudgeLemmas

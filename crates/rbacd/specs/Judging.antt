@@ -1,15 +1,21 @@
--- Which outcome one head has under one policy file.
-use Rattle.std.specs.Prelude.{◌≡◌, ◌⊎◌, ⊤, true, false, ℕ, Bool, List, Option, codes}
+-- Which outcome a policy file has, and one head under it.
+use Rattle.std.specs.Prelude.{◌≡◌, ◌⊎◌, ⊤, true, false, ℕ, Bool, List, Option, codes, option_and_then, slice_get}
+use Rattle.std.specs.FinMap.{keys, len}
 use Rattle.attributes.specs.Conn.{Facts, only_scheme}
 use Rattle.attributes.specs.Limits.{largest}
 use Rattle.attributes.specs.Request.{RequestValue}
+use Rattle.cel_tree.specs.Checked.{CelChecked}
 use Rattle.http_front.specs.declared.fault.HeadFault.{HeadFault}
 use Rattle.http_front.specs.declared.fault.HeadFault.TheVariants.{Unfinished}
 use Rattle.http_front.specs.Asks.{Asks, HasFault, IsUnfinished}
-use Rattle.proto_wire.specs.declared.refusal.Refusal.TheVariants.{Memory}
-use Rattle.rbac_policy.specs.Admission.{Admissible, Admits, Fault}
-use Rattle.rbac_policy.specs.Filter.{Condition, Filter}
-use Rattle.rbac_policy.specs.Verdict.{IsVerdict, RunsOut}
+use Rattle.proto_wire.specs.Refusal.{MemoryOr}
+use Rattle.proto_wire.specs.declared.refusal.Refusal.{Refusal}
+use Rattle.proto_wire.specs.declared.refusal.Refusal.TheVariants.{CodeRefused}
+use Rattle.rbac_policy.specs.Admission.{Admissible, Admits, Fault, HoldsRefusedCode}
+use Rattle.rbac_policy.specs.Condition.{Program, is_met}
+use Rattle.rbac_policy.specs.Enforced.{total_bound}
+use Rattle.rbac_policy.specs.Filter.{Filter}
+use Rattle.rbac_policy.specs.Verdict.{IsVerdict}
 use Rattle.rbacd.specs.declared.outcome.Outcome.{Outcome}
 use Rattle.rbacd.specs.declared.outcome.Outcome.TheVariants as outcomes
 
@@ -17,44 +23,50 @@ use Rattle.rbacd.specs.declared.outcome.Outcome.TheVariants as outcomes
 abbrev pub plain_facts : Facts
 plain_facts = only_scheme (codes "http")
 
--- the policy is admitted as this filter, and the bytes begin with a head that asks for this request on a
--- connection of these facts
-pub record IsJudged (policy : List ℕ) (budget : ℕ) (facts : Facts) (bytes : List ℕ) : Type 0 where
-  pub filter : Filter
-  pub admitted : Admits policy largest budget filter
+-- the policy is admitted as a filter, and the bytes begin with a head that asks for a request on a
+-- connection of these facts, which the filter gives this verdict; the name is that of the policy that
+-- matched
+pub record IsDecided (policy : List ℕ) (budget : ℕ) (facts : Facts) (bytes : List ℕ)
+    (name : Option (List ℕ)) (allowed : Bool) (matched : Option ℕ) : Type 0 where
+  pub filter : Filter CelChecked
+  pub enforced : Filter Program
+  pub admitted : Admits policy largest budget filter enforced
   pub request : RequestValue
   pub asks : Asks bytes largest facts request
+  pub verdict : IsVerdict (is_met request) request filter allowed matched
+  pub named : name ≡ option_and_then (slice_get (keys enforced.policies)) matched
 
 -- the bytes, which are all that comes on a connection of these facts, ask for nothing, for this fault
 pub data InputFault (facts : Facts) (bytes : List ℕ) (fault : HeadFault) : Type 0 where
   present : HasFault bytes largest facts fault → InputFault facts bytes fault
   unfinished : IsUnfinished bytes → fault ≡ Unfinished → InputFault facts bytes fault
 
--- the filter gives the request this verdict, whatever its conditions answer: it has none
-abbrev pub Decides : Filter → RequestValue → Bool → Option ℕ → Type 0
-Decides filter request allowed matched =
-    (is_met : Condition → Bool) → IsVerdict is_met request filter allowed matched
+-- the policy is refused for this reason: memory ran out, or its fault is there, or a condition's code
+-- is too long or is not verified
+abbrev pub IsRefusedFor : List ℕ → ℕ → Refusal → Type 0
+IsRefusedFor policy budget = MemoryOr (λ e. ((e ≡ CodeRefused) × HoldsRefusedCode policy largest)
+    ⊎ Fault e policy largest budget)
 
--- a condition that the verdict asks for takes more steps than it may
-abbrev pub TakesTooLong : Filter → RequestValue → Type 0
-TakesTooLong filter request =
-    (is_met is_too_long : Condition → Bool) → RunsOut is_met is_too_long request filter
+-- the outcome is what the policy gives by itself
+abbrev pub IsCheckOf : List ℕ → ℕ → Outcome → Type 0
+IsCheckOf policy budget (outcomes.Admitted policies bound) =
+    (filter : Filter CelChecked) × (enforced : Filter Program)
+    × Admits policy largest budget filter enforced
+    × (policies ≡ len enforced.policies) × (bound ≡ total_bound enforced)
+IsCheckOf policy budget (outcomes.Refused reason) = IsRefusedFor policy budget reason
+IsCheckOf policy budget outcomes.Memory = ⊤
+IsCheckOf policy budget _ = ⊥
 
--- the outcome is what the policy, the facts and the bytes give
-abbrev pub IsOutcomeOf : List ℕ → ℕ → Facts → List ℕ → Outcome → Type 0
-IsOutcomeOf policy budget facts bytes (outcomes.Allowed matched) =
-    (judged : IsJudged policy budget facts bytes) × Decides judged.filter judged.request true matched
-IsOutcomeOf policy budget facts bytes (outcomes.Denied matched) =
-    (judged : IsJudged policy budget facts bytes) × Decides judged.filter judged.request false matched
-IsOutcomeOf policy budget facts bytes outcomes.OutOfSteps =
-    (judged : IsJudged policy budget facts bytes) × TakesTooLong judged.filter judged.request
-IsOutcomeOf policy budget facts bytes (outcomes.Refused reason) =
-    (reason ≡ Memory) ⊎ Fault reason policy largest budget
-IsOutcomeOf policy budget facts bytes (outcomes.Fault fault) =
+-- the outcome is what the policy, the facts and the bytes give, with the name of the policy that
+-- matched. No condition runs out of its steps, since the request is within the limits
+abbrev pub IsOutcomeOf : List ℕ → ℕ → Facts → List ℕ → Option (List ℕ) → Outcome → Type 0
+IsOutcomeOf policy budget facts bytes name (outcomes.Allowed matched) =
+    IsDecided policy budget facts bytes name true matched
+IsOutcomeOf policy budget facts bytes name (outcomes.Denied matched) =
+    IsDecided policy budget facts bytes name false matched
+IsOutcomeOf policy budget facts bytes name (outcomes.Refused reason) = IsRefusedFor policy budget reason
+IsOutcomeOf policy budget facts bytes name (outcomes.Fault fault) =
     Admissible policy largest budget × InputFault facts bytes fault
-IsOutcomeOf policy budget facts bytes outcomes.Memory = ⊤
-
--- the outcome is what each policy that is admitted as this filter gives with the facts and the bytes
-abbrev pub IsOutcomeUnder : Filter → Facts → List ℕ → Outcome → Type 0
-IsOutcomeUnder filter facts bytes outcome = (policy : List ℕ) (budget : ℕ)
-    → Admits policy largest budget filter → IsOutcomeOf policy budget facts bytes outcome
+IsOutcomeOf policy budget facts bytes name outcomes.Memory = ⊤
+IsOutcomeOf policy budget facts bytes name outcomes.OutOfSteps = ⊥
+IsOutcomeOf policy budget facts bytes name (outcomes.Admitted policies bound) = ⊥

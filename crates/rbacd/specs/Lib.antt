@@ -1,4 +1,5 @@
 pub mod Words
+pub mod Json
 pub mod Outcome
 pub mod Judging
 pub mod Facts

@@ -1,19 +1,24 @@
--- The line that an outcome prints, and its exit status.
-use Rattle.std.specs.Prelude.{ℕ, List, [], ◌∷◌, ◌++◌, Option, Some, None, codes}
+-- The line that is printed of an outcome, and its exit status.
+use Rattle.std.specs.Prelude.{◌≡◌, ◌⊎◌, ℕ, List, [], ◌∷◌, ◌++◌, Bool, true, false, if◌then◌else◌, Option, Some, None, codes, option_map, string_bytes}
 use Rattle.std.specs.Fmt.{decimal}
 use Rattle.http_front.specs.Head.{fault_text}
 use Rattle.proto_wire.specs.Refusal as refusal
 use Rattle.proto_wire.specs.declared.refusal.Refusal.{Refusal}
+use Rattle.serde_json.specs.Written.{compact_text}
+use Rattle.rbacd.specs.Json.{json_of}
 use Rattle.rbacd.specs.declared.outcome.Outcome.{Outcome}
 use Rattle.rbacd.specs.declared.outcome.Outcome.TheVariants as outcomes
+use Rattle.rbacd.specs.declared.outcome.Report.{Report}
 
 -- the number of the policy that matched, or `-`
 abbrev pub matched_text : Option ℕ → List ℕ
 matched_text (Some number) = decimal number
 matched_text None = codes "-"
 
--- the line without its end
+-- the outcome in words
 abbrev pub text_of : Outcome → List ℕ
+text_of (outcomes.Admitted policies bound) =
+    codes "admitted: policies " ++ decimal policies ++ codes " bound " ++ decimal bound
 text_of (outcomes.Allowed matched) = codes "allow " ++ matched_text matched
 text_of (outcomes.Denied matched) = codes "deny " ++ matched_text matched
 text_of outcomes.OutOfSteps = codes "deny steps"
@@ -21,12 +26,23 @@ text_of (outcomes.Refused reason) = codes "refused: " ++ refusal.text_of reason
 text_of (outcomes.Fault fault) = codes "head: " ++ fault_text fault
 text_of outcomes.Memory = codes "memory"
 
--- the line with its end
-abbrev pub line_of : Outcome → List ℕ
-line_of outcome = text_of outcome ++ 10 ∷ []
+-- the line of the outcome, as a JSON object or in words
+abbrev pub line_of : Report → List ℕ
+line_of report =
+    (if report.json then compact_text (json_of (option_map string_bytes report.name) report.outcome)
+    else text_of report.outcome) ++ 10 ∷ []
+
+-- the outcome, printed in words
+abbrev pub plain : Outcome → Report
+plain outcome = record { outcome = outcome; name = None; json = false }
+
+-- what is printed for an outcome: itself, or want of memory
+abbrev pub IsPrintedFor : Outcome → Outcome → Type 0
+IsPrintedFor outcome printed = (printed ≡ outcome) ⊎ (printed ≡ outcomes.Memory)
 
 -- the exit status
 abbrev pub status_of : Outcome → ℕ
+status_of (outcomes.Admitted policies bound) = 0
 status_of (outcomes.Allowed matched) = 0
 status_of (outcomes.Denied matched) = 3
 status_of outcomes.OutOfSteps = 3

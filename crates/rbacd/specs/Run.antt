@@ -12,14 +12,15 @@ use Rattle.clap.specs.declared.error.kind.ErrorKind.{ErrorKind}
 use Rattle.clap.specs.declared.error.kind.ErrorKind.TheVariants as kinds
 use Rattle.rbac_policy.specs.Admission.{Admissible}
 use Rattle.rbacd.specs.Facts.{IsFactsText, TellsNone}
-use Rattle.rbacd.specs.Judging.{IsOutcomeOf, plain_facts}
-use Rattle.rbacd.specs.Outcome.{line_of, status_of}
+use Rattle.rbacd.specs.Judging.{IsCheckOf, IsOutcomeOf, plain_facts}
+use Rattle.rbacd.specs.Outcome.{line_of, plain, status_of}
 use Rattle.rbacd.specs.Output.{BreaksOff, Takes}
-use Rattle.rbacd.specs.Words.{AreMistaken, IsJobOf}
+use Rattle.rbacd.specs.Words.{AreMistaken, IsJobOf, is_json}
 use Rattle.rbacd.specs.declared.words.Job.{Job}
-use Rattle.rbacd.specs.declared.words.Job.TheVariants.{Judge}
+use Rattle.rbacd.specs.declared.words.Job.TheVariants.{Check, Judge}
 use Rattle.rbacd.specs.declared.outcome.Outcome.{Outcome}
 use Rattle.rbacd.specs.declared.outcome.Outcome.TheVariants as outcomes
+use Rattle.rbacd.specs.declared.outcome.Report.{Report}
 use Rattle.rbacd.specs.declared.run.JobFault.{JobFault}
 use Rattle.rbacd.specs.declared.run.JobFault.TheVariants as faults
 
@@ -52,19 +53,24 @@ module _ (holds : Text → Text → Type 0) (lacks : Text → Type 0) where
   IsInputFault faults.Facts = ⊥
   IsInputFault faults.Memory = ⊥
 
-  -- the job by that policy file, that facts file, if any, and that budget, with this input
+  -- the outcome is that of the policy file at this path
+  pub record IsCheckedAs (policy_path : Text) (budget : ℕ) (outcome : Outcome) : Type 0 where
+    pub policy : Text
+    pub read : holds policy_path policy
+    pub found : IsCheckOf policy budget outcome
+
+  -- to judge by that policy file, that facts file, if any, and that budget, with this input
   module _ (policy_path : Text) (facts_path : Option Text) (budget : ℕ) (input : Option Text) where
-    -- the outcome is that of the files and of all of the input
-    pub record IsJudgedAs (outcome : Outcome) : Type 0 where
+    -- the outcome is that of the files and of all of the input, with the name of the policy that matched
+    pub record IsJudgedAs (name : Option Text) (outcome : Outcome) : Type 0 where
       pub policy : Text
       pub facts : Facts
       pub read : holds policy_path policy
       pub conn : IsConnOf facts_path facts
-      pub found : IfSome input (λ bytes. IsOutcomeOf policy budget facts bytes outcome)
+      pub found : IfSome input (λ bytes. IsOutcomeOf policy budget facts bytes name outcome)
 
     -- the fault is there, and nothing that is looked at before it has one
     pub data StopsBy (fault : JobFault) : Type 0 where
-      memory : fault ≡ faults.Memory → StopsBy fault
       no_policy : IsUnread policy_path fault → StopsBy fault
       no_facts : (policy path : Text) → holds policy_path policy → facts_path ≡ Some path
           → IsUnread path fault → StopsBy fault
@@ -74,18 +80,30 @@ module _ (holds : Text → Text → Type 0) (lacks : Text → Type 0) where
           → IsConnOf facts_path facts → Admissible policy largest budget → IsInputFault fault
           → StopsBy fault
 
-  -- the job with this input comes to this
-  abbrev pub ComesTo : Option Text → Job → Result Outcome JobFault → Type 0
-  ComesTo input (Judge policy facts budget) (Ok outcome) =
-      IsJudgedAs (string_bytes policy) (option_map string_bytes facts) budget input outcome
-  ComesTo input (Judge policy facts budget) (Err fault) =
+  -- the job with this input finds this outcome, and the name of the policy that matched
+  abbrev pub Finds : Option Text → Job → Option Text → Outcome → Type 0
+  Finds input (Check policy budget json) name outcome = IsCheckedAs (string_bytes policy) budget outcome
+  Finds input (Judge policy facts budget json) name outcome =
+      IsJudgedAs (string_bytes policy) (option_map string_bytes facts) budget input name outcome
+
+  -- the job with this input is stopped by this fault
+  abbrev pub IsStoppedBy : Option Text → Job → JobFault → Type 0
+  IsStoppedBy input (Check policy budget json) fault = IsUnread (string_bytes policy) fault
+  IsStoppedBy input (Judge policy facts budget json) fault =
       StopsBy (string_bytes policy) (option_map string_bytes facts) budget input fault
+
+  -- the job with this input comes to this
+  abbrev pub ComesTo : Option Text → Job → Result Report JobFault → Type 0
+  ComesTo input job (Ok report) = (report.json ≡ is_json job)
+      × ((report.outcome ≡ outcomes.Memory)
+      ⊎ Finds input job (option_map string_bytes report.name) report.outcome)
+  ComesTo input job (Err fault) = IsStoppedBy input job fault
 
   -- what the job that the words name comes to, or why they name none
   module _ (words : List Text) (input : Option Text) where
     -- the fault is the mistake that the words hold
-    abbrev pub IsMistake : Result Outcome JobFault → Type 0
-    IsMistake (Ok outcome) = ⊥
+    abbrev pub IsMistake : Result Report JobFault → Type 0
+    IsMistake (Ok report) = ⊥
     IsMistake (Err (faults.Words error)) = AreMistaken words (kind_of error)
     IsMistake (Err (faults.File name cause)) = ⊥
     IsMistake (Err faults.Facts) = ⊥
@@ -93,7 +111,7 @@ module _ (holds : Text → Text → Type 0) (lacks : Text → Type 0) where
     IsMistake (Err faults.Memory) = ⊥
 
     -- the words name a job that comes to this, or they are mistaken
-    pub data RunsTo (found : Result Outcome JobFault) : Type 0 where
+    pub data RunsTo (found : Result Report JobFault) : Type 0 where
       job : (job : Job) → IsJobOf words job → ComesTo input job found → RunsTo found
       mistaken : IsMistake found → RunsTo found
       memory : found ≡ Err faults.Memory → RunsTo found
@@ -112,6 +130,7 @@ IsShown kind = (kind ≡ kinds.DisplayHelp) ⊎ (kind ≡ kinds.DisplayVersion)
 
 -- nothing is told of a verdict, and what is told below another line is left open
 abbrev pub IsQuiet : Option Text → Option Text → Outcome → Type 0
+IsQuiet errors errors_new (outcomes.Admitted policies bound) = errors_new ≡ errors
 IsQuiet errors errors_new (outcomes.Allowed matched) = errors_new ≡ errors
 IsQuiet errors errors_new (outcomes.Denied matched) = errors_new ≡ errors
 IsQuiet errors errors_new outcomes.OutOfSteps = errors_new ≡ errors
@@ -144,15 +163,15 @@ module _ (out out_new errors errors_new : Option Text) (status : ℕ) where
   LeavesFault (faults.File path cause) = Tells 2 (first_line (faults.File path cause))
   LeavesFault faults.Facts = Tells 6 (first_line faults.Facts)
   LeavesFault (faults.Input cause) = Tells 2 (first_line (faults.Input cause))
-  LeavesFault faults.Memory = Prints 5 (line_of outcomes.Memory)
+  LeavesFault faults.Memory = Prints 5 (line_of (plain outcomes.Memory))
 
-  -- the line of the outcome stands on standard output
-  abbrev pub PrintsOutcome : Outcome → Type 0
-  PrintsOutcome outcome = ((status ≡ status_of outcome) × Appends out out_new (line_of outcome)
-      × IsQuiet errors errors_new outcome)
-      ⊎ ((status ≡ 2) × BreaksOff out out_new (line_of outcome))
+  -- the line of the report stands on standard output
+  abbrev pub PrintsReport : Report → Type 0
+  PrintsReport report = ((status ≡ status_of report.outcome) × Appends out out_new (line_of report)
+      × IsQuiet errors errors_new report.outcome)
+      ⊎ ((status ≡ 2) × BreaksOff out out_new (line_of report))
 
   -- what is left of a run that comes to this
-  abbrev pub Leaves : Result Outcome JobFault → Type 0
-  Leaves (Ok outcome) = PrintsOutcome outcome
+  abbrev pub Leaves : Result Report JobFault → Type 0
+  Leaves (Ok report) = PrintsReport report
   Leaves (Err fault) = LeavesFault fault

@@ -1,13 +1,14 @@
 -- The program's command line and the job that its words name.
-use Rattle.std.specs.Prelude.{◌≡◌, ◌≤◌, ◌⊎◌, ⊤, ℕ, List, [], ◌∷◌, true, Ok, Option, Some, option_map, codes, string_bytes}
+use Rattle.std.specs.Prelude.{◌≡◌, ◌≤◌, ◌⊎◌, ◌↔◌, ⊤, ℕ, List, [], ◌∷◌, Bool, true, IsTrue, Ok, Option, Some, option_map, codes, string_bytes}
 use Rattle.std.specs.Str.Parse.{ParsesUnsigned}
 use Rattle.clap.specs.Words.{App, IsAmong, Row, Rule, Text, fault_of, first_of, one_of, new_app, new_rule, subcommand_of, with_rule, with_subcommand}
 use Rattle.clap.specs.Simple.{on_top}
+use Rattle.clap.specs.declared.builder.action.ArgAction.TheVariants.{SetTrue}
 use Rattle.clap.specs.declared.builder.value_parser.ValueParser.TheVariants as parsers
 use Rattle.clap.specs.declared.error.kind.ErrorKind.{ErrorKind}
 use Rattle.clap.specs.declared.error.kind.ErrorKind.TheVariants.{ValueValidation}
 use Rattle.rbacd.specs.declared.words.Job.{Job}
-use Rattle.rbacd.specs.declared.words.Job.TheVariants.{Judge}
+use Rattle.rbacd.specs.declared.words.Job.TheVariants.{Check, Judge}
 
 -- `--policy FILE`, which has to be there
 abbrev pub policy_rule : Rule
@@ -33,9 +34,21 @@ budget_rule = record (new_rule (codes "budget")) {
   defaults = codes "1000000" ∷ [];
 }
 
--- `judge --policy FILE [--facts FILE] [--budget N]`
+-- `--json`
+abbrev pub json_rule : Rule
+json_rule = record (new_rule (codes "json")) {
+  long = Some (codes "json");
+  action = Some SetTrue;
+}
+
+-- `check --policy FILE [--budget N] [--json]`
+abbrev pub check_app : App
+check_app = with_rule (with_rule (with_rule (new_app (codes "check")) policy_rule) budget_rule) json_rule
+
+-- `judge --policy FILE [--facts FILE] [--budget N] [--json]`
 abbrev pub judge_app : App
-judge_app = with_rule (with_rule (with_rule (new_app (codes "judge")) policy_rule) facts_rule) budget_rule
+judge_app = with_rule (with_rule (with_rule (with_rule (new_app (codes "judge")) policy_rule) facts_rule)
+    budget_rule) json_rule
 
 -- the program, which has a version, and needs a subcommand; without words it shows its help
 abbrev pub rbacd_app : App
@@ -45,7 +58,7 @@ rbacd_app =
       subcommand_required = true;
       arg_required_else_help = true;
     }) (new_app (codes "rbacd")) in
-    with_subcommand top judge_app.top
+    with_subcommand (with_subcommand top check_app.top) judge_app.top
 
 -- the value of `--budget` is that number, and it is allowed
 pub record IsBudgetOf (rows : List Row) (budget : ℕ) : Type 0 where
@@ -55,26 +68,37 @@ pub record IsBudgetOf (rows : List Row) (budget : ℕ) : Type 0 where
   pub positive : 1 ≤ budget
   pub allowed : budget ≤ 100000000
 
--- the matches of the subcommand `judge` hold that policy file, that facts file, if any, and that budget
-abbrev pub HoldJudge : List Row → Text → Option Text → ℕ → Type 0
-HoldJudge rows policy facts budget = (first_of (codes "policy") rows ≡ Some policy)
-    × (first_of (codes "facts") rows ≡ facts) × IsBudgetOf rows budget
+-- whether the flag was given
+abbrev pub HasFlag : Text → List Row → Bool → Type 0
+HasFlag name rows given = IsTrue given ↔ (first_of name rows ≡ Some (codes "true"))
 
--- and so they name that job
+-- the matches of the job's subcommand hold what the job says
 abbrev pub IsJobOfRows : List Row → Job → Type 0
-IsJobOfRows rows (Judge policy facts budget) =
-    HoldJudge rows (string_bytes policy) (option_map string_bytes facts) budget
+IsJobOfRows rows (Check policy budget json) = (first_of (codes "policy") rows ≡ Some (string_bytes policy))
+    × IsBudgetOf rows budget × HasFlag (codes "json") rows json
+IsJobOfRows rows (Judge policy facts budget json) =
+    (first_of (codes "policy") rows ≡ Some (string_bytes policy))
+    × (first_of (codes "facts") rows ≡ option_map string_bytes facts)
+    × IsBudgetOf rows budget × HasFlag (codes "json") rows json
+
+-- the job's subcommand
+abbrev pub subcommand_name : Job → Text
+subcommand_name (Check policy budget json) = codes "check"
+subcommand_name (Judge policy facts budget json) = codes "judge"
+
+-- whether what the job finds is printed as JSON
+abbrev pub is_json : Job → Bool
+is_json (Check policy budget json) = json
+is_json (Judge policy facts budget json) = json
 
 -- the subcommand that was met, with its matches, names that job
 abbrev pub IsJobOfNamed : Option (Text × List Row) → Job → Type 0
-IsJobOfNamed named job = (rows : List Row) × (named ≡ Some (codes "judge", rows))
+IsJobOfNamed named job = (rows : List Row) × (named ≡ Some (subcommand_name job, rows))
     × IsJobOfRows rows job
 
 -- and it names none
 abbrev pub NamesNoJob : Option (Text × List Row) → Type 0
-NamesNoJob named = (rows : List Row) (policy : Text) (facts : Option Text) (budget : ℕ)
-    → named ≡ Some (codes "judge", rows)
-    → ¬ (HoldJudge rows policy facts budget)
+NamesNoJob named = (job : Job) → ¬ (IsJobOfNamed named job)
 
 -- a parse takes the words: none of its steps fails
 abbrev pub AreTaken : List Text → Type 0

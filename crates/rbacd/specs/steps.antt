@@ -1,3 +1,4 @@
 -- What single steps of the code come to: clauses of private functions cite these, and no promise
 -- does.
 pub mod Reading
+pub mod Judged

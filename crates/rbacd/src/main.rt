@@ -11,6 +11,7 @@ use std::{env, io};
 pub mod facts;
 pub mod files;
 mod input;
+mod json;
 pub mod judge;
 mod notes;
 pub mod outcome;

@@ -136,7 +136,6 @@ pub(crate) fn rule_of(fault: HeadFault) -> &'static str {
         HeadFault::Unfinished => "the input ends before its head does",
         HeadFault::TooLong => "the head is longer than 65536 bytes",
         HeadFault::OtherForm => "the target does not begin with a slash",
-        HeadFault::BadName => "the name of a field is longer than 65535 bytes",
         HeadFault::BadText => "the value of a field is not UTF-8",
         HeadFault::NoHost => "a request of HTTP/1.1 has to have a Host field",
         HeadFault::TwoHosts => "there is more than one Host field",

@@ -1,15 +1,24 @@
-//! What `judge` finds, the line that it prints and the status that it ends with.
-ghost use Rattle.std.specs.Prelude.{◌≡◌, IfOk, string_bytes};
-ghost use Rattle.rbacd.specs.Outcome.{line_of, status_of};
+//! What the program finds, the line that it prints of it and the status that it ends with.
+ghost use Rattle.std.specs.Prelude.{◌≡◌, IfOk, string_bytes, true};
+ghost use Rattle.rbacd.specs.Outcome.{line_of, plain, status_of};
+ghost use Rattle.rbacd.specs.steps.Judged.{matched_in};
 
+use crate::json::value_of;
 use http_front::HeadFault;
 use proto_wire::Refusal;
 use std::alloc::{AllocError, Global};
 use std::fmt;
 
-/// What came of judging one head by one policy file.
+/// What came of checking one policy file, or of judging one head by it.
 #[derive(Clone, Copy, Debug, PartialEq, Eq)]
 pub enum Outcome {
+    /// The policy is admitted.
+    Admitted {
+        /// How many policies it has.
+        policies: usize,
+        /// How many steps its conditions may take, together.
+        bound: u64,
+    },
     /// The request is let through; the number of the policy that matched, if one did.
     Allowed(Option<usize>),
     /// The request is refused.
@@ -25,11 +34,28 @@ pub enum Outcome {
 }
 
 impl Outcome {
-    /// The exit status: 0 let through, 1 policy refused, 3 denied, 4 head fault, 5 want of memory.
+    /// The number of the policy that matched, if one did.
+    pub(crate) fn matched(self) -> Option<usize>
+        ensures { result ≡ matched_in self }
+    {
+        match self {
+            Outcome::Allowed(matched) => matched,
+            Outcome::Denied(matched) => matched,
+            Outcome::Admitted { .. } => None,
+            Outcome::OutOfSteps => None,
+            Outcome::Refused(_) => None,
+            Outcome::Fault(_) => None,
+            Outcome::Memory => None,
+        }
+    }
+
+    /// The exit status: 0 admitted or let through, 1 policy refused, 3 denied, 4 head fault, 5 want of
+    /// memory.
     pub fn status(self) -> u8
         ensures { result ≡ status_of self }
     {
         match self {
+            Outcome::Admitted { .. } => 0,
             Outcome::Allowed(_) => 0,
             Outcome::Refused(Refusal::Memory) => 5,
             Outcome::Refused(_) => 1,
@@ -39,16 +65,9 @@ impl Outcome {
             Outcome::Memory => 5,
         }
     }
-
-    /// The whole line, with its end.
-    pub(crate) fn line(self, alloc: Global) -> Result<String, AllocError>
-        ensures { IfOk result (λ line. string_bytes line ≡ line_of self) }
-    {
-        format!(in alloc; "{self}\n")
-    }
 }
 
-/// Writes the line of the outcome, as `allow 0`, `deny -` or `refused: 5 OutOfRange`.
+/// Writes the outcome in words, as `allow 0`, `deny -` or `refused: 5 OutOfRange`.
 impl fmt::Display for Outcome {
     ghost use Rattle.std.specs.Prelude.{Some};
     ghost use Rattle.rbacd.specs.Outcome.{text_of};
@@ -57,6 +76,9 @@ impl fmt::Display for Outcome {
 
     fn fmt<W: fmt::Write>(&self, f: &mut fmt::Formatter<W>) -> fmt::Result {
         match *self {
+            Outcome::Admitted { policies, bound } => {
+                write!(f, "admitted: policies {policies} bound {bound}")
+            }
             Outcome::Allowed(Some(matched)) => write!(f, "allow {matched}"),
             Outcome::Allowed(None) => f.write_str("allow -"),
             Outcome::Denied(Some(matched)) => write!(f, "deny {matched}"),
@@ -66,5 +88,50 @@ impl fmt::Display for Outcome {
             Outcome::Fault(fault) => write!(f, "head: {fault}"),
             Outcome::Memory => f.write_str("memory"),
         }
+    }
+}
+
+/// An outcome, and how it is printed.
+#[derive(Debug, Drop)]
+pub struct Report {
+    /// What was found.
+    pub outcome: Outcome,
+    /// The name of the policy that matched, if one did.
+    pub name: Option<String>,
+    /// Whether it is printed as a JSON object, and not in words.
+    pub json: bool,
+}
+
+impl Report {
+    /// The outcome, to be printed in words.
+    pub fn plain(outcome: Outcome) -> Report
+        ensures { result ≡ plain outcome }
+    {
+        Report {
+            outcome,
+            name: None,
+            json: false,
+        }
+    }
+
+    /// The whole line, with its end.
+    pub(crate) fn line(&self, alloc: Global) -> Result<String, AllocError>
+        ensures { IfOk result (λ line. string_bytes line ≡ line_of self.now) }
+    {
+        if self.json {
+            self.json_line(alloc)
+        } else {
+            format!(in alloc; "{}\n", self.outcome)
+        }
+    }
+
+    /// The line of the outcome as JSON.
+    fn json_line(&self, alloc: Global) -> Result<String, AllocError>
+        requires { self.now.json ≡ true }
+        ensures { IfOk result (λ line. string_bytes line ≡ line_of self.now) }
+    {
+        let mut line = value_of(alloc, self.outcome, &self.name)?.to_string(alloc)?;
+        line.push('\n')?;
+        Ok(line)
     }
 }

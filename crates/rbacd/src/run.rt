@@ -1,17 +1,19 @@
 //! The whole job of the program, from its words to its status.
-ghost use Rattle.std.specs.Prelude.{◌≡◌, ◌⊎◌, ◌↔◌, ℕ, IfErr, IfOk, IsTrue, List, Result, Some, map, option_map, string_bytes};
+ghost use Rattle.std.specs.Prelude.{◌≡◌, ◌≢◌, ◌⊎◌, ◌↔◌, ℕ, Err, IfErr, IfOk, IsTrue, List, None, Ok, Result, Some, map, option_map, string_bytes};
 ghost use Rattle.attributes.specs.Conn.{conn_view};
 ghost use Rattle.std.specs.Io.{StartsWith};
-ghost use Rattle.rbacd.specs.Outcome.{line_of};
+ghost use Rattle.rbacd.specs.Outcome.{line_of, plain};
 ghost use Rattle.rbacd.specs.Output.{Takes};
-ghost use Rattle.rbacd.specs.Run.{ComesTo, HasBadFacts, IsConnOf, IsJudgedAs, IsQuiet, IsShown, IsUnread, Leaves, LeavesFault, Prints, RunsTo, StopsBy, first_line};
+ghost use Rattle.rbacd.specs.Run.{ComesTo, HasBadFacts, IsCheckedAs, IsConnOf, IsJudgedAs, IsQuiet, IsShown, IsUnread, Leaves, LeavesFault, Prints, RunsTo, StopsBy, first_line};
+ghost use Rattle.rbacd.specs.declared.judge.Finding.{Finding};
+ghost use Rattle.rbacd.specs.declared.outcome.Report.{Report};
 ghost use Rattle.rbacd.specs.declared.run.JobFault.{JobFault};
 
 use crate::facts::{FactsFault, read_conn};
 use crate::files::Source;
-use crate::judge::{outcome_of, plain_conn, print_outcome};
+use crate::judge::{Finding, check_of, finding_of, plain_conn, print_report};
 use crate::notes::{Likeness, Notes, meaning_of, rule_of};
-use crate::outcome::Outcome;
+use crate::outcome::{Outcome, Report};
 use crate::output::write_whole;
 use crate::words::{Job, read_words};
 use attributes::Conn;
@@ -52,8 +54,9 @@ impl From<AllocError> for JobFault {
     }
 }
 
-/// Runs the job that the words name, the program's own name first: reads the policy file and the facts
-/// file, if one is named, then the head from `input`. Prints what it finds, and answers the status.
+/// Runs the job that the words name, the program's own name first: reads the policy file, and to judge
+/// the facts file, if one is named, then the head from `input`. Prints what it finds, and answers the
+/// status.
 pub fn run<S: AsStr, F: Source, R: Read + Drop, W: Write, E: Write>(
     alloc: Global,
     words: &[S],
@@ -62,14 +65,14 @@ pub fn run<S: AsStr, F: Source, R: Read + Drop, W: Write, E: Write>(
     out: &mut W,
     errors: &mut E,
 ) -> u8
-    ensures { (found : Result Outcome JobFault)
+    ensures { (found : Result Report JobFault)
         × RunsTo (F.holds files.now) (F.lacks files.now) (map S.text words.now) (R.remaining input)
         found × Leaves (W.contents out.old) (W.contents out.new) (E.contents errors.old)
         (E.contents errors.new) result found }
 {
     let mut notes = Notes::new(alloc);
     match run_words(alloc, words, files, input, &mut notes) {
-        Ok(outcome) => match print_outcome(alloc, outcome, out) {
+        Ok(report) => match print_report(alloc, &report, out) {
             Ok(printed) => {
                 tell_cause(printed, notes.policy, errors);
                 printed.status()
@@ -87,7 +90,7 @@ fn run_words<S: AsStr, F: Source, R: Read + Drop>(
     files: &F,
     input: R,
     notes: &mut Notes,
-) -> Result<Outcome, JobFault>
+) -> Result<Report, JobFault>
     ensures { RunsTo (F.holds files.now) (F.lacks files.now) (map S.text words.now)
         (R.remaining input) result }
 {
@@ -105,16 +108,75 @@ fn run_job<F: Source, R: Read + Drop>(
     files: &F,
     input: R,
     notes: &mut Notes,
-) -> Result<Outcome, JobFault>
+) -> Result<Report, JobFault>
     ensures { ComesTo (F.holds files.now) (F.lacks files.now) (R.remaining input) job result }
 {
     match job {
+        Job::Check {
+            policy,
+            budget,
+            json,
+        } => report_of(
+            check_file(alloc, policy.as_str(), budget, files, notes),
+            json,
+        ),
         Job::Judge {
             policy,
             facts,
             budget,
-        } => judge_files(alloc, policy.as_str(), facts, budget, files, input, notes),
+            json,
+        } => report_of(
+            judge_files(alloc, policy.as_str(), facts, budget, files, input, notes),
+            json,
+        ),
     }
+}
+
+/// The report of what a job finds. Want of memory is an outcome of it.
+fn report_of(found: Result<Finding, JobFault>, json: bool) -> Result<Report, JobFault>
+    ensures kept { IfOk found (λ finding. result ≡ Ok (record {
+      outcome = finding.outcome;
+      name = finding.name;
+      json = json;
+    })) }
+    ensures memory { found ≡ Err JobFault.Memory
+        → result ≡ Ok (record { outcome = Outcome.Memory; name = None; json = json }) }
+    ensures others { IfErr found (λ e. e ≢ JobFault.Memory → result ≡ Err e) }
+{
+    match found {
+        Ok(finding) => Ok(Report {
+            outcome: finding.outcome,
+            name: finding.name,
+            json,
+        }),
+        Err(JobFault::Memory) => Ok(Report {
+            outcome: Outcome::Memory,
+            name: None,
+            json,
+        }),
+        Err(fault) => Err(fault),
+    }
+}
+
+/// Checks a policy file.
+fn check_file<F: Source>(
+    alloc: Global,
+    policy: &str,
+    budget: u64,
+    files: &F,
+    notes: &mut Notes,
+) -> Result<Finding, JobFault>
+    ensures found { IfOk result (λ finding. IsCheckedAs (F.holds files.now) (F.lacks files.now)
+        policy.now budget finding.outcome) }
+    ensures fault { IfErr result (λ e. (e ≡ JobFault.Memory)
+        ⊎ IsUnread (F.holds files.now) (F.lacks files.now) policy.now e) }
+{
+    let bytes = read_file(alloc, files, policy)?;
+    notes.look_at_policy(&bytes);
+    Ok(Finding {
+        outcome: check_of(alloc, &bytes, budget),
+        name: None,
+    })
 }
 
 /// Judges the head that the input begins with by a policy file, on the connection of a facts file.
@@ -126,17 +188,18 @@ fn judge_files<F: Source, R: Read + Drop>(
     files: &F,
     input: R,
     notes: &mut Notes,
-) -> Result<Outcome, JobFault>
-    ensures found { IfOk result (IsJudgedAs (F.holds files.now) (F.lacks files.now) policy.now
-        (option_map string_bytes facts) budget (R.remaining input)) }
-    ensures fault { IfErr result (StopsBy (F.holds files.now) (F.lacks files.now) policy.now
-        (option_map string_bytes facts) budget (R.remaining input)) }
+) -> Result<Finding, JobFault>
+    ensures found { IfOk result (λ finding. IsJudgedAs (F.holds files.now) (F.lacks files.now)
+        policy.now (option_map string_bytes facts) budget (R.remaining input)
+        (option_map string_bytes finding.name) finding.outcome) }
+    ensures fault { IfErr result (λ e. (e ≡ JobFault.Memory) ⊎ StopsBy (F.holds files.now)
+        (F.lacks files.now) policy.now (option_map string_bytes facts) budget (R.remaining input) e) }
 {
     let bytes = read_file(alloc, files, policy)?;
     notes.look_at_policy(&bytes);
     let conn = conn_of(alloc, facts, files, notes)?;
-    match outcome_of(alloc, &bytes, budget, conn, input) {
-        Ok(outcome) => Ok(outcome),
+    match finding_of(alloc, &bytes, budget, conn, input) {
+        Ok(finding) => Ok(finding),
         Err(cause) => Err(JobFault::Input(cause)),
     }
 }
@@ -270,7 +333,7 @@ fn with_cause(alloc: Global, line: String, cause: &str) -> Result<String, AllocE
 /// Ends where memory ran out.
 fn end_by_memory<W: Write, E: Write>(out: &mut W, errors: &mut E) -> u8
     ensures { Prints (W.contents out.old) (W.contents out.new) (E.contents errors.old)
-        (E.contents errors.new) result 5 (line_of Outcome.Memory) }
+        (E.contents errors.new) result 5 (line_of (plain Outcome.Memory)) }
 {
     show(b"memory\n", Outcome::Memory.status(), out, errors)
 }
@@ -314,7 +377,11 @@ fn tell_cause<E: Write>(outcome: Outcome, policy: Option<Likeness>, errors: &mut
         Outcome::Fault(fault) => {
             let _ = writeln!(errors, "  {}", rule_of(fault));
         }
-        Outcome::Allowed(_) | Outcome::Denied(_) | Outcome::OutOfSteps | Outcome::Memory => {}
+        Outcome::Admitted { .. }
+        | Outcome::Allowed(_)
+        | Outcome::Denied(_)
+        | Outcome::OutOfSteps
+        | Outcome::Memory => {}
     }
 }
 

@@ -1,5 +1,6 @@
 //! What no contract says: that calls succeed, the answers at given bytes, and printed texts.
 mod addresses;
+mod conditions;
 mod depth;
 mod filter_bytes;
 mod filters;

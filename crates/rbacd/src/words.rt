@@ -1,11 +1,12 @@
 //! The command line: which job its words name.
-ghost use Rattle.std.specs.Prelude.{◌≡◌, ◌⊎◌, ℕ, IfErr, IfNone, IfOk, IfSome, Option, codes, false, map, option_map, string_bytes};
-ghost use Rattle.clap.specs.Words.{Text, app_of, first_of, found_of, kind_of, rows_of, rule_of, subcommand_rows_of};
+ghost use Rattle.std.specs.Prelude.{◌≡◌, ◌⊎◌, ℕ, IfErr, IfNone, IfOk, IfSome, codes, false, map, option_map, string_bytes};
+ghost use Rattle.clap.specs.Words.{app_of, first_of, found_of, kind_of, rows_of, rule_of, subcommand_rows_of};
 ghost use Rattle.clap.specs.declared.builder.command.Command.TheViews.{out-Command};
-ghost use Rattle.rbacd.specs.Words.{AreMistaken, HoldJudge, IsBudgetOf, IsJobOf, IsJobOfNamed, IsJobOfRows, NamesNoJob, budget_rule, facts_rule, judge_app, policy_rule, rbacd_app};
+ghost use Rattle.rbacd.specs.Words.{AreMistaken, HasFlag, IsBudgetOf, IsJobOf, IsJobOfNamed, IsJobOfRows, NamesNoJob, budget_rule, check_app, facts_rule, json_rule, judge_app, policy_rule, rbacd_app, subcommand_name};
+ghost use Rattle.rbacd.specs.declared.words.Job.{Job};
 
 use clap::error::ErrorKind;
-use clap::{Arg, ArgMatches, Command, Error, value_parser};
+use clap::{Arg, ArgAction, ArgMatches, Command, Error, value_parser};
 use std::alloc::{AllocError, Global};
 use std::convert::AsStr;
 
@@ -19,6 +20,20 @@ const VERSION: &str = "0.0 (not yet numbered), proved with rattle-kit-13b, logic
 const EXAMPLE: &str = "Example:
   printf 'GET / HTTP/1.1\\r\\nHost: h\\r\\n\\r\\n' | rbacd judge --policy examples/any_any.bin";
 
+/// The end of the help of `check`.
+const CHECK_HELP: &str = "The line on standard output, and the status:
+  admitted: policies P bound B  0  the policy file is admitted: how many policies it has, and how many
+                                   steps their conditions may take together
+  refused: N NAME               1  it is refused for this reason (5 for want of memory)
+With no line there, standard error has one: 2 for words, a file or an output that fails.
+
+With --json the line is one of these objects:
+  {\"admitted\":true,\"bound\":B,\"policies\":P}
+  {\"name\":\"NAME\",\"refused\":N}
+
+Example:
+  rbacd check --policy examples/any_any.bin --budget 1000";
+
 /// The end of the help of `judge`.
 const JUDGE_HELP: &str = "The line on standard output, and the status:
   allow M          0  the request passes; M is the number of the policy that matched, or -
@@ -28,6 +43,14 @@ const JUDGE_HELP: &str = "The line on standard output, and the status:
   head: S          4  the head has a fault that S answers: 400, 431 or 501
   memory           5  memory ran out
 With no line there, standard error has one: 2 for words, a file or an output that fails, 6 for bad facts.
+
+With --json the line is one of these objects; no policy matched where \"name\" and \"policy\" are null:
+  {\"name\":\"p\",\"policy\":M,\"verdict\":\"allow\"}
+  {\"name\":\"p\",\"policy\":M,\"verdict\":\"deny\"}
+  {\"out_of_steps\":true,\"verdict\":\"deny\"}
+  {\"name\":\"NAME\",\"refused\":N}
+  {\"head\":S}
+  {\"memory\":true}
 
 The facts are one JSON object; each may be absent:
   texts      source.address destination.address connection.requested_server_name connection.tls_version
@@ -44,8 +67,17 @@ Example:
 /// What the program is asked to do.
 #[derive(Debug, Drop)]
 pub enum Job {
-    /// `judge --policy FILE [--facts FILE] [--budget N]`: to judge the head on standard input by a
-    /// policy file.
+    /// `check --policy FILE [--budget N] [--json]`: to check whether a policy file is admitted.
+    Check {
+        /// The path of the policy file.
+        policy: String,
+        /// What the policy's conditions may cost, from 1 to `MOST_BUDGET`.
+        budget: u64,
+        /// Whether the outcome is printed as JSON.
+        json: bool,
+    },
+    /// `judge --policy FILE [--facts FILE] [--budget N] [--json]`: to judge the head on standard input
+    /// by a policy file.
     Judge {
         /// The path of the policy file.
         policy: String,
@@ -53,6 +85,8 @@ pub enum Job {
         facts: Option<String>,
         /// What the policy's conditions may cost, from 1 to `MOST_BUDGET`.
         budget: u64,
+        /// Whether the outcome is printed as JSON.
+        json: bool,
     },
 }
 
@@ -83,6 +117,9 @@ fn named_job(alloc: Global, matches: &ArgMatches<'_>) -> Result<Option<Job>, All
     ensures job { IfOk result (λ job. IfSome job (IsJobOfNamed (subcommand_rows_of matches.now))) }
     ensures none { IfOk result (λ job. IfNone job (NamesNoJob (subcommand_rows_of matches.now))) }
 {
+    if let Some(check) = matches.subcommand_matches("check") {
+        return check_job(alloc, check);
+    }
     match matches.subcommand_matches("judge") {
         Some(judge) => judge_job(alloc, judge),
         None => Ok(None),
@@ -93,6 +130,7 @@ fn named_job(alloc: Global, matches: &ArgMatches<'_>) -> Result<Option<Job>, All
 fn command<'a>(alloc: Global) -> Result<Command<'a>, AllocError>
     ensures { IfOk result (λ c. app_of c ≡ rbacd_app) }
 {
+    let check = check_command(alloc)?;
     let judge = judge_command(alloc)?;
     Command::new(alloc, "rbacd")
         .about("Judges requests by a role-based access policy")
@@ -100,7 +138,20 @@ fn command<'a>(alloc: Global) -> Result<Command<'a>, AllocError>
         .after_help(EXAMPLE)
         .subcommand_required(true)
         .arg_required_else_help(true)
+        .subcommand(check)?
         .subcommand(judge)
+}
+
+fn check_command<'a>(alloc: Global) -> Result<Command<'a>, AllocError>
+    ensures app { IfOk result (λ c. app_of c ≡ check_app) }
+    ensures local { IfOk result (λ c. (out-Command c).has_globals ≡ false) }
+{
+    Command::new(alloc, "check")
+        .about("Checks whether a policy file is admitted")
+        .after_help(CHECK_HELP)
+        .arg(policy_arg(alloc))?
+        .arg(budget_arg(alloc))?
+        .arg(json_arg(alloc))
 }
 
 fn judge_command<'a>(alloc: Global) -> Result<Command<'a>, AllocError>
@@ -112,7 +163,8 @@ fn judge_command<'a>(alloc: Global) -> Result<Command<'a>, AllocError>
         .after_help(JUDGE_HELP)
         .arg(policy_arg(alloc))?
         .arg(facts_arg(alloc))?
-        .arg(budget_arg(alloc))
+        .arg(budget_arg(alloc))?
+        .arg(json_arg(alloc))
 }
 
 fn policy_arg<'a>(alloc: Global) -> Arg<'a>
@@ -148,11 +200,44 @@ fn budget_arg<'a>(alloc: Global) -> Arg<'a>
         .help("What the policy's conditions may cost, from 1 to 100000000")
 }
 
+fn json_arg<'a>(alloc: Global) -> Arg<'a>
+    ensures rule { rule_of result ≡ json_rule }
+    ensures local { result.global ≡ false }
+{
+    Arg::new(alloc, "json")
+        .long("json")
+        .action(ArgAction::SetTrue)
+        .help("Print the outcome as one JSON object on a line")
+}
+
+/// The job of the subcommand `check`, if its values are there and its budget is allowed.
+fn check_job(alloc: Global, matches: &ArgMatches<'_>) -> Result<Option<Job>, AllocError>
+    ensures job { IfOk result (λ job. IfSome job (λ job. (subcommand_name job ≡ codes "check")
+        × IsJobOfRows (rows_of (found_of matches.now)) job)) }
+    ensures none { IfOk result (λ job. IfNone job ((other : Job) → subcommand_name other ≡ codes "check"
+        → ¬ (IsJobOfRows (rows_of (found_of matches.now)) other))) }
+{
+    let Some(path) = matches.get_str("policy") else {
+        return Ok(None);
+    };
+    let Some(budget) = budget_of(matches) else {
+        return Ok(None);
+    };
+    let policy = String::from_str(alloc, path)?;
+    let json = has_flag(matches, "json");
+    Ok(Some(Job::Check {
+        policy,
+        budget,
+        json,
+    }))
+}
+
 /// The job of the subcommand `judge`, if its values are there and its budget is allowed.
 fn judge_job(alloc: Global, matches: &ArgMatches<'_>) -> Result<Option<Job>, AllocError>
-    ensures job { IfOk result (λ job. IfSome job (IsJobOfRows (rows_of (found_of matches.now)))) }
-    ensures none { IfOk result (λ job. IfNone job ((policy : Text) (facts : Option Text) (budget : ℕ)
-        → ¬ (HoldJudge (rows_of (found_of matches.now)) policy facts budget))) }
+    ensures job { IfOk result (λ job. IfSome job (λ job. (subcommand_name job ≡ codes "judge")
+        × IsJobOfRows (rows_of (found_of matches.now)) job)) }
+    ensures none { IfOk result (λ job. IfNone job ((other : Job) → subcommand_name other ≡ codes "judge"
+        → ¬ (IsJobOfRows (rows_of (found_of matches.now)) other))) }
 {
     let Some(policy) = matches.get_str("policy") else {
         return Ok(None);
@@ -162,11 +247,23 @@ fn judge_job(alloc: Global, matches: &ArgMatches<'_>) -> Result<Option<Job>, All
     };
     let policy = String::from_str(alloc, policy)?;
     let facts = facts_of(alloc, matches)?;
+    let json = has_flag(matches, "json");
     Ok(Some(Job::Judge {
         policy,
         facts,
         budget,
+        json,
     }))
+}
+
+/// Whether this flag was given.
+fn has_flag(matches: &ArgMatches<'_>, name: &str) -> bool
+    ensures { HasFlag name.now (rows_of (found_of matches.now)) result }
+{
+    match matches.get_str(name) {
+        Some(text) => text == "true",
+        None => false,
+    }
 }
 
 fn facts_of(alloc: Global, matches: &ArgMatches<'_>) -> Result<Option<String>, AllocError>

@@ -256,7 +256,6 @@ fn prints_faults(rt: HostRuntime) -> Result<(), Fail> {
         (HeadFault::Malformed(HeadPart::LineEnd), "400"),
         (HeadFault::Unfinished, "400"),
         (HeadFault::OtherForm, "400"),
-        (HeadFault::BadName, "400"),
         (HeadFault::BadText, "400"),
         (HeadFault::NoHost, "400"),
         (HeadFault::TwoHosts, "400"),

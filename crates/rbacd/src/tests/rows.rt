@@ -65,7 +65,7 @@ fn judge_row(rt: &impl Abort, alloc: Global, row: &Row<'_>) -> Result<(), Fail> 
 }
 
 /// A head of this target with these field lines.
-fn head_of(alloc: Global, target: &str, fields: &str) -> Result<String, Fail> {
+pub fn head_of(alloc: Global, target: &str, fields: &str) -> Result<String, Fail> {
     let mut head = format!(in alloc; "GET {target} HTTP/1.1\r\nHost: h\r\n")?;
     if fields != "-" {
         for field in fields.split("; ") {

@@ -86,7 +86,7 @@ impl Read for Broken {
     }
 }
 
-/// The words behind `judge`, the input, what stands on standard output, how standard error begins, and
+/// The words behind `rbacd`, the input, what stands on standard output, how standard error begins, and
 /// the status.
 type Case = (
     &'static [&'static str],
@@ -96,85 +96,168 @@ type Case = (
     u8,
 );
 
-const CASES: [Case; 13] = [
-    (&["--policy", "any"], PLAIN, "allow 0\n", "", 0),
+const CASES: [Case; 24] = [
+    (&["judge", "--policy", "any"], PLAIN, "allow 0\n", "", 0),
     (
-        &["--policy", "any", "--facts", "facts"],
+        &["judge", "--policy", "any", "--facts", "facts"],
         PLAIN,
         "allow 0\n",
         "",
         0,
     ),
-    (&["--policy", "empty"], PLAIN, "deny -\n", "", 3),
+    (&["judge", "--policy", "empty"], PLAIN, "deny -\n", "", 3),
     (
-        &["--policy", "refused"],
+        &["judge", "--policy", "refused"],
         PLAIN,
         "refused: 5 OutOfRange\n",
         "  a value is outside its range\n",
         1,
     ),
     (
-        &["--policy", "any"],
+        &["judge", "--policy", "any"],
         b"GET",
         "head: 400\n",
         "  the input ends before its head does\n",
         4,
     ),
     (
-        &["--policy", "any"],
+        &["judge", "--policy", "any"],
         b"GET / HTTP/1.1\r\n\r\n",
         "head: 400\n",
         "  a request of HTTP/1.1 has to have a Host field\n",
         4,
     ),
     (
-        &["--policy", "hex"],
+        &["judge", "--policy", "hex"],
         PLAIN,
         "refused: 3 UnknownField\n",
         "  a field is not known, or not of its wire type\n  the policy file looks like hexadecimal text;",
         1,
     ),
     (
-        &["--policy", "refused"],
+        &["judge", "--policy", "refused"],
         b"GET",
         "refused: 5 OutOfRange\n",
         "  a value is outside its range\n",
         1,
     ),
-    (&["--policy", "none"], PLAIN, "", "cannot read none\n  ", 2),
     (
-        &["--policy", "any", "--facts", "none"],
+        &["judge", "--policy", "none"],
         PLAIN,
         "",
         "cannot read none\n  ",
         2,
     ),
     (
-        &["--policy", "refused", "--facts", "bad"],
+        &["judge", "--policy", "any", "--facts", "none"],
+        PLAIN,
+        "",
+        "cannot read none\n  ",
+        2,
+    ),
+    (
+        &["judge", "--policy", "refused", "--facts", "bad"],
         PLAIN,
         "",
         "bad facts\n  it is no JSON object\n",
         6,
     ),
     (
-        &["--policy", "none", "--facts", "bad"],
+        &["judge", "--policy", "none", "--facts", "bad"],
         PLAIN,
         "",
         "cannot read none\n  ",
         2,
     ),
     (
-        &["--policy", "none", "--budget", "0"],
+        &["judge", "--policy", "none", "--budget", "0"],
         PLAIN,
+        "",
+        "error: ",
+        2,
+    ),
+    (
+        &["judge", "--json", "--policy", "any"],
+        PLAIN,
+        "{\"name\":\"p\",\"policy\":0,\"verdict\":\"allow\"}\n",
+        "",
+        0,
+    ),
+    (
+        &["judge", "--policy", "empty", "--json"],
+        PLAIN,
+        "{\"name\":null,\"policy\":null,\"verdict\":\"deny\"}\n",
+        "",
+        3,
+    ),
+    (
+        &["judge", "--policy", "refused", "--json"],
+        PLAIN,
+        "{\"name\":\"OutOfRange\",\"refused\":5}\n",
+        "  a value is outside its range\n",
+        1,
+    ),
+    (
+        &["judge", "--policy", "any", "--json"],
+        b"GET",
+        "{\"head\":400}\n",
+        "  the input ends before its head does\n",
+        4,
+    ),
+    (
+        &["check", "--policy", "any"],
+        b"",
+        "admitted: policies 1 bound 0\n",
+        "",
+        0,
+    ),
+    (
+        &["check", "--policy", "empty"],
+        b"",
+        "admitted: policies 0 bound 0\n",
+        "",
+        0,
+    ),
+    (
+        &["check", "--policy", "any", "--json"],
+        b"",
+        "{\"admitted\":true,\"bound\":0,\"policies\":1}\n",
+        "",
+        0,
+    ),
+    (
+        &["check", "--policy", "refused"],
+        b"",
+        "refused: 5 OutOfRange\n",
+        "  a value is outside its range\n",
+        1,
+    ),
+    (
+        &["check", "--policy", "refused", "--json"],
+        b"",
+        "{\"name\":\"OutOfRange\",\"refused\":5}\n",
+        "  a value is outside its range\n",
+        1,
+    ),
+    (
+        &["check", "--policy", "none", "--json"],
+        b"",
+        "",
+        "cannot read none\n  ",
+        2,
+    ),
+    (
+        &["check", "--policy", "any", "--budget", "0"],
+        b"",
         "",
         "error: ",
         2,
     ),
 ];
 
-/// The words of a job: the program's name, the subcommand, and what follows.
+/// The words of a job: the program's name, and what follows.
 fn words_of(alloc: Global, more: &[&'static str]) -> Result<Vec<&'static str>, Fail> {
-    let mut words = Vec::from_slice(alloc, &["rbacd", "judge"])?;
+    let mut words = Vec::from_slice(alloc, &["rbacd"])?;
     words.extend_from_slice(more)?;
     Ok(words)
 }
@@ -213,7 +296,7 @@ fn keeps_the_status_where_standard_error_is_closed(rt: HostRuntime) -> Result<()
 
 #[test]
 fn ends_with_2_where_standard_output_fails(rt: HostRuntime) -> Result<(), Fail> {
-    let words = words_of(rt.alloc(), &["--policy", "any"])?;
+    let words = words_of(rt.alloc(), &["judge", "--policy", "any"])?;
     for room in 0..9 {
         let mut out = Full::new(rt.alloc(), room);
         let mut errors = Vec::new(rt.alloc());
@@ -244,7 +327,7 @@ fn tells_of_an_input_that_fails(rt: HostRuntime) -> Result<(), Fail> {
         ),
     ];
     for (policy, kind, line, status) in cases {
-        let words = words_of(rt.alloc(), &["--policy", policy])?;
+        let words = words_of(rt.alloc(), &["judge", "--policy", policy])?;
         let mut out = Vec::new(rt.alloc());
         let mut errors = Vec::new(rt.alloc());
         let ended = run(
@@ -267,7 +350,7 @@ fn tells_of_an_input_that_fails(rt: HostRuntime) -> Result<(), Fail> {
 
 #[test]
 fn shows_help_on_standard_output(rt: HostRuntime) -> Result<(), Fail> {
-    let words = words_of(rt.alloc(), &["--help"])?;
+    let words = words_of(rt.alloc(), &["judge", "--help"])?;
     let mut out = Vec::new(rt.alloc());
     let mut errors = Vec::new(rt.alloc());
     let ended = run(rt.alloc(), &words, &Shelf, PLAIN, &mut out, &mut errors);

@@ -29,12 +29,14 @@ fn reads_budgets(rt: HostRuntime) -> Result<(), Fail> {
                     policy,
                     facts,
                     budget,
+                    json,
                 },
             ) => {
                 assert_eq!(rt; policy.as_str(), "f");
-                assert!(rt; facts.is_none());
+                assert!(rt; facts.is_none() && !json);
                 assert_eq!(rt; Some(budget), expected);
             }
+            Ok(Job::Check { .. }) => panic!(rt; "another job"),
             Err(error) => {
                 assert_eq!(rt; error.exit_code(), 2);
                 assert_eq!(rt; expected, None);
@@ -55,7 +57,28 @@ fn reads_the_facts_file(rt: HostRuntime) -> Result<(), Fail> {
     Ok(())
 }
 
-const MISTAKES: [&[&str]; 9] = [
+#[test]
+fn reads_checks(rt: HostRuntime) -> Result<(), Fail> {
+    let words = [
+        "rbacd", "check", "--policy", "f", "--budget", "40", "--json",
+    ];
+    let Ok(
+        Job::Check {
+            policy,
+            budget,
+            json,
+        },
+    ) = read_words(rt.alloc(), &words)
+    else {
+        return Err(Fail::from("a job"));
+    };
+    assert_eq!(rt; policy.as_str(), "f");
+    assert_eq!(rt; budget, 40);
+    assert!(rt; json);
+    Ok(())
+}
+
+const MISTAKES: [&[&str]; 12] = [
     &["rbacd"],
     &["rbacd", "judge"],
     &["rbacd", "judge", "--policy"],
@@ -67,6 +90,9 @@ const MISTAKES: [&[&str]; 9] = [
     ],
     &["rbacd", "decide", "--policy", "f"],
     &["rbacd", "--policy", "f"],
+    &["rbacd", "check", "--policy", "f", "--facts", "g"],
+    &["rbacd", "check", "--policy", "f", "--json=true"],
+    &["rbacd", "judge", "--policy", "f", "--json", "--json"],
 ];
 
 #[test]
@@ -94,11 +120,37 @@ Options:
       --policy <FILE>  The policy: one HTTP RBAC filter message
       --facts <FILE>   What is known of the connection: one JSON object
       --budget <N>     What the policy's conditions may cost, from 1 to 100000000 [default: 1000000]
+      --json           Print the outcome as one JSON object on a line
   -h, --help           Print help
 
 The line on standard output, and the status:
 ";
     assert!(rt; help.to_string(rt.alloc())?.as_str().starts_with(expected));
+    Ok(())
+}
+
+#[test]
+fn shows_help_of_check(rt: HostRuntime) -> Result<(), Fail> {
+    let Err(help) = read_words(rt.alloc(), &["rbacd", "check", "--help"]) else {
+        return Err(Fail::from("a help text"));
+    };
+    let expected = "Checks whether a policy file is admitted
+
+Usage: rbacd check [OPTIONS] --policy <FILE>
+
+Options:
+      --policy <FILE>  The policy: one HTTP RBAC filter message
+      --budget <N>     What the policy's conditions may cost, from 1 to 100000000 [default: 1000000]
+      --json           Print the outcome as one JSON object on a line
+  -h, --help           Print help
+
+The line on standard output, and the status:
+";
+    let text = help.to_string(rt.alloc())?;
+    assert!(rt; text.as_str().starts_with(expected));
+    assert!(rt;
+        text.as_str().ends_with("rbacd check --policy examples/any_any.bin --budget 1000\n")
+    );
     Ok(())
 }
 

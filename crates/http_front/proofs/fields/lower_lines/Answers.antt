@@ -1,4 +1,3 @@
-use Rattle.std.proofs.Common.{◌≡◌}
 use Rattle.httparse.specs.Spans.{header_bytes}
 use Rattle.attributes.specs.Request.{IsTextEntry}
 use Rattle.http_front.proofs.FieldLists.{All-map_at}

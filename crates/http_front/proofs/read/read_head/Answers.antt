@@ -1,4 +1,4 @@
-use Rattle.std.proofs.Common.{◌≡◌, List, ℕ, take, refl}
+use Rattle.std.proofs.Common.{refl}
 use Rattle.http_front.specs.Asks.{HasFault}
 use Rattle.http_front.specs.Head.{head_room}
 use Rattle.http_front.proofs.Rooms.{NeverHasRequest-from_take, fault_of_room, judged_of_room, none_in_room, room_is}

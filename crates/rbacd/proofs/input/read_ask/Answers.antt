@@ -1,9 +1,9 @@
-use Rattle.std.proofs.Common.{◌≡◌, ◌≢◌, List, ℕ, [], length, arith, refl}
+use Rattle.std.proofs.Common.{arith}
 use Rattle.std.specs.Prelude.{Some}
 use Rattle.std.proofs.KnownBytes.{Consumes-trans}
 use Rattle.attributes.specs.Conn.{conn_view}
 use Rattle.rbacd.specs.steps.Reading.{IsFound}
-use Rattle.rbacd.proofs.InputLemmas.{found_of_taken, none_of_all}
+use Rattle.rbacd.proofs.InputLemmas.{found_of_taken}
 use Rattle.rbacd.proofs.input.read_ask.Goals as goal
 
 pub returns-in-Some-clause-found : goal.returns-in-Some-clause-found

@@ -3,15 +3,15 @@ use Rattle.rbacd.specs.Judging.{InputFault}
 use Rattle.rbacd.proofs.judge.outcome_of_found.Goals as goal
 
 pub returns-in-Some-Fault : goal.returns-in-Some-Fault
-returns-in-Some-Fault c facts bytes is policy budget admits =
+returns-in-Some-Fault c facts bytes is policy budget filter name admits named =
     let found = rw c.in-Some-Fault.is at is.fault in
     let fault = rw c.in-Some-Fault.field-0-is at found in
-    ((_, admits), InputFault.present fault)
+    ((_, _, admits), InputFault.present fault)
 
 pub returns-in-None : goal.returns-in-None
-returns-in-None c facts bytes is policy budget admits =
+returns-in-None c facts bytes is policy budget filter name admits named =
     let half = rw c.in-None.is at is.none in
-    ((_, admits), InputFault.unfinished half refl)
+    ((_, _, admits), InputFault.unfinished half refl)
 
 pub returns-in-Some-Judge : goal.returns-in-Some-Judge
 returns-in-Some-Judge c facts bytes is =

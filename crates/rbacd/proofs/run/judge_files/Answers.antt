@@ -8,9 +8,9 @@ returns-in_err-conn-clause-fault g c =
     let p = err_from_is_err_and c.from_residual-in_err-conn.result c.from_residual-in_err-conn.ensures.1 in
     let read = c.in_ok-bytes.ensures.found in
     rw (p.1, p.2) (elim c.in_err-conn.ensures.fault [
-      | inl memory ↦ StopsBy.memory memory
-      | inr (path, named, inl unread) ↦ StopsBy.no_facts _ path read named unread
-      | inr (path, named, inr bad) ↦ StopsBy.bad_facts _ path read named bad
+      | inl memory ↦ inl memory
+      | inr (path, named, inl unread) ↦ inr (StopsBy.no_facts _ path read named unread)
+      | inr (path, named, inr bad) ↦ inr (StopsBy.bad_facts _ path read named bad)
     ])
 
 pub returns-in-Ok-clause-found : goal.returns-in-Ok-clause-found
@@ -25,4 +25,4 @@ returns-in-Ok-clause-found g c = record {
 pub returns-clause-fault : goal.returns-clause-fault
 returns-clause-fault g c =
     let fault = rw c.deref-2.ensures.value at c.in-Err.ensures.fault in
-    StopsBy.no_input _ _ c.in_ok-bytes.ensures.found c.in_ok-conn.ensures.found fault.1 fault.0
+    inr (StopsBy.no_input _ _ c.in_ok-bytes.ensures.found c.in_ok-conn.ensures.found fault.1 fault.0)

@@ -15,7 +15,9 @@ returns c =
     ∙ ap (on_top (λ s. record s { subcommand_required = true })) after in
     let helped = ap app_of_fields c.arg_required_else_help.ensures
     ∙ ap (on_top (λ s. record s { arg_required_else_help = true })) required in
-    IfOk-weaker c.subcommand.result _ _
+    let checks = c.in_ok-subcommand.ensures.shape c.in_ok-check.ensures.local
+    ∙ ap₂ with_subcommand helped (ap (λ (a : App). a.top) c.in_ok-check.ensures.app) in
+    IfOk-weaker c.subcommand-2.result _ _
     (λ new adds. adds.shape c.in_ok-judge.ensures.local
-    ∙ ap₂ with_subcommand helped (ap (λ (a : App). a.top) c.in_ok-judge.ensures.app))
-    c.subcommand.ensures
+    ∙ ap₂ with_subcommand checks (ap (λ (a : App). a.top) c.in_ok-judge.ensures.app))
+    c.subcommand-2.ensures

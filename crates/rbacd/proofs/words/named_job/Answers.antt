@@ -1,9 +1,22 @@
+use Rattle.std.proofs.Common.{codes, refl}
 use Rattle.std.proofs.lemmas.Result.{IfOk-weaker}
-use Rattle.rbacd.proofs.WordLemmas.{names_no_job}
+use Rattle.rbacd.proofs.WordLemmas.{names_no_job, no_subcommand}
 use Rattle.rbacd.proofs.words.named_job.Goals as goal
 
 pub returns-in-Some-clause-none : goal.returns-in-Some-clause-none
 returns-in-Some-clause-none c =
+    let met = c.in-Some.ensures.found in
+    IfOk-weaker c.check_job.result _ _
+    (λ job none. names_no_job c.args.matches.now (codes "check") _ job (met.0 refl) c.in-Some.ensures.rows none)
+    c.check_job.ensures.none
+
+pub returns-in-Some-subcommand_matches-clause-none : goal.returns-in-Some-subcommand_matches-clause-none
+returns-in-Some-subcommand_matches-clause-none c =
+    let met = c.in-Some-subcommand_matches.ensures.found in
     IfOk-weaker c.judge_job.result _ _
-    (λ job none. names_no_job c.args.matches.now _ job c.in-Some.ensures.rows none)
+    (λ job none. names_no_job c.args.matches.now (codes "judge") _ job (met.0 refl) c.in-Some-subcommand_matches.ensures.rows none)
     c.judge_job.ensures.none
+
+pub returns-in-None-clause-none : goal.returns-in-None-clause-none
+returns-in-None-clause-none c =
+    no_subcommand c.args.matches.now (λ met. c.in_default.ensures.found.1 met) (λ met. c.in-None.ensures.found.1 met)

@@ -1,0 +1,20 @@
+use Rattle.std.proofs.lemmas.Result.{IfErr-weaker}
+use Rattle.rbacd.proofs.JudgeLemmas.{found_under, of_all}
+use Rattle.rbacd.proofs.judge.finding_of.Goals as goal
+
+pub returns-in-Ok-clause-found : goal.returns-in-Ok-clause-found
+returns-in-Ok-clause-found g c =
+    let admits = rw c.largest.ensures at c.in-Ok.ensures.found.1 in
+    found_under _ _ _ (g.R.Read.remaining c.args.input) _ _ admits c.head_finding.result c.memory_as_finding.result
+    c.head_finding.ensures.outcome c.head_finding.ensures.name c.memory_as_finding.ensures.kept c.memory_as_finding.ensures.memory
+
+pub returns-in-Ok-clause-fault : goal.returns-in-Ok-clause-fault
+returns-in-Ok-clause-fault g c =
+    let admits = rw c.largest.ensures at c.in-Ok.ensures.found.1 in
+    IfErr-weaker c.memory_as_finding.result _ _ (λ e others. (others.1, (c.in-Ok.ensures.found.0, _, admits)))
+    c.memory_as_finding.ensures.others
+
+pub returns-in-Err-clause-found : goal.returns-in-Err-clause-found
+returns-in-Err-clause-found g c =
+    let fault = rw c.largest.ensures at c.in-Err.ensures.fault in
+    of_all (g.R.Read.remaining c.args.input) (λ bytes. fault)
