@@ -1,4 +1,4 @@
--- A response that is accepted has no fault, but that the code of a condition may be refused.
+-- A response that is accepted has no fault.
 use Rattle.std.proofs.Common.{◌≡◌, inl, inr, ℕ, ◌≤◌, Bool, true, false, Option, Some, None, List, [], ◌∷◌, length, refl, sym, subst, ◌∙◌, arith, bytes_eq, if◌then◌else◌}
 use Rattle.std.specs.Prelude.{IsSomeAnd}
 use Rattle.std.specs.List.{AllZip}
@@ -10,15 +10,15 @@ use Rattle.xds_wire.specs.Envelope.{SomeOf}
 use Rattle.xds_wire.specs.Discovery.{AnyMessage, ExtensionMessage, ResponseMessage}
 use Rattle.xds_wire.proofs.DiscoveryLaws.{extension_disjoint, extension_unique}
 use Rattle.ads.specs.Config.{ConfigValue, FilterValue}
-use Rattle.ads.specs.Answer.{Accepted, Accepts, AdmittedValue, ExtensionIsRefused, code_refused, no_filter, not_admitted, Gives, IsNamed, IsRefusedFor, IsResource, named, Refuses, bad_resource, doubled, refused, ResourceFault, unreadable, nameless, TwoOf}
+use Rattle.ads.specs.Answer.{Accepted, Accepts, AdmittedValue, ExtensionIsRefused, no_filter, not_admitted, Gives, IsNamed, IsRefusedFor, IsResource, named, Refuses, bad_resource, doubled, refused, ResourceFault, unreadable, nameless, TwoOf}
 
--- what follows of a pair that holds and has a fault of its first part
-zip_apart : {A B : Type 0} (R : A → B → Type 0) (P : A → Type 0) (C : Type 0) → ((x : A) (y : B) → R x y → P x → C)
-    → (xs : List A) (ys : List B) → AllZip R xs ys → SomeOf P xs → C
-zip_apart R P C apart [] ys all some = absurd some
-zip_apart R P C apart (x ∷ xs) [] all some = absurd all
-zip_apart R P C apart (x ∷ xs) (y ∷ ys) (is, all) (inl bad) = apart x y is bad
-zip_apart R P C apart (x ∷ xs) (y ∷ ys) (is, all) (inr some) = zip_apart R P C apart xs ys all some
+-- what holds of a pair has no fault of its first part
+zip_apart : {A B : Type 0} (R : A → B → Type 0) (P : A → Type 0) → ((x : A) (y : B) → R x y → P x → ⊥)
+    → (xs : List A) (ys : List B) → AllZip R xs ys → SomeOf P xs → ⊥
+zip_apart R P apart [] ys all some = some
+zip_apart R P apart (x ∷ xs) [] all some = all
+zip_apart R P apart (x ∷ xs) (y ∷ ys) (is, all) (inl bad) = apart x y is bad
+zip_apart R P apart (x ∷ xs) (y ∷ ys) (is, all) (inr some) = zip_apart R P apart xs ys all some
 
 resource_apart : (e : Refusal) (any : AnyMessage) (extension : ExtensionMessage) → IsResource any extension
     → ResourceFault any e → ⊥
@@ -98,35 +98,32 @@ holds_one (Some any) P Q a b x y = sym x.1 ∙ y.1
 
 gives_apart : (limits : LimitsValue) (f : FilterValue) (e : Refusal) (xs : List ExtensionMessage)
     (given : Option AdmittedValue) → Gives limits f xs given
-    → SomeOf (λ x. ExtensionIsRefused limits f x e) xs → e ≡ Refusal.CodeRefused
-gives_apart limits f e [] given gives some = absurd some
+    → SomeOf (λ x. ExtensionIsRefused limits f x e) xs → ⊥
+gives_apart limits f e [] given gives some = some
 gives_apart limits f e (x ∷ []) given (bytes, policies, enforced, holds, admits, told) (inl (no_filter none is)) =
-    absurd (none bytes holds)
+    none bytes holds
 gives_apart limits f e (x ∷ []) given (bytes, policies, enforced, holds, admits, told)
     (inl (not_admitted other also bad)) =
     let one : other ≡ bytes = holds_one x.typed_config _ _ other bytes also holds in
-    absurd (bytes_disjoint limits e bytes f.budget (policies, enforced, admits) (rw one at bad))
-gives_apart limits f e (x ∷ []) given gives (inl (code_refused other also code is)) = is
-gives_apart limits f e (x ∷ []) given gives (inr some) = absurd some
-gives_apart limits f e (x ∷ y ∷ xs) given gives some = absurd gives
+    bytes_disjoint limits e bytes f.budget (policies, enforced, admits) (rw one at bad)
+gives_apart limits f e (x ∷ []) given gives (inr some) = some
+gives_apart limits f e (x ∷ y ∷ xs) given gives some = gives
 
 -- ---- the response
 
 pub answer_apart : (c : ConfigValue) (response : ResponseMessage) (old new : Accepted) (e : Refusal)
-    → Accepts c response old new → Refuses c response e → e ≡ Refusal.CodeRefused
-answer_apart c response old new e a (Refuses.wrong_type other told) = absurd (other a.type_url)
+    → Accepts c response old new → Refuses c response e → ⊥
+answer_apart c response old new e a (Refuses.wrong_type other told) = other a.type_url
 answer_apart c response old new e a (bad_resource some) =
-    zip_apart IsResource (λ any. ResourceFault any e) (e ≡ Refusal.CodeRefused)
-    (λ any x is bad. absurd (resource_apart e any x is bad)) response.resources a.extensions a.reads some
+    zip_apart IsResource (λ any. ResourceFault any e) (resource_apart e) response.resources a.extensions a.reads some
 answer_apart c response old new e a (doubled some told) =
     zip_apart (λ f. Gives c.limits f (named f.name a.extensions)) (λ f. TwoOf (IsNamed f.name) response.resources)
-    (e ≡ Refusal.CodeRefused)
-    (λ f given gives two. absurd (gives_one c.limits f (named f.name a.extensions) given gives
-    (two_named f.name response.resources a.extensions a.reads two)))
+    (λ f given gives two. gives_one c.limits f (named f.name a.extensions) given gives
+    (two_named f.name response.resources a.extensions a.reads two))
     c.filters a.given a.gives some
 answer_apart c response old new e a (refused some) =
     zip_apart (λ f. Gives c.limits f (named f.name a.extensions))
-    (λ f. SomeOf (IsRefusedFor c.limits f e) response.resources) (e ≡ Refusal.CodeRefused)
+    (λ f. SomeOf (IsRefusedFor c.limits f e) response.resources)
     (λ f given gives bad. gives_apart c.limits f e (named f.name a.extensions) given gives
     (named_some f.name (λ x. ExtensionIsRefused c.limits f x e) response.resources a.extensions a.reads bad))
     c.filters a.given a.gives some

@@ -10,7 +10,7 @@ use Rattle.xds_wire.specs.Envelope.{SomeOf}
 use Rattle.cel_tree.specs.Checked.{CelChecked}
 use Rattle.rbac_policy.specs.Condition.{Program}
 use Rattle.rbac_policy.specs.Filter.{Filter}
-use Rattle.rbac_policy.specs.Admission.{Admits, Fault, HoldsRefusedCode}
+use Rattle.rbac_policy.specs.Admission.{Admits, Fault}
 use Rattle.ads.specs.Config.{ConfigValue, FilterValue, names_of}
 
 -- the type of the resources
@@ -61,16 +61,13 @@ HoldsFilter extension bytes =
 abbrev pub HoldsSome : ExtensionMessage → Type 0
 HoldsSome extension = (bytes : List ℕ) × HoldsFilter extension bytes
 
--- what is wrong with the extension of a filter: it is no filter's message, or that is not admitted, for a fault
--- or for the code of a condition
+-- what is wrong with the extension of a filter: it is no filter's message, or that is not admitted
 pub data ExtensionIsRefused (limits : LimitsValue) (f : FilterValue) (extension : ExtensionMessage) (e : Refusal)
     : Type 0 where
   no_filter : ((bytes : List ℕ) → HoldsFilter extension bytes → ⊥) → e ≡ Refusal.WrongType
       → ExtensionIsRefused limits f extension e
   not_admitted : (bytes : List ℕ) → HoldsFilter extension bytes → Fault e bytes limits f.budget
       → ExtensionIsRefused limits f extension e
-  code_refused : (bytes : List ℕ) → HoldsFilter extension bytes → HoldsRefusedCode bytes limits
-      → e ≡ Refusal.CodeRefused → ExtensionIsRefused limits f extension e
 
 -- the extensions of this name
 abbrev pub named : List ℕ → List ExtensionMessage → List ExtensionMessage

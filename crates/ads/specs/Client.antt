@@ -101,7 +101,7 @@ policies_at name (f ∷ fs) (p ∷ ps) = if bytes_eq name f.name then p else pol
 abbrev pub policies_of : ClientValue → List ℕ → Option AdmittedValue
 policies_of c name = policies_at name c.config.filters c.accepted.policies
 
--- what the filter has was admitted for these limits and its budget
+-- what the filter has, where it has something, was admitted for these limits and its budget
 abbrev pub WasAdmitted : LimitsValue → FilterValue → Option AdmittedValue → Type 0
 WasAdmitted limits f None = Unit {0}
 WasAdmitted limits f (Some a) =

@@ -1,6 +1,6 @@
 //! What a client has accepted, and what stands beside it while bytes are answered.
 
-ghost use Rattle.std.specs.Prelude.{◌≡◌, ◌≤◌, ◌+◌, ◌-◌, ◌^◌, min, [], None, List, Option, map, length, vec_len, IfOk, OnOk};
+ghost use Rattle.std.specs.Prelude.{◌≡◌, ◌≤◌, ◌+◌, ◌-◌, ◌^◌, min, [], None, List, Option, map, length, vec_len, IfOk};
 ghost use Rattle.std.specs.String.{string_bytes};
 ghost use Rattle.ads.specs.Answer.{AdmittedValue, nothing_accepted, replaced};
 ghost use Rattle.ads.specs.steps.Views.{entries_view};

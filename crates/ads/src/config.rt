@@ -1,12 +1,12 @@
 //! A configuration: who asks, the filters in the order in which they are configured, and the limits of their requests.
 
-ghost use Rattle.std.specs.Prelude.{◌≡◌, ◌≢◌, ◌⊎◌, ◌<◌, ◌≤◌, [], length, map, IfOk, IfErr, OnOk, MatchBool, vec_len};
+ghost use Rattle.std.specs.Prelude.{◌≡◌, ◌⊎◌, ◌<◌, ◌≤◌, length, map, IfOk, IfErr, OnOk, MatchBool};
 ghost use Rattle.std.specs.List.{AllByRecursion};
 ghost use Rattle.std.specs.String.{string_bytes};
 ghost use Rattle.xds_wire.specs.Envelope.{SomeOf};
-ghost use Rattle.ads.specs.Config.{FilterValue, FilterIsAtFault, IsName, IsBudget, IsFilter, IsSound, IsAtFault, Repeats, HasName};
+ghost use Rattle.ads.specs.Config.{FilterIsAtFault, IsFilter, IsSound, IsAtFault, Repeats, HasName};
 ghost use Rattle.ads.specs.declared.config.ConfigFault.TheVariants.{NoFilter, TooManyFilters, DoubledName, BadName, BadBudget, Memory};
-ghost use Rattle.ads.specs.steps.Views.{filter_view, filters_view, entries_view, entry_view};
+ghost use Rattle.ads.specs.steps.Views.{filter_view, filters_view, entries_view};
 
 use attributes::Limits;
 use indexmap::IndexMap;

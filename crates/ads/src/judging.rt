@@ -7,7 +7,6 @@ ghost use Rattle.proto_wire.specs.Refusal.{MemoryOr};
 ghost use Rattle.proto_wire.specs.declared.refusal.Refusal.TheVariants.{DuplicateResource, Memory, Missing, WrongType};
 ghost use Rattle.xds_wire.specs.Envelope.{SomeOf};
 ghost use Rattle.xds_wire.specs.View.{any_view, extension_view, response_view};
-ghost use Rattle.ads.specs.Config.{FilterValue};
 ghost use Rattle.ads.specs.Answer.{IsResource, ResourceFault, HoldsFilter, HoldsSome, ExtensionIsRefused, Gives, named, extension_type};
 ghost use Rattle.ads.specs.steps.Views.{entries_view, filter_of};
 ghost use Rattle.ads.specs.steps.Taking.{IsDoubled, TakeFault, IsTaken, IsJudged, admitted_view};

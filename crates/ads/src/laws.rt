@@ -3,7 +3,6 @@
 ghost use Rattle.std.specs.Prelude.{◌≡◌, List, [], is_none};
 ghost use Rattle.proto_wire.specs.Values.{last_of};
 ghost use Rattle.proto_wire.specs.declared.refusal.Refusal.{Refusal};
-ghost use Rattle.proto_wire.specs.declared.refusal.Refusal.TheVariants.{CodeRefused};
 ghost use Rattle.xds_wire.specs.Discovery.{ResponseMessage};
 ghost use Rattle.ads.specs.Answer.{Accepted, Accepts, Refuses};
 ghost use Rattle.ads.specs.Config.{ConfigValue};
@@ -11,10 +10,10 @@ ghost use Rattle.ads.specs.Control.{ControlValue, ResourceValue, new_control};
 ghost use Rattle.ads.specs.Serve.{Call, Calls, Serve, numbers_of, replies_of, streams_of};
 ghost use Rattle.ads.specs.Schedules.{AreInStep, Joined, Runs, new_joined};
 
-/// A response that is accepted has no fault, but that the code of a condition may be refused.
+/// No response is both accepted and refused.
 pub fn answer_disjoint()
     ensures { (c : ConfigValue) (response : ResponseMessage) (old new : Accepted) (e : Refusal)
-        → Accepts c response old new → Refuses c response e → e ≡ CodeRefused }
+        → Accepts c response old new → Refuses c response e → ⊥ }
 {}
 
 /// Whatever bytes a new control plane gets, on streams that are lost: what it sent, whether its stream is broken and which

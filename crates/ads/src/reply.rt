@@ -1,11 +1,10 @@
 //! The requests of a client, as bytes.
 
-ghost use Rattle.std.specs.Prelude.{◌≡◌, ◌∷◌, ◌++◌, [], map, Option, Some, None, IfOk, OnOk, IsOk};
-ghost use Rattle.std.specs.Option.{option_map};
+ghost use Rattle.std.specs.Prelude.{◌≡◌, [], Some, None, IfOk, OnOk};
 ghost use Rattle.std.specs.String.{string_bytes};
-ghost use Rattle.xds_wire.specs.View.{node_view, request_view, response_view, status_view, texts_view};
+ghost use Rattle.xds_wire.specs.View.{request_view, response_view, status_view, texts_view};
 ghost use Rattle.ads.specs.Config.{names_of};
-ghost use Rattle.ads.specs.Answer.{ack_of, nack_of, request_of, code_of, status_of, node_of};
+ghost use Rattle.ads.specs.Answer.{ack_of, request_of, code_of, status_of, node_of};
 ghost use Rattle.ads.specs.steps.Views.{entries_view};
 ghost use Rattle.ads.specs.steps.Drafts.{AddsFrame};
 

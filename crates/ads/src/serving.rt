@@ -1,6 +1,6 @@
 //! The serving of the requests of a stream, in order.
 
-ghost use Rattle.std.specs.Prelude.{◌≡◌, ◌≢◌, ◌++◌, ℕ, false, [], List, decimal, IfOk, MatchBool, MatchOption};
+ghost use Rattle.std.specs.Prelude.{◌≡◌, ◌≢◌, ℕ, false, [], List, decimal, IfOk, MatchBool, MatchOption};
 ghost use Rattle.xds_wire.specs.View.{request_view, texts_view};
 ghost use Rattle.ads.specs.Control.{AreServed, Sends, Advances, IsSnapshot, ResourceValue};
 ghost use Rattle.ads.specs.steps.Serving.{snapshot_view, snapshots_view, served_view, IsKind, AddsReplies, IsServed, MessageIsServed};

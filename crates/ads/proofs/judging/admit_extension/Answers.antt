@@ -2,9 +2,9 @@ use Rattle.std.proofs.Common.{◌≡◌, ◌⊎◌, inl, inr, ℕ, List}
 use Rattle.std.proofs.lemmas.Result.{IfErr-weaker}
 use Rattle.proto_wire.specs.Refusal.{MemoryOr}
 use Rattle.proto_wire.specs.declared.refusal.Refusal.{Refusal}
-use Rattle.rbac_policy.specs.Admission.{Fault, HoldsRefusedCode}
+use Rattle.rbac_policy.specs.Admission.{Fault}
 use Rattle.xds_wire.specs.View.{extension_view}
-use Rattle.ads.specs.Answer.{ExtensionIsRefused, HoldsSome, code_refused, not_admitted}
+use Rattle.ads.specs.Answer.{ExtensionIsRefused, HoldsSome, not_admitted}
 use Rattle.ads.specs.steps.Views.{filter_of}
 use Rattle.ads.proofs.JudgedLemmas.{admitted_gives}
 use Rattle.ads.proofs.judging.admit_extension.Goals as goal
@@ -17,8 +17,7 @@ returns-clause-found c =
 pub returns-clause-fault : goal.returns-clause-fault
 returns-clause-fault c =
     let bytes = c.in_ok-bytes.bytes.now in
-    let F : Refusal → Type 0 = λ e. ((e ≡ Refusal.CodeRefused) × HoldsRefusedCode bytes c.args.limits.now)
-    ⊎ Fault e bytes c.args.limits.now c.args.budget in
+    let F : Refusal → Type 0 = λ e. Fault e bytes c.args.limits.now c.args.budget in
     let G : Refusal → Type 0 = λ e. (name : List ℕ)
     → ExtensionIsRefused c.args.limits.now (filter_of name c.args.budget) (extension_view c.args.extension.now) e in
     let holds : HoldsSome (extension_view c.args.extension.now) = (bytes, c.in_ok-bytes.ensures.found) in
@@ -26,7 +25,6 @@ returns-clause-fault c =
     (λ e. ((e ≡ Refusal.Memory) × HoldsSome (extension_view c.args.extension.now)) ⊎ G e)
     (λ e told. elim told [
       | inl memory ↦ inl (memory, holds)
-      | inr (inl (is, code)) ↦ inr (λ name. code_refused bytes c.in_ok-bytes.ensures.found code is)
-      | inr (inr fault) ↦ inr (λ name. not_admitted bytes c.in_ok-bytes.ensures.found fault)
+      | inr fault ↦ inr (λ name. not_admitted bytes c.in_ok-bytes.ensures.found fault)
     ])
     c.admit.ensures.fault
