@@ -10,8 +10,7 @@ use Rattle.http_front.specs.declared.fault.HeadFault.TheVariants.{Unfinished}
 use Rattle.http_front.specs.Asks.{Asks, HasFault, IsUnfinished}
 use Rattle.proto_wire.specs.Refusal.{MemoryOr}
 use Rattle.proto_wire.specs.declared.refusal.Refusal.{Refusal}
-use Rattle.proto_wire.specs.declared.refusal.Refusal.TheVariants.{CodeRefused}
-use Rattle.rbac_policy.specs.Admission.{Admissible, Admits, Fault, HoldsRefusedCode}
+use Rattle.rbac_policy.specs.Admission.{Admissible, Admits, Fault}
 use Rattle.rbac_policy.specs.Condition.{Program, is_met}
 use Rattle.rbac_policy.specs.Enforced.{total_bound}
 use Rattle.rbac_policy.specs.Filter.{Filter}
@@ -41,11 +40,9 @@ pub data InputFault (facts : Facts) (bytes : List ℕ) (fault : HeadFault) : Typ
   present : HasFault bytes largest facts fault → InputFault facts bytes fault
   unfinished : IsUnfinished bytes → fault ≡ Unfinished → InputFault facts bytes fault
 
--- the policy is refused for this reason: memory ran out, or its fault is there, or a condition's code
--- is too long or is not verified
+-- the policy is refused for this reason: memory ran out, or its fault is there
 abbrev pub IsRefusedFor : List ℕ → ℕ → Refusal → Type 0
-IsRefusedFor policy budget = MemoryOr (λ e. ((e ≡ CodeRefused) × HoldsRefusedCode policy largest)
-    ⊎ Fault e policy largest budget)
+IsRefusedFor policy budget = MemoryOr (λ e. Fault e policy largest budget)
 
 -- the outcome is what the policy gives by itself
 abbrev pub IsCheckOf : List ℕ → ℕ → Outcome → Type 0
