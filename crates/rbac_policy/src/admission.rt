@@ -102,7 +102,7 @@ fn read_rules(
 }
 
 /// Refuses rules with options of an audit log.
-fn refuse_audit_options(fields: &[Field<'_>]) -> Result<(), Refusal>
+pub(crate) fn refuse_audit_options(fields: &[Field<'_>]) -> Result<(), Refusal>
     ensures found { OnOk result (payloads audit_logging_options_field (map field_view fields.now)
         ≡ []) }
     ensures fault { IfErr result (λ e. (e ≡ Unsupported)
@@ -126,7 +126,7 @@ fn refuse_many(count: usize) -> Result<(), Refusal>
 }
 
 /// The action: an enum keeps the low 32 bits of its number, and is 0 where it is absent.
-fn read_action(fields: &[Field<'_>]) -> Result<Action, Refusal>
+pub(crate) fn read_action(fields: &[Field<'_>]) -> Result<Action, Refusal>
     ensures { MatchResult result (λ action. action_in (map field_view fields.now)
         ≡ action_number action)
         (λ e. (e ≡ OutOfRange) × (2 < action_in (map field_view fields.now))) }

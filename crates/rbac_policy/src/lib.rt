@@ -8,7 +8,9 @@ mod filter;
 mod keys;
 pub mod laws;
 mod numbers;
+mod place;
 mod policy;
 
 pub use admission::{MOST_POLICIES, admit};
 pub use filter::{Action, Admitted, Verdict};
+pub use place::place_of;

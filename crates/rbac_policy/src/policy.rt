@@ -78,7 +78,7 @@ pub(crate) fn read_policies(
 
 /// Reads the policy that stands in the parts, for requests within the limits, with so many steps
 /// left for its condition.
-fn read_policy(
+pub(crate) fn read_policy(
     alloc: Global,
     name: &str,
     parts: &[&[u8]],
@@ -126,7 +126,7 @@ fn refuse_unchecked(fields: &[Field<'_>]) -> Result<(), Refusal>
 }
 
 /// Reads the condition that a type checker left, if there is one.
-fn read_checked(
+pub(crate) fn read_checked(
     alloc: Global,
     fields: &[Field<'_>],
     limits: &Limits,
