@@ -3,7 +3,8 @@ pub mod SizeViews
 pub mod Calls
 pub mod Turns
 pub mod ExprViews
-pub mod Scopes
+pub mod Locals
+pub mod Places
 pub mod Steps
 pub mod Counting
 pub mod Joins

@@ -2,4 +2,5 @@
 -- does.
 pub mod Numbers
 pub mod SizeView
+pub mod ScopeView
 pub mod Measuring

@@ -7,6 +7,7 @@ ghost use Rattle.cel_types.specs.View.{typed_view};
 ghost use Rattle.cost_bound.specs.Costs.{cost_of};
 
 use crate::measure::measure;
+use crate::scope::Scope;
 use attributes::Limits;
 use cel_types::Typed;
 use proto_wire::Refusal;
@@ -20,7 +21,7 @@ pub fn bound(alloc: Global, typed: &Typed<'_>, limits: &Limits, budget: u64) -> 
     ensures fault { IfErr result (MemoryOr (λ e.
         (e ≡ TooCostly) × (budget < cost_of (typed_view typed.now) limits.now []))) }
 {
-    let scope = Vec::new(alloc);
+    let scope = Scope::Empty;
     let measured = measure(alloc, &typed.root, limits, &scope, budget)?;
     Ok(budget - measured.left)
 }

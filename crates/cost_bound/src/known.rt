@@ -1,14 +1,13 @@
-//! The sizes of what is known before an expression runs: constants, attributes, types, locals.
+//! The sizes of what is known before an expression runs: constants, attributes, types.
 
-ghost use Rattle.std.specs.Prelude.{◌≡◌, ◌∷◌, IfOk};
+ghost use Rattle.std.specs.Prelude.{◌≡◌, IfOk};
 ghost use Rattle.attributes.specs.Limits.{limit_of};
 ghost use Rattle.attributes.specs.declared.attribute.AttrId.TheVariants.{RequestHeaders};
 ghost use Rattle.cel_tree.specs.View.{constant_view};
-ghost use Rattle.cel_types.specs.TypedMeaning.{local_at};
 ghost use Rattle.cel_value.specs.Types.{type_view};
-ghost use Rattle.cost_bound.specs.Costs.{attribute_size, constant_size, known};
+ghost use Rattle.cost_bound.specs.Costs.{attribute_size, constant_size};
 ghost use Rattle.cost_bound.specs.Sizes.{Text, least, least_key};
-ghost use Rattle.cost_bound.specs.steps.SizeView.{scope_view, size_view};
+ghost use Rattle.cost_bound.specs.steps.SizeView.{size_view};
 
 use crate::size::{ValueSize, many, table};
 use attributes::{AttrId, Limit, Limits};
@@ -103,31 +102,4 @@ fn least_key(keys: KeyType) -> ValueSize
         KeyType::Uint => ValueSize::Flat,
         KeyType::Text => ValueSize::Text(0),
     }
-}
-
-/// The size of a local; the innermost one in scope is the last.
-pub(crate) fn local_size(scope: &[ValueSize], outside: u8) -> Result<ValueSize, AllocError>
-    ensures { IfOk result (λ size. size_view size ≡ known (local_at outside (scope_view scope.now))) }
-{
-    match scope.get(outside as usize) {
-        Some(size) => size.copy(),
-        None => Ok(ValueSize::Flat),
-    }
-}
-
-/// The scope with one more local, the innermost.
-pub(crate) fn with_local(
-    alloc: Global,
-    scope: &[ValueSize],
-    local: &ValueSize,
-) -> Result<Vec<ValueSize>, AllocError>
-    ensures { IfOk result (λ inner. scope_view inner.items ≡ size_view local.now ∷ scope_view scope.now) }
-{
-    let mut inner = Vec::with_capacity(alloc, scope.len())?;
-    for size in scope {
-        inner.push(size.copy()?)?;
-    }
-    let innermost = local.copy()?;
-    inner.push(innermost)?;
-    Ok(inner)
 }

@@ -6,6 +6,7 @@ mod charges;
 mod known;
 mod made;
 mod measure;
+mod scope;
 mod size;
 #[cfg(test)]
 mod tests;

@@ -10,11 +10,13 @@ ghost use Rattle.cel_value.specs.Types.{ValueType};
 ghost use Rattle.cost_bound.specs.Costs.{call_cost, call_size, cost_of, costs_of, field_cost, grown, size_of, sizes_of, total, turns_cost};
 ghost use Rattle.cost_bound.specs.Sizes.{join};
 ghost use Rattle.cost_bound.specs.steps.Measuring.{CostsMore, call_part, next_size, turn_cost};
-ghost use Rattle.cost_bound.specs.steps.SizeView.{scope_view, size_view, sizes_view};
+ghost use Rattle.cost_bound.specs.steps.ScopeView.{IsCounted, locals_view, scope_view};
+ghost use Rattle.cost_bound.specs.steps.SizeView.{size_view, sizes_view};
 
 use crate::charges::{call_part, field_part, pay, pay_turns};
-use crate::known::{attribute_size, constant_size, local_size, with_local};
+use crate::known::{attribute_size, constant_size};
 use crate::made::{call_size, list_size, map_part, map_size};
+use crate::scope::Scope;
 use crate::size::{ValueSize, join, same};
 use attributes::Limits;
 use cel_overload::Overload;
@@ -37,15 +39,16 @@ struct MeasuredEach {
     left: u64,
 }
 
-/// Measures an expression, with the sizes of the locals in scope, the innermost last.
+/// Measures an expression, with the sizes of the locals in scope.
 #[cycle(measure)]
 pub(crate) fn measure(
     alloc: Global,
     expr: &TypedExpr<'_>,
     limits: &Limits,
-    scope: &[ValueSize],
+    scope: &Scope<'_>,
     left: u64,
 ) -> Result<Measured, Refusal>
+    requires { IsCounted (locals_view scope.now) }
     ensures found { IfOk result (λ m.
         (size_view m.size ≡ size_of (expr_view expr.now) limits.now (scope_view scope.now))
         × (left ≡ cost_of (expr_view expr.now) limits.now (scope_view scope.now) + m.left)) }
@@ -63,7 +66,7 @@ pub(crate) fn measure(
         TypedExpr::Local { outside, .. } => {
             let left = pay(left, 0)?;
             Ok(Measured {
-                size: local_size(scope, *outside)?,
+                size: scope.find(*outside)?,
                 left,
             })
         }
@@ -119,10 +122,11 @@ fn measure_field(
     alloc: Global,
     map: &TypedExpr<'_>,
     limits: &Limits,
-    scope: &[ValueSize],
+    scope: &Scope<'_>,
     name: &RcStr,
     left: u64,
 ) -> Result<Measured, Refusal>
+    requires { IsCounted (locals_view scope.now) }
     ensures found { IfOk result (λ m.
         (size_view m.size ≡ size_of (expr_view map.now) limits.now (scope_view scope.now))
         × (left ≡ cost_of (expr_view map.now) limits.now (scope_view scope.now)
@@ -147,9 +151,10 @@ fn measure_each(
     alloc: Global,
     exprs: &[TypedExpr<'_>],
     limits: &Limits,
-    scope: &[ValueSize],
+    scope: &Scope<'_>,
     left: u64,
 ) -> Result<MeasuredEach, Refusal>
+    requires { IsCounted (locals_view scope.now) }
     ensures found { IfOk result (λ m.
         (sizes_view m.sizes.items ≡ sizes_of (exprs_view exprs.now) limits.now (scope_view scope.now))
         × (left ≡ total (costs_of (exprs_view exprs.now) limits.now (scope_view scope.now)) + m.left)) }
@@ -172,10 +177,11 @@ fn measure_call(
     alloc: Global,
     operands: &[TypedExpr<'_>],
     limits: &Limits,
-    scope: &[ValueSize],
+    scope: &Scope<'_>,
     overload: Overload,
     left: u64,
 ) -> Result<Measured, Refusal>
+    requires { IsCounted (locals_view scope.now) }
     ensures found { IfOk result (λ m. let es = exprs_view operands.now in
         let sizes = scope_view scope.now in
         (size_view m.size ≡ call_size overload (sizes_of es limits.now sizes))
@@ -204,10 +210,11 @@ fn measure_operands(
     alloc: Global,
     operands: &[TypedExpr<'_>],
     limits: &Limits,
-    scope: &[ValueSize],
+    scope: &Scope<'_>,
     overload: Overload,
     left: u64,
 ) -> Result<Measured, Refusal>
+    requires { IsCounted (locals_view scope.now) }
     ensures found { let es = exprs_view operands.now in let sizes = scope_view scope.now in
         IfOk result (λ m. (size_view m.size ≡ call_size overload (sizes_of es limits.now sizes))
         × (left ≡ total (costs_of es limits.now sizes)
@@ -230,10 +237,11 @@ fn measure_conditional(
     alloc: Global,
     operands: &[TypedExpr<'_>],
     limits: &Limits,
-    scope: &[ValueSize],
+    scope: &Scope<'_>,
     left: u64,
 ) -> Result<Measured, Refusal>
-    requires { length operands.now ≡ 3 }
+    requires counted { IsCounted (locals_view scope.now) }
+    requires three { length operands.now ≡ 3 }
     ensures found { let es = exprs_view operands.now in let sizes = scope_view scope.now in
         IfOk result (λ m. (size_view m.size ≡ call_size Conditional (sizes_of es limits.now sizes))
         × (left ≡ call_cost Conditional (kinds es) (costs_of es limits.now sizes)
@@ -264,9 +272,10 @@ fn measure_loop(
     alloc: Global,
     parts: &TypedLoop<'_>,
     limits: &Limits,
-    scope: &[ValueSize],
+    scope: &Scope<'_>,
     left: u64,
 ) -> Result<Measured, Refusal>
+    requires { IsCounted (locals_view scope.now) }
     ensures found { (t : ValueType) → IfOk result (λ m.
         (size_view m.size ≡ size_of (loop_of t (parts_view parts.now)) limits.now (scope_view scope.now))
         × (left ≡ cost_of (loop_of t (parts_view parts.now)) limits.now (scope_view scope.now) + m.left)) }
@@ -283,7 +292,7 @@ fn measure_loop(
         alloc, parts, limits, scope, &element, turns, init.size, stored,
     )?;
     let closed = pay(gathered.left, 0)?;
-    let inner = with_local(alloc, scope, &gathered.size)?;
+    let inner = (&*scope).with(&gathered.size);
     measure(alloc, &parts.result, limits, &inner, closed)
 }
 
@@ -294,12 +303,13 @@ fn measure_turns(
     alloc: Global,
     parts: &TypedLoop<'_>,
     limits: &Limits,
-    scope: &[ValueSize],
+    scope: &Scope<'_>,
     element: &ValueSize,
     turns: u64,
     init: ValueSize,
     left: u64,
 ) -> Result<Measured, Refusal>
+    requires { IsCounted (locals_view scope.now) }
     ensures found { IfOk result (λ m. let p = parts_view parts.now in
         let sizes = scope_view scope.now in let e = size_view element.now in
         (size_view m.size ≡ grown (next_size p limits.now e sizes) turns (size_view init))
@@ -338,11 +348,12 @@ fn measure_turn(
     alloc: Global,
     parts: &TypedLoop<'_>,
     limits: &Limits,
-    scope: &[ValueSize],
+    scope: &Scope<'_>,
     element: &ValueSize,
     gathered: &ValueSize,
     left: u64,
 ) -> Result<Measured, Refusal>
+    requires { IsCounted (locals_view scope.now) }
     ensures found { IfOk result (λ m. let p = parts_view parts.now in
         let sizes = scope_view scope.now in let e = size_view element.now in
         let s = size_view gathered.now in
@@ -353,8 +364,8 @@ fn measure_turn(
         let s = size_view gathered.now in
         IfErr result (MemoryOr (CostsMore (turn_cost p limits.now e sizes s) left)) }
 {
-    let outer = with_local(alloc, scope, gathered)?;
-    let inner = with_local(alloc, &outer, element)?;
+    let outer = (&*scope).with(&*gathered);
+    let inner = outer.with(&*element);
     let tested = measure(alloc, &parts.condition, limits, &inner, left)?;
     let step = measure(alloc, &parts.step, limits, &inner, tested.left)?;
     let left = pay(step.left, 3)?;

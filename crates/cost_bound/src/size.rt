@@ -113,12 +113,44 @@ pub(crate) fn product(left: u64, right: u64) -> u64
     left.saturating_mul(right)
 }
 
-/// Room for what two sizes have room for: the greater of each part.
+/// Room for what two sizes have room for: the greater of each part. Where one size has room for both,
+/// it is answered as it is, with the parts that it shares.
+#[cycle(join)]
 pub(crate) fn join(
     alloc: Global,
     left: &ValueSize,
     right: &ValueSize,
 ) -> Result<ValueSize, AllocError>
+    ensures { IfOk result (λ size. size_view size ≡ join (size_view left.now) (size_view right.now)) }
+{
+    if covers(left, right) {
+        return left.copy();
+    }
+    if covers(right, left) {
+        return right.copy();
+    }
+    join_parts(alloc, left, right)
+}
+
+// Whether a size has room for all that another has room for. It may say no of sizes of two kinds.
+fn covers(size: &ValueSize, other: &ValueSize) -> bool
+    ensures before { IsTrue result → join (size_view size.now) (size_view other.now) ≡ size_view size.now }
+    ensures behind { IsTrue result → join (size_view other.now) (size_view size.now) ≡ size_view size.now }
+{
+    match (size, other) {
+        (_, ValueSize::Flat) => true,
+        (ValueSize::Text(n), ValueSize::Text(m)) => n >= m,
+        (ValueSize::Many(n, a), ValueSize::Many(m, b)) => n >= m && covers(a, b),
+        (ValueSize::Table(n, j, a), ValueSize::Table(m, k, b)) => {
+            n >= m && covers(j, k) && covers(a, b)
+        }
+        _ => false,
+    }
+}
+
+// The same, part by part.
+#[cycle(join)]
+fn join_parts(alloc: Global, left: &ValueSize, right: &ValueSize) -> Result<ValueSize, AllocError>
     ensures { IfOk result (λ size. size_view size ≡ join (size_view left.now) (size_view right.now)) }
 {
     match left {

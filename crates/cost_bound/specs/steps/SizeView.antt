@@ -1,5 +1,5 @@
 -- The sizes that the code's stand for.
-use Rattle.std.specs.Prelude.{List, map, reverse}
+use Rattle.std.specs.Prelude.{List, map}
 use Rattle.cost_bound.specs.Sizes.{Size, Flat, Text, Many, Table}
 use Rattle.cost_bound.specs.declared.size.ValueSize.{ValueSize, fold-ValueSize}
 use Rattle.cost_bound.specs.declared.size.ValueSize.TheOpen.{ValueSize-F}
@@ -18,7 +18,3 @@ size_view = fold-ValueSize Size size_level
 -- the same of each of a list
 abbrev pub sizes_view : List ValueSize → List Size
 sizes_view ss = map size_view ss
-
--- the sizes of the locals in scope: the code has the innermost last
-abbrev pub scope_view : List ValueSize → List Size
-scope_view ss = reverse (sizes_view ss)

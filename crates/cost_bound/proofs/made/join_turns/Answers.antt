@@ -2,7 +2,7 @@ use Rattle.std.proofs.Common.{sym, ap, ◌∙◌, arith}
 use Rattle.cost_bound.specs.Costs.{join_all, keys_of, values_of}
 use Rattle.cost_bound.specs.Sizes.{join}
 use Rattle.cost_bound.specs.steps.SizeView.{size_view}
-use Rattle.cost_bound.proofs.Scopes.{place-before}
+use Rattle.cost_bound.proofs.Places.{place-before}
 use Rattle.cost_bound.proofs.Turns.{keys-of-more, values-of-more}
 use Rattle.cost_bound.proofs.made.join_turns.Goals as goal
 

@@ -2,7 +2,7 @@ use Rattle.std.proofs.Common.{sym, ap, ◌∙◌, arith}
 use Rattle.cost_bound.specs.Costs.{keys_of, masses, values_of}
 use Rattle.cost_bound.specs.steps.Numbers.{capped}
 use Rattle.cost_bound.specs.steps.SizeView.{size_view}
-use Rattle.cost_bound.proofs.Scopes.{place-before}
+use Rattle.cost_bound.proofs.Places.{place-before}
 use Rattle.cost_bound.proofs.Turns.{keys-of-more, values-of-more}
 use Rattle.cost_bound.proofs.made.key_mass.Goals as goal
 

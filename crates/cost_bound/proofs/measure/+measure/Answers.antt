@@ -6,7 +6,8 @@ use Rattle.cel_value.specs.Types.{type_view}
 use Rattle.cost_bound.specs.Costs.{charge_at, sizes_of}
 use Rattle.cost_bound.specs.steps.Measuring.{call_part, next_size, turn_cost}
 use Rattle.cost_bound.specs.steps.Numbers.{capped}
-use Rattle.cost_bound.specs.steps.SizeView.{scope_view, size_view}
+use Rattle.cost_bound.specs.steps.ScopeView.{scope_view}
+use Rattle.cost_bound.specs.steps.SizeView.{size_view}
 use Rattle.cost_bound.proofs.Calls.{call-costs, part-covers}
 use Rattle.cost_bound.proofs.Capped.{paid}
 use Rattle.cost_bound.proofs.ExprViews.{view-List, view-Loop}
@@ -66,8 +67,6 @@ measure_call-returns-clause-fault t c =
 
 pub measure_loop-returns-clause-found : goal.measure_loop-returns-clause-found
 measure_loop-returns-clause-found t c = λ kind.
-    let inside = c.deref.ensures.value in
-    let scope = ap scope_view inside ∙ c.in_ok-inner.ensures in
     let range = c.in_ok-range.ensures.found in
     let init = c.in_ok-init.ensures.found in
     let gathered = c.in_ok-gathered.ensures.found in
@@ -79,7 +78,7 @@ measure_loop-returns-clause-found t c = λ kind.
           _ _ _ _ _ _ _ _ _ _ _ _ _ range.0 c.most-turns.ensures.most c.in_ok-element.ensures init.0
           gathered.0 range.1 (c.in_ok-opened.ensures.found ∙ opened) init.1 c.in_ok-stored.ensures.found
           gathered.1 c.in_ok-closed.ensures.found h.1,
-    )) (rw scope at c.measure-3.ensures.found)
+    )) (rw c.with-inner.ensures.sizes at c.measure-3.ensures.found)
 
 pub measure_operands-returns-clause-found : goal.measure_operands-returns-clause-found
 measure_operands-returns-clause-found t c =

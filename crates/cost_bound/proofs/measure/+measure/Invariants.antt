@@ -2,7 +2,8 @@ use Rattle.std.proofs.Common.{◌≡◌, ◌+◌, ◌++◌, drop}
 use Rattle.cel_types.specs.View.{exprs_view, parts_view}
 use Rattle.cost_bound.specs.Costs.{costs_of, grown, sizes_of, total, turns_cost}
 use Rattle.cost_bound.specs.steps.Measuring.{next_size, turn_cost}
-use Rattle.cost_bound.specs.steps.SizeView.{scope_view, size_view, sizes_view}
+use Rattle.cost_bound.specs.steps.ScopeView.{scope_view}
+use Rattle.cost_bound.specs.steps.SizeView.{size_view, sizes_view}
 use Rattle.cost_bound.proofs.measure.+measure.Given as goal
 
 abbrev pub invariant-measure_each-loop-expr : goal.invariant-measure_each-loop-expr
