@@ -1,10 +1,12 @@
 -- The bytes behind a stream that is up.
-use Rattle.std.proofs.Common.{◌≡◌, ℕ, Bool, true, false, not, true≢false, Option, Some, None, List, ◌++◌, refl, ap, sym, ◌∙◌}
+use Rattle.std.proofs.Common.{◌≡◌, ℕ, Bool, true, false, not, true≢false, Option, Some, None, List, [], ◌++◌, refl, ap, sym, ◌∙◌}
 use Rattle.std.specs.Prelude.{is_none, is_some}
-use Rattle.xds_wire.specs.Frames.{Tail, unfinished, broken, Cut}
-use Rattle.xds_wire.specs.Stream.{Kept, Resumes, Feeds, IsUnfinished}
+use Rattle.xds_wire.specs.Frames.{IsBeginning, Tail, unfinished, broken, Cut}
+use Rattle.xds_wire.specs.Stream.{Kept, Resumes, Feeds, IsUnfinished, StaysPartial}
+use Rattle.xds_wire.proofs.OneCut.{cut_one}
 use Rattle.ads.specs.Answer.{Accepted}
 use Rattle.ads.specs.Client.{ClientValue, AreAnswered, Feeds as ClientFeeds, most_bytes, stream_after}
+use Rattle.ads.specs.Control.{ControlValue, ServesBytes}
 use Rattle.ads.specs.steps.Streams.{IsUp, rest_of}
 
 cut_of : (max : ℕ) (tail : Tail) (bytes : List ℕ) (ms : List (List ℕ)) (t : Tail) → IsUnfinished tail
@@ -20,6 +22,71 @@ fed_cut old new bytes up (ms, resumes, same) =
     ap (λ (k : Kept). k.messages) same ∙ ap (λ xs. xs ++ ms) up.taken in
     let max : new.max ≡ most_bytes = ap (λ (k : Kept). k.max) same ∙ up.max in
     (rw (messages, ← up.max) (cut_of old.max old.tail bytes ms new.tail up.whole resumes), max)
+
+begins_of : (max : ℕ) (tail : Tail) (bytes : List ℕ) → IsUnfinished tail → StaysPartial max tail bytes
+    → IsBeginning max (rest_of tail ++ bytes)
+begins_of max (unfinished rest) bytes whole begins = begins
+begins_of max (broken fault) bytes whole begins = absurd whole
+
+partial_of : (max : ℕ) (tail : Tail) (bytes : List ℕ) → IsUnfinished tail → IsBeginning max (rest_of tail ++ bytes)
+    → StaysPartial max tail bytes
+partial_of max (unfinished rest) bytes whole begins = begins
+partial_of max (broken fault) bytes whole begins = absurd whole
+
+-- bytes that complete or break a frame leave no beginning of one
+pub no_part : (old : Kept) (bytes : List ℕ) → IsUp old → (StaysPartial old.max old.tail bytes → ⊥)
+    → IsBeginning most_bytes (rest_of old.tail ++ bytes) → ⊥
+no_part old bytes up none begins =
+    let begins' : IsBeginning old.max (rest_of old.tail ++ bytes) = rw up.max begins in
+    none (partial_of old.max old.tail bytes up.whole begins')
+
+-- bytes that complete no frame and break none stand behind the others
+pub part_fed : (old new : Kept) (bytes : List ℕ) → IsUp old → StaysPartial old.max old.tail bytes
+    → Feeds old bytes new
+    → IsBeginning most_bytes (rest_of old.tail ++ bytes) × IsUp new × (rest_of new.tail ≡ rest_of old.tail ++ bytes)
+part_fed old new bytes up partial fed =
+    let rest : List ℕ = rest_of old.tail ++ bytes in
+    let begins : IsBeginning most_bytes rest = rw (← up.max) (begins_of old.max old.tail bytes up.whole partial) in
+    let cut = fed_cut old new bytes up fed in
+    let also : Cut rest most_bytes [] (unfinished rest) =
+    record { rest = rest; whole = refl; allowed = tt; ends = (refl, begins) } in
+    let same = cut_one rest most_bytes new.messages [] new.tail (unfinished rest) cut.0 also in
+    let whole : IsUnfinished new.tail = rw same.1 tt in
+    (begins, record { max = cut.1; taken = same.0; whole = whole }, ap rest_of same.1)
+
+-- bytes that complete no message are answered nothing, and stand behind the others
+pub part_answered : (old new : ClientValue) (rest bytes replies : List ℕ) → old.stream ≡ Some rest
+    → IsBeginning most_bytes (rest ++ bytes) → replies ≡ [] → new.config ≡ old.config
+    → new.stream ≡ Some (rest ++ bytes) → new.accepted ≡ old.accepted → ClientFeeds old bytes replies false [] new
+part_answered old new rest bytes replies up begins none config stream same = rw up (
+  record {
+    messages = [];
+    tail = unfinished (rest ++ bytes);
+    ends = false;
+    cut = record { rest = rest ++ bytes; whole = refl; allowed = tt; ends = (refl, begins) };
+    answered = (none, refl, same, refl);
+    stream = stream;
+    config = config;
+  },
+  ap is_none (sym stream),
+)
+
+-- and at a control plane
+pub part_served : (old new : ControlValue) (rest bytes replies : List ℕ) → old.stream ≡ Some rest
+    → IsBeginning most_bytes (rest ++ bytes) → replies ≡ [] → new.snapshots ≡ old.snapshots
+    → new.stream ≡ Some (rest ++ bytes) → new.served ≡ old.served → ServesBytes old bytes replies false [] new
+part_served old new rest bytes replies up begins none snapshots stream same = rw up (
+  record {
+    messages = [];
+    tail = unfinished (rest ++ bytes);
+    ends = false;
+    cut = record { rest = rest ++ bytes; whole = refl; allowed = tt; ends = (refl, begins) };
+    served = (none, refl, same, refl);
+    stream = stream;
+    snapshots = snapshots;
+  },
+  ap is_none (sym stream),
+)
 
 -- what is told of a stream that is none
 pub none_of : {A : Type 0} (stream : Option A) (b : Bool) → is_some stream ≡ not b → b ≡ is_none stream

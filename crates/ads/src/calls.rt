@@ -53,12 +53,18 @@ impl Client {
             × Feeds (client_view self.old) bytes.now fed.replies.items fed.broken versions (client_view self.new)) }
         ensures fault { OnErr result (client_view self.new ≡ client_view self.old) }
     {
-        let Some(stream) = &self.stream else {
+        let Some(stream) = &mut self.stream else {
             return Ok(Fed {
                 replies: Vec::new(self.alloc),
                 broken: true,
             });
         };
+        if stream.keeps(bytes)? {
+            return Ok(Fed {
+                replies: Vec::new(self.alloc),
+                broken: false,
+            });
+        }
         let (draft, stream) = answered(self.alloc, &self.config, &self.accepted, stream, bytes)?;
         let broken = stream.is_none();
         self.stream = stream;

@@ -48,12 +48,18 @@ impl Control {
             (control_view self.new)) }
         ensures fault { OnErr result (control_view self.new ≡ control_view self.old) }
     {
-        let Some(stream) = &self.stream else {
+        let Some(stream) = &mut self.stream else {
             return Ok(Fed {
                 replies: Vec::new(self.alloc),
                 broken: true,
             });
         };
+        if stream.keeps(bytes)? {
+            return Ok(Fed {
+                replies: Vec::new(self.alloc),
+                broken: false,
+            });
+        }
         let (served, replies, stream) = served_by(
             self.alloc,
             &self.snapshots,

@@ -1,7 +1,7 @@
 //! A stream that is up, and what its bytes come to.
 
-ghost use Rattle.std.specs.Prelude.{◌≡◌, ◌++◌, ℕ, false, [], List, Bool, length, IfOk};
-ghost use Rattle.xds_wire.specs.Frames.{Cut, Tail};
+ghost use Rattle.std.specs.Prelude.{◌≡◌, ◌++◌, ℕ, false, [], List, Bool, length, IfOk, OnErr, MatchBool};
+ghost use Rattle.xds_wire.specs.Frames.{Cut, IsBeginning, Tail};
 ghost use Rattle.xds_wire.specs.Stream as wire;
 ghost use Rattle.ads.specs.Client.{AreAnswered, most_bytes, stream_after};
 ghost use Rattle.ads.specs.steps.Taking.{policies_view};
@@ -47,6 +47,21 @@ impl Stream {
         Stream {
             frames: Frames::new(alloc, MOST_BYTES),
         }
+    }
+
+    /// Takes the bytes where they complete no message and break no frame, and tells whether it does. Where it does not,
+    /// and after an error, all is as before the call.
+    pub(crate) fn keeps(&mut self, bytes: &[u8]) -> Result<bool, AllocError>
+        ensures kept { IfOk result (λ kept. MatchBool kept
+            (IsBeginning most_bytes (self.old ++ bytes.now) × (self.new ≡ self.old ++ bytes.now))
+            ((IsBeginning most_bytes (self.old ++ bytes.now) → ⊥) × (self.new ≡ self.old))) }
+        ensures fault { OnErr result (self.new ≡ self.old) }
+    {
+        if !self.frames.stays_partial(bytes) {
+            return Ok(false);
+        }
+        feed_frames(&mut self.frames, bytes)?;
+        Ok(true)
     }
 }
 
@@ -109,10 +124,11 @@ fn kept(frames: Frames, ends: bool, is_faulty: bool) -> Option<Stream>
     Some(Stream { frames })
 }
 
-/// Feeds the frames, and tells whether they are broken now.
+/// Feeds the frames, and tells whether they are broken now. After an error all is as before the call.
 fn feed_frames(frames: &mut Frames, bytes: &[u8]) -> Result<bool, AllocError>
-    ensures { IfOk result (λ is_faulty. wire.Feeds frames.old bytes.now frames.new
+    ensures found { IfOk result (λ is_faulty. wire.Feeds frames.old bytes.now frames.new
         × StreamIsBroken is_faulty frames.new.tail) }
+    ensures fault { OnErr result (frames.new ≡ frames.old) }
 {
     match frames.feed(bytes) {
         Ok(()) => Ok(false),

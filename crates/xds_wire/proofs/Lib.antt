@@ -1,6 +1,7 @@
 pub mod HeadLemmas
 pub mod CutLemmas
 pub mod OneCut
+pub mod Partial
 pub mod EachCut
 pub mod StreamLemmas
 pub mod Beginnings

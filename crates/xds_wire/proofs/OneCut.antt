@@ -32,7 +32,7 @@ frame_one max m n a b x y whole =
     fronts_one m n a b same.0 same.1
 
 -- a whole frame is no beginning of one
-begins_no_frame : (max : ℕ) (m a rest : List ℕ) → IsLength max (length m) → rest ≡ frame_of m ++ a
+pub begins_no_frame : (max : ℕ) (m a rest : List ℕ) → IsLength max (length m) → rest ≡ frame_of m ++ a
     → IsBeginning max rest → ⊥
 begins_no_frame max m a rest x whole (nothing is) = cc (whole, is)
 begins_no_frame max m a rest x whole (part_of_head size is short) =

@@ -1,6 +1,6 @@
 -- What a reader of frames keeps of a stream, and what each call on it does.
 use Rattle.std.specs.Prelude.{◌≡◌, ℕ, Option, Some, None, List, [], ◌∷◌, ◌++◌}
-use Rattle.xds_wire.specs.Frames.{Tail, unfinished, broken, Cut, error_of}
+use Rattle.xds_wire.specs.Frames.{IsBeginning, Tail, unfinished, broken, Cut, error_of}
 use Rattle.xds_wire.specs.declared.fault.FrameError.{FrameError}
 
 -- the limit of a message, the messages that were not handed out yet, and what stands behind them
@@ -39,6 +39,11 @@ IsUnfinished (broken fault) = ⊥
 abbrev pub IsBrokenBy : Tail → FrameError → Type 0
 IsBrokenBy (unfinished rest) e = ⊥
 IsBrokenBy (broken fault) e = e ≡ error_of fault
+
+-- bytes behind a tail complete no frame and break none
+abbrev pub StaysPartial : ℕ → Tail → List ℕ → Type 0
+StaysPartial max (unfinished rest) bytes = IsBeginning max (rest ++ bytes)
+StaysPartial max (broken fault) bytes = ⊥
 
 -- a call on a reader: bytes that were fed and taken, or what the next message was
 pub data Call : Type 0 where

@@ -1,6 +1,6 @@
 //! The cutting of one frame off the bytes of a stream.
 
-ghost use Rattle.std.specs.Prelude.{◌≡◌, ◌<◌, ◌++◌};
+ghost use Rattle.std.specs.Prelude.{◌<◌, ◌++◌};
 ghost use Rattle.xds_wire.specs.steps.Pieces.{head_view, IsPiece};
 
 use crate::fault::FrameFault;

@@ -1,14 +1,14 @@
 //! A stream of frames.
 
-ghost use Rattle.std.specs.Prelude.{◌≡◌, ◌⊎◌, ◌++◌, ◌+◌, ◌<◌, ◌≤◌, ◌^◌, ℕ, List, length, vec_len, IfOk, IfErr, OnOk, OnErr};
+ghost use Rattle.std.specs.Prelude.{◌≡◌, ◌⊎◌, ◌++◌, ◌+◌, ◌<◌, ◌^◌, length, IfOk, IfErr, OnOk, OnErr, MatchBool};
 ghost use Rattle.xds_wire.specs.Frames.{frame_of};
-ghost use Rattle.xds_wire.specs.Stream.{start, Feeds, Takes, IsUnfinished, IsBrokenBy, Resumes};
-ghost use Rattle.xds_wire.specs.steps.Pieces.{head_view, tail_view, IsState};
+ghost use Rattle.xds_wire.specs.Stream.{start, Feeds, Takes, IsUnfinished, IsBrokenBy, StaysPartial};
+ghost use Rattle.xds_wire.specs.steps.Pieces.{tail_view, IsState};
 
 use crate::fault::FrameError;
 use crate::head::{HEAD, Head};
 use crate::message::Message;
-use crate::state::{State, copy_state, resume};
+use crate::state::{State, copy_state, resume, stays_partial};
 use std::alloc::{AllocError, Global};
 use std::collections::VecDeque;
 use std::marker::Model;
@@ -68,6 +68,14 @@ impl Frames {
             State::Broken(fault) => Err(FrameError::from(*fault)),
             _ => Ok(()),
         }
+    }
+
+    /// Whether these bytes complete no frame and break none: then `feed` gives no message of them. It takes no memory.
+    pub fn stays_partial(&self, bytes: &[u8]) -> bool
+        ensures { MatchBool result (StaysPartial self.now.max self.now.tail bytes.now)
+            (StaysPartial self.now.max self.now.tail bytes.now → ⊥) }
+    {
+        stays_partial(&self.state, bytes, self.max)
     }
 
     /// The next message, in order, where one has come whole. It takes no memory.

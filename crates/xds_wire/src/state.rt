@@ -1,8 +1,8 @@
 //! What is kept of the bytes behind whole frames, and how it goes on when further bytes come.
 
-ghost use Rattle.std.specs.Prelude.{◌≡◌, ◌++◌, ◌+◌, ◌<◌, ◌≤◌, ℕ, List, length, vec_len, IfOk, OnOk, OnErr};
+ghost use Rattle.std.specs.Prelude.{◌≡◌, ◌++◌, ◌+◌, ◌<◌, ◌≤◌, ℕ, List, length, vec_len, IfOk, OnOk, OnErr, MatchBool};
 ghost use Rattle.xds_wire.specs.Frames.{head_of, IsLength, Cut};
-ghost use Rattle.xds_wire.specs.Stream.{Resumes};
+ghost use Rattle.xds_wire.specs.Stream.{Resumes, StaysPartial};
 ghost use Rattle.xds_wire.specs.steps.Pieces.{head_view, tail_view, IsState};
 
 use crate::cut::{Piece, cut_frame};
@@ -45,6 +45,24 @@ pub(crate) fn copy_state(state: &State) -> Result<State, AllocError>
             bytes: kept.bytes.clone()?,
         })),
         State::Broken(fault) => Ok(State::Broken(*fault)),
+    }
+}
+
+/// Whether the bytes behind what is kept complete no frame and break none. It takes no memory.
+pub(crate) fn stays_partial(state: &State, bytes: &[u8], max: usize) -> bool
+    requires { IsState max state.now }
+    ensures { MatchBool result (StaysPartial max (tail_view state.now) bytes.now)
+        (StaysPartial max (tail_view state.now) bytes.now → ⊥) }
+{
+    match state {
+        State::Broken(_) => false,
+        State::Head(head) => match cut_frame(*head, bytes, max) {
+            Piece::Head(_) => true,
+            Piece::Part(_, _) => true,
+            Piece::Whole(_, _) => false,
+            Piece::Broken(_) => false,
+        },
+        State::Data(kept) => bytes.len() < kept.length - kept.bytes.len(),
     }
 }
 

@@ -1,6 +1,6 @@
 //! The writing of fields behind bytes, and of bytes that stay as they were where memory runs out.
 
-ghost use Rattle.std.specs.Prelude.{◌≡◌, ◌++◌, take, map, OnOk, OnErr};
+ghost use Rattle.std.specs.Prelude.{◌≡◌, take, OnOk, OnErr};
 ghost use Rattle.proto_wire.specs.Fields.{IsFieldNumber};
 ghost use Rattle.proto_wire.specs.steps.Writing.{Keeps};
 ghost use Rattle.xds_wire.specs.View.{texts_view};

@@ -85,7 +85,7 @@ fn empty_and_repeated(rt: HostRuntime) -> Result<(), Fail> {
     Ok(())
 }
 
-/// A version of 65,536 bytes.
+/// A version of 65,536 bytes, in a response that comes whole, and in one that comes byte by byte.
 #[test]
 fn a_long_version(rt: HostRuntime) -> Result<(), Fail> {
     let alloc = rt.alloc();
@@ -95,7 +95,7 @@ fn a_long_version(rt: HostRuntime) -> Result<(), Fail> {
     }
     let mut client = client_of(alloc, &["f"])?;
     client.connected()?;
-    let long = response(alloc, &version, "n1", &[])?;
+    let mut long = response(alloc, &version, "n1", &[])?;
     let ack: &[&[u8]] = &[
         b"\x00\x00\x01\x00\x4a\x0a\x80\x80\x04",
         version.as_bytes(),
@@ -103,7 +103,13 @@ fn a_long_version(rt: HostRuntime) -> Result<(), Fail> {
         U,
         b"\x2a\x02n1",
     ];
-    answers(&rt, alloc, &mut client, &long, ack)
+    answers(&rt, alloc, &mut client, &long, ack)?;
+    assert_eq!(rt; long.pop(), Some(b'1'));
+    client.connected()?;
+    for byte in &long {
+        answers(&rt, alloc, &mut client, &[*byte], &[])?;
+    }
+    answers(&rt, alloc, &mut client, b"1", ack)
 }
 
 /// 10,000 resources that nobody asked for.

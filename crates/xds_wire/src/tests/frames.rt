@@ -35,6 +35,38 @@ fn each_vector_cut_at_each_two_places(rt: HostRuntime) -> Result<(), Fail> {
     Ok(())
 }
 
+/// What is kept, further bytes, and whether those complete no frame and break none: frames of two bytes and of none, one
+/// that is compressed, one of 1,048,576 bytes, and one that is longer.
+const PARTS: [(&[u8], &[u8], bool); 13] = [
+    (b"", b"", true),
+    (b"", b"\x00", true),
+    (b"", b"\x01", false),
+    (b"\x00\x00\x00", b"\x00", true),
+    (b"\x00\x00\x00", b"\x00\x00", false),
+    (b"\x00\x00\x00", b"\x00\x02", true),
+    (b"\x00\x00\x00\x00\x02", b"a", true),
+    (b"\x00\x00\x00\x00\x02", b"ab", false),
+    (b"\x00\x00\x00\x00\x02a", b"", true),
+    (b"\x00\x00\x00\x00\x02a", b"b", false),
+    (b"\x00\x00\x00\x00\x02ab", b"", true),
+    (b"\x00\x00\x10\x00", b"\x00", true),
+    (b"\x00\x00\x10\x00", b"\x01", false),
+];
+
+#[test]
+fn parts_of_frames(rt: HostRuntime) -> Result<(), Fail> {
+    let alloc = rt.alloc();
+    for (kept, bytes, is_part) in &PARTS {
+        let mut frames = Frames::new(alloc, LIMIT);
+        frames.feed(kept)?;
+        assert_eq!(rt; frames.stays_partial(bytes), *is_part);
+    }
+    let mut frames = Frames::new(alloc, LIMIT);
+    assert_eq!(rt; frames.feed(b"\x01"), Err(FrameError::Compressed));
+    assert!(rt; !frames.stays_partial(b""));
+    Ok(())
+}
+
 /// The stream of two requests, and the message that a third begins.
 #[test]
 fn a_stream_cut_at_each_place(rt: HostRuntime) -> Result<(), Fail> {

@@ -9,7 +9,7 @@ use Rattle.ads.proofs.stream.answered.Goals as goal
 pub returns-clause-answered : goal.returns-clause-answered
 returns-clause-answered c =
     let old : List (Option AdmittedValue) = policies_view c.args.accepted.now.policies.items in
-    let fed = rw c.in_ok-frames.ensures at c.in_ok-is_faulty.ensures.0 in
+    let fed = rw c.in_ok-frames.ensures at c.in_ok-is_faulty.ensures.found.0 in
     let cut = fed_cut c.stream.inside.frames c.feed_frames.new.frames c.args.bytes.now c.stream.invariant fed in
     let answers = from_answers c.args.config.now (state_view c.args.accepted.now)
     (draft_view old c.in_ok-draft.draft) (draft_view old c.answer_all.new.draft)

@@ -1,9 +1,10 @@
-use Rattle.std.proofs.Common.{ap, refl}
+use Rattle.std.proofs.Common.{Some, [], ap, refl}
 use Rattle.ads.specs.Answer.{Accepted}
 use Rattle.ads.specs.steps.Drafts.{client_view, draft_view, state_view}
 use Rattle.ads.specs.steps.Taking.{policies_view}
 use Rattle.ads.proofs.AdmittedLemmas.{merely_all}
-use Rattle.ads.proofs.StreamLemmas.{fed_stream, none_of}
+use Rattle.ads.proofs.AnswerLemmas.{told_no, told_yes}
+use Rattle.ads.proofs.StreamLemmas.{fed_stream, none_of, part_answered}
 use Rattle.ads.proofs.client.Client.feed.Goals as goal
 
 pub invariant_of-self-2-clause-admitted : goal.invariant_of-self-2-clause-admitted
@@ -15,12 +16,22 @@ invariant_of-self-2-clause-admitted c =
     (merely_all c.args.self.now.config (state_view old) (draft_view (policies_view old.policies.items) draft)
     answered.0 draft.replies.items answered.1 answered.3 answered.5 c.args.self.now.admitted)
 
+pub returns-then-branch-clause-found : goal.returns-then-branch-clause-found
+returns-then-branch-clause-found c =
+    let told = told_yes c.in_ok-keeps.field-0 _ _ c.if-branch.true c.in_ok-keeps.ensures.kept in (
+      [],
+      part_answered (client_view c.args.self.now) _ c.in-Some.stream c.args.bytes.now c.new-then-branch.result.items
+          c.in-Some.is told.0 c.new-then-branch.ensures.items refl (ap Some told.1) refl,
+    )
+
 pub returns-clause-found : goal.returns-clause-found
 returns-clause-found c =
-    let told = c.in_ok-draft.ensures.answered in (
+    let kept = told_no c.in_ok-keeps.field-0 _ _ c.if-branch.false c.in_ok-keeps.ensures.kept in
+    let told = c.in_ok-draft.ensures.answered in
+    let cut = rw kept.1 at told.4 in (
       told.1,
       fed_stream (client_view c.args.self.now) _ c.in-Some.stream c.args.bytes.now _ told.0 told.1 told.2 told.3
           c.commit-replies.result.items c.in_ok-draft.draft.replies.items c.is_none-broken.result
-          c.in-Some.is told.4 told.5 c.commit-replies.ensures.replies c.commit-replies.ensures.state told.6 refl
+          c.in-Some.is cut told.5 c.commit-replies.ensures.replies c.commit-replies.ensures.state told.6 refl
           (none_of c.in_ok-draft.stream c.is_none-broken.result c.is_none-broken.ensures),
     )
