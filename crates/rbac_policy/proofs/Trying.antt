@@ -1,6 +1,7 @@
 -- The policies that are tried, with why each matches or does not.
-use Rattle.std.proofs.Common.{arith, ◌≡◌, ◌≢◌, inl, inr, ℕ, ◌+◌, ◌<◌, Bool, true, false, ◌&&◌, List, [], ◌∷◌, ◌++◌, length, take, drop, get_or, map, IsTrue, Option, Some, None, MatchOption, MatchBool, IsSomeAnd, refl, sym, ap, subst, ◌∙◌, add-zero, zero-add}
+use Rattle.std.proofs.Common.{arith, ◌≡◌, ◌≢◌, ◌⊎◌, inl, inr, ℕ, ◌+◌, ◌<◌, Bool, true, false, ◌&&◌, List, [], ◌∷◌, ◌++◌, length, take, drop, get_or, map, IsTrue, Option, Some, None, MatchOption, MatchBool, IsSomeAnd, refl, sym, ap, subst, ◌∙◌, add-zero, zero-add}
 use Rattle.std.proofs.lemmas.List.{append_assoc, length-map, length-take-le, map-append, take-append-drop, take_more}
+use Rattle.std.specs.Prelude.{IfErr, IfOk, Result, Ok, Err}
 use Rattle.std.specs.String.{string_bytes}
 use Rattle.std.specs.FinMap.{entries}
 use Rattle.std.specs.Cmp.Lexicographic.{nat_list_cmp_total}
@@ -23,7 +24,8 @@ use Rattle.rbac_policy.specs.declared.policy.NamedPolicy.{NamedPolicy}
 use Rattle.rbac_policy.specs.declared.trials.Reason.{Reason}
 use Rattle.rbac_policy.specs.declared.trials.Reason.TheVariants.{NoPermission, NoPrincipal, Matches, ConditionFalse, ConditionFails, ConditionTrue}
 use Rattle.rbac_policy.specs.declared.trials.Trial.{Trial}
-use Rattle.rbac_policy.specs.steps.Runs.{RunsAs, Tells}
+use Rattle.stack_machine.specs.declared.error.RunError.{RunError}
+use Rattle.rbac_policy.specs.steps.Runs.{IsFirst, RunsAs, Tells}
 use Rattle.rbac_policy.specs.steps.Trials.{EndsWith, HasRunReason, TakesOf}
 use Rattle.rbac_policy.proofs.Besides.{Beside}
 use Rattle.rbac_policy.proofs.Deciding.{GoodCondition, Stands, listed, order, same_sides, views_are}
@@ -205,3 +207,54 @@ module _ (r : RequestValue) where
   -- the policies that were tried told that they do not match
   pub tried_failed : (items : List NamedPolicy) (trials : List Trial) → Untold 0 (named_views items) trials → Failed r (map policy_view items)
   tried_failed items trials before = subst (Failed r) (views_are items) (untold_failed 0 (named_views items) trials before)
+
+  -- a reason to match tells that the policy matches
+  tells_yes : (v : Policy Program) (reason : Reason) → HasRunReason r v reason → is_match reason ≡ true → Tells r v true
+  tells_yes v NoPermission h matches = let clash : false ≡ true = matches in absurd cc
+  tells_yes v NoPrincipal h matches = let clash : false ≡ true = matches in absurd cc
+  tells_yes v Matches (sides, none) matches = inr (sides, rw none refl)
+  tells_yes v ConditionFalse h matches = let clash : false ≡ true = matches in absurd cc
+  tells_yes v (ConditionFails e) h matches = let clash : false ≡ true = matches in absurd cc
+  tells_yes v (ConditionTrue steps bound) (sides, h) matches = inr (sides, by v.condition h)
+    where
+      by : (q : Option Program) → IsSomeAnd q (λ program. IsReasonOf (EndsWith r) (TakesOf r) program (ConditionTrue steps bound))
+          → MatchOption q (true ≡ true) (λ program. RunsAs r program true)
+      by None h = absurd h
+      by (Some q) ((took, ends, within), rest) = (value (bool true), took, ends, within, refl)
+
+  -- trials tell which is the first policy that matches
+  first_of : (i : ℕ) (es : List (List ℕ × Policy Program)) (trials : List Trial) → AreTrials (HasRunReason r) i es trials
+      → (o : Option ℕ) × IsFirst r i (map (λ e. e.1) es) o
+  first_of i [] trials none = (None, refl)
+  first_of i (e ∷ es) [] none = absurd none
+  first_of i (e ∷ es) (t ∷ trials) (at, name, has, next) =
+      elim (is_match t.reason) as (λ b. is_match t.reason ≡ b → MatchBool b (trials ≡ []) (AreTrials (HasRunReason r) (i + 1) es trials)
+      → (o : Option ℕ) × IsFirst r i (map (λ x. x.1) (e ∷ es)) o) [
+        | true ↦ λ matches last. (Some i, inl (tells_yes e.1 t.reason has matches, refl))
+        | false ↦ λ other rest.
+            let later = first_of (i + 1) es trials rest in
+            (later.0, inr (tells_no e.1 t.reason has other, later.1))
+      ] refl next
+
+  pub trials_first : (items : List NamedPolicy) (trials : List Trial) → AreTrials (HasRunReason r) 0 (named_views items) trials
+      → (o : Option ℕ) × IsFirst r 0 (map policy_view items) o
+  trials_first items trials are =
+      let found = first_of 0 (named_views items) trials are in
+      (found.0, subst (λ ps. IsFirst r 0 ps found.0) (views_are items) found.1)
+
+-- ---- how there may be no trials
+
+-- what is no answer is want of memory or of steps
+pub only_errors : {V : Type 0} (answer : Result V RunError) → IfOk answer (λ v. ⊥)
+    → IfErr answer (λ e. (e ≡ RunError.Memory) ⊎ (e ≡ RunError.OutOfSteps))
+    → (answer ≡ Err RunError.Memory) ⊎ (answer ≡ Err RunError.OutOfSteps)
+only_errors (Ok v) none is = absurd none
+only_errors (Err e) none (inl memory) = inl (ap Err memory)
+only_errors (Err e) none (inr out) = inr (ap Err out)
+
+-- and where it is never of steps
+pub never_out : {V : Type 0} (answer : Result V RunError) → IfErr answer (λ e. e ≡ RunError.Memory)
+    → answer ≢ Err RunError.OutOfSteps
+never_out {V} (Ok v) is out = let clash : ◌≡◌ {A = Result V RunError} (Ok v) (Err RunError.OutOfSteps) = out in absurd cc
+never_out {V} (Err e) is out =
+    let clash : ◌≡◌ {A = Result V RunError} (Err RunError.Memory) (Err RunError.OutOfSteps) = sym (ap Err is) ∙ out in absurd cc

@@ -1,7 +1,8 @@
 //! Why a filter answers a request as it does.
 
-ghost use Rattle.std.specs.Prelude.{◌≡◌, ◌⊎◌, ◌++◌, ◌∷◌, [], IfErr, IfOk, OnOk, map};
+ghost use Rattle.std.specs.Prelude.{◌≡◌, ◌≢◌, ◌⊎◌, ◌++◌, ◌∷◌, [], Err, IfErr, IfOk, OnOk, map};
 ghost use Rattle.std.specs.FinMap.{entries};
+ghost use Rattle.attributes.specs.Limits.{InLimits};
 ghost use Rattle.cel_tree.specs.Checked.{CelChecked};
 ghost use Rattle.rbac_policy.specs.Admission.{IsAdmittedAs};
 ghost use Rattle.rbac_policy.specs.Admitted.{filter_view, limits_view};
@@ -64,8 +65,9 @@ pub struct Trial<'a> {
 
 impl Admitted {
     /// The policies that a decision on the request tries, in order, each with why it matches or does
-    /// not: up to the first that matches, with which they end. May answer `Memory`; and `OutOfSteps`
-    /// where a condition that is asked for takes more steps than it may.
+    /// not: up to the first that matches, with which they end. May answer `Memory`; and
+    /// `OutOfSteps`, for a request outside the limits, exactly where a condition that is asked for takes
+    /// more steps than it may.
     pub fn trials(&self, request: &Request) -> Result<Vec<Trial<'_>>, RunError>
         ensures tried { IfOk result (λ trials. (filter : Filter CelChecked)
             → IsAdmittedAs (limits_view self.now) filter (filter_view self.now)
@@ -76,6 +78,14 @@ impl Admitted {
             → IsAdmittedAs (limits_view self.now) filter (filter_view self.now)
             → SomeAsked (is_met request.now) (TakesTooLong (limits_view self.now) request.now)
             request.now filter))) }
+        ensures told { (filter : Filter CelChecked)
+            → IsAdmittedAs (limits_view self.now) filter (filter_view self.now)
+            → SomeAsked (is_met request.now) (TakesTooLong (limits_view self.now) request.now)
+            request.now filter
+            → (result ≡ Err RunError.Memory) ⊎ (result ≡ Err RunError.OutOfSteps) }
+        ensures within { (filter : Filter CelChecked)
+            → IsAdmittedAs (limits_view self.now) filter (filter_view self.now)
+            → InLimits request.now (limits_view self.now) → result ≢ Err RunError.OutOfSteps }
     {
         request_is_sound(request);
         try_policies(self.alloc(), self.named_policies(), request)
