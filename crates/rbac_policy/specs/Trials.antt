@@ -1,4 +1,5 @@
--- How a filter comes to its answer: which policies are tried, and why each matches or does not.
+-- How a filter comes to its answer: which policies are tried, and why each matches or does not. Envoy
+-- RBAC, "RBAC.policies" and "Policy" (config.rbac.v3).
 use Rattle.std.specs.Prelude.{◌≡◌, ◌≢◌, ℕ, ◌+◌, Bool, true, false, List, [], ◌∷◌, Some, None, IsSomeAnd, MatchBool}
 use Rattle.attributes.specs.Limits.{LimitsValue}
 use Rattle.attributes.specs.Request.{RequestValue}

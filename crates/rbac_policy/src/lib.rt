@@ -16,3 +16,6 @@ pub use admission::{MOST_POLICIES, admit};
 pub use filter::{Action, Admitted, Verdict};
 pub use place::place_of;
 pub use trials::{Reason, Trial};
+
+#[cfg(test)]
+mod tests;
