@@ -30,7 +30,7 @@ use Rattle.rbac_policy.proofs.First.{Passes, in_rest, least_first, lesser_in_lis
 use Rattle.rbac_policy.proofs.Programs.{not_both, program_unique, run_is_met, within_bound}
 
 -- the constants of a condition have the types of their kinds
-abbrev GoodCondition : Option CelChecked → Type 0
+abbrev pub GoodCondition : Option CelChecked → Type 0
 GoodCondition None = Unit {0}
 GoodCondition (Some c) = HasGoodConstants c.tree
 
@@ -44,7 +44,7 @@ good_of parts p is = by p.condition is.condition
 
 module _ (limits : LimitsValue) (r : RequestValue) (valid : IsRequest r) where
   -- what is enforced stands for the policy
-  abbrev Stands : Policy Program → Policy CelChecked → Type 0
+  abbrev pub Stands : Policy Program → Policy CelChecked → Type 0
   Stands v p = EnforcesPolicy limits p v × GoodCondition p.condition
 
   abbrev matches : Policy CelChecked → Bool
@@ -52,7 +52,7 @@ module _ (limits : LimitsValue) (r : RequestValue) (valid : IsRequest r) where
 
   -- ---- one policy
 
-  same_sides : (p : Policy CelChecked) (v : Policy Program) → EnforcesPolicy limits p v
+  pub same_sides : (p : Policy CelChecked) (v : Policy Program) → EnforcesPolicy limits p v
       → sides_match r v ≡ sides_match r p
   same_sides p v is =
       let both : Formulas → Formulas → Bool = λ x y. some_hold r x && some_hold r y in
@@ -205,7 +205,7 @@ module _ (limits : LimitsValue) (r : RequestValue) (valid : IsRequest r) where
           }) later
 
 -- the policies of named ones
-views_are : (items : List NamedPolicy) → map (λ e. e.1) (named_views items) ≡ map policy_view items
+pub views_are : (items : List NamedPolicy) → map (λ e. e.1) (named_views items) ≡ map policy_view items
 views_are [] = refl
 views_are (p ∷ items) = ap (λ xs. policy_view p ∷ xs) (views_are items)
 
@@ -244,7 +244,7 @@ module _ (enforced : Filter Program) (items : List NamedPolicy) (ordered : IsTru
     each_stands (Some p) (Some v) (Some parts) is of = (is, good_of parts p of)
 
     -- the filter's policies stand beside what is enforced
-    listed : (ps : List (List ℕ × Policy CelChecked)) × Beside (Stands limits r valid) (named_views items) ps
+    pub listed : (ps : List (List ℕ × Policy CelChecked)) × Beside (Stands limits r valid) (named_views items) ps
         × (filter.policies ≡ from_entries ps)
     listed =
         let is = admitted.2 in
@@ -252,7 +252,7 @@ module _ (enforced : Filter Program) (items : List NamedPolicy) (ordered : IsTru
         subst (λ o. MatchOption o (get filter.policies name ≡ None) (λ v. IsSomeAnd (get filter.policies name) (Stands limits r valid v))) (enforced_at name)
         (each_stands (get filter.policies name) (get enforced.policies name) _ (is.enforces.policies name) (is.message.rules.policies name)))
 
-    order : T (is_sorted name_cmp listed.0)
+    pub order : T (is_sorted name_cmp listed.0)
     order = subst T (sorted_beside (Stands limits r valid) (named_views items) listed.0 listed.1) (t_of _ ordered)
 
     -- the first that matches by its runs is the filter's answer

@@ -7,6 +7,7 @@ pub mod Texts
 pub mod First
 pub mod FirstRun
 pub mod Deciding
+pub mod Trying
 pub mod Uniqueness
 pub mod OneVerdict
 pub mod StandardFacts

@@ -5,6 +5,7 @@ pub mod Keys
 pub mod Message
 pub mod Fault
 pub mod Verdict
+pub mod Trials
 pub mod Named
 pub mod Admitted
 pub mod Admission

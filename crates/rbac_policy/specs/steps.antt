@@ -4,3 +4,4 @@ pub mod Action
 pub mod Conditions
 pub mod Named
 pub mod Runs
+pub mod Trials

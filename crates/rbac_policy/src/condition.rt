@@ -13,10 +13,13 @@ ghost use Rattle.rbac_policy.specs.Condition.{IsProgramOf, came_true};
 ghost use Rattle.rbac_policy.specs.Named.{program_view};
 ghost use Rattle.rbac_policy.specs.steps.Conditions.{ConditionFault, ExpressionFault};
 ghost use Rattle.rbac_policy.specs.steps.Runs.{RunsAs};
+ghost use Rattle.rbac_policy.specs.Trials.{IsReasonOf};
+ghost use Rattle.rbac_policy.specs.steps.Trials.{EndsWith, TakesOf};
 ghost use Rattle.stack_machine.specs.Instructions.{code_view};
 ghost use Rattle.stack_machine.specs.Machine.{RunsOut};
 ghost use Rattle.stack_machine.specs.Typable.{Forward};
 
+use crate::trials::Reason;
 use attributes::{Limits, Request};
 use cel_compile::compile;
 use cel_tree::{Checked, read_checked_parts};
@@ -51,6 +54,26 @@ impl Condition {
     {
         let outcome = run(alloc, &self.code, request, self.bound)?;
         Ok(is_true(&outcome.result))
+    }
+
+    /// Why the request meets the condition, or does not.
+    pub(crate) fn reason(&self, alloc: Global, request: &Request) -> Result<Reason, RunError>
+        ensures found { IfOk result (IsReasonOf (EndsWith request.now) (TakesOf request.now)
+            (program_view self.now)) }
+        ensures fault { IfErr result (λ e. (e ≡ RunError.Memory) ⊎ ((e ≡ RunError.OutOfSteps)
+            × RunsOut (code_view self.now.code) request.now self.now.bound)) }
+    {
+        let outcome = run(alloc, &self.code, request, self.bound)?;
+        if is_true(&outcome.result) {
+            return Ok(Reason::ConditionTrue {
+                steps: outcome.steps,
+                bound: self.bound,
+            });
+        }
+        match &outcome.result {
+            Ok(_) => Ok(Reason::ConditionFalse),
+            Err(error) => Ok(Reason::ConditionFails(*error)),
+        }
     }
 }
 

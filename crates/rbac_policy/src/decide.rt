@@ -101,7 +101,7 @@ fn sides_match(policy: &NamedPolicy, request: &Request) -> bool
 }
 
 /// What holds of each request.
-fn request_is_sound(request: &Request)
+pub(crate) fn request_is_sound(request: &Request)
     ensures { IsRequest request.now }
 {
     request.conn();

@@ -10,7 +10,12 @@ pub mod laws;
 mod numbers;
 mod place;
 mod policy;
+mod trials;
 
 pub use admission::{MOST_POLICIES, admit};
 pub use filter::{Action, Admitted, Verdict};
 pub use place::place_of;
+pub use trials::{Reason, Trial};
+
+#[cfg(test)]
+mod tests;

@@ -1,0 +1,48 @@
+use crate::{admit, place_of};
+use attributes::Limits;
+use proto_wire::Refusal;
+use std::test::Fail;
+
+/// Filters, why each is refused, and the place of its fault.
+const FAULTS: [(&[u8], Refusal, &str); 4] = [
+    (b"\x0a\x02\x08\x03", Refusal::OutOfRange, "rules.action"),
+    // the third rule of a permission's set is empty
+    (
+        b"\x0a\x19\x12\x17\x0a\x01p\x12\x12\x0a\x0c\x0a\x0a\x0a\x02\x18\x01\x0a\x02\x18\x01\x0a\x00\x12\x02\x18\x01",
+        Refusal::Missing,
+        "policy \"p\": permissions[0].and_rules.rules[2]",
+    ),
+    // the second principal negates an empty one
+    (
+        b"\x0a\x13\x12\x11\x0a\x01p\x12\x0c\x0a\x02\x18\x01\x12\x02\x18\x01\x12\x02\x42\x00",
+        Refusal::Missing,
+        "policy \"p\": principals[1].not_id",
+    ),
+    // the checked condition ends within a tag
+    (
+        b"\x0a\x12\x12\x10\x0a\x01p\x12\x0b\x0a\x02\x18\x01\x12\x02\x18\x01\x22\x01\xff",
+        Refusal::BadWire,
+        "policy \"p\": checked_condition",
+    ),
+];
+
+#[test]
+fn faults_have_places(rt: HostRuntime) -> Result<(), Fail> {
+    let alloc = rt.alloc();
+    for (bytes, refusal, place) in &FAULTS {
+        let refused = admit(alloc, bytes, &Limits::largest(), u64::MAX).err();
+        assert!(rt; refused == Some(*refusal), "{refused:?} at {place}");
+        let found = place_of(alloc, bytes, *refusal);
+        assert!(rt;
+            matches!(&found, Some(text) if text.as_str() == *place),
+            "{found:?} at {place}"
+        );
+    }
+    Ok(())
+}
+
+#[test]
+fn conditions_that_cost_too_much_together_have_no_place(rt: HostRuntime) {
+    let bytes = b"\x0a\x02\x08\x01";
+    assert!(rt; place_of(rt.alloc(), bytes, Refusal::TooCostly).is_none());
+}

@@ -1,0 +1,149 @@
+//! Why a filter answers a request as it does.
+
+ghost use Rattle.std.specs.Prelude.{◌≡◌, ◌≢◌, ◌⊎◌, ◌++◌, ◌∷◌, [], Err, IfErr, IfOk, OnOk, map};
+ghost use Rattle.std.specs.FinMap.{entries};
+ghost use Rattle.attributes.specs.Limits.{InLimits};
+ghost use Rattle.cel_tree.specs.Checked.{CelChecked};
+ghost use Rattle.rbac_policy.specs.Admission.{IsAdmittedAs};
+ghost use Rattle.rbac_policy.specs.Admitted.{filter_view, limits_view};
+ghost use Rattle.rbac_policy.specs.Condition.{TakesTooLong, is_met};
+ghost use Rattle.rbac_policy.specs.Filter.{Filter};
+ghost use Rattle.rbac_policy.specs.Named.{named_views, policy_view};
+ghost use Rattle.rbac_policy.specs.Trials.{AreTrials, HasReason, Means, TakesSteps, is_match};
+ghost use Rattle.rbac_policy.specs.Verdict.{SomeAsked};
+ghost use Rattle.rbac_policy.specs.steps.Runs.{Asks, PassesBound, SomeAsks};
+ghost use Rattle.rbac_policy.specs.steps.Trials.{HasRunReason};
+
+use crate::decide::request_is_sound;
+use crate::filter::Admitted;
+use crate::policy::NamedPolicy;
+use attributes::Request;
+use cel_value::CelError;
+use rbac_match::any_matches;
+use stack_machine::RunError;
+use std::alloc::{AllocError, Global};
+
+/// Why a policy matches a request, or does not.
+#[derive(Clone, Copy, PartialEq, Eq, Debug)]
+pub enum Reason {
+    /// No permission matches.
+    NoPermission,
+    /// A permission matches, and no principal does.
+    NoPrincipal,
+    /// It matches, and has no condition.
+    Matches,
+    /// Its condition is false.
+    ConditionFalse,
+    /// Its condition is this error, which is no match.
+    ConditionFails(CelError),
+    /// It matches: its condition is true, after so many steps of so many that it may take.
+    ConditionTrue { steps: u64, bound: u64 },
+}
+
+impl Reason {
+    /// Whether the policy matches.
+    pub fn is_match(self) -> bool
+        ensures { result ≡ is_match self }
+    {
+        match self {
+            Reason::Matches | Reason::ConditionTrue { .. } => true,
+            Reason::NoPermission
+            | Reason::NoPrincipal
+            | Reason::ConditionFalse
+            | Reason::ConditionFails(_) => false,
+        }
+    }
+}
+
+/// A policy that was tried, by its number and its name.
+#[derive(Clone, Copy, Debug)]
+pub struct Trial<'a> {
+    pub number: usize,
+    pub name: &'a str,
+    pub reason: Reason,
+}
+
+impl Admitted {
+    /// The policies that a decision on the request tries, in order, each with why it matches or does
+    /// not: up to the first that matches, with which they end. May answer `Memory`; and
+    /// `OutOfSteps`, for a request outside the limits, exactly where a condition that is asked for takes
+    /// more steps than it may.
+    pub fn trials(&self, request: &Request) -> Result<Vec<Trial<'_>>, RunError>
+        ensures tried { IfOk result (λ trials. (filter : Filter CelChecked)
+            → IsAdmittedAs (limits_view self.now) filter (filter_view self.now)
+            → AreTrials (HasReason (Means request.now) (TakesSteps (limits_view self.now) request.now)
+            request.now) 0 (entries filter.policies) trials.items) }
+        ensures fault { IfErr result (λ e. (e ≡ RunError.Memory) ⊎ ((e ≡ RunError.OutOfSteps)
+            × ((filter : Filter CelChecked)
+            → IsAdmittedAs (limits_view self.now) filter (filter_view self.now)
+            → SomeAsked (is_met request.now) (TakesTooLong (limits_view self.now) request.now)
+            request.now filter))) }
+        ensures told { (filter : Filter CelChecked)
+            → IsAdmittedAs (limits_view self.now) filter (filter_view self.now)
+            → SomeAsked (is_met request.now) (TakesTooLong (limits_view self.now) request.now)
+            request.now filter
+            → (result ≡ Err RunError.Memory) ⊎ (result ≡ Err RunError.OutOfSteps) }
+        ensures within { (filter : Filter CelChecked)
+            → IsAdmittedAs (limits_view self.now) filter (filter_view self.now)
+            → InLimits request.now (limits_view self.now) → result ≢ Err RunError.OutOfSteps }
+    {
+        request_is_sound(request);
+        try_policies(self.alloc(), self.named_policies(), request)
+    }
+}
+
+/// The policies up to the first that matches, each with its reason.
+fn try_policies<'a>(
+    alloc: Global,
+    policies: &'a [NamedPolicy],
+    request: &Request,
+) -> Result<Vec<Trial<'a>>, RunError>
+    ensures tried { IfOk result (λ trials.
+        AreTrials (HasRunReason request.now) 0 (named_views policies.now) trials.items) }
+    ensures fault { IfErr result (λ e. (e ≡ RunError.Memory) ⊎ ((e ≡ RunError.OutOfSteps)
+        × SomeAsks (PassesBound request.now) request.now (map policy_view policies.now))) }
+{
+    let mut trials = Vec::new(alloc);
+    for (number, policy) in policies.iter().enumerate() {
+        let reason = reason_of(alloc, policy, request)?;
+        let name = policy.name.as_str();
+        add(
+            &mut trials,
+            Trial {
+                number,
+                name,
+                reason,
+            },
+        )?;
+        if reason.is_match() {
+            return Ok(trials);
+        }
+    }
+    Ok(trials)
+}
+
+/// Adds a trial at the end.
+fn add<'a>(trials: &mut Vec<Trial<'a>>, trial: Trial<'a>) -> Result<(), AllocError>
+    ensures { OnOk result (trials.new.items ≡ trials.old.items ++ trial.entry ∷ []) }
+{
+    trials.push(trial)?;
+    Ok(())
+}
+
+/// Why the policy matches, or does not.
+fn reason_of(alloc: Global, policy: &NamedPolicy, request: &Request) -> Result<Reason, RunError>
+    ensures found { IfOk result (HasRunReason request.now (policy_view policy.now)) }
+    ensures fault { IfErr result (λ e. (e ≡ RunError.Memory) ⊎ ((e ≡ RunError.OutOfSteps)
+        × Asks (PassesBound request.now) request.now (policy_view policy.now))) }
+{
+    if !any_matches(&policy.permissions, request) {
+        return Ok(Reason::NoPermission);
+    }
+    if !any_matches(&policy.principals, request) {
+        return Ok(Reason::NoPrincipal);
+    }
+    match &policy.condition {
+        None => Ok(Reason::Matches),
+        Some(condition) => condition.reason(alloc, request),
+    }
+}
