@@ -1,5 +1,5 @@
-//! What is told below a line, so that its reader knows why: the cause, and a guess at what a file is,
-//! and which part of it has the fault.
+//! What is told below a line, so that its reader knows why: the cause, the part of a file that has the
+//! fault, and a guess at what the file is.
 //!
 //! Nothing here bears on the outcome or the status, but that memory may run out here too; no contract speaks of the texts.
 use crate::facts::cause_of_bad_facts;
