@@ -1,5 +1,5 @@
 -- What the front of an input says of all of it.
-use Rattle.std.proofs.Common.{◌≡◌, ◌++◌, ℕ, List, [], Option, Some, None, append-nil}
+use Rattle.std.proofs.Common.{◌++◌, ℕ, List, Option, Some, None, append-nil}
 use Rattle.std.specs.Prelude.{IfSome}
 use Rattle.std.specs.Io.KnownBytes.{Consumes, IsAtEnd}
 use Rattle.attributes.specs.Conn.{Facts}

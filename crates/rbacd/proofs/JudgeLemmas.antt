@@ -1,5 +1,5 @@
 -- From what is found under an admitted filter to what is found under its policy.
-use Rattle.std.proofs.Common.{◌≡◌, ◌≢◌, ℕ, List, Option, Some, None, Result, Ok, Err, OnErr, inl, inr, refl, option_map, string_bytes}
+use Rattle.std.proofs.Common.{◌≡◌, ℕ, List, Option, Some, None, Result, Ok, Err, OnErr, inl, inr, refl, option_map, string_bytes}
 use Rattle.std.specs.Prelude.{IfOk, IfSome}
 use Rattle.std.proofs.lemmas.Option.{IfSome_then}
 use Rattle.std.proofs.lemmas.Result.{IfOk-weaker}
@@ -9,7 +9,7 @@ use Rattle.attributes.specs.Request.{RequestValue}
 use Rattle.cel_tree.specs.Checked.{CelChecked}
 use Rattle.http_front.specs.Asks.{AskFault, Asks}
 use Rattle.http_front.specs.declared.fault.HeadFault.TheVariants.{OutsideLimits}
-use Rattle.rbac_policy.specs.Admission.{Admits, IsAdmittedAs}
+use Rattle.rbac_policy.specs.Admission.{Admits}
 use Rattle.rbac_policy.specs.Condition.{Program}
 use Rattle.rbac_policy.specs.Filter.{Filter}
 use Rattle.rbacd.specs.Judging.{IsOutcomeOf}

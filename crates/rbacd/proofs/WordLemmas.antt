@@ -1,6 +1,6 @@
 -- From what a parse says of a subcommand to the job that it names.
-use Rattle.std.proofs.Common.{◌≡◌, ◌∙◌, ◌↔◌, ℕ, List, Bool, true, false, IsTrue, Option, Some, None, ap, arith, codes, get_or, refl, sym}
-use Rattle.std.specs.Prelude.{IfNone, option_map, string_bytes}
+use Rattle.std.proofs.Common.{◌≡◌, ◌∙◌, ◌↔◌, List, Bool, true, false, IsTrue, Option, Some, None, ap, arith, codes, get_or, refl, sym}
+use Rattle.std.specs.Prelude.{IfNone, option_map}
 use Rattle.std.proofs.lemmas.Bool.{false≢true}
 use Rattle.std.specs.Str.{bytes_eq}
 use Rattle.attributes.proofs.TextOrder.{same_from_test, test_same}
@@ -9,7 +9,7 @@ use Rattle.clap.specs.declared.parser.matches.ArgMatches.{ArgMatches}
 use Rattle.clap.specs.declared.parser.matches.ArgMatches.TheViews.{out-ArgMatches}
 use Rattle.rbacd.specs.declared.words.Job.{Job}
 use Rattle.rbacd.specs.declared.words.Job.TheVariants.{Check, Judge}
-use Rattle.rbacd.specs.Words.{IsJobOfNamed, IsJobOfRows, NamesNoJob, subcommand_name}
+use Rattle.rbacd.specs.Words.{IsJobOfRows, NamesNoJob, subcommand_name}
 
 -- the subcommands have different names
 pub names_differ : codes "check" ≡ codes "judge" → ⊥

@@ -1,17 +1,22 @@
-//! What is told below a line, so that its reader knows why: the cause, and a guess at what a file is.
+//! What is told below a line, so that its reader knows why: the cause, the part of a file that has the
+//! fault, and a guess at what the file is.
 //!
 //! Nothing here bears on the outcome or the status, but that memory may run out here too; no contract speaks of the texts.
 use crate::facts::cause_of_bad_facts;
+use crate::outcome::Outcome;
 use http_front::{HeadFault, HeadPart};
 use proto_wire::Refusal;
+use rbac_policy::place_of;
 use std::alloc::{AllocError, Global};
 use std::fmt;
 
 /// What was noticed while a job was done.
 #[derive(Debug, Drop)]
 pub(crate) struct Notes {
-    /// What the policy file looks like, if it is plainly no filter message.
+    /// What the policy file looks like that is refused, if it is plainly no filter message.
     pub(crate) policy: Option<Likeness>,
+    /// The part of that file that has the fault, if it can be told.
+    pub(crate) place: Option<String>,
     /// Why the facts file tells of no connection.
     pub(crate) facts: String,
 }
@@ -21,6 +26,7 @@ impl Notes {
     pub(crate) fn new(alloc: Global) -> Notes {
         Notes {
             policy: None,
+            place: None,
             facts: String::new(alloc),
         }
     }
@@ -31,9 +37,12 @@ impl Notes {
         Ok(())
     }
 
-    /// Notes what the policy file looks like.
-    pub(crate) fn look_at_policy(&mut self, bytes: &[u8]) {
-        self.policy = likeness_of(bytes);
+    /// Notes of a policy file that is refused what it looks like and which part of it has the fault.
+    pub(crate) fn look_at_policy(&mut self, alloc: Global, bytes: &[u8], outcome: Outcome) {
+        if let Outcome::Refused(refusal) = outcome {
+            self.policy = likeness_of(bytes);
+            self.place = place_of(alloc, bytes, refusal);
+        }
     }
 }
 

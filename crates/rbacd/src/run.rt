@@ -12,12 +12,13 @@ ghost use Rattle.rbacd.specs.declared.run.JobFault.{JobFault};
 use crate::facts::{FactsFault, read_conn};
 use crate::files::Source;
 use crate::judge::{Finding, check_of, finding_of, plain_conn, print_report};
-use crate::notes::{Likeness, Notes, meaning_of, rule_of};
+use crate::notes::{Notes, meaning_of, rule_of};
 use crate::outcome::{Outcome, Report};
 use crate::output::write_whole;
 use crate::words::{Job, read_words};
 use attributes::Conn;
 use clap::error::ErrorKind as WordsKind;
+use proto_wire::Refusal;
 use std::alloc::{AllocError, Global};
 use std::convert::AsStr;
 use std::io::{self, ErrorKind, Read, Write};
@@ -74,7 +75,7 @@ pub fn run<S: AsStr, F: Source, R: Read + Drop, W: Write, E: Write>(
     match run_words(alloc, words, files, input, &mut notes) {
         Ok(report) => match print_report(alloc, &report, out) {
             Ok(printed) => {
-                tell_cause(printed, notes.policy, errors);
+                tell_cause(printed, &notes, errors);
                 printed.status()
             }
             Err(cause) => tell_output(cause, errors),
@@ -172,9 +173,10 @@ fn check_file<F: Source>(
         ⊎ IsUnread (F.holds files.now) (F.lacks files.now) policy.now e) }
 {
     let bytes = read_file(alloc, files, policy)?;
-    notes.look_at_policy(&bytes);
+    let outcome = check_of(alloc, &bytes, budget);
+    notes.look_at_policy(alloc, &bytes, outcome);
     Ok(Finding {
-        outcome: check_of(alloc, &bytes, budget),
+        outcome,
         name: None,
     })
 }
@@ -196,10 +198,12 @@ fn judge_files<F: Source, R: Read + Drop>(
         (F.lacks files.now) policy.now (option_map string_bytes facts) budget (R.remaining input) e) }
 {
     let bytes = read_file(alloc, files, policy)?;
-    notes.look_at_policy(&bytes);
     let conn = conn_of(alloc, facts, files, notes)?;
     match finding_of(alloc, &bytes, budget, conn, input) {
-        Ok(finding) => Ok(finding),
+        Ok(finding) => {
+            notes.look_at_policy(alloc, &bytes, finding.outcome);
+            Ok(finding)
+        }
         Err(cause) => Err(JobFault::Input(cause)),
     }
 }
@@ -360,20 +364,11 @@ fn tell<E: Write>(text: &[u8], status: u8, errors: &mut E) -> u8
 
 /// Tells below the line of an outcome why it is so, where that is no verdict. Nothing is lost where
 /// standard error fails.
-fn tell_cause<E: Write>(outcome: Outcome, policy: Option<Likeness>, errors: &mut E)
+fn tell_cause<E: Write>(outcome: Outcome, notes: &Notes, errors: &mut E)
     ensures { IsQuiet (E.contents errors.old) (E.contents errors.new) outcome }
 {
     match outcome {
-        Outcome::Refused(refusal) => {
-            let _ = writeln!(errors, "  {}", meaning_of(refusal));
-            if let Some(likeness) = policy {
-                let _ = writeln!(
-                    errors,
-                    "  the policy file looks like {likeness}; it has to be one binary message \
-                     envoy.extensions.filters.http.rbac.v3.RBAC"
-                );
-            }
-        }
+        Outcome::Refused(refusal) => tell_refusal(refusal, notes, errors),
         Outcome::Fault(fault) => {
             let _ = writeln!(errors, "  {}", rule_of(fault));
         }
@@ -382,6 +377,21 @@ fn tell_cause<E: Write>(outcome: Outcome, policy: Option<Likeness>, errors: &mut
         | Outcome::Denied(_)
         | Outcome::OutOfSteps
         | Outcome::Memory => {}
+    }
+}
+
+/// Tells what the refusal means, which part of the policy file it is about, and what the file looks like.
+fn tell_refusal<E: Write>(refusal: Refusal, notes: &Notes, errors: &mut E) {
+    let _ = writeln!(errors, "  {}", meaning_of(refusal));
+    if let Some(place) = &notes.place {
+        let _ = writeln!(errors, "  {place}: {refusal}");
+    }
+    if let Some(likeness) = notes.policy {
+        let _ = writeln!(
+            errors,
+            "  the policy file looks like {likeness}; it has to be one binary message \
+             envoy.extensions.filters.http.rbac.v3.RBAC"
+        );
     }
 }
 

@@ -9,6 +9,7 @@ mod heads;
 mod input;
 mod judging;
 mod memory;
+mod places;
 mod rows;
 mod run;
 mod texts;

@@ -19,10 +19,10 @@ returns-in-Ok-clause-found g c = record {
   facts = _;
   read = c.in_ok-bytes.ensures.found;
   conn = c.in_ok-conn.ensures.found;
-  found = rw c.deref-2.ensures.value at c.in-Ok.ensures.found;
+  found = rw c.deref.ensures.value at c.in-Ok.ensures.found;
 }
 
 pub returns-clause-fault : goal.returns-clause-fault
 returns-clause-fault g c =
-    let fault = rw c.deref-2.ensures.value at c.in-Err.ensures.fault in
+    let fault = rw c.deref.ensures.value at c.in-Err.ensures.fault in
     inr (StopsBy.no_input _ _ c.in_ok-bytes.ensures.found c.in_ok-conn.ensures.found fault.1 fault.0)
