@@ -78,7 +78,7 @@ fn tells_where_a_fault_stands(rt: HostRuntime) -> Result<(), Fail> {
     Ok(())
 }
 
-fn try_row(rt: &impl Abort, alloc: Global, job: &str, row: &Row<'_>) -> Result<(), Fail> {
+fn try_row<'a>(rt: &impl Abort, alloc: Global, job: &'a str, row: &Row<'a>) -> Result<(), Fail> {
     let Row {
         filter,
         budget,
