@@ -1,7 +1,7 @@
 //! Judging where memory may be refused: the answer is that of want of memory, or the filter's own, and never another.
 //!
-//! `scripts/refused_memory` refuses each growth of these tests in turn. A test that meets one gives an error, and one
-//! with another answer stops at an assertion.
+//! `rt try --test --fail-alloc N` refuses the growth of each number in these tests. A test that meets one gives an error,
+//! and one with another answer stops at an assertion. `scripts/refused_memory` does the same to the program.
 use crate::judge::{judge, plain_conn};
 use std::alloc::Global;
 use std::process::Abort;
