@@ -133,8 +133,18 @@ pub(crate) fn meaning_of(refusal: Refusal) -> &'static str {
         Refusal::OutOfRange => "a value is outside its range",
         Refusal::Unsupported => "a part is known, and not supported",
         Refusal::TooLarge => "a limit of size, number or depth is passed",
+        Refusal::BothConditions => "a policy has a checked and an unchecked condition",
+        Refusal::UnknownName => "a condition has a name that is not known",
+        Refusal::NoOverload => "a condition's function does not take these operands",
+        Refusal::BadTypeEntry => "a condition's type map has another type than is found",
+        Refusal::BadReference => "a condition's reference map names something else",
+        Refusal::NotBool => "a condition is of another type than bool",
+        Refusal::NeedsType => "an empty list or map in a condition has no type",
+        Refusal::TooCostly => "the conditions may take more steps than the budget has",
+        Refusal::DuplicateResource => "a resource stands twice",
+        Refusal::WrongType => "a resource is of another type",
+        Refusal::CodeRefused => "a condition's code is not taken",
         Refusal::Memory => "memory ran out",
-        _ => "a condition does not hold what it has to",
     }
 }
 
