@@ -18,13 +18,15 @@ pub record Turn : Type 0 where
   pub responses : List (List ℕ)
   pub numbers : List ℕ
 
--- the answers among the turns, all responses that were sent, and all numbers that were recorded
+-- the answers among the turns
 abbrev pub answers_in : List Turn → List Turn
 answers_in turns = filter (λ t. t.is_answer) turns
 
+-- all responses that were sent in them
 abbrev pub responses_in : List Turn → List (List ℕ)
 responses_in turns = flat_map (λ t. t.responses) turns
 
+-- all numbers that were recorded in them
 abbrev pub numbers_in : List Turn → List ℕ
 numbers_in turns = flat_map (λ t. t.numbers) turns
 
@@ -119,12 +121,13 @@ streams_of so_far [] = so_far ∷ []
 streams_of so_far (fed bytes replies numbers ∷ calls) = streams_of (so_far ++ bytes) calls
 streams_of so_far (lost ∷ calls) = so_far ∷ streams_of [] calls
 
--- all that the calls sent, and all numbers that they recorded
+-- all that the calls sent
 abbrev pub replies_of : List Call → List ℕ
 replies_of [] = []
 replies_of (fed bytes replies numbers ∷ calls) = replies ++ replies_of calls
 replies_of (lost ∷ calls) = replies_of calls
 
+-- all numbers that they recorded
 abbrev pub numbers_of : List Call → List ℕ
 numbers_of [] = []
 numbers_of (fed bytes replies numbers ∷ calls) = numbers ++ numbers_of calls
