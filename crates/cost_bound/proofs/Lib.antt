@@ -10,5 +10,7 @@ pub mod Counting
 pub mod Joins
 pub mod Scalars
 pub mod Within
+pub mod Reached
 pub mod Charged
 pub mod StandardFacts
+pub mod ReachedFacts

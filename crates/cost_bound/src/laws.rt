@@ -1,6 +1,6 @@
 //! Laws of sizes and costs.
 
-ghost use Rattle.std.specs.Prelude.{◌≡◌, List, Some};
+ghost use Rattle.std.specs.Prelude.{◌≡◌, ◌≤◌, List, [], Some};
 ghost use Rattle.attributes.specs.Limits.{InLimits, LimitsValue};
 ghost use Rattle.attributes.specs.Request.{IsRequest, RequestValue};
 ghost use Rattle.cel_value.specs.Types.{ValueType};
@@ -9,7 +9,8 @@ ghost use Rattle.cel_overload.specs.Answers.{HaveTypes};
 ghost use Rattle.cel_types.specs.Elaborated.{TypedTree};
 ghost use Rattle.cel_types.specs.TypedMeaning.{typed_answer};
 ghost use Rattle.cel_types.specs.WellTyped.{IsWellTyped};
-ghost use Rattle.cost_bound.specs.Costs.{size_of};
+ghost use Rattle.cost_bound.specs.Costs.{cost_of, size_of};
+ghost use Rattle.cost_bound.specs.Reaches.{Reaches};
 ghost use Rattle.cost_bound.specs.Sizes.{AllWithin, Size, Within};
 
 /// What a well typed expression comes to is within its size, of each request within the limits and
@@ -19,4 +20,30 @@ pub fn results_are_within_their_size()
         (ls : List CelAnswer) (sizes : List Size) (a : CelAnswer)
         → IsWellTyped ks e → IsRequest r → InLimits r l → HaveTypes ls ks → AllWithin ls sizes
         → typed_answer e r ls ≡ Some a → Within a (size_of e l sizes) }
+{}
+
+/// Each part that evaluation reaches, with the locals that it has there, is well typed in types of
+/// these locals.
+pub fn reached_parts_are_well_typed()
+    ensures { (e : TypedTree) (r : RequestValue) (l : LimitsValue) (part : TypedTree)
+        (ls : List CelAnswer) (sizes : List Size)
+        → IsWellTyped [] e → IsRequest r → InLimits r l → Reaches e r l part ls sizes
+        → (ks : List ValueType) × IsWellTyped ks part × HaveTypes ls ks }
+{}
+
+/// Its locals are within their sizes, and it comes to an answer within its size at these.
+pub fn reached_parts_are_within_their_size()
+    ensures { (e : TypedTree) (r : RequestValue) (l : LimitsValue) (part : TypedTree)
+        (ls : List CelAnswer) (sizes : List Size)
+        → IsWellTyped [] e → IsRequest r → InLimits r l → Reaches e r l part ls sizes
+        → AllWithin ls sizes × ((a : CelAnswer) × (typed_answer part r ls ≡ Some a)
+        × Within a (size_of part l sizes)) }
+{}
+
+/// Its cost at these sizes is part of the cost of the whole.
+pub fn reached_parts_are_paid_for()
+    ensures { (e : TypedTree) (r : RequestValue) (l : LimitsValue) (part : TypedTree)
+        (ls : List CelAnswer) (sizes : List Size)
+        → IsWellTyped [] e → IsRequest r → InLimits r l → Reaches e r l part ls sizes
+        → cost_of part l sizes ≤ cost_of e l [] }
 {}
