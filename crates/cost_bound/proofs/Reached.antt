@@ -181,7 +181,7 @@ module _ (r : RequestValue) (sound : IsRequest r) (l : LimitsValue) (fits : InLi
         gathered = has_type init ks ls a g.1 h begins;
         fit = some.1;
         few = omega (arith, some.0);
-        within = answer_within init ks g.1 r sound l fits ls sizes w a begins
+        within = answer_within init ks g.1 r sound l fits ls sizes w a begins;
       }
   turns_kept t range init condition step result ks ls sizes g h w k left b (more j v _ a _ before is) =
       let was = turns_kept t range init condition step result ks ls sizes g h w j (item v left) a before in
@@ -198,7 +198,7 @@ module _ (r : RequestValue) (sound : IsRequest r) (l : LimitsValue) (fits : InLi
         gathered = rw g.2.5 at step_type;
         fit = was.fit.1;
         few = omega arith;
-        within = rw (grown_more next j (size_of init l sizes)) (within_right b now (next now) fresh)
+        within = rw (grown_more next j (size_of init l sizes)) (within_right b now (next now) fresh);
       }
 
   -- in a turn
@@ -216,9 +216,9 @@ module _ (r : RequestValue) (sound : IsRequest r) (l : LimitsValue) (fits : InLi
       record {
         types = g.2.0 ∷ kind init ∷ at.types;
         typed = among_typed p (typed condition (typed step no_typed)) (g.2.0 ∷ kind init ∷ at.types)
-        (g.2.2, (g.2.4, tt)) among;
+            (g.2.2, (g.2.4, tt)) among;
         locals = (now.elements.0, (now.gathered, at.locals));
-        within = (now.fit.0, (now.within, at.within))
+        within = (now.fit.0, (now.within, at.within));
       }
 
   -- at the end of a loop
@@ -237,8 +237,11 @@ module _ (r : RequestValue) (sound : IsRequest r) (l : LimitsValue) (fits : InLi
         types = kind init ∷ at.types;
         typed = g.3;
         locals = (now.gathered, at.locals);
-        within = (later_within _ k (most_of (size_of range l sizes)) (size_of init l sizes) a
-        (omega arith) now.within, at.within)
+        within = (
+          later_within _ k (most_of (size_of range l sizes)) (size_of init l sizes) a
+              (omega arith) now.within,
+          at.within,
+        );
       }
 
   pub placed : (e : TypedTree) → IsWellTyped [] e → (p : TypedTree) (ls : List CelAnswer)
@@ -249,7 +252,7 @@ module _ (r : RequestValue) (sound : IsRequest r) (l : LimitsValue) (fits : InLi
         types = at.types;
         typed = part_typed d p at.types at.typed among;
         locals = at.locals;
-        within = at.within
+        within = at.within;
       }
   placed e g p _ _ (turn t range init condition step result _ ls sizes k v left a there before among) =
       turn_placed t range init condition step result p ls sizes k v left a
@@ -262,8 +265,11 @@ module _ (r : RequestValue) (sound : IsRequest r) (l : LimitsValue) (fits : InLi
   pub placed_within : (p : TypedTree) (ls : List CelAnswer) (sizes : List Size) → Placed p ls sizes
       → (a : CelAnswer) × (typed_answer p r ls ≡ Some a) × Within a (size_of p l sizes)
   placed_within p ls sizes at =
-      let found = answer_typed r sound p at.types ls at.locals at.typed in (found.0, found.1,
-        answer_within p at.types at.typed r sound l fits ls sizes at.within found.0 found.1)
+      let found = answer_typed r sound p at.types ls at.locals at.typed in (
+        found.0,
+        found.1,
+        answer_within p at.types at.typed r sound l fits ls sizes at.within found.0 found.1,
+      )
 
   -- and costs no more than the whole
   pub reached_paid : (e : TypedTree) → IsWellTyped [] e → (p : TypedTree) (ls : List CelAnswer)

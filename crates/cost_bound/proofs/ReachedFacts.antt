@@ -9,7 +9,6 @@ use Rattle.attributes.specs.Limits.{LimitsValue, largest}
 use Rattle.attributes.specs.Request.{RequestValue}
 use Rattle.cel_value.specs.Types.{ValueType, bool_type, int_type, list_type, text_type}
 use Rattle.cel_value.specs.Values.{CelAnswer, CelValue, CelValues, bool, fails, int, item, list, no_items, text, value}
-use Rattle.cel_value.specs.declared.error.CelError.{CelError}
 use Rattle.cel_ops.specs.Collections.{elements_of}
 use Rattle.cel_overload.specs.declared.overload.Overload.TheVariants as overloads
 use Rattle.cel_types.specs.Elaborated.{TypedTree, no_typed, typed, typed_call, typed_constant, typed_list, typed_local, typed_loop}
@@ -114,28 +113,32 @@ last_turn after cost zero s = omega arith
 last_turn after cost (suc n) s = let others = last_turn after cost n (join s (after s)) in omega arith
 
 module _ (t : ValueType) (over begin test turned last : TypedTree) (l : LimitsValue) (sizes : List Size) where
+  -- what is gathered after a turn, and what the turn costs
+  abbrev after : Size → Size
+  after s = size_of turned l (element_size (size_of over l sizes) ∷ s ∷ sizes)
+
+  abbrev cost : Size → ℕ
+  cost s = cost_of test l (element_size (size_of over l sizes) ∷ s ∷ sizes)
+      + cost_of turned l (element_size (size_of over l sizes) ∷ s ∷ sizes) + 4
+
+  -- the sizes with which a turn's parts are reached, and the result
   abbrev turn_sizes : ℕ → List Size
   turn_sizes k =
       element_size (size_of over l sizes) ∷ gathered_size over begin turned l sizes k ∷ sizes
 
-  abbrev turn_cost : ℕ → ℕ
-  turn_cost k = cost_of test l (turn_sizes k) + cost_of turned l (turn_sizes k) + 4
+  abbrev end_sizes : List Size
+  end_sizes = gathered_size over begin turned l sizes (most_of (size_of over l sizes)) ∷ sizes
 
   -- so many turns
   abbrev turn_costs : ℕ → ℕ
   turn_costs zero = 0
-  turn_costs (suc n) = turn_costs n + turn_cost n
+  turn_costs (suc n) =
+      turn_costs n + (cost_of test l (turn_sizes n) + cost_of turned l (turn_sizes n) + 4)
 
-  all_turns : (n : ℕ) → turn_costs n ≡ turns_cost
-      (λ s. size_of turned l (element_size (size_of over l sizes) ∷ s ∷ sizes))
-      (λ s. cost_of test l (element_size (size_of over l sizes) ∷ s ∷ sizes)
-      + cost_of turned l (element_size (size_of over l sizes) ∷ s ∷ sizes) + 4)
-      n (size_of begin l sizes)
+  all_turns : (n : ℕ) → turns_cost after cost n (size_of begin l sizes) ≡ turn_costs n
   all_turns zero = refl
-  all_turns (suc n) = ap (λ x. x + turn_cost n) (all_turns n) ∙ sym (last_turn _ _ n (size_of begin l sizes))
-
-  abbrev end_sizes : List Size
-  end_sizes = gathered_size over begin turned l sizes (most_of (size_of over l sizes)) ∷ sizes
+  all_turns (suc n) = last_turn after cost n (size_of begin l sizes)
+      ∙ ap (λ x. x + cost (grown after n (size_of begin l sizes))) (all_turns n)
 
   -- the size is that of the result
   loop_size : size_of (typed_loop t over begin test turned last) l sizes ≡ size_of last l end_sizes
@@ -145,14 +148,16 @@ module _ (t : ValueType) (over begin test turned last : TypedTree) (l : LimitsVa
   loop_cost : cost_of (typed_loop t over begin test turned last) l sizes
       ≡ cost_of over l sizes + (1 + most_of (size_of over l sizes)) + cost_of begin l sizes + 1
       + turn_costs (most_of (size_of over l sizes)) + 1 + cost_of last l end_sizes
-  loop_cost = rw (all_turns (most_of (size_of over l sizes))) refl
+  loop_cost = ap (λ x. cost_of over l sizes + (1 + most_of (size_of over l sizes))
+      + cost_of begin l sizes + 1 + x + 1 + cost_of last l end_sizes)
+      (all_turns (most_of (size_of over l sizes)))
 
 -- ---- what a loop comes to
 
-module _ (r : RequestValue) (ls : List CelAnswer) (t : ValueType)
-    (over begin test turned last : TypedTree) (b : CelAnswer) where
+module _ (r : RequestValue) (ls : List CelAnswer) (over begin test turned last : TypedTree)
+    (b : CelAnswer) where
   -- the loop ends where its result is reached and comes to this, or where a condition that is reached
-  -- fails with this
+  -- does
   record EndsWith : Type 0 where
     pub turns : ℕ
     pub left : CelValues
@@ -161,52 +166,59 @@ module _ (r : RequestValue) (ls : List CelAnswer) (t : ValueType)
     pub ends : (typed_answer last r (found ∷ ls) ≡ Some b) ⊎ ((v : CelValue) × (others : CelValues)
         × (left ≡ item v others) × (typed_answer test r (value v ∷ found ∷ ls) ≡ Some b))
 
+  abbrev go : CelValues → CelAnswer → Option CelAnswer
+  go = fold (λ v x. typed_answer test r (value v ∷ x ∷ ls))
+      (λ v x. typed_answer turned r (value v ∷ x ∷ ls)) (λ x. typed_answer last r (x ∷ ls))
+
+  turn_ends : (v : CelValue) (vs : CelValues) (k : ℕ) (a : CelAnswer)
+      → Gathers over begin turned r ls k (item v vs) a
+      → ((x : CelAnswer) → typed_answer turned r (value v ∷ a ∷ ls) ≡ Some x → go vs x ≡ Some b → EndsWith)
+      → (c o : Option CelAnswer) → typed_answer test r (value v ∷ a ∷ ls) ≡ c
+      → typed_answer turned r (value v ∷ a ∷ ls) ≡ o
+      → cel.turn c o (go vs) (typed_answer last r (a ∷ ls)) ≡ Some b → EndsWith
+  turn_ends v vs k a g others (Some (value (bool true))) (Some x) ce se is = others x se is
+  turn_ends v vs k a g others (Some (value (bool true))) None ce se is = absurd (none-some b is)
+  turn_ends v vs k a g others (Some (value (bool false))) o ce se is =
+      record { turns = k; left = item v vs; found = a; gathers = g; ends = inl is }
+  turn_ends v vs k a g others (Some (fails d)) o ce se is = record {
+    turns = k;
+    left = item v vs;
+    found = a;
+    gathers = g;
+    ends = inr (v, vs, refl, ce ∙ is);
+  }
+  turn_ends v vs k a g others (Some (value _)) o ce se is = absurd (none-some b is)
+  turn_ends v vs k a g others None o ce se is = absurd (none-some b is)
+
   fold_ends : (vs : CelValues) (k : ℕ) (a : CelAnswer) → Gathers over begin turned r ls k vs a
-      → fold (λ v x. typed_answer test r (value v ∷ x ∷ ls))
-      (λ v x. typed_answer turned r (value v ∷ x ∷ ls)) (λ x. typed_answer last r (x ∷ ls)) vs a ≡ Some b
-      → EndsWith
+      → go vs a ≡ Some b → EndsWith
   fold_ends no_items k a g is =
       record { turns = k; left = no_items; found = a; gathers = g; ends = inl is }
-  fold_ends (item v vs) k a g is = at (typed_answer test r (value v ∷ a ∷ ls))
-      (typed_answer turned r (value v ∷ a ∷ ls)) refl refl is
-    where
-      at : (c o : Option CelAnswer) → typed_answer test r (value v ∷ a ∷ ls) ≡ c
-          → typed_answer turned r (value v ∷ a ∷ ls) ≡ o
-          → cel.turn c o (fold (λ v x. typed_answer test r (value v ∷ x ∷ ls))
-          (λ v x. typed_answer turned r (value v ∷ x ∷ ls)) (λ x. typed_answer last r (x ∷ ls)) vs)
-          (typed_answer last r (a ∷ ls)) ≡ Some b → EndsWith
-      at (Some (value (bool true))) (Some x) ce se is =
-          fold_ends vs (suc k) x (more k v vs a x g se) is
-      at (Some (value (bool true))) None ce se is = absurd (none-some b is)
-      at (Some (value (bool false))) o ce se is =
-          record { turns = k; left = item v vs; found = a; gathers = g; ends = inl is }
-      at (Some (fails d)) o ce se is = record {
-          turns = k; left = item v vs; found = a; gathers = g; ends = inr (v, vs, refl, ce ∙ is)
-        }
-      at (Some (value _)) o ce se is = absurd (none-some b is)
-      at None o ce se is = absurd (none-some b is)
+  fold_ends (item v vs) k a g is = turn_ends v vs k a g
+      (λ x se more_is. fold_ends vs (suc k) x (more k v vs a x g se) more_is)
+      (typed_answer test r (value v ∷ a ∷ ls)) (typed_answer turned r (value v ∷ a ∷ ls)) refl refl is
+
+  begun_ends : (v : CelValue) (vs : CelValues) → typed_answer over r ls ≡ Some (value v)
+      → elements_of v ≡ Some vs → (o : Option CelAnswer) → typed_answer begin r ls ≡ o
+      → option_and_then (go vs) o ≡ Some b → EndsWith
+  begun_ends v vs oe ve None be is = absurd (none-some b is)
+  begun_ends v vs oe ve (Some a) be is = fold_ends vs 0 a (none v vs a oe ve be) is
+
+  walked_ends : (v : CelValue) → typed_answer over r ls ≡ Some (value v) → (o : Option CelValues)
+      → elements_of v ≡ o
+      → option_and_then (λ vs. option_and_then (go vs) (typed_answer begin r ls)) o ≡ Some b → EndsWith
+  walked_ends v oe None ve is = absurd (none-some b is)
+  walked_ends v oe (Some vs) ve is = begun_ends v vs oe ve (typed_answer begin r ls) refl is
+
+  -- a range that fails, or one that is walked over
+  range_ends : (o : Option CelAnswer) → typed_answer over r ls ≡ o
+      → cel.over o (λ vs. option_and_then (go vs) (typed_answer begin r ls)) ≡ Some b
+      → (typed_answer over r ls ≡ Some b) ⊎ EndsWith
+  range_ends None oe is = absurd (none-some b is)
+  range_ends (Some (fails e)) oe is = inl (oe ∙ is)
+  range_ends (Some (value v)) oe is = inr (walked_ends v oe (elements_of v) refl is)
 
   -- a loop comes to its range's error, or ends in a turn that is reached
-  loop_ends : typed_answer (typed_loop t over begin test turned last) r ls ≡ Some b
-      → ((e : CelError) × (typed_answer over r ls ≡ Some (fails e))) ⊎ EndsWith
-  loop_ends is = from (typed_answer over r ls) refl is
-    where
-      go : CelValues → CelAnswer → Option CelAnswer
-      go = fold (λ v x. typed_answer test r (value v ∷ x ∷ ls))
-          (λ v x. typed_answer turned r (value v ∷ x ∷ ls)) (λ x. typed_answer last r (x ∷ ls))
-      begun : (v : CelValue) (vs : CelValues) → typed_answer over r ls ≡ Some (value v)
-          → elements_of v ≡ Some vs → (o : Option CelAnswer) → typed_answer begin r ls ≡ o
-          → option_and_then (go vs) o ≡ Some b → EndsWith
-      begun v vs oe ve None be is = absurd (none-some b is)
-      begun v vs oe ve (Some a) be is = fold_ends vs 0 a (none v vs a oe ve be) is
-      walked : (v : CelValue) → typed_answer over r ls ≡ Some (value v) → (o : Option CelValues)
-          → elements_of v ≡ o
-          → option_and_then (λ vs. option_and_then (go vs) (typed_answer begin r ls)) o ≡ Some b → EndsWith
-      walked v oe None ve is = absurd (none-some b is)
-      walked v oe (Some vs) ve is = begun v vs oe ve (typed_answer begin r ls) refl is
-      from : (o : Option CelAnswer) → typed_answer over r ls ≡ o
-          → cel.over o (λ vs. option_and_then (go vs) (typed_answer begin r ls)) ≡ Some b
-          → ((e : CelError) × (typed_answer over r ls ≡ Some (fails e))) ⊎ EndsWith
-      from None oe is = absurd (none-some b is)
-      from (Some (fails e)) oe is = inl (e, oe)
-      from (Some (value v)) oe is = inr (walked v oe (elements_of v) refl is)
+  loop_ends : (t : ValueType) → typed_answer (typed_loop t over begin test turned last) r ls ≡ Some b
+      → (typed_answer over r ls ≡ Some b) ⊎ EndsWith
+  loop_ends t is = range_ends (typed_answer over r ls) refl is
