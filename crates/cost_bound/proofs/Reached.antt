@@ -12,7 +12,7 @@ use Rattle.cel_types.specs.Elaborated.{TypedTree, TypedTrees, kind, kinds, no_ty
 use Rattle.cel_types.specs.TypedMeaning.{typed_answer}
 use Rattle.cel_types.specs.WellTyped.{AreWellTyped, IsWellTyped}
 use Rattle.cel_types.proofs.WellTypedAnswers.{answer_typed, walked-typed}
-use Rattle.cost_bound.specs.Costs.{call_cost, charge_at, cost_of, costs_of, element_size, grown, size_of, sizes_of, total, turns_cost}
+use Rattle.cost_bound.specs.Costs.{call_cost, cost_of, costs_of, element_size, grown, size_of, sizes_of, total, turns_cost}
 use Rattle.cost_bound.specs.Reaches.{Gathers, IsAmong, Reaches, ended, gathered_size, inside, more, none, parts, turn, whole}
 use Rattle.cost_bound.specs.Sizes.{AllWithin, EachFits, Size, Within, join, most_of}
 use Rattle.cost_bound.proofs.Joins.{grown_within, within_right}
