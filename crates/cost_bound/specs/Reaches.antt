@@ -34,9 +34,11 @@ parts (typed_loop t range init condition step result) = typed range (typed init 
 -- so many turns of a loop leave these of its elements and have gathered this
 pub data Gathers (range init step : TypedTree) (r : RequestValue) (ls : List CelAnswer)
     : (turns : ℕ) → (left : CelValues) → (gathered : CelAnswer) → Type 0 where
+  -- before the first: all elements of the range, and the initial value
   none : (v : CelValue) (elements : CelValues) (a : CelAnswer)
       → typed_answer range r ls ≡ Some (value v) → elements_of v ≡ Some elements
       → typed_answer init r ls ≡ Some a → Gathers range init step r ls 0 elements a
+  -- one more, whatever its condition came to: the next element is gone, and the step's answer gathered
   more : (k : ℕ) (v : CelValue) (left : CelValues) (a b : CelAnswer)
       → Gathers range init step r ls k (item v left) a
       → typed_answer step r (value v ∷ a ∷ ls) ≡ Some b
@@ -52,10 +54,12 @@ gathered_size range init step l sizes k =
 -- come to these answers and are measured by these sizes, the innermost first
 pub data Reaches (e : TypedTree) (r : RequestValue) (l : LimitsValue)
     : (part : TypedTree) → (locals : List CelAnswer) → (sizes : List Size) → Type 0 where
+  -- the expression itself
   whole : Reaches e r l e [] []
+  -- a part with the same locals
   inside : (d p : TypedTree) (ls : List CelAnswer) (sizes : List Size) → Reaches e r l d ls sizes
       → IsAmong p (parts d) → Reaches e r l p ls sizes
-  -- a turn: the element, and what the turns before it gathered
+  -- a turn's condition and step, with the element and with what the turns before it gathered
   turn : (t : ValueType) (range init condition step result p : TypedTree) (ls : List CelAnswer)
       (sizes : List Size) (k : ℕ) (v : CelValue) (left : CelValues) (a : CelAnswer)
       → Reaches e r l (typed_loop t range init condition step result) ls sizes
@@ -63,7 +67,8 @@ pub data Reaches (e : TypedTree) (r : RequestValue) (l : LimitsValue)
       → IsAmong p (typed condition (typed step no_typed))
       → Reaches e r l p (value v ∷ a ∷ ls)
       (element_size (size_of range l sizes) ∷ gathered_size range init step l sizes k ∷ sizes)
-  -- the result, where the loop ends: what is gathered then, measured as if no turn were left out
+  -- the result, after any turn, with what is gathered then; it is measured as after all turns that the
+  -- range has room for, also where the loop ends before
   ended : (t : ValueType) (range init condition step result : TypedTree) (ls : List CelAnswer)
       (sizes : List Size) (k : ℕ) (left : CelValues) (a : CelAnswer)
       → Reaches e r l (typed_loop t range init condition step result) ls sizes
