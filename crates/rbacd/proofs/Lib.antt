@@ -4,3 +4,4 @@ mod Writing
 mod Ends
 mod JudgeLemmas
 mod FactLemmas
+mod StandardFacts

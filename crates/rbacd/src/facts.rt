@@ -75,7 +75,7 @@ impl From<serde_json::Error> for FactsFault {
 
 /// A fact, by the name of the member that tells it: `SourcePort` is `source.port`.
 #[derive(Clone, Copy, Debug, PartialEq, Eq)]
-pub enum Fact {
+pub(crate) enum Fact {
     /// The address that the connection comes from.
     SourceAddress,
     /// The port that the connection comes from.
@@ -330,11 +330,8 @@ fn address_at(object: &Value, fact: Fact) -> Result<Option<Ip>, FactsFault>
     ensures fault { IfErr result (λ e. (e ≡ Bad)
         × ((ip : Option Ip) → ¬ Tells IsAddress (get (name_of fact) (view object.now)) ip)) }
 {
-    let Some(value) = object.get(fact.name()) else {
+    let Some(text) = str_at(object, fact)? else {
         return Ok(None);
-    };
-    let Some(text) = value.as_str() else {
-        return Err(FactsFault::Bad);
     };
     match parse_ip(text) {
         Some(ip) => Ok(Some(ip)),
@@ -397,12 +394,7 @@ fn kind_that_lacks(object: &Value, fact: Fact) -> Option<&'static str> {
             address_at(object, fact).is_ok(),
             "a text that spells an IP address",
         ),
-        _ => (
-            object
-                .get(fact.name())
-                .is_some_and(|value| value.as_str().is_some()),
-            "a text",
-        ),
+        _ => (str_at(object, fact).is_ok(), "a text"),
     };
     if is_right { None } else { Some(kind) }
 }
