@@ -3,3 +3,5 @@ pub mod WordLemmas
 mod Writing
 mod Ends
 mod JudgeLemmas
+mod FactLemmas
+mod StandardFacts

@@ -1,12 +1,14 @@
 -- The facts of a connection as a JSON object: RFC 8259 section 4; the names are those of Envoy, "Attributes".
-use Rattle.std.specs.Prelude.{◌≡◌, ◌⊎◌, ℕ, ◌^◌, ◌<◌, List, [], ◌∷◌, Bool, Contains, Option, Some, None, codes, unwrap_or, IsUtf8}
+use Rattle.std.specs.Prelude.{◌≡◌, ◌⊎◌, ℕ, ◌^◌, ◌<◌, List, Bool, Option, Some, None, codes, unwrap_or, IsUtf8}
 use Rattle.attributes.specs.Address.{IsIpText}
 use Rattle.attributes.specs.Conn.{Facts}
 use Rattle.attributes.specs.Limits.{FactsInLimits, largest}
 use Rattle.attributes.specs.declared.address.Ip.{Ip}
-use Rattle.serde_json.specs.Data.{Data, null, boolean, number, unsigned, string, array, object, Members, no_members, member}
+use Rattle.serde_json.specs.Data.{Data, boolean, number, unsigned, string, object, Members, no_members, member}
 use Rattle.serde_json.specs.Find.{get}
 use Rattle.serde_json.specs.Read.{read}
+use Rattle.rbacd.specs.declared.facts.Fact.{Fact}
+use Rattle.rbacd.specs.declared.facts.Fact.TheVariants.{SourceAddress, SourcePort, DestinationAddress, DestinationPort, ConnectionMtls, ConnectionId, ConnectionRequestedServerName, ConnectionTlsVersion, ConnectionSubjectPeerCertificate, ConnectionDnsSanPeerCertificate, ConnectionUriSanPeerCertificate, DirectRemoteIp, RemoteIp, DestinationIp, RequestScheme}
 use Rattle.rbacd.specs.declared.facts.FactsFault.{FactsFault}
 use Rattle.rbacd.specs.declared.facts.FactsFault.TheVariants.{Bad, Memory}
 
@@ -14,34 +16,6 @@ use Rattle.rbacd.specs.declared.facts.FactsFault.TheVariants.{Bad, Memory}
 abbrev pub fault_text : FactsFault → List ℕ
 fault_text Bad = codes "bad facts"
 fault_text Memory = codes "memory"
-
--- the names that may stand in the object
-abbrev pub fact_names : List (List ℕ)
-fact_names = codes "source.address" ∷ codes "source.port"
-    ∷ codes "destination.address" ∷ codes "destination.port"
-    ∷ codes "connection.mtls" ∷ codes "connection.id"
-    ∷ codes "connection.requested_server_name" ∷ codes "connection.tls_version"
-    ∷ codes "connection.subject_peer_certificate" ∷ codes "connection.dns_san_peer_certificate"
-    ∷ codes "connection.uri_san_peer_certificate"
-    ∷ codes "direct_remote_ip" ∷ codes "remote_ip" ∷ codes "destination_ip" ∷ codes "request.scheme" ∷ []
-
--- one of the names
-pub record IsFactName (name : List ℕ) : Type 0 where
-  pub known : Contains fact_names name
-
--- each member has one of the names
-abbrev pub AreNamed : Members → Type 0
-AreNamed no_members = Unit {0}
-AreNamed (member name d ms) = IsFactName name × AreNamed ms
-
--- the value is an object, and no name in it is unknown
-abbrev pub HasFactNames : Data → Type 0
-HasFactNames null = ⊥
-HasFactNames (boolean b) = ⊥
-HasFactNames (number n) = ⊥
-HasFactNames (string s) = ⊥
-HasFactNames (array ds) = ⊥
-HasFactNames (object ms) = AreNamed ms
 
 -- the value is this text
 abbrev pub IsText : Data → List ℕ → Type 0
@@ -70,29 +44,53 @@ Tells Means None (Some a) = ⊥
 Tells Means (Some d) None = ⊥
 Tells Means (Some d) (Some a) = Means d a
 
--- the object's scheme, or `http` where it has none
-abbrev pub IsScheme : Data → List ℕ → Type 0
-IsScheme d scheme = (named : Option (List ℕ)) × Tells IsText (get (codes "request.scheme") d) named
-    × (scheme ≡ unwrap_or named (codes "http"))
+-- the text, or `http` where there is none
+abbrev pub IsScheme : Option Data → List ℕ → Type 0
+IsScheme d scheme = (named : Option (List ℕ)) × Tells IsText d named × (scheme ≡ unwrap_or named (codes "http"))
 
--- the object tells these facts: each is the member of its name
+-- the name of each fact, and what the member of that name, or its absence, says of the facts
+abbrev pub fact_row : Fact → List ℕ × (Option Data → Facts → Type 0)
+fact_row SourceAddress = (codes "source.address", λ d f. Tells IsText d f.source_address)
+fact_row SourcePort = (codes "source.port", λ d f. Tells IsPort d f.source_port)
+fact_row DestinationAddress = (codes "destination.address", λ d f. Tells IsText d f.destination_address)
+fact_row DestinationPort = (codes "destination.port", λ d f. Tells IsPort d f.destination_port)
+fact_row ConnectionMtls = (codes "connection.mtls", λ d f. Tells IsAnswer d f.mtls)
+fact_row ConnectionId = (codes "connection.id", λ d f. Tells IsNumber d f.connection_id)
+fact_row ConnectionRequestedServerName =
+    (codes "connection.requested_server_name", λ d f. Tells IsText d f.requested_server_name)
+fact_row ConnectionTlsVersion = (codes "connection.tls_version", λ d f. Tells IsText d f.tls_version)
+fact_row ConnectionSubjectPeerCertificate =
+    (codes "connection.subject_peer_certificate", λ d f. Tells IsText d f.subject_peer_certificate)
+fact_row ConnectionDnsSanPeerCertificate =
+    (codes "connection.dns_san_peer_certificate", λ d f. Tells IsText d f.dns_san_peer_certificate)
+fact_row ConnectionUriSanPeerCertificate =
+    (codes "connection.uri_san_peer_certificate", λ d f. Tells IsText d f.uri_san_peer_certificate)
+fact_row DirectRemoteIp = (codes "direct_remote_ip", λ d f. Tells IsAddress d f.direct_remote_ip)
+fact_row RemoteIp = (codes "remote_ip", λ d f. Tells IsAddress d f.remote_ip)
+fact_row DestinationIp = (codes "destination_ip", λ d f. Tells IsAddress d f.destination_ip)
+fact_row RequestScheme = (codes "request.scheme", λ d f. IsScheme d f.scheme)
+
+-- the name of a fact
+abbrev pub name_of : Fact → List ℕ
+name_of fact = (fact_row fact).0
+
+-- some fact has the name
+abbrev pub IsFactName : List ℕ → Type 0
+IsFactName name = (fact : Fact) × (name ≡ name_of fact)
+
+-- each member has the name of a fact
+abbrev pub AreNamed : Members → Type 0
+AreNamed no_members = Unit {0}
+AreNamed (member name d ms) = IsFactName name × AreNamed ms
+
+-- the value is an object, and each name in it is a fact's
+abbrev pub HasFactNames : Data → Type 0
+HasFactNames d = (ms : Members) × (d ≡ object ms) × AreNamed ms
+
+-- the object tells these facts: each is as the member of its name says
 pub record AreFacts (d : Data) (f : Facts) : Type 0 where
   pub names : HasFactNames d
-  pub source_address : Tells IsText (get (codes "source.address") d) f.source_address
-  pub source_port : Tells IsPort (get (codes "source.port") d) f.source_port
-  pub destination_address : Tells IsText (get (codes "destination.address") d) f.destination_address
-  pub destination_port : Tells IsPort (get (codes "destination.port") d) f.destination_port
-  pub mtls : Tells IsAnswer (get (codes "connection.mtls") d) f.mtls
-  pub connection_id : Tells IsNumber (get (codes "connection.id") d) f.connection_id
-  pub requested_server_name : Tells IsText (get (codes "connection.requested_server_name") d) f.requested_server_name
-  pub tls_version : Tells IsText (get (codes "connection.tls_version") d) f.tls_version
-  pub subject_peer_certificate : Tells IsText (get (codes "connection.subject_peer_certificate") d) f.subject_peer_certificate
-  pub dns_san_peer_certificate : Tells IsText (get (codes "connection.dns_san_peer_certificate") d) f.dns_san_peer_certificate
-  pub uri_san_peer_certificate : Tells IsText (get (codes "connection.uri_san_peer_certificate") d) f.uri_san_peer_certificate
-  pub direct_remote_ip : Tells IsAddress (get (codes "direct_remote_ip") d) f.direct_remote_ip
-  pub remote_ip : Tells IsAddress (get (codes "remote_ip") d) f.remote_ip
-  pub destination_ip : Tells IsAddress (get (codes "destination_ip") d) f.destination_ip
-  pub scheme : IsScheme d f.scheme
+  pub tells : (fact : Fact) → (fact_row fact).1 (get (name_of fact) d) f
 
 -- the bytes are the text of an object that tells these facts
 abbrev pub IsFactsText : List ℕ → Facts → Type 0

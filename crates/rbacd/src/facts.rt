@@ -1,12 +1,14 @@
 //! What is known of a connection, as a JSON object.
-ghost use Rattle.std.specs.Prelude.{◌≡◌, ◌↔◌, ℕ, Bool, List, Option, IsTrue, IfOk, IfErr};
+ghost use Rattle.std.specs.Prelude.{◌≡◌, ◌↔◌, ℕ, Bool, List, Option, Some, IsTrue, IfOk, IfErr, OnOk, find, option_map};
 ghost use Rattle.std.specs.Rc.{rc_str_bytes};
+ghost use Rattle.std.specs.Str.{bytes_eq};
 ghost use Rattle.attributes.specs.Conn.{Facts, conn_view, text_view};
 ghost use Rattle.attributes.specs.Limits.{FactsInLimits, largest};
 ghost use Rattle.attributes.specs.declared.address.Ip.{Ip};
 ghost use Rattle.serde_json.specs.Find.{get};
 ghost use Rattle.serde_json.specs.View.{members_view, view};
-ghost use Rattle.rbacd.specs.Facts.{AreFacts, AreNamed, HasFactNames, IsAddress, IsAnswer, IsFactName, IsFactsText, IsNumber, IsPort, IsScheme, IsText, Tells, TellsNone};
+ghost use Rattle.rbacd.specs.Facts.{AreFacts, AreNamed, HasFactNames, IsAddress, IsAnswer, IsFactName, IsFactsText, IsNumber, IsPort, IsScheme, IsText, Tells, TellsNone, name_of};
+ghost use Rattle.rbacd.specs.declared.facts.Fact.{Fact};
 ghost use Rattle.rbacd.specs.declared.facts.FactsFault.TheVariants.{Bad, Memory};
 
 use attributes::{Conn, Ip, Limits, parse_ip};
@@ -71,6 +73,99 @@ impl From<serde_json::Error> for FactsFault {
     }
 }
 
+/// A fact, by the name of the member that tells it: `SourcePort` is `source.port`.
+#[derive(Clone, Copy, Debug, PartialEq, Eq)]
+pub(crate) enum Fact {
+    /// The address that the connection comes from.
+    SourceAddress,
+    /// The port that the connection comes from.
+    SourcePort,
+    /// The address that the connection goes to.
+    DestinationAddress,
+    /// The port that the connection goes to.
+    DestinationPort,
+    /// Whether TLS is used and the client showed a certificate.
+    ConnectionMtls,
+    /// The number of the connection.
+    ConnectionId,
+    /// The server name that the client asked for.
+    ConnectionRequestedServerName,
+    /// The version of TLS.
+    ConnectionTlsVersion,
+    /// The subject of the peer certificate.
+    ConnectionSubjectPeerCertificate,
+    /// The first DNS entry of the peer certificate's SAN field.
+    ConnectionDnsSanPeerCertificate,
+    /// The first URI entry of the peer certificate's SAN field.
+    ConnectionUriSanPeerCertificate,
+    /// The address of the peer itself.
+    DirectRemoteIp,
+    /// The address of the client, which a proxy may have told.
+    RemoteIp,
+    /// The address that the connection goes to, as a number.
+    DestinationIp,
+    /// The scheme of the connection's requests.
+    RequestScheme,
+}
+
+// Every fact.
+const FACTS: [Fact; 15] = [
+    Fact::SourceAddress,
+    Fact::SourcePort,
+    Fact::DestinationAddress,
+    Fact::DestinationPort,
+    Fact::ConnectionMtls,
+    Fact::ConnectionId,
+    Fact::ConnectionRequestedServerName,
+    Fact::ConnectionTlsVersion,
+    Fact::ConnectionSubjectPeerCertificate,
+    Fact::ConnectionDnsSanPeerCertificate,
+    Fact::ConnectionUriSanPeerCertificate,
+    Fact::DirectRemoteIp,
+    Fact::RemoteIp,
+    Fact::DestinationIp,
+    Fact::RequestScheme,
+];
+
+impl Fact {
+    // The name of the member that tells it.
+    fn name(self) -> &'static str
+        ensures { result.now ≡ name_of self }
+    {
+        match self {
+            Fact::SourceAddress => "source.address",
+            Fact::SourcePort => "source.port",
+            Fact::DestinationAddress => "destination.address",
+            Fact::DestinationPort => "destination.port",
+            Fact::ConnectionMtls => "connection.mtls",
+            Fact::ConnectionId => "connection.id",
+            Fact::ConnectionRequestedServerName => "connection.requested_server_name",
+            Fact::ConnectionTlsVersion => "connection.tls_version",
+            Fact::ConnectionSubjectPeerCertificate => "connection.subject_peer_certificate",
+            Fact::ConnectionDnsSanPeerCertificate => "connection.dns_san_peer_certificate",
+            Fact::ConnectionUriSanPeerCertificate => "connection.uri_san_peer_certificate",
+            Fact::DirectRemoteIp => "direct_remote_ip",
+            Fact::RemoteIp => "remote_ip",
+            Fact::DestinationIp => "destination_ip",
+            Fact::RequestScheme => "request.scheme",
+        }
+    }
+
+    // The fact of this name, if there is one.
+    fn named(name: &str) -> Option<Fact>
+        ensures { (fact : Fact) → (result ≡ Some fact) ↔ (name.now ≡ name_of fact) }
+    {
+        find_named(&FACTS, name)
+    }
+}
+
+// The first of these that has the name.
+fn find_named(facts: &[Fact], name: &str) -> Option<Fact>
+    ensures { result ≡ find (λ fact. bytes_eq (name_of fact) name.now) facts.now }
+{
+    facts.iter().copied().find(|fact| fact.name() == name)
+}
+
 /// The facts that a JSON text tells (RFC 8259): an object whose members have the names of the facts in
 /// `Conn`. Texts are strings, addresses strings that `parse_ip` reads, ports integers below 65,536, the
 /// connection's number an integer below 2^64, and `connection.mtls` is `true` or `false`. Each may be
@@ -90,10 +185,19 @@ pub fn read_conn(alloc: Global, text: &[u8]) -> Result<Conn, FactsFault>
     ensures fault { IfErr result (λ e. e ≡ Bad → TellsNone text.now) }
 {
     let conn = read_facts(alloc, text)?;
-    if !Limits::largest().fits_conn(&conn) {
+    require_limits(&conn)?;
+    Ok(conn)
+}
+
+// That the connection is within the limits.
+fn require_limits(conn: &Conn) -> Result<(), FactsFault>
+    ensures found { OnOk result (FactsInLimits (conn_view conn.now) largest) }
+    ensures fault { IfErr result (λ e. (e ≡ Bad) × ¬ FactsInLimits (conn_view conn.now) largest) }
+{
+    if !Limits::largest().fits_conn(conn) {
         return Err(FactsFault::Bad);
     }
-    Ok(conn)
+    Ok(())
 }
 
 /// The facts that a JSON value tells, as in `read_facts`.
@@ -101,26 +205,35 @@ pub fn conn_of(alloc: Global, value: &Value) -> Result<Conn, FactsFault>
     ensures found { IfOk result (λ conn. AreFacts (view value.now) (conn_view conn)) }
     ensures fault { IfErr result (λ e. e ≡ Bad → (f : Facts) → ¬ AreFacts (view value.now) f) }
 {
+    require_fact_names(value)?;
+    Ok(Conn {
+        source_address: text_at(alloc, value, Fact::SourceAddress)?,
+        source_port: port_at(value, Fact::SourcePort)?,
+        destination_address: text_at(alloc, value, Fact::DestinationAddress)?,
+        destination_port: port_at(value, Fact::DestinationPort)?,
+        mtls: answer_at(value, Fact::ConnectionMtls)?,
+        connection_id: number_at(value, Fact::ConnectionId)?,
+        requested_server_name: text_at(alloc, value, Fact::ConnectionRequestedServerName)?,
+        tls_version: text_at(alloc, value, Fact::ConnectionTlsVersion)?,
+        subject_peer_certificate: text_at(alloc, value, Fact::ConnectionSubjectPeerCertificate)?,
+        dns_san_peer_certificate: text_at(alloc, value, Fact::ConnectionDnsSanPeerCertificate)?,
+        uri_san_peer_certificate: text_at(alloc, value, Fact::ConnectionUriSanPeerCertificate)?,
+        direct_remote_ip: address_at(value, Fact::DirectRemoteIp)?,
+        remote_ip: address_at(value, Fact::RemoteIp)?,
+        destination_ip: address_at(value, Fact::DestinationIp)?,
+        scheme: scheme_at(alloc, value, Fact::RequestScheme)?,
+    })
+}
+
+// That the value is an object without a name that no fact has.
+fn require_fact_names(value: &Value) -> Result<(), FactsFault>
+    ensures found { OnOk result (HasFactNames (view value.now)) }
+    ensures fault { IfErr result (λ e. (e ≡ Bad) × ¬ HasFactNames (view value.now)) }
+{
     if !has_fact_names(value) {
         return Err(FactsFault::Bad);
     }
-    Ok(Conn {
-        source_address: text_at(alloc, value, "source.address")?,
-        source_port: port_at(value, "source.port")?,
-        destination_address: text_at(alloc, value, "destination.address")?,
-        destination_port: port_at(value, "destination.port")?,
-        mtls: answer_at(value, "connection.mtls")?,
-        connection_id: number_at(value, "connection.id")?,
-        requested_server_name: text_at(alloc, value, "connection.requested_server_name")?,
-        tls_version: text_at(alloc, value, "connection.tls_version")?,
-        subject_peer_certificate: text_at(alloc, value, "connection.subject_peer_certificate")?,
-        dns_san_peer_certificate: text_at(alloc, value, "connection.dns_san_peer_certificate")?,
-        uri_san_peer_certificate: text_at(alloc, value, "connection.uri_san_peer_certificate")?,
-        direct_remote_ip: address_at(value, "direct_remote_ip")?,
-        remote_ip: address_at(value, "remote_ip")?,
-        destination_ip: address_at(value, "destination_ip")?,
-        scheme: scheme_of(alloc, value)?,
-    })
+    Ok(())
 }
 
 // Whether the value is an object without a name that no fact has.
@@ -142,47 +255,42 @@ fn are_fact_names(members: &Map<String, Value>) -> bool
 fn is_fact_name(name: &str) -> bool
     ensures { IsTrue result ↔ IsFactName name.now }
 {
-    matches!(
-        name,
-        "source.address"
-            | "source.port"
-            | "destination.address"
-            | "destination.port"
-            | "connection.mtls"
-            | "connection.id"
-            | "connection.requested_server_name"
-            | "connection.tls_version"
-            | "connection.subject_peer_certificate"
-            | "connection.dns_san_peer_certificate"
-            | "connection.uri_san_peer_certificate"
-            | "direct_remote_ip"
-            | "remote_ip"
-            | "destination_ip"
-            | "request.scheme"
-    )
+    Fact::named(name).is_some()
 }
 
-fn text_at(alloc: Global, object: &Value, name: &str) -> Result<Option<RcStr>, FactsFault>
+fn text_at(alloc: Global, object: &Value, fact: Fact) -> Result<Option<RcStr>, FactsFault>
     ensures found { IfOk result
-        (λ text. Tells IsText (get name.now (view object.now)) (text_view text)) }
+        (λ text. Tells IsText (get (name_of fact) (view object.now)) (text_view text)) }
     ensures fault { IfErr result (λ e. e ≡ Bad
-        → (text : Option (List ℕ)) → ¬ Tells IsText (get name.now (view object.now)) text) }
+        → (text : Option (List ℕ)) → ¬ Tells IsText (get (name_of fact) (view object.now)) text) }
 {
-    let Some(value) = object.get(name) else {
+    match str_at(object, fact)? {
+        Some(text) => Ok(Some(RcStr::from_str(alloc, text)?)),
+        None => Ok(None),
+    }
+}
+
+fn str_at(object: &Value, fact: Fact) -> Result<Option<&str>, FactsFault>
+    ensures found { IfOk result
+        (λ text. Tells IsText (get (name_of fact) (view object.now)) (option_map (λ t. t.now) text)) }
+    ensures fault { IfErr result (λ e. (e ≡ Bad)
+        × ((text : Option (List ℕ)) → ¬ Tells IsText (get (name_of fact) (view object.now)) text)) }
+{
+    let Some(value) = object.get(fact.name()) else {
         return Ok(None);
     };
     match value.as_str() {
-        Some(text) => Ok(Some(RcStr::from_str(alloc, text)?)),
+        Some(text) => Ok(Some(text)),
         None => Err(FactsFault::Bad),
     }
 }
 
-fn number_at(object: &Value, name: &str) -> Result<Option<u64>, FactsFault>
-    ensures found { IfOk result (λ n. Tells IsNumber (get name.now (view object.now)) n) }
+fn number_at(object: &Value, fact: Fact) -> Result<Option<u64>, FactsFault>
+    ensures found { IfOk result (λ n. Tells IsNumber (get (name_of fact) (view object.now)) n) }
     ensures fault { IfErr result (λ e. (e ≡ Bad)
-        × ((n : Option ℕ) → ¬ Tells IsNumber (get name.now (view object.now)) n)) }
+        × ((n : Option ℕ) → ¬ Tells IsNumber (get (name_of fact) (view object.now)) n)) }
 {
-    let Some(value) = object.get(name) else {
+    let Some(value) = object.get(fact.name()) else {
         return Ok(None);
     };
     match value.as_u64() {
@@ -191,24 +299,24 @@ fn number_at(object: &Value, name: &str) -> Result<Option<u64>, FactsFault>
     }
 }
 
-fn port_at(object: &Value, name: &str) -> Result<Option<u16>, FactsFault>
-    ensures found { IfOk result (λ port. Tells IsPort (get name.now (view object.now)) port) }
+fn port_at(object: &Value, fact: Fact) -> Result<Option<u16>, FactsFault>
+    ensures found { IfOk result (λ port. Tells IsPort (get (name_of fact) (view object.now)) port) }
     ensures fault { IfErr result (λ e. (e ≡ Bad)
-        × ((port : Option ℕ) → ¬ Tells IsPort (get name.now (view object.now)) port)) }
+        × ((port : Option ℕ) → ¬ Tells IsPort (get (name_of fact) (view object.now)) port)) }
 {
-    match number_at(object, name)? {
+    match number_at(object, fact)? {
         None => Ok(None),
         Some(number) if number <= u16::MAX as u64 => Ok(Some(number as u16)),
         Some(_) => Err(FactsFault::Bad),
     }
 }
 
-fn answer_at(object: &Value, name: &str) -> Result<Option<bool>, FactsFault>
-    ensures found { IfOk result (λ b. Tells IsAnswer (get name.now (view object.now)) b) }
+fn answer_at(object: &Value, fact: Fact) -> Result<Option<bool>, FactsFault>
+    ensures found { IfOk result (λ b. Tells IsAnswer (get (name_of fact) (view object.now)) b) }
     ensures fault { IfErr result (λ e. (e ≡ Bad)
-        × ((b : Option Bool) → ¬ Tells IsAnswer (get name.now (view object.now)) b)) }
+        × ((b : Option Bool) → ¬ Tells IsAnswer (get (name_of fact) (view object.now)) b)) }
 {
-    let Some(value) = object.get(name) else {
+    let Some(value) = object.get(fact.name()) else {
         return Ok(None);
     };
     match value.as_bool() {
@@ -217,16 +325,13 @@ fn answer_at(object: &Value, name: &str) -> Result<Option<bool>, FactsFault>
     }
 }
 
-fn address_at(object: &Value, name: &str) -> Result<Option<Ip>, FactsFault>
-    ensures found { IfOk result (λ ip. Tells IsAddress (get name.now (view object.now)) ip) }
+fn address_at(object: &Value, fact: Fact) -> Result<Option<Ip>, FactsFault>
+    ensures found { IfOk result (λ ip. Tells IsAddress (get (name_of fact) (view object.now)) ip) }
     ensures fault { IfErr result (λ e. (e ≡ Bad)
-        × ((ip : Option Ip) → ¬ Tells IsAddress (get name.now (view object.now)) ip)) }
+        × ((ip : Option Ip) → ¬ Tells IsAddress (get (name_of fact) (view object.now)) ip)) }
 {
-    let Some(value) = object.get(name) else {
+    let Some(text) = str_at(object, fact)? else {
         return Ok(None);
-    };
-    let Some(text) = value.as_str() else {
-        return Err(FactsFault::Bad);
     };
     match parse_ip(text) {
         Some(ip) => Ok(Some(ip)),
@@ -234,12 +339,13 @@ fn address_at(object: &Value, name: &str) -> Result<Option<Ip>, FactsFault>
     }
 }
 
-fn scheme_of(alloc: Global, object: &Value) -> Result<RcStr, FactsFault>
-    ensures found { IfOk result (λ scheme. IsScheme (view object.now) (rc_str_bytes scheme)) }
+fn scheme_at(alloc: Global, object: &Value, fact: Fact) -> Result<RcStr, FactsFault>
+    ensures found { IfOk result
+        (λ scheme. IsScheme (get (name_of fact) (view object.now)) (rc_str_bytes scheme)) }
     ensures fault { IfErr result (λ e. e ≡ Bad
-        → (scheme : List ℕ) → ¬ IsScheme (view object.now) scheme) }
+        → (scheme : List ℕ) → ¬ IsScheme (get (name_of fact) (view object.now)) scheme) }
 {
-    match text_at(alloc, object, "request.scheme")? {
+    match text_at(alloc, object, fact)? {
         Some(scheme) => Ok(scheme),
         None => Ok(RcStr::from_str(alloc, "http")?),
     }
@@ -265,10 +371,10 @@ fn cause_of_bad_members(
 ) -> Result<String, AllocError> {
     for name in members.keys() {
         let name = name.as_str();
-        if !is_fact_name(name) {
+        let Some(fact) = Fact::named(name) else {
             return format!(in alloc; "no fact is named {name:?}");
-        }
-        if let Some(kind) = kind_that_lacks(object, name) {
+        };
+        if let Some(kind) = kind_that_lacks(object, fact) {
             return format!(in alloc; "the value of {name} is not {kind}");
         }
     }
@@ -276,24 +382,19 @@ fn cause_of_bad_members(
 }
 
 // What the value of a fact has to be, if it is not.
-fn kind_that_lacks(object: &Value, name: &str) -> Option<&'static str> {
-    let (is_right, kind) = match name {
-        "source.port" | "destination.port" => (
-            port_at(object, name).is_ok(),
+fn kind_that_lacks(object: &Value, fact: Fact) -> Option<&'static str> {
+    let (is_right, kind) = match fact {
+        Fact::SourcePort | Fact::DestinationPort => (
+            port_at(object, fact).is_ok(),
             "a whole number from 0 to 65535",
         ),
-        "connection.id" => (number_at(object, name).is_ok(), "a whole number below 2^64"),
-        "connection.mtls" => (answer_at(object, name).is_ok(), "true or false"),
-        "direct_remote_ip" | "remote_ip" | "destination_ip" => (
-            address_at(object, name).is_ok(),
+        Fact::ConnectionId => (number_at(object, fact).is_ok(), "a whole number below 2^64"),
+        Fact::ConnectionMtls => (answer_at(object, fact).is_ok(), "true or false"),
+        Fact::DirectRemoteIp | Fact::RemoteIp | Fact::DestinationIp => (
+            address_at(object, fact).is_ok(),
             "a text that spells an IP address",
         ),
-        _ => (
-            object
-                .get(name)
-                .is_some_and(|value| value.as_str().is_some()),
-            "a text",
-        ),
+        _ => (str_at(object, fact).is_ok(), "a text"),
     };
     if is_right { None } else { Some(kind) }
 }

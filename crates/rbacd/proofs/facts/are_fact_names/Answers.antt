@@ -29,12 +29,12 @@ one_unknown (m ∷ ms) zero below unknown named = unknown m.0 named.0
 one_unknown (m ∷ ms) (suc k) below unknown named = one_unknown ms k (omega arith) unknown named.1
 
 -- by either answer
-named-iff : (b : Bool) (ms : List (String Global × Value)) → MatchBool b (AllWithin IsKnown (names_of ms) 0 (length (names_of ms))) ((k : ℕ) × (k < length (names_of ms)) × HoldsAt IsUnknown (names_of ms) k) → IsTrue b ↔ AreNamed (members_view ms)
-named-iff true ms all = (λ _. all_known ms all, λ _. search rules)
-named-iff false ms some = (λ b. search rules, λ named. absurd (one_unknown ms some.0 some.1 some.2 named))
+named_iff : (b : Bool) (ms : List (String Global × Value)) → MatchBool b (AllWithin IsKnown (names_of ms) 0 (length (names_of ms))) ((k : ℕ) × (k < length (names_of ms)) × HoldsAt IsUnknown (names_of ms) k) → IsTrue b ↔ AreNamed (members_view ms)
+named_iff true ms all = (λ _. all_known ms all, λ _. search rules)
+named_iff false ms some = (λ b. search rules, λ named. absurd (one_unknown ms some.0 some.1 some.2 named))
 
 pub returns : goal.returns
 returns c =
-    named-iff c.all.result c.args.members.now.entries
+    named_iff c.all.result c.args.members.now.entries
     (cases_from_all _ _ c.all.result IsKnown IsUnknown c.all.ensures.ran
     (YieldsList-from_rest (keys c.args.members.now) c.keys.ensures.rest) (λ x q k. search (rules, tests)) (λ x q k. search (rules, tests)))

@@ -1,44 +1,16 @@
--- Each arm is one of the names.
-use Rattle.std.proofs.Common.{◌≡◌, ◌↔◌, ℕ, ◌<◌, List, IsTrue, true, get_or, lit<, rules, sym}
-use Rattle.rbacd.specs.Facts.{IsFactName, fact_names}
+-- A name is a fact's exactly where a fact is found under it.
+use Rattle.std.proofs.Common.{◌≡◌, ◌↔◌, ℕ, List, Option, Some, None, IsTrue, is_some, refl}
+use Rattle.rbacd.specs.Facts.{IsFactName, name_of}
+use Rattle.rbacd.specs.declared.facts.Fact.{Fact}
 use Rattle.rbacd.proofs.facts.is_fact_name.Goals as goal
 
--- the name at an index is a name
-named : (i : ℕ) (name : List ℕ) → i < 15 → get_or fact_names i name ≡ name → IsTrue true ↔ IsFactName name
-named i name below at = (λ _. record { known = (i, below, at) }, λ _. search rules)
+-- by what is found
+is_found : (name : List ℕ) (found : Option Fact)
+    → ((fact : Fact) → (found ≡ Some fact) ↔ (name ≡ name_of fact))
+    → IsTrue (is_some found) ↔ IsFactName name
+is_found name None exactly =
+    (λ never. cc, λ is. let clash : None ≡ Some is.0 = (exactly is.0).1 is.1 in cc)
+is_found name (Some fact) exactly = (λ _. (fact, (exactly fact).0 refl), λ _. refl)
 
-pub returns-in-text-3 : goal.returns-in-text-3
-returns-in-text-3 c = named 2 c.args.name.now (lit< tt) (sym c.in-text.is-text-3)
-
-pub returns-in-text-4 : goal.returns-in-text-4
-returns-in-text-4 c = named 3 c.args.name.now (lit< tt) (sym c.in-text.is-text-4)
-
-pub returns-in-text-5 : goal.returns-in-text-5
-returns-in-text-5 c = named 4 c.args.name.now (lit< tt) (sym c.in-text.is-text-5)
-
-pub returns-in-text-6 : goal.returns-in-text-6
-returns-in-text-6 c = named 5 c.args.name.now (lit< tt) (sym c.in-text.is-text-6)
-
-pub returns-in-text-7 : goal.returns-in-text-7
-returns-in-text-7 c = named 6 c.args.name.now (lit< tt) (sym c.in-text.is-text-7)
-
-pub returns-in-text-8 : goal.returns-in-text-8
-returns-in-text-8 c = named 7 c.args.name.now (lit< tt) (sym c.in-text.is-text-8)
-
-pub returns-in-text-9 : goal.returns-in-text-9
-returns-in-text-9 c = named 8 c.args.name.now (lit< tt) (sym c.in-text.is-text-9)
-
-pub returns-in-text-10 : goal.returns-in-text-10
-returns-in-text-10 c = named 9 c.args.name.now (lit< tt) (sym c.in-text.is-text-10)
-
-pub returns-in-text-11 : goal.returns-in-text-11
-returns-in-text-11 c = named 10 c.args.name.now (lit< tt) (sym c.in-text.is-text-11)
-
-pub returns-in-text-12 : goal.returns-in-text-12
-returns-in-text-12 c = named 11 c.args.name.now (lit< tt) (sym c.in-text.is-direct_remote_ip)
-
-pub returns-in-text-13 : goal.returns-in-text-13
-returns-in-text-13 c = named 12 c.args.name.now (lit< tt) (sym c.in-text.is-remote_ip)
-
-pub returns-in-text-14 : goal.returns-in-text-14
-returns-in-text-14 c = named 13 c.args.name.now (lit< tt) (sym c.in-text.is-destination_ip)
+pub returns : goal.returns
+returns c = rw c.is_some.ensures (is_found c.args.name.now c.named.result c.named.ensures)

@@ -1,7 +1,7 @@
 -- The scheme is the text of its name, or `http`.
 use Rattle.std.proofs.Common.{refl}
 use Rattle.std.proofs.lemmas.Result.{err_from_is_err_and}
-use Rattle.rbacd.proofs.facts.scheme_of.Goals as goal
+use Rattle.rbacd.proofs.facts.scheme_at.Goals as goal
 
 pub returns-in_err-scheme-clause-fault : goal.returns-in_err-scheme-clause-fault
 returns-in_err-scheme-clause-fault c =
