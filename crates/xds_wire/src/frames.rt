@@ -14,7 +14,8 @@ use std::collections::VecDeque;
 use std::marker::Model;
 
 /// Cuts a stream of frames into messages (gRPC over HTTP2, "Length-Prefixed-Message"), however its bytes come. What it
-/// keeps grows with the bytes that came, and not with the length that a head names.
+/// keeps grows with the bytes that came, and not with the length that a head names: a message that has not come whole takes
+/// less than eight times the room of what came of it.
 #[derive(Debug, Drop)]
 pub struct Frames {
     max: usize,

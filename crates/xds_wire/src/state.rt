@@ -1,6 +1,6 @@
 //! What is kept of the bytes behind whole frames, and how it goes on when further bytes come.
 
-ghost use Rattle.std.specs.Prelude.{◌≡◌, ◌++◌, ◌+◌, ◌<◌, ◌≤◌, ℕ, List, length, vec_len, IfOk, OnOk, OnErr, MatchBool};
+ghost use Rattle.std.specs.Prelude.{◌≡◌, ◌++◌, ◌+◌, ◌*◌, ◌<◌, ◌≤◌, ℕ, List, length, vec_len, IfOk, OnOk, OnErr, MatchBool};
 ghost use Rattle.xds_wire.specs.Frames.{head_of, IsLength, Cut};
 ghost use Rattle.xds_wire.specs.Stream.{Resumes, StaysPartial};
 ghost use Rattle.xds_wire.specs.steps.Pieces.{head_view, tail_view, IsState};
@@ -9,7 +9,7 @@ use crate::cut::{Piece, cut_frame};
 use crate::fault::FrameFault;
 use crate::head::{HEAD, Head};
 use crate::message::Message;
-use std::alloc::AllocError;
+use std::alloc::{AllocError, Global};
 use std::collections::VecDeque;
 use std::mem;
 
@@ -33,6 +33,55 @@ pub(crate) struct Data {
     pub(crate) bytes: Vec<u8>,
 }
 
+impl Data {
+    /// A head that names this length, and the part of its message.
+    fn begin(alloc: Global, length: usize, part: &[u8]) -> Result<Data, AllocError>
+        ensures length { IfOk result (λ kept. kept.length ≡ length) }
+        ensures bytes { IfOk result (λ kept. kept.bytes.items ≡ part.now) }
+    {
+        let mut bytes = Vec::with_capacity(alloc, room(length, part.len()))?;
+        bytes.extend_from_slice(part)?;
+        Ok(Data { length, bytes })
+    }
+
+    /// Appends bytes, no more than the message lacks.
+    fn append(&mut self, bytes: &[u8]) -> Result<(), AllocError>
+        requires { vec_len self.old.bytes + length bytes.now ≤ self.old.length }
+        ensures length { self.new.length ≡ self.old.length }
+        ensures found { OnOk result (self.new.bytes.items ≡ self.old.bytes.items ++ bytes.now) }
+        ensures fault { OnErr result (self.new.bytes.items ≡ self.old.bytes.items) }
+    {
+        let count = self.bytes.len();
+        if room(self.length, count + bytes.len()) == self.length {
+            self.bytes.reserve_exact(self.length - count)?;
+        }
+        self.bytes.extend_from_slice(bytes)
+    }
+
+    /// The same once more.
+    fn copy(&self) -> Result<Data, AllocError>
+        ensures length { IfOk result (λ copy. copy.length ≡ self.now.length) }
+        ensures bytes { IfOk result (λ copy. copy.bytes.items ≡ self.now.bytes.items) }
+    {
+        Data::begin(*self.bytes.allocator(), self.length, &self.bytes)
+    }
+}
+
+/// Room is taken for fewer than so many times the bytes that came.
+const MOST_TIMES: usize = 8;
+
+/// For how many bytes of a message of this length room is taken where so many are there: for all of them once more than an
+/// eighth is there, so that these are not copied again, and else for those alone.
+fn room(length: usize, count: usize) -> usize
+    ensures whole { length < 8 * count → result ≡ length }
+    ensures part { 8 * count ≤ length → result ≡ count }
+{
+    if length / MOST_TIMES < count {
+        return length;
+    }
+    count
+}
+
 /// A state that stands for the same.
 pub(crate) fn copy_state(state: &State) -> Result<State, AllocError>
     ensures same { IfOk result (λ copy. tail_view copy ≡ tail_view state.now) }
@@ -40,10 +89,7 @@ pub(crate) fn copy_state(state: &State) -> Result<State, AllocError>
 {
     match state {
         State::Head(head) => Ok(State::Head(*head)),
-        State::Data(kept) => Ok(State::Data(Data {
-            length: kept.length,
-            bytes: kept.bytes.clone()?,
-        })),
+        State::Data(kept) => Ok(State::Data(kept.copy()?)),
         State::Broken(fault) => Ok(State::Broken(*fault)),
     }
 }
@@ -89,7 +135,7 @@ pub(crate) fn resume(
             *state = next;
         }
         State::Data(kept) if bytes.len() < kept.length - kept.bytes.len() => {
-            kept.bytes.extend_from_slice(bytes)?;
+            kept.append(bytes)?;
         }
         State::Data(kept) => {
             let next = finish(messages, kept, bytes, max)?;
@@ -123,7 +169,7 @@ fn finish(
     let place = messages.len();
     messages.push_back(Message::new(Vec::new(alloc)))?;
     let state = cut_frames(messages, Head::empty(), behind, max)?;
-    kept.bytes.extend_from_slice(own)?;
+    kept.append(own)?;
     let whole = mem::replace(&mut kept.bytes, Vec::new(alloc));
     messages[place] = Message::new(whole);
     Ok(state)
@@ -152,8 +198,8 @@ fn cut_frames(
             Piece::Head(head) => return Ok(State::Head(head)),
             Piece::Broken(fault) => return Ok(State::Broken(fault)),
             Piece::Part(length, part) => {
-                let bytes = Vec::from_slice(alloc, part)?;
-                return Ok(State::Data(Data { length, bytes }));
+                let kept = Data::begin(alloc, length, part)?;
+                return Ok(State::Data(kept));
             }
             Piece::Whole(message, behind) => {
                 messages.push_back(Message::new(Vec::from_slice(alloc, message)?))?;

@@ -1,5 +1,7 @@
 //! Worked cases of the client: what it answers, and what it has accepted then.
-use super::making::{answers, client_of, client_with, policies, refuses, resource, response};
+use super::making::{
+    answers, client_of, client_with, half_bad, policies, refuses, resource, response, shown,
+};
 use super::vectors::{ANY_ANY, FIRST_ACK, HALF_BAD_NACK, RESUMED_REQUEST, joined};
 use std::alloc::Global;
 use std::process::Abort;
@@ -7,13 +9,6 @@ use std::test::Fail;
 
 /// A filter without policies.
 const NO_POLICIES: &[u8] = b"\x0a\x00";
-
-/// A response that gives `f` a filter, and `g` one with an unknown field.
-fn half_bad(alloc: Global) -> Result<Vec<u8>, Fail> {
-    let good = resource(alloc, "f", NO_POLICIES)?;
-    let bad = resource(alloc, "g", b"\x22\x00")?;
-    response(alloc, "2", "n2", &[&good, &bad])
-}
 
 #[test]
 fn half_bad_nack(rt: HostRuntime) -> Result<(), Fail> {
@@ -28,7 +23,9 @@ fn half_bad_response(rt: HostRuntime) -> Result<(), Fail> {
     let alloc = rt.alloc();
     let mut client = client_with(alloc, &["f", "g"], ANY_ANY)?;
     let generation = client.generation();
+    let before = shown(alloc, &client)?;
     client.feed(&half_bad(alloc)?)?;
+    assert!(rt; shown(alloc, &client)? == before);
     assert_eq!(rt; policies(&client, "f"), Some(1));
     assert_eq!(rt; policies(&client, "g"), Some(1));
     assert_eq!(rt; client.generation(), generation);

@@ -1,5 +1,5 @@
 //! Configurations and their faults.
-use super::making::config_of;
+use super::making::{config_of, long_text};
 use crate::ConfigFault;
 use std::test::Fail;
 
@@ -28,21 +28,12 @@ fn faults(rt: HostRuntime) -> Result<(), Fail> {
     Ok(())
 }
 
-/// A text of so many bytes.
-fn long(alloc: std::alloc::Global, count: usize) -> Result<String, Fail> {
-    let mut text = String::new(alloc);
-    for _ in 0..count {
-        text.push('a')?;
-    }
-    Ok(text)
-}
-
 #[test]
 fn long_names(rt: HostRuntime) -> Result<(), Fail> {
     let alloc = rt.alloc();
-    let fits = long(alloc, 256)?;
+    let fits = long_text(alloc, 256)?;
     assert!(rt; config_of(alloc, &fits, &[&fits], 100_000_000)?.is_ok());
-    let more = long(alloc, 257)?;
+    let more = long_text(alloc, 257)?;
     assert_eq!(rt;
         config_of(alloc, "n", &[&more], 1)?.err(),
         Some(ConfigFault::BadName)

@@ -20,7 +20,7 @@ const FIRST: &[&[u8]] = &[
 ];
 
 /// Its acknowledgement.
-const ACK: &[&[u8]] = &[
+pub const ACK: &[&[u8]] = &[
     b"\x00\x00\x00\x00\x48\x0a\x01\x31\x1a\x01\x66\x22\x3d",
     U,
     b"\x2a\x01\x31",
@@ -53,7 +53,7 @@ const SECOND_AGAIN: &[&[u8]] = &[
 ];
 
 /// Its refusal after version `1`, with an error of no bytes.
-const NACK: &[&[u8]] = &[
+pub const NACK: &[&[u8]] = &[
     b"\x00\x00\x00\x00\x4a\x0a\x01\x31\x1a\x01\x66\x22\x3d",
     U,
     b"\x2a\x01\x33\x32\x00",
@@ -128,6 +128,7 @@ const SECOND_ACK: &[&[u8]] = &[
     b"\x2a\x012",
 ];
 
+/// The acknowledgement of the last snapshot changes nothing when it is repeated.
 #[test]
 fn ignores_other_nonces(rt: HostRuntime) -> Result<(), Fail> {
     let alloc = rt.alloc();
@@ -136,7 +137,9 @@ fn ignores_other_nonces(rt: HostRuntime) -> Result<(), Fail> {
         sends(&rt, alloc, &mut control, answer, &[])?;
         assert_eq!(rt; control.acknowledged(), Some(1));
     }
-    sends(&rt, alloc, &mut control, SECOND_ACK, &[])?;
-    assert_eq!(rt; control.acknowledged(), Some(2));
+    for _ in 0..2 {
+        sends(&rt, alloc, &mut control, SECOND_ACK, &[])?;
+        assert_eq!(rt; control.acknowledged(), Some(2));
+    }
     Ok(())
 }

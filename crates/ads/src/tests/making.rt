@@ -33,6 +33,15 @@ pub fn client_of(alloc: Global, names: &[&str]) -> Result<Client, Fail> {
     Ok(Client::new(alloc, &config)?)
 }
 
+/// A text of so many bytes.
+pub fn long_text(alloc: Global, count: usize) -> Result<String, Fail> {
+    let mut text = String::new(alloc);
+    for _ in 0..count {
+        text.push('a')?;
+    }
+    Ok(text)
+}
+
 /// The resource that gives a name this filter.
 pub fn resource(alloc: Global, name: &str, filter: &[u8]) -> Result<Vec<u8>, Fail> {
     let extension = TypedExtensionConfig {
@@ -75,6 +84,18 @@ pub fn response(
     let mut frame = Vec::new(alloc);
     write_frame(&message, &mut frame)?;
     Ok(frame)
+}
+
+/// A response that gives `f` a filter without policies, and `g` one with an unknown field.
+pub fn half_bad(alloc: Global) -> Result<Vec<u8>, Fail> {
+    let good = resource(alloc, "f", b"\x0a\x00")?;
+    let bad = resource(alloc, "g", b"\x22\x00")?;
+    response(alloc, "2", "n2", &[&good, &bad])
+}
+
+/// All that the client is: its configuration, its stream, and what it has accepted.
+pub fn shown(alloc: Global, client: &Client) -> Result<String, Fail> {
+    Ok(format!(in alloc; "{client:?}")?)
 }
 
 /// How many policies the filter of this name has.
@@ -131,7 +152,9 @@ pub fn refuses(rt: &impl Abort, alloc: Global, response: &[u8], number: &[u8]) -
         TWO_DIGITS
     };
     let nack: &[&[u8]] = &[head, U, status, b"policy refused: ", number];
+    let before = shown(alloc, &client)?;
     answers(rt, alloc, &mut client, response, nack)?;
+    assert!(rt; shown(alloc, &client)? == before);
     assert_eq!(rt; policies(&client, "f"), Some(1));
     assert_eq!(rt; client.generation(), 1);
     client.lost();

@@ -54,3 +54,13 @@ pub fn joined(alloc: Global, pieces: &[&[u8]]) -> Result<Vec<u8>, AllocError> {
     }
     Ok(bytes)
 }
+
+/// The bytes from this place on, none past the end.
+pub fn behind(bytes: &[u8], place: usize) -> &[u8] {
+    bytes.get(place..).unwrap_or(&[])
+}
+
+/// The bytes before this place, all of them past the end.
+pub fn before(bytes: &[u8], place: usize) -> &[u8] {
+    bytes.get(..place).unwrap_or(bytes)
+}

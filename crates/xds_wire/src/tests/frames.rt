@@ -143,3 +143,25 @@ fn a_long_message_byte_by_byte(rt: HostRuntime) -> Result<(), Fail> {
     gives(&rt, &mut frames, &[behind(&frame, 5)]);
     Ok(())
 }
+
+/// Lengths of pieces: beside an eighth of the message, from which on there is room for all of it.
+const PIECES: [usize; 7] = [1_000, 4_096, 16_384, 24_999, 25_000, 25_001, 199_999];
+
+#[test]
+fn a_long_message_in_pieces(rt: HostRuntime) -> Result<(), Fail> {
+    let alloc = rt.alloc();
+    let frame = frame_of(alloc, 200_000)?;
+    for piece in &PIECES {
+        let mut frames = Frames::new(alloc, LIMIT);
+        let mut rest = frame.as_slice();
+        while !rest.is_empty() {
+            frames.feed(before(rest, *piece))?;
+            rest = behind(rest, *piece);
+            let mut copy = frames.copy()?;
+            copy.feed(rest)?;
+            gives(&rt, &mut copy, &[behind(&frame, 5)]);
+        }
+        gives(&rt, &mut frames, &[behind(&frame, 5)]);
+    }
+    Ok(())
+}

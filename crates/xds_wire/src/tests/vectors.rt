@@ -9,9 +9,10 @@ pub const EXTENSION_TYPE: &str = "type.googleapis.com/envoy.config.core.v3.Typed
 /// The type of the filter in a resource.
 pub const FILTER_TYPE: &str = "type.googleapis.com/envoy.extensions.filters.http.rbac.v3.RBAC";
 
-const U: &[u8] = b"type.googleapis.com/envoy.config.core.v3.TypedExtensionConfig";
+/// The bytes of both.
+pub const U: &[u8] = b"type.googleapis.com/envoy.config.core.v3.TypedExtensionConfig";
 
-const R: &[u8] = b"type.googleapis.com/envoy.extensions.filters.http.rbac.v3.RBAC";
+pub const R: &[u8] = b"type.googleapis.com/envoy.extensions.filters.http.rbac.v3.RBAC";
 
 /// A filter with the condition `true && true`.
 pub const TRUE_AND_TRUE: &[u8] =

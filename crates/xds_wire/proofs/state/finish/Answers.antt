@@ -15,11 +15,11 @@ returns-clause-found c =
     let whole : List ℕ = part ++ own in
     let n = c.args.kept.now.length in
     let is : c.new-4.result ≡ whole =
-    c.new-4.ensures ∙ ap (λ v. v.items) c.replace-whole.ensures.value ∙ c.in_ok-extend_from_slice.ensures.items in
+    c.new-4.ensures ∙ ap (λ v. v.items) c.replace-whole.ensures.value ∙ c.in_ok-append.ensures.found in
     let joined : own ++ behind ≡ c.args.bytes.now =
     ap₂ (λ (x y : List ℕ). x ++ y) c.split_at.ensures.front c.split_at.ensures.back
     ∙ take-append-drop _ c.args.bytes.now in
-    let long : length whole ≡ n = omega (arith, length-append part own, c.split_at.ensures.front_len, c.in_ok-extend_from_slice.ensures.len) in
+    let long : length whole ≡ n = omega (arith, length-append part own, c.split_at.ensures.front_len, ap length c.in_ok-append.ensures.found) in
     let bytes : part ++ c.args.bytes.now ≡ whole ++ behind =
     ap (λ t. part ++ t) (sym joined) ∙ sym (append_assoc part own behind) in
     let cut : Cut behind c.args.max found.0 (tail_view c.in_ok-state.state) =

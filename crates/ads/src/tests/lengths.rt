@@ -1,0 +1,106 @@
+//! Long texts, the longest message, and many messages without bytes, at a client.
+use super::making::{answers, client_of, client_with, long_text, policies, response};
+use super::vectors::{ANY_ANY, RESUMED_REQUEST, U, joined};
+use std::alloc::Global;
+use std::process::Abort;
+use std::test::Fail;
+
+/// A client gets the response whole, and then byte by byte on another stream, and sends this answer to both.
+fn is_acknowledged(
+    rt: &impl Abort,
+    alloc: Global,
+    response: &[u8],
+    ack: &[&[u8]],
+) -> Result<(), Fail> {
+    let mut client = client_of(alloc, &["f"])?;
+    client.connected()?;
+    answers(rt, alloc, &mut client, response, ack)?;
+    client.connected()?;
+    if let Some((last, bytes)) = response.split_last() {
+        for byte in bytes {
+            answers(rt, alloc, &mut client, &[*byte], &[])?;
+        }
+        answers(rt, alloc, &mut client, &[*last], ack)?;
+    }
+    Ok(())
+}
+
+#[test]
+fn a_long_version(rt: HostRuntime) -> Result<(), Fail> {
+    let alloc = rt.alloc();
+    let version = long_text(alloc, 65_536)?;
+    let long = response(alloc, &version, "n1", &[])?;
+    let ack: &[&[u8]] = &[
+        b"\x00\x00\x01\x00\x4a\x0a\x80\x80\x04",
+        version.as_bytes(),
+        b"\x1a\x01f\x22\x3d",
+        U,
+        b"\x2a\x02n1",
+    ];
+    is_acknowledged(&rt, alloc, &long, ack)
+}
+
+#[test]
+fn a_long_nonce(rt: HostRuntime) -> Result<(), Fail> {
+    let alloc = rt.alloc();
+    let nonce = long_text(alloc, 65_536)?;
+    let long = response(alloc, "1", &nonce, &[])?;
+    let ack: &[&[u8]] = &[
+        b"\x00\x00\x01\x00\x49\x0a\x011\x1a\x01f\x22\x3d",
+        U,
+        b"\x2a\x80\x80\x04",
+        nonce.as_bytes(),
+    ];
+    is_acknowledged(&rt, alloc, &long, ack)
+}
+
+/// A response of 1,048,576 bytes, and one of a byte more.
+#[test]
+fn the_longest_response(rt: HostRuntime) -> Result<(), Fail> {
+    let alloc = rt.alloc();
+    let mut client = client_of(alloc, &["f"])?;
+    client.connected()?;
+    let version = long_text(alloc, 1_048_505)?;
+    let longest = response(alloc, &version, "n1", &[])?;
+    let ack: &[&[u8]] = &[
+        b"\x00\x00\x10\x00\x03\x0a\xb9\xff\x3f",
+        version.as_bytes(),
+        b"\x1a\x01f\x22\x3d",
+        U,
+        b"\x2a\x02n1",
+    ];
+    answers(&rt, alloc, &mut client, &longest, ack)?;
+    let longer = response(alloc, &version, "n12", &[])?;
+    let fed = client.feed(&longer)?;
+    assert!(rt; fed.broken && fed.replies.is_empty());
+    assert_eq!(rt; client.generation(), 1);
+    Ok(())
+}
+
+/// The refusal of a response without bytes, after version `1`.
+const EMPTY_REFUSED: &[&[u8]] = &[
+    b"\x00\x00\x00\x00\x5d\x0a\x011\x1a\x01f\x22\x3d",
+    U,
+    b"\x32\x16\x08\x03\x12\x12policy refused: 17",
+];
+
+/// How many bytes it has.
+const REFUSAL_LENGTH: usize = 98;
+
+#[test]
+fn many_empty_responses(rt: HostRuntime) -> Result<(), Fail> {
+    let alloc = rt.alloc();
+    let mut client = client_with(alloc, &["f"], ANY_ANY)?;
+    let empty = vec![in alloc; 0u8; 50_000]?;
+    let fed = client.feed(&empty)?;
+    assert!(rt; !fed.broken);
+    assert_eq!(rt; fed.replies.len(), 10_000 * REFUSAL_LENGTH);
+    let refusal = joined(alloc, EMPTY_REFUSED)?;
+    for reply in fed.replies.chunks(REFUSAL_LENGTH) {
+        assert!(rt; reply == refusal.as_slice());
+    }
+    assert_eq!(rt; policies(&client, "f"), Some(1));
+    assert_eq!(rt; client.generation(), 1);
+    assert!(rt; client.connected()? == joined(alloc, RESUMED_REQUEST)?);
+    Ok(())
+}

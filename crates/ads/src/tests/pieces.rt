@@ -1,0 +1,137 @@
+//! Streams of both ends, cut at two places: what comes out is what comes out at once. Short ones are cut at each two places,
+//! longer ones at each two of some.
+use super::control::{ACK, NACK};
+use super::making::{client_of, control_of, half_bad, resource, response};
+use super::vectors::{
+    ANY_ANY, FIRST_ACK, FIRST_REQUEST, HALF_BAD_NACK, RESUMED_REQUEST, TRUE_AND_TRUE, before,
+    behind, joined,
+};
+use crate::{Client, Control};
+use std::alloc::Global;
+use std::process::Abort;
+use std::test::Fail;
+
+/// How long a stream is that is cut at each place.
+const SHORT: usize = 110;
+
+/// The places where a stream of this length is cut: all in the first head, and each or each fifth behind it.
+fn places(alloc: Global, length: usize) -> Result<Vec<usize>, Fail> {
+    let mut places = Vec::new(alloc);
+    for place in 0..=length {
+        if length <= SHORT || place <= 6 || place % 5 == 0 || place == length {
+            places.push(place)?;
+        }
+    }
+    Ok(places)
+}
+
+/// A new stream of the client gives the bytes in three pieces: all that it answers.
+fn answered(
+    rt: &impl Abort,
+    alloc: Global,
+    client: &mut Client,
+    bytes: &[u8],
+    (first, second): (usize, usize),
+) -> Result<Vec<u8>, Fail> {
+    client.connected()?;
+    let mut replies = Vec::new(alloc);
+    let (front, back) = (before(bytes, second), behind(bytes, second));
+    for piece in &[before(front, first), behind(front, first), back] {
+        let fed = client.feed(piece)?;
+        assert!(rt; !fed.broken);
+        replies.extend_from_slice(&fed.replies)?;
+    }
+    Ok(replies)
+}
+
+/// Wherever the bytes are cut, a client answers them alike.
+fn answers_alike(rt: &impl Abort, alloc: Global, bytes: &[u8]) -> Result<(), Fail> {
+    let mut client = client_of(alloc, &["f", "g"])?;
+    let length = bytes.len();
+    answered(rt, alloc, &mut client, bytes, (0, length))?;
+    let at_once = answered(rt, alloc, &mut client, bytes, (0, length))?;
+    assert!(rt; !at_once.is_empty());
+    let places = places(alloc, length)?;
+    for first in &places {
+        for second in &places {
+            if first <= second {
+                let replies = answered(rt, alloc, &mut client, bytes, (*first, *second))?;
+                assert!(rt; replies == at_once);
+            }
+        }
+    }
+    Ok(())
+}
+
+#[test]
+fn responses(rt: HostRuntime) -> Result<(), Fail> {
+    let alloc = rt.alloc();
+    let filter = resource(alloc, "f", TRUE_AND_TRUE)?;
+    let first = response(alloc, "1", "n1", &[&filter])?;
+    assert_eq!(rt; first.len(), 261);
+    answers_alike(&rt, alloc, &first)?;
+    answers_alike(&rt, alloc, &half_bad(alloc)?)
+}
+
+/// The requests as responses.
+#[test]
+fn requests_as_responses(rt: HostRuntime) -> Result<(), Fail> {
+    let alloc = rt.alloc();
+    for pieces in &[FIRST_REQUEST, FIRST_ACK, HALF_BAD_NACK, RESUMED_REQUEST] {
+        answers_alike(&rt, alloc, &joined(alloc, pieces)?)?;
+    }
+    Ok(())
+}
+
+/// A control plane gets the bytes in three pieces: all that it sends.
+fn sent(
+    rt: &impl Abort,
+    alloc: Global,
+    control: &mut Control,
+    bytes: &[u8],
+    (first, second): (usize, usize),
+) -> Result<Vec<u8>, Fail> {
+    let mut replies = Vec::new(alloc);
+    let (front, back) = (before(bytes, second), behind(bytes, second));
+    for piece in &[before(front, first), behind(front, first), back] {
+        let fed = control.feed(piece)?;
+        assert!(rt; !fed.broken);
+        replies.extend_from_slice(&fed.replies)?;
+    }
+    Ok(replies)
+}
+
+/// Requests of a stream, and the number that they acknowledge.
+const STREAMS: [(&[&[&[u8]]], Option<u64>); 5] = [
+    (&[FIRST_REQUEST], None),
+    (&[RESUMED_REQUEST], None),
+    (&[FIRST_ACK], None),
+    (&[FIRST_REQUEST, ACK], Some(1)),
+    (&[RESUMED_REQUEST, NACK], None),
+];
+
+#[test]
+fn requests(rt: HostRuntime) -> Result<(), Fail> {
+    let alloc = rt.alloc();
+    for (requests, number) in &STREAMS {
+        let mut bytes = Vec::new(alloc);
+        for pieces in *requests {
+            bytes.extend_from_slice(&joined(alloc, pieces)?)?;
+        }
+        let length = bytes.len();
+        let mut whole = control_of(alloc, "f", &[TRUE_AND_TRUE, ANY_ANY])?;
+        let at_once = sent(&rt, alloc, &mut whole, &bytes, (0, length))?;
+        let places = places(alloc, length)?;
+        for first in &places {
+            for second in &places {
+                if first <= second {
+                    let mut control = control_of(alloc, "f", &[TRUE_AND_TRUE, ANY_ANY])?;
+                    let cut = (*first, *second);
+                    assert!(rt; sent(&rt, alloc, &mut control, &bytes, cut)? == at_once);
+                    assert_eq!(rt; control.acknowledged(), *number);
+                }
+            }
+        }
+    }
+    Ok(())
+}
