@@ -42,7 +42,7 @@ use Rattle.rbac_policy.specs.declared.filter.Action.{Action}
 use Rattle.rbac_policy.specs.declared.filter.Action.TheVariants.{Allow, Deny, Log}
 use Rattle.rbac_policy.specs.steps.Conditions.{IsEnforced}
 use Rattle.rbac_policy.proofs.Besides.{Beside, beside_map, in_a_row}
-use Rattle.rbac_policy.proofs.Enforcing.{all_cost, apart, cost_most, enforced_beside, filter_enforced}
+use Rattle.rbac_policy.proofs.Enforcing.{all_cost, apart, cost_most, enforced_beside, enforced_costs, enforced_there, filter_enforced}
 use Rattle.rbac_policy.proofs.Programs.{nothing_read}
 
 -- payloads are a policy or have a fault
@@ -291,7 +291,15 @@ module _ (limits : LimitsValue) where
   bytes_total bytes budget = elim (filter_total bytes) [
     | inr bad ↦ inr (bad.0, in_message bad.1)
     | inl (filter, enforced, is, enforces) ↦ elim (cases_lt budget (total_bound enforced)) [
-      | inr cheap ↦ inl (filter, enforced, record { message = is; enforces = enforces; cheap = cheap })
+      | inr cheap ↦ inl (
+        filter,
+        record {
+          message = is;
+          cost = total_bound enforced;
+          costs = enforced_costs limits filter enforced enforces;
+          cheap = cheap;
+        },
+      )
       | inl more ↦
           let listed = listed_in bytes filter enforced is enforces in
           let ns : List (Entry text) = entries (map_of text is.rules.entries) in
@@ -358,12 +366,16 @@ module _ (limits : LimitsValue) where
   -- admissible bytes have no fault
   pub bytes_disjoint : (e : Refusal) (bytes : List ℕ) (budget : ℕ) → Admissible bytes limits budget
       → Fault e bytes limits budget → ⊥
-  bytes_disjoint e bytes budget (filter, enforced, is) (in_message bad) = filter_disjoint bytes filter enforced e is.message is.enforces bad
-  bytes_disjoint e bytes budget (filter, enforced, is) (too_costly policies cost holds costs above at) =
-      let listed = listed_in bytes filter enforced is.message is.enforces in
+  bytes_disjoint e bytes budget (filter, is) (in_message bad) =
+      let there = enforced_there limits filter is.cost is.costs in
+      filter_disjoint bytes filter there.0 e is.message there.1 bad
+  bytes_disjoint e bytes budget (filter, is) (too_costly policies cost holds costs above at) =
+      let there = enforced_there limits filter is.cost is.costs in
+      let listed = listed_in bytes filter there.0 is.message there.1 in
       let same = policies_are bytes filter is.message policies holds in
       let most : cost ≤ bounds_of listed.0 =
       cost_most limits (entries (map_of text is.message.rules.entries)) listed.0 cost listed.1 (subst (λ ns. SomeCost limits ns cost) same costs) in
-      let cheap : total_bound enforced ≤ budget = is.cheap in
-      let sum : total_bound enforced ≡ bounds_of listed.0 = listed.2 in
-      absurd (omega (arith, most, cheap, above, sum))
+      let cheap : is.cost ≤ budget = is.cheap in
+      let own : total_bound there.0 ≡ is.cost = there.2 in
+      let sum : total_bound there.0 ≡ bounds_of listed.0 = listed.2 in
+      absurd (omega (arith, most, cheap, above, own, sum))

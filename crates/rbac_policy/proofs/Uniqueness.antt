@@ -88,5 +88,5 @@ pub admits_unique : (bytes : List ℕ) (limits : LimitsValue) (budget : ℕ) (f 
     (g g' : Filter Program) → Admits bytes limits budget f g → Admits bytes limits budget f' g'
     → (f ≡ f') × (g ≡ g')
 admits_unique bytes limits budget f f' g g' a b =
-    let same : f ≡ f' = filter_unique bytes f f' a.message b.message in
+    let same : f ≡ f' = filter_unique bytes f f' a.admissible.message b.admissible.message in
     (same, enforces_unique limits f' g g' (subst (λ x. Enforces limits x g) same a.enforces) b.enforces)

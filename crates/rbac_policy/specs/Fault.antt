@@ -14,7 +14,7 @@ use Rattle.cel_tree.specs.Checked.{CelChecked}
 use Rattle.cel_tree.specs.Message.{CheckedFault, IsChecked}
 use Rattle.cel_types.specs.Typing.{IsTyped}
 use Rattle.cel_types.specs.TypingFaults.{CheckFault}
-use Rattle.rbac_policy.specs.Condition.{IsProgramOf, Program}
+use Rattle.rbac_policy.specs.Costs.{Costs}
 use Rattle.rbac_match.specs.Rules.{SomeRuleFault}
 use Rattle.rbac_match.specs.declared.rule.Side.TheVariants.{Permission, Principal}
 use Rattle.rbac_policy.specs.Keys.{filter_keys, rules_keys, policy_keys, rules_field, policies_field, audit_logging_options_field, permissions_field, principals_field, condition_field, checked_condition_field}
@@ -86,5 +86,5 @@ pub record HoldsPolicies (bytes : List ℕ) (policies : List (Entry text)) : Typ
 abbrev pub SomeCost : LimitsValue → List (Entry text) → ℕ → Type 0
 SomeCost limits [] cost = cost ≡ 0
 SomeCost limits ((name, parts) ∷ others) cost = SomeCost limits others cost
-    ⊎ ((condition : CelChecked) × (program : Program) × (rest : ℕ) × PolicyHas parts condition
-    × IsProgramOf limits condition program × SomeCost limits others rest × (cost ≡ program.bound + rest))
+    ⊎ ((condition : CelChecked) × (own rest : ℕ) × PolicyHas parts condition
+    × Costs limits condition own × SomeCost limits others rest × (cost ≡ own + rest))

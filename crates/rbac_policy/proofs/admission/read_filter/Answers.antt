@@ -17,6 +17,7 @@ use Rattle.rbac_policy.specs.Enforced.{Enforces, total_bound}
 use Rattle.rbac_policy.specs.Filter.{Filter}
 use Rattle.rbac_policy.specs.Message.{AreFilterRules}
 use Rattle.rbac_policy.specs.steps.Conditions.{ConditionsFault}
+use Rattle.rbac_policy.proofs.Enforcing.{enforced_costs}
 use Rattle.rbac_policy.proofs.Spending.{both_ok}
 use Rattle.rbac_policy.specs.Fault.{FilterFault, HoldsPolicies, RulesFault, filter_fields, no_rules, rules_fields, in_rules}
 use Rattle.rbac_policy.proofs.admission.read_filter.Goals as goal
@@ -94,8 +95,12 @@ returns-clause-found c =
     (λ rules (filter, are, enforces) cheap. (
       filter,
       record {
-        message = record { top = top; fs = fs; message = message; there = there; inner = inner; rules = are };
+        admissible = record {
+          message = record { top = top; fs = fs; message = message; there = there; inner = inner; rules = are };
+          cost = total_bound (rules_view rules);
+          costs = enforced_costs c.args.limits.now filter (rules_view rules) enforces;
+          cheap = cheap;
+        };
         enforces = enforces;
-        cheap = cheap;
       },
     ))
