@@ -6,7 +6,7 @@ use crate::numbers::{PERMISSIONS, POLICIES, PRINCIPALS, RULES};
 use crate::policy::{read_checked, read_policy};
 use attributes::Limits;
 use proto_wire::{Field, Refusal, payloads_of, read_entries, read_fields, read_parts};
-use rbac_match::{RULE_DEPTH, Side, read_rules};
+use rbac_match::{RULE_DEPTH, Side, read_rule};
 use std::alloc::Global;
 use std::collections::BTreeMap;
 
@@ -153,5 +153,5 @@ fn index_at_fault(
     depth: u32,
     refusal: Refusal,
 ) -> Option<usize> {
-    rules.iter().position(|rule| read_rules(alloc, side, &[*rule], depth).err() == Some(refusal))
+    rules.iter().position(|rule| read_rule(alloc, side, &[*rule], depth).err() == Some(refusal))
 }

@@ -177,6 +177,5 @@ fn read_side(
     ensures fault { IfErr result (MemoryOr
         (SomeRuleFault side rule_depth (payloads number (map field_view fields.now)))) }
 {
-    let rules = payloads_of(alloc, fields, number)?;
-    read_rules(alloc, side, &rules, RULE_DEPTH)
+    read_rules(alloc, side, fields, number, RULE_DEPTH)
 }
