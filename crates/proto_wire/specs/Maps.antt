@@ -8,8 +8,7 @@ use Rattle.std.specs.Cmp.Lexicographic.{slice_cmp}
 use Rattle.std.specs.List.{AllZip}
 use Rattle.std.specs.FinMap.{FinMap, get, find, from_entries}
 use Rattle.std.specs.declared.cmp.Ordering.{Ordering}
-use Rattle.std.specs.declared.vec.Vec.{Vec}
-use Rattle.std.specs.declared.alloc.Global.{Global}
+use Rattle.smallvec.specs.SmallVec.{SmallVec}
 use Rattle.proto_wire.specs.Fields.{Wire}
 use Rattle.proto_wire.specs.Keys.{len_key, varint_key}
 use Rattle.proto_wire.specs.Merge.{Merges, parts_view}
@@ -110,5 +109,5 @@ SomeValueFault kind ValueFault entries e = (key : KeyOf kind) × (parts : List (
 
 -- the keys and payloads of a map from keys to payloads, in order
 abbrev pub entries_view : {K : Type 0} (kind : KeyKind) → (K → KeyOf kind)
-    → List (K × Vec (Bor (List ℕ)) Global) → List (Entry kind)
+    → List (K × SmallVec (Bor (List ℕ))) → List (Entry kind)
 entries_view kind key_view es = map (λ e. (key_view e.0, parts_view e.1.items)) es
