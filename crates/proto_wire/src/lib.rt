@@ -24,8 +24,8 @@ pub use oneof::{MemberRun, last_member, member_run};
 pub use reader::Reader;
 pub use refusal::Refusal;
 pub use values::{
-    Payloads, bool_at, bytes_at, has_field, int32_at, int64_at, last_len, last_varint, payloads_of, text_at,
-    text_of, uint32_at,
+    Payloads, bool_at, bytes_at, has_field, int32_at, int64_at, last_len, last_varint, payloads_of,
+    text_at, text_of, uint32_at,
 };
 pub use writer::Writer;
 
