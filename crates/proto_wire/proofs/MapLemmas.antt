@@ -8,8 +8,7 @@ use Rattle.std.specs.BTreeMap.{insert_entry}
 use Rattle.std.specs.Map.{lookup}
 use Rattle.std.specs.FinMap.{IsAntisymmetric, entries, find, from_entries, entries-insert, empty, len-empty, len-entries, slice_cmp-IsAntisymmetric, nat_cmp-IsAntisymmetric, int_cmp-IsAntisymmetric}
 use Rattle.std.specs.FinMap.Entries.{put, by_order}
-use Rattle.std.specs.declared.vec.Vec.{Vec}
-use Rattle.std.specs.declared.alloc.Global.{Global}
+use Rattle.smallvec.specs.SmallVec.{SmallVec}
 use Rattle.std.specs.declared.cmp.Ordering.{Ordering}
 use Rattle.std.specs.declared.cmp.Ordering.TheVariants.{Less, Equal, Greater}
 use Rattle.proto_wire.specs.Merge.{FirstBreaks, parts_view}
@@ -31,8 +30,8 @@ key_cmp_antisymmetric int64 = int_cmp-IsAntisymmetric
 module _ {K : Type 0} (kind : KeyKind) (key_view : K → KeyOf kind) (cmp : K → K → Ordering)
     (in_order : (a b : K) → cmp a b ≡ key_cmp kind (key_view a) (key_view b)) where
   -- an entry goes to the same place
-  pub entries_view_insert : (es : List (K × Vec (Bor (List ℕ)) Global)) (k : K)
-      (v : Vec (Bor (List ℕ)) Global)
+  pub entries_view_insert : (es : List (K × SmallVec (Bor (List ℕ)))) (k : K)
+      (v : SmallVec (Bor (List ℕ)))
       → entries_view kind key_view (insert_entry cmp es k v)
       ≡ put (key_cmp kind) (key_view k) (parts_view v.items) (entries_view kind key_view es)
   entries_view_insert [] k v = refl
@@ -52,8 +51,8 @@ module _ {K : Type 0} (kind : KeyKind) (key_view : K → KeyOf kind) (cmp : K �
       ])
 
   -- what the code's map has at a key
-  pub entries_view_find : (es : List (K × Vec (Bor (List ℕ)) Global)) (k : K)
-      (v : Vec (Bor (List ℕ)) Global)
+  pub entries_view_find : (es : List (K × SmallVec (Bor (List ℕ)))) (k : K)
+      (v : SmallVec (Bor (List ℕ)))
       → lookup (λ x. is_eq (cmp k x)) es ≡ Some v
       → find (key_cmp kind) (key_view k) (entries_view kind key_view es) ≡ Some (parts_view v.items)
   entries_view_find [] k v = λ found. let clash : None ≡ Some v = found in cc

@@ -14,7 +14,7 @@ use crate::key::Key;
 use crate::keys;
 use crate::message::read_message;
 use crate::refusal::Refusal;
-use crate::values::{int64_at, payloads_of, text_at};
+use crate::values::{Payloads, int64_at, payloads_of, text_at};
 use std::alloc::Global;
 use std::collections::BTreeMap;
 
@@ -109,7 +109,7 @@ impl<'a> MapKey<'a> for i64 {
 #[derive(Drop)]
 struct MapEntry<'a, K> {
     key: K,
-    parts: Vec<&'a [u8]>,
+    parts: Payloads<'a>,
 }
 
 /// Reads an entry, which has a payload of its own.
@@ -134,7 +134,7 @@ fn read_entry<'a, K: MapKey<'a>>(
 pub fn read_entries<'a, K: MapKey<'a>>(
     alloc: Global,
     payloads: &[&'a [u8]],
-) -> Result<BTreeMap<K, Vec<&'a [u8]>>, Refusal>
+) -> Result<BTreeMap<K, Payloads<'a>>, Refusal>
     ensures found { IfOk result (λ m. (es : List (Entry K.kind))
         × AreEntries K.kind (parts_view payloads.now) es
         × (entries_view K.kind K.key_view m.entries ≡ entries (map_of K.kind es))) }
