@@ -1,9 +1,10 @@
 -- The longest end of some fields that all have one number, one field after the other, and that it is the
 -- run of the last member where all fields are members of one oneof.
-use Rattle.std.proofs.Common.{arith, ◌≡◌, ◌==◌, ◌≤◌, ◌<◌, ◌+◌, ◌-◌, ◌⊎◌, inl, inr, ℕ, zero, suc, Bool, true, false, List, [], ◌∷◌, ◌++◌, Option, Some, None, map, take, drop, get_or, length, option_map, slice_get, refl, sym, ap, ◌∙◌}
+use Rattle.std.proofs.Common.{arith, ◌≡◌, ◌==◌, ◌≤◌, ◌<◌, ◌+◌, ◌-◌, ◌⊎◌, inl, inr, ℕ, zero, suc, Bool, true, false, List, [], ◌∷◌, ◌++◌, Option, Some, None, map, take, drop, get_or, length, length-append, option_map, slice_get, refl, sym, ap, subst, ◌∙◌}
 use Rattle.std.specs.List.{filter, list_all}
 use Rattle.std.proofs.lemmas.Bool.{and_parts}
-use Rattle.std.proofs.lemmas.List.{drop_more, drop-append-le, map_more}
+use Rattle.std.proofs.lemmas.List.{drop_more, drop-append-le, drop-map, get_or-take, length-map, length-drop, length-take, map_more, take_all}
+use Rattle.std.proofs.Math.ListN.{get_or-map}
 use Rattle.std.proofs.Math.Seq.{drop-append_seam}
 use Rattle.proto_wire.specs.Fields.{Wire, field_view}
 use Rattle.proto_wire.specs.Keys.{AllKnown, is_known}
@@ -28,10 +29,16 @@ pub run_of_members : (keys : List Key) (fs : List Wire) → AllKnown keys fs →
 run_of_members keys fs known = ap trailing_run (all_kept (is_known keys) fs known)
 
 -- the last of fields
-last_field : (fields : List Field) → last_of (map field_view fields) ≡ option_map field_view (slice_get fields (length fields - 1))
+last_at : (f : Field) (fields : List Field)
+    → last_of (map field_view (f ∷ fields)) ≡ option_map field_view (slice_get (f ∷ fields) (length fields))
+last_at f [] = refl
+last_at f (g ∷ fields) = last_at g fields
+
+last_field : (fields : List Field)
+    → last_of (map field_view fields) ≡ option_map field_view (slice_get fields (length fields - 1))
 last_field [] = refl
-last_field (f ∷ []) = refl
-last_field (f ∷ g ∷ fields) = last_field (g ∷ fields)
+last_field (f ∷ fields) =
+    let less : length (f ∷ fields) - 1 ≡ length fields = omega arith in rw less (last_at f fields)
 
 -- the last member is the last field
 pub number_of_last : (keys : List Key) (fields : List Field) → AllKnown keys (map field_view fields)
@@ -79,3 +86,48 @@ module _ (fs : List Wire) (f d : Wire) (start : ℕ) (begins : BeginsAt start fs
         within = inl (omega (arith, length-append fs (f ∷ [])));
         is = run ∙ more ∙ sym (drop-append_seam fs (f ∷ []));
       }
+
+-- ---- the same of the code's fields
+
+module _ (fields : List Field) (i start : ℕ) (d : Field) (within : i < length fields)
+    (begins : BeginsAt start (map field_view (take i fields))) where
+  abbrev before : List Wire
+  before = map field_view (take i fields)
+
+  counted : length before ≡ i
+  counted =
+      let short = length-take i fields in
+      let same = length-map (take i fields) field_view in omega (arith, short, same)
+
+  number_at : start < length before → (get_or before start (field_view d)).number ≡ (get_or fields start d).number
+  number_at there =
+      let below : start < i = let same = counted in omega (arith, same, there) in
+      ap (λ g. g.number) (get_or-map field_view (take i fields) start d)
+      ∙ ap (λ g. g.number) (get_or-take i fields start d below)
+
+  pub same_number : ((get_or fields start d).number == (get_or fields i d).number) ≡ true
+      → BeginsAt start (map field_view (take (i + 1) fields))
+  same_number same = rw (map_more field_view fields i d within) (elim begins.within [
+    | inl there ↦ goes_on before (field_view (get_or fields i d)) (field_view d) start begins there
+        (ap (λ n. n == (get_or fields i d).number) (number_at there) ∙ same)
+    | inr (zero, none) ↦ rw (none, zero) (record { within = inl (omega arith); is = refl })
+  ])
+
+  pub another_number : ((get_or fields start d).number == (get_or fields i d).number) ≡ false
+      → BeginsAt i (map field_view (take (i + 1) fields))
+  another_number other = rw (map_more field_view fields i d within) (elim begins.within [
+    | inl there ↦ subst (λ n. BeginsAt n (before ++ field_view (get_or fields i d) ∷ [])) counted
+        (begins_anew before (field_view (get_or fields i d)) (field_view d) start begins there
+        (ap (λ n. n == (get_or fields i d).number) (number_at there) ∙ other))
+    | inr (zero, none) ↦
+        let first : i ≡ 0 = let same = counted in let empty = ap length none in omega (arith, same, empty) in
+        rw (none, first) (record { within = inl (omega arith); is = refl })
+  ])
+
+-- from its place on it is all
+pub from_place : (fields : List Field) (start : ℕ) → BeginsAt start (map field_view fields)
+    → map field_view (take (length fields - start) (drop start fields)) ≡ trailing_run (map field_view fields)
+from_place fields start begins =
+    let all : take (length fields - start) (drop start fields) ≡ drop start fields =
+    take_all (drop start fields) (length fields - start) (omega (arith, length-drop start fields)) in
+    ap (map field_view) all ∙ drop-map field_view start fields ∙ sym begins.is

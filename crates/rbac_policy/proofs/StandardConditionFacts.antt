@@ -283,16 +283,18 @@ one_entry = entries_from_entries name_cmp nat_list_cmp_total (entry ∷ []) tt
 
 are_rules : AreFilterRules (field 2 (len_of entry_bytes) ∷ []) filter
 are_rules = record {
-  entries = entry ∷ [];
   unaudited = refl;
   action = refl;
-  read = (is_entry, tt);
+  policies = (
+    entry ∷ [],
+    (is_entry, tt),
+    held_are_values text IsPolicy (map_of text (entry ∷ [])) policies
+        (rw one_entry (policy, [], is_policy, refl, refl)),
+  );
   few =
-      let one : len (map_of text (entry ∷ [])) ≡ 1 =
-      len-entries (map_of text (entry ∷ [])) ∙ ap length one_entry in omega (arith, one);
-  policies =
-      held_are_values text IsPolicy (map_of text (entry ∷ [])) policies
-      (rw one_entry (policy, [], is_policy, refl, refl));
+      let one : len filter.policies ≡ 1 =
+      len-entries filter.policies ∙ ap length (entries_from_entries name_cmp nat_list_cmp_total policies tt) in
+      omega (arith, one);
 }
 
 -- the bytes are the message of the filter

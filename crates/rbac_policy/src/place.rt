@@ -5,7 +5,7 @@ use crate::admission::{read_action, refuse_audit_options};
 use crate::numbers::{PERMISSIONS, POLICIES, PRINCIPALS, RULES};
 use crate::policy::{read_checked, read_policy};
 use attributes::Limits;
-use proto_wire::{Field, Refusal, payloads_of, read_entries, read_fields, read_parts};
+use proto_wire::{Field, Payloads, Refusal, payloads_of, read_entries, read_fields, read_parts};
 use rbac_match::{RULE_DEPTH, Side, read_rule};
 use std::alloc::Global;
 use std::collections::BTreeMap;
@@ -32,7 +32,7 @@ pub fn place_of(alloc: Global, bytes: &[u8], refusal: Refusal) -> Option<String>
         return String::from_str(alloc, name).ok();
     }
     let entries = payloads_of(alloc, &fields, POLICIES).ok()?;
-    let named: BTreeMap<&str, Vec<&[u8]>> = read_entries(alloc, &entries).ok()?;
+    let named: BTreeMap<&str, Payloads<'_>> = read_entries(alloc, &entries).ok()?;
     for (name, parts) in &named {
         if read_policy(alloc, name, parts, &Limits::largest(), u64::MAX).err() == Some(refusal) {
             return place_in_policy(alloc, name, parts, refusal);

@@ -23,7 +23,7 @@ use crate::condition::{Condition, read_condition};
 use crate::keys::{has_payload, policy_keys};
 use crate::numbers::{CHECKED_CONDITION, CONDITION, PERMISSIONS, PRINCIPALS};
 use attributes::Limits;
-use proto_wire::{Field, Refusal, payloads_of, read_message};
+use proto_wire::{Field, Payloads, Refusal, payloads_of, read_message};
 use rbac_match::{RULE_DEPTH, Rule, Side, read_rules};
 use std::alloc::Global;
 use std::collections::BTreeMap;
@@ -54,7 +54,7 @@ impl NamedPolicy {
 /// conditions may take so many steps together. Gives besides how many they take.
 pub(crate) fn read_policies(
     alloc: Global,
-    named: &BTreeMap<&str, Vec<&[u8]>>,
+    named: &BTreeMap<&str, Payloads<'_>>,
     limits: &Limits,
     budget: u64,
 ) -> Result<(Vec<NamedPolicy>, u64), Refusal>

@@ -14,15 +14,16 @@ use Rattle.rbac_policy.specs.Condition.{Program}
 use Rattle.rbac_policy.specs.Enforced.{bounds_of, total_bound}
 use Rattle.rbac_policy.specs.Filter.{Filter, Policy}
 use Rattle.rbac_policy.specs.Message.{IsPolicy, most_policies}
-use Rattle.rbac_policy.specs.Fault.{PolicyFault, RulesFault, in_entry, too_many, in_policy}
+use Rattle.rbac_policy.specs.Fault.{PolicyFault, RulesFault, in_policies, too_many}
 use Rattle.rbac_policy.specs.Named.{named_views}
 use Rattle.rbac_policy.specs.steps.Conditions.{ConditionsFault, IsEnforced}
-use Rattle.proto_wire.specs.Maps.{Entry, text, AreEntries, Readable, map_of, SomeEntryFault, SomeValueFault}
+use Rattle.proto_wire.specs.Maps.{Entry, text, AreEntries, Readable, map_of, SomeEntryFault, SomeValueFault, in_entry, in_value}
 use Rattle.proto_wire.specs.steps.Maps.{Held}
 use Rattle.proto_wire.proofs.MapLaws.{entries_readable}
 use Rattle.proto_wire.proofs.MapValues.{held_ordered, held_are_values}
 use Rattle.rbac_policy.proofs.Besides.{sorted_beside}
 use Rattle.rbac_policy.proofs.Enforcing.{apart, filter_enforced, total_of}
+use Rattle.rbac_policy.proofs.Totality.{as_many}
 use Rattle.rbac_policy.proofs.admission.read_rules.Goals as goal
 
 -- what is wrong with the rules
@@ -33,15 +34,15 @@ Fails fs limits budget e = RulesFault fs e ⊎ ((read : List (Entry text)) × Re
 pub returns-in_err-named-clause-fault : goal.returns-in_err-named-clause-fault
 returns-in_err-named-clause-fault c =
     let fs : List Wire = map field_view c.args.fields.now in
-    let parts : parts_view c.deref.result.now ≡ payloads 2 fs = ap parts_view c.deref.ensures.value ∙ c.in_ok-entries.ensures in
+    let parts : parts_view c.deref.result.now ≡ payloads 2 fs = ap parts_view c.deref.ensures ∙ c.in_ok-entries.ensures in
     exit_memory_or (SomeEntryFault text (payloads 2 fs)) (Fails fs c.args.limits.now c.args.budget)
     c.from_residual-in_err-named.result _ c.from_residual-in_err-named.ensures.1 (rw parts at c.in_err-named.ensures.fault)
-    (λ e bad. inl (in_entry bad))
+    (λ e bad. inl (in_policies (in_entry bad)))
 
 pub returns-in_err-refuse_many-clause-fault : goal.returns-in_err-refuse_many-clause-fault
 returns-in_err-refuse_many-clause-fault c =
     let F : Refusal → Type 0 = Fails (map field_view c.args.fields.now) c.args.limits.now c.args.budget in
-    let parts : parts_view c.deref.result.now ≡ payloads 2 (map field_view c.args.fields.now) = ap parts_view c.deref.ensures.value ∙ c.in_ok-entries.ensures in
+    let parts : parts_view c.deref.result.now ≡ payloads 2 (map field_view c.args.fields.now) = ap parts_view c.deref.ensures ∙ c.in_ok-entries.ensures in
     let es : List (Entry text) = c.in_ok-named.ensures.found.0 in
     let read : AreEntries text (payloads 2 (map field_view c.args.fields.now)) es = rw parts at c.in_ok-named.ensures.found.1 in
     let size : len (map_of text es) ≡ length c.in_ok-named.named.entries = len-entries (map_of text es) ∙ ap length (sym c.in_ok-named.ensures.found.2) ∙ length-map c.in_ok-named.named.entries _ in
@@ -54,7 +55,7 @@ returns-in_err-refuse_many-clause-fault c =
 pub returns-in_err-policies-clause-fault : goal.returns-in_err-policies-clause-fault
 returns-in_err-policies-clause-fault c =
     let fs : List Wire = map field_view c.args.fields.now in
-    let parts : parts_view c.deref.result.now ≡ payloads 2 fs = ap parts_view c.deref.ensures.value ∙ c.in_ok-entries.ensures in
+    let parts : parts_view c.deref.result.now ≡ payloads 2 fs = ap parts_view c.deref.ensures ∙ c.in_ok-entries.ensures in
     let es : List (Entry text) = c.in_ok-named.ensures.found.0 in
     let read : AreEntries text (payloads 2 fs) es = rw parts at c.in_ok-named.ensures.found.1 in
     let readable : Readable text (payloads 2 fs) es = entries_readable text _ es read in
@@ -63,7 +64,7 @@ returns-in_err-policies-clause-fault c =
     c.from_residual-in_err-policies.result _ c.from_residual-in_err-policies.ensures.1
     (rw c.in_ok-named.ensures.found.2 at c.in_err-policies.ensures.fault)
     (λ e bad. elim bad [
-      | inl own ↦ inl (in_policy es readable own)
+      | inl own ↦ inl (in_policies (in_value es readable own))
       | inr cost ↦ inr (es, readable, cost)
     ])
 
@@ -75,20 +76,20 @@ new-requires-clause-bounded c = c.in_ok-policies.ensures.cost
 
 pub returns-clause-found : goal.returns-clause-found
 returns-clause-found c =
-    let parts : parts_view c.deref.result.now ≡ payloads 2 (map field_view c.args.fields.now) = ap parts_view c.deref.ensures.value ∙ c.in_ok-entries.ensures in
+    let parts : parts_view c.deref.result.now ≡ payloads 2 (map field_view c.args.fields.now) = ap parts_view c.deref.ensures ∙ c.in_ok-entries.ensures in
     let es : List (Entry text) = c.in_ok-named.ensures.found.0 in
     let vs : List (List ℕ × Policy Program) = named_views c.in_ok-policies.policies.items in
     let held : Held text (IsEnforced c.args.limits.now) (entries (map_of text es)) vs = rw c.in_ok-named.ensures.found.2 at c.in_ok-policies.ensures.found in
     let split = apart c.args.limits.now (entries (map_of text es)) vs held in
-    let size : len (map_of text es) ≡ length c.in_ok-named.named.entries = len-entries (map_of text es) ∙ ap length (sym c.in_ok-named.ensures.found.2) ∙ length-map c.in_ok-named.named.entries _ in (
+    let size : len (map_of text es) ≡ length c.in_ok-named.named.entries = len-entries (map_of text es) ∙ ap length (sym c.in_ok-named.ensures.found.2) ∙ length-map c.in_ok-named.named.entries _ in
+    let values = held_are_values text IsPolicy (map_of text es) split.0 split.1 in
+    let same = as_many (map_of text es) (from_entries split.0) values in (
       record { action = c.in_ok-action.action; policies = from_entries split.0 },
       record {
-        entries = es;
         unaudited = c.in_ok-refuse_audit_options.ensures.found;
         action = c.in_ok-action.ensures;
-        read = rw parts at c.in_ok-named.ensures.found.1;
-        few = (let few : c.len.result ≤ most_policies = c.in_ok-refuse_many.ensures.found in omega (arith, size, c.len.ensures.len, few));
-        policies = held_are_values text IsPolicy (map_of text es) split.0 split.1;
+        policies = (es, rw parts at c.in_ok-named.ensures.found.1, values);
+        few = (let few : c.len.result ≤ most_policies = c.in_ok-refuse_many.ensures.found in omega (arith, size, same, c.len.ensures.len, few));
       },
       rw c.new.ensures (filter_enforced c.args.limits.now c.in_ok-action.action split.0 vs split.2),
     )

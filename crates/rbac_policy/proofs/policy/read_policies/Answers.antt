@@ -40,7 +40,7 @@ returns-in_err-policy-clause-fault c =
     ∙ ap (λ xs. map deref_pair c.loop-name.yielded ++ xs) (rest_more deref_pair c.loop-name.name-iterator c.next.new.self c.next.result (c.in-Some.name, c.in-Some.parts) c.in-Some.is c.next.ensures.steps) in
     let split : all ≡ names_view (map deref_pair c.loop-name.yielded) ++ n ∷ names_view c.next.new.self =
     ap names_view whole ∙ map-append _ (map deref_pair c.loop-name.yielded) _ in
-    let fault = rw c.deref.ensures.value at c.in_err-policy.ensures.fault in
+    let fault = rw c.deref.ensures at c.in_err-policy.ensures.fault in
     exit_memory_or (λ e. PolicyFault n.1 e ⊎ ConditionsFault (n ∷ []) c.args.limits.now (c.args.budget - c.loop-name.spent) e)
     (λ e. SomeValueFault text PolicyFault all e ⊎ ConditionsFault all c.args.limits.now c.args.budget e)
     c.from_residual.result _ c.from_residual.ensures.1 fault
@@ -59,7 +59,7 @@ loop-name-preserved c =
     ap names_view (map-append deref_pair c.loop-name.yielded ((c.in-Some.name, c.in-Some.parts) ∷ [])) ∙ map-append _ (map deref_pair c.loop-name.yielded) _ in
     let made : named_views c.push.new.self.items ≡ vs ++ (n.0, policy_view p) ∷ [] =
     ap named_views c.in_ok-push.ensures.items ∙ map-append _ c.loop-name.policies.items (p ∷ []) ∙ ap (λ x. vs ++ (x, policy_view p) ∷ []) c.in_ok-policy.ensures.named in
-    let held = held_push text (IsEnforced c.args.limits.now) _ _ n (policy_view p) c.loop-name.invariant.0 (rw c.deref.ensures.value at c.in_ok-policy.ensures.found) in
+    let held = held_push text (IsEnforced c.args.limits.now) _ _ n (policy_view p) c.loop-name.invariant.0 (rw c.deref.ensures at c.in_ok-policy.ensures.found) in
     let spent = c.loop-name.invariant.1 in
     let cost : c.bound-spent.result ≡ bound_of (policy_view p).condition = c.bound-spent.ensures in
     let sum : bounds_of (vs ++ (n.0, policy_view p) ∷ []) ≡ bounds_of vs + bound_of (policy_view p).condition = bounds_push vs n.0 (policy_view p) in
