@@ -110,7 +110,7 @@ module _ (fields : List Field) (i start : ℕ) (d : Field) (within : i < length 
   same_number same = rw (map_more field_view fields i d within) (elim begins.within [
     | inl there ↦ goes_on before (field_view (get_or fields i d)) (field_view d) start begins there
         (ap (λ n. n == (get_or fields i d).number) (number_at there) ∙ same)
-    | inr (zero, none) ↦ rw (none, zero) (record { within = inl (omega arith); is = refl })
+    | inr (front, none) ↦ rw (none, front) (record { within = inl (omega arith); is = refl })
   ])
 
   pub another_number : ((get_or fields start d).number == (get_or fields i d).number) ≡ false
@@ -119,7 +119,7 @@ module _ (fields : List Field) (i start : ℕ) (d : Field) (within : i < length 
     | inl there ↦ subst (λ n. BeginsAt n (before ++ field_view (get_or fields i d) ∷ [])) counted
         (begins_anew before (field_view (get_or fields i d)) (field_view d) start begins there
         (ap (λ n. n == (get_or fields i d).number) (number_at there) ∙ other))
-    | inr (zero, none) ↦
+    | inr (front, none) ↦
         let first : i ≡ 0 = let same = counted in let empty = ap length none in omega (arith, same, empty) in
         rw (none, first) (record { within = inl (omega arith); is = refl })
   ])
@@ -129,5 +129,5 @@ pub from_place : (fields : List Field) (start : ℕ) → BeginsAt start (map fie
     → map field_view (take (length fields - start) (drop start fields)) ≡ trailing_run (map field_view fields)
 from_place fields start begins =
     let all : take (length fields - start) (drop start fields) ≡ drop start fields =
-    take_all (drop start fields) (length fields - start) (omega (arith, length-drop start fields)) in
+    take_all (length fields - start) (drop start fields) (omega (arith, length-drop start fields)) in
     ap (map field_view) all ∙ drop-map field_view start fields ∙ sym begins.is

@@ -1,4 +1,4 @@
--- What the code's map from names to payloads stands for.
+-- What the code's entries of a map from names to payloads stand for.
 use Rattle.std.specs.Prelude.{ℕ, List}
 use Rattle.std.specs.Borrow.{Bor}
 use Rattle.smallvec.specs.SmallVec.{SmallVec}

@@ -1,4 +1,4 @@
-use Rattle.std.proofs.Common.{◌≡◌, ◌≢◌, ◌-◌, ℕ, List, [], ◌∷◌, Some, map, get_or, sym, ap, ◌∙◌}
+use Rattle.std.proofs.Common.{◌≡◌, ◌≢◌, ◌-◌, ℕ, List, [], ◌∷◌, Some, map, take, sym, ap, ◌∙◌}
 use Rattle.std.proofs.lemmas.Result.{MatchResult-weaker}
 use Rattle.proto_wire.specs.declared.refusal.Refusal.{Refusal}
 use Rattle.rbac_match.specs.View.{rule_view}
@@ -15,6 +15,7 @@ use Rattle.rbac_match.proofs.Exits.{exit_memory_or, exit_fault, last_memory_or}
 use Rattle.rbac_match.proofs.Levels.{rule_found, fault_deeper, member_fault, last_fault, are_rules_push, payload_in}
 use Rattle.rbac_match.proofs.Runs.{run_of_members}
 use Rattle.rbac_match.proofs.read.+rule.Goals as goal
+use Rattle.rbac_match.proofs.read.+rule.Goals.{read_rules-in-Some+in_ok-rule+in_ok-push, read_rules-in_default}
 
 pub read_member-returns-in_err-read_set-in-And-clause-fault : goal.read_member-returns-in_err-read_set-in-And-clause-fault
 read_member-returns-in_err-read_set-in-And-clause-fault t c =
@@ -60,8 +61,8 @@ read_rule-returns-clause-found t c =
     let fs : List Wire = map field_view c.in_ok-fields.fields.items in
     let message : IsMessage (rule_keys c.args.side) parts fs = rw c.rule_keys.ensures at c.in_ok-fields.ensures.found in
     let last = rw c.deref.ensures at c.in_ok-last.ensures.found in
-    let run : map field_view c.trailing_run.result.now ≡ member_run (rule_keys c.args.side) fs =
-    c.trailing_run.ensures ∙ ap (λ (fields : List Field). trailing_run (map field_view fields)) c.deref-2.ensures ∙ sym (run_of_members (rule_keys c.args.side) fs message.1) in
+    let run : map field_view c.trailing_run-run.result.now ≡ member_run (rule_keys c.args.side) fs =
+    c.trailing_run-run.ensures ∙ ap (λ (fields : List Field). trailing_run (map field_view fields)) c.deref-2.ensures ∙ sym (run_of_members (rule_keys c.args.side) fs message.1) in
     MatchResult-weaker c.read_member.result c.read_member.ensures.found
     (λ rule says. rule_found c.args.side c.args.depth parts fs message c.in_ok-require_level.ensures.found
     c.in_ok-last.last.number c.in_ok-last.last.member last.0 last.1 (rule_view rule) (rw run at says)) (λ _ _. tt)
@@ -72,8 +73,8 @@ read_rule-returns-clause-fault t c =
     let fs : List Wire = map field_view c.in_ok-fields.fields.items in
     let message : IsMessage (rule_keys c.args.side) parts fs = rw c.rule_keys.ensures at c.in_ok-fields.ensures.found in
     let last = rw c.deref.ensures at c.in_ok-last.ensures.found in
-    let run : map field_view c.trailing_run.result.now ≡ member_run (rule_keys c.args.side) fs =
-    c.trailing_run.ensures ∙ ap (λ (fields : List Field). trailing_run (map field_view fields)) c.deref-2.ensures ∙ sym (run_of_members (rule_keys c.args.side) fs message.1) in
+    let run : map field_view c.trailing_run-run.result.now ≡ member_run (rule_keys c.args.side) fs =
+    c.trailing_run-run.ensures ∙ ap (λ (fields : List Field). trailing_run (map field_view fields)) c.deref-2.ensures ∙ sym (run_of_members (rule_keys c.args.side) fs message.1) in
     last_memory_or (MemberFault (RuleFault c.args.side (c.args.depth - 1)) (Some c.in_ok-last.last.member)
     c.in_ok-last.last.number (member_run (rule_keys c.args.side) fs)) (RuleFault c.args.side c.args.depth parts)
     c.read_member.result (rw run at c.read_member.ensures.fault)
@@ -118,3 +119,33 @@ read_set-returns-clause-fault t c =
     (SetFault (RuleFault c.args.side c.args.depth) parts) c.read_rules.result
     (rw c.deref-2.ensures at c.read_rules.ensures.fault)
     (λ e bad. in_rule fs bad.0 message.0 bad.1 bad.2)
+
+pub read_rules-returns-in_err-rule-clause-fault : goal.read_rules-returns-in_err-rule-clause-fault
+read_rules-returns-in_err-rule-clause-fault t c =
+    let bytes : List ℕ = c.in-Some.payload.now in
+    exit_memory_or (RuleFault c.args.side c.args.depth (bytes ∷ []))
+    (SomeRuleFault c.args.side c.args.depth (payloads c.args.number (map field_view c.args.fields.now)))
+    c.from_residual-in_err-rule.result _ c.from_residual-in_err-rule.ensures.1 c.in_err-rule.ensures.fault
+    (λ e bad. (
+      bytes,
+      payload_in c.args.number c.args.fields.now c.loop-field.field-index _ bytes c.loop-field-test.true c.in-Some.ensures,
+      bad,
+    ))
+
+pub read_rules-loop-field-preserved : goal.read_rules-loop-field-preserved
+read_rules-loop-field-preserved t c =
+    let fields = c.args.fields.now in
+    let i = c.loop-field.field-index in
+    let within = c.loop-field-test.true in
+    let before : List (List ℕ) = payloads c.args.number (map field_view (take i fields)) in
+    elim c.match-payload_of.branch [
+      | read_rules-in-Some+in_ok-rule+in_ok-push w ↦
+          let bytes : List ℕ = w.in-Some.payload.now in
+          let more = picked_some len_in c.args.number fields i _ bytes within w.in-Some.ensures in
+          rw (more, w.rules-is, w.in_ok-push.ensures.items)
+          (are_rules_push (IsRule c.args.side c.args.depth) before c.loop-field.rules.items bytes w.in_ok-rule.rule
+          c.loop-field.invariant w.in_ok-rule.ensures.found)
+      | read_rules-in_default w ↦
+          let same = picked_none len_in c.args.number fields i _ within w.in_default.ensures in
+          rw (same, w.rules-is) c.loop-field.invariant
+    ]
