@@ -18,7 +18,7 @@ mod writer;
 pub use fault::WireError;
 pub use field::{Field, Payload, WireType};
 pub use key::{Key, all_known};
-pub use maps::{KeyOrder, MapKey, read_entries};
+pub use maps::{KeyOrder, MapEntry, MapKey, read_entries};
 pub use message::{MessageFields, read_fields, read_message, read_parts, require_known};
 pub use oneof::{MemberRun, last_member, member_run};
 pub use reader::Reader;
