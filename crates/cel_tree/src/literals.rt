@@ -15,7 +15,7 @@ ghost use Rattle.cel_tree.specs.steps.EntryViews.{entry_node_view, entry_nodes_v
 use crate::fields::{last_number, require_part};
 use crate::node::Node;
 use proto_wire::{
-    Field, Key, Refusal, bool_at, bytes_at, has_field, int64_at, keys, member_run, payloads_of,
+    Field, Key, Payloads, Refusal, bool_at, bytes_at, has_field, int64_at, keys, member_run, payloads_of,
     read_message,
 };
 use std::alloc::Global;
@@ -54,8 +54,8 @@ static ENTRY_KEY: [Key; 2] = keys![Len FIELD_KEY, Len MAP_KEY];
 #[derive(Drop)]
 pub(crate) struct EntryNode<'a> {
     pub id: i64,
-    pub key: Vec<&'a [u8]>,
-    pub value: Vec<&'a [u8]>,
+    pub key: Payloads<'a>,
+    pub value: Payloads<'a>,
 }
 
 /// Reads a CreateList, whose message stands in the parts.

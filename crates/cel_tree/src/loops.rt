@@ -12,7 +12,9 @@ ghost use Rattle.cel_tree.specs.steps.NodeViews.{node_view};
 
 use crate::fields::require_part;
 use crate::node::Node;
-use proto_wire::{Field, Key, Refusal, bytes_at, keys, payloads_of, read_message, text_at};
+use proto_wire::{
+    Field, Key, Payloads, Refusal, bytes_at, keys, payloads_of, read_message, text_at,
+};
 use std::alloc::Global;
 use std::rc::RcStr;
 
@@ -42,11 +44,11 @@ static COMPREHENSION: [Key; 8] = keys![
 pub(crate) struct LoopNode<'a> {
     pub iter_var: RcStr,
     pub accu_var: RcStr,
-    pub iter_range: Vec<&'a [u8]>,
-    pub accu_init: Vec<&'a [u8]>,
-    pub loop_condition: Vec<&'a [u8]>,
-    pub loop_step: Vec<&'a [u8]>,
-    pub result: Vec<&'a [u8]>,
+    pub iter_range: Payloads<'a>,
+    pub accu_init: Payloads<'a>,
+    pub loop_condition: Payloads<'a>,
+    pub loop_step: Payloads<'a>,
+    pub result: Payloads<'a>,
 }
 
 /// Reads a Comprehension, whose message stands in the parts.

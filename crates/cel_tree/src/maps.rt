@@ -15,7 +15,7 @@ use crate::checked::{ReferenceMap, TypeMap};
 use crate::fields::number_of;
 use crate::reference::read_reference;
 use crate::type_entry::read_type;
-use proto_wire::{Field, Refusal, payloads_of, read_entries};
+use proto_wire::{Field, Payloads, Refusal, payloads_of, read_entries};
 use std::alloc::Global;
 use std::collections::BTreeMap;
 
@@ -39,7 +39,7 @@ pub(crate) fn types_of(alloc: Global, fields: &[Field<'_>]) -> Result<TypeMap, R
 }
 
 /// Reads each type of the map.
-fn read_types(alloc: Global, named: &BTreeMap<i64, Vec<&[u8]>>) -> Result<TypeMap, Refusal>
+fn read_types(alloc: Global, named: &BTreeMap<i64, Payloads<'_>>) -> Result<TypeMap, Refusal>
     ensures found { IfOk result (λ m. let es = ids_view named.now.entries in
         SomeValues (IsTypeEntry tree_depth) es es (types_view m)) }
     ensures fault { IfErr result (MemoryOr
@@ -68,7 +68,7 @@ pub(crate) fn references_of(alloc: Global, fields: &[Field<'_>]) -> Result<Refer
 /// Reads each reference of the map.
 fn read_references(
     alloc: Global,
-    named: &BTreeMap<i64, Vec<&[u8]>>,
+    named: &BTreeMap<i64, Payloads<'_>>,
 ) -> Result<ReferenceMap, Refusal>
     ensures found { IfOk result (λ m. let es = ids_view named.now.entries in
         SomeValues IsReference es es (references_view m)) }

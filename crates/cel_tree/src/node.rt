@@ -17,7 +17,9 @@ use crate::literals::{EntryNode, read_list, read_struct};
 use crate::loops::{LoopNode, read_loop};
 use crate::operands::{read_call, read_ident, read_select};
 use crate::tree::Constant;
-use proto_wire::{Field, Key, Refusal, int64_at, keys, member_run, payloads_of, read_message};
+use proto_wire::{
+    Field, Key, Payloads, Refusal, int64_at, keys, member_run, payloads_of, read_message,
+};
 use std::alloc::Global;
 use std::rc::RcStr;
 
@@ -72,17 +74,17 @@ pub(crate) enum Node<'a> {
     Constant(Constant),
     Ident(RcStr),
     Select {
-        operand: Vec<&'a [u8]>,
+        operand: Payloads<'a>,
         field: RcStr,
         test_only: bool,
     },
     /// A call without a target has no parts of one.
     Call {
         function: RcStr,
-        target: Vec<&'a [u8]>,
-        args: Vec<&'a [u8]>,
+        target: Payloads<'a>,
+        args: Payloads<'a>,
     },
-    List(Vec<&'a [u8]>),
+    List(Payloads<'a>),
     Map(Vec<EntryNode<'a>>),
     Comprehension(LoopNode<'a>),
 }

@@ -15,7 +15,9 @@ ghost use Rattle.cel_tree.specs.steps.NodeViews.{type_node_view};
 use crate::checked::TypeEntry;
 use crate::fields::{has_payload, last_number};
 use cel_value::CelType;
-use proto_wire::{Field, Key, Refusal, keys, member_run, payloads_of, read_message, uint32_at};
+use proto_wire::{
+    Field, Key, Payloads, Refusal, keys, member_run, payloads_of, read_message, uint32_at,
+};
 use std::alloc::Global;
 
 const DYN: u32 = 1;
@@ -74,11 +76,11 @@ pub(crate) enum TypeNode<'a> {
     /// There is none inside it.
     Plain(TypeEntry),
     List {
-        elem: Vec<&'a [u8]>,
+        elem: Payloads<'a>,
     },
     Map {
-        key: Vec<&'a [u8]>,
-        value: Vec<&'a [u8]>,
+        key: Payloads<'a>,
+        value: Payloads<'a>,
     },
 }
 

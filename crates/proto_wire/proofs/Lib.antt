@@ -13,4 +13,5 @@ pub mod MapLaws
 pub mod MapOrder
 pub mod ShortestLemmas
 pub mod MapValues
+pub mod WholeMaps
 pub mod StandardFacts

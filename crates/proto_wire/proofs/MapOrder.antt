@@ -1,6 +1,6 @@
 -- Lists of entries in ascending order of keys.
-use Rattle.std.proofs.Common.{◌≡◌, ◌+◌, Bool, true, false, cond, T, IsTrue, ◌&&◌, List, [], ◌∷◌, Some, None, map, count_by, arith, refl, sym, ap, subst, ◌∙◌}
-use Rattle.std.proofs.lemmas.List.{nil_from_length}
+use Rattle.std.proofs.Common.{◌≡◌, ℕ, zero, suc, ◌+◌, ◌-◌, ◌<◌, ◌≤◌, Bool, true, false, cond, T, IsTrue, ◌&&◌, List, [], ◌∷◌, ◌++◌, take, get_or, length, Some, None, map, count_by, arith, refl, sym, ap, subst, ◌∙◌}
+use Rattle.std.proofs.lemmas.List.{nil_from_length, take_more, map-append}
 use Rattle.std.proofs.lemmas.List.Sums.{sum_by-cons}
 use Rattle.std.specs.Ordering.{eq_by_cmp, is_eq, is_lt, ordering_reverse}
 use Rattle.std.specs.declared.cmp.Ordering.{Ordering}
@@ -16,6 +16,10 @@ both_first false b h = h
 pub both_second : (a b : Bool) → T (a && b) → T b
 both_second true b h = h
 both_second false b h = absurd h
+
+pub both_hold : (a b : Bool) → T a → T b → T (a && b)
+both_hold true b p q = q
+both_hold false b p q = p
 
 -- what holds is true
 pub true_of : (b : Bool) → T b → IsTrue b
@@ -46,6 +50,85 @@ module _ {K : Type 0} (R : K → K → Ordering) (total : IsTotalOrder R) where
       entries-insert total (from_entries es) e.0 e.1
       ∙ ap (put R e.0 e.1) (entries_from_entries es (both_second _ _ sorted))
       ∙ put_front e es (both_first _ _ sorted)
+
+  -- ---- lists that grow at their end
+
+  -- a key of a list is below the one that stands behind
+  below_one : {X : Type 0} (k : K) (es : List (K × X)) (e : K × X) (fs : List (K × X))
+      → T (below_all R k (es ++ e ∷ fs)) → R k e.0 ≡ Less
+  below_one k [] e fs below = lt_is_less _ (both_first _ _ below)
+  below_one k (x ∷ es) e fs below = below_one k es e fs (both_second _ _ below)
+
+  -- an entry above all others goes to the end
+  pub put_last : {X : Type 0} (es : List (K × X)) (e : K × X) (fs : List (K × X))
+      → T (is_sorted R (es ++ e ∷ fs)) → put R e.0 e.1 es ≡ es ++ e ∷ []
+  put_last [] e fs sorted = refl
+  put_last (x ∷ es) e fs sorted =
+      let less : R x.0 e.0 ≡ Less = below_one x.0 es e fs (both_first _ _ sorted) in
+      let above : R e.0 x.0 ≡ Greater = total.antisymm e.0 x.0 ∙ ap ordering_reverse less in
+      ap (λ o. by_order o (e ∷ x ∷ es) ((x.0, e.1) ∷ es) (x ∷ put R e.0 e.1 es)) above
+      ∙ ap (λ xs. x ∷ xs) (put_last es e fs (both_second _ _ sorted))
+
+  -- the last key, if there is one, is below this one
+  abbrev pub LastBelow : {X : Type 0} → K → List (K × X) → Type 0
+  LastBelow q [] = Unit {0}
+  LastBelow q (x ∷ []) = R x.0 q ≡ Less
+  LastBelow q (x ∷ y ∷ es) = LastBelow q (y ∷ es)
+
+  last_later : {X : Type 0} (q : K) (x : K × X) (es : List (K × X)) → LastBelow q (x ∷ es)
+      → LastBelow q es
+  last_later q x [] last = tt
+  last_later q x (y ∷ es) last = last
+
+  first_below : {X : Type 0} (q : K) (x : K × X) (es : List (K × X)) → T (is_sorted R (x ∷ es))
+      → LastBelow q (x ∷ es) → R x.0 q ≡ Less
+  first_below q x [] sorted last = last
+  first_below q x (y ∷ es) sorted last =
+      let next : R x.0 y.0 ≡ Less = lt_is_less _ (both_first _ _ (both_first _ _ sorted)) in
+      total.trans x.0 y.0 q next (first_below q y es (both_second _ _ sorted) last)
+
+  below_push : {X : Type 0} (k : K) (es : List (K × X)) (e : K × X) → T (below_all R k es)
+      → R k e.0 ≡ Less → T (below_all R k (es ++ e ∷ []))
+  below_push k [] e below less =
+      let P : Ordering → Type 0 = λ o. T (is_lt o && true) in subst P (sym less) tt
+  below_push k (x ∷ es) e below less =
+      both_hold _ _ (both_first _ _ below) (below_push k es e (both_second _ _ below) less)
+
+  push_sorted : {X : Type 0} (es : List (K × X)) (e : K × X) → T (is_sorted R es)
+      → LastBelow e.0 es → T (is_sorted R (es ++ e ∷ []))
+  push_sorted [] e sorted last = tt
+  push_sorted (x ∷ es) e sorted last =
+      both_hold _ _
+      (below_push x.0 es e (both_first _ _ sorted) (first_below e.0 x es sorted last))
+      (push_sorted es e (both_second _ _ sorted) (last_later e.0 x es last))
+
+  module _ {A X : Type 0} (f : A → K × X) where
+    last_taken : (xs : List A) (i : ℕ) (a : A) (q : K) → i < length xs
+        → R (f (get_or xs i a)).0 q ≡ Less → LastBelow q (map f (take (suc i) xs))
+    last_taken [] i a q within less = absurd (omega (arith, within))
+    last_taken (x ∷ xs) zero a q within less = less
+    last_taken (x ∷ []) (suc i) a q within less = absurd (omega (arith, within))
+    last_taken (x ∷ y ∷ xs) (suc i) a q within less =
+        let later : i < length (y ∷ xs) = omega (arith, within) in
+        last_taken (y ∷ xs) i a q later less
+
+    -- one entry alone is in order
+    pub sorted_first : (xs : List A) → T (is_sorted R (map f (take 1 xs)))
+    sorted_first [] = tt
+    sorted_first (x ∷ xs) = tt
+
+    -- an entry whose key is above the one before keeps the order
+    pub sorted_more : (xs : List A) (i : ℕ) (a b : A) → 1 ≤ i → i < length xs
+        → T (is_sorted R (map f (take i xs)))
+        → R (f (get_or xs (i - 1) a)).0 (f (get_or xs i b)).0 ≡ Less
+        → T (is_sorted R (map f (take (i + 1) xs)))
+    sorted_more xs zero a b some within sorted less = absurd (omega (arith, some))
+    sorted_more xs (suc i) a b some within sorted less =
+        let before : i < length xs = omega (arith, within) in
+        let one : suc i - 1 ≡ i = omega arith in
+        rw (take_more xs (suc i) b within, map-append f (take (suc i) xs) (get_or xs (suc i) b ∷ []))
+        (push_sorted (map f (take (suc i) xs)) (f (get_or xs (suc i) b)) sorted
+        (last_taken xs i a (f (get_or xs (suc i) b)).0 before (rw one at less)))
 
   -- what is above is not below
   pub not_below : (q key : K) → R q key ≡ Less → is_lt (R key q) ≡ false

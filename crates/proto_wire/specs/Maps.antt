@@ -1,16 +1,15 @@
 -- Maps: Protocol Buffers encoding guide, "Maps". A map is a repeated message with a key 1 and a
 -- value 2; an absent part is its default, and the last entry of a key wins. An entry with a fault
 -- of its own neither replaces another nor is replaced.
-use Rattle.std.specs.Prelude.{◌≡◌, ℕ, ℤ, ◌⊎◌, List, [], ◌∷◌, Some, None, map, reverse, Contains, IsSomeAnd, MatchOption, IsUtf8}
+use Rattle.std.specs.Prelude.{◌≡◌, ◌≢◌, ℕ, ℤ, ◌⊎◌, List, [], ◌∷◌, Some, None, map, reverse, Contains, IsSomeAnd, MatchOption, IsUtf8}
 use Rattle.std.specs.Borrow.{Bor}
 use Rattle.std.specs.Ordering.{nat_cmp, int_cmp}
 use Rattle.std.specs.Cmp.Lexicographic.{slice_cmp}
 use Rattle.std.specs.List.{AllZip}
-use Rattle.std.specs.FinMap.{FinMap, get, find, from_entries}
+use Rattle.std.specs.FinMap.{FinMap, entries, get, find, from_entries}
 use Rattle.std.specs.declared.cmp.Ordering.{Ordering}
-use Rattle.std.specs.declared.vec.Vec.{Vec}
-use Rattle.std.specs.declared.alloc.Global.{Global}
-use Rattle.proto_wire.specs.Fields.{Wire}
+use Rattle.smallvec.specs.SmallVec.{SmallVec}
+use Rattle.proto_wire.specs.Fields.{Wire, Fields}
 use Rattle.proto_wire.specs.Keys.{len_key, varint_key}
 use Rattle.proto_wire.specs.Merge.{Merges, parts_view}
 use Rattle.proto_wire.specs.Messages.{IsMessage, MessageFault}
@@ -65,12 +64,12 @@ IsEntry kind bytes entry =
 
 -- each payload is an entry, in order
 abbrev pub AreEntries : (kind : KeyKind) → List (List ℕ) → List (Entry kind) → Type 0
-AreEntries kind parts entries = AllZip (IsEntry kind) parts entries
+AreEntries kind parts es = AllZip (IsEntry kind) parts es
 
 -- the map of the entries: at each key the payloads of its last entry
 abbrev pub map_of : (kind : KeyKind) → List (Entry kind)
     → FinMap (key_cmp kind) (List (List ℕ))
-map_of kind entries = from_entries (reverse entries)
+map_of kind es = from_entries (reverse es)
 
 -- a fault of an entry: of its own fields, or of its key
 pub data EntryFault (kind : KeyKind) (bytes : List ℕ) (e : Refusal) : Type 0 where
@@ -103,12 +102,30 @@ AreValues kind IsValue named values = (key : KeyOf kind)
 -- the payloads of some key have this fault as a value
 abbrev pub SomeValueFault : (kind : KeyKind) → (List (List ℕ) → Refusal → Type 0)
     → List (Entry kind) → Refusal → Type 0
-SomeValueFault kind ValueFault entries e = (key : KeyOf kind) × (parts : List (List ℕ))
-    × (find (key_cmp kind) key entries ≡ Some parts) × ValueFault parts e
+SomeValueFault kind ValueFault es e = (key : KeyOf kind) × (parts : List (List ℕ))
+    × (find (key_cmp kind) key es ≡ Some parts) × ValueFault parts e
+
+-- the payloads are entries, and these are their values by key
+abbrev pub IsMap : (kind : KeyKind) {V : Type 0} → (List (List ℕ) → V → Type 0)
+    → List (List ℕ) → FinMap (key_cmp kind) V → Type 0
+IsMap kind IsValue parts values = (es : List (Entry kind)) × AreEntries kind parts es
+    × AreValues kind IsValue (map_of kind es) values
+
+-- a fault of a map: of an entry; of the value of a key; and of the value that an entry with a fault
+-- of its own holds, which is no part of the map
+pub data MapFault (kind : KeyKind) (ValueFault : List (List ℕ) → Refusal → Type 0)
+    (parts : List (List ℕ)) (e : Refusal) : Type 0 where
+  in_entry : SomeEntryFault kind parts e → MapFault kind ValueFault parts e
+  in_faulty_entry : (part : List ℕ) (own : List Wire) (reason : Refusal) → Contains parts part
+      → EntryFault kind part reason → Fields part own → payloads 2 own ≢ []
+      → ValueFault (payloads 2 own) e → MapFault kind ValueFault parts e
+  in_value : (read : List (Entry kind)) → Readable kind parts read
+      → SomeValueFault kind ValueFault (entries (map_of kind read)) e
+      → MapFault kind ValueFault parts e
 
 -- ---- the code's maps
 
 -- the keys and payloads of a map from keys to payloads, in order
 abbrev pub entries_view : {K : Type 0} (kind : KeyKind) → (K → KeyOf kind)
-    → List (K × Vec (Bor (List ℕ)) Global) → List (Entry kind)
+    → List (K × SmallVec (Bor (List ℕ))) → List (Entry kind)
 entries_view kind key_view es = map (λ e. (key_view e.0, parts_view e.1.items)) es

@@ -43,6 +43,13 @@ impl<'a> Payload<'a> {
     }
 }
 
+/// What lies in the unused places of a list.
+impl<'a> Default for Payload<'a> {
+    fn default() -> Payload<'a> {
+        Payload::Varint(0)
+    }
+}
+
 /// A field, as it stands in a message.
 #[derive(Clone, Copy, PartialEq, Eq, Debug)]
 pub struct Field<'a> {
@@ -50,4 +57,14 @@ pub struct Field<'a> {
     pub number: u32,
     /// What the field holds.
     pub payload: Payload<'a>,
+}
+
+/// What lies in the unused places of a list: no field has the number 0.
+impl<'a> Default for Field<'a> {
+    fn default() -> Field<'a> {
+        Field {
+            number: 0,
+            payload: Payload::default(),
+        }
+    }
 }

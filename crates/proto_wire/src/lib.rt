@@ -18,14 +18,14 @@ mod writer;
 pub use fault::WireError;
 pub use field::{Field, Payload, WireType};
 pub use key::{Key, all_known};
-pub use maps::{KeyOrder, MapKey, read_entries};
-pub use message::{read_fields, read_message, read_parts, require_known};
-pub use oneof::{last_member, member_run};
+pub use maps::{KeyOrder, MapEntry, MapKey, read_entries};
+pub use message::{MessageFields, read_fields, read_message, read_parts, require_known};
+pub use oneof::{MemberRun, last_member, member_run};
 pub use reader::Reader;
 pub use refusal::Refusal;
 pub use values::{
-    bool_at, bytes_at, has_field, int32_at, int64_at, last_len, last_varint, payloads_of, text_at,
-    text_of, uint32_at,
+    Payloads, bool_at, bytes_at, has_field, int32_at, int64_at, last_len, last_varint, payloads_of,
+    text_at, text_of, uint32_at,
 };
 pub use writer::Writer;
 

@@ -1,8 +1,9 @@
 //! Maps, which stand in a message as repeated entries with a key 1 and a value 2 (Protocol Buffers
 //! encoding guide, "Maps").
 
-ghost use Rattle.std.specs.Prelude.{◌≡◌, [], ◌∷◌, List, Err, IfOk, IfErr, MatchResult, map};
-ghost use Rattle.std.specs.FinMap.{entries};
+ghost use Rattle.std.specs.Prelude.{◌≡◌, [], ◌∷◌, List, T, true, Err, IfOk, IfErr, OnOk, MatchBool, MatchResult, map};
+ghost use Rattle.std.specs.FinMap.{entries, is_sorted};
+ghost use Rattle.std.specs.FinMap.Entries.{put};
 ghost use Rattle.proto_wire.specs.Fields.{field_view};
 ghost use Rattle.proto_wire.specs.Maps.{KeyKind, KeyOf, Entry, key_cmp, entry_keys, key_at, KeyReads, IsEntry, AreEntries, map_of, EntryFault, SomeEntryFault, entries_view};
 ghost use Rattle.proto_wire.specs.Merge.{FirstBreaks, parts_view};
@@ -14,8 +15,8 @@ use crate::key::Key;
 use crate::keys;
 use crate::message::read_message;
 use crate::refusal::Refusal;
-use crate::values::{int64_at, payloads_of, text_at};
-use std::alloc::Global;
+use crate::values::{Payloads, int64_at, payloads_of, text_at};
+use std::alloc::{AllocError, Global};
 use std::collections::BTreeMap;
 
 /// The field of an entry's key, by number.
@@ -106,10 +107,48 @@ impl<'a> MapKey<'a> for i64 {
 }
 
 /// An entry of a map: its key, and the payloads of its value.
-#[derive(Drop)]
-struct MapEntry<'a, K> {
-    key: K,
-    parts: Vec<&'a [u8]>,
+pub type MapEntry<'a, K> = (K, Payloads<'a>);
+
+/// Reads the entries of a map, of which each has a payload, as the payloads of the values in
+/// ascending order of keys: of the entries with one key the last counts. `BadWire` where an entry
+/// breaks, `UnknownField` where it has another field, `BadText` where its key is no UTF-8.
+pub fn read_entries<'a, K: MapKey<'a>>(
+    alloc: Global,
+    payloads: &[&'a [u8]],
+) -> Result<Vec<MapEntry<'a, K>>, Refusal>
+    ensures found { IfOk result (λ v. (es : List (Entry K.kind))
+        × AreEntries K.kind (parts_view payloads.now) es
+        × (entries_view K.kind K.key_view v.items ≡ entries (map_of K.kind es))) }
+    ensures fault { IfErr result (MemoryOr (SomeEntryFault K.kind (parts_view payloads.now))) }
+    ensures at_once { FirstBreaks (parts_view payloads.now) → result ≡ Err Refusal.BadWire }
+    ensures reads { (es : List (Entry K.kind)) → AreEntries K.kind (parts_view payloads.now) es
+        → MatchResult result (λ v. entries_view K.kind K.key_view v.items
+        ≡ entries (map_of K.kind es))
+        (λ e. e ≡ Refusal.Memory) }
+{
+    let entries = read_each(alloc, payloads)?;
+    if is_ascending(&entries) {
+        return Ok(entries);
+    }
+    Ok(last_of_each(alloc, entries)?)
+}
+
+/// Reads the entries in the order of their payloads.
+fn read_each<'a, K: MapKey<'a>>(
+    alloc: Global,
+    payloads: &[&'a [u8]],
+) -> Result<Vec<MapEntry<'a, K>>, Refusal>
+    ensures found { IfOk result (λ v. AreEntries K.kind (parts_view payloads.now)
+        (entries_view K.kind K.key_view v.items)) }
+    ensures fault { IfErr result (MemoryOr (SomeEntryFault K.kind (parts_view payloads.now))) }
+    ensures at_once { FirstBreaks (parts_view payloads.now) → result ≡ Err Refusal.BadWire }
+{
+    let mut entries = Vec::new(alloc);
+    for payload in payloads {
+        let entry = read_entry(alloc, payload)?;
+        entries.push(entry)?;
+    }
+    Ok(entries)
 }
 
 /// Reads an entry, which has a payload of its own.
@@ -118,37 +157,69 @@ fn read_entry<'a, K: MapKey<'a>>(
     payload: &'a [u8],
 ) -> Result<MapEntry<'a, K>, Refusal>
     ensures found { IfOk result (λ entry.
-        IsEntry K.kind payload.now (K.key_view entry.key, parts_view entry.parts.items)) }
+        IsEntry K.kind payload.now (K.key_view entry.0, parts_view entry.1.items)) }
     ensures fault { IfErr result (MemoryOr (EntryFault K.kind payload.now)) }
     ensures at_once { FirstBreaks (payload.now ∷ []) → result ≡ Err Refusal.BadWire }
 {
     let fields = read_message(alloc, &[payload], K::entry_keys())?;
     let key = K::read_key(&fields)?;
     let parts = payloads_of(alloc, &fields, VALUE)?;
-    Ok(MapEntry { key, parts })
+    Ok((key, parts))
 }
 
-/// Reads the entries of a map, of which each has a payload, as the payloads of the values by key:
-/// of the entries with one key the last counts. `BadWire` where an entry breaks, `UnknownField`
-/// where it has another field, `BadText` where its key is no UTF-8.
-pub fn read_entries<'a, K: MapKey<'a>>(
-    alloc: Global,
-    payloads: &[&'a [u8]],
-) -> Result<BTreeMap<K, Vec<&'a [u8]>>, Refusal>
-    ensures found { IfOk result (λ m. (es : List (Entry K.kind))
-        × AreEntries K.kind (parts_view payloads.now) es
-        × (entries_view K.kind K.key_view m.entries ≡ entries (map_of K.kind es))) }
-    ensures fault { IfErr result (MemoryOr (SomeEntryFault K.kind (parts_view payloads.now))) }
-    ensures at_once { FirstBreaks (parts_view payloads.now) → result ≡ Err Refusal.BadWire }
-    ensures reads { (es : List (Entry K.kind)) → AreEntries K.kind (parts_view payloads.now) es
-        → MatchResult result (λ m. entries_view K.kind K.key_view m.entries
-        ≡ entries (map_of K.kind es))
-        (λ e. e ≡ Refusal.Memory) }
+/// Whether the keys ascend, as most writers of maps have them. If so, no two are the same.
+fn is_ascending<'a, K: MapKey<'a>>(entries: &[MapEntry<'a, K>]) -> bool
+    ensures { MatchBool result
+        (T (is_sorted (key_cmp K.kind) (entries_view K.kind K.key_view entries.now))) (Unit {0}) }
 {
-    let mut named = BTreeMap::new(alloc);
-    for payload in payloads {
-        let entry = read_entry(alloc, payload)?;
-        named.insert(entry.key, entry.parts)?;
+    let mut index = 1;
+    while index < entries.len() {
+        if !entries[index - 1].0.cmp(&entries[index].0).is_lt() {
+            return false;
+        }
+        index += 1;
     }
-    Ok(named)
+    true
+}
+
+/// Of the entries with one key the last, in ascending order of keys.
+fn last_of_each<'a, K: MapKey<'a>>(
+    alloc: Global,
+    all: Vec<MapEntry<'a, K>>,
+) -> Result<Vec<MapEntry<'a, K>>, AllocError>
+    ensures { IfOk result (λ v. entries_view K.kind K.key_view v.items
+        ≡ entries (map_of K.kind (entries_view K.kind K.key_view all.entry.items))) }
+{
+    let mut last = BTreeMap::new(alloc);
+    for entry in all {
+        put_entry(&mut last, entry)?;
+    }
+    list_of(alloc, last)
+}
+
+/// Puts an entry in the place of another with its key.
+fn put_entry<'a, K: MapKey<'a>>(
+    map: &mut BTreeMap<K, Payloads<'a>>,
+    entry: MapEntry<'a, K>,
+) -> Result<(), AllocError>
+    ensures { OnOk result (entries_view K.kind K.key_view map.new.entries
+        ≡ put (key_cmp K.kind) (K.key_view entry.entry.0) (parts_view entry.entry.1.items)
+        (entries_view K.kind K.key_view map.old.entries)) }
+{
+    map.insert(entry.0, entry.1)?;
+    Ok(())
+}
+
+/// The entries of the map in order.
+fn list_of<'a, K: MapKey<'a>>(
+    alloc: Global,
+    mut map: BTreeMap<K, Payloads<'a>>,
+) -> Result<Vec<MapEntry<'a, K>>, AllocError>
+    ensures { IfOk result (λ v. v.items ≡ map.entry.entries) }
+{
+    let mut list = Vec::with_capacity(alloc, map.len())?;
+    while let Some(entry) = map.pop_first() {
+        list.push(entry)?;
+    }
+    Ok(list)
 }

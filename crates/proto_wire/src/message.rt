@@ -11,32 +11,36 @@ use crate::field::Field;
 use crate::key::{Key, all_known};
 use crate::reader::Reader;
 use crate::refusal::Refusal;
+use smallvec::SmallVec;
 use std::alloc::Global;
+
+/// The fields of a message, which has few: so many lie in the list itself, and more on the heap.
+pub type MessageFields<'a> = SmallVec<Field<'a>, 3>;
 
 /// The fields of a message, in order: `BadWire` where the bytes break, and `Memory` only once a
 /// field was there to keep.
-pub fn read_fields<'a>(alloc: Global, bytes: &'a [u8]) -> Result<Vec<Field<'a>>, Refusal>
+pub fn read_fields<'a>(alloc: Global, bytes: &'a [u8]) -> Result<MessageFields<'a>, Refusal>
     ensures found { IfOk result (λ v. Fields bytes.now (map field_view v.items)) }
     ensures fault { IfErr result (MemoryOr (λ e. IsBroken bytes.now × (e ≡ Refusal.BadWire))) }
     ensures at_once { FirstBreaks (bytes.now ∷ []) → result ≡ Err Refusal.BadWire }
     ensures reads { (fs : List Wire) → Fields bytes.now fs
         → MatchResult result (λ v. map field_view v.items ≡ fs) (λ e. e ≡ Refusal.Memory) }
 {
-    let mut fields = Vec::new(alloc);
+    let mut fields = MessageFields::new(alloc);
     append_fields(bytes, &mut fields)?;
     Ok(fields)
 }
 
 /// The fields of a message that stands in several payloads, each of them whole fields by itself:
 /// those of the payloads put one after the other. `BadWire` where a payload breaks.
-pub fn read_parts<'a>(alloc: Global, parts: &[&'a [u8]]) -> Result<Vec<Field<'a>>, Refusal>
+pub fn read_parts<'a>(alloc: Global, parts: &[&'a [u8]]) -> Result<MessageFields<'a>, Refusal>
     ensures found { IfOk result (λ v. Merges (parts_view parts.now) (map field_view v.items)) }
     ensures fault { IfErr result (MemoryOr (PartsFault (parts_view parts.now))) }
     ensures at_once { FirstBreaks (parts_view parts.now) → result ≡ Err Refusal.BadWire }
     ensures reads { (fs : List Wire) → Merges (parts_view parts.now) fs
         → MatchResult result (λ v. map field_view v.items ≡ fs) (λ e. e ≡ Refusal.Memory) }
 {
-    let mut fields = Vec::new(alloc);
+    let mut fields = MessageFields::new(alloc);
     for part in parts {
         append_fields(part, &mut fields)?;
     }
@@ -49,7 +53,7 @@ pub fn read_message<'a>(
     alloc: Global,
     parts: &[&'a [u8]],
     keys: &[Key],
-) -> Result<Vec<Field<'a>>, Refusal>
+) -> Result<MessageFields<'a>, Refusal>
     ensures found { IfOk result (λ v. IsMessage keys.now (parts_view parts.now)
         (map field_view v.items)) }
     ensures fault { IfErr result (MemoryOr (MessageFault keys.now (parts_view parts.now))) }
@@ -75,7 +79,7 @@ pub fn require_known(fields: &[Field<'_>], keys: &[Key]) -> Result<(), Refusal>
 }
 
 /// Puts the fields of a payload behind those that are there.
-fn append_fields<'a>(bytes: &'a [u8], fields: &mut Vec<Field<'a>>) -> Result<(), Refusal>
+fn append_fields<'a>(bytes: &'a [u8], fields: &mut MessageFields<'a>) -> Result<(), Refusal>
     ensures found { OnOk result ((fs : List Wire) × Fields bytes.now fs
         × (map field_view fields.new.items ≡ map field_view fields.old.items ++ fs)) }
     ensures fault { IfErr result (MemoryOr (λ e. IsBroken bytes.now × (e ≡ Refusal.BadWire))) }

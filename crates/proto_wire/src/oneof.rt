@@ -8,7 +8,11 @@ ghost use Rattle.proto_wire.specs.steps.Run.{run_with};
 
 use crate::field::Field;
 use crate::key::{Key, is_known};
+use smallvec::SmallVec;
 use std::alloc::{AllocError, Global};
+
+/// The occurrences of a member, of which there is nearly always one.
+pub type MemberRun<'a> = SmallVec<Field<'a>, 1>;
 
 /// Of a oneof of scalars the last member: the last field that has a member's key. It takes no
 /// memory.
@@ -30,11 +34,11 @@ pub fn member_run<'a>(
     alloc: Global,
     fields: &[Field<'a>],
     keys: &[Key],
-) -> Result<Vec<Field<'a>>, AllocError>
+) -> Result<MemberRun<'a>, AllocError>
     ensures { IfOk result (λ v. map field_view v.items
         ≡ member_run keys.now (map field_view fields.now)) }
 {
-    let mut run: Vec<Field<'a>> = Vec::new(alloc);
+    let mut run = MemberRun::new(alloc);
     for field in fields {
         if is_known(field, keys) {
             push_member(&mut run, *field)?;
@@ -44,7 +48,7 @@ pub fn member_run<'a>(
 }
 
 /// Puts a member's field behind the run where that has its number, and else begins a run with it.
-fn push_member<'a>(run: &mut Vec<Field<'a>>, field: Field<'a>) -> Result<(), AllocError>
+fn push_member<'a>(run: &mut MemberRun<'a>, field: Field<'a>) -> Result<(), AllocError>
     ensures { OnOk result (map field_view run.new.items
         ≡ run_with (map field_view run.old.items) (field_view field.entry)) }
 {

@@ -9,7 +9,11 @@ ghost use Rattle.proto_wire.specs.Values.{varint_in, len_in, varints, payloads, 
 
 use crate::field::{Field, Payload};
 use crate::refusal::Refusal;
+use smallvec::SmallVec;
 use std::alloc::{AllocError, Global};
+
+/// Payloads of one number, of which there is nearly always one.
+pub type Payloads<'a> = SmallVec<&'a [u8], 1>;
 
 /// The value of a singular scalar: that of the last VARINT field of this number.
 pub fn last_varint(fields: &[Field<'_>], number: u32) -> Option<u64>
@@ -43,10 +47,10 @@ pub fn payloads_of<'a>(
     alloc: Global,
     fields: &[Field<'a>],
     number: u32,
-) -> Result<Vec<&'a [u8]>, AllocError>
+) -> Result<Payloads<'a>, AllocError>
     ensures { IfOk result (λ v. parts_view v.items ≡ payloads number (map field_view fields.now)) }
 {
-    let mut parts = Vec::new(alloc);
+    let mut parts = Payloads::new(alloc);
     for field in fields {
         if let Some(bytes) = len_of(field, number) {
             parts.push(bytes)?;

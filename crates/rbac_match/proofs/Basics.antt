@@ -1,10 +1,12 @@
 -- Small facts on lists, texts and slices: empty or not, in a list or not, UTF-8 or not.
-use Rattle.std.proofs.Common.{◌≡◌, ◌≢◌, ◌⊎◌, inl, inr, ℕ, ◌<◌, List, [], ◌∷◌, length, Contains, Bor, refl, arith, ◌∙◌}
+use Rattle.std.proofs.Common.{◌≡◌, ◌≢◌, ◌⊎◌, inl, inr, ℕ, ◌<◌, true, false, List, [], ◌∷◌, Option, Some, None, MatchOption, is_some, length, Contains, Bor, refl, arith, ◌∙◌}
 use Rattle.std.specs.Str.{IsUtf8, is_utf8}
 pub use Rattle.std.proofs.lemmas.Bool.{cases_eq as same_or_not}
 use Rattle.std.proofs.lemmas.Bool.{cases_Bool, both_ways}
 use Rattle.std.proofs.lemmas.List.Elements.{Contains-append_left, Contains-append_right, Contains-append_cases, Contains-push_cases, Contains-push}
 use Rattle.proto_wire.specs.Merge.{parts_view}
+use Rattle.proto_wire.specs.Values.{last_of}
+use Rattle.proto_wire.proofs.ValueLemmas.{last_of_none}
 use Rattle.std.proofs.lemmas.Str.{IsUtf8-from_is_utf8, is_utf8-from_IsUtf8}
 
 -- a list is empty or has a first element
@@ -33,6 +35,12 @@ utf8_or_not bytes = elim (cases_Bool (is_utf8 bytes)) [
   | inl is ↦ inl (IsUtf8-from_is_utf8 bytes is)
   | inr other ↦ inr (λ utf8. both_ways (is_utf8 bytes) other (is_utf8-from_IsUtf8 bytes utf8))
 ]
+
+-- payloads of which there is no last one are none
+pub none_by_last : (last : Option (Bor (List ℕ))) (xs : List (List ℕ))
+    → MatchOption last (last_of xs ≡ None) (λ t. last_of xs ≡ Some t.now) → is_some last ≡ false → xs ≡ []
+none_by_last None xs none is = last_of_none xs none
+none_by_last (Some t) xs at is = let clash : true ≡ false = is in absurd cc
 
 -- payloads that the code has as some slices are some
 pub payloads_some : (slices : List (Bor (List ℕ))) (payloads : List (List ℕ))

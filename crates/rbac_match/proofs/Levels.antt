@@ -1,8 +1,9 @@
 -- One level of a rule, from its last member and the rules in it.
-use Rattle.std.proofs.Common.{◌≡◌, ℕ, zero, suc, ◌-◌, ◌<◌, List, [], ◌∷◌, ◌++◌, refl, rules, arith, Contains, Bor, get_or, length}
+use Rattle.std.proofs.Common.{◌≡◌, ℕ, zero, suc, ◌-◌, ◌<◌, List, [], ◌∷◌, ◌++◌, ◌==◌, cond, Option, map, refl, rules, arith, Contains, get_or, length}
 use Rattle.std.specs.Prelude.{MatchOption, Some, None}
-use Rattle.proto_wire.specs.Fields.{Wire}
-use Rattle.proto_wire.specs.Merge.{parts_view}
+use Rattle.proto_wire.specs.Fields.{Wire, field_view, payload_view}
+use Rattle.proto_wire.specs.Values.{len_in, payloads}
+use Rattle.proto_wire.specs.declared.field.Field.{Field}
 use Rattle.proto_wire.specs.Messages.{IsMessage}
 use Rattle.proto_wire.specs.Oneof.{member_run, last_number, member_in}
 use Rattle.proto_wire.specs.declared.refusal.Refusal.{Refusal}
@@ -38,20 +39,27 @@ pub or_view : (v : Vec Rule Global) → rule_view (Or v) ≡ or_of (rules_view v
 or_view v = search (rules, the_lemmas)
 
 -- one rule more
-pub are_rules_push : (Below : List (List ℕ) → Formula → Type 0) (children : List (Bor (List ℕ))) (rules : List Rule) (child : Bor (List ℕ)) (rule : Rule)
-    → AreRules Below (parts_view children) (rules_view rules) → Below (child.now ∷ []) (rule_view rule)
-    → AreRules Below (parts_view (children ++ child ∷ [])) (rules_view (rules ++ rule ∷ []))
+pub are_rules_push : (Below : List (List ℕ) → Formula → Type 0) (children : List (List ℕ)) (rules : List Rule) (child : List ℕ) (rule : Rule)
+    → AreRules Below children (rules_view rules) → Below (child ∷ []) (rule_view rule)
+    → AreRules Below (children ++ child ∷ []) (rules_view (rules ++ rule ∷ []))
 are_rules_push Below [] [] child rule are is = (is, tt)
 are_rules_push Below [] (r ∷ rules) child rule are is = absurd are
 are_rules_push Below (c ∷ children) [] child rule are is = absurd are
 are_rules_push Below (c ∷ children) (r ∷ rules) child rule are is = (are.0, are_rules_push Below children rules child rule are.1 is)
 
--- the text at a place is one of the texts
-pub text_in : (slices : List (Bor (List ℕ))) (i : ℕ) (d : Bor (List ℕ)) → i < length slices
-    → Contains (parts_view slices) (get_or slices i d).now
-text_in [] i d within = absurd (omega arith)
-text_in (s ∷ slices) zero d within = contains_first s.now (parts_view slices)
-text_in (s ∷ slices) (suc i) d within = contains_later s.now (get_or slices i d).now (parts_view slices) (text_in slices i d (omega arith))
+-- the payload of a field of this number is one of them
+pub payload_in : (k : ℕ) (fields : List Field) (i : ℕ) (d : Field) (bytes : List ℕ) → i < length fields
+    → cond ((get_or fields i d).number == k) (len_in (payload_view (get_or fields i d).payload)) None ≡ Some bytes
+    → Contains (payloads k (map field_view fields)) bytes
+payload_in k [] i d bytes within is = absurd (omega arith)
+payload_in k (f ∷ fields) zero d bytes within is = rw is (contains_first bytes (payloads k (map field_view fields)))
+payload_in k (f ∷ fields) (suc i) d bytes within is =
+    let rest = payload_in k fields i d bytes (omega arith) is in
+    let here : Option (List ℕ) = cond (f.number == k) (len_in (payload_view f.payload)) None in
+    elim here as (λ o. here ≡ o → Contains (payloads k (map field_view (f ∷ fields))) bytes) [
+      | None ↦ λ none. rw none rest
+      | Some first ↦ λ some. rw some (contains_later first bytes (payloads k (map field_view fields)) rest)
+    ] refl
 
 -- of a message whose fields are known, and where a level is left
 module _ (side : Side) (depth : ℕ) (parts : List (List ℕ)) (fs : List Wire) (message : IsMessage (rule_keys side) parts fs) (more : 0 < depth) where

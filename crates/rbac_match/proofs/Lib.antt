@@ -1,6 +1,7 @@
 pub mod Basics
 pub mod Exits
 pub mod Oneofs
+pub mod Runs
 pub mod Substrings
 pub mod Texts
 pub mod Decimals

@@ -60,7 +60,8 @@ pub(crate) fn read_cidr(alloc: Global, parts: &[&[u8]]) -> Result<Cidr, Refusal>
 {
     let fields = read_message(alloc, parts, &CIDR_RANGE)?;
     let address = address_prefix(&fields)?;
-    let length = read_uint32(alloc, &payloads_of(alloc, &fields, PREFIX_LEN)?)?;
+    let size = payloads_of(alloc, &fields, PREFIX_LEN)?;
+    let length = read_uint32(alloc, &size)?;
     range_of(address, length)
 }
 

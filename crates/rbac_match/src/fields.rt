@@ -1,14 +1,13 @@
-//! What is asked of a message's fields: the last member of a oneof, a payload that must be there, a
-//! bool that must be true.
+//! What is asked of a message's fields: the last member of a oneof and its run, a payload that must
+//! be there, a bool that must be true.
 
-ghost use Rattle.std.specs.Prelude.{◌≡◌, ◌≢◌, [], map, OnOk, IfErr};
-ghost use Rattle.proto_wire.specs.Fields.{field_view};
-ghost use Rattle.proto_wire.specs.Merge.{parts_view};
-ghost use Rattle.proto_wire.specs.Values.{varint_at};
+ghost use Rattle.std.specs.Prelude.{◌≡◌, ◌≢◌, ◌==◌, cond, Some, None, [], map, MatchOption, OnOk, IfErr};
+ghost use Rattle.proto_wire.specs.Fields.{field_view, payload_view};
+ghost use Rattle.proto_wire.specs.Values.{len_in, payloads, varint_at};
 ghost use Rattle.proto_wire.specs.declared.refusal.Refusal.TheVariants.{Missing, OutOfRange};
-ghost use Rattle.proto_wire.specs.Oneof.{last_number};
+ghost use Rattle.proto_wire.specs.Oneof.{last_number, trailing_run};
 
-use proto_wire::{Field, Key, Refusal, bool_at, last_member};
+use proto_wire::{Field, Key, Payload, Refusal, bool_at, last_len, last_member};
 
 /// Of a oneof, whose members have these keys, the number of the last member.
 pub(crate) fn last_number(fields: &[Field<'_>], keys: &[Key]) -> Option<u32>
@@ -17,12 +16,44 @@ pub(crate) fn last_number(fields: &[Field<'_>], keys: &[Key]) -> Option<u32>
     last_member(fields, keys).map(|field| field.number)
 }
 
-/// Refuses a message that must be there, and is in no payload.
-pub(crate) fn require_payload(payloads: &[&[u8]]) -> Result<(), Refusal>
-    ensures found { OnOk result (parts_view payloads.now ≢ []) }
-    ensures fault { IfErr result (λ e. (parts_view payloads.now ≡ []) × (e ≡ Missing)) }
+/// The longest end of the fields that all have one number. Where all fields are members of one oneof,
+/// it is the run of the last.
+pub(crate) fn trailing_run<'a, 'b>(fields: &'b [Field<'a>]) -> &'b [Field<'a>]
+    ensures { map field_view result.now ≡ trailing_run (map field_view fields.now) }
 {
-    if payloads.is_empty() {
+    let mut start = 0;
+    for (place, field) in fields.iter().enumerate() {
+        if fields[start].number != field.number {
+            start = place;
+        }
+    }
+    &fields[start..]
+}
+
+/// The payload of a LEN field of this number.
+pub(crate) fn payload_of<'a>(field: &Field<'a>, number: u32) -> Option<&'a [u8]>
+    ensures { let bytes = len_in (payload_view field.now.payload) in
+        let found = cond (field.now.number == number) bytes None in
+        MatchOption result (found ≡ None) (λ bytes. found ≡ Some bytes.now) }
+{
+    match field.payload {
+        Payload::Len(bytes) if field.number == number => Some(bytes),
+        _ => None,
+    }
+}
+
+/// How many fields have this number, which is room enough for what their payloads hold.
+pub(crate) fn count_of(fields: &[Field<'_>], number: u32) -> usize {
+    fields.iter().filter(|field| field.number == number).count()
+}
+
+/// Refuses a message that must be there, and is in no payload of this number.
+pub(crate) fn require_payload(fields: &[Field<'_>], number: u32) -> Result<(), Refusal>
+    ensures found { OnOk result (payloads number (map field_view fields.now) ≢ []) }
+    ensures fault { IfErr result (λ e. (payloads number (map field_view fields.now) ≡ [])
+        × (e ≡ Missing)) }
+{
+    if last_len(fields, number).is_none() {
         return Err(Refusal::Missing);
     }
     Ok(())

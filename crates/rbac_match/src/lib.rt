@@ -21,5 +21,5 @@ mod search;
 mod text;
 
 pub use matching::any_matches;
-pub use read::{RULE_DEPTH, read_rules};
+pub use read::{RULE_DEPTH, read_rule, read_rules};
 pub use rule::{Rule, Side};

@@ -2,13 +2,13 @@
 
 ghost use Rattle.std.specs.Prelude.{◌≡◌, Some, None, IfOk, IfErr, MatchOption, map};
 ghost use Rattle.proto_wire.specs.Fields.{field_view};
+ghost use Rattle.proto_wire.specs.Keys.{AllKnown};
 ghost use Rattle.proto_wire.specs.declared.refusal.Refusal.TheVariants.{Missing, Unsupported};
 ghost use Rattle.rbac_match.specs.Message.{members, rule_keys};
 ghost use Rattle.proto_wire.specs.Oneof.{last_number, member_in};
 
 use crate::cidr::AddressSource;
-use crate::fields::last_number;
-use crate::keys::{AND, ANY, NOT, OR, permission, principal, rule_keys};
+use crate::keys::{AND, ANY, NOT, OR, permission, principal};
 use crate::rule::Side;
 use proto_wire::{Field, Refusal};
 
@@ -87,9 +87,10 @@ fn member_at(side: Side, number: u32) -> Option<Member>
     }
 }
 
-/// The last member of a rule's fields: `Missing` without one, `Unsupported` where it is one that is
-/// not supported.
+/// The last member of a rule's fields, which are all members: `Missing` without one, `Unsupported`
+/// where it is one that is not supported.
 pub(crate) fn last_member(side: Side, fields: &[Field<'_>]) -> Result<LastMember, Refusal>
+    requires { AllKnown (rule_keys side) (map field_view fields.now) }
     ensures found { IfOk result (λ last.
         (last_number (rule_keys side) (map field_view fields.now) ≡ Some last.number)
         × (member_in (members side) last.number ≡ Some last.member)) }
@@ -97,9 +98,10 @@ pub(crate) fn last_member(side: Side, fields: &[Field<'_>]) -> Result<LastMember
         (last_number (rule_keys side) (map field_view fields.now))
         (e ≡ Missing) (λ n. (member_in (members side) n ≡ None) × (e ≡ Unsupported))) }
 {
-    let Some(number) = last_number(fields, rule_keys(side)) else {
+    let Some(last) = fields.last() else {
         return Err(Refusal::Missing);
     };
+    let number = last.number;
     match member_at(side, number) {
         Some(member) => Ok(LastMember { member, number }),
         None => Err(Refusal::Unsupported),

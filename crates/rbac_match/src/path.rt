@@ -25,8 +25,8 @@ pub(crate) fn read_path_matcher(alloc: Global, parts: &[&[u8]]) -> Result<TextMa
     ensures fault { IfErr result (MemoryOr (PathFault (parts_view parts.now))) }
 {
     let fields = read_message(alloc, parts, path_keys())?;
+    require_payload(&fields, PATH)?;
     let path = payloads_of(alloc, &fields, PATH)?;
-    require_payload(&path)?;
     read_text_matcher(alloc, &path)
 }
 

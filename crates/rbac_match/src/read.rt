@@ -4,16 +4,17 @@ ghost use Rattle.std.specs.Prelude.{◌≡◌, ◌<◌, Some, IfOk, IfErr, OnOk,
 ghost use Rattle.proto_wire.specs.Fields.{field_view};
 ghost use Rattle.proto_wire.specs.Merge.{parts_view};
 ghost use Rattle.proto_wire.specs.Refusal.{MemoryOr};
+ghost use Rattle.proto_wire.specs.Values.{payloads};
 ghost use Rattle.proto_wire.specs.declared.refusal.Refusal.TheVariants.{TooLarge};
 ghost use Rattle.rbac_match.specs.Rules.{IsRule, AreRules, IsSet, MemberSays, RuleFault, SomeRuleFault, SetFault, MemberFault};
 ghost use Rattle.rbac_match.specs.View.{rule_view, rules_view};
 
-use crate::fields::{require_payload, require_true};
+use crate::fields::{count_of, payload_of, require_payload, require_true, trailing_run};
 use crate::keys::{RULES, rule_keys, set_keys};
 use crate::leaf::read_leaf;
 use crate::member::{LastMember, Member, last_member};
 use crate::rule::{Rule, Side};
-use proto_wire::{Field, Refusal, member_run, payloads_of, read_message};
+use proto_wire::{Field, Refusal, payloads_of, read_message};
 use std::alloc::Global;
 
 /// How many levels a permission or a principal may have; a rule that stands in no other is level 1.
@@ -22,7 +23,7 @@ pub const RULE_DEPTH: u32 = 32;
 /// Reads a rule of at most `depth` levels, whose message stands in the parts. The depth is looked
 /// at before anything of the rule is read.
 #[cycle(rule)]
-fn read_rule(alloc: Global, side: Side, parts: &[&[u8]], depth: u32) -> Result<Rule, Refusal>
+pub fn read_rule(alloc: Global, side: Side, parts: &[&[u8]], depth: u32) -> Result<Rule, Refusal>
     ensures found { IfOk result (λ rule. IsRule side depth (parts_view parts.now)
         (rule_view rule)) }
     ensures fault { IfErr result (MemoryOr (RuleFault side depth (parts_view parts.now))) }
@@ -30,8 +31,8 @@ fn read_rule(alloc: Global, side: Side, parts: &[&[u8]], depth: u32) -> Result<R
     require_level(depth)?;
     let fields = read_message(alloc, parts, rule_keys(side))?;
     let last = last_member(side, &fields)?;
-    let run = member_run(alloc, &fields, rule_keys(side))?;
-    read_member(alloc, side, last, &run, depth - 1)
+    let run = trailing_run(&fields);
+    read_member(alloc, side, last, run, depth - 1)
 }
 
 /// Reads a rule from the run of its last member; the rules in it may have `depth` levels.
@@ -81,27 +82,31 @@ fn read_set(alloc: Global, side: Side, parts: &[&[u8]], depth: u32) -> Result<Ve
         (parts_view parts.now))) }
 {
     let fields = read_message(alloc, parts, set_keys())?;
-    let payloads = payloads_of(alloc, &fields, RULES)?;
-    require_payload(&payloads)?;
-    read_rules(alloc, side, &payloads, depth)
+    require_payload(&fields, RULES)?;
+    read_rules(alloc, side, &fields, RULES, depth)
 }
 
-/// Reads rules of at most `depth` levels, each of which has one payload.
+/// Reads the rules of this number among a message's fields, each of at most `depth` levels and in
+/// one payload. Their list is made to size.
 #[cycle(rule)]
 pub fn read_rules(
     alloc: Global,
     side: Side,
-    payloads: &[&[u8]],
+    fields: &[Field<'_>],
+    number: u32,
     depth: u32,
 ) -> Result<Vec<Rule>, Refusal>
-    ensures found { IfOk result (λ rules. AreRules (IsRule side depth) (parts_view payloads.now)
-        (rules_view rules.items)) }
-    ensures fault { IfErr result (MemoryOr (SomeRuleFault side depth (parts_view payloads.now))) }
+    ensures found { IfOk result (λ rules. AreRules (IsRule side depth)
+        (payloads number (map field_view fields.now)) (rules_view rules.items)) }
+    ensures fault { IfErr result (MemoryOr
+        (SomeRuleFault side depth (payloads number (map field_view fields.now)))) }
 {
-    let mut rules = Vec::new(alloc);
-    for payload in payloads {
-        let rule = read_rule(alloc, side, &[*payload], depth)?;
-        rules.push(rule)?;
+    let mut rules = Vec::with_capacity(alloc, count_of(fields, number))?;
+    for field in fields {
+        if let Some(payload) = payload_of(field, number) {
+            let rule = read_rule(alloc, side, &[payload], depth)?;
+            rules.push(rule)?;
+        }
     }
     Ok(rules)
 }

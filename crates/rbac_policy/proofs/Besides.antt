@@ -1,5 +1,5 @@
 -- Lists of names with something at each, one beside the other, and maps that relate name by name.
-use Rattle.std.proofs.Common.{◌≡◌, ℕ, Bool, true, false, cond, T, IsTrue, ◌&&◌, List, [], ◌∷◌, Option, Some, None, MatchOption, IsSomeAnd, refl, sym, ap, ◌∙◌}
+use Rattle.std.proofs.Common.{◌≡◌, ℕ, Bool, true, false, cond, T, IsTrue, ◌&&◌, List, [], ◌∷◌, length, arith, Option, Some, None, MatchOption, IsSomeAnd, refl, sym, ap, ◌∙◌}
 use Rattle.std.specs.Ordering.{eq_by_cmp, is_eq, is_lt}
 use Rattle.std.specs.Cmp.{tied_itself}
 use Rattle.std.specs.Cmp.Lexicographic.{nat_list_cmp_total}
@@ -78,6 +78,13 @@ module _ {A B : Type 0} (R : A → B → Type 0) where
   sorted_beside (a ∷ xs) bs (b, others, is, rest, made) =
       rw made (ap (λ t. t && is_sorted name_cmp xs) (below_beside a.0 xs others rest)
       ∙ ap (λ t. below_all name_cmp a.0 others && t) (sorted_beside xs others rest))
+
+  -- they are as many
+  pub beside_length : (xs : List (List ℕ × A)) (bs : List (List ℕ × B)) → Beside xs bs → length xs ≡ length bs
+  beside_length [] bs beside = rw beside refl
+  beside_length (a ∷ xs) bs (b, others, is, rest, made) =
+      let same = beside_length xs others rest in
+      rw made (omega (arith, same))
 
   -- the maps of the two relate name by name
   pub beside_maps : (xs : List (List ℕ × A)) (bs : List (List ℕ × B)) → Beside xs bs → (name : List ℕ)

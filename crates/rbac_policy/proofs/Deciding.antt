@@ -250,7 +250,7 @@ module _ (enforced : Filter Program) (items : List NamedPolicy) (ordered : IsTru
         let is = admitted.2 in
         beside_map (Stands limits r valid) filter.policies (named_views items) (t_of _ ordered) (λ name.
         subst (λ o. MatchOption o (get filter.policies name ≡ None) (λ v. IsSomeAnd (get filter.policies name) (Stands limits r valid v))) (enforced_at name)
-        (each_stands (get filter.policies name) (get enforced.policies name) _ (is.enforces.policies name) (is.message.rules.policies name)))
+        (each_stands (get filter.policies name) (get enforced.policies name) _ (is.enforces.policies name) (is.admissible.message.rules.policies.2 name)))
 
     pub order : T (is_sorted name_cmp listed.0)
     order = subst T (sorted_beside (Stands limits r valid) (named_views items) listed.0 listed.1) (t_of _ ordered)

@@ -1,7 +1,7 @@
 -- What is enforced of policies, in lists and in maps, and what their conditions cost together.
-use Rattle.std.proofs.Common.{arith, ◌≡◌, ◌≢◌, ◌≤◌, ◌+◌, ◌⊎◌, inl, inr, ℕ, List, [], ◌∷◌, ◌++◌, Option, Some, None, MatchOption, IsSomeAnd, T, refl, sym, ap, subst, ◌∙◌, zero-add}
+use Rattle.std.proofs.Common.{arith, ◌≡◌, ◌≢◌, ◌≤◌, ◌+◌, ◌⊎◌, ◌↔◌, inl, inr, ℕ, List, [], ◌∷◌, ◌++◌, Option, Some, None, MatchOption, IsSomeAnd, T, refl, sym, ap, subst, ◌∙◌, zero-add}
 use Rattle.std.specs.Cmp.Lexicographic.{nat_list_cmp_total}
-use Rattle.std.specs.FinMap.{FinMap, entries, entries_sorted, find, from_entries, get, get-entries, is_sorted, same_map}
+use Rattle.std.specs.FinMap.{FinMap, entries, entries_sorted, find, from_entries, get, get-entries, get-from_entries, is_sorted, same_map}
 use Rattle.attributes.specs.Headers.{name_cmp}
 use Rattle.attributes.specs.Limits.{LimitsValue}
 use Rattle.cel_tree.specs.Checked.{CelChecked}
@@ -16,6 +16,7 @@ use Rattle.proto_wire.proofs.MapOrder.{entries_from_entries}
 use Rattle.proto_wire.proofs.Unique.{merges_unique}
 use Rattle.rbac_match.specs.Formula.{Formulas}
 use Rattle.rbac_policy.specs.Condition.{IsProgramOf, Program}
+use Rattle.rbac_policy.specs.Costs.{Costs, FilterCosts, PoliciesCost, PolicyCosts}
 use Rattle.rbac_policy.specs.Enforced.{Enforces, EnforcesPolicy, bound_of, bounds_of, total_bound}
 use Rattle.rbac_policy.specs.Fault.{PolicyHas, SomeCost}
 use Rattle.rbac_policy.specs.Filter.{Filter, Policy}
@@ -24,7 +25,7 @@ use Rattle.rbac_policy.specs.Message.{IsCondition, IsPolicy}
 use Rattle.rbac_policy.specs.declared.filter.Action.{Action}
 use Rattle.rbac_policy.specs.steps.Conditions.{IsEnforced}
 use Rattle.rbac_policy.proofs.Besides.{Beside, beside_find, beside_map, beside_maps, in_a_row, name_same, sorted_beside}
-use Rattle.rbac_policy.proofs.Programs.{nothing_read, program_unique}
+use Rattle.rbac_policy.proofs.Programs.{cost_unique, nothing_read, program_costs, program_of_cost, program_unique}
 
 module _ (limits : LimitsValue) where
   -- ---- one policy
@@ -114,16 +115,16 @@ module _ (limits : LimitsValue) where
   pub cost_of_one : (n : Entry text) (more : List (Entry text)) (cost : ℕ) → SomeCost limits (n ∷ []) cost
       → SomeCost limits (n ∷ more) cost
   cost_of_one n more cost (inl none) = inl (rw none (costs_nothing more))
-  cost_of_one n more cost (inr (c, p, rest, has, is, none, sum)) =
-      inr (c, p, 0, has, is, costs_nothing more, sum ∙ ap (λ k. p.bound + k) none)
+  cost_of_one n more cost (inr (c, own, rest, has, is, none, sum)) =
+      inr (c, own, 0, has, is, costs_nothing more, sum ∙ ap (λ k. own + k) none)
 
   -- the costs of some policies and of some that follow
   pub costs_append : (ns ms : List (Entry text)) (a b : ℕ) → SomeCost limits ns a → SomeCost limits ms b
       → SomeCost limits (ns ++ ms) (a + b)
   costs_append [] ms a b g h = rw (g, zero-add b) h
   costs_append (n ∷ ns) ms a b (inl g) h = inl (costs_append ns ms a b g h)
-  costs_append (n ∷ ns) ms a b (inr (c, p, rest, has, is, g, sum)) h =
-      inr (c, p, rest + b, has, is, costs_append ns ms rest b g h, omega (arith, sum))
+  costs_append (n ∷ ns) ms a b (inr (c, own, rest, has, is, g, sum)) h =
+      inr (c, own, rest + b, has, is, costs_append ns ms rest b g h, omega (arith, sum))
 
   -- what is enforced of a policy costs that
   pub one_costs : (n : Entry text) (more : List (Entry text)) (v : Policy Program) (cost : ℕ)
@@ -137,7 +138,15 @@ module _ (limits : LimitsValue) where
       by None q reads none = inl (rw (none, zero-add cost) others)
       by (Some c) None reads h = absurd h
       by (Some c) (Some q) reads h =
-          inr (c, q, cost, record { fs = is.fs; merges = is.message.0; reads = reads.1 }, h, others, refl)
+          inr (
+            c,
+            q.bound,
+            cost,
+            record { fs = is.fs; merges = is.message.0; reads = reads.1 },
+            program_costs limits c q h,
+            others,
+            refl,
+          )
 
   -- so do all
   pub all_cost : (ns : List (Entry text)) (vs : List (List ℕ × Policy Program))
@@ -155,21 +164,119 @@ module _ (limits : LimitsValue) where
   cost_most (n ∷ ns) vs cost (v, others, is, rest, made) (inl skipped) =
       let most = cost_most ns others cost rest skipped in
       rw made (omega (arith, most))
-  cost_most (n ∷ ns) vs cost (v, others, (p, is, enforces), rest, made) (inr (c, q, less, has, of, g, sum)) =
+  cost_most (n ∷ ns) vs cost (v, others, (p, is, enforces), rest, made) (inr (c, own, less, has, costs, g, sum)) =
       let most = cost_most ns others less rest g in
       let reads : IsChecked (payloads checked_condition_field is.fs) c =
       subst (λ fs. IsChecked (payloads checked_condition_field fs) c) (merges_unique n.1 has.fs is.fs has.merges is.message.0) has.reads in
-      let same : q.bound ≤ bound_of v.condition = by reads p.condition v.condition is.condition enforces.condition in
+      let same : own ≤ bound_of v.condition = by reads p.condition v.condition is.condition enforces.condition in
       rw made (omega (arith, most, same, sum))
     where
       by : IsChecked (payloads checked_condition_field is.fs) c → (d : Option CelChecked) (x : Option Program)
           → IsCondition (payloads checked_condition_field is.fs) d
-          → MatchOption d (x ≡ None) (λ e. IsSomeAnd x (IsProgramOf limits e)) → q.bound ≤ bound_of x
+          → MatchOption d (x ≡ None) (λ e. IsSomeAnd x (IsProgramOf limits e)) → own ≤ bound_of x
       by reads None x none h =
           absurd (nothing_read c (subst (λ parts. IsChecked parts c) none reads))
       by reads (Some d) None there h = absurd h
       by reads (Some d) (Some x) there h =
           let one : c ≡ d = checked_unique (payloads checked_condition_field is.fs) c d reads there.1 in
-          let same : q ≡ x = program_unique limits d q x (subst (λ e. IsProgramOf limits e q) one of) h in
-          let bounds : q.bound ≡ x.bound = ap (λ y. y.bound) same in
-          omega (arith, bounds)
+          let same : own ≡ x.bound = cost_unique limits d own x.bound (subst (λ e. Costs limits e own) one costs) (program_costs limits d x h) in
+          omega (arith, same)
+
+  -- ---- what a filter costs
+
+  -- what is enforced of policies may take what they cost
+  policies_cost : (ps : List (List ℕ × Policy CelChecked)) (vs : List (List ℕ × Policy Program))
+      → Beside (EnforcesPolicy limits) ps vs → PoliciesCost limits ps (bounds_of vs)
+  policies_cost [] vs beside = rw beside refl
+  policies_cost (p ∷ ps) vs (v, others, is, rest, made) = rw made (
+    bound_of v.condition,
+    bounds_of others,
+    by p.1.condition v.condition is.condition,
+    policies_cost ps others rest,
+    refl,
+  )
+    where
+      by : (c : Option CelChecked) (q : Option Program) → MatchOption c (q ≡ None) (λ d. IsSomeAnd q (IsProgramOf limits d))
+          → MatchOption c (bound_of q ≡ 0) (λ d. Costs limits d (bound_of q))
+      by None None none = refl
+      by None (Some q) none = let clash : Some q ≡ None = none in cc
+      by (Some c) None is = absurd is
+      by (Some c) (Some q) is = program_costs limits c q is
+
+  -- so may what is enforced of a filter
+  pub enforced_costs : (filter : Filter CelChecked) (enforced : Filter Program) → Enforces limits filter enforced
+      → FilterCosts limits filter (total_bound enforced)
+  enforced_costs filter enforced enforces =
+      let each : (name : List ℕ) → MatchOption (find name_cmp name (entries filter.policies)) (get enforced.policies name ≡ None)
+      (λ policy. IsSomeAnd (get enforced.policies name) (EnforcesPolicy limits policy)) =
+      (λ name. rw (← get-entries filter.policies name) (enforces.policies name)) in
+      let it = beside_map (EnforcesPolicy limits) enforced.policies (entries filter.policies) (entries_sorted filter.policies) each in
+      let order = subst (λ b. T b) (sorted_beside (EnforcesPolicy limits) (entries filter.policies) it.0 it.1) (entries_sorted filter.policies) in
+      let sum : total_bound enforced ≡ bounds_of it.0 =
+      ap (λ m. bounds_of (entries m)) it.2 ∙ ap bounds_of (entries_from_entries name_cmp nat_list_cmp_total it.0 order) in
+      rw sum (policies_cost (entries filter.policies) it.0 it.1)
+
+  -- policies have one cost at most
+  pub costs_unique : (ps : List (List ℕ × Policy CelChecked)) (m n : ℕ) → PoliciesCost limits ps m
+      → PoliciesCost limits ps n → m ≡ n
+  costs_unique [] m n a b = a ∙ sym b
+  costs_unique (p ∷ ps) m n (x, rest, is, others, sum) (y, more, also, those, total) =
+      let own : x ≡ y = one p.1.condition is also in
+      let same : rest ≡ more = costs_unique ps rest more others those in
+      omega (arith, sum, total, own, same)
+    where
+      one : (c : Option CelChecked) → MatchOption c (x ≡ 0) (λ d. Costs limits d x)
+          → MatchOption c (y ≡ 0) (λ d. Costs limits d y) → x ≡ y
+      one None a b = a ∙ sym b
+      one (Some c) a b = cost_unique limits c x y a b
+
+  -- the program of a condition that costs something
+  condition_enforced : (c : Option CelChecked) (cost : ℕ) → MatchOption c (cost ≡ 0) (λ d. Costs limits d cost)
+      → (q : Option Program) × MatchOption c (q ≡ None) (λ d. IsSomeAnd q (IsProgramOf limits d))
+      × (bound_of q ≡ cost)
+  condition_enforced None cost none = (None, refl, sym none)
+  condition_enforced (Some c) cost is =
+      let it = program_of_cost limits c cost is in (Some it.0, it.1, it.2)
+
+  -- what is enforced of policies that cost something
+  policies_enforced : (ps : List (List ℕ × Policy CelChecked)) (cost : ℕ) → PoliciesCost limits ps cost
+      → (vs : List (List ℕ × Policy Program)) × Beside (EnforcesPolicy limits) ps vs × (bounds_of vs ≡ cost)
+  policies_enforced [] cost none = ([], refl, sym none)
+  policies_enforced (p ∷ ps) cost (own, rest, is, others, sum) =
+      let q = condition_enforced p.1.condition own is in
+      let more = policies_enforced ps rest others in
+      let v : Policy Program = record {
+        permissions = p.1.permissions;
+        principals = p.1.principals;
+        condition = q.0;
+      } in
+      let same = q.2 in
+      let total = more.2 in (
+        (p.0, v) ∷ more.0,
+        (v, more.0, record { permissions = refl; principals = refl; condition = q.1 }, more.1, refl),
+        omega (arith, sum, same, total),
+      )
+
+  -- of a filter that costs something, what may take that much is enforced
+  pub enforced_there : (filter : Filter CelChecked) (cost : ℕ) → FilterCosts limits filter cost
+      → (enforced : Filter Program) × Enforces limits filter enforced × (total_bound enforced ≡ cost)
+  enforced_there filter cost costs =
+      let it = policies_enforced (entries filter.policies) cost costs in
+      let order : T (is_sorted name_cmp it.0) =
+      subst T (sorted_beside (EnforcesPolicy limits) (entries filter.policies) it.0 it.1) (entries_sorted filter.policies) in (
+        record { action = filter.action; policies = from_entries it.0 },
+        record {
+          action = refl;
+          policies = λ name. rw (get-entries filter.policies name, get-from_entries nat_list_cmp_total it.0 name)
+              (beside_find (EnforcesPolicy limits) (entries filter.policies) it.0 it.1 name);
+        },
+        total_of filter.action it.0 order ∙ it.2,
+      )
+
+  -- what is enforced of a filter may take what its conditions cost, and they cost nothing else
+  pub bound_is_cost : (filter : Filter CelChecked) (enforced : Filter Program) (cost : ℕ)
+      → Enforces limits filter enforced → FilterCosts limits filter cost ↔ (cost ≡ total_bound enforced)
+  bound_is_cost filter enforced cost enforces = (
+    (λ costs. costs_unique (entries filter.policies) cost (total_bound enforced) costs (enforced_costs filter enforced enforces)),
+    λ same. rw same (enforced_costs filter enforced enforces),
+  )

@@ -26,6 +26,7 @@ use Rattle.stack_machine.specs.Instructions.{Instruction}
 use Rattle.stack_machine.specs.Machine.{Ends, RunsOut}
 use Rattle.stack_machine.proofs.Chains.{never_both_lem, one_end_lem}
 use Rattle.rbac_policy.specs.Condition.{IsProgramOf, Program, came_true, is_met}
+use Rattle.rbac_policy.specs.Costs.{Costs}
 use Rattle.rbac_policy.specs.steps.Runs.{RunsAs}
 
 -- ---- limits that a request is within
@@ -93,6 +94,34 @@ program_unique limits c p q a b =
     let bound : p.bound ≡ q.bound = a.bound ∙ ap (λ e. cost_of e limits []) same ∙ sym b.bound in
     let make : List Instruction → ℕ → Program = λ x n. record { code = x; bound = n } in
     ap₂ make code bound
+
+-- a program may take what its condition costs
+pub program_costs : (limits : LimitsValue) (c : CelChecked) (p : Program) → IsProgramOf limits c p
+    → Costs limits c p.bound
+program_costs limits c p is =
+    record { e = is.e; elaborated = is.elaborated; has_type = is.has_type; is = is.bound }
+
+-- a condition that costs something has a program that may take it
+pub program_of_cost : (limits : LimitsValue) (c : CelChecked) (cost : ℕ) → Costs limits c cost
+    → (p : Program) × IsProgramOf limits c p × (p.bound ≡ cost)
+program_of_cost limits c cost costs = (
+  record { code = code_of 0 0 costs.e; bound = cost },
+  record {
+    e = costs.e;
+    elaborated = costs.elaborated;
+    has_type = costs.has_type;
+    code = refl;
+    bound = costs.is;
+  },
+  refl,
+)
+
+-- a condition has one cost at most
+pub cost_unique : (limits : LimitsValue) (c : CelChecked) (m n : ℕ) → Costs limits c m → Costs limits c n → m ≡ n
+cost_unique limits c m n a b =
+    let same : a.e ≡ b.e =
+    one-elaboration (maps_of c) [] c.tree a.e b.e a.elaborated.elaborates b.elaborated.elaborates in
+    a.is ∙ ap (λ e. cost_of e limits []) same ∙ sym b.is
 
 module _ (limits : LimitsValue) (c : CelChecked) (p : Program) (good : HasGoodConstants c.tree)
     (is : IsProgramOf limits c p) (r : RequestValue) (valid : IsRequest r) where

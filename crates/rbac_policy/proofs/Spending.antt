@@ -24,8 +24,8 @@ module _ (limits : LimitsValue) (name : List ℕ) (parts : List (List ℕ)) (lef
       → PolicyFault parts e ⊎ ConditionsFault ((name, parts) ∷ []) limits left e
   expression_fails c has (step.untyped bad) = inl (untyped c has bad)
   expression_fails c has (step.not_bool t typed other is) = inl (not_bool c t has typed other is)
-  expression_fails c has (step.too_costly program of above is) =
-      inr (cost_too_much program.bound (inr (c, program, 0, has, of, refl, sym (add-zero program.bound))) above is)
+  expression_fails c has (step.too_costly cost costs above is) =
+      inr (cost_too_much cost (inr (c, cost, 0, has, costs, refl, sym (add-zero cost))) above is)
 
   -- the fault of a policy's condition is one of the policy, or one of its cost
   pub condition_fails : (fs : List Wire) → Merges parts fs → payloads checked_condition_field fs ≢ []

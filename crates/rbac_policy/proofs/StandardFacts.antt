@@ -28,7 +28,7 @@ use Rattle.rbac_policy.specs.declared.filter.Action.TheVariants.{Allow}
 -- ---- the bytes, from the innermost out
 
 -- a rule: any is true
-abbrev rule_bytes : List ℕ
+abbrev pub rule_bytes : List ℕ
 rule_bytes = 24 ∷ 1 ∷ []
 
 -- a policy of a permission and a principal
@@ -49,7 +49,7 @@ filter_bytes = 10 ∷ 15 ∷ rules_bytes
 
 -- ---- what they say
 
-abbrev field : ℕ → Payload → Wire
+abbrev pub field : ℕ → Payload → Wire
 field n p = record { number = n; payload = p }
 
 abbrev pub policy : Policy CelChecked
@@ -69,7 +69,7 @@ one_byte b small =
     record { groups = small; short = omega arith; value = omega arith; fits = omega arith }
 
 -- a LEN field whose tag and size are one byte each, and a rest
-len_starts : (k : ℕ) (bytes rest : List ℕ) → 1 ≤ k → 8 * k + 2 < 128 → length bytes < 128
+pub len_starts : (k : ℕ) (bytes rest : List ℕ) → 1 ≤ k → 8 * k + 2 < 128 → length bytes < 128
     → StartsField ((8 * k + 2) ∷ length bytes ∷ (bytes ++ rest)) (field k (len_of bytes)) rest
 len_starts k bytes rest some small short = record {
   spelling = (8 * k + 2) ∷ length bytes ∷ bytes;
@@ -84,29 +84,30 @@ len_starts k bytes rest some small short = record {
   whole = refl;
 }
 
+-- a VARINT field whose tag and number are one byte each, and a rest
+pub varint_starts : (k n : ℕ) (rest : List ℕ) → 1 ≤ k → 8 * k < 128 → n < 128
+    → StartsField ((8 * k) ∷ n ∷ rest) (field k (varint n)) rest
+varint_starts k n rest some small short = record {
+  spelling = (8 * k) ∷ n ∷ [];
+  spells = record {
+    tag = (8 * k) ∷ [];
+    behind = n ∷ [];
+    numbered = (some, omega arith);
+    spells_tag = one_byte (8 * k) small;
+    spells_payload = one_byte n short;
+    whole = refl;
+  };
+  whole = refl;
+}
+
 -- a message that stands in one payload
-merged : (bytes : List ℕ) (fs : List Wire) → Fields bytes fs → Merges (bytes ∷ []) fs
+pub merged : (bytes : List ℕ) (fs : List Wire) → Fields bytes fs → Merges (bytes ∷ []) fs
 merged bytes fs whole = (fs, [], whole, refl, sym (append-nil fs))
 
 -- ---- each message
 
 rule_fields : Fields rule_bytes (field 3 (varint 1) ∷ [])
-rule_fields = (
-  [],
-  record {
-    spelling = rule_bytes;
-    spells = record {
-      tag = 24 ∷ [];
-      behind = 1 ∷ [];
-      numbered = (omega arith, omega arith);
-      spells_tag = one_byte 24 (omega arith);
-      spells_payload = one_byte 1 (omega arith);
-      whole = refl;
-    };
-    whole = refl;
-  },
-  refl,
-)
+rule_fields = ([], varint_starts 3 1 [] (omega arith) (omega arith) (omega arith), refl)
 
 policy_fields : Fields policy_bytes (field 1 (len_of rule_bytes) ∷ field 2 (len_of rule_bytes) ∷ [])
 policy_fields = (
@@ -129,7 +130,7 @@ filter_fields : Fields filter_bytes (field 1 (len_of rules_bytes) ∷ [])
 filter_fields = ([], len_starts 1 rules_bytes [] (omega arith) (omega arith) (omega arith), refl)
 
 -- a rule of either side
-is_rule : (side : Side) → IsRule side rule_depth (rule_bytes ∷ []) any
+pub is_rule : (side : Side) → IsRule side rule_depth (rule_bytes ∷ []) any
 is_rule Permission = (
   field 3 (varint 1) ∷ [],
   (merged rule_bytes (field 3 (varint 1) ∷ []) rule_fields, refl),
@@ -153,7 +154,7 @@ is_policy = record {
 }
 
 -- the name is UTF-8
-name_reads : IsUtf8 (codes "p")
+pub name_reads : IsUtf8 (codes "p")
 unfolding lib.Utf8.encode
 name_reads = (codes "p", (refl, refl))
 
@@ -174,16 +175,18 @@ one_entry = entries_from_entries name_cmp nat_list_cmp_total (entry ∷ []) tt
 
 are_rules : AreFilterRules (field 2 (len_of entry_bytes) ∷ []) filter
 are_rules = record {
-  entries = entry ∷ [];
   unaudited = refl;
   action = refl;
-  read = (is_entry, tt);
+  policies = (
+    entry ∷ [],
+    (is_entry, tt),
+    held_are_values text IsPolicy (map_of text (entry ∷ [])) policies
+        (rw one_entry (policy, [], is_policy, refl, refl)),
+  );
   few =
-      let one : len (map_of text (entry ∷ [])) ≡ 1 =
-      len-entries (map_of text (entry ∷ [])) ∙ ap length one_entry in omega (arith, one);
-  policies =
-      held_are_values text IsPolicy (map_of text (entry ∷ [])) policies
-      (rw one_entry (policy, [], is_policy, refl, refl));
+      let one : len filter.policies ≡ 1 =
+      len-entries filter.policies ∙ ap length (entries_from_entries name_cmp nat_list_cmp_total policies tt) in
+      omega (arith, one);
 }
 
 -- the bytes are the message of the filter

@@ -1,7 +1,9 @@
 -- The bytes of a filter are its message or have a fault, and never both.
-use Rattle.std.proofs.Common.{◌≡◌, ◌≢◌, ℕ, ◌<◌, ◌≤◌, ◌⊎◌, inl, inr, List, [], ◌∷◌, Contains, Option, Some, None, MatchOption, IsSomeAnd, refl, sym, ap, subst, arith, ◌∙◌}
+use Rattle.std.proofs.Common.{◌≡◌, ◌≢◌, ℕ, ◌<◌, ◌≤◌, ◌⊎◌, inl, inr, T, List, [], ◌∷◌, length, Contains, Option, Some, None, MatchOption, IsSomeAnd, refl, sym, ap, subst, arith, ◌∙◌}
 use Rattle.std.proofs.lemmas.Bool.{cases_lt}
-use Rattle.std.specs.FinMap.{FinMap, from_entries, len, entries, entries_sorted, get, get-entries}
+use Rattle.std.specs.FinMap.{FinMap, from_entries, len, len-entries, entries, entries_sorted, get, get-entries}
+use Rattle.std.specs.Cmp.Lexicographic.{nat_list_cmp_total}
+use Rattle.proto_wire.proofs.MapOrder.{entries_from_entries}
 use Rattle.attributes.specs.Headers.{name_cmp}
 use Rattle.attributes.specs.Limits.{LimitsValue}
 use Rattle.proto_wire.specs.Fields.{Wire}
@@ -34,15 +36,16 @@ use Rattle.rbac_policy.specs.Enforced.{Enforces, EnforcesPolicy, bounds_of, tota
 use Rattle.rbac_policy.specs.Filter.{Policy, Filter}
 use Rattle.rbac_policy.specs.Keys.{checked_condition_field, condition_field, filter_keys, rules_keys, policy_keys}
 use Rattle.rbac_policy.specs.Message.{rule_depth, most_policies, HasBothSides, IsCondition, IsPolicy, action_in, action_number, AreFilterRules, IsFilter}
-use Rattle.proto_wire.specs.Maps.{Entry, text, AreEntries, AreValues, Readable, map_of, SomeValueFault}
-use Rattle.proto_wire.proofs.MapLaws.{entries_total, entries_disjoint, entries_readable, readable_unique}
-use Rattle.proto_wire.proofs.MapValues.{held_are_values, values_total, values_disjoint}
-use Rattle.rbac_policy.specs.Fault.{PolicyFault, PolicyHas, SomeCost, HoldsPolicies, policy_fields, lacks_side, both_conditions, unchecked, unreadable, untyped, not_bool, in_permission, in_principal, RulesFault, bad_action, audited, in_entry, in_faulty_entry, too_many, in_policy, FilterFault, filter_fields, no_rules, rules_fields, in_rules}
+use Rattle.proto_wire.specs.Maps.{Entry, text, AreEntries, AreValues, Readable, map_of, in_entry, in_value}
+use Rattle.proto_wire.proofs.MapLaws.{entries_total, entries_readable, readable_unique}
+use Rattle.proto_wire.proofs.MapValues.{held_are_values, values_total}
+use Rattle.proto_wire.proofs.WholeMaps.{map_disjoint}
+use Rattle.rbac_policy.specs.Fault.{PolicyFault, PolicyHas, SomeCost, HoldsPolicies, policy_fields, lacks_side, both_conditions, unchecked, unreadable, untyped, not_bool, in_permission, in_principal, RulesFault, bad_action, audited, in_policies, too_many, FilterFault, filter_fields, no_rules, rules_fields, in_rules}
 use Rattle.rbac_policy.specs.declared.filter.Action.{Action}
 use Rattle.rbac_policy.specs.declared.filter.Action.TheVariants.{Allow, Deny, Log}
 use Rattle.rbac_policy.specs.steps.Conditions.{IsEnforced}
-use Rattle.rbac_policy.proofs.Besides.{Beside, beside_map, in_a_row}
-use Rattle.rbac_policy.proofs.Enforcing.{all_cost, apart, cost_most, enforced_beside, filter_enforced}
+use Rattle.rbac_policy.proofs.Besides.{Beside, beside_length, beside_map, in_a_row, sorted_beside}
+use Rattle.rbac_policy.proofs.Enforcing.{all_cost, apart, cost_most, enforced_beside, enforced_costs, enforced_there, filter_enforced}
 use Rattle.rbac_policy.proofs.Programs.{nothing_read}
 
 -- payloads are a policy or have a fault
@@ -200,6 +203,15 @@ module _ (limits : LimitsValue) where
     policy_disjoint e (in_principal gs also (child, here, bad)) =
         rules_disjoint Principal rule_depth (payloads 2 is.fs) policy.principals child e is.principals (moved (λ xs. Contains (payloads 2 xs) child) gs also here) bad
 
+-- the values of payloads by name are as many as these
+pub as_many : (named : FinMap name_cmp (List (List ℕ))) (values : FinMap name_cmp (Policy CelChecked))
+    → AreValues text IsPolicy named values → len values ≡ len named
+as_many named values are =
+    let it = beside_map IsPolicy values (entries named) (entries_sorted named) (λ name. rw (← get-entries named name) (are name)) in
+    let order = subst T (sorted_beside IsPolicy (entries named) it.0 it.1) (entries_sorted named) in
+    ap (len {R = name_cmp}) it.2 ∙ len-entries (from_entries it.0) ∙ ap length (entries_from_entries name_cmp nat_list_cmp_total it.0 order)
+    ∙ sym (beside_length IsPolicy (entries named) it.0 it.1) ∙ sym (len-entries named)
+
 -- the number of an action is one of three, or too great
 action_total : (n : ℕ) → ((action : Action) × (n ≡ action_number action)) ⊎ (2 < n)
 action_total n = elim (same_or_not n 0) [
@@ -229,21 +241,16 @@ module _ (limits : LimitsValue) where
   entries_done fs action unaudited is es are = elim (cases_lt most_policies (len (map_of text es))) [
     | inl many ↦ inr (TooLarge, too_many es (entries_readable text (payloads 2 fs) es are) many refl)
     | inr few ↦ elim (values_total text (IsEnforced limits) PolicyFault (policy_total limits) (map_of text es)) [
-      | inr bad ↦ inr (bad.0, in_policy es (entries_readable text (payloads 2 fs) es are) bad.1)
+      | inr bad ↦ inr (bad.0, in_policies (in_value es (entries_readable text (payloads 2 fs) es are) bad.1))
       | inl held ↦
           let named : FinMap name_cmp (List (List ℕ)) = map_of text es in
           let listed = beside_map (IsEnforced limits) held.0 (entries named) (entries_sorted named) (λ name. rw (← get-entries named name) (held.1 name)) in
-          let split = apart limits (entries named) listed.0 listed.1 in inl (
+          let split = apart limits (entries named) listed.0 listed.1 in
+          let values = held_are_values text IsPolicy named split.0 split.1 in
+          let same = as_many named (from_entries split.0) values in inl (
             record { action = action; policies = from_entries split.0 },
             record { action = action; policies = from_entries listed.0 },
-            record {
-              entries = es;
-              unaudited = unaudited;
-              action = is;
-              read = are;
-              few = few;
-              policies = held_are_values text IsPolicy named split.0 split.1;
-            },
+            record { unaudited = unaudited; action = is; policies = (es, are, values); few = omega (arith, same, few) },
             filter_enforced limits action split.0 listed.0 split.2,
           )
     ]
@@ -255,7 +262,7 @@ module _ (limits : LimitsValue) where
     | inl unaudited ↦ elim (action_total (action_in fs)) [
       | inr large ↦ inr (OutOfRange, bad_action large refl)
       | inl action ↦ elim (entries_total text (payloads 2 fs)) [
-        | inr bad ↦ inr (bad.0, in_entry bad.1)
+        | inr bad ↦ inr (bad.0, in_policies (in_entry bad.1))
         | inl read ↦ entries_done fs action.0 unaudited action.1 read.0 read.1
       ]
     ]
@@ -280,10 +287,10 @@ module _ (limits : LimitsValue) where
   -- what is enforced of a filter stands beside the payloads of its policies
   listed_in : (bytes : List ℕ) (filter : Filter CelChecked) (enforced : Filter Program) (is : IsFilter bytes filter)
       → Enforces limits filter enforced
-      → (vs : List (List ℕ × Policy Program)) × Beside (IsEnforced limits) (entries (map_of text is.rules.entries)) vs
+      → (vs : List (List ℕ × Policy Program)) × Beside (IsEnforced limits) (entries (map_of text is.rules.policies.0)) vs
       × (total_bound enforced ≡ bounds_of vs)
   listed_in bytes filter enforced is enforces =
-      enforced_beside limits (map_of text is.rules.entries) filter enforced is.rules.policies enforces
+      enforced_beside limits (map_of text is.rules.policies.0) filter enforced is.rules.policies.2 enforces
 
   -- bytes are admissible or have a fault
   pub bytes_total : (bytes : List ℕ) (budget : ℕ)
@@ -291,19 +298,27 @@ module _ (limits : LimitsValue) where
   bytes_total bytes budget = elim (filter_total bytes) [
     | inr bad ↦ inr (bad.0, in_message bad.1)
     | inl (filter, enforced, is, enforces) ↦ elim (cases_lt budget (total_bound enforced)) [
-      | inr cheap ↦ inl (filter, enforced, record { message = is; enforces = enforces; cheap = cheap })
+      | inr cheap ↦ inl (
+        filter,
+        record {
+          message = is;
+          cost = total_bound enforced;
+          costs = enforced_costs limits filter enforced enforces;
+          cheap = cheap;
+        },
+      )
       | inl more ↦
           let listed = listed_in bytes filter enforced is enforces in
-          let ns : List (Entry text) = entries (map_of text is.rules.entries) in
+          let ns : List (Entry text) = entries (map_of text is.rules.policies.0) in
           inr (
             TooCostly,
             too_costly ns (bounds_of listed.0) (record {
               top = is.top;
               fs = is.fs;
-              read = is.rules.entries;
+              read = is.rules.policies.0;
               outer = is.message.0;
               inner = is.inner.0;
-              readable = entries_readable text (payloads 2 is.fs) is.rules.entries is.rules.read;
+              readable = entries_readable text (payloads 2 is.fs) is.rules.policies.0 is.rules.policies.1;
               named = refl;
             }) (all_cost limits ns listed.0 listed.1) (rw (← listed.2) more) refl,
           )
@@ -315,21 +330,19 @@ module _ (limits : LimitsValue) where
       → AreFilterRules fs filter → Enforces limits filter enforced → RulesFault fs e → ⊥
   rules_fields_disjoint fs filter enforced e is enforces (bad_action large at) = action_small (action_in fs) filter.action is.action large
   rules_fields_disjoint fs filter enforced e is enforces (audited there at) = there is.unaudited
-  rules_fields_disjoint fs filter enforced e is enforces (in_entry bad) = entries_disjoint text (payloads 2 fs) is.entries e is.read bad
-  rules_fields_disjoint fs filter enforced e is enforces (in_faulty_entry part own reason here bad whole there inner) =
-      entries_disjoint text (payloads 2 fs) is.entries reason is.read (part, here, bad)
   rules_fields_disjoint fs filter enforced e is enforces (too_many es reads many at) =
-      let few : len (map_of text is.entries) ≤ most_policies = is.few in
+      let few : len filter.policies ≤ most_policies = is.few in
+      let same = as_many (map_of text is.policies.0) filter.policies is.policies.2 in
       let P : List (Entry text) → Type 0 = λ xs. most_policies < len (map_of text xs) in
-      let more : most_policies < len (map_of text is.entries) = subst P (readable_unique text (payloads 2 fs) is.entries es is.read reads) many in absurd (omega arith)
-  rules_fields_disjoint fs filter enforced e is enforces (in_policy es reads bad) =
-      let named : FinMap name_cmp (List (List ℕ)) = map_of text is.entries in
-      let P : List (Entry text) → Type 0 = λ xs. SomeValueFault text PolicyFault (entries (map_of text xs)) e in
+      let more : most_policies < len (map_of text is.policies.0) =
+      subst P (readable_unique text (payloads 2 fs) is.policies.0 es is.policies.1 reads) many in absurd (omega (arith, same, few, more))
+  rules_fields_disjoint fs filter enforced e is enforces (in_policies bad) =
+      let named : FinMap name_cmp (List (List ℕ)) = map_of text is.policies.0 in
       let are : AreValues text (IsEnforced limits) named enforced.policies = (λ name.
       in_a_row IsPolicy (EnforcesPolicy limits) (IsEnforced limits) (λ parts p v policy enf. (p, policy, enf))
-      (get named name) (get filter.policies name) (get enforced.policies name) (is.policies name) (enforces.policies name)) in
-      values_disjoint text (IsEnforced limits) PolicyFault (λ parts v d held fault. policy_disjoint limits parts v held d fault) named enforced.policies e are
-      (subst P (readable_unique text (payloads 2 fs) is.entries es is.read reads) bad)
+      (get named name) (get filter.policies name) (get enforced.policies name) (is.policies.2 name) (enforces.policies name)) in
+      map_disjoint text (IsEnforced limits) PolicyFault (λ parts v d held fault. policy_disjoint limits parts v held d fault) (payloads 2 fs) enforced.policies e
+      (is.policies.0, is.policies.1, are) bad
 
   -- the message of a filter has no fault
   filter_disjoint : (bytes : List ℕ) (filter : Filter CelChecked) (enforced : Filter Program) (e : Refusal)
@@ -348,22 +361,26 @@ module _ (limits : LimitsValue) where
 
   -- the policies of a filter's message are those alone
   policies_are : (bytes : List ℕ) (filter : Filter CelChecked) (is : IsFilter bytes filter) (policies : List (Entry text))
-      → HoldsPolicies bytes policies → policies ≡ entries (map_of text is.rules.entries)
+      → HoldsPolicies bytes policies → policies ≡ entries (map_of text is.rules.policies.0)
   policies_are bytes filter is policies holds =
       let P : List Wire → Type 0 = λ xs. Merges (payloads 1 xs) holds.fs in
       let same : holds.fs ≡ is.fs = merges_unique (payloads 1 is.top) holds.fs is.fs (subst P (merges_unique (bytes ∷ []) holds.top is.top holds.outer is.message.0) holds.inner) is.inner.0 in
       let Q : List Wire → Type 0 = λ xs. Readable text (payloads 2 xs) holds.read in
-      holds.named ∙ ap (λ es. entries (map_of text es)) (readable_unique text (payloads 2 is.fs) is.rules.entries holds.read is.rules.read (subst Q same holds.readable))
+      holds.named ∙ ap (λ es. entries (map_of text es)) (readable_unique text (payloads 2 is.fs) is.rules.policies.0 holds.read is.rules.policies.1 (subst Q same holds.readable))
 
   -- admissible bytes have no fault
   pub bytes_disjoint : (e : Refusal) (bytes : List ℕ) (budget : ℕ) → Admissible bytes limits budget
       → Fault e bytes limits budget → ⊥
-  bytes_disjoint e bytes budget (filter, enforced, is) (in_message bad) = filter_disjoint bytes filter enforced e is.message is.enforces bad
-  bytes_disjoint e bytes budget (filter, enforced, is) (too_costly policies cost holds costs above at) =
-      let listed = listed_in bytes filter enforced is.message is.enforces in
+  bytes_disjoint e bytes budget (filter, is) (in_message bad) =
+      let there = enforced_there limits filter is.cost is.costs in
+      filter_disjoint bytes filter there.0 e is.message there.1 bad
+  bytes_disjoint e bytes budget (filter, is) (too_costly policies cost holds costs above at) =
+      let there = enforced_there limits filter is.cost is.costs in
+      let listed = listed_in bytes filter there.0 is.message there.1 in
       let same = policies_are bytes filter is.message policies holds in
       let most : cost ≤ bounds_of listed.0 =
-      cost_most limits (entries (map_of text is.message.rules.entries)) listed.0 cost listed.1 (subst (λ ns. SomeCost limits ns cost) same costs) in
-      let cheap : total_bound enforced ≤ budget = is.cheap in
-      let sum : total_bound enforced ≡ bounds_of listed.0 = listed.2 in
-      absurd (omega (arith, most, cheap, above, sum))
+      cost_most limits (entries (map_of text is.message.rules.policies.0)) listed.0 cost listed.1 (subst (λ ns. SomeCost limits ns cost) same costs) in
+      let cheap : is.cost ≤ budget = is.cheap in
+      let own : total_bound there.0 ≡ is.cost = there.2 in
+      let sum : total_bound there.0 ≡ bounds_of listed.0 = listed.2 in
+      absurd (omega (arith, most, cheap, above, own, sum))

@@ -22,9 +22,8 @@ use Rattle.rbac_policy.specs.Keys.{checked_condition_field, rules_keys}
 use Rattle.rbac_policy.specs.Message.{rule_depth, IsCondition, IsPolicy, action_number, AreFilterRules, IsFilter}
 use Rattle.rbac_policy.specs.declared.filter.Action.{Action}
 use Rattle.rbac_policy.specs.declared.filter.Action.TheVariants.{Allow, Deny, Log}
-use Rattle.proto_wire.specs.Maps.{Entry, text, AreValues, map_of}
-use Rattle.proto_wire.proofs.MapLaws.{entries_unique}
-use Rattle.proto_wire.proofs.MapValues.{values_unique}
+use Rattle.proto_wire.specs.Maps.{text}
+use Rattle.proto_wire.proofs.WholeMaps.{map_unique}
 use Rattle.rbac_policy.proofs.Enforcing.{enforces_unique}
 
 -- payloads have one condition, or none
@@ -69,10 +68,8 @@ action_unique Log Deny e = absurd (omega (arith, e))
 rules_unique : (fs : List Wire) (f g : Filter CelChecked) → AreFilterRules fs f → AreFilterRules fs g → f ≡ g
 rules_unique fs f g a b =
     let make : Action → FinMap name_cmp (Policy CelChecked) → Filter CelChecked = λ x m. record { action = x; policies = m } in
-    let P : List (Entry text) → Type 0 = λ es. AreValues text IsPolicy (map_of text es) g.policies in
-    let same : b.entries ≡ a.entries = entries_unique text (payloads 2 fs) b.entries a.entries b.read a.read in
     ap₂ make (action_unique f.action g.action (sym a.action ∙ b.action))
-    (values_unique text IsPolicy policy_unique (map_of text a.entries) f.policies g.policies a.policies (subst P same b.policies))
+    (map_unique text IsPolicy policy_unique (payloads 2 fs) f.policies g.policies a.policies b.policies)
 
 -- bytes are the message of one filter
 pub filter_unique : (bytes : List ℕ) (f g : Filter CelChecked) → IsFilter bytes f → IsFilter bytes g → f ≡ g
@@ -88,5 +85,5 @@ pub admits_unique : (bytes : List ℕ) (limits : LimitsValue) (budget : ℕ) (f 
     (g g' : Filter Program) → Admits bytes limits budget f g → Admits bytes limits budget f' g'
     → (f ≡ f') × (g ≡ g')
 admits_unique bytes limits budget f f' g g' a b =
-    let same : f ≡ f' = filter_unique bytes f f' a.message b.message in
+    let same : f ≡ f' = filter_unique bytes f f' a.admissible.message b.admissible.message in
     (same, enforces_unique limits f' g g' (subst (λ x. Enforces limits x g) same a.enforces) b.enforces)

@@ -7,23 +7,31 @@ use Rattle.proto_wire.specs.Maps.{Entry, text}
 use Rattle.proto_wire.specs.declared.refusal.Refusal.{Refusal}
 use Rattle.proto_wire.specs.declared.refusal.Refusal.TheVariants.{TooCostly}
 use Rattle.rbac_policy.specs.Condition.{Program}
-use Rattle.rbac_policy.specs.Enforced.{Enforces, total_bound}
+use Rattle.rbac_policy.specs.Costs.{FilterCosts}
+use Rattle.rbac_policy.specs.Enforced.{Enforces}
 use Rattle.rbac_policy.specs.Filter.{Filter}
 use Rattle.rbac_policy.specs.Message.{IsFilter}
 use Rattle.rbac_policy.specs.Fault.{FilterFault, HoldsPolicies, SomeCost}
 
--- the bytes are the message of the filter, all of its conditions have the type bool, and what is
--- enforced of it takes the budget's steps at most
-pub record Admits (bytes : List ℕ) (limits : LimitsValue) (budget : ℕ) (filter : Filter CelChecked)
-    (enforced : Filter Program) : Type 0 where
+-- the bytes are the message of the filter, and its conditions, all of type bool, cost the budget's
+-- steps together at most
+pub record IsAdmissibleAs (bytes : List ℕ) (limits : LimitsValue) (budget : ℕ)
+    (filter : Filter CelChecked) : Type 0 where
   pub message : IsFilter bytes filter
-  pub enforces : Enforces limits filter enforced
-  pub cheap : total_bound enforced ≤ budget
+  pub cost : ℕ
+  pub costs : FilterCosts limits filter cost
+  pub cheap : cost ≤ budget
 
--- the bytes are admitted as some filter
+-- the bytes are admissible as some filter
 abbrev pub Admissible : List ℕ → LimitsValue → ℕ → Type 0
 Admissible bytes limits budget =
-    (filter : Filter CelChecked) × (enforced : Filter Program) × Admits bytes limits budget filter enforced
+    (filter : Filter CelChecked) × IsAdmissibleAs bytes limits budget filter
+
+-- the bytes are admitted as the filter, and this is enforced of it
+pub record Admits (bytes : List ℕ) (limits : LimitsValue) (budget : ℕ) (filter : Filter CelChecked)
+    (enforced : Filter Program) : Type 0 where
+  pub admissible : IsAdmissibleAs bytes limits budget filter
+  pub enforces : Enforces limits filter enforced
 
 -- the fault of this refusal stands in the bytes, for requests within these limits and this budget:
 -- a fault of the message, or conditions that cost more than the budget, whatever else is there

@@ -1,10 +1,10 @@
 -- What is wrong with bytes that are no admissible filter; each fault names its refusal.
-use Rattle.std.specs.Prelude.{◌≡◌, ◌≢◌, ◌⊎◌, ℕ, ◌+◌, ◌<◌, List, [], ◌∷◌, Contains}
+use Rattle.std.specs.Prelude.{◌≡◌, ◌≢◌, ◌⊎◌, ℕ, ◌+◌, ◌<◌, List, [], ◌∷◌}
 use Rattle.std.specs.FinMap.{entries, len}
-use Rattle.proto_wire.specs.Fields.{Wire, Fields}
+use Rattle.proto_wire.specs.Fields.{Wire}
 use Rattle.proto_wire.specs.Values.{payloads}
 use Rattle.proto_wire.specs.Merge.{Merges}
-use Rattle.proto_wire.specs.Maps.{Entry, text, EntryFault, SomeEntryFault, Readable, map_of, SomeValueFault}
+use Rattle.proto_wire.specs.Maps.{Entry, text, MapFault, Readable, map_of}
 use Rattle.proto_wire.specs.Messages.{IsMessage, MessageFault}
 use Rattle.proto_wire.specs.declared.refusal.Refusal.{Refusal}
 use Rattle.proto_wire.specs.declared.refusal.Refusal.TheVariants.{BothConditions, Missing, NotBool, OutOfRange, Unsupported, TooLarge}
@@ -14,7 +14,7 @@ use Rattle.cel_tree.specs.Checked.{CelChecked}
 use Rattle.cel_tree.specs.Message.{CheckedFault, IsChecked}
 use Rattle.cel_types.specs.Typing.{IsTyped}
 use Rattle.cel_types.specs.TypingFaults.{CheckFault}
-use Rattle.rbac_policy.specs.Condition.{IsProgramOf, Program}
+use Rattle.rbac_policy.specs.Costs.{Costs}
 use Rattle.rbac_match.specs.Rules.{SomeRuleFault}
 use Rattle.rbac_match.specs.declared.rule.Side.TheVariants.{Permission, Principal}
 use Rattle.rbac_policy.specs.Keys.{filter_keys, rules_keys, policy_keys, rules_field, policies_field, audit_logging_options_field, permissions_field, principals_field, condition_field, checked_condition_field}
@@ -47,20 +47,14 @@ pub data PolicyFault (parts : List (List ℕ)) (e : Refusal) : Type 0 where
   in_principal : (fs : List Wire) → Merges parts fs
       → SomeRuleFault Principal rule_depth (payloads principals_field fs) e → PolicyFault parts e
 
--- a fault of what the fields of the filter's rules hold: the action, an entry, the policy of a
--- name. An entry with a fault of its own is no part of the map, and the faults of the policy that
--- it has are there all the same
+-- a fault of what the fields of the filter's rules hold: the action, the audit log's options, the map of
+-- policies, or that it has too many
 pub data RulesFault (fs : List Wire) (e : Refusal) : Type 0 where
   bad_action : 2 < action_in fs → e ≡ OutOfRange → RulesFault fs e
   audited : payloads audit_logging_options_field fs ≢ [] → e ≡ Unsupported → RulesFault fs e
-  in_entry : SomeEntryFault text (payloads policies_field fs) e → RulesFault fs e
-  in_faulty_entry : (part : List ℕ) (own : List Wire) (reason : Refusal)
-      → Contains (payloads policies_field fs) part → EntryFault text part reason → Fields part own
-      → payloads 2 own ≢ [] → PolicyFault (payloads 2 own) e → RulesFault fs e
+  in_policies : MapFault text PolicyFault (payloads policies_field fs) e → RulesFault fs e
   too_many : (read : List (Entry text)) → Readable text (payloads policies_field fs) read
       → most_policies < len (map_of text read) → e ≡ TooLarge → RulesFault fs e
-  in_policy : (read : List (Entry text)) → Readable text (payloads policies_field fs) read
-      → SomeValueFault text PolicyFault (entries (map_of text read)) e → RulesFault fs e
 
 -- a fault of the filter's message
 pub data FilterFault (bytes : List ℕ) (e : Refusal) : Type 0 where
@@ -86,5 +80,5 @@ pub record HoldsPolicies (bytes : List ℕ) (policies : List (Entry text)) : Typ
 abbrev pub SomeCost : LimitsValue → List (Entry text) → ℕ → Type 0
 SomeCost limits [] cost = cost ≡ 0
 SomeCost limits ((name, parts) ∷ others) cost = SomeCost limits others cost
-    ⊎ ((condition : CelChecked) × (program : Program) × (rest : ℕ) × PolicyHas parts condition
-    × IsProgramOf limits condition program × SomeCost limits others rest × (cost ≡ program.bound + rest))
+    ⊎ ((condition : CelChecked) × (own rest : ℕ) × PolicyHas parts condition
+    × Costs limits condition own × SomeCost limits others rest × (cost ≡ own + rest))

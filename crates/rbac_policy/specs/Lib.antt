@@ -1,6 +1,7 @@
 pub mod Filter
 pub mod Condition
 pub mod Enforced
+pub mod Costs
 pub mod Keys
 pub mod Message
 pub mod Fault

@@ -4,7 +4,7 @@ use Rattle.std.specs.Prelude.{◌≡◌, ◌≢◌, ℕ, ◌≤◌, List, [], �
 use Rattle.std.specs.FinMap.{len}
 use Rattle.proto_wire.specs.Fields.{Wire}
 use Rattle.proto_wire.specs.Values.{payloads, uint32_at}
-use Rattle.proto_wire.specs.Maps.{Entry, text, AreEntries, map_of, AreValues}
+use Rattle.proto_wire.specs.Maps.{text, IsMap}
 use Rattle.proto_wire.specs.Messages.{IsMessage}
 use Rattle.cel_tree.specs.Checked.{CelChecked}
 use Rattle.cel_tree.specs.Message.{IsChecked}
@@ -56,12 +56,10 @@ action_number Log = 2
 
 -- the fields are rules of the filter
 pub record AreFilterRules (fs : List Wire) (filter : Filter CelChecked) : Type 0 where
-  pub entries : List (Entry text)
   pub unaudited : payloads audit_logging_options_field fs ≡ []
   pub action : action_in fs ≡ action_number filter.action
-  pub read : AreEntries text (payloads policies_field fs) entries
-  pub few : len (map_of text entries) ≤ most_policies
-  pub policies : AreValues text IsPolicy (map_of text entries) filter.policies
+  pub policies : IsMap text IsPolicy (payloads policies_field fs) filter.policies
+  pub few : len filter.policies ≤ most_policies
 
 -- the bytes are the message of the filter
 pub record IsFilter (bytes : List ℕ) (filter : Filter CelChecked) : Type 0 where

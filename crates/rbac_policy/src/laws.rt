@@ -1,12 +1,14 @@
 //! Laws of admission: statements on the definitions alone, for all bytes, limits and budgets.
 
-ghost use Rattle.std.specs.Prelude.{◌≡◌, ◌⊎◌, ℕ, Bool, List, Option};
+ghost use Rattle.std.specs.Prelude.{◌≡◌, ◌⊎◌, ◌↔◌, ℕ, Bool, List, Option};
 ghost use Rattle.attributes.specs.Limits.{LimitsValue};
 ghost use Rattle.proto_wire.specs.declared.refusal.Refusal.{Refusal};
 ghost use Rattle.rbac_policy.specs.Admission.{Admissible, Admits, Fault};
 ghost use Rattle.attributes.specs.Request.{RequestValue};
 ghost use Rattle.cel_tree.specs.Checked.{CelChecked};
 ghost use Rattle.rbac_policy.specs.Condition.{Program};
+ghost use Rattle.rbac_policy.specs.Costs.{FilterCosts};
+ghost use Rattle.rbac_policy.specs.Enforced.{Enforces, total_bound};
 ghost use Rattle.rbac_policy.specs.Filter.{Filter};
 ghost use Rattle.rbac_policy.specs.Verdict.{IsVerdict};
 
@@ -27,6 +29,13 @@ pub fn filter_unique()
     ensures { (bytes : List ℕ) (limits : LimitsValue) (budget : ℕ) (f f' : Filter CelChecked)
         (g g' : Filter Program)
         → Admits bytes limits budget f g → Admits bytes limits budget f' g' → (f ≡ f') × (g ≡ g') }
+{}
+
+/// What is enforced of a filter may take what its conditions cost together, and they cost nothing else.
+pub fn bound_is_cost()
+    ensures { (limits : LimitsValue) (filter : Filter CelChecked) (enforced : Filter Program) (cost : ℕ)
+        → Enforces limits filter enforced
+        → FilterCosts limits filter cost ↔ (cost ≡ total_bound enforced) }
 {}
 
 /// A filter gives a request one verdict at most, by which of its conditions the request meets: as it is

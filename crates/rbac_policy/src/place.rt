@@ -5,10 +5,9 @@ use crate::admission::{read_action, refuse_audit_options};
 use crate::numbers::{PERMISSIONS, POLICIES, PRINCIPALS, RULES};
 use crate::policy::{read_checked, read_policy};
 use attributes::Limits;
-use proto_wire::{Field, Refusal, payloads_of, read_entries, read_fields, read_parts};
-use rbac_match::{RULE_DEPTH, Side, read_rules};
+use proto_wire::{Field, MapEntry, Refusal, payloads_of, read_entries, read_fields, read_parts};
+use rbac_match::{RULE_DEPTH, Side, read_rule};
 use std::alloc::Global;
-use std::collections::BTreeMap;
 
 /// The members of a permission or a principal that hold rules.
 const AND: u32 = 1;
@@ -32,7 +31,7 @@ pub fn place_of(alloc: Global, bytes: &[u8], refusal: Refusal) -> Option<String>
         return String::from_str(alloc, name).ok();
     }
     let entries = payloads_of(alloc, &fields, POLICIES).ok()?;
-    let named: BTreeMap<&str, Vec<&[u8]>> = read_entries(alloc, &entries).ok()?;
+    let named: Vec<MapEntry<'_, &str>> = read_entries(alloc, &entries).ok()?;
     for (name, parts) in &named {
         if read_policy(alloc, name, parts, &Limits::largest(), u64::MAX).err() == Some(refusal) {
             return place_in_policy(alloc, name, parts, refusal);
@@ -153,5 +152,5 @@ fn index_at_fault(
     depth: u32,
     refusal: Refusal,
 ) -> Option<usize> {
-    rules.iter().position(|rule| read_rules(alloc, side, &[*rule], depth).err() == Some(refusal))
+    rules.iter().position(|rule| read_rule(alloc, side, &[*rule], depth).err() == Some(refusal))
 }

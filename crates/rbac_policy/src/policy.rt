@@ -1,7 +1,9 @@
 //! Policies, and the reading of their messages.
 
-ghost use Rattle.std.specs.Prelude.{◌≡◌, ◌≢◌, ◌≤◌, ◌+◌, ◌⊎◌, ◌∷◌, [], IfOk, IfErr, OnOk, MatchBool, map, option_map};
+ghost use Rattle.std.specs.Prelude.{◌≡◌, ◌≢◌, ◌≤◌, ◌+◌, ◌⊎◌, ◌∷◌, [], T, IfOk, IfErr, OnOk, MatchBool, map, option_map};
+ghost use Rattle.std.specs.FinMap.{is_sorted};
 ghost use Rattle.std.specs.String.{string_bytes};
+ghost use Rattle.attributes.specs.Headers.{name_cmp};
 ghost use Rattle.proto_wire.specs.Fields.{field_view};
 ghost use Rattle.proto_wire.specs.Values.{payloads};
 ghost use Rattle.proto_wire.specs.Maps.{text, SomeValueFault};
@@ -23,10 +25,9 @@ use crate::condition::{Condition, read_condition};
 use crate::keys::{has_payload, policy_keys};
 use crate::numbers::{CHECKED_CONDITION, CONDITION, PERMISSIONS, PRINCIPALS};
 use attributes::Limits;
-use proto_wire::{Field, Refusal, payloads_of, read_message};
+use proto_wire::{Field, MapEntry, Refusal, payloads_of, read_message};
 use rbac_match::{RULE_DEPTH, Rule, Side, read_rules};
 use std::alloc::Global;
-use std::collections::BTreeMap;
 
 /// A policy with its name: it matches where some permission, some principal and the condition do, if
 /// it has one.
@@ -50,26 +51,27 @@ impl NamedPolicy {
     }
 }
 
-/// Reads each policy of the map, in ascending order of names, for requests within the limits; their
+/// Reads each policy of the map's entries, which ascend by name, for requests within the limits; their
 /// conditions may take so many steps together. Gives besides how many they take.
 pub(crate) fn read_policies(
     alloc: Global,
-    named: &BTreeMap<&str, Vec<&[u8]>>,
+    named: &[MapEntry<'_, &str>],
     limits: &Limits,
     budget: u64,
 ) -> Result<(Vec<NamedPolicy>, u64), Refusal>
+    requires { T (is_sorted name_cmp (names_view named.now)) }
     ensures found { IfOk result (λ r. Held text (IsEnforced limits.now)
-        (names_view named.now.entries) (named_views r.0.items)) }
+        (names_view named.now) (named_views r.0.items)) }
     ensures cost { IfOk result (λ r. r.1 ≡ bounds_of (named_views r.0.items)) }
     ensures cheap { IfOk result (λ r. r.1 ≤ budget) }
     ensures fault { IfErr result (MemoryOr (λ e.
-        SomeValueFault text PolicyFault (names_view named.now.entries) e
-        ⊎ ConditionsFault (names_view named.now.entries) limits.now budget e)) }
+        SomeValueFault text PolicyFault (names_view named.now) e
+        ⊎ ConditionsFault (names_view named.now) limits.now budget e)) }
 {
-    let mut policies = Vec::new(alloc);
+    let mut policies = Vec::with_capacity(alloc, named.len())?;
     let mut spent = 0;
-    for (name, parts) in named {
-        let policy = read_policy(alloc, name, parts, limits, budget - spent)?;
+    for entry in named {
+        let policy = read_policy(alloc, entry.0, &entry.1, limits, budget - spent)?;
         spent += policy.bound();
         policies.push(policy)?;
     }
@@ -177,6 +179,5 @@ fn read_side(
     ensures fault { IfErr result (MemoryOr
         (SomeRuleFault side rule_depth (payloads number (map field_view fields.now)))) }
 {
-    let rules = payloads_of(alloc, fields, number)?;
-    read_rules(alloc, side, &rules, RULE_DEPTH)
+    read_rules(alloc, side, fields, number, RULE_DEPTH)
 }

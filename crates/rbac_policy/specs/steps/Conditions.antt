@@ -10,6 +10,7 @@ use Rattle.proto_wire.specs.Maps.{Entry, text}
 use Rattle.proto_wire.specs.declared.refusal.Refusal.{Refusal}
 use Rattle.proto_wire.specs.declared.refusal.Refusal.TheVariants.{NotBool, TooCostly}
 use Rattle.rbac_policy.specs.Condition.{IsProgramOf, Program}
+use Rattle.rbac_policy.specs.Costs.{Costs}
 use Rattle.rbac_policy.specs.Enforced.{EnforcesPolicy}
 use Rattle.rbac_policy.specs.Fault.{SomeCost}
 use Rattle.rbac_policy.specs.Filter.{Policy}
@@ -21,8 +22,8 @@ pub data ExpressionFault (condition : CelChecked) (limits : LimitsValue) (left :
   untyped : CheckFault condition e → ExpressionFault condition limits left e
   not_bool : (t : ValueType) → IsTyped condition t → t ≢ bool_type → e ≡ NotBool
       → ExpressionFault condition limits left e
-  too_costly : (program : Program) → IsProgramOf limits condition program → left < program.bound
-      → e ≡ TooCostly → ExpressionFault condition limits left e
+  too_costly : (cost : ℕ) → Costs limits condition cost → left < cost → e ≡ TooCostly
+      → ExpressionFault condition limits left e
 
 -- the same of a condition's payloads, which may not read
 pub data ConditionFault (parts : List (List ℕ)) (limits : LimitsValue) (left : ℕ) (e : Refusal)

@@ -1,10 +1,9 @@
--- What the code's map from names to payloads stands for.
+-- What the code's entries of a map from names to payloads stand for.
 use Rattle.std.specs.Prelude.{ℕ, List}
 use Rattle.std.specs.Borrow.{Bor}
-use Rattle.std.specs.declared.vec.Vec.{Vec}
-use Rattle.std.specs.declared.alloc.Global.{Global}
+use Rattle.smallvec.specs.SmallVec.{SmallVec}
 use Rattle.proto_wire.specs.Maps.{Entry, text, entries_view}
 
 -- the names with the payloads at each, in order
-abbrev pub names_view : List (Bor (List ℕ) × Vec (Bor (List ℕ)) Global) → List (Entry text)
+abbrev pub names_view : List (Bor (List ℕ) × SmallVec (Bor (List ℕ))) → List (Entry text)
 names_view = entries_view text (λ name. name.now)

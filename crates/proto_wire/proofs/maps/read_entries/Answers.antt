@@ -1,88 +1,44 @@
-use Rattle.std.proofs.Common.{get_or, ◌≡◌, [], ◌∷◌, ◌++◌, sym, ap, ◌∙◌}
-use Rattle.std.proofs.lemmas.List.{take_all, take_more}
-use Rattle.std.specs.FinMap.Entries.{put}
-use Rattle.proto_wire.specs.Merge.{parts_view}
-use Rattle.proto_wire.specs.Maps.{Entry, AreEntries, EntryFault, map_of, key_cmp, entries_view}
+use Rattle.std.proofs.Common.{◌≡◌, List, sym, ap, ◌∙◌}
 use Rattle.std.specs.FinMap.{entries}
-use Rattle.proto_wire.proofs.Basics.{part_in}
-use Rattle.proto_wire.proofs.Exits.{exit_told, exit_only_memory}
+use Rattle.proto_wire.specs.Merge.{parts_view}
+use Rattle.proto_wire.specs.Maps.{Entry, SomeEntryFault, map_of, entries_view}
+use Rattle.proto_wire.proofs.Exits.{exit_only_memory}
 use Rattle.proto_wire.proofs.MapLaws.{entries_disjoint, entries_unique}
-use Rattle.proto_wire.proofs.MapLemmas.{entries_view_insert, map_of_none, map_of_push, are_entries_push, entries_first_disjoint, entry_breaks_at, entry_breaks_disjoint}
+use Rattle.proto_wire.proofs.MapLemmas.{map_of_sorted}
 use Rattle.proto_wire.proofs.maps.read_entries.Goals as goal
 
-pub loop-payload-init : goal.loop-payload-init
-loop-payload-init g c =
+pub returns-in_err-entries-clause-reads : goal.returns-in_err-entries-clause-reads
+returns-in_err-entries-clause-reads g c es are =
     let kind = g.K.KeyOrder.kind in
-    let view = entries_view kind g.K.KeyOrder.key_view in
-    ([], tt, ap view c.new-named.ensures.empty ∙ sym (map_of_none kind))
-
-pub returns-in_err-entry-clause-at_once : goal.returns-in_err-entry-clause-at_once
-returns-in_err-entry-clause-at_once g c breaks =
-    let so_far = c.loop-payload.invariant in
-    let payloads = c.args.payloads.now in
-    let here =
-    entry_breaks_at g.K.KeyOrder.kind c.loop-payload.payload-index payloads _ so_far.0
-    c.loop-payload-test.true so_far.1 breaks in
-    exit_told c.from_residual.result _ _ c.from_residual.ensures.1
-    (c.in_err-entry.ensures.at_once here)
-
-pub returns-in_err-insert-clause-at_once : goal.returns-in_err-insert-clause-at_once
-returns-in_err-insert-clause-at_once g c breaks =
-    let so_far = c.loop-payload.invariant in
-    let payloads = c.args.payloads.now in
-    let here =
-    entry_breaks_at g.K.KeyOrder.kind c.loop-payload.payload-index payloads _ so_far.0
-    c.loop-payload-test.true so_far.1 breaks in
-    absurd (entry_breaks_disjoint g.K.KeyOrder.kind _ _ c.in_ok-entry.ensures.found here)
-
-pub loop-payload-preserved : goal.loop-payload-preserved
-loop-payload-preserved g c =
-    let kind = g.K.KeyOrder.kind in
-    let key_view = g.K.KeyOrder.key_view in
-    let so_far = c.loop-payload.invariant in
-    let payloads = c.args.payloads.now in
-    let entry = c.in_ok-entry.entry in
-    let e : Entry kind = (key_view entry.key, parts_view entry.parts.items) in
-    let old = c.loop-payload.named.entries in
-    let more = take_more payloads c.loop-payload.payload-index _ c.loop-payload-test.true in
-    let inserted =
-    entries_view_insert kind key_view g.K.Ord.cmp g.met.K.KeyOrder.in_order old entry.key
-    entry.parts in
-    let made : entries_view kind key_view c.insert.new.self.entries
-    ≡ put (key_cmp kind) e.0 e.1 (entries_view kind key_view old) =
-    ap (entries_view kind key_view) c.in_ok-insert.ensures.entries ∙ inserted in (
-      so_far.0 ++ e ∷ [],
-      rw more (are_entries_push kind _ so_far.0 _ e so_far.1 c.in_ok-entry.ensures.found),
-      made ∙ ap (put (key_cmp kind) e.0 e.1) so_far.2 ∙ sym (map_of_push kind so_far.0 e),
-    )
-
-pub returns-clause-at_once : goal.returns-clause-at_once
-returns-clause-at_once g c breaks =
-    let so_far = c.loop-payload.invariant in
-    let all : AreEntries g.K.KeyOrder.kind (parts_view c.args.payloads.now) so_far.0 =
-    rw (take_all c.loop-payload.payload-index c.args.payloads.now c.loop-payload-test.false) at
-    so_far.1 in
     let parts = parts_view c.args.payloads.now in
-    absurd (entries_first_disjoint g.K.KeyOrder.kind parts so_far.0 all breaks)
+    exit_only_memory (SomeEntryFault kind parts)
+    (λ v. entries_view kind g.K.KeyOrder.key_view v.items ≡ entries (map_of kind es))
+    c.from_residual.result _ c.from_residual.ensures.1 c.in_err-entries.ensures.fault
+    (λ bad. entries_disjoint kind parts es _ are bad)
 
-pub returns-in_err-entry-clause-reads : goal.returns-in_err-entry-clause-reads
-returns-in_err-entry-clause-reads g c es are =
+pub returns-then-is_ascending-clause-found : goal.returns-then-is_ascending-clause-found
+returns-then-is_ascending-clause-found g c =
     let kind = g.K.KeyOrder.kind in
-    let exit = c.from_residual in
-    let payloads = c.args.payloads.now in
-    let i = c.loop-payload.payload-index in
-    let here = part_in payloads i _ c.loop-payload-test.true in
-    exit_only_memory (EntryFault kind (get_or payloads i _).now)
-    (λ m. entries_view kind g.K.KeyOrder.key_view m.entries ≡ entries (map_of kind es)) exit.result _
-    exit.ensures.1 c.in_err-entry.ensures.fault
-    (λ bad. entries_disjoint kind (parts_view payloads) es _ are (_, here, bad))
+    let es : List (Entry kind) =
+    entries_view kind g.K.KeyOrder.key_view c.in_ok-entries.entries.items in
+    let sorted = rw (c.if-is_ascending.true, c.deref.ensures.value) at c.is_ascending.ensures in
+    (es, c.in_ok-entries.ensures.found, sym (map_of_sorted kind es sorted))
+
+pub returns-then-is_ascending-clause-reads : goal.returns-then-is_ascending-clause-reads
+returns-then-is_ascending-clause-reads g c es are =
+    let kind = g.K.KeyOrder.kind in
+    let read : List (Entry kind) =
+    entries_view kind g.K.KeyOrder.key_view c.in_ok-entries.entries.items in
+    let sorted = rw (c.if-is_ascending.true, c.deref.ensures.value) at c.is_ascending.ensures in
+    let same : read ≡ es =
+    entries_unique kind (parts_view c.args.payloads.now) read es c.in_ok-entries.ensures.found are in
+    sym (map_of_sorted kind read sorted) ∙ ap (λ xs. entries (map_of kind xs)) same
 
 pub returns-clause-reads : goal.returns-clause-reads
 returns-clause-reads g c es are =
     let kind = g.K.KeyOrder.kind in
-    let so_far = c.loop-payload.invariant in
-    let parts = parts_view c.args.payloads.now in
-    let all : AreEntries kind parts so_far.0 =
-    rw (take_all c.loop-payload.payload-index c.args.payloads.now c.loop-payload-test.false) at
-    so_far.1 in
-    so_far.2 ∙ ap (λ xs. entries (map_of kind xs)) (entries_unique kind parts so_far.0 es all are)
+    let read : List (Entry kind) =
+    entries_view kind g.K.KeyOrder.key_view c.in_ok-entries.entries.items in
+    let same : read ≡ es =
+    entries_unique kind (parts_view c.args.payloads.now) read es c.in_ok-entries.ensures.found are in
+    c.in_ok-last_of_each.ensures ∙ ap (λ xs. entries (map_of kind xs)) same

@@ -40,7 +40,7 @@ loop-field-preserved c =
     let f = field_view c.in-Some.field in
     let old = map field_view c.args.fields.now.items in
     let next = rw c.in-Some.is at c.in_ok-field.ensures.field in
-    let pushed = ap (λ (fields : List Field). map field_view fields) c.in_ok-push.ensures.items in
+    let pushed = ap (λ (fields : List Field). map field_view fields) c.in_ok-push.ensures.ok in
     let whole = map-append field_view c.loop-field.fields.items (c.in-Some.field ∷ []) in
     let read = ap (λ (fs : List Wire). fs ++ f ∷ []) so_far.2 in (
       so_far.0 ++ f ∷ [],

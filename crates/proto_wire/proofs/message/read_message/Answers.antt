@@ -24,7 +24,7 @@ returns-in_err-require_known-clause-fault c =
     let parts = parts_view c.args.parts.now in
     let fs : List Wire = map field_view c.in_ok-fields.fields.items in
     let bad : SomeUnknown keys fs × (c.in_err-require_known.field-0.0 ≡ UnknownField) =
-    rw (← c.deref.ensures.value) c.in_err-require_known.ensures.fault in
+    rw (← c.deref.ensures) c.in_err-require_known.ensures.fault in
     exit_memory_or (λ e. SomeUnknown keys fs × (e ≡ UnknownField)) (MessageFault keys parts) exit.result _ exit.ensures.1
     (inr bad)
     (λ d fault. not_known (merged_unknown keys parts fs c.in_ok-fields.ensures.found fault.0) fault.1)
@@ -35,7 +35,7 @@ returns-in_err-require_known-clause-reads c gs is =
     let parts = parts_view c.args.parts.now in
     let fs : List Wire = map field_view c.in_ok-fields.fields.items in
     let bad : SomeUnknown keys fs × (c.in_err-require_known.field-0.0 ≡ UnknownField) =
-    rw (← c.deref.ensures.value) c.in_err-require_known.ensures.fault in
+    rw (← c.deref.ensures) c.in_err-require_known.ensures.fault in
     let same : fs ≡ gs = merges_unique parts fs gs c.in_ok-fields.ensures.found is.0 in
     absurd (known_disjoint keys gs is.1 (rw same at bad.0))
 

@@ -14,7 +14,7 @@ loop-field-preserved c =
       | in-Some+in_ok-push w ↦
           let bytes = w.in-Some.bytes.now in
           let more = picked_some len_in c.args.number fields i _ bytes within w.in-Some.ensures in
-          rw (more, w.parts-is, w.in_ok-push.ensures.items, map-append, c.loop-field.invariant) refl
+          rw (more, w.parts-is, w.in_ok-push.ensures.ok, map-append, c.loop-field.invariant) refl
       | in_default w ↦
           let same = picked_none len_in c.args.number fields i _ within w.in_default.ensures in
           rw (same, w.parts-is) c.loop-field.invariant

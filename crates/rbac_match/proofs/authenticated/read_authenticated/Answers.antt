@@ -24,10 +24,10 @@ returns-in_err-read_text_matcher-clause-fault c =
     let message : IsMessage authenticated_keys parts fs =
     rw c.authenticated_keys.ensures at c.in_ok-fields.ensures.found in
     let given : parts_view c.deref-2.result.now ≡ payloads principal_name_field fs =
-    rw c.deref-2.ensures.value (rw c.deref.ensures.value at c.in_ok-name.ensures) in
+    rw c.deref-2.ensures (rw c.deref.ensures at c.in_ok-name.ensures) in
     let more : 0 < length c.in_ok-name.name.items = grind (arith, common_steps) in
     let some : payloads principal_name_field fs ≢ [] =
-    payloads_some c.deref-2.result.now (payloads principal_name_field fs) given (rw c.deref-2.ensures.value more) in
+    payloads_some c.deref-2.result.now (payloads principal_name_field fs) given (rw c.deref-2.ensures more) in
     exit_memory_or (TextFault (payloads principal_name_field fs)) (AuthenticatedFault parts)
     c.from_residual-in_err-read_text_matcher.result _ c.from_residual-in_err-read_text_matcher.ensures.1
     (rw given at c.in_err-read_text_matcher.ensures.fault) (λ e bad. in_name fs message.0 some bad)

@@ -22,7 +22,7 @@ returns-in_err-address-clause-fault c =
     let fs : List Wire = map field_view c.in_ok-fields.fields.items in
     exit_fault (CidrFault parts) c.from_residual-in_err-address.result _
     c.from_residual-in_err-address.ensures.1
-    (in_address fs c.in_ok-fields.ensures.found.0 (rw c.deref.ensures.value at c.in_err-address.ensures.fault))
+    (in_address fs c.in_ok-fields.ensures.found.0 (rw c.deref.ensures at c.in_err-address.ensures.fault))
 
 pub returns-in_err-length-clause-fault : goal.returns-in_err-length-clause-fault
 returns-in_err-length-clause-fault c =
@@ -30,15 +30,15 @@ returns-in_err-length-clause-fault c =
     let fs : List Wire = map field_view c.in_ok-fields.fields.items in
     exit_memory_or (MessageFault uint32_keys (payloads prefix_len_field fs)) (CidrFault parts)
     c.from_residual-in_err-length.result _ c.from_residual-in_err-length.ensures.1
-    (rw (c.deref-3.ensures.value, c.in_ok-payloads_of.ensures, c.deref-2.ensures.value) at c.in_err-length.ensures.fault)
+    (rw (c.deref-3.ensures, c.in_ok-size.ensures, c.deref-2.ensures) at c.in_err-length.ensures.fault)
     (λ e bad. in_length fs c.in_ok-fields.ensures.found.0 bad)
 
 pub returns-clause-fault : goal.returns-clause-fault
 returns-clause-fault c =
     let parts : List (List ℕ) = parts_view c.args.parts.now in
     let fs : List Wire = map field_view c.in_ok-fields.fields.items in
-    let spelled = rw c.deref.ensures.value at c.in_ok-address.ensures.found.1 in
-    let length = rw (c.deref-3.ensures.value, c.in_ok-payloads_of.ensures, c.deref-2.ensures.value) at c.in_ok-length.ensures.found in
+    let spelled = rw c.deref.ensures at c.in_ok-address.ensures.found.1 in
+    let length = rw (c.deref-3.ensures, c.in_ok-size.ensures, c.deref-2.ensures) at c.in_ok-length.ensures.found in
     last_fault (λ e. (width_of c.in_ok-address.address < c.in_ok-length.length) × (e ≡ OutOfRange))
     (CidrFault parts) c.range_of.result c.range_of.ensures.fault
     (λ e bad. too_long fs length.0 c.in_ok-address.address c.in_ok-fields.ensures.found.0 spelled length.1.0

@@ -25,7 +25,7 @@ returns-in_err-specifier-clause-fault c =
     exit_memory_or (λ e. (n : ℕ) × (last_number (keys_of specifiers) fs ≡ Some n)
     × HeaderMemberFault (member_in specifiers n) n (member_run (keys_of specifiers) fs) e) (HeaderFault parts)
     c.from_residual-in_err-specifier.result _ c.from_residual-in_err-specifier.ensures.1
-    (rw c.deref.ensures.value at c.in_err-specifier.ensures.fault)
+    (rw c.deref.ensures at c.in_err-specifier.ensures.fault)
     (λ e bad. in_specifier fs bad.0 message.0 bad.1 bad.2)
 
 pub returns-in_err-name-clause-fault : goal.returns-in_err-name-clause-fault
@@ -34,25 +34,25 @@ returns-in_err-name-clause-fault c =
     let fs : List Wire = map field_view c.in_ok-fields.fields.items in
     let message : IsMessage header_keys parts fs = rw c.header_keys.ensures at c.in_ok-fields.ensures.found in
     let says : SaysSpecifier fs c.in_ok-specifier.specifier =
-    rw c.deref.ensures.value at c.in_ok-specifier.ensures.found in
+    rw c.deref.ensures at c.in_ok-specifier.ensures.found in
     exit_fault (HeaderFault parts) c.from_residual-in_err-name.result _
     c.from_residual-in_err-name.ensures.1
     (name_fault parts fs c.in_ok-specifier.specifier _ message says
-    (rw c.deref-2.ensures.value at c.in_err-name.ensures.fault))
+    (rw c.deref-2.ensures at c.in_err-name.ensures.fault))
 
 pub returns-clause-found : goal.returns-clause-found
 returns-clause-found c =
     let parts : List (List ℕ) = parts_view c.args.parts.now in
     let fs : List Wire = map field_view c.in_ok-fields.fields.items in
     let message : IsMessage header_keys parts fs = rw c.header_keys.ensures at c.in_ok-fields.ensures.found in
-    let name = rw c.deref-2.ensures.value at c.in_ok-name.ensures.found in
+    let name = rw c.deref-2.ensures at c.in_ok-name.ensures.found in
     rw (c.in_ok-new.ensures, name.0) (record {
       fields = fs;
       message = message;
       readable = name.1;
       named = name.2;
       lowered = refl;
-      asked = rw c.deref.ensures.value at c.in_ok-specifier.ensures.found;
-      inverted = rw c.deref-3.ensures.value at c.bool_at-invert.ensures;
-      emptied = rw c.deref-4.ensures.value at c.bool_at-empty.ensures;
+      asked = rw c.deref.ensures at c.in_ok-specifier.ensures.found;
+      inverted = rw c.deref-3.ensures at c.bool_at-invert.ensures;
+      emptied = rw c.deref-4.ensures at c.bool_at-empty.ensures;
     })

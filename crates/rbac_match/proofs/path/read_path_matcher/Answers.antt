@@ -20,7 +20,7 @@ returns-in_err-require_payload-clause-fault c =
     let parts : List (List ℕ) = parts_view c.args.parts.now in
     let fs : List Wire = map field_view c.in_ok-fields.fields.items in
     let message : IsMessage path_keys parts fs = rw c.path_keys.ensures at c.in_ok-fields.ensures.found in
-    let fault = rw (c.deref-2.ensures.value, c.in_ok-path.ensures, c.deref.ensures.value) at c.in_err-require_payload.ensures.fault in
+    let fault = rw c.deref.ensures at c.in_err-require_payload.ensures.fault in
     exit_fault (PathFault parts) c.from_residual-in_err-require_payload.result _
     c.from_residual-in_err-require_payload.ensures.1 (no_path fs message fault.0 fault.1)
 
@@ -29,7 +29,7 @@ returns-clause-fault c =
     let parts : List (List ℕ) = parts_view c.args.parts.now in
     let fs : List Wire = map field_view c.in_ok-fields.fields.items in
     let message : IsMessage path_keys parts fs = rw c.path_keys.ensures at c.in_ok-fields.ensures.found in
-    let some = rw (c.deref-2.ensures.value, c.in_ok-path.ensures, c.deref.ensures.value) at c.in_ok-require_payload.ensures.found in
+    let some = rw c.deref.ensures at c.in_ok-require_payload.ensures.found in
     last_memory_or (TextFault (payloads path_field fs)) (PathFault parts) c.read_text_matcher.result
-    (rw (c.deref-3.ensures.value, c.in_ok-path.ensures, c.deref.ensures.value) at c.read_text_matcher.ensures.fault)
+    (rw (c.deref-3.ensures, c.in_ok-path.ensures, c.deref-2.ensures) at c.read_text_matcher.ensures.fault)
     (λ e bad. in_path fs message.0 some bad)

@@ -24,5 +24,5 @@ returns-clause-fault c =
     let fs : List Wire = map field_view c.in_ok-fields.fields.items in
     let message : IsMessage range_keys parts fs = rw c.range_keys.ensures at c.in_ok-fields.ensures.found in
     last_fault (λ e. AreNoBounds fs × (e ≡ OutOfRange)) (PortRangeFault parts) c.port_range.result
-    (rw c.deref.ensures.value at c.port_range.ensures.fault)
+    (rw c.deref.ensures at c.port_range.ensures.fault)
     (λ e bad. no_bounds fs message.0 (λ span are. bounds_disjoint fs span are bad.0) bad.1)

@@ -1,18 +1,21 @@
-use Rattle.std.proofs.Common.{◌≡◌, ◌≢◌, ◌-◌, ℕ, List, [], ◌∷◌, Some, map, get_or}
+use Rattle.std.proofs.Common.{◌≡◌, ◌≢◌, ◌-◌, ℕ, List, [], ◌∷◌, Some, map, take, sym, ap, ◌∙◌}
 use Rattle.std.proofs.lemmas.Result.{MatchResult-weaker}
-use Rattle.std.proofs.lemmas.List.{take_more}
 use Rattle.proto_wire.specs.declared.refusal.Refusal.{Refusal}
 use Rattle.rbac_match.specs.View.{rule_view}
 use Rattle.proto_wire.specs.Fields.{Wire, field_view}
 use Rattle.proto_wire.specs.Merge.{parts_view}
 use Rattle.proto_wire.specs.Messages.{IsMessage, MessageFault}
-use Rattle.proto_wire.specs.Oneof.{member_run}
-use Rattle.proto_wire.specs.Values.{payloads}
+use Rattle.proto_wire.specs.Oneof.{member_run, trailing_run}
+use Rattle.proto_wire.specs.Values.{len_in, payloads}
+use Rattle.proto_wire.specs.declared.field.Field.{Field}
+use Rattle.proto_wire.proofs.ValueLemmas.{picked_none, picked_some}
 use Rattle.rbac_match.specs.Message.{rule_keys, rules_field, set_keys}
 use Rattle.rbac_match.specs.Rules.{IsRule, SetFault, MemberFault, RuleFault, SomeRuleFault, rule_fields, set_fields, set_empty, in_rule}
 use Rattle.rbac_match.proofs.Exits.{exit_memory_or, exit_fault, last_memory_or}
-use Rattle.rbac_match.proofs.Levels.{rule_found, fault_deeper, member_fault, last_fault, are_rules_push, text_in}
+use Rattle.rbac_match.proofs.Levels.{rule_found, fault_deeper, member_fault, last_fault, are_rules_push, payload_in}
+use Rattle.rbac_match.proofs.Runs.{run_of_members}
 use Rattle.rbac_match.proofs.read.+rule.Goals as goal
+use Rattle.rbac_match.proofs.read.+rule.Goals.{read_rules-in-Some+in_ok-rule+in_ok-push, read_rules-in_default}
 
 pub read_member-returns-in_err-read_set-in-And-clause-fault : goal.read_member-returns-in_err-read_set-in-And-clause-fault
 read_member-returns-in_err-read_set-in-And-clause-fault t c =
@@ -21,7 +24,7 @@ read_member-returns-in_err-read_set-in-And-clause-fault t c =
     exit_memory_or (SetFault Below (payloads c.args.last.number run))
     (MemberFault Below (Some c.args.last.member) c.args.last.number run)
     c.from_residual-in_err-read_set-in-And.result _ c.from_residual-in_err-read_set-in-And.ensures.1
-    (rw (c.deref.ensures.value, c.in_ok-set-in-And.ensures) at c.in_err-read_set-in-And.ensures.fault)
+    (rw (c.deref.ensures, c.in_ok-set-in-And.ensures) at c.in_err-read_set-in-And.ensures.fault)
     (λ e bad. rw c.in-And.is bad)
 
 pub read_member-returns-in_err-read_set-in-Or-clause-fault : goal.read_member-returns-in_err-read_set-in-Or-clause-fault
@@ -31,7 +34,7 @@ read_member-returns-in_err-read_set-in-Or-clause-fault t c =
     exit_memory_or (SetFault Below (payloads c.args.last.number run))
     (MemberFault Below (Some c.args.last.member) c.args.last.number run)
     c.from_residual-in_err-read_set-in-Or.result _ c.from_residual-in_err-read_set-in-Or.ensures.1
-    (rw (c.deref-in-Or.ensures.value, c.in_ok-set-in-Or.ensures) at c.in_err-read_set-in-Or.ensures.fault)
+    (rw (c.deref-in-Or.ensures, c.in_ok-set-in-Or.ensures) at c.in_err-read_set-in-Or.ensures.fault)
     (λ e bad. rw c.in-Or.is bad)
 
 pub read_rule-returns-in_err-fields-clause-fault : goal.read_rule-returns-in_err-fields-clause-fault
@@ -50,16 +53,16 @@ read_rule-returns-in_err-last-clause-fault t c =
     exit_fault (RuleFault c.args.side c.args.depth parts) c.from_residual-in_err-last.result _
     c.from_residual-in_err-last.ensures.1
     (last_fault c.args.side c.args.depth parts fs message c.in_ok-require_level.ensures.found _
-    (rw c.deref.ensures.value at c.in_err-last.ensures.fault))
+    (rw c.deref.ensures at c.in_err-last.ensures.fault))
 
 pub read_rule-returns-clause-found : goal.read_rule-returns-clause-found
 read_rule-returns-clause-found t c =
     let parts : List (List ℕ) = parts_view c.args.parts.now in
     let fs : List Wire = map field_view c.in_ok-fields.fields.items in
     let message : IsMessage (rule_keys c.args.side) parts fs = rw c.rule_keys.ensures at c.in_ok-fields.ensures.found in
-    let last = rw c.deref.ensures.value at c.in_ok-last.ensures.found in
-    let run : map field_view c.deref-3.result.now ≡ member_run (rule_keys c.args.side) fs =
-    rw c.deref-3.ensures.value (rw (c.rule_keys-2.ensures, c.deref-2.ensures.value) at c.in_ok-run.ensures) in
+    let last = rw c.deref.ensures at c.in_ok-last.ensures.found in
+    let run : map field_view c.trailing_run-run.result.now ≡ member_run (rule_keys c.args.side) fs =
+    c.trailing_run-run.ensures ∙ ap (λ (fields : List Field). trailing_run (map field_view fields)) c.deref-2.ensures ∙ sym (run_of_members (rule_keys c.args.side) fs message.1) in
     MatchResult-weaker c.read_member.result c.read_member.ensures.found
     (λ rule says. rule_found c.args.side c.args.depth parts fs message c.in_ok-require_level.ensures.found
     c.in_ok-last.last.number c.in_ok-last.last.member last.0 last.1 (rule_view rule) (rw run at says)) (λ _ _. tt)
@@ -69,9 +72,9 @@ read_rule-returns-clause-fault t c =
     let parts : List (List ℕ) = parts_view c.args.parts.now in
     let fs : List Wire = map field_view c.in_ok-fields.fields.items in
     let message : IsMessage (rule_keys c.args.side) parts fs = rw c.rule_keys.ensures at c.in_ok-fields.ensures.found in
-    let last = rw c.deref.ensures.value at c.in_ok-last.ensures.found in
-    let run : map field_view c.deref-3.result.now ≡ member_run (rule_keys c.args.side) fs =
-    rw c.deref-3.ensures.value (rw (c.rule_keys-2.ensures, c.deref-2.ensures.value) at c.in_ok-run.ensures) in
+    let last = rw c.deref.ensures at c.in_ok-last.ensures.found in
+    let run : map field_view c.trailing_run-run.result.now ≡ member_run (rule_keys c.args.side) fs =
+    c.trailing_run-run.ensures ∙ ap (λ (fields : List Field). trailing_run (map field_view fields)) c.deref-2.ensures ∙ sym (run_of_members (rule_keys c.args.side) fs message.1) in
     last_memory_or (MemberFault (RuleFault c.args.side (c.args.depth - 1)) (Some c.in_ok-last.last.member)
     c.in_ok-last.last.number (member_run (rule_keys c.args.side) fs)) (RuleFault c.args.side c.args.depth parts)
     c.read_member.result (rw run at c.read_member.ensures.fault)
@@ -85,12 +88,15 @@ read_set-returns-in_err-fields-clause-fault t c =
     c.from_residual.result _ c.from_residual.ensures.1
     (rw c.set_keys.ensures at c.in_err-fields.ensures.fault) (λ e bad. set_fields bad)
 
+pub read_rule-last_member-requires : goal.read_rule-last_member-requires
+read_rule-last_member-requires t c = rw c.deref.ensures (rw c.rule_keys.ensures at c.in_ok-fields.ensures.found.1)
+
 pub read_set-returns-in_err-require_payload-clause-fault : goal.read_set-returns-in_err-require_payload-clause-fault
 read_set-returns-in_err-require_payload-clause-fault t c =
     let parts : List (List ℕ) = parts_view c.args.parts.now in
     let fs : List Wire = map field_view c.in_ok-fields.fields.items in
     let message : IsMessage set_keys parts fs = rw c.set_keys.ensures at c.in_ok-fields.ensures.found in
-    let fault = rw (c.deref-2.ensures.value, c.in_ok-payloads.ensures, c.deref.ensures.value) at c.in_err-require_payload.ensures.fault in
+    let fault = rw c.deref.ensures at c.in_err-require_payload.ensures.fault in
     exit_fault (SetFault (RuleFault c.args.side c.args.depth) parts)
     c.from_residual-in_err-require_payload.result _ c.from_residual-in_err-require_payload.ensures.1
     (set_empty fs message fault.0 fault.1)
@@ -100,9 +106,9 @@ read_set-returns-clause-found t c =
     let parts : List (List ℕ) = parts_view c.args.parts.now in
     let fs : List Wire = map field_view c.in_ok-fields.fields.items in
     let message : IsMessage set_keys parts fs = rw c.set_keys.ensures at c.in_ok-fields.ensures.found in
-    let some : payloads rules_field fs ≢ [] = rw (c.deref-2.ensures.value, c.in_ok-payloads.ensures, c.deref.ensures.value) at c.in_ok-require_payload.ensures.found in
+    let some : payloads rules_field fs ≢ [] = rw c.deref.ensures at c.in_ok-require_payload.ensures.found in
     MatchResult-weaker c.read_rules.result c.read_rules.ensures.found
-    (λ rules h. (fs, message, some, rw (c.deref-3.ensures.value, c.in_ok-payloads.ensures, c.deref.ensures.value) at h)) (λ _ _. tt)
+    (λ rules h. (fs, message, some, rw c.deref-2.ensures at h)) (λ _ _. tt)
 
 pub read_set-returns-clause-fault : goal.read_set-returns-clause-fault
 read_set-returns-clause-fault t c =
@@ -111,19 +117,35 @@ read_set-returns-clause-fault t c =
     let message : IsMessage set_keys parts fs = rw c.set_keys.ensures at c.in_ok-fields.ensures.found in
     last_memory_or (SomeRuleFault c.args.side c.args.depth (payloads rules_field fs))
     (SetFault (RuleFault c.args.side c.args.depth) parts) c.read_rules.result
-    (rw (c.deref-3.ensures.value, c.in_ok-payloads.ensures, c.deref.ensures.value) at c.read_rules.ensures.fault)
+    (rw c.deref-2.ensures at c.read_rules.ensures.fault)
     (λ e bad. in_rule fs bad.0 message.0 bad.1 bad.2)
 
 pub read_rules-returns-in_err-rule-clause-fault : goal.read_rules-returns-in_err-rule-clause-fault
 read_rules-returns-in_err-rule-clause-fault t c =
-    let i : ℕ = c.loop-payload.payload-index in
-    let payload = get_or c.args.payloads.now i (record { ref_ptr = (0, 0); now = [] }) in
-    exit_memory_or (RuleFault c.args.side c.args.depth (payload.now ∷ []))
-    (SomeRuleFault c.args.side c.args.depth (parts_view c.args.payloads.now))
-    c.from_residual.result _ c.from_residual.ensures.1 c.in_err-rule.ensures.fault
-    (λ e bad. (payload.now, text_in c.args.payloads.now i (record { ref_ptr = (0, 0); now = [] }) c.loop-payload-test.true, bad))
+    let bytes : List ℕ = c.in-Some.payload.now in
+    exit_memory_or (RuleFault c.args.side c.args.depth (bytes ∷ []))
+    (SomeRuleFault c.args.side c.args.depth (payloads c.args.number (map field_view c.args.fields.now)))
+    c.from_residual-in_err-rule.result _ c.from_residual-in_err-rule.ensures.1 c.in_err-rule.ensures.fault
+    (λ e bad. (
+      bytes,
+      payload_in c.args.number c.args.fields.now c.loop-field.field-index _ bytes c.loop-field-test.true c.in-Some.ensures,
+      bad,
+    ))
 
-pub read_rules-loop-payload-preserved : goal.read_rules-loop-payload-preserved
-read_rules-loop-payload-preserved t c =
-    let more = take_more c.args.payloads.now c.loop-payload.payload-index (record { ref_ptr = (0, 0); now = [] }) c.loop-payload-test.true in
-    rw (more, c.in_ok-push.ensures.items) (are_rules_push (IsRule c.args.side c.args.depth) _ c.loop-payload.rules.items _ c.in_ok-rule.rule c.loop-payload.invariant c.in_ok-rule.ensures.found)
+pub read_rules-loop-field-preserved : goal.read_rules-loop-field-preserved
+read_rules-loop-field-preserved t c =
+    let fields = c.args.fields.now in
+    let i = c.loop-field.field-index in
+    let within = c.loop-field-test.true in
+    let before : List (List ℕ) = payloads c.args.number (map field_view (take i fields)) in
+    elim c.match-payload_of.branch [
+      | read_rules-in-Some+in_ok-rule+in_ok-push w ↦
+          let bytes : List ℕ = w.in-Some.payload.now in
+          let more = picked_some len_in c.args.number fields i _ bytes within w.in-Some.ensures in
+          rw (more, w.rules-is, w.in_ok-push.ensures.items)
+          (are_rules_push (IsRule c.args.side c.args.depth) before c.loop-field.rules.items bytes w.in_ok-rule.rule
+          c.loop-field.invariant w.in_ok-rule.ensures.found)
+      | read_rules-in_default w ↦
+          let same = picked_none len_in c.args.number fields i _ within w.in_default.ensures in
+          rw (same, w.rules-is) c.loop-field.invariant
+    ]

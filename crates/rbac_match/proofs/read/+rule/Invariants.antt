@@ -1,5 +1,6 @@
-use Rattle.std.proofs.Common.{◌+◌, ◌*◌, take}
-use Rattle.proto_wire.specs.Merge.{parts_view}
+use Rattle.std.proofs.Common.{◌+◌, ◌*◌, map, take}
+use Rattle.proto_wire.specs.Fields.{field_view}
+use Rattle.proto_wire.specs.Values.{payloads}
 use Rattle.rbac_match.specs.Rules.{IsRule, AreRules}
 use Rattle.rbac_match.specs.View.{rules_view}
 use Rattle.rbac_match.proofs.read.+rule.Given as goal
@@ -16,6 +17,7 @@ decreases-read_set l = 4 * l.depth + 2
 abbrev pub decreases-read_member : goal.decreases-read_member
 decreases-read_member l = 4 * l.depth + 3
 
-abbrev pub invariant-read_rules-loop-payload : goal.invariant-read_rules-loop-payload
-invariant-read_rules-loop-payload l =
-    AreRules (IsRule l.side l.depth) (parts_view (take l.payload-index l.payloads)) (rules_view l.rules.items)
+abbrev pub invariant-read_rules-loop-field : goal.invariant-read_rules-loop-field
+invariant-read_rules-loop-field l =
+    AreRules (IsRule l.side l.depth) (payloads l.number (map field_view (take l.field-index l.fields)))
+    (rules_view l.rules.items)

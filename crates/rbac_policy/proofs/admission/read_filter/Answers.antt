@@ -17,6 +17,7 @@ use Rattle.rbac_policy.specs.Enforced.{Enforces, total_bound}
 use Rattle.rbac_policy.specs.Filter.{Filter}
 use Rattle.rbac_policy.specs.Message.{AreFilterRules}
 use Rattle.rbac_policy.specs.steps.Conditions.{ConditionsFault}
+use Rattle.rbac_policy.proofs.Enforcing.{enforced_costs}
 use Rattle.rbac_policy.proofs.Spending.{both_ok}
 use Rattle.rbac_policy.specs.Fault.{FilterFault, HoldsPolicies, RulesFault, filter_fields, no_rules, rules_fields, in_rules}
 use Rattle.rbac_policy.proofs.admission.read_filter.Goals as goal
@@ -37,7 +38,7 @@ returns-in_err-require_rules-clause-fault c =
     let top : List Wire = map field_view c.in_ok-top.top.items in
     let message : IsMessage filter_keys (c.args.bytes.now ∷ []) top = rw c.filter_keys.ensures at c.in_ok-top.ensures.found in
     let bad = c.in_err-require_rules.ensures.fault in
-    let none : payloads rules_field top ≡ [] = rw c.deref.ensures.value at bad.1 in
+    let none : payloads rules_field top ≡ [] = rw c.deref.ensures at bad.1 in
     exit_memory_or (Fails c.args.bytes.now c.args.limits.now c.args.budget) (Fails c.args.bytes.now c.args.limits.now c.args.budget)
     c.from_residual-in_err-require_rules.result _ c.from_residual-in_err-require_rules.ensures.1
     (inr (inl (no_rules top message none bad.0))) (λ e fault. fault)
@@ -45,8 +46,8 @@ returns-in_err-require_rules-clause-fault c =
 pub returns-in_err-fields-clause-fault : goal.returns-in_err-fields-clause-fault
 returns-in_err-fields-clause-fault c =
     let top : List Wire = map field_view c.in_ok-top.top.items in
-    let there : payloads rules_field top ≢ [] = rw c.deref.ensures.value at c.in_ok-require_rules.ensures.found in
-    let parts : parts_view c.deref-3.result.now ≡ payloads rules_field top = ap parts_view c.deref-3.ensures.value ∙ (rw c.deref-2.ensures.value at c.in_ok-parts.ensures) in
+    let there : payloads rules_field top ≢ [] = rw c.deref.ensures at c.in_ok-require_rules.ensures.found in
+    let parts : parts_view c.deref-3.result.now ≡ payloads rules_field top = ap parts_view c.deref-3.ensures ∙ (rw c.deref-2.ensures at c.in_ok-parts.ensures) in
     exit_memory_or (MessageFault rules_keys (payloads rules_field top)) (Fails c.args.bytes.now c.args.limits.now c.args.budget)
     c.from_residual-in_err-fields.result _ c.from_residual-in_err-fields.ensures.1
     (rw (parts, c.rules_keys.ensures) at c.in_err-fields.ensures.fault)
@@ -56,8 +57,8 @@ pub returns-clause-fault : goal.returns-clause-fault
 returns-clause-fault c =
     let top : List Wire = map field_view c.in_ok-top.top.items in
     let fs : List Wire = map field_view c.in_ok-fields.fields.items in
-    let there : payloads rules_field top ≢ [] = rw c.deref.ensures.value at c.in_ok-require_rules.ensures.found in
-    let parts : parts_view c.deref-3.result.now ≡ payloads rules_field top = ap parts_view c.deref-3.ensures.value ∙ (rw c.deref-2.ensures.value at c.in_ok-parts.ensures) in
+    let there : payloads rules_field top ≢ [] = rw c.deref.ensures at c.in_ok-require_rules.ensures.found in
+    let parts : parts_view c.deref-3.result.now ≡ payloads rules_field top = ap parts_view c.deref-3.ensures ∙ (rw c.deref-2.ensures at c.in_ok-parts.ensures) in
     let inner : IsMessage rules_keys (payloads rules_field top) fs = rw (parts, c.rules_keys.ensures) at c.in_ok-fields.ensures.found in
     MatchResult-weaker c.read_rules.result c.read_rules.ensures.fault (λ _ _. tt)
     (λ e h. memory_or_weaker (λ d. RulesFault fs d ⊎ ((read : List (Entry text)) × Readable text (payloads 2 fs) read × ConditionsFault (entries (map_of text read)) c.args.limits.now c.args.budget d))
@@ -77,25 +78,29 @@ returns-clause-fault c =
         },
         cost,
       )
-    ]) (rw c.deref-4.ensures.value at h))
+    ]) (rw c.deref-4.ensures at h))
 
 pub returns-clause-found : goal.returns-clause-found
 returns-clause-found c =
     let top : List Wire = map field_view c.in_ok-top.top.items in
     let fs : List Wire = map field_view c.in_ok-fields.fields.items in
-    let there : payloads rules_field top ≢ [] = rw c.deref.ensures.value at c.in_ok-require_rules.ensures.found in
-    let parts : parts_view c.deref-3.result.now ≡ payloads rules_field top = ap parts_view c.deref-3.ensures.value ∙ (rw c.deref-2.ensures.value at c.in_ok-parts.ensures) in
+    let there : payloads rules_field top ≢ [] = rw c.deref.ensures at c.in_ok-require_rules.ensures.found in
+    let parts : parts_view c.deref-3.result.now ≡ payloads rules_field top = ap parts_view c.deref-3.ensures ∙ (rw c.deref-2.ensures at c.in_ok-parts.ensures) in
     let message : IsMessage filter_keys (c.args.bytes.now ∷ []) top = rw c.filter_keys.ensures at c.in_ok-top.ensures.found in
     let inner : IsMessage rules_keys (payloads rules_field top) fs = rw (parts, c.rules_keys.ensures) at c.in_ok-fields.ensures.found in
     both_ok (λ rules. (filter : Filter CelChecked) × AreFilterRules fs filter × Enforces c.args.limits.now filter (rules_view rules))
     (λ rules. total_bound (rules_view rules) ≤ c.args.budget)
     (λ rules. (filter : Filter CelChecked) × Admits c.args.bytes.now c.args.limits.now c.args.budget filter (rules_view rules))
-    c.read_rules.result (rw c.deref-4.ensures.value at c.read_rules.ensures.found) c.read_rules.ensures.cheap
+    c.read_rules.result (rw c.deref-4.ensures at c.read_rules.ensures.found) c.read_rules.ensures.cheap
     (λ rules (filter, are, enforces) cheap. (
       filter,
       record {
-        message = record { top = top; fs = fs; message = message; there = there; inner = inner; rules = are };
+        admissible = record {
+          message = record { top = top; fs = fs; message = message; there = there; inner = inner; rules = are };
+          cost = total_bound (rules_view rules);
+          costs = enforced_costs c.args.limits.now filter (rules_view rules) enforces;
+          cheap = cheap;
+        };
         enforces = enforces;
-        cheap = cheap;
       },
     ))

@@ -14,15 +14,16 @@ use Rattle.rbac_policy.specs.Condition.{Program}
 use Rattle.rbac_policy.specs.Enforced.{bounds_of, total_bound}
 use Rattle.rbac_policy.specs.Filter.{Filter, Policy}
 use Rattle.rbac_policy.specs.Message.{IsPolicy, most_policies}
-use Rattle.rbac_policy.specs.Fault.{PolicyFault, RulesFault, in_entry, too_many, in_policy}
+use Rattle.rbac_policy.specs.Fault.{PolicyFault, RulesFault, in_policies, too_many}
 use Rattle.rbac_policy.specs.Named.{named_views}
 use Rattle.rbac_policy.specs.steps.Conditions.{ConditionsFault, IsEnforced}
-use Rattle.proto_wire.specs.Maps.{Entry, text, AreEntries, Readable, map_of, SomeEntryFault, SomeValueFault}
+use Rattle.proto_wire.specs.Maps.{Entry, text, AreEntries, Readable, map_of, SomeEntryFault, SomeValueFault, in_entry, in_value}
 use Rattle.proto_wire.specs.steps.Maps.{Held}
 use Rattle.proto_wire.proofs.MapLaws.{entries_readable}
 use Rattle.proto_wire.proofs.MapValues.{held_ordered, held_are_values}
 use Rattle.rbac_policy.proofs.Besides.{sorted_beside}
 use Rattle.rbac_policy.proofs.Enforcing.{apart, filter_enforced, total_of}
+use Rattle.rbac_policy.proofs.Totality.{as_many}
 use Rattle.rbac_policy.proofs.admission.read_rules.Goals as goal
 
 -- what is wrong with the rules
@@ -33,62 +34,68 @@ Fails fs limits budget e = RulesFault fs e ⊎ ((read : List (Entry text)) × Re
 pub returns-in_err-named-clause-fault : goal.returns-in_err-named-clause-fault
 returns-in_err-named-clause-fault c =
     let fs : List Wire = map field_view c.args.fields.now in
-    let parts : parts_view c.deref.result.now ≡ payloads 2 fs = ap parts_view c.deref.ensures.value ∙ c.in_ok-entries.ensures in
+    let parts : parts_view c.deref.result.now ≡ payloads 2 fs = ap parts_view c.deref.ensures ∙ c.in_ok-entries.ensures in
     exit_memory_or (SomeEntryFault text (payloads 2 fs)) (Fails fs c.args.limits.now c.args.budget)
     c.from_residual-in_err-named.result _ c.from_residual-in_err-named.ensures.1 (rw parts at c.in_err-named.ensures.fault)
-    (λ e bad. inl (in_entry bad))
+    (λ e bad. inl (in_policies (in_entry bad)))
 
 pub returns-in_err-refuse_many-clause-fault : goal.returns-in_err-refuse_many-clause-fault
 returns-in_err-refuse_many-clause-fault c =
     let F : Refusal → Type 0 = Fails (map field_view c.args.fields.now) c.args.limits.now c.args.budget in
-    let parts : parts_view c.deref.result.now ≡ payloads 2 (map field_view c.args.fields.now) = ap parts_view c.deref.ensures.value ∙ c.in_ok-entries.ensures in
+    let parts : parts_view c.deref.result.now ≡ payloads 2 (map field_view c.args.fields.now) = ap parts_view c.deref.ensures ∙ c.in_ok-entries.ensures in
     let es : List (Entry text) = c.in_ok-named.ensures.found.0 in
     let read : AreEntries text (payloads 2 (map field_view c.args.fields.now)) es = rw parts at c.in_ok-named.ensures.found.1 in
-    let size : len (map_of text es) ≡ length c.in_ok-named.named.entries = len-entries (map_of text es) ∙ ap length (sym c.in_ok-named.ensures.found.2) ∙ length-map c.in_ok-named.named.entries _ in
+    let size : len (map_of text es) ≡ length c.in_ok-named.named.items = len-entries (map_of text es) ∙ ap length (sym c.in_ok-named.ensures.found.2) ∙ length-map c.in_ok-named.named.items _ in
     let bad = c.in_err-refuse_many.ensures.fault in
     let above : most_policies < c.len.result = bad.1 in
-    let many : most_policies < len (map_of text es) = omega (arith, size, c.len.ensures.len, above) in
+    let count : c.len.result ≡ length c.in_ok-named.named.items = c.len.ensures ∙ c.in_ok-named.named.ok.0 in
+    let many : most_policies < len (map_of text es) = omega (arith, size, count, above) in
     exit_memory_or F F c.from_residual-in_err-refuse_many.result _ c.from_residual-in_err-refuse_many.ensures.1
     (inr (inl (too_many es (entries_readable text _ es read) many bad.0))) (λ e fault. fault)
 
 pub returns-in_err-policies-clause-fault : goal.returns-in_err-policies-clause-fault
 returns-in_err-policies-clause-fault c =
     let fs : List Wire = map field_view c.args.fields.now in
-    let parts : parts_view c.deref.result.now ≡ payloads 2 fs = ap parts_view c.deref.ensures.value ∙ c.in_ok-entries.ensures in
+    let parts : parts_view c.deref.result.now ≡ payloads 2 fs = ap parts_view c.deref.ensures ∙ c.in_ok-entries.ensures in
     let es : List (Entry text) = c.in_ok-named.ensures.found.0 in
     let read : AreEntries text (payloads 2 fs) es = rw parts at c.in_ok-named.ensures.found.1 in
     let readable : Readable text (payloads 2 fs) es = entries_readable text _ es read in
     exit_memory_or (λ e. SomeValueFault text PolicyFault (entries (map_of text es)) e ⊎ ConditionsFault (entries (map_of text es)) c.args.limits.now c.args.budget e)
     (Fails fs c.args.limits.now c.args.budget)
     c.from_residual-in_err-policies.result _ c.from_residual-in_err-policies.ensures.1
-    (rw c.in_ok-named.ensures.found.2 at c.in_err-policies.ensures.fault)
+    (rw (c.deref-2.ensures.value, c.in_ok-named.ensures.found.2) at c.in_err-policies.ensures.fault)
     (λ e bad. elim bad [
-      | inl own ↦ inl (in_policy es readable own)
+      | inl own ↦ inl (in_policies (in_value es readable own))
       | inr cost ↦ inr (es, readable, cost)
     ])
 
+pub read_policies-requires : goal.read_policies-requires
+read_policies-requires c =
+    rw (c.deref-2.ensures.value, c.in_ok-named.ensures.found.2) (entries_sorted (map_of text c.in_ok-named.ensures.found.0))
+
 pub new-requires-clause-ordered : goal.new-requires-clause-ordered
-new-requires-clause-ordered c = held_ordered text (IsEnforced c.args.limits.now) (map_of text c.in_ok-named.ensures.found.0) (named_views c.in_ok-policies.policies.items) (rw c.in_ok-named.ensures.found.2 at c.in_ok-policies.ensures.found)
+new-requires-clause-ordered c = held_ordered text (IsEnforced c.args.limits.now) (map_of text c.in_ok-named.ensures.found.0) (named_views c.in_ok-policies.policies.items) (rw (c.deref-2.ensures.value, c.in_ok-named.ensures.found.2) at c.in_ok-policies.ensures.found)
 
 pub new-requires-clause-bounded : goal.new-requires-clause-bounded
 new-requires-clause-bounded c = c.in_ok-policies.ensures.cost
 
 pub returns-clause-found : goal.returns-clause-found
 returns-clause-found c =
-    let parts : parts_view c.deref.result.now ≡ payloads 2 (map field_view c.args.fields.now) = ap parts_view c.deref.ensures.value ∙ c.in_ok-entries.ensures in
+    let parts : parts_view c.deref.result.now ≡ payloads 2 (map field_view c.args.fields.now) = ap parts_view c.deref.ensures ∙ c.in_ok-entries.ensures in
     let es : List (Entry text) = c.in_ok-named.ensures.found.0 in
     let vs : List (List ℕ × Policy Program) = named_views c.in_ok-policies.policies.items in
-    let held : Held text (IsEnforced c.args.limits.now) (entries (map_of text es)) vs = rw c.in_ok-named.ensures.found.2 at c.in_ok-policies.ensures.found in
+    let held : Held text (IsEnforced c.args.limits.now) (entries (map_of text es)) vs = rw (c.deref-2.ensures.value, c.in_ok-named.ensures.found.2) at c.in_ok-policies.ensures.found in
     let split = apart c.args.limits.now (entries (map_of text es)) vs held in
-    let size : len (map_of text es) ≡ length c.in_ok-named.named.entries = len-entries (map_of text es) ∙ ap length (sym c.in_ok-named.ensures.found.2) ∙ length-map c.in_ok-named.named.entries _ in (
+    let size : len (map_of text es) ≡ length c.in_ok-named.named.items = len-entries (map_of text es) ∙ ap length (sym c.in_ok-named.ensures.found.2) ∙ length-map c.in_ok-named.named.items _ in
+    let count : c.len.result ≡ length c.in_ok-named.named.items = c.len.ensures ∙ c.in_ok-named.named.ok.0 in
+    let values = held_are_values text IsPolicy (map_of text es) split.0 split.1 in
+    let same = as_many (map_of text es) (from_entries split.0) values in (
       record { action = c.in_ok-action.action; policies = from_entries split.0 },
       record {
-        entries = es;
         unaudited = c.in_ok-refuse_audit_options.ensures.found;
         action = c.in_ok-action.ensures;
-        read = rw parts at c.in_ok-named.ensures.found.1;
-        few = (let few : c.len.result ≤ most_policies = c.in_ok-refuse_many.ensures.found in omega (arith, size, c.len.ensures.len, few));
-        policies = held_are_values text IsPolicy (map_of text es) split.0 split.1;
+        policies = (es, rw parts at c.in_ok-named.ensures.found.1, values);
+        few = (let few : c.len.result ≤ most_policies = c.in_ok-refuse_many.ensures.found in omega (arith, size, same, count, few));
       },
       rw c.new.ensures (filter_enforced c.args.limits.now c.in_ok-action.action split.0 vs split.2),
     )
@@ -98,7 +105,7 @@ returns-clause-cheap c =
     let es : List (Entry text) = c.in_ok-named.ensures.found.0 in
     let named : FinMap name_cmp (List (List ℕ)) = map_of text es in
     let vs : List (List ℕ × Policy Program) = named_views c.in_ok-policies.policies.items in
-    let held : Held text (IsEnforced c.args.limits.now) (entries named) vs = rw c.in_ok-named.ensures.found.2 at c.in_ok-policies.ensures.found in
+    let held : Held text (IsEnforced c.args.limits.now) (entries named) vs = rw (c.deref-2.ensures.value, c.in_ok-named.ensures.found.2) at c.in_ok-policies.ensures.found in
     let sorted : T (is_sorted name_cmp vs) = subst T (sorted_beside (IsEnforced c.args.limits.now) (entries named) vs held) (entries_sorted named) in
     let sum = total_of c.args.limits.now c.in_ok-action.action vs sorted in
     let cost = c.in_ok-policies.ensures.cost in

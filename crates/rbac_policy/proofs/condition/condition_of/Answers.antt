@@ -14,7 +14,7 @@ use Rattle.cel_compile.proofs.Short.{fitting_code}
 use Rattle.proto_wire.specs.declared.refusal.Refusal.TheVariants.{TooCostly, TooLarge}
 use Rattle.stack_machine.specs.Typable.{Forward}
 use Rattle.proto_wire.proofs.Exits.{exit_memory_or}
-use Rattle.rbac_policy.specs.Condition.{IsProgramOf, Program}
+use Rattle.rbac_policy.specs.Costs.{Costs}
 use Rattle.rbac_policy.specs.steps.Conditions.{ExpressionFault, not_bool, too_costly}
 use Rattle.rbac_policy.proofs.condition.condition_of.Goals as goal
 
@@ -33,12 +33,11 @@ returns-in_err-steps-clause-fault c =
     let x : CelChecked = checked_view c.args.checked.now in
     let e : TypedTree = typed_view c.in_ok-typed.typed in
     let is_bool : kind e ≡ bool_type = rw c.cel_type.ensures at c.in_ok-require_bool.ensures.found in
-    let program : Program = record { code = code_of 0 0 e; bound = cost_of e c.args.limits.now [] } in
-    let is : IsProgramOf c.args.limits.now x program =
-    record { e = e; elaborated = c.in_ok-typed.ensures.found; has_type = is_bool; code = refl; bound = refl } in
+    let costs : Costs c.args.limits.now x (cost_of e c.args.limits.now []) =
+    record { e = e; elaborated = c.in_ok-typed.ensures.found; has_type = is_bool; is = refl } in
     exit_memory_or (λ d. (d ≡ TooCostly) × (c.args.left < cost_of e c.args.limits.now [])) (ExpressionFault x c.args.limits.now c.args.left)
     c.from_residual-in_err-steps.result _ c.from_residual-in_err-steps.ensures.1 c.in_err-steps.ensures.fault
-    (λ d bad. too_costly program is bad.1 bad.0)
+    (λ d bad. too_costly _ costs bad.1 bad.0)
 
 -- a code has room for the expression
 pub returns-in_err-code-clause-fault : goal.returns-in_err-code-clause-fault

@@ -11,7 +11,7 @@ use Rattle.rbac_policy.proofs.policy.read_checked.Goals as goal
 pub returns-in_err-condition-clause-fault : goal.returns-in_err-condition-clause-fault
 returns-in_err-condition-clause-fault c =
     let given : List (List ℕ) = payloads checked_condition_field (map field_view c.args.fields.now) in
-    let parts : parts_view c.deref.result.now ≡ given = ap parts_view c.deref.ensures.value ∙ c.in_ok-parts.ensures in
+    let parts : parts_view c.deref.result.now ≡ given = ap parts_view c.deref.ensures ∙ c.in_ok-parts.ensures in
     let there : given ≢ [] = c.if-not-has_payload.ensures in
     exit_memory_or (ConditionFault given c.args.limits.now c.args.left) (λ e. (given ≢ []) × ConditionFault given c.args.limits.now c.args.left e)
     c.from_residual-in_err-condition.result _ c.from_residual-in_err-condition.ensures.1 (rw parts at c.in_err-condition.ensures.fault)
@@ -20,7 +20,7 @@ returns-in_err-condition-clause-fault c =
 pub returns-clause-found : goal.returns-clause-found
 returns-clause-found c =
     let given : List (List ℕ) = payloads checked_condition_field (map field_view c.args.fields.now) in
-    let parts : parts_view c.deref.result.now ≡ given = ap parts_view c.deref.ensures.value ∙ c.in_ok-parts.ensures in
+    let parts : parts_view c.deref.result.now ≡ given = ap parts_view c.deref.ensures ∙ c.in_ok-parts.ensures in
     let there : given ≢ [] = c.if-not-has_payload.ensures in
     let is = rw parts at c.in_ok-condition.ensures.found in
     (Some is.0, (there, is.1), is.2)

@@ -1,5 +1,4 @@
-use Rattle.std.specs.Map.Iter.{deref_pair}
-use Rattle.std.proofs.Common.{◌≡◌, ◌≤◌, map}
+use Rattle.std.proofs.Common.{◌≡◌, ◌≤◌, take}
 use Rattle.proto_wire.specs.Maps.{text}
 use Rattle.proto_wire.specs.steps.Maps.{Held}
 use Rattle.rbac_policy.specs.Enforced.{bounds_of}
@@ -8,6 +7,6 @@ use Rattle.rbac_policy.specs.steps.Conditions.{IsEnforced}
 use Rattle.rbac_policy.specs.steps.Named.{names_view}
 use Rattle.rbac_policy.proofs.policy.read_policies.Given as goal
 
-abbrev pub invariant-loop-name : goal.invariant-loop-name
-invariant-loop-name l = Held text (IsEnforced l.limits) (names_view (map deref_pair l.yielded)) (named_views l.policies.items)
+abbrev pub invariant-loop-entry : goal.invariant-loop-entry
+invariant-loop-entry l = Held text (IsEnforced l.limits) (names_view (take l.entry-index l.named)) (named_views l.policies.items)
     × (l.spent ≡ bounds_of (named_views l.policies.items)) × (l.spent ≤ l.budget)

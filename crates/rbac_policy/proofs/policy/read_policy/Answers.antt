@@ -31,7 +31,7 @@ pub returns-in_err-refuse_unchecked-clause-fault : goal.returns-in_err-refuse_un
 returns-in_err-refuse_unchecked-clause-fault c =
     let F = Fails c.args.name.now (parts_view c.args.parts.now) c.args.limits.now c.args.left in
     let fs : List Wire = map field_view c.in_ok-fields.fields.items in
-    let bad = rw c.deref.ensures.value at c.in_err-refuse_unchecked.ensures.fault in
+    let bad = rw c.deref.ensures at c.in_err-refuse_unchecked.ensures.fault in
     exit_memory_or F F c.from_residual-in_err-refuse_unchecked.result _ c.from_residual-in_err-refuse_unchecked.ensures.1
     (inr (inl (elim bad.1 [
       | inl both ↦ both_conditions fs c.in_ok-fields.ensures.found.0 bad.0 both.1 both.0
@@ -43,7 +43,7 @@ returns-in_err-require_sides-clause-fault c =
     let F = Fails c.args.name.now (parts_view c.args.parts.now) c.args.limits.now c.args.left in
     let fs : List Wire = map field_view c.in_ok-fields.fields.items in
     let message : IsMessage policy_keys (parts_view c.args.parts.now) fs = rw c.policy_keys.ensures at c.in_ok-fields.ensures.found in
-    let bad = rw c.deref-2.ensures.value at c.in_err-require_sides.ensures.fault in
+    let bad = rw c.deref-2.ensures at c.in_err-require_sides.ensures.fault in
     exit_memory_or F F c.from_residual-in_err-require_sides.result _ c.from_residual-in_err-require_sides.ensures.1
     (inr (inl (lacks_side fs message bad.0 bad.1))) (λ e fault. fault)
 
@@ -52,7 +52,7 @@ returns-in_err-permissions-clause-fault c =
     let fs : List Wire = map field_view c.in_ok-fields.fields.items in
     exit_memory_or (SomeRuleFault Permission rule_depth (payloads permissions_field fs)) (Fails c.args.name.now (parts_view c.args.parts.now) c.args.limits.now c.args.left)
     c.from_residual-in_err-permissions.result _ c.from_residual-in_err-permissions.ensures.1
-    (rw c.deref-3.ensures.value at c.in_err-permissions.ensures.fault)
+    (rw c.deref-3.ensures at c.in_err-permissions.ensures.fault)
     (λ e bad. inl (in_permission fs c.in_ok-fields.ensures.found.0 bad))
 
 pub returns-in_err-principals-clause-fault : goal.returns-in_err-principals-clause-fault
@@ -60,7 +60,7 @@ returns-in_err-principals-clause-fault c =
     let fs : List Wire = map field_view c.in_ok-fields.fields.items in
     exit_memory_or (SomeRuleFault Principal rule_depth (payloads principals_field fs)) (Fails c.args.name.now (parts_view c.args.parts.now) c.args.limits.now c.args.left)
     c.from_residual-in_err-principals.result _ c.from_residual-in_err-principals.ensures.1
-    (rw c.deref-4.ensures.value at c.in_err-principals.ensures.fault)
+    (rw c.deref-4.ensures at c.in_err-principals.ensures.fault)
     (λ e bad. inl (in_principal fs c.in_ok-fields.ensures.found.0 bad))
 
 pub returns-in_err-condition-clause-fault : goal.returns-in_err-condition-clause-fault
@@ -69,14 +69,14 @@ returns-in_err-condition-clause-fault c =
     let given : List (List ℕ) = payloads checked_condition_field fs in
     exit_memory_or (λ e. (given ≢ []) × ConditionFault given c.args.limits.now c.args.left e) (Fails c.args.name.now (parts_view c.args.parts.now) c.args.limits.now c.args.left)
     c.from_residual-in_err-condition.result _ c.from_residual-in_err-condition.ensures.1
-    (rw c.deref-5.ensures.value at c.in_err-condition.ensures.fault)
+    (rw c.deref-5.ensures at c.in_err-condition.ensures.fault)
     (λ e bad. condition_fails c.args.limits.now c.args.name.now (parts_view c.args.parts.now) c.args.left e fs c.in_ok-fields.ensures.found.0 bad.0 bad.1)
 
 pub returns-clause-found : goal.returns-clause-found
 returns-clause-found c =
     let fs : List Wire = map field_view c.in_ok-fields.fields.items in
     let has : HasProgram c.args.limits.now (payloads checked_condition_field fs) (option_map program_view c.in_ok-condition.condition) =
-    rw c.deref-5.ensures.value at c.in_ok-condition.ensures.found in (
+    rw c.deref-5.ensures at c.in_ok-condition.ensures.found in (
       record {
         permissions = rules_view c.in_ok-permissions.permissions.items;
         principals = rules_view c.in_ok-principals.principals.items;
@@ -85,11 +85,11 @@ returns-clause-found c =
       record {
         fs = fs;
         message = rw c.policy_keys.ensures at c.in_ok-fields.ensures.found;
-        unchecked = rw c.deref.ensures.value at c.in_ok-refuse_unchecked.ensures.found;
+        unchecked = rw c.deref.ensures at c.in_ok-refuse_unchecked.ensures.found;
         condition = has.1;
-        sides = rw c.deref-2.ensures.value at c.in_ok-require_sides.ensures.found;
-        permissions = rw c.deref-3.ensures.value at c.in_ok-permissions.ensures.found;
-        principals = rw c.deref-4.ensures.value at c.in_ok-principals.ensures.found;
+        sides = rw c.deref-2.ensures at c.in_ok-require_sides.ensures.found;
+        permissions = rw c.deref-3.ensures at c.in_ok-permissions.ensures.found;
+        principals = rw c.deref-4.ensures at c.in_ok-principals.ensures.found;
       },
       record { permissions = refl; principals = refl; condition = has.2 },
     )
