@@ -2,7 +2,7 @@
 ghost use Rattle.std.specs.Prelude.{◌≡◌, ◌⊎◌, ℕ, IfErr, IfNone, IfOk, IfSome, codes, false, map, option_map, string_bytes};
 ghost use Rattle.clap.specs.Words.{app_of, first_of, found_of, kind_of, rows_of, rule_of, subcommand_rows_of};
 ghost use Rattle.clap.specs.declared.builder.command.Command.TheViews.{out-Command};
-ghost use Rattle.rbacd.specs.Words.{AreMistaken, HasFlag, IsBudgetOf, IsJobOf, IsJobOfNamed, IsJobOfRows, NamesNoJob, budget_rule, check_app, facts_rule, json_rule, judge_app, policy_rule, rbacd_app, subcommand_name};
+ghost use Rattle.rbacd.specs.Words.{AreMistaken, HasFlag, IsBudgetOf, IsJobOf, IsJobOfNamed, IsJobOfRows, NamesNoJob, budget_rule, check_app, explain_rule, facts_rule, json_rule, judge_app, policy_rule, rbacd_app, subcommand_name};
 ghost use Rattle.rbacd.specs.declared.words.Job.{Job};
 
 use clap::error::ErrorKind;
@@ -76,8 +76,8 @@ pub enum Job {
         /// Whether the outcome is printed as JSON.
         json: bool,
     },
-    /// `judge --policy FILE [--facts FILE] [--budget N] [--json]`: to judge the head on standard input
-    /// by a policy file.
+    /// `judge --policy FILE [--facts FILE] [--budget N] [--json] [--explain]`: to judge the head on
+    /// standard input by a policy file.
     Judge {
         /// The path of the policy file.
         policy: String,
@@ -87,6 +87,8 @@ pub enum Job {
         budget: u64,
         /// Whether the outcome is printed as JSON.
         json: bool,
+        /// Whether it is told which policies were tried.
+        explain: bool,
     },
 }
 
@@ -164,7 +166,8 @@ fn judge_command<'a>(alloc: Global) -> Result<Command<'a>, AllocError>
         .arg(policy_arg(alloc))?
         .arg(facts_arg(alloc))?
         .arg(budget_arg(alloc))?
-        .arg(json_arg(alloc))
+        .arg(json_arg(alloc))?
+        .arg(explain_arg(alloc))
 }
 
 fn policy_arg<'a>(alloc: Global) -> Arg<'a>
@@ -210,6 +213,16 @@ fn json_arg<'a>(alloc: Global) -> Arg<'a>
         .help("Print the outcome as one JSON object on a line")
 }
 
+fn explain_arg<'a>(alloc: Global) -> Arg<'a>
+    ensures rule { rule_of result ≡ explain_rule }
+    ensures local { result.global ≡ false }
+{
+    Arg::new(alloc, "explain")
+        .long("explain")
+        .action(ArgAction::SetTrue)
+        .help("Tell which policies were tried, and why each matches or does not")
+}
+
 /// The job of the subcommand `check`, if its values are there and its budget is allowed.
 fn check_job(alloc: Global, matches: &ArgMatches<'_>) -> Result<Option<Job>, AllocError>
     ensures job { IfOk result (λ job. IfSome job (λ job. (subcommand_name job ≡ codes "check")
@@ -248,11 +261,13 @@ fn judge_job(alloc: Global, matches: &ArgMatches<'_>) -> Result<Option<Job>, All
     let policy = String::from_str(alloc, policy)?;
     let facts = facts_of(alloc, matches)?;
     let json = has_flag(matches, "json");
+    let explain = has_flag(matches, "explain");
     Ok(Some(Job::Judge {
         policy,
         facts,
         budget,
         json,
+        explain,
     }))
 }
 
