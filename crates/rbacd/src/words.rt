@@ -52,6 +52,20 @@ With --json the line is one of these objects; no policy matched where \"name\" a
   {\"head\":S}
   {\"memory\":true}
 
+With --explain a line follows for each policy that was tried, in order, up to the one that matched:
+  M \"p\": permission                      no permission of it matches
+  M \"p\": principal                       a permission matches, and no principal
+  M \"p\": condition false                 its condition is false
+  M \"p\": condition error E               its condition is this error, which is no match
+  M \"p\": condition true steps N bound B  it matches, after N of the B steps that its condition may take
+  M \"p\": match                           it matches, and has no condition
+With --json the object has them as \"trials\":
+  {\"name\":\"p\",\"number\":M,\"reason\":\"permission\"}
+  {\"error\":\"E\",\"name\":\"p\",\"number\":M,\"reason\":\"condition error\"}
+  {\"bound\":B,\"name\":\"p\",\"number\":M,\"reason\":\"condition true\",\"steps\":N}
+Where memory runs out for that, all of it is left out, and standard error says so; the verdict and the
+status stay. A refusal and a head's fault are not explained.
+
 The facts are one JSON object; each may be absent:
   texts      source.address destination.address connection.requested_server_name connection.tls_version
              connection.subject_peer_certificate connection.dns_san_peer_certificate
@@ -60,9 +74,10 @@ The facts are one JSON object; each may be absent:
   addresses  direct_remote_ip remote_ip destination_ip
   others     connection.mtls (true or false) connection.id (a number)
 
-Example:
+Examples:
   echo '{\"remote_ip\": \"10.0.0.1\", \"destination.port\": 443}' > facts.json
-  printf 'GET / HTTP/1.1\\r\\nHost: h\\r\\n\\r\\n' | rbacd judge --policy filter.bin --facts facts.json";
+  printf 'GET / HTTP/1.1\\r\\nHost: h\\r\\n\\r\\n' | rbacd judge --policy filter.bin --facts facts.json
+  rbacd judge --policy examples/condition.bin --explain < examples/get.http";
 
 /// What the program is asked to do.
 #[derive(Debug, Drop)]

@@ -97,7 +97,7 @@ const CASES: [Case; 19] = [
         "method_is_get",
         WORDS,
         PLAIN,
-        "allow 0\n0 \"p\": condition true steps 6 bound 40\n",
+        "allow 0\n0 \"p\": condition true steps 11 bound 40\n",
         0,
     ),
     (

@@ -139,6 +139,7 @@ Options:
       --facts <FILE>   What is known of the connection: one JSON object
       --budget <N>     What the policy's conditions may cost, from 1 to 100000000 [default: 1000000]
       --json           Print the outcome as one JSON object on a line
+      --explain        Tell which policies were tried, and why each matches or does not
   -h, --help           Print help
 
 The line on standard output, and the status:
