@@ -14,7 +14,7 @@ use Rattle.rbac_policy.specs.Admission.{Admits}
 use Rattle.rbac_policy.specs.Condition.{Program}
 use Rattle.rbac_policy.specs.Filter.{Filter}
 use Rattle.rbacd.specs.Explain.{Explains, IsGiven}
-use Rattle.rbacd.specs.Judging.{InputFault, IsAllOf, IsDecision, IsOutcomeOf}
+use Rattle.rbacd.specs.Judging.{InputFault, IsAllOf, IsCheckOf, IsDecision, IsOutcomeOf}
 use Rattle.rbacd.specs.Outcome.{IsPrintedFor, less_told, line_of, plain, printed_of}
 use Rattle.rbacd.specs.steps.Judged.{IsAnswerTo, IsExplanationOf, IsNameOf, IsOutcomeOfAsk, IsOutcomeUnder, bare}
 use Rattle.rbacd.specs.steps.Reading.{IsFound}
@@ -134,6 +134,14 @@ pub printed_plain : (outcome : Outcome) (printed : Report) → IsPrintedFor (pla
 printed_plain outcome printed (inl same) = rw same refl
 printed_plain outcome printed (inr (inl same)) = rw same refl
 printed_plain outcome printed (inr (inr none)) = rw none refl
+
+-- and it is an outcome of the check
+pub check_printed : (policy : List ℕ) (budget : ℕ) (outcome : Outcome) (printed : Report)
+    → IsPrintedFor (plain outcome) printed → IsCheckOf policy budget outcome
+    → IsCheckOf policy budget printed.outcome
+check_printed policy budget outcome printed (inl same) found = rw same found
+check_printed policy budget outcome printed (inr (inl same)) found = rw same found
+check_printed policy budget outcome printed (inr (inr none)) found = rw none tt
 
 module _ {E : Type 0} where
   -- what is found under the admitted filter, or want of memory, is found under the policy

@@ -1,5 +1,5 @@
 -- Which outcome a policy file has, and one head under it.
-use Rattle.std.specs.Prelude.{◌≡◌, ⊤, ⊥, true, false, ℕ, Bool, IfSome, List, Option, codes, option_and_then, slice_get}
+use Rattle.std.specs.Prelude.{◌≡◌, ⊤, true, false, ℕ, Bool, IfSome, List, Option, codes, option_and_then, slice_get}
 use Rattle.std.specs.FinMap.{keys, len}
 use Rattle.attributes.specs.Conn.{Facts, only_scheme}
 use Rattle.attributes.specs.Limits.{largest}

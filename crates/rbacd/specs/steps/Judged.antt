@@ -1,5 +1,5 @@
 -- What one head has under a filter that was admitted.
-use Rattle.std.specs.Prelude.{◌≡◌, ⊤, ⊥, Bool, true, false, ℕ, List, Option, None, IfNone, option_and_then, slice_get}
+use Rattle.std.specs.Prelude.{◌≡◌, ⊤, Bool, true, false, ℕ, List, Option, None, IfNone, option_and_then, slice_get}
 use Rattle.std.specs.FinMap.{keys}
 use Rattle.attributes.specs.Conn.{Facts}
 use Rattle.attributes.specs.Limits.{InLimits, largest}
