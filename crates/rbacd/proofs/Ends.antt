@@ -1,8 +1,15 @@
 -- What a run comes to, by what was printed of it.
-use Rattle.std.proofs.Common.{◌≡◌, ◌≢◌, ◌⊎◌, ℕ, List, Option, None, Result, Ok, Err, IfErr, IfOk, ap, inl, inr, refl, option_map, string_bytes}
-use Rattle.rbacd.specs.Outcome.{IsPrintedFor}
+use Rattle.std.proofs.Common.{◌≡◌, ◌≢◌, ◌⊎◌, ◌↔◌, ℕ, List, Option, Result, Ok, Err, IfErr, IfOk, IsTrue, false, ap, inl, inr, refl, option_map, string_bytes}
+use Rattle.std.proofs.lemmas.Bool.{false≢true}
+use Rattle.rbacd.proofs.JudgeLemmas.{less_found}
+use Rattle.rbacd.specs.Explain.{IsGiven}
+use Rattle.rbacd.specs.Judging.{IsDecision}
+use Rattle.rbacd.specs.Outcome.{IsPrintedFor, less_told}
 use Rattle.rbacd.specs.Run.{ComesTo, Finds, IsStoppedBy, Leaves, LeavesFault, PrintsReport, RunsTo, StopsBy}
-use Rattle.rbacd.specs.Words.{is_json}
+use Rattle.rbacd.specs.Words.{is_explained, is_json}
+use Rattle.rbacd.specs.steps.Judged.{bare, report_with}
+use Rattle.rbacd.specs.declared.explain.Explanation.{Explanation}
+use Rattle.rbacd.specs.declared.explain.Explanation.TheVariants as explanations
 use Rattle.rbacd.specs.declared.judge.Finding.{Finding}
 use Rattle.rbacd.specs.declared.outcome.Outcome.{Outcome}
 use Rattle.rbacd.specs.declared.outcome.Outcome.TheVariants as outcomes
@@ -12,11 +19,27 @@ use Rattle.rbacd.specs.declared.run.JobFault.TheVariants as faults
 use Rattle.rbacd.specs.declared.words.Job.{Job}
 use Rattle.rbacd.specs.declared.words.Job.TheVariants.{Check, Judge}
 
+-- nothing is given of what is no verdict
+nothing_given : {A : Type 0} → ⊥ ↔ (A × ⊥)
+nothing_given = (λ g. g, λ p. p.1)
+
+-- where less is told, as much is given
+less_given : (explanation : Explanation) → IsGiven (less_told explanation) ↔ IsGiven explanation
+less_given explanations.Absent = (λ g. g, λ g. g)
+less_given (explanations.Trials trials) = (λ g. g, λ g. g)
+less_given (explanations.Untold cause) = (λ g. g, λ g. g)
+
+-- a check gives no explanation
+pub none_given : (found : Result Finding JobFault) → IfOk found (λ f. ¬ (IsGiven f.explanation))
+    → IfOk found (λ f. IsGiven f.explanation ↔ (IsTrue false × IsDecision f.outcome))
+none_given (Ok f) none = (λ g. absurd (none g), λ p. absurd (false≢true p.0))
+none_given (Err e) none = tt
+
 module _ (holds : List ℕ → List ℕ → Type 0) (lacks : List ℕ → Type 0) (input : Option (List ℕ)) where
   -- want of memory stops no job: it is an outcome
   never_by_memory : (job : Job) → ¬ (IsStoppedBy holds lacks input job faults.Memory)
   never_by_memory (Check policy budget json) unread = unread
-  never_by_memory (Judge policy facts budget json) stops = elim stops [
+  never_by_memory (Judge policy facts budget json explain) stops = elim stops [
     | StopsBy.no_policy unread ↦ unread
     | StopsBy.no_facts policy path read named unread ↦ unread
     | StopsBy.bad_facts policy path read named bad ↦ let differ = bad.3 in cc
@@ -25,39 +48,59 @@ module _ (holds : List ℕ → List ℕ → Type 0) (lacks : List ℕ → Type 0
 
   -- the job comes to the report of what it finds
   pub comes_to : (job : Job) (found : Result Finding JobFault) (ended : Result Report JobFault)
-      → IfOk found (λ f. Finds holds lacks input job (option_map string_bytes f.name) f.outcome)
+      → IfOk found (λ f. Finds holds lacks input job (option_map string_bytes f.name) f.explanation f.outcome)
+      → IfOk found (λ f. IsGiven f.explanation ↔ (IsTrue (is_explained job) × IsDecision f.outcome))
       → IfErr found (λ e. (e ≡ faults.Memory) ⊎ IsStoppedBy holds lacks input job e)
-      → IfOk found (λ f. ended ≡ Ok (record { outcome = f.outcome; name = f.name; json = is_json job }))
-      → (found ≡ Err faults.Memory
-      → ended ≡ Ok (record { outcome = outcomes.Memory; name = None; json = is_json job }))
+      → IfOk found (λ f. ended ≡ Ok (report_with (is_json job) f))
+      → (found ≡ Err faults.Memory → ended ≡ Ok (report_with (is_json job) (bare outcomes.Memory)))
       → IfErr found (λ e. e ≢ faults.Memory → ended ≡ Err e)
       → ComesTo holds lacks input job ended
-  comes_to job (Ok finding) ended finds stops kept memory others = rw kept (refl, inr finds)
-  comes_to job (Err e) ended finds (inl none) kept memory others =
-      rw (memory (ap Err none)) (refl, inl refl)
-  comes_to job (Err e) ended finds (inr stops) kept memory others =
+  comes_to job (Ok finding) ended finds given stops kept memory others = rw kept (refl, given, inr finds)
+  comes_to job (Err e) ended finds given (inl none) kept memory others =
+      rw (memory (ap Err none)) (refl, nothing_given, inl refl)
+  comes_to job (Err e) ended finds given (inr stops) kept memory others =
       rw (others (λ none. never_by_memory job (rw none at stops))) stops
 
+  -- what a job finds it finds where less is told of it
+  finds_less : (job : Job) (name : Option (List ℕ)) (explanation : Explanation) (outcome : Outcome)
+      → Finds holds lacks input job name explanation outcome
+      → Finds holds lacks input job name (less_told explanation) outcome
+  finds_less (Check policy budget json) name explanation outcome finds = finds
+  finds_less (Judge policy facts budget json explain) name explanation outcome finds =
+      record finds { found = less_found finds.policy budget finds.facts finds.bytes name explanation outcome finds.found }
+
+  -- the job comes to what is printed of its report
+  comes_as : (job : Job) (report printed : Report) → ComesTo holds lacks input job (Ok report)
+      → IsPrintedFor report printed → ComesTo holds lacks input job (Ok printed)
+  comes_as job report printed comes (inl same) = rw same comes
+  comes_as job report printed (json, given, finds) (inr (inl less)) = rw less (
+    json,
+    (λ g. given.0 ((less_given report.explanation).0 g), λ p. (less_given report.explanation).1 (given.1 p)),
+    elim finds [
+      | inl none ↦ inl none
+      | inr found ↦ inr (finds_less job _ report.explanation report.outcome found)
+    ],
+  )
+  comes_as job report printed (json, given, finds) (inr (inr none)) = rw none (json, nothing_given, inl refl)
+
   module _ (words : List (List ℕ)) where
-    -- where a report is printed, want of memory is printed in the same way
-    runs_without : (report : Report) → RunsTo holds lacks words input (Ok report)
-        → RunsTo holds lacks words input (Ok (record report { outcome = outcomes.Memory }))
-    runs_without report runs = elim runs [
-      | RunsTo.job job is comes ↦ RunsTo.job job is (comes.0, inl refl)
+    -- the run comes to what is printed of its report
+    runs_as : (report printed : Report) → RunsTo holds lacks words input (Ok report)
+        → IsPrintedFor report printed → RunsTo holds lacks words input (Ok printed)
+    runs_as report printed runs same = elim runs [
+      | RunsTo.job job is comes ↦ RunsTo.job job is (comes_as job report printed comes same)
       | RunsTo.mistaken other ↦ absurd other
       | RunsTo.memory differ ↦ cc
     ]
 
     module _ (out out_new errors errors_new : Option (List ℕ)) (status : ℕ) where
-      -- it is the report that was printed, or want of memory
-      pub end_of_printed : (report : Report) (printed : Outcome)
-          → RunsTo holds lacks words input (Ok report) → IsPrintedFor report.outcome printed
-          → PrintsReport out out_new errors errors_new status (record report { outcome = printed })
+      -- it is the report that was printed
+      pub end_of_printed : (report printed : Report)
+          → RunsTo holds lacks words input (Ok report) → IsPrintedFor report printed
+          → PrintsReport out out_new errors errors_new status printed
           → (found : Result Report JobFault) × RunsTo holds lacks words input found
           × Leaves out out_new errors errors_new status found
-      end_of_printed report printed runs (inl same) left = (Ok report, runs, rw same at left)
-      end_of_printed report printed runs (inr none) left =
-          (Ok (record report { outcome = outcomes.Memory }), runs_without report runs, rw none at left)
+      end_of_printed report printed runs same left = (Ok printed, runs_as report printed runs same, left)
 
       -- and the fault that was told, or want of memory
       pub end_of_told : (fault told : JobFault) → RunsTo holds lacks words input (Err fault)

@@ -1,56 +1,170 @@
 -- From what is found under an admitted filter to what is found under its policy.
-use Rattle.std.proofs.Common.{◌≡◌, ℕ, List, Option, Some, None, Result, Ok, Err, OnErr, inl, inr, refl, option_map, string_bytes}
-use Rattle.std.specs.Prelude.{IfOk, IfSome}
-use Rattle.std.proofs.lemmas.Option.{IfSome_then}
+use Rattle.std.proofs.Common.{◌≡◌, ◌↔◌, ℕ, List, [], Option, Some, None, Result, Ok, Err, OnErr, ap, inl, inr, refl, option_map, string_bytes}
+use Rattle.std.specs.Prelude.{IfOk}
 use Rattle.std.proofs.lemmas.Result.{IfOk-weaker}
 use Rattle.attributes.specs.Conn.{Facts}
-use Rattle.attributes.specs.Limits.{InLimits, LimitsValue, largest}
+use Rattle.attributes.specs.Limits.{InLimits, largest}
 use Rattle.attributes.specs.Request.{RequestValue}
 use Rattle.cel_tree.specs.Checked.{CelChecked}
-use Rattle.http_front.specs.Asks.{AskFault, Asks}
+use Rattle.http_front.specs.Asks.{AskFault, Asks, IfJudge}
 use Rattle.http_front.specs.declared.fault.HeadFault.TheVariants.{OutsideLimits}
+use Rattle.http_front.specs.declared.read.Ask.{Ask}
+use Rattle.http_front.specs.declared.read.Ask.TheVariants.{Judge, Fault}
 use Rattle.rbac_policy.specs.Admission.{Admits}
 use Rattle.rbac_policy.specs.Condition.{Program}
 use Rattle.rbac_policy.specs.Filter.{Filter}
-use Rattle.rbacd.specs.Judging.{IsOutcomeOf}
-use Rattle.rbacd.specs.Outcome.{IsPrintedFor}
-use Rattle.rbacd.specs.steps.Judged.{IsNameOf, IsOutcomeUnder}
+use Rattle.rbacd.specs.Explain.{Explains, IsGiven}
+use Rattle.rbacd.specs.Judging.{InputFault, IsAllOf, IsCheckOf, IsDecision, IsOutcomeOf}
+use Rattle.rbacd.specs.Outcome.{IsPrintedFor, less_told, line_of, plain, printed_of}
+use Rattle.rbacd.specs.steps.Judged.{IsAnswerTo, IsExplanationOf, IsNameOf, IsOutcomeOfAsk, IsOutcomeUnder, bare}
+use Rattle.rbacd.specs.steps.Reading.{IsFound}
+use Rattle.rbacd.specs.declared.explain.Explanation.{Explanation}
+use Rattle.rbacd.specs.declared.explain.Explanation.TheVariants as explanations
 use Rattle.rbacd.specs.declared.judge.Finding.{Finding}
 use Rattle.rbacd.specs.declared.outcome.Outcome.{Outcome}
 use Rattle.rbacd.specs.declared.outcome.Outcome.TheVariants as outcomes
+use Rattle.rbacd.specs.declared.outcome.Report.{Report}
 
--- what holds of all holds of the one that is known
-pub of_all : {A : Type 0} {P : A → Type 0} (known : Option A) → ((a : A) → P a) → IfSome known P
-of_all (Some a) all = all a
-of_all None all = tt
+-- there are bytes that an input may give
+pub some_bytes : (input : Option (List ℕ)) → (bytes : List ℕ) × IsAllOf input bytes
+some_bytes (Some all) = (all, refl)
+some_bytes None = ([], tt)
 
-module _ (policy : List ℕ) (budget : ℕ) (facts : Facts) (known : Option (List ℕ)) where
+-- what explains a request does where less is told
+less_explains : (r : RequestValue) (filter : Filter CelChecked) (explanation : Explanation)
+    → Explains r filter explanation → Explains r filter (less_told explanation)
+less_explains r filter explanations.Absent explains = tt
+less_explains r filter (explanations.Trials trials) explains = refl
+less_explains r filter (explanations.Untold cause) explains = explains
+
+module _ (policy : List ℕ) (budget : ℕ) (facts : Facts) (bytes : List ℕ) where
+  -- an outcome is one where less is told
+  pub less_found : (name : Option (List ℕ)) (explanation : Explanation) (outcome : Outcome)
+      → IsOutcomeOf policy budget facts bytes name explanation outcome
+      → IsOutcomeOf policy budget facts bytes name (less_told explanation) outcome
+  less_found name explanation (outcomes.Allowed matched) found =
+      record found { explained = less_explains found.request found.filter explanation found.explained }
+  less_found name explanation (outcomes.Denied matched) found =
+      record found { explained = less_explains found.request found.filter explanation found.explained }
+  less_found name explanation (outcomes.Refused reason) found = found
+  less_found name explanation (outcomes.Fault fault) found = found
+  less_found name explanation outcomes.Memory found = tt
+  less_found name explanation outcomes.OutOfSteps found = found
+  less_found name explanation (outcomes.Admitted policies bound) found = found
+
+  -- and where nothing is
+  none_found : (name : Option (List ℕ)) (explanation : Explanation) (outcome : Outcome)
+      → IsOutcomeOf policy budget facts bytes name explanation outcome
+      → IsOutcomeOf policy budget facts bytes name explanations.Absent outcome
+  none_found name explanation (outcomes.Allowed matched) found = record found { explained = tt }
+  none_found name explanation (outcomes.Denied matched) found = record found { explained = tt }
+  none_found name explanation (outcomes.Refused reason) found = found
+  none_found name explanation (outcomes.Fault fault) found = found
+  none_found name explanation outcomes.Memory found = tt
+  none_found name explanation outcomes.OutOfSteps found = found
+  none_found name explanation (outcomes.Admitted policies bound) found = found
+
   -- what is printed of an outcome is one too
-  pub of_printed : (name : Option (List ℕ)) (outcome printed : Outcome) → IsPrintedFor outcome printed
-      → IfSome known (λ bytes. IsOutcomeOf policy budget facts bytes name outcome)
-      → IfSome known (λ bytes. (name : Option (List ℕ)) × IsOutcomeOf policy budget facts bytes name printed)
-  of_printed name outcome printed (inl same) found =
-      rw same (IfSome_then known found (λ bytes is. (name, is)))
-  of_printed name outcome printed (inr none) found = rw none (of_all known (λ bytes. (name, tt)))
+  pub of_printed : (name : Option (List ℕ)) (explanation : Explanation) (outcome : Outcome)
+      (printed : Report) → IsPrintedFor (plain outcome) printed
+      → IsOutcomeOf policy budget facts bytes name explanation outcome
+      → (name : Option (List ℕ)) × IsOutcomeOf policy budget facts bytes name explanations.Absent printed.outcome
+  of_printed name explanation outcome printed (inl same) found =
+      rw same (name, none_found name explanation outcome found)
+  of_printed name explanation outcome printed (inr (inl same)) found =
+      rw same (name, none_found name explanation outcome found)
+  of_printed name explanation outcome printed (inr (inr none)) found = rw none (name, tt)
 
-  module _ {E : Type 0} (enforced : Filter Program) (filter : Filter CelChecked)
+  -- a request that is asked for is not outside the limits
+  within_limits : (r : RequestValue) → Asks bytes largest facts r → ¬ (¬ (InLimits r largest))
+  within_limits r asks outside =
+      asks.no_fault OutsideLimits
+      (AskFault.outside (λ within. outside (rw asks.request within)) refl)
+
+  module _ (enforced : Filter Program) (filter : Filter CelChecked) (name : Option (List ℕ))
       (admits : Admits policy largest budget filter enforced) where
-    -- what is found under the admitted filter, or want of memory, is found under the policy
-    pub found_under : (answer ended : Result Finding E)
-        → IfOk answer (λ f. IfSome known (λ bytes. IsOutcomeUnder enforced facts bytes f.outcome))
-        → IfOk answer (λ f. IsNameOf enforced f.outcome (option_map string_bytes f.name))
-        → IfOk answer (λ f. ended ≡ Ok f)
-        → OnErr answer (IfOk ended (λ f. f.outcome ≡ outcomes.Memory))
-        → IfOk ended (λ f. IfSome known (λ bytes.
-        IsOutcomeOf policy budget facts bytes (option_map string_bytes f.name) f.outcome))
-    found_under (Ok f) ended outcome named kept memory =
-        rw kept (IfSome_then known outcome (λ bytes under. under policy budget filter _ admits named))
-    found_under (Err e) ended outcome named kept memory =
-        IfOk-weaker ended _ _ (λ f none. of_all known (λ bytes. rw none tt)) memory
+    -- what a request is answered, and why, is an outcome of the bytes that ask for it
+    answer_found : (r : RequestValue) (outcome : Outcome) (explanation : Explanation)
+        → Asks bytes largest facts r → IsAnswerTo enforced r outcome
+        → IsExplanationOf enforced r explanation → IsNameOf enforced outcome name
+        → IsOutcomeOf policy budget facts bytes name explanation outcome
+    answer_found r (outcomes.Allowed matched) explanation asks answer explains named = record {
+      filter = filter;
+      enforced = enforced;
+      admitted = admits;
+      request = r;
+      asks = asks;
+      verdict = answer filter (policy, budget, admits);
+      named = named;
+      explained = explains filter (policy, budget, admits) (within_limits r asks);
+    }
+    answer_found r (outcomes.Denied matched) explanation asks answer explains named = record {
+      filter = filter;
+      enforced = enforced;
+      admitted = admits;
+      request = r;
+      asks = asks;
+      verdict = answer filter (policy, budget, admits);
+      named = named;
+      explained = explains filter (policy, budget, admits) (within_limits r asks);
+    }
+    answer_found r outcomes.OutOfSteps explanation asks answer explains named =
+        within_limits r asks (answer filter (policy, budget, admits))
+    answer_found r outcomes.Memory explanation asks answer explains named = tt
+    answer_found r (outcomes.Refused reason) explanation asks answer explains named = absurd answer
+    answer_found r (outcomes.Fault fault) explanation asks answer explains named = absurd answer
+    answer_found r (outcomes.Admitted policies bound) explanation asks answer explains named = absurd answer
 
--- a request that is asked for runs out of no steps, since it is within the limits
-pub never_out_of_steps : (limits : LimitsValue) (bytes : List ℕ) (facts : Facts) (r : RequestValue)
-    → limits ≡ largest → Asks bytes largest facts r → ¬ (¬ (InLimits r limits))
-never_out_of_steps limits bytes facts r is asks outside =
-    asks.no_fault OutsideLimits
-    (AskFault.outside (λ within. outside (rw (is, asks.request) within)) refl)
+-- what was found of the bytes, under the admitted filter
+pub under_found : (enforced : Filter Program) (facts : Facts) (bytes : List ℕ) (found : Option Ask)
+    (outcome : Outcome) (explanation : Explanation) → IsFound largest facts bytes found
+    → IsOutcomeOfAsk enforced found outcome
+    → IfJudge found (λ r. IsExplanationOf enforced r explanation)
+    → IsOutcomeUnder enforced facts bytes explanation outcome
+under_found enforced facts bytes (Some (Judge r)) outcome explanation is answers explains policy budget filter name admits named =
+    answer_found policy budget facts bytes enforced filter name admits r outcome explanation is.judged answers.judged explains named
+under_found enforced facts bytes (Some (Fault fault)) outcome explanation is answers explains policy budget filter name admits named =
+    rw answers.fault ((_, _, admits), InputFault.present is.fault)
+under_found enforced facts bytes None outcome explanation is answers explains policy budget filter name admits named =
+    rw answers.none ((_, _, admits), InputFault.unfinished is.none refl)
+
+-- what is printed of an outcome alone is its line
+pub printed_plain : (outcome : Outcome) (printed : Report) → IsPrintedFor (plain outcome) printed
+    → printed_of printed ≡ line_of printed.outcome
+printed_plain outcome printed (inl same) = rw same refl
+printed_plain outcome printed (inr (inl same)) = rw same refl
+printed_plain outcome printed (inr (inr none)) = rw none refl
+
+-- and it is an outcome of the check
+pub check_printed : (policy : List ℕ) (budget : ℕ) (outcome : Outcome) (printed : Report)
+    → IsPrintedFor (plain outcome) printed → IsCheckOf policy budget outcome
+    → IsCheckOf policy budget printed.outcome
+check_printed policy budget outcome printed (inl same) found = rw same found
+check_printed policy budget outcome printed (inr (inl same)) found = rw same found
+check_printed policy budget outcome printed (inr (inr none)) found = rw none tt
+
+module _ {E : Type 0} where
+  -- what is found under the admitted filter, or want of memory, is found under the policy
+  pub found_under : (policy : List ℕ) (budget : ℕ) (facts : Facts) (known : Option (List ℕ))
+      (enforced : Filter Program) (filter : Filter CelChecked) → Admits policy largest budget filter enforced
+      → (answer ended : Result Finding E)
+      → IfOk answer (λ f. (bytes : List ℕ) × IsAllOf known bytes × IsOutcomeUnder enforced facts bytes f.explanation f.outcome)
+      → IfOk answer (λ f. IsNameOf enforced f.outcome (option_map string_bytes f.name))
+      → IfOk answer (λ f. ended ≡ Ok f)
+      → OnErr answer (IfOk ended (λ f. f ≡ bare outcomes.Memory))
+      → IfOk ended (λ f. (bytes : List ℕ) × IsAllOf known bytes
+      × IsOutcomeOf policy budget facts bytes (option_map string_bytes f.name) f.explanation f.outcome)
+  found_under policy budget facts known enforced filter admits (Ok f) ended (bytes, all, under) named kept memory =
+      rw kept (bytes, all, under policy budget filter _ admits named)
+  found_under policy budget facts known enforced filter admits (Err e) ended outcome named kept memory =
+      IfOk-weaker ended _ _ (λ f none. let (bytes, all) = some_bytes known in rw none (bytes, all, tt)) memory
+
+  -- and an explanation is given as it was
+  pub given_under : (A : Type 0) (answer ended : Result Finding E)
+      → IfOk answer (λ f. IsGiven f.explanation ↔ (A × IsDecision f.outcome))
+      → IfOk answer (λ f. ended ≡ Ok f)
+      → OnErr answer (IfOk ended (λ f. f ≡ bare outcomes.Memory))
+      → IfOk ended (λ f. IsGiven f.explanation ↔ (A × IsDecision f.outcome))
+  given_under A (Ok f) ended given kept memory = rw kept given
+  given_under A (Err e) ended given kept memory =
+      IfOk-weaker ended _ _ (λ f none. rw none (λ g. g, λ p. p.1)) memory

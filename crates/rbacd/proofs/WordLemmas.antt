@@ -47,7 +47,7 @@ pub no_subcommand : (m : ArgMatches) → (subcommand_name_of m ≡ Some (codes "
     → (subcommand_name_of m ≡ Some (codes "judge") → false ≡ true) → NamesNoJob (subcommand_rows_of m)
 no_subcommand m check judge (Check policy budget json) held =
     false≢true (check (name_of_rows m (codes "check") held.0 held.1))
-no_subcommand m check judge (Judge policy facts budget json) held =
+no_subcommand m check judge (Judge policy facts budget json explain) held =
     false≢true (judge (name_of_rows m (codes "judge") held.0 held.1))
 
 -- a flag was given where its value is `true`

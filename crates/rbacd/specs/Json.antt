@@ -4,6 +4,7 @@ use Rattle.http_front.specs.Head.{fault_status}
 use Rattle.proto_wire.specs.Refusal.{name_of, number_of}
 use Rattle.proto_wire.specs.declared.refusal.Refusal.{Refusal}
 use Rattle.serde_json.specs.Data.{Data, null, boolean, number, unsigned, string, object, member, no_members}
+use Rattle.rbacd.specs.Explain.{TrialValue, put_trials}
 use Rattle.rbacd.specs.declared.outcome.Outcome.{Outcome}
 use Rattle.rbacd.specs.declared.outcome.Outcome.TheVariants as outcomes
 
@@ -23,24 +24,25 @@ abbrev pub name_json : Option (List ℕ) → Data
 name_json (Some name) = string name
 name_json None = null
 
--- a verdict, with the name and the number of the policy that matched
-abbrev pub verdict_json : List ℕ → Option (List ℕ) → Option ℕ → Data
-verdict_json word name matched = object (member (codes "name") (name_json name)
+-- a verdict, with the name and the number of the policy that matched, and with the trials, if they are
+-- told
+abbrev pub verdict_json : List ℕ → Option (List ℕ) → Option ℕ → Option (List TrialValue) → Data
+verdict_json word name matched told = object (member (codes "name") (name_json name)
     (member (codes "policy") (matched_json matched)
-    (member (codes "verdict") (string word) no_members)))
+    (put_trials told (member (codes "verdict") (string word) no_members))))
 
 -- a policy that is refused
 abbrev pub refused_json : Refusal → Data
 refused_json reason = object (member (codes "name") (string (name_of reason))
     (member (codes "refused") (number (unsigned (number_of reason))) no_members))
 
--- each outcome, with the name of the policy that matched
-abbrev pub json_of : Option (List ℕ) → Outcome → Data
-json_of name (outcomes.Admitted policies bound) = admitted_json policies bound
-json_of name (outcomes.Allowed matched) = verdict_json (codes "allow") name matched
-json_of name (outcomes.Denied matched) = verdict_json (codes "deny") name matched
-json_of name outcomes.OutOfSteps = object (member (codes "out_of_steps") (boolean true)
+-- each outcome, with the name of the policy that matched, and with the trials, if they are told
+abbrev pub json_of : Option (List ℕ) → Option (List TrialValue) → Outcome → Data
+json_of name told (outcomes.Admitted policies bound) = admitted_json policies bound
+json_of name told (outcomes.Allowed matched) = verdict_json (codes "allow") name matched told
+json_of name told (outcomes.Denied matched) = verdict_json (codes "deny") name matched told
+json_of name told outcomes.OutOfSteps = object (member (codes "out_of_steps") (boolean true)
     (member (codes "verdict") (string (codes "deny")) no_members))
-json_of name (outcomes.Refused reason) = refused_json reason
-json_of name (outcomes.Fault fault) = object (member (codes "head") (number (unsigned (fault_status fault))) no_members)
-json_of name outcomes.Memory = object (member (codes "memory") (boolean true) no_members)
+json_of name told (outcomes.Refused reason) = refused_json reason
+json_of name told (outcomes.Fault fault) = object (member (codes "head") (number (unsigned (fault_status fault))) no_members)
+json_of name told outcomes.Memory = object (member (codes "memory") (boolean true) no_members)

@@ -1,5 +1,5 @@
 -- Which outcome a policy file has, and one head under it.
-use Rattle.std.specs.Prelude.{◌≡◌, ⊤, true, false, ℕ, Bool, List, Option, codes, option_and_then, slice_get}
+use Rattle.std.specs.Prelude.{◌≡◌, ⊤, true, false, ℕ, Bool, IfSome, List, Option, codes, option_and_then, slice_get}
 use Rattle.std.specs.FinMap.{keys, len}
 use Rattle.attributes.specs.Conn.{Facts, only_scheme}
 use Rattle.attributes.specs.Limits.{largest}
@@ -15,6 +15,8 @@ use Rattle.rbac_policy.specs.Condition.{Program, is_met}
 use Rattle.rbac_policy.specs.Enforced.{total_bound}
 use Rattle.rbac_policy.specs.Filter.{Filter}
 use Rattle.rbac_policy.specs.Verdict.{IsVerdict}
+use Rattle.rbacd.specs.Explain.{Explains}
+use Rattle.rbacd.specs.declared.explain.Explanation.{Explanation}
 use Rattle.rbacd.specs.declared.outcome.Outcome.{Outcome}
 use Rattle.rbacd.specs.declared.outcome.Outcome.TheVariants as outcomes
 
@@ -22,11 +24,16 @@ use Rattle.rbacd.specs.declared.outcome.Outcome.TheVariants as outcomes
 abbrev pub plain_facts : Facts
 plain_facts = only_scheme (codes "http")
 
+-- the bytes are all that the input gives, where that is known
+abbrev pub IsAllOf : Option (List ℕ) → List ℕ → Type 0
+IsAllOf input bytes = IfSome input (λ all. bytes ≡ all)
+
 -- the policy is admitted as a filter, and the bytes begin with a head that asks for a request on a
 -- connection of these facts, which the filter gives this verdict; the name is that of the policy that
--- matched
+-- matched, and the explanation is that of the request
 pub record IsDecided (policy : List ℕ) (budget : ℕ) (facts : Facts) (bytes : List ℕ)
-    (name : Option (List ℕ)) (allowed : Bool) (matched : Option ℕ) : Type 0 where
+    (name : Option (List ℕ)) (explanation : Explanation) (allowed : Bool) (matched : Option ℕ)
+    : Type 0 where
   pub filter : Filter CelChecked
   pub enforced : Filter Program
   pub admitted : Admits policy largest budget filter enforced
@@ -34,6 +41,7 @@ pub record IsDecided (policy : List ℕ) (budget : ℕ) (facts : Facts) (bytes :
   pub asks : Asks bytes largest facts request
   pub verdict : IsVerdict (is_met request) request filter allowed matched
   pub named : name ≡ option_and_then (slice_get (keys enforced.policies)) matched
+  pub explained : Explains request filter explanation
 
 -- the bytes, which are all that comes on a connection of these facts, ask for nothing, for this fault
 pub data InputFault (facts : Facts) (bytes : List ℕ) (fault : HeadFault) : Type 0 where
@@ -54,16 +62,23 @@ IsCheckOf policy budget (outcomes.Refused reason) = IsRefusedFor policy budget r
 IsCheckOf policy budget outcomes.Memory = ⊤
 IsCheckOf policy budget _ = ⊥
 
--- the outcome is what the policy, the facts and the bytes give, with the name of the policy that
--- matched. No condition runs out of its steps, since the request is within the limits
-abbrev pub IsOutcomeOf : List ℕ → ℕ → Facts → List ℕ → Option (List ℕ) → Outcome → Type 0
-IsOutcomeOf policy budget facts bytes name (outcomes.Allowed matched) =
-    IsDecided policy budget facts bytes name true matched
-IsOutcomeOf policy budget facts bytes name (outcomes.Denied matched) =
-    IsDecided policy budget facts bytes name false matched
-IsOutcomeOf policy budget facts bytes name (outcomes.Refused reason) = IsRefusedFor policy budget reason
-IsOutcomeOf policy budget facts bytes name (outcomes.Fault fault) =
+-- the outcome is what the policy, the facts and the bytes give, with the name of the policy that matched
+-- and the explanation. No condition runs out of its steps, since the request is within the limits
+abbrev pub IsOutcomeOf : List ℕ → ℕ → Facts → List ℕ → Option (List ℕ) → Explanation → Outcome
+    → Type 0
+IsOutcomeOf policy budget facts bytes name explanation (outcomes.Allowed matched) =
+    IsDecided policy budget facts bytes name explanation true matched
+IsOutcomeOf policy budget facts bytes name explanation (outcomes.Denied matched) =
+    IsDecided policy budget facts bytes name explanation false matched
+IsOutcomeOf policy budget facts bytes name explanation (outcomes.Refused reason) = IsRefusedFor policy budget reason
+IsOutcomeOf policy budget facts bytes name explanation (outcomes.Fault fault) =
     Admissible policy largest budget × InputFault facts bytes fault
-IsOutcomeOf policy budget facts bytes name outcomes.Memory = ⊤
-IsOutcomeOf policy budget facts bytes name outcomes.OutOfSteps = ⊥
-IsOutcomeOf policy budget facts bytes name (outcomes.Admitted policies bound) = ⊥
+IsOutcomeOf policy budget facts bytes name explanation outcomes.Memory = ⊤
+IsOutcomeOf policy budget facts bytes name explanation outcomes.OutOfSteps = ⊥
+IsOutcomeOf policy budget facts bytes name explanation (outcomes.Admitted policies bound) = ⊥
+
+-- the outcome is a verdict
+abbrev pub IsDecision : Outcome → Type 0
+IsDecision (outcomes.Allowed matched) = ⊤
+IsDecision (outcomes.Denied matched) = ⊤
+IsDecision _ = ⊥

@@ -1,4 +1,5 @@
 pub mod Words
+pub mod Explain
 pub mod Json
 pub mod Outcome
 pub mod Judging

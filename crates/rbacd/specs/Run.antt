@@ -1,6 +1,6 @@
 -- A run of the program, from its words to its status: what it reads, which fault counts first, and
 -- what it leaves on its two outputs.
-use Rattle.std.specs.Prelude.{◌≡◌, ◌≢◌, ◌⊎◌, ◌++◌, ◌∷◌, [], ⊤, ℕ, List, Option, Some, None, Ok, Err, Result, IfSome, codes, option_map, string_bytes}
+use Rattle.std.specs.Prelude.{◌≡◌, ◌≢◌, ◌⊎◌, ◌↔◌, ◌++◌, ◌∷◌, [], ⊤, ℕ, List, Option, Some, None, Ok, Err, Result, IsTrue, codes, option_map, string_bytes}
 use Rattle.std.specs.Io.KnownBytes.{Appends}
 use Rattle.std.specs.Io.{StartsWith}
 use Rattle.std.specs.IoError.{error_kind}
@@ -11,11 +11,14 @@ use Rattle.clap.specs.Words.{Text, kind_of}
 use Rattle.clap.specs.declared.error.kind.ErrorKind.{ErrorKind}
 use Rattle.clap.specs.declared.error.kind.ErrorKind.TheVariants as kinds
 use Rattle.rbac_policy.specs.Admission.{Admissible}
+use Rattle.rbacd.specs.Explain.{IsGiven, untold_text}
 use Rattle.rbacd.specs.Facts.{IsFactsText, TellsNone}
-use Rattle.rbacd.specs.Judging.{IsCheckOf, IsOutcomeOf, plain_facts}
-use Rattle.rbacd.specs.Outcome.{line_of, plain, status_of}
+use Rattle.rbacd.specs.Judging.{IsAllOf, IsCheckOf, IsDecision, IsOutcomeOf, plain_facts}
+use Rattle.rbacd.specs.Outcome.{line_of, printed_of, status_of}
 use Rattle.rbacd.specs.Output.{BreaksOff, Takes}
-use Rattle.rbacd.specs.Words.{AreMistaken, IsJobOf, is_json}
+use Rattle.rbacd.specs.Words.{AreMistaken, IsJobOf, is_explained, is_json}
+use Rattle.rbacd.specs.declared.explain.Explanation.{Explanation}
+use Rattle.rbacd.specs.declared.explain.Explanation.TheVariants as explanations
 use Rattle.rbacd.specs.declared.words.Job.{Job}
 use Rattle.rbacd.specs.declared.words.Job.TheVariants.{Check, Judge}
 use Rattle.rbacd.specs.declared.outcome.Outcome.{Outcome}
@@ -62,12 +65,16 @@ module _ (holds : Text → Text → Type 0) (lacks : Text → Type 0) where
   -- to judge by that policy file, that facts file, if any, and that budget, with this input
   module _ (policy_path : Text) (facts_path : Option Text) (budget : ℕ) (input : Option Text) where
     -- the outcome is that of the files and of all of the input, with the name of the policy that matched
-    pub record IsJudgedAs (name : Option Text) (outcome : Outcome) : Type 0 where
+    -- and the explanation
+    pub record IsJudgedAs (name : Option Text) (explanation : Explanation) (outcome : Outcome)
+        : Type 0 where
       pub policy : Text
       pub facts : Facts
+      pub bytes : Text
       pub read : holds policy_path policy
       pub conn : IsConnOf facts_path facts
-      pub found : IfSome input (λ bytes. IsOutcomeOf policy budget facts bytes name outcome)
+      pub all : IsAllOf input bytes
+      pub found : IsOutcomeOf policy budget facts bytes name explanation outcome
 
     -- the fault is there, and nothing that is looked at before it has one
     pub data StopsBy (fault : JobFault) : Type 0 where
@@ -80,23 +87,26 @@ module _ (holds : Text → Text → Type 0) (lacks : Text → Type 0) where
           → IsConnOf facts_path facts → Admissible policy largest budget → IsInputFault fault
           → StopsBy fault
 
-  -- the job with this input finds this outcome, and the name of the policy that matched
-  abbrev pub Finds : Option Text → Job → Option Text → Outcome → Type 0
-  Finds input (Check policy budget json) name outcome = IsCheckedAs (string_bytes policy) budget outcome
-  Finds input (Judge policy facts budget json) name outcome =
-      IsJudgedAs (string_bytes policy) (option_map string_bytes facts) budget input name outcome
+  -- the job with this input finds this outcome, the name of the policy that matched, and this explanation
+  abbrev pub Finds : Option Text → Job → Option Text → Explanation → Outcome → Type 0
+  Finds input (Check policy budget json) name explanation outcome =
+      IsCheckedAs (string_bytes policy) budget outcome
+  Finds input (Judge policy facts budget json explain) name explanation outcome =
+      IsJudgedAs (string_bytes policy) (option_map string_bytes facts) budget input name explanation outcome
 
   -- the job with this input is stopped by this fault
   abbrev pub IsStoppedBy : Option Text → Job → JobFault → Type 0
   IsStoppedBy input (Check policy budget json) fault = IsUnread (string_bytes policy) fault
-  IsStoppedBy input (Judge policy facts budget json) fault =
+  IsStoppedBy input (Judge policy facts budget json explain) fault =
       StopsBy (string_bytes policy) (option_map string_bytes facts) budget input fault
 
-  -- the job with this input comes to this
+  -- the job with this input comes to this. An explanation is given exactly where the job asks for one
+  -- and there is a verdict to explain
   abbrev pub ComesTo : Option Text → Job → Result Report JobFault → Type 0
   ComesTo input job (Ok report) = (report.json ≡ is_json job)
+      × (IsGiven report.explanation ↔ (IsTrue (is_explained job) × IsDecision report.outcome))
       × ((report.outcome ≡ outcomes.Memory)
-      ⊎ Finds input job (option_map string_bytes report.name) report.outcome)
+      ⊎ Finds input job (option_map string_bytes report.name) report.explanation report.outcome)
   ComesTo input job (Err fault) = IsStoppedBy input job fault
 
   -- what the job that the words name comes to, or why they name none
@@ -128,15 +138,17 @@ first_line faults.Memory = []
 abbrev pub IsShown : ErrorKind → Type 0
 IsShown kind = (kind ≡ kinds.DisplayHelp) ⊎ (kind ≡ kinds.DisplayVersion)
 
--- nothing is told of a verdict, and what is told below another line is left open
-abbrev pub IsQuiet : Option Text → Option Text → Outcome → Type 0
-IsQuiet errors errors_new (outcomes.Admitted policies bound) = errors_new ≡ errors
-IsQuiet errors errors_new (outcomes.Allowed matched) = errors_new ≡ errors
-IsQuiet errors errors_new (outcomes.Denied matched) = errors_new ≡ errors
-IsQuiet errors errors_new outcomes.OutOfSteps = errors_new ≡ errors
-IsQuiet errors errors_new (outcomes.Refused reason) = ⊤
-IsQuiet errors errors_new (outcomes.Fault fault) = ⊤
-IsQuiet errors errors_new outcomes.Memory = errors_new ≡ errors
+-- where the trials cannot be told, the cause is, and nothing else is told of a verdict
+abbrev pub TellsCause : Option Text → Option Text → Explanation → Type 0
+TellsCause errors errors_new explanations.Absent = errors_new ≡ errors
+TellsCause errors errors_new (explanations.Trials trials) = errors_new ≡ errors
+TellsCause errors errors_new (explanations.Untold cause) = Takes errors errors_new (untold_text cause)
+
+-- what is told below the line of a refusal or of a head's fault is left open
+abbrev pub IsTold : Option Text → Option Text → Explanation → Outcome → Type 0
+IsTold errors errors_new explanation (outcomes.Refused reason) = ⊤
+IsTold errors errors_new explanation (outcomes.Fault fault) = ⊤
+IsTold errors errors_new explanation _ = TellsCause errors errors_new explanation
 
 -- what a run leaves: its status, and what it wrote to its outputs, whose bytes were `out` and `errors`
 -- and are `out_new` and `errors_new`
@@ -163,13 +175,13 @@ module _ (out out_new errors errors_new : Option Text) (status : ℕ) where
   LeavesFault (faults.File path cause) = Tells 2 (first_line (faults.File path cause))
   LeavesFault faults.Facts = Tells 6 (first_line faults.Facts)
   LeavesFault (faults.Input cause) = Tells 2 (first_line (faults.Input cause))
-  LeavesFault faults.Memory = Prints 5 (line_of (plain outcomes.Memory))
+  LeavesFault faults.Memory = Prints 5 (line_of outcomes.Memory)
 
-  -- the line of the report stands on standard output
+  -- what is printed of the report stands on standard output
   abbrev pub PrintsReport : Report → Type 0
-  PrintsReport report = ((status ≡ status_of report.outcome) × Appends out out_new (line_of report)
-      × IsQuiet errors errors_new report.outcome)
-      ⊎ ((status ≡ 2) × BreaksOff out out_new (line_of report))
+  PrintsReport report = ((status ≡ status_of report.outcome) × Appends out out_new (printed_of report)
+      × IsTold errors errors_new report.explanation report.outcome)
+      ⊎ ((status ≡ 2) × BreaksOff out out_new (printed_of report))
 
   -- what is left of a run that comes to this
   abbrev pub Leaves : Result Report JobFault → Type 0

@@ -1,5 +1,5 @@
 -- The program's command line and the job that its words name.
-use Rattle.std.specs.Prelude.{◌≡◌, ◌≤◌, ◌⊎◌, ◌↔◌, ⊤, ℕ, List, [], ◌∷◌, Bool, true, IsTrue, Ok, Option, Some, option_map, codes, string_bytes}
+use Rattle.std.specs.Prelude.{◌≡◌, ◌≤◌, ◌⊎◌, ◌↔◌, ⊤, ℕ, List, [], ◌∷◌, Bool, true, false, IsTrue, Ok, Option, Some, option_map, codes, string_bytes}
 use Rattle.std.specs.Str.Parse.{ParsesUnsigned}
 use Rattle.clap.specs.Words.{App, IsAmong, Row, Rule, Text, fault_of, first_of, one_of, new_app, new_rule, subcommand_of, with_rule, with_subcommand}
 use Rattle.clap.specs.Simple.{on_top}
@@ -41,14 +41,21 @@ json_rule = record (new_rule (codes "json")) {
   action = Some SetTrue;
 }
 
+-- `--explain`
+abbrev pub explain_rule : Rule
+explain_rule = record (new_rule (codes "explain")) {
+  long = Some (codes "explain");
+  action = Some SetTrue;
+}
+
 -- `check --policy FILE [--budget N] [--json]`
 abbrev pub check_app : App
 check_app = with_rule (with_rule (with_rule (new_app (codes "check")) policy_rule) budget_rule) json_rule
 
--- `judge --policy FILE [--facts FILE] [--budget N] [--json]`
+-- `judge --policy FILE [--facts FILE] [--budget N] [--json] [--explain]`
 abbrev pub judge_app : App
-judge_app = with_rule (with_rule (with_rule (with_rule (new_app (codes "judge")) policy_rule) facts_rule)
-    budget_rule) json_rule
+judge_app = with_rule (with_rule (with_rule (with_rule (with_rule (new_app (codes "judge")) policy_rule)
+    facts_rule) budget_rule) json_rule) explain_rule
 
 -- the program, which has a version, and needs a subcommand; without words it shows its help
 abbrev pub rbacd_app : App
@@ -76,20 +83,26 @@ HasFlag name rows given = IsTrue given ↔ (first_of name rows ≡ Some (codes "
 abbrev pub IsJobOfRows : List Row → Job → Type 0
 IsJobOfRows rows (Check policy budget json) = (first_of (codes "policy") rows ≡ Some (string_bytes policy))
     × IsBudgetOf rows budget × HasFlag (codes "json") rows json
-IsJobOfRows rows (Judge policy facts budget json) =
+IsJobOfRows rows (Judge policy facts budget json explain) =
     (first_of (codes "policy") rows ≡ Some (string_bytes policy))
     × (first_of (codes "facts") rows ≡ option_map string_bytes facts)
     × IsBudgetOf rows budget × HasFlag (codes "json") rows json
+    × HasFlag (codes "explain") rows explain
 
 -- the job's subcommand
 abbrev pub subcommand_name : Job → Text
 subcommand_name (Check policy budget json) = codes "check"
-subcommand_name (Judge policy facts budget json) = codes "judge"
+subcommand_name (Judge policy facts budget json explain) = codes "judge"
 
 -- whether what the job finds is printed as JSON
 abbrev pub is_json : Job → Bool
 is_json (Check policy budget json) = json
-is_json (Judge policy facts budget json) = json
+is_json (Judge policy facts budget json explain) = json
+
+-- whether it is told which policies were tried
+abbrev pub is_explained : Job → Bool
+is_explained (Check policy budget json) = false
+is_explained (Judge policy facts budget json explain) = explain
 
 -- the subcommand that was met, with its matches, names that job
 abbrev pub IsJobOfNamed : Option (Text × List Row) → Job → Type 0

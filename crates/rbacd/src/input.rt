@@ -1,8 +1,9 @@
 //! Reading the head that an input begins with, and no more than that.
-ghost use Rattle.std.specs.Prelude.{List, ℕ, IfOk, IfSome, OnOk};
+ghost use Rattle.std.specs.Prelude.{List, ℕ, IfOk, OnOk};
 ghost use Rattle.std.specs.Io.{ReadsAtMost};
 ghost use Rattle.std.specs.Io.KnownBytes.{Consumes, ReadConsumes};
 ghost use Rattle.attributes.specs.Conn.{conn_view};
+ghost use Rattle.rbacd.specs.Judging.{IsAllOf};
 ghost use Rattle.rbacd.specs.steps.Reading.{Grows, IsFound, IsJustEnough};
 
 use attributes::{Conn, Limits};
@@ -22,8 +23,8 @@ pub(crate) fn read_ask<R: Read>(
     conn: &Conn,
     input: &mut R,
 ) -> io::Result<Option<Ask>>
-    ensures found { IfOk result (λ found. IfSome (R.remaining input.old) (λ bytes.
-        IsFound limits.now (conn_view conn.now) bytes found)) }
+    ensures found { IfOk result (λ found. (bytes : List ℕ) × IsAllOf (R.remaining input.old) bytes
+        × IsFound limits.now (conn_view conn.now) bytes found) }
     ensures no_more { OnOk result ((read : List ℕ)
         × Consumes (R.remaining input.old) (R.remaining input.new) read × IsJustEnough read) }
 {

@@ -1,25 +1,34 @@
 //! An outcome as a JSON value.
-ghost use Rattle.std.specs.Prelude.{◌≡◌, IfOk, option_map, string_bytes};
-ghost use Rattle.serde_json.specs.View.{view};
+ghost use Rattle.std.specs.Prelude.{◌≡◌, IfOk, None, Some, map, option_map, string_bytes};
+ghost use Rattle.serde_json.specs.Data.{array, no_members, object};
+ghost use Rattle.serde_json.specs.View.{items_of, view};
+ghost use Rattle.rbac_policy.specs.declared.trials.Reason.TheVariants.{ConditionFails, ConditionTrue};
+ghost use Rattle.rbacd.specs.Explain.{own_trial_view, reason_json, told_in, trial_json, trial_members};
 ghost use Rattle.rbacd.specs.Json.{admitted_json, json_of, matched_json, name_json, refused_json, verdict_json};
 
+use crate::explain::{Explanation, OwnTrial};
 use crate::outcome::Outcome;
+use cel_value::CelError;
 use proto_wire::Refusal;
+use rbac_policy::Reason;
 use serde_json::{Value, json};
 use std::alloc::{AllocError, Global};
 
-/// The outcome as a JSON object, with the name of the policy that matched.
+/// The outcome as a JSON object, with the name of the policy that matched, and with the trials, if they
+/// are told.
 pub(crate) fn value_of(
     alloc: Global,
     outcome: Outcome,
     name: &Option<String>,
+    explanation: &Explanation,
 ) -> Result<Value, AllocError>
-    ensures { IfOk result (λ value. view value ≡ json_of (option_map string_bytes name.now) outcome) }
+    ensures { IfOk result (λ value. view value
+        ≡ json_of (option_map string_bytes name.now) (told_in explanation.now) outcome) }
 {
     match outcome {
         Outcome::Admitted { policies, bound } => admitted_value(alloc, policies, bound),
-        Outcome::Allowed(matched) => verdict_value(alloc, "allow", name, matched),
-        Outcome::Denied(matched) => verdict_value(alloc, "deny", name, matched),
+        Outcome::Allowed(matched) => verdict_value(alloc, "allow", name, matched, explanation),
+        Outcome::Denied(matched) => verdict_value(alloc, "deny", name, matched, explanation),
         Outcome::OutOfSteps => json!(in alloc; {"verdict": "deny", "out_of_steps": true}),
         Outcome::Refused(refusal) => refused_value(alloc, refusal),
         Outcome::Fault(fault) => json!(in alloc; {"head": fault.status()}),
@@ -40,12 +49,107 @@ fn verdict_value(
     word: &str,
     name: &Option<String>,
     matched: Option<usize>,
+    explanation: &Explanation,
 ) -> Result<Value, AllocError>
-    ensures { IfOk result (λ value.
-        view value ≡ verdict_json word.now (option_map string_bytes name.now) matched) }
+    ensures { IfOk result (λ value. view value ≡ verdict_json word.now
+        (option_map string_bytes name.now) matched (told_in explanation.now)) }
+{
+    match explanation {
+        Explanation::Trials(trials) => explained_value(alloc, word, name, matched, trials),
+        Explanation::Absent => plain_value(alloc, word, name, matched),
+        Explanation::Untold(_) => plain_value(alloc, word, name, matched),
+    }
+}
+
+/// A verdict of this word, by itself.
+fn plain_value(
+    alloc: Global,
+    word: &str,
+    name: &Option<String>,
+    matched: Option<usize>,
+) -> Result<Value, AllocError>
+    ensures { IfOk result (λ value. view value
+        ≡ verdict_json word.now (option_map string_bytes name.now) matched None) }
 {
     let name = name_value(alloc, name)?;
     json!(in alloc; {"verdict": word, "policy": matched_value(matched), "name": name})
+}
+
+/// A verdict of this word, with the trials.
+fn explained_value(
+    alloc: Global,
+    word: &str,
+    name: &Option<String>,
+    matched: Option<usize>,
+    trials: &[OwnTrial],
+) -> Result<Value, AllocError>
+    ensures { IfOk result (λ value. view value ≡ verdict_json word.now
+        (option_map string_bytes name.now) matched (Some (map own_trial_view trials.now))) }
+{
+    let name = name_value(alloc, name)?;
+    let trials = trials_value(alloc, trials)?;
+    json!(in alloc; {"verdict": word, "policy": matched_value(matched), "name": name, "trials": trials})
+}
+
+/// The trials, each as an object.
+fn trials_value(alloc: Global, trials: &[OwnTrial]) -> Result<Value, AllocError>
+    ensures { IfOk result (λ value. view value
+        ≡ array (items_of (map trial_json (map own_trial_view trials.now)))) }
+{
+    let mut values = Vec::new(alloc);
+    for trial in trials {
+        values.push(trial_value(alloc, trial)?)?;
+    }
+    Ok(Value::Array(values))
+}
+
+/// The trial as an object.
+fn trial_value(alloc: Global, trial: &OwnTrial) -> Result<Value, AllocError>
+    ensures { IfOk result (λ value. view value ≡ trial_json (own_trial_view trial.now)) }
+{
+    match trial.reason {
+        Reason::NoPermission => reason_value(alloc, trial, "permission"),
+        Reason::NoPrincipal => reason_value(alloc, trial, "principal"),
+        Reason::Matches => reason_value(alloc, trial, "match"),
+        Reason::ConditionFalse => reason_value(alloc, trial, "condition false"),
+        Reason::ConditionFails(error) => fails_value(alloc, trial, error),
+        Reason::ConditionTrue { steps, bound } => true_value(alloc, trial, steps, bound),
+    }
+}
+
+/// A trial whose reason is this word.
+fn reason_value(alloc: Global, trial: &OwnTrial, word: &str) -> Result<Value, AllocError>
+    ensures { IfOk result (λ value. view value
+        ≡ object (trial_members (own_trial_view trial.now) word.now no_members)) }
+{
+    json!(in alloc; {"name": trial.name.as_str(), "number": trial.number, "reason": word})
+}
+
+/// A trial whose condition is this error.
+fn fails_value(alloc: Global, trial: &OwnTrial, error: CelError) -> Result<Value, AllocError>
+    ensures { IfOk result (λ value. view value
+        ≡ reason_json (own_trial_view trial.now) (ConditionFails error)) }
+{
+    json!(in alloc; {
+        "error": error.name(),
+        "name": trial.name.as_str(),
+        "number": trial.number,
+        "reason": "condition error"
+    })
+}
+
+/// A trial whose condition is true, after so many steps of so many that it may take.
+fn true_value(alloc: Global, trial: &OwnTrial, steps: u64, bound: u64) -> Result<Value, AllocError>
+    ensures { IfOk result (λ value. view value
+        ≡ reason_json (own_trial_view trial.now) (ConditionTrue steps bound)) }
+{
+    json!(in alloc; {
+        "bound": bound,
+        "name": trial.name.as_str(),
+        "number": trial.number,
+        "reason": "condition true",
+        "steps": steps
+    })
 }
 
 /// The name of the policy that matched, or `null`.

@@ -1,21 +1,23 @@
 //! Checking a policy file, and judging a request head by it.
-ghost use Rattle.std.specs.Prelude.{◌≡◌, ◌≢◌, ◌⊎◌, ℕ, List, Option, Ok, Err, IfErr, IfOk, IfSome, OnErr, option_map, slice_get, string_bytes};
+ghost use Rattle.std.specs.Prelude.{◌≡◌, ◌≢◌, ◌⊎◌, ◌↔◌, ℕ, List, Option, Ok, Err, IfErr, IfOk, IsTrue, OnErr, option_map, slice_get, string_bytes};
 ghost use Rattle.std.specs.FinMap.{keys};
 ghost use Rattle.std.specs.IoError.{error_kind};
 ghost use Rattle.std.specs.Io.KnownBytes.{Appends};
 ghost use Rattle.attributes.specs.Limits.{largest};
-ghost use Rattle.attributes.specs.Conn.{Facts, conn_view};
-ghost use Rattle.http_front.specs.Asks.{Asks};
-ghost use Rattle.rbacd.specs.Judging.{IsCheckOf, IsOutcomeOf, plain_facts};
+ghost use Rattle.attributes.specs.Conn.{conn_view};
+ghost use Rattle.http_front.specs.Asks.{IfJudge};
+ghost use Rattle.rbacd.specs.Explain.{IsGiven};
+ghost use Rattle.rbacd.specs.Judging.{IsAllOf, IsCheckOf, IsDecision, IsOutcomeOf, plain_facts};
 ghost use Rattle.rbac_policy.specs.Admitted.{filter_view, limits_view};
 ghost use Rattle.rbac_policy.specs.Admission.{Admissible};
 ghost use Rattle.rbac_policy.specs.Verdict.{IsUnconditional};
-ghost use Rattle.rbacd.specs.Outcome.{IsPrintedFor, line_of, plain};
+ghost use Rattle.rbacd.specs.Outcome.{IsPrintedFor, line_of, printed_of, without_memory};
 ghost use Rattle.rbacd.specs.declared.outcome.Report.{Report};
+ghost use Rattle.rbacd.specs.declared.explain.Explanation.TheVariants as explanations;
 ghost use Rattle.rbacd.specs.Output.{BreaksOff};
-ghost use Rattle.rbacd.specs.steps.Judged.{IsNameOf, IsOutcomeUnder};
-ghost use Rattle.rbacd.specs.steps.Reading.{IsFound};
+ghost use Rattle.rbacd.specs.steps.Judged.{IsAnswerTo, IsExplanationOf, IsNameOf, IsOutcomeOfAsk, IsOutcomeUnder, bare, report_with};
 
+use crate::explain::{Explanation, own_trials};
 use crate::input::read_ask;
 use crate::outcome::{Outcome, Report};
 use crate::output::write_whole;
@@ -33,6 +35,33 @@ pub(crate) struct Finding {
     pub(crate) outcome: Outcome,
     /// The name of the policy that matched, if one did.
     pub(crate) name: Option<String>,
+    /// Why a verdict is what it is, where that was asked for.
+    pub(crate) explanation: Explanation,
+}
+
+impl Finding {
+    /// An outcome and nothing else.
+    pub(crate) fn bare(outcome: Outcome) -> Finding
+        ensures { result ≡ bare outcome }
+    {
+        Finding {
+            outcome,
+            name: None,
+            explanation: Explanation::Absent,
+        }
+    }
+
+    /// Its report, to be printed so.
+    pub(crate) fn report(self, json: bool) -> Report
+        ensures { result ≡ report_with json self }
+    {
+        Report {
+            outcome: self.outcome,
+            name: self.name,
+            json,
+            explanation: self.explanation,
+        }
+    }
 }
 
 /// Judges the head that `input` begins with, which came by this connection, by the policy, an HTTP RBAC
@@ -46,15 +75,17 @@ pub fn judge<R: Read + Drop, W: Write>(
     input: R,
     out: &mut W,
 ) -> io::Result<Outcome>
-    ensures outcome { IfOk result (λ outcome. IfSome (R.remaining input) (λ bytes.
-        (name : Option (List ℕ)) × IsOutcomeOf policy.now budget (conn_view conn) bytes name outcome)) }
+    ensures outcome { IfOk result (λ outcome. (bytes : List ℕ) × IsAllOf (R.remaining input) bytes
+        × ((name : Option (List ℕ))
+        × IsOutcomeOf policy.now budget (conn_view conn) bytes name explanations.Absent outcome)) }
     ensures line { IfOk result (λ outcome. Appends (W.contents out.old) (W.contents out.new)
-        (line_of (plain outcome))) }
+        (line_of outcome)) }
     ensures part { OnErr result ((out.new ≡ out.old) ⊎ ((outcome : Outcome)
-        × BreaksOff (W.contents out.old) (W.contents out.new) (line_of (plain outcome)))) }
+        × BreaksOff (W.contents out.old) (W.contents out.new) (line_of outcome))) }
 {
-    let finding = finding_of(alloc, policy, budget, conn, input)?;
-    print_report(alloc, &Report::plain(finding.outcome), out)
+    let finding = finding_of(alloc, policy, budget, conn, false, input)?;
+    let printed = print_report(alloc, Report::plain(finding.outcome), out)?;
+    Ok(printed.outcome)
 }
 
 /// Checks the policy, an HTTP RBAC filter whose conditions may cost `budget`, and prints the outcome's
@@ -67,12 +98,13 @@ pub fn check<W: Write>(
 ) -> io::Result<Outcome>
     ensures outcome { IfOk result (IsCheckOf policy.now budget) }
     ensures line { IfOk result (λ outcome. Appends (W.contents out.old) (W.contents out.new)
-        (line_of (plain outcome))) }
+        (line_of outcome)) }
     ensures part { OnErr result ((outcome : Outcome)
-        × BreaksOff (W.contents out.old) (W.contents out.new) (line_of (plain outcome))) }
+        × BreaksOff (W.contents out.old) (W.contents out.new) (line_of outcome)) }
 {
     let outcome = check_of(alloc, policy, budget);
-    print_report(alloc, &Report::plain(outcome), out)
+    let printed = print_report(alloc, Report::plain(outcome), out)?;
+    Ok(printed.outcome)
 }
 
 /// What `check` prints.
@@ -88,36 +120,56 @@ pub(crate) fn check_of(alloc: Global, policy: &[u8], budget: u64) -> Outcome
     }
 }
 
-/// Prints the line of the report, or that of want of memory; answers the outcome that is printed.
+/// Prints the report; the one that is printed. Where no memory is left for its trials, it is printed
+/// without them, and where none is left for its line, that of want of memory is.
 pub(crate) fn print_report<W: Write>(
     alloc: Global,
-    report: &Report,
+    report: Report,
     out: &mut W,
-) -> io::Result<Outcome>
-    ensures same { IfOk result (IsPrintedFor report.now.outcome) }
-    ensures line { IfOk result (λ printed. Appends (W.contents out.old) (W.contents out.new)
-        (line_of (record report.now { outcome = printed }))) }
-    ensures part { OnErr result ((printed : Outcome) × IsPrintedFor report.now.outcome printed
-        × BreaksOff (W.contents out.old) (W.contents out.new)
-        (line_of (record report.now { outcome = printed }))) }
+) -> io::Result<Report>
+    ensures same { IfOk result (IsPrintedFor report) }
+    ensures text { IfOk result (λ printed. Appends (W.contents out.old) (W.contents out.new)
+        (printed_of printed)) }
+    ensures part { OnErr result ((printed : Report) × IsPrintedFor report printed
+        × BreaksOff (W.contents out.old) (W.contents out.new) (printed_of printed)) }
 {
-    match report.line(alloc) {
-        Ok(line) => {
-            write_whole(out, line.as_bytes())?;
-            Ok(report.outcome)
+    match report.text(alloc) {
+        Ok(text) => {
+            write_whole(out, text.as_bytes())?;
+            Ok(report)
+        }
+        Err(AllocError) => print_unexplained(alloc, report, out),
+    }
+}
+
+/// Prints the report without its trials, or the line of want of memory; the report that is printed.
+fn print_unexplained<W: Write>(alloc: Global, report: Report, out: &mut W) -> io::Result<Report>
+    ensures same { IfOk result (IsPrintedFor report) }
+    ensures text { IfOk result (λ printed. Appends (W.contents out.old) (W.contents out.new)
+        (printed_of printed)) }
+    ensures part { OnErr result ((printed : Report) × IsPrintedFor report printed
+        × BreaksOff (W.contents out.old) (W.contents out.new) (printed_of printed)) }
+{
+    let less = report.unexplained();
+    match less.text(alloc) {
+        Ok(text) => {
+            write_whole(out, text.as_bytes())?;
+            Ok(less)
         }
         Err(AllocError) => {
-            write_whole(out, memory_line(report))?;
-            Ok(Outcome::Memory)
+            let none = less.without_memory();
+            write_whole(out, memory_line(none.json))?;
+            Ok(none)
         }
     }
 }
 
-/// The line of want of memory, as the report is printed.
-fn memory_line(report: &Report) -> &'static [u8]
-    ensures { result.now ≡ line_of (record report.now { outcome = Outcome.Memory }) }
+/// The line of want of memory, in words or as JSON.
+fn memory_line(json: bool) -> &'static [u8]
+    ensures { (report : Report) → report.json ≡ json
+        → result.now ≡ printed_of (without_memory report) }
 {
-    if report.json {
+    if json {
         b"{\"memory\":true}\n"
     } else {
         b"memory\n"
@@ -137,35 +189,32 @@ pub(crate) fn finding_of<R: Read + Drop>(
     policy: &[u8],
     budget: u64,
     conn: Conn,
+    explain: bool,
     input: R,
 ) -> io::Result<Finding>
-    ensures found { IfOk result (λ finding. IfSome (R.remaining input) (λ bytes.
-        IsOutcomeOf policy.now budget (conn_view conn) bytes (option_map string_bytes finding.name)
-        finding.outcome)) }
+    ensures found { IfOk result (λ finding. (bytes : List ℕ) × IsAllOf (R.remaining input) bytes
+        × IsOutcomeOf policy.now budget (conn_view conn) bytes (option_map string_bytes finding.name)
+        finding.explanation finding.outcome) }
+    ensures given { IfOk result (λ finding.
+        IsGiven finding.explanation ↔ (IsTrue explain × IsDecision finding.outcome)) }
     ensures fault { IfErr result (λ e. (error_kind e ≢ ErrorKind.OutOfMemory)
         × Admissible policy.now largest budget) }
 {
     match admit(alloc, policy, &Limits::largest(), budget) {
-        Ok(admitted) => memory_as_finding(head_finding(alloc, &admitted, conn, input)),
-        Err(refusal) => Ok(Finding {
-            outcome: Outcome::Refused(refusal),
-            name: None,
-        }),
+        Ok(admitted) => memory_as_finding(head_finding(alloc, &admitted, conn, explain, input)),
+        Err(refusal) => Ok(Finding::bare(Outcome::Refused(refusal))),
     }
 }
 
 /// Want of memory as an outcome; other errors stay errors.
 fn memory_as_finding(answer: io::Result<Finding>) -> io::Result<Finding>
     ensures kept { IfOk answer (λ finding. result ≡ Ok finding) }
-    ensures memory { OnErr answer (IfOk result (λ finding. finding.outcome ≡ Outcome.Memory)) }
+    ensures memory { OnErr answer (IfOk result (λ finding. finding ≡ bare Outcome.Memory)) }
     ensures others { IfErr result (λ e. (answer ≡ Err e) × (error_kind e ≢ ErrorKind.OutOfMemory)) }
 {
     match answer {
         Ok(finding) => Ok(finding),
-        Err(error) if error.kind() == ErrorKind::OutOfMemory => Ok(Finding {
-            outcome: Outcome::Memory,
-            name: None,
-        }),
+        Err(error) if error.kind() == ErrorKind::OutOfMemory => Ok(Finding::bare(Outcome::Memory)),
         Err(error) => Err(error),
     }
 }
@@ -175,19 +224,28 @@ fn head_finding<R: Read + Drop>(
     alloc: Global,
     admitted: &Admitted,
     conn: Conn,
+    explain: bool,
     input: R,
 ) -> io::Result<Finding>
     requires { limits_view admitted.now ≡ largest }
-    ensures outcome { IfOk result (λ finding. IfSome (R.remaining input) (λ bytes.
-        IsOutcomeUnder (filter_view admitted.now) (conn_view conn) bytes finding.outcome)) }
+    ensures outcome { IfOk result (λ finding. (bytes : List ℕ) × IsAllOf (R.remaining input) bytes
+        × IsOutcomeUnder (filter_view admitted.now) (conn_view conn) bytes finding.explanation
+        finding.outcome) }
     ensures name { IfOk result (λ finding. IsNameOf (filter_view admitted.now) finding.outcome
         (option_map string_bytes finding.name)) }
+    ensures given { IfOk result (λ finding.
+        IsGiven finding.explanation ↔ (IsTrue explain × IsDecision finding.outcome)) }
 {
     let mut input = input;
     let found = read_ask(alloc, admitted.limits(), &conn, &mut input)?;
-    let outcome = outcome_of_found(admitted, found);
+    let outcome = outcome_of_ask(admitted, &found);
     let name = name_of(alloc, admitted, outcome)?;
-    Ok(Finding { outcome, name })
+    let explanation = explanation_of_ask(alloc, admitted, &found, outcome, explain);
+    Ok(Finding {
+        outcome,
+        name,
+        explanation,
+    })
 }
 
 /// The name of the policy that matched, if the outcome has one.
@@ -216,25 +274,23 @@ fn name_at(alloc: Global, admitted: &Admitted, number: usize) -> Result<Option<S
     }
 }
 
-/// The outcome of what the head asks that some bytes begin with.
-fn outcome_of_found(admitted: &Admitted, found: Option<Ask>) -> Outcome
+/// The outcome of what a head asks, or of none.
+fn outcome_of_ask(admitted: &Admitted, found: &Option<Ask>) -> Outcome
     requires { limits_view admitted.now ≡ largest }
-    ensures { (facts : Facts) (bytes : List ℕ) → IsFound largest facts bytes found
-        → IsOutcomeUnder (filter_view admitted.now) facts bytes result }
+    ensures { IsOutcomeOfAsk (filter_view admitted.now) found.now result }
 {
     match found {
-        Some(Ask::Judge(request)) => decided(admitted, &request),
-        Some(Ask::Fault(fault)) => Outcome::Fault(fault),
+        Some(Ask::Judge(request)) => decided(admitted, request),
+        Some(Ask::Fault(fault)) => Outcome::Fault(*fault),
         None => Outcome::Fault(HeadFault::Unfinished),
     }
 }
 
-/// The outcome of a request that some bytes ask for. It is never `Memory` without conditions.
+/// The outcome of a request. It is never `Memory` without conditions.
 fn decided(admitted: &Admitted, request: &Request) -> Outcome
     requires { limits_view admitted.now ≡ largest }
     ensures never { IsUnconditional (filter_view admitted.now) → result ≢ Outcome.Memory }
-    ensures found { (facts : Facts) (bytes : List ℕ) → Asks bytes largest facts request.now
-        → IsOutcomeUnder (filter_view admitted.now) facts bytes result }
+    ensures found { IsAnswerTo (filter_view admitted.now) request.now result }
 {
     let verdict = match admitted.decide(request) {
         Ok(verdict) => verdict,
@@ -245,5 +301,43 @@ fn decided(admitted: &Admitted, request: &Request) -> Outcome
         Outcome::Allowed(verdict.matched)
     } else {
         Outcome::Denied(verdict.matched)
+    }
+}
+
+/// Why a verdict is what it is, where that is asked for.
+fn explanation_of_ask(
+    alloc: Global,
+    admitted: &Admitted,
+    found: &Option<Ask>,
+    outcome: Outcome,
+    explain: bool,
+) -> Explanation
+    requires limits { limits_view admitted.now ≡ largest }
+    requires asked { IsOutcomeOfAsk (filter_view admitted.now) found.now outcome }
+    ensures found { IfJudge found.now
+        (λ request. IsExplanationOf (filter_view admitted.now) request result) }
+    ensures given { IsGiven result ↔ (IsTrue explain × IsDecision outcome) }
+{
+    match found {
+        Some(Ask::Judge(request)) if explain && outcome.is_decision() => {
+            explained(alloc, admitted, request)
+        }
+        _ => Explanation::Absent,
+    }
+}
+
+/// The policies that are tried for the request.
+fn explained(alloc: Global, admitted: &Admitted, request: &Request) -> Explanation
+    requires { limits_view admitted.now ≡ largest }
+    ensures found { IsExplanationOf (filter_view admitted.now) request.now result }
+    ensures given { IsGiven result }
+{
+    let trials = match admitted.trials(request) {
+        Ok(trials) => trials,
+        Err(cause) => return Explanation::Untold(cause),
+    };
+    match own_trials(alloc, &trials) {
+        Ok(own) => Explanation::Trials(own),
+        Err(AllocError) => Explanation::Untold(RunError::Memory),
     }
 }

@@ -8,6 +8,7 @@ use std::io::ErrorKind;
 use std::process::ExitCode;
 use std::{env, io};
 
+pub mod explain;
 pub mod facts;
 pub mod files;
 mod input;

@@ -1,8 +1,11 @@
-//! What the program finds, the line that it prints of it and the status that it ends with.
-ghost use Rattle.std.specs.Prelude.{◌≡◌, IfOk, string_bytes, true};
-ghost use Rattle.rbacd.specs.Outcome.{line_of, plain, status_of};
+//! What the program finds, what it prints of it and the status that it ends with.
+ghost use Rattle.std.specs.Prelude.{◌≡◌, ◌↔◌, IfOk, IsTrue, string_bytes, true};
+ghost use Rattle.rbacd.specs.Explain.{told_in, with_trials};
+ghost use Rattle.rbacd.specs.Judging.{IsDecision};
+ghost use Rattle.rbacd.specs.Outcome.{line_of, plain, printed_of, status_of, unexplained, without_memory};
 ghost use Rattle.rbacd.specs.steps.Judged.{matched_in};
 
+use crate::explain::{Explanation, push_lines};
 use crate::json::value_of;
 use http_front::HeadFault;
 use proto_wire::Refusal;
@@ -46,6 +49,20 @@ impl Outcome {
             Outcome::Refused(_) => None,
             Outcome::Fault(_) => None,
             Outcome::Memory => None,
+        }
+    }
+
+    /// Whether it is a verdict.
+    pub(crate) fn is_decision(self) -> bool
+        ensures { IsTrue result ↔ IsDecision self }
+    {
+        match self {
+            Outcome::Allowed(_) | Outcome::Denied(_) => true,
+            Outcome::Admitted { .. }
+            | Outcome::OutOfSteps
+            | Outcome::Refused(_)
+            | Outcome::Fault(_)
+            | Outcome::Memory => false,
         }
     }
 
@@ -100,10 +117,12 @@ pub struct Report {
     pub name: Option<String>,
     /// Whether it is printed as a JSON object, and not in words.
     pub json: bool,
+    /// Why a verdict is what it is, where that was asked for.
+    pub explanation: Explanation,
 }
 
 impl Report {
-    /// The outcome, to be printed in words.
+    /// The outcome, to be printed in words and by itself.
     pub fn plain(outcome: Outcome) -> Report
         ensures { result ≡ plain outcome }
     {
@@ -111,27 +130,65 @@ impl Report {
             outcome,
             name: None,
             json: false,
+            explanation: Explanation::Absent,
         }
     }
 
-    /// The whole line, with its end.
-    pub(crate) fn line(&self, alloc: Global) -> Result<String, AllocError>
-        ensures { IfOk result (λ line. string_bytes line ≡ line_of self.now) }
+    /// The report without its trials, for which no memory is left.
+    pub(crate) fn unexplained(self) -> Report
+        ensures { result ≡ unexplained self }
+    {
+        Report {
+            outcome: self.outcome,
+            name: self.name,
+            json: self.json,
+            explanation: self.explanation.less_told(),
+        }
+    }
+
+    /// The report of want of memory, to be printed in the same way.
+    pub(crate) fn without_memory(self) -> Report
+        ensures { result ≡ without_memory self }
+    {
+        Report {
+            outcome: Outcome::Memory,
+            name: self.name,
+            json: self.json,
+            explanation: Explanation::Absent,
+        }
+    }
+
+    /// What is printed of it: whole lines, each with its end.
+    pub(crate) fn text(&self, alloc: Global) -> Result<String, AllocError>
+        ensures { IfOk result (λ text. string_bytes text ≡ printed_of self.now) }
     {
         if self.json {
             self.json_line(alloc)
         } else {
-            format!(in alloc; "{}\n", self.outcome)
+            lines(alloc, self.outcome, &self.explanation)
         }
     }
 
     /// The line of the outcome as JSON.
     fn json_line(&self, alloc: Global) -> Result<String, AllocError>
         requires { self.now.json ≡ true }
-        ensures { IfOk result (λ line. string_bytes line ≡ line_of self.now) }
+        ensures { IfOk result (λ line. string_bytes line ≡ printed_of self.now) }
     {
-        let mut line = value_of(alloc, self.outcome, &self.name)?.to_string(alloc)?;
+        let value = value_of(alloc, self.outcome, &self.name, &self.explanation)?;
+        let mut line = value.to_string(alloc)?;
         line.push('\n')?;
         Ok(line)
     }
+}
+
+/// The outcome's line, and below it those of the trials, if they are told.
+fn lines(alloc: Global, outcome: Outcome, explanation: &Explanation) -> Result<String, AllocError>
+    ensures { IfOk result (λ text.
+        string_bytes text ≡ with_trials (line_of outcome) (told_in explanation.now)) }
+{
+    let mut text = format!(in alloc; "{outcome}\n")?;
+    if let Explanation::Trials(trials) = explanation {
+        push_lines(alloc, &mut text, trials)?;
+    }
+    Ok(text)
 }

@@ -1,14 +1,17 @@
 //! The whole job of the program, from its words to its status.
-ghost use Rattle.std.specs.Prelude.{◌≡◌, ◌≢◌, ◌⊎◌, ◌↔◌, ℕ, Err, IfErr, IfOk, IsTrue, List, None, Ok, Result, Some, map, option_map, string_bytes};
+ghost use Rattle.std.specs.Prelude.{◌≡◌, ◌≢◌, ◌⊎◌, ◌↔◌, ℕ, Err, IfErr, IfOk, IsTrue, List, Ok, Result, Some, map, option_map, string_bytes};
 ghost use Rattle.attributes.specs.Conn.{conn_view};
 ghost use Rattle.std.specs.Io.{StartsWith};
-ghost use Rattle.rbacd.specs.Outcome.{line_of, plain};
+ghost use Rattle.rbacd.specs.Explain.{IsGiven};
+ghost use Rattle.rbacd.specs.Judging.{IsDecision};
+ghost use Rattle.rbacd.specs.Outcome.{line_of};
 ghost use Rattle.rbacd.specs.Output.{Takes};
-ghost use Rattle.rbacd.specs.Run.{ComesTo, HasBadFacts, IsCheckedAs, IsConnOf, IsJudgedAs, IsQuiet, IsShown, IsUnread, Leaves, LeavesFault, Prints, RunsTo, StopsBy, first_line};
-ghost use Rattle.rbacd.specs.declared.judge.Finding.{Finding};
+ghost use Rattle.rbacd.specs.Run.{ComesTo, HasBadFacts, IsCheckedAs, IsConnOf, IsJudgedAs, IsShown, IsTold, IsUnread, Leaves, LeavesFault, Prints, RunsTo, StopsBy, TellsCause, first_line};
+ghost use Rattle.rbacd.specs.steps.Judged.{bare, report_with};
 ghost use Rattle.rbacd.specs.declared.outcome.Report.{Report};
 ghost use Rattle.rbacd.specs.declared.run.JobFault.{JobFault};
 
+use crate::explain::{Explanation, untold_text};
 use crate::facts::{FactsFault, read_conn};
 use crate::files::Source;
 use crate::judge::{Finding, check_of, finding_of, plain_conn, print_report};
@@ -73,10 +76,10 @@ pub fn run<S: AsStr, F: Source, R: Read + Drop, W: Write, E: Write>(
 {
     let mut notes = Notes::new(alloc);
     match run_words(alloc, words, files, input, &mut notes) {
-        Ok(report) => match print_report(alloc, &report, out) {
+        Ok(report) => match print_report(alloc, report, out) {
             Ok(printed) => {
-                tell_cause(printed, &notes, errors);
-                printed.status()
+                tell_below(&printed, &notes, errors);
+                printed.outcome.status()
             }
             Err(cause) => tell_output(cause, errors),
         },
@@ -126,8 +129,18 @@ fn run_job<F: Source, R: Read + Drop>(
             facts,
             budget,
             json,
+            explain,
         } => report_of(
-            judge_files(alloc, policy.as_str(), facts, budget, files, input, notes),
+            judge_files(
+                alloc,
+                policy.as_str(),
+                facts,
+                budget,
+                explain,
+                files,
+                input,
+                notes,
+            ),
             json,
         ),
     }
@@ -135,26 +148,13 @@ fn run_job<F: Source, R: Read + Drop>(
 
 /// The report of what a job finds. Want of memory is an outcome of it.
 fn report_of(found: Result<Finding, JobFault>, json: bool) -> Result<Report, JobFault>
-    ensures kept { IfOk found (λ finding. result ≡ Ok (record {
-      outcome = finding.outcome;
-      name = finding.name;
-      json = json;
-    })) }
-    ensures memory { found ≡ Err JobFault.Memory
-        → result ≡ Ok (record { outcome = Outcome.Memory; name = None; json = json }) }
+    ensures kept { IfOk found (λ finding. result ≡ Ok (report_with json finding)) }
+    ensures memory { found ≡ Err JobFault.Memory → result ≡ Ok (report_with json (bare Outcome.Memory)) }
     ensures others { IfErr found (λ e. e ≢ JobFault.Memory → result ≡ Err e) }
 {
     match found {
-        Ok(finding) => Ok(Report {
-            outcome: finding.outcome,
-            name: finding.name,
-            json,
-        }),
-        Err(JobFault::Memory) => Ok(Report {
-            outcome: Outcome::Memory,
-            name: None,
-            json,
-        }),
+        Ok(finding) => Ok(finding.report(json)),
+        Err(JobFault::Memory) => Ok(Finding::bare(Outcome::Memory).report(json)),
         Err(fault) => Err(fault),
     }
 }
@@ -169,16 +169,14 @@ fn check_file<F: Source>(
 ) -> Result<Finding, JobFault>
     ensures found { IfOk result (λ finding. IsCheckedAs (F.holds files.now) (F.lacks files.now)
         policy.now budget finding.outcome) }
+    ensures bare { IfOk result (λ finding. finding ≡ bare finding.outcome) }
     ensures fault { IfErr result (λ e. (e ≡ JobFault.Memory)
         ⊎ IsUnread (F.holds files.now) (F.lacks files.now) policy.now e) }
 {
     let bytes = read_file(alloc, files, policy)?;
     let outcome = check_of(alloc, &bytes, budget);
     notes.look_at_policy(alloc, &bytes, outcome);
-    Ok(Finding {
-        outcome,
-        name: None,
-    })
+    Ok(Finding::bare(outcome))
 }
 
 /// Judges the head that the input begins with by a policy file, on the connection of a facts file.
@@ -187,19 +185,22 @@ fn judge_files<F: Source, R: Read + Drop>(
     policy: &str,
     facts: Option<String>,
     budget: u64,
+    explain: bool,
     files: &F,
     input: R,
     notes: &mut Notes,
 ) -> Result<Finding, JobFault>
     ensures found { IfOk result (λ finding. IsJudgedAs (F.holds files.now) (F.lacks files.now)
         policy.now (option_map string_bytes facts) budget (R.remaining input)
-        (option_map string_bytes finding.name) finding.outcome) }
+        (option_map string_bytes finding.name) finding.explanation finding.outcome) }
+    ensures given { IfOk result (λ finding.
+        IsGiven finding.explanation ↔ (IsTrue explain × IsDecision finding.outcome)) }
     ensures fault { IfErr result (λ e. (e ≡ JobFault.Memory) ⊎ StopsBy (F.holds files.now)
         (F.lacks files.now) policy.now (option_map string_bytes facts) budget (R.remaining input) e) }
 {
     let bytes = read_file(alloc, files, policy)?;
     let conn = conn_of(alloc, facts, files, notes)?;
-    match finding_of(alloc, &bytes, budget, conn, input) {
+    match finding_of(alloc, &bytes, budget, conn, explain, input) {
         Ok(finding) => {
             notes.look_at_policy(alloc, &bytes, finding.outcome);
             Ok(finding)
@@ -337,7 +338,7 @@ fn with_cause(alloc: Global, line: String, cause: &str) -> Result<String, AllocE
 /// Ends where memory ran out.
 fn end_by_memory<W: Write, E: Write>(out: &mut W, errors: &mut E) -> u8
     ensures { Prints (W.contents out.old) (W.contents out.new) (E.contents errors.old)
-        (E.contents errors.new) result 5 (line_of (plain Outcome.Memory)) }
+        (E.contents errors.new) result 5 (line_of Outcome.Memory) }
 {
     show(b"memory\n", Outcome::Memory.status(), out, errors)
 }
@@ -362,12 +363,13 @@ fn tell<E: Write>(text: &[u8], status: u8, errors: &mut E) -> u8
     status
 }
 
-/// Tells below the line of an outcome why it is so, where that is no verdict. Nothing is lost where
-/// standard error fails.
-fn tell_cause<E: Write>(outcome: Outcome, notes: &Notes, errors: &mut E)
-    ensures { IsQuiet (E.contents errors.old) (E.contents errors.new) outcome }
+/// Tells why an outcome is so, where that is no verdict, or why a verdict is not explained. Nothing is
+/// lost where standard error fails.
+fn tell_below<E: Write>(report: &Report, notes: &Notes, errors: &mut E)
+    ensures { IsTold (E.contents errors.old) (E.contents errors.new) report.now.explanation
+        report.now.outcome }
 {
-    match outcome {
+    match report.outcome {
         Outcome::Refused(refusal) => tell_refusal(refusal, notes, errors),
         Outcome::Fault(fault) => {
             let _ = writeln!(errors, "  {}", rule_of(fault));
@@ -376,7 +378,20 @@ fn tell_cause<E: Write>(outcome: Outcome, notes: &Notes, errors: &mut E)
         | Outcome::Allowed(_)
         | Outcome::Denied(_)
         | Outcome::OutOfSteps
-        | Outcome::Memory => {}
+        | Outcome::Memory => tell_untold(&report.explanation, errors),
+    }
+}
+
+/// Tells why there is no explanation, where one was asked for.
+fn tell_untold<E: Write>(explanation: &Explanation, errors: &mut E)
+    ensures { TellsCause (E.contents errors.old) (E.contents errors.new) explanation.now }
+{
+    match explanation {
+        Explanation::Absent => {}
+        Explanation::Trials(_) => {}
+        Explanation::Untold(cause) => {
+            let _ = write_whole(errors, untold_text(*cause));
+        }
     }
 }
 

@@ -2,6 +2,7 @@
 mod addresses;
 mod conditions;
 mod depth;
+mod explain;
 mod filter_bytes;
 mod filters;
 mod headers;

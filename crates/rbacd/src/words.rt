@@ -2,7 +2,7 @@
 ghost use Rattle.std.specs.Prelude.{◌≡◌, ◌⊎◌, ℕ, IfErr, IfNone, IfOk, IfSome, codes, false, map, option_map, string_bytes};
 ghost use Rattle.clap.specs.Words.{app_of, first_of, found_of, kind_of, rows_of, rule_of, subcommand_rows_of};
 ghost use Rattle.clap.specs.declared.builder.command.Command.TheViews.{out-Command};
-ghost use Rattle.rbacd.specs.Words.{AreMistaken, HasFlag, IsBudgetOf, IsJobOf, IsJobOfNamed, IsJobOfRows, NamesNoJob, budget_rule, check_app, facts_rule, json_rule, judge_app, policy_rule, rbacd_app, subcommand_name};
+ghost use Rattle.rbacd.specs.Words.{AreMistaken, HasFlag, IsBudgetOf, IsJobOf, IsJobOfNamed, IsJobOfRows, NamesNoJob, budget_rule, check_app, explain_rule, facts_rule, json_rule, judge_app, policy_rule, rbacd_app, subcommand_name};
 ghost use Rattle.rbacd.specs.declared.words.Job.{Job};
 
 use clap::error::ErrorKind;
@@ -52,6 +52,20 @@ With --json the line is one of these objects; no policy matched where \"name\" a
   {\"head\":S}
   {\"memory\":true}
 
+With --explain a line follows for each policy that was tried, in order, up to the one that matched:
+  M \"p\": permission                      no permission of it matches
+  M \"p\": principal                       a permission matches, and no principal
+  M \"p\": condition false                 its condition is false
+  M \"p\": condition error E               its condition is this error, which is no match
+  M \"p\": condition true steps N bound B  it matches, after N of the B steps that its condition may take
+  M \"p\": match                           it matches, and has no condition
+With --json the object has them as \"trials\":
+  {\"name\":\"p\",\"number\":M,\"reason\":\"permission\"}
+  {\"error\":\"E\",\"name\":\"p\",\"number\":M,\"reason\":\"condition error\"}
+  {\"bound\":B,\"name\":\"p\",\"number\":M,\"reason\":\"condition true\",\"steps\":N}
+Where memory runs out for that, all of it is left out, and standard error says so; the verdict and the
+status stay. A refusal and a head's fault are not explained.
+
 The facts are one JSON object; each may be absent:
   texts      source.address destination.address connection.requested_server_name connection.tls_version
              connection.subject_peer_certificate connection.dns_san_peer_certificate
@@ -60,9 +74,10 @@ The facts are one JSON object; each may be absent:
   addresses  direct_remote_ip remote_ip destination_ip
   others     connection.mtls (true or false) connection.id (a number)
 
-Example:
+Examples:
   echo '{\"remote_ip\": \"10.0.0.1\", \"destination.port\": 443}' > facts.json
-  printf 'GET / HTTP/1.1\\r\\nHost: h\\r\\n\\r\\n' | rbacd judge --policy filter.bin --facts facts.json";
+  printf 'GET / HTTP/1.1\\r\\nHost: h\\r\\n\\r\\n' | rbacd judge --policy filter.bin --facts facts.json
+  rbacd judge --policy examples/condition.bin --explain < examples/get.http";
 
 /// What the program is asked to do.
 #[derive(Debug, Drop)]
@@ -76,8 +91,8 @@ pub enum Job {
         /// Whether the outcome is printed as JSON.
         json: bool,
     },
-    /// `judge --policy FILE [--facts FILE] [--budget N] [--json]`: to judge the head on standard input
-    /// by a policy file.
+    /// `judge --policy FILE [--facts FILE] [--budget N] [--json] [--explain]`: to judge the head on
+    /// standard input by a policy file.
     Judge {
         /// The path of the policy file.
         policy: String,
@@ -87,6 +102,8 @@ pub enum Job {
         budget: u64,
         /// Whether the outcome is printed as JSON.
         json: bool,
+        /// Whether it is told which policies were tried.
+        explain: bool,
     },
 }
 
@@ -164,7 +181,8 @@ fn judge_command<'a>(alloc: Global) -> Result<Command<'a>, AllocError>
         .arg(policy_arg(alloc))?
         .arg(facts_arg(alloc))?
         .arg(budget_arg(alloc))?
-        .arg(json_arg(alloc))
+        .arg(json_arg(alloc))?
+        .arg(explain_arg(alloc))
 }
 
 fn policy_arg<'a>(alloc: Global) -> Arg<'a>
@@ -210,6 +228,16 @@ fn json_arg<'a>(alloc: Global) -> Arg<'a>
         .help("Print the outcome as one JSON object on a line")
 }
 
+fn explain_arg<'a>(alloc: Global) -> Arg<'a>
+    ensures rule { rule_of result ≡ explain_rule }
+    ensures local { result.global ≡ false }
+{
+    Arg::new(alloc, "explain")
+        .long("explain")
+        .action(ArgAction::SetTrue)
+        .help("Tell which policies were tried, and why each matches or does not")
+}
+
 /// The job of the subcommand `check`, if its values are there and its budget is allowed.
 fn check_job(alloc: Global, matches: &ArgMatches<'_>) -> Result<Option<Job>, AllocError>
     ensures job { IfOk result (λ job. IfSome job (λ job. (subcommand_name job ≡ codes "check")
@@ -248,11 +276,13 @@ fn judge_job(alloc: Global, matches: &ArgMatches<'_>) -> Result<Option<Job>, All
     let policy = String::from_str(alloc, policy)?;
     let facts = facts_of(alloc, matches)?;
     let json = has_flag(matches, "json");
+    let explain = has_flag(matches, "explain");
     Ok(Some(Job::Judge {
         policy,
         facts,
         budget,
         json,
+        explain,
     }))
 }
 

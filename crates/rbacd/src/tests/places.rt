@@ -12,7 +12,7 @@ use std::process::Abort;
 use std::test::Fail;
 
 /// Files whose paths are the names of filters, or their digits.
-struct Filters;
+pub struct Filters;
 
 impl Source for Filters {
     ghost use Rattle.std.specs.Prelude.{⊤};

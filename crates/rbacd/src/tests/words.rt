@@ -30,10 +30,11 @@ fn reads_budgets(rt: HostRuntime) -> Result<(), Fail> {
                     facts,
                     budget,
                     json,
+                    explain,
                 },
             ) => {
                 assert_eq!(rt; policy.as_str(), "f");
-                assert!(rt; facts.is_none() && !json);
+                assert!(rt; facts.is_none() && !json && !explain);
                 assert_eq!(rt; Some(budget), expected);
             }
             Ok(Job::Check { .. }) => panic!(rt; "another job"),
@@ -54,6 +55,23 @@ fn reads_the_facts_file(rt: HostRuntime) -> Result<(), Fail> {
     };
     assert_eq!(rt; policy.as_str(), "f");
     assert_eq!(rt; facts.as_ref().map(|path| path.as_str()), Some("g"));
+    Ok(())
+}
+
+#[test]
+fn reads_how_to_print(rt: HostRuntime) -> Result<(), Fail> {
+    let flags: [&[&str]; 3] = [&["--explain"], &["--json"], &["--json", "--explain"]];
+    for flag in flags {
+        let mut words = vec![in rt.alloc(); "rbacd", "judge", "--policy", "f"]?;
+        words.extend_from_slice(flag)?;
+        let Ok(Job::Judge { json, explain, .. }) = read_words(rt.alloc(), words.as_slice()) else {
+            return Err(Fail::from("a job"));
+        };
+        assert_eq!(rt; json, flag.contains(&"--json"));
+        assert_eq!(rt; explain, flag.contains(&"--explain"));
+    }
+    let words = ["rbacd", "check", "--policy", "f", "--explain"];
+    assert!(rt; read_words(rt.alloc(), &words).is_err());
     Ok(())
 }
 
@@ -121,6 +139,7 @@ Options:
       --facts <FILE>   What is known of the connection: one JSON object
       --budget <N>     What the policy's conditions may cost, from 1 to 100000000 [default: 1000000]
       --json           Print the outcome as one JSON object on a line
+      --explain        Tell which policies were tried, and why each matches or does not
   -h, --help           Print help
 
 The line on standard output, and the status:

@@ -1,5 +1,5 @@
 use Rattle.std.proofs.lemmas.Result.{IfErr-weaker}
-use Rattle.rbacd.proofs.JudgeLemmas.{found_under, of_all}
+use Rattle.rbacd.proofs.JudgeLemmas.{found_under, given_under, some_bytes}
 use Rattle.rbacd.proofs.judge.finding_of.Goals as goal
 
 pub returns-in-Ok-clause-found : goal.returns-in-Ok-clause-found
@@ -7,6 +7,11 @@ returns-in-Ok-clause-found g c =
     let admits = rw c.largest.ensures at c.in-Ok.ensures.found.1 in
     found_under _ _ _ (g.R.Read.remaining c.args.input) _ _ admits c.head_finding.result c.memory_as_finding.result
     c.head_finding.ensures.outcome c.head_finding.ensures.name c.memory_as_finding.ensures.kept c.memory_as_finding.ensures.memory
+
+pub returns-in-Ok-clause-given : goal.returns-in-Ok-clause-given
+returns-in-Ok-clause-given g c =
+    given_under _ c.head_finding.result c.memory_as_finding.result c.head_finding.ensures.given
+    c.memory_as_finding.ensures.kept c.memory_as_finding.ensures.memory
 
 pub returns-in-Ok-clause-fault : goal.returns-in-Ok-clause-fault
 returns-in-Ok-clause-fault g c =
@@ -17,4 +22,8 @@ returns-in-Ok-clause-fault g c =
 pub returns-in-Err-clause-found : goal.returns-in-Err-clause-found
 returns-in-Err-clause-found g c =
     let fault = rw c.largest.ensures at c.in-Err.ensures.fault in
-    of_all (g.R.Read.remaining c.args.input) (λ bytes. fault)
+    let (bytes, all) = some_bytes (g.R.Read.remaining c.args.input) in
+    rw c.bare.ensures (bytes, all, fault)
+
+pub returns-in-Err-clause-given : goal.returns-in-Err-clause-given
+returns-in-Err-clause-given g c = rw c.bare.ensures (λ given. given, λ p. p.1)

@@ -14,13 +14,17 @@ returns-in_err-conn-clause-fault g c =
     ])
 
 pub returns-in-Ok-clause-found : goal.returns-in-Ok-clause-found
-returns-in-Ok-clause-found g c = record {
-  policy = _;
-  facts = _;
-  read = c.in_ok-bytes.ensures.found;
-  conn = c.in_ok-conn.ensures.found;
-  found = rw c.deref.ensures.value at c.in-Ok.ensures.found;
-}
+returns-in-Ok-clause-found g c =
+    let (bytes, all, found) = rw c.deref.ensures.value at c.in-Ok.ensures.found in
+    record {
+      policy = _;
+      facts = _;
+      bytes = bytes;
+      read = c.in_ok-bytes.ensures.found;
+      conn = c.in_ok-conn.ensures.found;
+      all = all;
+      found = found;
+    }
 
 pub returns-clause-fault : goal.returns-clause-fault
 returns-clause-fault g c =

@@ -6,7 +6,7 @@ pub returns-in-Ok-print_report : goal.returns-in-Ok-print_report
 returns-in-Ok-print_report g c =
     let printed = c.in-Ok-print_report.ensures in
     end_of_printed _ _ _ _ _ _ _ _ _ c.in-Ok.report c.in-Ok-print_report.printed
-    c.in-Ok.ensures printed.same (inl (c.status.ensures, printed.line, c.tell_cause.ensures))
+    c.in-Ok.ensures printed.same (inl (c.status.ensures, printed.text, c.tell_below.ensures))
 
 pub returns-in-Ok : goal.returns-in-Ok
 returns-in-Ok g c =

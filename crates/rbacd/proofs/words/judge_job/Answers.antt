@@ -14,16 +14,17 @@ returns-clause-job c = (
     c.in_ok-facts.ensures,
     c.in-Some-budget_of.ensures.budget,
     c.has_flag-json.ensures,
+    c.has_flag-explain.ensures,
   ),
 )
 
 pub returns-in_default-clause-none : goal.returns-in_default-clause-none
-returns-in_default-clause-none c (Judge policy facts budget json) named held =
+returns-in_default-clause-none c (Judge policy facts budget json explain) named held =
     let first = first_value-rows (found_of c.args.matches.now) (codes "policy") ∙ held.0 in
     let none = c.in_default.ensures in cc
 returns-in_default-clause-none c (Check policy budget json) named held = names_differ named
 
 pub returns-in_default-budget_of-clause-none : goal.returns-in_default-budget_of-clause-none
-returns-in_default-budget_of-clause-none c (Judge policy facts budget json) named held =
+returns-in_default-budget_of-clause-none c (Judge policy facts budget json explain) named held =
     c.in_default-budget_of.ensures.none budget held.2
 returns-in_default-budget_of-clause-none c (Check policy budget json) named held = names_differ named

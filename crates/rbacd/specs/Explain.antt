@@ -1,0 +1,136 @@
+-- What `judge --explain` tells: the policies that were tried, each with why it matches or does not, in
+-- words and as JSON objects (RFC 8259), whose members stand in ascending order of their names.
+use Rattle.std.specs.Prelude.{◌≡◌, ⊤, ℕ, Bool, false, ◌==◌, ◌||◌, ◌&&◌, nat_le, if◌then◌else◌, List, [], ◌∷◌, ◌++◌, Option, Some, None, codes, map, string_bytes}
+use Rattle.std.specs.Char.{encode_utf8}
+use Rattle.std.specs.FinMap.{entries}
+use Rattle.std.specs.Fmt.{decimal, digits}
+use Rattle.std.specs.List.{flat_map}
+use Rattle.std.specs.Str.{chars}
+use Rattle.attributes.specs.Limits.{largest}
+use Rattle.attributes.specs.Request.{RequestValue}
+use Rattle.cel_tree.specs.Checked.{CelChecked}
+use Rattle.cel_value.specs.Names.{error_name}
+use Rattle.rbac_policy.specs.Filter.{Filter}
+use Rattle.rbac_policy.specs.Trials.{AreTrials, HasReason, Means, TakesSteps}
+use Rattle.rbac_policy.specs.declared.trials.Reason.{Reason}
+use Rattle.rbac_policy.specs.declared.trials.Reason.TheVariants.{NoPermission, NoPrincipal, Matches, ConditionFalse, ConditionFails, ConditionTrue}
+use Rattle.rbac_policy.specs.declared.trials.Trial.{Trial}
+use Rattle.serde_json.specs.Data.{Data, number, unsigned, string, array, object, Members, member, no_members}
+use Rattle.serde_json.specs.View.{items_of}
+use Rattle.stack_machine.specs.declared.error.RunError.{RunError}
+use Rattle.stack_machine.specs.declared.error.RunError.TheVariants as errors
+use Rattle.rbacd.specs.declared.explain.Explanation.{Explanation}
+use Rattle.rbacd.specs.declared.explain.Explanation.TheVariants as explanations
+use Rattle.rbacd.specs.declared.explain.OwnTrial.{OwnTrial}
+
+-- a policy that was tried: its number, its name, and why it matches or does not
+pub record TrialValue : Type 0 where
+  pub number : ℕ
+  pub name : List ℕ
+  pub reason : Reason
+
+-- the trial without where its name lies
+abbrev pub trial_view : Trial → TrialValue
+trial_view trial = record { number = trial.number; name = trial.name.now; reason = trial.reason }
+
+abbrev pub own_trial_view : OwnTrial → TrialValue
+own_trial_view trial =
+    record { number = trial.number; name = string_bytes trial.name; reason = trial.reason }
+
+-- the trials that are told, if they are
+abbrev pub told_in : Explanation → Option (List TrialValue)
+told_in explanations.Absent = None
+told_in (explanations.Trials trials) = Some (map own_trial_view trials.items)
+told_in (explanations.Untold cause) = None
+
+-- these policies are tried for the request
+abbrev pub AreTried : RequestValue → Filter CelChecked → List TrialValue → Type 0
+AreTried request filter told = (trials : List Trial)
+    × AreTrials (HasReason (Means request) (TakesSteps largest request) request) 0
+    (entries filter.policies) trials
+    × (told ≡ map trial_view trials)
+
+-- what is told of the request is so, and nothing but want of memory keeps it from being told
+abbrev pub Explains : RequestValue → Filter CelChecked → Explanation → Type 0
+Explains request filter explanations.Absent = ⊤
+Explains request filter (explanations.Trials trials) =
+    AreTried request filter (map own_trial_view trials.items)
+Explains request filter (explanations.Untold cause) = cause ≡ errors.Memory
+
+-- there is an explanation, or a cause why there is none
+abbrev pub IsGiven : Explanation → Type 0
+IsGiven explanations.Absent = ⊥
+IsGiven (explanations.Trials trials) = ⊤
+IsGiven (explanations.Untold cause) = ⊤
+
+-- a character that is not seen, or moves those around it: controls, those without width, and those that
+-- change the direction of a text
+abbrev pub is_hidden : ℕ → Bool
+is_hidden c = nat_le c 0x1f || (nat_le 0x7f c && nat_le c 0x9f) || (c == 0x61c)
+    || (nat_le 0x200b c && nat_le c 0x200f) || (nat_le 0x2028 c && nat_le c 0x202e)
+    || (nat_le 0x2060 c && nat_le c 0x206f) || (c == 0xfeff)
+
+-- a character between quotes: as `\"`, `\\`, `\0`, `\t`, `\n`, `\r`, `\u{1b}` or itself
+abbrev pub escaped : ℕ → List ℕ
+escaped c =
+    if c == 34 then 92 ∷ 34 ∷ []
+    else (if c == 92 then 92 ∷ 92 ∷ []
+    else (if c == 0 then 92 ∷ 48 ∷ []
+    else (if c == 9 then 92 ∷ 116 ∷ []
+    else (if c == 10 then 92 ∷ 110 ∷ []
+    else (if c == 13 then 92 ∷ 114 ∷ []
+    else (if is_hidden c then 92 ∷ 117 ∷ 123 ∷ (digits 16 false c ++ 125 ∷ [])
+    else encode_utf8 c))))))
+
+-- the name in quotes
+abbrev pub quoted : List ℕ → List ℕ
+quoted name = 34 ∷ (flat_map escaped (chars name) ++ 34 ∷ [])
+
+-- the reason in words
+abbrev pub reason_text : Reason → List ℕ
+reason_text NoPermission = codes "permission"
+reason_text NoPrincipal = codes "principal"
+reason_text Matches = codes "match"
+reason_text ConditionFalse = codes "condition false"
+reason_text (ConditionFails e) = codes "condition error " ++ error_name e
+reason_text (ConditionTrue steps bound) =
+    codes "condition true steps " ++ decimal steps ++ codes " bound " ++ decimal bound
+
+-- the line of a trial, as `0 "p": condition false`
+abbrev pub trial_line : TrialValue → List ℕ
+trial_line trial = decimal trial.number ++ 32 ∷ (quoted trial.name ++ codes ": " ++ reason_text trial.reason ++ 10 ∷ [])
+
+-- the lines of the trials below a line, if they are told
+abbrev pub with_trials : List ℕ → Option (List TrialValue) → List ℕ
+with_trials line None = line
+with_trials line (Some told) = line ++ flat_map trial_line told
+
+-- the members of a trial's object from its name on, with this word for the reason
+abbrev pub trial_members : TrialValue → List ℕ → Members → Members
+trial_members trial word rest = member (codes "name") (string trial.name)
+    (member (codes "number") (number (unsigned trial.number))
+    (member (codes "reason") (string word) rest))
+
+-- the object of a trial with this reason
+abbrev pub reason_json : TrialValue → Reason → Data
+reason_json trial (ConditionFails e) = object (member (codes "error") (string (error_name e))
+    (trial_members trial (codes "condition error") no_members))
+reason_json trial (ConditionTrue steps bound) =
+    object (member (codes "bound") (number (unsigned bound)) (trial_members trial (codes "condition true")
+    (member (codes "steps") (number (unsigned steps)) no_members)))
+reason_json trial reason = object (trial_members trial (reason_text reason) no_members)
+
+-- the trial as an object
+abbrev pub trial_json : TrialValue → Data
+trial_json trial = reason_json trial trial.reason
+
+-- the member with the trials, if they are told
+abbrev pub put_trials : Option (List TrialValue) → Members → Members
+put_trials None rest = rest
+put_trials (Some told) rest = member (codes "trials") (array (items_of (map trial_json told))) rest
+
+-- what is told where the trials cannot be
+abbrev pub untold_text : RunError → List ℕ
+untold_text errors.Memory = codes "cannot explain" ++ 10 ∷ (codes "  memory ran out" ++ 10 ∷ [])
+untold_text errors.OutOfSteps =
+    codes "cannot explain" ++ 10 ∷ (codes "  a condition takes more steps than it may" ++ 10 ∷ [])

@@ -1,0 +1,173 @@
+//! Why a request is answered as it is: the policies that were tried, and their lines.
+ghost use Rattle.std.specs.Prelude.{◌≡◌, ◌++◌, IfOk, OnOk, map, string_bytes};
+ghost use Rattle.std.specs.List.{flat_map};
+ghost use Rattle.rbacd.specs.Outcome.{less_told};
+ghost use Rattle.rbacd.specs.Explain.{escaped, is_hidden, own_trial_view, quoted, trial_line, trial_view, untold_text};
+
+use rbac_policy::{Reason, Trial};
+use stack_machine::RunError;
+use std::alloc::{AllocError, Global};
+use std::fmt;
+
+/// A policy that was tried, by its number and its name.
+#[derive(Debug, Drop)]
+pub struct OwnTrial {
+    pub number: usize,
+    pub name: String,
+    pub reason: Reason,
+}
+
+/// Why a request is answered as it is, as far as that is told.
+#[derive(Debug, Drop)]
+pub enum Explanation {
+    /// Nobody asked for it, or no request was answered.
+    Absent,
+    /// The policies that were tried, in order.
+    Trials(Vec<OwnTrial>),
+    /// It was asked for, and cannot be told for this cause.
+    Untold(RunError),
+}
+
+impl Explanation {
+    /// What is left where there is no memory to tell the trials.
+    pub(crate) fn less_told(self) -> Explanation
+        ensures { result ≡ less_told self }
+    {
+        match self {
+            Explanation::Trials(_) => Explanation::Untold(RunError::Memory),
+            Explanation::Absent => Explanation::Absent,
+            Explanation::Untold(cause) => Explanation::Untold(cause),
+        }
+    }
+}
+
+/// The trials, with names of their own.
+pub(crate) fn own_trials(alloc: Global, trials: &[Trial<'_>]) -> Result<Vec<OwnTrial>, AllocError>
+    ensures { IfOk result (λ own. map own_trial_view own.items ≡ map trial_view trials.now) }
+{
+    let mut own = Vec::new(alloc);
+    for trial in trials {
+        own.push(own_trial(alloc, trial)?)?;
+    }
+    Ok(own)
+}
+
+/// The trial, with a name of its own.
+fn own_trial(alloc: Global, trial: &Trial<'_>) -> Result<OwnTrial, AllocError>
+    ensures { IfOk result (λ own. own_trial_view own ≡ trial_view trial.now) }
+{
+    Ok(OwnTrial {
+        number: trial.number,
+        name: String::from_str(alloc, trial.name)?,
+        reason: trial.reason,
+    })
+}
+
+/// Appends a line for each of the trials.
+pub(crate) fn push_lines(
+    alloc: Global,
+    text: &mut String,
+    trials: &[OwnTrial],
+) -> Result<(), AllocError>
+    ensures { OnOk result (string_bytes text.new
+        ≡ string_bytes text.old ++ flat_map trial_line (map own_trial_view trials.now)) }
+{
+    for trial in trials {
+        let line = line_of_trial(alloc, trial)?;
+        text.push_str(line.as_str())?;
+    }
+    Ok(())
+}
+
+/// The line of a trial, as `0 "p": condition false`.
+fn line_of_trial(alloc: Global, trial: &OwnTrial) -> Result<String, AllocError>
+    ensures { IfOk result (λ line. string_bytes line ≡ trial_line (own_trial_view trial.now)) }
+{
+    let name = quoted(alloc, trial.name.as_str())?;
+    let reason = ReasonText {
+        reason: trial.reason,
+    };
+    format!(in alloc; "{} {}: {}\n", trial.number, name, reason)
+}
+
+/// A reason, to be written in words.
+#[derive(Clone, Copy)]
+struct ReasonText {
+    reason: Reason,
+}
+
+/// Writes the reason, as `permission`, `condition error Overflow` or `condition true steps 7 bound 9`.
+impl fmt::Display for ReasonText {
+    ghost use Rattle.std.specs.Prelude.{Some};
+    ghost use Rattle.rbacd.specs.Explain.{reason_text};
+
+    ghost output = { λ text. Some (reason_text text.reason) };
+
+    fn fmt<W: fmt::Write>(&self, f: &mut fmt::Formatter<W>) -> fmt::Result {
+        match self.reason {
+            Reason::NoPermission => f.write_str("permission"),
+            Reason::NoPrincipal => f.write_str("principal"),
+            Reason::Matches => f.write_str("match"),
+            Reason::ConditionFalse => f.write_str("condition false"),
+            Reason::ConditionFails(error) => write!(f, "condition error {error}"),
+            Reason::ConditionTrue { steps, bound } => {
+                write!(f, "condition true steps {steps} bound {bound}")
+            }
+        }
+    }
+}
+
+/// The name in quotes.
+fn quoted(alloc: Global, name: &str) -> Result<String, AllocError>
+    ensures { IfOk result (λ text. string_bytes text ≡ quoted name.now) }
+{
+    let mut text = String::new(alloc);
+    text.push('"')?;
+    for c in name.chars() {
+        push_escaped(alloc, &mut text, c)?;
+    }
+    text.push('"')?;
+    Ok(text)
+}
+
+/// Appends the character as it stands between quotes.
+fn push_escaped(alloc: Global, text: &mut String, c: char) -> Result<(), AllocError>
+    ensures { OnOk result (string_bytes text.new ≡ string_bytes text.old ++ escaped c) }
+{
+    match c {
+        '"' => text.push_str("\\\""),
+        '\\' => text.push_str("\\\\"),
+        '\0' => text.push_str("\\0"),
+        '\t' => text.push_str("\\t"),
+        '\n' => text.push_str("\\n"),
+        '\r' => text.push_str("\\r"),
+        _ if is_hidden(c as u32) => {
+            let code = format!(in alloc; "\\u{{{:x}}}", c as u32)?;
+            text.push_str(code.as_str())
+        }
+        _ => text.push(c),
+    }
+}
+
+/// Whether the character of this code is not seen, or moves those around it.
+fn is_hidden(code: u32) -> bool
+    ensures { result ≡ is_hidden code }
+{
+    code <= 0x1f
+        || (0x7f <= code && code <= 0x9f)
+        || code == 0x61c
+        || (0x200b <= code && code <= 0x200f)
+        || (0x2028 <= code && code <= 0x202e)
+        || (0x2060 <= code && code <= 0x206f)
+        || code == 0xfeff
+}
+
+/// What is told on standard error where the trials cannot be told, for this cause.
+pub(crate) fn untold_text(cause: RunError) -> &'static [u8]
+    ensures { result.now ≡ untold_text cause }
+{
+    match cause {
+        RunError::Memory => b"cannot explain\n  memory ran out\n",
+        RunError::OutOfSteps => b"cannot explain\n  a condition takes more steps than it may\n",
+    }
+}

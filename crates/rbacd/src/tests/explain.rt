@@ -1,0 +1,180 @@
+//! What `judge --explain` tells: a line for each policy that was tried, each reason at least once, and names that are not
+//! plain.
+use super::judging::PLAIN;
+use super::places::Filters;
+use crate::explain::{Explanation, OwnTrial, untold_text};
+use crate::judge::print_report;
+use crate::outcome::{Outcome, Report};
+use crate::run::run;
+use rbac_policy::Reason;
+use stack_machine::RunError;
+use std::alloc::Global;
+use std::process::Abort;
+use std::test::Fail;
+
+/// A filter of `examples/filters/`, the words behind it, the head, what stands on standard output, and
+/// the status.
+type Case = (
+    &'static str,
+    &'static [&'static str],
+    &'static [u8],
+    &'static str,
+    u8,
+);
+
+const WORDS: &[&str] = &["--explain"];
+
+const JSON: &[&str] = &["--json", "--explain"];
+
+const CASES: [Case; 19] = [
+    ("any_any", &[], PLAIN, "allow 0\n", 0),
+    ("any_any", WORDS, PLAIN, "allow 0\n0 \"p\": match\n", 0),
+    (
+        "each_reason",
+        WORDS,
+        PLAIN,
+        "allow 4\n0 \"a\": permission\n1 \"b\": principal\n2 \"c\": condition false\n3 \"d\": condition error Overflow\n4 \"e\": condition true steps 4 bound 4\n",
+        0,
+    ),
+    (
+        "each_reason",
+        JSON,
+        PLAIN,
+        "{\"name\":\"e\",\"policy\":4,\"trials\":[{\"name\":\"a\",\"number\":0,\"reason\":\"permission\"},{\"name\":\"b\",\"number\":1,\"reason\":\"principal\"},{\"name\":\"c\",\"number\":2,\"reason\":\"condition false\"},{\"error\":\"Overflow\",\"name\":\"d\",\"number\":3,\"reason\":\"condition error\"},{\"bound\":4,\"name\":\"e\",\"number\":4,\"reason\":\"condition true\",\"steps\":4}],\"verdict\":\"allow\"}\n",
+        0,
+    ),
+    (
+        "each_reason",
+        &["--json"],
+        PLAIN,
+        "{\"name\":\"e\",\"policy\":4,\"verdict\":\"allow\"}\n",
+        0,
+    ),
+    (
+        "odd_names",
+        WORDS,
+        PLAIN,
+        "deny -\n0 \"\\0\\t\\n\\r\\u{1b}\\u{7f}\": permission\n1 \"a \\\"quoted\\\" \\\\ name\": permission\n2 \"\\u{9b}31m\\u{202e}\": permission\n3 \"\u{e9}\": permission\n",
+        3,
+    ),
+    (
+        "odd_names",
+        JSON,
+        PLAIN,
+        "{\"name\":null,\"policy\":null,\"trials\":[{\"name\":\"\\u0000\\t\\n\\r\\u001b\u{7f}\",\"number\":0,\"reason\":\"permission\"},{\"name\":\"a \\\"quoted\\\" \\\\ name\",\"number\":1,\"reason\":\"permission\"},{\"name\":\"\u{9b}31m\u{202e}\",\"number\":2,\"reason\":\"permission\"},{\"name\":\"\u{e9}\",\"number\":3,\"reason\":\"permission\"}],\"verdict\":\"deny\"}\n",
+        3,
+    ),
+    ("no_policies", WORDS, PLAIN, "deny -\n", 3),
+    (
+        "no_policies",
+        JSON,
+        PLAIN,
+        "{\"name\":null,\"policy\":null,\"trials\":[],\"verdict\":\"deny\"}\n",
+        3,
+    ),
+    (
+        "header_is_a",
+        WORDS,
+        PLAIN,
+        "deny -\n0 \"p\": condition error NoKey\n",
+        3,
+    ),
+    (
+        "mtls_or_not",
+        WORDS,
+        PLAIN,
+        "deny -\n0 \"p\": condition error MissingAttribute\n",
+        3,
+    ),
+    (
+        "faulty_loop_condition",
+        WORDS,
+        PLAIN,
+        "deny -\n0 \"p\": condition error ZeroDivisor\n",
+        3,
+    ),
+    (
+        "method_is_get",
+        WORDS,
+        PLAIN,
+        "allow 0\n0 \"p\": condition true steps 11 bound 40\n",
+        0,
+    ),
+    (
+        "method_is_get",
+        WORDS,
+        b"PUT / HTTP/1.1\r\nHost: h\r\n\r\n",
+        "deny -\n0 \"p\": condition false\n",
+        3,
+    ),
+    (
+        "deny_overflow",
+        WORDS,
+        PLAIN,
+        "allow -\n0 \"p\": condition error Overflow\n",
+        0,
+    ),
+    ("method_alone", WORDS, PLAIN, "refused: 13 NotBool\n", 1),
+    (
+        "method_alone",
+        JSON,
+        PLAIN,
+        "{\"name\":\"NotBool\",\"refused\":13}\n",
+        1,
+    ),
+    ("each_reason", WORDS, b"GET", "head: 400\n", 4),
+    ("each_reason", JSON, b"GET", "{\"head\":400}\n", 4),
+];
+
+#[test]
+fn explains_verdicts(rt: HostRuntime) -> Result<(), Fail> {
+    for (filter, more, head, text, status) in CASES {
+        let mut words = vec![in rt.alloc(); "rbacd", "judge", "--policy", filter]?;
+        words.extend_from_slice(more)?;
+        let mut out = Vec::new(rt.alloc());
+        let mut errors = Vec::new(rt.alloc());
+        let ended = run(
+            rt.alloc(),
+            words.as_slice(),
+            &Filters,
+            head,
+            &mut out,
+            &mut errors,
+        );
+        assert_eq!(rt; str::from_utf8(&out).unwrap_or("no text"), text);
+        assert_eq!(rt; ended, status);
+        assert_eq!(rt; errors.is_empty(), status == 0 || status == 3);
+    }
+    Ok(())
+}
+
+/// Checks what is printed of a report, and that nothing else is printed.
+fn prints(rt: &impl Abort, alloc: Global, report: Report, text: &str) -> Result<(), Fail> {
+    let mut out = Vec::new(alloc);
+    print_report(alloc, report, &mut out)?;
+    assert_eq!(rt; str::from_utf8(&out).unwrap_or("no text"), text);
+    Ok(())
+}
+
+/// An explanation of one policy.
+fn trials_of_one(alloc: Global) -> Result<Explanation, Fail> {
+    let trial = OwnTrial {
+        number: 0,
+        name: String::from_str(alloc, "p")?,
+        reason: Reason::Matches,
+    };
+    Ok(Explanation::Trials(vec![in alloc; trial]?))
+}
+
+#[test]
+fn tells_nothing_by_half(rt: HostRuntime) -> Result<(), Fail> {
+    let mut report = Report::plain(Outcome::Allowed(Some(0)));
+    report.explanation = trials_of_one(rt.alloc())?;
+    prints(&rt, rt.alloc(), report.unexplained(), "allow 0\n")?;
+    let mut report = Report::plain(Outcome::Allowed(Some(0)));
+    report.explanation = trials_of_one(rt.alloc())?;
+    prints(&rt, rt.alloc(), report.without_memory(), "memory\n")?;
+    let told = untold_text(RunError::Memory);
+    assert_eq!(rt; told, b"cannot explain\n  memory ran out\n".as_slice());
+    Ok(())
+}
