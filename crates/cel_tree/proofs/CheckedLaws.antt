@@ -1,17 +1,14 @@
 -- The payloads of a checked expression are one or have a fault, never both, and are one at most.
 use Rattle.std.proofs.Common.{◌≡◌, ◌≢◌, ◌≤◌, ◌⊎◌, inl, inr, ℕ, List, [], Contains, arith, refl, subst}
 use Rattle.std.proofs.lemmas.Bool.{cases_lt}
-use Rattle.std.specs.FinMap.{FinMap, entries}
-use Rattle.std.specs.Ordering.{int_cmp}
 use Rattle.proto_wire.specs.Fields.{Wire}
-use Rattle.proto_wire.specs.Maps.{Entry, int64, AreEntries, map_of, AreValues, EntryFault, SomeValueFault}
+use Rattle.proto_wire.specs.Maps.{int64}
 use Rattle.proto_wire.specs.Values.{payloads}
 use Rattle.proto_wire.specs.declared.refusal.Refusal.{Refusal}
 use Rattle.proto_wire.specs.declared.refusal.Refusal.TheVariants.{Missing, TooLarge}
-use Rattle.proto_wire.proofs.MapLaws.{entries_total, entries_disjoint, entries_unique, entries_readable, readable_unique}
-use Rattle.proto_wire.proofs.MapValues.{values_total, values_disjoint, values_unique}
+use Rattle.proto_wire.proofs.WholeMaps.{map_total, map_disjoint, map_unique}
 use Rattle.cel_tree.specs.Checked.{CelChecked}
-use Rattle.cel_tree.specs.Message.{most_nodes, tree_depth, reference_map_field, type_map_field, expr_field, checked_keys, IsMap, MapFault, in_entry, in_faulty_entry, in_value, CheckedSays, CheckedLacks, CheckedWrong, in_tree, in_nodes, in_types, in_refs, IsChecked, CheckedFault}
+use Rattle.cel_tree.specs.Message.{most_nodes, tree_depth, reference_map_field, type_map_field, expr_field, checked_keys, CheckedSays, CheckedLacks, CheckedWrong, in_tree, in_nodes, in_types, in_refs, IsChecked, CheckedFault}
 use Rattle.cel_tree.specs.Reading.{ValuesFault}
 use Rattle.cel_tree.specs.References.{IsReference, ReferenceFault}
 use Rattle.cel_tree.specs.Tree.{CelTree}
@@ -23,42 +20,6 @@ use Rattle.cel_tree.proofs.ReadingLaws.{reads_total, reads_disjoint, reads_uniqu
 use Rattle.cel_tree.proofs.ReferenceLaws.{reference_total, reference_disjoint, reference_unique}
 use Rattle.cel_tree.proofs.TreeLaws.{tree_total, tree_disjoint, tree_unique, nodes_most}
 use Rattle.cel_tree.proofs.TypeLaws.{type_total, type_disjoint, type_unique}
-
--- ---- maps
-
-module _ {V : Type 0} (IsValue : List (List ℕ) → V → Type 0) (ValueFault : List (List ℕ) → Refusal → Type 0) where
-  map_total : ((parts : List (List ℕ)) → ((v : V) × IsValue parts v) ⊎ ((e : Refusal) × ValueFault parts e))
-      → (parts : List (List ℕ)) → ((values : FinMap int_cmp V) × IsMap IsValue parts values) ⊎ ((e : Refusal) × MapFault ValueFault parts e)
-  map_total total parts = elim (entries_total int64 parts) [
-    | inr (e, bad) ↦ inr (e, in_entry bad)
-    | inl (es, are) ↦ elim (values_total int64 IsValue ValueFault total (map_of int64 es)) [
-      | inl (values, held) ↦ inl (values, (es, are, held))
-      | inr (e, bad) ↦ inr (e, in_value es (entries_readable int64 parts es are) bad)
-    ]
-  ]
-
-  -- where all entries read, none has a fault
-  none_faulty : (parts : List (List ℕ)) (es : List (Entry int64)) (part : List ℕ) (reason : Refusal) → AreEntries int64 parts es
-      → Contains parts part → EntryFault int64 part reason → ⊥
-  none_faulty parts es part reason are here bad = entries_disjoint int64 parts es reason are (part, here, bad)
-
-  map_disjoint : ((parts : List (List ℕ)) (v : V) (e : Refusal) → IsValue parts v → ValueFault parts e → ⊥)
-      → (parts : List (List ℕ)) (values : FinMap int_cmp V) (e : Refusal) → IsMap IsValue parts values → MapFault ValueFault parts e → ⊥
-  map_disjoint disjoint parts values e (es, are, held) (in_entry bad) = entries_disjoint int64 parts es e are bad
-  map_disjoint disjoint parts values e (es, are, held) (in_faulty_entry part own reason here bad whole fault) =
-      none_faulty parts es part reason are here bad
-  map_disjoint disjoint parts values e (es, are, held) (in_value read reads bad) =
-      let same : read ≡ es = readable_unique int64 parts es read are reads in
-      let P : List (Entry int64) → Type 0 = λ ds. SomeValueFault int64 ValueFault (entries (map_of int64 ds)) e in
-      values_disjoint int64 IsValue ValueFault disjoint (map_of int64 es) values e held (subst P same bad)
-
-module _ {V : Type 0} (IsValue : List (List ℕ) → V → Type 0) where
-  map_unique : ((parts : List (List ℕ)) (v w : V) → IsValue parts v → IsValue parts w → v ≡ w)
-      → (parts : List (List ℕ)) (m n : FinMap int_cmp V) → IsMap IsValue parts m → IsMap IsValue parts n → m ≡ n
-  map_unique unique parts m n (es, are, held) (ds, also, held') =
-      let same : ds ≡ es = entries_unique int64 parts ds es also are in
-      let P : List (Entry int64) → Type 0 = λ xs. AreValues int64 IsValue (map_of int64 xs) n in
-      values_unique int64 IsValue unique (map_of int64 es) m n held (subst P same held')
 
 -- ---- checked expressions
 
@@ -73,9 +34,9 @@ maps_total : (fs : List Wire) → payloads expr_field fs ≢ [] → (t : CelTree
     → node_count t ≤ most_nodes
     → ((c : CelChecked) × CheckedSays fs c) ⊎ ((e : Refusal) × ValuesFault CheckedLacks CheckedWrong fs e)
 maps_total fs there t is few =
-    elim (map_total (IsTypeEntry tree_depth) (TypeEntryFault tree_depth) (type_total tree_depth) (payloads type_map_field fs)) [
+    elim (map_total int64 (IsTypeEntry tree_depth) (TypeEntryFault tree_depth) (type_total tree_depth) (payloads type_map_field fs)) [
       | inr (e, bad) ↦ inr (e, inr (in_types bad))
-      | inl (types, typed) ↦ elim (map_total IsReference ReferenceFault reference_total (payloads reference_map_field fs)) [
+      | inl (types, typed) ↦ elim (map_total int64 IsReference ReferenceFault reference_total (payloads reference_map_field fs)) [
         | inr (e, bad) ↦ inr (e, inr (in_refs bad))
         | inl (refs, referred) ↦ inl (
           record { tree = t; types = types; refs = refs },
@@ -104,15 +65,15 @@ says_disjoint fs c e says (inr (in_nodes there (n, has, many, is))) =
     let few : node_count c.tree ≤ most_nodes = says.few in
     absurd (omega (arith, most, few, many))
 says_disjoint fs c e says (inr (in_types bad)) =
-    map_disjoint (IsTypeEntry tree_depth) (TypeEntryFault tree_depth) (type_disjoint tree_depth) (payloads type_map_field fs) c.types e says.types bad
+    map_disjoint int64 (IsTypeEntry tree_depth) (TypeEntryFault tree_depth) (type_disjoint tree_depth) (payloads type_map_field fs) c.types e says.types bad
 says_disjoint fs c e says (inr (in_refs bad)) =
-    map_disjoint IsReference ReferenceFault reference_disjoint (payloads reference_map_field fs) c.refs e says.refs bad
+    map_disjoint int64 IsReference ReferenceFault reference_disjoint (payloads reference_map_field fs) c.refs e says.refs bad
 
 says_unique : (fs : List Wire) (c d : CelChecked) → CheckedSays fs c → CheckedSays fs d → c ≡ d
 says_unique fs c d a b =
     let tree : c.tree ≡ d.tree = tree_unique tree_depth (payloads expr_field fs) c.tree d.tree a.tree b.tree in
-    let types : c.types ≡ d.types = map_unique (IsTypeEntry tree_depth) (type_unique tree_depth) (payloads type_map_field fs) c.types d.types a.types b.types in
-    let refs : c.refs ≡ d.refs = map_unique IsReference reference_unique (payloads reference_map_field fs) c.refs d.refs a.refs b.refs in
+    let types : c.types ≡ d.types = map_unique int64 (IsTypeEntry tree_depth) (type_unique tree_depth) (payloads type_map_field fs) c.types d.types a.types b.types in
+    let refs : c.refs ≡ d.refs = map_unique int64 IsReference reference_unique (payloads reference_map_field fs) c.refs d.refs a.refs b.refs in
     λ i. record { tree = tree i; types = types i; refs = refs i }
 
 pub checked_total : (parts : List (List ℕ)) → ((c : CelChecked) × IsChecked parts c) ⊎ ((e : Refusal) × CheckedFault parts e)

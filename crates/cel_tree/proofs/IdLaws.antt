@@ -4,14 +4,14 @@ use Rattle.std.proofs.lemmas.List.{reverse-append}
 use Rattle.std.specs.Cmp.{int_cmp_total}
 use Rattle.std.specs.FinMap.{FinMap, find, get, get-from_entries, int_cmp-IsAntisymmetric}
 use Rattle.std.specs.Ordering.{int_cmp, eq_by_cmp}
-use Rattle.proto_wire.specs.Maps.{Entry, int64, AreEntries, map_of}
+use Rattle.proto_wire.specs.Maps.{Entry, int64, AreEntries, map_of, IsMap}
 use Rattle.proto_wire.specs.Oneof.{member_run}
 use Rattle.proto_wire.specs.Values.{payloads}
 use Rattle.proto_wire.proofs.MapOrder.{tie}
 use Rattle.cel_value.specs.Types.{IsInt64}
 use Rattle.cel_tree.specs.Checked.{CelChecked}
 use Rattle.cel_tree.specs.Ids.{HasIds, AllHaveIds, EntriesHaveIds, MapHasIds, IdsAreInt64}
-use Rattle.cel_tree.specs.Message.{tree_depth, expr_field, reference_map_field, type_map_field, IsChecked, IsMap}
+use Rattle.cel_tree.specs.Message.{tree_depth, expr_field, reference_map_field, type_map_field, IsChecked}
 use Rattle.cel_tree.specs.Nodes.{Parts, EntryNode, Node, constant_node, ident_node, select_node, call_node, list_node, map_node, loop_node, children, node_kinds, kind_keys, KindSays, MemberSays, IsNode}
 use Rattle.cel_tree.specs.Nodes as nodes
 use Rattle.cel_tree.specs.Reading.{Never}
@@ -139,7 +139,7 @@ found_fits id (e ∷ es) parts fit at = elim (eq_by_cmp int_cmp id e.0) as (λ b
     ] refl at
 
 map_fits : {V : Type 0} (IsValue : List (List ℕ) → V → Type 0) (parts : List (List ℕ)) (m : FinMap int_cmp V)
-    → IsMap IsValue parts m → MapHasIds m
+    → IsMap int64 IsValue parts m → MapHasIds m
 map_fits IsValue parts m (es, are, values) id v at =
     elim (get (map_of int64 es) id) as (λ o. get (map_of int64 es) id ≡ o
     → MatchOption o (get m id ≡ None) (λ ps. IsSomeAnd (get m id) (IsValue ps)) → IsInt64 id) [

@@ -1,16 +1,19 @@
 -- Maps from ids, as the code fills and reads them.
-use Rattle.std.proofs.Common.{◌≡◌, ℕ, ℤ, true, false, cond, List, [], ◌∷◌, ◌++◌, map, Option, Some, None, option_map, IsSomeAnd, MatchOption, Bor, refl, sym, ap, ◌∙◌}
+use Rattle.std.proofs.Common.{◌≡◌, ℕ, ℤ, ◌+◌, ◌<◌, T, take, get_or, length, true, false, cond, List, [], ◌∷◌, ◌++◌, map, Option, Some, None, option_map, IsSomeAnd, MatchOption, Bor, refl, sym, ap, subst, ◌∙◌}
 use Rattle.std.specs.BTreeMap.{insert_entry}
 use Rattle.std.specs.Cmp.{int_cmp_total}
-use Rattle.std.specs.FinMap.{FinMap, find, get, insert, empty, entries, from_entries, same_map, get-empty, get-entries, get-from_entries, get-insert, int_cmp-IsAntisymmetric}
+use Rattle.std.specs.FinMap.{FinMap, find, get, insert, is_sorted, empty, entries, from_entries, same_map, get-empty, get-entries, get-from_entries, get-insert, int_cmp-IsAntisymmetric}
 use Rattle.std.specs.FinMap.Entries.{put, by_order, find-put}
 use Rattle.std.specs.Map.{lookup}
 use Rattle.std.specs.Option.{option_copied}
 use Rattle.std.specs.Ordering.{int_cmp, eq_by_cmp, is_eq, match_ordering}
 use Rattle.std.specs.declared.cmp.Ordering.TheVariants.{Less, Equal, Greater}
 use Rattle.proto_wire.specs.Maps.{Entry, int64, AreValues}
-use Rattle.proto_wire.proofs.MapOrder.{tie}
-use Rattle.cel_tree.specs.steps.Named.{SomeValues}
+use Rattle.proto_wire.specs.Merge.{parts_view}
+use Rattle.proto_wire.proofs.MapOrder.{tie, find_at}
+use Rattle.smallvec.specs.SmallVec.{SmallVec}
+use Rattle.std.proofs.lemmas.List.{take_more, map-append}
+use Rattle.cel_tree.specs.steps.Named.{SomeValues, ids_view}
 
 -- ---- entries, and what they stand for
 
@@ -68,6 +71,14 @@ module _ {V X : Type 0} (view : V → X) where
       copied_map o ∙ ap (option_map view) is ∙ seen_find es k
       ∙ sym (get-from_entries int_cmp_total (map (λ e. (e.0, view e.1)) es) k)
 
+-- what the next entry of a list in order has stands at its id
+pub found_next : (named : List (ℤ × SmallVec (Bor (List ℕ)))) (i : ℕ) (e : ℤ × SmallVec (Bor (List ℕ))) → e ≡ get_or named i e
+    → i < length named → T (is_sorted int_cmp (ids_view named))
+    → find int_cmp e.0 (ids_view named) ≡ Some (parts_view e.1.items)
+found_next named i e at within sorted =
+    let P : ℤ × SmallVec (Bor (List ℕ)) → Type 0 = λ x. find int_cmp x.0 (ids_view named) ≡ Some (parts_view x.1.items) in
+    subst P (sym at) (find_at int_cmp int_cmp_total int_cmp-IsAntisymmetric (λ x. (x.0, parts_view x.1.items)) named i e sorted within)
+
 -- ---- values
 
 module _ {V : Type 0} (IsValue : List (List ℕ) → V → Type 0) where
@@ -104,6 +115,18 @@ module _ {V : Type 0} (IsValue : List (List ℕ) → V → Type 0) where
               | Some w ↦ λ h. h
             ] (so_far id)
       ] refl)
+
+  -- the value of the next entry of a list in order
+  pub some_next : (named : List (ℤ × SmallVec (Bor (List ℕ)))) (i : ℕ) (e : ℤ × SmallVec (Bor (List ℕ)))
+      (values : FinMap int_cmp V) (v : V) → e ≡ get_or named i e → i < length named → T (is_sorted int_cmp (ids_view named))
+      → SomeValues IsValue (ids_view named) (ids_view (take i named)) values → IsValue (parts_view e.1.items) v
+      → SomeValues IsValue (ids_view named) (ids_view (take (i + 1) named)) (insert values e.0 v)
+  some_next named i e values v at within sorted so_far is =
+      let read : ids_view (take (i + 1) named) ≡ ids_view (take i named) ++ (e.0, parts_view e.1.items) ∷ [] =
+      ap ids_view (take_more named i e within ∙ ap (λ x. take i named ++ x ∷ []) (sym at))
+      ∙ map-append (λ x. (x.0, parts_view x.1.items)) (take i named) (e ∷ []) in
+      rw read (some_more (ids_view named) (ids_view (take i named)) values e.0 (parts_view e.1.items) v so_far
+      (found_next named i e at within sorted) is)
 
   value_at : (found : Option (List (List ℕ))) (value : Option V)
       → MatchOption value (found ≡ None) (λ v. IsSomeAnd found (λ parts. IsValue parts v))

@@ -1,11 +1,9 @@
 -- The message of a checked expression, and what is wrong with it:
 -- `google/api/expr/v1alpha1/checked.proto`, CheckedExpr.
-use Rattle.std.specs.Prelude.{◌≡◌, ◌≢◌, ◌≤◌, ℕ, List, [], ◌∷◌, Contains}
-use Rattle.std.specs.FinMap.{FinMap, entries}
-use Rattle.std.specs.Ordering.{int_cmp}
-use Rattle.proto_wire.specs.Fields.{Wire, Fields}
+use Rattle.std.specs.Prelude.{◌≡◌, ◌≢◌, ◌≤◌, ℕ, List, [], ◌∷◌}
+use Rattle.proto_wire.specs.Fields.{Wire}
 use Rattle.proto_wire.specs.Keys.{len_key}
-use Rattle.proto_wire.specs.Maps.{Entry, int64, AreEntries, map_of, AreValues, Readable, EntryFault, SomeEntryFault, SomeValueFault}
+use Rattle.proto_wire.specs.Maps.{int64, IsMap, MapFault}
 use Rattle.proto_wire.specs.Values.{payloads}
 use Rattle.proto_wire.specs.declared.key.Key.{Key}
 use Rattle.proto_wire.specs.declared.refusal.Refusal.{Refusal}
@@ -40,30 +38,13 @@ abbrev pub checked_keys : List Key
 checked_keys = len_key reference_map_field ∷ len_key type_map_field ∷ len_key expr_field
     ∷ len_key 5 ∷ len_key 6 ∷ []
 
--- the payloads are entries, and the values that the last of each id merge to are these
-abbrev pub IsMap : {V : Type 0} → (List (List ℕ) → V → Type 0) → List (List ℕ) → FinMap int_cmp V
-    → Type 0
-IsMap IsValue parts values = (es : List (Entry int64)) × AreEntries int64 parts es
-    × AreValues int64 IsValue (map_of int64 es) values
-
--- a fault of an entry, of the value of an id, or of what an entry with a fault of its own holds
-pub data MapFault (ValueFault : List (List ℕ) → Refusal → Type 0) (parts : List (List ℕ))
-    (e : Refusal) : Type 0 where
-  in_entry : SomeEntryFault int64 parts e → MapFault ValueFault parts e
-  in_faulty_entry : (part : List ℕ) (own : List Wire) (reason : Refusal) → Contains parts part
-      → EntryFault int64 part reason → Fields part own → ValueFault (payloads 2 own) e
-      → MapFault ValueFault parts e
-  in_value : (read : List (Entry int64)) → Readable int64 parts read
-      → SomeValueFault int64 ValueFault (entries (map_of int64 read)) e
-      → MapFault ValueFault parts e
-
 -- the fields say the checked expression
 pub record CheckedSays (fs : List Wire) (c : CelChecked) : Type 0 where
   pub there : payloads expr_field fs ≢ []
   pub tree : IsTree tree_depth (payloads expr_field fs) c.tree
   pub few : node_count c.tree ≤ most_nodes
-  pub types : IsMap (IsTypeEntry tree_depth) (payloads type_map_field fs) c.types
-  pub refs : IsMap IsReference (payloads reference_map_field fs) c.refs
+  pub types : IsMap int64 (IsTypeEntry tree_depth) (payloads type_map_field fs) c.types
+  pub refs : IsMap int64 IsReference (payloads reference_map_field fs) c.refs
 
 -- no expression is there
 abbrev pub CheckedLacks : List Wire → Type 0
@@ -75,9 +56,9 @@ pub data CheckedWrong (fs : List Wire) (e : Refusal) : Type 0 where
       → CheckedWrong fs e
   in_nodes : payloads expr_field fs ≢ []
       → NodesFault tree_depth most_nodes (payloads expr_field fs) e → CheckedWrong fs e
-  in_types : MapFault (TypeEntryFault tree_depth) (payloads type_map_field fs) e
+  in_types : MapFault int64 (TypeEntryFault tree_depth) (payloads type_map_field fs) e
       → CheckedWrong fs e
-  in_refs : MapFault ReferenceFault (payloads reference_map_field fs) e → CheckedWrong fs e
+  in_refs : MapFault int64 ReferenceFault (payloads reference_map_field fs) e → CheckedWrong fs e
 
 -- the parts merge to the message of the checked expression
 abbrev pub IsChecked : List (List ℕ) → CelChecked → Type 0

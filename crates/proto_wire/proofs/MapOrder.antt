@@ -183,6 +183,18 @@ module _ {K : Type 0} (R : K → K → Ordering) (total : IsTotalOrder R) where
           | false ↦ λ apart. found
         ] refl
 
+    -- at its key stands what an entry of a list in order has
+    pub find_at : {A X : Type 0} (f : A → K × X) (xs : List A) (i : ℕ) (d : A)
+        → T (is_sorted R (map f xs)) → i < length xs
+        → find R (f (get_or xs i d)).0 (map f xs) ≡ Some (f (get_or xs i d)).1
+    find_at f [] i d sorted within = absurd (omega (arith, within))
+    find_at f (x ∷ xs) zero d sorted within =
+        ap (λ b. cond b (Some (f x).1) (find R (f x).0 (map f xs)))
+        (ap is_eq (tied_itself total (f x).0))
+    find_at f (x ∷ xs) (suc i) d sorted within =
+        let later : i < length xs = omega (arith, within) in
+        found_later (f x) (map f xs) _ _ sorted (find_at f xs i d (both_second _ _ sorted) later)
+
     -- a key among keys that are all above another is above it
     pub above_all : {X : Type 0} (q : K) (es : List (K × X)) (key : K) (x : X)
         → T (below_all R q es) → find R key es ≡ Some x → R q key ≡ Less

@@ -1,6 +1,5 @@
 use crate::varint::read_varint;
 use crate::*;
-use std::collections::BTreeMap;
 use std::process::Abort;
 use std::test::Fail;
 
@@ -233,18 +232,12 @@ fn text_maps(rt: HostRuntime) -> Result<(), Fail> {
     let first: &[u8] = b"\x0a\x01p\x12\x01a";
     let second: &[u8] = b"\x12\x00";
     let third: &[u8] = b"\x12\x01b\x0a\x01q\x0a\x01p\x12\x01c";
-    let map: BTreeMap<&str, Vec<&[u8]>> = read_entries(alloc, &[first, second, third])?;
+    let map: Vec<MapEntry<&str>> = read_entries(alloc, &[first, second, third])?;
     assert_eq!(rt; map.len(), 2);
-    assert!(rt;
-        map.get("p")
-            .is_some_and(|parts| parts.len() == 2 && parts[1] == b"c".as_slice())
-    );
-    assert!(rt;
-        map.get("")
-            .is_some_and(|parts| parts.len() == 1 && parts[0].is_empty())
-    );
+    assert!(rt; map[0].0 == "" && map[0].1.len() == 1 && map[0].1[0].is_empty());
+    assert!(rt; map[1].0 == "p" && map[1].1.len() == 2 && map[1].1[1] == b"c".as_slice());
     for (entry, want) in &BAD_ENTRIES {
-        let answer: Result<BTreeMap<&str, Vec<&[u8]>>, Refusal> = read_entries(
+        let answer: Result<Vec<MapEntry<&str>>, Refusal> = read_entries(
             alloc,
             &[first, *entry],
         );
@@ -265,16 +258,20 @@ fn int64_maps(rt: HostRuntime) -> Result<(), Fail> {
     let second: &[u8] = b"\x08\xff\xff\xff\xff\xff\xff\xff\xff\xff\x01";
     let third: &[u8] = b"\x12\x01z";
     let fourth: &[u8] = b"\x08\x05";
-    let map: BTreeMap<i64, Vec<&[u8]>> = read_entries(alloc, &[first, second, third, fourth])?;
+    let map: Vec<MapEntry<i64>> = read_entries(alloc, &[first, second, third, fourth])?;
     assert_eq!(rt; map.len(), 3);
-    assert!(rt; map.get(&5).is_some_and(|parts| parts.is_empty()));
-    assert!(rt; map.get(&-1).is_some_and(|parts| parts.is_empty()));
-    assert!(rt;
-        map.get(&0)
-            .is_some_and(|parts| parts.len() == 1 && parts[0] == b"z".as_slice())
-    );
+    assert!(rt; map[0].0 == -1 && map[0].1.is_empty());
+    assert!(rt; map[1].0 == 0 && map[1].1.len() == 1 && map[1].1[0] == b"z".as_slice());
+    assert!(rt; map[2].0 == 5 && map[2].1.is_empty());
+    let ascending: Vec<MapEntry<i64>> = read_entries(alloc, &[second, third, first])?;
+    assert_eq!(rt; ascending.len(), 3);
+    assert!(rt; ascending[0].0 == -1 && ascending[1].0 == 0 && ascending[2].0 == 5);
+    assert!(rt; ascending[2].1.len() == 1 && ascending[2].1[0] == b"a".as_slice());
+    let twice: Vec<MapEntry<i64>> = read_entries(alloc, &[first, fourth])?;
+    assert_eq!(rt; twice.len(), 1);
+    assert!(rt; twice[0].0 == 5 && twice[0].1.is_empty());
     let text_key: &[u8] = b"\x0a\x01p";
-    let answer: Result<BTreeMap<i64, Vec<&[u8]>>, Refusal> = read_entries(
+    let answer: Result<Vec<MapEntry<i64>>, Refusal> = read_entries(
         alloc,
         &[first, text_key],
     );

@@ -3,12 +3,11 @@ use Rattle.std.specs.Prelude.{◌≡◌, ℕ, ℤ, List, None, MatchOption, IsSo
 use Rattle.std.specs.Borrow.{Bor}
 use Rattle.std.specs.FinMap.{FinMap, find, get}
 use Rattle.std.specs.Ordering.{int_cmp}
-use Rattle.std.specs.declared.alloc.Global.{Global}
-use Rattle.std.specs.declared.vec.Vec.{Vec}
+use Rattle.smallvec.specs.SmallVec.{SmallVec}
 use Rattle.proto_wire.specs.Maps.{Entry, int64, entries_view}
 
 -- the ids of a map with the payloads at each, in order
-abbrev pub ids_view : List (ℤ × Vec (Bor (List ℕ)) Global) → List (Entry int64)
+abbrev pub ids_view : List (ℤ × SmallVec (Bor (List ℕ))) → List (Entry int64)
 ids_view = entries_view int64 (λ id. id)
 
 -- each value is that of its id's payloads, and each id that was read has one

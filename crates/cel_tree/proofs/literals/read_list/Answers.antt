@@ -13,4 +13,4 @@ returns-clause-fault c =
     let fs : List Wire = map field_view c.in_ok-fields.fields.items in
     let message : IsMessage list_keys parts fs = rw c.list_keys.ensures at c.in_ok-fields.ensures.found in
     read_fault list_keys LacksNothing ListWrong parts fs message c.list_of.result
-    (rw c.deref.ensures.value at c.list_of.ensures.fault)
+    (rw c.deref.ensures at c.list_of.ensures.fault)

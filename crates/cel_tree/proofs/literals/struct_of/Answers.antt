@@ -11,7 +11,7 @@ use Rattle.cel_tree.proofs.literals.struct_of.Goals as goal
 pub returns-in_err-entries-clause-fault : goal.returns-in_err-entries-clause-fault
 returns-in_err-entries-clause-fault c =
     let fs : List Wire = map field_view c.args.fields.now in
-    let parts : parts_view c.deref.result.now ≡ payloads 2 fs = ap parts_view c.deref.ensures.value ∙ c.in_ok-payloads.ensures in
+    let parts : parts_view c.deref.result.now ≡ payloads 2 fs = ap parts_view c.deref.ensures ∙ c.in_ok-payloads.ensures in
     exit_memory_or (λ e. (p : List ℕ) × Contains (payloads 2 fs) p × EntryFault p e)
     (ValuesFault LacksNothing StructWrong fs)
     c.from_residual-in_err-entries.result _ c.from_residual-in_err-entries.ensures.1

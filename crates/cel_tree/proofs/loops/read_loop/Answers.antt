@@ -12,4 +12,4 @@ returns-clause-fault c =
     let fs : List Wire = map field_view c.in_ok-fields.fields.items in
     let message : IsMessage loop_keys parts fs = rw c.loop_keys.ensures at c.in_ok-fields.ensures.found in
     read_fault loop_keys LoopLacks LoopWrong parts fs message c.loop_of.result
-    (rw c.deref.ensures.value at c.loop_of.ensures.fault)
+    (rw c.deref.ensures at c.loop_of.ensures.fault)

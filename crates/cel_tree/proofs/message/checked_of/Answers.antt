@@ -1,8 +1,9 @@
 use Rattle.std.proofs.Common.{List, map, inl, inr}
 use Rattle.proto_wire.specs.Fields.{Wire, field_view}
+use Rattle.proto_wire.specs.Maps.{int64, MapFault}
 use Rattle.proto_wire.specs.Values.{payloads}
 use Rattle.proto_wire.specs.declared.refusal.Refusal.{Refusal}
-use Rattle.cel_tree.specs.Message.{tree_depth, most_nodes, expr_field, type_map_field, reference_map_field, MapFault, CheckedLacks, CheckedWrong, in_tree, in_nodes, in_types, in_refs}
+use Rattle.cel_tree.specs.Message.{tree_depth, most_nodes, expr_field, type_map_field, reference_map_field, CheckedLacks, CheckedWrong, in_tree, in_nodes, in_types, in_refs}
 use Rattle.cel_tree.specs.Reading.{ValuesFault}
 use Rattle.cel_tree.specs.References.{ReferenceFault}
 use Rattle.cel_tree.specs.TypeEntries.{TypeEntryFault}
@@ -25,7 +26,7 @@ returns-in_err-tree-clause-fault c =
 pub returns-in_err-types-clause-fault : goal.returns-in_err-types-clause-fault
 returns-in_err-types-clause-fault c =
     let fs : List Wire = map field_view c.args.fields.now in
-    exit_memory_or (MapFault (TypeEntryFault tree_depth) (payloads type_map_field fs))
+    exit_memory_or (MapFault int64 (TypeEntryFault tree_depth) (payloads type_map_field fs))
     (ValuesFault CheckedLacks CheckedWrong fs)
     c.from_residual-in_err-types.result _ c.from_residual-in_err-types.ensures.1 c.in_err-types.ensures.fault
     (λ e bad. inr (in_types bad))
@@ -33,7 +34,7 @@ returns-in_err-types-clause-fault c =
 pub returns-in_err-refs-clause-fault : goal.returns-in_err-refs-clause-fault
 returns-in_err-refs-clause-fault c =
     let fs : List Wire = map field_view c.args.fields.now in
-    exit_memory_or (MapFault ReferenceFault (payloads reference_map_field fs))
+    exit_memory_or (MapFault int64 ReferenceFault (payloads reference_map_field fs))
     (ValuesFault CheckedLacks CheckedWrong fs)
     c.from_residual-in_err-refs.result _ c.from_residual-in_err-refs.ensures.1 c.in_err-refs.ensures.fault
     (λ e bad. inr (in_refs bad))

@@ -12,4 +12,4 @@ returns-clause-fault c =
     let fs : List Wire = map field_view c.in_ok-fields.fields.items in
     let message : IsMessage checked_keys parts fs = rw c.checked_keys.ensures at c.in_ok-fields.ensures.found in
     read_fault checked_keys CheckedLacks CheckedWrong parts fs message c.checked_of.result
-    (rw c.deref.ensures.value at c.checked_of.ensures.fault)
+    (rw c.deref.ensures at c.checked_of.ensures.fault)

@@ -11,7 +11,7 @@ use Rattle.cel_tree.proofs.message.tree_of.Goals as goal
 pub returns-clause-found : goal.returns-clause-found
 returns-clause-found c =
     let fs : List Wire = map field_view c.args.fields.now in
-    let parts : parts_view c.deref.result.now ≡ payloads expr_field fs = ap parts_view c.deref.ensures.value ∙ c.in_ok-parts.ensures in
+    let parts : parts_view c.deref.result.now ≡ payloads expr_field fs = ap parts_view c.deref.ensures ∙ c.in_ok-parts.ensures in
     MatchResult-weaker c.read_tree.result c.read_tree.ensures.found
     (λ t h.
     let sum : c.read_tree.new.left + node_count (tree_view t) ≡ most_nodes = h.1 in

@@ -12,4 +12,4 @@ returns-clause-fault c =
     let fs : List Wire = map field_view c.in_ok-fields.fields.items in
     let message : IsMessage select_keys parts fs = rw c.select_keys.ensures at c.in_ok-fields.ensures.found in
     read_fault select_keys SelectLacks SelectWrong parts fs message c.select_of.result
-    (rw c.deref.ensures.value at c.select_of.ensures.fault)
+    (rw c.deref.ensures at c.select_of.ensures.fault)

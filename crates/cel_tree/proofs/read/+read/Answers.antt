@@ -25,7 +25,7 @@ read_inside-returns-in-Ident-clause-found t c =
 pub read_inside-returns-in_ok-operand-in-Select-2-clause-found : goal.read_inside-returns-in_ok-operand-in-Select-2-clause-found
 read_inside-returns-in_ok-operand-in-Select-2-clause-found t c =
     let boxed = c.in_ok-operand-in-Select-2.operand in
-    let found = rw c.deref.ensures.value at c.in_ok-operand-in-Select.ensures.found in
+    let found = rw c.deref.ensures at c.in_ok-operand-in-Select.ensures.found in
     let is : IsTree c.args.depth (parts_view c.in-Select.operand.items) (tree_view boxed.value) =
     rw c.in_ok-operand-in-Select-2.ensures.ok found.0 in
     let sum : c.read_tree.new.left + node_count (tree_view boxed.value) ≡ c.args.left.now =
@@ -35,8 +35,8 @@ read_inside-returns-in_ok-operand-in-Select-2-clause-found t c =
 
 pub read_inside-returns-in_ok-args-in-Call-clause-found : goal.read_inside-returns-in_ok-args-in-Call-clause-found
 read_inside-returns-in_ok-args-in-Call-clause-found t c =
-    let on = rw c.deref-in-Call.ensures.value at c.in_ok-target-in-Call.ensures.found in
-    let args = rw c.deref-in-Call-2.ensures.value at c.in_ok-args-in-Call.ensures.found in
+    let on = rw c.deref-in-Call.ensures at c.in_ok-target-in-Call.ensures.found in
+    let args = rw c.deref-in-Call-2.ensures at c.in_ok-args-in-Call.ensures.found in
     rw c.in-Call.is (inside_call c.args.depth c.args.id c.ranges.id c.in-Call.function (parts_view c.in-Call.target.items)
     (parts_view c.in-Call.args.items) c.in_ok-target-in-Call.target c.in_ok-args-in-Call.args
     c.read_trees.new.left c.read_target.new.left c.args.left.now on.0 on.1 args.0 args.1)
@@ -114,7 +114,7 @@ read_entry_trees-returns-in_err-key-clause-fault t c =
     exit_memory_or (TreeFails c.args.depth c.loop-node.left key)
     (SomeFails c.args.depth c.args.left.now (entry_children (entry_nodes_view ns)))
     c.from_residual.result _ c.from_residual.ensures.1
-    (rw c.deref.ensures.value at c.in_err-key.ensures.fault)
+    (rw c.deref.ensures at c.in_err-key.ensures.fault)
     (λ e bad.
     let P : EntryNode → Type 0 = λ m. SomeFails c.args.depth c.loop-node.left (parts_view m.key.items ∷ parts_view m.value.items ∷ []) e in
     entries_fail c.args.depth ns i n (tree_entries_view c.loop-node.entries.items) c.loop-node.left c.args.left.now e
@@ -125,13 +125,13 @@ read_entry_trees-returns-in_err-value-clause-fault t c =
     let ns = c.args.nodes.now in
     let i = c.loop-node.node-index in
     let so_far = c.loop-node.invariant in
-    let key = rw c.deref.ensures.value at c.in_ok-key.ensures.found in
+    let key = rw c.deref.ensures at c.in_ok-key.ensures.found in
     let n : EntryNode = c.node-item.result in
     let value = parts_view n.value.items in
     exit_memory_or (TreeFails c.args.depth c.read_tree.new.left value)
     (SomeFails c.args.depth c.args.left.now (entry_children (entry_nodes_view ns)))
     c.from_residual-in_err-value.result _ c.from_residual-in_err-value.ensures.1
-    (rw c.deref-in-loop-node.ensures.value at c.in_err-value.ensures.fault)
+    (rw c.deref-in-loop-node.ensures at c.in_err-value.ensures.fault)
     (λ e bad.
     let P : EntryNode → Type 0 = λ m. SomeFails c.args.depth c.loop-node.left (parts_view m.key.items ∷ parts_view m.value.items ∷ []) e in
     entries_fail c.args.depth ns i n (tree_entries_view c.loop-node.entries.items) c.loop-node.left c.args.left.now e
@@ -143,8 +143,8 @@ read_entry_trees-loop-node-preserved t c =
     let ns = c.args.nodes.now in
     let i = c.loop-node.node-index in
     let so_far = c.loop-node.invariant in
-    let key = rw c.deref.ensures.value at c.in_ok-key.ensures.found in
-    let value = rw c.deref-in-loop-node.ensures.value at c.in_ok-value.ensures.found in
+    let key = rw c.deref.ensures at c.in_ok-key.ensures.found in
+    let value = rw c.deref-in-loop-node.ensures at c.in_ok-value.ensures.found in
     let entries = c.loop-node.entries.items in
     let n : EntryNode = c.node-item.result in
     let x : TreeEntry = record { id = to_z w64 (of_z w64 c.number_of.result); key = c.in_ok-key.key; value = c.in_ok-value.value } in
@@ -161,37 +161,37 @@ read_entry_trees-loop-node-preserved t c =
 pub read_loop_trees-returns-in_err-loop_condition-clause-fault : goal.read_loop_trees-returns-in_err-loop_condition-clause-fault
 read_loop_trees-returns-in_err-loop_condition-clause-fault t c =
     let node = c.args.node.now in
-    let range = rw c.deref.ensures.value at c.in_ok-iter_range.ensures.found in
-    let init = rw c.deref-2.ensures.value at c.in_ok-accu_init.ensures.found in
+    let range = rw c.deref.ensures at c.in_ok-iter_range.ensures.found in
+    let init = rw c.deref-2.ensures at c.in_ok-accu_init.ensures.found in
     exit_memory_or (TreeFails c.args.depth c.read_tree-2.new.left (parts_view node.loop_condition.items))
     (SomeFails c.args.depth c.args.left.now (loop_children (loop_node_view node)))
     c.from_residual-in_err-loop_condition.result _ c.from_residual-in_err-loop_condition.ensures.1
-    (rw c.deref-3.ensures.value at c.in_err-loop_condition.ensures.fault)
+    (rw c.deref-3.ensures at c.in_err-loop_condition.ensures.fault)
     (λ e bad. inr (_, _, range.0, range.1, inr (_, _, init.0, init.1, inl bad)))
 
 pub read_loop_trees-returns-in_err-loop_step-clause-fault : goal.read_loop_trees-returns-in_err-loop_step-clause-fault
 read_loop_trees-returns-in_err-loop_step-clause-fault t c =
     let node = c.args.node.now in
-    let range = rw c.deref.ensures.value at c.in_ok-iter_range.ensures.found in
-    let init = rw c.deref-2.ensures.value at c.in_ok-accu_init.ensures.found in
-    let condition = rw c.deref-3.ensures.value at c.in_ok-loop_condition.ensures.found in
+    let range = rw c.deref.ensures at c.in_ok-iter_range.ensures.found in
+    let init = rw c.deref-2.ensures at c.in_ok-accu_init.ensures.found in
+    let condition = rw c.deref-3.ensures at c.in_ok-loop_condition.ensures.found in
     exit_memory_or (TreeFails c.args.depth c.read_tree-3.new.left (parts_view node.loop_step.items))
     (SomeFails c.args.depth c.args.left.now (loop_children (loop_node_view node)))
     c.from_residual-in_err-loop_step.result _ c.from_residual-in_err-loop_step.ensures.1
-    (rw c.deref-4.ensures.value at c.in_err-loop_step.ensures.fault)
+    (rw c.deref-4.ensures at c.in_err-loop_step.ensures.fault)
     (λ e bad. inr (_, _, range.0, range.1, inr (_, _, init.0, init.1, inr (_, _, condition.0, condition.1, inl bad))))
 
 pub read_loop_trees-returns-in_err-result-clause-fault : goal.read_loop_trees-returns-in_err-result-clause-fault
 read_loop_trees-returns-in_err-result-clause-fault t c =
     let node = c.args.node.now in
-    let range = rw c.deref.ensures.value at c.in_ok-iter_range.ensures.found in
-    let init = rw c.deref-2.ensures.value at c.in_ok-accu_init.ensures.found in
-    let condition = rw c.deref-3.ensures.value at c.in_ok-loop_condition.ensures.found in
-    let step = rw c.deref-4.ensures.value at c.in_ok-loop_step.ensures.found in
+    let range = rw c.deref.ensures at c.in_ok-iter_range.ensures.found in
+    let init = rw c.deref-2.ensures at c.in_ok-accu_init.ensures.found in
+    let condition = rw c.deref-3.ensures at c.in_ok-loop_condition.ensures.found in
+    let step = rw c.deref-4.ensures at c.in_ok-loop_step.ensures.found in
     exit_memory_or (TreeFails c.args.depth c.read_tree-4.new.left (parts_view node.result.items))
     (SomeFails c.args.depth c.args.left.now (loop_children (loop_node_view node)))
     c.from_residual-in_err-result.result _ c.from_residual-in_err-result.ensures.1
-    (rw c.deref-5.ensures.value at c.in_err-result.ensures.fault)
+    (rw c.deref-5.ensures at c.in_err-result.ensures.fault)
     (λ e bad. inr (
       _,
       _,

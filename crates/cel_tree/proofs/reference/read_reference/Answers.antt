@@ -13,4 +13,4 @@ returns-clause-fault c =
     let fs : List Wire = map field_view c.in_ok-fields.fields.items in
     let message : IsMessage reference_keys parts fs = rw c.reference_keys.ensures at c.in_ok-fields.ensures.found in
     read_fault reference_keys LacksNothing ReferenceWrong parts fs message c.reference_of.result
-    (rw c.deref.ensures.value at c.reference_of.ensures.fault)
+    (rw c.deref.ensures at c.reference_of.ensures.fault)

@@ -13,4 +13,4 @@ returns-clause-fault c =
     let fs : List Wire = map field_view c.in_ok-fields.fields.items in
     let message : IsMessage map_type_keys parts fs = rw c.map_type_keys.ensures at c.in_ok-fields.ensures.found in
     read_fault map_type_keys LacksNothing MapTypeWrong parts fs message c.map_type_of.result
-    (rw c.deref.ensures.value at c.map_type_of.ensures.fault)
+    (rw c.deref.ensures at c.map_type_of.ensures.fault)

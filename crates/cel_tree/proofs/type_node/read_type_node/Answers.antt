@@ -13,4 +13,4 @@ returns-clause-fault c =
     let fs : List Wire = map field_view c.in_ok-fields.fields.items in
     let message : IsMessage type_keys parts fs = rw c.type_keys.ensures at c.in_ok-fields.ensures.found in
     read_fault type_keys LacksNothing (OneofFault type_kinds Never TypeFails) parts fs message c.type_of.result
-    (rw c.deref.ensures.value at c.type_of.ensures.fault)
+    (rw c.deref.ensures at c.type_of.ensures.fault)
