@@ -63,10 +63,10 @@ pub record IsOutcomeOfAsk (enforced : Filter Program) (found : Option Ask) (outc
   pub fault : IfFault found (λ fault. outcome ≡ outcomes.Fault fault)
   pub none : IfNone found (outcome ≡ outcomes.Fault Unfinished)
 
--- the explanation is that of the filter's answer to the request
+-- the explanation is that of the filter's answer to a request that is not outside the limits
 abbrev pub IsExplanationOf : Filter Program → RequestValue → Explanation → Type 0
 IsExplanationOf enforced request explanation = (filter : Filter CelChecked)
-    → IsAdmittedAs largest filter enforced → InLimits request largest
+    → IsAdmittedAs largest filter enforced → ¬ (¬ (InLimits request largest))
     → Explains request filter explanation
 
 -- with the name of the policy that matched, the outcome and the explanation are what each policy that is
