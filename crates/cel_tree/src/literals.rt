@@ -15,8 +15,8 @@ ghost use Rattle.cel_tree.specs.steps.EntryViews.{entry_node_view, entry_nodes_v
 use crate::fields::{last_number, require_part};
 use crate::node::Node;
 use proto_wire::{
-    Field, Key, Payloads, Refusal, bool_at, bytes_at, has_field, int64_at, keys, member_run, payloads_of,
-    read_message,
+    Field, Key, Payloads, Refusal, bool_at, bytes_at, has_field, int64_at, keys, member_run,
+    payloads_of, read_message,
 };
 use std::alloc::Global;
 

@@ -68,10 +68,7 @@ pub(crate) fn references_of(alloc: Global, fields: &[Field<'_>]) -> Result<Refer
 }
 
 /// Reads each reference of the map.
-fn read_references(
-    alloc: Global,
-    named: &[MapEntry<'_, i64>],
-) -> Result<ReferenceMap, Refusal>
+fn read_references(alloc: Global, named: &[MapEntry<'_, i64>]) -> Result<ReferenceMap, Refusal>
     requires { T (is_sorted int_cmp (ids_view named.now)) }
     ensures found { IfOk result (λ m. let es = ids_view named.now in
         SomeValues IsReference es es (references_view m)) }

@@ -237,10 +237,7 @@ fn text_maps(rt: HostRuntime) -> Result<(), Fail> {
     assert!(rt; map[0].0 == "" && map[0].1.len() == 1 && map[0].1[0].is_empty());
     assert!(rt; map[1].0 == "p" && map[1].1.len() == 2 && map[1].1[1] == b"c".as_slice());
     for (entry, want) in &BAD_ENTRIES {
-        let answer: Result<Vec<MapEntry<&str>>, Refusal> = read_entries(
-            alloc,
-            &[first, *entry],
-        );
+        let answer: Result<Vec<MapEntry<&str>>, Refusal> = read_entries(alloc, &[first, *entry]);
         assert!(rt;
             matches!(answer, Err(refusal) if refusal == *want),
             "at {entry:?}"
@@ -271,10 +268,7 @@ fn int64_maps(rt: HostRuntime) -> Result<(), Fail> {
     assert_eq!(rt; twice.len(), 1);
     assert!(rt; twice[0].0 == 5 && twice[0].1.is_empty());
     let text_key: &[u8] = b"\x0a\x01p";
-    let answer: Result<Vec<MapEntry<i64>>, Refusal> = read_entries(
-        alloc,
-        &[first, text_key],
-    );
+    let answer: Result<Vec<MapEntry<i64>>, Refusal> = read_entries(alloc, &[first, text_key]);
     assert!(rt; matches!(answer, Err(Refusal::UnknownField)));
     Ok(())
 }

@@ -11,11 +11,11 @@ returns-in_err-text_at-clause-fault c =
     let exit = c.from_residual-in_err-text_at in
     let fs : List Wire = map field_view c.in_ok-fields.fields.items in
     exit_field (StringFault 1 fs) ExtensionFieldsFault (c.args.bytes.now ∷ []) fs c.in_ok-fields.ensures.found
-    (λ d bad. bad_extension_name bad) exit.result _ exit.ensures.1 (inr (rw (← c.deref.ensures.value) c.in_err-text_at.ensures.fault))
+    (λ d bad. bad_extension_name bad) exit.result _ exit.ensures.1 (inr (rw (← c.deref.ensures) c.in_err-text_at.ensures.fault))
 
 pub returns-in_err-merged_any-clause-fault : goal.returns-in_err-merged_any-clause-fault
 returns-in_err-merged_any-clause-fault c =
     let exit = c.from_residual-in_err-merged_any in
     let fs : List Wire = map field_view c.in_ok-fields.fields.items in
     exit_field (MergedFault AnyFault 2 fs) ExtensionFieldsFault (c.args.bytes.now ∷ []) fs c.in_ok-fields.ensures.found
-    (λ d bad. bad_extension_config bad) exit.result _ exit.ensures.1 (rw (← c.deref-2.ensures.value) c.in_err-merged_any.ensures.fault)
+    (λ d bad. bad_extension_config bad) exit.result _ exit.ensures.1 (rw (← c.deref-2.ensures) c.in_err-merged_any.ensures.fault)

@@ -11,4 +11,4 @@ returns-in_err-read_node-clause-fault c =
     let fs : List Wire = map field_view c.args.fields.now in
     let some : c.in_ok-parts.parts.items ≢ [] = grind (arith, common_steps) in
     exit_merged NodeFault c.args.number fs c.in_ok-parts.parts.items c.in_ok-parts.ensures some
-    exit.result _ exit.ensures.1 (rw (← c.deref.ensures.value) c.in_err-read_node.ensures.fault)
+    exit.result _ exit.ensures.1 (rw (← c.deref.ensures) c.in_err-read_node.ensures.fault)

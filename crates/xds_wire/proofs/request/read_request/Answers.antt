@@ -11,39 +11,39 @@ returns-in_err-text_at-clause-fault c =
     let exit = c.from_residual-in_err-text_at in
     let fs : List Wire = map field_view c.in_ok-fields.fields.items in
     exit_field (StringFault 1 fs) RequestFieldsFault (c.args.bytes.now ∷ []) fs c.in_ok-fields.ensures.found
-    (λ d bad. bad_request_version bad) exit.result _ exit.ensures.1 (inr (rw (← c.deref.ensures.value) c.in_err-text_at.ensures.fault))
+    (λ d bad. bad_request_version bad) exit.result _ exit.ensures.1 (inr (rw (← c.deref.ensures) c.in_err-text_at.ensures.fault))
 
 pub returns-in_err-merged_node-clause-fault : goal.returns-in_err-merged_node-clause-fault
 returns-in_err-merged_node-clause-fault c =
     let exit = c.from_residual-in_err-merged_node in
     let fs : List Wire = map field_view c.in_ok-fields.fields.items in
     exit_field (MergedFault NodeFault 2 fs) RequestFieldsFault (c.args.bytes.now ∷ []) fs c.in_ok-fields.ensures.found
-    (λ d bad. bad_request_node bad) exit.result _ exit.ensures.1 (rw (← c.deref-2.ensures.value) c.in_err-merged_node.ensures.fault)
+    (λ d bad. bad_request_node bad) exit.result _ exit.ensures.1 (rw (← c.deref-2.ensures) c.in_err-merged_node.ensures.fault)
 
 pub returns-in_err-repeated_text-clause-fault : goal.returns-in_err-repeated_text-clause-fault
 returns-in_err-repeated_text-clause-fault c =
     let exit = c.from_residual-in_err-repeated_text in
     let fs : List Wire = map field_view c.in_ok-fields.fields.items in
     exit_field (StringsFault 3 fs) RequestFieldsFault (c.args.bytes.now ∷ []) fs c.in_ok-fields.ensures.found
-    (λ d bad. bad_request_names bad) exit.result _ exit.ensures.1 (rw (← c.deref-3.ensures.value) c.in_err-repeated_text.ensures.fault)
+    (λ d bad. bad_request_names bad) exit.result _ exit.ensures.1 (rw (← c.deref-3.ensures) c.in_err-repeated_text.ensures.fault)
 
 pub returns-in_err-text_at-2-clause-fault : goal.returns-in_err-text_at-2-clause-fault
 returns-in_err-text_at-2-clause-fault c =
     let exit = c.from_residual-in_err-text_at-2 in
     let fs : List Wire = map field_view c.in_ok-fields.fields.items in
     exit_field (StringFault 4 fs) RequestFieldsFault (c.args.bytes.now ∷ []) fs c.in_ok-fields.ensures.found
-    (λ d bad. bad_request_type bad) exit.result _ exit.ensures.1 (inr (rw (← c.deref-4.ensures.value) c.in_err-text_at-2.ensures.fault))
+    (λ d bad. bad_request_type bad) exit.result _ exit.ensures.1 (inr (rw (← c.deref-4.ensures) c.in_err-text_at-2.ensures.fault))
 
 pub returns-in_err-text_at-3-clause-fault : goal.returns-in_err-text_at-3-clause-fault
 returns-in_err-text_at-3-clause-fault c =
     let exit = c.from_residual-in_err-text_at-3 in
     let fs : List Wire = map field_view c.in_ok-fields.fields.items in
     exit_field (StringFault 5 fs) RequestFieldsFault (c.args.bytes.now ∷ []) fs c.in_ok-fields.ensures.found
-    (λ d bad. bad_request_nonce bad) exit.result _ exit.ensures.1 (inr (rw (← c.deref-5.ensures.value) c.in_err-text_at-3.ensures.fault))
+    (λ d bad. bad_request_nonce bad) exit.result _ exit.ensures.1 (inr (rw (← c.deref-5.ensures) c.in_err-text_at-3.ensures.fault))
 
 pub returns-in_err-merged_status-clause-fault : goal.returns-in_err-merged_status-clause-fault
 returns-in_err-merged_status-clause-fault c =
     let exit = c.from_residual-in_err-merged_status in
     let fs : List Wire = map field_view c.in_ok-fields.fields.items in
     exit_field (MergedFault StatusFault 6 fs) RequestFieldsFault (c.args.bytes.now ∷ []) fs c.in_ok-fields.ensures.found
-    (λ d bad. bad_request_error bad) exit.result _ exit.ensures.1 (rw (← c.deref-6.ensures.value) c.in_err-merged_status.ensures.fault)
+    (λ d bad. bad_request_error bad) exit.result _ exit.ensures.1 (rw (← c.deref-6.ensures) c.in_err-merged_status.ensures.fault)

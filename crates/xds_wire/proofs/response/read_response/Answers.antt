@@ -11,25 +11,25 @@ returns-in_err-text_at-clause-fault c =
     let exit = c.from_residual-in_err-text_at in
     let fs : List Wire = map field_view c.in_ok-fields.fields.items in
     exit_field (StringFault 1 fs) ResponseFieldsFault (c.args.bytes.now ∷ []) fs c.in_ok-fields.ensures.found
-    (λ d bad. bad_response_version bad) exit.result _ exit.ensures.1 (inr (rw (← c.deref.ensures.value) c.in_err-text_at.ensures.fault))
+    (λ d bad. bad_response_version bad) exit.result _ exit.ensures.1 (inr (rw (← c.deref.ensures) c.in_err-text_at.ensures.fault))
 
 pub returns-in_err-repeated_any-clause-fault : goal.returns-in_err-repeated_any-clause-fault
 returns-in_err-repeated_any-clause-fault c =
     let exit = c.from_residual-in_err-repeated_any in
     let fs : List Wire = map field_view c.in_ok-fields.fields.items in
     exit_field (RepeatedFault AnyFault 2 fs) ResponseFieldsFault (c.args.bytes.now ∷ []) fs c.in_ok-fields.ensures.found
-    (λ d bad. bad_response_resource bad) exit.result _ exit.ensures.1 (rw (← c.deref-2.ensures.value) c.in_err-repeated_any.ensures.fault)
+    (λ d bad. bad_response_resource bad) exit.result _ exit.ensures.1 (rw (← c.deref-2.ensures) c.in_err-repeated_any.ensures.fault)
 
 pub returns-in_err-text_at-2-clause-fault : goal.returns-in_err-text_at-2-clause-fault
 returns-in_err-text_at-2-clause-fault c =
     let exit = c.from_residual-in_err-text_at-2 in
     let fs : List Wire = map field_view c.in_ok-fields.fields.items in
     exit_field (StringFault 4 fs) ResponseFieldsFault (c.args.bytes.now ∷ []) fs c.in_ok-fields.ensures.found
-    (λ d bad. bad_response_type bad) exit.result _ exit.ensures.1 (inr (rw (← c.deref-3.ensures.value) c.in_err-text_at-2.ensures.fault))
+    (λ d bad. bad_response_type bad) exit.result _ exit.ensures.1 (inr (rw (← c.deref-3.ensures) c.in_err-text_at-2.ensures.fault))
 
 pub returns-in_err-text_at-3-clause-fault : goal.returns-in_err-text_at-3-clause-fault
 returns-in_err-text_at-3-clause-fault c =
     let exit = c.from_residual-in_err-text_at-3 in
     let fs : List Wire = map field_view c.in_ok-fields.fields.items in
     exit_field (StringFault 5 fs) ResponseFieldsFault (c.args.bytes.now ∷ []) fs c.in_ok-fields.ensures.found
-    (λ d bad. bad_response_nonce bad) exit.result _ exit.ensures.1 (inr (rw (← c.deref-4.ensures.value) c.in_err-text_at-3.ensures.fault))
+    (λ d bad. bad_response_nonce bad) exit.result _ exit.ensures.1 (inr (rw (← c.deref-4.ensures) c.in_err-text_at-3.ensures.fault))

@@ -11,11 +11,11 @@ returns-clause-found c =
     let parts = parts_view c.args.parts.now in
     let fs : List Wire = map field_view c.in_ok-fields.fields.items in
     last_found AreStatusFields status_view parts fs c.status_of.result c.in_ok-fields.ensures.found
-    (rw (← c.deref.ensures.value) c.status_of.ensures.found)
+    (rw (← c.deref.ensures) c.status_of.ensures.found)
 
 pub returns-clause-fault : goal.returns-clause-fault
 returns-clause-fault c =
     let parts = parts_view c.args.parts.now in
     let fs : List Wire = map field_view c.in_ok-fields.fields.items in
     last_fault StatusFieldsFault parts fs c.status_of.result c.in_ok-fields.ensures.found
-    (rw (← c.deref.ensures.value) c.status_of.ensures.fault)
+    (rw (← c.deref.ensures) c.status_of.ensures.fault)
