@@ -11,4 +11,5 @@ pub mod Trying
 pub mod Uniqueness
 pub mod OneVerdict
 pub mod StandardFacts
+pub mod StandardConditionFacts
 mod PolicyNames

@@ -9,31 +9,30 @@ use Rattle.std.specs.Cmp.Lexicographic.{nat_list_cmp_total}
 use Rattle.std.specs.FinMap.{FinMap, entries, from_entries, get, get-from_entries, keys, len, len-entries}
 use Rattle.proto_wire.specs.Fields.{varint, len as len_of, Wire, StartsField, Fields}
 use Rattle.proto_wire.specs.Maps.{Entry, text, IsEntry, map_of}
-use Rattle.proto_wire.specs.declared.refusal.Refusal.TheVariants.{TooCostly}
 use Rattle.proto_wire.proofs.MapOrder.{entries_from_entries}
 use Rattle.proto_wire.proofs.MapValues.{held_are_values}
 use Rattle.attributes.specs.Headers.{name_cmp}
 use Rattle.attributes.specs.Limits.{LimitsValue}
 use Rattle.attributes.specs.Request.{RequestValue}
 use Rattle.cel_value.specs.Texts.{points_of}
-use Rattle.cel_value.specs.Types.{bool_type}
+use Rattle.cel_value.specs.Types.{ValueType, bool_type}
 use Rattle.cel_value.specs.Values.{bool, value}
 use Rattle.cel_tree.specs.Checked.{CelChecked, CelReference, CelTypeEntry}
 use Rattle.cel_tree.specs.Constants.{IsConstant}
 use Rattle.cel_tree.specs.Message.{CheckedSays, IsChecked}
 use Rattle.cel_tree.specs.Nodes.{IsNode, call_node, constant_node}
 use Rattle.cel_tree.specs.Tree.{CelTree, CelTrees, call, constant, no_target, no_trees, tree}
-use Rattle.cel_tree.specs.Trees.{IsTree}
+use Rattle.cel_tree.specs.Trees.{IsTree, node_count}
 use Rattle.cel_overload.specs.declared.function.Function.TheVariants as functions
 use Rattle.cel_overload.specs.declared.overload.Overload.TheVariants as overloads
 use Rattle.cel_types.specs.Elaborated.{IsElaborated, TypedTree, no_typed, typed, typed_call, typed_constant}
 use Rattle.cel_types.specs.Meaning.{eval}
-use Rattle.cel_types.specs.Typing.{Types, maps_of}
+use Rattle.cel_types.specs.Typing.{TypeAgrees, Types, locals_in, maps_of}
 use Rattle.rbac_match.specs.Formula.{any, end, formula}
 use Rattle.rbac_match.specs.declared.rule.Side.TheVariants.{Permission, Principal}
-use Rattle.rbac_policy.specs.Admission.{Fault, IsAdmissibleAs, too_costly}
+use Rattle.rbac_policy.specs.Admission.{IsAdmissibleAs}
 use Rattle.rbac_policy.specs.Condition.{is_met}
-use Rattle.rbac_policy.specs.Costs.{Costs, FilterCosts}
+use Rattle.rbac_policy.specs.Costs.{Costs, FilterCosts, PoliciesCost}
 use Rattle.rbac_policy.specs.Filter.{Filter, Policy}
 use Rattle.rbac_policy.specs.Message.{AreFilterRules, IsFilter, IsPolicy}
 use Rattle.rbac_policy.specs.Verdict.{IsVerdict, Matches, policy_matches}
@@ -211,9 +210,16 @@ is_tree = record {
   makes = refl;
 }
 
--- nothing stands at an id
-nothing_at : {V : Type 0} (id : ℤ) → get (from_entries {R = int_cmp} []) id ≡ (the (Option V) None)
-nothing_at id = get-from_entries int_cmp_total [] id
+-- nothing is said of any id
+abbrev nothing : (V : Type 0) → FinMap int_cmp V
+nothing V = from_entries []
+
+nothing_at : (V : Type 0) (id : ℤ) → get (nothing V) id ≡ None
+nothing_at V id = get-from_entries int_cmp_total [] id
+
+both_none : {A B : Type 0} (o : Option A) (x : Option B) (P : A → Type 0) → o ≡ None → x ≡ None
+    → MatchOption o (x ≡ None) P
+both_none o x P none also = rw (none, also) refl
 
 is_checked : IsChecked (checked_bytes ∷ []) condition
 is_checked = (
@@ -222,9 +228,9 @@ is_checked = (
   record {
     there = λ e. cc;
     tree = is_tree;
-    few = omega arith;
-    types = ([], tt, λ id. rw (nothing_at id, nothing_at id) refl);
-    refs = ([], tt, λ id. rw (nothing_at id, nothing_at id) refl);
+    few = (let three : node_count condition.tree ≡ 3 = refl in omega (arith, three));
+    types = ([], tt, λ id. both_none _ _ _ (nothing_at (List (List ℕ)) id) (nothing_at CelTypeEntry id));
+    refs = ([], tt, λ id. both_none _ _ _ (nothing_at (List (List ℕ)) id) (nothing_at CelReference id));
   },
 )
 
@@ -323,17 +329,25 @@ has_type = (
   (functions.And, refl, record { function = refl; shape = refl; operands = (refl, refl) }),
 )
 
+agrees : (id : ℤ) (t : ValueType) → TypeAgrees (get condition.types id) t
+agrees id t = subst (λ o. TypeAgrees o t) (sym (nothing_at CelTypeEntry id)) tt
+
 is_elaborated : IsElaborated condition elaborated
 is_elaborated = record {
   typed = record {
-    few = omega arith;
+    few = (let none : locals_in condition.tree ≡ 0 = refl in omega (arith, none));
     types = has_type;
     entries = (
-      λ t has. rw (nothing_at (pos 2)) tt,
-      (tt, (λ t has. rw (nothing_at (pos 1)) tt, (λ t has. rw (nothing_at (pos 3)) tt, tt))),
+      λ t has. agrees (pos 2) t,
+      tt,
+      (λ t has. agrees (pos 1) t, (λ t has. agrees (pos 3) t, tt)),
     );
   };
-  elaborates = (has_type, (functions.And, refl, record { function = refl; shape = refl; operands = (refl, refl) }), ((refl, refl), ((refl, refl), tt)));
+  elaborates = (
+    has_type,
+    (functions.And, refl, record { function = refl; shape = refl; operands = (refl, refl) }),
+    ((refl, refl), ((refl, refl), tt)),
+  );
 }
 
 -- 4 steps, whatever the limits
@@ -341,7 +355,9 @@ pub condition_costs : (limits : LimitsValue) → Costs limits condition 4
 condition_costs limits = record { e = elaborated; elaborated = is_elaborated; has_type = refl; is = refl }
 
 pub filter_costs : (limits : LimitsValue) → FilterCosts limits filter 4
-filter_costs limits = rw (entries_from_entries name_cmp nat_list_cmp_total policies tt) (4, 0, condition_costs limits, refl, refl)
+filter_costs limits =
+    subst (λ ps. PoliciesCost limits ps 4) (sym (entries_from_entries name_cmp nat_list_cmp_total policies tt))
+    (4, 0, condition_costs limits, refl, refl)
 
 -- it is admissible with a budget of 4
 pub is_admissible : (limits : LimitsValue) → IsAdmissibleAs filter_bytes limits 4 filter
