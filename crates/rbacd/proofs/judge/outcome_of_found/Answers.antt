@@ -6,12 +6,12 @@ pub returns-in-Some-Fault : goal.returns-in-Some-Fault
 returns-in-Some-Fault c facts bytes is policy budget filter name admits named =
     let found = rw c.in-Some-Fault.is at is.fault in
     let fault = rw c.in-Some-Fault.field-0-is at found in
-    ((_, _, admits), InputFault.present fault)
+    ((_, admits.admissible), InputFault.present fault)
 
 pub returns-in-None : goal.returns-in-None
 returns-in-None c facts bytes is policy budget filter name admits named =
     let half = rw c.in-None.is at is.none in
-    ((_, _, admits), InputFault.unfinished half refl)
+    ((_, admits.admissible), InputFault.unfinished half refl)
 
 pub returns-in-Some-Judge : goal.returns-in-Some-Judge
 returns-in-Some-Judge c facts bytes is =
