@@ -105,7 +105,7 @@ gives_apart limits f e (x ∷ []) given (bytes, policies, enforced, holds, admit
 gives_apart limits f e (x ∷ []) given (bytes, policies, enforced, holds, admits, told)
     (inl (not_admitted other also bad)) =
     let one : other ≡ bytes = holds_one x.typed_config _ _ other bytes also holds in
-    bytes_disjoint limits e bytes f.budget (policies, enforced, admits) (rw one at bad)
+    bytes_disjoint limits e bytes f.budget (policies, admits.admissible) (rw one at bad)
 gives_apart limits f e (x ∷ []) given gives (inr some) = some
 gives_apart limits f e (x ∷ y ∷ xs) given gives some = gives
 

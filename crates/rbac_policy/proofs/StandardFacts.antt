@@ -85,15 +85,15 @@ len_starts k bytes rest some small short = record {
 }
 
 -- a VARINT field whose tag and number are one byte each, and a rest
-pub varint_starts : (k n : ℕ) (rest : List ℕ) → 1 ≤ k → 8 * k < 128 → n < 128
-    → StartsField ((8 * k) ∷ n ∷ rest) (field k (varint n)) rest
+pub varint_starts : (k n : ℕ) (rest : List ℕ) → 1 ≤ k → 8 * k + 0 < 128 → n < 128
+    → StartsField ((8 * k + 0) ∷ n ∷ rest) (field k (varint n)) rest
 varint_starts k n rest some small short = record {
-  spelling = (8 * k) ∷ n ∷ [];
+  spelling = (8 * k + 0) ∷ n ∷ [];
   spells = record {
-    tag = (8 * k) ∷ [];
+    tag = (8 * k + 0) ∷ [];
     behind = n ∷ [];
     numbered = (some, omega arith);
-    spells_tag = one_byte (8 * k) small;
+    spells_tag = one_byte (8 * k + 0) small;
     spells_payload = one_byte n short;
     whole = refl;
   };

@@ -124,9 +124,9 @@ pub under_found : (enforced : Filter Program) (facts : Facts) (bytes : List ℕ)
 under_found enforced facts bytes (Some (Judge r)) outcome explanation is answers explains policy budget filter name admits named =
     answer_found policy budget facts bytes enforced filter name admits r outcome explanation is.judged answers.judged explains named
 under_found enforced facts bytes (Some (Fault fault)) outcome explanation is answers explains policy budget filter name admits named =
-    rw answers.fault ((_, _, admits), InputFault.present is.fault)
+    rw answers.fault ((_, admits.admissible), InputFault.present is.fault)
 under_found enforced facts bytes None outcome explanation is answers explains policy budget filter name admits named =
-    rw answers.none ((_, _, admits), InputFault.unfinished is.none refl)
+    rw answers.none ((_, admits.admissible), InputFault.unfinished is.none refl)
 
 -- what is printed of an outcome alone is its line
 pub printed_plain : (outcome : Outcome) (printed : Report) → IsPrintedFor (plain outcome) printed

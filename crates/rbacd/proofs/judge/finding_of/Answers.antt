@@ -16,7 +16,7 @@ returns-in-Ok-clause-given g c =
 pub returns-in-Ok-clause-fault : goal.returns-in-Ok-clause-fault
 returns-in-Ok-clause-fault g c =
     let admits = rw c.largest.ensures at c.in-Ok.ensures.found.1 in
-    IfErr-weaker c.memory_as_finding.result _ _ (λ e others. (others.1, (c.in-Ok.ensures.found.0, _, admits)))
+    IfErr-weaker c.memory_as_finding.result _ _ (λ e others. (others.1, (c.in-Ok.ensures.found.0, admits.admissible)))
     c.memory_as_finding.ensures.others
 
 pub returns-in-Err-clause-found : goal.returns-in-Err-clause-found
