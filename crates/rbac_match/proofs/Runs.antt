@@ -1,6 +1,6 @@
 -- The longest end of some fields that all have one number, one field after the other, and that it is the
 -- run of the last member where all fields are members of one oneof.
-use Rattle.std.proofs.Common.{arith, ◌≡◌, ◌==◌, ◌≤◌, ◌<◌, ◌+◌, ◌-◌, ◌⊎◌, inl, inr, ℕ, zero, suc, Bool, true, false, List, [], ◌∷◌, ◌++◌, Option, Some, None, map, take, drop, get_or, length, length-append, option_map, slice_get, refl, sym, ap, subst, ◌∙◌}
+use Rattle.std.proofs.Common.{arith, ◌≡◌, ◌==◌, ◌≤◌, ◌<◌, ◌+◌, ◌-◌, ◌⊎◌, inl, inr, ℕ, Bool, true, false, List, [], ◌∷◌, ◌++◌, Option, Some, None, map, take, drop, get_or, length, length-append, option_map, slice_get, refl, sym, ap, subst, ◌∙◌}
 use Rattle.std.specs.List.{filter, list_all}
 use Rattle.std.proofs.lemmas.Bool.{and_parts}
 use Rattle.std.proofs.lemmas.List.{drop_more, drop-append-le, drop-map, get_or-take, length-map, length-drop, length-take, map_more, take_all}
@@ -130,4 +130,4 @@ pub from_place : (fields : List Field) (start : ℕ) → BeginsAt start (map fie
 from_place fields start begins =
     let all : take (length fields - start) (drop start fields) ≡ drop start fields =
     take_all (length fields - start) (drop start fields) (omega (arith, length-drop start fields)) in
-    ap (map field_view) all ∙ drop-map field_view start fields ∙ sym begins.is
+    ap (map field_view) all ∙ sym (drop-map field_view start fields) ∙ sym begins.is

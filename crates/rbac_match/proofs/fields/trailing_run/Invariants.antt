@@ -1,4 +1,4 @@
-use Rattle.std.proofs.Common.{◌≤◌, map, take, length}
+use Rattle.std.proofs.Common.{map, take}
 use Rattle.proto_wire.specs.Fields.{field_view}
 use Rattle.rbac_match.proofs.Runs.{BeginsAt}
 use Rattle.rbac_match.proofs.fields.trailing_run.Given as goal

@@ -1,4 +1,4 @@
-use Rattle.std.proofs.Common.{Some, None, refl, sym}
+use Rattle.std.proofs.Common.{Some, refl, sym}
 use Rattle.rbac_match.specs.Message.{rule_keys}
 use Rattle.rbac_match.proofs.Runs.{number_of_last}
 use Rattle.rbac_match.proofs.member.last_member.Goals as goal
