@@ -3,3 +3,4 @@ pub mod WordLemmas
 mod Writing
 mod Ends
 mod JudgeLemmas
+mod JsonLemmas
