@@ -93,8 +93,12 @@ fn line_with(alloc: Global, number: usize, name: &str, reason: Reason) -> Result
     ensures { IfOk result (λ line. string_bytes line
         ≡ decimal number ++ 32 ∷ (name.now ++ codes ": " ++ reason_text reason ++ 10 ∷ [])) }
 {
+    let mut line = format!(in alloc; "{number} ")?;
+    line.push_str(name)?;
     let reason = ReasonText { reason };
-    format!(in alloc; "{number} {name}: {reason}\n")
+    let rest = format!(in alloc; ": {reason}\n")?;
+    line.push_str(rest.as_str())?;
+    Ok(line)
 }
 
 /// A reason, to be written in words.
