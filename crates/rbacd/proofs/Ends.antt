@@ -21,7 +21,7 @@ use Rattle.rbacd.specs.declared.words.Job.TheVariants.{Check, Judge}
 
 -- nothing is given of what is no verdict
 nothing_given : {A : Type 0} → ⊥ ↔ (A × ⊥)
-nothing_given = (λ g. g, λ p. p.1)
+nothing_given = (λ g. absurd g, λ p. p.1)
 
 -- where less is told, as much is given
 less_given : (explanation : Explanation) → IsGiven (less_told explanation) ↔ IsGiven explanation
@@ -30,10 +30,12 @@ less_given (explanations.Trials trials) = (λ g. g, λ g. g)
 less_given (explanations.Untold cause) = (λ g. g, λ g. g)
 
 -- a check gives no explanation
-pub none_given : (found : Result Finding JobFault) → IfOk found (λ f. ¬ (IsGiven f.explanation))
+pub none_given : (found : Result Finding JobFault) → IfOk found (λ f. f ≡ bare f.outcome)
     → IfOk found (λ f. IsGiven f.explanation ↔ (IsTrue false × IsDecision f.outcome))
-none_given (Ok f) none = (λ g. absurd (none g), λ p. absurd (false≢true p.0))
-none_given (Err e) none = tt
+none_given (Ok f) is =
+    let absent : f.explanation ≡ explanations.Absent = ap (λ (x : Finding). x.explanation) is in
+    rw absent (λ g. absurd g, λ p. absurd (false≢true p.0))
+none_given (Err e) is = tt
 
 module _ (holds : List ℕ → List ℕ → Type 0) (lacks : List ℕ → Type 0) (input : Option (List ℕ)) where
   -- want of memory stops no job: it is an outcome
@@ -66,8 +68,15 @@ module _ (holds : List ℕ → List ℕ → Type 0) (lacks : List ℕ → Type 0
       → Finds holds lacks input job name explanation outcome
       → Finds holds lacks input job name (less_told explanation) outcome
   finds_less (Check policy budget json) name explanation outcome finds = finds
-  finds_less (Judge policy facts budget json explain) name explanation outcome finds =
-      record finds { found = less_found finds.policy budget finds.facts finds.bytes name explanation outcome finds.found }
+  finds_less (Judge policy facts budget json explain) name explanation outcome finds = record {
+    policy = finds.policy;
+    facts = finds.facts;
+    bytes = finds.bytes;
+    read = finds.read;
+    conn = finds.conn;
+    all = finds.all;
+    found = less_found finds.policy budget finds.facts finds.bytes name explanation outcome finds.found;
+  }
 
   -- the job comes to what is printed of its report
   comes_as : (job : Job) (report printed : Report) → ComesTo holds lacks input job (Ok report)

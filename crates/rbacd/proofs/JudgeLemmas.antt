@@ -1,5 +1,5 @@
 -- From what is found under an admitted filter to what is found under its policy.
-use Rattle.std.proofs.Common.{◌≡◌, ◌↔◌, ℕ, List, [], Option, Some, None, Result, Ok, Err, OnErr, ap, inl, inr, refl, option_map, string_bytes}
+use Rattle.std.proofs.Common.{◌≡◌, ◌↔◌, ℕ, Bool, true, false, List, [], Option, Some, None, Result, Ok, Err, OnErr, ap, inl, inr, refl, option_map, string_bytes}
 use Rattle.std.specs.Prelude.{IfOk}
 use Rattle.std.proofs.lemmas.Result.{IfOk-weaker}
 use Rattle.attributes.specs.Conn.{Facts}
@@ -14,7 +14,7 @@ use Rattle.rbac_policy.specs.Admission.{Admits}
 use Rattle.rbac_policy.specs.Condition.{Program}
 use Rattle.rbac_policy.specs.Filter.{Filter}
 use Rattle.rbacd.specs.Explain.{Explains, IsGiven}
-use Rattle.rbacd.specs.Judging.{InputFault, IsAllOf, IsCheckOf, IsDecision, IsOutcomeOf}
+use Rattle.rbacd.specs.Judging.{InputFault, IsAllOf, IsCheckOf, IsDecided, IsDecision, IsOutcomeOf}
 use Rattle.rbacd.specs.Outcome.{IsPrintedFor, less_told, line_of, plain, printed_of}
 use Rattle.rbacd.specs.steps.Judged.{IsAnswerTo, IsExplanationOf, IsNameOf, IsOutcomeOfAsk, IsOutcomeUnder, bare}
 use Rattle.rbacd.specs.steps.Reading.{IsFound}
@@ -38,31 +38,52 @@ less_explains r filter (explanations.Trials trials) explains = refl
 less_explains r filter (explanations.Untold cause) explains = explains
 
 module _ (policy : List ℕ) (budget : ℕ) (facts : Facts) (bytes : List ℕ) where
+  -- a verdict with another explanation that its request has
+  explained_as : (name : Option (List ℕ)) (explanation other : Explanation) (allowed : Bool)
+      (matched : Option ℕ)
+      → ((r : RequestValue) (filter : Filter CelChecked) → Explains r filter explanation → Explains r filter other)
+      → IsDecided policy budget facts bytes name explanation allowed matched
+      → IsDecided policy budget facts bytes name other allowed matched
+  explained_as name explanation other allowed matched explains decided = record {
+    filter = decided.filter;
+    enforced = decided.enforced;
+    admitted = decided.admitted;
+    request = decided.request;
+    asks = decided.asks;
+    verdict = decided.verdict;
+    named = decided.named;
+    explained = explains decided.request decided.filter decided.explained;
+  }
+
+  -- so with an outcome
+  found_as : (name : Option (List ℕ)) (explanation other : Explanation) (outcome : Outcome)
+      → ((r : RequestValue) (filter : Filter CelChecked) → Explains r filter explanation → Explains r filter other)
+      → IsOutcomeOf policy budget facts bytes name explanation outcome
+      → IsOutcomeOf policy budget facts bytes name other outcome
+  found_as name explanation other (outcomes.Allowed matched) explains found =
+      explained_as name explanation other true matched explains found
+  found_as name explanation other (outcomes.Denied matched) explains found =
+      explained_as name explanation other false matched explains found
+  found_as name explanation other (outcomes.Refused reason) explains found = found
+  found_as name explanation other (outcomes.Fault fault) explains found = found
+  found_as name explanation other outcomes.Memory explains found = tt
+  found_as name explanation other outcomes.OutOfSteps explains found = found
+  found_as name explanation other (outcomes.Admitted policies bound) explains found = found
+
   -- an outcome is one where less is told
   pub less_found : (name : Option (List ℕ)) (explanation : Explanation) (outcome : Outcome)
       → IsOutcomeOf policy budget facts bytes name explanation outcome
       → IsOutcomeOf policy budget facts bytes name (less_told explanation) outcome
-  less_found name explanation (outcomes.Allowed matched) found =
-      record found { explained = less_explains found.request found.filter explanation found.explained }
-  less_found name explanation (outcomes.Denied matched) found =
-      record found { explained = less_explains found.request found.filter explanation found.explained }
-  less_found name explanation (outcomes.Refused reason) found = found
-  less_found name explanation (outcomes.Fault fault) found = found
-  less_found name explanation outcomes.Memory found = tt
-  less_found name explanation outcomes.OutOfSteps found = found
-  less_found name explanation (outcomes.Admitted policies bound) found = found
+  less_found name explanation outcome found =
+      found_as name explanation (less_told explanation) outcome
+      (λ r filter explains. less_explains r filter explanation explains) found
 
   -- and where nothing is
   none_found : (name : Option (List ℕ)) (explanation : Explanation) (outcome : Outcome)
       → IsOutcomeOf policy budget facts bytes name explanation outcome
       → IsOutcomeOf policy budget facts bytes name explanations.Absent outcome
-  none_found name explanation (outcomes.Allowed matched) found = record found { explained = tt }
-  none_found name explanation (outcomes.Denied matched) found = record found { explained = tt }
-  none_found name explanation (outcomes.Refused reason) found = found
-  none_found name explanation (outcomes.Fault fault) found = found
-  none_found name explanation outcomes.Memory found = tt
-  none_found name explanation outcomes.OutOfSteps found = found
-  none_found name explanation (outcomes.Admitted policies bound) found = found
+  none_found name explanation outcome found =
+      found_as name explanation explanations.Absent outcome (λ r filter explains. tt) found
 
   -- what is printed of an outcome is one too
   pub of_printed : (name : Option (List ℕ)) (explanation : Explanation) (outcome : Outcome)
@@ -167,4 +188,4 @@ module _ {E : Type 0} where
       → IfOk ended (λ f. IsGiven f.explanation ↔ (A × IsDecision f.outcome))
   given_under A (Ok f) ended given kept memory = rw kept given
   given_under A (Err e) ended given kept memory =
-      IfOk-weaker ended _ _ (λ f none. rw none (λ g. g, λ p. p.1)) memory
+      IfOk-weaker ended _ _ (λ f none. rw none (λ g. absurd g, λ p. p.1)) memory

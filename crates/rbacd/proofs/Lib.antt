@@ -5,3 +5,4 @@ mod Ends
 mod JudgeLemmas
 mod FactLemmas
 mod StandardFacts
+mod JsonLemmas

@@ -1,8 +1,9 @@
 //! Why a request is answered as it is: the policies that were tried, and their lines.
-ghost use Rattle.std.specs.Prelude.{◌≡◌, ◌++◌, IfOk, OnOk, map, string_bytes};
+ghost use Rattle.std.specs.Prelude.{◌≡◌, ◌∷◌, ◌++◌, [], codes, IfOk, OnOk, map, string_bytes};
+ghost use Rattle.std.specs.Fmt.{decimal};
 ghost use Rattle.std.specs.List.{flat_map};
 ghost use Rattle.rbacd.specs.Outcome.{less_told};
-ghost use Rattle.rbacd.specs.Explain.{escaped, is_hidden, own_trial_view, quoted, trial_line, trial_view, untold_text};
+ghost use Rattle.rbacd.specs.Explain.{escaped, is_hidden, own_trial_view, quoted, reason_text, trial_line, trial_view, untold_text};
 
 use rbac_policy::{Reason, Trial};
 use stack_machine::RunError;
@@ -84,10 +85,20 @@ fn line_of_trial(alloc: Global, trial: &OwnTrial) -> Result<String, AllocError>
     ensures { IfOk result (λ line. string_bytes line ≡ trial_line (own_trial_view trial.now)) }
 {
     let name = quoted(alloc, trial.name.as_str())?;
-    let reason = ReasonText {
-        reason: trial.reason,
-    };
-    format!(in alloc; "{} {}: {}\n", trial.number, name, reason)
+    line_with(alloc, trial.number, name.as_str(), trial.reason)
+}
+
+/// The line of a trial whose name stands in quotes already.
+fn line_with(alloc: Global, number: usize, name: &str, reason: Reason) -> Result<String, AllocError>
+    ensures { IfOk result (λ line. string_bytes line
+        ≡ decimal number ++ 32 ∷ (name.now ++ codes ": " ++ reason_text reason ++ 10 ∷ [])) }
+{
+    let mut line = format!(in alloc; "{number} ")?;
+    line.push_str(name)?;
+    let reason = ReasonText { reason };
+    let rest = format!(in alloc; ": {reason}\n")?;
+    line.push_str(rest.as_str())?;
+    Ok(line)
 }
 
 /// A reason, to be written in words.

@@ -26,4 +26,4 @@ returns-in-Err-clause-found g c =
     rw c.bare.ensures (bytes, all, fault)
 
 pub returns-in-Err-clause-given : goal.returns-in-Err-clause-given
-returns-in-Err-clause-given g c = rw c.bare.ensures (λ given. given, λ p. p.1)
+returns-in-Err-clause-given g c = rw c.bare.ensures (λ given. absurd given, λ p. p.1)

@@ -20,9 +20,9 @@ pub returns-in_default-clause-none : goal.returns-in_default-clause-none
 returns-in_default-clause-none c (Check policy budget json) named held =
     let first = first_value-rows (found_of c.args.matches.now) (codes "policy") ∙ held.0 in
     let none = c.in_default.ensures in cc
-returns-in_default-clause-none c (Judge policy facts budget json) named held = names_differ (sym named)
+returns-in_default-clause-none c (Judge policy facts budget json explain) named held = names_differ (sym named)
 
 pub returns-in_default-budget_of-clause-none : goal.returns-in_default-budget_of-clause-none
 returns-in_default-budget_of-clause-none c (Check policy budget json) named held =
     c.in_default-budget_of.ensures.none budget held.1
-returns-in_default-budget_of-clause-none c (Judge policy facts budget json) named held = names_differ (sym named)
+returns-in_default-budget_of-clause-none c (Judge policy facts budget json explain) named held = names_differ (sym named)

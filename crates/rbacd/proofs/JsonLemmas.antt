@@ -1,0 +1,45 @@
+-- The objects that are printed hold no floating-point number.
+use Rattle.std.proofs.Common.{◌≡◌, ℕ, List, [], ◌∷◌, Option, Some, None, codes, false, map, refl}
+use Rattle.rbac_policy.specs.declared.trials.Reason.{Reason}
+use Rattle.rbac_policy.specs.declared.trials.Reason.TheVariants.{NoPermission, NoPrincipal, Matches, ConditionFalse, ConditionFails, ConditionTrue}
+use Rattle.serde_json.specs.View.{items_of}
+use Rattle.serde_json.specs.Written.{has_float, items_have_float}
+use Rattle.rbacd.specs.Explain.{TrialValue, reason_json, trial_json}
+use Rattle.rbacd.specs.Json.{json_of, verdict_json}
+use Rattle.rbacd.specs.declared.outcome.Outcome.{Outcome}
+use Rattle.rbacd.specs.declared.outcome.Outcome.TheVariants as outcomes
+
+reason_whole : (t : TrialValue) (reason : Reason) → has_float (reason_json t reason) ≡ false
+reason_whole t NoPermission = refl
+reason_whole t NoPrincipal = refl
+reason_whole t Matches = refl
+reason_whole t ConditionFalse = refl
+reason_whole t (ConditionFails e) = refl
+reason_whole t (ConditionTrue steps bound) = refl
+
+trials_whole : (told : List TrialValue) → items_have_float (items_of (map trial_json told)) ≡ false
+trials_whole [] = refl
+trials_whole (t ∷ told) = rw (reason_whole t t.reason, trials_whole told) refl
+
+-- nor does that of a verdict
+verdict_whole : (word : List ℕ) (name : Option (List ℕ)) (matched : Option ℕ) (told : Option (List TrialValue))
+    → has_float (verdict_json word name matched told) ≡ false
+verdict_whole word None None None = refl
+verdict_whole word None (Some number) None = refl
+verdict_whole word (Some name) None None = refl
+verdict_whole word (Some name) (Some number) None = refl
+verdict_whole word None None (Some told) = rw (trials_whole told) refl
+verdict_whole word None (Some number) (Some told) = rw (trials_whole told) refl
+verdict_whole word (Some name) None (Some told) = rw (trials_whole told) refl
+verdict_whole word (Some name) (Some number) (Some told) = rw (trials_whole told) refl
+
+-- nor that of any outcome
+pub outcome_whole : (name : Option (List ℕ)) (told : Option (List TrialValue)) (outcome : Outcome)
+    → has_float (json_of name told outcome) ≡ false
+outcome_whole name told (outcomes.Admitted policies bound) = refl
+outcome_whole name told (outcomes.Allowed matched) = verdict_whole (codes "allow") name matched told
+outcome_whole name told (outcomes.Denied matched) = verdict_whole (codes "deny") name matched told
+outcome_whole name told outcomes.OutOfSteps = refl
+outcome_whole name told (outcomes.Refused reason) = refl
+outcome_whole name told (outcomes.Fault fault) = refl
+outcome_whole name told outcomes.Memory = refl
