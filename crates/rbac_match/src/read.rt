@@ -87,7 +87,9 @@ fn read_set(alloc: Global, side: Side, parts: &[&[u8]], depth: u32) -> Result<Ve
 }
 
 /// Reads the rules of this number among a message's fields, each of at most `depth` levels and in
-/// one payload. Their list is made to size.
+/// one payload. Their list is made to size. They are taken whole or refused, for a fault that is
+/// there: `BadWire`, `BadText`, `UnknownField`, `Missing`, `OutOfRange`, `Unsupported`, or `TooLarge`
+/// for a rule past the levels; or for want of memory.
 #[cycle(rule)]
 pub fn read_rules(
     alloc: Global,

@@ -35,6 +35,7 @@ not_rule twice, of and_rules | not_rule_twice_of_and_rules | / | - | {} | allow 
 and_rules twice with any between | and_rules_twice_with_any_between | / | - | {} | allow 0
 a part of and_rules that is broken | a_part_of_and_rules_that_is_broken | / | - | {} | refused: 1 BadWire
 rules in two parts, the first broken | rules_in_two_parts_the_first_broken | / | - | {} | refused: 1 BadWire
+rules in two parts, one broken, one with an unknown field | rules_in_two_parts_one_broken_one_with_an_unknown_field | / | - | {} | refused: 1 BadWire or refused: 3 UnknownField
 any, then not any | any_then_not_any | / | - | {} | deny -
 not any, then any | not_any_then_any | / | - | {} | allow 0
 any, not any, any | any_not_any_any | / | - | {} | allow 0
@@ -54,6 +55,7 @@ an I64 field | an_i64_field | / | - | {} | refused: 3 UnknownField
 a port among principals | a_port_among_principals | / | - | {} | refused: 3 UnknownField
 a header in a permission's sixth member | a_header_in_a_permission_s_sixth_member | / | - | {} | refused: 3 UnknownField
 member 13 beside any false | member_13_beside_any_false | / | - | {} | refused: 3 UnknownField or refused: 5 OutOfRange
+any false beside an unknown field of the entry | any_false_beside_an_unknown_field_of_the_entry | / | - | {} | refused: 3 UnknownField or refused: 5 OutOfRange
 member 13 alone is no missing member | member_13_alone_is_no_missing_member | / | - | {} | refused: 3 UnknownField
 a field 2 of a set | a_field_2_of_a_set | / | - | {} | refused: 3 UnknownField
 a field 4 of the filter | a_field_4_of_the_filter | / | - | {} | refused: 3 UnknownField
@@ -110,5 +112,5 @@ a rule one level too deep may hold anything | a_rule_one_level_too_deep_may_hold
 
 #[test]
 fn answers_filters(rt: HostRuntime) -> Result<(), Fail> {
-    judge_rows(&rt, rt.alloc(), FILTERS, 102)
+    judge_rows(&rt, rt.alloc(), FILTERS, 104)
 }
