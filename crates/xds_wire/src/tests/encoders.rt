@@ -3,7 +3,6 @@
 use super::vectors::{EXTENSION_TYPE, FILTER_TYPE, R, U, joined};
 use crate::{Node, Status, read_extension, read_request, read_response};
 use std::alloc::Global;
-use std::process::Abort;
 use std::test::Fail;
 
 /// A response that gives `f` the filter, with a canary and a control plane.
@@ -98,33 +97,38 @@ fn a_response(rt: HostRuntime) -> Result<(), Fail> {
     Ok(())
 }
 
-/// The response has this version, this type, and one resource of the other type.
-fn has(
-    rt: &impl Abort,
-    alloc: Global,
-    pieces: &[&[u8]],
-    type_url: &str,
-    resource_type: &str,
-) -> Result<(), Fail> {
-    let bytes = joined(alloc, pieces)?;
+const WRAPPER_TYPE: &str = "type.googleapis.com/envoy.service.discovery.v3.Resource";
+
+#[test]
+fn a_resource_in_a_wrapper(rt: HostRuntime) -> Result<(), Fail> {
+    let alloc = rt.alloc();
+    let bytes = joined(alloc, WITH_TTL)?;
     let response = read_response(alloc, &bytes)?;
     assert_eq!(rt; response.version_info, "2");
-    assert_eq!(rt; response.type_url, type_url);
+    assert_eq!(rt; response.type_url, EXTENSION_TYPE);
     assert_eq!(rt; response.nonce, "n2");
     assert_eq!(rt; response.resources.len(), 1);
     for resource in &response.resources {
-        assert_eq!(rt; resource.type_url, resource_type);
+        assert_eq!(rt; resource.type_url, WRAPPER_TYPE);
         assert!(rt; read_extension(alloc, resource.value).is_ok());
     }
     Ok(())
 }
 
 #[test]
-fn other_resources(rt: HostRuntime) -> Result<(), Fail> {
+fn a_resource_of_another_type(rt: HostRuntime) -> Result<(), Fail> {
     let alloc = rt.alloc();
-    let wrapper = "type.googleapis.com/envoy.service.discovery.v3.Resource";
-    has(&rt, alloc, WITH_TTL, EXTENSION_TYPE, wrapper)?;
-    has(&rt, alloc, CLUSTERS, CLUSTER_TYPE, CLUSTER_TYPE)
+    let bytes = joined(alloc, CLUSTERS)?;
+    let response = read_response(alloc, &bytes)?;
+    assert_eq!(rt; response.version_info, "2");
+    assert_eq!(rt; response.type_url, CLUSTER_TYPE);
+    assert_eq!(rt; response.nonce, "n2");
+    assert_eq!(rt; response.resources.len(), 1);
+    for resource in &response.resources {
+        assert_eq!(rt; resource.type_url, CLUSTER_TYPE);
+        assert!(rt; read_extension(alloc, resource.value).is_ok());
+    }
+    Ok(())
 }
 
 #[test]

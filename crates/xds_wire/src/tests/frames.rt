@@ -144,17 +144,25 @@ fn a_long_message_byte_by_byte(rt: HostRuntime) -> Result<(), Fail> {
     Ok(())
 }
 
-/// Lengths of pieces: beside an eighth of the message, from which on there is room for all of it.
-const PIECES: [usize; 7] = [1_000, 4_096, 16_384, 24_999, 25_000, 25_001, 199_999];
+/// Lengths of pieces, beside an eighth of the message, from which on there is room for all of it; and how many pieces there are.
+const PIECES: [(usize, usize); 7] = [
+    (1_000, 201),
+    (4_096, 49),
+    (16_384, 13),
+    (24_999, 9),
+    (25_000, 9),
+    (25_001, 8),
+    (199_999, 2),
+];
 
 #[test]
 fn a_long_message_in_pieces(rt: HostRuntime) -> Result<(), Fail> {
     let alloc = rt.alloc();
     let frame = frame_of(alloc, 200_000)?;
-    for piece in &PIECES {
+    for (piece, turns) in &PIECES {
         let mut frames = Frames::new(alloc, LIMIT);
         let mut rest = frame.as_slice();
-        while !rest.is_empty() {
+        for _ in 0..*turns {
             frames.feed(before(rest, *piece))?;
             rest = behind(rest, *piece);
             let mut copy = frames.copy()?;
