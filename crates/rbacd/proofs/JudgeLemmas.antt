@@ -1,5 +1,5 @@
 -- From what is found under an admitted filter to what is found under its policy.
-use Rattle.std.proofs.Common.{◌≡◌, ◌↔◌, ℕ, Bool, true, false, List, [], Option, Some, None, Result, Ok, Err, OnErr, ap, inl, inr, refl, option_map, string_bytes}
+use Rattle.std.proofs.Common.{◌≡◌, ◌↔◌, ℕ, Bool, true, false, List, [], Option, Some, None, Result, Ok, Err, OnErr, inl, inr, refl, option_map, string_bytes}
 use Rattle.std.specs.Prelude.{IfOk}
 use Rattle.std.proofs.lemmas.Result.{IfOk-weaker}
 use Rattle.attributes.specs.Conn.{Facts}

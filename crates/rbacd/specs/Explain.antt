@@ -33,6 +33,7 @@ pub record TrialValue : Type 0 where
 abbrev pub trial_view : Trial → TrialValue
 trial_view trial = record { number = trial.number; name = trial.name.now; reason = trial.reason }
 
+-- and one that has its own name
 abbrev pub own_trial_view : OwnTrial → TrialValue
 own_trial_view trial =
     record { number = trial.number; name = string_bytes trial.name; reason = trial.reason }

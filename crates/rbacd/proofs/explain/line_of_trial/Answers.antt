@@ -1,4 +1,3 @@
-use Rattle.std.proofs.lemmas.Result.{IfOk-weaker}
 use Rattle.rbacd.proofs.explain.line_of_trial.Goals as goal
 
 pub returns : goal.returns
