@@ -2,7 +2,7 @@
 //! and wire type.
 
 ghost use Rattle.std.specs.Prelude.{◌≡◌};
-ghost use Rattle.rbac_match.specs.Message.{rule_keys, set_keys, range_keys};
+ghost use Rattle.rbac_match.specs.Message.{rule_keys};
 
 use crate::rule::Side;
 use proto_wire::{Key, keys};
@@ -76,9 +76,11 @@ static PRINCIPAL: [Key; 12] = keys![
     Len principal::DIRECT_REMOTE_IP, Len principal::REMOTE_IP, Len principal::FILTER_STATE
 ];
 
-static SET: [Key; 1] = keys![Len RULES];
+/// The fields of a set of rules.
+pub(crate) static SET: [Key; 1] = keys![Len RULES];
 
-static RANGE: [Key; 2] = keys![Varint START, Varint END];
+/// The fields of a range of integers.
+pub(crate) static RANGE: [Key; 2] = keys![Varint START, Varint END];
 
 /// The members of the oneof of a permission or of a principal.
 pub(crate) fn rule_keys(side: Side) -> &'static [Key]
@@ -88,18 +90,4 @@ pub(crate) fn rule_keys(side: Side) -> &'static [Key]
         Side::Permission => &PERMISSION,
         Side::Principal => &PRINCIPAL,
     }
-}
-
-/// The fields of a set of rules.
-pub(crate) fn set_keys() -> &'static [Key]
-    ensures { result.now ≡ set_keys }
-{
-    &SET
-}
-
-/// The fields of a range of integers.
-pub(crate) fn range_keys() -> &'static [Key]
-    ensures { result.now ≡ range_keys }
-{
-    &RANGE
 }
