@@ -1,7 +1,7 @@
 use Rattle.std.proofs.Common.{map}
 use Rattle.proto_wire.specs.Fields.{field_view}
 use Rattle.proto_wire.specs.Values.{payloads}
-use Rattle.rbac_policy.proofs.Texts.{there_by_last}
+use Rattle.cel_tree.proofs.Basics.{there_by_last}
 use Rattle.rbac_policy.proofs.keys.has_payload.Goals as goal
 
 pub returns : goal.returns
