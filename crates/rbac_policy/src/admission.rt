@@ -19,10 +19,11 @@ ghost use Rattle.rbac_policy.specs.steps.Conditions.{ConditionsFault};
 ghost use Rattle.rbac_policy.specs.Admitted.{filter_view, limits_view, rules_view};
 
 use crate::filter::{Action, Admitted, FilterRules};
-use crate::keys::{FILTER_KEYS, RULES_KEYS, has_payload};
+use crate::keys::{FILTER_KEYS, RULES_KEYS};
 use crate::numbers::{ACTION, AUDIT_LOGGING_OPTIONS, POLICIES, RULES};
 use crate::policy::read_policies;
 use attributes::Limits;
+use cel_tree::has_payload;
 use proto_wire::{Field, Refusal, payloads_of, read_entries, read_message, uint32_at};
 use std::alloc::Global;
 

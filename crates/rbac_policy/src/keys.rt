@@ -1,12 +1,7 @@
-//! The fields that the messages of a filter have, by number and wire type, and whether one is
-//! there.
-
-ghost use Rattle.std.specs.Prelude.{◌≡◌, ◌≢◌, [], MatchBool, map};
-ghost use Rattle.proto_wire.specs.Fields.{field_view};
-ghost use Rattle.proto_wire.specs.Values.{payloads};
+//! The fields that the messages of a filter have, by number and wire type.
 
 use crate::numbers;
-use proto_wire::{Field, Key, keys, last_len};
+use proto_wire::{Key, keys};
 
 /// The fields of the filter's message: its rules, and what is skipped.
 pub(crate) static FILTER_KEYS: [Key; 3] = keys![
@@ -23,11 +18,3 @@ pub(crate) static POLICY_KEYS: [Key; 4] = keys![
     Len numbers::PERMISSIONS, Len numbers::PRINCIPALS, Len numbers::CONDITION,
     Len numbers::CHECKED_CONDITION
 ];
-
-/// Whether some LEN field has this number.
-pub(crate) fn has_payload(fields: &[Field<'_>], number: u32) -> bool
-    ensures { MatchBool result (payloads number (map field_view fields.now) ≢ [])
-        (payloads number (map field_view fields.now) ≡ []) }
-{
-    last_len(fields, number).is_some()
-}

@@ -22,9 +22,10 @@ ghost use Rattle.rbac_policy.specs.steps.Named.{names_view};
 ghost use Rattle.proto_wire.specs.declared.refusal.Refusal.TheVariants.{BothConditions, Missing, Unsupported};
 
 use crate::condition::{Condition, read_condition};
-use crate::keys::{POLICY_KEYS, has_payload};
+use crate::keys::POLICY_KEYS;
 use crate::numbers::{CHECKED_CONDITION, CONDITION, PERMISSIONS, PRINCIPALS};
 use attributes::Limits;
+use cel_tree::has_payload;
 use proto_wire::{Field, MapEntry, Refusal, payloads_of, read_message};
 use rbac_match::{RULE_DEPTH, Rule, Side, read_rules};
 use std::alloc::Global;
