@@ -18,7 +18,7 @@ pub(crate) fn last_number(fields: &[Field<'_>], keys: &[Key]) -> Option<u32>
 
 /// The longest end of the fields that all have one number. Where all fields are members of one oneof,
 /// it is the run of the last.
-pub(crate) fn trailing_run<'a, 'b>(fields: &'b [Field<'a>]) -> &'b [Field<'a>]
+pub fn trailing_run<'a, 'b>(fields: &'b [Field<'a>]) -> &'b [Field<'a>]
     ensures { map field_view result.now ≡ trailing_run (map field_view fields.now) }
 {
     let mut start = 0;

@@ -7,14 +7,16 @@ ghost use Rattle.rbac_match.specs.Message.{rule_keys};
 use crate::rule::Side;
 use proto_wire::{Key, keys};
 
-/// The members that hold rules have one number in a permission and in a principal.
-pub(crate) const AND: u32 = 1;
+/// `and_rules` of a permission, and `and_ids` of a principal: members that hold rules have one number in both.
+pub const AND: u32 = 1;
 
-pub(crate) const OR: u32 = 2;
+/// `or_rules` of a permission, and `or_ids` of a principal.
+pub const OR: u32 = 2;
 
 pub(crate) const ANY: u32 = 3;
 
-pub(crate) const NOT: u32 = 8;
+/// `not_rule` of a permission, and `not_id` of a principal.
+pub const NOT: u32 = 8;
 
 /// The other members of a permission (`envoy.config.rbac.v3.Permission`).
 pub(crate) mod permission {
@@ -55,7 +57,7 @@ pub(crate) mod principal {
 }
 
 /// The rules of a set, or its ids.
-pub(crate) const RULES: u32 = 1;
+pub const RULES: u32 = 1;
 
 /// A range's first integer.
 pub(crate) const START: u32 = 1;

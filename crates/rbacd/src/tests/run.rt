@@ -3,23 +3,18 @@ use crate::facts::cause_of_bad_facts;
 use crate::files::{Source, read_whole};
 use crate::notes::{Likeness, likeness_of};
 use crate::run::run;
-use crate::tests::judging::{ANY_ANY, ANY_FALSE, EMPTY_RULES, PLAIN};
+use crate::tests::judging::PLAIN;
+use crate::tests::places::Filters;
+use crate::tests::rows::filter_of;
 use std::alloc::Global;
 use std::io::{self, ErrorKind, Read, Write};
 use std::test::Fail;
 use std::{env, fs};
 
-/// Files in memory. A path that is not there cannot be read.
+/// Files in memory, and the filters by their names. Another path cannot be read.
 struct Shelf;
 
-const FILES: [(&str, &[u8]); 6] = [
-    ("any", &ANY_ANY),
-    ("empty", &EMPTY_RULES),
-    ("hex", b"0a0f"),
-    ("refused", &ANY_FALSE),
-    ("facts", b"{}"),
-    ("bad", b"[]"),
-];
+const FILES: [(&str, &[u8]); 3] = [("hex", b"0a0f"), ("facts", b"{}"), ("bad", b"[]")];
 
 impl Source for Shelf {
     ghost use Rattle.std.specs.Prelude.{⊤};
@@ -34,7 +29,7 @@ impl Source for Shelf {
                 return Ok(Vec::from_slice(alloc, bytes)?);
             }
         }
-        Err(io::Error::from(ErrorKind::NotFound))
+        Filters.read_file(alloc, path)
     }
 }
 
@@ -97,31 +92,37 @@ type Case = (
 );
 
 const CASES: [Case; 24] = [
-    (&["judge", "--policy", "any"], PLAIN, "allow 0\n", "", 0),
+    (&["judge", "--policy", "any_any"], PLAIN, "allow 0\n", "", 0),
     (
-        &["judge", "--policy", "any", "--facts", "facts"],
+        &["judge", "--policy", "any_any", "--facts", "facts"],
         PLAIN,
         "allow 0\n",
         "",
         0,
     ),
-    (&["judge", "--policy", "empty"], PLAIN, "deny -\n", "", 3),
     (
-        &["judge", "--policy", "refused"],
+        &["judge", "--policy", "no_policies"],
+        PLAIN,
+        "deny -\n",
+        "",
+        3,
+    ),
+    (
+        &["judge", "--policy", "any_false"],
         PLAIN,
         "refused: 5 OutOfRange\n",
         "  a value is outside its range\n",
         1,
     ),
     (
-        &["judge", "--policy", "any"],
+        &["judge", "--policy", "any_any"],
         b"GET",
         "head: 400\n",
         "  the input ends before its head does\n",
         4,
     ),
     (
-        &["judge", "--policy", "any"],
+        &["judge", "--policy", "any_any"],
         b"GET / HTTP/1.1\r\n\r\n",
         "head: 400\n",
         "  a request of HTTP/1.1 has to have a Host field\n",
@@ -135,7 +136,7 @@ const CASES: [Case; 24] = [
         1,
     ),
     (
-        &["judge", "--policy", "refused"],
+        &["judge", "--policy", "any_false"],
         b"GET",
         "refused: 5 OutOfRange\n",
         "  a value is outside its range\n",
@@ -149,14 +150,14 @@ const CASES: [Case; 24] = [
         2,
     ),
     (
-        &["judge", "--policy", "any", "--facts", "none"],
+        &["judge", "--policy", "any_any", "--facts", "none"],
         PLAIN,
         "",
         "cannot read none\n  ",
         2,
     ),
     (
-        &["judge", "--policy", "refused", "--facts", "bad"],
+        &["judge", "--policy", "any_false", "--facts", "bad"],
         PLAIN,
         "",
         "bad facts\n  it is no JSON object\n",
@@ -177,63 +178,63 @@ const CASES: [Case; 24] = [
         2,
     ),
     (
-        &["judge", "--json", "--policy", "any"],
+        &["judge", "--json", "--policy", "any_any"],
         PLAIN,
         "{\"name\":\"p\",\"policy\":0,\"verdict\":\"allow\"}\n",
         "",
         0,
     ),
     (
-        &["judge", "--policy", "empty", "--json"],
+        &["judge", "--policy", "no_policies", "--json"],
         PLAIN,
         "{\"name\":null,\"policy\":null,\"verdict\":\"deny\"}\n",
         "",
         3,
     ),
     (
-        &["judge", "--policy", "refused", "--json"],
+        &["judge", "--policy", "any_false", "--json"],
         PLAIN,
         "{\"name\":\"OutOfRange\",\"refused\":5}\n",
         "  a value is outside its range\n",
         1,
     ),
     (
-        &["judge", "--policy", "any", "--json"],
+        &["judge", "--policy", "any_any", "--json"],
         b"GET",
         "{\"head\":400}\n",
         "  the input ends before its head does\n",
         4,
     ),
     (
-        &["check", "--policy", "any"],
+        &["check", "--policy", "any_any"],
         b"",
         "admitted: policies 1 bound 0\n",
         "",
         0,
     ),
     (
-        &["check", "--policy", "empty"],
+        &["check", "--policy", "no_policies"],
         b"",
         "admitted: policies 0 bound 0\n",
         "",
         0,
     ),
     (
-        &["check", "--policy", "any", "--json"],
+        &["check", "--policy", "any_any", "--json"],
         b"",
         "{\"admitted\":true,\"bound\":0,\"policies\":1}\n",
         "",
         0,
     ),
     (
-        &["check", "--policy", "refused"],
+        &["check", "--policy", "any_false"],
         b"",
         "refused: 5 OutOfRange\n",
         "  a value is outside its range\n",
         1,
     ),
     (
-        &["check", "--policy", "refused", "--json"],
+        &["check", "--policy", "any_false", "--json"],
         b"",
         "{\"name\":\"OutOfRange\",\"refused\":5}\n",
         "  a value is outside its range\n",
@@ -247,7 +248,7 @@ const CASES: [Case; 24] = [
         2,
     ),
     (
-        &["check", "--policy", "any", "--budget", "0"],
+        &["check", "--policy", "any_any", "--budget", "0"],
         b"",
         "",
         "error: ",
@@ -296,7 +297,7 @@ fn keeps_the_status_where_standard_error_is_closed(rt: HostRuntime) -> Result<()
 
 #[test]
 fn ends_with_2_where_standard_output_fails(rt: HostRuntime) -> Result<(), Fail> {
-    let words = words_of(rt.alloc(), &["judge", "--policy", "any"])?;
+    let words = words_of(rt.alloc(), &["judge", "--policy", "any_any"])?;
     for room in 0..9 {
         let mut out = Full::new(rt.alloc(), room);
         let mut errors = Vec::new(rt.alloc());
@@ -317,10 +318,10 @@ fn ends_with_2_where_standard_output_fails(rt: HostRuntime) -> Result<(), Fail> 
 #[test]
 fn tells_of_an_input_that_fails(rt: HostRuntime) -> Result<(), Fail> {
     let cases = [
-        ("any", ErrorKind::ConnectionReset, "", 2),
-        ("any", ErrorKind::OutOfMemory, "memory\n", 5),
+        ("any_any", ErrorKind::ConnectionReset, "", 2),
+        ("any_any", ErrorKind::OutOfMemory, "memory\n", 5),
         (
-            "refused",
+            "any_false",
             ErrorKind::ConnectionReset,
             "refused: 5 OutOfRange\n",
             1,
@@ -426,29 +427,36 @@ fn tells_the_cause_of_bad_facts(rt: HostRuntime) -> Result<(), Fail> {
 }
 
 /// Files that are no filter message, and what they look like.
-const LIKENESSES: [(&[u8], Option<Likeness>); 11] = [
+const LIKENESSES: [(&[u8], Option<Likeness>); 10] = [
     (b"", None),
-    (&ANY_ANY, None),
     (b" {\"rules\": {}}", Some(Likeness::Json)),
     (b"rules:\n  policies: {}\n", Some(Likeness::Yaml)),
     (b"0a0f 120d\n", Some(Likeness::Hex)),
     (b"Cg8SDQoBcBIICgIYARICGAE=\n", Some(Likeness::Base64)),
+    // the magic number, the method, no flags
     (&[0x1f, 0x8b, 0x08, 0x00], Some(Likeness::Gzip)),
+    // type_url, LEN 22; value, LEN 0
     (
         b"\x0a\x16type.googleapis.com/ab\x12\x00",
         Some(Likeness::Any),
     ),
+    // name, LEN 1: "f"; typed_config, LEN 24; type_url, LEN 22
     (
         b"\x0a\x01f\x12\x18\x0a\x16type.googleapis.com/ab",
         Some(Likeness::TypedExtensionConfig),
     ),
+    // policies, LEN 13: an entry; key, LEN 1: "p"
     (&[0x12, 0x0d, 0x0a, 0x01, 0x70], Some(Likeness::BareRules)),
+    // action, VARINT: DENY
     (&[0x08, 0x01], Some(Likeness::BareRules)),
 ];
 
 #[test]
-fn knows_other_files(rt: HostRuntime) {
+fn knows_other_files(rt: HostRuntime) -> Result<(), Fail> {
     for (bytes, expected) in LIKENESSES {
         assert_eq!(rt; likeness_of(bytes), expected);
     }
+    let filter = filter_of(rt.alloc(), "any_any")?;
+    assert_eq!(rt; likeness_of(&filter), None);
+    Ok(())
 }
