@@ -725,7 +725,7 @@ checked_is = (
   record {
     there = λ e. cc;
     tree = comparison_is;
-    few = (let four : node_count comparison ≡ 4 = refl in omega (arith, four));
+    few = (let four : node_count checked.tree ≡ 4 = refl in omega (arith, four));
     types = (
       type_entries,
       (
