@@ -56,12 +56,22 @@ one_byte : (b : ℕ) → b < 128 → SpellsVarint (b ∷ []) b
 one_byte b small =
     record { groups = small; short = omega arith; value = omega arith; fits = omega arith }
 
+-- what the tests say
+bounds : (k tag size : ℕ) → T (ltb 0 k && (ltb tag 128 && ltb size 128))
+    → (0 < k) × (tag < 128) × (size < 128)
+bounds k tag size short =
+    let later : T (ltb tag 128 && ltb size 128) = both_second (ltb 0 k) (ltb tag 128 && ltb size 128) short in (
+      ltb→lt 0 k (both_first (ltb 0 k) (ltb tag 128 && ltb size 128) short),
+      ltb→lt tag 128 (both_first (ltb tag 128) (ltb size 128) later),
+      ltb→lt size 128 (both_second (ltb tag 128) (ltb size 128) later),
+    )
+
 starts : (k : ℕ) (p : Payload) (rest : List ℕ) → T (is_short k p)
     → StartsField (written k p ++ rest) (field k p) rest
 starts k (varint n) rest short =
-    let some : 0 < k = ltb→lt 0 k (both_first _ _ short) in
-    let tag : 8 * k + 0 < 128 = ltb→lt (8 * k + 0) 128 (both_first _ _ (both_second _ _ short)) in
-    let number : n < 128 = ltb→lt n 128 (both_second _ _ (both_second _ _ short)) in
+    let small = bounds k (8 * k + 0) n short in
+    let some : 0 < k = small.0 in
+    let tag : 8 * k + 0 < 128 = small.1 in
     record {
       spelling = (8 * k + 0) ∷ n ∷ [];
       spells = record {
@@ -69,15 +79,15 @@ starts k (varint n) rest short =
         behind = n ∷ [];
         numbered = (omega (arith, some), omega (arith, tag));
         spells_tag = one_byte (8 * k + 0) tag;
-        spells_payload = one_byte n number;
+        spells_payload = one_byte n small.2;
         whole = refl;
       };
       whole = refl;
     }
 starts k (len inner) rest short =
-    let some : 0 < k = ltb→lt 0 k (both_first _ _ short) in
-    let tag : 8 * k + 2 < 128 = ltb→lt (8 * k + 2) 128 (both_first _ _ (both_second _ _ short)) in
-    let size : length inner < 128 = ltb→lt (length inner) 128 (both_second _ _ (both_second _ _ short)) in
+    let small = bounds k (8 * k + 2) (length inner) short in
+    let some : 0 < k = small.0 in
+    let tag : 8 * k + 2 < 128 = small.1 in
     record {
       spelling = (8 * k + 2) ∷ length inner ∷ inner;
       spells = record {
@@ -85,7 +95,7 @@ starts k (len inner) rest short =
         behind = length inner ∷ inner;
         numbered = (omega (arith, some), omega (arith, tag));
         spells_tag = one_byte (8 * k + 2) tag;
-        spells_payload = (length inner ∷ [], one_byte (length inner) size, refl);
+        spells_payload = (length inner ∷ [], one_byte (length inner) small.2, refl);
         whole = refl;
       };
       whole = refl;
@@ -95,8 +105,11 @@ starts k (i32 n) rest short = absurd short
 
 reads : (fs : List Wire) → T (are_short fs) → Fields (message fs) fs
 reads [] short = refl
-reads (f ∷ fs) short =
-    (message fs, starts f.number f.payload (message fs) (both_first _ _ short), reads fs (both_second _ _ short))
+reads (f ∷ fs) short = (
+  message fs,
+  starts f.number f.payload (message fs) (both_first (is_short f.number f.payload) (are_short fs) short),
+  reads fs (both_second (is_short f.number f.payload) (are_short fs) short),
+)
 
 -- a message that stands in one payload
 merged : (part : List ℕ) (fs : List Wire) → Fields part fs → Merges (part ∷ []) fs
