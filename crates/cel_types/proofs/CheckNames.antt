@@ -8,7 +8,7 @@ use Rattle.std.proofs.lemmas.Str.{chars-append, chars-IsAscii, chars_from_encode
 use Rattle.std.proofs.lemmas.Str.Ascii.{IsAscii-nil, IsAscii-cons}
 use Rattle.attributes.specs.Attributes.{attr_name}
 use Rattle.attributes.specs.declared.attribute.AttrId.{AttrId}
-use Rattle.attributes.proofs.Names.{named-exactly}
+use Rattle.attributes.proofs.Names.{named_exactly}
 use Rattle.cel_value.specs.Texts.{points_of, utf8_of}
 use Rattle.cel_types.specs.Attributes.{attribute_named}
 use Rattle.cel_types.specs.Names.{is_root, joined_name}
@@ -55,7 +55,7 @@ attribute-points name u o by_bytes = at o refl (attribute_named (points_of name)
   where
     by_points : (id : AttrId) → (attribute_named (points_of name) ≡ Some id)
         ↔ (points_of name ≡ attr_name id)
-    by_points = named-exactly (points_of name) (attribute_named (points_of name)) refl
+    by_points = named_exactly (points_of name) (attribute_named (points_of name)) refl
 
     at : (p : Option AttrId) → o ≡ p → (q : Option AttrId) → attribute_named (points_of name) ≡ q
         → o ≡ attribute_named (points_of name)

@@ -1,5 +1,4 @@
-//! Streams of both ends, cut at two places: what comes out is what comes out at once. Short ones are cut at each two places,
-//! longer ones at each two of some.
+//! Streams of both ends, cut at each two places: what comes out is what comes out at once.
 use super::control::{ACK, NACK};
 use super::making::{client_of, control_of, half_bad, resource, response};
 use super::vectors::{
@@ -10,20 +9,6 @@ use crate::{Client, Control};
 use std::alloc::Global;
 use std::process::Abort;
 use std::test::Fail;
-
-/// How long a stream is that is cut at each place.
-const SHORT: usize = 110;
-
-/// The places where a stream of this length is cut: all in the first head, and each or each fifth behind it.
-fn places(alloc: Global, length: usize) -> Result<Vec<usize>, Fail> {
-    let mut places = Vec::new(alloc);
-    for place in 0..=length {
-        if length <= SHORT || place <= 6 || place % 5 == 0 || place == length {
-            places.push(place)?;
-        }
-    }
-    Ok(places)
-}
 
 /// A new stream of the client gives the bytes in three pieces: all that it answers.
 fn answered(
@@ -44,20 +29,17 @@ fn answered(
     Ok(replies)
 }
 
-/// Wherever the bytes are cut, a client answers them alike.
+/// At whatever two places the bytes are cut, a client answers them alike.
 fn answers_alike(rt: &impl Abort, alloc: Global, bytes: &[u8]) -> Result<(), Fail> {
     let mut client = client_of(alloc, &["f", "g"])?;
     let length = bytes.len();
     answered(rt, alloc, &mut client, bytes, (0, length))?;
     let at_once = answered(rt, alloc, &mut client, bytes, (0, length))?;
     assert!(rt; !at_once.is_empty());
-    let places = places(alloc, length)?;
-    for first in &places {
-        for second in &places {
-            if first <= second {
-                let replies = answered(rt, alloc, &mut client, bytes, (*first, *second))?;
-                assert!(rt; replies == at_once);
-            }
+    for first in 0..=length {
+        for second in first..=length {
+            let replies = answered(rt, alloc, &mut client, bytes, (first, second))?;
+            assert!(rt; replies == at_once);
         }
     }
     Ok(())
@@ -121,15 +103,12 @@ fn requests(rt: HostRuntime) -> Result<(), Fail> {
         let length = bytes.len();
         let mut whole = control_of(alloc, "f", &[TRUE_AND_TRUE, ANY_ANY])?;
         let at_once = sent(&rt, alloc, &mut whole, &bytes, (0, length))?;
-        let places = places(alloc, length)?;
-        for first in &places {
-            for second in &places {
-                if first <= second {
-                    let mut control = control_of(alloc, "f", &[TRUE_AND_TRUE, ANY_ANY])?;
-                    let cut = (*first, *second);
-                    assert!(rt; sent(&rt, alloc, &mut control, &bytes, cut)? == at_once);
-                    assert_eq!(rt; control.acknowledged(), *number);
-                }
+        for first in 0..=length {
+            for second in first..=length {
+                let mut control = control_of(alloc, "f", &[TRUE_AND_TRUE, ANY_ANY])?;
+                let cut = (first, second);
+                assert!(rt; sent(&rt, alloc, &mut control, &bytes, cut)? == at_once);
+                assert_eq!(rt; control.acknowledged(), *number);
             }
         }
     }
