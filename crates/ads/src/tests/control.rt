@@ -90,6 +90,7 @@ fn sends_again_after_a_loss(rt: HostRuntime) -> Result<(), Fail> {
     let alloc = rt.alloc();
     let mut control = acknowledged(&rt, alloc)?;
     sends(&rt, alloc, &mut control, ACK, &[])?;
+    assert_eq!(rt; control.acknowledged(), Some(1));
     control.lost();
     sends(&rt, alloc, &mut control, RESUMED_REQUEST, SECOND_AGAIN)?;
     sends(&rt, alloc, &mut control, NACK, &[])?;
