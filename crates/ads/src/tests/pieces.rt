@@ -2,23 +2,24 @@
 use super::control::{ACK, NACK};
 use super::making::{client_of, control_of, half_bad, resource, response};
 use super::vectors::{
-    ANY_ANY, FIRST_ACK, FIRST_REQUEST, HALF_BAD_NACK, RESUMED_REQUEST, TRUE_AND_TRUE, before,
-    behind, joined,
+    ANY_ANY, FIRST_ACK, FIRST_FOR_BOTH, FIRST_REQUEST, HALF_BAD_NACK, RESUMED_FOR_BOTH,
+    RESUMED_REQUEST, TRUE_AND_TRUE, before, behind, joined,
 };
 use crate::{Client, Control};
 use std::alloc::Global;
 use std::process::Abort;
 use std::test::Fail;
 
-/// A new stream of the client gives the bytes in three pieces: all that it answers.
+/// A new stream of the client begins with this request, and gives the bytes in three pieces: all that it answers.
 fn answered(
     rt: &impl Abort,
     alloc: Global,
     client: &mut Client,
+    request: &[&[u8]],
     bytes: &[u8],
     (first, second): (usize, usize),
 ) -> Result<Vec<u8>, Fail> {
-    client.connected()?;
+    assert!(rt; client.connected()? == joined(alloc, request)?);
     let mut replies = Vec::new(alloc);
     let (front, back) = (before(bytes, second), behind(bytes, second));
     for piece in &[before(front, first), behind(front, first), back] {
@@ -29,16 +30,23 @@ fn answered(
     Ok(replies)
 }
 
-/// At whatever two places the bytes are cut, a client answers them alike.
-fn answers_alike(rt: &impl Abort, alloc: Global, bytes: &[u8]) -> Result<(), Fail> {
+/// At whatever two places the bytes are cut, a client answers them alike. Once they were answered, a stream begins with this
+/// request.
+fn answers_alike(
+    rt: &impl Abort,
+    alloc: Global,
+    bytes: &[u8],
+    request: &[&[u8]],
+) -> Result<(), Fail> {
     let mut client = client_of(alloc, &["f", "g"])?;
     let length = bytes.len();
-    answered(rt, alloc, &mut client, bytes, (0, length))?;
-    let at_once = answered(rt, alloc, &mut client, bytes, (0, length))?;
+    answered(rt, alloc, &mut client, FIRST_FOR_BOTH, bytes, (0, length))?;
+    let at_once = answered(rt, alloc, &mut client, request, bytes, (0, length))?;
     assert!(rt; !at_once.is_empty());
     for first in 0..=length {
         for second in first..=length {
-            let replies = answered(rt, alloc, &mut client, bytes, (first, second))?;
+            let cut = (first, second);
+            let replies = answered(rt, alloc, &mut client, request, bytes, cut)?;
             assert!(rt; replies == at_once);
         }
     }
@@ -51,16 +59,19 @@ fn responses(rt: HostRuntime) -> Result<(), Fail> {
     let filter = resource(alloc, "f", TRUE_AND_TRUE)?;
     let first = response(alloc, "1", "n1", &[&filter])?;
     assert_eq!(rt; first.len(), 261);
-    answers_alike(&rt, alloc, &first)?;
-    answers_alike(&rt, alloc, &half_bad(alloc)?)
+    answers_alike(&rt, alloc, &first, RESUMED_FOR_BOTH)?;
+    answers_alike(&rt, alloc, &half_bad(alloc)?, FIRST_FOR_BOTH)
 }
 
-/// The requests as responses.
+/// The requests as responses: those that name no node are accepted.
 #[test]
 fn requests_as_responses(rt: HostRuntime) -> Result<(), Fail> {
     let alloc = rt.alloc();
-    for pieces in &[FIRST_REQUEST, FIRST_ACK, HALF_BAD_NACK, RESUMED_REQUEST] {
-        answers_alike(&rt, alloc, &joined(alloc, pieces)?)?;
+    for pieces in &[FIRST_REQUEST, RESUMED_REQUEST] {
+        answers_alike(&rt, alloc, &joined(alloc, pieces)?, FIRST_FOR_BOTH)?;
+    }
+    for pieces in &[FIRST_ACK, HALF_BAD_NACK] {
+        answers_alike(&rt, alloc, &joined(alloc, pieces)?, RESUMED_FOR_BOTH)?;
     }
     Ok(())
 }
