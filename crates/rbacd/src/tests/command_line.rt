@@ -5,6 +5,7 @@ use std::io::{ErrorKind, Read};
 use std::test::Fail;
 
 /// A command line of these words, and no environment.
+#[derive(Drop)]
 struct Line(&'static [&'static [u8]]);
 
 impl Env for Line {

@@ -1,7 +1,7 @@
 //! Where the fault of a policy file stands that is refused: what `check` and `judge` tell of it on standard error.
 //!
 //! A row is the name of a filter of `examples/filters/`, the budget, the refusal, and the part that is named or `-`.
-use super::rows::filter_of;
+use super::filter_bytes::filter_named;
 use crate::files::Source;
 use crate::run::run;
 use crate::tests::judging::PLAIN;
@@ -21,9 +21,12 @@ impl Source for Filters {
     ghost lacks = { λ _ _. ⊤ };
 
     fn read_file(&self, alloc: Global, path: &str) -> io::Result<Vec<u8>> {
-        match filter_of(alloc, path) {
+        let Some(digits) = filter_named(path) else {
+            return Err(io::Error::from(ErrorKind::NotFound));
+        };
+        match hex::decode(alloc, digits) {
             Ok(bytes) => Ok(bytes),
-            Err(_) => Err(io::Error::from(ErrorKind::NotFound)),
+            Err(_) => Err(io::Error::from(ErrorKind::InvalidData)),
         }
     }
 }
