@@ -2,4 +2,5 @@
 pub mod Few
 pub mod Plain
 pub mod Rarer
+pub mod Reached
 pub mod Seen
