@@ -17,6 +17,7 @@ pub mod Operands
 pub mod Chains
 pub mod LeastCharge
 pub mod Runs
+pub mod Moves
 pub mod Outcomes
 pub mod PlainCharges
 pub mod PlainLoops
