@@ -342,23 +342,31 @@ const TEXTS: [(&[&str], &str); 6] = [
 /// What stands on standard error where standard output has no room.
 const NO_ROOM: &str = "cannot write standard output\n  no storage space\n";
 
+/// A run whose standard output has so much room: the status, what stands there, and what stands on standard error.
+fn told_with_room(
+    alloc: Global,
+    more: &[&'static str],
+    room: usize,
+) -> Result<(u8, Vec<u8>, Vec<u8>), Fail> {
+    let words = words_of(alloc, more)?;
+    let mut out = Full::new(alloc, room);
+    let mut errors = Vec::new(alloc);
+    let ended = run(alloc, &words, &Shelf, PLAIN, &mut out, &mut errors);
+    Ok((ended, out.held, errors))
+}
+
 #[test]
 fn ends_with_2_where_standard_output_breaks_off(rt: HostRuntime) -> Result<(), Fail> {
     for (more, text) in TEXTS {
-        let words = words_of(rt.alloc(), more)?;
         for room in 0..text.len() {
-            let mut out = Full::new(rt.alloc(), room);
-            let mut errors = Vec::new(rt.alloc());
-            let ended = run(rt.alloc(), &words, &Shelf, PLAIN, &mut out, &mut errors);
-            assert_eq!(rt; ended, 2, "{text}");
-            assert_eq!(rt; Some(out.held.as_slice()), text.as_bytes().get(..room));
-            assert_eq!(rt; str::from_utf8(&errors).unwrap_or("no text"), NO_ROOM);
+            let (ended, held, errors) = told_with_room(rt.alloc(), more, room)?;
+            assert_eq!(rt; ended, 2);
+            assert_eq!(rt; Some(held.as_slice()), text.as_bytes().get(..room));
+            assert_eq!(rt; errors.as_slice(), NO_ROOM.as_bytes());
         }
-        let mut out = Full::new(rt.alloc(), text.len());
-        let mut errors = Vec::new(rt.alloc());
-        let ended = run(rt.alloc(), &words, &Shelf, PLAIN, &mut out, &mut errors);
-        assert_eq!(rt; ended, 0, "{text}");
-        assert_eq!(rt; out.held.as_slice(), text.as_bytes());
+        let (ended, held, errors) = told_with_room(rt.alloc(), more, text.len())?;
+        assert_eq!(rt; ended, 0);
+        assert_eq!(rt; held.as_slice(), text.as_bytes());
         assert!(rt; errors.is_empty());
     }
     Ok(())
