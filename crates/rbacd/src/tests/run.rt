@@ -7,6 +7,7 @@ use crate::tests::places::Filters;
 use crate::tests::rows::filter_of;
 use std::alloc::Global;
 use std::io::{self, ErrorKind, Read, Write};
+use std::process::Abort;
 use std::test::Fail;
 use std::{env, fs};
 
@@ -355,19 +356,30 @@ fn told_with_room(
     Ok((ended, out.held, errors))
 }
 
+/// Wherever standard output breaks off, a beginning of the text stands there, and the status is 2.
+fn breaks_off(
+    rt: &impl Abort,
+    alloc: Global,
+    more: &[&'static str],
+    text: &str,
+) -> Result<(), Fail> {
+    for room in 0..text.len() {
+        let (ended, held, errors) = told_with_room(alloc, more, room)?;
+        assert_eq!(rt; ended, 2);
+        assert_eq!(rt; Some(held.as_slice()), text.as_bytes().get(..room));
+        assert_eq!(rt; errors.as_slice(), NO_ROOM.as_bytes());
+    }
+    let (ended, held, errors) = told_with_room(alloc, more, text.len())?;
+    assert_eq!(rt; ended, 0);
+    assert_eq!(rt; held.as_slice(), text.as_bytes());
+    assert!(rt; errors.is_empty());
+    Ok(())
+}
+
 #[test]
 fn ends_with_2_where_standard_output_breaks_off(rt: HostRuntime) -> Result<(), Fail> {
     for (more, text) in TEXTS {
-        for room in 0..text.len() {
-            let (ended, held, errors) = told_with_room(rt.alloc(), more, room)?;
-            assert_eq!(rt; ended, 2);
-            assert_eq!(rt; Some(held.as_slice()), text.as_bytes().get(..room));
-            assert_eq!(rt; errors.as_slice(), NO_ROOM.as_bytes());
-        }
-        let (ended, held, errors) = told_with_room(rt.alloc(), more, text.len())?;
-        assert_eq!(rt; ended, 0);
-        assert_eq!(rt; held.as_slice(), text.as_bytes());
-        assert!(rt; errors.is_empty());
+        breaks_off(&rt, rt.alloc(), more, text)?;
     }
     Ok(())
 }
