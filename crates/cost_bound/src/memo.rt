@@ -1,0 +1,81 @@
+//! What is known of an expression and of its parts before it is measured.
+
+ghost use Rattle.std.specs.Prelude.{◌≡◌, ◌<◌, ◌≤◌, ◌+◌, ℕ, IfErr, IfOk, IfSome, IsTrue, length};
+ghost use Rattle.attributes.specs.Limits.{LimitsValue};
+ghost use Rattle.cel_types.specs.Elaborated.{TypedTree};
+ghost use Rattle.cost_bound.specs.Costs.{cost_of, size_of};
+ghost use Rattle.cost_bound.specs.Sizes.{Size};
+ghost use Rattle.cost_bound.specs.steps.Measuring.{CostsMore};
+ghost use Rattle.cost_bound.specs.steps.Memo.{Says, memo_at, memo_view, memos_view, nothing_known, part_at};
+ghost use Rattle.cost_bound.specs.steps.SizeView.{size_view};
+ghost use Rattle.proto_wire.specs.Refusal.{MemoryOr};
+
+use crate::size::ValueSize;
+use std::alloc::{AllocError, Global};
+
+/// What is known of an expression. Measuring a loop remembers so what no turn changes.
+#[derive(Drop)]
+pub(crate) enum Memo {
+    /// Nothing.
+    Unknown,
+    /// What it measures.
+    Known { size: ValueSize, cost: u64 },
+    /// That it costs more than so much.
+    Costly { than: u64 },
+    /// What is known of its parts, each at its place. Of those behind the last nothing is known.
+    Parts(Vec<Memo>),
+}
+
+impl Memo {
+    /// What is known of the part at a place.
+    pub(crate) fn part(&self, place: usize) -> &Memo
+        ensures { memo_view result.now ≡ part_at place (memo_view self.now) }
+    {
+        match self {
+            Memo::Parts(parts) => {
+                if place < parts.len() {
+                    return &parts[place];
+                }
+                &Memo::Unknown
+            }
+            _ => &Memo::Unknown,
+        }
+    }
+
+    /// The memo of an expression by those of its parts.
+    pub(crate) fn of_parts(parts: Vec<Memo>) -> Memo
+        ensures at { (i : ℕ) → part_at i (memo_view result) ≡ memo_at i (memos_view parts.items) }
+        ensures silent { (size : Size) (cost : ℕ) → Says (memo_view result) size cost }
+    {
+        if parts.is_empty() {
+            return Memo::Unknown;
+        }
+        Memo::Parts(parts)
+    }
+}
+
+/// The memos of parts with one more, of the part at a place behind them. Nothing known takes no room.
+pub(crate) fn with_part(parts: Vec<Memo>, place: usize, memo: Memo) -> Result<Vec<Memo>, AllocError>
+    requires { length parts.items ≤ place }
+    ensures short { IfOk result (λ all. length all.items ≤ place + 1) }
+    ensures before { IfOk result (λ all. (i : ℕ) → i < place
+        → memo_at i (memos_view all.items) ≡ memo_at i (memos_view parts.items)) }
+    ensures there { IfOk result (λ all. memo_at place (memos_view all.items) ≡ memo_view memo) }
+{
+    if is_unknown(&memo) {
+        return Ok(parts);
+    }
+    let mut all = parts;
+    while all.len() < place {
+        all.push(Memo::Unknown)?;
+    }
+    all.push(memo)?;
+    Ok(all)
+}
+
+// Whether nothing is known.
+fn is_unknown(memo: &Memo) -> bool
+    ensures { IsTrue result → memo_view memo.now ≡ nothing_known }
+{
+    matches!(memo, Memo::Unknown)
+}
