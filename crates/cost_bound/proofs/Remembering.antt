@@ -1,2 +1,126 @@
 -- When what is known of expressions holds.
-use Rattle.std.proofs.Common.{◌≡◌, ℕ}
+use Rattle.std.proofs.Common.{◌≡◌, ◌⊎◌, ℕ, zero, suc, ◌+◌, ◌-◌, ◌<◌, ◌≤◌, List, [], ◌∷◌, length, get_or, refl, sym, ap, ◌∙◌, inl, inr, tt, arith}
+use Rattle.std.proofs.lemmas.Bool.{cases_lt}
+use Rattle.std.proofs.lemmas.List.{get_or_read}
+use Rattle.attributes.specs.Limits.{LimitsValue}
+use Rattle.cel_types.specs.Elaborated.{TypedTree, typed_constant, typed_local, typed_attribute, typed_field, typed_has, typed_call, typed_list, typed_map, typed_loop, TypedTrees, no_typed, typed}
+use Rattle.cel_types.specs.View.{expr_view, exprs_view}
+use Rattle.cel_types.specs.declared.typed.TypedExpr.{TypedExpr}
+use Rattle.cost_bound.specs.Costs.{cost_of, size_of}
+use Rattle.cost_bound.specs.Sizes.{Size}
+use Rattle.cost_bound.specs.steps.Memo.{MemoTree, nothing_known, known_as, more_than, parts_known, MemoTrees, memo_at, part_at, Says, Holds, HoldsEach, HoldsInside, InTurns, IsSettled, NamesOnly}
+use Rattle.cost_bound.proofs.Alike.{alike-settled, same-cost, same-size}
+
+-- where nothing is known of parts, that is true of them
+mutual
+  alone-inside : (m : MemoTree) → ((i : ℕ) → part_at i m ≡ nothing_known) → (e : TypedTree) (l : LimitsValue)
+      (ss : List Size) → HoldsInside m e l ss
+  alone-inside m h (typed_constant t v) l ss = tt
+  alone-inside m h (typed_local t n) l ss = tt
+  alone-inside m h (typed_attribute t a) l ss = tt
+  alone-inside m h (typed_field t on name) l ss = rw (h 0) (tt, alone-inside nothing_known (λ i. refl) on l ss)
+  alone-inside m h (typed_has t on name) l ss = rw (h 0) (tt, alone-inside nothing_known (λ i. refl) on l ss)
+  alone-inside m h (typed_call t o es) l ss = alone-each m h 0 es l ss
+  alone-inside m h (typed_list t es) l ss = alone-each m h 0 es l ss
+  alone-inside m h (typed_map t es) l ss = alone-each m h 0 es l ss
+  alone-inside m h (typed_loop t range init condition step result) l ss = (
+    rw (h 0) (tt, alone-inside nothing_known (λ i. refl) range l ss),
+    rw (h 1) (tt, alone-inside nothing_known (λ i. refl) init l ss),
+    λ s e. rw (h 2) (tt, alone-inside nothing_known (λ i. refl) condition l (e ∷ s ∷ ss)),
+    λ s e. rw (h 3) (tt, alone-inside nothing_known (λ i. refl) step l (e ∷ s ∷ ss)),
+    λ s. rw (h 4) (tt, alone-inside nothing_known (λ i. refl) result l (s ∷ ss)),
+  )
+
+  alone-each : (m : MemoTree) → ((i : ℕ) → part_at i m ≡ nothing_known) → (n : ℕ) (es : TypedTrees)
+      (l : LimitsValue) (ss : List Size) → HoldsEach m n es l ss
+  alone-each m h n no_typed l ss = tt
+  alone-each m h n (typed e es) l ss =
+      (rw (h n) (tt, alone-inside nothing_known (λ i. refl) e l ss), alone-each m h (suc n) es l ss)
+
+-- nothing is always true
+pub holds-nothing : (m : MemoTree) (e : TypedTree) (l : LimitsValue) (ss : List Size) → m ≡ nothing_known
+    → Holds m e l ss
+holds-nothing m e l ss is = rw is (tt, alone-inside nothing_known (λ i. refl) e l ss)
+
+pub holds-known : (m : MemoTree) (s : Size) (c : ℕ) (e : TypedTree) (l : LimitsValue) (ss : List Size)
+    → m ≡ known_as s c → s ≡ size_of e l ss → c ≡ cost_of e l ss → Holds m e l ss
+holds-known m s c e l ss is size cost =
+    rw is ((size, cost), alone-inside (known_as s c) (λ i. refl) e l ss)
+
+pub holds-more : (m : MemoTree) (n : ℕ) (e : TypedTree) (l : LimitsValue) (ss : List Size)
+    → m ≡ more_than n → n < cost_of e l ss → Holds m e l ss
+holds-more m n e l ss is more = rw is (more, alone-inside (more_than n) (λ i. refl) e l ss)
+
+-- what holds of expressions one after the other holds of that at a place
+part-from : (m : MemoTree) (l : LimitsValue) (ss : List Size) (n : ℕ) (es : List TypedExpr) (i : ℕ)
+    (x : TypedExpr) (j : ℕ) → i < length es → x ≡ get_or es i x → j ≡ n + i
+    → HoldsEach m n (exprs_view es) l ss → Holds (part_at j m) (expr_view x) l ss
+part-from m l ss n [] i x j within is e h = absurd (omega arith)
+part-from m l ss n (y ∷ ys) zero x j within is e h =
+    let one : x ≡ y = is in
+    let same : j ≡ n = omega arith in
+    rw (same, one) h.0
+part-from m l ss n (y ∷ ys) (suc i) x j within is e h =
+    part-from m l ss (suc n) ys i x j (omega arith) is (omega arith) h.1
+
+pub part-holds : (m p : MemoTree) (l : LimitsValue) (ss : List Size) (es : List TypedExpr) (i : ℕ)
+    (x : TypedExpr) → i < length es → x ≡ get_or es i x → p ≡ part_at i m
+    → HoldsEach m 0 (exprs_view es) l ss → Holds p (expr_view x) l ss
+part-holds m p l ss es i x within is e h = rw e (part-from m l ss 0 es i x i within is (omega arith) h)
+
+-- and the other way round
+each-from : (m : MemoTree) (l : LimitsValue) (ss : List Size) (n : ℕ) (es : List TypedExpr)
+    → ((i : ℕ) (x : TypedExpr) (j : ℕ) → i < length es → x ≡ get_or es i x → j ≡ n + i
+    → Holds (part_at j m) (expr_view x) l ss)
+    → HoldsEach m n (exprs_view es) l ss
+each-from m l ss n [] h = tt
+each-from m l ss n (y ∷ ys) h = (
+  h 0 y n (omega arith) refl (omega arith),
+  each-from m l ss (suc n) ys (λ i x j within is e. h (suc i) x j (omega arith) is (omega arith)),
+)
+
+pub each-holds : (m : MemoTree) (ms : MemoTrees) (l : LimitsValue) (ss : List Size) (es : List TypedExpr)
+    → ((i : ℕ) → part_at i m ≡ memo_at i ms)
+    → ((i : ℕ) (x : TypedExpr) → i < length es → x ≡ get_or es i x → Holds (memo_at i ms) (expr_view x) l ss)
+    → HoldsEach m 0 (exprs_view es) l ss
+each-holds m ms l ss es at h = each-from m l ss 0 es (λ i x j within is e.
+    let same : j ≡ i = omega arith in
+    let part : part_at j m ≡ memo_at i ms = rw same (at i) in
+    rw part (h i x within is))
+
+-- the parts so far, and one more
+pub more-parts : (es : List TypedExpr) (n : ℕ) (y : TypedExpr) (old new : MemoTrees) (m : MemoTree)
+    (l : LimitsValue) (ss : List Size) → y ≡ get_or es n y → n < length es
+    → ((i : ℕ) → i < n → memo_at i new ≡ memo_at i old) → memo_at n new ≡ m → Holds m (expr_view y) l ss
+    → ((i : ℕ) (x : TypedExpr) → i < n → x ≡ get_or es i x → Holds (memo_at i old) (expr_view x) l ss)
+    → (i : ℕ) (x : TypedExpr) → i < n + 1 → x ≡ get_or es i x → Holds (memo_at i new) (expr_view x) l ss
+more-parts es n y old new m l ss there within before at one all i x less is = elim (cases_lt i n) [
+  | inl lower ↦ rw (before i lower) (all i x lower is)
+  | inr high ↦
+      let same : i ≡ n = omega arith in
+      let found : x ≡ y = get_or_read es i x (omega arith) is y ∙ ap (λ k. get_or es k y) same ∙ sym there in
+      let part : memo_at i new ≡ m = ap (λ k. memo_at k new) same ∙ at in
+      rw (part, found) one
+]
+
+-- what names no local that a turn changes measures in each as here
+pub holds-in-turns : (k d : ℕ) (e : TypedTree) (l : LimitsValue) (a b : List Size) → NamesOnly (IsSettled k d) e
+    → d ≡ length a → InTurns k a b → (size_of e l a ≡ size_of e l b) × (cost_of e l a ≡ cost_of e l b)
+holds-in-turns k d e l a b only deep turns =
+    let same = alike-settled k d a b deep turns in
+    (same-size (IsSettled k d) l e a b only same, same-cost (IsSettled k d) l e a b only same)
+
+pub known-in-turns : (k d : ℕ) (e : TypedTree) (l : LimitsValue) (a b : List Size) (m : MemoTree) (s : Size)
+    (c left rest : ℕ) → NamesOnly (IsSettled k d) e → d ≡ length a → InTurns k a b
+    → m ≡ known_as s c → s ≡ size_of e l a → left ≡ cost_of e l a + rest → c ≡ left - rest → Holds m e l b
+known-in-turns k d e l a b m s c left rest only deep turns is size paid cost =
+    let same = holds-in-turns k d e l a b only deep turns in
+    let more = same.1 in
+    holds-known m s c e l b is (size ∙ same.0) (omega arith)
+
+pub more-in-turns : (k d : ℕ) (e : TypedTree) (l : LimitsValue) (a b : List Size) (m : MemoTree) (n : ℕ)
+    → NamesOnly (IsSettled k d) e → d ≡ length a → InTurns k a b → m ≡ more_than n → n < cost_of e l a
+    → Holds m e l b
+more-in-turns k d e l a b m n only deep turns is more =
+    let same = holds-in-turns k d e l a b only deep turns in
+    holds-more m n e l b is (rw (← same.1) more)

@@ -66,7 +66,7 @@ pub(crate) fn with_part(parts: Vec<Memo>, place: usize, memo: Memo) -> Result<Ve
         return Ok(parts);
     }
     let mut all = parts;
-    while all.len() < place {
+    'padding: while all.len() < place {
         all.push(Memo::Unknown)?;
     }
     all.push(memo)?;
