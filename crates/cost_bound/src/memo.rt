@@ -1,17 +1,11 @@
 //! What is known of an expression and of its parts before it is measured.
 
-ghost use Rattle.std.specs.Prelude.{◌≡◌, ◌<◌, ◌≤◌, ◌+◌, ℕ, IfErr, IfOk, IfSome, IsTrue, length};
-ghost use Rattle.attributes.specs.Limits.{LimitsValue};
-ghost use Rattle.cel_types.specs.Elaborated.{TypedTree};
-ghost use Rattle.cost_bound.specs.Costs.{cost_of, size_of};
+ghost use Rattle.std.specs.Prelude.{◌≡◌, ◌<◌, ◌≤◌, ◌+◌, ℕ, IfOk, IsTrue, length};
 ghost use Rattle.cost_bound.specs.Sizes.{Size};
-ghost use Rattle.cost_bound.specs.steps.Measuring.{CostsMore};
 ghost use Rattle.cost_bound.specs.steps.Memo.{Says, memo_at, memo_view, memos_view, nothing_known, part_at};
-ghost use Rattle.cost_bound.specs.steps.SizeView.{size_view};
-ghost use Rattle.proto_wire.specs.Refusal.{MemoryOr};
 
 use crate::size::ValueSize;
-use std::alloc::{AllocError, Global};
+use std::alloc::AllocError;
 
 /// What is known of an expression. Measuring a loop remembers so what no turn changes.
 #[derive(Drop)]
@@ -32,13 +26,15 @@ impl Memo {
         ensures { memo_view result.now ≡ part_at place (memo_view self.now) }
     {
         match self {
+            Memo::Unknown => &Memo::Unknown,
+            Memo::Known { .. } => &Memo::Unknown,
+            Memo::Costly { .. } => &Memo::Unknown,
             Memo::Parts(parts) => {
                 if place < parts.len() {
                     return &parts[place];
                 }
                 &Memo::Unknown
             }
-            _ => &Memo::Unknown,
         }
     }
 

@@ -1,11 +1,12 @@
 //! Which expressions measure the same in each turn of a loop around them.
 
 ghost use Rattle.std.specs.Prelude.{◌≡◌, ℕ, IsTrue};
-ghost use Rattle.cel_types.specs.View.{expr_view, exprs_view};
+ghost use Rattle.cel_types.specs.View.{expr_view, exprs_view, loop_of, parts_view};
+ghost use Rattle.cel_value.specs.Types.{ValueType};
 ghost use Rattle.cost_bound.specs.steps.Memo.{EachNamesOnly, IsSettled, NamesOnly};
 ghost use Rattle.cost_bound.specs.steps.Numbers.{capped};
 
-use cel_types::TypedExpr;
+use cel_types::{TypedExpr, TypedLoop};
 
 /// Whether an expression in a scope of so many locals names none that a turn changes, of a loop around
 /// it with so many locals outside: neither what the loop gathers, nor a local of another loop between.
@@ -23,17 +24,24 @@ pub(crate) fn is_steady(expr: &TypedExpr<'_>, around: u64, depth: u64) -> bool
         TypedExpr::Call { operands, .. } => are_steady(operands, around, depth),
         TypedExpr::List { elements, .. } => are_steady(elements, around, depth),
         TypedExpr::Map { pairs, .. } => are_steady(pairs, around, depth),
-        TypedExpr::Loop { parts, .. } => {
-            is_steady(&parts.range, around, depth)
-                && is_steady(&parts.init, around, depth)
-                && is_steady(&parts.condition, around, depth)
-                && is_steady(&parts.step, around, depth)
-                && is_steady(&parts.result, around, depth)
-        }
+        TypedExpr::Loop { parts, .. } => is_steady_loop(parts, around, depth),
     }
 }
 
-// Whether all of these do.
+// The same of a loop's parts.
+#[cycle(steady)]
+fn is_steady_loop(parts: &TypedLoop<'_>, around: u64, depth: u64) -> bool
+    ensures { (t : ValueType) (k d : ℕ) → around ≡ capped k → depth ≡ capped d → IsTrue result
+        → NamesOnly (IsSettled k d) (loop_of t (parts_view parts.now)) }
+{
+    is_steady(&parts.range, around, depth)
+        && is_steady(&parts.init, around, depth)
+        && is_steady(&parts.condition, around, depth)
+        && is_steady(&parts.step, around, depth)
+        && is_steady(&parts.result, around, depth)
+}
+
+// The same of expressions one after the other.
 #[cycle(steady)]
 fn are_steady(exprs: &[TypedExpr<'_>], around: u64, depth: u64) -> bool
     ensures { (k d : ℕ) → around ≡ capped k → depth ≡ capped d → IsTrue result
