@@ -14,7 +14,8 @@ pub view-Local : (s : Bor ValueSize) (n : ℕ) (o : Bor Scope)
     → locals_view (Local s n o) ≡ record { outside = n; size = size_view s.now } ∷ locals_view o.now
 view-Local s n o = search (rules, the_lemmas)
 
-as-many : (cs : List Counted) → length (sizes_among cs) ≡ length cs
+-- there are as many sizes as locals
+pub as-many : (cs : List Counted) → length (sizes_among cs) ≡ length cs
 as-many [] = refl
 as-many (c ∷ cs) = ap suc (as-many cs)
 

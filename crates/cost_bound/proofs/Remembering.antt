@@ -6,10 +6,15 @@ use Rattle.attributes.specs.Limits.{LimitsValue}
 use Rattle.cel_types.specs.Elaborated.{TypedTree, typed_constant, typed_local, typed_attribute, typed_field, typed_has, typed_call, typed_list, typed_map, typed_loop, TypedTrees, no_typed, typed}
 use Rattle.cel_types.specs.View.{expr_view, exprs_view}
 use Rattle.cel_types.specs.declared.typed.TypedExpr.{TypedExpr}
+use Rattle.cel_value.specs.Types.{ValueType}
 use Rattle.cost_bound.specs.Costs.{cost_of, size_of}
 use Rattle.cost_bound.specs.Sizes.{Size}
 use Rattle.cost_bound.specs.steps.Memo.{MemoTree, nothing_known, known_as, more_than, parts_known, MemoTrees, memo_at, part_at, Says, Holds, HoldsEach, HoldsInside, InTurns, IsSettled, NamesOnly}
-use Rattle.cost_bound.proofs.Alike.{alike-settled, same-cost, same-size}
+use Rattle.cost_bound.specs.steps.Memo.{Remembers}
+use Rattle.cost_bound.specs.steps.Numbers.{capped}
+use Rattle.cost_bound.specs.steps.ScopeView.{Counted, sizes_among}
+use Rattle.cost_bound.proofs.Alike.{alike-settled, same-cost, same-size, turns-of, turns-with}
+use Rattle.cost_bound.proofs.Locals.{as-many}
 
 -- where nothing is known of parts, that is true of them
 mutual
@@ -124,3 +129,40 @@ pub more-in-turns : (k d : ℕ) (e : TypedTree) (l : LimitsValue) (a b : List Si
 more-in-turns k d e l a b m n only deep turns is more =
     let same = holds-in-turns k d e l a b only deep turns in
     holds-more m n e l b is (rw (← same.1) more)
+
+-- what is known of a map that a name is looked up in
+pub field-holds : (m p : MemoTree) (t : ValueType) (e on : TypedTree) (name : List ℕ) (l : LimitsValue)
+    (ss : List Size) → e ≡ typed_field t on name → p ≡ part_at 0 m → Holds m e l ss → Holds p on l ss
+field-holds m p t e on name l ss is part h = rw part (rw is at h).1
+
+pub has-holds : (m p : MemoTree) (t : ValueType) (e on : TypedTree) (name : List ℕ) (l : LimitsValue)
+    (ss : List Size) → e ≡ typed_has t on name → p ≡ part_at 0 m → Holds m e l ss → Holds p on l ss
+has-holds m p t e on name l ss is part h = rw part (rw is at h).1
+
+-- what is remembered of the parts, at their places
+pub one-held : (m p : MemoTree) (ms : MemoTrees) (e : TypedTree) (l : LimitsValue) (ss : List Size) (i : ℕ)
+    → part_at i m ≡ memo_at i ms → memo_at i ms ≡ p → Holds p e l ss → Holds (part_at i m) e l ss
+one-held m p ms e l ss i part at h = rw (part, at) h
+
+-- what is remembered inside of a loop holds in each of its turns
+pub remembered-turns : (m : MemoTree) (e : TypedTree) (l : LimitsValue) (n : ℕ) (inside : List Size)
+    (element any : Size) (cs : List Counted) → n ≡ capped (length cs)
+    → inside ≡ element ∷ any ∷ sizes_among cs → Remembers m e l n inside
+    → (s : Size) → Holds m e l (element ∷ s ∷ sizes_among cs)
+remembered-turns m e l n inside element any cs counted is h s =
+    h (length (sizes_among cs)) (element ∷ s ∷ sizes_among cs) (counted ∙ ap capped (sym (as-many cs)))
+    (rw is (turns-of element any s (sizes_among cs)))
+
+-- and in each turn of a loop inside of it
+pub remembered-inside : (m : MemoTree) (e : TypedTree) (l : LimitsValue) (n k : ℕ) (ss others inside : List Size)
+    (any t : Size) → inside ≡ any ∷ ss → Remembers m e l n inside → n ≡ capped k → InTurns k ss others
+    → Holds m e l (t ∷ others)
+remembered-inside m e l n k ss others inside any t is h counted turns =
+    h k (t ∷ others) counted (rw is (turns-with k any t ss others turns))
+
+pub remembered-turned : (m : MemoTree) (e : TypedTree) (l : LimitsValue) (n k : ℕ) (ss others inside : List Size)
+    (any more t u : Size) → inside ≡ more ∷ any ∷ ss → Remembers m e l n inside → n ≡ capped k
+    → InTurns k ss others → Holds m e l (u ∷ t ∷ others)
+remembered-turned m e l n k ss others inside any more t u is h counted turns =
+    h k (u ∷ t ∷ others) counted
+    (rw is (turns-with k more u (any ∷ ss) (t ∷ others) (turns-with k any t ss others turns)))

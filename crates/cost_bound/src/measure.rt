@@ -591,9 +591,8 @@ fn remember_each(
 ) -> Result<Remembered, Refusal>
     requires counted { IsCounted (locals_view scope.now) }
     requires holds { HoldsEach (memo_view memo.now) 0 (exprs_view exprs.now) limits.now (scope_view scope.now) }
-    ensures silent { IfOk result (λ r. (size : Size) (cost : ℕ) → Says (memo_view r.memo) size cost) }
-    ensures found { IfOk result (λ r. RemembersEach (memo_view r.memo) (exprs_view exprs.now) limits.now
-        around (scope_view scope.now)) }
+    ensures found { IfOk result (λ r. ((size : Size) (cost : ℕ) → Says (memo_view r.memo) size cost)
+        × RemembersEach (memo_view r.memo) (exprs_view exprs.now) limits.now around (scope_view scope.now)) }
     ensures fault { IfErr result (λ e. e ≡ Memory) }
 {
     let mut parts = Vec::new(alloc);
