@@ -7,7 +7,7 @@ use Rattle.cel_types.specs.Elaborated.{TypedTree, typed_constant, typed_local, t
 use Rattle.cel_types.specs.TypedMeaning.{local_at}
 use Rattle.cost_bound.specs.Costs.{call_cost, call_size, cost_of, costs_of, element_size, field_cost, grown, known, list_size, map_cost, map_size, size_of, sizes_of, total, turns_cost, value_size}
 use Rattle.cost_bound.specs.Sizes.{Size, join, most_of}
-use Rattle.cost_bound.specs.steps.Memo.{EachNamesOnly, InTurns, IsSettled, IsSteady, NamesOnly}
+use Rattle.cost_bound.specs.steps.Memos.{EachNamesOnly, InTurns, IsSettled, IsSteady, NamesOnly}
 
 -- two lists of sizes, of as many locals, that say the same of these
 pub record Alike (N : ℕ → Type 0) (a b : List Size) : Type 0 where
@@ -59,10 +59,17 @@ loop-turns f g c d h k r q i j same start =
     rw (same, start) (same-turns (f (element_size q)) (g (element_size q)) (c (element_size q)) (d (element_size q))
     (h (element_size q)) (k (element_size q)) (most_of q) j)
 
--- a loop's parts cost the same together
+-- a turn costs the same, and a loop's parts together
+turn-sum : (c c' s s' : ℕ) → c ≡ c' → s ≡ s' → c + s + 4 ≡ c' + s' + 4
+turn-sum c c' s s' h1 h2 = omega arith
+
 loop-sum : (r r' n n' i i' t t' e e' : ℕ) → r ≡ r' → n ≡ n' → i ≡ i' → t ≡ t' → e ≡ e'
     → r + (1 + n) + i + 1 + t + 1 + e ≡ r' + (1 + n') + i' + 1 + t' + 1 + e'
 loop-sum r r' n n' i i' t t' e e' h1 h2 h3 h4 h5 = omega arith
+
+-- what is the same at each size is the same at equal sizes
+same-at : {A : Type 0} (f g : Size → A) → ((x : Size) → f x ≡ g x) → (x y : Size) → x ≡ y → f x ≡ g y
+same-at f g h x y e = ap f e ∙ h y
 
 module _ (N : ℕ → Type 0) (l : LimitsValue) where
   mutual
@@ -82,16 +89,15 @@ module _ (N : ℕ → Type 0) (l : LimitsValue) where
         (alike-with N e (s ∷ a) (s ∷ b) (alike-with N s a b h)))
         (size_of range l a) (size_of range l b) (size_of init l a) (size_of init l b)
         (same-size range a b only.0 h) (same-size init a b only.1 h) in
-        ap (λ g. size_of result l (g ∷ a)) turns
-        ∙ same-size result _ _ only.4 (alike-with N _ a b h)
+        same-at (λ x. size_of result l (x ∷ a)) (λ x. size_of result l (x ∷ b))
+        (λ x. same-size result (x ∷ a) (x ∷ b) only.4 (alike-with N x a b h)) _ _ turns
 
     pub same-sizes : (es : TypedTrees) (a b : List Size) → EachNamesOnly N es → Alike N a b
         → sizes_of es l a ≡ sizes_of es l b
     same-sizes no_typed a b only h = refl
     same-sizes (typed e es) a b only h =
-        let first = same-size e a b only.0 h in
-        let others = same-sizes es a b only.1 h in
-        rw (first, others) refl
+        ap (λ s. s ∷ sizes_of es l a) (same-size e a b only.0 h)
+        ∙ ap (λ ss. size_of e l b ∷ ss) (same-sizes es a b only.1 h)
 
   mutual
     pub same-cost : (e : TypedTree) (a b : List Size) → NamesOnly N e → Alike N a b
@@ -100,53 +106,45 @@ module _ (N : ℕ → Type 0) (l : LimitsValue) where
     same-cost (typed_local t n) a b only h = refl
     same-cost (typed_attribute t at) a b only h = refl
     same-cost (typed_field t on name) a b only h =
-        let size = same-size on a b only h in
-        let cost = same-cost on a b only h in
-        rw (size, cost) refl
+        ap (λ c. c + field_cost name (size_of on l a)) (same-cost on a b only h)
+        ∙ ap (λ s. cost_of on l b + field_cost name s) (same-size on a b only h)
     same-cost (typed_has t on name) a b only h =
-        let size = same-size on a b only h in
-        let cost = same-cost on a b only h in
-        rw (size, cost) refl
+        ap (λ c. c + field_cost name (size_of on l a)) (same-cost on a b only h)
+        ∙ ap (λ s. cost_of on l b + field_cost name s) (same-size on a b only h)
     same-cost (typed_call t o es) a b only h =
-        let sizes = same-sizes es a b only h in
-        let costs = same-costs es a b only h in
-        ap (λ c. call_cost o (kinds es) c (sizes_of es l a)) costs
-        ∙ ap (λ s. call_cost o (kinds es) (costs_of es l b) s) sizes
+        ap (λ c. call_cost o (kinds es) c (sizes_of es l a)) (same-costs es a b only h)
+        ∙ ap (λ s. call_cost o (kinds es) (costs_of es l b) s) (same-sizes es a b only h)
     same-cost (typed_list t es) a b only h =
         ap (λ c. total c + (1 + length c)) (same-costs es a b only h)
     same-cost (typed_map t es) a b only h =
-        let sizes = same-sizes es a b only h in
-        let costs = same-costs es a b only h in
-        rw (sizes, costs) refl
+        ap (λ c. total c + map_cost (sizes_of es l a)) (same-costs es a b only h)
+        ∙ ap (λ s. total (costs_of es l b) + map_cost s) (same-sizes es a b only h)
     same-cost (typed_loop t range init condition step result) a b only h =
-        let ranges = same-size range a b only.0 h in
-        let inits = same-size init a b only.1 h in
         let under : (e s : Size) → Alike N (e ∷ s ∷ a) (e ∷ s ∷ b) = λ e s.
         alike-with N e (s ∷ a) (s ∷ b) (alike-with N s a b h) in
+        let ranges = same-size range a b only.0 h in
+        let inits = same-size init a b only.1 h in
         let turns = loop-turns (λ e s. size_of step l (e ∷ s ∷ a)) (λ e s. size_of step l (e ∷ s ∷ b))
         (λ e s. cost_of condition l (e ∷ s ∷ a) + cost_of step l (e ∷ s ∷ a) + 4)
         (λ e s. cost_of condition l (e ∷ s ∷ b) + cost_of step l (e ∷ s ∷ b) + 4)
         (λ e s. same-size step (e ∷ s ∷ a) (e ∷ s ∷ b) only.3 (under e s))
-        (λ e s. rw (
-          same-cost condition (e ∷ s ∷ a) (e ∷ s ∷ b) only.2 (under e s),
-          same-cost step (e ∷ s ∷ a) (e ∷ s ∷ b) only.3 (under e s),
-        ) refl)
+        (λ e s. turn-sum _ _ _ _ (same-cost condition (e ∷ s ∷ a) (e ∷ s ∷ b) only.2 (under e s))
+        (same-cost step (e ∷ s ∷ a) (e ∷ s ∷ b) only.3 (under e s)))
         (size_of range l a) (size_of range l b) (size_of init l a) (size_of init l b) ranges inits in
         let ends = loop-grown (λ e s. size_of step l (e ∷ s ∷ a)) (λ e s. size_of step l (e ∷ s ∷ b))
         (λ e s. same-size step (e ∷ s ∷ a) (e ∷ s ∷ b) only.3 (under e s))
         (size_of range l a) (size_of range l b) (size_of init l a) (size_of init l b) ranges inits in
-        let result' = ap (λ g. cost_of result l (g ∷ a)) ends
-        ∙ same-cost result _ _ only.4 (alike-with N _ a b h) in
+        let last = same-at (λ x. cost_of result l (x ∷ a)) (λ x. cost_of result l (x ∷ b))
+        (λ x. same-cost result (x ∷ a) (x ∷ b) only.4 (alike-with N x a b h)) _ _ ends in
         loop-sum _ _ _ _ _ _ _ _ _ _ (same-cost range a b only.0 h) (ap most_of ranges)
-        (same-cost init a b only.1 h) turns result'
+        (same-cost init a b only.1 h) turns last
 
     pub same-costs : (es : TypedTrees) (a b : List Size) → EachNamesOnly N es → Alike N a b
         → costs_of es l a ≡ costs_of es l b
     same-costs no_typed a b only h = refl
     same-costs (typed e es) a b only h =
-        let first = same-cost e a b only.0 h in
-        let others = same-costs es a b only.1 h in
-        rw (first, others) refl
+        ap (λ c. c ∷ costs_of es l a) (same-cost e a b only.0 h)
+        ∙ ap (λ cs. cost_of e l b ∷ cs) (same-costs es a b only.1 h)
 
 -- ---- the locals of two turns
 

@@ -4,7 +4,7 @@ use Rattle.std.specs.declared.vec.Vec.{Vec}
 use Rattle.std.specs.declared.alloc.Global.{Global}
 use Rattle.cost_bound.specs.declared.memo.Memo.{Memo, Unknown, Known, Costly, Parts, the_lemmas}
 use Rattle.cost_bound.specs.declared.size.ValueSize.{ValueSize}
-use Rattle.cost_bound.specs.steps.Memo.{nothing_known, known_as, more_than, parts_known, memo_at, memo_view, memos_view}
+use Rattle.cost_bound.specs.steps.Memos.{nothing_known, known_as, more_than, parts_known, memo_at, memo_view, memos_view}
 use Rattle.cost_bound.specs.steps.SizeView.{size_view}
 
 pub view-Unknown : memo_view Unknown ≡ nothing_known

@@ -9,8 +9,8 @@ use Rattle.cel_types.specs.declared.typed.TypedExpr.{TypedExpr}
 use Rattle.cel_value.specs.Types.{ValueType}
 use Rattle.cost_bound.specs.Costs.{cost_of, size_of}
 use Rattle.cost_bound.specs.Sizes.{Size}
-use Rattle.cost_bound.specs.steps.Memo.{MemoTree, nothing_known, known_as, more_than, parts_known, MemoTrees, memo_at, part_at, Says, Holds, HoldsEach, HoldsInside, InTurns, IsSettled, NamesOnly}
-use Rattle.cost_bound.specs.steps.Memo.{Remembers}
+use Rattle.cost_bound.specs.steps.Memos.{MemoTree, nothing_known, known_as, more_than, parts_known, MemoTrees, memo_at, part_at, Says, Holds, HoldsEach, HoldsInside, InTurns, IsSettled, NamesOnly}
+use Rattle.cost_bound.specs.steps.Memos.{Remembers}
 use Rattle.cost_bound.specs.steps.Numbers.{capped}
 use Rattle.cost_bound.specs.steps.ScopeView.{Counted, sizes_among}
 use Rattle.cost_bound.proofs.Alike.{alike-settled, same-cost, same-size, turns-of, turns-with}

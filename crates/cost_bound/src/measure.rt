@@ -11,7 +11,7 @@ ghost use Rattle.cel_value.specs.Types.{ValueType};
 ghost use Rattle.cost_bound.specs.Costs.{call_cost, call_size, cost_of, costs_of, field_cost, grown, size_of, sizes_of, total, turns_cost};
 ghost use Rattle.cost_bound.specs.Sizes.{Size, join};
 ghost use Rattle.cost_bound.specs.steps.Measuring.{CostsMore, call_part, next_size, turn_cost};
-ghost use Rattle.cost_bound.specs.steps.Memo.{Holds, HoldsEach, Remembers, RemembersEach, Says, memo_view};
+ghost use Rattle.cost_bound.specs.steps.Memos.{Holds, HoldsEach, Remembers, RemembersEach, Says, memo_view};
 ghost use Rattle.cost_bound.specs.steps.ScopeView.{IsCounted, locals_view, scope_view};
 ghost use Rattle.cost_bound.specs.steps.SizeView.{size_view, sizes_view};
 

@@ -2,7 +2,7 @@
 
 ghost use Rattle.std.specs.Prelude.{◌≡◌, ◌<◌, ◌≤◌, ◌+◌, ℕ, IfOk, IsTrue, length};
 ghost use Rattle.cost_bound.specs.Sizes.{Size};
-ghost use Rattle.cost_bound.specs.steps.Memo.{Says, memo_at, memo_view, memos_view, nothing_known, part_at};
+ghost use Rattle.cost_bound.specs.steps.Memos.{Says, memo_at, memo_view, memos_view, nothing_known, part_at};
 
 use crate::size::ValueSize;
 use std::alloc::AllocError;

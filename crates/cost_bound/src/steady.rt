@@ -3,7 +3,7 @@
 ghost use Rattle.std.specs.Prelude.{◌≡◌, ℕ, IsTrue};
 ghost use Rattle.cel_types.specs.View.{expr_view, exprs_view, loop_of, parts_view};
 ghost use Rattle.cel_value.specs.Types.{ValueType};
-ghost use Rattle.cost_bound.specs.steps.Memo.{EachNamesOnly, IsSettled, NamesOnly};
+ghost use Rattle.cost_bound.specs.steps.Memos.{EachNamesOnly, IsSettled, NamesOnly};
 ghost use Rattle.cost_bound.specs.steps.Numbers.{capped};
 
 use cel_types::{TypedExpr, TypedLoop};

@@ -4,7 +4,7 @@ use Rattle.cel_types.specs.declared.typed.TypedExpr.{TypedExpr}
 use Rattle.cost_bound.specs.Costs.{costs_of, grown, sizes_of, total, turns_cost}
 use Rattle.cost_bound.specs.Sizes.{Size}
 use Rattle.cost_bound.specs.steps.Measuring.{next_size, turn_cost}
-use Rattle.cost_bound.specs.steps.Memo.{Holds, InTurns, memo_at, memos_view}
+use Rattle.cost_bound.specs.steps.Memos.{Holds, InTurns, memo_at, memos_view}
 use Rattle.cost_bound.specs.steps.Numbers.{capped}
 use Rattle.cost_bound.specs.steps.ScopeView.{scope_view}
 use Rattle.cost_bound.specs.steps.SizeView.{size_view, sizes_view}

@@ -1,6 +1,6 @@
 use Rattle.std.proofs.Common.{◌≡◌, ℕ, drop}
 use Rattle.cel_types.specs.View.{exprs_view}
-use Rattle.cost_bound.specs.steps.Memo.{EachNamesOnly, IsSettled}
+use Rattle.cost_bound.specs.steps.Memos.{EachNamesOnly, IsSettled}
 use Rattle.cost_bound.specs.steps.Numbers.{capped}
 use Rattle.cost_bound.proofs.steady.+steady.Given as goal
 
