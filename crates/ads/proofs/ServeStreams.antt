@@ -7,7 +7,7 @@ use Rattle.proto_wire.specs.Values.{last_of}
 use Rattle.proto_wire.specs.declared.refusal.Refusal.{Refusal}
 use Rattle.xds_wire.specs.Frames.{Tail, unfinished, broken, Cut, frames_of, nothing}
 use Rattle.xds_wire.specs.Discovery.{RequestMessage, IsRequest, RequestFault}
-use Rattle.xds_wire.proofs.CutLemmas.{cut_of, frames-none}
+use Rattle.xds_wire.proofs.CutLemmas.{cut_of, frames_none}
 use Rattle.xds_wire.proofs.StreamLemmas.{cut_resumes}
 use Rattle.ads.specs.Client.{most_bytes, stream_after}
 use Rattle.ads.specs.Control.{ControlValue, ResourceValue, ServedValue, Serves, AreServed, ServesBy, new_control, stream_lost}
@@ -332,7 +332,7 @@ streams_before snapshots before first more bytes (next ∷ streams) was_broken i
 -- a stream of which nothing has come
 stream_new : (snapshots : List (List ResourceValue)) (before : List Turn) → StreamSoFar snapshots before [] [] (Some [])
 stream_new snapshots before =
-    ([], cut_of [] most_bytes [] [] (unfinished []) (frames-none [] most_bytes) (refl, nothing refl), tt, refl)
+    ([], cut_of [] most_bytes [] [] (unfinished []) (frames_none [] most_bytes) (refl, nothing refl), tt, refl)
 
 -- without a response on the stream
 abbrev down : ServedValue → ServedValue

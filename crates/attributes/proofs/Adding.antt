@@ -11,12 +11,12 @@ use Rattle.std.specs.declared.alloc.Global.{Global}
 use Rattle.std.specs.declared.rc.RcStr.{RcStr}
 use Rattle.attributes.specs.Headers.{Entry, header_view, headers_of, headers_view, name_cmp}
 use Rattle.attributes.specs.steps.Headers.{AreHeadersOf, IsPlace}
-use Rattle.attributes.proofs.Joining.{added, entries-more}
+use Rattle.attributes.proofs.Joining.{added, entries_more}
 use Rattle.attributes.proofs.TextOrder.{true_from_t}
 
-map-insert : {A B : Type 0} (f : A → B) (xs : List A) (i : ℕ) (x : A)
+map_insert : {A B : Type 0} (f : A → B) (xs : List A) (i : ℕ) (x : A)
     → map f (insert xs i x) ≡ insert (map f xs) i (f x)
-map-insert f xs i x = map-append f (take i xs) (x ∷ drop i xs)
+map_insert f xs i x = map-append f (take i xs) (x ∷ drop i xs)
     ∙ rw (take-map f i xs, drop-map f i xs) refl
 
 module _ (headers : List (RcStr Global × RcStr Global)) (es : List Entry)
@@ -29,7 +29,7 @@ module _ (headers : List (RcStr Global × RcStr Global)) (es : List Entry)
   more : (name v : List ℕ) → entries (headers_of (es ++ (name, v) ∷ []))
       ≡ put name_cmp name (added (find name_cmp name (headers_view headers)) v)
       (headers_view headers)
-  more name v = rw held (entries-more es (name, v))
+  more name v = rw held (entries_more es (name, v))
 
   -- a further value of a name that is there
   pub over : (name v w : List ℕ) (i : ℕ) (old new : RcStr Global × RcStr Global)
@@ -58,4 +58,4 @@ module _ (headers : List (RcStr Global × RcStr Global)) (es : List Entry)
       → IsPlace name (headers_view headers) (Err i) → header_view new ≡ (name, v)
       → AreHeadersOf (insert headers i new) (es ++ (name, v) ∷ [])
   between name v i new (fits, absent, inserted) made =
-      rw (map-insert header_view headers i new, made, more name v, absent, inserted v) refl
+      rw (map_insert header_view headers i new, made, more name v, absent, inserted v) refl

@@ -8,10 +8,10 @@ use Rattle.std.specs.declared.alloc.Global.{Global}
 use Rattle.attributes.specs.Conn.{text_view}
 
 -- a shared text is UTF-8
-pub IsUtf8-rc_str_bytes : (text : RcStr Global) → IsUtf8 (rc_str_bytes text)
-IsUtf8-rc_str_bytes text = IsUtf8-string_bytes text.text.value
+pub is_utf8_rc_str_bytes : (text : RcStr Global) → IsUtf8 (rc_str_bytes text)
+is_utf8_rc_str_bytes text = IsUtf8-string_bytes text.text.value
 
 -- a text that may be absent is UTF-8
-pub IsUtf8-text_view : (found : Option (RcStr Global)) → IfSome (text_view found) IsUtf8
-IsUtf8-text_view None = tt
-IsUtf8-text_view (Some text) = IsUtf8-rc_str_bytes text
+pub is_utf8_text_view : (found : Option (RcStr Global)) → IfSome (text_view found) IsUtf8
+is_utf8_text_view None = tt
+is_utf8_text_view (Some text) = is_utf8_rc_str_bytes text

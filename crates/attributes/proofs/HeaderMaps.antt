@@ -11,39 +11,39 @@ use Rattle.attributes.specs.Headers.{Entry, HeaderMap, header_view, headers_view
 use Rattle.attributes.proofs.TextOrder.{same_from_test, ties_by_test, true_from_t}
 
 -- the entries of a map are in order
-pub is_sorted-entries : (m : HeaderMap) → IsTrue (is_sorted name_cmp (entries m))
-is_sorted-entries m = true_from_t _ (entries_sorted m)
+pub is_sorted_entries : (m : HeaderMap) → IsTrue (is_sorted name_cmp (entries m))
+is_sorted_entries m = true_from_t _ (entries_sorted m)
 
 -- the map of its entries is itself
-pub from_sorted-entries : (m : HeaderMap) → from_sorted (entries m) ≡ m
-from_sorted-entries m =
+pub from_sorted_entries : (m : HeaderMap) → from_sorted (entries m) ≡ m
+from_sorted_entries m =
     same_entries_map (from_sorted (entries m)) m
     (entries-from_sorted name_cmp (entries m) (entries_sorted m))
 
 -- what holds of each entry holds of each header as it is kept
-pub All-headers : (P : Entry → Type 0) (headers : List (RcStr Global × RcStr Global))
+pub all_headers : (P : Entry → Type 0) (headers : List (RcStr Global × RcStr Global))
     → All P (headers_view headers) ↔ All (λ header. P (header_view header)) headers
-All-headers P headers = (
+all_headers P headers = (
   λ h k d below. rw (get_or-map header_view headers k d) at
       (h k (header_view d) (rw (length-map headers header_view) below)),
   All-map P header_view headers,
 )
 
-find-all : (P : Entry → Type 0) (es : List Entry) → All P es → (name value : List ℕ)
+find_all : (P : Entry → Type 0) (es : List Entry) → All P es → (name value : List ℕ)
     → find name_cmp name es ≡ Some value → P (name, value)
-find-all P [] all name value found = let clash : None ≡ Some value = found in absurd cc
-find-all P (e ∷ es) all name value found =
+find_all P [] all name value found = let clash : None ≡ Some value = found in absurd cc
+find_all P (e ∷ es) all name value found =
     elim (eq_by_cmp name_cmp name e.0) as (λ b. eq_by_cmp name_cmp name e.0 ≡ b
     → cond b (Some e.1) (find name_cmp name es) ≡ Some value → P (name, value)) [
       | true ↦ λ t k.
           let named : e.0 ≡ name = same_from_test e.0 name (sym (ties_by_test name e.0) ∙ t) in
           let valued : e.1 ≡ value = cc in
           rw (← named, ← valued) (all 0 e (omega arith))
-      | false ↦ λ t k. find-all P es (λ i d below. all (suc i) d (omega arith)) name value k
+      | false ↦ λ t k. find_all P es (λ i d below. all (suc i) d (omega arith)) name value k
     ] refl found
 
 -- what holds of each entry of a map holds of what it has at a name
-pub All-get : (P : Entry → Type 0) (m : HeaderMap) → All P (entries m) → (name value : List ℕ)
+pub all_get : (P : Entry → Type 0) (m : HeaderMap) → All P (entries m) → (name value : List ℕ)
     → get m name ≡ Some value → P (name, value)
-All-get P m all name value found =
-    find-all P (entries m) all name value (sym (get-entries m name) ∙ found)
+all_get P m all name value found =
+    find_all P (entries m) all name value (sym (get-entries m name) ∙ found)

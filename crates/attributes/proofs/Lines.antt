@@ -17,9 +17,9 @@ module _ (xs ys : List (String Global × String Global)) (i : ℕ)
   cut : get_or xs i d ∷ drop (suc i) xs ≡ get_or ys i d ∷ drop (suc i) ys
   cut = sym (drop-cons xs i d below) ∙ rest ∙ drop-cons ys i d below_too
 
-  pub named-more : lines_view (take (i + 1) (set xs i y))
+  pub named_more : lines_view (take (i + 1) (set xs i y))
       ≡ map line_entry (lines_view (take (i + 1) ys))
-  named-more =
+  named_more =
       let same : get_or xs i d ≡ get_or ys i d = cc (cut) in
       let here : line_view y ≡ line_entry (line_view (get_or ys i d)) =
       named ∙ ap (λ line. line_entry (line_view line)) same in
@@ -33,8 +33,8 @@ module _ (xs ys : List (String Global × String Global)) (i : ℕ)
         here,
       ) refl
 
-  pub rest-more : drop (i + 1) (set xs i y) ≡ drop (i + 1) ys
-  rest-more =
+  pub rest_more : drop (i + 1) (set xs i y) ≡ drop (i + 1) ys
+  rest_more =
       let tail : drop (suc i) xs ≡ drop (suc i) ys = cc (cut) in
       let next : i + 1 ≡ suc i = omega arith in
       rw next (drop-set-lt (suc i) xs i y (omega arith) ∙ tail)

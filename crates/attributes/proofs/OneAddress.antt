@@ -11,7 +11,7 @@ use Rattle.std.proofs.NetLemmas.Ipv6.{read_ipv6_complete, EndsGroups-nil}
 use Rattle.attributes.specs.Address.{IsIpText, has_dot}
 use Rattle.attributes.specs.declared.address.Ip.{Ip}
 use Rattle.attributes.specs.declared.address.Ip.TheVariants.{V4, V6}
-use Rattle.attributes.proofs.AddressText.{has_dot-dotted}
+use Rattle.attributes.proofs.AddressText.{has_dot_dotted}
 
 -- four numbers are read as they are, to the end of the text
 pub dotted_read : (text octets : List ℕ) → IsDotted text octets → read_ipv4 text ≡ Some (octets, [])
@@ -26,7 +26,7 @@ groups_read text groups h =
 
 -- a text without a dot has no four numbers
 dot_or_not : (text : List ℕ) (a : Ipv4Addr) → IsIpv4Text text a → has_dot text ≡ false → ⊥
-dot_or_not text a four dotless = cc (has_dot-dotted text a.octets four, dotless)
+dot_or_not text a four dotless = cc (has_dot_dotted text a.octets four, dotless)
 
 -- a text spells one address
 pub one_address : (text : List ℕ) (a b : Ip) → IsIpText text a → IsIpText text b → a ≡ b

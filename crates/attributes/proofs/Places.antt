@@ -5,7 +5,7 @@ use Rattle.std.specs.FinMap.{find, is_sorted}
 use Rattle.std.specs.FinMap.Entries.{below_all, put}
 use Rattle.std.specs.declared.cmp.Ordering.TheVariants.{Equal, Greater}
 use Rattle.attributes.specs.Headers.{Entry, name_cmp}
-use Rattle.attributes.proofs.TextOrder.{IsBefore, after_from_before, before-trans, before_from_greater, both_first, both_second, less_from_test, tied_name}
+use Rattle.attributes.proofs.TextOrder.{IsBefore, after_from_before, before_trans, before_from_greater, both_first, both_second, less_from_test, tied_name}
 
 -- each name is before this one
 abbrev EachBefore : List ℕ → List Entry → Type 0
@@ -13,11 +13,11 @@ EachBefore name [] = Unit {0}
 EachBefore name (e ∷ es) = IsBefore e.0 name × EachBefore name es
 
 -- a name that all others are before is put at the end, and found nowhere before
-put-above : (name v : List ℕ) (es : List Entry) → EachBefore name es
+put_above : (name v : List ℕ) (es : List Entry) → EachBefore name es
     → (put name_cmp name v es ≡ es ++ (name, v) ∷ []) × (find name_cmp name es ≡ None)
-put-above name v [] h = (refl, refl)
-put-above name v (e ∷ es) h =
-    let later = put-above name v es h.1 in
+put_above name v [] h = (refl, refl)
+put_above name v (e ∷ es) h =
+    let later = put_above name v es h.1 in
     rw (after_from_before e.0 name h.0) (ap (λ xs. e ∷ xs) later.0, later.1)
 
 -- the first of ascending names is before the last
@@ -31,24 +31,24 @@ each_before : (name : List ℕ) (es : List Entry) (l : Entry) → T (is_sorted n
     → IsBefore l.0 name → EachBefore name (es ++ l ∷ [])
 each_before name [] l up after = (after, tt)
 each_before name (e ∷ es) l up after = (
-  before-trans e.0 l.0 name (before_last e.0 es l (both_first _ _ up)) after,
+  before_trans e.0 l.0 name (before_last e.0 es l (both_first _ _ up)) after,
   each_before name es l (both_second _ _ up) after,
 )
 
 -- a name after the last is put behind it
-pub put-behind : (name v : List ℕ) (es : List Entry) (l : Entry)
+pub put_behind : (name v : List ℕ) (es : List Entry) (l : Entry)
     → T (is_sorted name_cmp (es ++ l ∷ [])) → IsBefore l.0 name
     → (put name_cmp name v (es ++ l ∷ []) ≡ (es ++ l ∷ []) ++ (name, v) ∷ [])
     × (find name_cmp name (es ++ l ∷ []) ≡ None)
-put-behind name v es l up after = put-above name v (es ++ l ∷ []) (each_before name es l up after)
+put_behind name v es l up after = put_above name v (es ++ l ∷ []) (each_before name es l up after)
 
 -- the last name is put over its value
-pub put-last : (name v w : List ℕ) (es : List Entry) → T (is_sorted name_cmp (es ++ (name, w) ∷ []))
+pub put_last : (name v w : List ℕ) (es : List Entry) → T (is_sorted name_cmp (es ++ (name, w) ∷ []))
     → (put name_cmp name v (es ++ (name, w) ∷ []) ≡ es ++ (name, v) ∷ [])
     × (find name_cmp name (es ++ (name, w) ∷ []) ≡ Some w)
-put-last name v w [] up = rw (tied_name name) (refl, refl)
-put-last name v w (e ∷ es) up =
-    let later = put-last name v w es (both_second _ _ up) in
+put_last name v w [] up = rw (tied_name name) (refl, refl)
+put_last name v w (e ∷ es) up =
+    let later = put_last name v w es (both_second _ _ up) in
     let first : IsBefore e.0 name = before_last e.0 es (name, w) (both_first _ _ up) in
     rw (after_from_before e.0 name first) (ap (λ xs. e ∷ xs) later.0, later.1)
 
@@ -61,36 +61,36 @@ above_first name (e ∷ es) (suc i) d up below =
     above_first name es i d (both_second _ _ up) (omega arith)
 
 -- between the names before and the names behind it, a name is inserted
-pub put-between : (name v : List ℕ) (es : List Entry) (i : ℕ) → i ≤ length es
+pub put_between : (name v : List ℕ) (es : List Entry) (i : ℕ) → i ≤ length es
     → ((k : ℕ) (d : Entry) → k < i → IsBefore (get_or es k d).0 name)
     → ((k : ℕ) (d : Entry) → i ≤ k → k < length es → name_cmp (get_or es k d).0 name ≡ Greater)
     → (put name_cmp name v es ≡ insert es i (name, v)) × (find name_cmp name es ≡ None)
-put-between name v [] zero fits low high = (refl, refl)
-put-between name v [] (suc i) fits low high = absurd (omega arith)
-put-between name v (e ∷ es) zero fits low high =
+put_between name v [] zero fits low high = (refl, refl)
+put_between name v [] (suc i) fits low high = absurd (omega arith)
+put_between name v (e ∷ es) zero fits low high =
     let first : IsBefore name e.0 =
     before_from_greater e.0 name (high 0 e (omega arith) (omega arith)) in
-    let later = put-between name v es zero (omega arith) (λ k d below. absurd (omega arith))
+    let later = put_between name v es zero (omega arith) (λ k d below. absurd (omega arith))
     (λ k d above below. high (suc k) d (omega arith) (omega arith)) in
     rw first (refl, later.1)
-put-between name v (e ∷ es) (suc i) fits low high =
-    let later = put-between name v es i (omega arith)
+put_between name v (e ∷ es) (suc i) fits low high =
+    let later = put_between name v es i (omega arith)
     (λ k d below. low (suc k) d (omega arith))
     (λ k d above below. high (suc k) d (omega arith) (omega arith)) in
     rw (after_from_before e.0 name (low 0 e (omega arith))) (ap (λ xs. e ∷ xs) later.0, later.1)
 
 -- at its own entry a name is put over the value
-pub put-at : (name v : List ℕ) (es : List Entry) (i : ℕ) (d : Entry)
+pub put_at : (name v : List ℕ) (es : List Entry) (i : ℕ) (d : Entry)
     → T (is_sorted name_cmp es) → i < length es → (get_or es i d).0 ≡ name
     → (put name_cmp name v es ≡ set es i (name, v))
     × (find name_cmp name es ≡ Some (get_or es i d).1)
-put-at name v [] i d up below same = absurd (omega arith)
-put-at name v (e ∷ es) zero d up below same =
+put_at name v [] i d up below same = absurd (omega arith)
+put_at name v (e ∷ es) zero d up below same =
     let tied : name_cmp name e.0 ≡ Equal = rw same (tied_name name) in
     rw tied (ap (λ n. (n, v) ∷ es) same, refl)
-put-at name v (e ∷ es) (suc i) d up below same =
+put_at name v (e ∷ es) (suc i) d up below same =
     let behind : i < length es = omega arith in
-    let later = put-at name v es i d (both_second _ _ up) behind same in
+    let later = put_at name v es i d (both_second _ _ up) behind same in
     let first : IsBefore e.0 name =
     rw same at (above_first e.0 es i d (both_first _ _ up) behind) in
     rw (after_from_before e.0 name first) (ap (λ xs. e ∷ xs) later.0, later.1)

@@ -10,17 +10,17 @@ use Rattle.attributes.specs.Conn.{AreFacts, Facts}
 use Rattle.attributes.specs.Headers.{Entry, HeaderMap, all_entries, headers_of, headers_view, line_entry, name_cmp}
 use Rattle.attributes.specs.Request.{IsRequest, IsTextEntry, RequestValue, protocol_of, request_of}
 use Rattle.attributes.specs.steps.Request.{AreKept, of_parts}
-use Rattle.attributes.proofs.Facts.{IsUtf8-rc_str_bytes}
-use Rattle.attributes.proofs.HeaderMaps.{All-headers, from_sorted-entries}
-use Rattle.attributes.proofs.Joining.{len-headers_of}
+use Rattle.attributes.proofs.Facts.{is_utf8_rc_str_bytes}
+use Rattle.attributes.proofs.HeaderMaps.{all_headers, from_sorted_entries}
+use Rattle.attributes.proofs.Joining.{len_headers_of}
 
 -- headers as they are kept are texts
 pub text_headers : (headers : List (RcStr Global × RcStr Global))
     → All IsTextEntry (headers_view headers)
-text_headers headers = (All-headers IsTextEntry headers).1
+text_headers headers = (all_headers IsTextEntry headers).1
     (λ k d below. (
-      IsUtf8-rc_str_bytes (get_or headers k d).0,
-      IsUtf8-rc_str_bytes (get_or headers k d).1,
+      is_utf8_rc_str_bytes (get_or headers k d).0,
+      is_utf8_rc_str_bytes (get_or headers k d).1,
     ))
 
 module _ (method target : List ℕ) (http11 : Bool) (lines kept : List Entry) (facts : Facts) (n : ℕ)
@@ -30,7 +30,7 @@ module _ (method target : List ℕ) (http11 : Bool) (lines kept : List Entry) (f
   all = all_entries method target facts.scheme lines
 
   same_map_kept : from_sorted kept ≡ headers_of all
-  same_map_kept = ap from_sorted joined ∙ from_sorted-entries (headers_of all)
+  same_map_kept = ap from_sorted joined ∙ from_sorted_entries (headers_of all)
 
   -- they make that request
   pub same_request : of_parts method target http11 n kept facts
@@ -48,7 +48,7 @@ module _ (method target : List ℕ) (http11 : Bool) (lines kept : List Entry) (f
 
   few : len (from_sorted {R = name_cmp} kept) ≤ n + 3
   few =
-      let most = len-headers_of all in
+      let most = len_headers_of all in
       let pseudo : List Entry =
       (codes ":method", method) ∷ (codes ":path", target) ∷ (codes ":scheme", facts.scheme) ∷ [] in
       let long = length-append (map line_entry lines) pseudo in

@@ -19,7 +19,7 @@ use denote.Param.Members.{Mut}
 use denote.Ref.{Bor}
 use Rattle.attributes.specs.Headers.{Entry, header_view, headers_view, name_cmp}
 use Rattle.attributes.specs.steps.Headers.{IsPlace}
-use Rattle.attributes.proofs.Places.{put-at, put-between}
+use Rattle.attributes.proofs.Places.{put_at, put_between}
 use Rattle.attributes.proofs.TextOrder.{IsBefore, both_first, both_second, less_from_test, names_differ, t_from_true}
 
 -- a header as it is kept
@@ -31,25 +31,25 @@ abbrev name_lt : Pair → Pair → Bool
 name_lt x y = is_lt (name_cmp (rc_str_bytes x.0) (rc_str_bytes y.0))
 
 -- ascending headers are sorted as a search asks
-IsSortedBy-ascending : (xs : List Pair) → T (is_sorted name_cmp (headers_view xs))
+is_sorted_by_ascending : (xs : List Pair) → T (is_sorted name_cmp (headers_view xs))
     → IsSortedBy name_lt xs
-IsSortedBy-ascending [] up k d low high = absurd (omega arith)
-IsSortedBy-ascending (x ∷ []) up k d low high = absurd (omega arith)
-IsSortedBy-ascending (x ∷ y ∷ xs) up zero d low high =
+is_sorted_by_ascending [] up k d low high = absurd (omega arith)
+is_sorted_by_ascending (x ∷ []) up k d low high = absurd (omega arith)
+is_sorted_by_ascending (x ∷ y ∷ xs) up zero d low high =
     let first : IsBefore (rc_str_bytes x.0) (rc_str_bytes y.0) =
     less_from_test _ (both_first _ _ (both_first _ _ up)) in
     ap is_lt (nat_list_cmp_total.antisymm (rc_str_bytes y.0) (rc_str_bytes x.0))
     ∙ ap (λ o. is_lt (ordering_reverse o)) first
-IsSortedBy-ascending (x ∷ y ∷ xs) up (suc k) d low high =
+is_sorted_by_ascending (x ∷ y ∷ xs) up (suc k) d low high =
     let next : suc k + 1 ≡ suc (k + 1) = omega arith in
-    rw next (IsSortedBy-ascending (y ∷ xs) (both_second _ _ up) k d (omega arith) (omega arith))
+    rw next (is_sorted_by_ascending (y ∷ xs) (both_second _ _ up) k d (omega arith) (omega arith))
 
 -- a header at an index, as it is kept
-kept-at : (xs : List Pair) (k : ℕ) (d : Entry) → k < length xs
+kept_at : (xs : List Pair) (k : ℕ) (d : Entry) → k < length xs
     → (x : Pair) × (get_or (headers_view xs) k d ≡ header_view (get_or xs k x))
-kept-at [] k d below = absurd (omega arith)
-kept-at (x ∷ xs) zero d below = (x, refl)
-kept-at (x ∷ xs) (suc k) d below = kept-at xs k d (omega arith)
+kept_at [] k d below = absurd (omega arith)
+kept_at (x ∷ xs) zero d below = (x, refl)
+kept_at (x ∷ xs) (suc k) d below = kept_at xs k d (omega arith)
 
 -- what the closure that the search is given answers
 module _ (name : List ℕ) {F : Type 0} {g : Mut F (Bor Pair × Unit {0}) Ordering} {f : F}
@@ -61,11 +61,11 @@ module _ (name : List ℕ) {F : Type 0} {g : Mut F (Bor Pair × Unit {0}) Orderi
   by_name : ComputesKey g place f
   by_name = always_returns_same g (λ a r. r ≡ place a.0.now) f answers
 
-  pub IsPlace-searched : (xs : List Pair) (r : Result ℕ ℕ) → IsSearchInRange r (length xs)
+  pub is_place_searched : (xs : List Pair) (r : Result ℕ ℕ) → IsSearchInRange r (length xs)
       → ((ord : Pair → Ordering) → ComputesKey g ord f → IsBinarySearchResult ord xs r)
       → IsTrue (is_sorted name_cmp (headers_view xs)) → IsPlace name (headers_view xs) r
-  IsPlace-searched [] (Ok i) fits searched up = absurd (omega arith)
-  IsPlace-searched (x ∷ xs) (Ok i) fits searched up =
+  is_place_searched [] (Ok i) fits searched up = absurd (omega arith)
+  is_place_searched (x ∷ xs) (Ok i) fits searched up =
       let es : List Entry = headers_view (x ∷ xs) in
       let long : length es ≡ length (x ∷ xs) = length-map (x ∷ xs) header_view in
       let below : i < length es = omega (arith, long) in
@@ -74,29 +74,29 @@ module _ (name : List ℕ) {F : Type 0} {g : Mut F (Bor Pair × Unit {0}) Orderi
       get_or-map header_view (x ∷ xs) i x in
       let same : (get_or es i d).0 ≡ name =
       ap (λ (e : Entry). e.0) at ∙ names_differ _ _ (searched place by_name x) in
-      let found = λ (w : List ℕ). put-at name w es i d (t_from_true _ up) below same in
+      let found = λ (w : List ℕ). put_at name w es i d (t_from_true _ up) below same in
       let named : List ℕ → Entry = λ n. (n, (get_or es i d).1) in (
         (get_or es i d).1,
         slice_get-get_or es i d below ∙ ap (λ n. Some (named n)) same,
         (found []).1,
         λ w. (found w).0,
       )
-  IsPlace-searched xs (Err i) fits searched up =
+  is_place_searched xs (Err i) fits searched up =
       let es : List Entry = headers_view xs in
       let sorted : T (is_sorted name_cmp es) = t_from_true _ up in
       let parted = searched place by_name
       (searchable_from_sorted nat_list_cmp_total (λ (x : Pair). rc_str_bytes x.0) xs name
-      (IsSortedBy-ascending xs sorted)) in
+      (is_sorted_by_ascending xs sorted)) in
       let long : length es ≡ length xs = length-map xs header_view in
       let low : (k : ℕ) (d : Entry) → k < i → IsBefore (get_or es k d).0 name =
-      λ k d first. let kept = kept-at xs k d (omega arith) in
+      λ k d first. let kept = kept_at xs k d (omega arith) in
       ap (λ (e : Entry). name_cmp e.0 name) kept.1 ∙ parted.0 k kept.0 (omega arith) first in
       let high : (k : ℕ) (d : Entry) → i ≤ k → k < length es
       → name_cmp (get_or es k d).0 name ≡ Greater =
-      λ k d last below. let kept = kept-at xs k d (omega (arith, long)) in
+      λ k d last below. let kept = kept_at xs k d (omega (arith, long)) in
       ap (λ (e : Entry). name_cmp e.0 name) kept.1 ∙ parted.1 k kept.0 last (omega (arith, long)) in
       let fits_view : i ≤ length es = omega (arith, long) in
-      let between = λ (w : List ℕ). put-between name w es i fits_view low high in (
+      let between = λ (w : List ℕ). put_between name w es i fits_view low high in (
         fits_view,
         (between []).1,
         λ w. (between w).0,

@@ -28,42 +28,42 @@ abbrev name_lt : Line → Line → Bool
 name_lt x y = is_lt (name_cmp (string_bytes x.0) (string_bytes y.0))
 
 -- sorted as `sort_by` says it
-AreSorted-from_sort : (xs : List Line) → IsSortedBy name_lt xs → AreSorted (lines_view xs)
-AreSorted-from_sort [] h = tt
-AreSorted-from_sort (x ∷ []) h = tt
-AreSorted-from_sort (x ∷ y ∷ xs) h =
+are_sorted_from_sort : (xs : List Line) → IsSortedBy name_lt xs → AreSorted (lines_view xs)
+are_sorted_from_sort [] h = tt
+are_sorted_from_sort (x ∷ []) h = tt
+are_sorted_from_sort (x ∷ y ∷ xs) h =
     let first : name_lt y x ≡ false = h 0 x (omega arith) (omega arith) in (
       λ before. cc (first, before),
-      AreSorted-from_sort (y ∷ xs) (λ k d low high.
+      are_sorted_from_sort (y ∷ xs) (λ k d low high.
           let next : suc k + 1 ≡ suc (k + 1) =
           omega arith in rw next at (h (suc k) d (omega arith) (omega arith))),
     )
 
 -- a list whose elements all fail a test keeps none of them
-filter-none : {X : Type 0} (p : X → Bool) (xs : List X) → All (λ x. p x ≡ false) xs
+filter_none : {X : Type 0} (p : X → Bool) (xs : List X) → All (λ x. p x ≡ false) xs
     → filter p xs ≡ []
-filter-none p [] h = refl
-filter-none p (x ∷ xs) h =
+filter_none p [] h = refl
+filter_none p (x ∷ xs) h =
     let here : p x ≡ false = h 0 x (omega arith) in
-    rw here (filter-none p xs (λ k d below. h (suc k) d (omega arith)))
+    rw here (filter_none p xs (λ k d below. h (suc k) d (omega arith)))
 
 -- the values of a name, by the lines themselves
 abbrev has_name : List ℕ → Line → Bool
 has_name name x = bytes_eq (string_bytes x.0) name
 
-values_of-lines : (name : List ℕ) (xs : List Line)
+values_of_lines : (name : List ℕ) (xs : List Line)
     → values_of name (lines_view xs)
     ≡ map (λ (x : Line). string_bytes x.1) (filter (has_name name) xs)
-values_of-lines name [] = refl
-values_of-lines name (x ∷ xs) =
+values_of_lines name [] = refl
+values_of_lines name (x ∷ xs) =
     elim (has_name name x) as
     (λ b. map (λ (e : Entry). e.1)
     (cond b (line_view x ∷ filter (λ e. bytes_eq e.0 name) (lines_view xs))
     (filter (λ e. bytes_eq e.0 name) (lines_view xs)))
     ≡ map (λ (y : Line). string_bytes y.1)
     (cond b (x ∷ filter (has_name name) xs) (filter (has_name name) xs))) [
-      | true ↦ ap (λ vs. string_bytes x.1 ∷ vs) (values_of-lines name xs)
-      | false ↦ values_of-lines name xs
+      | true ↦ ap (λ vs. string_bytes x.1 ∷ vs) (values_of_lines name xs)
+      | false ↦ values_of_lines name xs
     ]
 
 -- some line has the name, or none has it
@@ -80,18 +80,18 @@ named_or_not name (x ∷ xs) = elim (named_or_not name xs) [
 ]
 
 -- a stable sort keeps the values of each name, in order
-values_of-stable : (name : List ℕ) (xs ys : List Line) → IsPermutation xs ys
+values_of_stable : (name : List ℕ) (xs ys : List Line) → IsPermutation xs ys
     → IsStableBy name_lt xs ys
     → values_of name (lines_view ys) ≡ values_of name (lines_view xs)
-values_of-stable name xs ys moved stable = values_of-lines name ys
-    ∙ ap (map (λ (x : Line). string_bytes x.1)) kept ∙ sym (values_of-lines name xs)
+values_of_stable name xs ys moved stable = values_of_lines name ys
+    ∙ ap (map (λ (x : Line). string_bytes x.1)) kept ∙ sym (values_of_lines name xs)
   where
     kept : filter (has_name name) ys ≡ filter (has_name name) xs
     kept = elim (named_or_not name xs) [
       | inl found ↦ same found
-      | inr none ↦ filter-none (has_name name) ys
+      | inr none ↦ filter_none (has_name name) ys
           (All-permutation (λ x. has_name name x ≡ false) xs ys moved none)
-          ∙ sym (filter-none (has_name name) xs none)
+          ∙ sym (filter_none (has_name name) xs none)
     ]
       where
         same : (x : Line) × (has_name name x ≡ true)
@@ -116,13 +116,13 @@ module _ {F : Type 0} {g : Mut F (Bor Line × (Bor Line × Unit {0})) Ordering} 
   ranks : IsStrictWeakOrder name_lt
   ranks = ranks_by nat_list_cmp_total (λ (x : Line). string_bytes x.0)
 
-  pub AreSorted-from_clause : {E : Type 0} (r : Result (Unit {0}) E) (xs : List Line)
+  pub are_sorted_from_clause : {E : Type 0} (r : Result (Unit {0}) E) (xs : List Line)
       → OnOk r (IsSortedByClosure g f xs) → OnOk r (AreSorted (lines_view xs))
-  AreSorted-from_clause (Ok u) xs up = AreSorted-from_sort xs (up name_lt ranks by_name)
-  AreSorted-from_clause (Err e) xs up = tt
+  are_sorted_from_clause (Ok u) xs up = are_sorted_from_sort xs (up name_lt ranks by_name)
+  are_sorted_from_clause (Err e) xs up = tt
 
-  pub values_of-from_clause : (name : List ℕ) (xs ys : List Line) → IsPermutation xs ys
+  pub values_of_from_clause : (name : List ℕ) (xs ys : List Line) → IsPermutation xs ys
       → IsStableByClosure g f xs ys
       → values_of name (lines_view ys) ≡ values_of name (lines_view xs)
-  values_of-from_clause name xs ys moved stable =
-      values_of-stable name xs ys moved (stable name_lt ranks by_name)
+  values_of_from_clause name xs ys moved stable =
+      values_of_stable name xs ys moved (stable name_lt ranks by_name)

@@ -26,21 +26,21 @@ same_from_test a b h = (bytes_eq-Decides a b).0 h
 pub test_same : (a : List ℕ) → bytes_eq a a ≡ true
 test_same a = (bytes_eq-Decides a a).1 refl
 
-is_eq-reverse : (o : Ordering) → is_eq (ordering_reverse o) ≡ is_eq o
-is_eq-reverse Less = refl
-is_eq-reverse Equal = refl
-is_eq-reverse Greater = refl
+is_eq_reverse : (o : Ordering) → is_eq (ordering_reverse o) ≡ is_eq o
+is_eq_reverse Less = refl
+is_eq_reverse Equal = refl
+is_eq_reverse Greater = refl
 
 -- two names tie where the test says that they are one
 pub ties_by_test : (a b : List ℕ) → eq_by_cmp name_cmp a b ≡ bytes_eq b a
 ties_by_test a b = ap is_eq (nat_list_cmp_total.antisymm a b)
-    ∙ is_eq-reverse (name_cmp b a) ∙ is_eq-slice_cmp b a
+    ∙ is_eq_reverse (name_cmp b a) ∙ is_eq-slice_cmp b a
 
 pub tied_name : (a : List ℕ) → name_cmp a a ≡ Equal
 tied_name a = tied_itself nat_list_cmp_total a
 
-pub before-trans : (a b c : List ℕ) → IsBefore a b → IsBefore b c → IsBefore a c
-before-trans a b c = nat_list_cmp_total.trans a b c
+pub before_trans : (a b c : List ℕ) → IsBefore a b → IsBefore b c → IsBefore a c
+before_trans a b c = nat_list_cmp_total.trans a b c
 
 -- the other way round, the order is turned
 pub after_from_before : (a b : List ℕ) → IsBefore a b → name_cmp b a ≡ Greater

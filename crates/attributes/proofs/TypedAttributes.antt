@@ -13,7 +13,7 @@ use Rattle.attributes.specs.Conn.{IsPort}
 use Rattle.attributes.specs.Request.{IsRequest, IsTextEntry, RequestValue, header_of, protocol_of}
 use Rattle.attributes.specs.declared.attribute.AttrId.{AttrId}
 use Rattle.attributes.specs.declared.attribute.AttrType.{AttrType}
-use Rattle.attributes.proofs.HeaderMaps.{All-get}
+use Rattle.attributes.proofs.HeaderMaps.{all_get}
 
 module _ (c : ℕ) (ascii : c < 128) (bs : List ℕ) (texts : IsUtf8 bs) where
   -- the place of the first such character, if there is one
@@ -26,15 +26,15 @@ module _ (c : ℕ) (ascii : c < 128) (bs : List ℕ) (texts : IsUtf8 bs) where
       rw same ascii
 
   -- a text is cut before an ASCII character
-  IsUtf8-before_first : IsUtf8 (before_first (λ b. b == c) bs)
-  IsUtf8-before_first = elim (cases_lt n (length bs)) [
+  is_utf8_before_first : IsUtf8 (before_first (λ b. b == c) bs)
+  is_utf8_before_first = elim (cases_lt n (length bs)) [
     | inl below ↦ IsUtf8-take bs n texts (IsCharBoundary-before_ascii bs n below (here below))
     | inr end ↦ rw (take_all n bs end) texts
   ]
 
   -- and behind it
-  IsUtf8-after_first : IsUtf8 (after_first (λ b. b == c) bs)
-  IsUtf8-after_first = elim (cases_lt n (length bs)) [
+  is_utf8_after_first : IsUtf8 (after_first (λ b. b == c) bs)
+  is_utf8_after_first = elim (cases_lt n (length bs)) [
     | inl below ↦ IsUtf8-drop bs (n + 1) texts
         (IsCharBoundary-after_ascii bs n texts below (here below))
     | inr end ↦ rw (drop_all (n + 1) bs (omega (arith, end))) IsUtf8-nil
@@ -42,13 +42,13 @@ module _ (c : ℕ) (ascii : c < 128) (bs : List ℕ) (texts : IsUtf8 bs) where
 
 module _ (r : RequestValue) (sound : IsRequest r) where
   whole_text : IsUtf8 (without_fragment r.target)
-  whole_text = IsUtf8-before_first 35 (lit< tt) r.target sound.target
+  whole_text = is_utf8_before_first 35 (lit< tt) r.target sound.target
 
   path_text : IsUtf8 (url_path_of r.target)
-  path_text = IsUtf8-before_first 63 (lit< tt) _ whole_text
+  path_text = is_utf8_before_first 63 (lit< tt) _ whole_text
 
   query_text : IsUtf8 (query_of r.target)
-  query_text = IsUtf8-after_first 63 (lit< tt) _ whole_text
+  query_text = is_utf8_after_first 63 (lit< tt) _ whole_text
 
   protocol_text : (b : Bool) → IsUtf8 (protocol_of b)
   unfolding lib.Utf8.encode
@@ -59,7 +59,7 @@ module _ (r : RequestValue) (sound : IsRequest r) where
   header_text name = elim (header_of r name) as (λ o. header_of r name ≡ o
       → IfSome (option_map text o) (HasAttrType AttrType.Text)) [
         | None ↦ λ e. tt
-        | Some v ↦ λ e. (All-get IsTextEntry r.headers sound.headers name v e).1
+        | Some v ↦ λ e. (all_get IsTextEntry r.headers sound.headers name v e).1
       ] refl
 
   fact_text : (o : Option (List ℕ)) → IfSome o IsUtf8

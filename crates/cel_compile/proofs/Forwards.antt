@@ -10,7 +10,7 @@ use Rattle.cel_tree.specs.GoodConstants.{HasGoodConstants}
 use Rattle.cel_types.specs.Elaborated.{IsElaborated, TypedTree, typed_constant, typed_local, typed_attribute, typed_field, typed_has, typed_call, typed_list, typed_map, typed_loop, TypedTrees, no_typed, typed, kind, kinds}
 use Rattle.cel_types.specs.Typing.{IsOver, maps_of}
 use Rattle.cel_types.specs.WellTyped.{AreWellTyped, IsWellTyped}
-use Rattle.cel_types.proofs.WellTypedElaborations.{elaborated-typed}
+use Rattle.cel_types.proofs.WellTypedElaborations.{elaborated_typed}
 use Rattle.stack_machine.specs.Instructions.{Instruction, Attr, And, Const, Field, HasField, IfFalse, IfTrue, Load, Or}
 use Rattle.stack_machine.specs.Shapes.{Serves, leaves, ways}
 use Rattle.stack_machine.specs.Slots.{Slot, field_slot, has_field_slot, of}
@@ -355,4 +355,4 @@ code_is_forward e g =
 pub elaborated_code_is_forward : (c : CelChecked) (e : TypedTree) → HasGoodConstants c.tree → IsElaborated c e
     → Forward (code_of 0 0 e) (kind e)
 elaborated_code_is_forward c e good elaborated =
-    code_is_forward e (elaborated-typed (maps_of c) [] c.tree e good elaborated.elaborates)
+    code_is_forward e (elaborated_typed (maps_of c) [] c.tree e good elaborated.elaborates)

@@ -7,7 +7,7 @@ use Rattle.std.proofs.lemmas.Bool.Decides.{nat_tests}
 use Rattle.std.proofs.lemmas.Grind.{reverse_onto}
 use Rattle.std.proofs.lemmas.List.{length-map, length-reverse, reverse-reverse}
 use Rattle.std.proofs.Math.Seq.{take-append_seam, drop-append_seam}
-use Rattle.cel_value.specs.EqualityLaws.{type_eq-Decides}
+use Rattle.cel_value.specs.EqualityLaws.{type_eq_decides}
 use Rattle.cel_value.specs.Types.{HasType, ValueType, bool_type, int_type, uint_type, text_type, bytes_type, list_type, map_type, type_eq, type_of_key}
 use Rattle.cel_value.specs.Values.{CelValue, bool, int, uint, text, bytes}
 use Rattle.cel_value.specs.declared.cel_type.KeyType.{KeyType}
@@ -123,7 +123,7 @@ constant_known _ t e h = absurd cc
 -- ---- slots of one type
 
 pub type_self : (t : ValueType) → type_eq t t ≡ true
-type_self t = (type_eq-Decides t t).1 refl
+type_self t = (type_eq_decides t t).1 refl
 
 joined_self : (t : ValueType) → joined_slot (of t) (of t) ≡ Some (of t)
 joined_self t = rw (type_self t) refl

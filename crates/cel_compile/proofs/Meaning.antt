@@ -10,7 +10,7 @@ use Rattle.cel_types.specs.Typing.{maps_of}
 use Rattle.cel_types.specs.TypedMeaning.{typed_answer}
 use Rattle.cel_types.specs.WellTyped.{IsWellTyped}
 use Rattle.cel_types.proofs.MeansTheSame.{means-same}
-use Rattle.cel_types.proofs.WellTypedElaborations.{elaborated-typed}
+use Rattle.cel_types.proofs.WellTypedElaborations.{elaborated_typed}
 use Rattle.cel_compile.specs.Codes.{code_of}
 use Rattle.cel_compile.specs.Sound.{RunsTo, RunsToMeaning}
 use Rattle.cel_compile.proofs.Whole.{code_is_sound}
@@ -19,7 +19,7 @@ pub code_means : (c : CelChecked) (e : TypedTree) → HasGoodConstants c.tree �
     → (request : RequestValue) (limits : LimitsValue) → IsRequest request → InLimits request limits
     → RunsToMeaning (code_of 0 0 e) c e request limits
 code_means c e good elaborated request limits valid within =
-    let typed : IsWellTyped [] e = elaborated-typed (maps_of c) [] c.tree e good elaborated.elaborates in
+    let typed : IsWellTyped [] e = elaborated_typed (maps_of c) [] c.tree e good elaborated.elaborates in
     let run : RunsTo (code_of 0 0 e) e request limits =
     code_is_sound e (code_of 0 0 e) typed refl request limits valid within in
     let same : eval c.tree request [] ≡ typed_answer e request [] =

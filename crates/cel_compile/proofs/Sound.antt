@@ -20,7 +20,7 @@ use Rattle.cel_types.specs.Elaborated.{TypedTree, typed_constant, typed_local, t
 use Rattle.cel_types.specs.Meaning.{before, fold, over}
 use Rattle.cel_types.specs.TypedMeaning.{typed_answer, typed_answers}
 use Rattle.cel_types.specs.WellTyped.{AreKeyed, AreWellTyped, IsWellTyped}
-use Rattle.cel_types.proofs.WellTypedAnswers.{answer_typed, answers_typed, walked-typed}
+use Rattle.cel_types.proofs.WellTypedAnswers.{answer_typed, answers_typed, walked_typed}
 use Rattle.cost_bound.specs.Costs.{charge_at, cost_of, costs_of, element_size, grown, map_cost, size_of, sizes_of, total, turns_cost}
 use Rattle.cost_bound.specs.Sizes.{AllWithin, Fits, Size, Within, join, most_of}
 use Rattle.stack_machine.specs.Instructions.{Instruction, Const, Attr, Load, Store, EmptyList, EmptyMap, Field, HasField, LoopStart, MakeList, MakeMap}
@@ -314,7 +314,7 @@ module _ (code : List Instruction) (request : RequestValue) (limits : LimitsValu
           bounds.long v over_size fit,
           loop_goes code request ls lo st n k l q C S R cc cs cr next IsElement IsGathered parts vs most x.0 from r
               (answer_has_type init ks ls x.0 ht g.1 x.1, bounds.answer init ks ls sizes x.0 g.1 hw x.1)
-              (both_each element item_size vs (elements_typed (elements_of v) vs element is_elements (walked-typed (kind range) element g.2.1 v range_typed))
+              (both_each element item_size vs (elements_typed (elements_of v) vs element is_elements (walked_typed (kind range) element g.2.1 v range_typed))
               (bounds.elements v vs over_size fit is_elements))
               (bounds.few v vs over_size fit is_elements) x.2,
         ))

@@ -8,7 +8,7 @@ use Rattle.cel_value.specs.Keys.{get, key_of_value, put, IsAscending}
 use Rattle.cel_value.specs.View.{items_of}
 use Rattle.cel_value.specs.declared.error.CelError.{CelError}
 use Rattle.cel_value.specs.declared.error.CelError.TheVariants.{RepeatedKey}
-use Rattle.cel_value.proofs.Places.{get-put, put-ascending}
+use Rattle.cel_value.proofs.Places.{get_put, put_ascending}
 use Rattle.cel_ops.specs.Strict.{Gathered, all_values, first_error, gathered_after, gather}
 use Rattle.cel_ops.specs.Collections.{are_distinct, all_put, entry_before, map_made_of, written_entries}
 
@@ -17,18 +17,18 @@ abbrev pub behind : List CelValue → Gathered → Gathered
 behind [] g = g
 behind (v ∷ vs) g = gathered_after v (behind vs g)
 
-pub behind-error : (vs : List CelValue) (e : CelError) → behind vs (first_error e) ≡ first_error e
-behind-error [] e = refl
-behind-error (v ∷ vs) e = ap (gathered_after v) (behind-error vs e)
+pub behind_error : (vs : List CelValue) (e : CelError) → behind vs (first_error e) ≡ first_error e
+behind_error [] e = refl
+behind_error (v ∷ vs) e = ap (gathered_after v) (behind_error vs e)
 
-pub behind-none : (vs : List CelValue) → behind vs (all_values no_items) ≡ all_values (items_of vs)
-behind-none [] = refl
-behind-none (v ∷ vs) = ap (gathered_after v) (behind-none vs)
+pub behind_none : (vs : List CelValue) → behind vs (all_values no_items) ≡ all_values (items_of vs)
+behind_none [] = refl
+behind_none (v ∷ vs) = ap (gathered_after v) (behind_none vs)
 
-pub behind-one : (vs : List CelValue) (v : CelValue) (g : Gathered)
+pub behind_one : (vs : List CelValue) (v : CelValue) (g : Gathered)
     → behind (vs ++ v ∷ []) g ≡ behind vs (gathered_after v g)
-behind-one [] v g = refl
-behind-one (w ∷ vs) v g = ap (gathered_after w) (behind-one vs v g)
+behind_one [] v g = refl
+behind_one (w ∷ vs) v g = ap (gathered_after w) (behind_one vs v g)
 
 -- entries put in their places among ascending ones, until a key is there already
 abbrev pub insert_all : CelEntries → CelEntries → CelAnswer
@@ -41,19 +41,19 @@ abbrev pub are_new : CelEntries → CelEntries → Bool
 are_new made no_entries = true
 are_new made (entry k v es) = not (is_some (get made k)) && are_new made es
 
-pub is_none-get : (made : CelEntries) (k : CelKey) → is_some (get made k) ≡ false → get made k
+pub is_none_get : (made : CelEntries) (k : CelKey) → is_some (get made k) ≡ false → get made k
     ≡ None
-is_none-get made k h = at (get made k) h
+is_none_get made k h = at (get made k) h
   where
     at : (o : Option CelValue) → is_some o ≡ false → o ≡ None
     at None h = refl
     at (Some v) h = absurd cc
 
-pub are_new-put : (k : CelKey) (v : CelValue) (made es : CelEntries) → get made k ≡ None
+pub are_new_put : (k : CelKey) (v : CelValue) (made es : CelEntries) → get made k ≡ None
     → are_new (put k v made) es ≡ (not (is_some (get es k)) && are_new made es)
-are_new-put k v made no_entries h = refl
-are_new-put k v made (entry j w es) h =
-    rw (get-put k v made j h, key_eq_equiv.symm k j, are_new-put k v made es h)
+are_new_put k v made no_entries h = refl
+are_new_put k v made (entry j w es) h =
+    rw (get_put k v made j h, key_eq_equiv.symm k j, are_new_put k v made es h)
     (either (key_eq j k) (get made j) (get es k) v w (are_new made es))
   where
     either : (same : Bool) (mine theirs : Option CelValue) (v w : CelValue) (rest : Bool)
@@ -66,12 +66,12 @@ are_new-put k v made (entry j w es) h =
     either false (Some m) (Some t) v w rest = refl
 
 -- they make the map of all if no key stands twice, and none is there already
-pub insert_all-puts : (made es : CelEntries)
+pub insert_all_puts : (made es : CelEntries)
     → insert_all made es
     ≡ cond (are_distinct es && are_new made es) (value (map_of (all_put made es)))
     (fails RepeatedKey)
-insert_all-puts made no_entries = refl
-insert_all-puts made (entry k v es) = at (get made k) refl (insert_all-puts (put k v made) es)
+insert_all_puts made no_entries = refl
+insert_all_puts made (entry k v es) = at (get made k) refl (insert_all_puts (put k v made) es)
   where
     fold : (a b c : Bool) (x y : CelAnswer) → cond (a && (b && c)) x y
         ≡ cond ((b && a) && (true && c)) x y
@@ -93,7 +93,7 @@ insert_all-puts made (entry k v es) = at (get made k) refl (insert_all-puts (put
         (get made k)) && are_new made es))
         (value (map_of (all_put (put k v made) es))) (fails RepeatedKey)
     at None e more =
-        rw (e, more, are_new-put k v made es e)
+        rw (e, more, are_new_put k v made es e)
         (fold (are_distinct es) (not (is_some (get es k))) (are_new made es) _ _)
     at (Some w) e more = rw e (no_more (not (is_some (get es k)) && are_distinct es) _ _)
 
@@ -101,8 +101,8 @@ pub all_new : (es : CelEntries) → are_new no_entries es ≡ true
 all_new no_entries = refl
 all_new (entry k v es) = all_new es
 
-pub made-map : (es : CelEntries) → insert_all no_entries es ≡ map_made_of es
-made-map es = insert_all-puts no_entries es
+pub made_map : (es : CelEntries) → insert_all no_entries es ≡ map_made_of es
+made_map es = insert_all_puts no_entries es
     ∙ rw (all_new es) (same (are_distinct es) (value (map_of (all_put no_entries es)))
     (fails RepeatedKey))
   where
@@ -110,18 +110,18 @@ made-map es = insert_all-puts no_entries es
     same true x y = refl
     same false x y = refl
 
-pub made-maps : (o : Option CelEntries) → option_map (insert_all no_entries) o
+pub made_maps : (o : Option CelEntries) → option_map (insert_all no_entries) o
     ≡ option_map map_made_of o
-made-maps None = refl
-made-maps (Some es) = ap Some (made-map es)
+made_maps None = refl
+made_maps (Some es) = ap Some (made_map es)
 
 -- a key and a value among those that are written, when the key is new and when it is not
 
-pub pair-put : (made : CelEntries) (k v : CelValue) (vs : CelValues) (key : CelKey)
+pub pair_put : (made : CelEntries) (k v : CelValue) (vs : CelValues) (key : CelKey)
     → Some key ≡ key_of_value k → get made key ≡ None
     → option_map (insert_all made) (written_entries (item k (item v vs)))
     ≡ option_map (insert_all (put key v made)) (written_entries vs)
-pair-put made k v vs key is new = rw (← is) (at (written_entries vs))
+pair_put made k v vs key is new = rw (← is) (at (written_entries vs))
   where
     at : (o : Option CelEntries)
         → option_map (insert_all made) (entry_before (Some key) v o)
@@ -129,10 +129,10 @@ pair-put made k v vs key is new = rw (← is) (at (written_entries vs))
     at None = refl
     at (Some es) = rw new refl
 
-pub pair-repeated : (made : CelEntries) (k v : CelValue) (vs : CelValues) (key : CelKey)
+pub pair_repeated : (made : CelEntries) (k v : CelValue) (vs : CelValues) (key : CelKey)
     → Some key ≡ key_of_value k → get made key ≢ None → written_entries (item k (item v vs)) ≢ None
     → option_map (insert_all made) (written_entries (item k (item v vs))) ≡ Some (fails RepeatedKey)
-pair-repeated made k v vs key is there kinds =
+pair_repeated made k v vs key is there kinds =
     rw (← is) (at (written_entries vs) (get made key) refl (rw (← is) at kinds))
   where
     at : (o : Option CelEntries) (found : Option CelValue) → get made key ≡ found
@@ -142,8 +142,8 @@ pair-repeated made k v vs key is there kinds =
     at (Some es) None e some = absurd (there e)
     at (Some es) (Some w) e some = rw e refl
 
-pub still-some : {A : Type 0} (f g : CelEntries → A) (o p : Option CelEntries)
+pub still_some : {A : Type 0} (f g : CelEntries → A) (o p : Option CelEntries)
     → option_map f o ≡ option_map g p → p ≢ None → o ≢ None
-still-some f g None None e some = some
-still-some f g None (Some es) e some = λ none. none-some _ e
-still-some f g (Some es) p e some = λ none. none-some _ (sym none)
+still_some f g None None e some = some
+still_some f g None (Some es) e some = λ none. none-some _ e
+still_some f g (Some es) p e some = λ none. none-some _ (sym none)

@@ -13,12 +13,12 @@ use Rattle.std.proofs.lemmas.Str.{chars-nil, chars-append, encodes-chars, encode
 use Rattle.memchr.specs.Find.{OccursAt, FindsNeedle}
 use Rattle.memchr.proofs.lemmas.MatchLemmas.{OccursAt-part, OccursAt-from_part}
 use Rattle.cel_ops.specs.Parts.{begins, ends, contains, IsFront, IsBack, IsPart}
-use Rattle.cel_ops.proofs.Parts.{begins-Decides, ends-Decides, contains-Decides}
+use Rattle.cel_ops.proofs.Parts.{begins_decides, ends_decides, contains_decides}
 
 -- what stands before a text within a text is a text
-before-utf8 : (before : List ℕ) (p : ℕ) (ps after bs : List ℕ) → IsUtf8 (p ∷ ps) → IsUtf8 bs
+before_utf8 : (before : List ℕ) (p : ℕ) (ps after bs : List ℕ) → IsUtf8 (p ∷ ps) → IsUtf8 bs
     → bs ≡ before ++ (p ∷ (ps ++ after)) → IsUtf8 before
-before-utf8 before p ps after bs u w e =
+before_utf8 before p ps after bs u w e =
     let here : get_or bs (length before) 0 ≡ p =
     ap (λ xs. get_or xs (length before) 0) e ∙ get_or-append_seam before p (ps ++ after) 0 in
     let long : length bs ≡ length before + length (p ∷ (ps ++ after)) =
@@ -31,18 +31,18 @@ before-utf8 before p ps after bs u w e =
     subst IsUtf8 same (IsUtf8-take bs (length before) w boundary)
 
 module _ (ps bs : List ℕ) (u : IsUtf8 ps) (w : IsUtf8 bs) where
-  front-chars : IsFront ps bs → IsFront (chars ps) (chars bs)
-  front-chars h = (chars h.0, ap chars h.1 ∙ chars-append ps h.0 u)
+  front_chars : IsFront ps bs → IsFront (chars ps) (chars bs)
+  front_chars h = (chars h.0, ap chars h.1 ∙ chars-append ps h.0 u)
 
-  front-bytes : IsFront (chars ps) (chars bs) → IsFront ps bs
-  front-bytes h = (
+  front_bytes : IsFront (chars ps) (chars bs) → IsFront ps bs
+  front_bytes h = (
     encode_utf8_all h.0,
     sym (encodes-chars bs w) ∙ ap encode_utf8_all h.1 ∙ encodes-append (chars ps) h.0
         ∙ ap (λ xs. xs ++ encode_utf8_all h.0) (encodes-chars ps u),
   )
 
-  part-bytes : IsPart (chars ps) (chars bs) → IsPart ps bs
-  part-bytes h = (
+  part_bytes : IsPart (chars ps) (chars bs) → IsPart ps bs
+  part_bytes h = (
     encode_utf8_all h.0,
     encode_utf8_all h.1,
     sym (encodes-chars bs w) ∙ ap encode_utf8_all h.2 ∙ encodes-append h.0 (chars ps ++ h.1)
@@ -50,28 +50,28 @@ module _ (ps bs : List ℕ) (u : IsUtf8 ps) (w : IsUtf8 bs) where
         ∙ ap (λ xs. xs ++ encode_utf8_all h.1) (encodes-chars ps u)),
   )
 
-  back-bytes : IsBack (chars ps) (chars bs) → IsBack ps bs
-  back-bytes h = (
+  back_bytes : IsBack (chars ps) (chars bs) → IsBack ps bs
+  back_bytes h = (
     encode_utf8_all h.0,
     sym (encodes-chars bs w) ∙ ap encode_utf8_all h.1 ∙ encodes-append h.0 (chars ps)
         ∙ ap (λ xs. encode_utf8_all h.0 ++ xs) (encodes-chars ps u),
   )
 
-part-chars : (ps bs : List ℕ) → IsUtf8 ps → IsUtf8 bs → IsPart ps bs → IsPart (chars ps) (chars bs)
-part-chars [] bs u w h = ([], chars bs, rw chars-nil refl)
-part-chars (p ∷ ps) bs u w h = (
+part_chars : (ps bs : List ℕ) → IsUtf8 ps → IsUtf8 bs → IsPart ps bs → IsPart (chars ps) (chars bs)
+part_chars [] bs u w h = ([], chars bs, rw chars-nil refl)
+part_chars (p ∷ ps) bs u w h = (
   chars h.0,
   chars h.1,
-  ap chars h.2 ∙ chars-append h.0 ((p ∷ ps) ++ h.1) (before-utf8 h.0 p ps h.1 bs u w h.2)
+  ap chars h.2 ∙ chars-append h.0 ((p ∷ ps) ++ h.1) (before_utf8 h.0 p ps h.1 bs u w h.2)
       ∙ ap (λ xs. chars h.0 ++ xs) (chars-append (p ∷ ps) h.1 u),
 )
 
-back-chars : (ps bs : List ℕ) → IsUtf8 ps → IsUtf8 bs → IsBack ps bs → IsBack (chars ps) (chars bs)
-back-chars [] bs u w h = (chars bs, rw chars-nil (sym (append-nil (chars bs))))
-back-chars (p ∷ ps) bs u w h =
+back_chars : (ps bs : List ℕ) → IsUtf8 ps → IsUtf8 bs → IsBack ps bs → IsBack (chars ps) (chars bs)
+back_chars [] bs u w h = (chars bs, rw chars-nil (sym (append-nil (chars bs))))
+back_chars (p ∷ ps) bs u w h =
     let whole : bs ≡ h.0 ++ (p ∷ (ps ++ [])) =
     h.1 ∙ ap (λ xs. h.0 ++ (p ∷ xs)) (sym (append-nil ps)) in
-    (chars h.0, ap chars h.1 ∙ chars-append h.0 (p ∷ ps) (before-utf8 h.0 p ps [] bs u w whole))
+    (chars h.0, ap chars h.1 ∙ chars-append h.0 (p ∷ ps) (before_utf8 h.0 p ps [] bs u w whole))
 
 -- ---- what the searches of the code answer
 
@@ -128,19 +128,19 @@ pub starts_text : (bs ps : List ℕ) → IsUtf8 bs → IsUtf8 ps
     → starts_with nat_eq bs ps ≡ begins (chars bs) (chars ps)
 starts_text bs ps w u =
     let d = starts bs ps in
-    let e = begins-Decides (chars bs) (chars ps) in
-    same_from_decides _ _ d (λ t. front-bytes ps bs u w (e.0 t), λ h. e.1 (front-chars ps bs u w h))
+    let e = begins_decides (chars bs) (chars ps) in
+    same_from_decides _ _ d (λ t. front_bytes ps bs u w (e.0 t), λ h. e.1 (front_chars ps bs u w h))
 
 pub ends_text : (bs ps : List ℕ) → IsUtf8 bs → IsUtf8 ps
     → ends_with nat_eq bs ps ≡ ends (chars bs) (chars ps)
 ends_text bs ps w u =
     let d = finishes bs ps in
-    let e = ends-Decides (chars bs) (chars ps) in
-    same_from_decides _ _ d (λ t. back-bytes ps bs u w (e.0 t), λ h. e.1 (back-chars ps bs u w h))
+    let e = ends_decides (chars bs) (chars ps) in
+    same_from_decides _ _ d (λ t. back_bytes ps bs u w (e.0 t), λ h. e.1 (back_chars ps bs u w h))
 
 pub contains_text : (bs ps : List ℕ) (r : Option ℕ) → IsUtf8 bs → IsUtf8 ps → FindsNeedle bs ps 0 r
     → is_some r ≡ contains (chars bs) (chars ps)
 contains_text bs ps r w u finds =
     let d = found bs ps r finds in
-    let e = contains-Decides (chars bs) (chars ps) in
-    same_from_decides _ _ d (λ t. part-bytes ps bs u w (e.0 t), λ h. e.1 (part-chars ps bs u w h))
+    let e = contains_decides (chars bs) (chars ps) in
+    same_from_decides _ _ d (λ t. part_bytes ps bs u w (e.0 t), λ h. e.1 (part_chars ps bs u w h))

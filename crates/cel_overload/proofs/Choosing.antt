@@ -3,7 +3,7 @@ use Rattle.std.proofs.Common.{◌≡◌, ◌&&◌, Bool, true, false, cond, List
 use Rattle.std.proofs.lemmas.Bool.{and_parts}
 use Rattle.std.proofs.lemmas.Option.{none-some}
 use Rattle.cel_value.specs.Types.{ValueType, bool_type, int_type, uint_type, text_type, bytes_type, list_type, map_type, type_eq, type_of_key}
-use Rattle.cel_value.specs.EqualityLaws.{type_eq-Decides}
+use Rattle.cel_value.specs.EqualityLaws.{type_eq_decides}
 use Rattle.cel_ops.specs.Typed.{IsJoined, IsOrdered, IsSized}
 use Rattle.cel_ops.specs.declared.arithmetic.ArithmeticOp.{ArithmeticOp}
 use Rattle.cel_ops.specs.declared.arithmetic.ArithmeticOp.TheVariants as ops
@@ -18,10 +18,10 @@ use Rattle.cel_overload.specs.declared.overload.Overload.{Overload}
 use Rattle.cel_overload.specs.declared.overload.Overload.TheVariants as overloads
 
 same : (s t : ValueType) → type_eq s t ≡ true → s ≡ t
-same s t e = (type_eq-Decides s t).0 e
+same s t e = (type_eq_decides s t).0 e
 
 itself : (t : ValueType) → type_eq t t ≡ true
-itself t = (type_eq-Decides t t).1 refl
+itself t = (type_eq_decides t t).1 refl
 
 -- ---- what an overload takes is chosen
 
@@ -113,166 +113,166 @@ pair s t u e =
     let parts = and_parts (type_eq s u) (type_eq t u) e in
     rw (same s u parts.0, same t u parts.1) refl
 
-is-ordered : (t : ValueType) → is_ordered t ≡ true → IsOrdered t
-is-ordered bool_type h = tt
-is-ordered int_type h = tt
-is-ordered uint_type h = tt
-is-ordered text_type h = tt
-is-ordered bytes_type h = tt
-is-ordered (list_type t) h = cc
-is-ordered (map_type k t) h = cc
+is_ordered_fact : (t : ValueType) → is_ordered t ≡ true → IsOrdered t
+is_ordered_fact bool_type h = tt
+is_ordered_fact int_type h = tt
+is_ordered_fact uint_type h = tt
+is_ordered_fact text_type h = tt
+is_ordered_fact bytes_type h = tt
+is_ordered_fact (list_type t) h = cc
+is_ordered_fact (map_type k t) h = cc
 
-is-number : (t : ValueType) → is_number t ≡ true → IsNumber t
-is-number int_type h = tt
-is-number uint_type h = tt
-is-number bool_type h = cc
-is-number text_type h = cc
-is-number bytes_type h = cc
-is-number (list_type t) h = cc
-is-number (map_type k t) h = cc
+is_number_fact : (t : ValueType) → is_number t ≡ true → IsNumber t
+is_number_fact int_type h = tt
+is_number_fact uint_type h = tt
+is_number_fact bool_type h = cc
+is_number_fact text_type h = cc
+is_number_fact bytes_type h = cc
+is_number_fact (list_type t) h = cc
+is_number_fact (map_type k t) h = cc
 
-is-joined : (t : ValueType) → is_joined t ≡ true → IsJoined t
-is-joined text_type h = tt
-is-joined bytes_type h = tt
-is-joined (list_type t) h = tt
-is-joined bool_type h = cc
-is-joined int_type h = cc
-is-joined uint_type h = cc
-is-joined (map_type k t) h = cc
+is_joined_fact : (t : ValueType) → is_joined t ≡ true → IsJoined t
+is_joined_fact text_type h = tt
+is_joined_fact bytes_type h = tt
+is_joined_fact (list_type t) h = tt
+is_joined_fact bool_type h = cc
+is_joined_fact int_type h = cc
+is_joined_fact uint_type h = cc
+is_joined_fact (map_type k t) h = cc
 
-is-sized : (t : ValueType) → is_sized t ≡ true → IsSized t
-is-sized text_type h = tt
-is-sized bytes_type h = tt
-is-sized (list_type t) h = tt
-is-sized (map_type k t) h = tt
-is-sized bool_type h = cc
-is-sized int_type h = cc
-is-sized uint_type h = cc
+is_sized_fact : (t : ValueType) → is_sized t ≡ true → IsSized t
+is_sized_fact text_type h = tt
+is_sized_fact bytes_type h = tt
+is_sized_fact (list_type t) h = tt
+is_sized_fact (map_type k t) h = tt
+is_sized_fact bool_type h = cc
+is_sized_fact int_type h = cc
+is_sized_fact uint_type h = cc
 
-are-compared : (op : CompareOp) (s t : ValueType) → are_compared op s t ≡ true
+are_compared_fact : (op : CompareOp) (s t : ValueType) → are_compared op s t ≡ true
     → IsCompared op s × (s ≡ t)
-are-compared compares.Equal s t e = (tt, same s t e)
-are-compared compares.NotEqual s t e = (tt, same s t e)
-are-compared compares.Less s t e =
+are_compared_fact compares.Equal s t e = (tt, same s t e)
+are_compared_fact compares.NotEqual s t e = (tt, same s t e)
+are_compared_fact compares.Less s t e =
     let parts = and_parts (is_ordered s) (type_eq s t) e in
-    (is-ordered s parts.0, same s t parts.1)
-are-compared compares.LessOrEqual s t e =
+    (is_ordered_fact s parts.0, same s t parts.1)
+are_compared_fact compares.LessOrEqual s t e =
     let parts = and_parts (is_ordered s) (type_eq s t) e in
-    (is-ordered s parts.0, same s t parts.1)
-are-compared compares.Greater s t e =
+    (is_ordered_fact s parts.0, same s t parts.1)
+are_compared_fact compares.Greater s t e =
     let parts = and_parts (is_ordered s) (type_eq s t) e in
-    (is-ordered s parts.0, same s t parts.1)
-are-compared compares.GreaterOrEqual s t e =
+    (is_ordered_fact s parts.0, same s t parts.1)
+are_compared_fact compares.GreaterOrEqual s t e =
     let parts = and_parts (is_ordered s) (type_eq s t) e in
-    (is-ordered s parts.0, same s t parts.1)
+    (is_ordered_fact s parts.0, same s t parts.1)
 
 twice : (s t : ValueType) → s ≡ t → (s ∷ t ∷ []) ≡ (s ∷ s ∷ [])
 twice s t e = rw (sym e) refl
 
-calculated-fits : (op : ArithmeticOp) (s t : ValueType) (o : Overload) (r : ValueType)
+calculated_fits : (op : ArithmeticOp) (s t : ValueType) (o : Overload) (r : ValueType)
     → calculated op s t ≡ Some (o, r) → Fits (functions.Arithmetic op) (s ∷ t ∷ []) o r
-calculated-fits op s t o r e =
+calculated_fits op s t o r e =
     chosen_when (Fits (functions.Arithmetic op) (s ∷ t ∷ [])) (is_number s && type_eq s t)
     (overloads.Arithmetic op) s o r e (λ h.
     let parts = and_parts (is_number s) (type_eq s t) h in
-    (refl, (is-number s parts.0, twice s t (same s t parts.1))))
+    (refl, (is_number_fact s parts.0, twice s t (same s t parts.1))))
 
-arithmetic-fits : (op : ArithmeticOp) (s t : ValueType) (o : Overload) (r : ValueType)
+arithmetic_fits : (op : ArithmeticOp) (s t : ValueType) (o : Overload) (r : ValueType)
     → choose_arithmetic op s t ≡ Some (o, r) → Fits (functions.Arithmetic op) (s ∷ t ∷ []) o r
-arithmetic-fits ops.Add s t o r e = at (is_joined s) refl e
+arithmetic_fits ops.Add s t o r e = at (is_joined s) refl e
   where
     at : (b : Bool) → is_joined s ≡ b
         → cond b (when (type_eq s t) overloads.Concat s) (calculated ops.Add s t) ≡ Some (o, r)
         → Fits (functions.Arithmetic ops.Add) (s ∷ t ∷ []) o r
     at true j e = chosen_when (Fits (functions.Arithmetic ops.Add) (s ∷ t ∷ [])) (type_eq s t)
-        overloads.Concat s o r e (λ h. (refl, (is-joined s j, twice s t (same s t h))))
-    at false j e = calculated-fits ops.Add s t o r e
-arithmetic-fits ops.Subtract s t o r e = calculated-fits ops.Subtract s t o r e
-arithmetic-fits ops.Multiply s t o r e = calculated-fits ops.Multiply s t o r e
-arithmetic-fits ops.Divide s t o r e = calculated-fits ops.Divide s t o r e
-arithmetic-fits ops.Remainder s t o r e = calculated-fits ops.Remainder s t o r e
+        overloads.Concat s o r e (λ h. (refl, (is_joined_fact s j, twice s t (same s t h))))
+    at false j e = calculated_fits ops.Add s t o r e
+arithmetic_fits ops.Subtract s t o r e = calculated_fits ops.Subtract s t o r e
+arithmetic_fits ops.Multiply s t o r e = calculated_fits ops.Multiply s t o r e
+arithmetic_fits ops.Divide s t o r e = calculated_fits ops.Divide s t o r e
+arithmetic_fits ops.Remainder s t o r e = calculated_fits ops.Remainder s t o r e
 
-unary-fits : (f : Function) (s : ValueType) (o : Overload) (r : ValueType)
+unary_fits : (f : Function) (s : ValueType) (o : Overload) (r : ValueType)
     → choose_unary f s ≡ Some (o, r) → Fits f (s ∷ []) o r
-unary-fits functions.Not s o r e =
+unary_fits functions.Not s o r e =
     chosen_when (Fits functions.Not (s ∷ [])) (type_eq s bool_type) overloads.LogicalNot bool_type
     o r e (λ h. (refl, (rw (same s bool_type h) refl, refl)))
-unary-fits functions.NotStrictlyFalse s o r e =
+unary_fits functions.NotStrictlyFalse s o r e =
     chosen_when (Fits functions.NotStrictlyFalse (s ∷ [])) (type_eq s bool_type)
     overloads.NotStrictlyFalse bool_type
     o r e (λ h. (refl, (rw (same s bool_type h) refl, refl)))
-unary-fits functions.Negate s o r e =
+unary_fits functions.Negate s o r e =
     chosen_when (Fits functions.Negate (s ∷ [])) (type_eq s int_type) overloads.Negate int_type
     o r e (λ h. (refl, (rw (same s int_type h) refl, refl)))
-unary-fits functions.Size s o r e =
+unary_fits functions.Size s o r e =
     chosen_when (Fits functions.Size (s ∷ [])) (is_sized s) overloads.Size int_type
-    o r e (λ h. (refl, (s, is-sized s h, refl, refl)))
-unary-fits _ s o r e = absurd (none-some (o, r) e)
+    o r e (λ h. (refl, (s, is_sized_fact s h, refl, refl)))
+unary_fits _ s o r e = absurd (none-some (o, r) e)
 
-index-fits : (s t : ValueType) (o : Overload) (r : ValueType)
+index_fits : (s t : ValueType) (o : Overload) (r : ValueType)
     → choose_binary functions.Index s t ≡ Some (o, r) → Fits functions.Index (s ∷ t ∷ []) o r
-index-fits (list_type s) t o r e =
+index_fits (list_type s) t o r e =
     chosen_when (Fits functions.Index (list_type s ∷ t ∷ [])) (type_eq t int_type)
     overloads.IndexList s o r e (λ h. (refl, rw (same t int_type h) refl))
-index-fits (map_type k s) t o r e =
+index_fits (map_type k s) t o r e =
     chosen_when (Fits functions.Index (map_type k s ∷ t ∷ [])) (type_eq t (type_of_key k))
     overloads.IndexMap s o r e (λ h. (refl, (k, rw (same t (type_of_key k) h) refl)))
-index-fits _ t o r e = absurd (none-some (o, r) e)
+index_fits _ t o r e = absurd (none-some (o, r) e)
 
-in-fits : (s t : ValueType) (o : Overload) (r : ValueType)
+in_fits : (s t : ValueType) (o : Overload) (r : ValueType)
     → choose_binary functions.In s t ≡ Some (o, r) → Fits functions.In (s ∷ t ∷ []) o r
-in-fits s (list_type t) o r e =
+in_fits s (list_type t) o r e =
     chosen_when (Fits functions.In (s ∷ list_type t ∷ [])) (type_eq s t)
     overloads.InList bool_type o r e (λ h. (refl, (t, rw (same s t h) refl, refl)))
-in-fits s (map_type k t) o r e =
+in_fits s (map_type k t) o r e =
     chosen_when (Fits functions.In (s ∷ map_type k t ∷ [])) (type_eq s (type_of_key k))
     overloads.InMap bool_type o r e (λ h. (refl, (k, t, rw (same s (type_of_key k) h) refl, refl)))
-in-fits s _ o r e = absurd (none-some (o, r) e)
+in_fits s _ o r e = absurd (none-some (o, r) e)
 
-binary-fits : (f : Function) (s t : ValueType) (o : Overload) (r : ValueType)
+binary_fits : (f : Function) (s t : ValueType) (o : Overload) (r : ValueType)
     → choose_binary f s t ≡ Some (o, r) → Fits f (s ∷ t ∷ []) o r
-binary-fits functions.And s t o r e =
+binary_fits functions.And s t o r e =
     chosen_when (Fits functions.And (s ∷ t ∷ [])) (are_both s t bool_type)
     overloads.LogicalAnd bool_type o r e (λ h. (refl, (pair s t bool_type h, refl)))
-binary-fits functions.Or s t o r e =
+binary_fits functions.Or s t o r e =
     chosen_when (Fits functions.Or (s ∷ t ∷ [])) (are_both s t bool_type)
     overloads.LogicalOr bool_type o r e (λ h. (refl, (pair s t bool_type h, refl)))
-binary-fits (functions.Compare op) s t o r e =
+binary_fits (functions.Compare op) s t o r e =
     chosen_when (Fits (functions.Compare op) (s ∷ t ∷ [])) (are_compared op s t)
     (overloads.Compare op) bool_type o r e (λ h.
-    let parts = are-compared op s t h in (refl, (s, parts.0, twice s t parts.1, refl)))
-binary-fits (functions.Arithmetic op) s t o r e = arithmetic-fits op s t o r e
-binary-fits functions.Index s t o r e = index-fits s t o r e
-binary-fits functions.In s t o r e = in-fits s t o r e
-binary-fits (functions.TestText test) s t o r e =
+    let parts = are_compared_fact op s t h in (refl, (s, parts.0, twice s t parts.1, refl)))
+binary_fits (functions.Arithmetic op) s t o r e = arithmetic_fits op s t o r e
+binary_fits functions.Index s t o r e = index_fits s t o r e
+binary_fits functions.In s t o r e = in_fits s t o r e
+binary_fits (functions.TestText test) s t o r e =
     chosen_when (Fits (functions.TestText test) (s ∷ t ∷ [])) (are_both s t text_type)
     (overloads.TestText test) bool_type o r e (λ h. (refl, (pair s t text_type h, refl)))
-binary-fits _ s t o r e = absurd (none-some (o, r) e)
+binary_fits _ s t o r e = absurd (none-some (o, r) e)
 
-ternary-fits : (f : Function) (s t u : ValueType) (o : Overload) (r : ValueType)
+ternary_fits : (f : Function) (s t u : ValueType) (o : Overload) (r : ValueType)
     → choose_ternary f s t u ≡ Some (o, r) → Fits f (s ∷ t ∷ u ∷ []) o r
-ternary-fits functions.Conditional s t u o r e =
+ternary_fits functions.Conditional s t u o r e =
     chosen_when (Fits functions.Conditional (s ∷ t ∷ u ∷ [])) (type_eq s bool_type && type_eq t u)
     overloads.Conditional t o r e (λ h.
     let parts = and_parts (type_eq s bool_type) (type_eq t u) h in
     (refl, rw (same s bool_type parts.0, sym (same t u parts.1)) refl))
-ternary-fits _ s t u o r e = absurd (none-some (o, r) e)
+ternary_fits _ s t u o r e = absurd (none-some (o, r) e)
 
-on-fits : (f : Function) (ts : List ValueType) (o : Overload) (r : ValueType)
+on_fits : (f : Function) (ts : List ValueType) (o : Overload) (r : ValueType)
     → choose_on f ts ≡ Some (o, r) → Fits f ts o r
-on-fits f [] o r e = absurd (none-some (o, r) e)
-on-fits f (s ∷ []) o r e = unary-fits f s o r e
-on-fits f (s ∷ t ∷ []) o r e = binary-fits f s t o r e
-on-fits f (s ∷ t ∷ u ∷ []) o r e = ternary-fits f s t u o r e
-on-fits f (s ∷ t ∷ u ∷ v ∷ ts) o r e = absurd (none-some (o, r) e)
+on_fits f [] o r e = absurd (none-some (o, r) e)
+on_fits f (s ∷ []) o r e = unary_fits f s o r e
+on_fits f (s ∷ t ∷ []) o r e = binary_fits f s t o r e
+on_fits f (s ∷ t ∷ u ∷ []) o r e = ternary_fits f s t u o r e
+on_fits f (s ∷ t ∷ u ∷ v ∷ ts) o r e = absurd (none-some (o, r) e)
 
-pub chosen-fits : (f : Function) (target : Bool) (ts : List ValueType) (o : Overload)
+pub chosen_fits : (f : Function) (target : Bool) (ts : List ValueType) (o : Overload)
     (r : ValueType) → choose f target ts ≡ Some (o, r) → IsOverload f target ts o r
-chosen-fits f target ts o r e = at (may_take f target) refl e
+chosen_fits f target ts o r e = at (may_take f target) refl e
   where
     at : (b : Bool) → may_take f target ≡ b → cond b (choose_on f ts) None ≡ Some (o, r)
         → IsOverload f target ts o r
     at true shape e =
-        let fits = on-fits f ts o r e in
+        let fits = on_fits f ts o r e in
         record { function = fits.0; shape = shape; operands = fits.1 }
     at false shape e = absurd (none-some (o, r) e)

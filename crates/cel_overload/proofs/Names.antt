@@ -16,11 +16,11 @@ abbrev is_low : List ℕ → Bool
 is_low [] = true
 is_low (b ∷ bs) = nat_lt b 128 && is_low bs
 
-low-ascii : (bs : List ℕ) → is_low bs ≡ true → IsAscii bs
-low-ascii [] e i = IsAscii-nil i
-low-ascii (b ∷ bs) e zero =
+low_ascii : (bs : List ℕ) → is_low bs ≡ true → IsAscii bs
+low_ascii [] e i = IsAscii-nil i
+low_ascii (b ∷ bs) e zero =
     let low = (and_parts (nat_lt b 128) (is_low bs) e).0 in grind (arith, nat_tests)
-low-ascii (b ∷ bs) e (suc i) = low-ascii bs (and_parts (nat_lt b 128) (is_low bs) e).1 i
+low_ascii (b ∷ bs) e (suc i) = low_ascii bs (and_parts (nat_lt b 128) (is_low bs) e).1 i
 
 -- all names are
 abbrev are_low : List (List ℕ × Function) → Bool
@@ -28,9 +28,9 @@ are_low [] = true
 are_low (e ∷ es) = is_low e.0 && are_low es
 
 -- a name in ASCII is that of bytes where it is that of their code points
-same-name : (own name : List ℕ) → IsUtf8 name → points_of own ≡ own → utf8_of own ≡ own
+same_name : (own name : List ℕ) → IsUtf8 name → points_of own ≡ own → utf8_of own ≡ own
     → bytes_eq own name ≡ bytes_eq own (points_of name)
-same-name own name u points bytes =
+same_name own name u points bytes =
     let d = bytes_decides own name in
     let e = bytes_decides own (points_of name) in
     same_from_decides _ _ d (
@@ -38,17 +38,17 @@ same-name own name u points bytes =
       λ k. e.1 (sym points ∙ ap points_of k),
     )
 
-at-points : (es : List (List ℕ × Function)) (name : List ℕ) → IsUtf8 name → are_low es ≡ true
+at_points : (es : List (List ℕ × Function)) (name : List ℕ) → IsUtf8 name → are_low es ≡ true
     → function_at name es ≡ function_at (points_of name) es
-at-points [] name u a = refl
-at-points (e ∷ es) name u a =
+at_points [] name u a = refl
+at_points (e ∷ es) name u a =
     let parts = and_parts (is_low e.0) (are_low es) a in
-    let low = low-ascii e.0 parts.0 in
+    let low = low_ascii e.0 parts.0 in
     ap₂ (λ b f. cond b (Some e.1) f)
-    (same-name e.0 name u (chars-IsAscii e.0 low) (encodes-IsAscii e.0 low))
-    (at-points es name u parts.1)
+    (same_name e.0 name u (chars-IsAscii e.0 low) (encodes-IsAscii e.0 low))
+    (at_points es name u parts.1)
 
 -- a function is found by bytes as by code points
-pub named-points : (name : List ℕ) → IsUtf8 name
+pub named_points : (name : List ℕ) → IsUtf8 name
     → function_at name names ≡ function_named (points_of name)
-named-points name u = at-points names name u refl
+named_points name u = at_points names name u refl

@@ -22,7 +22,7 @@ use Rattle.cel_ops.specs.Typed.{Answers, IsOrdered, IsSized}
 use Rattle.cel_ops.specs.declared.arithmetic.ArithmeticOp.{ArithmeticOp}
 use Rattle.cel_ops.specs.declared.comparison.CompareOp.{CompareOp}
 use Rattle.cel_ops.specs.declared.texts.TextTest.{TextTest}
-use Rattle.cel_ops.proofs.Typing.{one, two, entry-typed, in_map-typed, index-typed, joined-typed}
+use Rattle.cel_ops.proofs.Typing.{one, two, entry_typed, in_map_typed, index_typed, joined_typed}
 use Rattle.cel_overload.specs.Answers.{HaveTypes, conditional, on_one, on_two, overload_answer}
 use Rattle.cel_overload.specs.Overloads.{IsCompared, IsNumber, Takes}
 use Rattle.cel_overload.specs.declared.overload.Overload.{Overload}
@@ -40,12 +40,12 @@ typed_if : (t : ValueType) (b : Bool) (x y : CelAnswer) → (b ≡ true → Answ
 typed_if t true x y f g = f refl
 typed_if t false x y f g = g refl
 
-int_answer-typed : (z : ℤ) → AnswerHasType (int_answer z) int_type
-int_answer-typed z =
+int_answer_typed : (z : ℤ) → AnswerHasType (int_answer z) int_type
+int_answer_typed z =
     typed_if int_type (is_int64 z) (value (int z)) (fails Overflow) (int64 z) (λ e. tt)
 
-uint_answer-typed : (n : ℕ) → AnswerHasType (uint_answer n) uint_type
-uint_answer-typed n =
+uint_answer_typed : (n : ℕ) → AnswerHasType (uint_answer n) uint_type
+uint_answer_typed n =
     typed_if uint_type (nat_lt n (2 ^ 64)) (value (uint n)) (fails Overflow) less (λ e. tt)
   where
     less : nat_lt n (2 ^ 64) ≡ true → n < 2 ^ 64
@@ -60,112 +60,112 @@ remainder_fits a (negsuc n) e f =
     fits_signed_from_abs w64 (int_rem a (negsuc n))
     (omega (arith, rem_below a (negsuc n) (omega arith)))
 
-ints-typed : (op : ArithmeticOp) (a b : ℤ) → FitsSigned w64 b
+ints_typed : (op : ArithmeticOp) (a b : ℤ) → FitsSigned w64 b
     → AnswerHasType (int_arithmetic op a b) int_type
-ints-typed ArithmeticOp.Add a b f = int_answer-typed (a +ℤ b)
-ints-typed ArithmeticOp.Subtract a b f = int_answer-typed (a -ℤ b)
-ints-typed ArithmeticOp.Multiply a b f = int_answer-typed (a *ℤ b)
-ints-typed ArithmeticOp.Divide a b f =
+ints_typed ArithmeticOp.Add a b f = int_answer_typed (a +ℤ b)
+ints_typed ArithmeticOp.Subtract a b f = int_answer_typed (a -ℤ b)
+ints_typed ArithmeticOp.Multiply a b f = int_answer_typed (a *ℤ b)
+ints_typed ArithmeticOp.Divide a b f =
     typed_if int_type (int_eq b (pos 0)) (fails ZeroDivisor) (int_answer (int_div a b))
-    (λ e. tt) (λ e. int_answer-typed (int_div a b))
-ints-typed ArithmeticOp.Remainder a b f =
+    (λ e. tt) (λ e. int_answer_typed (int_div a b))
+ints_typed ArithmeticOp.Remainder a b f =
     typed_if int_type (int_eq b (pos 0)) (fails ZeroDivisor)
     (cond (is_int64 (int_div a b)) (value (int (int_rem a b))) (fails Overflow)) (λ e. tt)
     (λ some. typed_if int_type (is_int64 (int_div a b)) (value (int (int_rem a b)))
     (fails Overflow) (λ e. remainder_fits a b some f) (λ e. tt))
 
-uints-typed : (op : ArithmeticOp) (a b : ℕ) → a < 2 ^ 64 → b < 2 ^ 64
+uints_typed : (op : ArithmeticOp) (a b : ℕ) → a < 2 ^ 64 → b < 2 ^ 64
     → AnswerHasType (uint_arithmetic op a b) uint_type
-uints-typed ArithmeticOp.Add a b f g = uint_answer-typed (a + b)
-uints-typed ArithmeticOp.Subtract a b f g =
+uints_typed ArithmeticOp.Add a b f g = uint_answer_typed (a + b)
+uints_typed ArithmeticOp.Subtract a b f g =
     typed_if uint_type (nat_le b a) (value (uint (a - b))) (fails Overflow) (λ e. less) (λ e. tt)
   where
     less : a - b < 2 ^ 64
     less = omega arith
-uints-typed ArithmeticOp.Multiply a b f g = uint_answer-typed (a * b)
-uints-typed ArithmeticOp.Divide a b f g =
+uints_typed ArithmeticOp.Multiply a b f g = uint_answer_typed (a * b)
+uints_typed ArithmeticOp.Divide a b f g =
     typed_if uint_type (b == 0) (fails ZeroDivisor) (value (uint (a / b))) (λ e. tt) (λ e. less)
   where
     less : a / b < 2 ^ 64
     less = omega (arith, div-le_self a b)
-uints-typed ArithmeticOp.Remainder a b f g =
+uints_typed ArithmeticOp.Remainder a b f g =
     typed_if uint_type (b == 0) (fails ZeroDivisor) (value (uint (a % b))) (λ e. tt) (λ e. less)
   where
     less : a % b < 2 ^ 64
     less = omega (arith, mod-le a b)
 
-arithmetic-typed : (op : ArithmeticOp) (t : ValueType) → IsNumber t → (a b : CelAnswer)
+arithmetic_typed : (op : ArithmeticOp) (t : ValueType) → IsNumber t → (a b : CelAnswer)
     → AnswerHasType a t → AnswerHasType b t → Answers (arithmetic op a b) t
-arithmetic-typed op int_type n a b = two (arithmetic_of op) int_type int_type int_type ints a b
+arithmetic_typed op int_type n a b = two (arithmetic_of op) int_type int_type int_type ints a b
   where
     ints : (v w : CelValue) → HasType v int_type → HasType w int_type
         → Answers (arithmetic_of op v w) int_type
-    ints (int a) (int b) f g = ints-typed op a b g
+    ints (int a) (int b) f g = ints_typed op a b g
     ints (int a) _ f g = absurd g
     ints _ w f g = absurd f
-arithmetic-typed op uint_type n a b =
+arithmetic_typed op uint_type n a b =
     two (arithmetic_of op) uint_type uint_type uint_type uints a b
   where
     uints : (v w : CelValue) → HasType v uint_type → HasType w uint_type
         → Answers (arithmetic_of op v w) uint_type
-    uints (uint a) (uint b) f g = uints-typed op a b f g
+    uints (uint a) (uint b) f g = uints_typed op a b f g
     uints (uint a) _ f g = absurd g
     uints _ w f g = absurd f
-arithmetic-typed op _ n a b = absurd n
+arithmetic_typed op _ n a b = absurd n
 
-opposite-typed : (a : CelAnswer) → AnswerHasType a int_type → Answers (opposite a) int_type
-opposite-typed = one opposite_of int_type int_type ints
+opposite_typed : (a : CelAnswer) → AnswerHasType a int_type → Answers (opposite a) int_type
+opposite_typed = one opposite_of int_type int_type ints
   where
     ints : (v : CelValue) → HasType v int_type → Answers (opposite_of v) int_type
-    ints (int a) f = int_answer-typed (neg_ℤ a)
+    ints (int a) f = int_answer_typed (neg_ℤ a)
     ints _ f = absurd f
 
 -- ---- bools
 
-conjunction-typed : (a b : CelAnswer) → AnswerHasType a bool_type → AnswerHasType b bool_type
+conjunction_typed : (a b : CelAnswer) → AnswerHasType a bool_type → AnswerHasType b bool_type
     → Answers (conjunction a b) bool_type
-conjunction-typed (value (bool true)) (value (bool b)) g h = tt
-conjunction-typed (value (bool false)) (value (bool b)) g h = tt
-conjunction-typed (value (bool true)) (fails e) g h = tt
-conjunction-typed (value (bool false)) (fails e) g h = tt
-conjunction-typed (fails e) (value (bool true)) g h = tt
-conjunction-typed (fails e) (value (bool false)) g h = tt
-conjunction-typed (fails e) (fails d) g h = tt
-conjunction-typed (value (bool true)) (value _) g h = absurd h
-conjunction-typed (value (bool false)) (value _) g h = absurd h
-conjunction-typed (fails e) (value _) g h = absurd h
-conjunction-typed (value _) b g h = absurd g
+conjunction_typed (value (bool true)) (value (bool b)) g h = tt
+conjunction_typed (value (bool false)) (value (bool b)) g h = tt
+conjunction_typed (value (bool true)) (fails e) g h = tt
+conjunction_typed (value (bool false)) (fails e) g h = tt
+conjunction_typed (fails e) (value (bool true)) g h = tt
+conjunction_typed (fails e) (value (bool false)) g h = tt
+conjunction_typed (fails e) (fails d) g h = tt
+conjunction_typed (value (bool true)) (value _) g h = absurd h
+conjunction_typed (value (bool false)) (value _) g h = absurd h
+conjunction_typed (fails e) (value _) g h = absurd h
+conjunction_typed (value _) b g h = absurd g
 
-disjunction-typed : (a b : CelAnswer) → AnswerHasType a bool_type → AnswerHasType b bool_type
+disjunction_typed : (a b : CelAnswer) → AnswerHasType a bool_type → AnswerHasType b bool_type
     → Answers (disjunction a b) bool_type
-disjunction-typed (value (bool true)) (value (bool b)) g h = tt
-disjunction-typed (value (bool false)) (value (bool b)) g h = tt
-disjunction-typed (value (bool true)) (fails e) g h = tt
-disjunction-typed (value (bool false)) (fails e) g h = tt
-disjunction-typed (fails e) (value (bool true)) g h = tt
-disjunction-typed (fails e) (value (bool false)) g h = tt
-disjunction-typed (fails e) (fails d) g h = tt
-disjunction-typed (value (bool true)) (value _) g h = absurd h
-disjunction-typed (value (bool false)) (value _) g h = absurd h
-disjunction-typed (fails e) (value _) g h = absurd h
-disjunction-typed (value _) b g h = absurd g
+disjunction_typed (value (bool true)) (value (bool b)) g h = tt
+disjunction_typed (value (bool false)) (value (bool b)) g h = tt
+disjunction_typed (value (bool true)) (fails e) g h = tt
+disjunction_typed (value (bool false)) (fails e) g h = tt
+disjunction_typed (fails e) (value (bool true)) g h = tt
+disjunction_typed (fails e) (value (bool false)) g h = tt
+disjunction_typed (fails e) (fails d) g h = tt
+disjunction_typed (value (bool true)) (value _) g h = absurd h
+disjunction_typed (value (bool false)) (value _) g h = absurd h
+disjunction_typed (fails e) (value _) g h = absurd h
+disjunction_typed (value _) b g h = absurd g
 
-not-typed : (a : CelAnswer) → AnswerHasType a bool_type → Answers (logical_not a) bool_type
-not-typed (fails e) h = tt
-not-typed (value (bool b)) h = tt
-not-typed (value _) h = absurd h
+not_typed : (a : CelAnswer) → AnswerHasType a bool_type → Answers (logical_not a) bool_type
+not_typed (fails e) h = tt
+not_typed (value (bool b)) h = tt
+not_typed (value _) h = absurd h
 
-nsf-typed : (a : CelAnswer) → AnswerHasType a bool_type → Answers (not_strictly_false a) bool_type
-nsf-typed (fails e) h = tt
-nsf-typed (value (bool b)) h = tt
-nsf-typed (value _) h = absurd h
+nsf_typed : (a : CelAnswer) → AnswerHasType a bool_type → Answers (not_strictly_false a) bool_type
+nsf_typed (fails e) h = tt
+nsf_typed (value (bool b)) h = tt
+nsf_typed (value _) h = absurd h
 
-conditional-typed : (t : ValueType) (c a b : CelAnswer) → AnswerHasType c bool_type
+conditional_typed : (t : ValueType) (c a b : CelAnswer) → AnswerHasType c bool_type
     → AnswerHasType a t → AnswerHasType b t → Answers (conditional (c ∷ a ∷ b ∷ [])) t
-conditional-typed t (value (bool true)) a b f g h = g
-conditional-typed t (value (bool false)) a b f g h = h
-conditional-typed t (fails e) a b f g h = tt
-conditional-typed t (value _) a b f g h = absurd f
+conditional_typed t (value (bool true)) a b f g h = g
+conditional_typed t (value (bool false)) a b f g h = h
+conditional_typed t (fails e) a b f g h = tt
+conditional_typed t (value _) a b f g h = absurd f
 
 -- ---- comparisons, texts and collections
 
@@ -189,28 +189,28 @@ ordered bytes_type o _ w g h = absurd g
 ordered (list_type t) o v w g h = absurd o
 ordered (map_type k t) o v w g h = absurd o
 
-order-typed : (test : Ordering → CelAnswer) → ((o : Ordering) → AnswerHasType (test o) bool_type)
+order_typed : (test : Ordering → CelAnswer) → ((o : Ordering) → AnswerHasType (test o) bool_type)
     → (t : ValueType) → IsOrdered t → (v w : CelValue) → HasType v t → HasType w t
     → Answers (option_map test (order_of v w)) bool_type
-order-typed test each t o v w g h =
+order_typed test each t o v w g h =
     let found = ordered t o v w g h in rw (found.1) (each found.0)
 
-comparison-typed : (op : CompareOp) (t : ValueType) → IsCompared op t → (a b : CelAnswer)
+comparison_typed : (op : CompareOp) (t : ValueType) → IsCompared op t → (a b : CelAnswer)
     → AnswerHasType a t → AnswerHasType b t → Answers (comparison op a b) bool_type
-comparison-typed op t c = two (comparison_of op) t t bool_type (compared op c)
+comparison_typed op t c = two (comparison_of op) t t bool_type (compared op c)
   where
     compared : (op : CompareOp) → IsCompared op t → (v w : CelValue) → HasType v t → HasType w t
         → Answers (comparison_of op v w) bool_type
     compared CompareOp.Equal c = λ v w g h. tt
     compared CompareOp.NotEqual c = λ v w g h. tt
-    compared CompareOp.Less c = order-typed (λ o. truth (is_lt o)) (λ o. tt) t c
-    compared CompareOp.LessOrEqual c = order-typed (λ o. truth (is_le o)) (λ o. tt) t c
-    compared CompareOp.Greater c = order-typed (λ o. truth (is_gt o)) (λ o. tt) t c
-    compared CompareOp.GreaterOrEqual c = order-typed (λ o. truth (is_ge o)) (λ o. tt) t c
+    compared CompareOp.Less c = order_typed (λ o. truth (is_lt o)) (λ o. tt) t c
+    compared CompareOp.LessOrEqual c = order_typed (λ o. truth (is_le o)) (λ o. tt) t c
+    compared CompareOp.Greater c = order_typed (λ o. truth (is_gt o)) (λ o. tt) t c
+    compared CompareOp.GreaterOrEqual c = order_typed (λ o. truth (is_ge o)) (λ o. tt) t c
 
-text_test-typed : (test : TextTest) (a b : CelAnswer) → AnswerHasType a text_type
+text_test_typed : (test : TextTest) (a b : CelAnswer) → AnswerHasType a text_type
     → AnswerHasType b text_type → Answers (text_test test a b) bool_type
-text_test-typed test = two (text_test_of test) text_type text_type bool_type texts
+text_test_typed test = two (text_test_of test) text_type text_type bool_type texts
   where
     texts : (v w : CelValue) → HasType v text_type → HasType w text_type
         → Answers (text_test_of test v w) bool_type
@@ -218,25 +218,25 @@ text_test-typed test = two (text_test_of test) text_type text_type bool_type tex
     texts (text a) _ g h = absurd h
     texts _ w g h = absurd g
 
-size-typed : (t : ValueType) → IsSized t → (a : CelAnswer) → AnswerHasType a t
+size_typed : (t : ValueType) → IsSized t → (a : CelAnswer) → AnswerHasType a t
     → Answers (size a) int_type
-size-typed t s = one size_of t int_type (sizes t s)
+size_typed t s = one size_of t int_type (sizes t s)
   where
     sizes : (t : ValueType) → IsSized t → (v : CelValue) → HasType v t
         → Answers (size_of v) int_type
-    sizes text_type s (text cs) h = int_answer-typed (pos (length cs))
-    sizes bytes_type s (bytes bs) h = int_answer-typed (pos (length bs))
-    sizes (list_type t) s (list vs) h = int_answer-typed (pos (item_count vs))
-    sizes (map_type k t) s (map_of es) h = int_answer-typed (pos (entry_count es))
+    sizes text_type s (text cs) h = int_answer_typed (pos (length cs))
+    sizes bytes_type s (bytes bs) h = int_answer_typed (pos (length bs))
+    sizes (list_type t) s (list vs) h = int_answer_typed (pos (item_count vs))
+    sizes (map_type k t) s (map_of es) h = int_answer_typed (pos (entry_count es))
     sizes text_type s _ h = absurd h
     sizes bytes_type s _ h = absurd h
     sizes (list_type t) s _ h = absurd h
     sizes (map_type k t) s _ h = absurd h
     sizes _ s v h = absurd s
 
-in_list-typed : (t : ValueType) (a b : CelAnswer) → AnswerHasType a t
+in_list_typed : (t : ValueType) (a b : CelAnswer) → AnswerHasType a t
     → AnswerHasType b (list_type t) → Answers (in_list a b) bool_type
-in_list-typed t = two in_list_of t (list_type t) bool_type lists
+in_list_typed t = two in_list_of t (list_type t) bool_type lists
   where
     lists : (v w : CelValue) → HasType v t → HasType w (list_type t)
         → Answers (in_list_of v w) bool_type
@@ -245,77 +245,77 @@ in_list-typed t = two in_list_of t (list_type t) bool_type lists
 
 -- ---- overloads
 
-on_one-typed : (f : CelAnswer → Option CelAnswer) (s r : ValueType)
+on_one_typed : (f : CelAnswer → Option CelAnswer) (s r : ValueType)
     → ((a : CelAnswer) → AnswerHasType a s → Answers (f a) r) → (answers : List CelAnswer)
     → HaveTypes answers (s ∷ []) → Answers (on_one f answers) r
-on_one-typed f s r each [] h = absurd h
-on_one-typed f s r each (a ∷ []) h = each a h.0
-on_one-typed f s r each (a ∷ b ∷ answers) h = absurd h.1
+on_one_typed f s r each [] h = absurd h
+on_one_typed f s r each (a ∷ []) h = each a h.0
+on_one_typed f s r each (a ∷ b ∷ answers) h = absurd h.1
 
-on_two-typed : (f : CelAnswer → CelAnswer → Option CelAnswer) (s t r : ValueType)
+on_two_typed : (f : CelAnswer → CelAnswer → Option CelAnswer) (s t r : ValueType)
     → ((a b : CelAnswer) → AnswerHasType a s → AnswerHasType b t → Answers (f a b) r)
     → (answers : List CelAnswer) → HaveTypes answers (s ∷ t ∷ []) → Answers (on_two f answers) r
-on_two-typed f s t r each [] h = absurd h
-on_two-typed f s t r each (a ∷ []) h = absurd h.1
-on_two-typed f s t r each (a ∷ b ∷ []) h = each a b h.0 h.1.0
-on_two-typed f s t r each (a ∷ b ∷ c ∷ answers) h = absurd h.1.1
+on_two_typed f s t r each [] h = absurd h
+on_two_typed f s t r each (a ∷ []) h = absurd h.1
+on_two_typed f s t r each (a ∷ b ∷ []) h = each a b h.0 h.1.0
+on_two_typed f s t r each (a ∷ b ∷ c ∷ answers) h = absurd h.1.1
 
-on_three-typed : (r : ValueType) (answers : List CelAnswer)
+on_three_typed : (r : ValueType) (answers : List CelAnswer)
     → HaveTypes answers (bool_type ∷ r ∷ r ∷ []) → Answers (conditional answers) r
-on_three-typed r [] h = absurd h
-on_three-typed r (a ∷ []) h = absurd h.1
-on_three-typed r (a ∷ b ∷ []) h = absurd h.1.1
-on_three-typed r (a ∷ b ∷ c ∷ []) h = conditional-typed r a b c h.0 h.1.0 h.1.1.0
-on_three-typed r (a ∷ b ∷ c ∷ d ∷ answers) h = absurd h.1.1.1
+on_three_typed r [] h = absurd h
+on_three_typed r (a ∷ []) h = absurd h.1
+on_three_typed r (a ∷ b ∷ []) h = absurd h.1.1
+on_three_typed r (a ∷ b ∷ c ∷ []) h = conditional_typed r a b c h.0 h.1.0 h.1.1.0
+on_three_typed r (a ∷ b ∷ c ∷ d ∷ answers) h = absurd h.1.1.1
 
 -- operands of given types, by the equation of their list
 of_types : (answers : List CelAnswer) (ts us : List ValueType) → ts ≡ us → HaveTypes answers ts
     → HaveTypes answers us
 of_types answers ts us e h = rw (← e) h
 
-pub overload-typed : (o : Overload) (ts : List ValueType) (r : ValueType)
+pub overload_typed_fact : (o : Overload) (ts : List ValueType) (r : ValueType)
     (answers : List CelAnswer) → Takes o ts r → HaveTypes answers ts
     → Answers (overload_answer o answers) r
-overload-typed overloads.LogicalAnd ts r answers k h = rw (k.1)
-    (on_two-typed conjunction bool_type bool_type bool_type conjunction-typed answers
+overload_typed_fact overloads.LogicalAnd ts r answers k h = rw (k.1)
+    (on_two_typed conjunction bool_type bool_type bool_type conjunction_typed answers
     (of_types answers ts _ k.0 h))
-overload-typed overloads.LogicalOr ts r answers k h = rw (k.1)
-    (on_two-typed disjunction bool_type bool_type bool_type disjunction-typed answers
+overload_typed_fact overloads.LogicalOr ts r answers k h = rw (k.1)
+    (on_two_typed disjunction bool_type bool_type bool_type disjunction_typed answers
     (of_types answers ts _ k.0 h))
-overload-typed overloads.LogicalNot ts r answers k h = rw (k.1)
-    (on_one-typed logical_not bool_type bool_type not-typed answers (of_types answers ts _ k.0 h))
-overload-typed overloads.NotStrictlyFalse ts r answers k h = rw (k.1)
-    (on_one-typed not_strictly_false bool_type bool_type nsf-typed answers
+overload_typed_fact overloads.LogicalNot ts r answers k h = rw (k.1)
+    (on_one_typed logical_not bool_type bool_type not_typed answers (of_types answers ts _ k.0 h))
+overload_typed_fact overloads.NotStrictlyFalse ts r answers k h = rw (k.1)
+    (on_one_typed not_strictly_false bool_type bool_type nsf_typed answers
     (of_types answers ts _ k.0 h))
-overload-typed overloads.Conditional ts r answers k h =
-    on_three-typed r answers (of_types answers ts _ k h)
-overload-typed (overloads.Compare op) ts r answers k h = rw (k.3)
-    (on_two-typed (comparison op) k.0 k.0 bool_type (comparison-typed op k.0 k.1) answers
+overload_typed_fact overloads.Conditional ts r answers k h =
+    on_three_typed r answers (of_types answers ts _ k h)
+overload_typed_fact (overloads.Compare op) ts r answers k h = rw (k.3)
+    (on_two_typed (comparison op) k.0 k.0 bool_type (comparison_typed op k.0 k.1) answers
     (of_types answers ts _ k.2 h))
-overload-typed (overloads.Arithmetic op) ts r answers k h =
-    on_two-typed (arithmetic op) r r r (arithmetic-typed op r k.0) answers
+overload_typed_fact (overloads.Arithmetic op) ts r answers k h =
+    on_two_typed (arithmetic op) r r r (arithmetic_typed op r k.0) answers
     (of_types answers ts _ k.1 h)
-overload-typed overloads.Concat ts r answers k h =
-    on_two-typed (strict_two joined_of) r r r (two joined_of r r r (joined-typed r k.0)) answers
+overload_typed_fact overloads.Concat ts r answers k h =
+    on_two_typed (strict_two joined_of) r r r (two joined_of r r r (joined_typed r k.0)) answers
     (of_types answers ts _ k.1 h)
-overload-typed overloads.Negate ts r answers k h = rw (k.1)
-    (on_one-typed opposite int_type int_type opposite-typed answers (of_types answers ts _ k.0 h))
-overload-typed overloads.IndexList ts r answers k h =
-    on_two-typed (strict_two item_of) (list_type r) int_type r
-    (two item_of (list_type r) int_type r (index-typed r)) answers (of_types answers ts _ k h)
-overload-typed overloads.IndexMap ts r answers k h =
-    on_two-typed (strict_two entry_of) (map_type k.0 r) (type_of_key k.0) r
-    (two entry_of (map_type k.0 r) (type_of_key k.0) r (entry-typed k.0 r)) answers
+overload_typed_fact overloads.Negate ts r answers k h = rw (k.1)
+    (on_one_typed opposite int_type int_type opposite_typed answers (of_types answers ts _ k.0 h))
+overload_typed_fact overloads.IndexList ts r answers k h =
+    on_two_typed (strict_two item_of) (list_type r) int_type r
+    (two item_of (list_type r) int_type r (index_typed r)) answers (of_types answers ts _ k h)
+overload_typed_fact overloads.IndexMap ts r answers k h =
+    on_two_typed (strict_two entry_of) (map_type k.0 r) (type_of_key k.0) r
+    (two entry_of (map_type k.0 r) (type_of_key k.0) r (entry_typed k.0 r)) answers
     (of_types answers ts _ k.1 h)
-overload-typed overloads.InList ts r answers k h = rw (k.2)
-    (on_two-typed in_list k.0 (list_type k.0) bool_type (in_list-typed k.0) answers
+overload_typed_fact overloads.InList ts r answers k h = rw (k.2)
+    (on_two_typed in_list k.0 (list_type k.0) bool_type (in_list_typed k.0) answers
     (of_types answers ts _ k.1 h))
-overload-typed overloads.InMap ts r answers k h = rw (k.3)
-    (on_two-typed (strict_two in_map_of) (type_of_key k.0) (map_type k.0 k.1) bool_type
-    (two in_map_of (type_of_key k.0) (map_type k.0 k.1) bool_type (in_map-typed k.0 k.1)) answers
+overload_typed_fact overloads.InMap ts r answers k h = rw (k.3)
+    (on_two_typed (strict_two in_map_of) (type_of_key k.0) (map_type k.0 k.1) bool_type
+    (two in_map_of (type_of_key k.0) (map_type k.0 k.1) bool_type (in_map_typed k.0 k.1)) answers
     (of_types answers ts _ k.2 h))
-overload-typed overloads.Size ts r answers k h = rw (k.3)
-    (on_one-typed size k.0 int_type (size-typed k.0 k.1) answers (of_types answers ts _ k.2 h))
-overload-typed (overloads.TestText test) ts r answers k h = rw (k.1)
-    (on_two-typed (text_test test) text_type text_type bool_type (text_test-typed test) answers
+overload_typed_fact overloads.Size ts r answers k h = rw (k.3)
+    (on_one_typed size k.0 int_type (size_typed k.0 k.1) answers (of_types answers ts _ k.2 h))
+overload_typed_fact (overloads.TestText test) ts r answers k h = rw (k.1)
+    (on_two_typed (text_test test) text_type text_type bool_type (text_test_typed test) answers
     (of_types answers ts _ k.0 h))

@@ -23,27 +23,27 @@ use Rattle.cel_tree.proofs.Counting.{node_fails, fails_first, made_count}
 
 -- ---- how trees are seen
 
-view-Constant : (id : ℤ) (c : constants.Constant) → tree_view (Constant id c) ≡ constant id (constant_view c)
-view-Constant id c = search (rules, the_lemmas)
+view_constant : (id : ℤ) (c : constants.Constant) → tree_view (Constant id c) ≡ constant id (constant_view c)
+view_constant id c = search (rules, the_lemmas)
 
-view-Ident : (id : ℤ) (n : RcStr Global) → tree_view (Ident id n) ≡ ident id (text_view n)
-view-Ident id n = search (rules, the_lemmas)
+view_ident : (id : ℤ) (n : RcStr Global) → tree_view (Ident id n) ≡ ident id (text_view n)
+view_ident id n = search (rules, the_lemmas)
 
-view-Select : (id : ℤ) (o : Box Tree Global) (f : RcStr Global) (t : _)
+view_select : (id : ℤ) (o : Box Tree Global) (f : RcStr Global) (t : _)
     → tree_view (Select id o f t) ≡ select id (tree_view o.value) (text_view f) t
-view-Select id o f t = search (rules, the_lemmas)
+view_select id o f t = search (rules, the_lemmas)
 
-view-Call : (id : ℤ) (f : RcStr Global) (on : Option (Box Tree Global)) (args : Vec Tree Global)
+view_call : (id : ℤ) (f : RcStr Global) (on : Option (Box Tree Global)) (args : Vec Tree Global)
     → tree_view (Call id f on args) ≡ call id (text_view f) (target_of (boxed_view on)) (trees_view args.items)
-view-Call id f None args = search (rules, the_lemmas)
-view-Call id f (Some on) args = search (rules, the_lemmas)
+view_call id f None args = search (rules, the_lemmas)
+view_call id f (Some on) args = search (rules, the_lemmas)
 
-view-Map : (id : ℤ) (es : Vec TreeEntry Global) → tree_view (Map id es) ≡ map_literal id (tree_entries_view es.items)
-view-Map id es = search (rules, the_lemmas)
+view_map : (id : ℤ) (es : Vec TreeEntry Global) → tree_view (Map id es) ≡ map_literal id (tree_entries_view es.items)
+view_map id es = search (rules, the_lemmas)
 
-view-Comprehension : (id : ℤ) (b : Box loops.Comprehension Global)
+view_comprehension : (id : ℤ) (b : Box loops.Comprehension Global)
     → tree_view (Comprehension id b) ≡ loop_of id (loop_view b.value)
-view-Comprehension id b = search (rules, the_lemmas)
+view_comprehension id b = search (rules, the_lemmas)
 
 -- an id is the one that was written
 same_id : (id : ℤ) → SFits w64 id → to_z w64 (of_z w64 id) ≡ id
@@ -52,17 +52,17 @@ same_id id fits = to_z-of_z fits
 module _ (depth : ℕ) (id : ℤ) (fits : SFits w64 id) where
   pub inside_constant : (c : constants.Constant) (left : ℕ)
       → Inside depth id (constant_node (constant_view c)) (tree_view (Constant (to_z w64 (of_z w64 id)) c)) left left
-  inside_constant c left = rw (same_id id fits, view-Constant id c) (no_trees, tt, refl, omega arith)
+  inside_constant c left = rw (same_id id fits, view_constant id c) (no_trees, tt, refl, omega arith)
 
   pub inside_ident : (n : RcStr Global) (left : ℕ)
       → Inside depth id (ident_node (text_view n)) (tree_view (Ident (to_z w64 (of_z w64 id)) n)) left left
-  inside_ident n left = rw (same_id id fits, view-Ident id n) (no_trees, tt, refl, omega arith)
+  inside_ident n left = rw (same_id id fits, view_ident id n) (no_trees, tt, refl, omega arith)
 
   pub inside_select : (o : Parts) (b : Box Tree Global) (f : RcStr Global) (t : _) (rest left : ℕ)
       → IsTree depth o (tree_view b.value) → rest + node_count (tree_view b.value) ≡ left
       → Inside depth id (select_node o (text_view f) t) (tree_view (Select (to_z w64 (of_z w64 id)) b f t)) rest left
   inside_select o b f t rest left is sum =
-      rw (same_id id fits, view-Select id b f t) (tree (tree_view b.value) no_trees, (is, tt), refl, omega (arith, sum))
+      rw (same_id id fits, view_select id b f t) (tree (tree_view b.value) no_trees, (is, tt), refl, omega (arith, sum))
 
   call_inside : (name : List ℕ) (on : Parts) (args : List (List ℕ)) (o : Option CelTree) (ts : CelTrees) (rest mid left : ℕ)
       → IsTarget depth on o → mid + target_nodes o ≡ left
@@ -79,7 +79,7 @@ module _ (depth : ℕ) (id : ℤ) (fits : SFits w64 id) where
       → AreTrees (IsTree depth) (singles args) (trees_view ts.items) → rest + trees_count (trees_view ts.items) ≡ mid
       → Inside depth id (call_node (text_view f) on args) (tree_view (Call (to_z w64 (of_z w64 id)) f o ts)) rest left
   inside_call f on args o ts rest mid left at sum are more =
-      rw (same_id id fits, view-Call id f o ts)
+      rw (same_id id fits, view_call id f o ts)
       (call_inside (text_view f) on args (boxed_view o) (trees_view ts.items) rest mid left at sum are more)
 
   entry_trees : (es : List nodes.EntryNode) (entries : CelTreeEntries) → EntryTrees depth es entries
@@ -104,7 +104,7 @@ module _ (depth : ℕ) (id : ℤ) (fits : SFits w64 id) where
       let made = entry_trees es (tree_entries_view xs.items) are.0 in
       let count : trees_count made.0 ≡ entries_count (tree_entries_view xs.items) = made.3 in
       let sum : rest + entries_count (tree_entries_view xs.items) ≡ left = are.1 in
-      rw (same_id id fits, view-Map id xs)
+      rw (same_id id fits, view_map id xs)
       (made.0, made.1, (tree_entries_view xs.items, made.2, refl), omega (arith, count, sum))
 
   loop_inside : (p : nodes.LoopNode) (q : LoopParts) (rest left : ℕ) → AreLoopTrees depth p q rest left
@@ -121,7 +121,7 @@ module _ (depth : ℕ) (id : ℤ) (fits : SFits w64 id) where
       → AreLoopTrees depth p (loop_view b.value) rest left
       → Inside depth id (loop_node p) (tree_view (Comprehension (to_z w64 (of_z w64 id)) b)) rest left
   inside_loop p b rest left are =
-      rw (same_id id fits, view-Comprehension id b) (loop_inside p (loop_view b.value) rest left are)
+      rw (same_id id fits, view_comprehension id b) (loop_inside p (loop_view b.value) rest left are)
 
 -- ---- one level, where one is left
 

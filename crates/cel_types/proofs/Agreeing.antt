@@ -12,19 +12,19 @@ use Rattle.cel_types.specs.Names.{joined_name, root_of}
 use Rattle.cel_types.specs.Typing.{EachAgrees, EntriesAgree, EntryAgrees, IsOver, Kinds, ListRule, MapRule, Maps, NameAgrees, PairsAgree, SelectAgrees, SelectRule, TargetAgrees, Types, TypesAll, TypesEach, TypesPairs, TypesTarget}
 use Rattle.cel_types.specs.TypingFaults.{ItemTypes, KeyTypes, SomeTypes, ElementsFault, EntryFault, IdentFault, ListFault, MapsFault, PairFault, PairsFault, SelectFault, SomeFault, TargetFault, TypeFault, CallsFault}
 use Rattle.cel_types.specs.TypingFaults.{unsupported_kind, another_type, in_range, in_init, in_turn, in_result}
-use Rattle.cel_types.proofs.OneType.{OneAtMost, one-type, over-one}
-use Rattle.cel_types.proofs.Total.{each-turn, ref-decided, same_type, type-total, typed-no-root}
+use Rattle.cel_types.proofs.OneType.{OneAtMost, one_type, over_one}
+use Rattle.cel_types.proofs.Total.{each_turn, ref_decided, same_type, type_total, typed_no_root}
 
 -- it holds, or there is a fault
 abbrev pub Kept : Type 0 → (Refusal → Type 0) → Type 0
 Kept P Fault = P ⊎ ((e : Refusal) × Fault e)
 
-entry-kept : (entry : Option CelTypeEntry) (Has : ValueType → Type 0) (t : ValueType)
+entry_kept : (entry : Option CelTypeEntry) (Has : ValueType → Type 0) (t : ValueType)
     → OneAtMost Has → Has t → Kept (EntryAgrees entry Has) (EntryFault entry Has)
-entry-kept None Has t one has = inl (λ u h. tt)
-entry-kept (Some dyn_type) Has t one has = inl (λ u h. tt)
-entry-kept (Some unsupported_type) Has t one has = inr (Unsupported, unsupported_kind refl refl)
-entry-kept (Some (of_type s)) Has t one has = elim (same_type s t) [
+entry_kept None Has t one has = inl (λ u h. tt)
+entry_kept (Some dyn_type) Has t one has = inl (λ u h. tt)
+entry_kept (Some unsupported_type) Has t one has = inr (Unsupported, unsupported_kind refl refl)
+entry_kept (Some (of_type s)) Has t one has = elim (same_type s t) [
   | inl e ↦ inl (λ u h. e ∙ one t u has h)
   | inr differs ↦ inr (BadTypeEntry, another_type s t has refl differs refl)
 ]
@@ -36,101 +36,101 @@ both (inr (e, f)) other = inr (e, inr f)
 both (inl a) (inr (e, f)) = inr (e, inl f)
 both (inl a) (inl b) = inl (a, b)
 
-name-kept : (m : Maps) (ks : Kinds) (id : ℤ) (name : List ℕ) (t : ValueType)
+name_kept : (m : Maps) (ks : Kinds) (id : ℤ) (name : List ℕ) (t : ValueType)
     → Types m ks (ident id name) t
     → Kept (NameAgrees (get m.refs id) name (Types m ks (ident id name)))
     (IdentFault (get m.refs id) ks name)
-name-kept m ks id name t g = elim (ref-decided (get m.refs id) name) [
+name_kept m ks id name t g = elim (ref_decided (get m.refs id) name) [
   | inl agrees ↦ inl (λ u h. agrees)
   | inr differs ↦ inr (BadReference, IdentFault.other_reference t g differs refl)
 ]
 
-select-kept : (ref : Option CelReference) (root : Option (List ℕ)) (Operand : ValueType → Type 0)
+select_kept : (ref : Option CelReference) (root : Option (List ℕ)) (Operand : ValueType → Type 0)
     (InOperand : Refusal → Type 0) (Inside : Type 0) (field : List ℕ) (test_only : Bool)
     (t : ValueType) → SelectRule root Operand field test_only t
     → ((s : ValueType) → Operand s → Kept Inside InOperand)
     → Kept (SelectAgrees ref root field (SelectRule root Operand field test_only) Inside)
     (SelectFault ref root Operand InOperand field test_only)
-select-kept ref (Some root) Operand InOperand Inside field true t rule inside = absurd rule
-select-kept ref (Some root) Operand InOperand Inside field false t rule inside =
-    elim (ref-decided ref (joined_name root field)) [
+select_kept ref (Some root) Operand InOperand Inside field true t rule inside = absurd rule
+select_kept ref (Some root) Operand InOperand Inside field false t rule inside =
+    elim (ref_decided ref (joined_name root field)) [
       | inl agrees ↦ inl (λ u h. agrees)
       | inr differs ↦
           inr (BadReference, SelectFault.other_reference root t refl refl rule differs refl)
     ]
-select-kept ref None Operand InOperand Inside field test_only t rule inside =
+select_kept ref None Operand InOperand Inside field test_only t rule inside =
     elim (inside (map_type keys.Text rule.0) rule.1) [
       | inl agrees ↦ inl agrees
       | inr (e, f) ↦ inr (e, SelectFault.in_operand refl f)
     ]
 
 mutual
-  pub entries-kept : (m : Maps) (ks : Kinds) (t : CelTree) (s : ValueType) → Types m ks t s
+  pub entries_kept : (m : Maps) (ks : Kinds) (t : CelTree) (s : ValueType) → Types m ks t s
       → Kept (EntriesAgree m ks t) (TypeFault m ks t)
-  entries-kept m ks (constant id v) s g = elim (entry-kept (get m.types id)
-      (Types m ks (constant id v)) s (one-type m ks (constant id v)) g) [
+  entries_kept m ks (constant id v) s g = elim (entry_kept (get m.types id)
+      (Types m ks (constant id v)) s (one_type m ks (constant id v)) g) [
         | inl agrees ↦ inl agrees
         | inr (e, f) ↦ inr (e, inr f)
       ]
-  entries-kept m ks (ident id name) s g = elim (entry-kept (get m.types id)
-      (Types m ks (ident id name)) s (one-type m ks (ident id name)) g) [
-        | inr (e, f) ↦ inr (e, inr (typed-no-root name ks s g, f))
-        | inl agrees ↦ elim (name-kept m ks id name s g) [
+  entries_kept m ks (ident id name) s g = elim (entry_kept (get m.types id)
+      (Types m ks (ident id name)) s (one_type m ks (ident id name)) g) [
+        | inr (e, f) ↦ inr (e, inr (typed_no_root name ks s g, f))
+        | inl agrees ↦ elim (name_kept m ks id name s g) [
           | inl named ↦ inl (agrees, named)
           | inr (e, f) ↦ inr (e, inl f)
         ]
       ]
-  entries-kept m ks (select id operand field test_only) s g =
-      both (entry-kept (get m.types id) (Types m ks (select id operand field test_only)) s
-      (one-type m ks (select id operand field test_only)) g)
-      (select-kept (get m.refs id) (root_of operand ks) (Types m ks operand)
+  entries_kept m ks (select id operand field test_only) s g =
+      both (entry_kept (get m.types id) (Types m ks (select id operand field test_only)) s
+      (one_type m ks (select id operand field test_only)) g)
+      (select_kept (get m.refs id) (root_of operand ks) (Types m ks operand)
       (TypeFault m ks operand) (EntriesAgree m ks operand) field test_only s g
-      (entries-kept m ks operand))
-  entries-kept m ks (call id name on args) s g =
-      elim (entry-kept (get m.types id) (Types m ks (call id name on args)) s
-      (one-type m ks (call id name on args)) g) [
+      (entries_kept m ks operand))
+  entries_kept m ks (call id name on args) s g =
+      elim (entry_kept (get m.types id) (Types m ks (call id name on args)) s
+      (one_type m ks (call id name on args)) g) [
         | inr (e, f) ↦ inr (e, inr f)
-        | inl agrees ↦ elim (target-kept m ks on args g.0 (each-kept m ks args) g.1) [
+        | inl agrees ↦ elim (target_kept m ks on args g.0 (each_kept m ks args) g.1) [
           | inr (e, f) ↦ inr (e, inl (CallsFault.in_operand f))
           | inl (first, others) ↦ inl (agrees, first, others)
         ]
       ]
-  entries-kept m ks (list_literal id elements) s g =
-      both (entry-kept (get m.types id) (Types m ks (list_literal id elements)) s
-      (one-type m ks (list_literal id elements)) g)
-      (list-kept m ks elements (get m.types id) s (all-kept m ks elements) g)
-  entries-kept m ks (map_literal id entries) s g =
-      both (entry-kept (get m.types id) (Types m ks (map_literal id entries)) s
-      (one-type m ks (map_literal id entries)) g)
-      (map-kept m ks entries (get m.types id) s (pairs-kept m ks entries) g)
-  entries-kept m ks (comprehension id x acc range init condition step result) s g =
-      elim (entry-kept (get m.types id)
+  entries_kept m ks (list_literal id elements) s g =
+      both (entry_kept (get m.types id) (Types m ks (list_literal id elements)) s
+      (one_type m ks (list_literal id elements)) g)
+      (list_kept m ks elements (get m.types id) s (all_kept m ks elements) g)
+  entries_kept m ks (map_literal id entries) s g =
+      both (entry_kept (get m.types id) (Types m ks (map_literal id entries)) s
+      (one_type m ks (map_literal id entries)) g)
+      (map_kept m ks entries (get m.types id) s (pairs_kept m ks entries) g)
+  entries_kept m ks (comprehension id x acc range init condition step result) s g =
+      elim (entry_kept (get m.types id)
       (Types m ks (comprehension id x acc range init condition step result)) s
-      (one-type m ks (comprehension id x acc range init condition step result)) g) [
+      (one_type m ks (comprehension id x acc range init condition step result)) g) [
         | inr (e, f) ↦ inr (e, inr f)
-        | inl agrees ↦ elim (entries-kept m ks range g.walked g.range) [
+        | inl agrees ↦ elim (entries_kept m ks range g.walked g.range) [
           | inr (e, f) ↦ inr (e, inl (in_range f))
-          | inl on_range ↦ elim (entries-kept m ks init g.gathered g.init) [
+          | inl on_range ↦ elim (entries_kept m ks init g.gathered g.init) [
             | inr (e, f) ↦ inr (e, inl (in_init f))
-            | inl on_init ↦ elim (entries-kept m ((x, g.element) ∷ (acc, g.gathered) ∷ ks)
+            | inl on_init ↦ elim (entries_kept m ((x, g.element) ∷ (acc, g.gathered) ∷ ks)
                 condition bool_type g.condition) [
                   | inr (e, f) ↦ inr (
                     e,
-                    inl (in_turn (each-turn (Types m ks range) (Types m ks init)
+                    inl (in_turn (each_turn (Types m ks range) (Types m ks init)
                         (λ s a. TypeFault m ((x, s) ∷ (acc, a) ∷ ks) condition e
                         ⊎ TypeFault m ((x, s) ∷ (acc, a) ∷ ks) step e) g.walked g.element g.gathered
                         g.range g.over g.init (inl f))),
                   )
-                  | inl on_condition ↦ elim (entries-kept m
+                  | inl on_condition ↦ elim (entries_kept m
                       ((x, g.element) ∷ (acc, g.gathered) ∷ ks) step g.gathered g.step) [
                         | inr (e, f) ↦ inr (
                           e,
-                          inl (in_turn (each-turn (Types m ks range) (Types m ks init)
+                          inl (in_turn (each_turn (Types m ks range) (Types m ks init)
                               (λ s a. TypeFault m ((x, s) ∷ (acc, a) ∷ ks) condition e
                               ⊎ TypeFault m ((x, s) ∷ (acc, a) ∷ ks) step e) g.walked g.element g.gathered
                               g.range g.over g.init (inr f))),
                         )
-                        | inl on_step ↦ elim (entries-kept m ((acc, g.gathered) ∷ ks) result s
+                        | inl on_step ↦ elim (entries_kept m ((acc, g.gathered) ∷ ks) result s
                             g.result) [
                               | inr (e, f) ↦ inr (
                                 e,
@@ -142,18 +142,18 @@ mutual
                                 on_range,
                                 on_init,
                                 (λ w u a r over i.
-                                    let elements : g.element ≡ u = over-one w g.element u
+                                    let elements : g.element ≡ u = over_one w g.element u
                                     (subst (λ w. IsOver w g.element)
-                                    (one-type m ks range g.walked w g.range r) g.over) over in
+                                    (one_type m ks range g.walked w g.range r) g.over) over in
                                     let gathered : g.gathered ≡ a =
-                                    one-type m ks init g.gathered a g.init i in
+                                    one_type m ks init g.gathered a g.init i in
                                     subst (λ u. EntriesAgree m ((x, u) ∷ (acc, a) ∷ ks) condition
                                     × EntriesAgree m ((x, u) ∷ (acc, a) ∷ ks) step) elements
                                     (subst (λ a. EntriesAgree m ((x, g.element) ∷ (acc, a) ∷ ks) condition
                                     × EntriesAgree m ((x, g.element) ∷ (acc, a) ∷ ks) step) gathered
                                     (on_condition, on_step))),
                                 (λ a i. subst (λ a. EntriesAgree m ((acc, a) ∷ ks) result)
-                                    (one-type m ks init g.gathered a g.init i) on_result),
+                                    (one_type m ks init g.gathered a g.init i) on_result),
                               )
                             ]
                       ]
@@ -162,18 +162,18 @@ mutual
         ]
       ]
 
-  target-kept : (m : Maps) (ks : Kinds) (on : CelTarget) (args : CelTrees) (ts : List ValueType)
+  target_kept : (m : Maps) (ks : Kinds) (on : CelTarget) (args : CelTrees) (ts : List ValueType)
       → ((us : List ValueType) → TypesEach m ks args us
       → Kept (EachAgrees m ks args) (SomeFault m ks args))
       → TypesTarget m ks on (TypesEach m ks args) ts
       → Kept (TargetAgrees m ks on × EachAgrees m ks args)
       (λ e. TargetFault m ks on e ⊎ SomeFault m ks args e)
-  target-kept m ks no_target args ts each g = elim (each ts g) [
+  target_kept m ks no_target args ts each g = elim (each ts g) [
     | inl others ↦ inl (tt, others)
     | inr (e, f) ↦ inr (e, inr f)
   ]
-  target-kept m ks (target on) args [] each g = absurd g
-  target-kept m ks (target on) args (t ∷ ts) each g = elim (entries-kept m ks on t g.0) [
+  target_kept m ks (target on) args [] each g = absurd g
+  target_kept m ks (target on) args (t ∷ ts) each g = elim (entries_kept m ks on t g.0) [
     | inr (e, f) ↦ inr (e, inl f)
     | inl first ↦ elim (each ts g.1) [
       | inl others ↦ inl (first, others)
@@ -181,74 +181,74 @@ mutual
     ]
   ]
 
-  each-kept : (m : Maps) (ks : Kinds) (ts : CelTrees) (us : List ValueType)
+  each_kept : (m : Maps) (ks : Kinds) (ts : CelTrees) (us : List ValueType)
       → TypesEach m ks ts us → Kept (EachAgrees m ks ts) (SomeFault m ks ts)
-  each-kept m ks no_trees us g = inl tt
-  each-kept m ks (tree t ts) [] g = absurd g
-  each-kept m ks (tree t ts) (u ∷ us) g = elim (entries-kept m ks t u g.0) [
+  each_kept m ks no_trees us g = inl tt
+  each_kept m ks (tree t ts) [] g = absurd g
+  each_kept m ks (tree t ts) (u ∷ us) g = elim (entries_kept m ks t u g.0) [
     | inr (e, f) ↦ inr (e, inl f)
-    | inl first ↦ elim (each-kept m ks ts us g.1) [
+    | inl first ↦ elim (each_kept m ks ts us g.1) [
       | inl others ↦ inl (first, others)
       | inr (e, f) ↦ inr (e, inr f)
     ]
   ]
 
-  all-kept : (m : Maps) (ks : Kinds) (ts : CelTrees) (s : ValueType) → TypesAll m ks ts s
+  all_kept : (m : Maps) (ks : Kinds) (ts : CelTrees) (s : ValueType) → TypesAll m ks ts s
       → Kept (EachAgrees m ks ts) (SomeFault m ks ts)
-  all-kept m ks no_trees s g = inl tt
-  all-kept m ks (tree t ts) s g = elim (entries-kept m ks t s g.0) [
+  all_kept m ks no_trees s g = inl tt
+  all_kept m ks (tree t ts) s g = elim (entries_kept m ks t s g.0) [
     | inr (e, f) ↦ inr (e, inl f)
-    | inl first ↦ elim (all-kept m ks ts s g.1) [
+    | inl first ↦ elim (all_kept m ks ts s g.1) [
       | inl others ↦ inl (first, others)
       | inr (e, f) ↦ inr (e, inr f)
     ]
   ]
 
-  list-kept : (m : Maps) (ks : Kinds) (ts : CelTrees) (entry : Option CelTypeEntry)
+  list_kept : (m : Maps) (ks : Kinds) (ts : CelTrees) (entry : Option CelTypeEntry)
       (s : ValueType) → ((u : ValueType) → TypesAll m ks ts u
       → Kept (EachAgrees m ks ts) (SomeFault m ks ts))
       → ListRule entry ts (TypesAll m ks ts) s
       → Kept (EachAgrees m ks ts)
       (ListFault entry ts (SomeTypes m ks ts) (SomeFault m ks ts))
-  list-kept m ks no_trees entry s all g = inl tt
-  list-kept m ks (tree t ts) entry s all g = elim (all g.0 g.1) [
+  list_kept m ks no_trees entry s all g = inl tt
+  list_kept m ks (tree t ts) entry s all g = elim (all g.0 g.1) [
     | inl agree ↦ inl agree
     | inr (e, f) ↦ inr (e, ElementsFault.in_element f)
   ]
 
-  pairs-kept : (m : Maps) (ks : Kinds) (es : CelTreeEntries) (r s : ValueType)
+  pairs_kept : (m : Maps) (ks : Kinds) (es : CelTreeEntries) (r s : ValueType)
       → TypesPairs m ks es r s → Kept (PairsAgree m ks es) (PairFault m ks es)
-  pairs-kept m ks no_tree_entries r s g = inl tt
-  pairs-kept m ks (tree_entry id key value es) r s g = elim (entries-kept m ks key r g.0) [
+  pairs_kept m ks no_tree_entries r s g = inl tt
+  pairs_kept m ks (tree_entry id key value es) r s g = elim (entries_kept m ks key r g.0) [
     | inr (e, f) ↦ inr (e, inl f)
-    | inl first ↦ elim (entries-kept m ks value s g.1) [
+    | inl first ↦ elim (entries_kept m ks value s g.1) [
       | inr (e, f) ↦ inr (e, inr (inl f))
-      | inl second ↦ elim (pairs-kept m ks es r s g.2) [
+      | inl second ↦ elim (pairs_kept m ks es r s g.2) [
         | inl others ↦ inl (first, second, others)
         | inr (e, f) ↦ inr (e, inr (inr f))
       ]
     ]
   ]
 
-  map-kept : (m : Maps) (ks : Kinds) (es : CelTreeEntries) (entry : Option CelTypeEntry)
+  map_kept : (m : Maps) (ks : Kinds) (es : CelTreeEntries) (entry : Option CelTypeEntry)
       (s : ValueType) → ((r u : ValueType) → TypesPairs m ks es r u
       → Kept (PairsAgree m ks es) (PairFault m ks es))
       → MapRule entry es (TypesPairs m ks es) s
       → Kept (PairsAgree m ks es)
       (MapsFault entry es (KeyTypes m ks es) (ItemTypes m ks es) (PairFault m ks es))
-  map-kept m ks no_tree_entries entry s pairs g = inl tt
-  map-kept m ks (tree_entry id key value es) entry s pairs g =
+  map_kept m ks no_tree_entries entry s pairs g = inl tt
+  map_kept m ks (tree_entry id key value es) entry s pairs g =
       elim (pairs (type_of_key g.0) g.1 g.2) [
         | inl agree ↦ inl agree
         | inr (e, f) ↦ inr (e, PairsFault.in_entry f)
       ]
 
-pub typed-total : (m : Maps) (ks : Kinds) (t : CelTree)
+pub typed_total : (m : Maps) (ks : Kinds) (t : CelTree)
     → ((s : ValueType) × Types m ks t s × EntriesAgree m ks t)
     ⊎ ((e : Refusal) × TypeFault m ks t e)
-typed-total m ks t = elim (type-total m ks t) [
+typed_total m ks t = elim (type_total m ks t) [
   | inr (e, f) ↦ inr (e, f)
-  | inl (s, g) ↦ elim (entries-kept m ks t s g) [
+  | inl (s, g) ↦ elim (entries_kept m ks t s g) [
     | inl agree ↦ inl (s, g, agree)
     | inr (e, f) ↦ inr (e, f)
   ]

@@ -8,20 +8,20 @@ use Rattle.cel_value.specs.declared.cel_type.KeyType.TheVariants as keys
 use Rattle.cel_tree.specs.Checked.{CelReference, CelTypeEntry, of_type, dyn_type, unsupported_type}
 use Rattle.cel_tree.specs.Tree.{CelTree, constant, ident, select, call, list_literal, map_literal, comprehension, CelTarget, no_target, target, CelTrees, no_trees, tree, CelTreeEntries, no_tree_entries, tree_entry}
 use Rattle.cel_overload.specs.declared.overload.OverloadFault.TheVariants as calls
-use Rattle.cel_overload.proofs.OneOverload.{call-disjoint}
+use Rattle.cel_overload.proofs.OneOverload.{call_disjoint}
 use Rattle.cel_ops.specs.Attributes.{attribute_type}
 use Rattle.cel_types.specs.Attributes.{attribute_named}
 use Rattle.cel_types.specs.Names.{joined_name, root_of}
 use Rattle.cel_types.specs.Typing.{CallRule, EachAgrees, EntriesAgree, EntryAgrees, IdentRule, IsList, IsMap, IsOver, Kinds, ListRule, LoopRule, MapRule, Maps, NameAgrees, PairsAgree, RefAgrees, SelectAgrees, SelectRule, TargetAgrees, TypeAgrees, TypeGiven, Types, TypesAll, TypesEach, TypesPairs, TypesTarget, has_target}
 use Rattle.cel_types.specs.TypingFaults.{CallsFault, ElementsFault, ElementOf, MayBe, EmptyFault, EntryFault, IdentFault, ItemTypes, KeyTypes, ListFault, LoopFault, MapsFault, PairFault, PairsFault, SaysNothing, SelectFault, SomeFault, SomeTypes, TargetFault, TypeFault}
 use Rattle.cel_types.specs.TypingFaults.{unsupported_kind, another_type, untold, of_another_kind, no_element_name, no_gathered_name, one_name, no_elements, no_condition, no_step, in_range, in_init, in_turn, in_result}
-use Rattle.cel_types.proofs.OneType.{OneAtMost, one-each, one-target, one-type, over-one}
+use Rattle.cel_types.proofs.OneType.{OneAtMost, one_each, one_target, one_type, over_one}
 
-entry-apart : (entry : Option CelTypeEntry) (Has : ValueType → Type 0) (t : ValueType)
+entry_apart : (entry : Option CelTypeEntry) (Has : ValueType → Type 0) (t : ValueType)
     (e : Refusal) → Has t → EntryAgrees entry Has → EntryFault entry Has e → ⊥
-entry-apart entry Has t e has agrees (unsupported_kind is _) =
+entry_apart entry Has t e has agrees (unsupported_kind is _) =
     subst (λ o. TypeAgrees o t) is (agrees t has)
-entry-apart entry Has t e has agrees (another_type s u other is differs _) =
+entry_apart entry Has t e has agrees (another_type s u other is differs _) =
     differs (subst (λ o. TypeAgrees o u) is (agrees u other))
 
 told : (entry : Option CelTypeEntry) (t : ValueType) → TypeGiven entry t → SaysNothing entry → ⊥
@@ -30,118 +30,118 @@ told (Some dyn_type) t given says = given
 told (Some unsupported_type) t given says = says
 told (Some (of_type s)) t given says = says
 
-empty-apart : (entry : Option CelTypeEntry) (IsKind : ValueType → Type 0) (t : ValueType)
+empty_apart : (entry : Option CelTypeEntry) (IsKind : ValueType → Type 0) (t : ValueType)
     (e : Refusal) → TypeGiven entry t → IsKind t → EmptyFault entry IsKind e → ⊥
-empty-apart entry IsKind t e given kind (untold says _) = told entry t given says
-empty-apart entry IsKind t e given kind (of_another_kind s is never _) =
+empty_apart entry IsKind t e given kind (untold says _) = told entry t given says
+empty_apart entry IsKind t e given kind (of_another_kind s is never _) =
     never (subst IsKind (sym (subst (λ o. TypeGiven o t) is given)) kind)
 
-ident-apart : (ref : Option CelReference) (ks : Kinds) (name : List ℕ) (t : ValueType) (e : Refusal)
+ident_apart : (ref : Option CelReference) (ks : Kinds) (name : List ℕ) (t : ValueType) (e : Refusal)
     → IdentRule ks name t → NameAgrees ref name (IdentRule ks name) → IdentFault ref ks name e → ⊥
-ident-apart ref ks name t e rule agrees (IdentFault.unknown is _) = none-some t (sym is ∙ rule)
-ident-apart ref ks name t e rule agrees (IdentFault.other_reference u is differs _) =
+ident_apart ref ks name t e rule agrees (IdentFault.unknown is _) = none-some t (sym is ∙ rule)
+ident_apart ref ks name t e rule agrees (IdentFault.other_reference u is differs _) =
     differs (agrees u is)
 
 module _ (ref : Option CelReference) (Operand : ValueType → Type 0) (InOperand : Refusal → Type 0)
     (Inside : Type 0) (one : OneAtMost Operand)
     (apart : (s : ValueType) (e : Refusal) → Operand s → Inside → InOperand e → ⊥)
     (field : List ℕ) (t : ValueType) (e : Refusal) where
-  select-apart : (root : Option (List ℕ)) (test_only : Bool)
+  select_apart : (root : Option (List ℕ)) (test_only : Bool)
       → SelectRule root Operand field test_only t
       → SelectAgrees ref root field (SelectRule root Operand field test_only) Inside
       → SelectFault ref root Operand InOperand field test_only e → ⊥
-  select-apart (Some root) true rule agrees fault = rule
-  select-apart (Some root) false rule agrees (SelectFault.unknown r is none _) =
+  select_apart (Some root) true rule agrees fault = rule
+  select_apart (Some root) false rule agrees (SelectFault.unknown r is none _) =
       let same : root ≡ r = cc in
       let here : attribute_named (joined_name root field) ≡ None =
       ap (λ r. attribute_named (joined_name r field)) same ∙ none in
       none-some t (sym (ap (option_map attribute_type) here) ∙ rule)
-  select-apart (Some root) false rule agrees (SelectFault.asked r is test _) = cc
-  select-apart (Some root) false rule agrees
+  select_apart (Some root) false rule agrees (SelectFault.asked r is test _) = cc
+  select_apart (Some root) false rule agrees
       (SelectFault.other_reference r u is test named differs _) =
       let same : root ≡ r = cc in
       differs (subst (λ r. RefAgrees ref (joined_name r field)) same (agrees t rule))
-  select-apart (Some root) false rule agrees (SelectFault.no_names s is operand never _) =
+  select_apart (Some root) false rule agrees (SelectFault.no_names s is operand never _) =
       none-some root (sym is)
-  select-apart (Some root) false rule agrees (SelectFault.in_operand is inside) =
+  select_apart (Some root) false rule agrees (SelectFault.in_operand is inside) =
       none-some root (sym is)
-  select-apart None test_only rule agrees (SelectFault.unknown r is none _) = none-some r is
-  select-apart None test_only rule agrees (SelectFault.asked r is test _) = none-some r is
-  select-apart None test_only rule agrees
+  select_apart None test_only rule agrees (SelectFault.unknown r is none _) = none-some r is
+  select_apart None test_only rule agrees (SelectFault.asked r is test _) = none-some r is
+  select_apart None test_only rule agrees
       (SelectFault.other_reference r u is test named differs _) = none-some r is
-  select-apart None test_only rule agrees (SelectFault.no_names s is operand never _) =
+  select_apart None test_only rule agrees (SelectFault.no_names s is operand never _) =
       never rule.0 (one s (map_type keys.Text rule.0) operand rule.1)
-  select-apart None test_only rule agrees (SelectFault.in_operand is inside) =
+  select_apart None test_only rule agrees (SelectFault.in_operand is inside) =
       apart (map_type keys.Text rule.0) e rule.1 agrees inside
 
-call-apart : (name : List ℕ) (on : Bool) (Operands : List ValueType → Type 0)
+call_apart : (name : List ℕ) (on : Bool) (Operands : List ValueType → Type 0)
     (InOperands : Refusal → Type 0) (t : ValueType) (e : Refusal) → OneAtMost Operands
     → ((ts : List ValueType) (e : Refusal) → Operands ts → InOperands e → ⊥)
     → CallRule name on Operands t → CallsFault name on Operands InOperands e → ⊥
-call-apart name on Operands InOperands t e one apart rule (CallsFault.unknown is _) =
+call_apart name on Operands InOperands t e one apart rule (CallsFault.unknown is _) =
     none-some rule.3.0 (sym is ∙ rule.3.1)
-call-apart name on Operands InOperands t e one apart rule (CallsFault.no_overload ts operands fault _) =
-    call-disjoint name on rule.0 rule.2 t calls.NoOverload rule.3
+call_apart name on Operands InOperands t e one apart rule (CallsFault.no_overload ts operands fault _) =
+    call_disjoint name on rule.0 rule.2 t calls.NoOverload rule.3
     (rw (one rule.0 ts rule.1 operands) fault)
-call-apart name on Operands InOperands t e one apart rule (CallsFault.in_operand inside) =
+call_apart name on Operands InOperands t e one apart rule (CallsFault.in_operand inside) =
     apart rule.0 e rule.1 inside
 
-list-apart : (entry : Option CelTypeEntry) (elements : CelTrees) (All HasElement : ValueType → Type 0)
+list_apart : (entry : Option CelTypeEntry) (elements : CelTrees) (All HasElement : ValueType → Type 0)
     (InElements : Refusal → Type 0) (t : ValueType) (e : Refusal)
     → ((s u : ValueType) → All s → HasElement u → s ≡ u)
     → ((s : ValueType) (e : Refusal) → All s → InElements e → ⊥)
     → ListRule entry elements All t → ListFault entry elements HasElement InElements e → ⊥
-list-apart entry no_trees All HasElement InElements t e one apart rule fault =
-    empty-apart entry IsList t e rule.0 rule.1 fault
-list-apart entry (tree a others) All HasElement InElements t e one apart rule
+list_apart entry no_trees All HasElement InElements t e one apart rule fault =
+    empty_apart entry IsList t e rule.0 rule.1 fault
+list_apart entry (tree a others) All HasElement InElements t e one apart rule
     (ElementsFault.two_types s u has other differs _) =
     differs (sym (one rule.0 s rule.1 has) ∙ one rule.0 u rule.1 other)
-list-apart entry (tree a others) All HasElement InElements t e one apart rule
+list_apart entry (tree a others) All HasElement InElements t e one apart rule
     (ElementsFault.in_element inside) = apart rule.0 e rule.1 inside
 
-map-apart : (entry : Option CelTypeEntry) (entries : CelTreeEntries)
+map_apart : (entry : Option CelTypeEntry) (entries : CelTreeEntries)
     (Pairs : ValueType → ValueType → Type 0) (HasKey HasValue : ValueType → Type 0)
     (InEntries : Refusal → Type 0) (t : ValueType) (e : Refusal)
     → ((r s u : ValueType) → Pairs r s → HasKey u → r ≡ u)
     → ((r s u : ValueType) → Pairs r s → HasValue u → s ≡ u)
     → ((r s : ValueType) (e : Refusal) → Pairs r s → InEntries e → ⊥)
     → MapRule entry entries Pairs t → MapsFault entry entries HasKey HasValue InEntries e → ⊥
-map-apart entry no_tree_entries Pairs HasKey HasValue InEntries t e on_keys on_values apart rule
-    fault = empty-apart entry IsMap t e rule.0 rule.1 fault
-map-apart entry (tree_entry id key value es) Pairs HasKey HasValue InEntries t e on_keys on_values
+map_apart entry no_tree_entries Pairs HasKey HasValue InEntries t e on_keys on_values apart rule
+    fault = empty_apart entry IsMap t e rule.0 rule.1 fault
+map_apart entry (tree_entry id key value es) Pairs HasKey HasValue InEntries t e on_keys on_values
     apart rule (PairsFault.two_key_types s u has other differs _) =
     differs (sym (on_keys (type_of_key rule.0) rule.1 s rule.2 has)
     ∙ on_keys (type_of_key rule.0) rule.1 u rule.2 other)
-map-apart entry (tree_entry id key value es) Pairs HasKey HasValue InEntries t e on_keys on_values
+map_apart entry (tree_entry id key value es) Pairs HasKey HasValue InEntries t e on_keys on_values
     apart rule (PairsFault.two_value_types s u has other differs _) =
     differs (sym (on_values (type_of_key rule.0) rule.1 s rule.2 has)
     ∙ on_values (type_of_key rule.0) rule.1 u rule.2 other)
-map-apart entry (tree_entry id key value es) Pairs HasKey HasValue InEntries t e on_keys on_values
+map_apart entry (tree_entry id key value es) Pairs HasKey HasValue InEntries t e on_keys on_values
     apart rule (PairsFault.no_key_type s has never _) =
     never rule.0 (sym (on_keys (type_of_key rule.0) rule.1 s rule.2 has))
-map-apart entry (tree_entry id key value es) Pairs HasKey HasValue InEntries t e on_keys on_values
+map_apart entry (tree_entry id key value es) Pairs HasKey HasValue InEntries t e on_keys on_values
     apart rule (PairsFault.in_entry inside) = apart (type_of_key rule.0) rule.1 e rule.2 inside
 
 -- what all have some has
-all-one : (m : Maps) (ks : Kinds) (ts : CelTrees) (s u : ValueType) → TypesAll m ks ts s
+all_one : (m : Maps) (ks : Kinds) (ts : CelTrees) (s u : ValueType) → TypesAll m ks ts s
     → SomeTypes m ks ts u → s ≡ u
-all-one m ks no_trees s u all some = absurd some
-all-one m ks (tree t ts) s u all (inl here) = one-type m ks t s u all.0 here
-all-one m ks (tree t ts) s u all (inr some) = all-one m ks ts s u all.1 some
+all_one m ks no_trees s u all some = absurd some
+all_one m ks (tree t ts) s u all (inl here) = one_type m ks t s u all.0 here
+all_one m ks (tree t ts) s u all (inr some) = all_one m ks ts s u all.1 some
 
-keys-one : (m : Maps) (ks : Kinds) (es : CelTreeEntries) (r s u : ValueType)
+keys_one : (m : Maps) (ks : Kinds) (es : CelTreeEntries) (r s u : ValueType)
     → TypesPairs m ks es r s → KeyTypes m ks es u → r ≡ u
-keys-one m ks no_tree_entries r s u all some = absurd some
-keys-one m ks (tree_entry id key value es) r s u all (inl here) = one-type m ks key r u all.0 here
-keys-one m ks (tree_entry id key value es) r s u all (inr some) = keys-one m ks es r s u all.2 some
+keys_one m ks no_tree_entries r s u all some = absurd some
+keys_one m ks (tree_entry id key value es) r s u all (inl here) = one_type m ks key r u all.0 here
+keys_one m ks (tree_entry id key value es) r s u all (inr some) = keys_one m ks es r s u all.2 some
 
-items-one : (m : Maps) (ks : Kinds) (es : CelTreeEntries) (r s u : ValueType)
+items_one : (m : Maps) (ks : Kinds) (es : CelTreeEntries) (r s u : ValueType)
     → TypesPairs m ks es r s → ItemTypes m ks es u → s ≡ u
-items-one m ks no_tree_entries r s u all some = absurd some
-items-one m ks (tree_entry id key value es) r s u all (inl here) =
-    one-type m ks value s u all.1 here
-items-one m ks (tree_entry id key value es) r s u all (inr some) =
-    items-one m ks es r s u all.2 some
+items_one m ks no_tree_entries r s u all some = absurd some
+items_one m ks (tree_entry id key value es) r s u all (inl here) =
+    one_type m ks value s u all.1 here
+items_one m ks (tree_entry id key value es) r s u all (inr some) =
+    items_one m ks es r s u all.2 some
 
 module _ (x acc : List ℕ) (Range Init : ValueType → Type 0)
     (Condition Step : ValueType → ValueType → ValueType → Type 0)
@@ -156,137 +156,137 @@ module _ (x acc : List ℕ) (Range Init : ValueType → Type 0)
     → Condition s a bool_type → Step s a a → InTurn s a e → ⊥)
     (result-apart : (a t : ValueType) (e : Refusal) → Init a → Result a t → InResult a e → ⊥) where
   -- what the rule says of locals they may be
-  may-element : (t : ValueType) (rule : LoopRule x acc Range Init Condition Step Result t)
+  may_element : (t : ValueType) (rule : LoopRule x acc Range Init Condition Step Result t)
       → MayBe (ElementOf Range) rule.element
-  may-element t rule s found =
-      over-one rule.walked s rule.element
+  may_element t rule s found =
+      over_one rule.walked s rule.element
       (subst (λ w. IsOver w s) (range found.0 rule.walked found.1 rule.range) found.2) rule.over
 
-  may-gathered : (t : ValueType) (rule : LoopRule x acc Range Init Condition Step Result t)
+  may_gathered : (t : ValueType) (rule : LoopRule x acc Range Init Condition Step Result t)
       → MayBe Init rule.gathered
-  may-gathered t rule s found = init s rule.gathered found rule.init
+  may_gathered t rule s found = init s rule.gathered found rule.init
 
-  loop-apart : (t : ValueType) (e : Refusal)
+  loop_apart : (t : ValueType) (e : Refusal)
       → LoopRule x acc Range Init Condition Step Result t
       → LoopFault x acc Range Init Condition Step InRange InInit InTurn InResult e → ⊥
-  loop-apart t e rule (no_element_name is _) = rule.names.element is
-  loop-apart t e rule (no_gathered_name is _) = rule.names.gathered is
-  loop-apart t e rule (one_name is _) = rule.names.differ is
-  loop-apart t e rule (no_elements s r never _) =
+  loop_apart t e rule (no_element_name is _) = rule.names.element is
+  loop_apart t e rule (no_gathered_name is _) = rule.names.gathered is
+  loop_apart t e rule (one_name is _) = rule.names.differ is
+  loop_apart t e rule (no_elements s r never _) =
       never rule.element (subst (λ w. IsOver w rule.element) (range rule.walked s rule.range r)
       rule.over)
-  loop-apart t e rule (no_condition other _) =
-      let it = other rule.element rule.gathered (may-element t rule) (may-gathered t rule) in
+  loop_apart t e rule (no_condition other _) =
+      let it = other rule.element rule.gathered (may_element t rule) (may_gathered t rule) in
       it.2 (condition rule.element rule.gathered it.0 bool_type it.1 rule.condition)
-  loop-apart t e rule (no_step other _) =
-      let it = other rule.element rule.gathered (may-element t rule) (may-gathered t rule) in
+  loop_apart t e rule (no_step other _) =
+      let it = other rule.element rule.gathered (may_element t rule) (may_gathered t rule) in
       it.2 (step rule.element rule.gathered it.0 rule.gathered it.1 rule.step)
-  loop-apart t e rule (in_range inside) = range-apart rule.walked e rule.range inside
-  loop-apart t e rule (in_init inside) = init-apart rule.gathered e rule.init inside
-  loop-apart t e rule (in_turn inside) =
+  loop_apart t e rule (in_range inside) = range-apart rule.walked e rule.range inside
+  loop_apart t e rule (in_init inside) = init-apart rule.gathered e rule.init inside
+  loop_apart t e rule (in_turn inside) =
       turn-apart rule.walked rule.element rule.gathered e rule.range rule.over rule.init
       rule.condition rule.step
-      (inside rule.element rule.gathered (may-element t rule) (may-gathered t rule))
-  loop-apart t e rule (in_result inside) =
+      (inside rule.element rule.gathered (may_element t rule) (may_gathered t rule))
+  loop_apart t e rule (in_result inside) =
       result-apart rule.gathered t e rule.init rule.result
-      (inside rule.gathered (may-gathered t rule))
+      (inside rule.gathered (may_gathered t rule))
 
 -- the operands after a target
-others-typed : (m : Maps) (ks : Kinds) (on : CelTarget) (Others : List ValueType → Type 0)
+others_typed : (m : Maps) (ks : Kinds) (on : CelTarget) (Others : List ValueType → Type 0)
     (ts : List ValueType) → TypesTarget m ks on Others ts → (us : List ValueType) × Others us
-others-typed m ks no_target Others ts h = (ts, h)
-others-typed m ks (target on) Others [] h = absurd h
-others-typed m ks (target on) Others (t ∷ ts) h = (ts, h.1)
+others_typed m ks no_target Others ts h = (ts, h)
+others_typed m ks (target on) Others [] h = absurd h
+others_typed m ks (target on) Others (t ∷ ts) h = (ts, h.1)
 
 mutual
-  pub typed-apart : (m : Maps) (ks : Kinds) (t : CelTree) (s : ValueType) (e : Refusal)
+  pub typed_apart : (m : Maps) (ks : Kinds) (t : CelTree) (s : ValueType) (e : Refusal)
       → Types m ks t s → EntriesAgree m ks t → TypeFault m ks t e → ⊥
-  typed-apart m ks (constant id v) s e g h (inl fault) = none-some s (sym fault.0 ∙ g)
-  typed-apart m ks (constant id v) s e g h (inr fault) =
-      entry-apart (get m.types id) (Types m ks (constant id v)) s e g h fault
-  typed-apart m ks (ident id name) s e g h (inl fault) =
-      ident-apart (get m.refs id) ks name s e g h.1 fault
-  typed-apart m ks (ident id name) s e g h (inr fault) =
-      entry-apart (get m.types id) (Types m ks (ident id name)) s e g h.0 fault.1
-  typed-apart m ks (select id operand field test_only) s e g h (inl fault) =
-      select-apart (get m.refs id) (Types m ks operand) (TypeFault m ks operand)
-      (EntriesAgree m ks operand) (one-type m ks operand) (typed-apart m ks operand) field s e
+  typed_apart m ks (constant id v) s e g h (inl fault) = none-some s (sym fault.0 ∙ g)
+  typed_apart m ks (constant id v) s e g h (inr fault) =
+      entry_apart (get m.types id) (Types m ks (constant id v)) s e g h fault
+  typed_apart m ks (ident id name) s e g h (inl fault) =
+      ident_apart (get m.refs id) ks name s e g h.1 fault
+  typed_apart m ks (ident id name) s e g h (inr fault) =
+      entry_apart (get m.types id) (Types m ks (ident id name)) s e g h.0 fault.1
+  typed_apart m ks (select id operand field test_only) s e g h (inl fault) =
+      select_apart (get m.refs id) (Types m ks operand) (TypeFault m ks operand)
+      (EntriesAgree m ks operand) (one_type m ks operand) (typed_apart m ks operand) field s e
       (root_of operand ks) test_only g h.1 fault
-  typed-apart m ks (select id operand field test_only) s e g h (inr fault) =
-      entry-apart (get m.types id) (Types m ks (select id operand field test_only)) s e g h.0 fault
-  typed-apart m ks (call id name on args) s e g h (inl fault) =
-      call-apart name (has_target on) (TypesTarget m ks on (TypesEach m ks args))
+  typed_apart m ks (select id operand field test_only) s e g h (inr fault) =
+      entry_apart (get m.types id) (Types m ks (select id operand field test_only)) s e g h.0 fault
+  typed_apart m ks (call id name on args) s e g h (inl fault) =
+      call_apart name (has_target on) (TypesTarget m ks on (TypesEach m ks args))
       (λ d. TargetFault m ks on d ⊎ SomeFault m ks args d) s e
-      (one-target m ks on args (one-each m ks args)) (λ ts d typed inside. elim inside [
-        | inl f ↦ target-apart m ks on args ts d typed h.1 f
+      (one_target m ks on args (one_each m ks args)) (λ ts d typed inside. elim inside [
+        | inl f ↦ target_apart m ks on args ts d typed h.1 f
         | inr f ↦
-            let others = others-typed m ks on (TypesEach m ks args) ts typed in
-            each-apart m ks args others.0 d others.1 h.2 f
+            let others = others_typed m ks on (TypesEach m ks args) ts typed in
+            each_apart m ks args others.0 d others.1 h.2 f
       ]) g fault
-  typed-apart m ks (call id name on args) s e g h (inr fault) =
-      entry-apart (get m.types id) (Types m ks (call id name on args)) s e g h.0 fault
-  typed-apart m ks (list_literal id elements) s e g h (inl fault) =
-      list-apart (get m.types id) elements (TypesAll m ks elements) (SomeTypes m ks elements)
-      (SomeFault m ks elements) s e (all-one m ks elements)
-      (λ u d all inside. all-apart m ks elements u d all h.1 inside) g fault
-  typed-apart m ks (list_literal id elements) s e g h (inr fault) =
-      entry-apart (get m.types id) (Types m ks (list_literal id elements)) s e g h.0 fault
-  typed-apart m ks (map_literal id entries) s e g h (inl fault) =
-      map-apart (get m.types id) entries (TypesPairs m ks entries) (KeyTypes m ks entries)
-      (ItemTypes m ks entries) (PairFault m ks entries) s e (keys-one m ks entries)
-      (items-one m ks entries)
-      (λ r u d all inside. pairs-apart m ks entries r u d all h.1 inside) g fault
-  typed-apart m ks (map_literal id entries) s e g h (inr fault) =
-      entry-apart (get m.types id) (Types m ks (map_literal id entries)) s e g h.0 fault
-  typed-apart m ks (comprehension id x acc range init condition step result) s e g h (inl fault) =
-      loop-apart x acc (Types m ks range) (Types m ks init)
+  typed_apart m ks (call id name on args) s e g h (inr fault) =
+      entry_apart (get m.types id) (Types m ks (call id name on args)) s e g h.0 fault
+  typed_apart m ks (list_literal id elements) s e g h (inl fault) =
+      list_apart (get m.types id) elements (TypesAll m ks elements) (SomeTypes m ks elements)
+      (SomeFault m ks elements) s e (all_one m ks elements)
+      (λ u d all inside. all_apart m ks elements u d all h.1 inside) g fault
+  typed_apart m ks (list_literal id elements) s e g h (inr fault) =
+      entry_apart (get m.types id) (Types m ks (list_literal id elements)) s e g h.0 fault
+  typed_apart m ks (map_literal id entries) s e g h (inl fault) =
+      map_apart (get m.types id) entries (TypesPairs m ks entries) (KeyTypes m ks entries)
+      (ItemTypes m ks entries) (PairFault m ks entries) s e (keys_one m ks entries)
+      (items_one m ks entries)
+      (λ r u d all inside. pairs_apart m ks entries r u d all h.1 inside) g fault
+  typed_apart m ks (map_literal id entries) s e g h (inr fault) =
+      entry_apart (get m.types id) (Types m ks (map_literal id entries)) s e g h.0 fault
+  typed_apart m ks (comprehension id x acc range init condition step result) s e g h (inl fault) =
+      loop_apart x acc (Types m ks range) (Types m ks init)
       (λ s a. Types m ((x, s) ∷ (acc, a) ∷ ks) condition)
       (λ s a. Types m ((x, s) ∷ (acc, a) ∷ ks) step)
       (λ a. Types m ((acc, a) ∷ ks) result) (TypeFault m ks range) (TypeFault m ks init)
       (λ s a d. TypeFault m ((x, s) ∷ (acc, a) ∷ ks) condition d
       ⊎ TypeFault m ((x, s) ∷ (acc, a) ∷ ks) step d)
-      (λ a. TypeFault m ((acc, a) ∷ ks) result) (one-type m ks range) (one-type m ks init)
-      (λ s a. one-type m ((x, s) ∷ (acc, a) ∷ ks) condition)
-      (λ s a. one-type m ((x, s) ∷ (acc, a) ∷ ks) step)
-      (λ u d r f. typed-apart m ks range u d r h.1 f)
-      (λ u d r f. typed-apart m ks init u d r h.2 f)
+      (λ a. TypeFault m ((acc, a) ∷ ks) result) (one_type m ks range) (one_type m ks init)
+      (λ s a. one_type m ((x, s) ∷ (acc, a) ∷ ks) condition)
+      (λ s a. one_type m ((x, s) ∷ (acc, a) ∷ ks) step)
+      (λ u d r f. typed_apart m ks range u d r h.1 f)
+      (λ u d r f. typed_apart m ks init u d r h.2 f)
       (λ w s a d r over i c p inside. elim inside [
-        | inl f ↦ typed-apart m ((x, s) ∷ (acc, a) ∷ ks) condition bool_type d c
+        | inl f ↦ typed_apart m ((x, s) ∷ (acc, a) ∷ ks) condition bool_type d c
             (h.3 w s a r over i).0 f
-        | inr f ↦ typed-apart m ((x, s) ∷ (acc, a) ∷ ks) step a d p (h.3 w s a r over i).1 f
-      ]) (λ a u d i r f. typed-apart m ((acc, a) ∷ ks) result u d r (h.4 a i) f) s e g fault
-  typed-apart m ks (comprehension id x acc range init condition step result) s e g h (inr fault) =
-      entry-apart (get m.types id)
+        | inr f ↦ typed_apart m ((x, s) ∷ (acc, a) ∷ ks) step a d p (h.3 w s a r over i).1 f
+      ]) (λ a u d i r f. typed_apart m ((acc, a) ∷ ks) result u d r (h.4 a i) f) s e g fault
+  typed_apart m ks (comprehension id x acc range init condition step result) s e g h (inr fault) =
+      entry_apart (get m.types id)
       (Types m ks (comprehension id x acc range init condition step result)) s e g h.0 fault
 
-  target-apart : (m : Maps) (ks : Kinds) (on : CelTarget) (args : CelTrees)
+  target_apart : (m : Maps) (ks : Kinds) (on : CelTarget) (args : CelTrees)
       (ts : List ValueType) (e : Refusal) → TypesTarget m ks on (TypesEach m ks args) ts
       → TargetAgrees m ks on → TargetFault m ks on e → ⊥
-  target-apart m ks no_target args ts e g h fault = fault
-  target-apart m ks (target on) args [] e g h fault = g
-  target-apart m ks (target on) args (t ∷ ts) e g h fault = typed-apart m ks on t e g.0 h fault
+  target_apart m ks no_target args ts e g h fault = fault
+  target_apart m ks (target on) args [] e g h fault = g
+  target_apart m ks (target on) args (t ∷ ts) e g h fault = typed_apart m ks on t e g.0 h fault
 
-  each-apart : (m : Maps) (ks : Kinds) (args : CelTrees) (ts : List ValueType) (e : Refusal)
+  each_apart : (m : Maps) (ks : Kinds) (args : CelTrees) (ts : List ValueType) (e : Refusal)
       → TypesEach m ks args ts → EachAgrees m ks args → SomeFault m ks args e → ⊥
-  each-apart m ks no_trees ts e g h fault = fault
-  each-apart m ks (tree a others) [] e g h fault = g
-  each-apart m ks (tree a others) (t ∷ ts) e g h (inl fault) =
-      typed-apart m ks a t e g.0 h.0 fault
-  each-apart m ks (tree a others) (t ∷ ts) e g h (inr fault) =
-      each-apart m ks others ts e g.1 h.1 fault
+  each_apart m ks no_trees ts e g h fault = fault
+  each_apart m ks (tree a others) [] e g h fault = g
+  each_apart m ks (tree a others) (t ∷ ts) e g h (inl fault) =
+      typed_apart m ks a t e g.0 h.0 fault
+  each_apart m ks (tree a others) (t ∷ ts) e g h (inr fault) =
+      each_apart m ks others ts e g.1 h.1 fault
 
-  all-apart : (m : Maps) (ks : Kinds) (args : CelTrees) (t : ValueType) (e : Refusal)
+  all_apart : (m : Maps) (ks : Kinds) (args : CelTrees) (t : ValueType) (e : Refusal)
       → TypesAll m ks args t → EachAgrees m ks args → SomeFault m ks args e → ⊥
-  all-apart m ks no_trees t e g h fault = fault
-  all-apart m ks (tree a others) t e g h (inl fault) = typed-apart m ks a t e g.0 h.0 fault
-  all-apart m ks (tree a others) t e g h (inr fault) = all-apart m ks others t e g.1 h.1 fault
+  all_apart m ks no_trees t e g h fault = fault
+  all_apart m ks (tree a others) t e g h (inl fault) = typed_apart m ks a t e g.0 h.0 fault
+  all_apart m ks (tree a others) t e g h (inr fault) = all_apart m ks others t e g.1 h.1 fault
 
-  pairs-apart : (m : Maps) (ks : Kinds) (es : CelTreeEntries) (r s : ValueType) (e : Refusal)
+  pairs_apart : (m : Maps) (ks : Kinds) (es : CelTreeEntries) (r s : ValueType) (e : Refusal)
       → TypesPairs m ks es r s → PairsAgree m ks es → PairFault m ks es e → ⊥
-  pairs-apart m ks no_tree_entries r s e g h fault = fault
-  pairs-apart m ks (tree_entry id key value es) r s e g h (inl fault) =
-      typed-apart m ks key r e g.0 h.0 fault
-  pairs-apart m ks (tree_entry id key value es) r s e g h (inr (inl fault)) =
-      typed-apart m ks value s e g.1 h.1 fault
-  pairs-apart m ks (tree_entry id key value es) r s e g h (inr (inr fault)) =
-      pairs-apart m ks es r s e g.2 h.2 fault
+  pairs_apart m ks no_tree_entries r s e g h fault = fault
+  pairs_apart m ks (tree_entry id key value es) r s e g h (inl fault) =
+      typed_apart m ks key r e g.0 h.0 fault
+  pairs_apart m ks (tree_entry id key value es) r s e g h (inr (inl fault)) =
+      typed_apart m ks value s e g.1 h.1 fault
+  pairs_apart m ks (tree_entry id key value es) r s e g h (inr (inr fault)) =
+      pairs_apart m ks es r s e g.2 h.2 fault

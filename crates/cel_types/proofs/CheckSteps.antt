@@ -35,63 +35,63 @@ use Rattle.cel_types.specs.declared.typed.TypedLoop.{TypedLoop}
 use Rattle.cel_types.specs.steps.Kinds.{IsMapOf, NoMapOf, NotTold, in_turn}
 use Rattle.cel_types.specs.steps.Scopes.{IsName, name_view, scope_view}
 
-pub view-Empty : scope_view Empty ≡ []
-view-Empty = search (rules, the_lemmas)
+pub view_empty : scope_view Empty ≡ []
+view_empty = search (rules, the_lemmas)
 
-pub view-Local : (n : Bor (RcStr Global)) (t : Bor CelType) (o : Bor Scope)
+pub view_local : (n : Bor (RcStr Global)) (t : Bor CelType) (o : Bor Scope)
     → scope_view (Local n t o) ≡ (text_view n.now, type_view t.now) ∷ scope_view o.now
-view-Local n t o = search (rules, the_lemmas)
+view_local n t o = search (rules, the_lemmas)
 
 -- an entry that gives a type is of it
-pub given-is : (entry : Option CelTypeEntry) (s : ValueType) → TypeGiven entry s
+pub given_is : (entry : Option CelTypeEntry) (s : ValueType) → TypeGiven entry s
     → entry ≡ Some (of_type s)
-given-is None s g = absurd g
-given-is (Some dyn_type) s g = absurd g
-given-is (Some unsupported_type) s g = absurd g
-given-is (Some (of_type t)) s g = ap (λ u. Some (of_type u)) g
+given_is None s g = absurd g
+given_is (Some dyn_type) s g = absurd g
+given_is (Some unsupported_type) s g = absurd g
+given_is (Some (of_type t)) s g = ap (λ u. Some (of_type u)) g
 
 -- a name that is found has a type
-pub name-types : (name : List ℕ) (ks : Kinds) (n : Name) → IsName name ks n
+pub name_types : (name : List ℕ) (ks : Kinds) (n : Name) → IsName name ks n
     → name_type name (local name ks) ≡ Some (kind (name_view n))
-name-types name ks (names.Local f) (is, at) = rw is refl
-name-types name ks (names.Attribute id) (none, slot, named) = rw (none, named) refl
+name_types name ks (names.Local f) (is, at) = rw is refl
+name_types name ks (names.Attribute id) (none, slot, named) = rw (none, named) refl
 
 -- the types of expressions, one more at the end
-pub kinds-push : (es : List TypedExpr) (e : TypedExpr)
+pub kinds_push : (es : List TypedExpr) (e : TypedExpr)
     → kinds (exprs_view (es ++ (e ∷ []))) ≡ kinds (exprs_view es) ++ (kind (expr_view e) ∷ [])
-kinds-push [] e = refl
-kinds-push (x ∷ es) e = ap (λ ts. kind (expr_view x) ∷ ts) (kinds-push es e)
+kinds_push [] e = refl
+kinds_push (x ∷ es) e = ap (λ ts. kind (expr_view x) ∷ ts) (kinds_push es e)
 
 -- types in turn from one place on
-pub in-turn-at : (s t : ValueType) (es : List TypedExpr) (i : ℕ) (d : TypedExpr) → i < length es
+pub in_turn_at : (s t : ValueType) (es : List TypedExpr) (i : ℕ) (d : TypedExpr) → i < length es
     → in_turn s t (kinds (exprs_view (drop i es)))
     ≡ (type_eq (kind (expr_view (get_or es i d))) s
     && in_turn t s (kinds (exprs_view (drop (i + 1) es))))
-in-turn-at s t es i d within = ap (λ l. in_turn s t (kinds (exprs_view l))) (drop_more es i d within)
+in_turn_at s t es i d within = ap (λ l. in_turn s t (kinds (exprs_view l))) (drop_more es i d within)
 
 -- the types of expressions so far, and one more
-pub types-push : (ts : List (Bor CelType)) (t : Bor CelType) (es : List TypedExpr) (i : ℕ)
+pub types_push : (ts : List (Bor CelType)) (t : Bor CelType) (es : List TypedExpr) (i : ℕ)
     (e : TypedExpr) → i < length es → e ≡ get_or es i e
     → types_of ts ≡ kinds (exprs_view (take i es)) → type_view t.now ≡ kind (expr_view e)
     → types_of (ts ++ (t ∷ [])) ≡ kinds (exprs_view (take (i + 1) es))
-types-push ts t es i e within is so_far same =
+types_push ts t es i e within is so_far same =
     let more : take (i + 1) es ≡ take i es ++ (e ∷ []) =
     take_more es i e within ∙ ap (λ x. take i es ++ (x ∷ [])) (sym is) in
     map-append (λ t. type_view t.now) ts (t ∷ []) ∙ ap₂ (λ x y. x ++ (y ∷ [])) so_far same
-    ∙ sym (ap (λ l. kinds (exprs_view l)) more ∙ kinds-push (take i es) e)
+    ∙ sym (ap (λ l. kinds (exprs_view l)) more ∙ kinds_push (take i es) e)
 
 -- a name is empty where it has no bytes
-pub empty-name : (bs : List ℕ) → IsUtf8 bs → (b : Bool) → b ≡ (length bs == 0)
+pub empty_name : (bs : List ℕ) → IsUtf8 bs → (b : Bool) → b ≡ (length bs == 0)
     → (IsTrue b → points_of bs ≡ []) × (points_of bs ≡ [] → IsTrue b)
-empty-name [] u b e = rw e (λ t. (nameless [] u).0 refl, λ k. refl)
-empty-name (x ∷ bs) u b e = rw e (λ t. absurd (let none : length (x ∷ bs) ≡ 0 = grind (arith, nat_tests) in omega (arith, none)), λ k. absurd (other ((nameless (x ∷ bs) u).1 k)))
+empty_name [] u b e = rw e (λ t. (nameless [] u).0 refl, λ k. refl)
+empty_name (x ∷ bs) u b e = rw e (λ t. absurd (let none : length (x ∷ bs) ≡ 0 = grind (arith, nat_tests) in omega (arith, none)), λ k. absurd (other ((nameless (x ∷ bs) u).1 k)))
   where
     other : x ∷ bs ≡ [] → ⊥
     other k = cc
 
 -- the greater of two numbers is below a third where both are
-pub max-below : (a b n : ℕ) → nat_lt (max a b) n ≡ (nat_lt a n && nat_lt b n)
-max-below a b n = at (nat_lt a n) refl (nat_lt b n) refl
+pub max_below : (a b n : ℕ) → nat_lt (max a b) n ≡ (nat_lt a n && nat_lt b n)
+max_below a b n = at (nat_lt a n) refl (nat_lt b n) refl
   where
     at : (p : Bool) → nat_lt a n ≡ p → (q : Bool) → nat_lt b n ≡ q → nat_lt (max a b) n ≡ (p && q)
     at true d true e =
@@ -112,110 +112,110 @@ max-below a b n = at (nat_lt a n) refl (nat_lt b n) refl
         grind (arith, nat_tests)
 
 -- so are those of trees from one place on
-pub few-at : (ts : List Tree) (i : ℕ) (d : Tree) (n : ℕ) (b : Bool) → i < length ts
+pub few_at : (ts : List Tree) (i : ℕ) (d : Tree) (n : ℕ) (b : Bool) → i < length ts
     → d ≡ get_or ts i d → nat_lt (locals_in (tree_view d)) n ≡ b
     → nat_lt (locals_in_each (trees_view (drop i ts))) n ≡ nat_lt (locals_in_each (trees_view ts)) n
     → (b && nat_lt (locals_in_each (trees_view (drop (i + 1) ts))) n)
     ≡ nat_lt (locals_in_each (trees_view ts)) n
-few-at ts i d n b within is here so_far =
+few_at ts i d n b within is here so_far =
     ap (λ x. x && nat_lt (locals_in_each (trees_view (drop (i + 1) ts))) n)
     (sym here ∙ ap (λ t. nat_lt (locals_in (tree_view t)) n) is)
-    ∙ sym (max-below (locals_in (tree_view (get_or ts i d)))
+    ∙ sym (max_below (locals_in (tree_view (get_or ts i d)))
     (locals_in_each (trees_view (drop (i + 1) ts))) n)
     ∙ ap (λ l. nat_lt (locals_in_each (trees_view l)) n) (sym (drop_more ts i d within)) ∙ so_far
 
-pub few-entries-at : (es : List TreeEntry) (i : ℕ) (d : TreeEntry) (n : ℕ) (b c : Bool)
+pub few_entries_at : (es : List TreeEntry) (i : ℕ) (d : TreeEntry) (n : ℕ) (b c : Bool)
     → i < length es → d ≡ get_or es i d → nat_lt (locals_in (tree_view d.key)) n ≡ b
     → nat_lt (locals_in (tree_view d.value)) n ≡ c
     → nat_lt (locals_in_entries (tree_entries_view (drop i es))) n
     ≡ nat_lt (locals_in_entries (tree_entries_view es)) n
     → (b && (c && nat_lt (locals_in_entries (tree_entries_view (drop (i + 1) es))) n))
     ≡ nat_lt (locals_in_entries (tree_entries_view es)) n
-few-entries-at es i d n b c within is key value so_far =
+few_entries_at es i d n b c within is key value so_far =
     let k = locals_in (tree_view (get_or es i d).key) in
     let v = locals_in (tree_view (get_or es i d).value) in
     let o = locals_in_entries (tree_entries_view (drop (i + 1) es)) in
     ap₂ (λ x y. x && (y && nat_lt o n))
     (sym key ∙ ap (λ t. nat_lt (locals_in (tree_view t.key)) n) is)
     (sym value ∙ ap (λ t. nat_lt (locals_in (tree_view t.value)) n) is)
-    ∙ ap (λ x. nat_lt k n && x) (sym (max-below v o n)) ∙ sym (max-below k (max v o) n)
+    ∙ ap (λ x. nat_lt k n && x) (sym (max_below v o n)) ∙ sym (max_below k (max v o) n)
     ∙ ap (λ l. nat_lt (locals_in_entries (tree_entries_view l)) n) (sym (drop_more es i d within))
     ∙ so_far
 
 -- ---- how expressions are seen
 
-pub view-List : (t : CelType) (es : Vec TypedExpr Global)
+pub view_list : (t : CelType) (es : Vec TypedExpr Global)
     → expr_view (exprs.List t es) ≡ typed_list (type_view t) (exprs_view es.items)
-view-List t es = search (rules, expr_lemmas)
+view_list t es = search (rules, expr_lemmas)
 
-pub view-Map : (t : CelType) (es : Vec TypedExpr Global)
+pub view_map : (t : CelType) (es : Vec TypedExpr Global)
     → expr_view (exprs.Map t es) ≡ typed_map (type_view t) (exprs_view es.items)
-view-Map t es = search (rules, expr_lemmas)
+view_map t es = search (rules, expr_lemmas)
 
-pub view-Call : (t : CelType) (o : Overload) (es : Vec TypedExpr Global)
+pub view_call : (t : CelType) (o : Overload) (es : Vec TypedExpr Global)
     → expr_view (exprs.Call t o es) ≡ typed_call (type_view t) o (exprs_view es.items)
-view-Call t o es = search (rules, expr_lemmas)
+view_call t o es = search (rules, expr_lemmas)
 
-pub view-Loop : (t : CelType) (p : Box TypedLoop Global)
+pub view_loop : (t : CelType) (p : Box TypedLoop Global)
     → expr_view (exprs.Loop t p) ≡ loop_of (type_view t) (parts_view p.value)
-view-Loop t p = search (rules, expr_lemmas)
+view_loop t p = search (rules, expr_lemmas)
 
 -- ---- how trees are seen
 
-pub tree-Ident : (id : ℤ) (n : RcStr Global) → tree_view (trees.Ident id n) ≡ ident id (text_view n)
-tree-Ident id n = search (rules, tree_lemmas)
+pub tree_ident : (id : ℤ) (n : RcStr Global) → tree_view (trees.Ident id n) ≡ ident id (text_view n)
+tree_ident id n = search (rules, tree_lemmas)
 
-pub tree-Call : (id : ℤ) (f : RcStr Global) (on : Option (Box Tree Global)) (ts : Vec Tree Global)
+pub tree_call : (id : ℤ) (f : RcStr Global) (on : Option (Box Tree Global)) (ts : Vec Tree Global)
     → tree_view (trees.Call id f on ts)
     ≡ call id (text_view f) (target_of (boxed_view on)) (trees_view ts.items)
-tree-Call id f on ts = search (rules, tree_lemmas)
+tree_call id f on ts = search (rules, tree_lemmas)
 
 -- a call has a target where there is one in its box
-pub target-some : (on : Option (Box Tree Global))
+pub target_some : (on : Option (Box Tree Global))
     → is_some on ≡ has_target (target_of (boxed_view on))
-target-some None = refl
-target-some (Some b) = refl
+target_some None = refl
+target_some (Some b) = refl
 
-pub tree-Map : (id : ℤ) (es : Vec TreeEntry Global)
+pub tree_map : (id : ℤ) (es : Vec TreeEntry Global)
     → tree_view (trees.Map id es) ≡ map_literal id (tree_entries_view es.items)
-tree-Map id es = search (rules, tree_lemmas)
+tree_map id es = search (rules, tree_lemmas)
 
-pub tree-Comprehension : (id : ℤ) (b : Box Comprehension Global)
+pub tree_comprehension : (id : ℤ) (b : Box Comprehension Global)
     → tree_view (trees.Comprehension id b) ≡ tree_loop id (loop_view b.value)
-tree-Comprehension id b = search (rules, tree_lemmas)
+tree_comprehension id b = search (rules, tree_lemmas)
 
 -- ---- the first of expressions
 
-pub no-exprs : (es : List TypedExpr) → length es < 1 → es ≡ []
-no-exprs [] few = refl
-no-exprs (e ∷ es) few = absurd (omega (arith, few))
+pub no_exprs : (es : List TypedExpr) → length es < 1 → es ≡ []
+no_exprs [] few = refl
+no_exprs (e ∷ es) few = absurd (omega (arith, few))
 
-pub first-expr : (es : List TypedExpr) (d : TypedExpr) → 1 ≤ length es → d ≡ get_or es 0 d
+pub first_expr : (es : List TypedExpr) (d : TypedExpr) → 1 ≤ length es → d ≡ get_or es 0 d
     → es ≡ d ∷ drop 1 es
-first-expr [] d some is = absurd (omega (arith, some))
-first-expr (e ∷ es) d some is = ap (λ x. x ∷ es) (sym is)
+first_expr [] d some is = absurd (omega (arith, some))
+first_expr (e ∷ es) d some is = ap (λ x. x ∷ es) (sym is)
 
-pub two-exprs : (es : List TypedExpr) (d e : TypedExpr) → 2 ≤ length es → d ≡ get_or es 0 d
+pub two_exprs : (es : List TypedExpr) (d e : TypedExpr) → 2 ≤ length es → d ≡ get_or es 0 d
     → e ≡ get_or es 1 e → es ≡ d ∷ e ∷ drop 2 es
-two-exprs [] d e some first second = absurd (omega (arith, some))
-two-exprs (x ∷ []) d e some first second = absurd (omega (arith, some))
-two-exprs (x ∷ y ∷ es) d e some first second =
+two_exprs [] d e some first second = absurd (omega (arith, some))
+two_exprs (x ∷ []) d e some first second = absurd (omega (arith, some))
+two_exprs (x ∷ y ∷ es) d e some first second =
     ap₂ (λ a b. a ∷ b ∷ es) (sym first) (sym second)
 
 -- what is left behind the first ones is all of it
-pub all-left : (n : ℕ) (es : List TypedExpr) → take (length es - n) (drop n es) ≡ drop n es
-all-left n es =
+pub all_left : (n : ℕ) (es : List TypedExpr) → take (length es - n) (drop n es) ≡ drop n es
+all_left n es =
     let long = length-drop n es in take_all (length es - n) (drop n es) (omega (arith, long))
 
 -- fewer than two are no pair
-pub short-map : (entry : Option CelTypeEntry) (es : List TypedExpr) (t : ValueType) → length es < 2
+pub short_map : (entry : Option CelTypeEntry) (es : List TypedExpr) (t : ValueType) → length es < 2
     → TypeGiven entry t × IsMap t → IsMapOf entry (kinds (exprs_view es)) t
-short-map entry [] t few is = is
-short-map entry (x ∷ []) t few is = is
-short-map entry (x ∷ y ∷ es) t few is = absurd (omega (arith, few))
+short_map entry [] t few is = is
+short_map entry (x ∷ []) t few is = is
+short_map entry (x ∷ y ∷ es) t few is = absurd (omega (arith, few))
 
-pub short-fault : (entry : Option CelTypeEntry) (es : List TypedExpr) (e : Refusal) → length es < 2
+pub short_fault : (entry : Option CelTypeEntry) (es : List TypedExpr) (e : Refusal) → length es < 2
     → NotTold entry IsMap e → NoMapOf entry (kinds (exprs_view es)) e
-short-fault entry [] e few f = f
-short-fault entry (x ∷ []) e few f = f
-short-fault entry (x ∷ y ∷ es) e few f = absurd (omega (arith, few))
+short_fault entry [] e few f = f
+short_fault entry (x ∷ []) e few f = f
+short_fault entry (x ∷ y ∷ es) e few f = absurd (omega (arith, few))

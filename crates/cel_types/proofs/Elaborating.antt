@@ -39,29 +39,29 @@ mapped f (Some a) b e = (a, refl)
 abbrev pub Has : Maps → Kinds → CelTree → ValueType → Type 0
 Has m ks t s = (e : TypedTree) × Elaborates m ks t e × (kind e ≡ s)
 
-ident-has : (m : Maps) (ks : Kinds) (id : ℤ) (name : List ℕ) (s : ValueType)
+ident_has : (m : Maps) (ks : Kinds) (id : ℤ) (name : List ℕ) (s : ValueType)
     → Types m ks (ident id name) s → Found name ks → Has m ks (ident id name) s
-ident-has m ks id name s g (inr (t, n, is_local, is_slot)) = (typed_local s n, (g, is_slot), refl)
-ident-has m ks id name s g (inl (is_none, no_slot)) =
+ident_has m ks id name s g (inr (t, n, is_local, is_slot)) = (typed_local s n, (g, is_slot), refl)
+ident_has m ks id name s g (inl (is_none, no_slot)) =
     let a = mapped attribute_type (attribute_named name) s
     (subst (λ o. name_type name o ≡ Some s) is_none g) in
     (typed_attribute s a.0, (g, no_slot, a.1), refl)
 
-select-has : (m : Maps) (ks : Kinds) (id : ℤ) (operand : CelTree) (field : List ℕ)
+select_has : (m : Maps) (ks : Kinds) (id : ℤ) (operand : CelTree) (field : List ℕ)
     (test_only : Bool) (s : ValueType) → ((u : ValueType) → Types m ks operand u
     → Has m ks operand u)
     → Types m ks (select id operand field test_only) s → (root : Option (List ℕ))
     → root_of operand ks ≡ root
     → SelectRule root (Types m ks operand) field test_only s
     → Has m ks (select id operand field test_only) s
-select-has m ks id operand field true s inside g (Some root) is rule = absurd rule
-select-has m ks id operand field false s inside g (Some root) is rule =
+select_has m ks id operand field true s inside g (Some root) is rule = absurd rule
+select_has m ks id operand field false s inside g (Some root) is rule =
     let a = mapped attribute_type (attribute_named (joined_name root field)) s rule in
     (typed_attribute s a.0, (g, root, is, a.1), refl)
-select-has m ks id operand field true s inside g None is rule =
+select_has m ks id operand field true s inside g None is rule =
     let on = inside (map_type keys.Text rule.0) rule.1 in
     (typed_has s on.0 field, (g, refl, is, refl, on.1), refl)
-select-has m ks id operand field false s inside g None is rule =
+select_has m ks id operand field false s inside g None is rule =
     let on = inside (map_type keys.Text rule.0) rule.1 in
     (typed_field s on.0 field, (g, refl, is, refl, on.1), refl)
 
@@ -69,21 +69,21 @@ mutual
   pub elaborated : (m : Maps) (ks : Kinds) (t : CelTree) (s : ValueType) → Types m ks t s
       → Has m ks t s
   elaborated m ks (constant id v) s g = (typed_constant s v, (g, refl), refl)
-  elaborated m ks (ident id name) s g = ident-has m ks id name s g (found name ks)
+  elaborated m ks (ident id name) s g = ident_has m ks id name s g (found name ks)
   elaborated m ks (select id operand field test_only) s g =
-      select-has m ks id operand field test_only s (elaborated m ks operand) g
+      select_has m ks id operand field test_only s (elaborated m ks operand) g
       (root_of operand ks) refl g
   elaborated m ks (call id name on args) s g =
-      let operands = target-elaborated m ks on args g.0 (each-elaborated m ks args) g.1 in (
+      let operands = target_elaborated m ks on args g.0 (each_elaborated m ks args) g.1 in (
         typed_call s g.2 operands.0,
         (g, subst (λ ts. IsCall name (has_target on) ts g.2 s) (sym operands.2) g.3, operands.1),
         refl,
       )
   elaborated m ks (list_literal id elements) s g =
-      let es = list-elaborated m ks elements (get m.types id) s (all-elaborated m ks elements) g in
+      let es = list_elaborated m ks elements (get m.types id) s (all_elaborated m ks elements) g in
       (typed_list s es.0, (g, es.1), refl)
   elaborated m ks (map_literal id entries) s g =
-      let es = map-elaborated m ks entries (get m.types id) s (pairs-elaborated m ks entries) g in
+      let es = map_elaborated m ks entries (get m.types id) s (pairs_elaborated m ks entries) g in
       (typed_map s es.0, (g, es.1), refl)
   elaborated m ks (comprehension id x acc range init condition step result) s g =
       let rule = g in
@@ -110,58 +110,58 @@ mutual
         refl,
       )
 
-  target-elaborated : (m : Maps) (ks : Kinds) (on : CelTarget) (args : CelTrees)
+  target_elaborated : (m : Maps) (ks : Kinds) (on : CelTarget) (args : CelTrees)
       (ts : List ValueType)
       → ((us : List ValueType) → TypesEach m ks args us
       → (es : TypedTrees) × ElaboratesEach m ks args es × (kinds es ≡ us))
       → TypesTarget m ks on (TypesEach m ks args) ts
       → (es : TypedTrees) × ElaboratesTarget m ks on (ElaboratesEach m ks args) es
       × (kinds es ≡ ts)
-  target-elaborated m ks no_target args ts others g = others ts g
-  target-elaborated m ks (target on) args [] others g = absurd g
-  target-elaborated m ks (target on) args (t ∷ ts) others g =
+  target_elaborated m ks no_target args ts others g = others ts g
+  target_elaborated m ks (target on) args [] others g = absurd g
+  target_elaborated m ks (target on) args (t ∷ ts) others g =
       let first = elaborated m ks on t g.0 in
       let more = others ts g.1 in
       (typed first.0 more.0, (first.1, more.1), ap₂ (λ t ts. t ∷ ts) first.2 more.2)
 
-  each-elaborated : (m : Maps) (ks : Kinds) (ts : CelTrees) (us : List ValueType)
+  each_elaborated : (m : Maps) (ks : Kinds) (ts : CelTrees) (us : List ValueType)
       → TypesEach m ks ts us → (es : TypedTrees) × ElaboratesEach m ks ts es × (kinds es ≡ us)
-  each-elaborated m ks no_trees [] g = (no_typed, tt, refl)
-  each-elaborated m ks no_trees (u ∷ us) g = absurd g
-  each-elaborated m ks (tree t ts) [] g = absurd g
-  each-elaborated m ks (tree t ts) (u ∷ us) g =
+  each_elaborated m ks no_trees [] g = (no_typed, tt, refl)
+  each_elaborated m ks no_trees (u ∷ us) g = absurd g
+  each_elaborated m ks (tree t ts) [] g = absurd g
+  each_elaborated m ks (tree t ts) (u ∷ us) g =
       let first = elaborated m ks t u g.0 in
-      let more = each-elaborated m ks ts us g.1 in
+      let more = each_elaborated m ks ts us g.1 in
       (typed first.0 more.0, (first.1, more.1), ap₂ (λ t ts. t ∷ ts) first.2 more.2)
 
-  all-elaborated : (m : Maps) (ks : Kinds) (ts : CelTrees) (s : ValueType) → TypesAll m ks ts s
+  all_elaborated : (m : Maps) (ks : Kinds) (ts : CelTrees) (s : ValueType) → TypesAll m ks ts s
       → (es : TypedTrees) × ElaboratesEach m ks ts es
-  all-elaborated m ks no_trees s g = (no_typed, tt)
-  all-elaborated m ks (tree t ts) s g =
+  all_elaborated m ks no_trees s g = (no_typed, tt)
+  all_elaborated m ks (tree t ts) s g =
       let first = elaborated m ks t s g.0 in
-      let more = all-elaborated m ks ts s g.1 in
+      let more = all_elaborated m ks ts s g.1 in
       (typed first.0 more.0, (first.1, more.1))
 
-  list-elaborated : (m : Maps) (ks : Kinds) (ts : CelTrees) (entry : Option CelTypeEntry)
+  list_elaborated : (m : Maps) (ks : Kinds) (ts : CelTrees) (entry : Option CelTypeEntry)
       (s : ValueType) → ((u : ValueType) → TypesAll m ks ts u
       → (es : TypedTrees) × ElaboratesEach m ks ts es)
       → ListRule entry ts (TypesAll m ks ts) s → (es : TypedTrees) × ElaboratesEach m ks ts es
-  list-elaborated m ks no_trees entry s all g = (no_typed, tt)
-  list-elaborated m ks (tree t ts) entry s all g = all g.0 g.1
+  list_elaborated m ks no_trees entry s all g = (no_typed, tt)
+  list_elaborated m ks (tree t ts) entry s all g = all g.0 g.1
 
-  pairs-elaborated : (m : Maps) (ks : Kinds) (es : CelTreeEntries) (r s : ValueType)
+  pairs_elaborated : (m : Maps) (ks : Kinds) (es : CelTreeEntries) (r s : ValueType)
       → TypesPairs m ks es r s → (ps : TypedTrees) × ElaboratesPairs m ks es ps
-  pairs-elaborated m ks no_tree_entries r s g = (no_typed, tt)
-  pairs-elaborated m ks (tree_entry id key value es) r s g =
+  pairs_elaborated m ks no_tree_entries r s g = (no_typed, tt)
+  pairs_elaborated m ks (tree_entry id key value es) r s g =
       let first = elaborated m ks key r g.0 in
       let second = elaborated m ks value s g.1 in
-      let more = pairs-elaborated m ks es r s g.2 in
+      let more = pairs_elaborated m ks es r s g.2 in
       (typed first.0 (typed second.0 more.0), (first.1, second.1, more.1))
 
-  map-elaborated : (m : Maps) (ks : Kinds) (es : CelTreeEntries) (entry : Option CelTypeEntry)
+  map_elaborated : (m : Maps) (ks : Kinds) (es : CelTreeEntries) (entry : Option CelTypeEntry)
       (s : ValueType) → ((r u : ValueType) → TypesPairs m ks es r u
       → (ps : TypedTrees) × ElaboratesPairs m ks es ps)
       → MapRule entry es (TypesPairs m ks es) s → (ps : TypedTrees) × ElaboratesPairs m ks es ps
-  map-elaborated m ks no_tree_entries entry s pairs g = (no_typed, tt)
-  map-elaborated m ks (tree_entry id key value es) entry s pairs g =
+  map_elaborated m ks no_tree_entries entry s pairs g = (no_typed, tt)
+  map_elaborated m ks (tree_entry id key value es) entry s pairs g =
       pairs (type_of_key g.0) g.1 g.2

@@ -16,11 +16,11 @@ use Rattle.cel_overload.specs.declared.overload.Overload.{Overload}
 use Rattle.cel_overload.specs.declared.overload.Overload.TheVariants as overloads
 
 -- what is the same of values of two types is the same of operands of those types
-two-same : (f g : CelValue → CelValue → Option CelAnswer) (s t : ValueType)
+two_same : (f g : CelValue → CelValue → Option CelAnswer) (s t : ValueType)
     → ((v w : CelValue) → HasType v s → HasType w t → f v w ≡ g v w)
     → (ts : List ValueType) → ts ≡ s ∷ t ∷ [] → (answers : List CelAnswer) → HaveTypes answers ts
     → on_two (strict_two f) answers ≡ on_two (strict_two g) answers
-two-same f g s t same ts is answers h = at answers (subst (HaveTypes answers) is h)
+two_same f g s t same ts is answers h = at answers (subst (HaveTypes answers) is h)
   where
     at : (answers : List CelAnswer) → HaveTypes answers (s ∷ t ∷ [])
         → on_two (strict_two f) answers ≡ on_two (strict_two g) answers
@@ -31,77 +31,77 @@ two-same f g s t same ts is answers h = at answers (subst (HaveTypes answers) is
     at (value v ∷ value w ∷ []) h = same v w h.0 h.1.0
     at (a ∷ b ∷ c ∷ answers) h = refl
 
-sum-same : (t : ValueType) → IsNumber t → (v w : CelValue) → HasType v t → HasType w t
+sum_same : (t : ValueType) → IsNumber t → (v w : CelValue) → HasType v t → HasType w t
     → addition_of v w ≡ arithmetic_of ArithmeticOp.Add v w
-sum-same int_type n (int a) w g h = refl
-sum-same int_type n _ w g h = absurd g
-sum-same uint_type n (uint a) w g h = refl
-sum-same uint_type n _ w g h = absurd g
-sum-same _ n v w g h = absurd n
+sum_same int_type n (int a) w g h = refl
+sum_same int_type n _ w g h = absurd g
+sum_same uint_type n (uint a) w g h = refl
+sum_same uint_type n _ w g h = absurd g
+sum_same _ n v w g h = absurd n
 
-joined-same : (t : ValueType) → IsJoined t → (v w : CelValue) → HasType v t → HasType w t
+joined_same : (t : ValueType) → IsJoined t → (v w : CelValue) → HasType v t → HasType w t
     → addition_of v w ≡ joined_of v w
-joined-same text_type j (text a) w g h = refl
-joined-same text_type j _ w g h = absurd g
-joined-same bytes_type j (bytes a) w g h = refl
-joined-same bytes_type j _ w g h = absurd g
-joined-same (list_type t) j (list a) w g h = refl
-joined-same (list_type t) j _ w g h = absurd g
-joined-same _ j v w g h = absurd j
+joined_same text_type j (text a) w g h = refl
+joined_same text_type j _ w g h = absurd g
+joined_same bytes_type j (bytes a) w g h = refl
+joined_same bytes_type j _ w g h = absurd g
+joined_same (list_type t) j (list a) w g h = refl
+joined_same (list_type t) j _ w g h = absurd g
+joined_same _ j v w g h = absurd j
 
-item-same : (t : ValueType) (v w : CelValue) → HasType v (list_type t) → HasType w int_type
+item_same : (t : ValueType) (v w : CelValue) → HasType v (list_type t) → HasType w int_type
     → index_of v w ≡ item_of v w
-item-same t (list vs) w g h = refl
-item-same t _ w g h = absurd g
+item_same t (list vs) w g h = refl
+item_same t _ w g h = absurd g
 
-entry-same : (k : KeyType) (t : ValueType) (v w : CelValue) → HasType v (map_type k t)
+entry_same : (k : KeyType) (t : ValueType) (v w : CelValue) → HasType v (map_type k t)
     → HasType w (type_of_key k) → index_of v w ≡ entry_of v w
-entry-same k t (map_of es) w g h = refl
-entry-same k t _ w g h = absurd g
+entry_same k t (map_of es) w g h = refl
+entry_same k t _ w g h = absurd g
 
-in_list-same : (t : ValueType) (v w : CelValue) → HasType v t → HasType w (list_type t)
+in_list_same : (t : ValueType) (v w : CelValue) → HasType v t → HasType w (list_type t)
     → in_of v w ≡ in_list_of v w
-in_list-same t v (list vs) g h = refl
-in_list-same t v _ g h = absurd h
+in_list_same t v (list vs) g h = refl
+in_list_same t v _ g h = absurd h
 
-in_map-same : (k : KeyType) (t : ValueType) (v w : CelValue) → HasType v (type_of_key k)
+in_map_same : (k : KeyType) (t : ValueType) (v w : CelValue) → HasType v (type_of_key k)
     → HasType w (map_type k t) → in_of v w ≡ in_map_of v w
-in_map-same k t v (map_of es) g h = refl
-in_map-same k t v _ g h = absurd h
+in_map_same k t v (map_of es) g h = refl
+in_map_same k t v _ g h = absurd h
 
-answer-same : (o : Overload) (ts : List ValueType) (r : ValueType) (answers : List CelAnswer)
+answer_same : (o : Overload) (ts : List ValueType) (r : ValueType) (answers : List CelAnswer)
     → Takes o ts r → HaveTypes answers ts
     → function_answer (function_of o) answers ≡ overload_answer o answers
-answer-same overloads.LogicalAnd ts r answers k h = refl
-answer-same overloads.LogicalOr ts r answers k h = refl
-answer-same overloads.LogicalNot ts r answers k h = refl
-answer-same overloads.NotStrictlyFalse ts r answers k h = refl
-answer-same overloads.Conditional ts r answers k h = refl
-answer-same (overloads.Compare op) ts r answers k h = refl
-answer-same (overloads.Arithmetic ArithmeticOp.Add) ts r answers k h =
-    two-same addition_of (arithmetic_of ArithmeticOp.Add) r r (sum-same r k.0) ts k.1 answers h
-answer-same (overloads.Arithmetic ArithmeticOp.Subtract) ts r answers k h = refl
-answer-same (overloads.Arithmetic ArithmeticOp.Multiply) ts r answers k h = refl
-answer-same (overloads.Arithmetic ArithmeticOp.Divide) ts r answers k h = refl
-answer-same (overloads.Arithmetic ArithmeticOp.Remainder) ts r answers k h = refl
-answer-same overloads.Concat ts r answers k h =
-    two-same addition_of joined_of r r (joined-same r k.0) ts k.1 answers h
-answer-same overloads.Negate ts r answers k h = refl
-answer-same overloads.IndexList ts r answers k h =
-    two-same index_of item_of (list_type r) int_type (item-same r) ts k answers h
-answer-same overloads.IndexMap ts r answers k h =
-    two-same index_of entry_of (map_type k.0 r) (type_of_key k.0) (entry-same k.0 r) ts k.1 answers h
-answer-same overloads.InList ts r answers k h =
-    two-same in_of in_list_of k.0 (list_type k.0) (in_list-same k.0) ts k.1 answers h
-answer-same overloads.InMap ts r answers k h =
-    two-same in_of in_map_of (type_of_key k.0) (map_type k.0 k.1) (in_map-same k.0 k.1) ts k.2
+answer_same overloads.LogicalAnd ts r answers k h = refl
+answer_same overloads.LogicalOr ts r answers k h = refl
+answer_same overloads.LogicalNot ts r answers k h = refl
+answer_same overloads.NotStrictlyFalse ts r answers k h = refl
+answer_same overloads.Conditional ts r answers k h = refl
+answer_same (overloads.Compare op) ts r answers k h = refl
+answer_same (overloads.Arithmetic ArithmeticOp.Add) ts r answers k h =
+    two_same addition_of (arithmetic_of ArithmeticOp.Add) r r (sum_same r k.0) ts k.1 answers h
+answer_same (overloads.Arithmetic ArithmeticOp.Subtract) ts r answers k h = refl
+answer_same (overloads.Arithmetic ArithmeticOp.Multiply) ts r answers k h = refl
+answer_same (overloads.Arithmetic ArithmeticOp.Divide) ts r answers k h = refl
+answer_same (overloads.Arithmetic ArithmeticOp.Remainder) ts r answers k h = refl
+answer_same overloads.Concat ts r answers k h =
+    two_same addition_of joined_of r r (joined_same r k.0) ts k.1 answers h
+answer_same overloads.Negate ts r answers k h = refl
+answer_same overloads.IndexList ts r answers k h =
+    two_same index_of item_of (list_type r) int_type (item_same r) ts k answers h
+answer_same overloads.IndexMap ts r answers k h =
+    two_same index_of entry_of (map_type k.0 r) (type_of_key k.0) (entry_same k.0 r) ts k.1 answers h
+answer_same overloads.InList ts r answers k h =
+    two_same in_of in_list_of k.0 (list_type k.0) (in_list_same k.0) ts k.1 answers h
+answer_same overloads.InMap ts r answers k h =
+    two_same in_of in_map_of (type_of_key k.0) (map_type k.0 k.1) (in_map_same k.0 k.1) ts k.2
     answers h
-answer-same overloads.Size ts r answers k h = refl
-answer-same (overloads.TestText test) ts r answers k h = refl
+answer_same overloads.Size ts r answers k h = refl
+answer_same (overloads.TestText test) ts r answers k h = refl
 
-pub call-same : (f : Function) (target : Bool) (ts : List ValueType) (o : Overload)
+pub call_same : (f : Function) (target : Bool) (ts : List ValueType) (o : Overload)
     (r : ValueType) (answers : List CelAnswer) → IsOverload f target ts o r
     → HaveTypes answers ts → function_answer f answers ≡ overload_answer o answers
-call-same f target ts o r answers g h =
+call_same f target ts o r answers g h =
     subst (λ f. function_answer f answers ≡ overload_answer o answers) g.function
-    (answer-same o ts r answers g.operands h)
+    (answer_same o ts r answers g.operands h)

@@ -20,9 +20,9 @@ use Rattle.cel_types.specs.Meaning.{Locals, before, eval, eval_each, eval_entrie
 use Rattle.cel_types.specs.Names.{Scope, is_root, joined_name, local, root_of}
 use Rattle.cel_types.specs.TypedMeaning.{typed_answer, typed_answers}
 use Rattle.cel_types.specs.Typing.{IsOver, Kinds, Maps, SelectRule, Types}
-use Rattle.cel_types.proofs.MeansCalls.{call-same}
-use Rattle.cel_types.proofs.WellTypedAnswers.{answer_typed, answers_typed, walked-typed}
-use Rattle.cel_types.proofs.WellTypedElaborations.{elaborated-typed, known, loop-kinds, no-slot, slot-known}
+use Rattle.cel_types.proofs.MeansCalls.{call_same}
+use Rattle.cel_types.proofs.WellTypedAnswers.{answer_typed, answers_typed, walked_typed}
+use Rattle.cel_types.proofs.WellTypedElaborations.{elaborated_typed, known, loop_kinds, no_slot, slot_known}
 
 -- ---- locals in scope, each with what it comes to and with its type
 
@@ -45,29 +45,29 @@ abbrev pub AreTyped : Scope Bound → Type 0
 AreTyped [] = Unit {0}
 AreTyped (l ∷ ls) = AnswerHasType l.1.0 l.1.1 × AreTyped ls
 
-have-types : (ls : Scope Bound) → AreTyped ls
+have_types : (ls : Scope Bound) → AreTyped ls
     → HaveTypes (known (locals_of ls)) (known (kinds_of ls))
-have-types [] h = tt
-have-types (l ∷ ls) h = (h.0, have-types ls h.1)
+have_types [] h = tt
+have_types (l ∷ ls) h = (h.0, have_types ls h.1)
 
-scoped-length : {A B : Type 0} (f : A → B) (ls : Scope A) → length (scoped f ls) ≡ length ls
-scoped-length f [] = refl
-scoped-length f (l ∷ ls) = ap suc (scoped-length f ls)
+scoped_length : {A B : Type 0} (f : A → B) (ls : Scope A) → length (scoped f ls) ≡ length ls
+scoped_length f [] = refl
+scoped_length f (l ∷ ls) = ap suc (scoped_length f ls)
 
-slot-scoped : {A B : Type 0} (f : A → B) (name : List ℕ) (ls : Scope A)
+slot_scoped : {A B : Type 0} (f : A → B) (name : List ℕ) (ls : Scope A)
     → slot name (scoped f ls) ≡ slot name ls
-slot-scoped f name [] = refl
-slot-scoped f name (l ∷ ls) =
-    ap₂ (cond (bytes_eq l.0 name)) (ap Some (scoped-length f ls)) (slot-scoped f name ls)
+slot_scoped f name [] = refl
+slot_scoped f name (l ∷ ls) =
+    ap₂ (cond (bytes_eq l.0 name)) (ap Some (scoped_length f ls)) (slot_scoped f name ls)
 
 -- a local's slot is the same by types and by answers
-slots-same : (name : List ℕ) (ls : Scope Bound) → slot name (locals_of ls) ≡ slot name (kinds_of ls)
-slots-same name ls = slot-scoped (λ b. b.0) name ls ∙ sym (slot-scoped (λ b. b.1) name ls)
+slots_same : (name : List ℕ) (ls : Scope Bound) → slot name (locals_of ls) ≡ slot name (kinds_of ls)
+slots_same name ls = slot_scoped (λ b. b.0) name ls ∙ sym (slot_scoped (λ b. b.1) name ls)
 
-found-scoped : {A B : Type 0} (f : A → B) (name : List ℕ) (ls : Scope A)
+found_scoped : {A B : Type 0} (f : A → B) (name : List ℕ) (ls : Scope A)
     → is_some (local name (scoped f ls)) ≡ is_some (local name ls)
-found-scoped f name [] = refl
-found-scoped {A} {B} f name (l ∷ ls) = at (found-scoped f name ls) (bytes_eq l.0 name)
+found_scoped f name [] = refl
+found_scoped {A} {B} f name (l ∷ ls) = at (found_scoped f name ls) (bytes_eq l.0 name)
   where
     at : is_some (local name (scoped f ls)) ≡ is_some (local name ls) → (b : Bool)
         → is_some (cond b (Some (f l.1)) (local name (scoped f ls)))
@@ -75,28 +75,28 @@ found-scoped {A} {B} f name (l ∷ ls) = at (found-scoped f name ls) (bytes_eq l
     at more true = refl
     at more false = more
 
-root-scoped : {A B : Type 0} (f : A → B) (t : CelTree) (ls : Scope A)
+root_scoped : {A B : Type 0} (f : A → B) (t : CelTree) (ls : Scope A)
     → root_of t (scoped f ls) ≡ root_of t ls
-root-scoped f (ident id name) ls =
-    ap (λ hidden. cond (cond hidden false (is_root name)) (Some name) None) (found-scoped f name ls)
-root-scoped f _ ls = refl
+root_scoped f (ident id name) ls =
+    ap (λ hidden. cond (cond hidden false (is_root name)) (Some name) None) (found_scoped f name ls)
+root_scoped f _ ls = refl
 
 -- an expression names a root by types where it does so by answers
-roots-same : (t : CelTree) (ls : Scope Bound) → root_of t (locals_of ls) ≡ root_of t (kinds_of ls)
-roots-same t ls = root-scoped (λ b. b.0) t ls ∙ sym (root-scoped (λ b. b.1) t ls)
+roots_same : (t : CelTree) (ls : Scope Bound) → root_of t (locals_of ls) ≡ root_of t (kinds_of ls)
+roots_same t ls = root_scoped (λ b. b.0) t ls ∙ sym (root_scoped (λ b. b.1) t ls)
 
 -- ---- comprehensions whose parts mean the same
 
-turn-same : (condition step : Option CelAnswer) (next others : CelAnswer → Option CelAnswer)
+turn_same : (condition step : Option CelAnswer) (next others : CelAnswer → Option CelAnswer)
     (ended : Option CelAnswer) (g : ValueType) → Answers step g
     → ((a : CelAnswer) → AnswerHasType a g → next a ≡ others a)
     → turn condition step next ended ≡ turn condition step others ended
-turn-same None step next others ended g h same = refl
-turn-same (Some (fails e)) step next others ended g h same = refl
-turn-same (Some (value (bool true))) None next others ended g h same = refl
-turn-same (Some (value (bool true))) (Some a) next others ended g h same = same a h
-turn-same (Some (value (bool false))) step next others ended g h same = refl
-turn-same (Some (value _)) step next others ended g h same = refl
+turn_same None step next others ended g h same = refl
+turn_same (Some (fails e)) step next others ended g h same = refl
+turn_same (Some (value (bool true))) None next others ended g h same = refl
+turn_same (Some (value (bool true))) (Some a) next others ended g h same = same a h
+turn_same (Some (value (bool false))) step next others ended g h same = refl
+turn_same (Some (value _)) step next others ended g h same = refl
 
 module _ (condition condition' step step' : CelValue → CelAnswer → Option CelAnswer)
     (result result' : CelAnswer → Option CelAnswer) (x g : ValueType)
@@ -108,61 +108,61 @@ module _ (condition condition' step step' : CelValue → CelAnswer → Option Ce
     (stays : (v : CelValue) (a : CelAnswer) → HasType v x → AnswerHasType a g
     → Answers (step' v a) g) where
   -- parts that mean the same for elements and answers of their types make the same fold
-  fold-same : (vs : CelValues) (a : CelAnswer) → EachItem (λ v. HasType v x) vs
+  fold_same : (vs : CelValues) (a : CelAnswer) → EachItem (λ v. HasType v x) vs
       → AnswerHasType a g → fold condition step result vs a ≡ fold condition' step' result' vs a
-  fold-same no_items a each h = results a h
-  fold-same (item v vs) a each h =
+  fold_same no_items a each h = results a h
+  fold_same (item v vs) a each h =
       rw (conditions v a each.0 h, steps v a each.0 h, results a h)
-      (turn-same (condition' v a) (step' v a) (fold condition step result vs)
+      (turn_same (condition' v a) (step' v a) (fold condition step result vs)
       (fold condition' step' result' vs) (result' a) g (stays v a each.0 h)
-      (λ b more. fold-same vs b each.1 more))
+      (λ b more. fold_same vs b each.1 more))
 
-over-same : (o : Option CelAnswer) (go others : CelValues → Option CelAnswer) (w x : ValueType)
+over_same : (o : Option CelAnswer) (go others : CelValues → Option CelAnswer) (w x : ValueType)
     → IsOver w x → Answers o w
     → ((vs : CelValues) → EachItem (λ v. HasType v x) vs → go vs ≡ others vs)
     → over o go ≡ over o others
-over-same None go others w x is h same = refl
-over-same (Some (fails e)) go others w x is h same = refl
-over-same (Some (value v)) go others w x is h same =
-    at (elements_of v) (walked-typed w x is v h)
+over_same None go others w x is h same = refl
+over_same (Some (fails e)) go others w x is h same = refl
+over_same (Some (value v)) go others w x is h same =
+    at (elements_of v) (walked_typed w x is v h)
   where
     at : (found : Option CelValues) → ElementsHaveType found x
         → option_and_then go found ≡ option_and_then others found
     at None have = refl
     at (Some vs) have = same vs have
 
-then-same : (o : Option CelAnswer) (go others : CelAnswer → Option CelAnswer) (t : ValueType)
+then_same : (o : Option CelAnswer) (go others : CelAnswer → Option CelAnswer) (t : ValueType)
     → Answers o t → ((a : CelAnswer) → AnswerHasType a t → go a ≡ others a)
     → option_and_then go o ≡ option_and_then others o
-then-same None go others t h same = refl
-then-same (Some a) go others t h same = same a h
+then_same None go others t h same = refl
+then_same (Some a) go others t h same = same a h
 
 -- ---- calls and Selects
 
-call-means : (f : List CelAnswer → Option CelAnswer) (g : List CelAnswer → Option CelAnswer)
+call_means : (f : List CelAnswer → Option CelAnswer) (g : List CelAnswer → Option CelAnswer)
     (o : Option (List CelAnswer)) (answers : List CelAnswer) → o ≡ Some answers
     → f answers ≡ g answers → option_and_then f o ≡ option_and_then g o
-call-means f g o answers is same = rw is same
+call_means f g o answers is same = rw is same
 
-select-attribute : (request : RequestValue) (root name : List ℕ) (Operand : ValueType → Type 0)
+select_attribute : (request : RequestValue) (root name : List ℕ) (Operand : ValueType → Type 0)
     (operand : Option CelAnswer) (test_only : Bool) (t : ValueType) (a : AttrId)
     → SelectRule (Some root) Operand name test_only t
     → attribute_named (joined_name root name) ≡ Some a
     → select_answer request (Some root) operand name test_only ≡ Some (attribute request a)
-select-attribute request root name Operand operand true t a rule is = absurd rule
-select-attribute request root name Operand operand false t a rule is =
+select_attribute request root name Operand operand true t a rule is = absurd rule
+select_attribute request root name Operand operand false t a rule is =
     ap (option_map (attribute request)) is
 
 -- ---- expressions
 
 module _ (m : Maps) (request : RequestValue) (sound : IsRequest request) where
   -- an elaboration answers with its type
-  has-type : (t : CelTree) (e : TypedTree) (ls : Scope Bound) → AreTyped ls → HasGoodConstants t
+  has_type : (t : CelTree) (e : TypedTree) (ls : Scope Bound) → AreTyped ls → HasGoodConstants t
       → Elaborates m (kinds_of ls) t e
       → Answers (typed_answer e request (known (locals_of ls))) (kind e)
-  has-type t e ls h good g =
+  has_type t e ls h good g =
       let a = answer_typed request sound e (known (kinds_of ls)) (known (locals_of ls))
-      (have-types ls h) (elaborated-typed m (kinds_of ls) t e good g) in
+      (have_types ls h) (elaborated_typed m (kinds_of ls) t e good g) in
       rw (a.1) (a.2)
 
   mutual
@@ -172,36 +172,36 @@ module _ (m : Maps) (request : RequestValue) (sound : IsRequest request) where
     means-same (constant id v) (typed_constant t w) ls h good g = ap (λ v. Some (value v)) g.1
     means-same (constant id v) _ ls h good g = absurd g
     means-same (ident id name) (typed_local t outside) ls h good g =
-        let found = slot-known name (locals_of ls) outside (slots-same name ls ∙ g.1) in
+        let found = slot_known name (locals_of ls) outside (slots_same name ls ∙ g.1) in
         ap (name_answer request name) found.1 ∙ sym found.2
     means-same (ident id name) (typed_attribute t a) ls h good g =
-        ap (name_answer request name) (no-slot name (locals_of ls) (slots-same name ls ∙ g.1))
+        ap (name_answer request name) (no_slot name (locals_of ls) (slots_same name ls ∙ g.1))
         ∙ ap (option_map (attribute request)) g.2
     means-same (ident id name) _ ls h good g = absurd g
     means-same (select id operand name test_only) (typed_attribute t a) ls h good g =
         ap (λ root. select_answer request root (eval operand request (locals_of ls)) name test_only)
-        (roots-same operand ls ∙ g.2)
-        ∙ select-attribute request g.1 name (Types m (kinds_of ls) operand)
+        (roots_same operand ls ∙ g.2)
+        ∙ select_attribute request g.1 name (Types m (kinds_of ls) operand)
         (eval operand request (locals_of ls)) test_only t a
         (subst (λ o. SelectRule o (Types m (kinds_of ls) operand) name test_only t) g.2 g.0) g.3
     means-same (select id operand name test_only) (typed_field t on field_name) ls h good g =
-        rw (roots-same operand ls, g.2, g.1, g.3, means-same operand on ls h good g.4) refl
+        rw (roots_same operand ls, g.2, g.1, g.3, means-same operand on ls h good g.4) refl
     means-same (select id operand name test_only) (typed_has t on field_name) ls h good g =
-        rw (roots-same operand ls, g.2, g.1, g.3, means-same operand on ls h good g.4) refl
+        rw (roots_same operand ls, g.2, g.1, g.3, means-same operand on ls h good g.4) refl
     means-same (select id operand name test_only) _ ls h good g = absurd g
     means-same (call id name on args) (typed_call t o operands) ls h good g =
-        let ready = elaborated-typed m (kinds_of ls) (call id name on args)
+        let ready = elaborated_typed m (kinds_of ls) (call id name on args)
         (typed_call t o operands) good g in
         let found = answers_typed request sound operands (known (kinds_of ls))
-        (known (locals_of ls)) (have-types ls h) ready.0 in
+        (known (locals_of ls)) (have_types ls h) ready.0 in
         rw (
           target-same on args operands ls h good.0 (λ es each. each-same args es ls h good.1 each)
               g.2,
           g.1.1,
         )
-        (call-means (function_answer g.1.0) (overload_answer o)
+        (call_means (function_answer g.1.0) (overload_answer o)
         (typed_answers operands request (known (locals_of ls))) found.0 found.1
-        (call-same g.1.0 _ (kinds operands) o t found.0 g.1.2 found.2))
+        (call_same g.1.0 _ (kinds operands) o t found.0 g.1.2 found.2))
     means-same (call id name on args) _ ls h good g = absurd g
     means-same (list_literal id elements) (typed_list t es) ls h good g =
         ap (option_and_then collections.list_literal) (each-same elements es ls h good g.1)
@@ -211,21 +211,21 @@ module _ (m : Maps) (request : RequestValue) (sound : IsRequest request) where
     means-same (map_literal id entries) _ ls h good g = absurd g
     means-same (comprehension id x acc range init condition step result)
         (typed_loop t r i c s e) ls h good g =
-        let of = loop-kinds m (kinds_of ls) id x acc range init condition step result t r i c s e g in
+        let of = loop_kinds m (kinds_of ls) id x acc range init condition step result t r i c s e g in
         let inside = λ (v : CelValue) (a : CelAnswer).
         (x, (value v, g.1)) ∷ (acc, (a, g.2)) ∷ ls in
         let at_end = λ (a : CelAnswer). (acc, (a, g.2)) ∷ ls in
         rw (means-same range r ls h good.0 g.5, means-same init i ls h good.1 g.6)
-        (over-same (typed_answer r request (known (locals_of ls))) _ _ (kind r) g.1 g.3
-        (has-type range r ls h good.0 g.5)
-        (λ vs each. then-same (typed_answer i request (known (locals_of ls))) _ _ (kind i)
-        (has-type init i ls h good.1 g.6)
-        (λ a gathered. fold-same _ _ _ _ _ _ g.1 g.2
+        (over_same (typed_answer r request (known (locals_of ls))) _ _ (kind r) g.1 g.3
+        (has_type range r ls h good.0 g.5)
+        (λ vs each. then_same (typed_answer i request (known (locals_of ls))) _ _ (kind i)
+        (has_type init i ls h good.1 g.6)
+        (λ a gathered. fold_same _ _ _ _ _ _ g.1 g.2
         (λ v b hv hb. means-same condition c (inside v b) (hv, (hb, h)) good.2 g.7)
         (λ v b hv hb. means-same step s (inside v b) (hv, (hb, h)) good.3 g.8)
         (λ b hb. means-same result e (at_end b) (hb, h) good.4 g.9)
         (λ v b hv hb. subst (Answers (typed_answer s request (known (locals_of (inside v b)))))
-        (of.1 ∙ g.4) (has-type step s (inside v b) (hv, (hb, h)) good.3 g.8))
+        (of.1 ∙ g.4) (has_type step s (inside v b) (hv, (hb, h)) good.3 g.8))
         vs a each (subst (AnswerHasType a) g.4 gathered))))
     means-same (comprehension id x acc range init condition step result) _ ls h good g = absurd g
 
@@ -262,9 +262,9 @@ module _ (m : Maps) (request : RequestValue) (sound : IsRequest request) where
         (ap₂ before (means-same v f ls h good.1 g.1) (pairs-same ts es ls h good.2 g.2))
 
 -- an expression with an elaboration has an answer of its type
-pub meaning-typed : (m : Maps) (request : RequestValue) → IsRequest request → (t : CelTree)
+pub meaning_typed : (m : Maps) (request : RequestValue) → IsRequest request → (t : CelTree)
     (e : TypedTree) → HasGoodConstants t → Elaborates m [] t e
     → (a : CelAnswer) × (eval t request [] ≡ Some a) × AnswerHasType a (kind e)
-meaning-typed m request sound t e good g =
-    let a = answer_typed request sound e [] [] tt (elaborated-typed m [] t e good g) in
+meaning_typed m request sound t e good g =
+    let a = answer_typed request sound e [] [] tt (elaborated_typed m [] t e good g) in
     (a.0, means-same m request sound t e [] tt good g ∙ a.1, a.2)

@@ -6,137 +6,137 @@ use Rattle.cel_value.specs.declared.cel_type.KeyType.{KeyType}
 use Rattle.cel_value.specs.declared.cel_type.KeyType.TheVariants as keys
 use Rattle.cel_tree.specs.Checked.{CelTypeEntry, of_type, dyn_type, unsupported_type}
 use Rattle.cel_tree.specs.Tree.{CelTree, constant, ident, select, call, list_literal, map_literal, comprehension, CelTarget, no_target, target, CelTrees, no_trees, tree, CelTreeEntries, no_tree_entries, tree_entry}
-use Rattle.cel_overload.proofs.OneOverload.{call-unique}
+use Rattle.cel_overload.proofs.OneOverload.{call_unique}
 use Rattle.cel_types.specs.Names.{root_of}
 use Rattle.cel_types.specs.Typing.{CallRule, IsOver, Kinds, ListRule, LoopRule, MapRule, Maps, SelectRule, TypeGiven, Types, TypesAll, TypesEach, TypesPairs, TypesTarget, has_target}
 
-pub one-some : {A : Type 0} (o : Option A) (a b : A) → o ≡ Some a → o ≡ Some b → a ≡ b
-one-some o a b d e = let k : Some a ≡ Some b = sym d ∙ e in cc
+pub one_some : {A : Type 0} (o : Option A) (a b : A) → o ≡ Some a → o ≡ Some b → a ≡ b
+one_some o a b d e = let k : Some a ≡ Some b = sym d ∙ e in cc
 
 -- one type at most is as said
 abbrev pub OneAtMost : {A : Type 0} → (A → Type 0) → Type 0
 OneAtMost {A} P = (a b : A) → P a → P b → a ≡ b
 
-given-one : (entry : Option CelTypeEntry) → OneAtMost (TypeGiven entry)
-given-one None a b g h = absurd g
-given-one (Some dyn_type) a b g h = absurd g
-given-one (Some unsupported_type) a b g h = absurd g
-given-one (Some (of_type s)) a b g h = sym g ∙ h
+given_one : (entry : Option CelTypeEntry) → OneAtMost (TypeGiven entry)
+given_one None a b g h = absurd g
+given_one (Some dyn_type) a b g h = absurd g
+given_one (Some unsupported_type) a b g h = absurd g
+given_one (Some (of_type s)) a b g h = sym g ∙ h
 
-pub select-one : (root : Option (List ℕ)) (Operand : ValueType → Type 0) (field : List ℕ)
+pub select_one : (root : Option (List ℕ)) (Operand : ValueType → Type 0) (field : List ℕ)
     (test_only : Bool) → OneAtMost Operand → OneAtMost (SelectRule root Operand field test_only)
-select-one (Some root) Operand field true one a b g h = absurd g
-select-one (Some root) Operand field false one a b g h = one-some _ a b g h
-select-one None Operand field test_only one a b g h =
+select_one (Some root) Operand field true one a b g h = absurd g
+select_one (Some root) Operand field false one a b g h = one_some _ a b g h
+select_one None Operand field test_only one a b g h =
     let same : map_type keys.Text g.0 ≡ map_type keys.Text h.0 = one _ _ g.1 h.1 in
     let values : g.0 ≡ h.0 = cc in
     g.2 ∙ rw values refl ∙ sym h.2
 
-pub call-one : (name : List ℕ) (on : Bool) (Operands : List ValueType → Type 0) → OneAtMost Operands
+pub call_one : (name : List ℕ) (on : Bool) (Operands : List ValueType → Type 0) → OneAtMost Operands
     → OneAtMost (CallRule name on Operands)
-call-one name on Operands one a b g h =
+call_one name on Operands one a b g h =
     let same : g.0 ≡ h.0 = one g.0 h.0 g.1 h.1 in
-    (call-unique name on h.0 g.2 h.2 a b (rw (sym same) (g.3)) h.3).1
+    (call_unique name on h.0 g.2 h.2 a b (rw (sym same) (g.3)) h.3).1
 
-pub list-one : (entry : Option CelTypeEntry) (elements : CelTrees) (Elements : ValueType → Type 0)
+pub list_one : (entry : Option CelTypeEntry) (elements : CelTrees) (Elements : ValueType → Type 0)
     → ((first : CelTree) (others : CelTrees) → elements ≡ tree first others → OneAtMost Elements)
     → OneAtMost (ListRule entry elements Elements)
-list-one entry no_trees Elements one a b g h = given-one entry a b g.0 h.0
-list-one entry (tree first others) Elements one a b g h =
+list_one entry no_trees Elements one a b g h = given_one entry a b g.0 h.0
+list_one entry (tree first others) Elements one a b g h =
     g.2 ∙ ap list_type (one first others refl g.0 h.0 g.1 h.1) ∙ sym h.2
 
-key-one : (j k : KeyType) → type_of_key j ≡ type_of_key k → j ≡ k
-key-one keys.Bool keys.Bool e = refl
-key-one keys.Int keys.Int e = refl
-key-one keys.Uint keys.Uint e = refl
-key-one keys.Text keys.Text e = refl
-key-one keys.Bool keys.Int e = cc
-key-one keys.Bool keys.Uint e = cc
-key-one keys.Bool keys.Text e = cc
-key-one keys.Int keys.Bool e = cc
-key-one keys.Int keys.Uint e = cc
-key-one keys.Int keys.Text e = cc
-key-one keys.Uint keys.Bool e = cc
-key-one keys.Uint keys.Int e = cc
-key-one keys.Uint keys.Text e = cc
-key-one keys.Text keys.Bool e = cc
-key-one keys.Text keys.Int e = cc
-key-one keys.Text keys.Uint e = cc
+key_one : (j k : KeyType) → type_of_key j ≡ type_of_key k → j ≡ k
+key_one keys.Bool keys.Bool e = refl
+key_one keys.Int keys.Int e = refl
+key_one keys.Uint keys.Uint e = refl
+key_one keys.Text keys.Text e = refl
+key_one keys.Bool keys.Int e = cc
+key_one keys.Bool keys.Uint e = cc
+key_one keys.Bool keys.Text e = cc
+key_one keys.Int keys.Bool e = cc
+key_one keys.Int keys.Uint e = cc
+key_one keys.Int keys.Text e = cc
+key_one keys.Uint keys.Bool e = cc
+key_one keys.Uint keys.Int e = cc
+key_one keys.Uint keys.Text e = cc
+key_one keys.Text keys.Bool e = cc
+key_one keys.Text keys.Int e = cc
+key_one keys.Text keys.Uint e = cc
 
-pub map-one : (entry : Option CelTypeEntry) (entries : CelTreeEntries)
+pub map_one : (entry : Option CelTypeEntry) (entries : CelTreeEntries)
     (Pairs : ValueType → ValueType → Type 0)
     → ((id : ℤ) (key value : CelTree) (others : CelTreeEntries)
     → entries ≡ tree_entry id key value others → (j k s t : ValueType) → Pairs j s → Pairs k t
     → (j ≡ k) × (s ≡ t))
     → OneAtMost (MapRule entry entries Pairs)
-map-one entry no_tree_entries Pairs one a b g h = given-one entry a b g.0 h.0
-map-one entry (tree_entry id key value others) Pairs one a b g h =
+map_one entry no_tree_entries Pairs one a b g h = given_one entry a b g.0 h.0
+map_one entry (tree_entry id key value others) Pairs one a b g h =
     let same = one id key value others refl (type_of_key g.0) (type_of_key h.0) g.1 h.1 g.2 h.2 in
-    g.3 ∙ ap₂ map_type (key-one g.0 h.0 same.0) same.1 ∙ sym h.3
+    g.3 ∙ ap₂ map_type (key_one g.0 h.0 same.0) same.1 ∙ sym h.3
 
-pub over-one : (walked : ValueType) → OneAtMost (IsOver walked)
-over-one (list_type s) a b g h = g ∙ sym h
-over-one (map_type k s) a b g h = g ∙ sym h
-over-one _ a b g h = absurd g
+pub over_one : (walked : ValueType) → OneAtMost (IsOver walked)
+over_one (list_type s) a b g h = g ∙ sym h
+over_one (map_type k s) a b g h = g ∙ sym h
+over_one _ a b g h = absurd g
 
-pub loop-one : (x acc : List ℕ) (Range Init : ValueType → Type 0)
+pub loop_one : (x acc : List ℕ) (Range Init : ValueType → Type 0)
     (Condition Step : ValueType → ValueType → ValueType → Type 0)
     (Result : ValueType → ValueType → Type 0) → OneAtMost Range → OneAtMost Init
     → ((gathered : ValueType) → OneAtMost (Result gathered))
     → OneAtMost (LoopRule x acc Range Init Condition Step Result)
-loop-one x acc Range Init Condition Step Result range init result a b g h =
+loop_one x acc Range Init Condition Step Result range init result a b g h =
     let same : g.gathered ≡ h.gathered = init g.gathered h.gathered g.init h.init in
     result h.gathered a b (rw (sym same) (g.result)) h.result
 
 mutual
-  pub one-type : (m : Maps) (ks : Kinds) (t : CelTree) → OneAtMost (Types m ks t)
-  one-type m ks (constant id v) a b g h = one-some _ a b g h
-  one-type m ks (ident id name) a b g h = one-some _ a b g h
-  one-type m ks (select id operand field test_only) a b g h =
-      select-one (root_of operand ks) (Types m ks operand) field test_only
-      (one-type m ks operand) a b g h
-  one-type m ks (call id name on args) a b g h =
-      call-one name (has_target on) (TypesTarget m ks on (TypesEach m ks args))
-      (one-target m ks on args (one-each m ks args)) a b g h
-  one-type m ks (list_literal id elements) a b g h =
-      list-one (get m.types id) elements (TypesAll m ks elements) (one-all m ks elements) a b
+  pub one_type : (m : Maps) (ks : Kinds) (t : CelTree) → OneAtMost (Types m ks t)
+  one_type m ks (constant id v) a b g h = one_some _ a b g h
+  one_type m ks (ident id name) a b g h = one_some _ a b g h
+  one_type m ks (select id operand field test_only) a b g h =
+      select_one (root_of operand ks) (Types m ks operand) field test_only
+      (one_type m ks operand) a b g h
+  one_type m ks (call id name on args) a b g h =
+      call_one name (has_target on) (TypesTarget m ks on (TypesEach m ks args))
+      (one_target m ks on args (one_each m ks args)) a b g h
+  one_type m ks (list_literal id elements) a b g h =
+      list_one (get m.types id) elements (TypesAll m ks elements) (one_all m ks elements) a b
       g h
-  one-type m ks (map_literal id entries) a b g h =
-      map-one (get m.types id) entries (TypesPairs m ks entries) (one-pair m ks entries) a b
+  one_type m ks (map_literal id entries) a b g h =
+      map_one (get m.types id) entries (TypesPairs m ks entries) (one_pair m ks entries) a b
       g h
-  one-type m ks (comprehension id x acc range init condition step result) a b g h =
-      loop-one x acc (Types m ks range) (Types m ks init)
+  one_type m ks (comprehension id x acc range init condition step result) a b g h =
+      loop_one x acc (Types m ks range) (Types m ks init)
       (λ s a. Types m ((x, s) ∷ (acc, a) ∷ ks) condition)
       (λ s a. Types m ((x, s) ∷ (acc, a) ∷ ks) step)
-      (λ a. Types m ((acc, a) ∷ ks) result) (one-type m ks range) (one-type m ks init)
-      (λ gathered. one-type m ((acc, gathered) ∷ ks) result) a b g h
+      (λ a. Types m ((acc, a) ∷ ks) result) (one_type m ks range) (one_type m ks init)
+      (λ gathered. one_type m ((acc, gathered) ∷ ks) result) a b g h
 
-  pub one-target : (m : Maps) (ks : Kinds) (on : CelTarget) (args : CelTrees)
+  pub one_target : (m : Maps) (ks : Kinds) (on : CelTarget) (args : CelTrees)
       → OneAtMost (TypesEach m ks args) → OneAtMost (TypesTarget m ks on (TypesEach m ks args))
-  one-target m ks no_target args one a b g h = one a b g h
-  one-target m ks (target on) args one [] b g h = absurd g
-  one-target m ks (target on) args one (a ∷ as') [] g h = absurd h
-  one-target m ks (target on) args one (a ∷ as') (b ∷ bs) g h =
-      ap₂ (λ t ts. t ∷ ts) (one-type m ks on a b g.0 h.0) (one as' bs g.1 h.1)
+  one_target m ks no_target args one a b g h = one a b g h
+  one_target m ks (target on) args one [] b g h = absurd g
+  one_target m ks (target on) args one (a ∷ as') [] g h = absurd h
+  one_target m ks (target on) args one (a ∷ as') (b ∷ bs) g h =
+      ap₂ (λ t ts. t ∷ ts) (one_type m ks on a b g.0 h.0) (one as' bs g.1 h.1)
 
-  pub one-each : (m : Maps) (ks : Kinds) (ts : CelTrees) → OneAtMost (TypesEach m ks ts)
-  one-each m ks no_trees [] [] g h = refl
-  one-each m ks no_trees [] (b ∷ bs) g h = absurd h
-  one-each m ks no_trees (a ∷ as') b g h = absurd g
-  one-each m ks (tree t ts) [] b g h = absurd g
-  one-each m ks (tree t ts) (a ∷ as') [] g h = absurd h
-  one-each m ks (tree t ts) (a ∷ as') (b ∷ bs) g h =
-      ap₂ (λ t ts. t ∷ ts) (one-type m ks t a b g.0 h.0) (one-each m ks ts as' bs g.1 h.1)
+  pub one_each : (m : Maps) (ks : Kinds) (ts : CelTrees) → OneAtMost (TypesEach m ks ts)
+  one_each m ks no_trees [] [] g h = refl
+  one_each m ks no_trees [] (b ∷ bs) g h = absurd h
+  one_each m ks no_trees (a ∷ as') b g h = absurd g
+  one_each m ks (tree t ts) [] b g h = absurd g
+  one_each m ks (tree t ts) (a ∷ as') [] g h = absurd h
+  one_each m ks (tree t ts) (a ∷ as') (b ∷ bs) g h =
+      ap₂ (λ t ts. t ∷ ts) (one_type m ks t a b g.0 h.0) (one_each m ks ts as' bs g.1 h.1)
 
-  pub one-all : (m : Maps) (ks : Kinds) (ts : CelTrees) (first : CelTree) (others : CelTrees)
+  pub one_all : (m : Maps) (ks : Kinds) (ts : CelTrees) (first : CelTree) (others : CelTrees)
       → ts ≡ tree first others → OneAtMost (TypesAll m ks ts)
-  one-all m ks no_trees first others e a b g h = cc
-  one-all m ks (tree t ts) first others e a b g h = one-type m ks t a b g.0 h.0
+  one_all m ks no_trees first others e a b g h = cc
+  one_all m ks (tree t ts) first others e a b g h = one_type m ks t a b g.0 h.0
 
-  pub one-pair : (m : Maps) (ks : Kinds) (es : CelTreeEntries) (id : ℤ) (key value : CelTree)
+  pub one_pair : (m : Maps) (ks : Kinds) (es : CelTreeEntries) (id : ℤ) (key value : CelTree)
       (others : CelTreeEntries) → es ≡ tree_entry id key value others
       → (j k s t : ValueType) → TypesPairs m ks es j s → TypesPairs m ks es k t
       → (j ≡ k) × (s ≡ t)
-  one-pair m ks no_tree_entries id key value others e j k s t g h = cc
-  one-pair m ks (tree_entry i key' value' es) id key value others e j k s t g h =
-      (one-type m ks key' j k g.0 h.0, one-type m ks value' s t g.1 h.1)
+  one_pair m ks no_tree_entries id key value others e j k s t g h = cc
+  one_pair m ks (tree_entry i key' value' es) id key value others e j k s t g h =
+      (one_type m ks key' j k g.0 h.0, one_type m ks value' s t g.1 h.1)

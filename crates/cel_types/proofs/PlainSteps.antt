@@ -32,19 +32,19 @@ use Rattle.cel_types.specs.steps.Plain.{are_pairs, behind}
 
 -- ---- headers as they are kept
 
-seen-pairs : (ps : List (RcStr Global × RcStr Global))
+seen_pairs : (ps : List (RcStr Global × RcStr Global))
     → header_entries (headers_view ps) ≡ pairs_view ps
-seen-pairs [] = refl
-seen-pairs (p ∷ ps) =
-    ap (entry (text_key (text_view p.0)) (text (text_view p.1))) (seen-pairs ps)
+seen_pairs [] = refl
+seen_pairs (p ∷ ps) =
+    ap (entry (text_key (text_view p.0)) (text (text_view p.1))) (seen_pairs ps)
 
 -- where they stand by ascending name, they are the map that they are seen as
-pub seen-headers : (ps : List (RcStr Global × RcStr Global))
+pub seen_headers : (ps : List (RcStr Global × RcStr Global))
     → IsTrue (is_sorted name_cmp (headers_view ps))
     → header_entries (entries (map_view ps)) ≡ pairs_view ps
-seen-headers ps sorted =
+seen_headers ps sorted =
     ap header_entries (entries-from_sorted name_cmp (headers_view ps) (t_from_true _ sorted))
-    ∙ seen-pairs ps
+    ∙ seen_pairs ps
 
 -- ---- elements of a range
 
@@ -53,56 +53,56 @@ abbrev pub ranged : Option CelValues → CelValues
 ranged None = no_items
 ranged (Some vs) = vs
 
-pub is-ranged : (o : Option CelValues) → o ≢ None → o ≡ Some (ranged o)
-is-ranged None some = absurd (some refl)
-is-ranged (Some vs) some = refl
+pub is_ranged : (o : Option CelValues) → o ≢ None → o ≡ Some (ranged o)
+is_ranged None some = absurd (some refl)
+is_ranged (Some vs) some = refl
 
-pub at-ranged : (o : Option CelValues) (P : CelValues → Type 0) → o ≢ None → IfSome o P → P (ranged o)
-at-ranged None P some h = absurd (some refl)
-at-ranged (Some vs) P some h = h
+pub at_ranged : (o : Option CelValues) (P : CelValues → Type 0) → o ≢ None → IfSome o P → P (ranged o)
+at_ranged None P some h = absurd (some refl)
+at_ranged (Some vs) P some h = h
 
 -- the items are the first of the elements
 abbrev pub Begin : CelValues → List Value → Type 0
 Begin vs items = (rest : CelValues) × (joined_items (values_view items) rest ≡ vs)
 
-joined-none : (vs : CelValues) → joined_items vs no_items ≡ vs
-joined-none no_items = refl
-joined-none (item v vs) = ap (item v) (joined-none vs)
+joined_none : (vs : CelValues) → joined_items vs no_items ≡ vs
+joined_none no_items = refl
+joined_none (item v vs) = ap (item v) (joined_none vs)
 
-joined-more : (items : List Value) (x : Value) (rest : CelValues)
+joined_more : (items : List Value) (x : Value) (rest : CelValues)
     → joined_items (values_view (items ++ x ∷ [])) rest
     ≡ joined_items (values_view items) (item (value_view x) rest)
-joined-more [] x rest = refl
-joined-more (y ∷ items) x rest = ap (item (value_view y)) (joined-more items x rest)
+joined_more [] x rest = refl
+joined_more (y ∷ items) x rest = ap (item (value_view y)) (joined_more items x rest)
 
 -- the element behind the first ones is the first of the rest
-behind-items : (items : List Value) (rest : CelValues)
+behind_items : (items : List Value) (rest : CelValues)
     → item_at (joined_items (values_view items) rest) (length items) ≡ item_at rest 0
-behind-items [] rest = refl
-behind-items (x ∷ items) rest = behind-items items rest
+behind_items [] rest = refl
+behind_items (x ∷ items) rest = behind_items items rest
 
-pub one-more : (vs : CelValues) (items : List Value) (x : Value)
+pub one_more : (vs : CelValues) (items : List Value) (x : Value)
     → Some (value_view x) ≡ item_at vs (length items) → Begin vs items → Begin vs (items ++ x ∷ [])
-one-more vs items x at (no_items, is) =
+one_more vs items x at (no_items, is) =
     absurd (let none : Some (value_view x) ≡ None =
-    at ∙ ap (λ l. item_at l (length items)) (sym is) ∙ behind-items items no_items in cc)
-one-more vs items x at (item w rest, is) =
+    at ∙ ap (λ l. item_at l (length items)) (sym is) ∙ behind_items items no_items in cc)
+one_more vs items x at (item w rest, is) =
     let first : Some (value_view x) ≡ Some w =
-    at ∙ ap (λ l. item_at l (length items)) (sym is) ∙ behind-items items (item w rest) in
+    at ∙ ap (λ l. item_at l (length items)) (sym is) ∙ behind_items items (item w rest) in
     let same : value_view x ≡ w = cc in
-    (rest, joined-more items x rest ∙ ap (λ v. joined_items (values_view items) (item v rest)) same ∙ is)
+    (rest, joined_more items x rest ∙ ap (λ v. joined_items (values_view items) (item v rest)) same ∙ is)
 
-pub no-more : (vs : CelValues) (items : List Value) → None ≡ item_at vs (length items)
+pub no_more : (vs : CelValues) (items : List Value) → None ≡ item_at vs (length items)
     → Begin vs items → vs ≡ values_view items
-no-more vs items at (no_items, is) = sym is ∙ joined-none (values_view items)
-no-more vs items at (item w rest, is) =
+no_more vs items at (no_items, is) = sym is ∙ joined_none (values_view items)
+no_more vs items at (item w rest, is) =
     absurd (let some : None ≡ Some w =
-    at ∙ ap (λ l. item_at l (length items)) (sym is) ∙ behind-items items (item w rest) in cc)
+    at ∙ ap (λ l. item_at l (length items)) (sym is) ∙ behind_items items (item w rest) in cc)
 
-pub some-left : (vs : CelValues) (i : ℕ) (v : CelValue) → Some v ≡ item_at vs i → i < item_count vs
-some-left no_items i v at = cc
-some-left (item w vs) zero v at = omega arith
-some-left (item w vs) (suc i) v at = let less = some-left vs i v at in omega arith
+pub some_left : (vs : CelValues) (i : ℕ) (v : CelValue) → Some v ≡ item_at vs i → i < item_count vs
+some_left no_items i v at = cc
+some_left (item w vs) zero v at = omega arith
+some_left (item w vs) (suc i) v at = let less = some_left vs i v at in omega arith
 
 -- ---- map literals
 
@@ -113,11 +113,11 @@ erring (fails e ∷ answers) some = (e, refl)
 erring (value v ∷ answers) some =
     let inner = erring answers some in (inner.0, ap (gathered_after v) inner.1)
 
-both-there : (k : Option CelKey) (v : CelValue) (es : Option CelEntries)
+both_there : (k : Option CelKey) (v : CelValue) (es : Option CelEntries)
     → is_some (entry_before k v es) ≡ (is_some k && is_some es)
-both-there None v es = refl
-both-there (Some k) v None = refl
-both-there (Some k) v (Some es) = refl
+both_there None v es = refl
+both_there (Some k) v None = refl
+both_there (Some k) v (Some es) = refl
 
 written : (answers : List CelAnswer) → some_error answers ≡ false
     → (vs : CelValues) × (gather answers ≡ all_values vs)
@@ -130,87 +130,87 @@ written (value k ∷ value v ∷ answers) none =
     let inner = written answers none in (
       item k (item v inner.0),
       ap (λ g. gathered_after k (gathered_after v g)) inner.1,
-      both-there (key_of_value k) v (written_entries inner.0)
+      both_there (key_of_value k) v (written_entries inner.0)
           ∙ ap (λ b. is_some (key_of_value k) && b) inner.2,
     )
 
-still-some : {A B : Type 0} → (f : A → B) (o : Option A) → is_some (option_map f o) ≡ is_some o
-still-some f None = refl
-still-some f (Some x) = refl
+still_some : {A B : Type 0} → (f : A → B) (o : Option A) → is_some (option_map f o) ≡ is_some o
+still_some f None = refl
+still_some f (Some x) = refl
 
 -- a map literal with an error among its operands has an answer
-pub error-made : (answers : List CelAnswer) → some_error answers ≡ true
+pub error_made : (answers : List CelAnswer) → some_error answers ≡ true
     → is_some (map_literal answers) ≡ true
-error-made answers some = rw (erring answers some).1 refl
+error_made answers some = rw (erring answers some).1 refl
 
 -- one without has an answer where keys and values stand in turn
-pub pairs-made : (answers : List CelAnswer) → some_error answers ≡ false
+pub pairs_made : (answers : List CelAnswer) → some_error answers ≡ false
     → is_some (map_literal answers) ≡ are_pairs answers
-pairs-made answers none =
-    let all = written answers none in rw all.1 (still-some _ (written_entries all.0) ∙ all.2)
+pairs_made answers none =
+    let all = written answers none in rw all.1 (still_some _ (written_entries all.0) ∙ all.2)
 
 -- ---- expressions one after the other
 
-pub behind-more : (answers : List CelAnswer) (a : CelAnswer) (o : Option (List CelAnswer))
+pub behind_more : (answers : List CelAnswer) (a : CelAnswer) (o : Option (List CelAnswer))
     → behind answers (before (Some a) o) ≡ behind (answers ++ a ∷ []) o
-behind-more answers a None = refl
-behind-more answers a (Some others) = ap Some (sym (append_assoc answers (a ∷ []) others))
+behind_more answers a None = refl
+behind_more answers a (Some others) = ap Some (sym (append_assoc answers (a ∷ []) others))
 
-pub behind-end : (answers : List CelAnswer) → behind answers (Some []) ≡ Some answers
-behind-end answers = ap Some (append-nil answers)
+pub behind_end : (answers : List CelAnswer) → behind answers (Some []) ≡ Some answers
+behind_end answers = ap Some (append-nil answers)
 
-pub behind-nothing : (o : Option (List CelAnswer)) → behind [] o ≡ o
-behind-nothing None = refl
-behind-nothing (Some answers) = refl
+pub behind_nothing : (o : Option (List CelAnswer)) → behind [] o ≡ o
+behind_nothing None = refl
+behind_nothing (Some answers) = refl
 
-before-one : (a : CelAnswer) (o : Option (List CelAnswer)) → before (Some a) o ≡ behind (a ∷ []) o
-before-one a None = refl
-before-one a (Some answers) = refl
+before_one : (a : CelAnswer) (o : Option (List CelAnswer)) → before (Some a) o ≡ behind (a ∷ []) o
+before_one a None = refl
+before_one a (Some answers) = refl
 
 -- what a target comes to stands before the other operands
-pub target-before : (t : CelTarget) (request : RequestValue) (ls : Locals) (answers : List CelAnswer)
+pub target_before : (t : CelTarget) (request : RequestValue) (ls : Locals) (answers : List CelAnswer)
     → Some answers ≡ eval_target t request ls (Some []) → (o : Option (List CelAnswer))
     → eval_target t request ls o ≡ behind answers o
-target-before no_target request ls answers is o =
-    let none : answers ≡ [] = cc in rw none (sym (behind-nothing o))
-target-before (target on) request ls answers is o = at (eval on request ls) is
+target_before no_target request ls answers is o =
+    let none : answers ≡ [] = cc in rw none (sym (behind_nothing o))
+target_before (target on) request ls answers is o = at (eval on request ls) is
   where
     at : (a : Option CelAnswer) → Some answers ≡ before a (Some []) → before a o ≡ behind answers o
     at None some = absurd (let no : Some answers ≡ None = some in cc)
-    at (Some a) some = let one : answers ≡ a ∷ [] = cc in rw one (before-one a o)
+    at (Some a) some = let one : answers ≡ a ∷ [] = cc in rw one (before_one a o)
 
 -- one that comes to nothing leaves the call without an answer
-pub target-none : (t : CelTarget) (request : RequestValue) (ls : Locals)
+pub target_none : (t : CelTarget) (request : RequestValue) (ls : Locals)
     → None ≡ eval_target t request ls (Some []) → (o : Option (List CelAnswer))
     → eval_target t request ls o ≡ None
-target-none no_target request ls is o = absurd (let no : None ≡ Some [] = is in cc)
-target-none (target on) request ls is o = at (eval on request ls) is
+target_none no_target request ls is o = absurd (let no : None ≡ Some [] = is in cc)
+target_none (target on) request ls is o = at (eval on request ls) is
   where
     at : (a : Option CelAnswer) → None ≡ before a (Some []) → before a o ≡ None
     at None none = refl
     at (Some a) none = absurd (let no : None ≡ Some (a ∷ []) = none in cc)
 
 -- a call of operands that come to nothing comes to nothing
-pub no-call : (name : List ℕ) → call_answer name None ≡ None
-no-call name = at (function_named name)
+pub no_call : (name : List ℕ) → call_answer name None ≡ None
+no_call name = at (function_named name)
   where
     at : (f : Option Function) → option_and_then (λ g. option_and_then (function_answer g) None) f ≡ None
     at None = refl
     at (Some g) = refl
 
-pub next-tree : (ts : List Tree) (i : ℕ) (d : Tree) (request : RequestValue) (ls : Locals)
+pub next_tree : (ts : List Tree) (i : ℕ) (d : Tree) (request : RequestValue) (ls : Locals)
     → i < length ts → d ≡ get_or ts i d
     → eval_each (trees_view (drop i ts)) request ls
     ≡ before (eval (tree_view d) request ls) (eval_each (trees_view (drop (i + 1) ts)) request ls)
-next-tree ts i d request ls within is =
+next_tree ts i d request ls within is =
     ap (λ l. eval_each (trees_view l) request ls)
     (drop_more ts i d within ∙ ap (λ t. t ∷ drop (i + 1) ts) (sym is))
 
-pub next-entry : (es : List TreeEntry) (i : ℕ) (d : TreeEntry) (request : RequestValue) (ls : Locals)
+pub next_entry : (es : List TreeEntry) (i : ℕ) (d : TreeEntry) (request : RequestValue) (ls : Locals)
     → i < length es → d ≡ get_or es i d
     → eval_entries (tree_entries_view (drop i es)) request ls
     ≡ before (eval (tree_view d.key) request ls) (before (eval (tree_view d.value) request ls)
     (eval_entries (tree_entries_view (drop (i + 1) es)) request ls))
-next-entry es i d request ls within is =
+next_entry es i d request ls within is =
     ap (λ l. eval_entries (tree_entries_view l) request ls)
     (drop_more es i d within ∙ ap (λ t. t ∷ drop (i + 1) es) (sym is))

@@ -9,13 +9,13 @@ use Rattle.proto_wire.specs.declared.refusal.Refusal.{Refusal}
 use Rattle.proto_wire.specs.declared.refusal.Refusal.TheVariants.{BadTypeEntry, Missing, NeedsType, NoOverload, OutOfRange, Unsupported, UnknownName}
 use Rattle.cel_value.specs.Values.{CelValue}
 use Rattle.cel_value.specs.Types.{ValueType, bool_type, int_type, uint_type, text_type, bytes_type, list_type, map_type, type_eq, type_of_key}
-use Rattle.cel_value.specs.EqualityLaws.{type_eq-Decides}
+use Rattle.cel_value.specs.EqualityLaws.{type_eq_decides}
 use Rattle.cel_value.specs.declared.cel_type.KeyType.{KeyType}
 use Rattle.cel_value.specs.declared.cel_type.KeyType.TheVariants as keys
 use Rattle.cel_tree.specs.Checked.{CelReference, CelTypeEntry, of_type, dyn_type, unsupported_type}
 use Rattle.cel_tree.specs.Tree.{CelTree, constant, ident, select, call, list_literal, map_literal, comprehension, CelTarget, no_target, target, CelTrees, no_trees, tree, CelTreeEntries, no_tree_entries, tree_entry}
 use Rattle.cel_overload.specs.declared.overload.OverloadFault.TheVariants as calls
-use Rattle.cel_overload.proofs.OneOverload.{call-total}
+use Rattle.cel_overload.proofs.OneOverload.{call_total}
 use Rattle.attributes.specs.declared.attribute.AttrId.{AttrId}
 use Rattle.cel_ops.specs.Attributes.{attribute_type}
 use Rattle.cel_types.specs.Attributes.{attribute_named}
@@ -32,8 +32,8 @@ pub same_type : (s t : ValueType) → (s ≡ t) ⊎ (s ≢ t)
 same_type s t = at (type_eq s t) refl
   where
     at : (b : Bool) → type_eq s t ≡ b → (s ≡ t) ⊎ (s ≢ t)
-    at true e = inl ((type_eq-Decides s t).0 e)
-    at false e = inr (λ k. let same : type_eq s t ≡ true = (type_eq-Decides s t).1 k in cc)
+    at true e = inl ((type_eq_decides s t).0 e)
+    at false e = inr (λ k. let same : type_eq s t ≡ true = (type_eq_decides s t).1 k in cc)
 
 same_name : (a b : List ℕ) → (a ≡ b) ⊎ (a ≢ b)
 same_name a b = at (bytes_eq a b) refl
@@ -44,17 +44,17 @@ same_name a b = at (bytes_eq a b) refl
 
 -- ---- rules
 
-constant-total : (v : CelValue) → Decided (λ t. constant_type v ≡ Some t) (ConstantFault v)
-constant-total v = at (constant_type v) refl
+constant_total : (v : CelValue) → Decided (λ t. constant_type v ≡ Some t) (ConstantFault v)
+constant_total v = at (constant_type v) refl
   where
     at : (o : Option ValueType) → constant_type v ≡ o
         → Decided (λ t. constant_type v ≡ Some t) (ConstantFault v)
     at None e = inr (Unsupported, (e, refl))
     at (Some t) e = inl (t, e)
 
-pub ref-decided : (ref : Option CelReference) (name : List ℕ) → RefAgrees ref name ⊎ RefDiffers ref name
-ref-decided None name = inl tt
-ref-decided (Some r) name = elim (same_name r.name name) [
+pub ref_decided : (ref : Option CelReference) (name : List ℕ) → RefAgrees ref name ⊎ RefDiffers ref name
+ref_decided None name = inl tt
+ref_decided (Some r) name = elim (same_name r.name name) [
   | inl e ↦ value r.value refl e
   | inr differs ↦ inr (λ a. differs a.0)
 ]
@@ -64,9 +64,9 @@ ref-decided (Some r) name = elim (same_name r.name name) [
     value None is e = inl (e, is)
     value (Some v) is e = inr (λ a. none-some v (sym a.1 ∙ is))
 
-ident-total : (ref : Option CelReference) (ks : Kinds) (name : List ℕ)
+ident_total : (ref : Option CelReference) (ks : Kinds) (name : List ℕ)
     → Decided (IdentRule ks name) (IdentFault ref ks name)
-ident-total ref ks name = at (name_type name (local name ks)) refl
+ident_total ref ks name = at (name_type name (local name ks)) refl
   where
     at : (o : Option ValueType) → name_type name (local name ks) ≡ o
         → Decided (IdentRule ks name) (IdentFault ref ks name)
@@ -87,14 +87,14 @@ names_of text_type = inr (λ u e. cc)
 names_of bytes_type = inr (λ u e. cc)
 names_of (list_type t) = inr (λ u e. cc)
 
-select-total : (ref : Option CelReference) (root : Option (List ℕ)) (Operand : ValueType → Type 0)
+select_total : (ref : Option CelReference) (root : Option (List ℕ)) (Operand : ValueType → Type 0)
     (InOperand : Refusal → Type 0) (field : List ℕ) (test_only : Bool)
     → Decided Operand InOperand
     → Decided (SelectRule root Operand field test_only)
     (SelectFault ref root Operand InOperand field test_only)
-select-total ref (Some root) Operand InOperand field true inside =
+select_total ref (Some root) Operand InOperand field true inside =
     inr (UnknownName, SelectFault.asked root refl refl refl)
-select-total ref (Some root) Operand InOperand field false inside =
+select_total ref (Some root) Operand InOperand field false inside =
     at (attribute_named (joined_name root field)) refl
   where
     at : (o : Option AttrId) → attribute_named (joined_name root field) ≡ o
@@ -102,77 +102,77 @@ select-total ref (Some root) Operand InOperand field false inside =
         (SelectFault ref (Some root) Operand InOperand field false)
     at None e = inr (UnknownName, SelectFault.unknown root refl e refl)
     at (Some a) e = inl (attribute_type a, ap (option_map attribute_type) e)
-select-total ref None Operand InOperand field test_only (inr (e, f)) =
+select_total ref None Operand InOperand field test_only (inr (e, f)) =
     inr (e, SelectFault.in_operand refl f)
-select-total ref None Operand InOperand field test_only (inl (s, h)) = elim (names_of s) [
+select_total ref None Operand InOperand field test_only (inl (s, h)) = elim (names_of s) [
   | inl (t, is) ↦ inl (field_type test_only t, (t, subst Operand is h, refl))
   | inr never ↦ inr (NoOverload, SelectFault.no_names s refl h never refl)
 ]
 
-call-decided : (name : List ℕ) (on : Bool) (Operands : List ValueType → Type 0)
+call_decided : (name : List ℕ) (on : Bool) (Operands : List ValueType → Type 0)
     (InOperands : Refusal → Type 0)
     → ((ts : List ValueType) × Operands ts) ⊎ ((e : Refusal) × InOperands e)
     → Decided (CallRule name on Operands) (CallsFault name on Operands InOperands)
-call-decided name on Operands InOperands (inr (e, f)) = inr (e, CallsFault.in_operand f)
-call-decided name on Operands InOperands (inl (ts, h)) = elim (call-total name on ts) [
+call_decided name on Operands InOperands (inr (e, f)) = inr (e, CallsFault.in_operand f)
+call_decided name on Operands InOperands (inl (ts, h)) = elim (call_total name on ts) [
   | inl (o, r, c) ↦ inl (r, (ts, h, o, c))
   | inr (calls.UnknownName, f) ↦ inr (UnknownName, CallsFault.unknown f refl)
   | inr (calls.NoOverload, f) ↦ inr (NoOverload, CallsFault.no_overload ts h f refl)
 ]
 
 -- what an empty literal is by its entry
-empty-decided : (entry : Option CelTypeEntry) (IsKind : ValueType → Type 0)
+empty_decided : (entry : Option CelTypeEntry) (IsKind : ValueType → Type 0)
     → ((t : ValueType) → IsKind t ⊎ (IsKind t → ⊥))
     → Decided (λ t. TypeGiven entry t × IsKind t)
     (λ e. EmptyFault entry IsKind e ⊎ EntryFault entry (λ t. TypeGiven entry t × IsKind t) e)
-empty-decided None IsKind decide = inr (NeedsType, inl (untold tt refl))
-empty-decided (Some dyn_type) IsKind decide = inr (NeedsType, inl (untold tt refl))
-empty-decided (Some unsupported_type) IsKind decide =
+empty_decided None IsKind decide = inr (NeedsType, inl (untold tt refl))
+empty_decided (Some dyn_type) IsKind decide = inr (NeedsType, inl (untold tt refl))
+empty_decided (Some unsupported_type) IsKind decide =
     inr (Unsupported, inr (unsupported_kind refl refl))
-empty-decided (Some (of_type s)) IsKind decide = elim (decide s) [
+empty_decided (Some (of_type s)) IsKind decide = elim (decide s) [
   | inl kind ↦ inl (s, (refl, kind))
   | inr never ↦ inr (BadTypeEntry, inl (of_another_kind s refl never refl))
 ]
 
-list-kind : (t : ValueType) → IsList t ⊎ (IsList t → ⊥)
-list-kind (list_type t) = inl tt
-list-kind (map_type k t) = inr (λ h. h)
-list-kind bool_type = inr (λ h. h)
-list-kind int_type = inr (λ h. h)
-list-kind uint_type = inr (λ h. h)
-list-kind text_type = inr (λ h. h)
-list-kind bytes_type = inr (λ h. h)
+list_kind : (t : ValueType) → IsList t ⊎ (IsList t → ⊥)
+list_kind (list_type t) = inl tt
+list_kind (map_type k t) = inr (λ h. h)
+list_kind bool_type = inr (λ h. h)
+list_kind int_type = inr (λ h. h)
+list_kind uint_type = inr (λ h. h)
+list_kind text_type = inr (λ h. h)
+list_kind bytes_type = inr (λ h. h)
 
-map-kind : (t : ValueType) → IsMap t ⊎ (IsMap t → ⊥)
-map-kind (map_type k t) = inl tt
-map-kind (list_type t) = inr (λ h. h)
-map-kind bool_type = inr (λ h. h)
-map-kind int_type = inr (λ h. h)
-map-kind uint_type = inr (λ h. h)
-map-kind text_type = inr (λ h. h)
-map-kind bytes_type = inr (λ h. h)
+map_kind : (t : ValueType) → IsMap t ⊎ (IsMap t → ⊥)
+map_kind (map_type k t) = inl tt
+map_kind (list_type t) = inr (λ h. h)
+map_kind bool_type = inr (λ h. h)
+map_kind int_type = inr (λ h. h)
+map_kind uint_type = inr (λ h. h)
+map_kind text_type = inr (λ h. h)
+map_kind bytes_type = inr (λ h. h)
 
 -- a type of keys
-key-kind : (t : ValueType) → ((k : KeyType) × (t ≡ type_of_key k)) ⊎ ((k : KeyType) → t ≢ type_of_key k)
-key-kind bool_type = inl (keys.Bool, refl)
-key-kind int_type = inl (keys.Int, refl)
-key-kind uint_type = inl (keys.Uint, refl)
-key-kind text_type = inl (keys.Text, refl)
-key-kind bytes_type = inr other
+key_kind : (t : ValueType) → ((k : KeyType) × (t ≡ type_of_key k)) ⊎ ((k : KeyType) → t ≢ type_of_key k)
+key_kind bool_type = inl (keys.Bool, refl)
+key_kind int_type = inl (keys.Int, refl)
+key_kind uint_type = inl (keys.Uint, refl)
+key_kind text_type = inl (keys.Text, refl)
+key_kind bytes_type = inr other
   where
     other : (k : KeyType) → bytes_type ≢ type_of_key k
     other keys.Bool e = cc
     other keys.Int e = cc
     other keys.Uint e = cc
     other keys.Text e = cc
-key-kind (list_type t) = inr other
+key_kind (list_type t) = inr other
   where
     other : (k : KeyType) → list_type t ≢ type_of_key k
     other keys.Bool e = cc
     other keys.Int e = cc
     other keys.Uint e = cc
     other keys.Text e = cc
-key-kind (map_type j t) = inr other
+key_kind (map_type j t) = inr other
   where
     other : (k : KeyType) → map_type j t ≢ type_of_key k
     other keys.Bool e = cc
@@ -181,14 +181,14 @@ key-kind (map_type j t) = inr other
     other keys.Text e = cc
 
 -- the elements of a range
-range-kind : (s : ValueType) → ((t : ValueType) × IsOver s t) ⊎ ((t : ValueType) → IsOver s t → ⊥)
-range-kind (list_type t) = inl (t, refl)
-range-kind (map_type k t) = inl (type_of_key k, refl)
-range-kind bool_type = inr (λ t h. h)
-range-kind int_type = inr (λ t h. h)
-range-kind uint_type = inr (λ t h. h)
-range-kind text_type = inr (λ t h. h)
-range-kind bytes_type = inr (λ t h. h)
+range_kind : (s : ValueType) → ((t : ValueType) × IsOver s t) ⊎ ((t : ValueType) → IsOver s t → ⊥)
+range_kind (list_type t) = inl (t, refl)
+range_kind (map_type k t) = inl (type_of_key k, refl)
+range_kind bool_type = inr (λ t h. h)
+range_kind int_type = inr (λ t h. h)
+range_kind uint_type = inr (λ t h. h)
+range_kind text_type = inr (λ t h. h)
+range_kind bytes_type = inr (λ t h. h)
 
 -- ---- elements and pairs of one type
 
@@ -206,29 +206,29 @@ module _ (m : Maps) (ks : Kinds) where
   abbrev Differs : (ValueType → Type 0) → ValueType → Type 0
   Differs Has s = (t : ValueType) × Has t × (s ≢ t)
 
-  all-decided : (ts : CelTrees) (us : List ValueType) (s : ValueType) → TypesEach m ks ts us
+  all_decided : (ts : CelTrees) (us : List ValueType) (s : ValueType) → TypesEach m ks ts us
       → TypesAll m ks ts s ⊎ Differs (SomeTypes m ks ts) s
-  all-decided no_trees us s h = inl tt
-  all-decided (tree t ts) [] s h = absurd h
-  all-decided (tree t ts) (u ∷ us) s h = elim (same_type s u) [
+  all_decided no_trees us s h = inl tt
+  all_decided (tree t ts) [] s h = absurd h
+  all_decided (tree t ts) (u ∷ us) s h = elim (same_type s u) [
     | inr differs ↦ inr (u, inl h.0, differs)
-    | inl e ↦ elim (all-decided ts us s h.1) [
+    | inl e ↦ elim (all_decided ts us s h.1) [
       | inl others ↦ inl (subst (λ v. Types m ks t v) (sym e) h.0, others)
       | inr (v, some, differs) ↦ inr (v, inr some, differs)
     ]
   ]
 
-  pairs-decided : (es : CelTreeEntries) (us : List ValueType) (r s : ValueType)
+  pairs_decided : (es : CelTreeEntries) (us : List ValueType) (r s : ValueType)
       → TypesInTurn m ks es us → TypesPairs m ks es r s
       ⊎ (Differs (KeyTypes m ks es) r ⊎ Differs (ItemTypes m ks es) s)
-  pairs-decided no_tree_entries us r s h = inl tt
-  pairs-decided (tree_entry id key value es) [] r s h = absurd h
-  pairs-decided (tree_entry id key value es) (t ∷ []) r s h = absurd h
-  pairs-decided (tree_entry id key value es) (t ∷ u ∷ us) r s h = elim (same_type r t) [
+  pairs_decided no_tree_entries us r s h = inl tt
+  pairs_decided (tree_entry id key value es) [] r s h = absurd h
+  pairs_decided (tree_entry id key value es) (t ∷ []) r s h = absurd h
+  pairs_decided (tree_entry id key value es) (t ∷ u ∷ us) r s h = elim (same_type r t) [
     | inr differs ↦ inr (inl (t, inl h.0, differs))
     | inl d ↦ elim (same_type s u) [
       | inr differs ↦ inr (inr (u, inl h.1, differs))
-      | inl e ↦ elim (pairs-decided es us r s h.2) [
+      | inl e ↦ elim (pairs_decided es us r s h.2) [
         | inl others ↦ inl (
           subst (λ v. Types m ks key v) (sym d) h.0,
           subst (λ v. Types m ks value v) (sym e) h.1,
@@ -240,32 +240,32 @@ module _ (m : Maps) (ks : Kinds) where
     ]
   ]
 
-  list-decided : (entry : Option CelTypeEntry) (ts : CelTrees)
+  list_decided : (entry : Option CelTypeEntry) (ts : CelTrees)
       → ((us : List ValueType) × TypesEach m ks ts us) ⊎ ((e : Refusal) × SomeFault m ks ts e)
       → Decided (ListRule entry ts (TypesAll m ks ts))
       (λ e. ListFault entry ts (SomeTypes m ks ts) (SomeFault m ks ts) e
       ⊎ EntryFault entry (ListRule entry ts (TypesAll m ks ts)) e)
-  list-decided entry no_trees each = empty-decided entry IsList list-kind
-  list-decided entry (tree t ts) (inr (e, f)) = inr (e, inl (ElementsFault.in_element f))
-  list-decided entry (tree t ts) (inl ([], h)) = absurd h
-  list-decided entry (tree t ts) (inl (u ∷ us, h)) = elim (all-decided (tree t ts) (u ∷ us) u h) [
+  list_decided entry no_trees each = empty_decided entry IsList list_kind
+  list_decided entry (tree t ts) (inr (e, f)) = inr (e, inl (ElementsFault.in_element f))
+  list_decided entry (tree t ts) (inl ([], h)) = absurd h
+  list_decided entry (tree t ts) (inl (u ∷ us, h)) = elim (all_decided (tree t ts) (u ∷ us) u h) [
     | inl all ↦ inl (list_type u, (u, all, refl))
     | inr (v, some, differs) ↦
         inr (NoOverload, inl (ElementsFault.two_types u v (inl h.0) some differs refl))
   ]
 
-  map-decided : (entry : Option CelTypeEntry) (es : CelTreeEntries)
+  map_decided : (entry : Option CelTypeEntry) (es : CelTreeEntries)
       → ((us : List ValueType) × TypesInTurn m ks es us) ⊎ ((e : Refusal) × PairFault m ks es e)
       → Decided (MapRule entry es (TypesPairs m ks es))
       (λ e. MapsFault entry es (KeyTypes m ks es) (ItemTypes m ks es) (PairFault m ks es) e
       ⊎ EntryFault entry (MapRule entry es (TypesPairs m ks es)) e)
-  map-decided entry no_tree_entries each = empty-decided entry IsMap map-kind
-  map-decided entry (tree_entry id key value es) (inr (e, f)) = inr (e, inl (PairsFault.in_entry f))
-  map-decided entry (tree_entry id key value es) (inl ([], h)) = absurd h
-  map-decided entry (tree_entry id key value es) (inl (t ∷ [], h)) = absurd h
-  map-decided entry (tree_entry id key value es) (inl (t ∷ u ∷ us, h)) = elim (key-kind t) [
+  map_decided entry no_tree_entries each = empty_decided entry IsMap map_kind
+  map_decided entry (tree_entry id key value es) (inr (e, f)) = inr (e, inl (PairsFault.in_entry f))
+  map_decided entry (tree_entry id key value es) (inl ([], h)) = absurd h
+  map_decided entry (tree_entry id key value es) (inl (t ∷ [], h)) = absurd h
+  map_decided entry (tree_entry id key value es) (inl (t ∷ u ∷ us, h)) = elim (key_kind t) [
     | inr never ↦ inr (NoOverload, inl (PairsFault.no_key_type t (inl h.0) never refl))
-    | inl (k, is) ↦ elim (pairs-decided (tree_entry id key value es) (t ∷ u ∷ us) t u h) [
+    | inl (k, is) ↦ elim (pairs_decided (tree_entry id key value es) (t ∷ u ∷ us) t u h) [
       | inl all ↦ inl (
         map_type k u,
         (k, u, subst (λ v. TypesPairs m ks (tree_entry id key value es) v u) is all, refl),
@@ -279,18 +279,18 @@ module _ (m : Maps) (ks : Kinds) where
 
 -- ---- comprehensions
 
-names-decided : (x acc : List ℕ) → NamesDiffer x acc ⊎ ((x ≡ []) ⊎ ((acc ≡ []) ⊎ (x ≡ acc)))
-names-decided [] acc = inr (inl refl)
-names-decided (c ∷ x) [] = inr (inr (inl refl))
-names-decided (c ∷ x) (d ∷ acc) = elim (same_name (c ∷ x) (d ∷ acc)) [
+names_decided : (x acc : List ℕ) → NamesDiffer x acc ⊎ ((x ≡ []) ⊎ ((acc ≡ []) ⊎ (x ≡ acc)))
+names_decided [] acc = inr (inl refl)
+names_decided (c ∷ x) [] = inr (inr (inl refl))
+names_decided (c ∷ x) (d ∷ acc) = elim (same_name (c ∷ x) (d ∷ acc)) [
   | inl e ↦ inr (inr (inr e))
   | inr differs ↦ inl (record { element = λ e. cc; gathered = λ e. cc; differ = differs })
 ]
 
 -- what is so with the types that are found is so with all that the locals may have
-pub each-turn : (Range Init : ValueType → Type 0) (IsSo : ValueType → ValueType → Type 0)
+pub each_turn : (Range Init : ValueType → Type 0) (IsSo : ValueType → ValueType → Type 0)
     (w s a : ValueType) → Range w → IsOver w s → Init a → IsSo s a → EachTurn Range Init IsSo
-each-turn Range Init IsSo w s a r over i so u b may_u may_b =
+each_turn Range Init IsSo w s a r over i so u b may_u may_b =
     subst (λ b. IsSo u b) (may_b a i) (subst (λ u. IsSo u a) (may_u s (w, r, over)) so)
 
 module _ (x acc : List ℕ) (Range Init : ValueType → Type 0)
@@ -309,35 +309,35 @@ module _ (x acc : List ℕ) (Range Init : ValueType → Type 0)
   abbrev Loop : Type 0
   Loop = Decided (LoopRule x acc Range Init Condition Step Result) Fault
 
-  parts-total : NamesDiffer x acc → (w s a : ValueType) → Range w → IsOver w s → Init a
+  parts_total : NamesDiffer x acc → (w s a : ValueType) → Range w → IsOver w s → Init a
       → Decided (Condition s a) (InCondition s a) → Decided (Step s a) (InStep s a)
       → Decided (Result a) (InResult a) → Loop
-  parts-total names w s a r over i (inr (e, f)) step' result' =
+  parts_total names w s a r over i (inr (e, f)) step' result' =
       inr (
         e,
-        in_turn (each-turn Range Init (λ s a. InCondition s a e ⊎ InStep s a e) w s a r over i
+        in_turn (each_turn Range Init (λ s a. InCondition s a e ⊎ InStep s a e) w s a r over i
             (inl f)),
       )
-  parts-total names w s a r over i (inl c) (inr (e, f)) result' =
+  parts_total names w s a r over i (inl c) (inr (e, f)) result' =
       inr (
         e,
-        in_turn (each-turn Range Init (λ s a. InCondition s a e ⊎ InStep s a e) w s a r over i
+        in_turn (each_turn Range Init (λ s a. InCondition s a e ⊎ InStep s a e) w s a r over i
             (inr f)),
       )
-  parts-total names w s a r over i (inl c) (inl p) (inr (e, f)) =
+  parts_total names w s a r over i (inl c) (inl p) (inr (e, f)) =
       inr (e, in_result (λ b may. subst (λ b. InResult b e) (may a i) f))
-  parts-total names w s a r over i (inl (t, c)) (inl (u, p)) (inl (v, q)) =
+  parts_total names w s a r over i (inl (t, c)) (inl (u, p)) (inl (v, q)) =
       elim (same_type t bool_type) [
         | inr differs ↦ inr (
           NoOverload,
-          no_condition (each-turn Range Init
+          no_condition (each_turn Range Init
               (λ s a. (t : ValueType) × Condition s a t × (t ≢ bool_type)) w s a r over i
               (t, c, differs)) refl,
         )
         | inl is_bool ↦ elim (same_type u a) [
           | inr differs ↦ inr (
             NoOverload,
-            no_step (each-turn Range Init (λ s a. (t : ValueType) × Step s a t × (t ≢ a)) w s a r
+            no_step (each_turn Range Init (λ s a. (t : ValueType) × Step s a t × (t ≢ a)) w s a r
                 over i (u, p, differs)) refl,
           )
           | inl keeps ↦ inl (
@@ -358,8 +358,8 @@ module _ (x acc : List ℕ) (Range Init : ValueType → Type 0)
         ]
       ]
 
-  loop-total : Loop
-  loop-total = elim (names-decided x acc) [
+  loop_total : Loop
+  loop_total = elim (names_decided x acc) [
     | inr (inl e) ↦ inr (Missing, no_element_name e refl)
     | inr (inr (inl e)) ↦ inr (Missing, no_gathered_name e refl)
     | inr (inr (inr e)) ↦ inr (OutOfRange, one_name e refl)
@@ -367,10 +367,10 @@ module _ (x acc : List ℕ) (Range Init : ValueType → Type 0)
       | inr (e, f) ↦ inr (e, in_range f)
       | inl (w, r) ↦ elim init [
         | inr (e, f) ↦ inr (e, in_init f)
-        | inl (a, i) ↦ elim (range-kind w) [
+        | inl (a, i) ↦ elim (range_kind w) [
           | inr never ↦ inr (NoOverload, no_elements w r never refl)
           | inl (s, over) ↦
-              parts-total names w s a r over i (condition s a) (step s a) (result a)
+              parts_total names w s a r over i (condition s a) (step s a) (result a)
         ]
       ]
     ]
@@ -378,8 +378,8 @@ module _ (x acc : List ℕ) (Range Init : ValueType → Type 0)
 
 -- ---- an Ident with a type is no bare root
 
-root-unnamed : (name : List ℕ) → is_root name ≡ true → attribute_named name ≡ None
-root-unnamed name e = at (bytes_eq name (codes "request")) (bytes_eq name (codes "source"))
+root_unnamed : (name : List ℕ) → is_root name ≡ true → attribute_named name ≡ None
+root_unnamed name e = at (bytes_eq name (codes "request")) (bytes_eq name (codes "source"))
     (bytes_eq name (codes "destination")) (bytes_eq name (codes "connection")) refl refl refl refl e
   where
     at : (p q r s : Bool) → bytes_eq name (codes "request") ≡ p
@@ -395,14 +395,14 @@ root-unnamed name e = at (bytes_eq name (codes "request")) (bytes_eq name (codes
     at false false false false a b c d e =
         let never : is_root name ≡ false = rw (a, b, c, d) refl in cc
 
-pub typed-no-root : (name : List ℕ) (ks : Kinds) (t : ValueType)
+pub typed_no_root : (name : List ℕ) (ks : Kinds) (t : ValueType)
     → name_type name (local name ks) ≡ Some t → bare_root name ks ≡ false
-typed-no-root name ks t e = at (local name ks) refl
+typed_no_root name ks t e = at (local name ks) refl
   where
     root : (b : Bool) → is_root name ≡ b → local name ks ≡ None → is_root name ≡ false
     root false is none = is
     root true is none = absurd (none-some t
-        (sym (ap (option_map attribute_type) (root-unnamed name is))
+        (sym (ap (option_map attribute_type) (root_unnamed name is))
         ∙ subst (λ o. name_type name o ≡ Some t) none e))
 
     at : (o : Option ValueType) → local name ks ≡ o → bare_root name ks ≡ false
@@ -421,63 +421,63 @@ own (inl typed) = inl typed
 own (inr (e, f)) = inr (e, inl f)
 
 mutual
-  pub type-total : (m : Maps) (ks : Kinds) (t : CelTree) → TypeOrFault m ks t
-  type-total m ks (constant id v) = own (constant-total v)
-  type-total m ks (ident id name) = own (ident-total (get m.refs id) ks name)
-  type-total m ks (select id operand field test_only) =
-      own (select-total (get m.refs id) (root_of operand ks) (Types m ks operand)
-      (TypeFault m ks operand) field test_only (type-total m ks operand))
-  type-total m ks (call id name on args) =
-      own (call-decided name (has_target on) (TypesTarget m ks on (TypesEach m ks args))
+  pub type_total : (m : Maps) (ks : Kinds) (t : CelTree) → TypeOrFault m ks t
+  type_total m ks (constant id v) = own (constant_total v)
+  type_total m ks (ident id name) = own (ident_total (get m.refs id) ks name)
+  type_total m ks (select id operand field test_only) =
+      own (select_total (get m.refs id) (root_of operand ks) (Types m ks operand)
+      (TypeFault m ks operand) field test_only (type_total m ks operand))
+  type_total m ks (call id name on args) =
+      own (call_decided name (has_target on) (TypesTarget m ks on (TypesEach m ks args))
       (λ d. TargetFault m ks on d ⊎ SomeFault m ks args d)
-      (target-total m ks on args (each-total m ks args)))
-  type-total m ks (list_literal id elements) =
-      list-decided m ks (get m.types id) elements (each-total m ks elements)
-  type-total m ks (map_literal id entries) =
-      map-decided m ks (get m.types id) entries (turn-total m ks entries)
-  type-total m ks (comprehension id x acc range init condition step result) =
-      own (loop-total x acc (Types m ks range) (Types m ks init)
+      (target_total m ks on args (each_total m ks args)))
+  type_total m ks (list_literal id elements) =
+      list_decided m ks (get m.types id) elements (each_total m ks elements)
+  type_total m ks (map_literal id entries) =
+      map_decided m ks (get m.types id) entries (turn_total m ks entries)
+  type_total m ks (comprehension id x acc range init condition step result) =
+      own (loop_total x acc (Types m ks range) (Types m ks init)
       (λ s a. Types m ((x, s) ∷ (acc, a) ∷ ks) condition)
       (λ s a. Types m ((x, s) ∷ (acc, a) ∷ ks) step)
       (λ a. Types m ((acc, a) ∷ ks) result) (TypeFault m ks range) (TypeFault m ks init)
       (λ s a. TypeFault m ((x, s) ∷ (acc, a) ∷ ks) condition)
       (λ s a. TypeFault m ((x, s) ∷ (acc, a) ∷ ks) step)
       (λ a. TypeFault m ((acc, a) ∷ ks) result)
-      (type-total m ks range) (type-total m ks init)
-      (λ s a. type-total m ((x, s) ∷ (acc, a) ∷ ks) condition)
-      (λ s a. type-total m ((x, s) ∷ (acc, a) ∷ ks) step)
-      (λ a. type-total m ((acc, a) ∷ ks) result))
+      (type_total m ks range) (type_total m ks init)
+      (λ s a. type_total m ((x, s) ∷ (acc, a) ∷ ks) condition)
+      (λ s a. type_total m ((x, s) ∷ (acc, a) ∷ ks) step)
+      (λ a. type_total m ((acc, a) ∷ ks) result))
 
-  target-total : (m : Maps) (ks : Kinds) (on : CelTarget) (args : CelTrees)
+  target_total : (m : Maps) (ks : Kinds) (on : CelTarget) (args : CelTrees)
       → ((us : List ValueType) × TypesEach m ks args us) ⊎ ((e : Refusal) × SomeFault m ks args e)
       → ((us : List ValueType) × TypesTarget m ks on (TypesEach m ks args) us)
       ⊎ ((e : Refusal) × (TargetFault m ks on e ⊎ SomeFault m ks args e))
-  target-total m ks no_target args (inl h) = inl h
-  target-total m ks on args (inr (e, f)) = inr (e, inr f)
-  target-total m ks (target on) args (inl (us, h)) = elim (type-total m ks on) [
+  target_total m ks no_target args (inl h) = inl h
+  target_total m ks on args (inr (e, f)) = inr (e, inr f)
+  target_total m ks (target on) args (inl (us, h)) = elim (type_total m ks on) [
     | inl (t, g) ↦ inl (t ∷ us, (g, h))
     | inr (e, f) ↦ inr (e, inl f)
   ]
 
-  each-total : (m : Maps) (ks : Kinds) (ts : CelTrees)
+  each_total : (m : Maps) (ks : Kinds) (ts : CelTrees)
       → ((us : List ValueType) × TypesEach m ks ts us) ⊎ ((e : Refusal) × SomeFault m ks ts e)
-  each-total m ks no_trees = inl ([], tt)
-  each-total m ks (tree t ts) = elim (type-total m ks t) [
+  each_total m ks no_trees = inl ([], tt)
+  each_total m ks (tree t ts) = elim (type_total m ks t) [
     | inr (e, f) ↦ inr (e, inl f)
-    | inl (u, g) ↦ elim (each-total m ks ts) [
+    | inl (u, g) ↦ elim (each_total m ks ts) [
       | inr (e, f) ↦ inr (e, inr f)
       | inl (us, h) ↦ inl (u ∷ us, (g, h))
     ]
   ]
 
-  turn-total : (m : Maps) (ks : Kinds) (es : CelTreeEntries)
+  turn_total : (m : Maps) (ks : Kinds) (es : CelTreeEntries)
       → ((us : List ValueType) × TypesInTurn m ks es us) ⊎ ((e : Refusal) × PairFault m ks es e)
-  turn-total m ks no_tree_entries = inl ([], tt)
-  turn-total m ks (tree_entry id key value es) = elim (type-total m ks key) [
+  turn_total m ks no_tree_entries = inl ([], tt)
+  turn_total m ks (tree_entry id key value es) = elim (type_total m ks key) [
     | inr (e, f) ↦ inr (e, inl f)
-    | inl (s, g) ↦ elim (type-total m ks value) [
+    | inl (s, g) ↦ elim (type_total m ks value) [
       | inr (e, f) ↦ inr (e, inr (inl f))
-      | inl (t, h) ↦ elim (turn-total m ks es) [
+      | inl (t, h) ↦ elim (turn_total m ks es) [
         | inr (e, f) ↦ inr (e, inr (inr f))
         | inl (us, k) ↦ inl (s ∷ t ∷ us, (g, h, k))
       ]

@@ -9,10 +9,10 @@ use Rattle.cel_value.specs.declared.cel_type.KeyType.{KeyType}
 use Rattle.cel_value.specs.declared.cel_type.KeyType.TheVariants as keys
 use Rattle.cel_ops.specs.Collections.{elements_of, field_of, has_field_of}
 use Rattle.cel_ops.specs.Typed.{Answers, EachHasType, ElementsHaveType, PairsHaveType}
-use Rattle.cel_ops.proofs.AttributeTypes.{attribute-typed}
-use Rattle.cel_ops.proofs.Typing.{elements-typed, field-typed, has_field-typed, list-typed, map-typed, one}
+use Rattle.cel_ops.proofs.AttributeTypes.{attribute_typed_fact}
+use Rattle.cel_ops.proofs.Typing.{elements_typed, field_typed, has_field_typed, list_typed, map_typed, one}
 use Rattle.cel_overload.specs.Answers.{HaveTypes}
-use Rattle.cel_overload.proofs.TypedCalls.{overload-typed}
+use Rattle.cel_overload.proofs.TypedCalls.{overload_typed_fact}
 use Rattle.cel_types.specs.Elaborated.{TypedTree, TypedTrees, kind, kinds, no_typed, typed, typed_attribute, typed_call, typed_constant, typed_field, typed_has, typed_list, typed_local, typed_loop, typed_map}
 use Rattle.cel_types.specs.Meaning.{before, fold, over, turn}
 use Rattle.cel_types.specs.TypedMeaning.{local_at, typed_answer, typed_answers}
@@ -32,13 +32,13 @@ lengths [] (k ∷ ks) h = absurd h
 lengths (a ∷ ls) [] h = absurd h
 lengths (a ∷ ls) (k ∷ ks) h = ap suc (lengths ls ks h.1)
 
-local-typed : (outside : ℕ) (ls : List CelAnswer) (ks : List ValueType) (t : ValueType)
+local_typed : (outside : ℕ) (ls : List CelAnswer) (ks : List ValueType) (t : ValueType)
     → HaveTypes ls ks → local_at outside ks ≡ Some t → Answers (local_at outside ls) t
-local-typed n [] [] t h e = absurd (none-some t e)
-local-typed n [] (k ∷ ks) t h e = absurd h
-local-typed n (a ∷ ls) [] t h e = absurd h
-local-typed n (a ∷ ls) (k ∷ ks) t h e =
-    rw (lengths ls ks h.1) (at (local-typed n ls ks t h.1) (nat_eq n (length ks)) e)
+local_typed n [] [] t h e = absurd (none-some t e)
+local_typed n [] (k ∷ ks) t h e = absurd h
+local_typed n (a ∷ ls) [] t h e = absurd h
+local_typed n (a ∷ ls) (k ∷ ks) t h e =
+    rw (lengths ls ks h.1) (at (local_typed n ls ks t h.1) (nat_eq n (length ks)) e)
   where
     at : (local_at n ks ≡ Some t → Answers (local_at n ls) t)
         → (b : Bool) → cond b (Some k) (local_at n ks) ≡ Some t
@@ -48,58 +48,58 @@ local-typed n (a ∷ ls) (k ∷ ks) t h e =
 
 -- ---- operands and elements
 
-then-typed : (f : CelAnswer → Option CelAnswer) (o : Option CelAnswer) (s t : ValueType)
+then_typed : (f : CelAnswer → Option CelAnswer) (o : Option CelAnswer) (s t : ValueType)
     → Answers o s → ((a : CelAnswer) → AnswerHasType a s → Answers (f a) t)
     → Answers (option_and_then f o) t
-then-typed f None s t h each = absurd h
-then-typed f (Some a) s t h each = each a h
+then_typed f None s t h each = absurd h
+then_typed f (Some a) s t h each = each a h
 
-all-then-typed : (f : List CelAnswer → Option CelAnswer) (o : Option (List CelAnswer))
+all_then_typed : (f : List CelAnswer → Option CelAnswer) (o : Option (List CelAnswer))
     (ts : List ValueType) (t : ValueType) → HaveAnswers o ts
     → ((answers : List CelAnswer) → HaveTypes answers ts → Answers (f answers) t)
     → Answers (option_and_then f o) t
-all-then-typed f None ts t h each = absurd h
-all-then-typed f (Some answers) ts t h each = each answers h
+all_then_typed f None ts t h each = absurd h
+all_then_typed f (Some answers) ts t h each = each answers h
 
-before-typed : (o : Option CelAnswer) (os : Option (List CelAnswer)) (t : ValueType)
+before_typed : (o : Option CelAnswer) (os : Option (List CelAnswer)) (t : ValueType)
     (ts : List ValueType) → Answers o t → HaveAnswers os ts → HaveAnswers (before o os) (t ∷ ts)
-before-typed None os t ts h hs = absurd h
-before-typed (Some a) None t ts h hs = absurd hs
-before-typed (Some a) (Some answers) t ts h hs = (h, hs)
+before_typed None os t ts h hs = absurd h
+before_typed (Some a) None t ts h hs = absurd hs
+before_typed (Some a) (Some answers) t ts h hs = (h, hs)
 
-each-typed : (answers : List CelAnswer) (ts : List ValueType) (t : ValueType) → AreAll t ts
+each_typed : (answers : List CelAnswer) (ts : List ValueType) (t : ValueType) → AreAll t ts
     → HaveTypes answers ts → EachHasType answers t
-each-typed [] [] t all h = tt
-each-typed [] (s ∷ ts) t all h = absurd h
-each-typed (a ∷ answers) [] t all h = absurd h
-each-typed (a ∷ answers) (s ∷ ts) t all h =
-    (rw (← all.0) (h.0), each-typed answers ts t all.1 h.1)
+each_typed [] [] t all h = tt
+each_typed [] (s ∷ ts) t all h = absurd h
+each_typed (a ∷ answers) [] t all h = absurd h
+each_typed (a ∷ answers) (s ∷ ts) t all h =
+    (rw (← all.0) (h.0), each_typed answers ts t all.1 h.1)
 
-pairs-typed : (answers : List CelAnswer) (ts : List ValueType) (k : KeyType) (t : ValueType)
+pairs_typed : (answers : List CelAnswer) (ts : List ValueType) (k : KeyType) (t : ValueType)
     → AreKeyed k t ts → HaveTypes answers ts → PairsHaveType answers k t
-pairs-typed [] [] k t all h = tt
-pairs-typed [] (r ∷ ts) k t all h = absurd h
-pairs-typed (a ∷ answers) [] k t all h = absurd h
-pairs-typed (a ∷ []) (r ∷ []) k t all h = absurd all
-pairs-typed (a ∷ b ∷ answers) (r ∷ []) k t all h = absurd all
-pairs-typed (a ∷ []) (r ∷ s ∷ ts) k t all h = absurd h.1
-pairs-typed (a ∷ b ∷ answers) (r ∷ s ∷ ts) k t all h =
-    (rw (← all.0) (h.0), rw (← all.1) (h.1.0), pairs-typed answers ts k t all.2 h.1.1)
+pairs_typed [] [] k t all h = tt
+pairs_typed [] (r ∷ ts) k t all h = absurd h
+pairs_typed (a ∷ answers) [] k t all h = absurd h
+pairs_typed (a ∷ []) (r ∷ []) k t all h = absurd all
+pairs_typed (a ∷ b ∷ answers) (r ∷ []) k t all h = absurd all
+pairs_typed (a ∷ []) (r ∷ s ∷ ts) k t all h = absurd h.1
+pairs_typed (a ∷ b ∷ answers) (r ∷ s ∷ ts) k t all h =
+    (rw (← all.0) (h.0), rw (← all.1) (h.1.0), pairs_typed answers ts k t all.2 h.1.1)
 
 -- ---- comprehensions
 
-turn-typed : (condition step : Option CelAnswer) (next : CelAnswer → Option CelAnswer)
+turn_typed : (condition step : Option CelAnswer) (next : CelAnswer → Option CelAnswer)
     (ended : Option CelAnswer) (g t : ValueType) → Answers condition bool_type → Answers step g
     → ((a : CelAnswer) → AnswerHasType a g → Answers (next a) t) → Answers ended t
     → Answers (turn condition step next ended) t
-turn-typed None step next ended g t c s n e = absurd c
-turn-typed (Some (fails d)) step next ended g t c s n e = tt
-turn-typed (Some (value (bool true))) None next ended g t c s n e = absurd s
-turn-typed (Some (value (bool true))) (Some a) next ended g t c s n e = n a s
-turn-typed (Some (value (bool false))) step next ended g t c s n e = e
-turn-typed (Some (value _)) step next ended g t c s n e = absurd c
+turn_typed None step next ended g t c s n e = absurd c
+turn_typed (Some (fails d)) step next ended g t c s n e = tt
+turn_typed (Some (value (bool true))) None next ended g t c s n e = absurd s
+turn_typed (Some (value (bool true))) (Some a) next ended g t c s n e = n a s
+turn_typed (Some (value (bool false))) step next ended g t c s n e = e
+turn_typed (Some (value _)) step next ended g t c s n e = absurd c
 
-pub fold-typed : (condition step : CelValue → CelAnswer → Option CelAnswer)
+pub fold_typed : (condition step : CelValue → CelAnswer → Option CelAnswer)
     (result : CelAnswer → Option CelAnswer) (x g t : ValueType)
     → ((v : CelValue) (a : CelAnswer) → HasType v x → AnswerHasType a g
     → Answers (condition v a) bool_type)
@@ -107,27 +107,27 @@ pub fold-typed : (condition step : CelValue → CelAnswer → Option CelAnswer)
     → ((a : CelAnswer) → AnswerHasType a g → Answers (result a) t)
     → (vs : CelValues) (a : CelAnswer) → EachItem (λ v. HasType v x) vs → AnswerHasType a g
     → Answers (fold condition step result vs a) t
-fold-typed condition step result x g t c s r no_items a each h = r a h
-fold-typed condition step result x g t c s r (item v vs) a each h =
-    turn-typed (condition v a) (step v a) (fold condition step result vs) (result a) g t
+fold_typed condition step result x g t c s r no_items a each h = r a h
+fold_typed condition step result x g t c s r (item v vs) a each h =
+    turn_typed (condition v a) (step v a) (fold condition step result vs) (result a) g t
     (c v a each.0 h) (s v a each.0 h)
-    (λ b more. fold-typed condition step result x g t c s r vs b each.1 more) (r a h)
+    (λ b more. fold_typed condition step result x g t c s r vs b each.1 more) (r a h)
 
 -- the elements of a value that is walked over
-pub walked-typed : (w x : ValueType) → IsOver w x → (v : CelValue) → HasType v w
+pub walked_typed : (w x : ValueType) → IsOver w x → (v : CelValue) → HasType v w
     → ElementsHaveType (elements_of v) x
-walked-typed (list_type s) x is (list vs) h = rw is h
-walked-typed (list_type s) x is _ h = absurd h
-walked-typed (map_type k s) x is v h = rw is (elements-typed k s v h)
-walked-typed _ x is v h = absurd is
+walked_typed (list_type s) x is (list vs) h = rw is h
+walked_typed (list_type s) x is _ h = absurd h
+walked_typed (map_type k s) x is v h = rw is (elements_typed k s v h)
+walked_typed _ x is v h = absurd is
 
-over-typed : (o : Option CelAnswer) (go : CelValues → Option CelAnswer) (w x t : ValueType)
+over_typed : (o : Option CelAnswer) (go : CelValues → Option CelAnswer) (w x t : ValueType)
     → IsOver w x → Answers o w
     → ((vs : CelValues) → EachItem (λ v. HasType v x) vs → Answers (go vs) t)
     → Answers (over o go) t
-over-typed None go w x t is h each = absurd h
-over-typed (Some (fails e)) go w x t is h each = tt
-over-typed (Some (value v)) go w x t is h each = at (elements_of v) (walked-typed w x is v h)
+over_typed None go w x t is h each = absurd h
+over_typed (Some (fails e)) go w x t is h each = tt
+over_typed (Some (value v)) go w x t is h each = at (elements_of v) (walked_typed w x is v h)
   where
     at : (found : Option CelValues) → ElementsHaveType found x → Answers (option_and_then go found) t
     at None have = absurd have
@@ -140,39 +140,39 @@ module _ (request : RequestValue) (sound : IsRequest request) where
     typed-here : (e : TypedTree) (ks : List ValueType) (ls : List CelAnswer) → HaveTypes ls ks
         → IsWellTyped ks e → Answers (typed_answer e request ls) (kind e)
     typed-here (typed_constant t v) ks ls h g = g.1
-    typed-here (typed_local t outside) ks ls h g = local-typed outside ls ks t h g
-    typed-here (typed_attribute t a) ks ls h g = rw g (attribute-typed request sound a)
+    typed-here (typed_local t outside) ks ls h g = local_typed outside ls ks t h g
+    typed-here (typed_attribute t a) ks ls h g = rw g (attribute_typed_fact request sound a)
     typed-here (typed_field t on name) ks ls h g =
-        then-typed _ (typed_answer on request ls) (map_type keys.Text t) t
+        then_typed _ (typed_answer on request ls) (map_type keys.Text t) t
         (rw (← g.1) (typed-here on ks ls h g.0))
-        (one (field_of name) (map_type keys.Text t) t (field-typed keys.Text t name))
+        (one (field_of name) (map_type keys.Text t) t (field_typed keys.Text t name))
     typed-here (typed_has t on name) ks ls h g = rw (g.2)
-        (then-typed _ (typed_answer on request ls) (map_type keys.Text g.1.0) bool_type
+        (then_typed _ (typed_answer on request ls) (map_type keys.Text g.1.0) bool_type
         (rw (← g.1.1) (typed-here on ks ls h g.0))
         (one (has_field_of name) (map_type keys.Text g.1.0) bool_type
-        (has_field-typed keys.Text g.1.0 name)))
+        (has_field_typed keys.Text g.1.0 name)))
     typed-here (typed_call t o operands) ks ls h g =
-        all-then-typed _ (typed_answers operands request ls) (kinds operands) t
+        all_then_typed _ (typed_answers operands request ls) (kinds operands) t
         (all-typed-here operands ks ls h g.0)
-        (λ answers have. overload-typed o (kinds operands) t answers g.1 have)
+        (λ answers have. overload_typed_fact o (kinds operands) t answers g.1 have)
     typed-here (typed_list t elements) ks ls h g = rw (g.1.1)
-        (all-then-typed _ (typed_answers elements request ls) (kinds elements) (list_type g.1.0)
+        (all_then_typed _ (typed_answers elements request ls) (kinds elements) (list_type g.1.0)
         (all-typed-here elements ks ls h g.0)
-        (λ answers have. list-typed g.1.0 answers
-        (each-typed answers (kinds elements) g.1.0 g.1.2 have)))
+        (λ answers have. list_typed g.1.0 answers
+        (each_typed answers (kinds elements) g.1.0 g.1.2 have)))
     typed-here (typed_map t pairs) ks ls h g = rw (g.1.2)
-        (all-then-typed _ (typed_answers pairs request ls) (kinds pairs) (map_type g.1.0 g.1.1)
+        (all_then_typed _ (typed_answers pairs request ls) (kinds pairs) (map_type g.1.0 g.1.1)
         (all-typed-here pairs ks ls h g.0)
-        (λ answers have. map-typed g.1.0 g.1.1 answers
-        (pairs-typed answers (kinds pairs) g.1.0 g.1.1 g.1.3 have)))
+        (λ answers have. map_typed g.1.0 g.1.1 answers
+        (pairs_typed answers (kinds pairs) g.1.0 g.1.1 g.1.3 have)))
     typed-here (typed_loop t range init condition step result) ks ls h g =
         let element = g.2.0 in
         rw (g.4)
-        (over-typed (typed_answer range request ls) _ (kind range) element (kind result) g.2.1
+        (over_typed (typed_answer range request ls) _ (kind range) element (kind result) g.2.1
         (typed-here range ks ls h g.0)
-        (λ vs each. then-typed _ (typed_answer init request ls) (kind init) (kind result)
+        (λ vs each. then_typed _ (typed_answer init request ls) (kind init) (kind result)
         (typed-here init ks ls h g.1)
-        (λ a gathered. fold-typed _ _ _ element (kind init) (kind result)
+        (λ a gathered. fold_typed _ _ _ element (kind init) (kind result)
         (λ v b hv hb. rw (← g.2.3) (typed-here condition (element ∷ kind init ∷ ks)
         (value v ∷ b ∷ ls) (hv, (hb, h)) g.2.2))
         (λ v b hv hb. rw (← g.2.5) (typed-here step (element ∷ kind init ∷ ks)
@@ -184,7 +184,7 @@ module _ (request : RequestValue) (sound : IsRequest request) where
         → HaveTypes ls ks → AreWellTyped ks es → HaveAnswers (typed_answers es request ls) (kinds es)
     all-typed-here no_typed ks ls h g = tt
     all-typed-here (typed e es) ks ls h g =
-        before-typed (typed_answer e request ls) (typed_answers es request ls) (kind e) (kinds es)
+        before_typed (typed_answer e request ls) (typed_answers es request ls) (kind e) (kinds es)
         (typed-here e ks ls h g.0) (all-typed-here es ks ls h g.1)
 
 -- an answer that there is

@@ -7,26 +7,26 @@ use Rattle.std.proofs.lemmas.Bool.{cases_Bool}
 use Rattle.cel_value.specs.Values.{CelKey, CelValue, CelEntries, no_entries, entry}
 use Rattle.cel_value.specs.Keys.{get, key_cmp, AllAbove, IsAscending}
 use Rattle.cel_value.specs.Equality.{key_eq}
-use Rattle.cel_value.specs.EqualityLaws.{key_eq-Decides}
-use Rattle.cel_value.proofs.Places.{key_eq-cmp, key_cmp-trans, key_cmp-antisymm, above-lower}
+use Rattle.cel_value.specs.EqualityLaws.{key_eq_decides}
+use Rattle.cel_value.proofs.Places.{key_eq_cmp, key_cmp_trans, key_cmp_antisymm, above_lower}
 
-less-apart : (k j : CelKey) → key_cmp k j ≡ Less → key_eq j k ≡ false
-less-apart k j h = key_eq-cmp j k ∙ ap is_eq (key_cmp-antisymm j k ∙ ap ordering_reverse h)
+less_apart : (k j : CelKey) → key_cmp k j ≡ Less → key_eq j k ≡ false
+less_apart k j h = key_eq_cmp j k ∙ ap is_eq (key_cmp_antisymm j k ∙ ap ordering_reverse h)
 
-pub get-above : (k : CelKey) (es : CelEntries) → AllAbove k es → get es k ≡ None
-get-above k no_entries a = refl
-get-above k (entry j v es) a = rw (less-apart k j a.0) (get-above k es a.1)
+pub get_above : (k : CelKey) (es : CelEntries) → AllAbove k es → get es k ≡ None
+get_above k no_entries a = refl
+get_above k (entry j v es) a = rw (less_apart k j a.0) (get_above k es a.1)
 
 -- a key below all of a map is none of it
-not-there : (j k : CelKey) (w : CelValue) (fs : CelEntries) → key_cmp j k ≡ Less → AllAbove k fs
+not_there : (j k : CelKey) (w : CelValue) (fs : CelEntries) → key_cmp j k ≡ Less → AllAbove k fs
     → get (entry k w fs) j ≡ None
-not-there j k w fs h a = get-above j (entry k w fs) (h, above-lower j k h fs a)
+not_there j k w fs h a = get_above j (entry k w fs) (h, above_lower j k h fs a)
 
 own : (k : CelKey) (v : CelValue) (es : CelEntries) → get (entry k v es) k ≡ Some v
-own k v es = rw ((key_eq-Decides k k).1 refl) refl
+own k v es = rw ((key_eq_decides k k).1 refl) refl
 
-apart-somes : (v : CelValue) → Some v ≡ None → ⊥
-apart-somes v e = cc
+apart_somes : (v : CelValue) → Some v ≡ None → ⊥
+apart_somes v e = cc
 
 -- the order of two keys, by cases
 data Standing (j k : CelKey) : Type 0 where
@@ -39,23 +39,23 @@ standing j k = by_order (key_cmp j k) refl
   where
     by_order : (r : Ordering) → key_cmp j k ≡ r → Standing j k
     by_order Less e = lower e
-    by_order Equal e = same ((key_eq-Decides j k).0 (key_eq-cmp j k ∙ ap is_eq e))
-    by_order Greater e = higher (key_cmp-antisymm k j ∙ ap ordering_reverse e)
+    by_order Equal e = same ((key_eq_decides j k).0 (key_eq_cmp j k ∙ ap is_eq e))
+    by_order Greater e = higher (key_cmp_antisymm k j ∙ ap ordering_reverse e)
 
-pub same-map : (es fs : CelEntries) → IsAscending es → IsAscending fs → ((q : CelKey) → get es q
+pub same_map : (es fs : CelEntries) → IsAscending es → IsAscending fs → ((q : CelKey) → get es q
     ≡ get fs q) → es ≡ fs
-same-map no_entries no_entries a b h = refl
-same-map no_entries (entry k w fs) a b h = absurd (apart-somes w (sym (own k w fs) ∙ sym (h k)))
-same-map (entry j v es) no_entries a b h = absurd (apart-somes v (sym (own j v es) ∙ h j))
-same-map (entry j v es) (entry k w fs) a b h = elim (standing j k) [
-  | lower l ↦ absurd (apart-somes v (sym (own j v es) ∙ h j ∙ not-there j k w fs l b.0))
-  | higher l ↦ absurd (apart-somes w (sym (own k w fs) ∙ sym (h k) ∙ not-there k j v es l a.0))
+same_map no_entries no_entries a b h = refl
+same_map no_entries (entry k w fs) a b h = absurd (apart_somes w (sym (own k w fs) ∙ sym (h k)))
+same_map (entry j v es) no_entries a b h = absurd (apart_somes v (sym (own j v es) ∙ h j))
+same_map (entry j v es) (entry k w fs) a b h = elim (standing j k) [
+  | lower l ↦ absurd (apart_somes v (sym (own j v es) ∙ h j ∙ not_there j k w fs l b.0))
+  | higher l ↦ absurd (apart_somes w (sym (own k w fs) ∙ sym (h k) ∙ not_there k j v es l a.0))
   | same e ↦
       let values : Some v ≡ Some w = sym (own j v es) ∙ h j ∙ ap (get (entry k w fs)) e
       ∙ own k w fs in
       let value : v ≡ w = cc in
       let above : AllAbove j fs = rw e b.0 in
-      let tails : es ≡ fs = same-map es fs a.1 b.1 (λ q. tail j v w es fs q a.0 above (h q
+      let tails : es ≡ fs = same_map es fs a.1 b.1 (λ q. tail j v w es fs q a.0 above (h q
       ∙ ap (λ i. get (entry i w fs) q) (sym e))) in
       ap₂ (λ i u. entry i u es) e value ∙ ap (entry k w) tails
 ]
@@ -64,7 +64,7 @@ same-map (entry j v es) (entry k w fs) a b h = elim (standing j k) [
         → AllAbove i fs → get (entry i v es) q ≡ get (entry i w fs) q → get es q ≡ get fs q
     tail i v w es fs q a b h = elim (cases_Bool (key_eq i q)) [
       | inl yes_same ↦
-          let at : i ≡ q = (key_eq-Decides i q).0 yes_same in
-          ap (get es) (sym at) ∙ get-above i es a ∙ sym (get-above i fs b) ∙ ap (get fs) at
+          let at : i ≡ q = (key_eq_decides i q).0 yes_same in
+          ap (get es) (sym at) ∙ get_above i es a ∙ sym (get_above i fs b) ∙ ap (get fs) at
       | inr other ↦ rw other at h
     ]

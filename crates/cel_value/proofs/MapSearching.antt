@@ -27,80 +27,80 @@ pair_key p = text_key (text_view p.0)
 abbrev pair_value : RcStr Global × RcStr Global → CelValue
 pair_value p = text (text_view p.1)
 
-entries-made : (es : List (Key × Value)) → entries_view es ≡ made_of entry_key entry_value es
-entries-made [] = refl
-entries-made (e ∷ es) = ap (entry (key_view e.0) (value_view e.1)) (entries-made es)
+entries_made : (es : List (Key × Value)) → entries_view es ≡ made_of entry_key entry_value es
+entries_made [] = refl
+entries_made (e ∷ es) = ap (entry (key_view e.0) (value_view e.1)) (entries_made es)
 
-pairs-made : (ps : List (RcStr Global × RcStr Global)) → pairs_view ps
+pairs_made : (ps : List (RcStr Global × RcStr Global)) → pairs_view ps
     ≡ made_of pair_key pair_value ps
-pairs-made [] = refl
-pairs-made (p ∷ ps) = ap (entry (pair_key p) (pair_value p)) (pairs-made ps)
+pairs_made [] = refl
+pairs_made (p ∷ ps) = ap (entry (pair_key p) (pair_value p)) (pairs_made ps)
 
 module _ (q : CelKey) {F : Type 0} {g : Mut F (Bor (Key × Value) × Unit {0}) Ordering} {f : F}
     (answers : (a : Bor (Key × Value) × Unit {0}) (r : Ordering) (f' : F) → Called g f a r f'
     → (r ≡ key_cmp (key_view a.0.now.0) q) × (f' ≡ f)) where
-  pub entry-found : (xs : List (Key × Value)) (i : ℕ) (d : Key × Value)
+  pub entry_found : (xs : List (Key × Value)) (i : ℕ) (d : Key × Value)
       → IsAscending (entries_view xs) → i < length xs
       → ((ord : Key × Value → Ordering) → ComputesKey g ord f → IsBinarySearchResult ord xs (Ok i))
       → get (entries_view xs) q ≡ Some (value_view (get_or xs i d).1)
-  entry-found xs i d up below found =
-      rw (entries-made xs)
-      (get-found entry_key entry_value q answers xs i d (rw (entries-made xs) at up) below found)
+  entry_found xs i d up below found =
+      rw (entries_made xs)
+      (get-found entry_key entry_value q answers xs i d (rw (entries_made xs) at up) below found)
 
-  pub entry-absent : (xs : List (Key × Value)) (i : ℕ) → IsAscending (entries_view xs)
+  pub entry_absent : (xs : List (Key × Value)) (i : ℕ) → IsAscending (entries_view xs)
       → ((ord : Key × Value → Ordering) → ComputesKey g ord f → IsBinarySearchResult ord xs (Err i))
       → get (entries_view xs) q ≡ None
-  entry-absent xs i up found =
-      rw (entries-made xs)
-      (get-absent entry_key entry_value q answers xs i (rw (entries-made xs) at up) found)
+  entry_absent xs i up found =
+      rw (entries_made xs)
+      (get-absent entry_key entry_value q answers xs i (rw (entries_made xs) at up) found)
 
-  pub entry-placed : (x : Key × Value) (xs : List (Key × Value)) (i : ℕ) → key_view x.0 ≡ q
+  pub entry_placed : (x : Key × Value) (xs : List (Key × Value)) (i : ℕ) → key_view x.0 ≡ q
       → i ≤ length xs → IsAscending (entries_view xs)
       → ((ord : Key × Value → Ordering) → ComputesKey g ord f → IsBinarySearchResult ord xs (Err i))
       → entries_view (take i xs ++ x ∷ drop i xs)
       ≡ put (key_view x.0) (value_view x.1) (entries_view xs)
-  entry-placed x xs i same within up found =
-      entries-made (take i xs ++ x ∷ drop i xs)
+  entry_placed x xs i same within up found =
+      entries_made (take i xs ++ x ∷ drop i xs)
       ∙ put-absent entry_key entry_value q answers x xs i same within (rw
-      (entries-made xs) at up) found
-      ∙ ap (put (key_view x.0) (value_view x.1)) (sym (entries-made xs))
+      (entries_made xs) at up) found
+      ∙ ap (put (key_view x.0) (value_view x.1)) (sym (entries_made xs))
 
 module _ (q : CelKey) {F : Type 0} {g : Mut F (Bor
     (RcStr Global × RcStr Global) × Unit {0}) Ordering} {f : F}
     (answers : (a : Bor (RcStr Global × RcStr Global) × Unit {0}) (r : Ordering) (f' : F)
     → Called g f a r f'
     → (r ≡ key_cmp (text_key (text_view a.0.now.0)) q) × (f' ≡ f)) where
-  pub pair-found : (xs : List (RcStr Global × RcStr Global)) (i : ℕ)
+  pub pair_found : (xs : List (RcStr Global × RcStr Global)) (i : ℕ)
       (d : RcStr Global × RcStr Global)
       → IsAscending (pairs_view xs) → i < length xs
       → ((ord : RcStr Global × RcStr Global → Ordering) → ComputesKey g ord f
       → IsBinarySearchResult ord xs (Ok i))
       → get (pairs_view xs) q ≡ Some (text (text_view (get_or xs i d).1))
-  pair-found xs i d up below found =
-      rw (pairs-made xs)
-      (get-found pair_key pair_value q answers xs i d (rw (pairs-made xs) at up) below found)
+  pair_found xs i d up below found =
+      rw (pairs_made xs)
+      (get-found pair_key pair_value q answers xs i d (rw (pairs_made xs) at up) below found)
 
-  pub pair-absent : (xs : List (RcStr Global × RcStr Global)) (i : ℕ) → IsAscending (pairs_view xs)
+  pub pair_absent : (xs : List (RcStr Global × RcStr Global)) (i : ℕ) → IsAscending (pairs_view xs)
       → ((ord : RcStr Global × RcStr Global → Ordering) → ComputesKey g ord f
       → IsBinarySearchResult ord xs (Err i))
       → get (pairs_view xs) q ≡ None
-  pair-absent xs i up found =
-      rw (pairs-made xs)
-      (get-absent pair_key pair_value q answers xs i (rw (pairs-made xs) at up) found)
+  pair_absent xs i up found =
+      rw (pairs_made xs)
+      (get-absent pair_key pair_value q answers xs i (rw (pairs_made xs) at up) found)
 
 -- no key of texts is another kind's
 
-pub pairs-no-bool : (ps : List (RcStr Global × RcStr Global)) (b : _)
+pub pairs_no_bool : (ps : List (RcStr Global × RcStr Global)) (b : _)
     → get (pairs_view ps) (bool_key b) ≡ None
-pairs-no-bool [] b = refl
-pairs-no-bool (p ∷ ps) b = pairs-no-bool ps b
+pairs_no_bool [] b = refl
+pairs_no_bool (p ∷ ps) b = pairs_no_bool ps b
 
-pub pairs-no-int : (ps : List (RcStr Global × RcStr Global)) (i : _)
+pub pairs_no_int : (ps : List (RcStr Global × RcStr Global)) (i : _)
     → get (pairs_view ps) (int_key i) ≡ None
-pairs-no-int [] i = refl
-pairs-no-int (p ∷ ps) i = pairs-no-int ps i
+pairs_no_int [] i = refl
+pairs_no_int (p ∷ ps) i = pairs_no_int ps i
 
-pub pairs-no-uint : (ps : List (RcStr Global × RcStr Global)) (n : _)
+pub pairs_no_uint : (ps : List (RcStr Global × RcStr Global)) (n : _)
     → get (pairs_view ps) (uint_key n) ≡ None
-pairs-no-uint [] n = refl
-pairs-no-uint (p ∷ ps) n = pairs-no-uint ps n
+pairs_no_uint [] n = refl
+pairs_no_uint (p ∷ ps) n = pairs_no_uint ps n

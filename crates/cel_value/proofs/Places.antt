@@ -20,50 +20,50 @@ use Rattle.cel_value.specs.Equality.{key_eq}
 use Rattle.cel_value.specs.declared.value.Key.{Key}
 use Rattle.cel_value.specs.declared.value.Value.{Value}
 use Rattle.std.proofs.lemmas.Bool.{cases_Bool, false_from_ne_true}
-use Rattle.cel_value.specs.EqualityLaws.{key_eq-Decides}
+use Rattle.cel_value.specs.EqualityLaws.{key_eq_decides}
 
-bool-ties : (a b : Bool) → beq a b ≡ is_eq (bool_cmp a b)
-bool-ties true true = refl
-bool-ties true false = refl
-bool-ties false true = refl
-bool-ties false false = refl
+bool_ties : (a b : Bool) → beq a b ≡ is_eq (bool_cmp a b)
+bool_ties true true = refl
+bool_ties true false = refl
+bool_ties false true = refl
+bool_ties false false = refl
 
-same-int : (a : ℤ) → is_eq (int_cmp a a) ≡ true
-same-int a = grind (arith, ints)
+same_int : (a : ℤ) → is_eq (int_cmp a a) ≡ true
+same_int a = grind (arith, ints)
 
-int-ties : (a b : ℤ) → int_eq a b ≡ is_eq (int_cmp a b)
-int-ties a b = same_from_decides _ _ (Decides-int_eq a b) (
+int_ties : (a b : ℤ) → int_eq a b ≡ is_eq (int_cmp a b)
+int_ties a b = same_from_decides _ _ (Decides-int_eq a b) (
   λ e. int_cmp-IsAntisymmetric a b ((Equal-is (int_cmp a b)).0 e),
-  λ e. let P : ℤ → Type 0 = λ z. is_eq (int_cmp a z) ≡ true in subst P e (same-int a),
+  λ e. let P : ℤ → Type 0 = λ z. is_eq (int_cmp a z) ≡ true in subst P e (same_int a),
 )
 
 -- keys are equal where neither is below the other
-pub key_eq-cmp : (j k : CelKey) → key_eq j k ≡ is_eq (key_cmp j k)
-key_eq-cmp (bool_key a) (bool_key b) = bool-ties a b
-key_eq-cmp (int_key a) (int_key b) = int-ties a b
-key_eq-cmp (uint_key a) (uint_key b) = unsigned_ties a b
-key_eq-cmp (text_key a) (text_key b) = texts_ties a b
-key_eq-cmp _ _ = refl
+pub key_eq_cmp : (j k : CelKey) → key_eq j k ≡ is_eq (key_cmp j k)
+key_eq_cmp (bool_key a) (bool_key b) = bool_ties a b
+key_eq_cmp (int_key a) (int_key b) = int_ties a b
+key_eq_cmp (uint_key a) (uint_key b) = unsigned_ties a b
+key_eq_cmp (text_key a) (text_key b) = texts_ties a b
+key_eq_cmp _ _ = refl
 
-pub key_cmp-trans : (a b c : CelKey) → key_cmp a b ≡ Less → key_cmp b c ≡ Less → key_cmp a c ≡ Less
-key_cmp-trans (bool_key a) (bool_key b) (bool_key c) e f = bool_cmp_total.trans a b c e f
-key_cmp-trans (int_key a) (int_key b) (int_key c) e f = int_cmp_total.trans a b c e f
-key_cmp-trans (uint_key a) (uint_key b) (uint_key c) e f = nat_cmp_total.trans a b c e f
-key_cmp-trans (text_key a) (text_key b) (text_key c) e f = nat_list_cmp_total.trans a b c e f
-key_cmp-trans (bool_key a) b (int_key c) e f = refl
-key_cmp-trans (bool_key a) b (uint_key c) e f = refl
-key_cmp-trans (bool_key a) b (text_key c) e f = refl
-key_cmp-trans (int_key a) b (uint_key c) e f = refl
-key_cmp-trans (int_key a) b (text_key c) e f = refl
-key_cmp-trans (uint_key a) b (text_key c) e f = refl
-key_cmp-trans _ _ _ e f = cc
+pub key_cmp_trans : (a b c : CelKey) → key_cmp a b ≡ Less → key_cmp b c ≡ Less → key_cmp a c ≡ Less
+key_cmp_trans (bool_key a) (bool_key b) (bool_key c) e f = bool_cmp_total.trans a b c e f
+key_cmp_trans (int_key a) (int_key b) (int_key c) e f = int_cmp_total.trans a b c e f
+key_cmp_trans (uint_key a) (uint_key b) (uint_key c) e f = nat_cmp_total.trans a b c e f
+key_cmp_trans (text_key a) (text_key b) (text_key c) e f = nat_list_cmp_total.trans a b c e f
+key_cmp_trans (bool_key a) b (int_key c) e f = refl
+key_cmp_trans (bool_key a) b (uint_key c) e f = refl
+key_cmp_trans (bool_key a) b (text_key c) e f = refl
+key_cmp_trans (int_key a) b (uint_key c) e f = refl
+key_cmp_trans (int_key a) b (text_key c) e f = refl
+key_cmp_trans (uint_key a) b (text_key c) e f = refl
+key_cmp_trans _ _ _ e f = cc
 
-pub key_cmp-antisymm : (a b : CelKey) → key_cmp a b ≡ ordering_reverse (key_cmp b a)
-key_cmp-antisymm (bool_key a) (bool_key b) = bool_cmp_total.antisymm a b
-key_cmp-antisymm (int_key a) (int_key b) = int_cmp_total.antisymm a b
-key_cmp-antisymm (uint_key a) (uint_key b) = nat_cmp_total.antisymm a b
-key_cmp-antisymm (text_key a) (text_key b) = nat_list_cmp_total.antisymm a b
-key_cmp-antisymm _ _ = refl
+pub key_cmp_antisymm : (a b : CelKey) → key_cmp a b ≡ ordering_reverse (key_cmp b a)
+key_cmp_antisymm (bool_key a) (bool_key b) = bool_cmp_total.antisymm a b
+key_cmp_antisymm (int_key a) (int_key b) = int_cmp_total.antisymm a b
+key_cmp_antisymm (uint_key a) (uint_key b) = nat_cmp_total.antisymm a b
+key_cmp_antisymm (text_key a) (text_key b) = nat_list_cmp_total.antisymm a b
+key_cmp_antisymm _ _ = refl
 
 -- ---- what a map has once it has one more entry
 
@@ -71,10 +71,10 @@ not_true : (b : Bool) → b ≢ true → b ≡ false
 not_true b h = false_from_ne_true b h
 
 -- the new key has its value, and every other key what it had
-pub get-put : (k : CelKey) (v : CelValue) (es : CelEntries) (q : CelKey) → get es k ≡ None
+pub get_put : (k : CelKey) (v : CelValue) (es : CelEntries) (q : CelKey) → get es k ≡ None
     → get (put k v es) q ≡ (if key_eq k q then Some v else get es q)
-get-put k v no_entries q h = refl
-get-put k v (entry j w es) q h = by_place (λ r. get-put k v es q r) (is_lt (key_cmp k j))
+get_put k v no_entries q h = refl
+get_put k v (entry j w es) q h = by_place (λ r. get_put k v es q r) (is_lt (key_cmp k j))
   where
     -- the key is not the first one
     apart : key_eq j k ≡ false
@@ -96,9 +96,9 @@ get-put k v (entry j w es) q h = by_place (λ r. get-put k v es q r) (is_lt (key
     -- no key is both
     both : key_eq j q ≡ true → key_eq k q ≡ true → ⊥
     both e f =
-        let a : j ≡ q = (key_eq-Decides j q).0 e in
-        let b : k ≡ q = (key_eq-Decides k q).0 f in
-        let same : key_eq j k ≡ true = (key_eq-Decides j k).1 (a ∙ sym b) in
+        let a : j ≡ q = (key_eq_decides j q).0 e in
+        let b : k ≡ q = (key_eq_decides k q).0 f in
+        let same : key_eq j k ≡ true = (key_eq_decides j k).1 (a ∙ sym b) in
         let t : false ≡ true = sym apart ∙ same in
         cc
 
@@ -110,15 +110,15 @@ get-put k v (entry j w es) q h = by_place (λ r. get-put k v es q r) (is_lt (key
         ∙ swap (key_eq j q) (key_eq k q) (Some w) (Some v) (get es q) both
 
 -- what is above a key is above each that it is above
-pub above-lower : (k j : CelKey) → key_cmp k j ≡ Less → (es : CelEntries) → AllAbove j es
+pub above_lower : (k j : CelKey) → key_cmp k j ≡ Less → (es : CelEntries) → AllAbove j es
     → AllAbove k es
-above-lower k j h no_entries a = tt
-above-lower k j h (entry i w es) a = (key_cmp-trans k j i h a.0, above-lower k j h es a.1)
+above_lower k j h no_entries a = tt
+above_lower k j h (entry i w es) a = (key_cmp_trans k j i h a.0, above_lower k j h es a.1)
 
-above-put : (j k : CelKey) (v : CelValue) (es : CelEntries) → key_cmp j k ≡ Less → AllAbove j es
+above_put : (j k : CelKey) (v : CelValue) (es : CelEntries) → key_cmp j k ≡ Less → AllAbove j es
     → AllAbove j (put k v es)
-above-put j k v no_entries h a = (h, tt)
-above-put j k v (entry i w es) h a = by_place (is_lt (key_cmp k i)) (above-put j k v es h a.1)
+above_put j k v no_entries h a = (h, tt)
+above_put j k v (entry i w es) h a = by_place (is_lt (key_cmp k i)) (above_put j k v es h a.1)
   where
     by_place : (b : Bool) → AllAbove j (put k v es)
         → AllAbove j (cond b (entry k v (entry i w es)) (entry i w (put k v es)))
@@ -126,21 +126,21 @@ above-put j k v (entry i w es) h a = by_place (is_lt (key_cmp k i)) (above-put j
     by_place false more = (a.0, more)
 
 -- what is neither below a key nor equal to it is above it
-above-then : (r : Ordering) → is_lt r ≡ false → is_eq r ≡ false → ordering_reverse r ≡ Less
-above-then Less e f = cc
-above-then Equal e f = cc
-above-then Greater e f = refl
+above_then : (r : Ordering) → is_lt r ≡ false → is_eq r ≡ false → ordering_reverse r ≡ Less
+above_then Less e f = cc
+above_then Equal e f = cc
+above_then Greater e f = refl
 
-is_lt-Less : (r : Ordering) → is_lt r ≡ true → r ≡ Less
-is_lt-Less Less e = refl
-is_lt-Less Equal e = cc
-is_lt-Less Greater e = cc
+is_lt_less : (r : Ordering) → is_lt r ≡ true → r ≡ Less
+is_lt_less Less e = refl
+is_lt_less Equal e = cc
+is_lt_less Greater e = cc
 
 -- keys keep rising
-pub put-ascending : (k : CelKey) (v : CelValue) (es : CelEntries) → get es k ≡ None
+pub put_ascending : (k : CelKey) (v : CelValue) (es : CelEntries) → get es k ≡ None
     → IsAscending es → IsAscending (put k v es)
-put-ascending k v no_entries h a = (tt, tt)
-put-ascending k v (entry j w es) h a = by_place (λ r. put-ascending k v es r a.1) (is_lt
+put_ascending k v no_entries h a = (tt, tt)
+put_ascending k v (entry j w es) h a = by_place (λ r. put_ascending k v es r a.1) (is_lt
     (key_cmp k j)) refl
   where
     apart : key_eq j k ≡ false
@@ -155,40 +155,40 @@ put-ascending k v (entry j w es) h a = by_place (λ r. put-ascending k v es r a.
 
     by_place : (get es k ≡ None → IsAscending (put k v es)) → (b : Bool) → is_lt (key_cmp k j)
         ≡ b → IsAscending (cond b (entry k v (entry j w es)) (entry j w (put k v es)))
-    by_place more true e = let l = is_lt-Less (key_cmp k j) e in ((l, above-lower k j l es a.0), a)
+    by_place more true e = let l = is_lt_less (key_cmp k j) e in ((l, above_lower k j l es a.0), a)
     by_place more false e =
-        let apart_too : is_eq (key_cmp k j) ≡ false = sym (key_eq-cmp k j)
+        let apart_too : is_eq (key_cmp k j) ≡ false = sym (key_eq_cmp k j)
         ∙ not_true (key_eq k j) (λ t. let s : j
-        ≡ k = sym ((key_eq-Decides k j).0 t) in let u : key_eq j k
-        ≡ true = (key_eq-Decides j k).1 s in let f : false ≡ true = sym apart ∙ u in cc) in
-        let l : key_cmp j k ≡ Less = key_cmp-antisymm j k ∙ above-then (key_cmp k j) e apart_too in
-        (above-put j k v es l a.0, more rest)
+        ≡ k = sym ((key_eq_decides k j).0 t) in let u : key_eq j k
+        ≡ true = (key_eq_decides j k).1 s in let f : false ≡ true = sym apart ∙ u in cc) in
+        let l : key_cmp j k ≡ Less = key_cmp_antisymm j k ∙ above_then (key_cmp k j) e apart_too in
+        (above_put j k v es l a.0, more rest)
 
 -- keys stand in a total order
 pub key_cmp_total : IsTotalOrder key_cmp
 key_cmp_total = record {
-  antisymm = key_cmp-antisymm;
-  trans = key_cmp-trans;
-  congr = λ j k q level. ap (λ i. key_cmp i q) ((key_eq-Decides j k).0 (key_eq-cmp j k
+  antisymm = key_cmp_antisymm;
+  trans = key_cmp_trans;
+  congr = λ j k q level. ap (λ i. key_cmp i q) ((key_eq_decides j k).0 (key_eq_cmp j k
       ∙ ap is_eq level));
 }
 
-pub key_cmp-level : (j k : CelKey) → (key_cmp j k ≡ Equal) ↔ (j ≡ k)
-key_cmp-level j k = (
-  λ level. (key_eq-Decides j k).0 (key_eq-cmp j k ∙ ap is_eq level),
-  λ same. (Equal-is (key_cmp j k)).0 (sym (key_eq-cmp j k) ∙ (key_eq-Decides j k).1 same),
+pub key_cmp_level : (j k : CelKey) → (key_cmp j k ≡ Equal) ↔ (j ≡ k)
+key_cmp_level j k = (
+  λ level. (key_eq_decides j k).0 (key_eq_cmp j k ∙ ap is_eq level),
+  λ same. (Equal-is (key_cmp j k)).0 (sym (key_eq_cmp j k) ∙ (key_eq_decides j k).1 same),
 )
 
 -- each key below the next: then each is below all that follow
-pub is_ascending-Decides : (es : CelEntries) → (is_ascending es ≡ true) ↔ IsAscending es
-is_ascending-Decides no_entries = (λ e. tt, λ a. refl)
-is_ascending-Decides (entry k v no_entries) = (λ e. (tt, tt), λ a. refl)
-is_ascending-Decides (entry k v (entry j w es)) =
-    let below = is_ascending-Decides (entry j w es) in (
+pub is_ascending_decides : (es : CelEntries) → (is_ascending es ≡ true) ↔ IsAscending es
+is_ascending_decides no_entries = (λ e. tt, λ a. refl)
+is_ascending_decides (entry k v no_entries) = (λ e. (tt, tt), λ a. refl)
+is_ascending_decides (entry k v (entry j w es)) =
+    let below = is_ascending_decides (entry j w es) in (
       λ e.
           let parts = and_parts (is_lt (key_cmp k j)) (is_ascending (entry j w es)) e in
-          let first : key_cmp k j ≡ Less = is_lt-Less (key_cmp k j) parts.0 in
+          let first : key_cmp k j ≡ Less = is_lt_less (key_cmp k j) parts.0 in
           let rest = below.0 parts.1 in
-          ((first, above-lower k j first es rest.0), rest),
+          ((first, above_lower k j first es rest.0), rest),
       λ a. rw (a.0.0, below.1 a.1) refl,
     )

@@ -13,8 +13,8 @@ use denote.Ref.{Bor}
 use Rattle.cel_value.specs.Values.{CelKey, CelValue, CelEntries, no_entries, entry}
 use Rattle.cel_value.specs.Keys.{get, key_cmp, AllAbove, IsAscending, put}
 use Rattle.cel_value.specs.Equality.{key_eq}
-use Rattle.cel_value.specs.EqualityLaws.{key_eq-Decides}
-use Rattle.cel_value.proofs.Places.{key_eq-cmp, key_cmp_total}
+use Rattle.cel_value.specs.EqualityLaws.{key_eq_decides}
+use Rattle.cel_value.proofs.Places.{key_eq_cmp, key_cmp_total}
 
 -- entries made of any items that have a key and a value
 module _ {X : Type 0} (key : X → CelKey) (val : X → CelValue) where
@@ -22,35 +22,35 @@ module _ {X : Type 0} (key : X → CelKey) (val : X → CelValue) where
   made_of [] = no_entries
   made_of (x ∷ xs) = entry (key x) (val x) (made_of xs)
 
-  above-item : (k : CelKey) (xs : List X) (i : ℕ) (d : X) → i < length xs
+  above_item : (k : CelKey) (xs : List X) (i : ℕ) (d : X) → i < length xs
       → AllAbove k (made_of xs) → key_cmp k (key (get_or xs i d)) ≡ Less
-  above-item k [] i d below a = absurd (omega arith)
-  above-item k (x ∷ xs) zero d below a = a.0
-  above-item k (x ∷ xs) (suc i) d below a = above-item k xs i d (omega arith) a.1
+  above_item k [] i d below a = absurd (omega arith)
+  above_item k (x ∷ xs) zero d below a = a.0
+  above_item k (x ∷ xs) (suc i) d below a = above_item k xs i d (omega arith) a.1
 
-  less-apart : (j k : CelKey) → key_cmp j k ≡ Less → key_eq j k ≡ false
-  less-apart j k h = key_eq-cmp j k ∙ ap is_eq h
+  less_apart : (j k : CelKey) → key_cmp j k ≡ Less → key_eq j k ≡ false
+  less_apart j k h = key_eq_cmp j k ∙ ap is_eq h
 
   -- the value at the key of an item is the item's
-  pub get-index : (q : CelKey) (xs : List X) (i : ℕ) (d : X) → IsAscending (made_of xs)
+  pub get_index : (q : CelKey) (xs : List X) (i : ℕ) (d : X) → IsAscending (made_of xs)
       → i < length xs → key_eq (key (get_or xs i d)) q ≡ true
       → get (made_of xs) q ≡ Some (val (get_or xs i d))
-  get-index q [] i d up below same = absurd (omega arith)
-  get-index q (x ∷ xs) zero d up below same = rw same refl
-  get-index q (x ∷ xs) (suc i) d up below same =
-      let at : key (get_or xs i d) ≡ q = (key_eq-Decides (key (get_or xs i d)) q).0 same in
+  get_index q [] i d up below same = absurd (omega arith)
+  get_index q (x ∷ xs) zero d up below same = rw same refl
+  get_index q (x ∷ xs) (suc i) d up below same =
+      let at : key (get_or xs i d) ≡ q = (key_eq_decides (key (get_or xs i d)) q).0 same in
       let first : key_cmp (key x) (key (get_or xs i d)) ≡ Less =
-      above-item (key x) xs i d (omega arith) up.0 in
+      above_item (key x) xs i d (omega arith) up.0 in
       let differ : key_eq (key x) q ≡ false =
-      less-apart (key x) q (ap (key_cmp (key x)) (sym at) ∙ first) in
-      rw differ (get-index q xs i d up.1 (omega arith) same)
+      less_apart (key x) q (ap (key_cmp (key x)) (sym at) ∙ first) in
+      rw differ (get_index q xs i d up.1 (omega arith) same)
 
-  pub get-nowhere : (q : CelKey) (xs : List X)
+  pub get_nowhere : (q : CelKey) (xs : List X)
       → ((i : ℕ) (d : X) → i < length xs → key_eq (key (get_or xs i d)) q ≡ false)
       → get (made_of xs) q ≡ None
-  get-nowhere q [] h = refl
-  get-nowhere q (x ∷ xs) h =
-      rw (h 0 x (omega arith)) (get-nowhere q xs (λ i d below. h (suc i) d (omega arith)))
+  get_nowhere q [] h = refl
+  get_nowhere q (x ∷ xs) h =
+      rw (h 0 x (omega arith)) (get_nowhere q xs (λ i d below. h (suc i) d (omega arith)))
 
   abbrev key_lt : X → X → Bool
   key_lt x y = is_lt (key_cmp (key x) (key y))
@@ -66,37 +66,37 @@ module _ {X : Type 0} (key : X → CelKey) (val : X → CelValue) where
       rw next (sorted (y ∷ xs) up.1 k d (omega arith) (omega arith))
 
   -- an item put before the first above it is the entry put at its place
-  put-here : (x : X) (xs : List X) → IsAscending (made_of xs) → AllAbove (key x) (made_of xs)
+  put_here : (x : X) (xs : List X) → IsAscending (made_of xs) → AllAbove (key x) (made_of xs)
       → made_of (x ∷ xs) ≡ put (key x) (val x) (made_of xs)
-  put-here x [] up a = refl
-  put-here x (y ∷ ys) up a = rw (ap is_lt a.0) refl
+  put_here x [] up a = refl
+  put_here x (y ∷ ys) up a = rw (ap is_lt a.0) refl
 
-  all-above : (k : CelKey) (xs : List X)
+  all_above : (k : CelKey) (xs : List X)
       → ((i : ℕ) (d : X) → i < length xs → key_cmp k (key (get_or xs i d)) ≡ Less)
       → AllAbove k (made_of xs)
-  all-above k [] h = tt
-  all-above k (x ∷ xs) h =
-      (h 0 x (omega arith), all-above k xs (λ i d below. h (suc i) d (omega arith)))
+  all_above k [] h = tt
+  all_above k (x ∷ xs) h =
+      (h 0 x (omega arith), all_above k xs (λ i d below. h (suc i) d (omega arith)))
 
   turned : (j k : CelKey) → key_cmp j k ≡ Greater → key_cmp k j ≡ Less
   turned j k h = key_cmp_total.antisymm k j ∙ ap ordering_reverse h
 
-  pub put-place : (x : X) (xs : List X) (i : ℕ) → i ≤ length xs → IsAscending (made_of xs)
+  pub put_place : (x : X) (xs : List X) (i : ℕ) → i ≤ length xs → IsAscending (made_of xs)
       → ((k : ℕ) (d : X) → k < i → key_cmp (key (get_or xs k d)) (key x) ≡ Less)
       → ((k : ℕ) (d : X) → i ≤ k → k < length xs
       → key_cmp (key (get_or xs k d)) (key x) ≡ Greater)
       → made_of (take i xs ++ x ∷ drop i xs) ≡ put (key x) (val x) (made_of xs)
-  put-place x xs zero within up low high =
-      put-here x xs up
-      (all-above (key x) xs (λ k d below. turned (key (get_or xs k d)) (key x) (high k d
+  put_place x xs zero within up low high =
+      put_here x xs up
+      (all_above (key x) xs (λ k d below. turned (key (get_or xs k d)) (key x) (high k d
       (omega arith) below)))
-  put-place x [] (suc i) within up low high = absurd (omega arith)
-  put-place x (y ∷ ys) (suc i) within up low high =
+  put_place x [] (suc i) within up low high = absurd (omega arith)
+  put_place x (y ∷ ys) (suc i) within up low high =
       let first : key_cmp (key y) (key x) ≡ Less = low 0 y (omega arith) in
       let back : is_lt (key_cmp (key x) (key y)) ≡ false =
       ap is_lt (key_cmp_total.antisymm (key x) (key y))
       ∙ ap (λ o. is_lt (ordering_reverse o)) first in
-      rw back (ap (entry (key y) (val y)) (put-place x ys i (omega arith) up.1
+      rw back (ap (entry (key y) (val y)) (put_place x ys i (omega arith) up.1
       (λ k d below. low (suc k) d (omega arith))
       (λ k d above below. high (suc k) d (omega arith) (omega arith))))
 
@@ -115,8 +115,8 @@ module _ {X : Type 0} (key : X → CelKey) (val : X → CelValue) where
         → ((ord : X → Ordering) → ComputesKey g ord f → IsBinarySearchResult ord xs (Ok i))
         → get (made_of xs) q ≡ Some (val (get_or xs i d))
     get-found xs i d up below found =
-        get-index q xs i d up below
-        (key_eq-cmp (key (get_or xs i d)) q ∙ ap is_eq (found place by_key d))
+        get_index q xs i d up below
+        (key_eq_cmp (key (get_or xs i d)) q ∙ ap is_eq (found place by_key d))
 
     pub get-absent : (xs : List X) (i : ℕ) → IsAscending (made_of xs)
         → ((ord : X → Ordering) → ComputesKey g ord f → IsBinarySearchResult ord xs (Err i))
@@ -126,8 +126,8 @@ module _ {X : Type 0} (key : X → CelKey) (val : X → CelValue) where
         (searchable_from_sorted key_cmp_total key xs q (sorted xs up)) in
         let differs : (o : Ordering) → (o ≡ Less) ⊎ (o ≡ Greater) → is_eq o ≡ false =
         λ o h. elim h [ inl less ↦ ap is_eq less | inr greater ↦ ap is_eq greater ] in
-        get-nowhere q xs
-        (λ k d below. key_eq-cmp (key (get_or xs k d)) q
+        get_nowhere q xs
+        (λ k d below. key_eq_cmp (key (get_or xs k d)) q
         ∙ differs (place (get_or xs k d)) (elim (cases_lt k i) [
           | inl first ↦ inl (halves.0 k d (omega arith) first)
           | inr last ↦ inr (halves.1 k d last below)
@@ -140,6 +140,6 @@ module _ {X : Type 0} (key : X → CelKey) (val : X → CelValue) where
     put-absent x xs i same within up found =
         let halves = found place by_key
         (searchable_from_sorted key_cmp_total key xs q (sorted xs up)) in
-        put-place x xs i within up
+        put_place x xs i within up
         (λ k d low. ap (key_cmp (key (get_or xs k d))) same ∙ halves.0 k d (omega arith) low)
         (λ k d high below. ap (key_cmp (key (get_or xs k d))) same ∙ halves.1 k d high below)

@@ -15,49 +15,49 @@ use Rattle.cel_value.specs.Keys.{AreRising, IsAscending, is_ascending}
 use Rattle.cel_value.specs.Items.{item_at, keys_of}
 use Rattle.cel_value.specs.declared.value.Key.{Key}
 use Rattle.cel_value.specs.declared.value.Value.{Value}
-use Rattle.cel_value.proofs.Places.{is_ascending-Decides}
-use Rattle.cel_value.proofs.TextOrder.{chars-cmp}
+use Rattle.cel_value.proofs.Places.{is_ascending_decides}
+use Rattle.cel_value.proofs.TextOrder.{chars_cmp}
 
-pub entry-key-at : (es : List (Key × Value)) (i : ℕ) (d : Key × Value) → i < length es
+pub entry_key_at : (es : List (Key × Value)) (i : ℕ) (d : Key × Value) → i < length es
     → item_at (keys_of (entries_view es)) i ≡ Some (value_of_key (key_view (get_or es i d).0))
-entry-key-at [] i d below = absurd (omega arith)
-entry-key-at (e ∷ es) zero d below = refl
-entry-key-at (e ∷ es) (suc i) d below = entry-key-at es i d (omega arith)
+entry_key_at [] i d below = absurd (omega arith)
+entry_key_at (e ∷ es) zero d below = refl
+entry_key_at (e ∷ es) (suc i) d below = entry_key_at es i d (omega arith)
 
-pub entry-key-past : (es : List (Key × Value)) (i : ℕ) → length es ≤ i
+pub entry_key_past : (es : List (Key × Value)) (i : ℕ) → length es ≤ i
     → item_at (keys_of (entries_view es)) i ≡ None
-entry-key-past [] i past = refl
-entry-key-past (e ∷ es) zero past = absurd (omega arith)
-entry-key-past (e ∷ es) (suc i) past = entry-key-past es i (omega arith)
+entry_key_past [] i past = refl
+entry_key_past (e ∷ es) zero past = absurd (omega arith)
+entry_key_past (e ∷ es) (suc i) past = entry_key_past es i (omega arith)
 
-pub pair-key-at : (ps : List (RcStr Global × RcStr Global)) (i : ℕ)
+pub pair_key_at : (ps : List (RcStr Global × RcStr Global)) (i : ℕ)
     (d : RcStr Global × RcStr Global)
     → i < length ps → item_at (keys_of (pairs_view ps)) i
     ≡ Some (text (text_view (get_or ps i d).0))
-pair-key-at [] i d below = absurd (omega arith)
-pair-key-at (p ∷ ps) zero d below = refl
-pair-key-at (p ∷ ps) (suc i) d below = pair-key-at ps i d (omega arith)
+pair_key_at [] i d below = absurd (omega arith)
+pair_key_at (p ∷ ps) zero d below = refl
+pair_key_at (p ∷ ps) (suc i) d below = pair_key_at ps i d (omega arith)
 
-pub pair-key-past : (ps : List (RcStr Global × RcStr Global)) (i : ℕ) → length ps ≤ i
+pub pair_key_past : (ps : List (RcStr Global × RcStr Global)) (i : ℕ) → length ps ≤ i
     → item_at (keys_of (pairs_view ps)) i ≡ None
-pair-key-past [] i past = refl
-pair-key-past (p ∷ ps) zero past = absurd (omega arith)
-pair-key-past (p ∷ ps) (suc i) past = pair-key-past ps i (omega arith)
+pair_key_past [] i past = refl
+pair_key_past (p ∷ ps) zero past = absurd (omega arith)
+pair_key_past (p ∷ ps) (suc i) past = pair_key_past ps i (omega arith)
 
 -- one entry at most rises
 
-pub entry-rises : (es : List (Key × Value)) (i : ℕ) → length es ≤ i + 1
+pub entry_rises : (es : List (Key × Value)) (i : ℕ) → length es ≤ i + 1
     → true ≡ is_ascending (entries_view (drop i es))
-entry-rises es i over = at (drop i es) (omega (arith, length-drop i es))
+entry_rises es i over = at (drop i es) (omega (arith, length-drop i es))
   where
     at : (xs : List (Key × Value)) → length xs ≤ 1 → true ≡ is_ascending (entries_view xs)
     at [] h = refl
     at (x ∷ []) h = refl
     at (x ∷ y ∷ xs) h = absurd (omega arith)
 
-pub pair-rises : (ps : List (RcStr Global × RcStr Global)) (i : ℕ) → length ps ≤ i + 1
+pub pair_rises : (ps : List (RcStr Global × RcStr Global)) (i : ℕ) → length ps ≤ i + 1
     → true ≡ is_ascending (pairs_view (drop i ps))
-pair-rises ps i over = at (drop i ps) (omega (arith, length-drop i ps))
+pair_rises ps i over = at (drop i ps) (omega (arith, length-drop i ps))
   where
     at : (xs : List (RcStr Global × RcStr Global)) → length xs ≤ 1 → true
         ≡ is_ascending (pairs_view xs)
@@ -67,17 +67,17 @@ pair-rises ps i over = at (drop i ps) (omega (arith, length-drop i ps))
 
 -- pairs whose names rise by their bytes are a map
 
-names-rise : (ps : List (RcStr Global × RcStr Global)) → AreRising (map (λ p. rc_str_bytes p.0) ps)
+names_rise : (ps : List (RcStr Global × RcStr Global)) → AreRising (map (λ p. rc_str_bytes p.0) ps)
     → is_ascending (pairs_view ps) ≡ true
-names-rise [] h = refl
-names-rise (p ∷ []) h = refl
-names-rise (p ∷ q ∷ ps) h =
+names_rise [] h = refl
+names_rise (p ∷ []) h = refl
+names_rise (p ∷ q ∷ ps) h =
     let by_points : slice_cmp nat_cmp (text_view p.0) (text_view q.0) ≡ Less =
-    sym (chars-cmp (rc_str_bytes p.0) (rc_str_bytes q.0) (IsUtf8-string_bytes p.0.text.value)
+    sym (chars_cmp (rc_str_bytes p.0) (rc_str_bytes q.0) (IsUtf8-string_bytes p.0.text.value)
     (IsUtf8-string_bytes q.0.text.value)) ∙ h.0 in
-    rw by_points (names-rise (q ∷ ps) h.1)
+    rw by_points (names_rise (q ∷ ps) h.1)
 
-pub pairs-ascend : (ps : List (RcStr Global × RcStr Global))
+pub pairs_ascend : (ps : List (RcStr Global × RcStr Global))
     → AreRising (map (λ p. rc_str_bytes p.0) ps)
     → IsAscending (pairs_view ps)
-pairs-ascend ps h = (is_ascending-Decides (pairs_view ps)).0 (names-rise ps h)
+pairs_ascend ps h = (is_ascending_decides (pairs_view ps)).0 (names_rise ps h)

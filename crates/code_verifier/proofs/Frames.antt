@@ -4,7 +4,7 @@ use Rattle.std.specs.Option.{option_map}
 use Rattle.std.proofs.lemmas.Option.{slice_get_read}
 use Rattle.stack_machine.specs.Locals.{local_in, local_of}
 use Rattle.stack_machine.specs.Shapes.{Shape, empty}
-use Rattle.stack_machine.proofs.Places.{local_of-append, local_of-map}
+use Rattle.stack_machine.proofs.Places.{local_of_append, local_of_map}
 use Rattle.code_verifier.specs.declared.shape.Shape.{Shape as ShapeOfCode}
 use Rattle.code_verifier.specs.declared.shape.Due.{Due}
 use Rattle.code_verifier.specs.declared.stacks.Entry.{Entry}
@@ -55,10 +55,10 @@ pub known_set : (stacks : List Entry) (shapes : List (Option ShapeOfCode)) (p : 
     ≡ slice_set (known_view stacks shapes) p (Some (shape_view stacks s))
 known_set stacks shapes p s = map-set (option_map (shape_view stacks)) shapes p (Some s)
 
-pub length-known : (stacks : List Entry) (shapes : List (Option ShapeOfCode))
+pub length_known : (stacks : List Entry) (shapes : List (Option ShapeOfCode))
     → length (known_view stacks shapes) ≡ length shapes
-length-known stacks [] = refl
-length-known stacks (x ∷ xs) = ap suc (length-known stacks xs)
+length_known stacks [] = refl
+length_known stacks (x ∷ xs) = ap suc (length_known stacks xs)
 
 -- ---- what the code reads
 
@@ -73,22 +73,22 @@ copy_stands stacks s copy h p q = record { slots = rw p h.slots; loops = rw q h.
 pub nothing_known : (stacks : List Entry) (shapes : List (Option ShapeOfCode)) (i : ℕ) → local_of shapes i ≡ None
     → None ≡ local_of (known_view stacks shapes) i
 nothing_known stacks shapes i e =
-    sym (local_of-map (shape_view stacks) shapes i ∙ ap (option_map (shape_view stacks)) e)
+    sym (local_of_map (shape_view stacks) shapes i ∙ ap (option_map (shape_view stacks)) e)
 
 -- ---- the table at the start
 
-known-append : (stacks : List Entry) (xs : List (Option ShapeOfCode))
+known_append : (stacks : List Entry) (xs : List (Option ShapeOfCode))
     → known_view stacks (xs ++ None ∷ []) ≡ known_view stacks xs ++ None ∷ []
-known-append stacks [] = refl
-known-append stacks (x ∷ xs) = ap (λ l. option_map (shape_view stacks) x ∷ l) (known-append stacks xs)
+known_append stacks [] = refl
+known_append stacks (x ∷ xs) = ap (λ l. option_map (shape_view stacks) x ∷ l) (known_append stacks xs)
 
-pub known-grows : (stacks : List Entry) (xs : List (Option ShapeOfCode)) (first : List (Option Shape))
+pub known_grows : (stacks : List Entry) (xs : List (Option ShapeOfCode)) (first : List (Option Shape))
     → local_of (known_view stacks xs) ≡ local_of first → local_of (known_view stacks (xs ++ None ∷ [])) ≡ local_of first
-known-grows stacks xs first e = rw (known-append stacks xs) (local_of-append (known_view stacks xs) ∙ e)
+known_grows stacks xs first e = rw (known_append stacks xs) (local_of_append (known_view stacks xs) ∙ e)
 
-pub stands-grow : (stacks : List Entry) (xs : List (Option ShapeOfCode)) → ShapesStand stacks xs
+pub stands_grow : (stacks : List Entry) (xs : List (Option ShapeOfCode)) → ShapesStand stacks xs
     → ShapesStand stacks (xs ++ None ∷ [])
-stands-grow stacks xs h = λ p s at. h p s (ap (λ f. f p) (sym (local_of-append xs)) ∙ at)
+stands_grow stacks xs h = λ p s at. h p s (ap (λ f. f p) (sym (local_of_append xs)) ∙ at)
 
 pub start_view : (stacks : List Entry) (s : ShapeOfCode) → stack_at stacks 0 ≡ [] → s.slots ≡ 0 → s.loops ≡ 0
     → s.locals.value.items ≡ [] → shape_view stacks s ≡ empty

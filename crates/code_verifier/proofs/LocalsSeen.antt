@@ -5,39 +5,39 @@ use Rattle.std.specs.Bool.{IsTrue}
 use Rattle.std.proofs.Math.Path.{fun_ext}
 use Rattle.stack_machine.specs.Locals.{local_of, with_local}
 use Rattle.stack_machine.specs.Slots.{Slot}
-use Rattle.stack_machine.proofs.Places.{local_of-append, local_of-set, local_of-past, local_of-inside, below_or_not}
+use Rattle.stack_machine.proofs.Places.{local_of_append, local_of_set, local_of_past, local_of_inside, below_or_not}
 use Rattle.code_verifier.specs.declared.slot.Slot.{Slot as SlotOfCode}
 use Rattle.code_verifier.specs.steps.Joining.{agreed, common, Covers, Knows}
 use Rattle.code_verifier.specs.steps.SlotView.{slot_eq, slot_view, places_view, locals_view}
-use Rattle.code_verifier.proofs.Order.{slot_eq-Decides}
+use Rattle.code_verifier.proofs.Order.{slot_eq_decides}
 
-pub length-places : (xs : List (Option SlotOfCode)) → length (places_view xs) ≡ length xs
-length-places [] = refl
-length-places (x ∷ xs) = ap suc (length-places xs)
+pub length_places : (xs : List (Option SlotOfCode)) → length (places_view xs) ≡ length xs
+length_places [] = refl
+length_places (x ∷ xs) = ap suc (length_places xs)
 
-pub places-append : (xs : List (Option SlotOfCode)) (x : Option SlotOfCode)
+pub places_append : (xs : List (Option SlotOfCode)) (x : Option SlotOfCode)
     → places_view (xs ++ x ∷ []) ≡ places_view xs ++ option_map slot_view x ∷ []
-places-append [] x = refl
-places-append (y ∷ xs) x = ap (λ l. option_map slot_view y ∷ l) (places-append xs x)
+places_append [] x = refl
+places_append (y ∷ xs) x = ap (λ l. option_map slot_view y ∷ l) (places_append xs x)
 
-places-set : (xs : List (Option SlotOfCode)) (i : ℕ) (x : Option SlotOfCode)
+places_set : (xs : List (Option SlotOfCode)) (i : ℕ) (x : Option SlotOfCode)
     → places_view (slice_set xs i x) ≡ slice_set (places_view xs) i (option_map slot_view x)
-places-set [] i x = refl
-places-set (y ∷ xs) zero x = refl
-places-set (y ∷ xs) (suc i) x = ap (λ l. option_map slot_view y ∷ l) (places-set xs i x)
+places_set [] i x = refl
+places_set (y ∷ xs) zero x = refl
+places_set (y ∷ xs) (suc i) x = ap (λ l. option_map slot_view y ∷ l) (places_set xs i x)
 
 -- one more place that is not known changes nothing
-pub locals-grow : (xs : List (Option SlotOfCode)) → locals_view (xs ++ None ∷ []) ≡ locals_view xs
-locals-grow xs = ap local_of (places-append xs None) ∙ local_of-append (places_view xs)
+pub locals_grow : (xs : List (Option SlotOfCode)) → locals_view (xs ++ None ∷ []) ≡ locals_view xs
+locals_grow xs = ap local_of (places_append xs None) ∙ local_of_append (places_view xs)
 
-pub locals-set : (xs : List (Option SlotOfCode)) (l : ℕ) (a : SlotOfCode) → l < length xs
+pub locals_set : (xs : List (Option SlotOfCode)) (l : ℕ) (a : SlotOfCode) → l < length xs
     → locals_view (slice_set xs l (Some a)) ≡ with_local (locals_view xs) l (slot_view a)
-locals-set xs l a h =
-    let long = length-places xs in
-    ap local_of (places-set xs l (Some a)) ∙ local_of-set (places_view xs) l (slot_view a) (omega (arith, long))
+locals_set xs l a h =
+    let long = length_places xs in
+    ap local_of (places_set xs l (Some a)) ∙ local_of_set (places_view xs) l (slot_view a) (omega (arith, long))
 
-pub locals-past : (xs : List (Option SlotOfCode)) (l : ℕ) → length xs ≤ l → locals_view xs l ≡ None
-locals-past xs l h = let long = length-places xs in local_of-past (places_view xs) l (omega (arith, long))
+pub locals_past : (xs : List (Option SlotOfCode)) (l : ℕ) → length xs ≤ l → locals_view xs l ≡ None
+locals_past xs l h = let long = length_places xs in local_of_past (places_view xs) l (omega (arith, long))
 
 in_front : {A : Type 0} (xs : List (Option A)) (x : Option A) (k : ℕ) → k < length xs
     → local_of (xs ++ x ∷ []) k ≡ local_of xs k
@@ -49,17 +49,17 @@ at_end : {A : Type 0} (xs : List (Option A)) (x : Option A) → local_of (xs ++ 
 at_end [] x = refl
 at_end (y ∷ xs) x = at_end xs x
 
-pub locals-front : (xs : List (Option SlotOfCode)) (x : Option SlotOfCode) (k : ℕ) → k < length xs
+pub locals_front : (xs : List (Option SlotOfCode)) (x : Option SlotOfCode) (k : ℕ) → k < length xs
     → locals_view (xs ++ x ∷ []) k ≡ locals_view xs k
-locals-front xs x k h =
-    let long = length-places xs in
-    ap (λ ys. local_of ys k) (places-append xs x) ∙ in_front (places_view xs) (option_map slot_view x) k (omega (arith, long))
+locals_front xs x k h =
+    let long = length_places xs in
+    ap (λ ys. local_of ys k) (places_append xs x) ∙ in_front (places_view xs) (option_map slot_view x) k (omega (arith, long))
 
-pub locals-end : (xs : List (Option SlotOfCode)) (x : Option SlotOfCode) (k : ℕ) → k ≡ length xs
+pub locals_end : (xs : List (Option SlotOfCode)) (x : Option SlotOfCode) (k : ℕ) → k ≡ length xs
     → locals_view (xs ++ x ∷ []) k ≡ option_map slot_view x
-locals-end xs x k e =
-    let place : k ≡ length (places_view xs) = e ∙ sym (length-places xs) in
-    ap (λ ys. local_of ys k) (places-append xs x)
+locals_end xs x k e =
+    let place : k ≡ length (places_view xs) = e ∙ sym (length_places xs) in
+    ap (λ ys. local_of ys k) (places_append xs x)
     ∙ ap (local_of (places_view xs ++ option_map slot_view x ∷ [])) place
     ∙ at_end (places_view xs) (option_map slot_view x)
 
@@ -73,15 +73,15 @@ all_common met other found long done = fun_ext λ k. by k (below_or_not k (lengt
         → locals_view found k ≡ agreed (locals_view met k) (locals_view other k)
     by k (inl h) = done k h
     by k (inr h) =
-        locals-past found k (omega (arith, long))
-        ∙ sym (ap (λ o. agreed o (locals_view other k)) (locals-past met k h))
+        locals_past found k (omega (arith, long))
+        ∙ sym (ap (λ o. agreed o (locals_view other k)) (locals_past met k h))
 
 pub all_known : (met due : List (Option SlotOfCode))
     → ((k : ℕ) → k < length due → Covers (locals_view met k) (locals_view due k))
     → Knows (locals_view met) (locals_view due)
 all_known met due done = λ k a e.
-    let inside = local_of-inside (places_view due) k a e in
-    let long = length-places due in
+    let inside = local_of_inside (places_view due) k a e in
+    let long = length_places due in
     done k (omega (arith, inside, long)) a e
 
 -- ---- one place
@@ -89,9 +89,9 @@ all_known met due done = λ k a e.
 some_covers : (a b : Slot) (t : Bool) → t ≡ slot_eq a b
     → (IsTrue t → Covers (Some a) (Some b)) × (Covers (Some a) (Some b) → IsTrue t)
 some_covers a b t e = (
-  λ yes c f. let same : a ≡ b = (slot_eq-Decides a b).0 (sym e ∙ yes) in ap Some same ∙ f,
+  λ yes c f. let same : a ≡ b = (slot_eq_decides a b).0 (sym e ∙ yes) in ap Some same ∙ f,
   λ all. let same : Some a ≡ Some b = all b refl in
-      let equal : a ≡ b = cc in e ∙ (slot_eq-Decides a b).1 equal,
+      let equal : a ≡ b = cc in e ∙ (slot_eq_decides a b).1 equal,
 )
 
 pub covers_some : (known wanted : Option SlotOfCode) (a b : SlotOfCode) (t : Bool) → known ≡ Some a → wanted ≡ Some b

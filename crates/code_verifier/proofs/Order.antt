@@ -4,7 +4,7 @@ use Rattle.std.specs.Bool.{Decides}
 use Rattle.std.specs.Option.{option_and_then}
 use Rattle.std.proofs.Math.Path.{fun_ext}
 use Rattle.cel_value.specs.Types.{ValueType, type_eq}
-use Rattle.cel_value.specs.EqualityLaws.{type_eq-Decides}
+use Rattle.cel_value.specs.EqualityLaws.{type_eq_decides}
 use Rattle.stack_machine.specs.Slots.{Slot, failing, of, SlotFits, joined_slot}
 use Rattle.stack_machine.specs.Shapes.{Shape, SlotsFit, Serves}
 use Rattle.code_verifier.specs.steps.Joining.{put_on, joined_slots, agreed, IsShapeJoin}
@@ -31,12 +31,12 @@ slot_same (of s) (of t) p q = ap of p
 of_same : (s t : ValueType) → of s ≡ of t → s ≡ t
 of_same s t e = cc
 
-pub slot_eq-Decides : (a b : Slot) → Decides (slot_eq a b) (a ≡ b)
-slot_eq-Decides failing failing = (λ e. refl, λ e. refl)
-slot_eq-Decides failing (of t) = (λ e. cc, λ e. cc)
-slot_eq-Decides (of s) failing = (λ e. cc, λ e. cc)
-slot_eq-Decides (of s) (of t) =
-    let d = type_eq-Decides s t in (λ e. ap of (d.0 e), λ e. d.1 (of_same s t e))
+pub slot_eq_decides : (a b : Slot) → Decides (slot_eq a b) (a ≡ b)
+slot_eq_decides failing failing = (λ e. refl, λ e. refl)
+slot_eq_decides failing (of t) = (λ e. cc, λ e. cc)
+slot_eq_decides (of s) failing = (λ e. cc, λ e. cc)
+slot_eq_decides (of s) (of t) =
+    let d = type_eq_decides s t in (λ e. ap of (d.0 e), λ e. d.1 (of_same s t e))
 
 -- ---- slots
 
@@ -107,13 +107,13 @@ IsSlotsJoin as' bs (Some js) =
 types_join : (s t : ValueType) (b : Bool) → type_eq s t ≡ b
     → IsSlotJoin (of s) (of t) (cond b (Some (of s)) None)
 types_join s t true e =
-    let same : s ≡ t = (type_eq-Decides s t).0 e in (refl, sym same, λ u p q. p)
+    let same : s ≡ t = (type_eq_decides s t).0 e in (refl, sym same, λ u p q. p)
 types_join s t false e = λ u p q. differ u p q
   where
     differ : (u : Slot) → SlotFits (of s) u → SlotFits (of t) u → ⊥
     differ failing p q = p
     differ (of u) p q =
-        let yes : type_eq s t ≡ true = (type_eq-Decides s t).1 (p ∙ sym q) in cc
+        let yes : type_eq s t ≡ true = (type_eq_decides s t).1 (p ∙ sym q) in cc
 
 slot_join : (a b : Slot) → IsSlotJoin a b (joined_slot a b)
 slot_join failing b = (tt, slot_refl b, λ u p q. q)
@@ -163,7 +163,7 @@ fitting_slot : (a b : Slot) → SlotFits b a → joined_slot a b ≡ Some a
 fitting_slot failing failing p = refl
 fitting_slot failing (of t) p = absurd p
 fitting_slot (of s) failing p = refl
-fitting_slot (of s) (of t) p = rw ((type_eq-Decides s t).1 (sym p)) refl
+fitting_slot (of s) (of t) p = rw ((type_eq_decides s t).1 (sym p)) refl
 
 pub fitting_slots : (as' bs : List Slot) → SlotsFit bs as' → joined_slots as' bs ≡ Some as'
 fitting_slots [] [] p = refl
@@ -179,7 +179,7 @@ same_slots as' = fitting_slots as' as' (slots_refl as')
 
 agreed_by : (a b : Slot) (t : Bool) → slot_eq a b ≡ t → (c : Slot) → cond t (Some a) None ≡ Some c
     → (Some a ≡ Some c) × (Some b ≡ Some c)
-agreed_by a b true e c f = (f, ap Some (sym ((slot_eq-Decides a b).0 e)) ∙ f)
+agreed_by a b true e c f = (f, ap Some (sym ((slot_eq_decides a b).0 e)) ∙ f)
 agreed_by a b false e c f = cc
 
 pub agreed_parts : (x y : Option Slot) (c : Slot) → agreed x y ≡ Some c → (x ≡ Some c) × (y ≡ Some c)
@@ -188,7 +188,7 @@ agreed_parts (Some a) None c e = cc
 agreed_parts (Some a) (Some b) c e = agreed_by a b (slot_eq a b) refl c e
 
 agreed_self : (a : Slot) → agreed (Some a) (Some a) ≡ Some a
-agreed_self a = rw ((slot_eq-Decides a a).1 refl) refl
+agreed_self a = rw ((slot_eq_decides a a).1 refl) refl
 
 pub agreed_both : (x y : Option Slot) (c : Slot) → x ≡ Some c → y ≡ Some c → agreed x y ≡ Some c
 agreed_both x y c p q = ap₂ agreed p q ∙ agreed_self c

@@ -1,7 +1,7 @@
 -- Ways that are noted one after the other, and the end.
 use Rattle.std.proofs.Common.{◌≡◌, ℕ, inl, inr, true, false, List, [], ◌∷◌, map, Some, refl, sym, ap, ◌∙◌}
 use Rattle.cel_value.specs.Types.{ValueType}
-use Rattle.cel_value.specs.EqualityLaws.{type_eq-Decides}
+use Rattle.cel_value.specs.EqualityLaws.{type_eq_decides}
 use Rattle.stack_machine.specs.Locals.{local_of}
 use Rattle.stack_machine.specs.Slots.{Slot, failing, of, SlotFits, is_a}
 use Rattle.stack_machine.specs.Shapes.{Shape, SlotsFit}
@@ -43,11 +43,11 @@ not_led_here p old rest rest' d is from fails = rw is (inl fails)
 
 fits_type : (t : ValueType) (a : Slot) → is_a t a ≡ true → SlotFits a (of t)
 fits_type t failing e = tt
-fits_type t (of s) e = (type_eq-Decides s t).0 e
+fits_type t (of s) e = (type_eq_decides s t).0 e
 
 is_type : (t : ValueType) (a : Slot) → SlotFits a (of t) → is_a t a ≡ true
 is_type t failing e = refl
-is_type t (of s) e = (type_eq-Decides s t).1 e
+is_type t (of s) e = (type_eq_decides s t).1 e
 
 shape_same : (a b : Shape) → Some a ≡ Some b → a ≡ b
 shape_same a b e = cc

@@ -8,7 +8,7 @@ use Rattle.stack_machine.specs.Locals.{local_of}
 use Rattle.stack_machine.specs.Instructions.{Instruction}
 use Rattle.stack_machine.specs.Shapes.{Shape, Way, empty, ways, Serves}
 use Rattle.stack_machine.specs.Typable.{Table, Leads, IsTyped, ways_at, ways_before, AllServe, SomeEnds, Least, IsForward}
-use Rattle.stack_machine.proofs.Places.{local_of-set_same, local_of-set_other, local_of-inside}
+use Rattle.stack_machine.proofs.Places.{local_of_set_same, local_of_set_other, local_of_inside}
 use Rattle.code_verifier.specs.steps.Passing.{Led, back, fresh, met, NotLed, outside, unsettled, no_service, no_join, LedAll, NotLedAll, Passed, NotPassed, unknown, lacks, not_led, Starts, EndsAs}
 use Rattle.code_verifier.specs.steps.ShapeView.{Known}
 use Rattle.code_verifier.proofs.Order.{serves_refl, serves_trans, serves_same}
@@ -21,39 +21,39 @@ eq_or_not zero (suc n) = inr (λ e. cc)
 eq_or_not (suc m) zero = inr (λ e. cc)
 eq_or_not (suc m) (suc n) = elim (eq_or_not m n) [ inl e ↦ inl (ap suc e) | inr d ↦ inr (λ e. let f : m ≡ n = cc in d f) ]
 
-all-append : {A : Type 0} (P : A → Type 0) (xs ys : List A) → AllByRecursion P xs → AllByRecursion P ys → AllByRecursion P (xs ++ ys)
-all-append P [] ys a b = b
-all-append P (x ∷ xs) ys a b = (a.0, all-append P xs ys a.1 b)
+all_append : {A : Type 0} (P : A → Type 0) (xs ys : List A) → AllByRecursion P xs → AllByRecursion P ys → AllByRecursion P (xs ++ ys)
+all_append P [] ys a b = b
+all_append P (x ∷ xs) ys a b = (a.0, all_append P xs ys a.1 b)
 
-all-front : {A : Type 0} (P : A → Type 0) (xs ys : List A) → AllByRecursion P (xs ++ ys) → AllByRecursion P xs
-all-front P [] ys a = tt
-all-front P (x ∷ xs) ys a = (a.0, all-front P xs ys a.1)
+all_front : {A : Type 0} (P : A → Type 0) (xs ys : List A) → AllByRecursion P (xs ++ ys) → AllByRecursion P xs
+all_front P [] ys a = tt
+all_front P (x ∷ xs) ys a = (a.0, all_front P xs ys a.1)
 
-all-back : {A : Type 0} (P : A → Type 0) (xs ys : List A) → AllByRecursion P (xs ++ ys) → AllByRecursion P ys
-all-back P [] ys a = a
-all-back P (x ∷ xs) ys a = all-back P xs ys a.1
+all_back : {A : Type 0} (P : A → Type 0) (xs ys : List A) → AllByRecursion P (xs ++ ys) → AllByRecursion P ys
+all_back P [] ys a = a
+all_back P (x ∷ xs) ys a = all_back P xs ys a.1
 
-all-map : {A : Type 0} (P Q : A → Type 0) (xs : List A) → ((x : A) → P x → Q x) → AllByRecursion P xs → AllByRecursion Q xs
-all-map P Q [] f a = tt
-all-map P Q (x ∷ xs) f a = (f x a.0, all-map P Q xs f a.1)
+all_map : {A : Type 0} (P Q : A → Type 0) (xs : List A) → ((x : A) → P x → Q x) → AllByRecursion P xs → AllByRecursion Q xs
+all_map P Q [] f a = tt
+all_map P Q (x ∷ xs) f a = (f x a.0, all_map P Q xs f a.1)
 
-serve-front : (t : ℕ) (xs ys : List Way) (u : Shape) → AllServe t (xs ++ ys) u → AllServe t xs u
-serve-front t [] ys u a = tt
-serve-front t (x ∷ xs) ys u a = (a.0, serve-front t xs ys u a.1)
+serve_front : (t : ℕ) (xs ys : List Way) (u : Shape) → AllServe t (xs ++ ys) u → AllServe t xs u
+serve_front t [] ys u a = tt
+serve_front t (x ∷ xs) ys u a = (a.0, serve_front t xs ys u a.1)
 
-serve-last : (t : ℕ) (xs : List Way) (w : Way) (u : Shape) → AllServe t (xs ++ w ∷ []) u → w.target ≡ t → Serves w.shape u
-serve-last t [] w u a e = a.0 e
-serve-last t (x ∷ xs) w u a e = serve-last t xs w u a.1 e
+serve_last : (t : ℕ) (xs : List Way) (w : Way) (u : Shape) → AllServe t (xs ++ w ∷ []) u → w.target ≡ t → Serves w.shape u
+serve_last t [] w u a e = a.0 e
+serve_last t (x ∷ xs) w u a e = serve_last t xs w u a.1 e
 
 -- ways whose shapes are served where they end serve there
-serve-all : (P : Way → Type 0) (t : ℕ) (xs : List Way) (u : Shape) → ((w : Way) → P w → w.target ≡ t → Serves w.shape u) → AllByRecursion P xs → AllServe t xs u
-serve-all P t [] u f a = tt
-serve-all P t (x ∷ xs) u f a = (f x a.0, serve-all P t xs u f a.1)
+serve_all : (P : Way → Type 0) (t : ℕ) (xs : List Way) (u : Shape) → ((w : Way) → P w → w.target ≡ t → Serves w.shape u) → AllByRecursion P xs → AllServe t xs u
+serve_all P t [] u f a = tt
+serve_all P t (x ∷ xs) u f a = (f x a.0, serve_all P t xs u f a.1)
 
-some-all : (P : Way → Type 0) (t : ℕ) (xs : List Way) → AllByRecursion P xs → SomeEnds t xs → (w : Way) × P w × (w.target ≡ t)
-some-all P t [] a s = absurd s
-some-all P t (x ∷ xs) a (inl e) = (x, a.0, e)
-some-all P t (x ∷ xs) a (inr s) = some-all P t xs a.1 s
+some_all : (P : Way → Type 0) (t : ℕ) (xs : List Way) → AllByRecursion P xs → SomeEnds t xs → (w : Way) × P w × (w.target ≡ t)
+some_all P t [] a s = absurd s
+some_all P t (x ∷ xs) a (inl e) = (x, a.0, e)
+some_all P t (x ∷ xs) a (inr s) = some_all P t xs a.1 s
 
 -- ---- one way, and all ways from a position
 
@@ -95,7 +95,7 @@ module _ (p : ℕ) (w : Way) (old : Known) (done : List Way) (part : Part p done
       → (new : Known) → new ≡ slice_set old w.target (Some j) → Part p (done ++ w ∷ []) new × Grows p old new
   placed j later inside up was least new e = rw e (
     record {
-      lead = all-append (LeadsTo new') done (w ∷ []) (all-map (LeadsTo old) (LeadsTo new') done (leads_on p old new' g) part.lead) ((j, here, up), tt);
+      lead = all_append (LeadsTo new') done (w ∷ []) (all_map (LeadsTo old) (LeadsTo new') done (leads_on p old new' g) part.lead) ((j, here, up), tt);
       least = λ t s lt at. least_at t s lt at (eq_or_not t w.target);
     },
     g,
@@ -105,10 +105,10 @@ module _ (p : ℕ) (w : Way) (old : Known) (done : List Way) (part : Part p done
       new' = slice_set old w.target (Some j)
 
       here : local_of (slice_set old w.target (Some j)) w.target ≡ Some j
-      here = local_of-set_same old w.target (Some j) inside
+      here = local_of_set_same old w.target (Some j) inside
 
       other : (t : ℕ) → t ≢ w.target → local_of (slice_set old w.target (Some j)) t ≡ local_of old t
-      other t ne = local_of-set_other old w.target t (Some j) ne
+      other t ne = local_of_set_other old w.target t (Some j) ne
 
       grow_at : (t : ℕ) (s : Shape) → local_of old t ≡ Some s → (t ≡ w.target) ⊎ (t ≢ w.target)
           → (u : Shape) × (local_of (slice_set old w.target (Some j)) t ≡ Some u) × Serves s u
@@ -126,14 +126,14 @@ module _ (p : ℕ) (w : Way) (old : Known) (done : List Way) (part : Part p done
       least_at t s lt found (inl e) = λ u all.
           let there = rw e at found in
           let it : j ≡ s = some_same j s (sym here ∙ there) in
-          rw (← it) (least u (rw (← e) (serve-front t done (w ∷ []) u all)) (serve-last t done w u all (sym e)))
-      least_at t s lt at (inr ne) = λ u all. part.least t s lt (sym (other t ne) ∙ at) u (serve-front t done (w ∷ []) u all)
+          rw (← it) (least u (rw (← e) (serve_front t done (w ∷ []) u all)) (serve_last t done w u all (sym e)))
+      least_at t s lt at (inr ne) = λ u all. part.least t s lt (sym (other t ne) ∙ at) u (serve_front t done (w ∷ []) u all)
 
   one_led : (new : Known) → Led p w old new → Part p (done ++ w ∷ []) new × Grows p old new
   one_led new (back le due at serves e) = rw e (
     record {
-      lead = all-append (LeadsTo old) done (w ∷ []) part.lead ((due, at, serves), tt);
-      least = λ t s lt found u all. part.least t s lt found u (serve-front t done (w ∷ []) u all);
+      lead = all_append (LeadsTo old) done (w ∷ []) part.lead ((due, at, serves), tt);
+      least = λ t s lt found u all. part.least t s lt found u (serve_front t done (w ∷ []) u all);
     },
     grows_refl p old,
   )
@@ -174,9 +174,9 @@ module _ (code : List Instruction) where
     pub least : (t : ℕ) (s : Shape) → p ≤ t → 0 < t → local_of known t ≡ Some s → Least t (ways_before code (table_of known) p) s
     pub settled : (q : ℕ) → q < p → Settled known q
 
-  ways_before-same : (a b : Table) (p : ℕ) → ((q : ℕ) → q < p → a q ≡ b q) → ways_before code a p ≡ ways_before code b p
-  ways_before-same a b zero f = refl
-  ways_before-same a b (suc p) f = ap₂ (λ xs ys. xs ++ ys) (ways_before-same a b p (λ q h. f q (omega arith))) (ap (λ s. ways_at (slice_get code p) p s) (f p (omega arith)))
+  ways_before_same : (a b : Table) (p : ℕ) → ((q : ℕ) → q < p → a q ≡ b q) → ways_before code a p ≡ ways_before code b p
+  ways_before_same a b zero f = refl
+  ways_before_same a b (suc p) f = ap₂ (λ xs ys. xs ++ ys) (ways_before_same a b p (λ q h. f q (omega arith))) (ap (λ s. ways_at (slice_get code p) p s) (f p (omega arith)))
 
   pub pending_start : (known : Known) → Starts (length code) known → Pending 0 known
   pending_start known s = record {
@@ -216,7 +216,7 @@ module _ (code : List Instruction) where
         g = both.1
 
         same_before : (q : ℕ) → q ≤ p → ways_before code (table_of new) q ≡ ways_before code (table_of old) q
-        same_before q le = ways_before-same (table_of new) (table_of old) q (λ r lt. ap (λ o. unwrap_or o empty) (g.same r (omega arith)))
+        same_before q le = ways_before_same (table_of new) (table_of old) q (λ r lt. ap (λ o. unwrap_or o empty) (g.same r (omega arith)))
 
         here : ways_at (slice_get code p) p (table_of new p) ≡ passed.on
         here = let e : table_of new p ≡ passed.shape = ap (λ o. unwrap_or o empty) (g.same p (omega arith) ∙ passed.known) in
@@ -252,18 +252,18 @@ module _ (code : List Instruction) where
   prefix P table zero (suc p) le a = absurd (omega arith)
   prefix P table (suc n) p le a = elim (eq_or_not p (suc n)) [
     | inl e ↦ rw e a
-    | inr ne ↦ prefix P table n p (omega arith) (all-front P (ways_before code table n) (ways_at (slice_get code n) n (table n)) a)
+    | inr ne ↦ prefix P table n p (omega arith) (all_front P (ways_before code table n) (ways_at (slice_get code n) n (table n)) a)
   ]
 
   ways_there : (P : Way → Type 0) (table : Table) (n p : ℕ) → p < n → AllByRecursion P (ways_before code table n) → AllByRecursion P (ways_at (slice_get code p) p (table p))
-  ways_there P table n p lt a = all-back P (ways_before code table p) (ways_at (slice_get code p) p (table p)) (prefix P table n (suc p) (omega arith) a)
+  ways_there P table n p lt a = all_back P (ways_before code table p) (ways_at (slice_get code p) p (table p)) (prefix P table n (suc p) (omega arith) a)
 
   ways_same : (i j : Instruction) (p : ℕ) (s t : Shape) (o : Option (List Way)) → i ≡ j → t ≡ s → ways i p s ≡ o → ways j p t ≡ o
   ways_same i j p s t o e f h = rw (← e, f) h
 
   leads_in : (known : Known) → length known ≡ length code + 1 → (w : Way) → LeadsTo known w → Leads code (table_of known) w
   leads_in known long w l = record {
-    inside = let lt = local_of-inside known w.target l.0 l.1 in omega arith;
+    inside = let lt = local_of_inside known w.target l.0 l.1 in omega arith;
     serves = rw l.1 l.2;
   }
 
@@ -280,7 +280,7 @@ module _ (code : List Instruction) where
         record {
           on = was.on;
           found = found;
-          lead = all-map (LeadsTo known) (Leads code (table_of known)) was.on (leads_in known pending.long) (rw (at, found) at lead);
+          lead = all_map (LeadsTo known) (Leads code (table_of known)) was.on (leads_in known pending.long) (rw (at, found) at lead);
         };
     last = rw ends.found ends.one;
   }
@@ -297,10 +297,10 @@ module _ (code : List Instruction) (ty : ValueType) (table : Table) (forward : I
 
   lead_before : (n : ℕ) → AllByRecursion (Leads code table) (ways_before code table n)
   lead_before zero = tt
-  lead_before (suc n) = all-append (Leads code table) (ways_before code table n) (ways_at (slice_get code n) n (table n)) (lead_before n) (lead_at n (slice_get code n) refl)
+  lead_before (suc n) = all_append (Leads code table) (ways_before code table n) (ways_at (slice_get code n) n (table n)) (lead_before n) (lead_at n (slice_get code n) refl)
 
   serve_of : (t : ℕ) (ws : List Way) → AllByRecursion (Leads code table) ws → AllServe t ws (table t)
-  serve_of t ws a = serve-all (Leads code table) t ws (table t) (λ w l e. rw (← e) l.serves) a
+  serve_of t ws a = serve_all (Leads code table) t ws (table t) (λ w l e. rw (← e) l.serves) a
 
   -- a way of the table is never refused
   module _ (p : ℕ) (w : Way) (lead : Leads code table w) (known : Known) (done : List Way) (part : Part p done known)
@@ -320,7 +320,7 @@ module _ (code : List Instruction) (ty : ValueType) (table : Table) (forward : I
   all_refused p (w ∷ ws) known done part long agree all lead (inr later) =
       let one = one_led p w known done part later.0 later.1 in
       all_refused p ws later.0 (done ++ w ∷ []) one.0 (one.1.long ∙ long) (λ q le. one.1.same q le ∙ agree q le)
-      (all-append (Leads code table) done (w ∷ []) all (lead.0, tt)) lead.1 later.2
+      (all_append (Leads code table) done (w ∷ []) all (lead.0, tt)) lead.1 later.2
 
   module _ (p : ℕ) (known : Known) (pending : Pending code p known) where
     least_at : (q : ℕ) (s : Shape) → q ≤ p → 0 < q → local_of known q ≡ Some s → (q ≡ p) ⊎ (q ≢ p) → Least q (ways_before code (table_of known) q) s
@@ -330,7 +330,7 @@ module _ (code : List Instruction) (ty : ValueType) (table : Table) (forward : I
         let it : was.shape ≡ s = some_same was.shape s (sym was.found ∙ found) in rw (← it) (was.common lt)
 
     serve_at : (q : ℕ) (s : Shape) → q ≤ p → local_of known q ≡ Some s → AllServe q (ways_before code (table_of known) q) s
-    serve_at q s le found = serve-all (LeadsTo known) q (ways_before code (table_of known) q) s
+    serve_at q s le found = serve_all (LeadsTo known) q (ways_before code (table_of known) q) s
         (λ w l e. let it : l.0 ≡ s = some_same l.0 s (sym l.1 ∙ rw e found) in rw (← it) l.2)
         (prefix code (LeadsTo known) (table_of known) p q le pending.lead)
 
@@ -340,7 +340,7 @@ module _ (code : List Instruction) (ty : ValueType) (table : Table) (forward : I
     agrees (suc n) zero lt le inside s found = some_same s empty (sym found ∙ pending.first) ∙ sym forward.typed.first
     agrees (suc n) (suc q) lt le inside s found =
         let same : ways_before code (table_of known) (suc q) ≡ ways_before code table (suc q) =
-        ways_before-same code (table_of known) table (suc q) (λ r less. let was = pending.settled r (omega arith) in
+        ways_before_same code (table_of known) table (suc q) (λ r less. let was = pending.settled r (omega arith) in
         ap (λ o. unwrap_or o empty) was.found ∙ agrees n r (omega arith) (omega arith) (omega arith) was.shape was.found) in
         let least = rw same at (least_at (suc q) s le (omega arith) found (eq_or_not (suc q) p)) in
         let serve = rw same at (serve_at (suc q) s le found) in
@@ -351,13 +351,13 @@ module _ (code : List Instruction) (ty : ValueType) (table : Table) (forward : I
     agree_at q le inside s found = agrees (suc q) q (omega arith) le inside s found
 
     same_before : p ≤ length code → ways_before code (table_of known) p ≡ ways_before code table p
-    same_before inside = ways_before-same code (table_of known) table p (λ r less. let was = pending.settled r less in
+    same_before inside = ways_before_same code (table_of known) table p (λ r less. let was = pending.settled r less in
         ap (λ o. unwrap_or o empty) was.found ∙ agree_at r (omega arith) (omega arith) was.shape was.found)
 
     known_there : p ≤ length code → local_of known p ≡ None → 0 < p → ⊥
     known_there inside none lt =
         let some : SomeEnds p (ways_before code (table_of known) p) = rw (same_before inside) (forward.some p lt inside) in
-        let way = some-all (LeadsTo known) p (ways_before code (table_of known) p) pending.lead some in
+        let way = some_all (LeadsTo known) p (ways_before code (table_of known) p) pending.lead some in
         let found : local_of known p ≡ Some way.1.0 = ap (λ q. local_of known q) (sym way.2) ∙ way.1.1 in
         let e : None ≡ Some way.1.0 = sym none ∙ found in cc
 

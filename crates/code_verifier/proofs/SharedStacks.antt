@@ -22,20 +22,20 @@ one_longer : {A : Type 0} (xs : List A) (x : A) → length (xs ++ x ∷ []) ≡ 
 one_longer [] x = refl
 one_longer (y ∷ xs) x = ap suc (one_longer xs x)
 
-stacks-append : (known : List (List Slot)) (es : List Entry) (e : Entry) → stacks_from known (es ++ e ∷ [])
+stacks_append : (known : List (List Slot)) (es : List Entry) (e : Entry) → stacks_from known (es ++ e ∷ [])
     ≡ stacks_from known es ++ entry_stack (stacks_from known es) e ∷ []
-stacks-append known [] e = refl
-stacks-append known (x ∷ es) e = stacks-append (known ++ entry_stack known x ∷ []) es e
+stacks_append known [] e = refl
+stacks_append known (x ∷ es) e = stacks_append (known ++ entry_stack known x ∷ []) es e
 
-length-stacks : (known : List (List Slot)) (es : List Entry)
+length_stacks : (known : List (List Slot)) (es : List Entry)
     → length (stacks_from known es) ≡ length known + length es
-length-stacks known [] = omega arith
-length-stacks known (e ∷ es) =
+length_stacks known [] = omega arith
+length_stacks known (e ∷ es) =
     let longer = one_longer known (entry_stack known e) in
-    length-stacks (known ++ entry_stack known e ∷ []) es ∙ omega (arith, longer)
+    length_stacks (known ++ entry_stack known e ∷ []) es ∙ omega (arith, longer)
 
-length-all : (es : List Entry) → length (stacks_from [] es) ≡ length es
-length-all es = let none : 0 + length es ≡ length es = omega arith in length-stacks [] es ∙ none
+length_all : (es : List Entry) → length (stacks_from [] es) ≡ length es
+length_all es = let none : 0 + length es ≡ length es = omega arith in length_stacks [] es ∙ none
 
 -- a stack that is known stays
 stays : (known : List (List Slot)) (es : List Entry) (i : ℕ) → i < length known
@@ -85,12 +85,12 @@ above_at n (x ∷ es) (suc k) e at above =
     let rest = above_at (suc n) es k e at above.1 in
     let inside = rest.1 in (rw place rest.0, omega (arith, inside))
 
-pub above-append : (n : ℕ) (es : List Entry) (e : Entry) → AreAbove n es → IsAbove (n + length es) e
+pub above_append : (n : ℕ) (es : List Entry) (e : Entry) → AreAbove n es → IsAbove (n + length es) e
     → AreAbove n (es ++ e ∷ [])
-above-append n [] e above h = let here : n + 0 ≡ n = omega arith in (rw here at h, tt)
-above-append n (x ∷ es) e above h =
+above_append n [] e above h = let here : n + 0 ≡ n = omega arith in (rw here at h, tt)
+above_append n (x ∷ es) e above h =
     let place : n + suc (length es) ≡ suc n + length es = omega arith in
-    (above.0, above-append (suc n) es e above.1 (rw place at h))
+    (above.0, above_append (suc n) es e above.1 (rw place at h))
 
 -- ---- what reading and pushing do
 
@@ -114,8 +114,8 @@ pub pushed : (es : List Entry) (slot : SlotOfCode) (below : ℕ) → below < len
     → IsPushed es (es ++ entries.Above slot below ∷ []) (slot_view slot) below (length es)
 pushed es slot below h =
     let longer = one_longer es (entries.Above slot below) in
-    let all = length-all es in
-    let seen = stacks-append [] es (entries.Above slot below) in
+    let all = length_all es in
+    let seen = stacks_append [] es (entries.Above slot below) in
     record {
       extends = record {
         long = omega (arith, longer);
@@ -149,7 +149,7 @@ pub push_above : (es now : List Entry) (slot : SlotOfCode) (below : ℕ) → es 
     → below < length now → AreAbove 0 (es ++ entries.Above slot below ∷ [])
 push_above es now slot below view above h =
     let inside : below < length es = rw view h in
-    above-append 0 es (entries.Above slot below) above (omega (arith, inside))
+    above_append 0 es (entries.Above slot below) above (omega (arith, inside))
 
 pub push_pushed : (es now : List Entry) (slot : SlotOfCode) (below place : ℕ) → es ≡ now → below < length now
     → place ≡ length es → IsPushed now (es ++ entries.Above slot below ∷ []) (slot_view slot) below place

@@ -21,55 +21,55 @@ picked true x o p e = refl
 picked false x o p e = e
 
 -- with one local more, of the same size
-pub alike-with : (N : ℕ → Type 0) (x : Size) (a b : List Size) → Alike N a b → Alike N (x ∷ a) (x ∷ b)
-alike-with N x a b h = record {
+pub alike_with : (N : ℕ → Type 0) (x : Size) (a b : List Size) → Alike N a b → Alike N (x ∷ a) (x ∷ b)
+alike_with N x a b h = record {
   many = ap suc h.many;
   same = λ n one. rw h.many (picked (nat_eq n (length b)) x (local_at n a) (local_at n b) (h.same n one));
 }
 
 -- what grows by the same grows to the same
-same-grown : (f g : Size → Size) → ((s : Size) → f s ≡ g s) → (n : ℕ) (s : Size) → grown f n s ≡ grown g n s
-same-grown f g h zero s = refl
-same-grown f g h (suc n) s = ap (λ t. grown f n (join s t)) (h s) ∙ same-grown f g h n (join s (g s))
+same_grown : (f g : Size → Size) → ((s : Size) → f s ≡ g s) → (n : ℕ) (s : Size) → grown f n s ≡ grown g n s
+same_grown f g h zero s = refl
+same_grown f g h (suc n) s = ap (λ t. grown f n (join s t)) (h s) ∙ same_grown f g h n (join s (g s))
 
-same-turns : (f g : Size → Size) (c d : Size → ℕ) → ((s : Size) → f s ≡ g s) → ((s : Size) → c s ≡ d s)
+same_turns : (f g : Size → Size) (c d : Size → ℕ) → ((s : Size) → f s ≡ g s) → ((s : Size) → c s ≡ d s)
     → (n : ℕ) (s : Size) → turns_cost f c n s ≡ turns_cost g d n s
-same-turns f g c d h k zero s = refl
-same-turns f g c d h k (suc n) s =
+same_turns f g c d h k zero s = refl
+same_turns f g c d h k (suc n) s =
     let first : c s ≡ d s = k s in
     let next : turns_cost f c n (join s (f s)) ≡ turns_cost f c n (join s (g s)) =
     ap (λ t. turns_cost f c n (join s t)) (h s) in
     let others : turns_cost f c n (join s (g s)) ≡ turns_cost g d n (join s (g s)) =
-    same-turns f g c d h k n (join s (g s)) in
+    same_turns f g c d h k n (join s (g s)) in
     let left : turns_cost f c (suc n) s ≡ c s + turns_cost f c n (join s (f s)) = refl in
     let right : turns_cost g d (suc n) s ≡ d s + turns_cost g d n (join s (g s)) = refl in
     omega arith
 
 -- the turns of a loop, by the size of its range
-loop-grown : (f g : Size → Size → Size) → ((e s : Size) → f e s ≡ g e s) → (r q i j : Size) → r ≡ q → i ≡ j
+loop_grown : (f g : Size → Size → Size) → ((e s : Size) → f e s ≡ g e s) → (r q i j : Size) → r ≡ q → i ≡ j
     → grown (f (element_size r)) (most_of r) i ≡ grown (g (element_size q)) (most_of q) j
-loop-grown f g h r q i j same start =
-    rw (same, start) (same-grown (f (element_size q)) (g (element_size q)) (h (element_size q)) (most_of q) j)
+loop_grown f g h r q i j same start =
+    rw (same, start) (same_grown (f (element_size q)) (g (element_size q)) (h (element_size q)) (most_of q) j)
 
-loop-turns : (f g : Size → Size → Size) (c d : Size → Size → ℕ) → ((e s : Size) → f e s ≡ g e s)
+loop_turns : (f g : Size → Size → Size) (c d : Size → Size → ℕ) → ((e s : Size) → f e s ≡ g e s)
     → ((e s : Size) → c e s ≡ d e s) → (r q i j : Size) → r ≡ q → i ≡ j
     → turns_cost (f (element_size r)) (c (element_size r)) (most_of r) i
     ≡ turns_cost (g (element_size q)) (d (element_size q)) (most_of q) j
-loop-turns f g c d h k r q i j same start =
-    rw (same, start) (same-turns (f (element_size q)) (g (element_size q)) (c (element_size q)) (d (element_size q))
+loop_turns f g c d h k r q i j same start =
+    rw (same, start) (same_turns (f (element_size q)) (g (element_size q)) (c (element_size q)) (d (element_size q))
     (h (element_size q)) (k (element_size q)) (most_of q) j)
 
 -- a turn costs the same, and a loop's parts together
-turn-sum : (c c' s s' : ℕ) → c ≡ c' → s ≡ s' → c + s + 4 ≡ c' + s' + 4
-turn-sum c c' s s' h1 h2 = omega arith
+turn_sum : (c c' s s' : ℕ) → c ≡ c' → s ≡ s' → c + s + 4 ≡ c' + s' + 4
+turn_sum c c' s s' h1 h2 = omega arith
 
-loop-sum : (r r' n n' i i' t t' e e' : ℕ) → r ≡ r' → n ≡ n' → i ≡ i' → t ≡ t' → e ≡ e'
+loop_sum : (r r' n n' i i' t t' e e' : ℕ) → r ≡ r' → n ≡ n' → i ≡ i' → t ≡ t' → e ≡ e'
     → r + (1 + n) + i + 1 + t + 1 + e ≡ r' + (1 + n') + i' + 1 + t' + 1 + e'
-loop-sum r r' n n' i i' t t' e e' h1 h2 h3 h4 h5 = omega arith
+loop_sum r r' n n' i i' t t' e e' h1 h2 h3 h4 h5 = omega arith
 
 -- what is the same at each size is the same at equal sizes
-same-at : {A : Type 0} (f g : Size → A) → ((x : Size) → f x ≡ g x) → (x y : Size) → x ≡ y → f x ≡ g y
-same-at f g h x y e = ap f e ∙ h y
+same_at : {A : Type 0} (f g : Size → A) → ((x : Size) → f x ≡ g x) → (x y : Size) → x ≡ y → f x ≡ g y
+same_at f g h x y e = ap f e ∙ h y
 
 module _ (N : ℕ → Type 0) (l : LimitsValue) where
   mutual
@@ -84,13 +84,13 @@ module _ (N : ℕ → Type 0) (l : LimitsValue) where
     same-size (typed_list t es) a b only h = ap (list_size t) (same-sizes es a b only h)
     same-size (typed_map t es) a b only h = ap (map_size t) (same-sizes es a b only h)
     same-size (typed_loop t range init condition step result) a b only h =
-        let turns = loop-grown (λ e s. size_of step l (e ∷ s ∷ a)) (λ e s. size_of step l (e ∷ s ∷ b))
+        let turns = loop_grown (λ e s. size_of step l (e ∷ s ∷ a)) (λ e s. size_of step l (e ∷ s ∷ b))
         (λ e s. same-size step (e ∷ s ∷ a) (e ∷ s ∷ b) only.3
-        (alike-with N e (s ∷ a) (s ∷ b) (alike-with N s a b h)))
+        (alike_with N e (s ∷ a) (s ∷ b) (alike_with N s a b h)))
         (size_of range l a) (size_of range l b) (size_of init l a) (size_of init l b)
         (same-size range a b only.0 h) (same-size init a b only.1 h) in
-        same-at (λ x. size_of result l (x ∷ a)) (λ x. size_of result l (x ∷ b))
-        (λ x. same-size result (x ∷ a) (x ∷ b) only.4 (alike-with N x a b h)) _ _ turns
+        same_at (λ x. size_of result l (x ∷ a)) (λ x. size_of result l (x ∷ b))
+        (λ x. same-size result (x ∷ a) (x ∷ b) only.4 (alike_with N x a b h)) _ _ turns
 
     pub same-sizes : (es : TypedTrees) (a b : List Size) → EachNamesOnly N es → Alike N a b
         → sizes_of es l a ≡ sizes_of es l b
@@ -121,22 +121,22 @@ module _ (N : ℕ → Type 0) (l : LimitsValue) where
         ∙ ap (λ s. total (costs_of es l b) + map_cost s) (same-sizes es a b only h)
     same-cost (typed_loop t range init condition step result) a b only h =
         let under : (e s : Size) → Alike N (e ∷ s ∷ a) (e ∷ s ∷ b) = λ e s.
-        alike-with N e (s ∷ a) (s ∷ b) (alike-with N s a b h) in
+        alike_with N e (s ∷ a) (s ∷ b) (alike_with N s a b h) in
         let ranges = same-size range a b only.0 h in
         let inits = same-size init a b only.1 h in
-        let turns = loop-turns (λ e s. size_of step l (e ∷ s ∷ a)) (λ e s. size_of step l (e ∷ s ∷ b))
+        let turns = loop_turns (λ e s. size_of step l (e ∷ s ∷ a)) (λ e s. size_of step l (e ∷ s ∷ b))
         (λ e s. cost_of condition l (e ∷ s ∷ a) + cost_of step l (e ∷ s ∷ a) + 4)
         (λ e s. cost_of condition l (e ∷ s ∷ b) + cost_of step l (e ∷ s ∷ b) + 4)
         (λ e s. same-size step (e ∷ s ∷ a) (e ∷ s ∷ b) only.3 (under e s))
-        (λ e s. turn-sum _ _ _ _ (same-cost condition (e ∷ s ∷ a) (e ∷ s ∷ b) only.2 (under e s))
+        (λ e s. turn_sum _ _ _ _ (same-cost condition (e ∷ s ∷ a) (e ∷ s ∷ b) only.2 (under e s))
         (same-cost step (e ∷ s ∷ a) (e ∷ s ∷ b) only.3 (under e s)))
         (size_of range l a) (size_of range l b) (size_of init l a) (size_of init l b) ranges inits in
-        let ends = loop-grown (λ e s. size_of step l (e ∷ s ∷ a)) (λ e s. size_of step l (e ∷ s ∷ b))
+        let ends = loop_grown (λ e s. size_of step l (e ∷ s ∷ a)) (λ e s. size_of step l (e ∷ s ∷ b))
         (λ e s. same-size step (e ∷ s ∷ a) (e ∷ s ∷ b) only.3 (under e s))
         (size_of range l a) (size_of range l b) (size_of init l a) (size_of init l b) ranges inits in
-        let last = same-at (λ x. cost_of result l (x ∷ a)) (λ x. cost_of result l (x ∷ b))
-        (λ x. same-cost result (x ∷ a) (x ∷ b) only.4 (alike-with N x a b h)) _ _ ends in
-        loop-sum _ _ _ _ _ _ _ _ _ _ (same-cost range a b only.0 h) (ap most_of ranges)
+        let last = same_at (λ x. cost_of result l (x ∷ a)) (λ x. cost_of result l (x ∷ b))
+        (λ x. same-cost result (x ∷ a) (x ∷ b) only.4 (alike_with N x a b h)) _ _ ends in
+        loop_sum _ _ _ _ _ _ _ _ _ _ (same-cost range a b only.0 h) (ap most_of ranges)
         (same-cost init a b only.1 h) turns last
 
     pub same-costs : (es : TypedTrees) (a b : List Size) → EachNamesOnly N es → Alike N a b
@@ -156,8 +156,8 @@ beyond n (s ∷ ss) h =
     rw other (beyond n ss (omega arith))
 
 -- one that is not the innermost is among those outside
-outside-of : (n : ℕ) (s : Size) (ss : List Size) → n < length ss → local_at n (s ∷ ss) ≡ local_at n ss
-outside-of n s ss h =
+outside_of : (n : ℕ) (s : Size) (ss : List Size) → n < length ss → local_at n (s ∷ ss) ≡ local_at n ss
+outside_of n s ss h =
     let other : nat_eq n (length ss) ≡ false = grind (arith, nat_tests) in
     rw other refl
 
@@ -167,39 +167,39 @@ innermost n s ss h =
     rw one refl
 
 -- what is steady is less than what is inside of the loop
-steady-below : (k n : ℕ) → IsSteady k n → n < k + 2
-steady-below k n (inl less) = omega arith
-steady-below k n (inr one) = omega arith
+steady_below : (k n : ℕ) → IsSteady k n → n < k + 2
+steady_below k n (inl less) = omega arith
+steady_below k n (inr one) = omega arith
 
 -- a local more, of an inner loop
-pub turns-with : (k : ℕ) (x y : Size) (a b : List Size) → InTurns k a b → InTurns k (x ∷ a) (y ∷ b)
-turns-with k x y a b h = record {
+pub turns_with : (k : ℕ) (x y : Size) (a b : List Size) → InTurns k a b → InTurns k (x ∷ a) (y ∷ b)
+turns_with k x y a b h = record {
   inside = let i = h.inside in omega arith;
   many = ap suc h.many;
   same = λ n steady.
-      let below = steady-below k n steady in
+      let below = steady_below k n steady in
       let i = h.inside in
       let m = h.many in
-      ap known (outside-of n x a (omega arith)) ∙ h.same n steady
-      ∙ sym (ap known (outside-of n y b (omega arith)));
+      ap known (outside_of n x a (omega arith)) ∙ h.same n steady
+      ∙ sym (ap known (outside_of n y b (omega arith)));
 }
 
 -- the element is as it was
-pub turns-of : (e s t : Size) (ss : List Size) → InTurns (length ss) (e ∷ s ∷ ss) (e ∷ t ∷ ss)
-turns-of e s t ss = record {
+pub turns_of : (e s t : Size) (ss : List Size) → InTurns (length ss) (e ∷ s ∷ ss) (e ∷ t ∷ ss)
+turns_of e s t ss = record {
   inside = omega arith;
   many = refl;
   same = λ n steady. elim steady [
-    | inl less ↦ ap known (outside-of n e (s ∷ ss) (omega arith)) ∙ ap known (outside-of n s ss less)
-        ∙ sym (ap known (outside-of n e (t ∷ ss) (omega arith)) ∙ ap known (outside-of n t ss less))
+    | inl less ↦ ap known (outside_of n e (s ∷ ss) (omega arith)) ∙ ap known (outside_of n s ss less)
+        ∙ sym (ap known (outside_of n e (t ∷ ss) (omega arith)) ∙ ap known (outside_of n t ss less))
     | inr one ↦ ap known (innermost n e (s ∷ ss) (omega arith))
         ∙ sym (ap known (innermost n e (t ∷ ss) (omega arith)))
   ];
 }
 
 -- what names no local that a turn changes is the same in each
-pub alike-settled : (k d : ℕ) (a b : List Size) → d ≡ length a → InTurns k a b → Alike (IsSettled k d) a b
-alike-settled k d a b deep h = record {
+pub alike_settled : (k d : ℕ) (a b : List Size) → d ≡ length a → InTurns k a b → Alike (IsSettled k d) a b
+alike_settled k d a b deep h = record {
   many = h.many;
   same = λ n settled. elim settled [
     | inl steady ↦ h.same n steady

@@ -6,21 +6,21 @@ use Rattle.std.proofs.lemmas.Nat.{mul-le}
 use Rattle.cost_bound.specs.steps.Numbers.{capped}
 
 -- a number of 64 bits is itself
-pub capped-same : (n : ℕ) → n < 2 ^ 64 → capped n ≡ n
-capped-same n h = omega arith
+pub capped_same : (n : ℕ) → n < 2 ^ 64 → capped n ≡ n
+capped_same n h = omega arith
 
 -- a number that is more is the greatest
-pub capped-high : (n : ℕ) → 2 ^ 64 - 1 < n → capped n ≡ 2 ^ 64 - 1
-capped-high n h = omega arith
+pub capped_high : (n : ℕ) → 2 ^ 64 - 1 < n → capped n ≡ 2 ^ 64 - 1
+capped_high n h = omega arith
 
-high-product : (m n : ℕ) → 2 ^ 64 - 1 < m → capped (capped m * capped n) ≡ capped (m * n)
-high-product m zero h =
+high_product : (m n : ℕ) → 2 ^ 64 - 1 < m → capped (capped m * capped n) ≡ capped (m * n)
+high_product m zero h =
     let left : capped m * capped zero ≡ zero = mul-zero (capped m) in
     let right : m * zero ≡ zero = mul-zero m in
     rw (left, right) refl
-high-product m (suc n) h =
+high_product m (suc n) h =
     let some : 1 ≤ capped (suc n) = omega arith in
-    let greatest : capped m ≡ 2 ^ 64 - 1 = capped-high m h in
+    let greatest : capped m ≡ 2 ^ 64 - 1 = capped_high m h in
     let left : capped m * 1 ≤ capped m * capped (suc n) =
     mul-le (capped m) 1 (capped m) (capped (suc n)) (omega arith) some in
     let right : m * 1 ≤ m * suc n = mul-le m 1 m (suc n) (omega arith) (omega arith) in
@@ -30,11 +30,11 @@ high-product m (suc n) h =
     let second : capped (m * suc n) ≡ 2 ^ 64 - 1 = omega arith in
     first ∙ sym second
 
-pub capped-product : (m n : ℕ) → capped (capped m * capped n) ≡ capped (m * n)
-capped-product m n = elim (cases_lt (2 ^ 64 - 1) m) [
-  | inl high ↦ high-product m n high
+pub capped_product : (m n : ℕ) → capped (capped m * capped n) ≡ capped (m * n)
+capped_product m n = elim (cases_lt (2 ^ 64 - 1) m) [
+  | inl high ↦ high_product m n high
   | inr low ↦ elim (cases_lt (2 ^ 64 - 1) n) [
-    | inl high ↦ rw (mul_comm (capped m) (capped n), mul_comm m n) (high-product n m high)
+    | inl high ↦ rw (mul_comm (capped m) (capped n), mul_comm m n) (high_product n m high)
     | inr small ↦
         let first : capped m ≡ m = omega arith in
         let second : capped n ≡ n = omega arith in
@@ -52,5 +52,5 @@ pub short : (left part n : ℕ) → part ≡ capped n → left < 1 + part → le
 short left part n is h = omega arith
 
 -- one and more, less one
-pub one-less : (n : ℕ) → n ≡ 1 + n - 1
-one-less n = omega arith
+pub one_less : (n : ℕ) → n ≡ 1 + n - 1
+one_less n = omega arith

@@ -9,12 +9,12 @@ use Rattle.cost_bound.specs.Costs.{charge_at}
 use Rattle.cost_bound.specs.Sizes.{Size}
 
 -- there are as many types as expressions
-pub as-many-kinds : (es : List TypedExpr) → length (kinds (exprs_view es)) ≡ length es
-as-many-kinds [] = refl
-as-many-kinds (e ∷ es) = ap suc (as-many-kinds es)
+pub as_many_kinds : (es : List TypedExpr) → length (kinds (exprs_view es)) ≡ length es
+as_many_kinds [] = refl
+as_many_kinds (e ∷ es) = ap suc (as_many_kinds es)
 
-pub no-count-kinds : (ts : List ValueType) (ss : List Size) → 2 ≤ length ts
+pub no_count_kinds : (ts : List ValueType) (ss : List Size) → 2 ≤ length ts
     → charge_at overloads.Size ts ss ≡ 1
-no-count-kinds [] ss h = absurd (omega arith)
-no-count-kinds (t ∷ []) ss h = absurd (omega arith)
-no-count-kinds (t ∷ j ∷ ts) ss h = refl
+no_count_kinds [] ss h = absurd (omega arith)
+no_count_kinds (t ∷ []) ss h = absurd (omega arith)
+no_count_kinds (t ∷ j ∷ ts) ss h = refl

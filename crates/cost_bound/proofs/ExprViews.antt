@@ -16,37 +16,37 @@ use Rattle.cel_value.specs.Texts.{text_view}
 use Rattle.cel_value.specs.Types.{type_view}
 use Rattle.cel_value.specs.declared.cel_type.CelType.{CelType}
 
-pub view-Constant : (t : CelType) (c : Bor Constant) → expr_view (ConstantExpr t c)
+pub view_constant : (t : CelType) (c : Bor Constant) → expr_view (ConstantExpr t c)
     ≡ typed_constant (type_view t) (constant_view c.now)
-view-Constant t c = search (rules, the_lemmas)
+view_constant t c = search (rules, the_lemmas)
 
-pub view-Local : (t : CelType) (n : ℕ) → expr_view (LocalExpr t n) ≡ typed_local (type_view t) n
-view-Local t n = search (rules, the_lemmas)
+pub view_local : (t : CelType) (n : ℕ) → expr_view (LocalExpr t n) ≡ typed_local (type_view t) n
+view_local t n = search (rules, the_lemmas)
 
-pub view-Attribute : (t : CelType) (a : AttrId) → expr_view (AttributeExpr t a)
+pub view_attribute : (t : CelType) (a : AttrId) → expr_view (AttributeExpr t a)
     ≡ typed_attribute (type_view t) a
-view-Attribute t a = search (rules, the_lemmas)
+view_attribute t a = search (rules, the_lemmas)
 
-pub view-Field : (t : CelType) (m : Box TypedExpr Global) (n : Bor (RcStr Global))
+pub view_field : (t : CelType) (m : Box TypedExpr Global) (n : Bor (RcStr Global))
     → expr_view (FieldExpr t m n) ≡ typed_field (type_view t) (expr_view m.value) (text_view n.now)
-view-Field t m n = search (rules, the_lemmas)
+view_field t m n = search (rules, the_lemmas)
 
-pub view-HasField : (t : CelType) (m : Box TypedExpr Global) (n : Bor (RcStr Global))
+pub view_has_field : (t : CelType) (m : Box TypedExpr Global) (n : Bor (RcStr Global))
     → expr_view (HasExpr t m n) ≡ typed_has (type_view t) (expr_view m.value) (text_view n.now)
-view-HasField t m n = search (rules, the_lemmas)
+view_has_field t m n = search (rules, the_lemmas)
 
-pub view-Call : (t : CelType) (o : Overload) (es : Vec TypedExpr Global) → expr_view (CallExpr t o es)
+pub view_call : (t : CelType) (o : Overload) (es : Vec TypedExpr Global) → expr_view (CallExpr t o es)
     ≡ typed_call (type_view t) o (exprs_view es.items)
-view-Call t o es = search (rules, the_lemmas)
+view_call t o es = search (rules, the_lemmas)
 
-pub view-List : (t : CelType) (es : Vec TypedExpr Global) → expr_view (ListExpr t es)
+pub view_list : (t : CelType) (es : Vec TypedExpr Global) → expr_view (ListExpr t es)
     ≡ typed_list (type_view t) (exprs_view es.items)
-view-List t es = search (rules, the_lemmas)
+view_list t es = search (rules, the_lemmas)
 
-pub view-Map : (t : CelType) (es : Vec TypedExpr Global) → expr_view (MapExpr t es)
+pub view_map : (t : CelType) (es : Vec TypedExpr Global) → expr_view (MapExpr t es)
     ≡ typed_map (type_view t) (exprs_view es.items)
-view-Map t es = search (rules, the_lemmas)
+view_map t es = search (rules, the_lemmas)
 
-pub view-Loop : (t : CelType) (p : Box TypedLoop Global) → expr_view (LoopExpr t p)
+pub view_loop : (t : CelType) (p : Box TypedLoop Global) → expr_view (LoopExpr t p)
     ≡ loop_of (type_view t) (parts_view p.value)
-view-Loop t p = search (rules, the_lemmas)
+view_loop t p = search (rules, the_lemmas)

@@ -10,27 +10,27 @@ use Rattle.cost_bound.specs.steps.SizeView.{size_view}
 use Rattle.cost_bound.specs.declared.scope.Scope.{Scope, Local, the_lemmas}
 use Rattle.cost_bound.specs.declared.size.ValueSize.{ValueSize}
 
-pub view-Local : (s : Bor ValueSize) (n : ℕ) (o : Bor Scope)
+pub view_local : (s : Bor ValueSize) (n : ℕ) (o : Bor Scope)
     → locals_view (Local s n o) ≡ record { outside = n; size = size_view s.now } ∷ locals_view o.now
-view-Local s n o = search (rules, the_lemmas)
+view_local s n o = search (rules, the_lemmas)
 
 -- there are as many sizes as locals
-pub as-many : (cs : List Counted) → length (sizes_among cs) ≡ length cs
-as-many [] = refl
-as-many (c ∷ cs) = ap suc (as-many cs)
+pub as_many : (cs : List Counted) → length (sizes_among cs) ≡ length cs
+as_many [] = refl
+as_many (c ∷ cs) = ap suc (as_many cs)
 
 -- the innermost one has all the others outside of it
-pub local-there : (w n : ℕ) (s : Size) (cs : List Counted) → w < 256 → n ≡ capped (length cs) → n ≡ w
+pub local_there : (w n : ℕ) (s : Size) (cs : List Counted) → w < 256 → n ≡ capped (length cs) → n ≡ w
     → known (local_at w (s ∷ sizes_among cs)) ≡ s
-local-there w n s cs small counted is =
+local_there w n s cs small counted is =
     let e : nat_eq w (length (sizes_among cs)) ≡ true =
-    rw (as-many cs) (let same : w ≡ length cs = omega arith in grind (arith, nat_tests)) in
+    rw (as_many cs) (let same : w ≡ length cs = omega arith in grind (arith, nat_tests)) in
     rw e refl
 
 -- another one is found among those outside of it
-pub local-further : (w n : ℕ) (s : Size) (cs : List Counted) → w < 256 → n ≡ capped (length cs) → (n ≡ w → ⊥)
+pub local_further : (w n : ℕ) (s : Size) (cs : List Counted) → w < 256 → n ≡ capped (length cs) → (n ≡ w → ⊥)
     → known (local_at w (s ∷ sizes_among cs)) ≡ known (local_at w (sizes_among cs))
-local-further w n s cs small counted other =
+local_further w n s cs small counted other =
     let e : nat_eq w (length (sizes_among cs)) ≡ false =
-    rw (as-many cs) (let differ : w ≡ length cs → ⊥ = λ same. other (omega arith) in grind (arith, nat_tests)) in
+    rw (as_many cs) (let differ : w ≡ length cs → ⊥ = λ same. other (omega arith) in grind (arith, nat_tests)) in
     rw e refl

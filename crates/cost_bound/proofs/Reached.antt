@@ -11,7 +11,7 @@ use Rattle.cel_overload.specs.declared.overload.Overload.TheVariants as overload
 use Rattle.cel_types.specs.Elaborated.{TypedTree, TypedTrees, kind, kinds, no_typed, typed, typed_attribute, typed_call, typed_constant, typed_field, typed_has, typed_list, typed_local, typed_loop, typed_map}
 use Rattle.cel_types.specs.TypedMeaning.{typed_answer}
 use Rattle.cel_types.specs.WellTyped.{AreWellTyped, IsWellTyped}
-use Rattle.cel_types.proofs.WellTypedAnswers.{answer_typed, walked-typed}
+use Rattle.cel_types.proofs.WellTypedAnswers.{answer_typed, walked_typed}
 use Rattle.cost_bound.specs.Costs.{call_cost, cost_of, costs_of, element_size, grown, size_of, sizes_of, total, turns_cost}
 use Rattle.cost_bound.specs.Reaches.{Gathers, IsAmong, Reaches, ended, gathered_size, inside, more, none, parts, turn, whole}
 use Rattle.cost_bound.specs.Sizes.{AllWithin, EachFits, Size, Within, join, most_of}
@@ -171,7 +171,7 @@ module _ (r : RequestValue) (sound : IsRequest r) (l : LimitsValue) (fits : InLi
       → Gathers range init step r ls k left a
       → Kept g.2.0 (kind init) (size_of range l sizes) (gathered_size range init step l sizes k) k left a
   turns_kept t range init condition step result ks ls sizes g h w k left a (none v _ _ over is begins) =
-      let types = walked-typed (kind range) g.2.0 g.2.1 v (has_type range ks ls (value v) g.0 h over) in
+      let types = walked_typed (kind range) g.2.0 g.2.1 v (has_type range ks ls (value v) g.0 h over) in
       let room = elements_within v (size_of range l sizes)
       (answer_within range ks g.0 r sound l fits ls sizes w (value v) over) in
       let each = rw is at types in

@@ -13,93 +13,93 @@ use Rattle.cost_bound.specs.steps.Memos.{MemoTree, nothing_known, known_as, more
 use Rattle.cost_bound.specs.steps.Memos.{Remembers}
 use Rattle.cost_bound.specs.steps.Numbers.{capped}
 use Rattle.cost_bound.specs.steps.ScopeView.{Counted, sizes_among}
-use Rattle.cost_bound.proofs.Alike.{alike-settled, same-cost, same-size, turns-of, turns-with}
-use Rattle.cost_bound.proofs.Locals.{as-many}
+use Rattle.cost_bound.proofs.Alike.{alike_settled, same-cost, same-size, turns_of, turns_with}
+use Rattle.cost_bound.proofs.Locals.{as_many}
 
 -- where nothing is known of parts, that is true of them
 mutual
-  alone-inside : (m : MemoTree) → ((i : ℕ) → part_at i m ≡ nothing_known) → (e : TypedTree) (l : LimitsValue)
+  alone_inside : (m : MemoTree) → ((i : ℕ) → part_at i m ≡ nothing_known) → (e : TypedTree) (l : LimitsValue)
       (ss : List Size) → HoldsInside m e l ss
-  alone-inside m h (typed_constant t v) l ss = tt
-  alone-inside m h (typed_local t n) l ss = tt
-  alone-inside m h (typed_attribute t a) l ss = tt
-  alone-inside m h (typed_field t on name) l ss = rw (h 0) (tt, alone-inside nothing_known (λ i. refl) on l ss)
-  alone-inside m h (typed_has t on name) l ss = rw (h 0) (tt, alone-inside nothing_known (λ i. refl) on l ss)
-  alone-inside m h (typed_call t o es) l ss = alone-each m h 0 es l ss
-  alone-inside m h (typed_list t es) l ss = alone-each m h 0 es l ss
-  alone-inside m h (typed_map t es) l ss = alone-each m h 0 es l ss
-  alone-inside m h (typed_loop t range init condition step result) l ss = (
-    rw (h 0) (tt, alone-inside nothing_known (λ i. refl) range l ss),
-    rw (h 1) (tt, alone-inside nothing_known (λ i. refl) init l ss),
-    λ s e. rw (h 2) (tt, alone-inside nothing_known (λ i. refl) condition l (e ∷ s ∷ ss)),
-    λ s e. rw (h 3) (tt, alone-inside nothing_known (λ i. refl) step l (e ∷ s ∷ ss)),
-    λ s. rw (h 4) (tt, alone-inside nothing_known (λ i. refl) result l (s ∷ ss)),
+  alone_inside m h (typed_constant t v) l ss = tt
+  alone_inside m h (typed_local t n) l ss = tt
+  alone_inside m h (typed_attribute t a) l ss = tt
+  alone_inside m h (typed_field t on name) l ss = rw (h 0) (tt, alone_inside nothing_known (λ i. refl) on l ss)
+  alone_inside m h (typed_has t on name) l ss = rw (h 0) (tt, alone_inside nothing_known (λ i. refl) on l ss)
+  alone_inside m h (typed_call t o es) l ss = alone_each m h 0 es l ss
+  alone_inside m h (typed_list t es) l ss = alone_each m h 0 es l ss
+  alone_inside m h (typed_map t es) l ss = alone_each m h 0 es l ss
+  alone_inside m h (typed_loop t range init condition step result) l ss = (
+    rw (h 0) (tt, alone_inside nothing_known (λ i. refl) range l ss),
+    rw (h 1) (tt, alone_inside nothing_known (λ i. refl) init l ss),
+    λ s e. rw (h 2) (tt, alone_inside nothing_known (λ i. refl) condition l (e ∷ s ∷ ss)),
+    λ s e. rw (h 3) (tt, alone_inside nothing_known (λ i. refl) step l (e ∷ s ∷ ss)),
+    λ s. rw (h 4) (tt, alone_inside nothing_known (λ i. refl) result l (s ∷ ss)),
   )
 
-  alone-each : (m : MemoTree) → ((i : ℕ) → part_at i m ≡ nothing_known) → (n : ℕ) (es : TypedTrees)
+  alone_each : (m : MemoTree) → ((i : ℕ) → part_at i m ≡ nothing_known) → (n : ℕ) (es : TypedTrees)
       (l : LimitsValue) (ss : List Size) → HoldsEach m n es l ss
-  alone-each m h n no_typed l ss = tt
-  alone-each m h n (typed e es) l ss =
-      (rw (h n) (tt, alone-inside nothing_known (λ i. refl) e l ss), alone-each m h (suc n) es l ss)
+  alone_each m h n no_typed l ss = tt
+  alone_each m h n (typed e es) l ss =
+      (rw (h n) (tt, alone_inside nothing_known (λ i. refl) e l ss), alone_each m h (suc n) es l ss)
 
 -- nothing is always true
-pub holds-nothing : (m : MemoTree) (e : TypedTree) (l : LimitsValue) (ss : List Size) → m ≡ nothing_known
+pub holds_nothing : (m : MemoTree) (e : TypedTree) (l : LimitsValue) (ss : List Size) → m ≡ nothing_known
     → Holds m e l ss
-holds-nothing m e l ss is = rw is (tt, alone-inside nothing_known (λ i. refl) e l ss)
+holds_nothing m e l ss is = rw is (tt, alone_inside nothing_known (λ i. refl) e l ss)
 
-pub holds-known : (m : MemoTree) (s : Size) (c : ℕ) (e : TypedTree) (l : LimitsValue) (ss : List Size)
+pub holds_known : (m : MemoTree) (s : Size) (c : ℕ) (e : TypedTree) (l : LimitsValue) (ss : List Size)
     → m ≡ known_as s c → s ≡ size_of e l ss → c ≡ cost_of e l ss → Holds m e l ss
-holds-known m s c e l ss is size cost =
-    rw is ((size, cost), alone-inside (known_as s c) (λ i. refl) e l ss)
+holds_known m s c e l ss is size cost =
+    rw is ((size, cost), alone_inside (known_as s c) (λ i. refl) e l ss)
 
-pub holds-more : (m : MemoTree) (n : ℕ) (e : TypedTree) (l : LimitsValue) (ss : List Size)
+pub holds_more : (m : MemoTree) (n : ℕ) (e : TypedTree) (l : LimitsValue) (ss : List Size)
     → m ≡ more_than n → n < cost_of e l ss → Holds m e l ss
-holds-more m n e l ss is more = rw is (more, alone-inside (more_than n) (λ i. refl) e l ss)
+holds_more m n e l ss is more = rw is (more, alone_inside (more_than n) (λ i. refl) e l ss)
 
 -- what holds of expressions one after the other holds of that at a place
-part-from : (m : MemoTree) (l : LimitsValue) (ss : List Size) (n : ℕ) (es : List TypedExpr) (i : ℕ)
+part_from : (m : MemoTree) (l : LimitsValue) (ss : List Size) (n : ℕ) (es : List TypedExpr) (i : ℕ)
     (x : TypedExpr) (j : ℕ) → i < length es → x ≡ get_or es i x → j ≡ n + i
     → HoldsEach m n (exprs_view es) l ss → Holds (part_at j m) (expr_view x) l ss
-part-from m l ss n [] i x j within is e h = absurd (omega arith)
-part-from m l ss n (y ∷ ys) zero x j within is e h =
+part_from m l ss n [] i x j within is e h = absurd (omega arith)
+part_from m l ss n (y ∷ ys) zero x j within is e h =
     let one : x ≡ y = is in
     let same : j ≡ n = omega arith in
     rw (same, one) h.0
-part-from m l ss n (y ∷ ys) (suc i) x j within is e h =
-    part-from m l ss (suc n) ys i x j (omega arith) is (omega arith) h.1
+part_from m l ss n (y ∷ ys) (suc i) x j within is e h =
+    part_from m l ss (suc n) ys i x j (omega arith) is (omega arith) h.1
 
-pub part-holds : (m p : MemoTree) (l : LimitsValue) (ss : List Size) (es : List TypedExpr) (i : ℕ)
+pub part_holds : (m p : MemoTree) (l : LimitsValue) (ss : List Size) (es : List TypedExpr) (i : ℕ)
     (x : TypedExpr) → i < length es → x ≡ get_or es i x → p ≡ part_at i m
     → HoldsEach m 0 (exprs_view es) l ss → Holds p (expr_view x) l ss
-part-holds m p l ss es i x within is e h = rw e (part-from m l ss 0 es i x i within is (omega arith) h)
+part_holds m p l ss es i x within is e h = rw e (part_from m l ss 0 es i x i within is (omega arith) h)
 
 -- and the other way round
-each-from : (m : MemoTree) (l : LimitsValue) (ss : List Size) (n : ℕ) (es : List TypedExpr)
+each_from : (m : MemoTree) (l : LimitsValue) (ss : List Size) (n : ℕ) (es : List TypedExpr)
     → ((i : ℕ) (x : TypedExpr) (j : ℕ) → i < length es → x ≡ get_or es i x → j ≡ n + i
     → Holds (part_at j m) (expr_view x) l ss)
     → HoldsEach m n (exprs_view es) l ss
-each-from m l ss n [] h = tt
-each-from m l ss n (y ∷ ys) h = (
+each_from m l ss n [] h = tt
+each_from m l ss n (y ∷ ys) h = (
   h 0 y n (omega arith) refl (omega arith),
-  each-from m l ss (suc n) ys (λ i x j within is e. h (suc i) x j (omega arith) is (omega arith)),
+  each_from m l ss (suc n) ys (λ i x j within is e. h (suc i) x j (omega arith) is (omega arith)),
 )
 
-pub each-holds : (m : MemoTree) (ms : MemoTrees) (l : LimitsValue) (ss : List Size) (es : List TypedExpr)
+pub each_holds : (m : MemoTree) (ms : MemoTrees) (l : LimitsValue) (ss : List Size) (es : List TypedExpr)
     → ((i : ℕ) → part_at i m ≡ memo_at i ms)
     → ((i : ℕ) (x : TypedExpr) → i < length es → x ≡ get_or es i x → Holds (memo_at i ms) (expr_view x) l ss)
     → HoldsEach m 0 (exprs_view es) l ss
-each-holds m ms l ss es at h = each-from m l ss 0 es (λ i x j within is e.
+each_holds m ms l ss es at h = each_from m l ss 0 es (λ i x j within is e.
     let same : j ≡ i = omega arith in
     let part : part_at j m ≡ memo_at i ms = rw same (at i) in
     rw part (h i x within is))
 
 -- the parts so far, and one more
-pub more-parts : (es : List TypedExpr) (n : ℕ) (y : TypedExpr) (old new : MemoTrees) (m : MemoTree)
+pub more_parts : (es : List TypedExpr) (n : ℕ) (y : TypedExpr) (old new : MemoTrees) (m : MemoTree)
     (l : LimitsValue) (ss : List Size) → y ≡ get_or es n y → n < length es
     → ((i : ℕ) → i < n → memo_at i new ≡ memo_at i old) → memo_at n new ≡ m → Holds m (expr_view y) l ss
     → ((i : ℕ) (x : TypedExpr) → i < n → x ≡ get_or es i x → Holds (memo_at i old) (expr_view x) l ss)
     → (i : ℕ) (x : TypedExpr) → i < n + 1 → x ≡ get_or es i x → Holds (memo_at i new) (expr_view x) l ss
-more-parts es n y old new m l ss there within before at one all i x less is = elim (cases_lt i n) [
+more_parts es n y old new m l ss there within before at one all i x less is = elim (cases_lt i n) [
   | inl lower ↦ rw (before i lower) (all i x lower is)
   | inr high ↦
       let same : i ≡ n = omega arith in
@@ -109,60 +109,60 @@ more-parts es n y old new m l ss there within before at one all i x less is = el
 ]
 
 -- what names no local that a turn changes measures in each as here
-pub holds-in-turns : (k d : ℕ) (e : TypedTree) (l : LimitsValue) (a b : List Size) → NamesOnly (IsSettled k d) e
+pub holds_in_turns : (k d : ℕ) (e : TypedTree) (l : LimitsValue) (a b : List Size) → NamesOnly (IsSettled k d) e
     → d ≡ length a → InTurns k a b → (size_of e l a ≡ size_of e l b) × (cost_of e l a ≡ cost_of e l b)
-holds-in-turns k d e l a b only deep turns =
-    let same = alike-settled k d a b deep turns in
+holds_in_turns k d e l a b only deep turns =
+    let same = alike_settled k d a b deep turns in
     (same-size (IsSettled k d) l e a b only same, same-cost (IsSettled k d) l e a b only same)
 
-pub known-in-turns : (k d : ℕ) (e : TypedTree) (l : LimitsValue) (a b : List Size) (m : MemoTree) (s : Size)
+pub known_in_turns : (k d : ℕ) (e : TypedTree) (l : LimitsValue) (a b : List Size) (m : MemoTree) (s : Size)
     (c left rest : ℕ) → NamesOnly (IsSettled k d) e → d ≡ length a → InTurns k a b
     → m ≡ known_as s c → s ≡ size_of e l a → left ≡ cost_of e l a + rest → c ≡ left - rest → Holds m e l b
-known-in-turns k d e l a b m s c left rest only deep turns is size paid cost =
-    let same = holds-in-turns k d e l a b only deep turns in
+known_in_turns k d e l a b m s c left rest only deep turns is size paid cost =
+    let same = holds_in_turns k d e l a b only deep turns in
     let more = same.1 in
-    holds-known m s c e l b is (size ∙ same.0) (omega arith)
+    holds_known m s c e l b is (size ∙ same.0) (omega arith)
 
-pub more-in-turns : (k d : ℕ) (e : TypedTree) (l : LimitsValue) (a b : List Size) (m : MemoTree) (n : ℕ)
+pub more_in_turns : (k d : ℕ) (e : TypedTree) (l : LimitsValue) (a b : List Size) (m : MemoTree) (n : ℕ)
     → NamesOnly (IsSettled k d) e → d ≡ length a → InTurns k a b → m ≡ more_than n → n < cost_of e l a
     → Holds m e l b
-more-in-turns k d e l a b m n only deep turns is more =
-    let same = holds-in-turns k d e l a b only deep turns in
-    holds-more m n e l b is (rw (← same.1) more)
+more_in_turns k d e l a b m n only deep turns is more =
+    let same = holds_in_turns k d e l a b only deep turns in
+    holds_more m n e l b is (rw (← same.1) more)
 
 -- what is known of a map that a name is looked up in
-pub field-holds : (m p : MemoTree) (t : ValueType) (e on : TypedTree) (name : List ℕ) (l : LimitsValue)
+pub field_holds : (m p : MemoTree) (t : ValueType) (e on : TypedTree) (name : List ℕ) (l : LimitsValue)
     (ss : List Size) → e ≡ typed_field t on name → p ≡ part_at 0 m → Holds m e l ss → Holds p on l ss
-field-holds m p t e on name l ss is part h = rw part (rw is at h).1
+field_holds m p t e on name l ss is part h = rw part (rw is at h).1
 
-pub has-holds : (m p : MemoTree) (t : ValueType) (e on : TypedTree) (name : List ℕ) (l : LimitsValue)
+pub has_holds : (m p : MemoTree) (t : ValueType) (e on : TypedTree) (name : List ℕ) (l : LimitsValue)
     (ss : List Size) → e ≡ typed_has t on name → p ≡ part_at 0 m → Holds m e l ss → Holds p on l ss
-has-holds m p t e on name l ss is part h = rw part (rw is at h).1
+has_holds m p t e on name l ss is part h = rw part (rw is at h).1
 
 -- what is remembered of the parts, at their places
-pub one-held : (m p : MemoTree) (ms : MemoTrees) (e : TypedTree) (l : LimitsValue) (ss : List Size) (i : ℕ)
+pub one_held : (m p : MemoTree) (ms : MemoTrees) (e : TypedTree) (l : LimitsValue) (ss : List Size) (i : ℕ)
     → part_at i m ≡ memo_at i ms → memo_at i ms ≡ p → Holds p e l ss → Holds (part_at i m) e l ss
-one-held m p ms e l ss i part at h = rw (part, at) h
+one_held m p ms e l ss i part at h = rw (part, at) h
 
 -- what is remembered inside of a loop holds in each of its turns
-pub remembered-turns : (m : MemoTree) (e : TypedTree) (l : LimitsValue) (n : ℕ) (inside : List Size)
+pub remembered_turns : (m : MemoTree) (e : TypedTree) (l : LimitsValue) (n : ℕ) (inside : List Size)
     (element any : Size) (cs : List Counted) → n ≡ capped (length cs)
     → inside ≡ element ∷ any ∷ sizes_among cs → Remembers m e l n inside
     → (s : Size) → Holds m e l (element ∷ s ∷ sizes_among cs)
-remembered-turns m e l n inside element any cs counted is h s =
-    h (length (sizes_among cs)) (element ∷ s ∷ sizes_among cs) (counted ∙ ap capped (sym (as-many cs)))
-    (rw is (turns-of element any s (sizes_among cs)))
+remembered_turns m e l n inside element any cs counted is h s =
+    h (length (sizes_among cs)) (element ∷ s ∷ sizes_among cs) (counted ∙ ap capped (sym (as_many cs)))
+    (rw is (turns_of element any s (sizes_among cs)))
 
 -- and in each turn of a loop inside of it
-pub remembered-inside : (m : MemoTree) (e : TypedTree) (l : LimitsValue) (n k : ℕ) (ss others inside : List Size)
+pub remembered_inside : (m : MemoTree) (e : TypedTree) (l : LimitsValue) (n k : ℕ) (ss others inside : List Size)
     (any t : Size) → inside ≡ any ∷ ss → Remembers m e l n inside → n ≡ capped k → InTurns k ss others
     → Holds m e l (t ∷ others)
-remembered-inside m e l n k ss others inside any t is h counted turns =
-    h k (t ∷ others) counted (rw is (turns-with k any t ss others turns))
+remembered_inside m e l n k ss others inside any t is h counted turns =
+    h k (t ∷ others) counted (rw is (turns_with k any t ss others turns))
 
-pub remembered-turned : (m : MemoTree) (e : TypedTree) (l : LimitsValue) (n k : ℕ) (ss others inside : List Size)
+pub remembered_turned : (m : MemoTree) (e : TypedTree) (l : LimitsValue) (n k : ℕ) (ss others inside : List Size)
     (any more t u : Size) → inside ≡ more ∷ any ∷ ss → Remembers m e l n inside → n ≡ capped k
     → InTurns k ss others → Holds m e l (u ∷ t ∷ others)
-remembered-turned m e l n k ss others inside any more t u is h counted turns =
+remembered_turned m e l n k ss others inside any more t u is h counted turns =
     h k (u ∷ t ∷ others) counted
-    (rw is (turns-with k more u (any ∷ ss) (t ∷ others) (turns-with k any t ss others turns)))
+    (rw is (turns_with k more u (any ∷ ss) (t ∷ others) (turns_with k any t ss others turns)))

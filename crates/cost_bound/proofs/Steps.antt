@@ -13,61 +13,61 @@ use Rattle.proto_wire.specs.declared.refusal.Refusal.{Refusal}
 use Rattle.cost_bound.specs.Costs.{cost_of, costs_of, element_size, field_cost, grown, size_of, sizes_of, total, turns_cost}
 use Rattle.cost_bound.specs.Sizes.{Size, most_of}
 use Rattle.cost_bound.specs.steps.Measuring.{CostsMore, next_size, turn_cost}
-use Rattle.cost_bound.proofs.Capped.{one-less, paid}
+use Rattle.cost_bound.proofs.Capped.{one_less, paid}
 
 -- a lookup of a field charges one and the rest of it
-pub field-once : (name : List ℕ) (s : Size) → field_cost name s ≡ 1 + (field_cost name s - 1)
-field-once name s = ap (λ k. 1 + k) (one-less _)
+pub field_once : (name : List ℕ) (s : Size) → field_cost name s ≡ 1 + (field_cost name s - 1)
+field_once name s = ap (λ k. 1 + k) (one_less _)
 
 -- what more than is left costs, with more besides still does
-pub costs-more : (a b left : ℕ) (e : Refusal) → a ≤ b → CostsMore a left e → CostsMore b left e
-costs-more a b left e fits more = (more.0, omega (arith, more.1))
+pub costs_more : (a b left : ℕ) (e : Refusal) → a ≤ b → CostsMore a left e → CostsMore b left e
+costs_more a b left e fits more = (more.0, omega (arith, more.1))
 
 -- after a part was paid, another one costs more than its rest
-pub costs-more-then : (a b left rest : ℕ) (e : Refusal) → left ≡ a + rest → CostsMore b rest e
+pub costs_more_then : (a b left rest : ℕ) (e : Refusal) → left ≡ a + rest → CostsMore b rest e
     → CostsMore (a + b) left e
-costs-more-then a b left rest e paid more = (more.0, omega (arith, more.1))
+costs_more_then a b left rest e paid more = (more.0, omega (arith, more.1))
 
 -- there are as many costs as sizes
-pub as-many : (es : TypedTrees) (l : LimitsValue) (ss : List Size)
+pub as_many : (es : TypedTrees) (l : LimitsValue) (ss : List Size)
     → length (costs_of es l ss) ≡ length (sizes_of es l ss)
-as-many no_typed l ss = refl
-as-many (typed e es) l ss = ap suc (as-many es l ss)
+as_many no_typed l ss = refl
+as_many (typed e es) l ss = ap suc (as_many es l ss)
 
 -- and as expressions
-pub cost-count : (es : List TypedExpr) (l : LimitsValue) (ss : List Size)
+pub cost_count : (es : List TypedExpr) (l : LimitsValue) (ss : List Size)
     → length (costs_of (exprs_view es) l ss) ≡ length es
-cost-count [] l ss = refl
-cost-count (e ∷ es) l ss = ap suc (cost-count es l ss)
+cost_count [] l ss = refl
+cost_count (e ∷ es) l ss = ap suc (cost_count es l ss)
 
 -- one more expression measured, of those from a place on
-pub sizes-from : (es : List TypedExpr) (i : ℕ) (d : TypedExpr) (l : LimitsValue) (ss : List Size)
+pub sizes_from : (es : List TypedExpr) (i : ℕ) (d : TypedExpr) (l : LimitsValue) (ss : List Size)
     → i < length es
     → sizes_of (exprs_view (drop i es)) l ss
     ≡ size_of (expr_view (get_or es i d)) l ss ∷ sizes_of (exprs_view (drop (i + 1) es)) l ss
-sizes-from es i d l ss within = ap (λ x. sizes_of (exprs_view x) l ss) (drop_more es i d within)
+sizes_from es i d l ss within = ap (λ x. sizes_of (exprs_view x) l ss) (drop_more es i d within)
 
-pub costs-from : (es : List TypedExpr) (i : ℕ) (d : TypedExpr) (l : LimitsValue) (ss : List Size)
+pub costs_from : (es : List TypedExpr) (i : ℕ) (d : TypedExpr) (l : LimitsValue) (ss : List Size)
     → i < length es
     → total (costs_of (exprs_view (drop i es)) l ss)
     ≡ cost_of (expr_view (get_or es i d)) l ss + total (costs_of (exprs_view (drop (i + 1) es)) l ss)
-costs-from es i d l ss within = ap (λ x. total (costs_of (exprs_view x) l ss)) (drop_more es i d within)
+costs_from es i d l ss within = ap (λ x. total (costs_of (exprs_view x) l ss)) (drop_more es i d within)
 
 -- at a `?` on a part: what costs more than was left for the part makes the whole cost more
-pub exit-more : {T : Type 0} (a rest b left : ℕ) (r : Result T Refusal) (e : Refusal)
+pub exit_more : {T : Type 0} (a rest b left : ℕ) (r : Result T Refusal) (e : Refusal)
     → IsErrAnd r (λ y. y ≡ e) → MemoryOr (CostsMore a rest) e → (rest < a → left < b)
     → IfErr r (MemoryOr (CostsMore b left))
-exit-more a rest b left r e told fault more =
+exit_more a rest b left r e told fault more =
     exit_memory_or (CostsMore a rest) (CostsMore b left) r e told fault (λ d f. (f.0, more f.1))
 
 -- the same at a charge
-pub exit-charge : {T : Type 0} (a rest b left : ℕ) (r : Result T Refusal) (e : Refusal)
+pub exit_charge : {T : Type 0} (a rest b left : ℕ) (r : Result T Refusal) (e : Refusal)
     → IsErrAnd r (λ y. y ≡ e) → CostsMore a rest e → (rest < a → left < b)
     → IfErr r (MemoryOr (CostsMore b left))
-exit-charge a rest b left r e told fault more = exit-more a rest b left r e told (inr fault) more
+exit_charge a rest b left r e told fault more = exit_more a rest b left r e told (inr fault) more
 
 -- a comprehension: what is paid for its parts, one after the other
-pub loop-adds : (p : TypedParts) (t : ValueType) (l : LimitsValue) (ss : List Size) (R E I G : Size)
+pub loop_adds : (p : TypedParts) (t : ValueType) (l : LimitsValue) (ss : List Size) (R E I G : Size)
     (n left r o i s g c m : ℕ)
     → R ≡ size_of p.range l ss → n ≡ most_of R → E ≡ element_size R → I ≡ size_of p.init l ss
     → G ≡ grown (next_size p l E ss) n I
@@ -75,7 +75,7 @@ pub loop-adds : (p : TypedParts) (t : ValueType) (l : LimitsValue) (ss : List Si
     → s ≡ turns_cost (next_size p l E ss) (turn_cost p l E ss) n I + g → g ≡ 1 + 0 + c
     → c ≡ cost_of p.result l (G ∷ ss) + m
     → left ≡ cost_of (loop_of t p) l ss + m
-loop-adds p t l ss R E I G n left r o i s g c m range most element init gathered h1 h2 h3 h4 h5 h6 h7 =
+loop_adds p t l ss R E I G n left r o i s g c m range most element init gathered h1 h2 h3 h4 h5 h6 h7 =
     let most' : n ≡ most_of (size_of p.range l ss) = most ∙ ap most_of range in
     let element' : E ≡ element_size (size_of p.range l ss) = element ∙ ap element_size range in
     let all = rw (element', most', init) at gathered in
@@ -92,11 +92,11 @@ loop-adds p t l ss R E I G n left r o i s g c m range most element init gathered
     rw whole (omega arith)
 
 -- and its size
-pub loop-size : (p : TypedParts) (t : ValueType) (l : LimitsValue) (ss : List Size) (R E I G : Size) (n : ℕ)
+pub loop_size : (p : TypedParts) (t : ValueType) (l : LimitsValue) (ss : List Size) (R E I G : Size) (n : ℕ)
     → R ≡ size_of p.range l ss → n ≡ most_of R → E ≡ element_size R → I ≡ size_of p.init l ss
     → G ≡ grown (next_size p l E ss) n I
     → size_of p.result l (G ∷ ss) ≡ size_of (loop_of t p) l ss
-loop-size p t l ss R E I G n range most element init gathered =
+loop_size p t l ss R E I G n range most element init gathered =
     let most' : n ≡ most_of (size_of p.range l ss) = most ∙ ap most_of range in
     let element' : E ≡ element_size (size_of p.range l ss) = element ∙ ap element_size range in
     let all = rw (element', most', init) at gathered in

@@ -14,7 +14,7 @@ use Rattle.attributes.specs.Limits.{EntryInLimits, InLimits, IsWithin, LimitsVal
 use Rattle.attributes.specs.Request.{IsRequest, IsTextEntry, RequestValue, header_of}
 use Rattle.attributes.specs.declared.attribute.AttrId.{AttrId}
 use Rattle.attributes.specs.declared.attribute.AttrType.{AttrType}
-use Rattle.attributes.proofs.HeaderMaps.{All-get}
+use Rattle.attributes.proofs.HeaderMaps.{all_get}
 use Rattle.attributes.proofs.TypedAttributes.{attr_typed}
 use Rattle.cel_value.specs.Items.{item_at, joined_items}
 use Rattle.cel_value.specs.Items as items
@@ -141,7 +141,7 @@ module _ (l : LimitsValue) where
     header_fits name = elim (header_of r name) as (λ o. header_of r name ≡ o
         → IfSome (option_map attrs.text o) (λ d. DataFits d (Text l.value))) [
           | None ↦ λ e. tt
-          | Some v ↦ λ e. (All-get (EntryInLimits l) r.headers fits.headers name v e).1
+          | Some v ↦ λ e. (all_get (EntryInLimits l) r.headers fits.headers name v e).1
         ] refl
 
     fact_fits : (o : Option (List ℕ)) → IsWithin l.text o

@@ -8,7 +8,7 @@ use Rattle.httparse.specs.declared.spans.HeaderSpan.{HeaderSpan}
 use Rattle.httparse.specs.declared.spans.RequestSpans.{RequestSpans}
 use Rattle.http_front.specs.Head.{HeadValue, StartsHead, head_of, head_room}
 use Rattle.http_front.specs.steps.Parsed.{HoldsHead}
-use Rattle.http_front.proofs.Spans.{headers-take, slice_range-take}
+use Rattle.http_front.proofs.Spans.{headers_take, slice_range_take}
 
 -- the parser's answer, the bytes of the head and those behind it, and the texts cut out of them
 module _ (buf : List ℕ) (headers : List HeaderSpan) (r : RequestSpans)
@@ -43,14 +43,14 @@ module _ (buf : List ℕ) (headers : List HeaderSpan) (r : RequestSpans)
       let at = read.1 in
       let method_at : method ≡ tree.method =
       method_is ∙ ap (λ bytes. span_bytes bytes r.method) front
-      ∙ slice_range-take buf r.len r.method.start r.method.end within.method.0 within.method.1
+      ∙ slice_range_take buf r.len r.method.start r.method.end within.method.0 within.method.1
       ∙ at.method in
       let target_at : target ≡ tree.target =
       target_is ∙ ap (λ bytes. span_bytes bytes r.path) front
-      ∙ slice_range-take buf r.len r.path.start r.path.end within.path.0 within.path.1 ∙ at.path in
+      ∙ slice_range_take buf r.len r.path.start r.path.end within.path.0 within.path.1 ∙ at.path in
       let fields : map (header_bytes own) spans ≡ map name_and_value tree.fields =
       ap (λ bytes. map (header_bytes bytes) spans) front
-      ∙ headers-take buf r.len spans within.section.headers_fit ∙ at.fields in
+      ∙ headers_take buf r.len spans within.section.headers_fit ∙ at.fields in
       λ i. record {
         method = method_at i;
         target = target_at i;

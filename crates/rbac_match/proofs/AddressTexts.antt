@@ -12,7 +12,7 @@ use Rattle.attributes.specs.Address.{IsIpText, has_dot}
 use Rattle.attributes.specs.declared.address.Ip.{Ip}
 use Rattle.attributes.specs.declared.address.Ip.TheVariants.{V4, V6}
 use Rattle.attributes.proofs.OneAddress.{dotted_read, groups_read}
-use Rattle.attributes.proofs.AddressText.{has_dot-dotted}
+use Rattle.attributes.proofs.AddressText.{has_dot_dotted}
 
 -- a text with a dot that is not four numbers spells nothing
 no_dotted : (text : List ℕ) → has_dot text ≡ true
@@ -23,7 +23,7 @@ no_dotted text dot never (V6 n) (a, eight, none, is) = cc (dot, none)
 -- nor does one without that is not groups
 no_groups : (text : List ℕ) → has_dot text ≡ false
     → ((groups : List ℕ) → read_ipv6 text ≡ Some (groups, []) → ⊥) → (ip : Ip) → IsIpText text ip → ⊥
-no_groups text none never (V4 n) (a, four, is) = cc (none, has_dot-dotted text a.octets four)
+no_groups text none never (V4 n) (a, four, is) = cc (none, has_dot_dotted text a.octets four)
 no_groups text none never (V6 n) (a, eight, dotless, is) = never a.segments (groups_read text a.segments eight)
 
 -- what leaves a rest is no reading of the whole

@@ -18,10 +18,10 @@ use Rattle.rbac_policy.proofs.Besides.{found_itself, name_same, there}
 use Rattle.proto_wire.proofs.MapOrder.{both_first, both_second, tie, found_later, above_all, not_below, none_below, entries_from_entries}
 
 -- a position in a list is the position in what a function makes of it
-pub position-map : {A B : Type 0} (f : A → B) (p : B → Bool) (i : ℕ) (xs : List A)
+pub position_map : {A B : Type 0} (f : A → B) (p : B → Bool) (i : ℕ) (xs : List A)
     → position_from p i (map f xs) ≡ position_from (λ x. p (f x)) i xs
-position-map f p i [] = refl
-position-map f p i (x ∷ xs) = ap (cond (p (f x)) (Some i)) (position-map f p (i + 1) xs)
+position_map f p i [] = refl
+position_map f p i (x ∷ xs) = ap (cond (p (f x)) (Some i)) (position_map f p (i + 1) xs)
 
 module _ {X : Type 0} (t : X → Bool) where
   -- the entry of a name is there and passes

@@ -17,7 +17,7 @@ use Rattle.cel_tree.specs.Message.{IsChecked}
 use Rattle.cel_types.specs.Elaborated.{TypedTree}
 use Rattle.cel_types.specs.Meaning.{eval}
 use Rattle.cel_types.specs.Typing.{maps_of}
-use Rattle.cel_types.proofs.OneElaboration.{one-elaboration}
+use Rattle.cel_types.proofs.OneElaboration.{one_elaboration}
 use Rattle.cost_bound.specs.Costs.{cost_of}
 use Rattle.cel_compile.specs.Codes.{code_of}
 use Rattle.cel_compile.specs.Sound.{RunsToMeaning}
@@ -89,7 +89,7 @@ pub program_unique : (limits : LimitsValue) (c : CelChecked) (p q : Program) →
     → IsProgramOf limits c q → p ≡ q
 program_unique limits c p q a b =
     let same : a.e ≡ b.e =
-    one-elaboration (maps_of c) [] c.tree a.e b.e a.elaborated.elaborates b.elaborated.elaborates in
+    one_elaboration (maps_of c) [] c.tree a.e b.e a.elaborated.elaborates b.elaborated.elaborates in
     let code : p.code ≡ q.code = a.code ∙ ap (λ e. code_of 0 0 e) same ∙ sym b.code in
     let bound : p.bound ≡ q.bound = a.bound ∙ ap (λ e. cost_of e limits []) same ∙ sym b.bound in
     let make : List Instruction → ℕ → Program = λ x n. record { code = x; bound = n } in
@@ -120,7 +120,7 @@ program_of_cost limits c cost costs = (
 pub cost_unique : (limits : LimitsValue) (c : CelChecked) (m n : ℕ) → Costs limits c m → Costs limits c n → m ≡ n
 cost_unique limits c m n a b =
     let same : a.e ≡ b.e =
-    one-elaboration (maps_of c) [] c.tree a.e b.e a.elaborated.elaborates b.elaborated.elaborates in
+    one_elaboration (maps_of c) [] c.tree a.e b.e a.elaborated.elaborates b.elaborated.elaborates in
     a.is ∙ ap (λ e. cost_of e limits []) same ∙ sym b.is
 
 module _ (limits : LimitsValue) (c : CelChecked) (p : Program) (good : HasGoodConstants c.tree)

@@ -19,9 +19,9 @@ use Rattle.cel_tree.specs.Checked.{CelChecked}
 use Rattle.cel_tree.specs.Message.{IsChecked, CheckedFault}
 use Rattle.cel_tree.proofs.CheckedLaws.{checked_disjoint, checked_total, checked_unique}
 use Rattle.cel_types.specs.Typing.{IsTyped, maps_of}
-use Rattle.cel_types.proofs.CheckLaws.{check-disjoint, check-total}
+use Rattle.cel_types.proofs.CheckLaws.{check_disjoint, check_total}
 use Rattle.cel_types.proofs.Elaborating.{elaborated}
-use Rattle.cel_types.proofs.OneType.{one-type}
+use Rattle.cel_types.proofs.OneType.{one_type}
 use Rattle.cost_bound.specs.Costs.{cost_of}
 use Rattle.cel_compile.specs.Codes.{code_of}
 use Rattle.rbac_match.specs.Rules.{IsRule, AreRules, RuleFault}
@@ -99,7 +99,7 @@ module _ (limits : LimitsValue) where
       | inr bad ↦ inr (bad.0, unreadable fs merges there bad.1)
       | inl reads ↦
           let has : PolicyHas parts reads.0 = record { fs = fs; merges = merges; reads = reads.1 } in
-          elim (check-total reads.0) [
+          elim (check_total reads.0) [
             | inr bad ↦ inr (bad.0, untyped reads.0 has bad.1)
             | inl typed ↦ elim (bool_or_not typed.0) [
               | inr other ↦ inr (NotBool, not_bool reads.0 typed.0 has typed.1 other refl)
@@ -195,9 +195,9 @@ module _ (limits : LimitsValue) where
             → payloads checked_condition_field is.fs ≢ [] → CheckedFault (payloads checked_condition_field is.fs) e → ⊥
         reads None none some fault = some none
         reads (Some d) has some fault = checked_disjoint (payloads checked_condition_field is.fs) d e has.1 fault
-    policy_disjoint e (untyped c has bad) = check-disjoint c bool_type e (has_bool c has) bad
+    policy_disjoint e (untyped c has bad) = check_disjoint c bool_type e (has_bool c has) bad
     policy_disjoint e (not_bool c t has typed other at) =
-        other (one-type (maps_of c) [] c.tree t bool_type typed.types (has_bool c has).types)
+        other (one_type (maps_of c) [] c.tree t bool_type typed.types (has_bool c has).types)
     policy_disjoint e (in_permission gs also (child, here, bad)) =
         rules_disjoint Permission rule_depth (payloads 1 is.fs) policy.permissions child e is.permissions (moved (λ xs. Contains (payloads 1 xs) child) gs also here) bad
     policy_disjoint e (in_principal gs also (child, here, bad)) =

@@ -6,7 +6,7 @@ use Rattle.std.proofs.lemmas.Nat.{be_bytes_4}
 use Rattle.std.proofs.lemmas.Bool.{cases_lt}
 use Rattle.std.specs.Int.{w32, from_be_bytes}
 use Rattle.xds_wire.specs.Frames.{head_of, frame_of, frames_of, IsLength, AreAllowed, IsBeginning, nothing, part_of_head, part_of_message, unfinished, Cut}
-use Rattle.xds_wire.proofs.CutLemmas.{frames-none, frames-one, cut_of, cut_behind}
+use Rattle.xds_wire.proofs.CutLemmas.{frames_none, frames_one, cut_of, cut_behind}
 use Rattle.xds_wire.proofs.EachCut.{small_at}
 
 -- one list split at two places: either place may come first
@@ -65,7 +65,7 @@ first_more bytes max m ms behind allowed is next = record {
   rest = next.rest;
   whole = ap (λ t. m ∷ t) next.whole;
   cut = cut_behind bytes max (m ∷ []) next.first behind (unfinished next.rest)
-      (frames-one bytes max m behind allowed is) next.cut;
+      (frames_one bytes max m behind allowed is) next.cut;
 }
 
 -- a part of frames is cut to the first messages, and is not broken
@@ -85,7 +85,7 @@ part_cut (m ∷ ms) max bytes more allowed whole = elim (split_twice bytes more 
     others = m ∷ ms;
     rest = bytes;
     whole = refl;
-    cut = cut_of bytes max [] bytes (unfinished bytes) (frames-none bytes max)
+    cut = cut_of bytes max [] bytes (unfinished bytes) (frames_none bytes max)
         (refl, part_begins max m bytes b e allowed.0 is);
   }
   | inl ([], is, rest) ↦

@@ -7,7 +7,7 @@ use Rattle.std.proofs.lemmas.Bool.{cases_eq, cases_lt}
 use Rattle.std.specs.Int.{w32, from_be_bytes}
 use Rattle.xds_wire.specs.Frames.{head_of, frame_of, IsLength, nothing, part_of_head, part_of_message, compressed, too_long, IsTail, Tail, unfinished, broken, Cut}
 use Rattle.xds_wire.specs.declared.fault.FrameFault.TheVariants.{Compressed, TooLong}
-use Rattle.xds_wire.proofs.CutLemmas.{frames-none, frames-one, cut_of, cut_behind}
+use Rattle.xds_wire.proofs.CutLemmas.{frames_none, frames_one, cut_of, cut_behind}
 
 -- the number that four bytes spell has 32 bits
 pub four_fit : (size : List ℕ) → ((i : ℕ) → get_or size i 0 < 256) → from_be_bytes w32 size < 2 ^ 32
@@ -26,7 +26,7 @@ IsCut bytes max = (messages : List (List ℕ)) × (tail : Tail) × Cut bytes max
 
 -- bytes that no whole frame begins
 only_tail : (bytes : List ℕ) (max : ℕ) (tail : Tail) → IsTail max bytes tail → IsCut bytes max
-only_tail bytes max tail ends = ([], tail, cut_of bytes max [] bytes tail (frames-none bytes max) ends)
+only_tail bytes max tail ends = ([], tail, cut_of bytes max [] bytes tail (frames_none bytes max) ends)
 
 -- bytes that begin with a head, where shorter bytes are cut
 each_behind_head : (bytes : List ℕ) (max n : ℕ) (behind : List ℕ) → n < 2 ^ 32
@@ -47,7 +47,7 @@ each_behind_head bytes max n behind fits is below = elim (cases_lt max n) [
           message ∷ more.0,
           more.1,
           cut_behind bytes max (message ∷ []) more.0 (drop n behind) more.1
-              (frames-one bytes max message (drop n behind) allowed' whole) more.2,
+              (frames_one bytes max message (drop n behind) allowed' whole) more.2,
         )
   ]
 ]

@@ -3,14 +3,14 @@ use Rattle.std.proofs.Common.{◌≡◌, ℕ, Some, None, List, [], ◌∷◌, �
 use Rattle.xds_wire.specs.Frames.{head_of, frames_of, Breaks, compressed, too_long, nothing, Tail, unfinished, broken, Cut}
 use Rattle.xds_wire.specs.Stream.{Kept, start, Resumes, Feeds, Takes, Call, fed, taken, Runs, bytes_fed, messages_taken}
 use Rattle.xds_wire.specs.declared.fault.FrameFault.{FrameFault}
-use Rattle.xds_wire.proofs.CutLemmas.{frames-none, cut_of, cut_behind}
+use Rattle.xds_wire.proofs.CutLemmas.{frames_none, cut_of, cut_behind}
 
 -- what breaks stays broken when more bytes come
-breaks-append : (max : ℕ) (rest more : List ℕ) (fault : FrameFault) → Breaks max rest fault
+breaks_append : (max : ℕ) (rest more : List ℕ) (fault : FrameFault) → Breaks max rest fault
     → Breaks max (rest ++ more) fault
-breaks-append max rest more fault (compressed flag bytes is some e) =
+breaks_append max rest more fault (compressed flag bytes is some e) =
     compressed flag (bytes ++ more) (ap (λ t. t ++ more) is) some e
-breaks-append max rest more fault (too_long n bytes is fits long e) =
+breaks_append max rest more fault (too_long n bytes is fits long e) =
     too_long n (bytes ++ more)
     (ap (λ t. t ++ more) is ∙ append_assoc (head_of n) bytes more) fits long e
 
@@ -29,7 +29,7 @@ cut_resumes bytes more max ms ns (broken fault) u cut (none, same) =
     rw (none, same, append-nil ms) (
     cut_of (bytes ++ more) max ms (cut.rest ++ more) (broken fault)
     (record { whole = whole; allowed = cut.allowed })
-    (breaks-append max cut.rest more fault cut.ends)
+    (breaks_append max cut.rest more fault cut.ends)
     )
 
 -- the bytes were cut to what was handed out and what is kept
@@ -40,7 +40,7 @@ pub record Holds (max : ℕ) (bytes : List ℕ) (out : List (List ℕ)) (kept : 
 holds_start : (max : ℕ) → Holds max [] [] (start max)
 holds_start max = record {
   limit = refl;
-  cut = cut_of [] max [] [] (unfinished []) (frames-none [] max) (refl, nothing refl);
+  cut = cut_of [] max [] [] (unfinished []) (frames_none [] max) (refl, nothing refl);
 }
 
 holds_fed : (max : ℕ) (bytes more : List ℕ) (out : List (List ℕ)) (old new : Kept)

@@ -1,10 +1,10 @@
 -- The closure compares with the name, so the search is one by name.
 use Rattle.std.proofs.Common.{rules}
-use Rattle.attributes.proofs.Searching.{IsPlace-searched}
+use Rattle.attributes.proofs.Searching.{is_place_searched}
 use Rattle.attributes.proofs.headers.find_place.Goals as goal
 
 pub returns-clause-place : goal.returns-clause-place
 returns-clause-place c =
-    IsPlace-searched c.args.name.now (λ a r f' k. search rules) c.args.headers.now
+    is_place_searched c.args.name.now (λ a r f' k. search rules) c.args.headers.now
     c.binary_search_by.result c.binary_search_by.ensures.bound
     c.binary_search_by.ensures.position

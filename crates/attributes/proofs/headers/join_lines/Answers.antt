@@ -6,7 +6,7 @@ use Rattle.std.proofs.Math.Seq.{take-append_seam}
 use Rattle.std.specs.declared.string.String.{String}
 use Rattle.std.specs.declared.alloc.Global.{Global}
 use Rattle.attributes.specs.Headers.{line_entry, lines_view, values_of}
-use Rattle.attributes.proofs.Joining.{headers_of-same}
+use Rattle.attributes.proofs.Joining.{headers_of_same}
 use Rattle.attributes.proofs.headers.join_lines.Goals as goal
 
 pub returns : goal.returns
@@ -23,7 +23,7 @@ returns c =
     let same : (name : List ℕ) → values_of name (lines_view c.sort_by_name.new.lines.items)
     ≡ values_of name (map line_entry (lines_view given)) =
     λ name. rw (back, renamed) at c.in_ok-sort_by_name.ensures.stable name in
-    let joined = headers_of-same (map line_entry (lines_view given))
+    let joined = headers_of_same (map line_entry (lines_view given))
     (lines_view c.sort_by_name.new.lines.items) same in
     MatchResult-weaker c.join_sorted.result c.join_sorted.ensures
     (λ headers h. h ∙ ap entries joined) (λ e h. h)

@@ -8,13 +8,13 @@ use Rattle.std.specs.String.{string_bytes}
 use Rattle.std.specs.Vec.Iter.{into_iter_items}
 use Rattle.attributes.specs.Headers.{header_view, line_view, lines_view}
 use Rattle.attributes.specs.steps.Headers.{AreSorted}
-use Rattle.attributes.proofs.Neighbours.{AreSorted-name, AreSorted-next, headers-next, headers-nil, headers-one, headers-same}
+use Rattle.attributes.proofs.Neighbours.{are_sorted_name, are_sorted_next, headers_next, headers_nil, headers_one, headers_same}
 use Rattle.attributes.proofs.headers.join_sorted.Goals as goal
 
 pub returns-in_default : goal.returns-in_default
 returns-in_default c =
     let none : c.args.lines.items ≡ [] = nil_from_length _ (grind (arith, common_steps)) in
-    rw (none, c.in_ok-headers.ensures.items) (sym headers-nil)
+    rw (none, c.in_ok-headers.ensures.items) (sym headers_nil)
 
 pub loop-next-init : goal.loop-next-init
 loop-next-init c =
@@ -23,7 +23,7 @@ loop-next-init c =
     let sorted : AreSorted (lines_view (c.in-Some.last ∷ into_iter_items c.next.new.self)) =
     rw items at c.requires in
     record {
-      joined = rw c.in_ok-headers.ensures.items (headers-one (line_view c.in-Some.last));
+      joined = rw c.in_ok-headers.ensures.items (headers_one (line_view c.in-Some.last));
       sorted = rw c.into_iter-next-iterator.ensures.into_iter_gives sorted;
       whole = rw c.into_iter-next-iterator.ensures.into_iter_gives items;
     }
@@ -43,13 +43,13 @@ loop-next-preserved-then-eq c =
             c.in_ok-add_value.ensures,
             c.as_str.ensures.value,
           )
-          (headers-same _ _ _ _ c.loop-next.invariant.joined _);
+          (headers_same _ _ _ _ c.loop-next.invariant.joined _);
       sorted =
           let h : AreSorted
           (line_view c.loop-next.last ∷ lines_view
           (c.in-Some-next.next ∷ into_iter_items c.next-in-loop-next.new.self)) =
           rw items at c.loop-next.invariant.sorted in
-          AreSorted-name (line_view c.in-Some-next.next)
+          are_sorted_name (line_view c.in-Some-next.next)
           (string_bytes c.loop-next.last.0, string_bytes c.add_value.new.value) _ same h.1;
       whole = c.loop-next.invariant.whole
           ∙ ap (λ rest. (c.in-Some.last ∷ c.loop-next.yielded) ++ rest) items
@@ -78,10 +78,10 @@ loop-next-preserved c =
             c.replace.ensures.after,
             map-append line_view c.loop-next.yielded (c.in-Some-next.next ∷ []),
           )
-          (headers-next _ _ _ _ c.loop-next.invariant.joined (line_view c.in-Some-next.next)
-          (AreSorted-next (line_view c.loop-next.last)
+          (headers_next _ _ _ _ c.loop-next.invariant.joined (line_view c.in-Some-next.next)
+          (are_sorted_next (line_view c.loop-next.last)
           (line_view c.in-Some-next.next) _ sorted differ));
-      sorted = AreSorted-name (line_view c.in-Some-next.next) (line_view c.replace.new.dest) _
+      sorted = are_sorted_name (line_view c.in-Some-next.next) (line_view c.replace.new.dest) _
           (ap (λ (pair : String Global × String Global). string_bytes pair.0)
           (sym c.replace.ensures.after)) sorted.1;
       whole = c.loop-next.invariant.whole

@@ -2,22 +2,22 @@ use Rattle.std.proofs.Common.{◌≡◌, ◌+◌, Some, ap, map, sym, ◌∙◌,
 use Rattle.std.proofs.lemmas.List.{length-map}
 use Rattle.cel_value.specs.Masses.{left_of}
 use Rattle.cel_value.specs.View.{answer_view}
-use Rattle.cel_value.proofs.Spending.{left-checked, more-spent}
-use Rattle.cel_ops.proofs.Operands.{list-error, list-values}
+use Rattle.cel_value.proofs.Spending.{left_checked, more_spent}
+use Rattle.cel_ops.proofs.Operands.{list_error, list_values}
 use Rattle.cel_ops.proofs.charges.spend_list_literal.Goals as goal
 
 pub returns-then-has_error : goal.returns-then-has_error
 returns-then-has_error c =
     let answers = map answer_view c.args.operands.now in
-    sym c.in_ok-rest.was ∙ left-checked c.args.fuel 1 _ c.checked_sub.ensures
-    ∙ ap (left_of c.args.fuel) (sym (list-error answers (sym c.has_error.ensures
+    sym c.in_ok-rest.was ∙ left_checked c.args.fuel 1 _ c.checked_sub.ensures
+    ∙ ap (left_of c.args.fuel) (sym (list_error answers (sym c.has_error.ensures
     ∙ c.if-has_error.true)))
 
 pub returns : goal.returns
 returns c =
     let answers = map answer_view c.args.operands.now in
-    more-spent c.args.fuel c.in_ok-rest.rest (length c.args.operands.now) c.checked_sub.result _
+    more_spent c.args.fuel c.in_ok-rest.rest (length c.args.operands.now) c.checked_sub.result _
     c.in_ok-rest.was c.checked_sub.ensures
-    (left-checked c.in_ok-rest.rest (length c.args.operands.now) _ c.checked_sub-2.ensures)
+    (left_checked c.in_ok-rest.rest (length c.args.operands.now) _ c.checked_sub-2.ensures)
     ∙ ap (left_of c.args.fuel) (ap (λ n. 1 + n) (sym (length-map c.args.operands.now answer_view))
-    ∙ sym (list-values answers (sym c.has_error.ensures ∙ c.if-has_error.false)))
+    ∙ sym (list_values answers (sym c.has_error.ensures ∙ c.if-has_error.false)))

@@ -1,5 +1,5 @@
-use Rattle.cel_overload.proofs.OneOverload.{fault-unique}
+use Rattle.cel_overload.proofs.OneOverload.{fault_unique}
 use Rattle.cel_overload.proofs.laws.overload_fault_unique.Goals as goal
 
 pub returns : goal.returns
-returns c = fault-unique
+returns c = fault_unique

@@ -1,5 +1,5 @@
-use Rattle.cel_overload.proofs.OneOverload.{call-total}
+use Rattle.cel_overload.proofs.OneOverload.{call_total}
 use Rattle.cel_overload.proofs.laws.overload_total.Goals as goal
 
 pub returns : goal.returns
-returns c = call-total
+returns c = call_total

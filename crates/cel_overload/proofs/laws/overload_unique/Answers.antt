@@ -1,5 +1,5 @@
-use Rattle.cel_overload.proofs.OneOverload.{call-unique}
+use Rattle.cel_overload.proofs.OneOverload.{call_unique}
 use Rattle.cel_overload.proofs.laws.overload_unique.Goals as goal
 
 pub returns : goal.returns
-returns c = call-unique
+returns c = call_unique

@@ -1,6 +1,6 @@
 use Rattle.std.proofs.Common.{◌∙◌, sym, ap, option_map}
 use Rattle.cel_overload.specs.View.{found_view, types_of}
-use Rattle.cel_overload.proofs.Choosing.{chosen-fits}
+use Rattle.cel_overload.proofs.Choosing.{chosen_fits}
 use Rattle.cel_overload.proofs.OneOverload.{unchosen}
 use Rattle.cel_overload.proofs.overload.find_overload.Goals as goal
 
@@ -16,6 +16,6 @@ pub returns-in-Some-choose-clause-found : goal.returns-in-Some-choose-clause-fou
 returns-in-Some-choose-clause-found c = (
   c.in-Some.function,
   (sym c.function_named.ensures ∙ c.in-Some.is),
-  chosen-fits c.in-Some.function c.args.has_target (types_of c.args.operands.now) _ _
+  chosen_fits c.in-Some.function c.args.has_target (types_of c.args.operands.now) _ _
       (sym c.choose.ensures ∙ ap (option_map found_view) c.in-Some-choose.is),
 )

@@ -1,5 +1,5 @@
-use Rattle.cel_types.proofs.CheckLaws.{check-total}
+use Rattle.cel_types.proofs.CheckLaws.{check_total}
 use Rattle.cel_types.proofs.laws.typing_total.Goals as goal
 
 pub returns : goal.returns
-returns c = check-total
+returns c = check_total

@@ -1,12 +1,12 @@
-use Rattle.cel_value.specs.EqualityLaws.{key_eq-Decides, value_eq-Decides}
-use Rattle.cel_value.specs.EqualityLaws.{type_eq-Decides}
+use Rattle.cel_value.specs.EqualityLaws.{key_eq_decides, value_eq_decides}
+use Rattle.cel_value.specs.EqualityLaws.{type_eq_decides}
 use Rattle.cel_value.proofs.laws.equality_is_exact.Goals as goal
 
 pub returns-clause-values : goal.returns-clause-values
-returns-clause-values c = value_eq-Decides
+returns-clause-values c = value_eq_decides
 
 pub returns-clause-keys : goal.returns-clause-keys
-returns-clause-keys c = key_eq-Decides
+returns-clause-keys c = key_eq_decides
 
 pub returns-clause-types : goal.returns-clause-types
-returns-clause-types c = type_eq-Decides
+returns-clause-types c = type_eq_decides

@@ -1,5 +1,5 @@
-use Rattle.cel_value.proofs.Extensional.{same-map}
+use Rattle.cel_value.proofs.Extensional.{same_map}
 use Rattle.cel_value.proofs.laws.maps_are_functions.Goals as goal
 
 pub returns : goal.returns
-returns c = same-map
+returns c = same_map

@@ -1,5 +1,5 @@
-use Rattle.cel_value.proofs.Places.{put-ascending}
+use Rattle.cel_value.proofs.Places.{put_ascending}
 use Rattle.cel_value.proofs.laws.put_keeps_order.Goals as goal
 
 pub returns : goal.returns
-returns c = put-ascending
+returns c = put_ascending

@@ -2,13 +2,13 @@ use Rattle.std.proofs.Common.{◌≡◌, ◌∷◌, ◌++◌, rules, refl, sym, 
 use Rattle.std.proofs.lemmas.Option.{none-some}
 use Rattle.cel_value.specs.Keys.{get, put, IsAscending}
 use Rattle.cel_value.specs.View.{entries_view, key_view, value_view}
-use Rattle.cel_value.proofs.MapSearching.{entry-found, entry-absent, entry-placed}
+use Rattle.cel_value.proofs.MapSearching.{entry_found, entry_absent, entry_placed}
 use Rattle.cel_value.proofs.map.insert_entry.Goals as goal
 
 pub returns-in-Ok : goal.returns-in-Ok
 returns-in-Ok c =
     let up : IsAscending (entries_view c.deref.result.now) = rw c.deref.ensures.value c.requires in
-    let found = entry-found (key_view c.args.key) (λ a r f' k. search rules) c.deref.result.now _
+    let found = entry_found (key_view c.args.key) (λ a r f' k. search rules) c.deref.result.now _
     (c.args.key, c.args.value) up c.in-Ok.ensures.bound c.in-Ok.ensures.position in (
       λ none. none-some _ (sym none
           ∙ ap (λ es. get (entries_view es) (key_view c.args.key)) (sym c.deref.ensures.value)
@@ -19,9 +19,9 @@ returns-in-Ok c =
 pub returns-in_ok-insert-in-Err : goal.returns-in_ok-insert-in-Err
 returns-in_ok-insert-in-Err c =
     let up : IsAscending (entries_view c.deref.result.now) = rw c.deref.ensures.value c.requires in
-    let absent = entry-absent (key_view c.args.key) (λ a r f' k. search rules) c.deref.result.now _
+    let absent = entry_absent (key_view c.args.key) (λ a r f' k. search rules) c.deref.result.now _
     up c.in-Err.ensures.position in
-    let placed = entry-placed (key_view c.args.key) (λ a r f' k. search rules)
+    let placed = entry_placed (key_view c.args.key) (λ a r f' k. search rules)
     (c.args.key, c.args.value) c.deref.result.now c.in-Err.place refl c.in-Err.ensures.bound up
     c.in-Err.ensures.position in (
       ap (λ es. get (entries_view es) (key_view c.args.key)) (sym c.deref.ensures.value) ∙ absent,

@@ -2,7 +2,7 @@ use Rattle.std.proofs.Common.{◌≡◌, ◌+◌, ◌++◌, [], ◌∷◌, Some,
 use Rattle.stack_machine.specs.Locals.{local_of}
 use Rattle.stack_machine.specs.Shapes.{empty}
 use Rattle.code_verifier.specs.declared.shape.Shape.{Shape as ShapeOfCode}
-use Rattle.code_verifier.proofs.Frames.{known-grows, stands-grow, start_view, start_stands, length-known}
+use Rattle.code_verifier.proofs.Frames.{known_grows, stands_grow, start_view, start_stands, length_known}
 use Rattle.code_verifier.proofs.table.first_shapes.Goals as goal
 
 pub loop-turn-init : goal.loop-turn-init
@@ -20,8 +20,8 @@ loop-turn-init c =
 pub loop-turn-preserved : goal.loop-turn-preserved
 loop-turn-preserved c = record {
   long = let was = c.loop-turn.invariant.long in omega (arith, was, c.in_ok-push-2.ensures.len);
-  first = λ stacks e. rw c.in_ok-push-2.ensures.items (known-grows stacks c.loop-turn.shapes.items (Some empty ∷ []) (c.loop-turn.invariant.first stacks e));
-  stand = λ stacks h. rw c.in_ok-push-2.ensures.items (stands-grow stacks c.loop-turn.shapes.items (c.loop-turn.invariant.stand stacks h));
+  first = λ stacks e. rw c.in_ok-push-2.ensures.items (known_grows stacks c.loop-turn.shapes.items (Some empty ∷ []) (c.loop-turn.invariant.first stacks e));
+  stand = λ stacks h. rw c.in_ok-push-2.ensures.items (stands_grow stacks c.loop-turn.shapes.items (c.loop-turn.invariant.stand stacks h));
 }
 
 pub returns : goal.returns
@@ -30,7 +30,7 @@ returns c =
     let many = c.loop-turn.invariant.long in
     record {
       starts = λ stacks e. record {
-        long = length-known stacks c.loop-turn.shapes.items ∙ many ∙ ap (λ n. n + 1) end;
+        long = length_known stacks c.loop-turn.shapes.items ∙ many ∙ ap (λ n. n + 1) end;
         first = c.loop-turn.invariant.first stacks e;
       };
       stand = c.loop-turn.invariant.stand;

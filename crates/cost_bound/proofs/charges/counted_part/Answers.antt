@@ -4,14 +4,14 @@ use Rattle.cel_types.specs.Elaborated.{kinds}
 use Rattle.cel_types.specs.View.{exprs_view}
 use Rattle.cost_bound.specs.Costs.{charge_at}
 use Rattle.cost_bound.specs.steps.SizeView.{sizes_view}
-use Rattle.cost_bound.proofs.Counting.{as-many-kinds, no-count-kinds}
+use Rattle.cost_bound.proofs.Counting.{as_many_kinds, no_count_kinds}
 use Rattle.cost_bound.proofs.charges.counted_part.Goals as goal
 
 pub returns-in_default-2 : goal.returns-in_default-2
 returns-in_default-2 c =
     let many = c.in_default.len_at_least in
-    let long = as-many-kinds c.args.operands.now in
+    let long = as_many_kinds c.args.operands.now in
     let enough : 2 ≤ length (kinds (exprs_view c.args.operands.now)) = omega arith in
     let one : charge_at overloads.Size (kinds (exprs_view c.args.operands.now)) (sizes_view c.args.sizes.now)
-    ≡ 1 = no-count-kinds _ _ enough in
+    ≡ 1 = no_count_kinds _ _ enough in
     rw one refl

@@ -2,18 +2,18 @@ use Rattle.std.proofs.Common.{sym, ap, ◌∙◌, arith}
 use Rattle.cost_bound.specs.Costs.{join_all, keys_of, values_of}
 use Rattle.cost_bound.specs.Sizes.{join}
 use Rattle.cost_bound.specs.steps.SizeView.{size_view}
-use Rattle.cost_bound.proofs.Places.{place-before}
-use Rattle.cost_bound.proofs.Turns.{keys-of-more, values-of-more}
+use Rattle.cost_bound.proofs.Places.{place_before}
+use Rattle.cost_bound.proofs.Turns.{keys_of_more, values_of_more}
 use Rattle.cost_bound.proofs.made.join_turns.Goals as goal
 
 pub loop-at-preserved : goal.loop-at-preserved
 loop-at-preserved c =
     let before = c.loop-at.invariant in
-    let front = place-before c.args.sizes.now c.loop-at.at c.index-sizes-at.result c.index-sizes-at.is
+    let front = place_before c.args.sizes.now c.loop-at.at c.index-sizes-at.result c.index-sizes-at.is
     c.loop-at-test.true before.0 in (
       omega (arith, before.0),
       c.in_ok-joined.ensures ∙ ap (join (size_view c.index-sizes-at.result)) before.2
-          ∙ sym (ap join_all (ap keys_of front ∙ keys-of-more (size_view c.index-sizes-at.result) _)),
+          ∙ sym (ap join_all (ap keys_of front ∙ keys_of_more (size_view c.index-sizes-at.result) _)),
       before.1 ∙ sym (ap join_all (ap values_of front
-          ∙ values-of-more (size_view c.index-sizes-at.result) _)),
+          ∙ values_of_more (size_view c.index-sizes-at.result) _)),
     )

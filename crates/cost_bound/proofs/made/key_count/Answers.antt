@@ -1,12 +1,12 @@
 use Rattle.std.proofs.Common.{◌≡◌, length, arith}
 use Rattle.std.proofs.lemmas.List.{length-map}
 use Rattle.cost_bound.specs.steps.SizeView.{size_view, sizes_view}
-use Rattle.cost_bound.proofs.Turns.{key-count}
+use Rattle.cost_bound.proofs.Turns.{key_count_fact}
 use Rattle.cost_bound.proofs.made.key_count.Goals as goal
 
 pub returns : goal.returns
 returns c =
-    let counted = key-count (sizes_view c.args.sizes.now) in
+    let counted = key_count_fact (sizes_view c.args.sizes.now) in
     let same : length (sizes_view c.args.sizes.now) ≡ length c.args.sizes.now =
     length-map c.args.sizes.now size_view in
     omega arith

@@ -2,12 +2,12 @@
 use Rattle.std.proofs.Common.{◌≡◌, ◌∙◌, sym}
 use Rattle.std.specs.FinMap.{entries, get-entries}
 use Rattle.attributes.specs.Headers.{headers_view}
-use Rattle.attributes.proofs.HeaderMaps.{is_sorted-entries}
+use Rattle.attributes.proofs.HeaderMaps.{is_sorted_entries}
 use Rattle.attributes.proofs.request.Request.header_text.Goals as goal
 
 pub find_header-requires : goal.find_header-requires
 find_header-requires c =
-    rw (c.as_slice.ensures.value, c.deref.ensures, ← c.self.invariant.headers) (is_sorted-entries _)
+    rw (c.as_slice.ensures.value, c.deref.ensures, ← c.self.invariant.headers) (is_sorted_entries _)
 
 pub returns : goal.returns
 returns c =

@@ -6,7 +6,7 @@ use Rattle.std.specs.Rc.{rc_str_bytes}
 use Rattle.std.specs.FinMap.{entries}
 use Rattle.attributes.specs.Conn.{conn_view}
 use Rattle.attributes.specs.Headers.{Entry, all_entries, headers_of, headers_view, line_view, lines_view}
-use Rattle.attributes.proofs.Facts.{IsUtf8-rc_str_bytes}
+use Rattle.attributes.proofs.Facts.{is_utf8_rc_str_bytes}
 use Rattle.attributes.proofs.Requests.{request_kept, same_request, text_headers}
 use Rattle.attributes.proofs.request.Request.new.Goals as goal
 
@@ -25,7 +25,7 @@ invariant_of-result c =
     request_kept method target c.args.http11 lines kept (conn_view c.args.conn)
     c.len-count.result count joined _ _ _ c.in_ok-share_url_path.ensures
     c.in_ok-share_query.ensures (c.in_ok-from_str.ensures.ok ∙ c.protocol_text.ensures)
-    (IsUtf8-rc_str_bytes c.in_ok-method.method) (IsUtf8-rc_str_bytes c.in_ok-target.target)
+    (is_utf8_rc_str_bytes c.in_ok-method.method) (is_utf8_rc_str_bytes c.in_ok-target.target)
     (text_headers c.in_ok-new.field-0.value.items) c.facts_are_sound.ensures (omega (arith, c))
 
 pub returns : goal.returns

@@ -1,4 +1,4 @@
-use Rattle.cel_types.proofs.CheckNames.{joined-points}
+use Rattle.cel_types.proofs.CheckNames.{joined_points}
 use Rattle.cel_types.proofs.checker.names.joined_name.Goals as goal
 
 pub returns : goal.returns
@@ -8,4 +8,4 @@ returns c =
       c.in_ok-push_str-2.ensures.bytes,
       c.in_ok-push_str.ensures.bytes,
       c.new-name.ensures.bytes,
-    ) (joined-points c.args.root.now c.args.field.now c.utf8.root)
+    ) (joined_points c.args.root.now c.args.field.now c.utf8.root)

@@ -10,8 +10,8 @@ use Rattle.cel_types.specs.Typing.{maps_of}
 use Rattle.cel_types.specs.View.{expr_view, exprs_view}
 use Rattle.cel_types.specs.steps.Kinds.{elements_type}
 use Rattle.cel_types.specs.steps.Scopes.{scope_view}
-use Rattle.cel_types.proofs.CheckSteps.{target-some, tree-Call, tree-Comprehension, tree-Ident, tree-Map, view-List, view-Loop, view-Map}
-use Rattle.cel_types.proofs.Checking.{attribute-bad, call-bad, call-found, each-more, each-within, elements-none, entry-within, entry-wrong, field-bad, field-found, list-bad, list-found, loop-found, map-bad, map-found, node-found, pair-at, pairs-more, result-bad, some-at, turn-bad, types-of}
+use Rattle.cel_types.proofs.CheckSteps.{target_some, tree_call, tree_comprehension, tree_ident, tree_map, view_list, view_loop, view_map}
+use Rattle.cel_types.proofs.Checking.{attribute_bad, call_bad, call_found, each_more, each_within, elements-none, entry_within, entry_wrong, field_bad, field_found, list_bad, list_found, loop_found, map_bad, map_found, node_found, pair_at, pairs_more, result-bad, some_at, turn-bad, types_of}
 use Rattle.cel_types.proofs.checker.nodes.+check.Goals as goal
 
 pub check_select-returns-in-Some-clause-fault : goal.check_select-returns-in-Some-clause-fault
@@ -19,7 +19,7 @@ check_select-returns-in-Some-clause-fault t c =
     let is = rw c.in-Some.is at c.bare_root.ensures in
     let same : to_z w64 (of_z w64 c.args.id) ≡ c.args.id = to_z-of_z c.ranges.id in
     last_memory_or _ _ c.check_attribute.result (rw same at c.check_attribute.ensures.fault)
-    (λ e bad. attribute-bad (maps_of (checked_view c.args.checked.now)) (scope_view c.args.scope.now)
+    (λ e bad. attribute_bad (maps_of (checked_view c.args.checked.now)) (scope_view c.args.scope.now)
     c.args.id (tree_view c.args.operand.now) (text_view c.in-Some.root.now) (text_view c.args.field.now)
     c.args.test_only e (sym is) bad)
 
@@ -27,7 +27,7 @@ pub check_select-returns-clause-found : goal.check_select-returns-clause-found
 check_select-returns-clause-found t c =
     let is = rw c.in_default.is at c.bare_root.ensures in
     MatchResult-weaker c.field_expr.result c.field_expr.ensures.found
-    (λ e h. rw h.2 (field-found (maps_of (checked_view c.args.checked.now)) (scope_view c.args.scope.now)
+    (λ e h. rw h.2 (field_found (maps_of (checked_view c.args.checked.now)) (scope_view c.args.scope.now)
     c.args.id (tree_view c.args.operand.now) (text_view c.args.field.now) c.args.test_only
     (expr_view c.in_ok-map.map) h.0 (sym is) c.in_ok-map.ensures.found h.1)) (λ _ _. tt)
 
@@ -35,7 +35,7 @@ pub check_select-returns-clause-fault : goal.check_select-returns-clause-fault
 check_select-returns-clause-fault t c =
     let is = rw c.in_default.is at c.bare_root.ensures in
     last_memory_or _ _ c.field_expr.result c.field_expr.ensures.fault
-    (λ e bad. field-bad (maps_of (checked_view c.args.checked.now)) (scope_view c.args.scope.now)
+    (λ e bad. field_bad (maps_of (checked_view c.args.checked.now)) (scope_view c.args.scope.now)
     c.args.id (tree_view c.args.operand.now) (text_view c.args.field.now) c.args.test_only
     (expr_view c.in_ok-map.map) e (sym is) c.in_ok-map.ensures.found bad.0 bad.1)
 
@@ -43,14 +43,14 @@ pub check_tree-returns-in_err-require_type-clause-fault : goal.check_tree-return
 check_tree-returns-in_err-require_type-clause-fault t c =
     let same : to_z w64 (of_z w64 c.id_of.result) ≡ c.id_of.result = search rules in
     exit_fault _ c.from_residual-in_err-require_type.result _ c.from_residual-in_err-require_type.ensures.1
-    (entry-wrong (maps_of (checked_view c.args.checked.now)) (scope_view c.args.scope.now)
+    (entry_wrong (maps_of (checked_view c.args.checked.now)) (scope_view c.args.scope.now)
     (tree_view c.args.tree.now) (expr_view c.in_ok-typed.typed) c.in_ok-typed.ensures.found _
     (rw (c.get.ensures, same, c.id_of.ensures, c.cel_type.ensures) at c.in_err-require_type.ensures.fault))
 
 pub check_tree-returns-clause-found : goal.check_tree-returns-clause-found
 check_tree-returns-clause-found t c =
     let same : to_z w64 (of_z w64 c.id_of.result) ≡ c.id_of.result = search rules in
-    node-found (maps_of (checked_view c.args.checked.now)) (scope_view c.args.scope.now)
+    node_found (maps_of (checked_view c.args.checked.now)) (scope_view c.args.scope.now)
     (tree_view c.args.tree.now) (expr_view c.in_ok-typed.typed) c.in_ok-typed.ensures.found
     (rw (c.get.ensures, same, c.id_of.ensures, c.cel_type.ensures) at c.in_ok-require_type.ensures.found)
 
@@ -58,13 +58,13 @@ pub check_turn-returns-in_err-require_bool-clause-fault : goal.check_turn-return
 check_turn-returns-in_err-require_bool-clause-fault t c =
     let bad = rw c.cel_type.ensures at c.in_err-require_bool.ensures.fault in
     exit_fault _ c.from_residual-in_err-require_bool.result _ c.from_residual-in_err-require_bool.ensures.1
-    (inr (inl ((_, types-of _ _ _ _ c.in_ok-condition.ensures.found.0, bad.0), bad.1)))
+    (inr (inl ((_, types_of _ _ _ _ c.in_ok-condition.ensures.found.0, bad.0), bad.1)))
 
 pub check_turn-returns-in_err-require_same-clause-fault : goal.check_turn-returns-in_err-require_same-clause-fault
 check_turn-returns-in_err-require_same-clause-fault t c =
     let bad = rw c.cel_type-2.ensures at c.in_err-require_same.ensures.fault in
     exit_fault _ c.from_residual-in_err-require_same.result _ c.from_residual-in_err-require_same.ensures.1
-    (inr (inr ((_, types-of _ _ _ _ c.in_ok-step.ensures.found.0, bad.0), bad.1)))
+    (inr (inr ((_, types_of _ _ _ _ c.in_ok-step.ensures.found.0, bad.0), bad.1)))
 
 pub check_list-returns-in_err-cel_type-clause-fault : goal.check_list-returns-in_err-cel_type-clause-fault
 check_list-returns-in_err-cel_type-clause-fault t c =
@@ -72,15 +72,15 @@ check_list-returns-in_err-cel_type-clause-fault t c =
     let found = rw c.new.ensures.items at c.in_ok-elements.ensures.found in
     exit_memory_or _ _ c.from_residual-in_err-cel_type.result _ c.from_residual-in_err-cel_type.ensures.1
     (rw (c.get.ensures, same, c.deref.ensures.value) at c.in_err-cel_type.ensures.fault)
-    (λ e bad. list-bad (maps_of (checked_view c.args.checked.now)) (scope_view c.args.scope.now) c.args.id
+    (λ e bad. list_bad (maps_of (checked_view c.args.checked.now)) (scope_view c.args.scope.now) c.args.id
     (trees_view c.args.elements.now) (map expr_view c.in_ok-elements.elements.items) e found bad)
 
 pub check_list-returns-clause-found : goal.check_list-returns-clause-found
 check_list-returns-clause-found t c =
     let same : to_z w64 (of_z w64 c.args.id) ≡ c.args.id = to_z-of_z c.ranges.id in
     let found = rw c.new.ensures.items at c.in_ok-elements.ensures.found in
-    rw (view-List c.in_ok-cel_type.cel_type c.in_ok-elements.elements)
-    (list-found (maps_of (checked_view c.args.checked.now)) (scope_view c.args.scope.now) c.args.id
+    rw (view_list c.in_ok-cel_type.cel_type c.in_ok-elements.elements)
+    (list_found (maps_of (checked_view c.args.checked.now)) (scope_view c.args.scope.now) c.args.id
     (trees_view c.args.elements.now) (map expr_view c.in_ok-elements.elements.items)
     (type_view c.in_ok-cel_type.cel_type) found
     (rw (c.get.ensures, same, c.deref.ensures.value) at c.in_ok-cel_type.ensures.found))
@@ -91,22 +91,22 @@ check_map-returns-in_err-cel_type-clause-fault t c =
     let found = c.in_ok-pairs.ensures.found in
     exit_memory_or _ _ c.from_residual-in_err-cel_type.result _ c.from_residual-in_err-cel_type.ensures.1
     (rw (c.get.ensures, same, c.deref.ensures.value) at c.in_err-cel_type.ensures.fault)
-    (λ e bad. map-bad (maps_of (checked_view c.args.checked.now)) (scope_view c.args.scope.now) c.args.id
+    (λ e bad. map_bad (maps_of (checked_view c.args.checked.now)) (scope_view c.args.scope.now) c.args.id
     (tree_entries_view c.args.entries.now) (exprs_view c.in_ok-pairs.pairs.items) e found.0 bad)
 
 pub check_map-returns-clause-found : goal.check_map-returns-clause-found
 check_map-returns-clause-found t c =
     let same : to_z w64 (of_z w64 c.args.id) ≡ c.args.id = to_z-of_z c.ranges.id in
     let found = c.in_ok-pairs.ensures.found in
-    rw (view-Map c.in_ok-cel_type.cel_type c.in_ok-pairs.pairs)
-    (map-found (maps_of (checked_view c.args.checked.now)) (scope_view c.args.scope.now) c.args.id
+    rw (view_map c.in_ok-cel_type.cel_type c.in_ok-pairs.pairs)
+    (map_found (maps_of (checked_view c.args.checked.now)) (scope_view c.args.scope.now) c.args.id
     (tree_entries_view c.args.entries.now) (exprs_view c.in_ok-pairs.pairs.items)
     (type_view c.in_ok-cel_type.cel_type) found.0 found.1
     (rw (c.get.ensures, same, c.deref.ensures.value) at c.in_ok-cel_type.ensures.found))
 
 pub check_each-check_tree-requires : goal.check_each-check_tree-requires
 check_each-check_tree-requires t c =
-    let within = each-within c.args.trees.now c.loop-tree.tree-index c.tree-item.result
+    let within = each_within c.args.trees.now c.loop-tree.tree-index c.tree-item.result
     c.loop-tree-test.true c.tree-item.is in
     let all = c.requires in
     (first_of (search (rules, the_lemmas), grind (arith, the_lemmas), grind (arith, common_steps)), omega (arith, within, all))
@@ -114,20 +114,20 @@ check_each-check_tree-requires t c =
 pub check_each-returns-in_err-check_tree-clause-fault : goal.check_each-returns-in_err-check_tree-clause-fault
 check_each-returns-in_err-check_tree-clause-fault t c =
     exit_memory_or _ _ c.from_residual.result _ c.from_residual.ensures.1 c.in_err-check_tree.ensures.fault
-    (λ e bad. some-at (maps_of (checked_view c.args.checked.now)) (scope_view c.args.scope.now)
+    (λ e bad. some_at (maps_of (checked_view c.args.checked.now)) (scope_view c.args.scope.now)
     c.args.trees.now c.loop-tree.tree-index c.tree-item.result e c.loop-tree-test.true c.tree-item.is bad)
 
 pub check_each-loop-tree-preserved : goal.check_each-loop-tree-preserved
 check_each-loop-tree-preserved t c =
     rw c.in_ok-push.ensures.items
-    (each-more (maps_of (checked_view c.args.checked.now)) (scope_view c.args.scope.now)
+    (each_more (maps_of (checked_view c.args.checked.now)) (scope_view c.args.scope.now)
     c.args.trees.now c.loop-tree.tree-index c.tree-item.result (map expr_view c.args.before.items)
     c.loop-tree.typed.items c.in_ok-check_tree.field-0 c.loop-tree-test.true c.tree-item.is
     c.loop-tree.invariant c.in_ok-check_tree.ensures.found)
 
 pub check_pairs-check_tree-requires : goal.check_pairs-check_tree-requires
 check_pairs-check_tree-requires t c =
-    let within = entry-within c.args.entries.now c.loop-entry.entry-index c.entry-item.result
+    let within = entry_within c.args.entries.now c.loop-entry.entry-index c.entry-item.result
     c.loop-entry-test.true c.entry-item.is in
     let key = within.0 in
     let all = c.requires in
@@ -135,7 +135,7 @@ check_pairs-check_tree-requires t c =
 
 pub check_pairs-check_tree-requires-in-loop-entry : goal.check_pairs-check_tree-requires-in-loop-entry
 check_pairs-check_tree-requires-in-loop-entry t c =
-    let within = entry-within c.args.entries.now c.loop-entry.entry-index c.entry-item.result
+    let within = entry_within c.args.entries.now c.loop-entry.entry-index c.entry-item.result
     c.loop-entry-test.true c.entry-item.is in
     let value = within.1 in
     let all = c.requires in
@@ -144,7 +144,7 @@ check_pairs-check_tree-requires-in-loop-entry t c =
 pub check_pairs-returns-in_err-check_tree-clause-fault : goal.check_pairs-returns-in_err-check_tree-clause-fault
 check_pairs-returns-in_err-check_tree-clause-fault t c =
     exit_memory_or _ _ c.from_residual.result _ c.from_residual.ensures.1 c.in_err-check_tree.ensures.fault
-    (λ e bad. pair-at (maps_of (checked_view c.args.checked.now)) (scope_view c.args.scope.now)
+    (λ e bad. pair_at (maps_of (checked_view c.args.checked.now)) (scope_view c.args.scope.now)
     c.args.entries.now c.loop-entry.entry-index c.entry-item.result e c.loop-entry-test.true
     c.entry-item.is (inl bad))
 
@@ -152,14 +152,14 @@ pub check_pairs-returns-in_err-check_tree-2-clause-fault : goal.check_pairs-retu
 check_pairs-returns-in_err-check_tree-2-clause-fault t c =
     exit_memory_or _ _ c.from_residual-in_err-check_tree-2.result _
     c.from_residual-in_err-check_tree-2.ensures.1 c.in_err-check_tree-2.ensures.fault
-    (λ e bad. pair-at (maps_of (checked_view c.args.checked.now)) (scope_view c.args.scope.now)
+    (λ e bad. pair_at (maps_of (checked_view c.args.checked.now)) (scope_view c.args.scope.now)
     c.args.entries.now c.loop-entry.entry-index c.entry-item.result e c.loop-entry-test.true
     c.entry-item.is (inr bad))
 
 pub check_pairs-loop-entry-preserved : goal.check_pairs-loop-entry-preserved
 check_pairs-loop-entry-preserved t c =
     rw (c.in_ok-push-2.ensures.items, c.in_ok-push.ensures.items)
-    (pairs-more (maps_of (checked_view c.args.checked.now)) (scope_view c.args.scope.now)
+    (pairs_more (maps_of (checked_view c.args.checked.now)) (scope_view c.args.scope.now)
     c.args.entries.now c.loop-entry.entry-index c.entry-item.result c.loop-entry.pairs.items
     c.in_ok-check_tree.field-0 c.in_ok-check_tree-2.field-0 c.loop-entry-test.true c.entry-item.is
     c.loop-entry.invariant c.in_ok-check_tree.ensures.found c.in_ok-check_tree-2.ensures.found)
@@ -168,23 +168,23 @@ pub check_node-returns-in-Ident-clause-fault : goal.check_node-returns-in-Ident-
 check_node-returns-in-Ident-clause-fault t c =
     let same : to_z w64 (of_z w64 c.in-Ident.id) ≡ c.in-Ident.id = search rules in
     last_memory_or _ _ c.check_ident.result (rw same at c.check_ident.ensures.fault)
-    (λ e bad. rw (c.in-Ident.is, tree-Ident c.in-Ident.id c.in-Ident.name) (inl bad))
+    (λ e bad. rw (c.in-Ident.is, tree_ident c.in-Ident.id c.in-Ident.name) (inl bad))
 
 pub check_node-returns-in-Map-clause-found : goal.check_node-returns-in-Map-clause-found
 check_node-returns-in-Map-clause-found t c =
     let same : to_z w64 (of_z w64 c.in-Map.id) ≡ c.in-Map.id = search rules in
-    rw (c.in-Map.is, tree-Map c.in-Map.id c.in-Map.entries)
+    rw (c.in-Map.is, tree_map c.in-Map.id c.in-Map.entries)
     (rw (same, c.deref-in-Map.ensures.value) at c.check_map.ensures.found)
 
 pub check_node-returns-in-Map-clause-fault : goal.check_node-returns-in-Map-clause-fault
 check_node-returns-in-Map-clause-fault t c =
     let same : to_z w64 (of_z w64 c.in-Map.id) ≡ c.in-Map.id = search rules in
-    rw (c.in-Map.is, tree-Map c.in-Map.id c.in-Map.entries)
+    rw (c.in-Map.is, tree_map c.in-Map.id c.in-Map.entries)
     (rw (same, c.deref-in-Map.ensures.value) at c.check_map.ensures.fault)
 
 pub check_node-returns-in-Comprehension-clause-found : goal.check_node-returns-in-Comprehension-clause-found
 check_node-returns-in-Comprehension-clause-found t c =
-    rw (c.in-Comprehension.is, tree-Comprehension c.in-Comprehension.id c.in-Comprehension.parts)
+    rw (c.in-Comprehension.is, tree_comprehension c.in-Comprehension.id c.in-Comprehension.parts)
     (rw c.deref-in-Comprehension.ensures at c.check_loop.ensures.found)
 
 pub check_loop-returns-in_err-elements-clause-fault : goal.check_loop-returns-in_err-elements-clause-fault
@@ -230,12 +230,12 @@ check_loop-returns-clause-found t c =
     ) at c.in_ok-condition.ensures.found in
     let last = rw (c.with-inner.ensures, c.cel_type-2.ensures) at c.in_ok-result.ensures.found in
     rw (
-      view-Loop c.in_ok-cel_type.cel_type c.in_ok-parts.parts,
+      view_loop c.in_ok-cel_type.cel_type c.in_ok-parts.parts,
       c.in_ok-parts.ensures.ok,
       c.in_ok-cel_type.ensures,
       c.cel_type-4.ensures,
     )
-    (loop-found (maps_of (checked_view c.args.checked.now)) (scope_view c.args.scope.now) c.args.id
+    (loop_found (maps_of (checked_view c.args.checked.now)) (scope_view c.args.scope.now) c.args.id
     (loop_view c.args.parts.now) (expr_view c.in_ok-range.range) c.in_ok-range.ensures.found (expr_view c.in_ok-init.init) c.in_ok-init.ensures.found
     (elements_type c.in_ok-elements.elements) over c.in_ok-require_names_differ.ensures.found
     (expr_view c.in_ok-condition.condition) (expr_view c.in_ok-condition.step)
@@ -244,23 +244,23 @@ check_loop-returns-clause-found t c =
 pub check_node-returns-in_ok-operands-in-Call-clause-found : goal.check_node-returns-in_ok-operands-in-Call-clause-found
 check_node-returns-in_ok-operands-in-Call-clause-found t c =
     let others = rw c.deref-in-Call.ensures.value at c.in_ok-operands-in-Call.ensures.found in
-    rw (c.in-Call.is, tree-Call c.in-Call.id c.in-Call.function c.in-Call.target c.in-Call.args)
+    rw (c.in-Call.is, tree_call c.in-Call.id c.in-Call.function c.in-Call.target c.in-Call.args)
     (MatchResult-weaker c.call_expr.result c.call_expr.ensures.found
-    (λ e h. call-found (maps_of (checked_view c.args.checked.now)) (scope_view c.args.scope.now)
+    (λ e h. call_found (maps_of (checked_view c.args.checked.now)) (scope_view c.args.scope.now)
     c.in-Call.id (text_view c.in-Call.function) (trees_view c.in-Call.args.items)
     (target_of (boxed_view c.in-Call.target)) (map expr_view c.in_ok-first-in-Call.first.items)
     (map expr_view c.in_ok-operands-in-Call.operands.items) (expr_view e)
     c.in_ok-first-in-Call.ensures.found others
-    (rw (c.is_some.ensures, target-some c.in-Call.target) at h)) (λ _ _. tt))
+    (rw (c.is_some.ensures, target_some c.in-Call.target) at h)) (λ _ _. tt))
 
 pub check_node-returns-in_ok-operands-in-Call-clause-fault : goal.check_node-returns-in_ok-operands-in-Call-clause-fault
 check_node-returns-in_ok-operands-in-Call-clause-fault t c =
     let others = rw c.deref-in-Call.ensures.value at c.in_ok-operands-in-Call.ensures.found in
-    rw (c.in-Call.is, tree-Call c.in-Call.id c.in-Call.function c.in-Call.target c.in-Call.args)
+    rw (c.in-Call.is, tree_call c.in-Call.id c.in-Call.function c.in-Call.target c.in-Call.args)
     (last_memory_or _ _ c.call_expr.result c.call_expr.ensures.fault
-    (λ e bad. call-bad (maps_of (checked_view c.args.checked.now)) (scope_view c.args.scope.now)
+    (λ e bad. call_bad (maps_of (checked_view c.args.checked.now)) (scope_view c.args.scope.now)
     c.in-Call.id (text_view c.in-Call.function) (trees_view c.in-Call.args.items)
     (target_of (boxed_view c.in-Call.target)) (map expr_view c.in_ok-first-in-Call.first.items)
     (map expr_view c.in_ok-operands-in-Call.operands.items) e
     c.in_ok-first-in-Call.ensures.found others
-    (rw (c.is_some.ensures, target-some c.in-Call.target) at bad)))
+    (rw (c.is_some.ensures, target_some c.in-Call.target) at bad)))

@@ -3,7 +3,7 @@ use Rattle.cel_tree.proofs.Readers.{exit_fault}
 use Rattle.cel_types.specs.TypingFaults.{IdentFault}
 use Rattle.cel_types.specs.steps.Scopes.{scope_view}
 use Rattle.cel_value.specs.Texts.{text_view}
-use Rattle.cel_types.proofs.CheckSteps.{name-types}
+use Rattle.cel_types.proofs.CheckSteps.{name_types}
 use Rattle.cel_types.proofs.checker.variables.check_ident.Goals as goal
 
 pub returns-in_err-require_reference-clause-fault : goal.returns-in_err-require_reference-clause-fault
@@ -12,5 +12,5 @@ returns-in_err-require_reference-clause-fault c =
     let bad = rw (c.get.ensures, same, c.as_str.ensures.value) at c.in_err-require_reference.ensures.fault in
     exit_fault _ c.from_residual-in_err-require_reference.result _
     c.from_residual-in_err-require_reference.ensures.1
-    (IdentFault.other_reference _ (name-types (text_view c.args.name.now) (scope_view c.args.scope.now)
+    (IdentFault.other_reference _ (name_types (text_view c.args.name.now) (scope_view c.args.scope.now)
     c.in_ok-found.found c.in_ok-found.ensures.found) bad.0 bad.1)

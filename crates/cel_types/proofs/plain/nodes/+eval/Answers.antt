@@ -7,8 +7,8 @@ use Rattle.cel_value.specs.Texts.{text_view}
 use Rattle.cel_value.specs.View.{answer_view}
 use Rattle.cel_types.specs.Meaning.{call_answer, eval_each}
 use Rattle.cel_types.specs.steps.Plain.{locals_view}
-use Rattle.cel_types.proofs.CheckSteps.{tree-Call, tree-Comprehension, tree-Map}
-use Rattle.cel_types.proofs.PlainSteps.{no-call, target-before, target-none}
+use Rattle.cel_types.proofs.CheckSteps.{tree_call, tree_comprehension, tree_map}
+use Rattle.cel_types.proofs.PlainSteps.{no_call, target_before, target_none}
 use Rattle.cel_types.proofs.plain.nodes.+eval.Goals as goal
 
 pub eval-returns-in-Some-2 : goal.eval-returns-in-Some-2
@@ -16,10 +16,10 @@ eval-returns-in-Some-2 t c =
     let ls = locals_view c.args.known.now in
     let first = rw c.in-Some.is at c.in_ok-first-in-Call.ensures in
     let others = rw (c.in-Some-2.is, c.deref-in-Some.ensures.value) at c.in_ok-operands-in-Some.ensures in
-    let operands = others ∙ sym (target-before (target_of (boxed_view c.in-Call.target)) c.args.request.now ls
+    let operands = others ∙ sym (target_before (target_of (boxed_view c.in-Call.target)) c.args.request.now ls
     (map answer_view c.in-Some.first.items) first
     (eval_each (trees_view c.in-Call.args.items) c.args.request.now ls)) in
-    rw (c.in-Call.is, tree-Call c.in-Call.id c.in-Call.function c.in-Call.target c.in-Call.args)
+    rw (c.in-Call.is, tree_call c.in-Call.id c.in-Call.function c.in-Call.target c.in-Call.args)
     (MatchResult-weaker c.call.result c.call.ensures
     (λ found h. rw (c.as_str.ensures.value, c.deref-in-Some-2.ensures.value) at h ∙ ap (call_answer (text_view c.in-Call.function)) operands) (λ _ _. tt))
 
@@ -28,31 +28,31 @@ eval-returns-in-None-2 t c =
     let ls = locals_view c.args.known.now in
     let first = rw c.in-Some.is at c.in_ok-first-in-Call.ensures in
     let others = rw (c.in-None-2.is, c.deref-in-Some.ensures.value) at c.in_ok-operands-in-Some.ensures in
-    let operands = others ∙ sym (target-before (target_of (boxed_view c.in-Call.target)) c.args.request.now ls
+    let operands = others ∙ sym (target_before (target_of (boxed_view c.in-Call.target)) c.args.request.now ls
     (map answer_view c.in-Some.first.items) first
     (eval_each (trees_view c.in-Call.args.items) c.args.request.now ls)) in
-    rw (c.in-Call.is, tree-Call c.in-Call.id c.in-Call.function c.in-Call.target c.in-Call.args)
-    (sym (no-call (text_view c.in-Call.function))
+    rw (c.in-Call.is, tree_call c.in-Call.id c.in-Call.function c.in-Call.target c.in-Call.args)
+    (sym (no_call (text_view c.in-Call.function))
     ∙ ap (call_answer (text_view c.in-Call.function)) operands)
 
 pub eval-returns-in-None : goal.eval-returns-in-None
 eval-returns-in-None t c =
     let ls = locals_view c.args.known.now in
     let first = rw c.in-None.is at c.in_ok-first-in-Call.ensures in
-    let operands = sym (target-none (target_of (boxed_view c.in-Call.target)) c.args.request.now ls first
+    let operands = sym (target_none (target_of (boxed_view c.in-Call.target)) c.args.request.now ls first
     (eval_each (trees_view c.in-Call.args.items) c.args.request.now ls)) in
-    rw (c.in-Call.is, tree-Call c.in-Call.id c.in-Call.function c.in-Call.target c.in-Call.args)
-    (sym (no-call (text_view c.in-Call.function))
+    rw (c.in-Call.is, tree_call c.in-Call.id c.in-Call.function c.in-Call.target c.in-Call.args)
+    (sym (no_call (text_view c.in-Call.function))
     ∙ ap (call_answer (text_view c.in-Call.function)) operands)
 
 pub eval-returns-in-Some-4 : goal.eval-returns-in-Some-4
 eval-returns-in-Some-4 t c =
     let operands = rw (c.in-Some-4.is, c.deref-in-Map.ensures.value) at c.in_ok-operands-in-Map.ensures in
-    rw (c.in-Map.is, tree-Map c.in-Map.id c.in-Map.entries)
+    rw (c.in-Map.is, tree_map c.in-Map.id c.in-Map.entries)
     (MatchResult-weaker c.map_of.result c.map_of.ensures
     (λ found h. h ∙ ap (option_and_then collections.map_literal) operands) (λ _ _. tt))
 
 pub eval-returns-in-Comprehension : goal.eval-returns-in-Comprehension
 eval-returns-in-Comprehension t c =
-    rw (c.in-Comprehension.is, tree-Comprehension c.in-Comprehension.id c.in-Comprehension.parts)
+    rw (c.in-Comprehension.is, tree_comprehension c.in-Comprehension.id c.in-Comprehension.parts)
     (rw c.deref-in-Comprehension.ensures at c.eval_loop.ensures)

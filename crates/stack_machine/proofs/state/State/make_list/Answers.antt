@@ -6,7 +6,7 @@ use Rattle.cel_ops.specs.Charges.{list_literal_charge}
 use Rattle.cel_ops.specs.Collections.{list_literal}
 use Rattle.stack_machine.specs.Held.{held_view}
 use Rattle.stack_machine.specs.StateView.{state_view}
-use Rattle.stack_machine.proofs.Literals.{literal-goes}
+use Rattle.stack_machine.proofs.Literals.{literal_goes}
 use Rattle.stack_machine.proofs.state.State.make_list.Goals as goal
 
 pub returns-in_default-clause-out : goal.returns-in_default-clause-out
@@ -18,7 +18,7 @@ returns-in_default-clause-out c = λ _.
 
 pub returns-clause-went : goal.returns-clause-went
 returns-clause-went c =
-    literal-goes list_literal c.args.count (state_view c.args.self.now) c.requires.lives
+    literal_goes list_literal c.args.count (state_view c.args.self.now) c.requires.lives
     (map answer_view c.in_ok-operands.operands.items) (map held_view (drop c.args.count c.args.self.now.stack))
     (held_view c.of.result) _ c.in_ok-operands.ensures.taken
     (sym (drop-map held_view c.args.count c.args.self.now.stack))

@@ -6,7 +6,7 @@ use Rattle.cel_ops.specs.Charges.{map_literal_charge}
 use Rattle.cel_ops.specs.Collections.{map_literal}
 use Rattle.stack_machine.specs.Held.{held_view}
 use Rattle.stack_machine.specs.StateView.{state_view}
-use Rattle.stack_machine.proofs.Literals.{literal-goes, literal-kinds}
+use Rattle.stack_machine.proofs.Literals.{literal_goes, literal_kinds}
 use Rattle.stack_machine.proofs.state.State.make_map.Goals as goal
 
 pub returns-in_default-clause-out : goal.returns-in_default-clause-out
@@ -18,7 +18,7 @@ returns-in_default-clause-out c = λ _.
 
 pub returns-clause-went : goal.returns-clause-went
 returns-clause-went c =
-    literal-goes map_literal (2 * c.args.count) (state_view c.args.self.now) c.requires.lives
+    literal_goes map_literal (2 * c.args.count) (state_view c.args.self.now) c.requires.lives
     (map answer_view c.in_ok-operands.operands.items) (map held_view (drop (2 * c.args.count) c.args.self.now.stack))
     (held_view c.of.result) _ c.in_ok-operands.ensures.taken
     (sym (drop-map held_view (2 * c.args.count) c.args.self.now.stack))
@@ -34,6 +34,6 @@ returns-clause-paid c =
 
 pub make_map-requires : goal.make_map-requires
 make_map-requires c = record {
-  kinds = λ none. literal-kinds map_literal (2 * c.args.count) (state_view c.args.self.now) c.requires.lives
+  kinds = λ none. literal_kinds map_literal (2 * c.args.count) (state_view c.args.self.now) c.requires.lives
       (ap map_literal (sym c.in_ok-operands.ensures.taken) ∙ none);
 }
