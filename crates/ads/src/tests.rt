@@ -8,5 +8,6 @@ mod hostile;
 mod lengths;
 mod making;
 mod pieces;
+mod requests;
 mod serving;
 mod vectors;

@@ -11,23 +11,23 @@ use Rattle.attributes.specs.steps.Headers.{AreJoined, joined}
 use Rattle.attributes.proofs.TextOrder.{names_differ, same_from_test, test_same, ties_by_test}
 
 -- the values of one more entry
-values_of_more_fact : (name : List ℕ) (es : List Entry) (e : Entry)
+values_of_more : (name : List ℕ) (es : List Entry) (e : Entry)
     → values_of name (es ++ e ∷ []) ≡ values_of name es ++ values_of name (e ∷ [])
-values_of_more_fact name es e = simp (filter-append, map-append)
+values_of_more name es e = simp (filter-append, map-append)
 
 -- one more entry of this name
 values_of_named : (name v : List ℕ) (es : List Entry)
     → values_of name (es ++ (name, v) ∷ []) ≡ values_of name es ++ v ∷ []
 values_of_named name v es =
     let one : values_of name ((name, v) ∷ []) ≡ v ∷ [] = rw (test_same name) refl in
-    values_of_more_fact name es (name, v) ∙ ap (λ vs. values_of name es ++ vs) one
+    values_of_more name es (name, v) ∙ ap (λ vs. values_of name es ++ vs) one
 
 -- one more entry of another name
 values_of_other : (name : List ℕ) (es : List Entry) (e : Entry) → bytes_eq e.0 name ≡ false
     → values_of name (es ++ e ∷ []) ≡ values_of name es
 values_of_other name es e differ =
     let none : values_of name (e ∷ []) ≡ [] = rw differ refl in
-    values_of_more_fact name es e ∙ ap (λ vs. values_of name es ++ vs) none
+    values_of_more name es e ∙ ap (λ vs. values_of name es ++ vs) none
     ∙ append-nil (values_of name es)
 
 -- one more value, after a comma

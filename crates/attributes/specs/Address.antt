@@ -30,13 +30,13 @@ abbrev pub IsAddress : Ip → Type 0
 IsAddress (V4 n) = n < 2 ^ 32
 IsAddress (V6 n) = n < 2 ^ 128
 
--- whether the addresses are of one family and have their first `size` bits in common
+-- whether the addresses are of one family and have their first `prefix_len` bits in common
 abbrev pub share_prefix : ℕ → Ip → Ip → Bool
-share_prefix size (V4 a) (V4 b) = a / 2 ^ (32 - size) == b / 2 ^ (32 - size)
-share_prefix size (V6 a) (V6 b) = a / 2 ^ (128 - size) == b / 2 ^ (128 - size)
-share_prefix size a b = false
+share_prefix prefix_len (V4 a) (V4 b) = a / 2 ^ (32 - prefix_len) == b / 2 ^ (32 - prefix_len)
+share_prefix prefix_len (V6 a) (V6 b) = a / 2 ^ (128 - prefix_len) == b / 2 ^ (128 - prefix_len)
+share_prefix prefix_len a b = false
 
 -- an address range: an address and how many of its first bits count
 pub record Range : Type 0 where
   pub address : Ip
-  pub size : ℕ
+  pub prefix_len : ℕ

@@ -13,7 +13,7 @@ ghost use Rattle.cel_compile.specs.Slots.{HasFewLocals};
 ghost use Rattle.cel_compile.specs.Sound.{IsSound};
 ghost use Rattle.cel_compile.specs.steps.Emitting.{Grows, GrowsAll};
 
-use crate::few_locals::has_few_locals;
+use crate::few_locals::require_few_locals;
 use crate::instructions::{
     call_instr, constant_instr, field_instr, has_field_instr, list_instr, map_instr, next_local,
     passing_over, target,
@@ -42,9 +42,7 @@ fn compile_whole(alloc: Global, typed: &Typed<'_>) -> Result<Code, Refusal>
     ensures fault { IfErr result (MemoryOr (λ e. (e ≡ Refusal.TooLarge)
         × ((65535 < extent (typed_view typed.now)) ⊎ (HasFewLocals 0 (typed_view typed.now) → ⊥)))) }
 {
-    if !has_few_locals(0, &typed.root) {
-        return Err(Refusal::TooLarge);
-    }
+    require_few_locals(&typed.root)?;
     let mut instrs = Vec::new(alloc);
     emit(&mut instrs, 0, &typed.root)?;
     finish(instrs)
@@ -57,14 +55,23 @@ fn finish(instrs: Vec<Instr>) -> Result<Code, Refusal>
     ensures fault { IfErr result (MemoryOr (λ e. (e ≡ Refusal.TooLarge)
         × (65535 < length instrs.items))) }
 {
-    if instrs.len() > 65_535 {
-        return Err(Refusal::TooLarge);
-    }
+    require_short(instrs.len())?;
     match Code::new(instrs) {
         Ok(code) => Ok(code),
         Err(CodeFault::TooMany) => Err(Refusal::TooLarge),
         Err(CodeFault::Memory) => Err(Refusal::Memory),
     }
+}
+
+// Refuses more instructions than code may have.
+fn require_short(count: usize) -> Result<(), Refusal>
+    ensures found { OnOk result (count < 2 ^ 16) }
+    ensures fault { IfErr result (λ e. (e ≡ Refusal.TooLarge) × (65535 < count)) }
+{
+    if count > 65_535 {
+        return Err(Refusal::TooLarge);
+    }
+    Ok(())
 }
 
 // One more instruction.

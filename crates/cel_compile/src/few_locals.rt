@@ -1,14 +1,27 @@
 //! Whether an expression's locals have numbers of one byte.
 
-ghost use Rattle.std.specs.Prelude.{IsTrue, ◌↔◌};
+ghost use Rattle.std.specs.Prelude.{◌≡◌, IsTrue, ◌↔◌, OnOk, IfErr};
 ghost use Rattle.cel_types.specs.View.{expr_view, exprs_view};
 ghost use Rattle.cel_compile.specs.Slots.{HasFewLocals, HaveFewLocals};
 
 use cel_types::TypedExpr;
+use proto_wire::Refusal;
+
+/// Refuses an expression of which some part has more than 255 locals in scope.
+pub(crate) fn require_few_locals(expr: &TypedExpr<'_>) -> Result<(), Refusal>
+    ensures found { OnOk result (HasFewLocals 0 (expr_view expr.now)) }
+    ensures fault { IfErr result (λ e. (e ≡ Refusal.TooLarge)
+        × (HasFewLocals 0 (expr_view expr.now) → ⊥)) }
+{
+    if !has_few_locals(0, expr) {
+        return Err(Refusal::TooLarge);
+    }
+    Ok(())
+}
 
 /// Whether no part of the expression has more than 255 locals in scope, with so many outside.
 #[cycle(few_locals)]
-pub(crate) fn has_few_locals(depth: u8, expr: &TypedExpr<'_>) -> bool
+fn has_few_locals(depth: u8, expr: &TypedExpr<'_>) -> bool
     ensures { IsTrue result ↔ HasFewLocals depth (expr_view expr.now) }
 {
     match expr {

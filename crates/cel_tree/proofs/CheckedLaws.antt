@@ -8,7 +8,7 @@ use Rattle.proto_wire.specs.declared.refusal.Refusal.{Refusal}
 use Rattle.proto_wire.specs.declared.refusal.Refusal.TheVariants.{Missing, TooLarge}
 use Rattle.proto_wire.proofs.WholeMaps.{map_total, map_disjoint, map_unique}
 use Rattle.cel_tree.specs.Checked.{CelChecked}
-use Rattle.cel_tree.specs.Message.{most_nodes, tree_depth, reference_map_field, type_map_field, expr_field, checked_keys, CheckedSays, CheckedLacks, CheckedWrong, in_tree, in_nodes, in_types, in_refs, IsChecked, CheckedFault}
+use Rattle.cel_tree.specs.Message.{most_nodes, tree_depth, checked_field, checked_keys, CheckedSays, CheckedLacks, CheckedWrong, in_tree, in_nodes, in_types, in_refs, IsChecked, CheckedFault}
 use Rattle.cel_tree.specs.Reading.{ValuesFault}
 use Rattle.cel_tree.specs.References.{IsReference, ReferenceFault}
 use Rattle.cel_tree.specs.Tree.{CelTree}
@@ -23,20 +23,20 @@ use Rattle.cel_tree.proofs.TypeLaws.{type_total, type_disjoint, type_unique}
 
 -- ---- checked expressions
 
-nodes_total : (fs : List Wire) → payloads expr_field fs ≢ [] → (t : CelTree) → IsTree tree_depth (payloads expr_field fs) t
+nodes_total : (fs : List Wire) → payloads checked_field.expr fs ≢ [] → (t : CelTree) → IsTree tree_depth (payloads checked_field.expr fs) t
     → (node_count t ≤ most_nodes) ⊎ CheckedWrong fs TooLarge
 nodes_total fs there t is = elim (cases_lt most_nodes (node_count t)) [
-  | inl many ↦ inr (in_nodes there (node_count t, nodes_there tree_depth (payloads expr_field fs) t is, many, refl))
+  | inl many ↦ inr (in_nodes there (node_count t, nodes_there tree_depth (payloads checked_field.expr fs) t is, many, refl))
   | inr few ↦ inl few
 ]
 
-maps_total : (fs : List Wire) → payloads expr_field fs ≢ [] → (t : CelTree) → IsTree tree_depth (payloads expr_field fs) t
+maps_total : (fs : List Wire) → payloads checked_field.expr fs ≢ [] → (t : CelTree) → IsTree tree_depth (payloads checked_field.expr fs) t
     → node_count t ≤ most_nodes
     → ((c : CelChecked) × CheckedSays fs c) ⊎ ((e : Refusal) × ValuesFault CheckedLacks CheckedWrong fs e)
 maps_total fs there t is few =
-    elim (map_total int64 (IsTypeEntry tree_depth) (TypeEntryFault tree_depth) (type_total tree_depth) (payloads type_map_field fs)) [
+    elim (map_total int64 (IsTypeEntry tree_depth) (TypeEntryFault tree_depth) (type_total tree_depth) (payloads checked_field.type_map fs)) [
       | inr (e, bad) ↦ inr (e, inr (in_types bad))
-      | inl (types, typed) ↦ elim (map_total int64 IsReference ReferenceFault reference_total (payloads reference_map_field fs)) [
+      | inl (types, typed) ↦ elim (map_total int64 IsReference ReferenceFault reference_total (payloads checked_field.reference_map fs)) [
         | inr (e, bad) ↦ inr (e, inr (in_refs bad))
         | inl (refs, referred) ↦ inl (
           record { tree = t; types = types; refs = refs },
@@ -46,9 +46,9 @@ maps_total fs there t is few =
     ]
 
 says_total : (fs : List Wire) → ((c : CelChecked) × CheckedSays fs c) ⊎ ((e : Refusal) × ValuesFault CheckedLacks CheckedWrong fs e)
-says_total fs = elim (nil_or_not (payloads expr_field fs)) [
+says_total fs = elim (nil_or_not (payloads checked_field.expr fs)) [
   | inl none ↦ inr (Missing, inl (none, refl))
-  | inr there ↦ elim (tree_total tree_depth (payloads expr_field fs)) [
+  | inr there ↦ elim (tree_total tree_depth (payloads checked_field.expr fs)) [
     | inr (e, bad) ↦ inr (e, inr (in_tree there bad))
     | inl (t, is) ↦ elim (nodes_total fs there t is) [
       | inr many ↦ inr (TooLarge, inr many)
@@ -59,21 +59,21 @@ says_total fs = elim (nil_or_not (payloads expr_field fs)) [
 
 says_disjoint : (fs : List Wire) (c : CelChecked) (e : Refusal) → CheckedSays fs c → ValuesFault CheckedLacks CheckedWrong fs e → ⊥
 says_disjoint fs c e says (inl lacks) = says.there lacks.0
-says_disjoint fs c e says (inr (in_tree there bad)) = tree_disjoint tree_depth (payloads expr_field fs) c.tree e says.tree bad
+says_disjoint fs c e says (inr (in_tree there bad)) = tree_disjoint tree_depth (payloads checked_field.expr fs) c.tree e says.tree bad
 says_disjoint fs c e says (inr (in_nodes there (n, has, many, is))) =
-    let most : n ≤ node_count c.tree = nodes_most tree_depth (payloads expr_field fs) c.tree n says.tree has in
+    let most : n ≤ node_count c.tree = nodes_most tree_depth (payloads checked_field.expr fs) c.tree n says.tree has in
     let few : node_count c.tree ≤ most_nodes = says.few in
     absurd (omega (arith, most, few, many))
 says_disjoint fs c e says (inr (in_types bad)) =
-    map_disjoint int64 (IsTypeEntry tree_depth) (TypeEntryFault tree_depth) (type_disjoint tree_depth) (payloads type_map_field fs) c.types e says.types bad
+    map_disjoint int64 (IsTypeEntry tree_depth) (TypeEntryFault tree_depth) (type_disjoint tree_depth) (payloads checked_field.type_map fs) c.types e says.types bad
 says_disjoint fs c e says (inr (in_refs bad)) =
-    map_disjoint int64 IsReference ReferenceFault reference_disjoint (payloads reference_map_field fs) c.refs e says.refs bad
+    map_disjoint int64 IsReference ReferenceFault reference_disjoint (payloads checked_field.reference_map fs) c.refs e says.refs bad
 
 says_unique : (fs : List Wire) (c d : CelChecked) → CheckedSays fs c → CheckedSays fs d → c ≡ d
 says_unique fs c d a b =
-    let tree : c.tree ≡ d.tree = tree_unique tree_depth (payloads expr_field fs) c.tree d.tree a.tree b.tree in
-    let types : c.types ≡ d.types = map_unique int64 (IsTypeEntry tree_depth) (type_unique tree_depth) (payloads type_map_field fs) c.types d.types a.types b.types in
-    let refs : c.refs ≡ d.refs = map_unique int64 IsReference reference_unique (payloads reference_map_field fs) c.refs d.refs a.refs b.refs in
+    let tree : c.tree ≡ d.tree = tree_unique tree_depth (payloads checked_field.expr fs) c.tree d.tree a.tree b.tree in
+    let types : c.types ≡ d.types = map_unique int64 (IsTypeEntry tree_depth) (type_unique tree_depth) (payloads checked_field.type_map fs) c.types d.types a.types b.types in
+    let refs : c.refs ≡ d.refs = map_unique int64 IsReference reference_unique (payloads checked_field.reference_map fs) c.refs d.refs a.refs b.refs in
     λ i. record { tree = tree i; types = types i; refs = refs i }
 
 pub checked_total : (parts : List (List ℕ)) → ((c : CelChecked) × IsChecked parts c) ⊎ ((e : Refusal) × CheckedFault parts e)

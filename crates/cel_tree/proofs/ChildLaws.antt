@@ -4,7 +4,7 @@ use Rattle.proto_wire.specs.Fields.{Wire}
 use Rattle.proto_wire.specs.Merge.{Merges}
 use Rattle.proto_wire.specs.Values.{payloads}
 use Rattle.proto_wire.proofs.Unique.{merges_unique}
-use Rattle.cel_tree.specs.Nodes.{Parts, EntryNode, Node, singles, if_there, entry_children, children, loop_at, loop_children, IsEntry, AreEntries, node_kinds, KindSays, MemberSays, InEntry, InKind, IsChild, IsNode}
+use Rattle.cel_tree.specs.Nodes.{Parts, EntryNode, Node, singles, if_there, entry_children, children, loop_at, loop_children, IsEntry, AreEntries, node_kinds, KindSays, MemberSays, InEntry, InKind, IsChild, IsNode, select_field, call_field, list_field, struct_field, loop_field}
 use Rattle.cel_tree.specs.Reading.{Never}
 use Rattle.cel_tree.specs.declared.node.NodeKind.{NodeKind}
 use Rattle.cel_tree.specs.declared.node.NodeKind.TheVariants as kinds
@@ -108,29 +108,29 @@ in_kind : (kind : NodeKind) (parts : Parts) (node : Node) (child : Parts) → Ki
 in_kind kinds.Constant parts node child (v, is, same) here = absurd (none_in child (rw same at here))
 in_kind kinds.Ident parts node child (fs, message, (utf8, same)) here = absurd (none_in child (rw same at here))
 in_kind kinds.Select parts node child (fs, message, (utf8, there, same)) here =
-    elim (contains_cases (payloads 1 fs) child [] (rw same at here)) [
+    elim (contains_cases (payloads select_field.operand fs) child [] (rw same at here)) [
       | inl is ↦ (fs, message.0, (there, sym is))
       | inr none ↦ absurd (none_in child none)
     ]
 in_kind kinds.Call parts node child (fs, message, (utf8, same)) here =
-    (fs, message.0, in_call (payloads 1 fs) (payloads 3 fs) child (rw same at here))
+    (fs, message.0, in_call (payloads call_field.target fs) (payloads call_field.args fs) child (rw same at here))
 in_kind kinds.List parts node child (fs, message, (plain, same)) here =
-    (fs, message.0, in_singles (payloads 1 fs) child (rw same at here))
+    (fs, message.0, in_singles (payloads list_field.elements fs) child (rw same at here))
 in_kind kinds.Struct parts node child (fs, message, (plain, es, are, same)) here =
-    (fs, message.0, in_entries (payloads 2 fs) es child are (rw same at here))
+    (fs, message.0, in_entries (payloads struct_field.entries fs) es child are (rw same at here))
 in_kind kinds.Comprehension parts node child (fs, message, (names, there, same)) here =
     let all : Contains (loop_children (loop_at fs)) child = rw same at here in (
       fs,
       message.0,
-      elim (contains_cases (payloads 2 fs) child (payloads 4 fs ∷ payloads 5 fs ∷ payloads 6 fs ∷ payloads 7 fs ∷ []) all) [
+      elim (contains_cases (payloads loop_field.iter_range fs) child (payloads loop_field.accu_init fs ∷ payloads loop_field.loop_condition fs ∷ payloads loop_field.loop_step fs ∷ payloads loop_field.result fs ∷ []) all) [
         | inl is ↦ inl (there.iter_range, sym is)
-        | inr a ↦ inr (elim (contains_cases (payloads 4 fs) child (payloads 5 fs ∷ payloads 6 fs ∷ payloads 7 fs ∷ []) a) [
+        | inr a ↦ inr (elim (contains_cases (payloads loop_field.accu_init fs) child (payloads loop_field.loop_condition fs ∷ payloads loop_field.loop_step fs ∷ payloads loop_field.result fs ∷ []) a) [
           | inl is ↦ inl (there.accu_init, sym is)
-          | inr b ↦ inr (elim (contains_cases (payloads 5 fs) child (payloads 6 fs ∷ payloads 7 fs ∷ []) b) [
+          | inr b ↦ inr (elim (contains_cases (payloads loop_field.loop_condition fs) child (payloads loop_field.loop_step fs ∷ payloads loop_field.result fs ∷ []) b) [
             | inl is ↦ inl (there.loop_condition, sym is)
-            | inr d ↦ inr (elim (contains_cases (payloads 6 fs) child (payloads 7 fs ∷ []) d) [
+            | inr d ↦ inr (elim (contains_cases (payloads loop_field.loop_step fs) child (payloads loop_field.result fs ∷ []) d) [
               | inl is ↦ inl (there.loop_step, sym is)
-              | inr e ↦ inr (elim (contains_cases (payloads 7 fs) child [] e) [
+              | inr e ↦ inr (elim (contains_cases (payloads loop_field.result fs) child [] e) [
                 | inl is ↦ (there.result, sym is)
                 | inr none ↦ absurd (none_in child none)
               ])
@@ -144,11 +144,11 @@ in_kind kinds.Comprehension parts node child (fs, message, (names, there, same))
 of_loop : (fs : List Wire) (child : Parts) → InKind kinds.Comprehension fs child
     → Contains (loop_children (loop_at fs)) child
 of_loop fs child parts =
-    let a : Parts = payloads 2 fs in
-    let b : Parts = payloads 4 fs in
-    let c : Parts = payloads 5 fs in
-    let d : Parts = payloads 6 fs in
-    let e : Parts = payloads 7 fs in
+    let a : Parts = payloads loop_field.iter_range fs in
+    let b : Parts = payloads loop_field.accu_init fs in
+    let c : Parts = payloads loop_field.loop_condition fs in
+    let d : Parts = payloads loop_field.loop_step fs in
+    let e : Parts = payloads loop_field.result fs in
     elim parts [
       | inl (there, is) ↦ rw is (contains_first a (b ∷ c ∷ d ∷ e ∷ []))
       | inr (inl (there, is)) ↦ rw is (contains_later a b (b ∷ c ∷ d ∷ e ∷ []) (contains_first b (c ∷ d ∷ e ∷ [])))
@@ -169,21 +169,21 @@ of_kind kinds.Ident parts node own child says merges inside = absurd inside
 of_kind kinds.Select parts node own child (fs, message, (utf8, there, same)) merges inside =
     let P : List Wire → Type 0 = λ gs. InKind kinds.Select gs child in
     let here : InKind kinds.Select fs child = subst P (merges_unique parts own fs merges message.0) inside in
-    rw (same, here.1) (contains_first (payloads 1 fs) [])
+    rw (same, here.1) (contains_first (payloads select_field.operand fs) [])
 of_kind kinds.Call parts node own child (fs, message, (utf8, same)) merges inside =
     let P : List Wire → Type 0 = λ gs. InKind kinds.Call gs child in
     elim (subst P (merges_unique parts own fs merges message.0) inside) [
-      | inl (some, is) ↦ rw (same, is) (of_target (payloads 1 fs) (payloads 3 fs) some)
-      | inr (p, here, is) ↦ rw (same, is) (of_arg (payloads 1 fs) (payloads 3 fs) p here)
+      | inl (some, is) ↦ rw (same, is) (of_target (payloads call_field.target fs) (payloads call_field.args fs) some)
+      | inr (p, here, is) ↦ rw (same, is) (of_arg (payloads call_field.target fs) (payloads call_field.args fs) p here)
     ]
 of_kind kinds.List parts node own child (fs, message, (plain, same)) merges inside =
     let P : List Wire → Type 0 = λ gs. InKind kinds.List gs child in
     let here : InKind kinds.List fs child = subst P (merges_unique parts own fs merges message.0) inside in
-    rw (same, here.2) (of_singles (payloads 1 fs) here.0 here.1)
+    rw (same, here.2) (of_singles (payloads list_field.elements fs) here.0 here.1)
 of_kind kinds.Struct parts node own child (fs, message, (plain, es, are, same)) merges inside =
     let P : List Wire → Type 0 = λ gs. InKind kinds.Struct gs child in
     let here : InKind kinds.Struct fs child = subst P (merges_unique parts own fs merges message.0) inside in
-    rw same (of_entries (payloads 2 fs) es here.0 here.1 child are here.2 here.3 here.4)
+    rw same (of_entries (payloads struct_field.entries fs) es here.0 here.1 child are here.2 here.3 here.4)
 of_kind kinds.Comprehension parts node own child (fs, message, (names, there, same)) merges inside =
     let P : List Wire → Type 0 = λ gs. InKind kinds.Comprehension gs child in
     rw same (of_loop fs child (subst P (merges_unique parts own fs merges message.0) inside))

@@ -6,16 +6,16 @@ use Rattle.proto_wire.specs.declared.refusal.Refusal.{Refusal}
 use Rattle.proto_wire.specs.declared.refusal.Refusal.TheVariants.{Missing, Unsupported}
 use Rattle.cel_tree.specs.Reading.{ValuesFault}
 use Rattle.proto_wire.specs.Oneof.{last_number}
-use Rattle.cel_tree.specs.Nodes.{key_members, map_key_field, EntryLacks, EntryWrong, key_of_message, IsEntry, AreEntries}
+use Rattle.cel_tree.specs.Nodes.{entry_field, key_members, EntryLacks, EntryWrong, key_of_message, IsEntry, AreEntries}
 use Rattle.cel_tree.specs.steps.EntryViews.{entry_node_view, entry_nodes_view}
 use Rattle.cel_tree.specs.declared.literals.EntryNode.{EntryNode}
 
 -- no key counts, or that of a message
 pub key_bad : (fs : List Wire) (e : Refusal)
-    → MatchOption (last_number key_members fs) (e ≡ Missing) (λ n. (n ≢ map_key_field) × (e ≡ Unsupported))
+    → MatchOption (last_number key_members fs) (e ≡ Missing) (λ n. (n ≢ entry_field.map_key) × (e ≡ Unsupported))
     → ValuesFault EntryLacks EntryWrong fs e
 key_bad fs e = elim (last_number key_members fs) as (λ o. last_number key_members fs ≡ o
-    → MatchOption o (e ≡ Missing) (λ n. (n ≢ map_key_field) × (e ≡ Unsupported))
+    → MatchOption o (e ≡ Missing) (λ n. (n ≢ entry_field.map_key) × (e ≡ Unsupported))
     → ValuesFault EntryLacks EntryWrong fs e) [
       | None ↦ λ none missing. inl (inl none, missing)
       | Some n ↦ λ last bad. inr (key_of_message n last bad.0 bad.1)

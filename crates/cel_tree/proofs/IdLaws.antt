@@ -11,8 +11,8 @@ use Rattle.proto_wire.proofs.MapOrder.{tie}
 use Rattle.cel_value.specs.Types.{IsInt64}
 use Rattle.cel_tree.specs.Checked.{CelChecked}
 use Rattle.cel_tree.specs.Ids.{HasIds, AllHaveIds, EntriesHaveIds, MapHasIds, IdsAreInt64}
-use Rattle.cel_tree.specs.Message.{tree_depth, expr_field, reference_map_field, type_map_field, IsChecked}
-use Rattle.cel_tree.specs.Nodes.{Parts, EntryNode, Node, constant_node, ident_node, select_node, call_node, list_node, map_node, loop_node, children, node_kinds, kind_keys, KindSays, MemberSays, IsNode}
+use Rattle.cel_tree.specs.Message.{tree_depth, checked_field, IsChecked}
+use Rattle.cel_tree.specs.Nodes.{Parts, EntryNode, Node, constant_node, ident_node, select_node, call_node, list_node, map_node, loop_node, children, node_kinds, kind_keys, KindSays, MemberSays, IsNode, entry_field, struct_field, node_field}
 use Rattle.cel_tree.specs.Nodes as nodes
 use Rattle.cel_tree.specs.Reading.{Never}
 use Rattle.cel_tree.specs.References.{IsReference}
@@ -39,7 +39,7 @@ entries_fit [] [] are = tt
 entries_fit [] (e ∷ es) are = absurd are
 entries_fit (part ∷ parts) [] are = absurd are
 entries_fit (part ∷ parts) (e ∷ es) ((fs, message, says), are) =
-    (rw says.id (int64_fits 1 fs (merges_small (part ∷ []) fs message.0)), entries_fit parts es are)
+    (rw says.id (int64_fits entry_field.id fs (merges_small (part ∷ []) fs message.0)), entries_fit parts es are)
 
 kind_fits : (kind : NodeKind) (parts : Parts) (node : Node) → KindSays kind parts node → NodeFits node
 kind_fits kinds.Constant parts node (v, is, same) = rw same tt
@@ -47,12 +47,12 @@ kind_fits kinds.Ident parts node (fs, message, (utf8, same)) = rw same tt
 kind_fits kinds.Select parts node (fs, message, (utf8, there, same)) = rw same tt
 kind_fits kinds.Call parts node (fs, message, (utf8, same)) = rw same tt
 kind_fits kinds.List parts node (fs, message, (plain, same)) = rw same tt
-kind_fits kinds.Struct parts node (fs, message, (plain, es, are, same)) = rw same (entries_fit (payloads 2 fs) es are)
+kind_fits kinds.Struct parts node (fs, message, (plain, es, are, same)) = rw same (entries_fit (payloads struct_field.entries fs) es are)
 kind_fits kinds.Comprehension parts node (fs, message, (names, there, same)) = rw same tt
 
 node_fits : (parts : Parts) (id : ℤ) (node : Node) → IsNode parts id node → IsInt64 id × NodeFits node
 node_fits parts id node (fs, message, (same, says)) = (
-  rw same (int64_fits 2 fs (merges_small parts fs message.0)),
+  rw same (int64_fits node_field.id fs (merges_small parts fs message.0)),
   elim (oneof_opened node_kinds Never MemberSays fs node says) [
     | inl never ↦ absurd never
     | inr (n, kind, last, is, member) ↦ kind_fits kind (payloads n (member_run kind_keys fs)) node member
@@ -150,7 +150,7 @@ map_fits IsValue parts m (es, are, values) id v at =
 
 pub checked_ids : (parts : List (List ℕ)) (c : CelChecked) → IsChecked parts c → IdsAreInt64 c
 checked_ids parts c (fs, message, says) = (
-  tree_fits tree_depth (payloads expr_field fs) c.tree says.tree,
-  map_fits (IsTypeEntry tree_depth) (payloads type_map_field fs) c.types says.types,
-  map_fits IsReference (payloads reference_map_field fs) c.refs says.refs,
+  tree_fits tree_depth (payloads checked_field.expr fs) c.tree says.tree,
+  map_fits (IsTypeEntry tree_depth) (payloads checked_field.type_map fs) c.types says.types,
+  map_fits IsReference (payloads checked_field.reference_map fs) c.refs says.refs,
 )

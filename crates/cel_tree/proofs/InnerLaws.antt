@@ -5,7 +5,7 @@ use Rattle.proto_wire.specs.Merge.{Merges}
 use Rattle.proto_wire.specs.Values.{payloads}
 use Rattle.proto_wire.specs.declared.refusal.Refusal.{Refusal}
 use Rattle.proto_wire.proofs.Unique.{merges_unique}
-use Rattle.cel_tree.specs.TypeEntries.{TypeNode, plain, list_of, map_of, key_field, value_field, type_kinds, TypeSays, IsOfOtherKind, IsTypeNode, InTypeKind, IsInner}
+use Rattle.cel_tree.specs.TypeEntries.{TypeNode, plain, list_of, map_of, map_type_field, type_kinds, TypeSays, IsOfOtherKind, IsTypeNode, InTypeKind, IsInner}
 use Rattle.cel_tree.specs.steps.InnerTypes.{HoldsFault}
 use Rattle.cel_tree.specs.declared.type_node.TypeKind.{TypeKind}
 use Rattle.cel_tree.specs.declared.type_node.TypeKind.TheVariants as kinds
@@ -24,7 +24,7 @@ in_kind kinds.Dyn n run node inner same is = absurd (rw same at is)
 in_kind kinds.Primitive n run node inner (entry, at, same) is = absurd (rw same at is)
 in_kind kinds.List n run node inner (fs, message, (there, same)) is = (fs, message.0, (there, rw same at is))
 in_kind kinds.Map n run node inner (fs, message, (key, value, same)) is =
-    let here : IsInside (map_of (payloads key_field fs) (payloads value_field fs)) inner = rw same at is in (
+    let here : IsInside (map_of (payloads map_type_field.key_type fs) (payloads map_type_field.value_type fs)) inner = rw same at is in (
       fs,
       message.0,
       elim here [

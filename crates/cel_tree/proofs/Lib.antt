@@ -19,3 +19,4 @@ pub mod CheckedLaws
 pub mod Bounds
 pub mod GoodConstantLaws
 pub mod IdLaws
+mod StandardFacts

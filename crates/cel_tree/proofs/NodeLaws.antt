@@ -6,7 +6,7 @@ use Rattle.proto_wire.specs.Values.{bool_at, int64_at, bytes_at, payloads, has_f
 use Rattle.proto_wire.specs.declared.refusal.Refusal.{Refusal}
 use Rattle.proto_wire.specs.declared.refusal.Refusal.TheVariants.{BadText, Missing, Unsupported}
 use Rattle.cel_value.specs.Texts.{points_of}
-use Rattle.cel_tree.specs.Nodes.{EntryNode, Node, constant_node, ident_node, select_node, call_node, list_node, map_node, loop_node, ident_keys, IdentSays, IdentWrong, select_keys, SelectSays, SelectLacks, SelectWrong, call_keys, CallSays, CallWrong, list_keys, ListSays, ListWrong, key_members, map_key_field, entry_keys, EntrySays, EntryLacks, EntryWrong, optional, key_of_message, IsEntry, EntryFault, AreEntries, struct_keys, StructSays, StructWrong, bad_name, of_message, in_entry, loop_keys, NamesRead, PartsThere, loop_at, LoopSays, LacksPart, no_range, no_init, no_condition, no_step, no_result, LoopLacks, LoopWrong, bad_iter_var, bad_accu_var, bad_second_name, two_variables, node_kinds, node_keys, KindSays, KindFault, MemberSays, MemberFails, NodeSays, IsNode, NodeFault}
+use Rattle.cel_tree.specs.Nodes.{EntryNode, Node, constant_node, ident_node, select_node, call_node, list_node, map_node, loop_node, ident_keys, IdentSays, IdentWrong, select_keys, SelectSays, SelectLacks, SelectWrong, call_keys, CallSays, CallWrong, list_keys, ListSays, ListWrong, key_members, entry_keys, EntrySays, EntryLacks, EntryWrong, optional, key_of_message, IsEntry, EntryFault, AreEntries, struct_keys, StructSays, StructWrong, bad_name, of_message, in_entry, loop_keys, NamesRead, PartsThere, loop_at, LoopSays, LacksPart, no_range, no_init, no_condition, no_step, no_result, LoopLacks, LoopWrong, bad_iter_var, bad_accu_var, bad_second_name, two_variables, node_kinds, node_keys, KindSays, KindFault, MemberSays, MemberFails, NodeSays, IsNode, NodeFault, ident_field, select_field, call_field, list_field, entry_field, struct_field, loop_field, node_field}
 use Rattle.cel_tree.specs.Reading.{LacksNothing, ValuesFault, Never, LacksMember, IsUnsupported, OneofFault}
 use Rattle.cel_tree.specs.declared.node.NodeKind.{NodeKind}
 use Rattle.cel_tree.specs.declared.node.NodeKind.TheVariants as kinds
@@ -17,8 +17,8 @@ use Rattle.cel_tree.proofs.ReadingLaws.{reads_total, reads_disjoint, reads_uniqu
 -- ---- Ident, Select and Call
 
 ident_total : (fs : List Wire) → ((node : Node) × IdentSays fs node) ⊎ ((e : Refusal) × ValuesFault LacksNothing IdentWrong fs e)
-ident_total fs = elim (utf8_total (bytes_at 1 fs)) [
-  | inl utf8 ↦ inl (ident_node (points_of (bytes_at 1 fs)), (utf8, refl))
+ident_total fs = elim (utf8_total (bytes_at ident_field.name fs)) [
+  | inl utf8 ↦ inl (ident_node (points_of (bytes_at ident_field.name fs)), (utf8, refl))
   | inr other ↦ inr (BadText, inr (other, refl))
 ]
 
@@ -30,11 +30,11 @@ ident_unique : (fs : List Wire) (a b : Node) → IdentSays fs a → IdentSays fs
 ident_unique fs a b x y = x.1 ∙ sym y.1
 
 select_total : (fs : List Wire) → ((node : Node) × SelectSays fs node) ⊎ ((e : Refusal) × ValuesFault SelectLacks SelectWrong fs e)
-select_total fs = elim (utf8_total (bytes_at 2 fs)) [
+select_total fs = elim (utf8_total (bytes_at select_field.field fs)) [
   | inr other ↦ inr (BadText, inr (other, refl))
-  | inl utf8 ↦ elim (nil_or_not (payloads 1 fs)) [
+  | inl utf8 ↦ elim (nil_or_not (payloads select_field.operand fs)) [
     | inl none ↦ inr (Missing, inl ((utf8, none), refl))
-    | inr some ↦ inl (select_node (payloads 1 fs) (points_of (bytes_at 2 fs)) (bool_at 3 fs), (utf8, some, refl))
+    | inr some ↦ inl (select_node (payloads select_field.operand fs) (points_of (bytes_at select_field.field fs)) (bool_at select_field.test_only fs), (utf8, some, refl))
   ]
 ]
 
@@ -46,8 +46,8 @@ select_unique : (fs : List Wire) (a b : Node) → SelectSays fs a → SelectSays
 select_unique fs a b x y = x.2 ∙ sym y.2
 
 call_total : (fs : List Wire) → ((node : Node) × CallSays fs node) ⊎ ((e : Refusal) × ValuesFault LacksNothing CallWrong fs e)
-call_total fs = elim (utf8_total (bytes_at 2 fs)) [
-  | inl utf8 ↦ inl (call_node (points_of (bytes_at 2 fs)) (payloads 1 fs) (payloads 3 fs), (utf8, refl))
+call_total fs = elim (utf8_total (bytes_at call_field.function fs)) [
+  | inl utf8 ↦ inl (call_node (points_of (bytes_at call_field.function fs)) (payloads call_field.target fs) (payloads call_field.args fs), (utf8, refl))
   | inr other ↦ inr (BadText, inr (other, refl))
 ]
 
@@ -68,45 +68,45 @@ not_both : (b : Bool) → b ≡ false → b ≡ true → ⊥
 not_both b is other = let clash : false ≡ true = sym is ∙ other in cc
 
 list_total : (fs : List Wire) → ((node : Node) × ListSays fs node) ⊎ ((e : Refusal) × ValuesFault LacksNothing ListWrong fs e)
-list_total fs = elim (false_or_true (has_field 2 fs)) [
-  | inl plain ↦ inl (list_node (payloads 1 fs), (plain, refl))
+list_total fs = elim (false_or_true (has_field list_field.optional_indices fs)) [
+  | inl plain ↦ inl (list_node (payloads list_field.elements fs), (plain, refl))
   | inr there ↦ inr (Unsupported, inr (there, refl))
 ]
 
 list_disjoint : (fs : List Wire) (node : Node) (e : Refusal) → ListSays fs node → ValuesFault LacksNothing ListWrong fs e → ⊥
 list_disjoint fs node e says (inl none) = none.0
-list_disjoint fs node e says (inr bad) = not_both (has_field 2 fs) says.0 bad.0
+list_disjoint fs node e says (inr bad) = not_both (has_field list_field.optional_indices fs) says.0 bad.0
 
 list_unique : (fs : List Wire) (a b : Node) → ListSays fs a → ListSays fs b → a ≡ b
 list_unique fs a b x y = x.1 ∙ sym y.1
 
-entry_keyed : (fs : List Wire) → bool_at 5 fs ≡ false → (o : Option ℕ) → last_number key_members fs ≡ o
+entry_keyed : (fs : List Wire) → bool_at entry_field.optional_entry fs ≡ false → (o : Option ℕ) → last_number key_members fs ≡ o
     → ((entry : EntryNode) × EntrySays fs entry) ⊎ ((e : Refusal) × ValuesFault EntryLacks EntryWrong fs e)
 entry_keyed fs plain None none = inr (Missing, inl (inl none, refl))
-entry_keyed fs plain (Some n) last = elim (same_or_not n map_key_field) [
+entry_keyed fs plain (Some n) last = elim (same_or_not n entry_field.map_key) [
   | inr other ↦ inr (Unsupported, inr (key_of_message n last other refl))
-  | inl same ↦ elim (nil_or_not (payloads 4 fs)) [
+  | inl same ↦ elim (nil_or_not (payloads entry_field.value fs)) [
     | inl none ↦ inr (Missing, inl (inr none, refl))
     | inr there ↦ inl (
-      record { id = int64_at 1 fs; key = payloads map_key_field (member_run key_members fs); value = payloads 4 fs },
+      record { id = int64_at entry_field.id fs; key = payloads entry_field.map_key (member_run key_members fs); value = payloads entry_field.value fs },
       record { plain = plain; keyed = last ∙ ap Some same; there = there; id = refl; key = refl; value = refl },
     )
   ]
 ]
 
 entry_says_total : (fs : List Wire) → ((entry : EntryNode) × EntrySays fs entry) ⊎ ((e : Refusal) × ValuesFault EntryLacks EntryWrong fs e)
-entry_says_total fs = elim (false_or_true (bool_at 5 fs)) [
+entry_says_total fs = elim (false_or_true (bool_at entry_field.optional_entry fs)) [
   | inl plain ↦ entry_keyed fs plain (last_number key_members fs) refl
   | inr is ↦ inr (Unsupported, inr (optional is refl))
 ]
 
 entry_says_disjoint : (fs : List Wire) (entry : EntryNode) (e : Refusal) → EntrySays fs entry → ValuesFault EntryLacks EntryWrong fs e → ⊥
-entry_says_disjoint fs entry e says (inl (inl none, is)) = let clash : Some map_key_field ≡ None = sym says.keyed ∙ none in cc
+entry_says_disjoint fs entry e says (inl (inl none, is)) = let clash : Some entry_field.map_key ≡ None = sym says.keyed ∙ none in cc
 entry_says_disjoint fs entry e says (inl (inr none, is)) = says.there none
-entry_says_disjoint fs entry e says (inr (optional bad is)) = not_both (bool_at 5 fs) says.plain bad
+entry_says_disjoint fs entry e says (inr (optional bad is)) = not_both (bool_at entry_field.optional_entry fs) says.plain bad
 entry_says_disjoint fs entry e says (inr (key_of_message n last other is)) =
-    let whole : Some n ≡ Some map_key_field = sym last ∙ says.keyed in
-    let same : n ≡ map_key_field = cc in
+    let whole : Some n ≡ Some entry_field.map_key = sym last ∙ says.keyed in
+    let same : n ≡ entry_field.map_key = cc in
     other same
 
 entry_says_unique : (fs : List Wire) (a b : EntryNode) → EntrySays fs a → EntrySays fs b → a ≡ b
@@ -158,9 +158,9 @@ entries_unique (p ∷ ps) (x ∷ es) (d ∷ ds) a b =
     cc
 
 struct_total : (fs : List Wire) → ((node : Node) × StructSays fs node) ⊎ ((e : Refusal) × ValuesFault LacksNothing StructWrong fs e)
-struct_total fs = elim (nil_or_not (bytes_at 1 fs)) [
+struct_total fs = elim (nil_or_not (bytes_at struct_field.message_name fs)) [
   | inr named ↦ inr (Unsupported, inr (of_message named refl))
-  | inl plain ↦ elim (entries_total (payloads 2 fs)) [
+  | inl plain ↦ elim (entries_total (payloads struct_field.entries fs)) [
     | inl (es, are) ↦ inl (map_node es, (plain, es, are, refl))
     | inr (p, here, e, bad) ↦ inr (e, inr (in_entry p here bad))
   ]
@@ -168,22 +168,22 @@ struct_total fs = elim (nil_or_not (bytes_at 1 fs)) [
 
 struct_disjoint : (fs : List Wire) (node : Node) (e : Refusal) → StructSays fs node → ValuesFault LacksNothing StructWrong fs e → ⊥
 struct_disjoint fs node e says (inl none) = none.0
-struct_disjoint fs node e says (inr (bad_name bad)) = bad.0 (empty_text (bytes_at 1 fs) says.0)
+struct_disjoint fs node e says (inr (bad_name bad)) = bad.0 (empty_text (bytes_at struct_field.message_name fs) says.0)
 struct_disjoint fs node e says (inr (of_message named is)) = named says.0
-struct_disjoint fs node e (plain, es, are, same) (inr (in_entry p here bad)) = entries_disjoint (payloads 2 fs) es p e are here bad
+struct_disjoint fs node e (plain, es, are, same) (inr (in_entry p here bad)) = entries_disjoint (payloads struct_field.entries fs) es p e are here bad
 
 struct_unique : (fs : List Wire) (a b : Node) → StructSays fs a → StructSays fs b → a ≡ b
 struct_unique fs a b (plain, es, are, is) (plain', ds, are', is') =
-    is ∙ ap map_node (entries_unique (payloads 2 fs) es ds are are') ∙ sym is'
+    is ∙ ap map_node (entries_unique (payloads struct_field.entries fs) es ds are are') ∙ sym is'
 
 -- ---- comprehensions
 
 names_total : (fs : List Wire) → NamesRead fs ⊎ ((e : Refusal) × LoopWrong fs e)
-names_total fs = elim (utf8_total (bytes_at 1 fs)) [
+names_total fs = elim (utf8_total (bytes_at loop_field.iter_var fs)) [
   | inr other ↦ inr (BadText, bad_iter_var (other, refl))
-  | inl iter ↦ elim (utf8_total (bytes_at 3 fs)) [
+  | inl iter ↦ elim (utf8_total (bytes_at loop_field.accu_var fs)) [
     | inr other ↦ inr (BadText, bad_accu_var (other, refl))
-    | inl accu ↦ elim (nil_or_not (bytes_at 8 fs)) [
+    | inl accu ↦ elim (nil_or_not (bytes_at loop_field.iter_var2 fs)) [
       | inr two ↦ inr (Unsupported, two_variables two refl)
       | inl one ↦ inl (record { iter_var = iter; accu_var = accu; one = one })
     ]
@@ -191,15 +191,15 @@ names_total fs = elim (utf8_total (bytes_at 1 fs)) [
 ]
 
 parts_total : (fs : List Wire) → PartsThere fs ⊎ LacksPart fs
-parts_total fs = elim (nil_or_not (payloads 2 fs)) [
+parts_total fs = elim (nil_or_not (payloads loop_field.iter_range fs)) [
   | inl none ↦ inr (no_range none)
-  | inr range ↦ elim (nil_or_not (payloads 4 fs)) [
+  | inr range ↦ elim (nil_or_not (payloads loop_field.accu_init fs)) [
     | inl none ↦ inr (no_init none)
-    | inr init ↦ elim (nil_or_not (payloads 5 fs)) [
+    | inr init ↦ elim (nil_or_not (payloads loop_field.loop_condition fs)) [
       | inl none ↦ inr (no_condition none)
-      | inr condition ↦ elim (nil_or_not (payloads 6 fs)) [
+      | inr condition ↦ elim (nil_or_not (payloads loop_field.loop_step fs)) [
         | inl none ↦ inr (no_step none)
-        | inr step ↦ elim (nil_or_not (payloads 7 fs)) [
+        | inr step ↦ elim (nil_or_not (payloads loop_field.result fs)) [
           | inl none ↦ inr (no_result none)
           | inr result ↦ inl (record { iter_range = range; accu_init = init; loop_condition = condition; loop_step = step; result = result })
         ]
@@ -212,7 +212,7 @@ loop_total : (fs : List Wire) → ((node : Node) × LoopSays fs node) ⊎ ((e : 
 loop_total fs = elim (names_total fs) [
   | inr (e, bad) ↦ inr (e, inr bad)
   | inl names ↦ elim (parts_total fs) [
-    | inr lacks ↦ inr (Missing, inl ((names.iter_var, names.accu_var, empty_text (bytes_at 8 fs) names.one, lacks), refl))
+    | inr lacks ↦ inr (Missing, inl ((names.iter_var, names.accu_var, empty_text (bytes_at loop_field.iter_var2 fs) names.one, lacks), refl))
     | inl parts ↦ inl (loop_node (loop_at fs), (names, parts, refl))
   ]
 ]
@@ -228,7 +228,7 @@ loop_disjoint : (fs : List Wire) (node : Node) (e : Refusal) → LoopSays fs nod
 loop_disjoint fs node e says (inl lacks) = parts_disjoint fs says.1 lacks.0.3
 loop_disjoint fs node e says (inr (bad_iter_var bad)) = bad.0 says.0.iter_var
 loop_disjoint fs node e says (inr (bad_accu_var bad)) = bad.0 says.0.accu_var
-loop_disjoint fs node e says (inr (bad_second_name bad)) = bad.0 (empty_text (bytes_at 8 fs) says.0.one)
+loop_disjoint fs node e says (inr (bad_second_name bad)) = bad.0 (empty_text (bytes_at loop_field.iter_var2 fs) says.0.one)
 loop_disjoint fs node e says (inr (two_variables two is)) = two says.0.one
 
 loop_unique : (fs : List Wire) (a b : Node) → LoopSays fs a → LoopSays fs b → a ≡ b
@@ -272,7 +272,7 @@ numbered_total : (fs : List Wire) → ((x : ℤ × Node) × NodeSays fs x)
     ⊎ ((e : Refusal) × ValuesFault (LacksMember node_kinds) (OneofFault node_kinds IsUnsupported MemberFails) fs e)
 numbered_total fs =
     elim (oneof_total node_kinds MemberSays MemberFails (λ m n run. kind_total m (payloads n run)) fs) [
-      | inl (node, says) ↦ inl ((int64_at 2 fs, node), (refl, says))
+      | inl (node, says) ↦ inl ((int64_at node_field.id fs, node), (refl, says))
       | inr bad ↦ inr bad
     ]
 

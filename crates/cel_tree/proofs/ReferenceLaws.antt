@@ -10,7 +10,7 @@ use Rattle.cel_value.specs.Texts.{points_of}
 use Rattle.cel_value.specs.Values.{CelValue}
 use Rattle.cel_tree.specs.Checked.{CelReference}
 use Rattle.cel_tree.specs.Reading.{LacksNothing, ValuesFault}
-use Rattle.cel_tree.specs.References.{name_field, overload_id_field, value_field, reference_keys, IsValue, ValueFault, ReferenceSays, ReferenceWrong, bad_name, bad_id, in_value, IsReference, ReferenceFault}
+use Rattle.cel_tree.specs.References.{reference_field, reference_keys, IsValue, ValueFault, ReferenceSays, ReferenceWrong, bad_name, bad_id, in_value, IsReference, ReferenceFault}
 use Rattle.cel_tree.proofs.Basics.{utf8_total, contains_first, contains_later, contains_cases}
 use Rattle.cel_tree.proofs.ConstantLaws.{constant_total, constant_disjoint, constant_unique}
 use Rattle.cel_tree.proofs.ReadingLaws.{reads_total, reads_disjoint, reads_unique}
@@ -52,14 +52,14 @@ value_unique (p ∷ parts) v w a b = a.2 ∙ ap Some (constant_unique (p ∷ par
 
 says_total : (fs : List Wire) → ((r : CelReference) × ReferenceSays fs r)
     ⊎ ((e : Refusal) × ValuesFault LacksNothing ReferenceWrong fs e)
-says_total fs = elim (utf8_total (bytes_at name_field fs)) [
+says_total fs = elim (utf8_total (bytes_at reference_field.name fs)) [
   | inr other ↦ inr (BadText, inr (bad_name (other, refl)))
-  | inl utf8 ↦ elim (texts_total (payloads overload_id_field fs)) [
+  | inl utf8 ↦ elim (texts_total (payloads reference_field.overload_id fs)) [
     | inr (id, here, bad) ↦ inr (BadText, inr (bad_id id here bad))
-    | inl ids ↦ elim (value_total (payloads value_field fs)) [
+    | inl ids ↦ elim (value_total (payloads reference_field.value fs)) [
       | inr (e, bad) ↦ inr (e, inr (in_value bad))
       | inl (v, valued) ↦ inl (
-        record { name = points_of (bytes_at name_field fs); value = v },
+        record { name = points_of (bytes_at reference_field.name fs); value = v },
         record { readable = utf8; ids = ids; named = refl; valued = valued },
       )
     ]
@@ -71,13 +71,13 @@ says_disjoint : (fs : List Wire) (r : CelReference) (e : Refusal) → ReferenceS
 says_disjoint fs r e says (inl none) = none.0
 says_disjoint fs r e says (inr (bad_name bad)) = bad.0 says.readable
 says_disjoint fs r e says (inr (bad_id id here bad)) =
-    texts_disjoint (payloads overload_id_field fs) id says.ids here bad.0
-says_disjoint fs r e says (inr (in_value bad)) = value_disjoint (payloads value_field fs) r.value e says.valued bad
+    texts_disjoint (payloads reference_field.overload_id fs) id says.ids here bad.0
+says_disjoint fs r e says (inr (in_value bad)) = value_disjoint (payloads reference_field.value fs) r.value e says.valued bad
 
 says_unique : (fs : List Wire) (r s : CelReference) → ReferenceSays fs r → ReferenceSays fs s → r ≡ s
 says_unique fs r s a b =
     let name : r.name ≡ s.name = a.named ∙ sym b.named in
-    let value : r.value ≡ s.value = value_unique (payloads value_field fs) r.value s.value a.valued b.valued in
+    let value : r.value ≡ s.value = value_unique (payloads reference_field.value fs) r.value s.value a.valued b.valued in
     λ i. record { name = name i; value = value i }
 
 pub reference_total : (parts : List (List ℕ))

@@ -8,7 +8,7 @@ use Rattle.proto_wire.specs.declared.refusal.Refusal.{Refusal}
 use Rattle.proto_wire.specs.declared.refusal.Refusal.TheVariants.{OutOfRange, TooLarge}
 use Rattle.cel_tree.specs.Checked.{CelTypeEntry, dyn_type, unsupported_type}
 use Rattle.cel_tree.specs.Reading.{LacksNothing, ValuesFault, OneofSays, Never, OneofFault}
-use Rattle.cel_tree.specs.TypeEntries.{list_entry, map_entry, primitive_of, TypeNode, plain, list_of, map_of, type_kinds, type_keys, elem_field, key_field, value_field, list_type_keys, map_type_keys, ListTypeSays, ListTypeWrong, MapTypeSays, MapTypeWrong, TypeSays, TypeFails, IsOfOtherKind, IsTypeNode, TypeNodeFault, Holds, IsTypeEntry, in_type, in_inner, TypeEntryFault}
+use Rattle.cel_tree.specs.TypeEntries.{list_entry, map_entry, primitive_of, TypeNode, plain, list_of, map_of, type_kinds, type_keys, list_type_field, map_type_field, list_type_keys, map_type_keys, ListTypeSays, ListTypeWrong, MapTypeSays, MapTypeWrong, TypeSays, TypeFails, IsOfOtherKind, IsTypeNode, TypeNodeFault, Holds, IsTypeEntry, in_type, in_inner, TypeEntryFault}
 use Rattle.cel_tree.specs.steps.InnerTypes.{HoldsFault}
 use Rattle.cel_tree.specs.declared.type_node.TypeKind.{TypeKind}
 use Rattle.cel_tree.specs.declared.type_node.TypeKind.TheVariants as kinds
@@ -19,9 +19,9 @@ use Rattle.cel_tree.proofs.ReadingLaws.{reads_total, reads_disjoint, reads_uniqu
 -- ---- one message
 
 list_total : (fs : List Wire) → ((node : TypeNode) × ListTypeSays fs node) ⊎ ((e : Refusal) × ValuesFault LacksNothing ListTypeWrong fs e)
-list_total fs = elim (nil_or_not (payloads elem_field fs)) [
+list_total fs = elim (nil_or_not (payloads list_type_field.elem_type fs)) [
   | inl none ↦ inr (OutOfRange, inr (none, refl))
-  | inr some ↦ inl (list_of (payloads elem_field fs), (some, refl))
+  | inr some ↦ inl (list_of (payloads list_type_field.elem_type fs), (some, refl))
 ]
 
 list_disjoint : (fs : List Wire) (node : TypeNode) (e : Refusal) → ListTypeSays fs node → ValuesFault LacksNothing ListTypeWrong fs e → ⊥
@@ -32,11 +32,11 @@ list_unique : (fs : List Wire) (a b : TypeNode) → ListTypeSays fs a → ListTy
 list_unique fs a b x y = x.1 ∙ sym y.1
 
 map_total : (fs : List Wire) → ((node : TypeNode) × MapTypeSays fs node) ⊎ ((e : Refusal) × ValuesFault LacksNothing MapTypeWrong fs e)
-map_total fs = elim (nil_or_not (payloads key_field fs)) [
+map_total fs = elim (nil_or_not (payloads map_type_field.key_type fs)) [
   | inl none ↦ inr (OutOfRange, inr (inl none, refl))
-  | inr key ↦ elim (nil_or_not (payloads value_field fs)) [
+  | inr key ↦ elim (nil_or_not (payloads map_type_field.value_type fs)) [
     | inl none ↦ inr (OutOfRange, inr (inr none, refl))
-    | inr value ↦ inl (map_of (payloads key_field fs) (payloads value_field fs), (key, value, refl))
+    | inr value ↦ inl (map_of (payloads map_type_field.key_type fs) (payloads map_type_field.value_type fs), (key, value, refl))
   ]
 ]
 

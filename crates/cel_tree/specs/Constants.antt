@@ -18,12 +18,19 @@ use Rattle.cel_tree.specs.declared.constant.ConstantKind.TheVariants as kinds
 abbrev pub i64_key : ℕ → Key
 i64_key n = record { number = n; wire_type = WireType.I64 }
 
--- the members of the oneof: null_value, bool_value, int64_value, uint64_value, double_value,
--- string_value, bytes_value
+-- the fields of a Constant
+abbrev pub constant_field : record { null_value : ℕ; bool_value : ℕ; int64_value : ℕ; uint64_value : ℕ; double_value : ℕ; string_value : ℕ; bytes_value : ℕ }
+constant_field = record { null_value = 1; bool_value = 2; int64_value = 3; uint64_value = 4; double_value = 5; string_value = 6; bytes_value = 7 }
+
+-- the members of the oneof
 abbrev pub constants : List (Key × Option ConstantKind)
-constants = (varint_key 1, None) ∷ (varint_key 2, Some kinds.Bool) ∷ (varint_key 3, Some kinds.Int)
-    ∷ (varint_key 4, Some kinds.Uint) ∷ (i64_key 5, None) ∷ (len_key 6, Some kinds.Text)
-    ∷ (len_key 7, Some kinds.Bytes) ∷ []
+constants = (varint_key constant_field.null_value, None)
+    ∷ (varint_key constant_field.bool_value, Some kinds.Bool)
+    ∷ (varint_key constant_field.int64_value, Some kinds.Int)
+    ∷ (varint_key constant_field.uint64_value, Some kinds.Uint)
+    ∷ (i64_key constant_field.double_value, None)
+    ∷ (len_key constant_field.string_value, Some kinds.Text)
+    ∷ (len_key constant_field.bytes_value, Some kinds.Bytes) ∷ []
 
 -- all fields: each is a member
 abbrev pub constant_keys : List Key

@@ -21,44 +21,38 @@ most_nodes = 2048
 abbrev pub tree_depth : ℕ
 tree_depth = 64
 
--- the numbers of the fields; source_info 5 and expr_version 6 are passed over, whatever they hold
-abbrev pub reference_map_field : ℕ
-reference_map_field = 2
-
--- the number of the map of types
-abbrev pub type_map_field : ℕ
-type_map_field = 3
-
--- the number of the expression
-abbrev pub expr_field : ℕ
-expr_field = 4
+-- the fields of a CheckedExpr; source_info and expr_version are passed over, whatever they hold
+abbrev pub checked_field : record { reference_map : ℕ; type_map : ℕ; expr : ℕ; source_info : ℕ; expr_version : ℕ }
+checked_field = record { reference_map = 2; type_map = 3; expr = 4; source_info = 5; expr_version = 6 }
 
 -- all fields
 abbrev pub checked_keys : List Key
-checked_keys = len_key reference_map_field ∷ len_key type_map_field ∷ len_key expr_field
-    ∷ len_key 5 ∷ len_key 6 ∷ []
+checked_keys = len_key checked_field.reference_map ∷ len_key checked_field.type_map
+    ∷ len_key checked_field.expr ∷ len_key checked_field.source_info
+    ∷ len_key checked_field.expr_version ∷ []
 
 -- the fields say the checked expression
 pub record CheckedSays (fs : List Wire) (c : CelChecked) : Type 0 where
-  pub there : payloads expr_field fs ≢ []
-  pub tree : IsTree tree_depth (payloads expr_field fs) c.tree
+  pub there : payloads checked_field.expr fs ≢ []
+  pub tree : IsTree tree_depth (payloads checked_field.expr fs) c.tree
   pub few : node_count c.tree ≤ most_nodes
-  pub types : IsMap int64 (IsTypeEntry tree_depth) (payloads type_map_field fs) c.types
-  pub refs : IsMap int64 IsReference (payloads reference_map_field fs) c.refs
+  pub types : IsMap int64 (IsTypeEntry tree_depth) (payloads checked_field.type_map fs) c.types
+  pub refs : IsMap int64 IsReference (payloads checked_field.reference_map fs) c.refs
 
 -- no expression is there
 abbrev pub CheckedLacks : List Wire → Type 0
-CheckedLacks fs = payloads expr_field fs ≡ []
+CheckedLacks fs = payloads checked_field.expr fs ≡ []
 
 -- what is wrong with the maps and the expression
 pub data CheckedWrong (fs : List Wire) (e : Refusal) : Type 0 where
-  in_tree : payloads expr_field fs ≢ [] → TreeFault tree_depth (payloads expr_field fs) e
+  in_tree : payloads checked_field.expr fs ≢ []
+      → TreeFault tree_depth (payloads checked_field.expr fs) e → CheckedWrong fs e
+  in_nodes : payloads checked_field.expr fs ≢ []
+      → NodesFault tree_depth most_nodes (payloads checked_field.expr fs) e → CheckedWrong fs e
+  in_types : MapFault int64 (TypeEntryFault tree_depth) (payloads checked_field.type_map fs) e
       → CheckedWrong fs e
-  in_nodes : payloads expr_field fs ≢ []
-      → NodesFault tree_depth most_nodes (payloads expr_field fs) e → CheckedWrong fs e
-  in_types : MapFault int64 (TypeEntryFault tree_depth) (payloads type_map_field fs) e
+  in_refs : MapFault int64 ReferenceFault (payloads checked_field.reference_map fs) e
       → CheckedWrong fs e
-  in_refs : MapFault int64 ReferenceFault (payloads reference_map_field fs) e → CheckedWrong fs e
 
 -- the parts merge to the message of the checked expression
 abbrev pub IsChecked : List (List ℕ) → CelChecked → Type 0

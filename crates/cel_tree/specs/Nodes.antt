@@ -80,98 +80,122 @@ children (loop_node p) = loop_children p
 
 -- ---- Ident
 
+-- the field of an Ident
+abbrev pub ident_field : record { name : ℕ }
+ident_field = record { name = 1 }
+
 -- all fields
 abbrev pub ident_keys : List Key
-ident_keys = len_key 1 ∷ []
+ident_keys = len_key ident_field.name ∷ []
 
 -- the fields say the node
 abbrev pub IdentSays : List Wire → Node → Type 0
-IdentSays fs node = IsUtf8 (bytes_at 1 fs) × (node ≡ ident_node (points_of (bytes_at 1 fs)))
+IdentSays fs node = IsUtf8 (bytes_at ident_field.name fs)
+    × (node ≡ ident_node (points_of (bytes_at ident_field.name fs)))
 
 -- the name is no UTF-8
 abbrev pub IdentWrong : List Wire → Refusal → Type 0
-IdentWrong fs e = Utf8Fault (bytes_at 1 fs) e
+IdentWrong fs e = Utf8Fault (bytes_at ident_field.name fs) e
 
--- ---- Select: operand 1, field 2, test_only 3
+-- ---- Select
+
+-- the fields of a Select
+abbrev pub select_field : record { operand : ℕ; field : ℕ; test_only : ℕ }
+select_field = record { operand = 1; field = 2; test_only = 3 }
 
 -- all fields
 abbrev pub select_keys : List Key
-select_keys = len_key 1 ∷ len_key 2 ∷ varint_key 3 ∷ []
+select_keys = len_key select_field.operand ∷ len_key select_field.field
+    ∷ varint_key select_field.test_only ∷ []
 
 -- the fields say the node
 abbrev pub SelectSays : List Wire → Node → Type 0
-SelectSays fs node = IsUtf8 (bytes_at 2 fs) × (payloads 1 fs ≢ [])
-    × (node ≡ select_node (payloads 1 fs) (points_of (bytes_at 2 fs)) (bool_at 3 fs))
+SelectSays fs node = IsUtf8 (bytes_at select_field.field fs)
+    × (payloads select_field.operand fs ≢ [])
+    × (node ≡ select_node (payloads select_field.operand fs)
+    (points_of (bytes_at select_field.field fs)) (bool_at select_field.test_only fs))
 
 -- that the operand lacks counts only where the field's name reads
 abbrev pub SelectLacks : List Wire → Type 0
-SelectLacks fs = IsUtf8 (bytes_at 2 fs) × (payloads 1 fs ≡ [])
+SelectLacks fs = IsUtf8 (bytes_at select_field.field fs) × (payloads select_field.operand fs ≡ [])
 
 -- the name of the field is no UTF-8
 abbrev pub SelectWrong : List Wire → Refusal → Type 0
-SelectWrong fs e = Utf8Fault (bytes_at 2 fs) e
+SelectWrong fs e = Utf8Fault (bytes_at select_field.field fs) e
 
--- ---- Call: target 1, function 2, args 3
+-- ---- Call
+
+-- the fields of a Call
+abbrev pub call_field : record { target : ℕ; function : ℕ; args : ℕ }
+call_field = record { target = 1; function = 2; args = 3 }
 
 -- all fields
 abbrev pub call_keys : List Key
-call_keys = len_key 1 ∷ len_key 2 ∷ len_key 3 ∷ []
+call_keys = len_key call_field.target ∷ len_key call_field.function ∷ len_key call_field.args ∷ []
 
 -- the fields say the node
 abbrev pub CallSays : List Wire → Node → Type 0
-CallSays fs node = IsUtf8 (bytes_at 2 fs)
-    × (node ≡ call_node (points_of (bytes_at 2 fs)) (payloads 1 fs) (payloads 3 fs))
+CallSays fs node = IsUtf8 (bytes_at call_field.function fs)
+    × (node ≡ call_node (points_of (bytes_at call_field.function fs))
+    (payloads call_field.target fs) (payloads call_field.args fs))
 
 -- the name of the function is no UTF-8
 abbrev pub CallWrong : List Wire → Refusal → Type 0
-CallWrong fs e = Utf8Fault (bytes_at 2 fs) e
+CallWrong fs e = Utf8Fault (bytes_at call_field.function fs) e
 
--- ---- CreateList: elements 1, optional_indices 2, which are not supported, packed or one by one
+-- ---- CreateList
+
+-- the fields of a CreateList; optional_indices are not supported, packed or one by one
+abbrev pub list_field : record { elements : ℕ; optional_indices : ℕ }
+list_field = record { elements = 1; optional_indices = 2 }
 
 -- all fields
 abbrev pub list_keys : List Key
-list_keys = len_key 1 ∷ len_key 2 ∷ varint_key 2 ∷ []
+list_keys = len_key list_field.elements ∷ len_key list_field.optional_indices
+    ∷ varint_key list_field.optional_indices ∷ []
 
 -- the fields say the node
 abbrev pub ListSays : List Wire → Node → Type 0
-ListSays fs node = (has_field 2 fs ≡ false) × (node ≡ list_node (payloads 1 fs))
+ListSays fs node = (has_field list_field.optional_indices fs ≡ false)
+    × (node ≡ list_node (payloads list_field.elements fs))
 
 -- indices of optional elements stand there
 abbrev pub ListWrong : List Wire → Refusal → Type 0
-ListWrong fs e = (has_field 2 fs ≡ true) × (e ≡ Unsupported)
+ListWrong fs e = (has_field list_field.optional_indices fs ≡ true) × (e ≡ Unsupported)
 
--- ---- CreateStruct.Entry: id 1, field_key 2, which is not supported, or map_key 3, value 4,
--- optional_entry 5, which is not supported where it is true
+-- ---- CreateStruct.Entry
 
--- the number of the key
-abbrev pub map_key_field : ℕ
-map_key_field = 3
+-- the fields of an Entry; a field_key, and an optional_entry that is true, are not supported
+abbrev pub entry_field : record { id : ℕ; field_key : ℕ; map_key : ℕ; value : ℕ; optional_entry : ℕ }
+entry_field = record { id = 1; field_key = 2; map_key = 3; value = 4; optional_entry = 5 }
 
 -- the members of the oneof
 abbrev pub key_members : List Key
-key_members = len_key 2 ∷ len_key map_key_field ∷ []
+key_members = len_key entry_field.field_key ∷ len_key entry_field.map_key ∷ []
 
 -- all fields
 abbrev pub entry_keys : List Key
-entry_keys = varint_key 1 ∷ len_key 2 ∷ len_key map_key_field ∷ len_key 4 ∷ varint_key 5 ∷ []
+entry_keys = varint_key entry_field.id ∷ len_key entry_field.field_key
+    ∷ len_key entry_field.map_key ∷ len_key entry_field.value
+    ∷ varint_key entry_field.optional_entry ∷ []
 
 -- the fields say the entry
 pub record EntrySays (fs : List Wire) (entry : EntryNode) : Type 0 where
-  pub plain : bool_at 5 fs ≡ false
-  pub keyed : last_number key_members fs ≡ Some map_key_field
-  pub there : payloads 4 fs ≢ []
-  pub id : entry.id ≡ int64_at 1 fs
-  pub key : entry.key ≡ payloads map_key_field (member_run key_members fs)
-  pub value : entry.value ≡ payloads 4 fs
+  pub plain : bool_at entry_field.optional_entry fs ≡ false
+  pub keyed : last_number key_members fs ≡ Some entry_field.map_key
+  pub there : payloads entry_field.value fs ≢ []
+  pub id : entry.id ≡ int64_at entry_field.id fs
+  pub key : entry.key ≡ payloads entry_field.map_key (member_run key_members fs)
+  pub value : entry.value ≡ payloads entry_field.value fs
 
 -- no key or no value is there
 abbrev pub EntryLacks : List Wire → Type 0
-EntryLacks fs = (last_number key_members fs ≡ None) ⊎ (payloads 4 fs ≡ [])
+EntryLacks fs = (last_number key_members fs ≡ None) ⊎ (payloads entry_field.value fs ≡ [])
 
 -- the entry is optional, or its key is that of a message
 pub data EntryWrong (fs : List Wire) (e : Refusal) : Type 0 where
-  optional : bool_at 5 fs ≡ true → e ≡ Unsupported → EntryWrong fs e
-  key_of_message : (n : ℕ) → last_number key_members fs ≡ Some n → n ≢ map_key_field
+  optional : bool_at entry_field.optional_entry fs ≡ true → e ≡ Unsupported → EntryWrong fs e
+  key_of_message : (n : ℕ) → last_number key_members fs ≡ Some n → n ≢ entry_field.map_key
       → e ≡ Unsupported → EntryWrong fs e
 
 -- the payload is an entry
@@ -190,56 +214,66 @@ AreEntries (payload ∷ payloads) [] = ⊥
 AreEntries (payload ∷ payloads) (entry ∷ entries) =
     IsEntry payload entry × AreEntries payloads entries
 
--- ---- CreateStruct: message_name 1, which is not supported where it is not empty, entries 2
+-- ---- CreateStruct
+
+-- the fields of a CreateStruct; a message_name that is not empty is not supported
+abbrev pub struct_field : record { message_name : ℕ; entries : ℕ }
+struct_field = record { message_name = 1; entries = 2 }
 
 -- all fields
 abbrev pub struct_keys : List Key
-struct_keys = len_key 1 ∷ len_key 2 ∷ []
+struct_keys = len_key struct_field.message_name ∷ len_key struct_field.entries ∷ []
 
 -- the fields say the node
 abbrev pub StructSays : List Wire → Node → Type 0
-StructSays fs node = (bytes_at 1 fs ≡ [])
-    × (entries : List EntryNode) × AreEntries (payloads 2 fs) entries × (node ≡ map_node entries)
+StructSays fs node = (bytes_at struct_field.message_name fs ≡ [])
+    × (entries : List EntryNode) × AreEntries (payloads struct_field.entries fs) entries
+    × (node ≡ map_node entries)
 
 -- it has the name of a message, or an entry is wrong
 pub data StructWrong (fs : List Wire) (e : Refusal) : Type 0 where
-  bad_name : Utf8Fault (bytes_at 1 fs) e → StructWrong fs e
-  of_message : bytes_at 1 fs ≢ [] → e ≡ Unsupported → StructWrong fs e
-  in_entry : (payload : List ℕ) → Contains (payloads 2 fs) payload → EntryFault payload e
-      → StructWrong fs e
+  bad_name : Utf8Fault (bytes_at struct_field.message_name fs) e → StructWrong fs e
+  of_message : bytes_at struct_field.message_name fs ≢ [] → e ≡ Unsupported → StructWrong fs e
+  in_entry : (payload : List ℕ) → Contains (payloads struct_field.entries fs) payload
+      → EntryFault payload e → StructWrong fs e
 
--- ---- Comprehension: iter_var 1, iter_range 2, accu_var 3, accu_init 4, loop_condition 5,
--- loop_step 6, result 7, iter_var2 8, which is not supported where it is not empty
+-- ---- Comprehension
+
+-- the fields of a Comprehension; an iter_var2 that is not empty is not supported
+abbrev pub loop_field : record { iter_var : ℕ; iter_range : ℕ; accu_var : ℕ; accu_init : ℕ; loop_condition : ℕ; loop_step : ℕ; result : ℕ; iter_var2 : ℕ }
+loop_field = record { iter_var = 1; iter_range = 2; accu_var = 3; accu_init = 4; loop_condition = 5; loop_step = 6; result = 7; iter_var2 = 8 }
 
 -- all fields
 abbrev pub loop_keys : List Key
-loop_keys = len_key 1 ∷ len_key 2 ∷ len_key 3 ∷ len_key 4 ∷ len_key 5 ∷ len_key 6 ∷ len_key 7
-    ∷ len_key 8 ∷ []
+loop_keys = len_key loop_field.iter_var ∷ len_key loop_field.iter_range
+    ∷ len_key loop_field.accu_var ∷ len_key loop_field.accu_init
+    ∷ len_key loop_field.loop_condition ∷ len_key loop_field.loop_step
+    ∷ len_key loop_field.result ∷ len_key loop_field.iter_var2 ∷ []
 
 -- the names are texts, and there is one name of an element
 pub record NamesRead (fs : List Wire) : Type 0 where
-  pub iter_var : IsUtf8 (bytes_at 1 fs)
-  pub accu_var : IsUtf8 (bytes_at 3 fs)
-  pub one : bytes_at 8 fs ≡ []
+  pub iter_var : IsUtf8 (bytes_at loop_field.iter_var fs)
+  pub accu_var : IsUtf8 (bytes_at loop_field.accu_var fs)
+  pub one : bytes_at loop_field.iter_var2 fs ≡ []
 
 -- each part is there
 pub record PartsThere (fs : List Wire) : Type 0 where
-  pub iter_range : payloads 2 fs ≢ []
-  pub accu_init : payloads 4 fs ≢ []
-  pub loop_condition : payloads 5 fs ≢ []
-  pub loop_step : payloads 6 fs ≢ []
-  pub result : payloads 7 fs ≢ []
+  pub iter_range : payloads loop_field.iter_range fs ≢ []
+  pub accu_init : payloads loop_field.accu_init fs ≢ []
+  pub loop_condition : payloads loop_field.loop_condition fs ≢ []
+  pub loop_step : payloads loop_field.loop_step fs ≢ []
+  pub result : payloads loop_field.result fs ≢ []
 
 -- the names and parts of the fields
 abbrev pub loop_at : List Wire → LoopNode
 loop_at fs = record {
-  iter_var = points_of (bytes_at 1 fs);
-  accu_var = points_of (bytes_at 3 fs);
-  iter_range = payloads 2 fs;
-  accu_init = payloads 4 fs;
-  loop_condition = payloads 5 fs;
-  loop_step = payloads 6 fs;
-  result = payloads 7 fs;
+  iter_var = points_of (bytes_at loop_field.iter_var fs);
+  accu_var = points_of (bytes_at loop_field.accu_var fs);
+  iter_range = payloads loop_field.iter_range fs;
+  accu_init = payloads loop_field.accu_init fs;
+  loop_condition = payloads loop_field.loop_condition fs;
+  loop_step = payloads loop_field.loop_step fs;
+  result = payloads loop_field.result fs;
 }
 
 -- the fields say the node
@@ -248,32 +282,39 @@ LoopSays fs node = NamesRead fs × PartsThere fs × (node ≡ loop_node (loop_at
 
 -- some part is not there
 pub data LacksPart (fs : List Wire) : Type 0 where
-  no_range : payloads 2 fs ≡ [] → LacksPart fs
-  no_init : payloads 4 fs ≡ [] → LacksPart fs
-  no_condition : payloads 5 fs ≡ [] → LacksPart fs
-  no_step : payloads 6 fs ≡ [] → LacksPart fs
-  no_result : payloads 7 fs ≡ [] → LacksPart fs
+  no_range : payloads loop_field.iter_range fs ≡ [] → LacksPart fs
+  no_init : payloads loop_field.accu_init fs ≡ [] → LacksPart fs
+  no_condition : payloads loop_field.loop_condition fs ≡ [] → LacksPart fs
+  no_step : payloads loop_field.loop_step fs ≡ [] → LacksPart fs
+  no_result : payloads loop_field.result fs ≡ [] → LacksPart fs
 
 -- that it lacks counts only where the names are texts, also beside a second name of the element
 abbrev pub LoopLacks : List Wire → Type 0
-LoopLacks fs = IsUtf8 (bytes_at 1 fs) × IsUtf8 (bytes_at 3 fs) × IsUtf8 (bytes_at 8 fs)
-    × LacksPart fs
+LoopLacks fs = IsUtf8 (bytes_at loop_field.iter_var fs) × IsUtf8 (bytes_at loop_field.accu_var fs)
+    × IsUtf8 (bytes_at loop_field.iter_var2 fs) × LacksPart fs
 
 -- a name is no UTF-8, or there is a second name of the element
 pub data LoopWrong (fs : List Wire) (e : Refusal) : Type 0 where
-  bad_iter_var : Utf8Fault (bytes_at 1 fs) e → LoopWrong fs e
-  bad_accu_var : Utf8Fault (bytes_at 3 fs) e → LoopWrong fs e
-  bad_second_name : Utf8Fault (bytes_at 8 fs) e → LoopWrong fs e
-  two_variables : bytes_at 8 fs ≢ [] → e ≡ Unsupported → LoopWrong fs e
+  bad_iter_var : Utf8Fault (bytes_at loop_field.iter_var fs) e → LoopWrong fs e
+  bad_accu_var : Utf8Fault (bytes_at loop_field.accu_var fs) e → LoopWrong fs e
+  bad_second_name : Utf8Fault (bytes_at loop_field.iter_var2 fs) e → LoopWrong fs e
+  two_variables : bytes_at loop_field.iter_var2 fs ≢ [] → e ≡ Unsupported → LoopWrong fs e
 
--- ---- Expr: id 2, and a oneof
+-- ---- Expr
 
--- the members of the oneof: const_expr, ident_expr, select_expr, call_expr, list_expr, struct_expr,
--- comprehension_expr
+-- the fields of an Expr
+abbrev pub node_field : record { id : ℕ; const_expr : ℕ; ident_expr : ℕ; select_expr : ℕ; call_expr : ℕ; list_expr : ℕ; struct_expr : ℕ; comprehension_expr : ℕ }
+node_field = record { id = 2; const_expr = 3; ident_expr = 4; select_expr = 5; call_expr = 6; list_expr = 7; struct_expr = 8; comprehension_expr = 9 }
+
+-- the members of the oneof
 abbrev pub node_kinds : List (Key × Option NodeKind)
-node_kinds = (len_key 3, Some kinds.Constant) ∷ (len_key 4, Some kinds.Ident)
-    ∷ (len_key 5, Some kinds.Select) ∷ (len_key 6, Some kinds.Call) ∷ (len_key 7, Some kinds.List)
-    ∷ (len_key 8, Some kinds.Struct) ∷ (len_key 9, Some kinds.Comprehension) ∷ []
+node_kinds = (len_key node_field.const_expr, Some kinds.Constant)
+    ∷ (len_key node_field.ident_expr, Some kinds.Ident)
+    ∷ (len_key node_field.select_expr, Some kinds.Select)
+    ∷ (len_key node_field.call_expr, Some kinds.Call)
+    ∷ (len_key node_field.list_expr, Some kinds.List)
+    ∷ (len_key node_field.struct_expr, Some kinds.Struct)
+    ∷ (len_key node_field.comprehension_expr, Some kinds.Comprehension) ∷ []
 
 -- their fields
 abbrev pub kind_keys : List Key
@@ -281,7 +322,7 @@ kind_keys = keys_of node_kinds
 
 -- all fields
 abbrev pub node_keys : List Key
-node_keys = varint_key 2 ∷ kind_keys
+node_keys = varint_key node_field.id ∷ kind_keys
 
 -- the payloads of the member's run merge to a message that says the node
 abbrev pub KindSays : NodeKind → Parts → Node → Type 0
@@ -314,7 +355,7 @@ MemberFails kind n run e = KindFault kind (payloads n run) e
 
 -- the fields say the id and the node
 abbrev pub NodeSays : List Wire → ℤ × Node → Type 0
-NodeSays fs x = (x.0 ≡ int64_at 2 fs) × OneofSays node_kinds Never MemberSays fs x.1
+NodeSays fs x = (x.0 ≡ int64_at node_field.id fs) × OneofSays node_kinds Never MemberSays fs x.1
 
 -- the parts merge to an Expr with this id and of this kind, whatever stands in the expressions
 -- inside
@@ -330,21 +371,24 @@ NodeFault = ReadFault node_keys (LacksMember node_kinds)
 
 -- in the fields of an Entry
 abbrev pub InEntry : List Wire → Parts → Type 0
-InEntry fs child =
-    ((last_number key_members fs ≡ Some map_key_field)
-    × (child ≡ payloads map_key_field (member_run key_members fs))) ⊎ IsPart 4 fs child
+InEntry fs child = ((last_number key_members fs ≡ Some entry_field.map_key)
+    × (child ≡ payloads entry_field.map_key (member_run key_members fs)))
+    ⊎ IsPart entry_field.value fs child
 
 -- in the fields of a member's message
 abbrev pub InKind : NodeKind → List Wire → Parts → Type 0
 InKind kinds.Constant fs child = ⊥
 InKind kinds.Ident fs child = ⊥
-InKind kinds.Select fs child = IsPart 1 fs child
-InKind kinds.Call fs child = IsPart 1 fs child ⊎ IsElement 3 fs child
-InKind kinds.List fs child = IsElement 1 fs child
+InKind kinds.Select fs child = IsPart select_field.operand fs child
+InKind kinds.Call fs child = IsPart call_field.target fs child ⊎ IsElement call_field.args fs child
+InKind kinds.List fs child = IsElement list_field.elements fs child
 InKind kinds.Struct fs child = (entry : List ℕ) × (own : List Wire)
-    × Contains (payloads 2 fs) entry × Merges (entry ∷ []) own × InEntry own child
-InKind kinds.Comprehension fs child = IsPart 2 fs child ⊎ IsPart 4 fs child ⊎ IsPart 5 fs child
-    ⊎ IsPart 6 fs child ⊎ IsPart 7 fs child
+    × Contains (payloads struct_field.entries fs) entry × Merges (entry ∷ []) own
+    × InEntry own child
+InKind kinds.Comprehension fs child =
+    IsPart loop_field.iter_range fs child ⊎ IsPart loop_field.accu_init fs child
+    ⊎ IsPart loop_field.loop_condition fs child ⊎ IsPart loop_field.loop_step fs child
+    ⊎ IsPart loop_field.result fs child
 
 -- the child is an expression that stands in an Expr
 abbrev pub IsChild : Parts → Parts → Type 0

@@ -13,21 +13,14 @@ use Rattle.cel_tree.specs.Checked.{CelReference}
 use Rattle.cel_tree.specs.Constants.{IsConstant, ConstantFault}
 use Rattle.cel_tree.specs.Reading.{Reads, ReadFault, LacksNothing}
 
--- the numbers of the fields, and all of them
-abbrev pub name_field : ℕ
-name_field = 1
-
--- the ids of overloads
-abbrev pub overload_id_field : ℕ
-overload_id_field = 3
-
--- the value of a constant
-abbrev pub value_field : ℕ
-value_field = 4
+-- the fields of a Reference; the value is that of a constant
+abbrev pub reference_field : record { name : ℕ; overload_id : ℕ; value : ℕ }
+reference_field = record { name = 1; overload_id = 3; value = 4 }
 
 -- all fields
 abbrev pub reference_keys : List Key
-reference_keys = len_key name_field ∷ len_key overload_id_field ∷ len_key value_field ∷ []
+reference_keys = len_key reference_field.name ∷ len_key reference_field.overload_id
+    ∷ len_key reference_field.value ∷ []
 
 -- the constant that the payloads merge to, and none where there is no payload
 abbrev pub IsValue : List (List ℕ) → Option CelValue → Type 0
@@ -41,17 +34,17 @@ ValueFault (part ∷ parts) e = ConstantFault (part ∷ parts) e
 
 -- the fields say the reference; the overloads' ids are texts, and not kept
 pub record ReferenceSays (fs : List Wire) (r : CelReference) : Type 0 where
-  pub readable : IsUtf8 (bytes_at name_field fs)
-  pub ids : AllByRecursion IsUtf8 (payloads overload_id_field fs)
-  pub named : r.name ≡ points_of (bytes_at name_field fs)
-  pub valued : IsValue (payloads value_field fs) r.value
+  pub readable : IsUtf8 (bytes_at reference_field.name fs)
+  pub ids : AllByRecursion IsUtf8 (payloads reference_field.overload_id fs)
+  pub named : r.name ≡ points_of (bytes_at reference_field.name fs)
+  pub valued : IsValue (payloads reference_field.value fs) r.value
 
 -- what is wrong with a value among them
 pub data ReferenceWrong (fs : List Wire) (e : Refusal) : Type 0 where
-  bad_name : Utf8Fault (bytes_at name_field fs) e → ReferenceWrong fs e
-  bad_id : (id : List ℕ) → Contains (payloads overload_id_field fs) id → Utf8Fault id e
+  bad_name : Utf8Fault (bytes_at reference_field.name fs) e → ReferenceWrong fs e
+  bad_id : (id : List ℕ) → Contains (payloads reference_field.overload_id fs) id → Utf8Fault id e
       → ReferenceWrong fs e
-  in_value : ValueFault (payloads value_field fs) e → ReferenceWrong fs e
+  in_value : ValueFault (payloads reference_field.value fs) e → ReferenceWrong fs e
 
 -- the parts merge to this Reference
 abbrev pub IsReference : List (List ℕ) → CelReference → Type 0

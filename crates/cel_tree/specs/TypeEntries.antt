@@ -57,55 +57,58 @@ pub data TypeNode : Type 0 where
   list_of : (elem : List (List ℕ)) → TypeNode
   map_of : (key value : List (List ℕ)) → TypeNode
 
--- the members of the oneof: dyn, null, primitive, wrapper, well_known, list_type, map_type,
--- function, message_type, type_param
+-- the fields of a Type
+abbrev pub type_field : record { dyn : ℕ; null : ℕ; primitive : ℕ; wrapper : ℕ; well_known : ℕ; list_type : ℕ; map_type : ℕ; function : ℕ; message_type : ℕ; type_param : ℕ }
+type_field = record { dyn = 1; null = 2; primitive = 3; wrapper = 4; well_known = 5; list_type = 6; map_type = 7; function = 8; message_type = 9; type_param = 10 }
+
+-- the members of the oneof
 abbrev pub type_kinds : List (Key × Option TypeKind)
-type_kinds = (len_key 1, Some kinds.Dyn) ∷ (varint_key 2, None)
-    ∷ (varint_key 3, Some kinds.Primitive) ∷ (varint_key 4, None) ∷ (varint_key 5, None)
-    ∷ (len_key 6, Some kinds.List) ∷ (len_key 7, Some kinds.Map) ∷ (len_key 8, None)
-    ∷ (len_key 9, None) ∷ (len_key 10, None) ∷ []
+type_kinds = (len_key type_field.dyn, Some kinds.Dyn) ∷ (varint_key type_field.null, None)
+    ∷ (varint_key type_field.primitive, Some kinds.Primitive)
+    ∷ (varint_key type_field.wrapper, None) ∷ (varint_key type_field.well_known, None)
+    ∷ (len_key type_field.list_type, Some kinds.List)
+    ∷ (len_key type_field.map_type, Some kinds.Map) ∷ (len_key type_field.function, None)
+    ∷ (len_key type_field.message_type, None) ∷ (len_key type_field.type_param, None) ∷ []
 
 -- all fields: each is a member
 abbrev pub type_keys : List Key
 type_keys = keys_of type_kinds
 
--- the numbers of a ListType's and a MapType's parts, and all of their fields
-abbrev pub elem_field : ℕ
-elem_field = 1
+-- the field of a ListType
+abbrev pub list_type_field : record { elem_type : ℕ }
+list_type_field = record { elem_type = 1 }
 
--- all fields of a list type
+-- all fields of a ListType
 abbrev pub list_type_keys : List Key
-list_type_keys = len_key elem_field ∷ []
+list_type_keys = len_key list_type_field.elem_type ∷ []
 
--- the number of the keys' type
-abbrev pub key_field : ℕ
-key_field = 1
+-- the fields of a MapType
+abbrev pub map_type_field : record { key_type : ℕ; value_type : ℕ }
+map_type_field = record { key_type = 1; value_type = 2 }
 
--- the number of the values' type
-abbrev pub value_field : ℕ
-value_field = 2
-
--- all fields of a map type
+-- all fields of a MapType
 abbrev pub map_type_keys : List Key
-map_type_keys = len_key key_field ∷ len_key value_field ∷ []
+map_type_keys = len_key map_type_field.key_type ∷ len_key map_type_field.value_type ∷ []
 
 -- the fields of a ListType, which has its part
 abbrev pub ListTypeSays : List Wire → TypeNode → Type 0
-ListTypeSays fs node = (payloads elem_field fs ≢ []) × (node ≡ list_of (payloads elem_field fs))
+ListTypeSays fs node = (payloads list_type_field.elem_type fs ≢ [])
+    × (node ≡ list_of (payloads list_type_field.elem_type fs))
 
 -- a ListType lacks its part
 abbrev pub ListTypeWrong : List Wire → Refusal → Type 0
-ListTypeWrong fs e = (payloads elem_field fs ≡ []) × (e ≡ OutOfRange)
+ListTypeWrong fs e = (payloads list_type_field.elem_type fs ≡ []) × (e ≡ OutOfRange)
 
 -- the fields of a MapType, which has its parts
 abbrev pub MapTypeSays : List Wire → TypeNode → Type 0
-MapTypeSays fs node = (payloads key_field fs ≢ []) × (payloads value_field fs ≢ [])
-    × (node ≡ map_of (payloads key_field fs) (payloads value_field fs))
+MapTypeSays fs node = (payloads map_type_field.key_type fs ≢ [])
+    × (payloads map_type_field.value_type fs ≢ [])
+    × (node ≡ map_of (payloads map_type_field.key_type fs) (payloads map_type_field.value_type fs))
 
 -- a MapType lacks a part
 abbrev pub MapTypeWrong : List Wire → Refusal → Type 0
-MapTypeWrong fs e =
-    ((payloads key_field fs ≡ []) ⊎ (payloads value_field fs ≡ [])) × (e ≡ OutOfRange)
+MapTypeWrong fs e = ((payloads map_type_field.key_type fs ≡ [])
+    ⊎ (payloads map_type_field.value_type fs ≡ [])) × (e ≡ OutOfRange)
 
 -- the run of the member, which has this number, says the type
 abbrev pub TypeSays : TypeKind → ℕ → List Wire → TypeNode → Type 0
@@ -140,8 +143,9 @@ TypeNodeFault = ReadFault type_keys LacksNothing (OneofFault type_kinds Never Ty
 
 -- in the fields of a member's message
 abbrev pub InTypeKind : TypeKind → List Wire → List (List ℕ) → Type 0
-InTypeKind kinds.List fs inner = IsPart elem_field fs inner
-InTypeKind kinds.Map fs inner = IsPart key_field fs inner ⊎ IsPart value_field fs inner
+InTypeKind kinds.List fs inner = IsPart list_type_field.elem_type fs inner
+InTypeKind kinds.Map fs inner =
+    IsPart map_type_field.key_type fs inner ⊎ IsPart map_type_field.value_type fs inner
 InTypeKind _ fs inner = ⊥
 
 -- the inner one is a type that stands in a Type

@@ -33,6 +33,7 @@ const STRING_VALUE: u32 = 6;
 
 const BYTES_VALUE: u32 = 7;
 
+/// The members of the oneof: a Constant has no other fields.
 static CONSTANT: [Key; 7] = keys![
     Varint NULL_VALUE, Varint BOOL_VALUE, Varint INT64_VALUE, Varint UINT64_VALUE, I64 DOUBLE_VALUE,
     Len STRING_VALUE, Len BYTES_VALUE
@@ -60,7 +61,7 @@ pub(crate) fn read_constant(alloc: Global, parts: &[&[u8]]) -> Result<Constant, 
     ensures found { IfOk result (λ constant. IsConstant (parts_view parts.now) (constant_view constant)) }
     ensures fault { IfErr result (MemoryOr (ConstantFault (parts_view parts.now))) }
 {
-    let fields = read_message(alloc, parts, constant_keys())?;
+    let fields = read_message(alloc, parts, &CONSTANT)?;
     constant_of(alloc, &fields)
 }
 
@@ -72,7 +73,7 @@ fn constant_of(alloc: Global, fields: &[Field<'_>]) -> Result<Constant, Refusal>
         (ValuesFault (LacksMember constants) (OneofFault constants IsUnsupported ConstantFails) (map field_view fields.now))) }
 {
     let last = last_constant(fields)?;
-    let run = member_run(alloc, fields, constant_keys())?;
+    let run = member_run(alloc, fields, &CONSTANT)?;
     constant_in(alloc, last, &run)
 }
 
@@ -84,7 +85,7 @@ fn last_constant(fields: &[Field<'_>]) -> Result<LastConstant, Refusal>
     ensures fault { IfErr result (λ e. MatchOption (last_number constant_keys (map field_view fields.now))
         (e ≡ Missing) (λ n. (member_in constants n ≡ None) × (e ≡ Unsupported))) }
 {
-    let Some(number) = last_number(fields, constant_keys()) else {
+    let Some(number) = last_number(fields, &CONSTANT) else {
         return Err(Refusal::Missing);
     };
     match constant_at(number) {
@@ -126,11 +127,4 @@ fn constant_in(alloc: Global, last: LastConstant, run: &[Field<'_>]) -> Result<C
             Ok(Constant::Bytes(RcSlice::from_slice(alloc, bytes)?))
         }
     }
-}
-
-/// The members of the oneof of a Constant, which has no other fields.
-fn constant_keys() -> &'static [Key]
-    ensures { result.now ≡ constant_keys }
-{
-    &CONSTANT
 }

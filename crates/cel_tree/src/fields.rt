@@ -17,7 +17,7 @@ pub(crate) fn last_number(fields: &[Field<'_>], keys: &[Key]) -> Option<u32>
 }
 
 /// Whether some LEN field has this number.
-pub(crate) fn has_payload(fields: &[Field<'_>], number: u32) -> bool
+pub fn has_payload(fields: &[Field<'_>], number: u32) -> bool
     ensures { MatchBool result (payloads number (map field_view fields.now) ≢ [])
         (payloads number (map field_view fields.now) ≡ []) }
 {

@@ -6,7 +6,7 @@ ghost use Rattle.proto_wire.specs.Merge.{parts_view};
 ghost use Rattle.proto_wire.specs.Refusal.{MemoryOr};
 ghost use Rattle.proto_wire.specs.Values.{has_field, bool_at, bytes_at};
 ghost use Rattle.proto_wire.specs.declared.refusal.Refusal.TheVariants.{Missing, Unsupported};
-ghost use Rattle.cel_tree.specs.Nodes.{list_keys, ListSays, ListWrong, key_members, map_key_field, entry_keys, EntrySays, EntryLacks, EntryWrong, IsEntry, EntryFault, AreEntries, struct_keys, StructSays, StructWrong};
+ghost use Rattle.cel_tree.specs.Nodes.{list_field, list_keys, ListSays, ListWrong, entry_field, key_members, EntrySays, EntryLacks, EntryWrong, IsEntry, EntryFault, AreEntries, struct_field, struct_keys, StructSays, StructWrong};
 ghost use Rattle.cel_tree.specs.Reading.{Reads, ReadFault, ValuesFault, LacksNothing};
 ghost use Rattle.proto_wire.specs.Oneof.{last_number};
 ghost use Rattle.cel_tree.specs.steps.NodeViews.{node_view};
@@ -48,6 +48,7 @@ static STRUCT: [Key; 2] = keys![Len MESSAGE_NAME, Len ENTRIES];
 static ENTRY: [Key; 5] =
     keys![Varint ID, Len FIELD_KEY, Len MAP_KEY, Len VALUE, Varint OPTIONAL_ENTRY];
 
+/// The members of the oneof of an Entry.
 static ENTRY_KEY: [Key; 2] = keys![Len FIELD_KEY, Len MAP_KEY];
 
 /// An entry whose own message is read, with the parts of its key and of its value.
@@ -63,7 +64,7 @@ pub(crate) fn read_list<'a>(alloc: Global, parts: &[&'a [u8]]) -> Result<Node<'a
     ensures found { IfOk result (λ node. Reads list_keys ListSays (parts_view parts.now) (node_view node)) }
     ensures fault { IfErr result (MemoryOr (ReadFault list_keys LacksNothing ListWrong (parts_view parts.now))) }
 {
-    let fields = read_message(alloc, parts, list_keys())?;
+    let fields = read_message(alloc, parts, &LIST)?;
     list_of(alloc, &fields)
 }
 
@@ -78,8 +79,9 @@ fn list_of<'a>(alloc: Global, fields: &[Field<'a>]) -> Result<Node<'a>, Refusal>
 
 /// Refuses a list that says which of its elements are optional.
 fn refuse_optional_elements(fields: &[Field<'_>]) -> Result<(), Refusal>
-    ensures found { OnOk result (has_field 2 (map field_view fields.now) ≡ false) }
-    ensures fault { IfErr result (λ e. (has_field 2 (map field_view fields.now) ≡ true) × (e ≡ Unsupported)) }
+    ensures found { OnOk result (has_field list_field.optional_indices (map field_view fields.now) ≡ false) }
+    ensures fault { IfErr result (λ e.
+        (has_field list_field.optional_indices (map field_view fields.now) ≡ true) × (e ≡ Unsupported)) }
 {
     if has_field(fields, OPTIONAL_INDICES) {
         return Err(Refusal::Unsupported);
@@ -92,7 +94,7 @@ pub(crate) fn read_struct<'a>(alloc: Global, parts: &[&'a [u8]]) -> Result<Node<
     ensures found { IfOk result (λ node. Reads struct_keys StructSays (parts_view parts.now) (node_view node)) }
     ensures fault { IfErr result (MemoryOr (ReadFault struct_keys LacksNothing StructWrong (parts_view parts.now))) }
 {
-    let fields = read_message(alloc, parts, struct_keys())?;
+    let fields = read_message(alloc, parts, &STRUCT)?;
     struct_of(alloc, &fields)
 }
 
@@ -109,8 +111,9 @@ fn struct_of<'a>(alloc: Global, fields: &[Field<'a>]) -> Result<Node<'a>, Refusa
 
 /// Refuses the construction of a message, which has a name.
 fn refuse_message(fields: &[Field<'_>]) -> Result<(), Refusal>
-    ensures found { OnOk result (bytes_at 1 (map field_view fields.now) ≡ []) }
-    ensures fault { IfErr result (λ e. (bytes_at 1 (map field_view fields.now) ≢ []) × (e ≡ Unsupported)) }
+    ensures found { OnOk result (bytes_at struct_field.message_name (map field_view fields.now) ≡ []) }
+    ensures fault { IfErr result (λ e.
+        (bytes_at struct_field.message_name (map field_view fields.now) ≢ []) × (e ≡ Unsupported)) }
 {
     if bytes_at(fields, MESSAGE_NAME).is_empty() {
         return Ok(());
@@ -137,7 +140,7 @@ fn read_entry<'a>(alloc: Global, payload: &'a [u8]) -> Result<EntryNode<'a>, Ref
     ensures found { IfOk result (λ entry. IsEntry payload.now (entry_node_view entry)) }
     ensures fault { IfErr result (MemoryOr (EntryFault payload.now)) }
 {
-    let fields = read_message(alloc, &[payload], entry_keys())?;
+    let fields = read_message(alloc, &[payload], &ENTRY)?;
     entry_of(alloc, &fields)
 }
 
@@ -149,7 +152,7 @@ fn entry_of<'a>(alloc: Global, fields: &[Field<'a>]) -> Result<EntryNode<'a>, Re
     refuse_optional_entry(fields)?;
     require_map_key(fields)?;
     require_part(fields, VALUE)?;
-    let run = member_run(alloc, fields, key_members())?;
+    let run = member_run(alloc, fields, &ENTRY_KEY)?;
     let key = payloads_of(alloc, &run, MAP_KEY)?;
     let value = payloads_of(alloc, fields, VALUE)?;
     let id = int64_at(fields, ID);
@@ -158,8 +161,9 @@ fn entry_of<'a>(alloc: Global, fields: &[Field<'a>]) -> Result<EntryNode<'a>, Re
 
 /// Refuses an entry that is optional.
 fn refuse_optional_entry(fields: &[Field<'_>]) -> Result<(), Refusal>
-    ensures found { OnOk result (bool_at 5 (map field_view fields.now) ≡ false) }
-    ensures fault { IfErr result (λ e. (bool_at 5 (map field_view fields.now) ≡ true) × (e ≡ Unsupported)) }
+    ensures found { OnOk result (bool_at entry_field.optional_entry (map field_view fields.now) ≡ false) }
+    ensures fault { IfErr result (λ e.
+        (bool_at entry_field.optional_entry (map field_view fields.now) ≡ true) × (e ≡ Unsupported)) }
 {
     if bool_at(fields, OPTIONAL_ENTRY) {
         return Err(Refusal::Unsupported);
@@ -169,41 +173,13 @@ fn refuse_optional_entry(fields: &[Field<'_>]) -> Result<(), Refusal>
 
 /// Refuses an entry without a key, and one whose key is that of a message.
 fn require_map_key(fields: &[Field<'_>]) -> Result<(), Refusal>
-    ensures found { OnOk result (last_number key_members (map field_view fields.now) ≡ Some map_key_field) }
+    ensures found { OnOk result (last_number key_members (map field_view fields.now) ≡ Some entry_field.map_key) }
     ensures fault { IfErr result (λ e. MatchOption (last_number key_members (map field_view fields.now))
-        (e ≡ Missing) (λ n. (n ≢ map_key_field) × (e ≡ Unsupported))) }
+        (e ≡ Missing) (λ n. (n ≢ entry_field.map_key) × (e ≡ Unsupported))) }
 {
-    match last_number(fields, key_members()) {
+    match last_number(fields, &ENTRY_KEY) {
         Some(MAP_KEY) => Ok(()),
         Some(_) => Err(Refusal::Unsupported),
         None => Err(Refusal::Missing),
     }
-}
-
-/// The fields of a CreateList.
-fn list_keys() -> &'static [Key]
-    ensures { result.now ≡ list_keys }
-{
-    &LIST
-}
-
-/// The fields of a CreateStruct.
-fn struct_keys() -> &'static [Key]
-    ensures { result.now ≡ struct_keys }
-{
-    &STRUCT
-}
-
-/// The fields of an Entry.
-fn entry_keys() -> &'static [Key]
-    ensures { result.now ≡ entry_keys }
-{
-    &ENTRY
-}
-
-/// The members of its oneof.
-fn key_members() -> &'static [Key]
-    ensures { result.now ≡ key_members }
-{
-    &ENTRY_KEY
 }

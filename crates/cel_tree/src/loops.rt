@@ -6,7 +6,7 @@ ghost use Rattle.proto_wire.specs.Merge.{parts_view};
 ghost use Rattle.proto_wire.specs.Refusal.{MemoryOr};
 ghost use Rattle.proto_wire.specs.Values.{bytes_at};
 ghost use Rattle.proto_wire.specs.declared.refusal.Refusal.TheVariants.{Missing, Unsupported};
-ghost use Rattle.cel_tree.specs.Nodes.{loop_keys, NamesRead, PartsThere, LacksPart, LoopSays, LoopLacks, LoopWrong};
+ghost use Rattle.cel_tree.specs.Nodes.{loop_field, loop_keys, NamesRead, PartsThere, LacksPart, LoopSays, LoopLacks, LoopWrong};
 ghost use Rattle.cel_tree.specs.Reading.{Reads, ReadFault, ValuesFault};
 ghost use Rattle.cel_tree.specs.steps.NodeViews.{node_view};
 
@@ -56,7 +56,7 @@ pub(crate) fn read_loop<'a>(alloc: Global, parts: &[&'a [u8]]) -> Result<Node<'a
     ensures found { IfOk result (λ node. Reads loop_keys LoopSays (parts_view parts.now) (node_view node)) }
     ensures fault { IfErr result (MemoryOr (ReadFault loop_keys LoopLacks LoopWrong (parts_view parts.now))) }
 {
-    let fields = read_message(alloc, parts, loop_keys())?;
+    let fields = read_message(alloc, parts, &COMPREHENSION)?;
     loop_of(alloc, &fields)
 }
 
@@ -91,8 +91,9 @@ fn require_names(fields: &[Field<'_>]) -> Result<(), Refusal>
 
 /// Refuses a comprehension with two names of the element.
 fn refuse_second_name(fields: &[Field<'_>]) -> Result<(), Refusal>
-    ensures found { OnOk result (bytes_at 8 (map field_view fields.now) ≡ []) }
-    ensures fault { IfErr result (λ e. (bytes_at 8 (map field_view fields.now) ≢ []) × (e ≡ Unsupported)) }
+    ensures found { OnOk result (bytes_at loop_field.iter_var2 (map field_view fields.now) ≡ []) }
+    ensures fault { IfErr result (λ e.
+        (bytes_at loop_field.iter_var2 (map field_view fields.now) ≢ []) × (e ≡ Unsupported)) }
 {
     if bytes_at(fields, ITER_VAR2).is_empty() {
         return Ok(());
@@ -110,11 +111,4 @@ fn require_parts(fields: &[Field<'_>]) -> Result<(), Refusal>
     require_part(fields, LOOP_CONDITION)?;
     require_part(fields, LOOP_STEP)?;
     require_part(fields, RESULT)
-}
-
-/// The fields of a Comprehension.
-fn loop_keys() -> &'static [Key]
-    ensures { result.now ≡ loop_keys }
-{
-    &COMPREHENSION
 }

@@ -7,7 +7,7 @@ ghost use Rattle.proto_wire.specs.Fields.{field_view};
 ghost use Rattle.proto_wire.specs.Maps.{IsMap, MapFault, int64, SomeValueFault};
 ghost use Rattle.proto_wire.specs.Refusal.{MemoryOr};
 ghost use Rattle.proto_wire.specs.Values.{payloads};
-ghost use Rattle.cel_tree.specs.Message.{reference_map_field, tree_depth, type_map_field};
+ghost use Rattle.cel_tree.specs.Message.{checked_field, tree_depth};
 ghost use Rattle.cel_tree.specs.References.{IsReference, ReferenceFault};
 ghost use Rattle.cel_tree.specs.TypeEntries.{IsTypeEntry, TypeEntryFault};
 ghost use Rattle.cel_tree.specs.View.{references_view, types_view};
@@ -23,16 +23,16 @@ use std::alloc::Global;
 /// How many levels a tree or a type may have; one that stands in no other is level 1.
 pub(crate) const TREE_DEPTH: u32 = 64;
 
-const REFERENCE_MAP: u32 = 2;
+pub(crate) const REFERENCE_MAP: u32 = 2;
 
-const TYPE_MAP: u32 = 3;
+pub(crate) const TYPE_MAP: u32 = 3;
 
 /// The type map of a CheckedExpr's fields.
 pub(crate) fn types_of(alloc: Global, fields: &[Field<'_>]) -> Result<TypeMap, Refusal>
     ensures found { IfOk result (λ m.
-        IsMap int64 (IsTypeEntry tree_depth) (payloads type_map_field (map field_view fields.now)) (types_view m)) }
+        IsMap int64 (IsTypeEntry tree_depth) (payloads checked_field.type_map (map field_view fields.now)) (types_view m)) }
     ensures fault { IfErr result (MemoryOr
-        (MapFault int64 (TypeEntryFault tree_depth) (payloads type_map_field (map field_view fields.now)))) }
+        (MapFault int64 (TypeEntryFault tree_depth) (payloads checked_field.type_map (map field_view fields.now)))) }
 {
     let entries = payloads_of(alloc, fields, TYPE_MAP)?;
     let named = read_entries(alloc, &entries)?;
@@ -58,9 +58,9 @@ fn read_types(alloc: Global, named: &[MapEntry<'_, i64>]) -> Result<TypeMap, Ref
 /// The reference map of a CheckedExpr's fields.
 pub(crate) fn references_of(alloc: Global, fields: &[Field<'_>]) -> Result<ReferenceMap, Refusal>
     ensures found { IfOk result (λ m.
-        IsMap int64 IsReference (payloads reference_map_field (map field_view fields.now)) (references_view m)) }
+        IsMap int64 IsReference (payloads checked_field.reference_map (map field_view fields.now)) (references_view m)) }
     ensures fault { IfErr result (MemoryOr
-        (MapFault int64 ReferenceFault (payloads reference_map_field (map field_view fields.now)))) }
+        (MapFault int64 ReferenceFault (payloads checked_field.reference_map (map field_view fields.now)))) }
 {
     let entries = payloads_of(alloc, fields, REFERENCE_MAP)?;
     let named = read_entries(alloc, &entries)?;

@@ -1,11 +1,11 @@
 //! The reading of a checked expression (`google.api.expr.v1alpha1.CheckedExpr`).
 
-ghost use Rattle.std.specs.Prelude.{◌≡◌, ◌≤◌, [], ◌∷◌, IfOk, IfErr, map};
+ghost use Rattle.std.specs.Prelude.{◌≤◌, [], ◌∷◌, IfOk, IfErr, map};
 ghost use Rattle.proto_wire.specs.Fields.{field_view};
 ghost use Rattle.proto_wire.specs.Merge.{parts_view};
 ghost use Rattle.proto_wire.specs.Refusal.{MemoryOr};
 ghost use Rattle.proto_wire.specs.Values.{payloads};
-ghost use Rattle.cel_tree.specs.Message.{checked_keys, expr_field, most_nodes, tree_depth, CheckedSays, CheckedLacks, CheckedWrong, IsChecked, CheckedFault};
+ghost use Rattle.cel_tree.specs.Message.{checked_field, most_nodes, tree_depth, CheckedSays, CheckedLacks, CheckedWrong, IsChecked, CheckedFault};
 ghost use Rattle.cel_tree.specs.Reading.{ValuesFault};
 ghost use Rattle.cel_tree.specs.Trees.{IsTree, node_count};
 ghost use Rattle.cel_tree.specs.View.{checked_view, tree_view};
@@ -13,7 +13,7 @@ ghost use Rattle.cel_tree.specs.steps.Inside.{TreeFails};
 
 use crate::checked::Checked;
 use crate::fields::require_part;
-use crate::maps::{TREE_DEPTH, references_of, types_of};
+use crate::maps::{REFERENCE_MAP, TREE_DEPTH, TYPE_MAP, references_of, types_of};
 use crate::read::read_tree;
 use crate::tree::Tree;
 use proto_wire::{Field, Key, Refusal, keys, payloads_of, read_message};
@@ -21,10 +21,6 @@ use std::alloc::Global;
 
 /// How many nodes a tree may have.
 const MOST_NODES: u32 = 2048;
-
-const REFERENCE_MAP: u32 = 2;
-
-const TYPE_MAP: u32 = 3;
 
 const EXPR: u32 = 4;
 
@@ -51,7 +47,7 @@ pub fn read_checked_parts(alloc: Global, parts: &[&[u8]]) -> Result<Checked, Ref
     ensures found { IfOk result (λ c. IsChecked (parts_view parts.now) (checked_view c)) }
     ensures fault { IfErr result (MemoryOr (CheckedFault (parts_view parts.now))) }
 {
-    let fields = read_message(alloc, parts, checked_keys())?;
+    let fields = read_message(alloc, parts, &CHECKED)?;
     checked_of(alloc, &fields)
 }
 
@@ -69,19 +65,12 @@ fn checked_of(alloc: Global, fields: &[Field<'_>]) -> Result<Checked, Refusal>
 
 /// The tree of the fields.
 fn tree_of(alloc: Global, fields: &[Field<'_>]) -> Result<Tree, Refusal>
-    ensures found { IfOk result (λ t. IsTree tree_depth (payloads expr_field (map field_view fields.now)) (tree_view t)
+    ensures found { IfOk result (λ t. IsTree tree_depth (payloads checked_field.expr (map field_view fields.now)) (tree_view t)
         × (node_count (tree_view t) ≤ most_nodes)) }
     ensures fault { IfErr result (MemoryOr
-        (TreeFails tree_depth most_nodes (payloads expr_field (map field_view fields.now)))) }
+        (TreeFails tree_depth most_nodes (payloads checked_field.expr (map field_view fields.now)))) }
 {
     let parts = payloads_of(alloc, fields, EXPR)?;
     let mut left = MOST_NODES;
     read_tree(alloc, &parts, TREE_DEPTH, &mut left)
-}
-
-/// The fields of a CheckedExpr.
-fn checked_keys() -> &'static [Key]
-    ensures { result.now ≡ checked_keys }
-{
-    &CHECKED
 }

@@ -6,7 +6,7 @@ ghost use Rattle.proto_wire.specs.Merge.{parts_view};
 ghost use Rattle.proto_wire.specs.Refusal.{MemoryOr};
 ghost use Rattle.proto_wire.specs.declared.refusal.Refusal.TheVariants.{Missing, Unsupported};
 ghost use Rattle.cel_value.specs.Types.{IsInt64};
-ghost use Rattle.cel_tree.specs.Nodes.{node_kinds, node_keys, kind_keys, KindSays, KindFault, MemberFails, NodeSays, IsNode, NodeFault};
+ghost use Rattle.cel_tree.specs.Nodes.{node_kinds, kind_keys, KindSays, KindFault, MemberFails, NodeSays, IsNode, NodeFault};
 ghost use Rattle.cel_tree.specs.Reading.{ValuesFault, LacksMember, IsUnsupported, OneofFault};
 ghost use Rattle.proto_wire.specs.Oneof.{last_number, member_in};
 ghost use Rattle.cel_tree.specs.steps.NodeViews.{node_view, numbered_view};
@@ -44,6 +44,7 @@ static EXPR: [Key; 8] = keys![
     Len STRUCT_EXPR, Len COMPREHENSION_EXPR
 ];
 
+/// The members of the oneof.
 static KINDS: [Key; 7] = keys![
     Len CONST_EXPR, Len IDENT_EXPR, Len SELECT_EXPR, Len CALL_EXPR, Len LIST_EXPR, Len STRUCT_EXPR,
     Len COMPREHENSION_EXPR
@@ -102,7 +103,7 @@ pub(crate) fn read_node<'a>(alloc: Global, parts: &[&'a [u8]]) -> Result<(i64, N
     ensures ranged { IfOk result (λ n. IsInt64 n.0) }
     ensures fault { IfErr result (MemoryOr (NodeFault (parts_view parts.now))) }
 {
-    let fields = read_message(alloc, parts, node_keys())?;
+    let fields = read_message(alloc, parts, &EXPR)?;
     node_of(alloc, &fields)
 }
 
@@ -114,7 +115,7 @@ fn node_of<'a>(alloc: Global, fields: &[Field<'a>]) -> Result<(i64, Node<'a>), R
         (OneofFault node_kinds IsUnsupported MemberFails) (map field_view fields.now))) }
 {
     let last = last_kind(fields)?;
-    let run = member_run(alloc, fields, kind_keys())?;
+    let run = member_run(alloc, fields, &KINDS)?;
     let parts = payloads_of(alloc, &run, last.number)?;
     let node = read_kind(alloc, last.kind, &parts)?;
     let id = int64_at(fields, ID);
@@ -129,7 +130,7 @@ fn last_kind(fields: &[Field<'_>]) -> Result<LastKind, Refusal>
     ensures fault { IfErr result (λ e. MatchOption (last_number kind_keys (map field_view fields.now))
         (e ≡ Missing) (λ n. (member_in node_kinds n ≡ None) × (e ≡ Unsupported))) }
 {
-    let Some(number) = last_number(fields, kind_keys()) else {
+    let Some(number) = last_number(fields, &KINDS) else {
         return Err(Refusal::Missing);
     };
     match kind_at(number) {
@@ -168,18 +169,4 @@ fn read_kind<'a>(alloc: Global, kind: NodeKind, parts: &[&'a [u8]]) -> Result<No
         NodeKind::Struct => read_struct(alloc, parts),
         NodeKind::Comprehension => read_loop(alloc, parts),
     }
-}
-
-/// The fields of an Expr.
-fn node_keys() -> &'static [Key]
-    ensures { result.now ≡ node_keys }
-{
-    &EXPR
-}
-
-/// The members of its oneof.
-fn kind_keys() -> &'static [Key]
-    ensures { result.now ≡ kind_keys }
-{
-    &KINDS
 }

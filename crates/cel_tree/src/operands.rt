@@ -1,6 +1,6 @@
 //! The messages Ident, Select and Call, without the expressions inside them.
 
-ghost use Rattle.std.specs.Prelude.{◌≡◌, IfOk, IfErr, map};
+ghost use Rattle.std.specs.Prelude.{IfOk, IfErr, map};
 ghost use Rattle.proto_wire.specs.Fields.{field_view};
 ghost use Rattle.proto_wire.specs.Merge.{parts_view};
 ghost use Rattle.proto_wire.specs.Refusal.{MemoryOr};
@@ -42,7 +42,7 @@ pub(crate) fn read_ident<'a>(alloc: Global, parts: &[&'a [u8]]) -> Result<Node<'
     ensures found { IfOk result (λ node. Reads ident_keys IdentSays (parts_view parts.now) (node_view node)) }
     ensures fault { IfErr result (MemoryOr (ReadFault ident_keys LacksNothing IdentWrong (parts_view parts.now))) }
 {
-    let fields = read_message(alloc, parts, ident_keys())?;
+    let fields = read_message(alloc, parts, &IDENT)?;
     ident_of(alloc, &fields)
 }
 
@@ -60,7 +60,7 @@ pub(crate) fn read_select<'a>(alloc: Global, parts: &[&'a [u8]]) -> Result<Node<
     ensures found { IfOk result (λ node. Reads select_keys SelectSays (parts_view parts.now) (node_view node)) }
     ensures fault { IfErr result (MemoryOr (ReadFault select_keys SelectLacks SelectWrong (parts_view parts.now))) }
 {
-    let fields = read_message(alloc, parts, select_keys())?;
+    let fields = read_message(alloc, parts, &SELECT)?;
     select_of(alloc, &fields)
 }
 
@@ -86,7 +86,7 @@ pub(crate) fn read_call<'a>(alloc: Global, parts: &[&'a [u8]]) -> Result<Node<'a
     ensures found { IfOk result (λ node. Reads call_keys CallSays (parts_view parts.now) (node_view node)) }
     ensures fault { IfErr result (MemoryOr (ReadFault call_keys LacksNothing CallWrong (parts_view parts.now))) }
 {
-    let fields = read_message(alloc, parts, call_keys())?;
+    let fields = read_message(alloc, parts, &CALL)?;
     call_of(alloc, &fields)
 }
 
@@ -104,25 +104,4 @@ fn call_of<'a>(alloc: Global, fields: &[Field<'a>]) -> Result<Node<'a>, Refusal>
         target,
         args,
     })
-}
-
-/// The fields of an Ident.
-fn ident_keys() -> &'static [Key]
-    ensures { result.now ≡ ident_keys }
-{
-    &IDENT
-}
-
-/// The fields of a Select.
-fn select_keys() -> &'static [Key]
-    ensures { result.now ≡ select_keys }
-{
-    &SELECT
-}
-
-/// The fields of a Call.
-fn call_keys() -> &'static [Key]
-    ensures { result.now ≡ call_keys }
-{
-    &CALL
 }

@@ -1,6 +1,6 @@
 //! References, and how their message is read.
 
-ghost use Rattle.std.specs.Prelude.{◌≡◌, ℕ, List, Some, IfOk, IfErr, OnOk, Contains, map, option_map};
+ghost use Rattle.std.specs.Prelude.{ℕ, List, Some, IfOk, IfErr, OnOk, Contains, map, option_map};
 ghost use Rattle.std.specs.List.{AllByRecursion};
 ghost use Rattle.std.specs.Str.{IsUtf8};
 ghost use Rattle.proto_wire.specs.Fields.{field_view};
@@ -8,7 +8,7 @@ ghost use Rattle.proto_wire.specs.Merge.{parts_view};
 ghost use Rattle.proto_wire.specs.Refusal.{MemoryOr};
 ghost use Rattle.proto_wire.specs.Values.{Utf8Fault};
 ghost use Rattle.cel_tree.specs.Reading.{ValuesFault, LacksNothing};
-ghost use Rattle.cel_tree.specs.References.{reference_keys, ReferenceSays, ReferenceWrong, IsReference, ReferenceFault, IsValue, ValueFault};
+ghost use Rattle.cel_tree.specs.References.{ReferenceSays, ReferenceWrong, IsReference, ReferenceFault, IsValue, ValueFault};
 ghost use Rattle.cel_tree.specs.View.{constant_view, reference_view};
 
 use crate::checked::Reference;
@@ -31,7 +31,7 @@ pub(crate) fn read_reference(alloc: Global, parts: &[&[u8]]) -> Result<Reference
     ensures found { IfOk result (λ reference. IsReference (parts_view parts.now) (reference_view reference)) }
     ensures fault { IfErr result (MemoryOr (ReferenceFault (parts_view parts.now))) }
 {
-    let fields = read_message(alloc, parts, reference_keys())?;
+    let fields = read_message(alloc, parts, &REFERENCE)?;
     reference_of(alloc, &fields)
 }
 
@@ -69,11 +69,4 @@ fn read_value(alloc: Global, parts: &[&[u8]]) -> Result<Option<Constant>, Refusa
         return Ok(None);
     }
     Ok(Some(read_constant(alloc, parts)?))
-}
-
-/// The fields of a Reference.
-fn reference_keys() -> &'static [Key]
-    ensures { result.now ≡ reference_keys }
-{
-    &REFERENCE
 }

@@ -48,6 +48,7 @@ const KEY: u32 = 1;
 
 const VALUE: u32 = 2;
 
+/// The members of the oneof: a Type has no other fields.
 static TYPE: [Key; 10] = keys![
     Len DYN, Varint NULL, Varint PRIMITIVE, Varint WRAPPER, Varint WELL_KNOWN, Len LIST_TYPE,
     Len MAP_TYPE, Len FUNCTION, Len MESSAGE_TYPE, Len TYPE_PARAM
@@ -96,7 +97,7 @@ pub(crate) fn read_type_node<'a>(alloc: Global, parts: &[&'a [u8]]) -> Result<Ty
     ensures found { IfOk result (λ node. IsTypeNode (parts_view parts.now) (type_node_view node)) }
     ensures fault { IfErr result (MemoryOr (TypeNodeFault (parts_view parts.now))) }
 {
-    let fields = read_message(alloc, parts, type_keys())?;
+    let fields = read_message(alloc, parts, &TYPE)?;
     type_of(alloc, &fields)
 }
 
@@ -110,7 +111,7 @@ fn type_of<'a>(alloc: Global, fields: &[Field<'a>]) -> Result<TypeNode<'a>, Refu
     let Some(last) = last_kind(fields) else {
         return Ok(TypeNode::Plain(TypeEntry::Unsupported));
     };
-    let run = member_run(alloc, fields, type_keys())?;
+    let run = member_run(alloc, fields, &TYPE)?;
     type_in(alloc, last, &run)
 }
 
@@ -121,7 +122,7 @@ fn last_kind(fields: &[Field<'_>]) -> Option<LastKind>
         (λ last. (last_number type_keys (map field_view fields.now) ≡ Some last.number)
         × (member_in type_kinds last.number ≡ Some last.kind)) }
 {
-    let number = last_number(fields, type_keys())?;
+    let number = last_number(fields, &TYPE)?;
     let kind = kind_at(number)?;
     Some(LastKind { kind, number })
 }
@@ -180,7 +181,7 @@ fn read_list_type<'a>(alloc: Global, parts: &[&'a [u8]]) -> Result<TypeNode<'a>,
     ensures found { IfOk result (λ node. Reads list_type_keys ListTypeSays (parts_view parts.now) (type_node_view node)) }
     ensures fault { IfErr result (MemoryOr (ReadFault list_type_keys LacksNothing ListTypeWrong (parts_view parts.now))) }
 {
-    let fields = read_message(alloc, parts, list_type_keys())?;
+    let fields = read_message(alloc, parts, &LIST)?;
     list_type_of(alloc, &fields)
 }
 
@@ -199,7 +200,7 @@ fn read_map_type<'a>(alloc: Global, parts: &[&'a [u8]]) -> Result<TypeNode<'a>, 
     ensures found { IfOk result (λ node. Reads map_type_keys MapTypeSays (parts_view parts.now) (type_node_view node)) }
     ensures fault { IfErr result (MemoryOr (ReadFault map_type_keys LacksNothing MapTypeWrong (parts_view parts.now))) }
 {
-    let fields = read_message(alloc, parts, map_type_keys())?;
+    let fields = read_message(alloc, parts, &MAP)?;
     map_type_of(alloc, &fields)
 }
 
@@ -224,25 +225,4 @@ fn require_type(fields: &[Field<'_>], number: u32) -> Result<(), Refusal>
         return Ok(());
     }
     Err(Refusal::OutOfRange)
-}
-
-/// The members of the oneof of a Type, which has no other fields.
-fn type_keys() -> &'static [Key]
-    ensures { result.now ≡ type_keys }
-{
-    &TYPE
-}
-
-/// The fields of a ListType.
-fn list_type_keys() -> &'static [Key]
-    ensures { result.now ≡ list_type_keys }
-{
-    &LIST
-}
-
-/// The fields of a MapType.
-fn map_type_keys() -> &'static [Key]
-    ensures { result.now ≡ map_type_keys }
-{
-    &MAP
 }

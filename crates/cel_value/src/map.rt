@@ -1,6 +1,6 @@
 //! Maps: look-up, walking, and how they are made entry by entry.
 
-ghost use Rattle.std.specs.Prelude.{◌≡◌, ◌≢◌, IfOk, IsTrue, MatchBool, None, option_map, is_some};
+ghost use Rattle.std.specs.Prelude.{◌≡◌, ◌≢◌, IfOk, IsTrue, MatchBool, None, OnErr, option_map, is_some};
 ghost use Rattle.cel_value.specs.Items.{item_at, keys_of};
 ghost use Rattle.cel_value.specs.Keys.{IsAscending, get, is_ascending, put};
 ghost use Rattle.cel_value.specs.Masses.{entry_count};
@@ -170,12 +170,13 @@ pub fn insert_entry(
     value: Value,
 ) -> Result<bool, AllocError>
     requires { IsAscending (entries_view entries.old.items) }
-    ensures { IfOk result (λ fresh. MatchBool fresh
+    ensures found { IfOk result (λ fresh. MatchBool fresh
         ((get (entries_view entries.old.items) (key_view key) ≡ None)
         × (entries_view entries.new.items
         ≡ put (key_view key) (value_view value) (entries_view entries.old.items)))
         ((get (entries_view entries.old.items) (key_view key) ≢ None)
         × (entries_view entries.new.items ≡ entries_view entries.old.items))) }
+    ensures fault { OnErr result (entries.new.items ≡ entries.old.items) }
 {
     match entries.binary_search_by(|entry| compare_keys(entry.0.lend(), key.lend())) {
         Ok(_) => Ok(false),

@@ -1,6 +1,7 @@
 -- What is seen of shapes, ways and tables stays where stacks are added.
 use Rattle.std.proofs.Common.{◌≡◌, ℕ, zero, suc, ◌<◌, List, [], ◌∷◌, ◌++◌, length, map, Option, Some, None, slice_set, get_or, refl, sym, ap, ap₂, ◌∙◌, arith}
 use Rattle.std.specs.Option.{option_map}
+use Rattle.std.proofs.lemmas.List.{map-set}
 use Rattle.std.proofs.lemmas.Option.{slice_get_read}
 use Rattle.stack_machine.specs.Locals.{local_in, local_of}
 use Rattle.stack_machine.specs.Shapes.{Shape, empty}
@@ -43,12 +44,6 @@ module _ (old new : List Entry) (e : Extends old new) where
 
 shape_same : (a b : ShapeOfCode) → Some a ≡ Some b → a ≡ b
 shape_same a b e = cc
-
-map-set : {A B : Type 0} (f : A → B) (xs : List A) (i : ℕ) (x : A)
-    → map f (slice_set xs i x) ≡ slice_set (map f xs) i (f x)
-map-set f [] i x = refl
-map-set f (y ∷ ys) zero x = refl
-map-set f (y ∷ ys) (suc i) x = ap (λ l. f y ∷ l) (map-set f ys i x)
 
 pub known_set : (stacks : List Entry) (shapes : List (Option ShapeOfCode)) (p : ℕ) (s : ShapeOfCode)
     → known_view stacks (slice_set shapes p (Some s))

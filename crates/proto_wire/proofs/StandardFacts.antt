@@ -1,16 +1,17 @@
 -- Bytes and numbers that the Protocol Buffers encoding guide gives, so that a wrong rule in the
 -- specs does not check.
-use Rattle.std.proofs.Common.{◌≡◌, ℕ, ◌+◌, ◌*◌, ◌%◌, ◌<◌, ◌≤◌, length, inl, inr, List, [], ◌∷◌, codes, refl, sym, arith, negsuc}
+use Rattle.std.proofs.Common.{◌≡◌, ℕ, ◌+◌, ◌*◌, ◌%◌, ◌<◌, ◌≤◌, length, inl, inr, List, [], ◌∷◌, ◌++◌, codes, refl, sym, arith, negsuc}
 use Rattle.std.proofs.lemmas.List.{append-nil}
 use Rattle.proto_wire.specs.Varint.{SpellsVarint, FailsVarint, too_long, unfinished}
-use Rattle.proto_wire.specs.Fields.{varint, i64, len, i32, Payload, Wire, SpellsField, Fields, Broken, bad_number, bad_payload, no_varint, unknown}
+use Rattle.proto_wire.specs.Fields.{varint, i64, len, i32, Payload, Wire, SpellsField, StartsField, Fields, Broken, bad_number, bad_payload, no_varint, unknown}
 use Rattle.proto_wire.specs.Keys.{len_key}
+use Rattle.proto_wire.specs.Merge.{Merges}
 use Rattle.proto_wire.specs.Values.{int64_at}
 use Rattle.proto_wire.specs.Messages.{MessageFault, not_whole, not_known}
 use Rattle.proto_wire.specs.declared.fault.WireError.TheVariants.{Truncated, LongVarint, BadNumber, BadWireType}
 use Rattle.proto_wire.specs.declared.refusal.Refusal.TheVariants.{BadWire, UnknownField}
 
-abbrev field : ℕ → Payload → Wire
+abbrev pub field : ℕ → Payload → Wire
 field n p = record { number = n; payload = p }
 
 -- bytes that spell one field are the message of it
@@ -22,6 +23,42 @@ one_field bytes f spells =
 one_byte : (b : ℕ) → b < 128 → SpellsVarint (b ∷ []) b
 one_byte b small =
     record { groups = small; short = omega arith; value = omega arith; fits = omega arith }
+
+-- a LEN field whose tag and size are one byte each, and a rest
+pub len_starts : (k : ℕ) (bytes rest : List ℕ) → 1 ≤ k → 8 * k + 2 < 128 → length bytes < 128
+    → StartsField ((8 * k + 2) ∷ length bytes ∷ (bytes ++ rest)) (field k (len bytes)) rest
+len_starts k bytes rest some small short = record {
+  spelling = (8 * k + 2) ∷ length bytes ∷ bytes;
+  spells = record {
+    tag = (8 * k + 2) ∷ [];
+    behind = length bytes ∷ bytes;
+    numbered = (some, omega arith);
+    spells_tag = one_byte (8 * k + 2) small;
+    spells_payload = (length bytes ∷ [], one_byte _ short, refl);
+    whole = refl;
+  };
+  whole = refl;
+}
+
+-- a VARINT field whose tag and number are one byte each, and a rest
+pub varint_starts : (k n : ℕ) (rest : List ℕ) → 1 ≤ k → 8 * k + 0 < 128 → n < 128
+    → StartsField ((8 * k + 0) ∷ n ∷ rest) (field k (varint n)) rest
+varint_starts k n rest some small short = record {
+  spelling = (8 * k + 0) ∷ n ∷ [];
+  spells = record {
+    tag = (8 * k + 0) ∷ [];
+    behind = n ∷ [];
+    numbered = (some, omega arith);
+    spells_tag = one_byte (8 * k + 0) small;
+    spells_payload = one_byte n short;
+    whole = refl;
+  };
+  whole = refl;
+}
+
+-- a message that stands in one payload
+pub merged : (bytes : List ℕ) (fs : List Wire) → Fields bytes fs → Merges (bytes ∷ []) fs
+merged bytes fs whole = (fs, [], whole, refl, sym (append-nil fs))
 
 -- two bytes, the first with its top bit set
 two_bytes : (b c : ℕ) → 128 ≤ b → c < 128 → SpellsVarint (b ∷ c ∷ []) (b % 128 + 128 * c)

@@ -35,19 +35,27 @@ abbrev pub key_cmp : (kind : KeyKind) → KeyOf kind → KeyOf kind → Ordering
 key_cmp text = slice_cmp nat_cmp
 key_cmp int64 = int_cmp
 
+-- the number of an entry's key: Protocol Buffers encoding guide, "Maps"
+abbrev pub key_field : ℕ
+key_field = 1
+
+-- the number of its value: the same section
+abbrev pub value_field : ℕ
+value_field = 2
+
 -- the fields of an entry
 abbrev pub entry_keys : KeyKind → List Key
-entry_keys text = len_key 1 ∷ len_key 2 ∷ []
-entry_keys int64 = varint_key 1 ∷ len_key 2 ∷ []
+entry_keys text = len_key key_field ∷ len_key value_field ∷ []
+entry_keys int64 = varint_key key_field ∷ len_key value_field ∷ []
 
 -- the key of an entry with these fields: the last one, or the empty text or 0
 abbrev pub key_at : (kind : KeyKind) → List Wire → KeyOf kind
-key_at text fs = bytes_at 1 fs
-key_at int64 fs = int64_at 1 fs
+key_at text fs = bytes_at key_field fs
+key_at int64 fs = int64_at key_field fs
 
 -- the key reads: a text is UTF-8, and each number is one
 abbrev pub KeyReads : KeyKind → List Wire → Type 0
-KeyReads text fs = IsUtf8 (bytes_at 1 fs)
+KeyReads text fs = IsUtf8 (bytes_at key_field fs)
 KeyReads int64 fs = Unit {0}
 
 -- ---- entries
@@ -60,7 +68,7 @@ Entry kind = KeyOf kind × List (List ℕ)
 abbrev pub IsEntry : (kind : KeyKind) → List ℕ → Entry kind → Type 0
 IsEntry kind bytes entry =
     (fs : List Wire) × IsMessage (entry_keys kind) (bytes ∷ []) fs × KeyReads kind fs
-    × (entry ≡ (key_at kind fs, payloads 2 fs))
+    × (entry ≡ (key_at kind fs, payloads value_field fs))
 
 -- each payload is an entry, in order
 abbrev pub AreEntries : (kind : KeyKind) → List (List ℕ) → List (Entry kind) → Type 0
@@ -117,8 +125,8 @@ pub data MapFault (kind : KeyKind) (ValueFault : List (List ℕ) → Refusal →
     (parts : List (List ℕ)) (e : Refusal) : Type 0 where
   in_entry : SomeEntryFault kind parts e → MapFault kind ValueFault parts e
   in_faulty_entry : (part : List ℕ) (own : List Wire) (reason : Refusal) → Contains parts part
-      → EntryFault kind part reason → Fields part own → payloads 2 own ≢ []
-      → ValueFault (payloads 2 own) e → MapFault kind ValueFault parts e
+      → EntryFault kind part reason → Fields part own → payloads value_field own ≢ []
+      → ValueFault (payloads value_field own) e → MapFault kind ValueFault parts e
   in_value : (read : List (Entry kind)) → Readable kind parts read
       → SomeValueFault kind ValueFault (entries (map_of kind read)) e
       → MapFault kind ValueFault parts e

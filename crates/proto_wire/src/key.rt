@@ -23,7 +23,7 @@ macro_rules! keys {
 }
 
 /// Whether each field has one of the keys.
-pub fn all_known(fields: &[Field<'_>], keys: &[Key]) -> bool
+pub(crate) fn all_known(fields: &[Field<'_>], keys: &[Key]) -> bool
     ensures { result ≡ list_all (is_known keys.now) (map field_view fields.now) }
 {
     fields.iter().all(|field| is_known(field, keys))

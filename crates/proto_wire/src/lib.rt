@@ -17,9 +17,9 @@ mod writer;
 
 pub use fault::WireError;
 pub use field::{Field, Payload, WireType};
-pub use key::{Key, all_known};
+pub use key::Key;
 pub use maps::{KeyOrder, MapEntry, MapKey, read_entries};
-pub use message::{MessageFields, read_fields, read_message, read_parts, require_known};
+pub use message::{MessageFields, read_fields, read_message, read_parts};
 pub use oneof::{MemberRun, last_member, member_run};
 pub use reader::Reader;
 pub use refusal::Refusal;

@@ -19,10 +19,10 @@ use crate::values::{Payloads, int64_at, payloads_of, text_at};
 use std::alloc::{AllocError, Global};
 use std::collections::BTreeMap;
 
-/// The field of an entry's key, by number.
+/// The field of an entry's key, by number (Protocol Buffers encoding guide, "Maps").
 const KEY: u32 = 1;
 
-/// The field of its value.
+/// The field of its value (the same section).
 const VALUE: u32 = 2;
 
 static TEXT_ENTRY: [Key; 2] = keys![Len KEY, Len VALUE];

@@ -67,7 +67,7 @@ pub fn read_message<'a>(
 }
 
 /// Refuses fields of which some has none of the keys: `UnknownField`. It takes no memory.
-pub fn require_known(fields: &[Field<'_>], keys: &[Key]) -> Result<(), Refusal>
+pub(crate) fn require_known(fields: &[Field<'_>], keys: &[Key]) -> Result<(), Refusal>
     ensures found { OnOk result (AllKnown keys.now (map field_view fields.now)) }
     ensures fault { IfErr result (λ e.
         SomeUnknown keys.now (map field_view fields.now) × (e ≡ Refusal.UnknownField)) }

@@ -12,7 +12,7 @@ use crate::varint::read_varint;
 const GREATEST_NUMBER: u64 = 536_870_911;
 
 /// The field that `bytes` begin with, and the bytes behind it.
-pub fn read_field(bytes: &[u8]) -> Result<(Field<'_>, &[u8]), WireError>
+pub(crate) fn read_field(bytes: &[u8]) -> Result<(Field<'_>, &[u8]), WireError>
     ensures found { IfOk result (λ read. StartsField bytes.now (field_view read.0) read.1.now) }
     ensures fault { IfErr result (λ e. FailsField bytes.now e) }
 {

@@ -1,3 +1,4 @@
+use crate::key::all_known;
 use crate::varint::read_varint;
 use crate::*;
 use std::process::Abort;

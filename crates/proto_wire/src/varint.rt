@@ -12,7 +12,7 @@ const LAST: usize = 9;
 const LAST_MOST: u8 = 1;
 
 /// The number that `bytes` begin with, and the bytes behind it.
-pub fn read_varint(bytes: &[u8]) -> Result<(u64, &[u8]), WireError>
+pub(crate) fn read_varint(bytes: &[u8]) -> Result<(u64, &[u8]), WireError>
     ensures found { IfOk result (λ read. StartsVarint bytes.now read.0 read.1.now) }
     ensures fault { IfErr result (λ e. FailsVarint bytes.now e) }
 {

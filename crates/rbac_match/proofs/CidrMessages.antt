@@ -24,13 +24,13 @@ module _ (parts : List (List ℕ)) (fs : List Wire) (message : IsMessage cidr_ke
     | inr bad ↦ inr (bad.0, in_length fs message.0 bad.1)
     | inl (ls, length) ↦ elim (cases_lt (width_of ip) (uint32_at value_field ls)) [
       | inl long ↦ inr (OutOfRange, too_long fs ls ip message.0 spelled length.0 long refl)
-      | inr within ↦ inl (record { address = ip; size = uint32_at value_field ls }, (fs, message, utf8, spelled, (ls, length, refl), within))
+      | inr within ↦ inl (record { address = ip; prefix_len = uint32_at value_field ls }, (fs, message, utf8, spelled, (ls, length, refl), within))
     ]
   ]
 
   address_settles : ((range : Range) × IsCidr parts range) ⊎ ((e : Refusal) × CidrFault parts e)
   address_settles = elim (utf8_or_not (bytes_at address_prefix_field fs)) [
-    | inr not_utf8 ↦ inr (BadText, in_address fs message.0 (inl (refl, not_utf8)))
+    | inr not_utf8 ↦ inr (BadText, in_address fs message.0 (inl (not_utf8, refl)))
     | inl utf8 ↦ elim (ip_total (bytes_at address_prefix_field fs)) [
       | inr none ↦ inr (OutOfRange, in_address fs message.0 (inr (refl, utf8, none)))
       | inl (ip, spelled) ↦ length_settles utf8 ip spelled
@@ -52,7 +52,7 @@ cidr_disjoint parts range e (fs, message, utf8, spelled, length, within) (cidr_f
 cidr_disjoint parts range e (fs, message, utf8, spelled, length, within) (in_address gs merged bad) =
     let P : List Wire → Type 0 = λ xs. AddressFault (bytes_at address_prefix_field xs) e in
     elim (subst P (merges_unique parts gs fs merged message.0) bad) [
-      | inl not_text ↦ not_text.1 utf8
+      | inl not_text ↦ not_text.0 utf8
       | inr none ↦ none.2 range.address spelled
     ]
 cidr_disjoint parts range e (fs, message, utf8, spelled, length, within) (in_length gs merged bad) =
@@ -74,5 +74,5 @@ cidr_unique parts v w (fs, message, utf8, spelled, length, within) (gs, also, ut
     let Q : List Wire → Type 0 = λ xs. IsMessage uint32_keys (payloads prefix_len_field xs) length'.0 in
     let address : v.address ≡ w.address = one_address (bytes_at address_prefix_field fs) v.address w.address spelled (subst P same spelled') in
     let one : length.0 ≡ length'.0 = merges_unique (payloads prefix_len_field fs) length.0 length'.0 length.1.0 (subst Q same length'.1).0 in
-    let size : v.size ≡ w.size = length.2 ∙ ap (uint32_at value_field) one ∙ sym length'.2 in
-    λ i. record { address = address i; size = size i }
+    let prefix_len : v.prefix_len ≡ w.prefix_len = length.2 ∙ ap (uint32_at value_field) one ∙ sym length'.2 in
+    λ i. record { address = address i; prefix_len = prefix_len i }

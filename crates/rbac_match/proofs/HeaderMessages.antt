@@ -3,7 +3,7 @@ use Rattle.std.proofs.Common.{◌≡◌, ◌≢◌, ℕ, ◌⊎◌, inl, inr, tr
 use Rattle.std.specs.Map.{keys_of}
 use Rattle.std.specs.Str.{IsUtf8, str_to_ascii_lowercase}
 use Rattle.std.proofs.lemmas.Str.Ascii.{lowercase-lowercase}
-use Rattle.proto_wire.specs.Values.{bool_at, bytes_at, int64_at, payloads}
+use Rattle.proto_wire.specs.Values.{bool_at, bytes_at, int64_at, payloads, Utf8Fault}
 use Rattle.proto_wire.specs.Fields.{Wire}
 use Rattle.proto_wire.specs.Oneof.{member_run, last_number, member_in}
 use Rattle.proto_wire.specs.Messages.{IsMessage, MessageFault}
@@ -185,7 +185,7 @@ header_total parts = elim (message_total header_keys parts) [
   | inl (fs, message) ↦ elim (specifier_total fs) [
     | inr (e, n, last, bad) ↦ inr (e, in_specifier fs n message.0 last bad)
     | inl (s, asked) ↦ elim (utf8_or_not (bytes_at name_field fs)) [
-      | inr bad ↦ inr (BadText, name_unreadable fs message.0 bad refl)
+      | inr bad ↦ inr (BadText, name_unreadable fs message.0 (bad, refl))
       | inl readable ↦ elim (nil_or_not (bytes_at name_field fs)) [
         | inl none ↦ inr (Missing, name_missing fs message none (member_reads fs s asked) refl)
         | inr named ↦ inl (
@@ -216,9 +216,9 @@ pub header_disjoint : (parts : List (List ℕ)) (h : HeaderTest) (e : Refusal) �
     → HeaderFault parts e → ⊥
 header_disjoint parts h e is (header_fields bad) =
     message_disjoint header_keys parts is.fields e is.message bad
-header_disjoint parts h e is (name_unreadable fs merged bad err) =
+header_disjoint parts h e is (name_unreadable fs merged bad) =
     let P : List Wire → Type 0 = λ xs. IsUtf8 (bytes_at name_field xs) in
-    bad (subst P (merges_unique parts is.fields fs is.message.0 merged) is.readable)
+    bad.0 (subst P (merges_unique parts is.fields fs is.message.0 merged) is.readable)
 header_disjoint parts h e is (name_missing fs message none reads err) =
     is.named (ap (bytes_at name_field) (merges_unique parts is.fields fs is.message.0 message.0) ∙ none)
 header_disjoint parts h e is (in_specifier fs n merged last bad) =
@@ -250,8 +250,8 @@ header_unique parts h k a b =
 -- what is wrong with the name is wrong with the matcher, where its last member says what is asked
 pub name_fault : (parts : List (List ℕ)) (fs : List Wire) (s : Specifier) (e : Refusal)
     → IsMessage header_keys parts fs → SaysSpecifier fs s
-    → ((e ≡ BadText) × ¬ (IsUtf8 (bytes_at name_field fs))) ⊎ ((e ≡ Missing) × (bytes_at name_field fs ≡ []))
+    → Utf8Fault (bytes_at name_field fs) e ⊎ ((e ≡ Missing) × (bytes_at name_field fs ≡ []))
     → HeaderFault parts e
-name_fault parts fs s e message says (inl bad) = name_unreadable fs message.0 bad.1 bad.0
+name_fault parts fs s e message says (inl bad) = name_unreadable fs message.0 bad
 name_fault parts fs s e message says (inr none) =
     name_missing fs message none.1 (member_reads fs s says) none.0

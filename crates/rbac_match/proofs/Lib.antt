@@ -17,3 +17,4 @@ pub mod RuleMessages
 pub mod Borders
 pub mod Levels
 pub mod Loops
+pub mod StandardFacts

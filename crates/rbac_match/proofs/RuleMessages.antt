@@ -1,8 +1,9 @@
 -- A rule's payloads are a rule or have a fault, never both, and they say one formula at most.
 use Rattle.std.proofs.Common.{◌≡◌, ℕ, zero, suc, ◌<◌, ◌⊎◌, inl, inr, List, [], ◌∷◌, Contains, Option, Some, None, refl, sym, ap, subst, arith, ◌∙◌}
 use Rattle.std.specs.Prelude.{IsSomeAnd}
+use Rattle.std.proofs.lemmas.Bool.{cases_Bool, both_ways}
 use Rattle.proto_wire.specs.Fields.{Wire}
-use Rattle.proto_wire.specs.Values.{payloads, varint_at}
+use Rattle.proto_wire.specs.Values.{bool_at, payloads}
 use Rattle.proto_wire.specs.Oneof.{member_run, last_number, member_in}
 use Rattle.proto_wire.specs.Messages.{IsMessage}
 use Rattle.proto_wire.proofs.Unique.{merges_unique}
@@ -15,7 +16,7 @@ use Rattle.rbac_match.specs.Rules.{AreRules, IsSet, MemberSays, IsLevel, IsRule,
 use Rattle.rbac_match.specs.declared.member.Member.{Member}
 use Rattle.rbac_match.specs.declared.member.Member.TheVariants.{And, Or, Any, Not, Leaf}
 use Rattle.rbac_match.specs.declared.rule.Side.{Side}
-use Rattle.rbac_match.proofs.Basics.{nil_or_not, contains_first, contains_later, contains_cases, same_or_not}
+use Rattle.rbac_match.proofs.Basics.{nil_or_not, contains_first, contains_later, contains_cases}
 use Rattle.rbac_match.proofs.LeafMessages.{leaf_total, leaf_disjoint, leaf_unique}
 use Rattle.rbac_match.proofs.Oneofs.{of_last, some_last}
 
@@ -90,9 +91,9 @@ module _ (Below : List (List ℕ) → Formula → Type 0) (Fails : List (List �
       | inl (gs, set) ↦ inl (or_of gs, (gs, set, refl))
       | inr bad ↦ inr bad
     ]
-    member_total Any n run = elim (same_or_not (varint_at n run) 0) [
-      | inl unset ↦ inr (OutOfRange, (unset, refl))
-      | inr set ↦ inl (any, (set, refl))
+    member_total Any n run = elim (cases_Bool (bool_at n run)) [
+      | inl set ↦ inl (any, (set, refl))
+      | inr unset ↦ inr (OutOfRange, (unset, refl))
     ]
     member_total Not n run = elim (below_total (payloads n run)) [
       | inl (g, is) ↦ inl (not_of g, (g, is, refl))
@@ -168,7 +169,7 @@ module _ (Below : List (List ℕ) → Formula → Type 0) (Fails : List (List �
         → MemberSays Below member n run f → MemberFault Fails (Some member) n run e → ⊥
     member_disjoint And n run f e (gs, set, is) bad = set_disjoint (payloads n run) gs e set bad
     member_disjoint Or n run f e (gs, set, is) bad = set_disjoint (payloads n run) gs e set bad
-    member_disjoint Any n run f e says bad = says.0 bad.0
+    member_disjoint Any n run f e says bad = both_ways (bool_at n run) bad.0 says.0
     member_disjoint Not n run f e (g, below, is) bad = below_disjoint (payloads n run) g e below bad
     member_disjoint (Leaf kind) n run f e (m, read, is) bad = leaf_disjoint kind n run m e read bad
 

@@ -30,7 +30,7 @@ filled_or_not Contains bytes = some_or_not bytes
 pub sought_total : (pattern : Pattern) (bytes : List ℕ)
     → IsSought pattern bytes ⊎ ((e : Refusal) × SoughtFault (Some pattern) bytes e)
 sought_total pattern bytes = elim (utf8_or_not bytes) [
-  | inr other ↦ inr (BadText, inl (refl, other))
+  | inr other ↦ inr (BadText, inl (other, refl))
   | inl utf8 ↦ elim (filled_or_not pattern bytes) [
     | inr empty ↦ inr (OutOfRange, inr (refl, empty))
     | inl filled ↦ inl (utf8, filled)
@@ -40,7 +40,7 @@ sought_total pattern bytes = elim (utf8_or_not bytes) [
 -- not both
 pub sought_disjoint : (pattern : Pattern) (bytes : List ℕ) (e : Refusal) → IsSought pattern bytes
     → SoughtFault (Some pattern) bytes e → ⊥
-sought_disjoint pattern bytes e (utf8, filled) (inl bad) = bad.1 utf8
+sought_disjoint pattern bytes e (utf8, filled) (inl bad) = bad.0 utf8
 sought_disjoint pattern bytes e (utf8, filled) (inr empty) = empty.1 filled
 
 -- the last member settles the test

@@ -5,12 +5,12 @@ use Rattle.std.specs.Prelude.{◌≡◌, ◌⊎◌, ℕ, ◌<◌, ◌≤◌, Lis
 use Rattle.attributes.specs.Address.{IsIpText, Range, width_of}
 use Rattle.attributes.specs.Conn.{Facts}
 use Rattle.attributes.specs.declared.address.Ip.{Ip}
-use Rattle.proto_wire.specs.Values.{bytes_at, uint32_at, payloads}
+use Rattle.proto_wire.specs.Values.{bytes_at, uint32_at, payloads, Utf8Fault}
 use Rattle.proto_wire.specs.Fields.{Wire}
 use Rattle.proto_wire.specs.Merge.{Merges}
 use Rattle.proto_wire.specs.Messages.{IsMessage, MessageFault}
 use Rattle.proto_wire.specs.declared.refusal.Refusal.{Refusal}
-use Rattle.proto_wire.specs.declared.refusal.Refusal.TheVariants.{BadText, OutOfRange}
+use Rattle.proto_wire.specs.declared.refusal.Refusal.TheVariants.{OutOfRange}
 use Rattle.proto_wire.specs.declared.key.Key.{Key}
 use Rattle.proto_wire.specs.Keys.{len_key, varint_key}
 use Rattle.rbac_match.specs.declared.cidr.AddressSource.{AddressSource}
@@ -46,11 +46,12 @@ abbrev pub IsCidr : List (List ℕ) → Range → Type 0
 IsCidr parts range = (fs : List Wire) × IsMessage cidr_keys parts fs
     × IsUtf8 (bytes_at address_prefix_field fs)
     × IsIpText (bytes_at address_prefix_field fs) range.address
-    × IsUint32 (payloads prefix_len_field fs) range.size × (range.size ≤ width_of range.address)
+    × IsUint32 (payloads prefix_len_field fs) range.prefix_len
+    × (range.prefix_len ≤ width_of range.address)
 
 -- the bytes are no text, or one that spells no address
 abbrev pub AddressFault : List ℕ → Refusal → Type 0
-AddressFault bytes e = ((e ≡ BadText) × ¬ IsUtf8 bytes)
+AddressFault bytes e = Utf8Fault bytes e
     ⊎ ((e ≡ OutOfRange) × IsUtf8 bytes × ((ip : Ip) → ¬ IsIpText bytes ip))
 
 -- a fault of a CidrRange: of its own fields, of its address, or of its length

@@ -3,13 +3,13 @@ use Rattle.std.specs.Prelude.{◌≡◌, ◌≢◌, ℕ, Bool, true, false, not,
 use Rattle.std.specs.Map.{keys_of}
 use Rattle.std.specs.Option.{is_some, option_or, option_map_or}
 use Rattle.std.specs.Str.{IsUtf8, str_to_ascii_lowercase}
-use Rattle.proto_wire.specs.Values.{bool_at, bytes_at, payloads}
+use Rattle.proto_wire.specs.Values.{bool_at, bytes_at, payloads, Utf8Fault}
 use Rattle.proto_wire.specs.Fields.{Wire}
 use Rattle.proto_wire.specs.Oneof.{member_run, last_number, member_in}
 use Rattle.proto_wire.specs.Merge.{Merges}
 use Rattle.proto_wire.specs.Messages.{IsMessage, MessageFault}
 use Rattle.proto_wire.specs.declared.refusal.Refusal.{Refusal}
-use Rattle.proto_wire.specs.declared.refusal.Refusal.TheVariants.{BadText, Missing, Unsupported}
+use Rattle.proto_wire.specs.declared.refusal.Refusal.TheVariants.{Missing, Unsupported}
 use Rattle.proto_wire.specs.declared.key.Key.{Key}
 use Rattle.proto_wire.specs.Keys.{len_key, varint_key}
 use Rattle.rbac_match.specs.Message.{range_keys}
@@ -54,25 +54,61 @@ specifier_holds (Range range) invert empty found =
 
 -- ---- its message
 
--- the members of the oneof: exact_match, range_match, present_match, prefix_match, suffix_match,
--- safe_regex_match, contains_match, string_match
-abbrev pub specifiers : List (Key × Option HeaderMember)
-specifiers = (len_key 4, Some (members.Text Exact)) ∷ (len_key 6, Some members.Range)
-    ∷ (varint_key 7, Some members.Present) ∷ (len_key 9, Some (members.Text Prefix))
-    ∷ (len_key 10, Some (members.Text Suffix)) ∷ (len_key 11, None)
-    ∷ (len_key 12, Some (members.Text Contains)) ∷ (len_key 13, Some members.Matcher) ∷ []
-
--- the numbers of the other fields
+-- the number of `name`
 abbrev pub name_field : ℕ
 name_field = 1
 
--- whether the answer is turned
+-- the number of `exact_match`
+abbrev pub exact_match_field : ℕ
+exact_match_field = 4
+
+-- the number of `range_match`
+abbrev pub range_match_field : ℕ
+range_match_field = 6
+
+-- the number of `present_match`
+abbrev pub present_match_field : ℕ
+present_match_field = 7
+
+-- the number of `invert_match`: whether the answer is turned
 abbrev pub invert_match_field : ℕ
 invert_match_field = 8
 
--- whether a missing header counts as one of the empty value
+-- the number of `prefix_match`
+abbrev pub prefix_match_field : ℕ
+prefix_match_field = 9
+
+-- the number of `suffix_match`
+abbrev pub suffix_match_field : ℕ
+suffix_match_field = 10
+
+-- the number of `safe_regex_match`
+abbrev pub safe_regex_match_field : ℕ
+safe_regex_match_field = 11
+
+-- the number of `contains_match`
+abbrev pub contains_match_field : ℕ
+contains_match_field = 12
+
+-- the number of `string_match`
+abbrev pub string_match_field : ℕ
+string_match_field = 13
+
+-- the number of `treat_missing_header_as_empty`: whether a missing header counts as one of the
+-- empty value
 abbrev pub treat_missing_header_as_empty_field : ℕ
 treat_missing_header_as_empty_field = 14
+
+-- the members of the oneof; a regular expression is not supported
+abbrev pub specifiers : List (Key × Option HeaderMember)
+specifiers = (len_key exact_match_field, Some (members.Text Exact))
+    ∷ (len_key range_match_field, Some members.Range)
+    ∷ (varint_key present_match_field, Some members.Present)
+    ∷ (len_key prefix_match_field, Some (members.Text Prefix))
+    ∷ (len_key suffix_match_field, Some (members.Text Suffix))
+    ∷ (len_key safe_regex_match_field, None)
+    ∷ (len_key contains_match_field, Some (members.Text Contains))
+    ∷ (len_key string_match_field, Some members.Matcher) ∷ []
 
 -- all fields
 abbrev pub header_keys : List Key
@@ -127,8 +163,8 @@ MemberReads fs = (n : ℕ) (pattern : Pattern) → last_number (keys_of specifie
 -- counts only where its own texts read
 pub data HeaderFault (parts : List (List ℕ)) (e : Refusal) : Type 0 where
   header_fields : MessageFault header_keys parts e → HeaderFault parts e
-  name_unreadable : (fs : List Wire) → Merges parts fs → ¬ (IsUtf8 (bytes_at name_field fs))
-      → e ≡ BadText → HeaderFault parts e
+  name_unreadable : (fs : List Wire) → Merges parts fs → Utf8Fault (bytes_at name_field fs) e
+      → HeaderFault parts e
   name_missing : (fs : List Wire) → IsMessage header_keys parts fs → bytes_at name_field fs ≡ []
       → MemberReads fs → e ≡ Missing → HeaderFault parts e
   in_specifier : (fs : List Wire) (n : ℕ) → Merges parts fs

@@ -20,7 +20,7 @@ abbrev pub matcher_holds : Matcher → RequestValue → Bool
 matcher_holds (Header h) r = specifier_holds h.specifier h.invert_match
     h.treat_missing_header_as_empty (header_of r h.name)
 matcher_holds (Address source range) r =
-    option_map_or (share_prefix range.size range.address) (source_ip source r.facts) false
+    option_map_or (share_prefix range.prefix_len range.address) (source_ip source r.facts) false
 matcher_holds (Port port) r = option_map_or (λ p. p == port) r.facts.destination_port false
 matcher_holds (PortRange span) r =
     option_map_or (λ p. nat_le span.start p && nat_lt p span.end) r.facts.destination_port false

@@ -1,8 +1,8 @@
 -- The messages Permission, Permission.Set, Principal and Principal.Set, level by level: Envoy v3
 -- `config/rbac/v3/rbac.proto`.
-use Rattle.std.specs.Prelude.{◌≡◌, ◌≢◌, ℕ, zero, suc, List, [], ◌∷◌, Contains, IsSomeAnd, Option, Some, None}
+use Rattle.std.specs.Prelude.{◌≡◌, ◌≢◌, ℕ, zero, suc, true, false, List, [], ◌∷◌, Contains, IsSomeAnd, Option, Some, None}
 use Rattle.proto_wire.specs.Fields.{Wire}
-use Rattle.proto_wire.specs.Values.{payloads, varint_at}
+use Rattle.proto_wire.specs.Values.{bool_at, payloads}
 use Rattle.proto_wire.specs.Oneof.{member_run, last_number, member_in}
 use Rattle.proto_wire.specs.Merge.{Merges}
 use Rattle.proto_wire.specs.Messages.{IsMessage, MessageFault}
@@ -34,7 +34,7 @@ abbrev pub MemberSays : (List (List ℕ) → Formula → Type 0) → Member → 
     → Type 0
 MemberSays Below And n run f = (gs : Formulas) × IsSet Below (payloads n run) gs × (f ≡ and_of gs)
 MemberSays Below Or n run f = (gs : Formulas) × IsSet Below (payloads n run) gs × (f ≡ or_of gs)
-MemberSays Below Any n run f = (varint_at n run ≢ 0) × (f ≡ any)
+MemberSays Below Any n run f = (bool_at n run ≡ true) × (f ≡ any)
 MemberSays Below Not n run f = (g : Formula) × Below (payloads n run) g × (f ≡ not_of g)
 MemberSays Below (Leaf kind) n run f = (m : Matcher) × IsLeaf kind n run m × (f ≡ leaf m)
 
@@ -66,7 +66,7 @@ abbrev pub MemberFault : (List (List ℕ) → Refusal → Type 0) → Option Mem
 MemberFault Below None n run e = e ≡ Unsupported
 MemberFault Below (Some And) n run e = SetFault Below (payloads n run) e
 MemberFault Below (Some Or) n run e = SetFault Below (payloads n run) e
-MemberFault Below (Some Any) n run e = (varint_at n run ≡ 0) × (e ≡ OutOfRange)
+MemberFault Below (Some Any) n run e = (bool_at n run ≡ false) × (e ≡ OutOfRange)
 MemberFault Below (Some Not) n run e = Below (payloads n run) e
 MemberFault Below (Some (Leaf kind)) n run e = LeafFault kind n run e
 

@@ -3,12 +3,12 @@ use Rattle.std.specs.Prelude.{◌≡◌, ◌≢◌, ℕ, Bool, nat_eq, ◌||◌,
 use Rattle.std.specs.List.{starts_with, ends_with}
 use Rattle.std.specs.Map.{keys_of}
 use Rattle.std.specs.Str.{IsUtf8, bytes_eq, str_to_ascii_lowercase}
-use Rattle.proto_wire.specs.Values.{bool_at, bytes_at}
+use Rattle.proto_wire.specs.Values.{bool_at, bytes_at, Utf8Fault}
 use Rattle.proto_wire.specs.Fields.{Wire}
 use Rattle.proto_wire.specs.Merge.{Merges}
 use Rattle.proto_wire.specs.Messages.{IsMessage, MessageFault}
 use Rattle.proto_wire.specs.declared.refusal.Refusal.{Refusal}
-use Rattle.proto_wire.specs.declared.refusal.Refusal.TheVariants.{BadText, Missing, OutOfRange, Unsupported}
+use Rattle.proto_wire.specs.declared.refusal.Refusal.TheVariants.{Missing, OutOfRange, Unsupported}
 use Rattle.proto_wire.specs.declared.key.Key.{Key}
 use Rattle.proto_wire.specs.Keys.{len_key, varint_key}
 use Rattle.proto_wire.specs.Oneof.{last_number, member_in}
@@ -47,14 +47,35 @@ text_holds test bytes = let fold = folded test.ignore_case in
 
 -- ---- its message
 
--- the members of the oneof: exact, prefix, suffix, safe_regex, contains
-abbrev pub string_members : List (Key × Option Pattern)
-string_members = (len_key 1, Some Exact) ∷ (len_key 2, Some Prefix) ∷ (len_key 3, Some Suffix)
-    ∷ (len_key 5, None) ∷ (len_key 7, Some Contains) ∷ []
+-- the number of `exact`
+abbrev pub exact_field : ℕ
+exact_field = 1
+
+-- the number of `prefix`
+abbrev pub prefix_field : ℕ
+prefix_field = 2
+
+-- the number of `suffix`
+abbrev pub suffix_field : ℕ
+suffix_field = 3
+
+-- the number of `safe_regex`
+abbrev pub safe_regex_field : ℕ
+safe_regex_field = 5
 
 -- the number of `ignore_case`
 abbrev pub ignore_case_field : ℕ
 ignore_case_field = 6
+
+-- the number of `contains`
+abbrev pub contains_field : ℕ
+contains_field = 7
+
+-- the members of the oneof; a regular expression is not supported
+abbrev pub string_members : List (Key × Option Pattern)
+string_members = (len_key exact_field, Some Exact) ∷ (len_key prefix_field, Some Prefix)
+    ∷ (len_key suffix_field, Some Suffix) ∷ (len_key safe_regex_field, None)
+    ∷ (len_key contains_field, Some Contains) ∷ []
 
 -- all fields of a StringMatcher
 abbrev pub string_keys : List Key
@@ -86,7 +107,7 @@ pub record IsTextMatcher (parts : List (List ℕ)) (test : TextTest) : Type 0 wh
 abbrev pub SoughtFault : Option Pattern → List ℕ → Refusal → Type 0
 SoughtFault None bytes e = e ≡ Unsupported
 SoughtFault (Some pattern) bytes e =
-    ((e ≡ BadText) × ¬ IsUtf8 bytes) ⊎ ((e ≡ OutOfRange) × ¬ IsFilled pattern bytes)
+    Utf8Fault bytes e ⊎ ((e ≡ OutOfRange) × ¬ IsFilled pattern bytes)
 
 -- a fault of a StringMatcher: of its fields, that it has no member, or of the last one
 pub data TextFault (parts : List (List ℕ)) (e : Refusal) : Type 0 where

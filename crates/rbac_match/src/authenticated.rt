@@ -4,7 +4,7 @@ ghost use Rattle.std.specs.Prelude.{◌≡◌, ◌⊎◌, IfOk, IfErr, option_co
 ghost use Rattle.attributes.specs.Conn.{conn_view, text_view};
 ghost use Rattle.proto_wire.specs.Merge.{parts_view};
 ghost use Rattle.proto_wire.specs.Refusal.{MemoryOr};
-ghost use Rattle.rbac_match.specs.Authenticated.{authenticated_keys, IsAuthenticated, AuthenticatedFault, peer_name};
+ghost use Rattle.rbac_match.specs.Authenticated.{IsAuthenticated, AuthenticatedFault, peer_name};
 ghost use Rattle.rbac_match.specs.Matcher.{matcher_holds};
 ghost use Rattle.rbac_match.specs.declared.matcher.Matcher.TheVariants.{Authenticated};
 
@@ -15,7 +15,7 @@ use std::alloc::Global;
 
 const PRINCIPAL_NAME: u32 = 2;
 
-static AUTHENTICATED_KEYS: [Key; 1] = keys![Len PRINCIPAL_NAME];
+static AUTHENTICATED: [Key; 1] = keys![Len PRINCIPAL_NAME];
 
 /// Reads an Authenticated, which stands in the parts: the test of the peer's name, or none where
 /// every name will do.
@@ -26,7 +26,7 @@ pub(crate) fn read_authenticated(
     ensures found { IfOk result (λ name. IsAuthenticated (parts_view parts.now) name) }
     ensures fault { IfErr result (MemoryOr (AuthenticatedFault (parts_view parts.now))) }
 {
-    let fields = read_message(alloc, parts, authenticated_keys())?;
+    let fields = read_message(alloc, parts, &AUTHENTICATED)?;
     let name = payloads_of(alloc, &fields, PRINCIPAL_NAME)?;
     if name.is_empty() {
         return Ok(None);
@@ -62,10 +62,4 @@ fn peer_name(conn: &Conn) -> Option<&str>
         .or(conn.dns_san_peer_certificate.as_ref())
         .or(conn.subject_peer_certificate.as_ref())?;
     Some(name.as_str())
-}
-
-fn authenticated_keys() -> &'static [Key]
-    ensures { result.now ≡ authenticated_keys }
-{
-    &AUTHENTICATED_KEYS
 }

@@ -14,7 +14,7 @@ ghost use Rattle.rbac_match.specs.Matcher.{matcher_holds};
 ghost use Rattle.rbac_match.specs.declared.matcher.Matcher.TheVariants.{Address};
 
 use attributes::{Cidr, Conn, Ip, Request, parse_ip};
-use proto_wire::{Field, Key, Refusal, bytes_at, keys, payloads_of, read_message, uint32_at};
+use proto_wire::{Field, Key, Refusal, keys, payloads_of, read_message, text_at, uint32_at};
 use std::alloc::Global;
 
 /// Which address of a request a rule looks at.
@@ -60,9 +60,9 @@ pub(crate) fn read_cidr(alloc: Global, parts: &[&[u8]]) -> Result<Cidr, Refusal>
 {
     let fields = read_message(alloc, parts, &CIDR_RANGE)?;
     let address = address_prefix(&fields)?;
-    let size = payloads_of(alloc, &fields, PREFIX_LEN)?;
-    let length = read_uint32(alloc, &size)?;
-    range_of(address, length)
+    let payloads = payloads_of(alloc, &fields, PREFIX_LEN)?;
+    let prefix_len = read_uint32(alloc, &payloads)?;
+    range_of(address, prefix_len)
 }
 
 /// The address that the fields of a range name.
@@ -72,9 +72,7 @@ fn address_prefix(fields: &[Field<'_>]) -> Result<Ip, Refusal>
     ensures fault { let text = bytes_at address_prefix_field (map field_view fields.now) in
         IfErr result (λ e. AddressFault text e) }
 {
-    let Ok(text) = std::str::from_utf8(bytes_at(fields, ADDRESS_PREFIX)) else {
-        return Err(Refusal::BadText);
-    };
+    let text = text_at(fields, ADDRESS_PREFIX)?;
     parse_ip(text).ok_or(Refusal::OutOfRange)
 }
 
@@ -88,13 +86,13 @@ fn read_uint32(alloc: Global, parts: &[&[u8]]) -> Result<u32, Refusal>
     Ok(uint32_at(&fields, VALUE))
 }
 
-/// The range of this length at the address, unless the address has fewer bits.
-fn range_of(address: Ip, length: u32) -> Result<Cidr, Refusal>
-    ensures found { IfOk result (λ range.
-        (range.address ≡ address) × (range.size ≡ length) × (length ≤ width_of address)) }
-    ensures fault { IfErr result (λ e. (width_of address < length) × (e ≡ OutOfRange)) }
+/// The range of the addresses that begin with so many bits of this one, unless it has fewer.
+fn range_of(address: Ip, prefix_len: u32) -> Result<Cidr, Refusal>
+    ensures found { IfOk result (λ range. (range.address ≡ address)
+        × (range.prefix_len ≡ prefix_len) × (prefix_len ≤ width_of address)) }
+    ensures fault { IfErr result (λ e. (width_of address < prefix_len) × (e ≡ OutOfRange)) }
 {
-    match Cidr::new(address, length) {
+    match Cidr::new(address, prefix_len) {
         Some(range) => Ok(range),
         None => Err(Refusal::OutOfRange),
     }

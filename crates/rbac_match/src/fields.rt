@@ -1,9 +1,9 @@
 //! What is asked of a message's fields: the last member of a oneof and its run, a payload that must
 //! be there, a bool that must be true.
 
-ghost use Rattle.std.specs.Prelude.{◌≡◌, ◌≢◌, ◌==◌, cond, Some, None, [], map, MatchOption, OnOk, IfErr};
+ghost use Rattle.std.specs.Prelude.{◌≡◌, ◌≢◌, ◌==◌, cond, Some, None, true, false, [], map, MatchOption, OnOk, IfErr};
 ghost use Rattle.proto_wire.specs.Fields.{field_view, payload_view};
-ghost use Rattle.proto_wire.specs.Values.{len_in, payloads, varint_at};
+ghost use Rattle.proto_wire.specs.Values.{bool_at, len_in, payloads};
 ghost use Rattle.proto_wire.specs.declared.refusal.Refusal.TheVariants.{Missing, OutOfRange};
 ghost use Rattle.proto_wire.specs.Oneof.{last_number, trailing_run};
 
@@ -18,7 +18,7 @@ pub(crate) fn last_number(fields: &[Field<'_>], keys: &[Key]) -> Option<u32>
 
 /// The longest end of the fields that all have one number. Where all fields are members of one oneof,
 /// it is the run of the last.
-pub(crate) fn trailing_run<'a, 'b>(fields: &'b [Field<'a>]) -> &'b [Field<'a>]
+pub fn trailing_run<'a, 'b>(fields: &'b [Field<'a>]) -> &'b [Field<'a>]
     ensures { map field_view result.now ≡ trailing_run (map field_view fields.now) }
 {
     let mut start = 0;
@@ -61,8 +61,8 @@ pub(crate) fn require_payload(fields: &[Field<'_>], number: u32) -> Result<(), R
 
 /// Refuses a bool that must be true, and is not.
 pub(crate) fn require_true(fields: &[Field<'_>], number: u32) -> Result<(), Refusal>
-    ensures found { OnOk result (varint_at number (map field_view fields.now) ≢ 0) }
-    ensures fault { IfErr result (λ e. (varint_at number (map field_view fields.now) ≡ 0)
+    ensures found { OnOk result (bool_at number (map field_view fields.now) ≡ true) }
+    ensures fault { IfErr result (λ e. (bool_at number (map field_view fields.now) ≡ false)
         × (e ≡ OutOfRange)) }
 {
     if bool_at(fields, number) {

@@ -8,18 +8,18 @@ ghost use Rattle.proto_wire.specs.Fields.{field_view};
 ghost use Rattle.proto_wire.specs.Merge.{parts_view};
 ghost use Rattle.proto_wire.specs.Oneof.{member_run, last_number, member_in};
 ghost use Rattle.proto_wire.specs.Refusal.{MemoryOr};
-ghost use Rattle.proto_wire.specs.Values.{bytes_at};
-ghost use Rattle.proto_wire.specs.declared.refusal.Refusal.TheVariants.{BadText, Missing, Unsupported};
+ghost use Rattle.proto_wire.specs.Values.{bytes_at, Utf8Fault};
+ghost use Rattle.proto_wire.specs.declared.refusal.Refusal.TheVariants.{Missing, Unsupported};
 ghost use Rattle.rbac_match.specs.Matcher.{matcher_holds};
 ghost use Rattle.rbac_match.specs.declared.matcher.Matcher.TheVariants.{Header};
-ghost use Rattle.rbac_match.specs.Header.{name_field, specifiers, header_keys, specifier_holds, SaysMember, SaysSpecifier, IsHeader, HeaderMemberFault, HeaderFault};
+ghost use Rattle.rbac_match.specs.Header.{name_field, specifiers, specifier_holds, SaysMember, SaysSpecifier, IsHeader, HeaderMemberFault, HeaderFault};
 
 use crate::fields::last_number;
 use crate::int64_range::{Int64Range, read_int64_range};
 use crate::text::{Pattern, TextMatcher, read_text_matcher, sought_text};
 use attributes::Request;
 use proto_wire::{
-    Field, Key, Refusal, bool_at, bytes_at, keys, member_run, payloads_of, read_message,
+    Field, Key, Refusal, bool_at, bytes_at, keys, member_run, payloads_of, read_message, text_of,
 };
 use std::alloc::{AllocError, Global};
 use std::marker::Model;
@@ -99,12 +99,12 @@ const STRING_MATCH: u32 = 13;
 
 const TREAT_MISSING_HEADER_AS_EMPTY: u32 = 14;
 
-static MEMBERS: [Key; 8] = keys![
+static SPECIFIERS: [Key; 8] = keys![
     Len EXACT_MATCH, Len RANGE_MATCH, Varint PRESENT_MATCH, Len PREFIX_MATCH, Len SUFFIX_MATCH,
     Len SAFE_REGEX_MATCH, Len CONTAINS_MATCH, Len STRING_MATCH
 ];
 
-static FIELDS: [Key; 11] = keys![
+static HEADER_MATCHER: [Key; 11] = keys![
     Len NAME, Varint INVERT_MATCH, Varint TREAT_MISSING_HEADER_AS_EMPTY, Len EXACT_MATCH,
     Len RANGE_MATCH, Varint PRESENT_MATCH, Len PREFIX_MATCH, Len SUFFIX_MATCH,
     Len SAFE_REGEX_MATCH, Len CONTAINS_MATCH, Len STRING_MATCH
@@ -185,7 +185,7 @@ pub(crate) fn read_header_matcher(alloc: Global, parts: &[&[u8]]) -> Result<Head
     ensures found { IfOk result (λ h. IsHeader (parts_view parts.now) h) }
     ensures fault { IfErr result (MemoryOr (HeaderFault (parts_view parts.now))) }
 {
-    let fields = read_message(alloc, parts, header_keys())?;
+    let fields = read_message(alloc, parts, &HEADER_MATCHER)?;
     let specifier = read_specifier(alloc, &fields)?;
     let name = header_name(&fields)?;
     let invert = bool_at(&fields, INVERT_MATCH);
@@ -198,16 +198,13 @@ fn header_name<'a>(fields: &[Field<'a>]) -> Result<&'a str, Refusal>
     ensures found { let bytes = bytes_at name_field (map field_view fields.now) in
         IfOk result (λ name. (name.now ≡ bytes) × IsUtf8 bytes × (bytes ≢ [])) }
     ensures fault { let bytes = bytes_at name_field (map field_view fields.now) in
-        IfErr result (λ e. ((e ≡ BadText) × ¬ (IsUtf8 bytes)) ⊎ ((e ≡ Missing) × (bytes ≡ []))) }
+        IfErr result (λ e. Utf8Fault bytes e ⊎ ((e ≡ Missing) × (bytes ≡ []))) }
 {
     let bytes = bytes_at(fields, NAME);
     if bytes.is_empty() {
         return Err(Refusal::Missing);
     }
-    match str::from_utf8(bytes) {
-        Ok(name) => Ok(name),
-        Err(_) => Err(Refusal::BadText),
-    }
+    text_of(bytes)
 }
 
 /// What the last member asks; without a member it is that the header is there.
@@ -217,11 +214,11 @@ fn read_specifier(alloc: Global, fields: &[Field<'_>]) -> Result<Specifier, Refu
         (n : ℕ) × (last_number (keys_of specifiers) fs ≡ Some n)
         × HeaderMemberFault (member_in specifiers n) n (member_run (keys_of specifiers) fs) e)) }
 {
-    let Some(number) = last_number(fields, specifiers()) else {
+    let Some(number) = last_number(fields, &SPECIFIERS) else {
         return Ok(Specifier::Present(true));
     };
     let member = header_member(number)?;
-    let run = member_run(alloc, fields, specifiers())?;
+    let run = member_run(alloc, fields, &SPECIFIERS)?;
     read_header_member(alloc, member, number, &run)
 }
 
@@ -268,16 +265,4 @@ fn read_header_member(
             Ok(Specifier::Text(read_text_matcher(alloc, &parts)?))
         }
     }
-}
-
-fn specifiers() -> &'static [Key]
-    ensures { result.now ≡ keys_of specifiers }
-{
-    &MEMBERS
-}
-
-fn header_keys() -> &'static [Key]
-    ensures { result.now ≡ header_keys }
-{
-    &FIELDS
 }

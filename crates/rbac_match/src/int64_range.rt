@@ -7,7 +7,7 @@ ghost use Rattle.proto_wire.specs.Refusal.{MemoryOr};
 ghost use Rattle.rbac_match.specs.Int64Range.{IsRange, int64_in, is_within, range_holds};
 ghost use Rattle.rbac_match.specs.Message.{range_keys};
 
-use crate::keys::{END, START, range_keys};
+use crate::keys::{END, RANGE, START};
 use proto_wire::{Refusal, int64_at, read_message};
 use std::alloc::Global;
 
@@ -50,7 +50,7 @@ pub(crate) fn read_int64_range(alloc: Global, parts: &[&[u8]]) -> Result<Int64Ra
     ensures found { IfOk result (λ range. IsRange (parts_view parts.now) range) }
     ensures fault { IfErr result (MemoryOr (MessageFault range_keys (parts_view parts.now))) }
 {
-    let fields = read_message(alloc, parts, range_keys())?;
+    let fields = read_message(alloc, parts, &RANGE)?;
     Ok(Int64Range {
         start: int64_at(&fields, START),
         end: int64_at(&fields, END),

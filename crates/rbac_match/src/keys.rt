@@ -2,19 +2,21 @@
 //! and wire type.
 
 ghost use Rattle.std.specs.Prelude.{◌≡◌};
-ghost use Rattle.rbac_match.specs.Message.{rule_keys, set_keys, range_keys};
+ghost use Rattle.rbac_match.specs.Message.{rule_keys};
 
 use crate::rule::Side;
 use proto_wire::{Key, keys};
 
-/// The members that hold rules have one number in a permission and in a principal.
-pub(crate) const AND: u32 = 1;
+/// `and_rules` of a permission, and `and_ids` of a principal: members that hold rules have one number in both.
+pub const AND: u32 = 1;
 
-pub(crate) const OR: u32 = 2;
+/// `or_rules` of a permission, and `or_ids` of a principal.
+pub const OR: u32 = 2;
 
 pub(crate) const ANY: u32 = 3;
 
-pub(crate) const NOT: u32 = 8;
+/// `not_rule` of a permission, and `not_id` of a principal.
+pub const NOT: u32 = 8;
 
 /// The other members of a permission (`envoy.config.rbac.v3.Permission`).
 pub(crate) mod permission {
@@ -55,7 +57,7 @@ pub(crate) mod principal {
 }
 
 /// The rules of a set, or its ids.
-pub(crate) const RULES: u32 = 1;
+pub const RULES: u32 = 1;
 
 /// A range's first integer.
 pub(crate) const START: u32 = 1;
@@ -76,9 +78,11 @@ static PRINCIPAL: [Key; 12] = keys![
     Len principal::DIRECT_REMOTE_IP, Len principal::REMOTE_IP, Len principal::FILTER_STATE
 ];
 
-static SET: [Key; 1] = keys![Len RULES];
+/// The fields of a set of rules.
+pub(crate) static SET: [Key; 1] = keys![Len RULES];
 
-static RANGE: [Key; 2] = keys![Varint START, Varint END];
+/// The fields of a range of integers.
+pub(crate) static RANGE: [Key; 2] = keys![Varint START, Varint END];
 
 /// The members of the oneof of a permission or of a principal.
 pub(crate) fn rule_keys(side: Side) -> &'static [Key]
@@ -88,18 +92,4 @@ pub(crate) fn rule_keys(side: Side) -> &'static [Key]
         Side::Permission => &PERMISSION,
         Side::Principal => &PRINCIPAL,
     }
-}
-
-/// The fields of a set of rules.
-pub(crate) fn set_keys() -> &'static [Key]
-    ensures { result.now ≡ set_keys }
-{
-    &SET
-}
-
-/// The fields of a range of integers.
-pub(crate) fn range_keys() -> &'static [Key]
-    ensures { result.now ≡ range_keys }
-{
-    &RANGE
 }

@@ -211,7 +211,7 @@ pub fn an_address_has_the_prefix()
     ensures { (source : AddressSource) (range : Range) (request : RequestValue)
         → IsTrue (matcher_holds (Address source range) request)
         ↔ ((ip : Ip) × (source_ip source request.facts ≡ Some ip)
-        × (share_prefix range.size range.address ip ≡ true)) }
+        × (share_prefix range.prefix_len range.address ip ≡ true)) }
 {}
 
 /// A port matches where the request's is known and is this one.

@@ -20,6 +20,8 @@ mod rule;
 mod search;
 mod text;
 
+pub use fields::trailing_run;
+pub use keys::{AND, NOT, OR, RULES};
 pub use matching::any_matches;
 pub use read::{RULE_DEPTH, read_rule, read_rules};
 pub use rule::{Rule, Side};

@@ -4,7 +4,7 @@
 ghost use Rattle.std.specs.Prelude.{◌≡◌, ◌⊎◌, IfOk, IfErr};
 ghost use Rattle.proto_wire.specs.Merge.{parts_view};
 ghost use Rattle.proto_wire.specs.Refusal.{MemoryOr};
-ghost use Rattle.rbac_match.specs.Path.{path_keys, IsPathMatcher, PathFault};
+ghost use Rattle.rbac_match.specs.Path.{IsPathMatcher, PathFault};
 ghost use Rattle.rbac_match.specs.Matcher.{matcher_holds};
 ghost use Rattle.rbac_match.specs.declared.matcher.Matcher.TheVariants.{ServerName, UrlPath};
 
@@ -16,7 +16,7 @@ use std::alloc::Global;
 
 const PATH: u32 = 1;
 
-static PATH_KEYS: [Key; 1] = keys![Len PATH];
+static PATH_MATCHER: [Key; 1] = keys![Len PATH];
 
 /// Reads a PathMatcher, which stands in the parts: `Missing` without a path, and what
 /// `read_text_matcher` refuses of it.
@@ -24,7 +24,7 @@ pub(crate) fn read_path_matcher(alloc: Global, parts: &[&[u8]]) -> Result<TextMa
     ensures found { IfOk result (λ test. IsPathMatcher (parts_view parts.now) test) }
     ensures fault { IfErr result (MemoryOr (PathFault (parts_view parts.now))) }
 {
-    let fields = read_message(alloc, parts, path_keys())?;
+    let fields = read_message(alloc, parts, &PATH_MATCHER)?;
     require_payload(&fields, PATH)?;
     let path = payloads_of(alloc, &fields, PATH)?;
     read_text_matcher(alloc, &path)
@@ -47,10 +47,4 @@ pub(crate) fn server_name_matches(matcher: &TextMatcher, request: &Request) -> b
         Some(name) => matcher.matches(name.as_str()),
         None => matcher.matches(""),
     }
-}
-
-fn path_keys() -> &'static [Key]
-    ensures { result.now ≡ path_keys }
-{
-    &PATH_KEYS
 }

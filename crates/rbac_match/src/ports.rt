@@ -10,7 +10,7 @@ ghost use Rattle.rbac_match.specs.Matcher.{matcher_holds};
 ghost use Rattle.rbac_match.specs.declared.matcher.Matcher.TheVariants.{Port, PortRange as PortsInARow};
 ghost use Rattle.rbac_match.specs.steps.Ports.{AreNoBounds};
 
-use crate::keys::{END, START, range_keys};
+use crate::keys::{END, RANGE, START};
 use attributes::Request;
 use proto_wire::{Field, Refusal, int32_at, read_message, uint32_at};
 use std::alloc::Global;
@@ -58,7 +58,7 @@ pub(crate) fn read_port_range(alloc: Global, parts: &[&[u8]]) -> Result<PortRang
     ensures found { IfOk result (λ range. IsPortRange (parts_view parts.now) range) }
     ensures fault { IfErr result (MemoryOr (PortRangeFault (parts_view parts.now))) }
 {
-    let fields = read_message(alloc, parts, range_keys())?;
+    let fields = read_message(alloc, parts, &RANGE)?;
     port_range(&fields)
 }
 

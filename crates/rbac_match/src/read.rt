@@ -10,7 +10,7 @@ ghost use Rattle.rbac_match.specs.Rules.{IsRule, AreRules, IsSet, MemberSays, Ru
 ghost use Rattle.rbac_match.specs.View.{rule_view, rules_view};
 
 use crate::fields::{count_of, payload_of, require_payload, require_true, trailing_run};
-use crate::keys::{RULES, rule_keys, set_keys};
+use crate::keys::{RULES, SET, rule_keys};
 use crate::leaf::read_leaf;
 use crate::member::{LastMember, Member, last_member};
 use crate::rule::{Rule, Side};
@@ -81,7 +81,7 @@ fn read_set(alloc: Global, side: Side, parts: &[&[u8]], depth: u32) -> Result<Ve
     ensures fault { IfErr result (MemoryOr (SetFault (RuleFault side depth)
         (parts_view parts.now))) }
 {
-    let fields = read_message(alloc, parts, set_keys())?;
+    let fields = read_message(alloc, parts, &SET)?;
     require_payload(&fields, RULES)?;
     read_rules(alloc, side, &fields, RULES, depth)
 }

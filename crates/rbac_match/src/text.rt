@@ -12,12 +12,12 @@ ghost use Rattle.proto_wire.specs.Values.{bytes_at};
 ghost use Rattle.proto_wire.specs.declared.refusal.Refusal.TheVariants.{Missing};
 ghost use Rattle.proto_wire.specs.Oneof.{last_number, member_in};
 ghost use Rattle.rbac_match.specs.steps.Search.{AreBordersOf};
-ghost use Rattle.rbac_match.specs.Text.{is_substring, text_holds, pattern_holds, string_members, string_keys, IsFilled, IsSought, IsTextMatcher, SoughtFault, TextFault};
+ghost use Rattle.rbac_match.specs.Text.{is_substring, text_holds, pattern_holds, string_members, IsFilled, IsSought, IsTextMatcher, SoughtFault, TextFault};
 
 use crate::fields::last_number;
 use crate::search::{borders_of, contains_ignore_case};
 use memchr::memmem;
-use proto_wire::{Field, Key, Refusal, bool_at, bytes_at, keys, read_message};
+use proto_wire::{Field, Key, Refusal, bool_at, bytes_at, keys, read_message, text_of};
 use std::alloc::{AllocError, Global};
 use std::marker::Model;
 
@@ -73,9 +73,11 @@ const IGNORE_CASE: u32 = 6;
 
 const CONTAINS: u32 = 7;
 
-static MEMBERS: [Key; 5] = keys![Len EXACT, Len PREFIX, Len SUFFIX, Len SAFE_REGEX, Len CONTAINS];
+static STRING_MEMBERS: [Key; 5] = keys![
+    Len EXACT, Len PREFIX, Len SUFFIX, Len SAFE_REGEX, Len CONTAINS
+];
 
-static FIELDS: [Key; 6] = keys![
+static STRING_MATCHER: [Key; 6] = keys![
     Varint IGNORE_CASE, Len EXACT, Len PREFIX, Len SUFFIX, Len SAFE_REGEX, Len CONTAINS
 ];
 
@@ -121,7 +123,7 @@ pub(crate) fn read_text_matcher(alloc: Global, parts: &[&[u8]]) -> Result<TextMa
     ensures found { IfOk result (λ m. IsTextMatcher (parts_view parts.now) m) }
     ensures fault { IfErr result (MemoryOr (TextFault (parts_view parts.now))) }
 {
-    let fields = read_message(alloc, parts, string_keys())?;
+    let fields = read_message(alloc, parts, &STRING_MATCHER)?;
     let (pattern, sought) = last_pattern(&fields)?;
     let ignore_case = bool_at(&fields, IGNORE_CASE);
     Ok(TextMatcher::new(alloc, pattern, sought, ignore_case)?)
@@ -137,7 +139,7 @@ fn last_pattern<'a>(fields: &[Field<'a>]) -> Result<(Pattern, &'a str), Refusal>
         MatchOption (last_number (keys_of string_members) fs) (e ≡ Missing) (λ n.
         SoughtFault (member_in string_members n) (bytes_at n fs) e)) }
 {
-    let Some(number) = last_number(fields, string_members()) else {
+    let Some(number) = last_number(fields, &STRING_MEMBERS) else {
         return Err(Refusal::Missing);
     };
     let Some(pattern) = pattern_at(number) else {
@@ -169,22 +171,7 @@ pub(crate) fn sought_text(pattern: Pattern, bytes: &[u8]) -> Result<&str, Refusa
     if bytes.is_empty() && pattern != Pattern::Exact {
         return Err(Refusal::OutOfRange);
     }
-    match str::from_utf8(bytes) {
-        Ok(sought) => Ok(sought),
-        Err(_) => Err(Refusal::BadText),
-    }
-}
-
-fn string_members() -> &'static [Key]
-    ensures { result.now ≡ keys_of string_members }
-{
-    &MEMBERS
-}
-
-fn string_keys() -> &'static [Key]
-    ensures { result.now ≡ string_keys }
-{
-    &FIELDS
+    text_of(bytes)
 }
 
 #[inline(always)]

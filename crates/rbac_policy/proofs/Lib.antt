@@ -3,7 +3,6 @@ pub mod Programs
 pub mod Enforcing
 pub mod Spending
 pub mod Totality
-pub mod Texts
 pub mod First
 pub mod FirstRun
 pub mod Deciding

@@ -134,12 +134,12 @@ pub is_rule : (side : Side) → IsRule side rule_depth (rule_bytes ∷ []) any
 is_rule Permission = (
   field 3 (varint 1) ∷ [],
   (merged rule_bytes (field 3 (varint 1) ∷ []) rule_fields, refl),
-  (λ e. omega (arith, e), refl),
+  (refl, refl),
 )
 is_rule Principal = (
   field 3 (varint 1) ∷ [],
   (merged rule_bytes (field 3 (varint 1) ∷ []) rule_fields, refl),
-  (λ e. omega (arith, e), refl),
+  (refl, refl),
 )
 
 is_policy : IsPolicy (policy_bytes ∷ []) policy

@@ -34,7 +34,7 @@ use Rattle.rbac_policy.specs.Admission.{Admissible, Fault, in_message, too_costl
 use Rattle.rbac_policy.specs.Condition.{IsProgramOf, Program}
 use Rattle.rbac_policy.specs.Enforced.{Enforces, EnforcesPolicy, bounds_of, total_bound}
 use Rattle.rbac_policy.specs.Filter.{Policy, Filter}
-use Rattle.rbac_policy.specs.Keys.{checked_condition_field, condition_field, filter_keys, rules_keys, policy_keys}
+use Rattle.rbac_policy.specs.Keys.{audit_logging_options_field, checked_condition_field, condition_field, filter_keys, permissions_field, policies_field, policy_keys, principals_field, rules_field, rules_keys}
 use Rattle.rbac_policy.specs.Message.{rule_depth, most_policies, HasBothSides, IsCondition, IsPolicy, action_in, action_number, AreFilterRules, IsFilter}
 use Rattle.proto_wire.specs.Maps.{Entry, text, AreEntries, AreValues, Readable, map_of, in_entry, in_value}
 use Rattle.proto_wire.proofs.MapLaws.{entries_total, entries_readable, readable_unique}
@@ -55,9 +55,9 @@ ruled side fs k = rules_total side rule_depth (payloads k fs)
 
 -- fields have both sides or not
 sides_total : (fs : List Wire) → HasBothSides fs ⊎ ¬ (HasBothSides fs)
-sides_total fs = elim (nil_or_not (payloads 1 fs)) [
+sides_total fs = elim (nil_or_not (payloads permissions_field fs)) [
   | inl none ↦ inr (λ sides. sides.0 none)
-  | inr permission ↦ elim (nil_or_not (payloads 2 fs)) [
+  | inr permission ↦ elim (nil_or_not (payloads principals_field fs)) [
     | inl none ↦ inr (λ sides. sides.1 none)
     | inr principal ↦ inl (permission, principal)
   ]
@@ -114,9 +114,9 @@ module _ (limits : LimitsValue) where
   fields_total : (parts : List (List ℕ)) (fs : List Wire) → IsMessage policy_keys parts fs
       → payloads condition_field fs ≡ [] → HasBothSides fs
       → ((enforced : Policy Program) × IsEnforced limits parts enforced) ⊎ ((e : Refusal) × PolicyFault parts e)
-  fields_total parts fs message plain sides = elim (ruled Permission fs 1) [
+  fields_total parts fs message plain sides = elim (ruled Permission fs permissions_field) [
     | inr bad ↦ inr (bad.2, in_permission fs message.0 (bad.0, bad.1, bad.3))
-    | inl permissions ↦ elim (ruled Principal fs 2) [
+    | inl permissions ↦ elim (ruled Principal fs principals_field) [
       | inr bad ↦ inr (bad.2, in_principal fs message.0 (bad.0, bad.1, bad.3))
       | inl principals ↦ elim (condition_total parts fs message.0) [
         | inr bad ↦ inr bad
@@ -199,9 +199,9 @@ module _ (limits : LimitsValue) where
     policy_disjoint e (not_bool c t has typed other at) =
         other (one_type (maps_of c) [] c.tree t bool_type typed.types (has_bool c has).types)
     policy_disjoint e (in_permission gs also (child, here, bad)) =
-        rules_disjoint Permission rule_depth (payloads 1 is.fs) policy.permissions child e is.permissions (moved (λ xs. Contains (payloads 1 xs) child) gs also here) bad
+        rules_disjoint Permission rule_depth (payloads permissions_field is.fs) policy.permissions child e is.permissions (moved (λ xs. Contains (payloads permissions_field xs) child) gs also here) bad
     policy_disjoint e (in_principal gs also (child, here, bad)) =
-        rules_disjoint Principal rule_depth (payloads 2 is.fs) policy.principals child e is.principals (moved (λ xs. Contains (payloads 2 xs) child) gs also here) bad
+        rules_disjoint Principal rule_depth (payloads principals_field is.fs) policy.principals child e is.principals (moved (λ xs. Contains (payloads principals_field xs) child) gs also here) bad
 
 -- the values of payloads by name are as many as these
 pub as_many : (named : FinMap name_cmp (List (List ℕ))) (values : FinMap name_cmp (Policy CelChecked))
@@ -235,13 +235,13 @@ module _ (limits : LimitsValue) where
   abbrev FilterOf : (Filter CelChecked → Type 0) → Type 0
   FilterOf Is = (filter : Filter CelChecked) × (enforced : Filter Program) × Is filter × Enforces limits filter enforced
 
-  entries_done : (fs : List Wire) (action : Action) → payloads 3 fs ≡ []
-      → action_in fs ≡ action_number action → (es : List (Entry text)) → AreEntries text (payloads 2 fs) es
+  entries_done : (fs : List Wire) (action : Action) → payloads audit_logging_options_field fs ≡ []
+      → action_in fs ≡ action_number action → (es : List (Entry text)) → AreEntries text (payloads policies_field fs) es
       → FilterOf (AreFilterRules fs) ⊎ ((e : Refusal) × RulesFault fs e)
   entries_done fs action unaudited is es are = elim (cases_lt most_policies (len (map_of text es))) [
-    | inl many ↦ inr (TooLarge, too_many es (entries_readable text (payloads 2 fs) es are) many refl)
+    | inl many ↦ inr (TooLarge, too_many es (entries_readable text (payloads policies_field fs) es are) many refl)
     | inr few ↦ elim (values_total text (IsEnforced limits) PolicyFault (policy_total limits) (map_of text es)) [
-      | inr bad ↦ inr (bad.0, in_policies (in_value es (entries_readable text (payloads 2 fs) es are) bad.1))
+      | inr bad ↦ inr (bad.0, in_policies (in_value es (entries_readable text (payloads policies_field fs) es are) bad.1))
       | inl held ↦
           let named : FinMap name_cmp (List (List ℕ)) = map_of text es in
           let listed = beside_map (IsEnforced limits) held.0 (entries named) (entries_sorted named) (λ name. rw (← get-entries named name) (held.1 name)) in
@@ -257,11 +257,11 @@ module _ (limits : LimitsValue) where
   ]
 
   rules_fields_total : (fs : List Wire) → FilterOf (AreFilterRules fs) ⊎ ((e : Refusal) × RulesFault fs e)
-  rules_fields_total fs = elim (nil_or_not (payloads 3 fs)) [
+  rules_fields_total fs = elim (nil_or_not (payloads audit_logging_options_field fs)) [
     | inr there ↦ inr (Unsupported, audited there refl)
     | inl unaudited ↦ elim (action_total (action_in fs)) [
       | inr large ↦ inr (OutOfRange, bad_action large refl)
-      | inl action ↦ elim (entries_total text (payloads 2 fs)) [
+      | inl action ↦ elim (entries_total text (payloads policies_field fs)) [
         | inr bad ↦ inr (bad.0, in_policies (in_entry bad.1))
         | inl read ↦ entries_done fs action.0 unaudited action.1 read.0 read.1
       ]
@@ -272,9 +272,9 @@ module _ (limits : LimitsValue) where
   filter_total : (bytes : List ℕ) → FilterOf (IsFilter bytes) ⊎ ((e : Refusal) × FilterFault bytes e)
   filter_total bytes = elim (message_total filter_keys (bytes ∷ [])) [
     | inr bad ↦ inr (bad.0, filter_fields bad.1)
-    | inl top ↦ elim (nil_or_not (payloads 1 top.0)) [
+    | inl top ↦ elim (nil_or_not (payloads rules_field top.0)) [
       | inl none ↦ inr (Missing, no_rules top.0 top.1 none refl)
-      | inr there ↦ elim (message_total rules_keys (payloads 1 top.0)) [
+      | inr there ↦ elim (message_total rules_keys (payloads rules_field top.0)) [
         | inr bad ↦ inr (bad.0, rules_fields top.0 top.1.0 there bad.1)
         | inl inner ↦ elim (rules_fields_total inner.0) [
           | inr bad ↦ inr (bad.0, in_rules top.0 inner.0 top.1.0 there inner.1.0 bad.1)
@@ -318,7 +318,7 @@ module _ (limits : LimitsValue) where
               read = is.rules.policies.0;
               outer = is.message.0;
               inner = is.inner.0;
-              readable = entries_readable text (payloads 2 is.fs) is.rules.policies.0 is.rules.policies.1;
+              readable = entries_readable text (payloads policies_field is.fs) is.rules.policies.0 is.rules.policies.1;
               named = refl;
             }) (all_cost limits ns listed.0 listed.1) (rw (← listed.2) more) refl,
           )
@@ -335,13 +335,13 @@ module _ (limits : LimitsValue) where
       let same = as_many (map_of text is.policies.0) filter.policies is.policies.2 in
       let P : List (Entry text) → Type 0 = λ xs. most_policies < len (map_of text xs) in
       let more : most_policies < len (map_of text is.policies.0) =
-      subst P (readable_unique text (payloads 2 fs) is.policies.0 es is.policies.1 reads) many in absurd (omega (arith, same, few, more))
+      subst P (readable_unique text (payloads policies_field fs) is.policies.0 es is.policies.1 reads) many in absurd (omega (arith, same, few, more))
   rules_fields_disjoint fs filter enforced e is enforces (in_policies bad) =
       let named : FinMap name_cmp (List (List ℕ)) = map_of text is.policies.0 in
       let are : AreValues text (IsEnforced limits) named enforced.policies = (λ name.
       in_a_row IsPolicy (EnforcesPolicy limits) (IsEnforced limits) (λ parts p v policy enf. (p, policy, enf))
       (get named name) (get filter.policies name) (get enforced.policies name) (is.policies.2 name) (enforces.policies name)) in
-      map_disjoint text (IsEnforced limits) PolicyFault (λ parts v d held fault. policy_disjoint limits parts v held d fault) (payloads 2 fs) enforced.policies e
+      map_disjoint text (IsEnforced limits) PolicyFault (λ parts v d held fault. policy_disjoint limits parts v held d fault) (payloads policies_field fs) enforced.policies e
       (is.policies.0, is.policies.1, are) bad
 
   -- the message of a filter has no fault
@@ -349,13 +349,13 @@ module _ (limits : LimitsValue) where
       → IsFilter bytes filter → Enforces limits filter enforced → FilterFault bytes e → ⊥
   filter_disjoint bytes filter enforced e is enforces (filter_fields bad) = message_disjoint filter_keys (bytes ∷ []) is.top e is.message bad
   filter_disjoint bytes filter enforced e is enforces (no_rules gs also none at) =
-      is.there (let P : List Wire → Type 0 = λ xs. payloads 1 xs ≡ [] in subst P (merges_unique (bytes ∷ []) gs is.top also.0 is.message.0) none)
+      is.there (let P : List Wire → Type 0 = λ xs. payloads rules_field xs ≡ [] in subst P (merges_unique (bytes ∷ []) gs is.top also.0 is.message.0) none)
   filter_disjoint bytes filter enforced e is enforces (rules_fields gs also there bad) =
-      let P : List Wire → Type 0 = λ xs. MessageFault rules_keys (payloads 1 xs) e in
-      message_disjoint rules_keys (payloads 1 is.top) is.fs e is.inner (subst P (merges_unique (bytes ∷ []) gs is.top also is.message.0) bad)
+      let P : List Wire → Type 0 = λ xs. MessageFault rules_keys (payloads rules_field xs) e in
+      message_disjoint rules_keys (payloads rules_field is.top) is.fs e is.inner (subst P (merges_unique (bytes ∷ []) gs is.top also is.message.0) bad)
   filter_disjoint bytes filter enforced e is enforces (in_rules gs hs also there merges bad) =
-      let P : List Wire → Type 0 = λ xs. Merges (payloads 1 xs) hs in
-      let same : hs ≡ is.fs = merges_unique (payloads 1 is.top) hs is.fs (subst P (merges_unique (bytes ∷ []) gs is.top also is.message.0) merges) is.inner.0 in
+      let P : List Wire → Type 0 = λ xs. Merges (payloads rules_field xs) hs in
+      let same : hs ≡ is.fs = merges_unique (payloads rules_field is.top) hs is.fs (subst P (merges_unique (bytes ∷ []) gs is.top also is.message.0) merges) is.inner.0 in
       let Q : List Wire → Type 0 = λ xs. RulesFault xs e in
       rules_fields_disjoint is.fs filter enforced e is.rules enforces (subst Q same bad)
 
@@ -363,10 +363,10 @@ module _ (limits : LimitsValue) where
   policies_are : (bytes : List ℕ) (filter : Filter CelChecked) (is : IsFilter bytes filter) (policies : List (Entry text))
       → HoldsPolicies bytes policies → policies ≡ entries (map_of text is.rules.policies.0)
   policies_are bytes filter is policies holds =
-      let P : List Wire → Type 0 = λ xs. Merges (payloads 1 xs) holds.fs in
-      let same : holds.fs ≡ is.fs = merges_unique (payloads 1 is.top) holds.fs is.fs (subst P (merges_unique (bytes ∷ []) holds.top is.top holds.outer is.message.0) holds.inner) is.inner.0 in
-      let Q : List Wire → Type 0 = λ xs. Readable text (payloads 2 xs) holds.read in
-      holds.named ∙ ap (λ es. entries (map_of text es)) (readable_unique text (payloads 2 is.fs) is.rules.policies.0 holds.read is.rules.policies.1 (subst Q same holds.readable))
+      let P : List Wire → Type 0 = λ xs. Merges (payloads rules_field xs) holds.fs in
+      let same : holds.fs ≡ is.fs = merges_unique (payloads rules_field is.top) holds.fs is.fs (subst P (merges_unique (bytes ∷ []) holds.top is.top holds.outer is.message.0) holds.inner) is.inner.0 in
+      let Q : List Wire → Type 0 = λ xs. Readable text (payloads policies_field xs) holds.read in
+      holds.named ∙ ap (λ es. entries (map_of text es)) (readable_unique text (payloads policies_field is.fs) is.rules.policies.0 holds.read is.rules.policies.1 (subst Q same holds.readable))
 
   -- admissible bytes have no fault
   pub bytes_disjoint : (e : Refusal) (bytes : List ℕ) (budget : ℕ) → Admissible bytes limits budget

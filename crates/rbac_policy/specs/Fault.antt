@@ -18,7 +18,8 @@ use Rattle.rbac_policy.specs.Costs.{Costs}
 use Rattle.rbac_match.specs.Rules.{SomeRuleFault}
 use Rattle.rbac_match.specs.declared.rule.Side.TheVariants.{Permission, Principal}
 use Rattle.rbac_policy.specs.Keys.{filter_keys, rules_keys, policy_keys, rules_field, policies_field, audit_logging_options_field, permissions_field, principals_field, condition_field, checked_condition_field}
-use Rattle.rbac_policy.specs.Message.{rule_depth, most_policies, action_in, HasBothSides}
+use Rattle.rbac_policy.specs.Message.{rule_depth, most_policies, action_in, action_number, HasBothSides}
+use Rattle.rbac_policy.specs.declared.filter.Action.TheVariants.{Log}
 
 -- the policy in these parts has this condition
 pub record PolicyHas (parts : List (List ℕ)) (condition : CelChecked) : Type 0 where
@@ -47,10 +48,10 @@ pub data PolicyFault (parts : List (List ℕ)) (e : Refusal) : Type 0 where
   in_principal : (fs : List Wire) → Merges parts fs
       → SomeRuleFault Principal rule_depth (payloads principals_field fs) e → PolicyFault parts e
 
--- a fault of what the fields of the filter's rules hold: the action, the audit log's options, the map of
--- policies, or that it has too many
+-- a fault of what the fields of the filter's rules hold: an action above LOG, the audit log's options, the map
+-- of policies, or that it has too many
 pub data RulesFault (fs : List Wire) (e : Refusal) : Type 0 where
-  bad_action : 2 < action_in fs → e ≡ OutOfRange → RulesFault fs e
+  bad_action : action_number Log < action_in fs → e ≡ OutOfRange → RulesFault fs e
   audited : payloads audit_logging_options_field fs ≢ [] → e ≡ Unsupported → RulesFault fs e
   in_policies : MapFault text PolicyFault (payloads policies_field fs) e → RulesFault fs e
   too_many : (read : List (Entry text)) → Readable text (payloads policies_field fs) read

@@ -12,21 +12,23 @@ ghost use Rattle.rbac_policy.specs.Enforced.{Enforces, total_bound};
 ghost use Rattle.rbac_policy.specs.Filter.{Filter};
 ghost use Rattle.rbac_policy.specs.Keys.{audit_logging_options_field, policies_field, rules_field};
 ghost use Rattle.rbac_policy.specs.Message.{AreFilterRules, action_in, action_number, most_policies};
+ghost use Rattle.rbac_policy.specs.declared.filter.Action.TheVariants.{Log};
 ghost use Rattle.rbac_policy.specs.Fault.{FilterFault, HoldsPolicies, RulesFault};
 ghost use Rattle.rbac_policy.specs.Admission.{Admits, Fault};
 ghost use Rattle.rbac_policy.specs.steps.Conditions.{ConditionsFault};
 ghost use Rattle.rbac_policy.specs.Admitted.{filter_view, limits_view, rules_view};
 
 use crate::filter::{Action, Admitted, FilterRules};
-use crate::keys::{filter_keys, has_payload, rules_keys};
+use crate::keys::{FILTER_KEYS, RULES_KEYS};
 use crate::numbers::{ACTION, AUDIT_LOGGING_OPTIONS, POLICIES, RULES};
 use crate::policy::read_policies;
 use attributes::Limits;
+use cel_tree::has_payload;
 use proto_wire::{Field, Refusal, payloads_of, read_entries, read_message, uint32_at};
 use std::alloc::Global;
 
 /// How many policies a filter may have.
-pub const MOST_POLICIES: usize = 256;
+const MOST_POLICIES: usize = 256;
 
 /// Reads the message of an HTTP RBAC filter (`envoy.extensions.filters.http.rbac.v3.RBAC`), for
 /// requests within the limits and with a budget of steps for its conditions together. It is taken
@@ -57,10 +59,10 @@ fn read_filter(
         ⊎ ((policies : List (Entry text)) × HoldsPolicies bytes.now policies
         × ConditionsFault policies limits.now budget e))) }
 {
-    let top = read_message(alloc, &[bytes], filter_keys())?;
+    let top = read_message(alloc, &[bytes], &FILTER_KEYS)?;
     require_rules(&top)?;
     let parts = payloads_of(alloc, &top, RULES)?;
-    let fields = read_message(alloc, &parts, rules_keys())?;
+    let fields = read_message(alloc, &parts, &RULES_KEYS)?;
     read_rules(alloc, &fields, limits, budget)
 }
 
@@ -129,7 +131,7 @@ fn refuse_many(count: usize) -> Result<(), Refusal>
 pub(crate) fn read_action(fields: &[Field<'_>]) -> Result<Action, Refusal>
     ensures { MatchResult result (λ action. action_in (map field_view fields.now)
         ≡ action_number action)
-        (λ e. (e ≡ OutOfRange) × (2 < action_in (map field_view fields.now))) }
+        (λ e. (e ≡ OutOfRange) × (action_number Log < action_in (map field_view fields.now))) }
 {
     match uint32_at(fields, ACTION) {
         0 => Ok(Action::Allow),

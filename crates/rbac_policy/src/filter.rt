@@ -12,7 +12,7 @@ use std::alloc::Global;
 
 /// What a filter does with a request that some policy matches.
 #[derive(Clone, Copy, PartialEq, Eq, Debug)]
-pub enum Action {
+pub(crate) enum Action {
     /// Lets it through, and no other.
     Allow,
     /// Refuses it, and no other.

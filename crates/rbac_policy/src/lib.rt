@@ -12,8 +12,8 @@ mod place;
 mod policy;
 mod trials;
 
-pub use admission::{MOST_POLICIES, admit};
-pub use filter::{Action, Admitted, Verdict};
+pub use admission::admit;
+pub use filter::{Admitted, Verdict};
 pub use place::place_of;
 pub use trials::{Reason, Trial};
 

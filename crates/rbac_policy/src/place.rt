@@ -6,18 +6,8 @@ use crate::numbers::{PERMISSIONS, POLICIES, PRINCIPALS, RULES};
 use crate::policy::{read_checked, read_policy};
 use attributes::Limits;
 use proto_wire::{Field, MapEntry, Refusal, payloads_of, read_entries, read_fields, read_parts};
-use rbac_match::{RULE_DEPTH, Side, read_rule};
+use rbac_match::{AND, NOT, OR, RULE_DEPTH, RULES as SET_RULES, Side, read_rule, trailing_run};
 use std::alloc::Global;
-
-/// The members of a permission or a principal that hold rules.
-const AND: u32 = 1;
-
-const OR: u32 = 2;
-
-const NOT: u32 = 8;
-
-/// The rules of a set, or its ids.
-const SET_RULES: u32 = 1;
 
 /// The part of the filter's message that has this fault, as
 /// `policy "p": permissions[0].and_rules.rules[2]` or `policy "p": checked_condition`; nothing where it
@@ -110,8 +100,7 @@ fn inner_at_fault<'a>(
     let fields = read_fields(alloc, rule).ok()?;
     let number = fields.last()?.number;
     let step = step_of(side, number)?;
-    let run = fields.get(run_start(&fields, number)..)?;
-    let payloads = payloads_of(alloc, run, number).ok()?;
+    let payloads = payloads_of(alloc, trailing_run(&fields), number).ok()?;
     if number == NOT {
         let index = index_at_fault(alloc, side, &payloads, depth, refusal)?;
         return Some((String::from_str(alloc, step).ok()?, *payloads.get(index)?));
@@ -121,14 +110,6 @@ fn inner_at_fault<'a>(
     let index = index_at_fault(alloc, side, &rules, depth, refusal)?;
     let step = format!(in alloc; "{step}[{index}]").ok()?;
     Some((step, *rules.get(index)?))
-}
-
-/// Where the fields of this number begin that end the list: those of the member that counts.
-fn run_start(fields: &[Field<'_>], number: u32) -> usize {
-    match fields.iter().rposition(|field| field.number != number) {
-        Some(last) => last + 1,
-        None => 0,
-    }
 }
 
 /// The step to the rules in a member of this number, by Envoy's names.

@@ -22,9 +22,10 @@ ghost use Rattle.rbac_policy.specs.steps.Named.{names_view};
 ghost use Rattle.proto_wire.specs.declared.refusal.Refusal.TheVariants.{BothConditions, Missing, Unsupported};
 
 use crate::condition::{Condition, read_condition};
-use crate::keys::{has_payload, policy_keys};
+use crate::keys::POLICY_KEYS;
 use crate::numbers::{CHECKED_CONDITION, CONDITION, PERMISSIONS, PRINCIPALS};
 use attributes::Limits;
+use cel_tree::has_payload;
 use proto_wire::{Field, MapEntry, Refusal, payloads_of, read_message};
 use rbac_match::{RULE_DEPTH, Rule, Side, read_rules};
 use std::alloc::Global;
@@ -94,7 +95,7 @@ pub(crate) fn read_policy(
     ensures fault { IfErr result (MemoryOr (λ e. PolicyFault (parts_view parts.now) e
         ⊎ ConditionsFault ((name.now, parts_view parts.now) ∷ []) limits.now left e)) }
 {
-    let fields = read_message(alloc, parts, policy_keys())?;
+    let fields = read_message(alloc, parts, &POLICY_KEYS)?;
     refuse_unchecked(&fields)?;
     require_sides(&fields)?;
     let permissions = read_side(alloc, Side::Permission, &fields, PERMISSIONS)?;

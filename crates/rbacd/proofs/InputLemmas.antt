@@ -6,7 +6,7 @@ use Rattle.attributes.specs.Limits.{LimitsValue}
 use Rattle.http_front.specs.Asks.{IsUnfinished}
 use Rattle.http_front.specs.declared.read.Ask.{Ask}
 use Rattle.http_front.specs.declared.read.Ask.TheVariants.{Judge, Fault}
-use Rattle.http_front.proofs.Rooms.{Asks-append, HasFault-append}
+use Rattle.http_front.proofs.Rooms.{asks_append, has_fault_append}
 use Rattle.rbacd.specs.Judging.{IsAllOf}
 use Rattle.rbacd.specs.steps.Reading.{IsFound}
 
@@ -15,13 +15,13 @@ module _ (limits : LimitsValue) (facts : Facts) where
   found_more : (front rest : List ℕ) (ask : Ask) → IsFound limits facts front (Some ask)
       → IsFound limits facts (front ++ rest) (Some ask)
   found_more front rest (Judge r) is = record {
-    judged = Asks-append front rest limits facts r is.judged;
+    judged = asks_append front rest limits facts r is.judged;
     fault = tt;
     none = tt;
   }
   found_more front rest (Fault fault) is = record {
     judged = tt;
-    fault = HasFault-append front rest limits facts fault is.fault;
+    fault = has_fault_append front rest limits facts fault is.fault;
     none = tt;
   }
 

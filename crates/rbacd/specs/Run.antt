@@ -4,6 +4,7 @@ use Rattle.std.specs.Prelude.{◌≡◌, ◌≢◌, ◌⊎◌, ◌↔◌, ◌++�
 use Rattle.std.specs.Io.KnownBytes.{Appends}
 use Rattle.std.specs.Io.{StartsWith}
 use Rattle.std.specs.IoError.{error_kind}
+use Rattle.std.specs.declared.io.Error.{Error as IoError}
 use Rattle.std.specs.declared.io.ErrorKind.{ErrorKind as IoKind}
 use Rattle.attributes.specs.Conn.{Facts}
 use Rattle.attributes.specs.Limits.{FactsInLimits, largest}
@@ -27,17 +28,17 @@ use Rattle.rbacd.specs.declared.outcome.Report.{Report}
 use Rattle.rbacd.specs.declared.run.JobFault.{JobFault}
 use Rattle.rbacd.specs.declared.run.JobFault.TheVariants as faults
 
--- a source of files: which bytes the file at a path holds, and which file cannot be read
-module _ (holds : Text → Text → Type 0) (lacks : Text → Type 0) where
+-- a source of files: which bytes the file at a path holds, and which file cannot be read, for which cause
+module _ (holds : Text → Text → Type 0) (lacks : Text × IoError → Type 0) where
   -- the connection is the one that the facts file tells of, or a plain one where none is named
   abbrev pub IsConnOf : Option Text → Facts → Type 0
   IsConnOf None facts = facts ≡ plain_facts
   IsConnOf (Some path) facts =
       (text : Text) × holds path text × IsFactsText text facts × FactsInLimits facts largest
 
-  -- the fault says that the file at this path cannot be read
+  -- the fault says that the file at this path cannot be read, and for which cause
   abbrev pub IsUnread : Text → JobFault → Type 0
-  IsUnread path (faults.File name cause) = (string_bytes name ≡ path) × lacks path
+  IsUnread path (faults.File name cause) = (string_bytes name ≡ path) × lacks (path, cause)
   IsUnread path (faults.Words error) = ⊥
   IsUnread path faults.Facts = ⊥
   IsUnread path (faults.Input cause) = ⊥

@@ -1,5 +1,6 @@
 //! Where files come from.
 ghost use Rattle.std.specs.Prelude.{◌≡◌, ◌≤◌, ◌<◌, ◌⊎◌, ℕ, List, IfErr, IfOk, IfSome, length};
+ghost use Rattle.std.specs.declared.io.Error.{Error as IoError};
 ghost use Rattle.std.specs.IoError.{error_kind};
 
 use std::alloc::Global;
@@ -14,14 +15,14 @@ pub trait Source {
     /// The file at this path holds these bytes.
     ghost holds: { Self → List ℕ → List ℕ → Type 0 };
 
-    /// The file at this path cannot be read.
-    ghost lacks: { Self → List ℕ → Type 0 };
+    /// The file at this path cannot be read, for this cause.
+    ghost lacks: { Self → List ℕ × IoError → Type 0 };
 
     /// All bytes of the file at this path.
     fn read_file(&self, alloc: Global, path: &str) -> io::Result<Vec<u8>>
         ensures found { IfOk result (λ v. holds self.now path.now v.items) }
         ensures fault { IfErr result (λ e. (error_kind e ≡ ErrorKind.OutOfMemory)
-            ⊎ lacks self.now path.now) };
+            ⊎ lacks self.now (path.now, e)) };
 }
 
 /// The files of the system. No proof knows what they hold.

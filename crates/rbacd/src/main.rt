@@ -4,7 +4,7 @@
 use outcome::Outcome;
 use run::{MISTAKE, run};
 use std::env::{Env, FillError};
-use std::io::ErrorKind;
+use std::io::{ErrorKind, Write};
 use std::process::ExitCode;
 use std::{env, io};
 
@@ -21,12 +21,12 @@ pub mod run;
 pub mod words;
 
 /// The words of the command line, the program's own name first.
-fn words_of(rt: &HostRuntime) -> io::Result<Vec<String>> {
+fn words_of<R: Env + AllocGlobal>(rt: &R) -> io::Result<Vec<String>> {
     Ok(env::args(rt)?.collect(rt.alloc())?)
 }
 
 /// The number of the first word that is no UTF-8, if its bytes fit a small room; 0 is the program's name.
-fn first_bad_word(rt: &HostRuntime) -> Option<usize> {
+fn first_bad_word<R: Env>(rt: &R) -> Option<usize> {
     let mut room = [0u8; 4_096];
     for index in 0..usize::MAX {
         match rt.arg(index, &mut room) {
@@ -42,7 +42,19 @@ fn first_bad_word(rt: &HostRuntime) -> Option<usize> {
     None
 }
 
+/// Tells why the words cannot be read.
+fn tell_bad_words<R: Env, E: Write>(rt: &R, cause: io::Error, errors: &mut E) {
+    let _ = match first_bad_word(rt) {
+        Some(index) => writeln!(
+            errors,
+            "error: word {index} of the command line is not UTF-8"
+        ),
+        None => writeln!(errors, "{cause}"),
+    };
+}
+
 fn main(rt: HostRuntime) -> ExitCode {
+    let mut errors = rt.stderr();
     let words = match words_of(&rt) {
         Ok(words) => words,
         Err(error) if error.kind() == ErrorKind::OutOfMemory => {
@@ -50,17 +62,11 @@ fn main(rt: HostRuntime) -> ExitCode {
             return ExitCode::from(Outcome::Memory.status());
         }
         Err(error) => {
-            let _ = match first_bad_word(&rt) {
-                Some(index) => rt.eprintln(format_args!(
-                    "error: word {index} of the command line is not UTF-8"
-                )),
-                None => rt.eprintln(error),
-            };
+            tell_bad_words(&rt, error, &mut errors);
             return ExitCode::from(MISTAKE);
         }
     };
     let mut out = io::writer(&rt);
-    let mut errors = rt.stderr();
     let status = run(rt.alloc(), &words, &rt, rt.reader(), &mut out, &mut errors);
     ExitCode::from(status)
 }

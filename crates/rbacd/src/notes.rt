@@ -5,7 +5,7 @@
 use crate::facts::cause_of_bad_facts;
 use crate::outcome::Outcome;
 use http_front::{HeadFault, HeadPart};
-use proto_wire::Refusal;
+use proto_wire::{Payload, Reader, Refusal};
 use rbac_policy::place_of;
 use std::alloc::{AllocError, Global};
 use std::fmt;
@@ -37,13 +37,24 @@ impl Notes {
         Ok(())
     }
 
-    /// Notes of a policy file that is refused what it looks like and which part of it has the fault.
+    /// Notes of a policy file that is refused which part of it has the fault; and where no part has one
+    /// and its own fields may be at fault, what it looks like.
     pub(crate) fn look_at_policy(&mut self, alloc: Global, bytes: &[u8], outcome: Outcome) {
         if let Outcome::Refused(refusal) = outcome {
-            self.policy = likeness_of(bytes);
             self.place = place_of(alloc, bytes, refusal);
+            if self.place.is_none() && is_of_fields(refusal) {
+                self.policy = likeness_of(bytes);
+            }
         }
     }
+}
+
+/// Whether a file can be refused for this reason because its own fields are not a filter's.
+fn is_of_fields(refusal: Refusal) -> bool {
+    matches!(
+        refusal,
+        Refusal::BadWire | Refusal::UnknownField | Refusal::Missing
+    )
 }
 
 /// What a file looks like that is no filter message.
@@ -77,25 +88,60 @@ impl fmt::Display for Likeness {
 /// How the name of a message's type begins in an Any.
 const TYPE_START: &[u8] = b"type.googleapis.com/";
 
-/// What the bytes look like, if they are plainly something else than a filter message.
+/// The number of `rules` in a filter message.
+const RULES: u32 = 1;
+
+/// What the bytes look like, if they are plainly something else than a filter message. It is asked only
+/// where their own fields may be at fault.
 pub(crate) fn likeness_of(bytes: &[u8]) -> Option<Likeness> {
     if bytes.starts_with(&[0x1f, 0x8b]) {
         return Some(Likeness::Gzip);
     }
-    if bytes.get(2..).unwrap_or(&[]).starts_with(TYPE_START) {
+    if begins_as_any(bytes) {
         return Some(Likeness::Any);
     }
-    if bytes
-        .windows(TYPE_START.len())
-        .any(|part| part == TYPE_START)
-    {
+    let fields = first_fields(bytes);
+    if fields.has_any {
         return Some(Likeness::TypedExtensionConfig);
     }
     match bytes.first() {
-        Some(0x08 | 0x12) => Some(Likeness::BareRules),
+        Some(0x08 | 0x12) if !fields.has_rules => Some(Likeness::BareRules),
         Some(_) if bytes.iter().all(|&byte| is_printed(byte)) => Some(likeness_of_text(bytes)),
         _ => None,
     }
+}
+
+/// Whether the bytes begin as an Any does, with the name of a type. A filter's rules never do, since
+/// their field 1 is a number.
+fn begins_as_any(bytes: &[u8]) -> bool {
+    bytes.first() == Some(&0x0a) && bytes.get(2..).unwrap_or(&[]).starts_with(TYPE_START)
+}
+
+/// What stands among the fields of a file, up to its end or to where its bytes break.
+#[derive(Clone, Copy, Debug, PartialEq, Eq)]
+struct FirstFields {
+    /// Whether one is a filter's rules, by its number and wire type.
+    has_rules: bool,
+    /// Whether one begins as an Any does.
+    has_any: bool,
+}
+
+fn first_fields(bytes: &[u8]) -> FirstFields {
+    let mut found = FirstFields {
+        has_rules: false,
+        has_any: false,
+    };
+    let mut reader = Reader::new(bytes);
+    for _ in bytes {
+        let Ok(Some(field)) = reader.next() else {
+            return found;
+        };
+        if let Payload::Len(inner) = field.payload {
+            found.has_rules |= field.number == RULES;
+            found.has_any |= begins_as_any(inner);
+        }
+    }
+    found
 }
 
 /// Whether the byte stands in a text.

@@ -1,5 +1,6 @@
 //! What no contract says: that calls succeed, the answers at given bytes, and printed texts.
 mod addresses;
+mod command_line;
 mod conditions;
 mod depth;
 mod explain;
@@ -7,9 +8,11 @@ mod filter_bytes;
 mod filters;
 mod headers;
 mod heads;
+mod help;
 mod input;
 mod judging;
 mod memory;
+mod notes;
 mod places;
 mod rows;
 mod run;

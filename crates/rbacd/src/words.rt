@@ -31,8 +31,9 @@ With --json the line is one of these objects:
   {\"admitted\":true,\"bound\":B,\"policies\":P}
   {\"name\":\"NAME\",\"refused\":N}
 
-Example:
-  rbacd check --policy examples/any_any.bin --budget 1000";
+Examples:
+  rbacd check --policy examples/any_any.bin --budget 1000
+  rbacd check --policy examples/any_any.bin --json";
 
 /// The end of the help of `judge`.
 const JUDGE_HELP: &str = "The line on standard output, and the status:
@@ -64,7 +65,8 @@ With --json the object has them as \"trials\":
   {\"error\":\"E\",\"name\":\"p\",\"number\":M,\"reason\":\"condition error\"}
   {\"bound\":B,\"name\":\"p\",\"number\":M,\"reason\":\"condition true\",\"steps\":N}
 Where memory runs out for that, all of it is left out, and standard error says so; the verdict and the
-status stay. A refusal and a head's fault are not explained.
+status stay. A refusal and a head's fault are not explained. Where the output breaks off, the
+lines may stand there in part; the status is 2 then, whatever they say.
 
 The facts are one JSON object; each may be absent:
   texts      source.address destination.address connection.requested_server_name connection.tls_version
@@ -77,7 +79,8 @@ The facts are one JSON object; each may be absent:
 Examples:
   echo '{\"remote_ip\": \"10.0.0.1\", \"destination.port\": 443}' > facts.json
   printf 'GET / HTTP/1.1\\r\\nHost: h\\r\\n\\r\\n' | rbacd judge --policy filter.bin --facts facts.json
-  rbacd judge --policy examples/condition.bin --explain < examples/get.http";
+  rbacd judge --policy examples/condition.bin --explain < examples/get.http
+  rbacd judge --policy examples/condition.bin --json --explain < examples/get.http";
 
 /// What the program is asked to do.
 #[derive(Debug, Drop)]

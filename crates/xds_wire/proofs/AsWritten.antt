@@ -5,7 +5,7 @@ use Rattle.proto_wire.specs.Merge.{Merges}
 use Rattle.proto_wire.specs.Values.{payloads}
 use Rattle.proto_wire.proofs.Unique.{merges_unique}
 use Rattle.xds_wire.specs.Envelope.{IsEnvelope, IsMerged}
-use Rattle.xds_wire.specs.Discovery.{IsStatus, RequestMessage, AreRequestFields, IsRequest, ResponseMessage, AreResponseFields, IsResponse}
+use Rattle.xds_wire.specs.Discovery.{IsStatus, RequestMessage, AreRequestFields, IsRequest, ResponseMessage, AreResponseFields, IsResponse, request_version_info_field, request_resource_names_field, request_type_url_field, request_response_nonce_field, request_error_detail_field, response_version_info_field, response_type_url_field, response_nonce_field}
 use Rattle.xds_wire.specs.Written.{AreOptional, StatusWritten, RequestWritten, ResponseWritten}
 use Rattle.xds_wire.proofs.GroupValues.{bytes_back, strings_own, one_len}
 use Rattle.xds_wire.proofs.ReadBack.{merges_one, request_row, request_own, response_row, response_own}
@@ -37,11 +37,11 @@ request_as_written m n bytes w read =
     let fs : List Wire = request_row m w.node w.error_detail in
     let own = request_own m bytes w in
     let is = read_fields AreRequestFields fs bytes n (merges_one fs bytes w.spells) read in (
-      is.version_info.0 ∙ sym (bytes_back 1 refl fs m.version_info own.of_version_info),
-      is.resource_names.0 ∙ own.of_resource_names ∙ strings_own 3 refl m.resource_names,
-      is.type_url.0 ∙ sym (bytes_back 4 refl fs m.type_url own.of_type_url),
-      is.response_nonce.0 ∙ sym (bytes_back 5 refl fs m.response_nonce own.of_response_nonce),
-      merged_some IsStatus StatusWritten 6 refl fs w.error_detail m.error_detail n.error_detail
+      is.version_info.0 ∙ sym (bytes_back request_version_info_field refl fs m.version_info own.of_version_info),
+      is.resource_names.0 ∙ own.of_resource_names ∙ strings_own request_resource_names_field refl m.resource_names,
+      is.type_url.0 ∙ sym (bytes_back request_type_url_field refl fs m.type_url own.of_type_url),
+      is.response_nonce.0 ∙ sym (bytes_back request_response_nonce_field refl fs m.response_nonce own.of_response_nonce),
+      merged_some IsStatus StatusWritten request_error_detail_field refl fs w.error_detail m.error_detail n.error_detail
           own.of_error_detail w.error_fields is.error_detail,
     )
 
@@ -52,7 +52,7 @@ response_as_written m n bytes w read =
     let fs : List Wire = response_row m w.resources in
     let own = response_own m bytes w in
     let is = read_fields AreResponseFields fs bytes n (merges_one fs bytes w.spells) read in (
-      is.version_info.0 ∙ sym (bytes_back 1 refl fs m.version_info own.of_version_info),
-      is.type_url.0 ∙ sym (bytes_back 4 refl fs m.type_url own.of_type_url),
-      is.nonce.0 ∙ sym (bytes_back 5 refl fs m.nonce own.of_nonce),
+      is.version_info.0 ∙ sym (bytes_back response_version_info_field refl fs m.version_info own.of_version_info),
+      is.type_url.0 ∙ sym (bytes_back response_type_url_field refl fs m.type_url own.of_type_url),
+      is.nonce.0 ∙ sym (bytes_back response_nonce_field refl fs m.nonce own.of_nonce),
     )

@@ -14,3 +14,4 @@ pub mod Groups
 pub mod GroupValues
 pub mod ReadBack
 pub mod AsWritten
+pub mod StandardFacts

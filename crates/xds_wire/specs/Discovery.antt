@@ -14,14 +14,22 @@ pub record AnyMessage : Type 0 where
   pub type_url : List ℕ
   pub value : List ℕ
 
+-- the number of `type_url` in an Any
+abbrev pub any_type_url_field : ℕ
+any_type_url_field = 1
+
+-- the number of `value` in an Any
+abbrev pub any_value_field : ℕ
+any_value_field = 2
+
 -- its fields
 pub record AreAnyFields (fs : List Wire) (m : AnyMessage) : Type 0 where
-  pub type_url : IsString 1 fs m.type_url
-  pub value : m.value ≡ bytes_at 2 fs
+  pub type_url : IsString any_type_url_field fs m.type_url
+  pub value : m.value ≡ bytes_at any_value_field fs
 
 -- a fault of its fields
 pub data AnyFieldsFault (fs : List Wire) (e : Refusal) : Type 0 where
-  bad_any_type : StringFault 1 fs e → AnyFieldsFault fs e
+  bad_any_type : StringFault any_type_url_field fs e → AnyFieldsFault fs e
 
 -- the payloads merge to this Any
 abbrev pub IsAny : List (List ℕ) → AnyMessage → Type 0
@@ -38,14 +46,22 @@ pub record StatusMessage : Type 0 where
   pub code : ℤ
   pub message : List ℕ
 
+-- the number of `code` in a Status
+abbrev pub status_code_field : ℕ
+status_code_field = 1
+
+-- the number of `message` in a Status
+abbrev pub status_message_field : ℕ
+status_message_field = 2
+
 -- its fields
 pub record AreStatusFields (fs : List Wire) (m : StatusMessage) : Type 0 where
-  pub code : m.code ≡ int32_at 1 fs
-  pub message : IsString 2 fs m.message
+  pub code : m.code ≡ int32_at status_code_field fs
+  pub message : IsString status_message_field fs m.message
 
 -- a fault of its fields
 pub data StatusFieldsFault (fs : List Wire) (e : Refusal) : Type 0 where
-  bad_status_message : StringFault 2 fs e → StatusFieldsFault fs e
+  bad_status_message : StringFault status_message_field fs e → StatusFieldsFault fs e
 
 -- the payloads merge to this status
 abbrev pub IsStatus : List (List ℕ) → StatusMessage → Type 0
@@ -62,15 +78,23 @@ pub record NodeMessage : Type 0 where
   pub id : List ℕ
   pub cluster : List ℕ
 
+-- the number of `id` in a Node
+abbrev pub node_id_field : ℕ
+node_id_field = 1
+
+-- the number of `cluster` in a Node
+abbrev pub node_cluster_field : ℕ
+node_cluster_field = 2
+
 -- its fields
 pub record AreNodeFields (fs : List Wire) (m : NodeMessage) : Type 0 where
-  pub id : IsString 1 fs m.id
-  pub cluster : IsString 2 fs m.cluster
+  pub id : IsString node_id_field fs m.id
+  pub cluster : IsString node_cluster_field fs m.cluster
 
 -- a fault of its fields
 pub data NodeFieldsFault (fs : List Wire) (e : Refusal) : Type 0 where
-  bad_node_id : StringFault 1 fs e → NodeFieldsFault fs e
-  bad_node_cluster : StringFault 2 fs e → NodeFieldsFault fs e
+  bad_node_id : StringFault node_id_field fs e → NodeFieldsFault fs e
+  bad_node_cluster : StringFault node_cluster_field fs e → NodeFieldsFault fs e
 
 -- the payloads merge to this node
 abbrev pub IsNode : List (List ℕ) → NodeMessage → Type 0
@@ -91,23 +115,47 @@ pub record RequestMessage : Type 0 where
   pub response_nonce : List ℕ
   pub error_detail : Option StatusMessage
 
+-- the number of `version_info` in a DiscoveryRequest
+abbrev pub request_version_info_field : ℕ
+request_version_info_field = 1
+
+-- the number of `node` in a DiscoveryRequest
+abbrev pub request_node_field : ℕ
+request_node_field = 2
+
+-- the number of `resource_names` in a DiscoveryRequest
+abbrev pub request_resource_names_field : ℕ
+request_resource_names_field = 3
+
+-- the number of `type_url` in a DiscoveryRequest
+abbrev pub request_type_url_field : ℕ
+request_type_url_field = 4
+
+-- the number of `response_nonce` in a DiscoveryRequest
+abbrev pub request_response_nonce_field : ℕ
+request_response_nonce_field = 5
+
+-- the number of `error_detail` in a DiscoveryRequest
+abbrev pub request_error_detail_field : ℕ
+request_error_detail_field = 6
+
 -- its fields
 pub record AreRequestFields (fs : List Wire) (m : RequestMessage) : Type 0 where
-  pub version_info : IsString 1 fs m.version_info
-  pub node : IsMerged IsNode 2 fs m.node
-  pub resource_names : AreStrings 3 fs m.resource_names
-  pub type_url : IsString 4 fs m.type_url
-  pub response_nonce : IsString 5 fs m.response_nonce
-  pub error_detail : IsMerged IsStatus 6 fs m.error_detail
+  pub version_info : IsString request_version_info_field fs m.version_info
+  pub node : IsMerged IsNode request_node_field fs m.node
+  pub resource_names : AreStrings request_resource_names_field fs m.resource_names
+  pub type_url : IsString request_type_url_field fs m.type_url
+  pub response_nonce : IsString request_response_nonce_field fs m.response_nonce
+  pub error_detail : IsMerged IsStatus request_error_detail_field fs m.error_detail
 
 -- a fault of its fields
 pub data RequestFieldsFault (fs : List Wire) (e : Refusal) : Type 0 where
-  bad_request_version : StringFault 1 fs e → RequestFieldsFault fs e
-  bad_request_node : MergedFault NodeFault 2 fs e → RequestFieldsFault fs e
-  bad_request_names : StringsFault 3 fs e → RequestFieldsFault fs e
-  bad_request_type : StringFault 4 fs e → RequestFieldsFault fs e
-  bad_request_nonce : StringFault 5 fs e → RequestFieldsFault fs e
-  bad_request_error : MergedFault StatusFault 6 fs e → RequestFieldsFault fs e
+  bad_request_version : StringFault request_version_info_field fs e → RequestFieldsFault fs e
+  bad_request_node : MergedFault NodeFault request_node_field fs e → RequestFieldsFault fs e
+  bad_request_names : StringsFault request_resource_names_field fs e → RequestFieldsFault fs e
+  bad_request_type : StringFault request_type_url_field fs e → RequestFieldsFault fs e
+  bad_request_nonce : StringFault request_response_nonce_field fs e → RequestFieldsFault fs e
+  bad_request_error : MergedFault StatusFault request_error_detail_field fs e → RequestFieldsFault fs e
 
 -- the bytes are this request
 abbrev pub IsRequest : List ℕ → RequestMessage → Type 0
@@ -126,19 +174,35 @@ pub record ResponseMessage : Type 0 where
   pub type_url : List ℕ
   pub nonce : List ℕ
 
+-- the number of `version_info` in a DiscoveryResponse
+abbrev pub response_version_info_field : ℕ
+response_version_info_field = 1
+
+-- the number of `resources` in a DiscoveryResponse
+abbrev pub response_resources_field : ℕ
+response_resources_field = 2
+
+-- the number of `type_url` in a DiscoveryResponse
+abbrev pub response_type_url_field : ℕ
+response_type_url_field = 4
+
+-- the number of `nonce` in a DiscoveryResponse
+abbrev pub response_nonce_field : ℕ
+response_nonce_field = 5
+
 -- its fields
 pub record AreResponseFields (fs : List Wire) (m : ResponseMessage) : Type 0 where
-  pub version_info : IsString 1 fs m.version_info
-  pub resources : AreRepeated IsAny 2 fs m.resources
-  pub type_url : IsString 4 fs m.type_url
-  pub nonce : IsString 5 fs m.nonce
+  pub version_info : IsString response_version_info_field fs m.version_info
+  pub resources : AreRepeated IsAny response_resources_field fs m.resources
+  pub type_url : IsString response_type_url_field fs m.type_url
+  pub nonce : IsString response_nonce_field fs m.nonce
 
 -- a fault of its fields
 pub data ResponseFieldsFault (fs : List Wire) (e : Refusal) : Type 0 where
-  bad_response_version : StringFault 1 fs e → ResponseFieldsFault fs e
-  bad_response_resource : RepeatedFault AnyFault 2 fs e → ResponseFieldsFault fs e
-  bad_response_type : StringFault 4 fs e → ResponseFieldsFault fs e
-  bad_response_nonce : StringFault 5 fs e → ResponseFieldsFault fs e
+  bad_response_version : StringFault response_version_info_field fs e → ResponseFieldsFault fs e
+  bad_response_resource : RepeatedFault AnyFault response_resources_field fs e → ResponseFieldsFault fs e
+  bad_response_type : StringFault response_type_url_field fs e → ResponseFieldsFault fs e
+  bad_response_nonce : StringFault response_nonce_field fs e → ResponseFieldsFault fs e
 
 -- the bytes are this response
 abbrev pub IsResponse : List ℕ → ResponseMessage → Type 0
@@ -155,15 +219,23 @@ pub record ExtensionMessage : Type 0 where
   pub name : List ℕ
   pub typed_config : Option AnyMessage
 
+-- the number of `name` in a TypedExtensionConfig
+abbrev pub extension_name_field : ℕ
+extension_name_field = 1
+
+-- the number of `typed_config` in a TypedExtensionConfig
+abbrev pub extension_typed_config_field : ℕ
+extension_typed_config_field = 2
+
 -- its fields
 pub record AreExtensionFields (fs : List Wire) (m : ExtensionMessage) : Type 0 where
-  pub name : IsString 1 fs m.name
-  pub typed_config : IsMerged IsAny 2 fs m.typed_config
+  pub name : IsString extension_name_field fs m.name
+  pub typed_config : IsMerged IsAny extension_typed_config_field fs m.typed_config
 
 -- a fault of its fields
 pub data ExtensionFieldsFault (fs : List Wire) (e : Refusal) : Type 0 where
-  bad_extension_name : StringFault 1 fs e → ExtensionFieldsFault fs e
-  bad_extension_config : MergedFault AnyFault 2 fs e → ExtensionFieldsFault fs e
+  bad_extension_name : StringFault extension_name_field fs e → ExtensionFieldsFault fs e
+  bad_extension_config : MergedFault AnyFault extension_typed_config_field fs e → ExtensionFieldsFault fs e
 
 -- the bytes are this extension
 abbrev pub IsExtension : List ℕ → ExtensionMessage → Type 0

@@ -5,7 +5,7 @@ use Rattle.std.specs.Int.{w32, w64, cast_unsigned}
 use Rattle.std.specs.List.{AllByRecursion, flat_map}
 use Rattle.proto_wire.specs.Fields.{Wire, varint, len}
 use Rattle.proto_wire.specs.Shortest.{Shortest, field_of}
-use Rattle.xds_wire.specs.Discovery.{AnyMessage, StatusMessage, NodeMessage, RequestMessage, ResponseMessage, ExtensionMessage}
+use Rattle.xds_wire.specs.Discovery.{AnyMessage, StatusMessage, NodeMessage, RequestMessage, ResponseMessage, ExtensionMessage, any_type_url_field, any_value_field, status_code_field, status_message_field, node_id_field, node_cluster_field, request_version_info_field, request_node_field, request_resource_names_field, request_type_url_field, request_response_nonce_field, request_error_detail_field, response_version_info_field, response_resources_field, response_type_url_field, response_nonce_field, extension_name_field, extension_typed_config_field}
 
 -- the field of a string or of bytes; the empty one is the default
 abbrev pub string_fields : ℕ → List ℕ → List Wire
@@ -40,39 +40,45 @@ SpellsGroups groups bytes = Shortest (flat_map (λ fs. fs) groups) bytes
 
 -- the bytes are what is written of an Any
 abbrev pub AnyWritten : AnyMessage → List ℕ → Type 0
-AnyWritten m bytes = SpellsGroups (string_fields 1 m.type_url ∷ string_fields 2 m.value ∷ []) bytes
+AnyWritten m bytes = SpellsGroups
+    (string_fields any_type_url_field m.type_url ∷ string_fields any_value_field m.value ∷ []) bytes
 
 -- of a status
 abbrev pub StatusWritten : StatusMessage → List ℕ → Type 0
-StatusWritten m bytes = SpellsGroups (int32_fields 1 m.code ∷ string_fields 2 m.message ∷ []) bytes
+StatusWritten m bytes = SpellsGroups
+    (int32_fields status_code_field m.code ∷ string_fields status_message_field m.message ∷ []) bytes
 
 -- of a node
 abbrev pub NodeWritten : NodeMessage → List ℕ → Type 0
-NodeWritten m bytes = SpellsGroups (string_fields 1 m.id ∷ string_fields 2 m.cluster ∷ []) bytes
+NodeWritten m bytes = SpellsGroups
+    (string_fields node_id_field m.id ∷ string_fields node_cluster_field m.cluster ∷ []) bytes
 
 -- of a request
 pub record RequestWritten (m : RequestMessage) (bytes : List ℕ) : Type 0 where
   pub node : List Wire
   pub error_detail : List Wire
-  pub node_fields : AreOptional NodeWritten 2 m.node node
-  pub error_fields : AreOptional StatusWritten 6 m.error_detail error_detail
+  pub node_fields : AreOptional NodeWritten request_node_field m.node node
+  pub error_fields : AreOptional StatusWritten request_error_detail_field m.error_detail error_detail
   pub spells : SpellsGroups
-      (string_fields 1 m.version_info ∷ node ∷ strings_fields 3 m.resource_names
-      ∷ string_fields 4 m.type_url ∷ string_fields 5 m.response_nonce ∷ error_detail ∷ []) bytes
+      (string_fields request_version_info_field m.version_info ∷ node
+      ∷ strings_fields request_resource_names_field m.resource_names
+      ∷ string_fields request_type_url_field m.type_url
+      ∷ string_fields request_response_nonce_field m.response_nonce ∷ error_detail ∷ []) bytes
 
 -- of a response
 pub record ResponseWritten (m : ResponseMessage) (bytes : List ℕ) : Type 0 where
   pub resources : List Wire
-  pub resource_fields : AreEach AnyWritten 2 m.resources resources
+  pub resource_fields : AreEach AnyWritten response_resources_field m.resources resources
   pub spells : SpellsGroups
-      (string_fields 1 m.version_info ∷ resources ∷ string_fields 4 m.type_url
-      ∷ string_fields 5 m.nonce ∷ []) bytes
+      (string_fields response_version_info_field m.version_info ∷ resources
+      ∷ string_fields response_type_url_field m.type_url
+      ∷ string_fields response_nonce_field m.nonce ∷ []) bytes
 
 -- of an extension
 pub record ExtensionWritten (m : ExtensionMessage) (bytes : List ℕ) : Type 0 where
   pub typed_config : List Wire
-  pub config_fields : AreOptional AnyWritten 2 m.typed_config typed_config
-  pub spells : SpellsGroups (string_fields 1 m.name ∷ typed_config ∷ []) bytes
+  pub config_fields : AreOptional AnyWritten extension_typed_config_field m.typed_config typed_config
+  pub spells : SpellsGroups (string_fields extension_name_field m.name ∷ typed_config ∷ []) bytes
 
 -- ---- which messages may be written so that the same is read: strings are UTF-8, and a code is an int32
 

@@ -22,8 +22,10 @@ pub struct TypedExtensionConfig<'a> {
     pub typed_config: Option<Any<'a>>,
 }
 
+/// The number of `name` in a TypedExtensionConfig.
 const NAME: u32 = 1;
 
+/// The number of `typed_config` in a TypedExtensionConfig.
 const TYPED_CONFIG: u32 = 2;
 
 /// Reads a TypedExtensionConfig; fields that it does not name are skipped. `BadWire` where the bytes, or those of

@@ -1,8 +1,12 @@
 //! Worked cases of the client: what it answers, and what it has accepted then.
 use super::making::{
-    answers, client_of, client_with, half_bad, policies, refuses, resource, response, shown,
+    LET_THROUGH, answers, bound, client_of, client_with, half_bad, policies, refuses, request_by,
+    resource, response, shown, verdict,
 };
-use super::vectors::{ANY_ANY, FIRST_ACK, HALF_BAD_NACK, RESUMED_REQUEST, joined};
+use super::vectors::{
+    ANY_ANY, FIRST_ACK, FIRST_REQUEST, FIRST_RESPONSE, HALF_BAD_NACK, RESUMED_REQUEST, SECOND_ACK,
+    TRUE_AND_TRUE, before, joined,
+};
 use std::alloc::Global;
 use std::process::Abort;
 use std::test::Fail;
@@ -10,48 +14,60 @@ use std::test::Fail;
 /// A filter without policies.
 const NO_POLICIES: &[u8] = b"\x0a\x00";
 
+/// A filter with a condition is accepted.
 #[test]
-fn half_bad_nack(rt: HostRuntime) -> Result<(), Fail> {
+fn first_response(rt: HostRuntime) -> Result<(), Fail> {
     let alloc = rt.alloc();
-    let mut client = client_with(alloc, &["f", "g"], ANY_ANY)?;
-    let half_bad = half_bad(alloc)?;
-    answers(&rt, alloc, &mut client, &half_bad, HALF_BAD_NACK)
+    let mut client = client_of(alloc, &["f"])?;
+    assert!(rt; client.connected()? == joined(alloc, FIRST_REQUEST)?);
+    let first = joined(alloc, FIRST_RESPONSE)?;
+    answers(&rt, alloc, &mut client, &first, FIRST_ACK)?;
+    assert_eq!(rt; policies(&client, "f"), Some(1));
+    assert_eq!(rt; bound(&client, "f"), Some(4));
+    assert_eq!(rt; client.generation(), 1);
+    Ok(())
 }
 
+/// Of a response that is refused the good half is not kept either.
 #[test]
 fn half_bad_response(rt: HostRuntime) -> Result<(), Fail> {
     let alloc = rt.alloc();
     let mut client = client_with(alloc, &["f", "g"], ANY_ANY)?;
-    let generation = client.generation();
+    assert_eq!(rt; client.generation(), 1);
     let before = shown(alloc, &client)?;
-    client.feed(&half_bad(alloc)?)?;
+    answers(&rt, alloc, &mut client, &half_bad(alloc)?, HALF_BAD_NACK)?;
     assert!(rt; shown(alloc, &client)? == before);
-    assert_eq!(rt; policies(&client, "f"), Some(1));
-    assert_eq!(rt; policies(&client, "g"), Some(1));
-    assert_eq!(rt; client.generation(), generation);
+    assert_eq!(rt; client.generation(), 1);
+    let get = request_by(alloc, "GET")?;
+    assert_eq!(rt; verdict(&client, "f", &get), Some(LET_THROUGH));
+    assert_eq!(rt; verdict(&client, "g", &get), Some(LET_THROUGH));
     Ok(())
 }
 
-/// The stream is lost when this many bytes of a second response came; its bytes are forgotten.
-fn lost_after(rt: &impl Abort, alloc: Global, count: usize) -> Result<(), Fail> {
-    let mut client = client_with(alloc, &["f"], ANY_ANY)?;
-    let filter = resource(alloc, "f", NO_POLICIES)?;
-    let second = response(alloc, "2", "n2", &[&filter])?;
-    let fed = client.feed(second.get(..count).unwrap_or(&[]))?;
-    assert!(rt; !fed.broken && fed.replies.is_empty());
+/// The stream is lost when this many bytes of a second response came. They are forgotten: on the next stream the whole
+/// response is read from its own first byte.
+fn lost_after(rt: &impl Abort, alloc: Global, second: &[u8], count: usize) -> Result<(), Fail> {
+    let mut client = client_with(alloc, &["f"], TRUE_AND_TRUE)?;
+    answers(rt, alloc, &mut client, before(second, count), &[])?;
     client.lost();
+    assert_eq!(rt; bound(&client, "f"), Some(4));
+    assert_eq!(rt; client.generation(), 1);
     assert!(rt; client.connected()? == joined(alloc, RESUMED_REQUEST)?);
-    client.feed(&second)?;
+    answers(rt, alloc, &mut client, second, SECOND_ACK)?;
     assert_eq!(rt; policies(&client, "f"), Some(0));
+    assert_eq!(rt; client.generation(), 2);
     Ok(())
 }
 
 #[test]
 fn lost_mid_response(rt: HostRuntime) -> Result<(), Fail> {
     let alloc = rt.alloc();
-    lost_after(&rt, alloc, 0)?;
-    lost_after(&rt, alloc, 4)?;
-    lost_after(&rt, alloc, 80)
+    let filter = resource(alloc, "f", NO_POLICIES)?;
+    let second = response(alloc, "2", "n2", &[&filter])?;
+    for count in 0..second.len() {
+        lost_after(&rt, alloc, &second, count)?;
+    }
+    Ok(())
 }
 
 #[test]

@@ -23,15 +23,26 @@ fn breaks(rt: &impl Abort, alloc: Global, bytes: &[u8]) -> Result<(), Fail> {
     Ok(())
 }
 
+/// Frames that break a stream: one that is compressed, one that is too long, responses that are no list of fields or hold a
+/// resource that is none, and those of which one text is no UTF-8: the version, the type, the nonce and a resource's type.
+const BREAKS: [&[u8]; 8] = [
+    b"\x01\x00\x00\x00\x00",
+    b"\x00\x00\x10\x00\x01",
+    b"\x00\x00\x00\x00\x01\x0a",
+    b"\x00\x00\x00\x00\x03\x12\x01\x0a",
+    b"\x00\x00\x00\x00\x03\x0a\x01\xff",
+    b"\x00\x00\x00\x00\x03\x22\x01\xff",
+    b"\x00\x00\x00\x00\x03\x2a\x01\xff",
+    b"\x00\x00\x00\x00\x05\x12\x03\x0a\x01\xff",
+];
+
 #[test]
 fn broken_streams(rt: HostRuntime) -> Result<(), Fail> {
     let alloc = rt.alloc();
-    breaks(&rt, alloc, b"\x01\x00\x00\x00\x00")?;
-    breaks(&rt, alloc, b"\x00\x00\x10\x00\x01")?;
-    breaks(&rt, alloc, b"\x00\x00\x00\x00\x01\x0a")?;
-    breaks(&rt, alloc, b"\x00\x00\x00\x00\x03\x0a\x01\xff")?;
-    breaks(&rt, alloc, b"\x00\x00\x00\x00\x03\x22\x01\xff")?;
-    breaks(&rt, alloc, b"\x00\x00\x00\x00\x03\x2a\x01\xff")
+    for bytes in &BREAKS {
+        breaks(&rt, alloc, bytes)?;
+    }
+    Ok(())
 }
 
 #[test]

@@ -6,8 +6,8 @@ use std::alloc::Global;
 use std::process::Abort;
 use std::test::Fail;
 
-/// The first snapshot with this nonce, a digit.
-const FIRST: &[&[u8]] = &[
+/// The first snapshot with nonce `1`.
+pub const FIRST: &[&[u8]] = &[
     b"\x00\x00\x00\x00\xff\x0a\x01\x31\x12\xb7\x01\x0a\x3d",
     U,
     b"\x12\x76\x0a\x01\x66\x12\x71\x0a\x3e",
@@ -27,7 +27,7 @@ pub const ACK: &[&[u8]] = &[
 ];
 
 /// The second snapshot with nonce `2`.
-const SECOND: &[&[u8]] = &[
+pub const SECOND: &[&[u8]] = &[
     b"\x00\x00\x00\x00\xe1\x0a\x01\x32\x12\x99\x01\x0a\x3d",
     U,
     b"\x12\x58\x0a\x01\x66\x12\x53\x0a\x3e",
@@ -84,10 +84,13 @@ fn ignores_a_stale_one(rt: HostRuntime) -> Result<(), Fail> {
     sends(&rt, alloc, &mut control, FIRST_REQUEST, &[])
 }
 
+/// A stale acknowledgement stands between, which is ignored.
 #[test]
 fn sends_again_after_a_loss(rt: HostRuntime) -> Result<(), Fail> {
     let alloc = rt.alloc();
     let mut control = acknowledged(&rt, alloc)?;
+    sends(&rt, alloc, &mut control, ACK, &[])?;
+    assert_eq!(rt; control.acknowledged(), Some(1));
     control.lost();
     sends(&rt, alloc, &mut control, RESUMED_REQUEST, SECOND_AGAIN)?;
     sends(&rt, alloc, &mut control, NACK, &[])?;

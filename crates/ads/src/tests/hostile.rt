@@ -1,12 +1,7 @@
 //! Responses of a hostile control plane: each is refused by its number, and what was accepted stays.
-use super::making::{answers, client_of, client_with, policies, refuses, resource, response};
-use super::vectors::{ANY_ANY, FIRST_ACK, HALF_BAD_NACK, RESUMED_REQUEST, U, joined};
-use std::alloc::Global;
-use std::process::Abort;
+use super::making::{answers, client_of, client_with, policies, refuses, response, shown};
+use super::vectors::{ANY_ANY, FIRST_ACK, HALF_BAD_NACK, OTHER_CASE, RESUMED_REQUEST, U, joined};
 use std::test::Fail;
-
-/// The type of the resources in another case of letters.
-const OTHER_CASE: &[u8] = b"Type.googleapis.com/envoy.config.core.v3.TypedExtensionConfig";
 
 /// Responses whose type, or whose resource's type, is empty, absent, short or of another case.
 const TYPES: [&[&[u8]]; 7] = [
@@ -130,6 +125,7 @@ fn requests_as_responses(rt: HostRuntime) -> Result<(), Fail> {
         U,
         b"\x32\x16\x08\x03\x12\x12policy refused: 17",
     ];
+    let before = shown(alloc, &client)?;
     answers(
         &rt,
         alloc,
@@ -137,6 +133,7 @@ fn requests_as_responses(rt: HostRuntime) -> Result<(), Fail> {
         &joined(alloc, RESUMED_REQUEST)?,
         nack,
     )?;
+    assert!(rt; shown(alloc, &client)? == before);
     assert_eq!(rt; client.generation(), 2);
     Ok(())
 }

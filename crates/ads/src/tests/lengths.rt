@@ -1,21 +1,23 @@
 //! Long texts, the longest message, and many messages without bytes, at a client.
-use super::making::{answers, client_of, client_with, long_text, policies, response};
-use super::vectors::{ANY_ANY, RESUMED_REQUEST, U, joined};
+use super::making::{answers, client_of, client_with, long_text, response, shown, takes_get_alone};
+use super::vectors::{FIRST_REQUEST, METHOD_IS_GET, RESUMED_REQUEST, U, joined};
 use std::alloc::Global;
 use std::process::Abort;
 use std::test::Fail;
 
-/// A client gets the response whole, and then byte by byte on another stream, and sends this answer to both.
+/// A client gets the response whole, and then byte by byte on another stream, and sends this answer to both; the other
+/// stream begins with this request.
 fn is_acknowledged(
     rt: &impl Abort,
     alloc: Global,
     response: &[u8],
     ack: &[&[u8]],
+    resumed: &[&[u8]],
 ) -> Result<(), Fail> {
     let mut client = client_of(alloc, &["f"])?;
-    client.connected()?;
+    assert!(rt; client.connected()? == joined(alloc, FIRST_REQUEST)?);
     answers(rt, alloc, &mut client, response, ack)?;
-    client.connected()?;
+    assert!(rt; client.connected()? == joined(alloc, resumed)?);
     if let Some((last, bytes)) = response.split_last() {
         for byte in bytes {
             answers(rt, alloc, &mut client, &[*byte], &[])?;
@@ -37,7 +39,13 @@ fn a_long_version(rt: HostRuntime) -> Result<(), Fail> {
         U,
         b"\x2a\x02n1",
     ];
-    is_acknowledged(&rt, alloc, &long, ack)
+    let resumed: &[&[u8]] = &[
+        b"\x00\x00\x01\x00\x4e\x0a\x80\x80\x04",
+        version.as_bytes(),
+        b"\x12\x06\x0a\x01n\x12\x01c\x1a\x01f\x22\x3d",
+        U,
+    ];
+    is_acknowledged(&rt, alloc, &long, ack, resumed)
 }
 
 #[test]
@@ -51,15 +59,15 @@ fn a_long_nonce(rt: HostRuntime) -> Result<(), Fail> {
         b"\x2a\x80\x80\x04",
         nonce.as_bytes(),
     ];
-    is_acknowledged(&rt, alloc, &long, ack)
+    is_acknowledged(&rt, alloc, &long, ack, RESUMED_REQUEST)
 }
 
-/// A response of 1,048,576 bytes, and one of a byte more.
+/// A response of 1,048,576 bytes, and one of a byte more, after which the next stream goes on from the first.
 #[test]
 fn the_longest_response(rt: HostRuntime) -> Result<(), Fail> {
     let alloc = rt.alloc();
     let mut client = client_of(alloc, &["f"])?;
-    client.connected()?;
+    assert!(rt; client.connected()? == joined(alloc, FIRST_REQUEST)?);
     let version = long_text(alloc, 1_048_505)?;
     let longest = response(alloc, &version, "n1", &[])?;
     let ack: &[&[u8]] = &[
@@ -74,6 +82,13 @@ fn the_longest_response(rt: HostRuntime) -> Result<(), Fail> {
     let fed = client.feed(&longer)?;
     assert!(rt; fed.broken && fed.replies.is_empty());
     assert_eq!(rt; client.generation(), 1);
+    let resumed: &[&[u8]] = &[
+        b"\x00\x00\x10\x00\x07\x0a\xb9\xff\x3f",
+        version.as_bytes(),
+        b"\x12\x06\x0a\x01n\x12\x01c\x1a\x01f\x22\x3d",
+        U,
+    ];
+    assert!(rt; client.connected()? == joined(alloc, resumed)?);
     Ok(())
 }
 
@@ -90,7 +105,8 @@ const REFUSAL_LENGTH: usize = 98;
 #[test]
 fn many_empty_responses(rt: HostRuntime) -> Result<(), Fail> {
     let alloc = rt.alloc();
-    let mut client = client_with(alloc, &["f"], ANY_ANY)?;
+    let mut client = client_with(alloc, &["f"], METHOD_IS_GET)?;
+    let before = shown(alloc, &client)?;
     let empty = vec![in alloc; 0u8; 50_000]?;
     let fed = client.feed(&empty)?;
     assert!(rt; !fed.broken);
@@ -99,7 +115,8 @@ fn many_empty_responses(rt: HostRuntime) -> Result<(), Fail> {
     for reply in fed.replies.chunks(REFUSAL_LENGTH) {
         assert!(rt; reply == refusal.as_slice());
     }
-    assert_eq!(rt; policies(&client, "f"), Some(1));
+    assert!(rt; shown(alloc, &client)? == before);
+    takes_get_alone(&rt, alloc, &client)?;
     assert_eq!(rt; client.generation(), 1);
     assert!(rt; client.connected()? == joined(alloc, RESUMED_REQUEST)?);
     Ok(())

@@ -1,18 +1,21 @@
 //! Clients, control planes and responses for tests.
-use super::vectors::{ANY_ANY, EXTENSION_TYPE, FILTER_TYPE, RESUMED_REQUEST, U, joined};
+use super::vectors::{EXTENSION_TYPE, FILTER_TYPE, METHOD_IS_GET, RESUMED_REQUEST, U, joined};
 use crate::{Client, Config, ConfigFault, Control, Filter, Resource, Snapshot};
-use attributes::Limits;
+use attributes::{Conn, Limits, Request};
+use rbac_policy::Verdict;
 use std::alloc::Global;
 use std::process::Abort;
+use std::rc::RcStr;
 use std::test::Fail;
 use xds_wire::{
     Any, DiscoveryResponse, TypedExtensionConfig, write_extension, write_frame, write_response,
 };
 
-/// What a configuration of this node, and of filters with these names and this budget, answers.
+/// What a configuration of this node in this cluster, and of filters with these names and this budget, answers.
 pub fn config_of(
     alloc: Global,
     node: &str,
+    cluster: &str,
     names: &[&str],
     budget: u64,
 ) -> Result<Result<Config, ConfigFault>, Fail> {
@@ -23,13 +26,13 @@ pub fn config_of(
     }
     let limits = Limits::new(64, 128, 4096, 32, 4096, 1024)?;
     let node = String::from_str(alloc, node)?;
-    let cluster = String::from_str(alloc, "c")?;
+    let cluster = String::from_str(alloc, cluster)?;
     Ok(Config::new(alloc, node, cluster, filters, limits))
 }
 
 /// A client for these names.
 pub fn client_of(alloc: Global, names: &[&str]) -> Result<Client, Fail> {
-    let config = config_of(alloc, "n", names, 1_000_000)??;
+    let config = config_of(alloc, "n", "c", names, 1_000_000)??;
     Ok(Client::new(alloc, &config)?)
 }
 
@@ -106,14 +109,69 @@ pub fn policies(client: &Client, name: &str) -> Option<usize> {
     }
 }
 
-/// A client whose stream is up, and which has accepted this filter for each of its names as version `1`.
+/// How many steps the conditions of the filter of this name may take.
+pub fn bound(client: &Client, name: &str) -> Option<u64> {
+    match client.current(name) {
+        Some(admitted) => Some(admitted.bound()),
+        None => None,
+    }
+}
+
+/// The request by this method for `/` with the Host field `h`, on a connection of which the scheme alone is known.
+pub fn request_by(alloc: Global, method: &str) -> Result<Request, Fail> {
+    let host = (
+        String::from_str(alloc, "host")?,
+        String::from_str(alloc, "h")?,
+    );
+    let method = String::from_str(alloc, method)?;
+    let target = String::from_str(alloc, "/")?;
+    let conn = Conn::of_scheme(RcStr::from_str(alloc, "http")?);
+    let lines = vec![in alloc; host]?;
+    Ok(Request::new(alloc, method, target, true, lines, conn)?)
+}
+
+/// What the filter of this name answers the request.
+pub fn verdict(client: &Client, name: &str, request: &Request) -> Option<Verdict> {
+    match client.current(name) {
+        Some(admitted) => admitted.decide(request).ok(),
+        None => None,
+    }
+}
+
+/// The request is let through, by the first policy.
+pub const LET_THROUGH: Verdict = Verdict {
+    allowed: true,
+    matched: Some(0),
+};
+
+/// The request is refused, as no policy matches it.
+pub const REFUSED: Verdict = Verdict {
+    allowed: false,
+    matched: None,
+};
+
+/// The filter `f` of the client lets `GET` through and refuses `POST`, as its condition says.
+pub fn takes_get_alone(rt: &impl Abort, alloc: Global, client: &Client) -> Result<(), Fail> {
+    let get = request_by(alloc, "GET")?;
+    let post = request_by(alloc, "POST")?;
+    assert_eq!(rt; verdict(client, "f", &get), Some(LET_THROUGH));
+    assert_eq!(rt; verdict(client, "f", &post), Some(REFUSED));
+    Ok(())
+}
+
+/// A client whose stream is up, and which has accepted this filter for all of its names in one response, of version `1`.
 pub fn client_with(alloc: Global, names: &[&str], filter: &[u8]) -> Result<Client, Fail> {
     let mut client = client_of(alloc, names)?;
     client.connected()?;
+    let mut resources = Vec::new(alloc);
     for name in names {
-        let resource = resource(alloc, name, filter)?;
-        client.feed(&response(alloc, "1", "n1", &[&resource])?)?;
+        resources.push(resource(alloc, name, filter)?)?;
     }
+    let mut each = Vec::new(alloc);
+    for resource in &resources {
+        each.push(resource.as_slice())?;
+    }
+    client.feed(&response(alloc, "1", "n1", &each)?)?;
     Ok(client)
 }
 
@@ -142,10 +200,10 @@ const TWO_DIGITS: (&[u8], &[u8]) = (
     b"\x2a\x02\x6e\x32\x32\x16\x08\x03\x12\x12",
 );
 
-/// A client for `f` that has accepted version `1` refuses a response with nonce `n2` by this number. What it accepted
-/// stays, and a later stream goes on from there.
+/// A client for `f` that has accepted version `1`, a filter with a condition, refuses a response with nonce `n2` by this
+/// number. What it accepted stays, and a later stream goes on from there.
 pub fn refuses(rt: &impl Abort, alloc: Global, response: &[u8], number: &[u8]) -> Result<(), Fail> {
-    let mut client = client_with(alloc, &["f"], ANY_ANY)?;
+    let mut client = client_with(alloc, &["f"], METHOD_IS_GET)?;
     let (head, status) = if number.len() == 1 {
         ONE_DIGIT
     } else {
@@ -155,22 +213,29 @@ pub fn refuses(rt: &impl Abort, alloc: Global, response: &[u8], number: &[u8]) -
     let before = shown(alloc, &client)?;
     answers(rt, alloc, &mut client, response, nack)?;
     assert!(rt; shown(alloc, &client)? == before);
-    assert_eq!(rt; policies(&client, "f"), Some(1));
+    takes_get_alone(rt, alloc, &client)?;
     assert_eq!(rt; client.generation(), 1);
     client.lost();
     assert!(rt; client.connected()? == joined(alloc, RESUMED_REQUEST)?);
     Ok(())
 }
 
+/// A snapshot that gives these names filters, in this order.
+pub fn snapshot_of(alloc: Global, filters: &[(&str, &[u8])]) -> Result<Snapshot, Fail> {
+    let mut resources = Vec::new(alloc);
+    for (name, filter) in filters {
+        let name = String::from_str(alloc, name)?;
+        let filter = Vec::from_slice(alloc, filter)?;
+        resources.push(Resource { name, filter })?;
+    }
+    Ok(Snapshot { resources })
+}
+
 /// A control plane of snapshots that each give this name one of the filters.
 pub fn control_of(alloc: Global, name: &str, filters: &[&[u8]]) -> Result<Control, Fail> {
     let mut snapshots = Vec::new(alloc);
     for filter in filters {
-        let name = String::from_str(alloc, name)?;
-        let filter = Vec::from_slice(alloc, filter)?;
-        let mut resources = Vec::new(alloc);
-        resources.push(Resource { name, filter })?;
-        snapshots.push(Snapshot { resources })?;
+        snapshots.push(snapshot_of(alloc, &[(name, *filter)])?)?;
     }
     Ok(Control::new(alloc, snapshots))
 }

@@ -1,39 +1,25 @@
-//! Streams of both ends, cut at two places: what comes out is what comes out at once. Short ones are cut at each two places,
-//! longer ones at each two of some.
+//! Streams of both ends, cut at each two places: what comes out is what comes out at once.
 use super::control::{ACK, NACK};
 use super::making::{client_of, control_of, half_bad, resource, response};
 use super::vectors::{
-    ANY_ANY, FIRST_ACK, FIRST_REQUEST, HALF_BAD_NACK, RESUMED_REQUEST, TRUE_AND_TRUE, before,
-    behind, joined,
+    ANY_ANY, FIRST_ACK, FIRST_FOR_BOTH, FIRST_REQUEST, HALF_BAD_NACK, RESUMED_FOR_BOTH,
+    RESUMED_REQUEST, TRUE_AND_TRUE, before, behind, joined,
 };
 use crate::{Client, Control};
 use std::alloc::Global;
 use std::process::Abort;
 use std::test::Fail;
 
-/// How long a stream is that is cut at each place.
-const SHORT: usize = 110;
-
-/// The places where a stream of this length is cut: all in the first head, and each or each fifth behind it.
-fn places(alloc: Global, length: usize) -> Result<Vec<usize>, Fail> {
-    let mut places = Vec::new(alloc);
-    for place in 0..=length {
-        if length <= SHORT || place <= 6 || place % 5 == 0 || place == length {
-            places.push(place)?;
-        }
-    }
-    Ok(places)
-}
-
-/// A new stream of the client gives the bytes in three pieces: all that it answers.
+/// A new stream of the client begins with this request, and gives the bytes in three pieces: all that it answers.
 fn answered(
     rt: &impl Abort,
     alloc: Global,
     client: &mut Client,
+    request: &[&[u8]],
     bytes: &[u8],
     (first, second): (usize, usize),
 ) -> Result<Vec<u8>, Fail> {
-    client.connected()?;
+    assert!(rt; client.connected()? == joined(alloc, request)?);
     let mut replies = Vec::new(alloc);
     let (front, back) = (before(bytes, second), behind(bytes, second));
     for piece in &[before(front, first), behind(front, first), back] {
@@ -44,20 +30,24 @@ fn answered(
     Ok(replies)
 }
 
-/// Wherever the bytes are cut, a client answers them alike.
-fn answers_alike(rt: &impl Abort, alloc: Global, bytes: &[u8]) -> Result<(), Fail> {
+/// At whatever two places the bytes are cut, a client answers them alike. Once they were answered, a stream begins with this
+/// request.
+fn answers_alike(
+    rt: &impl Abort,
+    alloc: Global,
+    bytes: &[u8],
+    request: &[&[u8]],
+) -> Result<(), Fail> {
     let mut client = client_of(alloc, &["f", "g"])?;
     let length = bytes.len();
-    answered(rt, alloc, &mut client, bytes, (0, length))?;
-    let at_once = answered(rt, alloc, &mut client, bytes, (0, length))?;
+    answered(rt, alloc, &mut client, FIRST_FOR_BOTH, bytes, (0, length))?;
+    let at_once = answered(rt, alloc, &mut client, request, bytes, (0, length))?;
     assert!(rt; !at_once.is_empty());
-    let places = places(alloc, length)?;
-    for first in &places {
-        for second in &places {
-            if first <= second {
-                let replies = answered(rt, alloc, &mut client, bytes, (*first, *second))?;
-                assert!(rt; replies == at_once);
-            }
+    for first in 0..=length {
+        for second in first..=length {
+            let cut = (first, second);
+            let replies = answered(rt, alloc, &mut client, request, bytes, cut)?;
+            assert!(rt; replies == at_once);
         }
     }
     Ok(())
@@ -69,16 +59,19 @@ fn responses(rt: HostRuntime) -> Result<(), Fail> {
     let filter = resource(alloc, "f", TRUE_AND_TRUE)?;
     let first = response(alloc, "1", "n1", &[&filter])?;
     assert_eq!(rt; first.len(), 261);
-    answers_alike(&rt, alloc, &first)?;
-    answers_alike(&rt, alloc, &half_bad(alloc)?)
+    answers_alike(&rt, alloc, &first, RESUMED_FOR_BOTH)?;
+    answers_alike(&rt, alloc, &half_bad(alloc)?, FIRST_FOR_BOTH)
 }
 
-/// The requests as responses.
+/// The requests as responses: those that name no node are accepted.
 #[test]
 fn requests_as_responses(rt: HostRuntime) -> Result<(), Fail> {
     let alloc = rt.alloc();
-    for pieces in &[FIRST_REQUEST, FIRST_ACK, HALF_BAD_NACK, RESUMED_REQUEST] {
-        answers_alike(&rt, alloc, &joined(alloc, pieces)?)?;
+    for pieces in &[FIRST_REQUEST, RESUMED_REQUEST] {
+        answers_alike(&rt, alloc, &joined(alloc, pieces)?, FIRST_FOR_BOTH)?;
+    }
+    for pieces in &[FIRST_ACK, HALF_BAD_NACK] {
+        answers_alike(&rt, alloc, &joined(alloc, pieces)?, RESUMED_FOR_BOTH)?;
     }
     Ok(())
 }
@@ -121,15 +114,12 @@ fn requests(rt: HostRuntime) -> Result<(), Fail> {
         let length = bytes.len();
         let mut whole = control_of(alloc, "f", &[TRUE_AND_TRUE, ANY_ANY])?;
         let at_once = sent(&rt, alloc, &mut whole, &bytes, (0, length))?;
-        let places = places(alloc, length)?;
-        for first in &places {
-            for second in &places {
-                if first <= second {
-                    let mut control = control_of(alloc, "f", &[TRUE_AND_TRUE, ANY_ANY])?;
-                    let cut = (*first, *second);
-                    assert!(rt; sent(&rt, alloc, &mut control, &bytes, cut)? == at_once);
-                    assert_eq!(rt; control.acknowledged(), *number);
-                }
+        for first in 0..=length {
+            for second in first..=length {
+                let mut control = control_of(alloc, "f", &[TRUE_AND_TRUE, ANY_ANY])?;
+                let cut = (first, second);
+                assert!(rt; sent(&rt, alloc, &mut control, &bytes, cut)? == at_once);
+                assert_eq!(rt; control.acknowledged(), *number);
             }
         }
     }

@@ -81,12 +81,28 @@ fn breaks(rt: &impl Abort, alloc: Global, bytes: &[u8]) -> Result<(), Fail> {
     Ok(())
 }
 
+/// Frames that break a stream: one that is compressed, one that is too long, one that is no list of fields, and requests of
+/// which one text is no UTF-8: the version, a name, the type, the nonce, the node's name, its cluster and an error's text.
+const BREAKS: [&[u8]; 10] = [
+    b"\x01",
+    b"\x00\x00\x10\x00\x01",
+    b"\x00\x00\x00\x00\x01\x0a",
+    b"\x00\x00\x00\x00\x03\x0a\x01\xff",
+    b"\x00\x00\x00\x00\x06\x1a\x01f\x1a\x01\xff",
+    b"\x00\x00\x00\x00\x03\x22\x01\xff",
+    b"\x00\x00\x00\x00\x03\x2a\x01\xff",
+    b"\x00\x00\x00\x00\x05\x12\x03\x0a\x01\xff",
+    b"\x00\x00\x00\x00\x05\x12\x03\x12\x01\xff",
+    b"\x00\x00\x00\x00\x05\x32\x03\x12\x01\xff",
+];
+
 #[test]
 fn broken_streams(rt: HostRuntime) -> Result<(), Fail> {
     let alloc = rt.alloc();
-    breaks(&rt, alloc, b"\x01")?;
-    breaks(&rt, alloc, b"\x00\x00\x10\x00\x01")?;
-    breaks(&rt, alloc, b"\x00\x00\x00\x00\x01\x0a")
+    for bytes in &BREAKS {
+        breaks(&rt, alloc, bytes)?;
+    }
+    Ok(())
 }
 
 /// A response longer than a message may be is not sent, and ends the stream.

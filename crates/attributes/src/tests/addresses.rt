@@ -233,8 +233,8 @@ const REFUSED: [&str; 80] = [
     "\u{661}::",
 ];
 
-// An address and a size of a range, another address, and whether that is in the range; `None` where
-// the size is too great.
+// An address and a prefix length of a range, another address, and whether that is in the range;
+// `None` where the length is too great.
 const RANGES: [(&str, u32, &str, Option<bool>); 52] = [
     ("10.0.0.0", 9, "10.127.255.255", Some(true)),
     ("10.0.0.0", 9, "10.128.0.0", Some(false)),
@@ -347,17 +347,17 @@ fn refuses_other_texts(rt: HostRuntime) -> Result<(), Fail> {
 }
 
 // Whether the second address is in the range, if there is such a range.
-fn in_range(address: &str, size: u32, ip: &str) -> Option<bool> {
-    Some(Cidr::new(parse_ip(address)?, size)?.contains(parse_ip(ip)?))
+fn in_range(address: &str, prefix_len: u32, ip: &str) -> Option<bool> {
+    Some(Cidr::new(parse_ip(address)?, prefix_len)?.contains(parse_ip(ip)?))
 }
 
 #[test]
 fn knows_ranges(rt: HostRuntime) -> Result<(), Fail> {
-    for (address, size, ip, answer) in RANGES {
+    for (address, prefix_len, ip, answer) in RANGES {
         assert_eq!(rt;
-            in_range(address, size, ip),
+            in_range(address, prefix_len, ip),
             answer,
-            "{address}/{size} {ip}"
+            "{address}/{prefix_len} {ip}"
         );
     }
     Ok(())

@@ -4,7 +4,7 @@
 use crate::tests::check_rows::Row;
 use proto_wire::Refusal;
 
-pub(super) const WRITTEN: [Row; 16] = [
+pub(super) const WRITTEN: [Row; 23] = [
     (
         "request.method == \"GET\", a type at each node and overloads at the call",
         Ok(b'b'),
@@ -175,5 +175,40 @@ pub(super) const WRITTEN: [Row; 16] = [
           ctly_false\x1a\x0d\x10\x08\x22\x09\x0a\x07@result25\x10\x0b21\x12\x04_&&_\x1a\x0d\
           \x10\x0a\x22\x09\x0a\x07@result\x1a\x1a\x10\x052\x16\x12\x03_>_\x1a\x07\x10\x04\x22\
           \x03\x0a\x01x\x1a\x06\x10\x06\x1a\x02\x18\x00:\x0d\x10\x0c\x22\x09\x0a\x07@result",
+    ),
+    (
+        "true, null by its type entry",
+        Err(Refusal::Unsupported),
+        b"\x1a\x06\x08\x01\x12\x02\x10\x00\x22\x06\x10\x01\x1a\x02\x10\x01",
+    ),
+    (
+        "true, a wrapped int by its type entry",
+        Err(Refusal::Unsupported),
+        b"\x1a\x06\x08\x01\x12\x02 \x02\x22\x06\x10\x01\x1a\x02\x10\x01",
+    ),
+    (
+        "true, a duration by its type entry",
+        Err(Refusal::Unsupported),
+        b"\x1a\x06\x08\x01\x12\x02(\x03\x22\x06\x10\x01\x1a\x02\x10\x01",
+    ),
+    (
+        "true, a function by its type entry",
+        Err(Refusal::Unsupported),
+        b"\x1a\x06\x08\x01\x12\x02B\x00\x22\x06\x10\x01\x1a\x02\x10\x01",
+    ),
+    (
+        "true, a message by its type entry",
+        Err(Refusal::Unsupported),
+        b"\x1a\x07\x08\x01\x12\x03J\x01M\x22\x06\x10\x01\x1a\x02\x10\x01",
+    ),
+    (
+        "true, a parameter by its type entry",
+        Err(Refusal::Unsupported),
+        b"\x1a\x07\x08\x01\x12\x03R\x01T\x22\x06\x10\x01\x1a\x02\x10\x01",
+    ),
+    (
+        "true, and a type entry null at an id that no node has",
+        Ok(b'b'),
+        b"\x1a\x06\x08\x02\x12\x02\x10\x00\x22\x06\x10\x01\x1a\x02\x10\x01",
     ),
 ];

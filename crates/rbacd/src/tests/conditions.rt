@@ -2,8 +2,7 @@
 //!
 //! A row is the name of a filter of `examples/filters/`, the budget, the field lines of a GET behind `Host: h` or `-`, the
 //! facts of its connection, and the two lines. Where the filter is refused both print the same, and the second stands as `-`.
-use super::filter_bytes::filter_named;
-use super::rows::head_of;
+use super::rows::{filter_of, head_of};
 use crate::facts::read_facts;
 use crate::judge::{check, judge};
 use std::alloc::Global;
@@ -48,10 +47,7 @@ fn try_rows(rt: &impl Abort, alloc: Global, table: &str, count: usize) -> Result
 }
 
 fn try_row(rt: &impl Abort, alloc: Global, row: &Row<'_>) -> Result<(), Fail> {
-    let Some(digits) = filter_named(row.filter) else {
-        return Err(Fail::from("a row with an unknown filter"));
-    };
-    let policy = hex::decode(alloc, digits)?;
+    let policy = filter_of(alloc, row.filter)?;
     let mut checked = Vec::new(alloc);
     check(alloc, &policy, row.budget, &mut checked)?;
     let conn = read_facts(alloc, row.facts.as_bytes())?;

@@ -30,17 +30,22 @@ const OR: &[u8] = &[0x0a, 0x12];
 
 /// An ALLOW filter of one policy whose permission is any behind so many levels, each of which has these tags.
 fn chained(alloc: Global, levels: usize, tags: &[u8]) -> Result<Vec<u8>, AllocError> {
+    // any, VARINT: true
     let mut reversed = Vec::from_slice(alloc, &[0x01, 0x18])?;
     for _ in 0..levels {
         for tag in tags {
             wrap(&mut reversed, *tag)?;
         }
     }
+    // permissions, LEN; before them principals, LEN 2: any, VARINT: true
     wrap(&mut reversed, 0x0a)?;
     reversed.extend_from_slice(&[0x01, 0x18, 0x02, 0x12])?;
+    // value, LEN: a policy; before it the key, LEN 1: "p"
     wrap(&mut reversed, 0x12)?;
     reversed.extend_from_slice(b"p\x01\x0a")?;
+    // policies, LEN: an entry
     wrap(&mut reversed, 0x12)?;
+    // rules, LEN
     wrap(&mut reversed, 0x0a)?;
     reversed.reverse();
     Ok(reversed)

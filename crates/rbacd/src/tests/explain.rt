@@ -26,7 +26,7 @@ const WORDS: &[&str] = &["--explain"];
 
 const JSON: &[&str] = &["--json", "--explain"];
 
-const CASES: [Case; 19] = [
+const CASES: [Case; 33] = [
     ("any_any", &[], PLAIN, "allow 0\n", 0),
     ("any_any", WORDS, PLAIN, "allow 0\n0 \"p\": match\n", 0),
     (
@@ -113,6 +113,104 @@ const CASES: [Case; 19] = [
         PLAIN,
         "allow -\n0 \"p\": condition error Overflow\n",
         0,
+    ),
+    (
+        "true_and_true",
+        WORDS,
+        PLAIN,
+        "allow 0\n0 \"p\": condition true steps 4 bound 4\n",
+        0,
+    ),
+    (
+        "zero_divisor_or_true",
+        WORDS,
+        PLAIN,
+        "allow 0\n0 \"p\": condition true steps 8 bound 10\n",
+        0,
+    ),
+    (
+        "branch_without_fault",
+        WORDS,
+        PLAIN,
+        "allow 0\n0 \"p\": condition true steps 7 bound 10\n",
+        0,
+    ),
+    (
+        "exists_equal_to_1",
+        WORDS,
+        PLAIN,
+        "allow 0\n0 \"p\": condition true steps 44 bound 46\n",
+        0,
+    ),
+    (
+        "all_of_none",
+        WORDS,
+        PLAIN,
+        "allow 0\n0 \"p\": condition true steps 6 bound 6\n",
+        0,
+    ),
+    (
+        "empty_list_of_int",
+        WORDS,
+        PLAIN,
+        "allow 0\n0 \"p\": condition true steps 6 bound 6\n",
+        0,
+    ),
+    (
+        "overflow",
+        WORDS,
+        PLAIN,
+        "deny -\n0 \"p\": condition error Overflow\n",
+        3,
+    ),
+    (
+        "least_by_minus_1",
+        WORDS,
+        PLAIN,
+        "deny -\n0 \"p\": condition error Overflow\n",
+        3,
+    ),
+    (
+        "branch_with_fault",
+        WORDS,
+        PLAIN,
+        "deny -\n0 \"p\": condition error ZeroDivisor\n",
+        3,
+    ),
+    (
+        "all_equal_to_1",
+        WORDS,
+        PLAIN,
+        "deny -\n0 \"p\": condition error ZeroDivisor\n",
+        3,
+    ),
+    (
+        "all_above_1",
+        WORDS,
+        PLAIN,
+        "deny -\n0 \"p\": condition false\n",
+        3,
+    ),
+    (
+        "all_true",
+        WORDS,
+        PLAIN,
+        "deny -\n0 \"p\": condition false\n",
+        3,
+    ),
+    (
+        "has_header",
+        WORDS,
+        PLAIN,
+        "deny -\n0 \"p\": condition false\n",
+        3,
+    ),
+    (
+        "not_63_times",
+        WORDS,
+        PLAIN,
+        "deny -\n0 \"p\": condition false\n",
+        3,
     ),
     ("method_alone", WORDS, PLAIN, "refused: 13 NotBool\n", 1),
     (

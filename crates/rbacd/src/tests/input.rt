@@ -1,7 +1,7 @@
 //! How much of an input is read: no more than decides what its head asks.
 use crate::input::read_ask;
 use crate::judge::{judge, plain_conn};
-use crate::tests::judging::ANY_ANY;
+use crate::tests::rows::filter_of;
 use attributes::Limits;
 use http_front::{Ask, HeadFault};
 use std::io::{self, ErrorKind, Read};
@@ -93,12 +93,13 @@ const ANSWERED: [(&[u8], &str); 4] = [
 
 #[test]
 fn answers_before_the_end(rt: HostRuntime) -> Result<(), Fail> {
+    let policy = filter_of(rt.alloc(), "any_any")?;
     for (bytes, line) in ANSWERED {
         for size in [1, 7, 4_096] {
             let input = Pieces::new(bytes, size);
             let conn = plain_conn(rt.alloc())?;
             let mut out = Vec::new(rt.alloc());
-            judge(rt.alloc(), &ANY_ANY, 1, conn, input, &mut out)?;
+            judge(rt.alloc(), &policy, 1, conn, input, &mut out)?;
             assert_eq!(rt; out.as_slice(), line.as_bytes());
         }
     }

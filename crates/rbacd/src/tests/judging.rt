@@ -1,6 +1,7 @@
 //! The lines and the statuses of judging, over memory.
 ghost use Rattle.std.specs.Prelude.{◌<◌};
 
+use super::rows::filter_of;
 use crate::facts::{FactsFault, read_conn};
 use crate::judge::{judge, plain_conn};
 use crate::outcome::Outcome;
@@ -11,39 +12,18 @@ use std::alloc::{AllocError, Global};
 use std::io::{self, ErrorKind, Read, Write};
 use std::test::Fail;
 
-/// An ALLOW filter with one policy `p`, any and any.
-pub const ANY_ANY: [u8; 17] = [
-    0x0a, 0x0f, 0x12, 0x0d, 0x0a, 0x01, 0x70, 0x12, 0x08, 0x0a, 0x02, 0x18, 0x01, 0x12, 0x02, 0x18,
-    0x01,
-];
-
-/// The same with a permission that is `any: false`.
-pub const ANY_FALSE: [u8; 17] = [
-    0x0a, 0x0f, 0x12, 0x0d, 0x0a, 0x01, 0x70, 0x12, 0x08, 0x0a, 0x02, 0x18, 0x00, 0x12, 0x02, 0x18,
-    0x01,
-];
-
-/// The same with a permission that is `any: true`, spelt in two bytes.
-const ANY_LONG: [u8; 18] = [
-    0x0a, 0x10, 0x12, 0x0e, 0x0a, 0x01, 0x70, 0x12, 0x09, 0x0a, 0x03, 0x18, 0x81, 0x00, 0x12, 0x02,
-    0x18, 0x01,
-];
-
-/// An ALLOW filter without policies.
-pub const EMPTY_RULES: [u8; 2] = [0x0a, 0x00];
-
 pub const PLAIN: &[u8] = b"GET / HTTP/1.1\r\nHost: h\r\n\r\n";
 
-const CASES: [(&[u8], &[u8], &str, u8); 8] = [
-    (&ANY_ANY, PLAIN, "allow 0\n", 0),
-    (&ANY_LONG, PLAIN, "allow 0\n", 0),
-    (&EMPTY_RULES, PLAIN, "deny -\n", 3),
-    (&[], PLAIN, "refused: 4 Missing\n", 1),
-    (&ANY_FALSE, PLAIN, "refused: 5 OutOfRange\n", 1),
-    (&ANY_ANY, b"GET", "head: 400\n", 4),
-    (&ANY_FALSE, b"GET", "refused: 5 OutOfRange\n", 1),
+/// A filter of `examples/filters/`, the head, the line, and the status.
+const CASES: [(&str, &[u8], &str, u8); 7] = [
+    ("any_any", PLAIN, "allow 0\n", 0),
+    ("any_true_in_two_bytes", PLAIN, "allow 0\n", 0),
+    ("no_policies", PLAIN, "deny -\n", 3),
+    ("any_false", PLAIN, "refused: 5 OutOfRange\n", 1),
+    ("any_any", b"GET", "head: 400\n", 4),
+    ("any_false", b"GET", "refused: 5 OutOfRange\n", 1),
     (
-        &ANY_ANY,
+        "any_any",
         b"GET / HTTP/1.1\r\nHost: h\r\nTransfer-Encoding: chunked\r\n\r\n",
         "head: 501\n",
         4,
@@ -52,11 +32,12 @@ const CASES: [(&[u8], &[u8], &str, u8); 8] = [
 
 #[test]
 fn judges_cases(rt: HostRuntime) -> Result<(), Fail> {
-    for (policy, head, line, status) in CASES {
+    for (filter, head, line, status) in CASES {
+        let policy = filter_of(rt.alloc(), filter)?;
         let mut out = Vec::new(rt.alloc());
         let outcome = judge(
             rt.alloc(),
-            policy,
+            &policy,
             1_000_000,
             plain_conn(rt.alloc())?,
             head,
@@ -70,30 +51,38 @@ fn judges_cases(rt: HostRuntime) -> Result<(), Fail> {
 
 #[test]
 fn refuses_cut_policies(rt: HostRuntime) -> Result<(), Fail> {
-    for length in 1..ANY_ANY.len() {
+    let whole = filter_of(rt.alloc(), "any_any")?;
+    let policy = whole.as_slice();
+    for length in 0..policy.len() {
+        let (line, refusal) = match length {
+            0 => ("refused: 4 Missing\n", Refusal::Missing),
+            _ => ("refused: 1 BadWire\n", Refusal::BadWire),
+        };
         let mut out = Vec::new(rt.alloc());
         let outcome = judge(
             rt.alloc(),
-            &ANY_ANY[..length],
+            &policy[..length],
             1,
             plain_conn(rt.alloc())?,
             PLAIN,
             &mut out,
         )?;
-        assert_eq!(rt; out.as_slice(), b"refused: 1 BadWire\n".as_slice());
-        assert_eq!(rt; outcome, Outcome::Refused(Refusal::BadWire));
+        assert_eq!(rt; out.as_slice(), line.as_bytes());
+        assert_eq!(rt; outcome, Outcome::Refused(refusal));
+        assert_eq!(rt; outcome.status(), 1);
     }
     Ok(())
 }
 
 #[test]
 fn judges_long_input(rt: HostRuntime) -> Result<(), Fail> {
+    let policy = filter_of(rt.alloc(), "any_any")?;
     let mut input = Vec::from_slice(rt.alloc(), b"GET /")?;
     input.extend_from_slice(vec![in rt.alloc(); b'a'; 70_000]?.as_slice())?;
     let mut out = Vec::new(rt.alloc());
     let outcome = judge(
         rt.alloc(),
-        &ANY_ANY,
+        &policy,
         1,
         plain_conn(rt.alloc())?,
         input.as_slice(),
@@ -174,14 +163,17 @@ fn takes_facts_to_the_limit(rt: HostRuntime) -> Result<(), Fail> {
 fn of_policies(alloc: Global, count: u16) -> Result<Vec<u8>, AllocError>
     requires { count < 600 }
 {
+    // rules, LEN in two bytes
     let mut filter = Vec::from_slice(alloc, &[0x0a])?;
     let length = count * 16;
     filter.push((length % 128 + 128) as u8)?;
     filter.push((length / 128) as u8)?;
     for index in 0..count {
         let letters = [b'a' + (index / 26) as u8, b'a' + (index % 26) as u8];
+        // policies, LEN 14: an entry; key, LEN 2
         filter.extend_from_slice(&[0x12, 0x0e, 0x0a, 0x02])?;
         filter.extend_from_slice(&letters)?;
+        // value, LEN 8: a policy; permissions and principals, LEN 2: any, VARINT: true
         filter.extend_from_slice(&[0x12, 0x08, 0x0a, 0x02, 0x18, 0x01, 0x12, 0x02, 0x18, 0x01])?;
     }
     Ok(filter)
@@ -228,11 +220,12 @@ impl Write for Full {
 
 #[test]
 fn passes_on_a_failing_writer(rt: HostRuntime) -> Result<(), Fail> {
+    let policy = filter_of(rt.alloc(), "any_any")?;
     for room in 0..8 {
         let mut out = Full { room };
         match judge(
             rt.alloc(),
-            &ANY_ANY,
+            &policy,
             1,
             plain_conn(rt.alloc())?,
             PLAIN,
@@ -246,7 +239,7 @@ fn passes_on_a_failing_writer(rt: HostRuntime) -> Result<(), Fail> {
     assert!(rt;
         judge(
             rt.alloc(),
-            &ANY_ANY,
+            &policy,
             1,
             plain_conn(rt.alloc())?,
             PLAIN,
@@ -274,10 +267,12 @@ impl Read for Broken {
 
 #[test]
 fn passes_on_a_failing_reader(rt: HostRuntime) -> Result<(), Fail> {
+    let admitted = filter_of(rt.alloc(), "any_any")?;
+    let refused = filter_of(rt.alloc(), "any_false")?;
     let mut out = Vec::new(rt.alloc());
     match judge(
         rt.alloc(),
-        &ANY_ANY,
+        &admitted,
         1,
         plain_conn(rt.alloc())?,
         Broken { left: b"GET /" },
@@ -291,7 +286,7 @@ fn passes_on_a_failing_reader(rt: HostRuntime) -> Result<(), Fail> {
     assert!(rt;
         judge(
             rt.alloc(),
-            &ANY_FALSE,
+            &refused,
             1,
             plain_conn(rt.alloc())?,
             broken,

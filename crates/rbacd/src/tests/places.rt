@@ -1,8 +1,7 @@
 //! Where the fault of a policy file stands that is refused: what `check` and `judge` tell of it on standard error.
 //!
-//! A row is a filter of `examples/filters/` by name or any other by its hexadecimal digits, the budget, the refusal, and the
-//! part that is named or `-`.
-use super::filter_bytes::filter_named;
+//! A row is the name of a filter of `examples/filters/`, the budget, the refusal, and the part that is named or `-`.
+use super::rows::filter_of;
 use crate::files::Source;
 use crate::run::run;
 use crate::tests::judging::PLAIN;
@@ -11,7 +10,7 @@ use std::io::{self, ErrorKind};
 use std::process::Abort;
 use std::test::Fail;
 
-/// Files whose paths are the names of filters, or their digits.
+/// Files whose paths are the names of filters.
 pub struct Filters;
 
 impl Source for Filters {
@@ -22,7 +21,7 @@ impl Source for Filters {
     ghost lacks = { λ _ _. ⊤ };
 
     fn read_file(&self, alloc: Global, path: &str) -> io::Result<Vec<u8>> {
-        match hex::decode(alloc, filter_named(path).unwrap_or(path)) {
+        match filter_of(alloc, path) {
             Ok(bytes) => Ok(bytes),
             Err(_) => Err(io::Error::from(ErrorKind::NotFound)),
         }
@@ -48,14 +47,14 @@ fn row_of(text: &str) -> Option<Row<'_>> {
     })
 }
 
-/// Filters that are refused. The one by its digits that is long has three rules: any, any and port 65536.
+/// Filters that are refused.
 const PLACES: &str = "\
-0a1d121b0a017012160a100a0e0a0218010a0218010a043080800412021801 | 1 | 5 OutOfRange | policy \"p\": permissions[0].and_rules.rules[2]
+port_65536_in_and_rules | 1 | 5 OutOfRange | policy \"p\": permissions[0].and_rules.rules[2]
 a_set_with_an_empty_rule | 1 | 4 Missing | policy \"p\": permissions[0].and_rules.rules[0]
 not_rule_of_nothing | 1 | 4 Missing | policy \"p\": permissions[0].not_rule
 a_principal_without_a_member | 1 | 4 Missing | policy \"p\": principals[0]
 a_policy_without_principals | 1 | 4 Missing | policy \"p\"
-0a0b12090a011b12040a021801 | 1 | 4 Missing | policy \"\\u{1b}\"
+an_escape_without_principals | 1 | 4 Missing | policy \"\\u{1b}\"
 loop_of_one_name | 1000000 | 5 OutOfRange | policy \"p\": checked_condition
 method_alone | 1000000 | 13 NotBool | policy \"p\": checked_condition
 an_action_above_log | 1 | 5 OutOfRange | rules.action

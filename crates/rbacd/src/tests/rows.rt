@@ -32,6 +32,14 @@ fn row_of(text: &str) -> Option<Row<'_>> {
     })
 }
 
+/// The filter of this name in `examples/filters/`.
+pub fn filter_of(alloc: Global, name: &str) -> Result<Vec<u8>, Fail> {
+    let Some(digits) = filter_named(name) else {
+        return Err(Fail::from("an unknown filter"));
+    };
+    Ok(hex::decode(alloc, digits)?)
+}
+
 /// Judges so many rows of a table, each on a line of its own.
 pub fn judge_rows(rt: &impl Abort, alloc: Global, table: &str, count: usize) -> Result<(), Fail> {
     let mut judged: usize = 0;
@@ -47,10 +55,7 @@ pub fn judge_rows(rt: &impl Abort, alloc: Global, table: &str, count: usize) -> 
 }
 
 fn judge_row(rt: &impl Abort, alloc: Global, row: &Row<'_>) -> Result<(), Fail> {
-    let Some(digits) = filter_named(row.filter) else {
-        return Err(Fail::from("a row with an unknown filter"));
-    };
-    let policy = hex::decode(alloc, digits)?;
+    let policy = filter_of(alloc, row.filter)?;
     let conn = read_facts(alloc, row.facts.as_bytes())?;
     let head = head_of(alloc, row.target, row.fields)?;
     let mut out = Vec::new(alloc);

@@ -1,25 +1,19 @@
 //! Whole runs over memory: what stands on each output, and the status.
 use crate::facts::cause_of_bad_facts;
 use crate::files::{Source, read_whole};
-use crate::notes::{Likeness, likeness_of};
 use crate::run::run;
-use crate::tests::judging::{ANY_ANY, ANY_FALSE, EMPTY_RULES, PLAIN};
+use crate::tests::judging::PLAIN;
+use crate::tests::places::Filters;
+use crate::tests::rows::filter_of;
 use std::alloc::Global;
 use std::io::{self, ErrorKind, Read, Write};
 use std::test::Fail;
 use std::{env, fs};
 
-/// Files in memory. A path that is not there cannot be read.
+/// Files in memory, and the filters by their names. Another path cannot be read, nor can the one named `locked`.
 struct Shelf;
 
-const FILES: [(&str, &[u8]); 6] = [
-    ("any", &ANY_ANY),
-    ("empty", &EMPTY_RULES),
-    ("hex", b"0a0f"),
-    ("refused", &ANY_FALSE),
-    ("facts", b"{}"),
-    ("bad", b"[]"),
-];
+const FILES: [(&str, &[u8]); 3] = [("hex", b"0a0f"), ("facts", b"{}"), ("bad", b"[]")];
 
 impl Source for Shelf {
     ghost use Rattle.std.specs.Prelude.{⊤};
@@ -34,7 +28,10 @@ impl Source for Shelf {
                 return Ok(Vec::from_slice(alloc, bytes)?);
             }
         }
-        Err(io::Error::from(ErrorKind::NotFound))
+        if path == "locked" {
+            return Err(io::Error::from(ErrorKind::PermissionDenied));
+        }
+        Filters.read_file(alloc, path)
     }
 }
 
@@ -86,8 +83,8 @@ impl Read for Broken {
     }
 }
 
-/// The words behind `rbacd`, the input, what stands on standard output, how standard error begins, and
-/// the status.
+/// The words behind `rbacd`, the input, what stands on standard output and on standard error, and the
+/// status.
 type Case = (
     &'static [&'static str],
     &'static [u8],
@@ -96,32 +93,38 @@ type Case = (
     u8,
 );
 
-const CASES: [Case; 24] = [
-    (&["judge", "--policy", "any"], PLAIN, "allow 0\n", "", 0),
+const CASES: [Case; 27] = [
+    (&["judge", "--policy", "any_any"], PLAIN, "allow 0\n", "", 0),
     (
-        &["judge", "--policy", "any", "--facts", "facts"],
+        &["judge", "--policy", "any_any", "--facts", "facts"],
         PLAIN,
         "allow 0\n",
         "",
         0,
     ),
-    (&["judge", "--policy", "empty"], PLAIN, "deny -\n", "", 3),
     (
-        &["judge", "--policy", "refused"],
+        &["judge", "--policy", "no_policies"],
+        PLAIN,
+        "deny -\n",
+        "",
+        3,
+    ),
+    (
+        &["judge", "--policy", "any_false"],
         PLAIN,
         "refused: 5 OutOfRange\n",
-        "  a value is outside its range\n",
+        "  a value is outside its range\n  policy \"p\": permissions[0]: 5 OutOfRange\n",
         1,
     ),
     (
-        &["judge", "--policy", "any"],
+        &["judge", "--policy", "any_any"],
         b"GET",
         "head: 400\n",
         "  the input ends before its head does\n",
         4,
     ),
     (
-        &["judge", "--policy", "any"],
+        &["judge", "--policy", "any_any"],
         b"GET / HTTP/1.1\r\n\r\n",
         "head: 400\n",
         "  a request of HTTP/1.1 has to have a Host field\n",
@@ -131,32 +134,53 @@ const CASES: [Case; 24] = [
         &["judge", "--policy", "hex"],
         PLAIN,
         "refused: 3 UnknownField\n",
-        "  a field is not known, or not of its wire type\n  the policy file looks like hexadecimal text;",
+        "  a field is not known, or not of its wire type\n  the policy file looks like hexadecimal text; it has to be one binary message envoy.extensions.filters.http.rbac.v3.RBAC\n",
         1,
     ),
     (
-        &["judge", "--policy", "refused"],
+        &["judge", "--policy", "any_false"],
         b"GET",
         "refused: 5 OutOfRange\n",
-        "  a value is outside its range\n",
+        "  a value is outside its range\n  policy \"p\": permissions[0]: 5 OutOfRange\n",
         1,
     ),
     (
         &["judge", "--policy", "none"],
         PLAIN,
         "",
-        "cannot read none\n  ",
+        "cannot read none\n  entity not found\n",
         2,
     ),
     (
-        &["judge", "--policy", "any", "--facts", "none"],
+        &["judge", "--policy", "locked"],
         PLAIN,
         "",
-        "cannot read none\n  ",
+        "cannot read locked\n  permission denied\n",
         2,
     ),
     (
-        &["judge", "--policy", "refused", "--facts", "bad"],
+        &["check", "--policy", "locked"],
+        b"",
+        "",
+        "cannot read locked\n  permission denied\n",
+        2,
+    ),
+    (
+        &["judge", "--policy", "any_any", "--facts", "locked"],
+        PLAIN,
+        "",
+        "cannot read locked\n  permission denied\n",
+        2,
+    ),
+    (
+        &["judge", "--policy", "any_any", "--facts", "none"],
+        PLAIN,
+        "",
+        "cannot read none\n  entity not found\n",
+        2,
+    ),
+    (
+        &["judge", "--policy", "any_false", "--facts", "bad"],
         PLAIN,
         "",
         "bad facts\n  it is no JSON object\n",
@@ -166,91 +190,91 @@ const CASES: [Case; 24] = [
         &["judge", "--policy", "none", "--facts", "bad"],
         PLAIN,
         "",
-        "cannot read none\n  ",
+        "cannot read none\n  entity not found\n",
         2,
     ),
     (
         &["judge", "--policy", "none", "--budget", "0"],
         PLAIN,
         "",
-        "error: ",
+        "error: invalid value '0' for '--budget <N>': 0 is not in 1..=100000000\n\nFor more information, try '--help'.\n",
         2,
     ),
     (
-        &["judge", "--json", "--policy", "any"],
+        &["judge", "--json", "--policy", "any_any"],
         PLAIN,
         "{\"name\":\"p\",\"policy\":0,\"verdict\":\"allow\"}\n",
         "",
         0,
     ),
     (
-        &["judge", "--policy", "empty", "--json"],
+        &["judge", "--policy", "no_policies", "--json"],
         PLAIN,
         "{\"name\":null,\"policy\":null,\"verdict\":\"deny\"}\n",
         "",
         3,
     ),
     (
-        &["judge", "--policy", "refused", "--json"],
+        &["judge", "--policy", "any_false", "--json"],
         PLAIN,
         "{\"name\":\"OutOfRange\",\"refused\":5}\n",
-        "  a value is outside its range\n",
+        "  a value is outside its range\n  policy \"p\": permissions[0]: 5 OutOfRange\n",
         1,
     ),
     (
-        &["judge", "--policy", "any", "--json"],
+        &["judge", "--policy", "any_any", "--json"],
         b"GET",
         "{\"head\":400}\n",
         "  the input ends before its head does\n",
         4,
     ),
     (
-        &["check", "--policy", "any"],
+        &["check", "--policy", "any_any"],
         b"",
         "admitted: policies 1 bound 0\n",
         "",
         0,
     ),
     (
-        &["check", "--policy", "empty"],
+        &["check", "--policy", "no_policies"],
         b"",
         "admitted: policies 0 bound 0\n",
         "",
         0,
     ),
     (
-        &["check", "--policy", "any", "--json"],
+        &["check", "--policy", "any_any", "--json"],
         b"",
         "{\"admitted\":true,\"bound\":0,\"policies\":1}\n",
         "",
         0,
     ),
     (
-        &["check", "--policy", "refused"],
+        &["check", "--policy", "any_false"],
         b"",
         "refused: 5 OutOfRange\n",
-        "  a value is outside its range\n",
+        "  a value is outside its range\n  policy \"p\": permissions[0]: 5 OutOfRange\n",
         1,
     ),
     (
-        &["check", "--policy", "refused", "--json"],
+        &["check", "--policy", "any_false", "--json"],
         b"",
         "{\"name\":\"OutOfRange\",\"refused\":5}\n",
-        "  a value is outside its range\n",
+        "  a value is outside its range\n  policy \"p\": permissions[0]: 5 OutOfRange\n",
         1,
     ),
     (
         &["check", "--policy", "none", "--json"],
         b"",
         "",
-        "cannot read none\n  ",
+        "cannot read none\n  entity not found\n",
         2,
     ),
     (
-        &["check", "--policy", "any", "--budget", "0"],
+        &["check", "--policy", "any_any", "--budget", "0"],
         b"",
         "",
-        "error: ",
+        "error: invalid value '0' for '--budget <N>': 0 is not in 1..=100000000\n\nFor more information, try '--help'.\n",
         2,
     ),
 ];
@@ -272,11 +296,7 @@ fn runs_cases(rt: HostRuntime) -> Result<(), Fail> {
         assert_eq!(rt; ended, status, "{line}{told}");
         assert_eq!(rt; out.held.as_slice(), line.as_bytes());
         assert_eq!(rt; out.calls, if line.is_empty() { 0 } else { 1 });
-        let errors = str::from_utf8(&errors).unwrap_or("no text");
-        assert!(rt;
-            errors.starts_with(told) && errors.is_empty() == told.is_empty(),
-            "{errors}"
-        );
+        assert_eq!(rt; str::from_utf8(&errors).unwrap_or("no text"), told);
     }
     Ok(())
 }
@@ -294,17 +314,59 @@ fn keeps_the_status_where_standard_error_is_closed(rt: HostRuntime) -> Result<()
     Ok(())
 }
 
+/// Words behind `rbacd` that ask for one line or for several, and the text.
+const TEXTS: [(&[&str], &str); 6] = [
+    (&["judge", "--policy", "any_any"], "allow 0\n"),
+    (
+        &["judge", "--policy", "any_any", "--explain"],
+        "allow 0\n0 \"p\": match\n",
+    ),
+    (
+        &["judge", "--policy", "any_any", "--json"],
+        "{\"name\":\"p\",\"policy\":0,\"verdict\":\"allow\"}\n",
+    ),
+    (
+        &["judge", "--policy", "any_any", "--json", "--explain"],
+        "{\"name\":\"p\",\"policy\":0,\"trials\":[{\"name\":\"p\",\"number\":0,\"reason\":\"match\"}],\"verdict\":\"allow\"}\n",
+    ),
+    (
+        &["check", "--policy", "any_any"],
+        "admitted: policies 1 bound 0\n",
+    ),
+    (
+        &["check", "--policy", "any_any", "--json"],
+        "{\"admitted\":true,\"bound\":0,\"policies\":1}\n",
+    ),
+];
+
+/// What stands on standard error where standard output has no room.
+const NO_ROOM: &str = "cannot write standard output\n  no storage space\n";
+
 #[test]
-fn ends_with_2_where_standard_output_fails(rt: HostRuntime) -> Result<(), Fail> {
-    let words = words_of(rt.alloc(), &["judge", "--policy", "any"])?;
-    for room in 0..9 {
-        let mut out = Full::new(rt.alloc(), room);
+fn ends_with_2_where_standard_output_breaks_off(rt: HostRuntime) -> Result<(), Fail> {
+    for (more, text) in TEXTS {
+        let words = words_of(rt.alloc(), more)?;
+        for room in 0..text.len() {
+            let mut out = Full::new(rt.alloc(), room);
+            let mut errors = Vec::new(rt.alloc());
+            let ended = run(rt.alloc(), &words, &Shelf, PLAIN, &mut out, &mut errors);
+            assert_eq!(rt; ended, 2, "{text}");
+            assert_eq!(rt; Some(out.held.as_slice()), text.as_bytes().get(..room));
+            assert_eq!(rt; str::from_utf8(&errors).unwrap_or("no text"), NO_ROOM);
+        }
+        let mut out = Full::new(rt.alloc(), text.len());
         let mut errors = Vec::new(rt.alloc());
         let ended = run(rt.alloc(), &words, &Shelf, PLAIN, &mut out, &mut errors);
-        assert_eq!(rt; ended, if room == 8 { 0 } else { 2 });
-        assert_eq!(rt; Some(out.held.as_slice()), b"allow 0\n".get(..room));
-        assert_eq!(rt; errors.is_empty(), room == 8);
+        assert_eq!(rt; ended, 0, "{text}");
+        assert_eq!(rt; out.held.as_slice(), text.as_bytes());
+        assert!(rt; errors.is_empty());
     }
+    Ok(())
+}
+
+#[test]
+fn does_not_speak_of_a_reader_that_went_away(rt: HostRuntime) -> Result<(), Fail> {
+    let words = words_of(rt.alloc(), &["judge", "--policy", "any_any"])?;
     let mut out = Full::new(rt.alloc(), 3);
     out.kind = ErrorKind::BrokenPipe;
     let mut errors = Vec::new(rt.alloc());
@@ -314,19 +376,43 @@ fn ends_with_2_where_standard_output_fails(rt: HostRuntime) -> Result<(), Fail> 
     Ok(())
 }
 
+/// The policy file, the kind of the reader's error, what stands on standard output and on standard error,
+/// and the status.
+const INPUTS: [(&str, ErrorKind, &str, &str, u8); 5] = [
+    (
+        "any_any",
+        ErrorKind::ConnectionReset,
+        "",
+        "cannot read standard input\n  connection reset\n",
+        2,
+    ),
+    (
+        "no_policies",
+        ErrorKind::IsADirectory,
+        "",
+        "cannot read standard input\n  is a directory\n",
+        2,
+    ),
+    ("any_any", ErrorKind::OutOfMemory, "memory\n", "", 5),
+    (
+        "any_false",
+        ErrorKind::ConnectionReset,
+        "refused: 5 OutOfRange\n",
+        "  a value is outside its range\n  policy \"p\": permissions[0]: 5 OutOfRange\n",
+        1,
+    ),
+    (
+        "locked",
+        ErrorKind::ConnectionReset,
+        "",
+        "cannot read locked\n  permission denied\n",
+        2,
+    ),
+];
+
 #[test]
 fn tells_of_an_input_that_fails(rt: HostRuntime) -> Result<(), Fail> {
-    let cases = [
-        ("any", ErrorKind::ConnectionReset, "", 2),
-        ("any", ErrorKind::OutOfMemory, "memory\n", 5),
-        (
-            "refused",
-            ErrorKind::ConnectionReset,
-            "refused: 5 OutOfRange\n",
-            1,
-        ),
-    ];
-    for (policy, kind, line, status) in cases {
+    for (policy, kind, line, told, status) in INPUTS {
         let words = words_of(rt.alloc(), &["judge", "--policy", policy])?;
         let mut out = Vec::new(rt.alloc());
         let mut errors = Vec::new(rt.alloc());
@@ -340,22 +426,8 @@ fn tells_of_an_input_that_fails(rt: HostRuntime) -> Result<(), Fail> {
         );
         assert_eq!(rt; ended, status);
         assert_eq!(rt; out.as_slice(), line.as_bytes());
-        assert_eq!(rt;
-            errors.starts_with(b"cannot read standard input\n"),
-            line.is_empty()
-        );
+        assert_eq!(rt; str::from_utf8(&errors).unwrap_or("no text"), told);
     }
-    Ok(())
-}
-
-#[test]
-fn shows_help_on_standard_output(rt: HostRuntime) -> Result<(), Fail> {
-    let words = words_of(rt.alloc(), &["judge", "--help"])?;
-    let mut out = Vec::new(rt.alloc());
-    let mut errors = Vec::new(rt.alloc());
-    let ended = run(rt.alloc(), &words, &Shelf, PLAIN, &mut out, &mut errors);
-    assert_eq!(rt; ended, 0);
-    assert!(rt; out.starts_with(b"Judges the request head") && errors.is_empty());
     Ok(())
 }
 
@@ -423,32 +495,4 @@ fn tells_the_cause_of_bad_facts(rt: HostRuntime) -> Result<(), Fail> {
     let told = cause_of_bad_facts(rt.alloc(), b"{")?;
     assert!(rt; told.as_str().starts_with("it is no JSON text: "));
     Ok(())
-}
-
-/// Files that are no filter message, and what they look like.
-const LIKENESSES: [(&[u8], Option<Likeness>); 11] = [
-    (b"", None),
-    (&ANY_ANY, None),
-    (b" {\"rules\": {}}", Some(Likeness::Json)),
-    (b"rules:\n  policies: {}\n", Some(Likeness::Yaml)),
-    (b"0a0f 120d\n", Some(Likeness::Hex)),
-    (b"Cg8SDQoBcBIICgIYARICGAE=\n", Some(Likeness::Base64)),
-    (&[0x1f, 0x8b, 0x08, 0x00], Some(Likeness::Gzip)),
-    (
-        b"\x0a\x16type.googleapis.com/ab\x12\x00",
-        Some(Likeness::Any),
-    ),
-    (
-        b"\x0a\x01f\x12\x18\x0a\x16type.googleapis.com/ab",
-        Some(Likeness::TypedExtensionConfig),
-    ),
-    (&[0x12, 0x0d, 0x0a, 0x01, 0x70], Some(Likeness::BareRules)),
-    (&[0x08, 0x01], Some(Likeness::BareRules)),
-];
-
-#[test]
-fn knows_other_files(rt: HostRuntime) {
-    for (bytes, expected) in LIKENESSES {
-        assert_eq!(rt; likeness_of(bytes), expected);
-    }
 }

@@ -124,56 +124,6 @@ fn refuses_mistakes(rt: HostRuntime) {
 }
 
 #[test]
-fn shows_help(rt: HostRuntime) -> Result<(), Fail> {
-    let Err(help) = read_words(rt.alloc(), &["rbacd", "judge", "--help"]) else {
-        return Err(Fail::from("a help text"));
-    };
-    assert_eq!(rt; help.kind(), ErrorKind::DisplayHelp);
-    assert_eq!(rt; help.exit_code(), 0);
-    let expected = "Judges the request head on standard input
-
-Usage: rbacd judge [OPTIONS] --policy <FILE>
-
-Options:
-      --policy <FILE>  The policy: one HTTP RBAC filter message
-      --facts <FILE>   What is known of the connection: one JSON object
-      --budget <N>     What the policy's conditions may cost, from 1 to 100000000 [default: 1000000]
-      --json           Print the outcome as one JSON object on a line
-      --explain        Tell which policies were tried, and why each matches or does not
-  -h, --help           Print help
-
-The line on standard output, and the status:
-";
-    assert!(rt; help.to_string(rt.alloc())?.as_str().starts_with(expected));
-    Ok(())
-}
-
-#[test]
-fn shows_help_of_check(rt: HostRuntime) -> Result<(), Fail> {
-    let Err(help) = read_words(rt.alloc(), &["rbacd", "check", "--help"]) else {
-        return Err(Fail::from("a help text"));
-    };
-    let expected = "Checks whether a policy file is admitted
-
-Usage: rbacd check [OPTIONS] --policy <FILE>
-
-Options:
-      --policy <FILE>  The policy: one HTTP RBAC filter message
-      --budget <N>     What the policy's conditions may cost, from 1 to 100000000 [default: 1000000]
-      --json           Print the outcome as one JSON object on a line
-  -h, --help           Print help
-
-The line on standard output, and the status:
-";
-    let text = help.to_string(rt.alloc())?;
-    assert!(rt; text.as_str().starts_with(expected));
-    assert!(rt;
-        text.as_str().ends_with("rbacd check --policy examples/any_any.bin --budget 1000\n")
-    );
-    Ok(())
-}
-
-#[test]
 fn tells_of_a_budget(rt: HostRuntime) -> Result<(), Fail> {
     let words = ["rbacd", "judge", "--policy", "f", "--budget", "0"];
     let Err(error) = read_words(rt.alloc(), &words) else {
@@ -196,20 +146,5 @@ fn shows_the_version(rt: HostRuntime) -> Result<(), Fail> {
     let expected =
         "rbacd 0.0 (not yet numbered), proved with rattle-kit-13b, logic dac8208d650f15bf\n";
     assert_eq!(rt; version.to_string(rt.alloc())?.as_str(), expected);
-    Ok(())
-}
-
-#[test]
-fn shows_help_without_words(rt: HostRuntime) -> Result<(), Fail> {
-    let Err(help) = read_words(rt.alloc(), &["rbacd"]) else {
-        return Err(Fail::from("a help text"));
-    };
-    assert_eq!(rt; help.exit_code(), 2);
-    let text = help.to_string(rt.alloc())?;
-    assert!(rt;
-        text.as_str()
-            .starts_with("Judges requests by a role-based access policy\n\nUsage: ")
-    );
-    assert!(rt; text.as_str().ends_with("--policy examples/any_any.bin\n"));
     Ok(())
 }

@@ -10,7 +10,7 @@ pub returns-clause-found : goal.returns-clause-found
 returns-clause-found c =
     let parts : List (List ℕ) = c.args.payload.now ∷ [] in
     let fs : List Wire = map field_view c.in_ok-fields.fields.items in
-    let message : IsMessage entry_keys parts fs = rw c.entry_keys.ensures at c.in_ok-fields.ensures.found in
+    let message : IsMessage entry_keys parts fs = c.in_ok-fields.ensures.found in
     MatchResult-weaker c.entry_of.result (rw c.deref.ensures at c.entry_of.ensures.found)
     (λ entry says. (fs, message, says)) (λ _ _. tt)
 
@@ -18,6 +18,6 @@ pub returns-clause-fault : goal.returns-clause-fault
 returns-clause-fault c =
     let parts : List (List ℕ) = c.args.payload.now ∷ [] in
     let fs : List Wire = map field_view c.in_ok-fields.fields.items in
-    let message : IsMessage entry_keys parts fs = rw c.entry_keys.ensures at c.in_ok-fields.ensures.found in
+    let message : IsMessage entry_keys parts fs = c.in_ok-fields.ensures.found in
     read_fault entry_keys EntryLacks EntryWrong parts fs message c.entry_of.result
     (rw c.deref.ensures at c.entry_of.ensures.fault)

@@ -11,6 +11,6 @@ pub returns-clause-fault : goal.returns-clause-fault
 returns-clause-fault c =
     let parts : List (List ℕ) = parts_view c.args.parts.now in
     let fs : List Wire = map field_view c.in_ok-fields.fields.items in
-    let message : IsMessage struct_keys parts fs = rw c.struct_keys.ensures at c.in_ok-fields.ensures.found in
+    let message : IsMessage struct_keys parts fs = c.in_ok-fields.ensures.found in
     read_fault struct_keys LacksNothing StructWrong parts fs message c.struct_of.result
     (rw c.deref.ensures at c.struct_of.ensures.fault)

@@ -7,7 +7,7 @@ use Rattle.proto_wire.specs.Maps.{Entry, int64, AreEntries, map_of, SomeEntryFau
 use Rattle.proto_wire.specs.Merge.{parts_view}
 use Rattle.proto_wire.specs.Values.{payloads}
 use Rattle.proto_wire.proofs.MapLaws.{entries_readable}
-use Rattle.cel_tree.specs.Message.{reference_map_field}
+use Rattle.cel_tree.specs.Message.{checked_field}
 use Rattle.cel_tree.specs.References.{IsReference, ReferenceFault}
 use Rattle.cel_tree.specs.View.{references_view}
 use Rattle.cel_tree.specs.steps.Named.{ids_view}
@@ -18,8 +18,8 @@ use Rattle.cel_tree.proofs.maps.references_of.Goals as goal
 pub returns-in_err-named-clause-fault : goal.returns-in_err-named-clause-fault
 returns-in_err-named-clause-fault c =
     let fs : List Wire = map field_view c.args.fields.now in
-    let parts : parts_view c.deref.result.now ≡ payloads reference_map_field fs = ap parts_view c.deref.ensures ∙ c.in_ok-entries.ensures in
-    exit_memory_or (SomeEntryFault int64 (payloads reference_map_field fs)) (MapFault int64 ReferenceFault (payloads reference_map_field fs))
+    let parts : parts_view c.deref.result.now ≡ payloads checked_field.reference_map fs = ap parts_view c.deref.ensures ∙ c.in_ok-entries.ensures in
+    exit_memory_or (SomeEntryFault int64 (payloads checked_field.reference_map fs)) (MapFault int64 ReferenceFault (payloads checked_field.reference_map fs))
     c.from_residual-in_err-named.result _ c.from_residual-in_err-named.ensures.1 (rw parts at c.in_err-named.ensures.fault)
     (λ e bad. in_entry bad)
 
@@ -33,20 +33,20 @@ read_references-requires c =
 pub returns-clause-found : goal.returns-clause-found
 returns-clause-found c =
     let fs : List Wire = map field_view c.args.fields.now in
-    let parts : parts_view c.deref.result.now ≡ payloads reference_map_field fs = ap parts_view c.deref.ensures ∙ c.in_ok-entries.ensures in
+    let parts : parts_view c.deref.result.now ≡ payloads checked_field.reference_map fs = ap parts_view c.deref.ensures ∙ c.in_ok-entries.ensures in
     let es : List (Entry int64) = c.in_ok-named.ensures.found.0 in
     let same : ids_view c.deref-2.result.now ≡ entries (map_of int64 es) = ap ids_view c.deref-2.ensures.value ∙ c.in_ok-named.ensures.found.2 in
-    let read : AreEntries int64 (payloads reference_map_field fs) es = rw parts at c.in_ok-named.ensures.found.1 in
+    let read : AreEntries int64 (payloads checked_field.reference_map fs) es = rw parts at c.in_ok-named.ensures.found.1 in
     MatchResult-weaker c.read_references.result c.read_references.ensures.found
     (λ m are. (es, read, all_values IsReference (map_of int64 es) (references_view m) (rw same at are))) (λ _ _. tt)
 
 pub returns-clause-fault : goal.returns-clause-fault
 returns-clause-fault c =
     let fs : List Wire = map field_view c.args.fields.now in
-    let parts : parts_view c.deref.result.now ≡ payloads reference_map_field fs = ap parts_view c.deref.ensures ∙ c.in_ok-entries.ensures in
+    let parts : parts_view c.deref.result.now ≡ payloads checked_field.reference_map fs = ap parts_view c.deref.ensures ∙ c.in_ok-entries.ensures in
     let es : List (Entry int64) = c.in_ok-named.ensures.found.0 in
     let same : ids_view c.deref-2.result.now ≡ entries (map_of int64 es) = ap ids_view c.deref-2.ensures.value ∙ c.in_ok-named.ensures.found.2 in
-    let read : AreEntries int64 (payloads reference_map_field fs) es = rw parts at c.in_ok-named.ensures.found.1 in
-    last_memory_or (SomeValueFault int64 ReferenceFault (entries (map_of int64 es))) (MapFault int64 ReferenceFault (payloads reference_map_field fs))
+    let read : AreEntries int64 (payloads checked_field.reference_map fs) es = rw parts at c.in_ok-named.ensures.found.1 in
+    last_memory_or (SomeValueFault int64 ReferenceFault (entries (map_of int64 es))) (MapFault int64 ReferenceFault (payloads checked_field.reference_map fs))
     c.read_references.result (rw same at c.read_references.ensures.fault)
-    (λ e bad. in_value es (entries_readable int64 (payloads reference_map_field fs) es read) bad)
+    (λ e bad. in_value es (entries_readable int64 (payloads checked_field.reference_map fs) es read) bad)

@@ -3,7 +3,7 @@ use Rattle.proto_wire.specs.Fields.{Wire, field_view}
 use Rattle.proto_wire.specs.Maps.{int64, MapFault}
 use Rattle.proto_wire.specs.Values.{payloads}
 use Rattle.proto_wire.specs.declared.refusal.Refusal.{Refusal}
-use Rattle.cel_tree.specs.Message.{tree_depth, most_nodes, expr_field, type_map_field, reference_map_field, CheckedLacks, CheckedWrong, in_tree, in_nodes, in_types, in_refs}
+use Rattle.cel_tree.specs.Message.{tree_depth, most_nodes, checked_field, CheckedLacks, CheckedWrong, in_tree, in_nodes, in_types, in_refs}
 use Rattle.cel_tree.specs.Reading.{ValuesFault}
 use Rattle.cel_tree.specs.References.{ReferenceFault}
 use Rattle.cel_tree.specs.TypeEntries.{TypeEntryFault}
@@ -16,7 +16,7 @@ returns-in_err-tree-clause-fault c =
     let fs : List Wire = map field_view c.args.fields.now in
     let G : Refusal → Type 0 = ValuesFault CheckedLacks CheckedWrong fs in
     let there = c.in_ok-require_part.ensures.found in
-    exit_memory_or (TreeFails tree_depth most_nodes (payloads expr_field fs)) G
+    exit_memory_or (TreeFails tree_depth most_nodes (payloads checked_field.expr fs)) G
     c.from_residual-in_err-tree.result _ c.from_residual-in_err-tree.ensures.1 c.in_err-tree.ensures.fault
     (λ e bad. elim bad [
       | inl own ↦ inr (in_tree there own)
@@ -26,7 +26,7 @@ returns-in_err-tree-clause-fault c =
 pub returns-in_err-types-clause-fault : goal.returns-in_err-types-clause-fault
 returns-in_err-types-clause-fault c =
     let fs : List Wire = map field_view c.args.fields.now in
-    exit_memory_or (MapFault int64 (TypeEntryFault tree_depth) (payloads type_map_field fs))
+    exit_memory_or (MapFault int64 (TypeEntryFault tree_depth) (payloads checked_field.type_map fs))
     (ValuesFault CheckedLacks CheckedWrong fs)
     c.from_residual-in_err-types.result _ c.from_residual-in_err-types.ensures.1 c.in_err-types.ensures.fault
     (λ e bad. inr (in_types bad))
@@ -34,7 +34,7 @@ returns-in_err-types-clause-fault c =
 pub returns-in_err-refs-clause-fault : goal.returns-in_err-refs-clause-fault
 returns-in_err-refs-clause-fault c =
     let fs : List Wire = map field_view c.args.fields.now in
-    exit_memory_or (MapFault int64 ReferenceFault (payloads reference_map_field fs))
+    exit_memory_or (MapFault int64 ReferenceFault (payloads checked_field.reference_map fs))
     (ValuesFault CheckedLacks CheckedWrong fs)
     c.from_residual-in_err-refs.result _ c.from_residual-in_err-refs.ensures.1 c.in_err-refs.ensures.fault
     (λ e bad. inr (in_refs bad))

@@ -12,7 +12,7 @@ pub returns-in_err-node-clause-fault : goal.returns-in_err-node-clause-fault
 returns-in_err-node-clause-fault c =
     let fs : List Wire = map field_view c.args.fields.now in
     let last = c.in_ok-last.last in
-    let run : map field_view c.deref.result.now ≡ member_run kind_keys fs = rw c.deref.ensures (rw c.kind_keys.ensures at c.in_ok-run.ensures) in
+    let run : map field_view c.deref.result.now ≡ member_run kind_keys fs = rw c.deref.ensures c.in_ok-run.ensures in
     let parts : parts_view c.deref-2.result.now ≡ payloads last.number (member_run kind_keys fs) = rw c.deref-2.ensures (rw run at c.in_ok-parts.ensures) in
     exit_memory_or (KindFault last.kind (payloads last.number (member_run kind_keys fs)))
     (ValuesFault (LacksMember node_kinds) (OneofFault node_kinds IsUnsupported MemberFails) fs)

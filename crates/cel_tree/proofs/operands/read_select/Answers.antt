@@ -10,6 +10,6 @@ pub returns-clause-fault : goal.returns-clause-fault
 returns-clause-fault c =
     let parts : List (List ℕ) = parts_view c.args.parts.now in
     let fs : List Wire = map field_view c.in_ok-fields.fields.items in
-    let message : IsMessage select_keys parts fs = rw c.select_keys.ensures at c.in_ok-fields.ensures.found in
+    let message : IsMessage select_keys parts fs = c.in_ok-fields.ensures.found in
     read_fault select_keys SelectLacks SelectWrong parts fs message c.select_of.result
     (rw c.deref.ensures at c.select_of.ensures.fault)

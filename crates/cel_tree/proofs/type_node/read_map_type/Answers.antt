@@ -11,6 +11,6 @@ pub returns-clause-fault : goal.returns-clause-fault
 returns-clause-fault c =
     let parts : List (List ℕ) = parts_view c.args.parts.now in
     let fs : List Wire = map field_view c.in_ok-fields.fields.items in
-    let message : IsMessage map_type_keys parts fs = rw c.map_type_keys.ensures at c.in_ok-fields.ensures.found in
+    let message : IsMessage map_type_keys parts fs = c.in_ok-fields.ensures.found in
     read_fault map_type_keys LacksNothing MapTypeWrong parts fs message c.map_type_of.result
     (rw c.deref.ensures at c.map_type_of.ensures.fault)

@@ -15,14 +15,13 @@ returns-in_err-fields-clause-fault c =
     let parts : List (List ℕ) = parts_view c.args.parts.now in
     exit_memory_or (MessageFault authenticated_keys parts) (AuthenticatedFault parts)
     c.from_residual.result _ c.from_residual.ensures.1
-    (rw c.authenticated_keys.ensures at c.in_err-fields.ensures.fault) (λ e bad. authenticated_fields bad)
+    c.in_err-fields.ensures.fault (λ e bad. authenticated_fields bad)
 
 pub returns-in_err-read_text_matcher-clause-fault : goal.returns-in_err-read_text_matcher-clause-fault
 returns-in_err-read_text_matcher-clause-fault c =
     let parts : List (List ℕ) = parts_view c.args.parts.now in
     let fs : List Wire = map field_view c.in_ok-fields.fields.items in
-    let message : IsMessage authenticated_keys parts fs =
-    rw c.authenticated_keys.ensures at c.in_ok-fields.ensures.found in
+    let message : IsMessage authenticated_keys parts fs = c.in_ok-fields.ensures.found in
     let given : parts_view c.deref-2.result.now ≡ payloads principal_name_field fs =
     rw c.deref-2.ensures (rw c.deref.ensures at c.in_ok-name.ensures) in
     let more : 0 < length c.in_ok-name.name.items = grind (arith, common_steps) in

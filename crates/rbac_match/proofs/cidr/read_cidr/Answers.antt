@@ -24,13 +24,13 @@ returns-in_err-address-clause-fault c =
     c.from_residual-in_err-address.ensures.1
     (in_address fs c.in_ok-fields.ensures.found.0 (rw c.deref.ensures at c.in_err-address.ensures.fault))
 
-pub returns-in_err-length-clause-fault : goal.returns-in_err-length-clause-fault
-returns-in_err-length-clause-fault c =
+pub returns-in_err-prefix_len-clause-fault : goal.returns-in_err-prefix_len-clause-fault
+returns-in_err-prefix_len-clause-fault c =
     let parts : List (List ℕ) = parts_view c.args.parts.now in
     let fs : List Wire = map field_view c.in_ok-fields.fields.items in
     exit_memory_or (MessageFault uint32_keys (payloads prefix_len_field fs)) (CidrFault parts)
-    c.from_residual-in_err-length.result _ c.from_residual-in_err-length.ensures.1
-    (rw (c.deref-3.ensures, c.in_ok-size.ensures, c.deref-2.ensures) at c.in_err-length.ensures.fault)
+    c.from_residual-in_err-prefix_len.result _ c.from_residual-in_err-prefix_len.ensures.1
+    (rw (c.deref-3.ensures, c.in_ok-payloads.ensures, c.deref-2.ensures) at c.in_err-prefix_len.ensures.fault)
     (λ e bad. in_length fs c.in_ok-fields.ensures.found.0 bad)
 
 pub returns-clause-fault : goal.returns-clause-fault
@@ -38,8 +38,8 @@ returns-clause-fault c =
     let parts : List (List ℕ) = parts_view c.args.parts.now in
     let fs : List Wire = map field_view c.in_ok-fields.fields.items in
     let spelled = rw c.deref.ensures at c.in_ok-address.ensures.found.1 in
-    let length = rw (c.deref-3.ensures, c.in_ok-size.ensures, c.deref-2.ensures) at c.in_ok-length.ensures.found in
-    last_fault (λ e. (width_of c.in_ok-address.address < c.in_ok-length.length) × (e ≡ OutOfRange))
+    let length = rw (c.deref-3.ensures, c.in_ok-payloads.ensures, c.deref-2.ensures) at c.in_ok-prefix_len.ensures.found in
+    last_fault (λ e. (width_of c.in_ok-address.address < c.in_ok-prefix_len.prefix_len) × (e ≡ OutOfRange))
     (CidrFault parts) c.range_of.result c.range_of.ensures.fault
     (λ e bad. too_long fs length.0 c.in_ok-address.address c.in_ok-fields.ensures.found.0 spelled length.1.0
     (rw (← length.2) bad.0) bad.1)

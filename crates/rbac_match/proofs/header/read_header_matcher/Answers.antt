@@ -14,14 +14,14 @@ pub returns-in_err-fields-clause-fault : goal.returns-in_err-fields-clause-fault
 returns-in_err-fields-clause-fault c =
     let parts : List (List ℕ) = parts_view c.args.parts.now in
     exit_memory_or (MessageFault header_keys parts) (HeaderFault parts) c.from_residual.result _
-    c.from_residual.ensures.1 (rw c.header_keys.ensures at c.in_err-fields.ensures.fault)
+    c.from_residual.ensures.1 c.in_err-fields.ensures.fault
     (λ e bad. header_fields bad)
 
 pub returns-in_err-specifier-clause-fault : goal.returns-in_err-specifier-clause-fault
 returns-in_err-specifier-clause-fault c =
     let parts : List (List ℕ) = parts_view c.args.parts.now in
     let fs : List Wire = map field_view c.in_ok-fields.fields.items in
-    let message : IsMessage header_keys parts fs = rw c.header_keys.ensures at c.in_ok-fields.ensures.found in
+    let message : IsMessage header_keys parts fs = c.in_ok-fields.ensures.found in
     exit_memory_or (λ e. (n : ℕ) × (last_number (keys_of specifiers) fs ≡ Some n)
     × HeaderMemberFault (member_in specifiers n) n (member_run (keys_of specifiers) fs) e) (HeaderFault parts)
     c.from_residual-in_err-specifier.result _ c.from_residual-in_err-specifier.ensures.1
@@ -32,7 +32,7 @@ pub returns-in_err-name-clause-fault : goal.returns-in_err-name-clause-fault
 returns-in_err-name-clause-fault c =
     let parts : List (List ℕ) = parts_view c.args.parts.now in
     let fs : List Wire = map field_view c.in_ok-fields.fields.items in
-    let message : IsMessage header_keys parts fs = rw c.header_keys.ensures at c.in_ok-fields.ensures.found in
+    let message : IsMessage header_keys parts fs = c.in_ok-fields.ensures.found in
     let says : SaysSpecifier fs c.in_ok-specifier.specifier =
     rw c.deref.ensures at c.in_ok-specifier.ensures.found in
     exit_fault (HeaderFault parts) c.from_residual-in_err-name.result _
@@ -44,7 +44,7 @@ pub returns-clause-found : goal.returns-clause-found
 returns-clause-found c =
     let parts : List (List ℕ) = parts_view c.args.parts.now in
     let fs : List Wire = map field_view c.in_ok-fields.fields.items in
-    let message : IsMessage header_keys parts fs = rw c.header_keys.ensures at c.in_ok-fields.ensures.found in
+    let message : IsMessage header_keys parts fs = c.in_ok-fields.ensures.found in
     let name = rw c.deref-2.ensures at c.in_ok-name.ensures.found in
     rw (c.in_ok-new.ensures, name.0) (record {
       fields = fs;

@@ -10,9 +10,9 @@ pub returns-clause-found : goal.returns-clause-found
 returns-clause-found c =
     let fs : List Wire = map field_view c.args.fields.now in
     let last : last_number (keys_of specifiers) fs ≡ Some c.in-Some.number =
-    sym (rw c.specifiers.ensures at c.in-Some.ensures) in
+    sym c.in-Some.ensures in
     let run : map field_view c.deref.result.now ≡ member_run (keys_of specifiers) fs =
-    rw c.deref.ensures (rw c.specifiers-2.ensures at c.in_ok-run.ensures) in
+    rw c.deref.ensures c.in_ok-run.ensures in
     MatchResult-weaker c.read_header_member.result c.read_header_member.ensures.found
     (λ s says. says_member c.in-Some.number c.in_ok-member.member last c.in_ok-member.ensures.found (rw run at says))
     (λ _ _. tt)

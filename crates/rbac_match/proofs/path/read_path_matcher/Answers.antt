@@ -12,14 +12,14 @@ pub returns-in_err-fields-clause-fault : goal.returns-in_err-fields-clause-fault
 returns-in_err-fields-clause-fault c =
     let parts : List (List ℕ) = parts_view c.args.parts.now in
     exit_memory_or (MessageFault path_keys parts) (PathFault parts) c.from_residual.result _
-    c.from_residual.ensures.1 (rw c.path_keys.ensures at c.in_err-fields.ensures.fault)
+    c.from_residual.ensures.1 c.in_err-fields.ensures.fault
     (λ e bad. path_fields bad)
 
 pub returns-in_err-require_payload-clause-fault : goal.returns-in_err-require_payload-clause-fault
 returns-in_err-require_payload-clause-fault c =
     let parts : List (List ℕ) = parts_view c.args.parts.now in
     let fs : List Wire = map field_view c.in_ok-fields.fields.items in
-    let message : IsMessage path_keys parts fs = rw c.path_keys.ensures at c.in_ok-fields.ensures.found in
+    let message : IsMessage path_keys parts fs = c.in_ok-fields.ensures.found in
     let fault = rw c.deref.ensures at c.in_err-require_payload.ensures.fault in
     exit_fault (PathFault parts) c.from_residual-in_err-require_payload.result _
     c.from_residual-in_err-require_payload.ensures.1 (no_path fs message fault.0 fault.1)
@@ -28,7 +28,7 @@ pub returns-clause-fault : goal.returns-clause-fault
 returns-clause-fault c =
     let parts : List (List ℕ) = parts_view c.args.parts.now in
     let fs : List Wire = map field_view c.in_ok-fields.fields.items in
-    let message : IsMessage path_keys parts fs = rw c.path_keys.ensures at c.in_ok-fields.ensures.found in
+    let message : IsMessage path_keys parts fs = c.in_ok-fields.ensures.found in
     let some = rw c.deref.ensures at c.in_ok-require_payload.ensures.found in
     last_memory_or (TextFault (payloads path_field fs)) (PathFault parts) c.read_text_matcher.result
     (rw (c.deref-3.ensures, c.in_ok-path.ensures, c.deref-2.ensures) at c.read_text_matcher.ensures.fault)

@@ -15,14 +15,14 @@ pub returns-in_err-fields-clause-fault : goal.returns-in_err-fields-clause-fault
 returns-in_err-fields-clause-fault c =
     let parts : List (List ℕ) = parts_view c.args.parts.now in
     exit_memory_or (MessageFault range_keys parts) (PortRangeFault parts) c.from_residual.result _
-    c.from_residual.ensures.1 (rw c.range_keys.ensures at c.in_err-fields.ensures.fault)
+    c.from_residual.ensures.1 c.in_err-fields.ensures.fault
     (λ e bad. range_fields bad)
 
 pub returns-clause-fault : goal.returns-clause-fault
 returns-clause-fault c =
     let parts : List (List ℕ) = parts_view c.args.parts.now in
     let fs : List Wire = map field_view c.in_ok-fields.fields.items in
-    let message : IsMessage range_keys parts fs = rw c.range_keys.ensures at c.in_ok-fields.ensures.found in
+    let message : IsMessage range_keys parts fs = c.in_ok-fields.ensures.found in
     last_fault (λ e. AreNoBounds fs × (e ≡ OutOfRange)) (PortRangeFault parts) c.port_range.result
     (rw c.deref.ensures at c.port_range.ensures.fault)
     (λ e bad. no_bounds fs message.0 (λ span are. bounds_disjoint fs span are bad.0) bad.1)

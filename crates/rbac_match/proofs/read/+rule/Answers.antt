@@ -86,7 +86,7 @@ read_set-returns-in_err-fields-clause-fault t c =
     let parts : List (List ℕ) = parts_view c.args.parts.now in
     exit_memory_or (MessageFault set_keys parts) (SetFault (RuleFault c.args.side c.args.depth) parts)
     c.from_residual.result _ c.from_residual.ensures.1
-    (rw c.set_keys.ensures at c.in_err-fields.ensures.fault) (λ e bad. set_fields bad)
+    c.in_err-fields.ensures.fault (λ e bad. set_fields bad)
 
 pub read_rule-last_member-requires : goal.read_rule-last_member-requires
 read_rule-last_member-requires t c = rw c.deref.ensures (rw c.rule_keys.ensures at c.in_ok-fields.ensures.found.1)
@@ -95,7 +95,7 @@ pub read_set-returns-in_err-require_payload-clause-fault : goal.read_set-returns
 read_set-returns-in_err-require_payload-clause-fault t c =
     let parts : List (List ℕ) = parts_view c.args.parts.now in
     let fs : List Wire = map field_view c.in_ok-fields.fields.items in
-    let message : IsMessage set_keys parts fs = rw c.set_keys.ensures at c.in_ok-fields.ensures.found in
+    let message : IsMessage set_keys parts fs = c.in_ok-fields.ensures.found in
     let fault = rw c.deref.ensures at c.in_err-require_payload.ensures.fault in
     exit_fault (SetFault (RuleFault c.args.side c.args.depth) parts)
     c.from_residual-in_err-require_payload.result _ c.from_residual-in_err-require_payload.ensures.1
@@ -105,7 +105,7 @@ pub read_set-returns-clause-found : goal.read_set-returns-clause-found
 read_set-returns-clause-found t c =
     let parts : List (List ℕ) = parts_view c.args.parts.now in
     let fs : List Wire = map field_view c.in_ok-fields.fields.items in
-    let message : IsMessage set_keys parts fs = rw c.set_keys.ensures at c.in_ok-fields.ensures.found in
+    let message : IsMessage set_keys parts fs = c.in_ok-fields.ensures.found in
     let some : payloads rules_field fs ≢ [] = rw c.deref.ensures at c.in_ok-require_payload.ensures.found in
     MatchResult-weaker c.read_rules.result c.read_rules.ensures.found
     (λ rules h. (fs, message, some, rw c.deref-2.ensures at h)) (λ _ _. tt)
@@ -114,7 +114,7 @@ pub read_set-returns-clause-fault : goal.read_set-returns-clause-fault
 read_set-returns-clause-fault t c =
     let parts : List (List ℕ) = parts_view c.args.parts.now in
     let fs : List Wire = map field_view c.in_ok-fields.fields.items in
-    let message : IsMessage set_keys parts fs = rw c.set_keys.ensures at c.in_ok-fields.ensures.found in
+    let message : IsMessage set_keys parts fs = c.in_ok-fields.ensures.found in
     last_memory_or (SomeRuleFault c.args.side c.args.depth (payloads rules_field fs))
     (SetFault (RuleFault c.args.side c.args.depth) parts) c.read_rules.result
     (rw c.deref-2.ensures at c.read_rules.ensures.fault)

@@ -11,14 +11,14 @@ pub returns-in_err-fields-clause-fault : goal.returns-in_err-fields-clause-fault
 returns-in_err-fields-clause-fault c =
     let parts : List (List ℕ) = parts_view c.args.parts.now in
     exit_memory_or (MessageFault string_keys parts) (TextFault parts) c.from_residual.result _
-    c.from_residual.ensures.1 (rw c.string_keys.ensures at c.in_err-fields.ensures.fault)
+    c.from_residual.ensures.1 c.in_err-fields.ensures.fault
     (λ e bad. text_fields bad)
 
 pub returns-in_err-pattern-clause-fault : goal.returns-in_err-pattern-clause-fault
 returns-in_err-pattern-clause-fault c =
     let parts : List (List ℕ) = parts_view c.args.parts.now in
     let fs : List Wire = map field_view c.in_ok-fields.fields.items in
-    let message : IsMessage string_keys parts fs = rw c.string_keys.ensures at c.in_ok-fields.ensures.found in
+    let message : IsMessage string_keys parts fs = c.in_ok-fields.ensures.found in
     exit_fault (TextFault parts) c.from_residual-in_err-pattern.result _
     c.from_residual-in_err-pattern.ensures.1
     (pattern_fault parts fs message _ (rw c.deref.ensures at c.in_err-pattern.ensures.fault))
@@ -27,7 +27,7 @@ pub returns-clause-found : goal.returns-clause-found
 returns-clause-found c =
     let parts : List (List ℕ) = parts_view c.args.parts.now in
     let fs : List Wire = map field_view c.in_ok-fields.fields.items in
-    let message : IsMessage string_keys parts fs = rw c.string_keys.ensures at c.in_ok-fields.ensures.found in
+    let message : IsMessage string_keys parts fs = c.in_ok-fields.ensures.found in
     let found = rw (c.deref.ensures, ← c.in_ok-pattern.pattern-is, ← c.in_ok-pattern.sought-is) at c.in_ok-pattern.ensures.found in
     rw c.in_ok-new.ensures
     (text_found parts fs message _ found (rw c.deref-2.ensures at c.bool_at-ignore_case.ensures))

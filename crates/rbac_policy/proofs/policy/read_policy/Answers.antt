@@ -24,7 +24,7 @@ Fails name parts limits left e = PolicyFault parts e ⊎ ConditionsFault ((name,
 pub returns-in_err-fields-clause-fault : goal.returns-in_err-fields-clause-fault
 returns-in_err-fields-clause-fault c =
     exit_memory_or (MessageFault policy_keys (parts_view c.args.parts.now)) (Fails c.args.name.now (parts_view c.args.parts.now) c.args.limits.now c.args.left)
-    c.from_residual.result _ c.from_residual.ensures.1 (rw c.policy_keys.ensures at c.in_err-fields.ensures.fault)
+    c.from_residual.result _ c.from_residual.ensures.1 c.in_err-fields.ensures.fault
     (λ e bad. inl (policy_fields bad))
 
 pub returns-in_err-refuse_unchecked-clause-fault : goal.returns-in_err-refuse_unchecked-clause-fault
@@ -42,7 +42,7 @@ pub returns-in_err-require_sides-clause-fault : goal.returns-in_err-require_side
 returns-in_err-require_sides-clause-fault c =
     let F = Fails c.args.name.now (parts_view c.args.parts.now) c.args.limits.now c.args.left in
     let fs : List Wire = map field_view c.in_ok-fields.fields.items in
-    let message : IsMessage policy_keys (parts_view c.args.parts.now) fs = rw c.policy_keys.ensures at c.in_ok-fields.ensures.found in
+    let message : IsMessage policy_keys (parts_view c.args.parts.now) fs = c.in_ok-fields.ensures.found in
     let bad = rw c.deref-2.ensures at c.in_err-require_sides.ensures.fault in
     exit_memory_or F F c.from_residual-in_err-require_sides.result _ c.from_residual-in_err-require_sides.ensures.1
     (inr (inl (lacks_side fs message bad.0 bad.1))) (λ e fault. fault)
@@ -84,7 +84,7 @@ returns-clause-found c =
       },
       record {
         fs = fs;
-        message = rw c.policy_keys.ensures at c.in_ok-fields.ensures.found;
+        message = c.in_ok-fields.ensures.found;
         unchecked = rw c.deref.ensures at c.in_ok-refuse_unchecked.ensures.found;
         condition = has.1;
         sides = rw c.deref-2.ensures at c.in_ok-require_sides.ensures.found;
