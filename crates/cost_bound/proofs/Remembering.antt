@@ -4,7 +4,7 @@ use Rattle.std.proofs.lemmas.Bool.{cases_lt}
 use Rattle.std.proofs.lemmas.List.{get_or_read}
 use Rattle.attributes.specs.Limits.{LimitsValue}
 use Rattle.cel_types.specs.Elaborated.{TypedTree, typed_constant, typed_local, typed_attribute, typed_field, typed_has, typed_call, typed_list, typed_map, typed_loop, TypedTrees, no_typed, typed}
-use Rattle.cel_types.specs.View.{expr_view, exprs_view}
+use Rattle.cel_types.specs.View.{TypedParts, expr_view, exprs_view, loop_of}
 use Rattle.cel_types.specs.declared.typed.TypedExpr.{TypedExpr}
 use Rattle.cel_value.specs.Types.{ValueType}
 use Rattle.cost_bound.specs.Costs.{cost_of, size_of}
@@ -94,17 +94,18 @@ each_holds m ms l ss es at h = each_from m l ss 0 es (λ i x j within is e.
     rw part (h i x within is))
 
 -- the parts so far, and one more
-pub more_parts : (es : List TypedExpr) (n : ℕ) (y : TypedExpr) (old new : MemoTrees) (m : MemoTree)
-    (l : LimitsValue) (ss : List Size) → y ≡ get_or es n y → n < length es
-    → ((i : ℕ) → i < n → memo_at i new ≡ memo_at i old) → memo_at n new ≡ m → Holds m (expr_view y) l ss
+pub more-parts : (es : List TypedExpr) (n p : ℕ) (y : TypedExpr) (old new : MemoTrees) (m : MemoTree)
+    (l : LimitsValue) (ss : List Size) → p ≡ n → y ≡ get_or es n y → n < length es
+    → ((i : ℕ) → i < p → memo_at i new ≡ memo_at i old) → memo_at p new ≡ m → Holds m (expr_view y) l ss
     → ((i : ℕ) (x : TypedExpr) → i < n → x ≡ get_or es i x → Holds (memo_at i old) (expr_view x) l ss)
     → (i : ℕ) (x : TypedExpr) → i < n + 1 → x ≡ get_or es i x → Holds (memo_at i new) (expr_view x) l ss
-more_parts es n y old new m l ss there within before at one all i x less is = elim (cases_lt i n) [
-  | inl lower ↦ rw (before i lower) (all i x lower is)
+more-parts es n p y old new m l ss place there within before at one all i x less is = elim (cases_lt i n) [
+  | inl lower ↦ rw (before i (omega arith)) (all i x lower is)
   | inr high ↦
       let same : i ≡ n = omega arith in
+      let here : i ≡ p = omega arith in
       let found : x ≡ y = get_or_read es i x (omega arith) is y ∙ ap (λ k. get_or es k y) same ∙ sym there in
-      let part : memo_at i new ≡ m = ap (λ k. memo_at k new) same ∙ at in
+      let part : memo_at i new ≡ m = ap (λ k. memo_at k new) here ∙ at in
       rw (part, found) one
 ]
 
@@ -166,3 +167,36 @@ pub remembered_turned : (m : MemoTree) (e : TypedTree) (l : LimitsValue) (n k : 
 remembered_turned m e l n k ss others inside any more t u is h counted turns =
     h k (u ∷ t ∷ others) counted
     (rw is (turns_with k more u (any ∷ ss) (t ∷ others) (turns_with k any t ss others turns)))
+
+-- what is remembered of a loop that a turn changes, by what is remembered of its parts
+pub loop-remembered : (p : TypedParts) (t : ValueType) (l : LimitsValue) (n k : ℕ)
+    (ss others outer inner : List Size) (any : Size) (m r i c s e : MemoTree)
+    (one two three four five : MemoTrees)
+    → ((j : ℕ) → part_at j m ≡ memo_at j five) → ((size : Size) (cost : ℕ) → Says m size cost)
+    → memo_at 0 one ≡ r
+    → ((j : ℕ) → j < 1 → memo_at j two ≡ memo_at j one) → memo_at 1 two ≡ i
+    → ((j : ℕ) → j < 2 → memo_at j three ≡ memo_at j two) → memo_at 2 three ≡ c
+    → ((j : ℕ) → j < 3 → memo_at j four ≡ memo_at j three) → memo_at 3 four ≡ s
+    → ((j : ℕ) → j < 4 → memo_at j five ≡ memo_at j four) → memo_at 4 five ≡ e
+    → outer ≡ any ∷ ss → inner ≡ any ∷ outer
+    → Remembers r p.range l n ss → Remembers i p.init l n ss → Remembers c p.condition l n inner
+    → Remembers s p.step l n inner → Remembers e p.result l n outer
+    → n ≡ capped k → InTurns k ss others → Holds m (loop_of t p) l others
+loop-remembered p t l n k ss others outer inner any m r i c s e one two three four five at silent a0 b1 a1 b2 a2 b3 a3
+    b4 a4 isOuter isInner hr hi hc hs he counted turns =
+    let at0 : part_at 0 m ≡ r = at 0 ∙ b4 0 (omega arith) ∙ b3 0 (omega arith) ∙ b2 0 (omega arith)
+    ∙ b1 0 (omega arith) ∙ a0 in
+    let at1 : part_at 1 m ≡ i = at 1 ∙ b4 1 (omega arith) ∙ b3 1 (omega arith) ∙ b2 1 (omega arith) ∙ a1 in
+    let at2 : part_at 2 m ≡ c = at 2 ∙ b4 2 (omega arith) ∙ b3 2 (omega arith) ∙ a2 in
+    let at3 : part_at 3 m ≡ s = at 3 ∙ b4 3 (omega arith) ∙ a3 in
+    let at4 : part_at 4 m ≡ e = at 4 ∙ a4 in
+    let isInner' : inner ≡ any ∷ any ∷ ss = isInner ∙ ap (λ x. any ∷ x) isOuter in (
+      silent _ _,
+      (
+        rw at0 (hr k others counted turns),
+        rw at1 (hi k others counted turns),
+        λ u v. rw at2 (remembered-turned c p.condition l n k ss others inner any any u v isInner' hc counted turns),
+        λ u v. rw at3 (remembered-turned s p.step l n k ss others inner any any u v isInner' hs counted turns),
+        λ u. rw at4 (remembered-inside e p.result l n k ss others outer any u isOuter he counted turns),
+      ),
+    )

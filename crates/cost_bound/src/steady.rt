@@ -62,7 +62,10 @@ fn is_settled(outside: u8, around: u64, depth: u64) -> bool
         → IsSettled k d outside }
 {
     let local = outside as u64;
-    local < around || local - around == 1 || depth <= local
+    if local < around {
+        return true;
+    }
+    local - around == 1 || depth <= local
 }
 
 /// Whether a range has an item whatever the sizes of the locals are.
