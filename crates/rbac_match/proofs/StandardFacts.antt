@@ -9,7 +9,7 @@ use Rattle.attributes.specs.Headers.{all_entries}
 use Rattle.attributes.specs.Request.{RequestValue, header_of, request_of}
 use Rattle.attributes.specs.declared.address.Ip.{Ip}
 use Rattle.attributes.specs.declared.address.Ip.TheVariants.{V4, V6}
-use Rattle.attributes.proofs.Joining.{AreJoined-headers_of}
+use Rattle.attributes.proofs.Joining.{are_joined_headers_of}
 use Rattle.proto_wire.specs.Fields.{varint, len, Wire, Fields}
 use Rattle.proto_wire.proofs.StandardFacts.{field, len_starts, merged, varint_starts}
 use Rattle.rbac_match.specs.Cidr.{IsCidr}
@@ -204,7 +204,7 @@ by uri dns = request (codes "GET") (codes "/") (facts None 443 uri dns)
 method_is : (method target : List ℕ) (known : Facts)
     → header_of (request method target known) (codes ":method") ≡ Some method
 method_is method target known =
-    AreJoined-headers_of (all_entries method target known.scheme []) (codes ":method")
+    are_joined_headers_of (all_entries method target known.scheme []) (codes ":method")
 
 -- 10.0.0.0/8
 abbrev ten : Range

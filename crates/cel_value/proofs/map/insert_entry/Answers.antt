@@ -5,8 +5,8 @@ use Rattle.cel_value.specs.View.{entries_view, key_view, value_view}
 use Rattle.cel_value.proofs.MapSearching.{entry_found, entry_absent, entry_placed}
 use Rattle.cel_value.proofs.map.insert_entry.Goals as goal
 
-pub returns-in-Ok : goal.returns-in-Ok
-returns-in-Ok c =
+pub returns-in-Ok-clause-found : goal.returns-in-Ok-clause-found
+returns-in-Ok-clause-found c =
     let up : IsAscending (entries_view c.deref.result.now) = rw c.deref.ensures.value c.requires in
     let found = entry_found (key_view c.args.key) (λ a r f' k. search rules) c.deref.result.now _
     (c.args.key, c.args.value) up c.in-Ok.ensures.bound c.in-Ok.ensures.position in (
@@ -16,8 +16,8 @@ returns-in-Ok c =
       refl,
     )
 
-pub returns-in_ok-insert-in-Err : goal.returns-in_ok-insert-in-Err
-returns-in_ok-insert-in-Err c =
+pub returns-in_ok-insert-in-Err-clause-found : goal.returns-in_ok-insert-in-Err-clause-found
+returns-in_ok-insert-in-Err-clause-found c =
     let up : IsAscending (entries_view c.deref.result.now) = rw c.deref.ensures.value c.requires in
     let absent = entry_absent (key_view c.args.key) (λ a r f' k. search rules) c.deref.result.now _
     up c.in-Err.ensures.position in
