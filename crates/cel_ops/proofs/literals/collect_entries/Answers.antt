@@ -20,7 +20,7 @@ returns-then-not-branch c =
     ≡ item (value_view c.in-Some.key) (item (value_view c.in-Some-next.value) rest) =
     ap values_view (c.in-Some.ensures.items
     ∙ ap (λ xs. c.in-Some.key ∷ xs) c.in-Some-next.ensures.items) in
-    let told = rw c.if-not-branch.true at c.in_ok-insert_entry.ensures in
+    let told = rw c.if-not-branch.true at c.in_ok-insert_entry.ensures.found in
     let kinds = still_some (insert_all made) (insert_all no_entries) _ _ c.loop-key.invariant.same
     c.requires.kinds in
     sym (pair_repeated made (value_view c.in-Some.key) (value_view c.in-Some-next.value) rest
@@ -38,7 +38,7 @@ loop-key-preserved c =
     ≡ item (value_view c.in-Some.key) (item (value_view c.in-Some-next.value) rest) =
     ap values_view (c.in-Some.ensures.items
     ∙ ap (λ xs. c.in-Some.key ∷ xs) c.in-Some-next.ensures.items) in
-    let told = rw c.if-not-branch.false at c.in_ok-insert_entry.ensures in
+    let told = rw c.if-not-branch.false at c.in_ok-insert_entry.ensures.found in
     record {
       rising = rw told.1 (put_ascending key
           (value_view c.in-Some-next.value) made told.0 c.loop-key.invariant.rising);
