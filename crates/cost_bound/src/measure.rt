@@ -92,6 +92,7 @@ pub(crate) fn measure(
     ensures fault { IfErr result (MemoryOr
         (CostsMore (cost_of (expr_view expr.now) limits.now (scope_view scope.now)) left)) }
 {
+    let nothing = Memo::Unknown;
     if let Some(known) = recall(memo, left)? {
         return Ok(known);
     }
@@ -118,14 +119,30 @@ pub(crate) fn measure(
             })
         }
         TypedExpr::Field { map, name, .. } => {
-            let found = measure_field(alloc, map, limits, scope, memo.part(0), name, left)?;
+            let found = measure_field(
+                alloc,
+                map,
+                limits,
+                scope,
+                memo.part(0, &nothing),
+                name,
+                left,
+            )?;
             Ok(Measured {
                 size: found.size.value()?,
                 left: found.left,
             })
         }
         TypedExpr::HasField { map, name, .. } => {
-            let found = measure_field(alloc, map, limits, scope, memo.part(0), name, left)?;
+            let found = measure_field(
+                alloc,
+                map,
+                limits,
+                scope,
+                memo.part(0, &nothing),
+                name,
+                left,
+            )?;
             Ok(Measured {
                 size: ValueSize::Flat,
                 left: found.left,
@@ -205,11 +222,12 @@ fn measure_each(
     ensures fault { IfErr result (MemoryOr (CostsMore
         (total (costs_of (exprs_view exprs.now) limits.now (scope_view scope.now))) left)) }
 {
+    let nothing = Memo::Unknown;
     let mut sizes = Vec::with_capacity(alloc, exprs.len())?;
     let mut rest = left;
     let mut place = 0;
     for expr in exprs {
-        let found = measure(alloc, expr, limits, scope, memo.part(place), rest)?;
+        let found = measure(alloc, expr, limits, scope, memo.part(place, &nothing), rest)?;
         sizes.push(found.size)?;
         rest = found.left;
         place += 1;
@@ -302,12 +320,20 @@ fn measure_conditional(
         IfErr result (MemoryOr (CostsMore (call_cost Conditional (kinds es)
         (costs_of es limits.now sizes) (sizes_of es limits.now sizes)) left)) }
 {
+    let nothing = Memo::Unknown;
     match operands {
         [condition, first, second] => {
-            let tested = measure(alloc, condition, limits, scope, memo.part(0), left)?;
+            let tested = measure(
+                alloc,
+                condition,
+                limits,
+                scope,
+                memo.part(0, &nothing),
+                left,
+            )?;
             let before = pay(tested.left, 0)?;
-            let one = measure(alloc, first, limits, scope, memo.part(1), before)?;
-            let other = measure(alloc, second, limits, scope, memo.part(2), before)?;
+            let one = measure(alloc, first, limits, scope, memo.part(1, &nothing), before)?;
+            let other = measure(alloc, second, limits, scope, memo.part(2, &nothing), before)?;
             let left = pay(one.left.min(other.left), 0)?;
             Ok(Measured {
                 size: join(alloc, &one.size, &other.size)?,
@@ -339,9 +365,24 @@ fn measure_loop(
     ensures fault { (t : ValueType) → IfErr result (MemoryOr
         (CostsMore (cost_of (loop_of t (parts_view parts.now)) limits.now (scope_view scope.now)) left)) }
 {
-    let range = measure(alloc, &parts.range, limits, scope, memo.part(0), left)?;
+    let nothing = Memo::Unknown;
+    let range = measure(
+        alloc,
+        &parts.range,
+        limits,
+        scope,
+        memo.part(0, &nothing),
+        left,
+    )?;
     let opened = pay(range.left, range.size.most())?;
-    let init = measure(alloc, &parts.init, limits, scope, memo.part(1), opened)?;
+    let init = measure(
+        alloc,
+        &parts.init,
+        limits,
+        scope,
+        memo.part(1, &nothing),
+        opened,
+    )?;
     let stored = pay(init.left, 0)?;
     let element = range.size.element()?;
     let turns = range.size.most();
@@ -355,7 +396,7 @@ fn measure_loop(
         &parts.condition,
         limits,
         &inside,
-        memo.part(2),
+        memo.part(2, &nothing),
         count,
         worth,
     )?;
@@ -364,7 +405,7 @@ fn measure_loop(
         &parts.step,
         limits,
         &inside,
-        memo.part(3),
+        memo.part(3, &nothing),
         count,
         condition.left,
     )?;
@@ -382,7 +423,14 @@ fn measure_loop(
     )?;
     let closed = pay(gathered.left, 0)?;
     let inner = (&*scope).with(&gathered.size);
-    measure(alloc, &parts.result, limits, &inner, memo.part(4), closed)
+    measure(
+        alloc,
+        &parts.result,
+        limits,
+        &inner,
+        memo.part(4, &nothing),
+        closed,
+    )
 }
 
 // All that is left, or nothing.
@@ -507,6 +555,7 @@ fn remember(
         around (scope_view scope.now)) }
     ensures fault { IfErr result (λ e. e ≡ Memory) }
 {
+    let nothing = Memo::Unknown;
     if left == 0 {
         return Ok(Remembered {
             memo: Memo::Unknown,
@@ -527,14 +576,30 @@ fn remember(
             left,
         }),
         TypedExpr::Field { map, .. } => {
-            let found = remember(alloc, map, limits, scope, memo.part(0), around, left)?;
+            let found = remember(
+                alloc,
+                map,
+                limits,
+                scope,
+                memo.part(0, &nothing),
+                around,
+                left,
+            )?;
             Ok(Remembered {
                 memo: Memo::of_parts(with_part(Vec::new(alloc), 0, found.memo)?),
                 left: found.left,
             })
         }
         TypedExpr::HasField { map, .. } => {
-            let found = remember(alloc, map, limits, scope, memo.part(0), around, left)?;
+            let found = remember(
+                alloc,
+                map,
+                limits,
+                scope,
+                memo.part(0, &nothing),
+                around,
+                left,
+            )?;
             Ok(Remembered {
                 memo: Memo::of_parts(with_part(Vec::new(alloc), 0, found.memo)?),
                 left: found.left,
@@ -595,13 +660,22 @@ fn remember_each(
         × RemembersEach (memo_view r.memo) (exprs_view exprs.now) limits.now around (scope_view scope.now)) }
     ensures fault { IfErr result (λ e. e ≡ Memory) }
 {
+    let nothing = Memo::Unknown;
     let mut parts = Vec::new(alloc);
     let mut rest = left;
     let mut before = left;
     let mut place = 0;
     for expr in exprs {
         let worth = budget_at(choice, place, before, rest);
-        let found = remember(alloc, expr, limits, scope, memo.part(place), around, worth)?;
+        let found = remember(
+            alloc,
+            expr,
+            limits,
+            scope,
+            memo.part(place, &nothing),
+            around,
+            worth,
+        )?;
         parts = with_part(parts, place, found.memo)?;
         before = rest;
         rest = rest.min(found.left);
@@ -640,12 +714,13 @@ fn remember_loop(
         (loop_of t (parts_view parts.now)) limits.now around (scope_view scope.now)) }
     ensures fault { IfErr result (λ e. e ≡ Memory) }
 {
+    let nothing = Memo::Unknown;
     let range = remember(
         alloc,
         &parts.range,
         limits,
         scope,
-        memo.part(0),
+        memo.part(0, &nothing),
         around,
         left,
     )?;
@@ -654,7 +729,7 @@ fn remember_loop(
         &parts.init,
         limits,
         scope,
-        memo.part(1),
+        memo.part(1, &nothing),
         around,
         range.left,
     )?;
@@ -667,7 +742,7 @@ fn remember_loop(
         &parts.condition,
         limits,
         &inner,
-        memo.part(2),
+        memo.part(2, &nothing),
         around,
         budget_for(turned, init.left),
     )?;
@@ -676,7 +751,7 @@ fn remember_loop(
         &parts.step,
         limits,
         &inner,
-        memo.part(3),
+        memo.part(3, &nothing),
         around,
         condition.left,
     )?;
@@ -685,7 +760,7 @@ fn remember_loop(
         &parts.result,
         limits,
         &outer,
-        memo.part(4),
+        memo.part(4, &nothing),
         around,
         budget_at(!turned, 2, init.left, step.left),
     )?;

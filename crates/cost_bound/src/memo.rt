@@ -2,6 +2,7 @@
 
 ghost use Rattle.std.specs.Prelude.{◌≡◌, ◌<◌, ◌≤◌, ◌+◌, ℕ, IfOk, IsTrue, length};
 ghost use Rattle.cost_bound.specs.Sizes.{Size};
+ghost use Rattle.cost_bound.specs.declared.memo.Memo.{Unknown};
 ghost use Rattle.cost_bound.specs.steps.Memos.{Says, memo_at, memo_view, memos_view, nothing_known, part_at};
 
 use crate::size::ValueSize;
@@ -21,19 +22,20 @@ pub(crate) enum Memo {
 }
 
 impl Memo {
-    /// What is known of the part at a place.
-    pub(crate) fn part(&self, place: usize) -> &Memo
+    /// What is known of the part at a place; where it has no memo, that is nothing.
+    pub(crate) fn part<'s>(&'s self, place: usize, nothing: &'s Memo) -> &'s Memo
+        requires { nothing.now ≡ Unknown }
         ensures { memo_view result.now ≡ part_at place (memo_view self.now) }
     {
         match self {
-            Memo::Unknown => &Memo::Unknown,
-            Memo::Known { .. } => &Memo::Unknown,
-            Memo::Costly { .. } => &Memo::Unknown,
+            Memo::Unknown => nothing,
+            Memo::Known { .. } => nothing,
+            Memo::Costly { .. } => nothing,
             Memo::Parts(parts) => {
                 if place < parts.len() {
                     return &parts[place];
                 }
-                &Memo::Unknown
+                nothing
             }
         }
     }
