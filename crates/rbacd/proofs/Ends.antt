@@ -38,7 +38,7 @@ none_given (Ok f) is =
     rw absent (λ g. absurd g, λ p. absurd (false≢true p.0))
 none_given (Err e) is = tt
 
-module _ (holds : List ℕ → List ℕ → Type 0) (lacks : List ℕ × IoError → Type 0) (input : Option (List ℕ)) where
+module _ (holds : List ℕ → List ℕ → Type 0) (lacks : (List ℕ × IoError) → Type 0) (input : Option (List ℕ)) where
   -- want of memory stops no job: it is an outcome
   never_by_memory : (job : Job) → ¬ (IsStoppedBy holds lacks input job faults.Memory)
   never_by_memory (Check policy budget json) unread = unread

@@ -29,7 +29,7 @@ use Rattle.rbacd.specs.declared.run.JobFault.{JobFault}
 use Rattle.rbacd.specs.declared.run.JobFault.TheVariants as faults
 
 -- a source of files: which bytes the file at a path holds, and which file cannot be read, for which cause
-module _ (holds : Text → Text → Type 0) (lacks : Text × IoError → Type 0) where
+module _ (holds : Text → Text → Type 0) (lacks : (Text × IoError) → Type 0) where
   -- the connection is the one that the facts file tells of, or a plain one where none is named
   abbrev pub IsConnOf : Option Text → Facts → Type 0
   IsConnOf None facts = facts ≡ plain_facts

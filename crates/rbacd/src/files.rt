@@ -16,7 +16,7 @@ pub trait Source {
     ghost holds: { Self → List ℕ → List ℕ → Type 0 };
 
     /// The file at this path cannot be read, for this cause.
-    ghost lacks: { Self → List ℕ × IoError → Type 0 };
+    ghost lacks: { Self → (List ℕ × IoError) → Type 0 };
 
     /// All bytes of the file at this path.
     fn read_file(&self, alloc: Global, path: &str) -> io::Result<Vec<u8>>

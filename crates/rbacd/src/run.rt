@@ -200,19 +200,11 @@ fn judge_files<F: Source, R: Read + Drop>(
 {
     let bytes = read_file(alloc, files, policy)?;
     let conn = conn_of(alloc, facts, files, notes)?;
-    let answer = finding_of(alloc, &bytes, budget, conn, explain, input);
-    let finding = or_input_fault(answer)?;
-    notes.look_at_policy(alloc, &bytes, finding.outcome);
-    Ok(finding)
-}
-
-/// What was found, or that the input cannot be read, for the cause that its reader gave.
-fn or_input_fault(answer: io::Result<Finding>) -> Result<Finding, JobFault>
-    ensures kept { IfOk answer (λ finding. result ≡ Ok finding) }
-    ensures cause { IfErr answer (λ e. result ≡ Err (JobFault.Input e)) }
-{
-    match answer {
-        Ok(finding) => Ok(finding),
+    match finding_of(alloc, &bytes, budget, conn, explain, input) {
+        Ok(finding) => {
+            notes.look_at_policy(alloc, &bytes, finding.outcome);
+            Ok(finding)
+        }
         Err(cause) => Err(JobFault::Input(cause)),
     }
 }

@@ -1,6 +1,5 @@
 //! What is told below a line: what a policy file looks like that is no filter, and the texts of refusals and of heads' faults.
 use super::judging::PLAIN;
-use super::places::Filters;
 use crate::files::Source;
 use crate::notes::{Likeness, likeness_of, meaning_of, rule_of};
 use crate::run::run;
@@ -10,8 +9,11 @@ use std::alloc::Global;
 use std::io;
 use std::test::Fail;
 
-/// The file that stands at each path.
-struct One(&'static [u8]);
+/// The bytes that stand at each path.
+#[derive(Drop)]
+struct One {
+    bytes: Vec<u8>,
+}
 
 impl Source for One {
     ghost use Rattle.std.specs.Prelude.{⊤};
@@ -21,7 +23,7 @@ impl Source for One {
     ghost lacks = { λ _ _. ⊤ };
 
     fn read_file(&self, alloc: Global, _path: &str) -> io::Result<Vec<u8>> {
-        Ok(Vec::from_slice(alloc, self.0)?)
+        Ok(Vec::from_slice(alloc, &self.bytes)?)
     }
 }
 
@@ -73,12 +75,13 @@ fn tells_what_a_file_looks_like(rt: HostRuntime) -> Result<(), Fail> {
     for (bytes, likeness, name) in LIKENESSES {
         assert_eq!(rt; likeness_of(bytes), Some(likeness));
         let words = ["rbacd", "check", "--policy", "f"];
+        let bytes = Vec::from_slice(rt.alloc(), bytes)?;
         let mut out = Vec::new(rt.alloc());
         let mut errors = Vec::new(rt.alloc());
         let ended = run(
             rt.alloc(),
             &words,
-            &One(bytes),
+            &One { bytes },
             PLAIN,
             &mut out,
             &mut errors,
@@ -138,10 +141,18 @@ const READABLE: [(&str, &str, &str); 7] = [
 fn gives_no_hint_about_filters(rt: HostRuntime) -> Result<(), Fail> {
     for (digits, budget, expected) in READABLE {
         for job in ["check", "judge"] {
-            let words = ["rbacd", job, "--policy", digits, "--budget", budget];
+            let words = ["rbacd", job, "--policy", "f", "--budget", budget];
+            let bytes = hex::decode(rt.alloc(), digits)?;
             let mut out = Vec::new(rt.alloc());
             let mut errors = Vec::new(rt.alloc());
-            let ended = run(rt.alloc(), &words, &Filters, PLAIN, &mut out, &mut errors);
+            let ended = run(
+                rt.alloc(),
+                &words,
+                &One { bytes },
+                PLAIN,
+                &mut out,
+                &mut errors,
+            );
             assert_eq!(rt; ended, 1, "{digits}");
             let told = str::from_utf8(&errors).unwrap_or("no text");
             assert_eq!(rt; told, expected, "{digits}");
