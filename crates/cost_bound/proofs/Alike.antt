@@ -73,78 +73,78 @@ same_at f g h x y e = ap f e ∙ h y
 
 module _ (N : ℕ → Type 0) (l : LimitsValue) where
   mutual
-    pub same-size : (e : TypedTree) (a b : List Size) → NamesOnly N e → Alike N a b
+    pub same_size : (e : TypedTree) (a b : List Size) → NamesOnly N e → Alike N a b
         → size_of e l a ≡ size_of e l b
-    same-size (typed_constant t v) a b only h = refl
-    same-size (typed_local t n) a b only h = h.same n only
-    same-size (typed_attribute t at) a b only h = refl
-    same-size (typed_field t on name) a b only h = ap value_size (same-size on a b only h)
-    same-size (typed_has t on name) a b only h = refl
-    same-size (typed_call t o es) a b only h = ap (call_size o) (same-sizes es a b only h)
-    same-size (typed_list t es) a b only h = ap (list_size t) (same-sizes es a b only h)
-    same-size (typed_map t es) a b only h = ap (map_size t) (same-sizes es a b only h)
-    same-size (typed_loop t range init condition step result) a b only h =
+    same_size (typed_constant t v) a b only h = refl
+    same_size (typed_local t n) a b only h = h.same n only
+    same_size (typed_attribute t at) a b only h = refl
+    same_size (typed_field t on name) a b only h = ap value_size (same_size on a b only h)
+    same_size (typed_has t on name) a b only h = refl
+    same_size (typed_call t o es) a b only h = ap (call_size o) (same_sizes es a b only h)
+    same_size (typed_list t es) a b only h = ap (list_size t) (same_sizes es a b only h)
+    same_size (typed_map t es) a b only h = ap (map_size t) (same_sizes es a b only h)
+    same_size (typed_loop t range init condition step result) a b only h =
         let turns = loop_grown (λ e s. size_of step l (e ∷ s ∷ a)) (λ e s. size_of step l (e ∷ s ∷ b))
-        (λ e s. same-size step (e ∷ s ∷ a) (e ∷ s ∷ b) only.3
+        (λ e s. same_size step (e ∷ s ∷ a) (e ∷ s ∷ b) only.3
         (alike_with N e (s ∷ a) (s ∷ b) (alike_with N s a b h)))
         (size_of range l a) (size_of range l b) (size_of init l a) (size_of init l b)
-        (same-size range a b only.0 h) (same-size init a b only.1 h) in
+        (same_size range a b only.0 h) (same_size init a b only.1 h) in
         same_at (λ x. size_of result l (x ∷ a)) (λ x. size_of result l (x ∷ b))
-        (λ x. same-size result (x ∷ a) (x ∷ b) only.4 (alike_with N x a b h)) _ _ turns
+        (λ x. same_size result (x ∷ a) (x ∷ b) only.4 (alike_with N x a b h)) _ _ turns
 
-    pub same-sizes : (es : TypedTrees) (a b : List Size) → EachNamesOnly N es → Alike N a b
+    pub same_sizes : (es : TypedTrees) (a b : List Size) → EachNamesOnly N es → Alike N a b
         → sizes_of es l a ≡ sizes_of es l b
-    same-sizes no_typed a b only h = refl
-    same-sizes (typed e es) a b only h =
-        ap (λ s. s ∷ sizes_of es l a) (same-size e a b only.0 h)
-        ∙ ap (λ ss. size_of e l b ∷ ss) (same-sizes es a b only.1 h)
+    same_sizes no_typed a b only h = refl
+    same_sizes (typed e es) a b only h =
+        ap (λ s. s ∷ sizes_of es l a) (same_size e a b only.0 h)
+        ∙ ap (λ ss. size_of e l b ∷ ss) (same_sizes es a b only.1 h)
 
   mutual
-    pub same-cost : (e : TypedTree) (a b : List Size) → NamesOnly N e → Alike N a b
+    pub same_cost : (e : TypedTree) (a b : List Size) → NamesOnly N e → Alike N a b
         → cost_of e l a ≡ cost_of e l b
-    same-cost (typed_constant t v) a b only h = refl
-    same-cost (typed_local t n) a b only h = refl
-    same-cost (typed_attribute t at) a b only h = refl
-    same-cost (typed_field t on name) a b only h =
-        ap (λ c. c + field_cost name (size_of on l a)) (same-cost on a b only h)
-        ∙ ap (λ s. cost_of on l b + field_cost name s) (same-size on a b only h)
-    same-cost (typed_has t on name) a b only h =
-        ap (λ c. c + field_cost name (size_of on l a)) (same-cost on a b only h)
-        ∙ ap (λ s. cost_of on l b + field_cost name s) (same-size on a b only h)
-    same-cost (typed_call t o es) a b only h =
-        ap (λ c. call_cost o (kinds es) c (sizes_of es l a)) (same-costs es a b only h)
-        ∙ ap (λ s. call_cost o (kinds es) (costs_of es l b) s) (same-sizes es a b only h)
-    same-cost (typed_list t es) a b only h =
-        ap (λ c. total c + (1 + length c)) (same-costs es a b only h)
-    same-cost (typed_map t es) a b only h =
-        ap (λ c. total c + map_cost (sizes_of es l a)) (same-costs es a b only h)
-        ∙ ap (λ s. total (costs_of es l b) + map_cost s) (same-sizes es a b only h)
-    same-cost (typed_loop t range init condition step result) a b only h =
+    same_cost (typed_constant t v) a b only h = refl
+    same_cost (typed_local t n) a b only h = refl
+    same_cost (typed_attribute t at) a b only h = refl
+    same_cost (typed_field t on name) a b only h =
+        ap (λ c. c + field_cost name (size_of on l a)) (same_cost on a b only h)
+        ∙ ap (λ s. cost_of on l b + field_cost name s) (same_size on a b only h)
+    same_cost (typed_has t on name) a b only h =
+        ap (λ c. c + field_cost name (size_of on l a)) (same_cost on a b only h)
+        ∙ ap (λ s. cost_of on l b + field_cost name s) (same_size on a b only h)
+    same_cost (typed_call t o es) a b only h =
+        ap (λ c. call_cost o (kinds es) c (sizes_of es l a)) (same_costs es a b only h)
+        ∙ ap (λ s. call_cost o (kinds es) (costs_of es l b) s) (same_sizes es a b only h)
+    same_cost (typed_list t es) a b only h =
+        ap (λ c. total c + (1 + length c)) (same_costs es a b only h)
+    same_cost (typed_map t es) a b only h =
+        ap (λ c. total c + map_cost (sizes_of es l a)) (same_costs es a b only h)
+        ∙ ap (λ s. total (costs_of es l b) + map_cost s) (same_sizes es a b only h)
+    same_cost (typed_loop t range init condition step result) a b only h =
         let under : (e s : Size) → Alike N (e ∷ s ∷ a) (e ∷ s ∷ b) = λ e s.
         alike_with N e (s ∷ a) (s ∷ b) (alike_with N s a b h) in
-        let ranges = same-size range a b only.0 h in
-        let inits = same-size init a b only.1 h in
+        let ranges = same_size range a b only.0 h in
+        let inits = same_size init a b only.1 h in
         let turns = loop_turns (λ e s. size_of step l (e ∷ s ∷ a)) (λ e s. size_of step l (e ∷ s ∷ b))
         (λ e s. cost_of condition l (e ∷ s ∷ a) + cost_of step l (e ∷ s ∷ a) + 4)
         (λ e s. cost_of condition l (e ∷ s ∷ b) + cost_of step l (e ∷ s ∷ b) + 4)
-        (λ e s. same-size step (e ∷ s ∷ a) (e ∷ s ∷ b) only.3 (under e s))
-        (λ e s. turn_sum _ _ _ _ (same-cost condition (e ∷ s ∷ a) (e ∷ s ∷ b) only.2 (under e s))
-        (same-cost step (e ∷ s ∷ a) (e ∷ s ∷ b) only.3 (under e s)))
+        (λ e s. same_size step (e ∷ s ∷ a) (e ∷ s ∷ b) only.3 (under e s))
+        (λ e s. turn_sum _ _ _ _ (same_cost condition (e ∷ s ∷ a) (e ∷ s ∷ b) only.2 (under e s))
+        (same_cost step (e ∷ s ∷ a) (e ∷ s ∷ b) only.3 (under e s)))
         (size_of range l a) (size_of range l b) (size_of init l a) (size_of init l b) ranges inits in
         let ends = loop_grown (λ e s. size_of step l (e ∷ s ∷ a)) (λ e s. size_of step l (e ∷ s ∷ b))
-        (λ e s. same-size step (e ∷ s ∷ a) (e ∷ s ∷ b) only.3 (under e s))
+        (λ e s. same_size step (e ∷ s ∷ a) (e ∷ s ∷ b) only.3 (under e s))
         (size_of range l a) (size_of range l b) (size_of init l a) (size_of init l b) ranges inits in
         let last = same_at (λ x. cost_of result l (x ∷ a)) (λ x. cost_of result l (x ∷ b))
-        (λ x. same-cost result (x ∷ a) (x ∷ b) only.4 (alike_with N x a b h)) _ _ ends in
-        loop_sum _ _ _ _ _ _ _ _ _ _ (same-cost range a b only.0 h) (ap most_of ranges)
-        (same-cost init a b only.1 h) turns last
+        (λ x. same_cost result (x ∷ a) (x ∷ b) only.4 (alike_with N x a b h)) _ _ ends in
+        loop_sum _ _ _ _ _ _ _ _ _ _ (same_cost range a b only.0 h) (ap most_of ranges)
+        (same_cost init a b only.1 h) turns last
 
-    pub same-costs : (es : TypedTrees) (a b : List Size) → EachNamesOnly N es → Alike N a b
+    pub same_costs : (es : TypedTrees) (a b : List Size) → EachNamesOnly N es → Alike N a b
         → costs_of es l a ≡ costs_of es l b
-    same-costs no_typed a b only h = refl
-    same-costs (typed e es) a b only h =
-        ap (λ c. c ∷ costs_of es l a) (same-cost e a b only.0 h)
-        ∙ ap (λ cs. cost_of e l b ∷ cs) (same-costs es a b only.1 h)
+    same_costs no_typed a b only h = refl
+    same_costs (typed e es) a b only h =
+        ap (λ c. c ∷ costs_of es l a) (same_cost e a b only.0 h)
+        ∙ ap (λ cs. cost_of e l b ∷ cs) (same_costs es a b only.1 h)
 
 -- ---- the locals of two turns
 

@@ -1,5 +1,5 @@
 -- When what is known of expressions holds.
-use Rattle.std.proofs.Common.{◌≡◌, ◌⊎◌, ℕ, zero, suc, ◌+◌, ◌-◌, ◌<◌, ◌≤◌, List, [], ◌∷◌, length, get_or, refl, sym, ap, ◌∙◌, inl, inr, tt, arith}
+use Rattle.std.proofs.Common.{◌≡◌, ◌⊎◌, ℕ, zero, suc, ◌+◌, ◌-◌, ◌<◌, ◌≤◌, List, [], ◌∷◌, length, get_or, refl, sym, ap, ◌∙◌, inl, inr, arith}
 use Rattle.std.proofs.lemmas.Bool.{cases_lt}
 use Rattle.std.proofs.lemmas.List.{get_or_read}
 use Rattle.attributes.specs.Limits.{LimitsValue}
@@ -9,11 +9,11 @@ use Rattle.cel_types.specs.declared.typed.TypedExpr.{TypedExpr}
 use Rattle.cel_value.specs.Types.{ValueType}
 use Rattle.cost_bound.specs.Costs.{cost_of, size_of}
 use Rattle.cost_bound.specs.Sizes.{Size}
-use Rattle.cost_bound.specs.steps.Memos.{MemoTree, nothing_known, known_as, more_than, parts_known, MemoTrees, memo_at, part_at, Says, Holds, HoldsEach, HoldsInside, InTurns, IsSettled, NamesOnly}
+use Rattle.cost_bound.specs.steps.Memos.{MemoTree, nothing_known, known_as, more_than, parts_known, MemoTrees, memo_at, part_at, Says, Holds, HoldsEach, HoldsInside, InTurns, IsSettled, IsTold, NamesOnly}
 use Rattle.cost_bound.specs.steps.Memos.{Remembers}
 use Rattle.cost_bound.specs.steps.Numbers.{capped}
 use Rattle.cost_bound.specs.steps.ScopeView.{Counted, sizes_among}
-use Rattle.cost_bound.proofs.Alike.{alike_settled, same-cost, same-size, turns_of, turns_with}
+use Rattle.cost_bound.proofs.Alike.{alike_settled, same_cost, same_size, turns_of, turns_with}
 use Rattle.cost_bound.proofs.Locals.{as_many}
 
 -- where nothing is known of parts, that is true of them
@@ -94,12 +94,12 @@ each_holds m ms l ss es at h = each_from m l ss 0 es (λ i x j within is e.
     rw part (h i x within is))
 
 -- the parts so far, and one more
-pub more-parts : (es : List TypedExpr) (n p : ℕ) (y : TypedExpr) (old new : MemoTrees) (m : MemoTree)
+pub more_parts : (es : List TypedExpr) (n p : ℕ) (y : TypedExpr) (old new : MemoTrees) (m : MemoTree)
     (l : LimitsValue) (ss : List Size) → p ≡ n → y ≡ get_or es n y → n < length es
     → ((i : ℕ) → i < p → memo_at i new ≡ memo_at i old) → memo_at p new ≡ m → Holds m (expr_view y) l ss
     → ((i : ℕ) (x : TypedExpr) → i < n → x ≡ get_or es i x → Holds (memo_at i old) (expr_view x) l ss)
     → (i : ℕ) (x : TypedExpr) → i < n + 1 → x ≡ get_or es i x → Holds (memo_at i new) (expr_view x) l ss
-more-parts es n p y old new m l ss place there within before at one all i x less is = elim (cases_lt i n) [
+more_parts es n p y old new m l ss place there within before at one all i x less is = elim (cases_lt i n) [
   | inl lower ↦ rw (before i (omega arith)) (all i x lower is)
   | inr high ↦
       let same : i ≡ n = omega arith in
@@ -114,22 +114,17 @@ pub holds_in_turns : (k d : ℕ) (e : TypedTree) (l : LimitsValue) (a b : List S
     → d ≡ length a → InTurns k a b → (size_of e l a ≡ size_of e l b) × (cost_of e l a ≡ cost_of e l b)
 holds_in_turns k d e l a b only deep turns =
     let same = alike_settled k d a b deep turns in
-    (same-size (IsSettled k d) l e a b only same, same-cost (IsSettled k d) l e a b only same)
+    (same_size (IsSettled k d) l e a b only same, same_cost (IsSettled k d) l e a b only same)
 
-pub known_in_turns : (k d : ℕ) (e : TypedTree) (l : LimitsValue) (a b : List Size) (m : MemoTree) (s : Size)
-    (c left rest : ℕ) → NamesOnly (IsSettled k d) e → d ≡ length a → InTurns k a b
-    → m ≡ known_as s c → s ≡ size_of e l a → left ≡ cost_of e l a + rest → c ≡ left - rest → Holds m e l b
-known_in_turns k d e l a b m s c left rest only deep turns is size paid cost =
-    let same = holds_in_turns k d e l a b only deep turns in
-    let more = same.1 in
-    holds_known m s c e l b is (size ∙ same.0) (omega arith)
-
-pub more_in_turns : (k d : ℕ) (e : TypedTree) (l : LimitsValue) (a b : List Size) (m : MemoTree) (n : ℕ)
-    → NamesOnly (IsSettled k d) e → d ≡ length a → InTurns k a b → m ≡ more_than n → n < cost_of e l a
+pub told_in_turns : (k d : ℕ) (e : TypedTree) (l : LimitsValue) (a b : List Size) (m : MemoTree)
+    → NamesOnly (IsSettled k d) e → d ≡ length a → InTurns k a b → IsTold m (size_of e l a) (cost_of e l a)
     → Holds m e l b
-more_in_turns k d e l a b m n only deep turns is more =
+told_in_turns k d e l a b m only deep turns told =
     let same = holds_in_turns k d e l a b only deep turns in
-    holds_more m n e l b is (rw (← same.1) more)
+    elim told [
+      | inl is ↦ holds_known m (size_of e l a) (cost_of e l a) e l b is same.0 same.1
+      | inr more ↦ holds_more m more.0 e l b more.1 (rw (← same.1) more.2)
+    ]
 
 -- what is known of a map that a name is looked up in
 pub field_holds : (m p : MemoTree) (t : ValueType) (e on : TypedTree) (name : List ℕ) (l : LimitsValue)
@@ -169,7 +164,7 @@ remembered_turned m e l n k ss others inside any more t u is h counted turns =
     (rw is (turns_with k more u (any ∷ ss) (t ∷ others) (turns_with k any t ss others turns)))
 
 -- what is remembered of a loop that a turn changes, by what is remembered of its parts
-pub loop-remembered : (p : TypedParts) (t : ValueType) (l : LimitsValue) (n k : ℕ)
+pub loop_remembered : (p : TypedParts) (t : ValueType) (l : LimitsValue) (n k : ℕ)
     (ss others outer inner : List Size) (any : Size) (m r i c s e : MemoTree)
     (one two three four five : MemoTrees)
     → ((j : ℕ) → part_at j m ≡ memo_at j five) → ((size : Size) (cost : ℕ) → Says m size cost)
@@ -182,7 +177,7 @@ pub loop-remembered : (p : TypedParts) (t : ValueType) (l : LimitsValue) (n k : 
     → Remembers r p.range l n ss → Remembers i p.init l n ss → Remembers c p.condition l n inner
     → Remembers s p.step l n inner → Remembers e p.result l n outer
     → n ≡ capped k → InTurns k ss others → Holds m (loop_of t p) l others
-loop-remembered p t l n k ss others outer inner any m r i c s e one two three four five at silent a0 b1 a1 b2 a2 b3 a3
+loop_remembered p t l n k ss others outer inner any m r i c s e one two three four five at silent a0 b1 a1 b2 a2 b3 a3
     b4 a4 isOuter isInner hr hi hc hs he counted turns =
     let at0 : part_at 0 m ≡ r = at 0 ∙ b4 0 (omega arith) ∙ b3 0 (omega arith) ∙ b2 0 (omega arith)
     ∙ b1 0 (omega arith) ∙ a0 in
@@ -195,8 +190,8 @@ loop-remembered p t l n k ss others outer inner any m r i c s e one two three fo
       (
         rw at0 (hr k others counted turns),
         rw at1 (hi k others counted turns),
-        λ u v. rw at2 (remembered-turned c p.condition l n k ss others inner any any u v isInner' hc counted turns),
-        λ u v. rw at3 (remembered-turned s p.step l n k ss others inner any any u v isInner' hs counted turns),
-        λ u. rw at4 (remembered-inside e p.result l n k ss others outer any u isOuter he counted turns),
+        λ u v. rw at2 (remembered_turned c p.condition l n k ss others inner any any u v isInner' hc counted turns),
+        λ u v. rw at3 (remembered_turned s p.step l n k ss others inner any any u v isInner' hs counted turns),
+        λ u. rw at4 (remembered_inside e p.result l n k ss others outer any u isOuter he counted turns),
       ),
     )

@@ -91,6 +91,52 @@ loop_adds p t l ss R E I G n left r o i s g c m range most element init gathered
     (most_of (size_of p.range l ss)) (size_of p.init l ss) ∷ ss) = refl in
     rw whole (omega arith)
 
+-- what is short of the cost of its turns is short of its own
+pub loop_short : (p : TypedParts) (t : ValueType) (l : LimitsValue) (ss : List Size) (R E I : Size)
+    (n left r o i s : ℕ)
+    → R ≡ size_of p.range l ss → n ≡ most_of R → E ≡ element_size R → I ≡ size_of p.init l ss
+    → left ≡ cost_of p.range l ss + r → r ≡ 1 + n + o → o ≡ cost_of p.init l ss + i → i ≡ 1 + 0 + s
+    → s < turns_cost (next_size p l E ss) (turn_cost p l E ss) n I
+    → left < cost_of (loop_of t p) l ss
+loop_short p t l ss R E I n left r o i s range most element init h1 h2 h3 h4 short =
+    let most' : n ≡ most_of (size_of p.range l ss) = most ∙ ap most_of range in
+    let element' : E ≡ element_size (size_of p.range l ss) = element ∙ ap element_size range in
+    let turns = rw (element', most', init) at short in
+    let opened = rw most' at h2 in
+    let whole : cost_of (loop_of t p) l ss
+    ≡ cost_of p.range l ss + (1 + most_of (size_of p.range l ss)) + cost_of p.init l ss + 1
+    + turns_cost (next_size p l (element_size (size_of p.range l ss)) ss)
+    (turn_cost p l (element_size (size_of p.range l ss)) ss) (most_of (size_of p.range l ss))
+    (size_of p.init l ss)
+    + 1 + cost_of p.result l (grown (next_size p l (element_size (size_of p.range l ss)) ss)
+    (most_of (size_of p.range l ss)) (size_of p.init l ss) ∷ ss) = refl in
+    rw whole (omega arith)
+
+-- and what is short of the cost of its end once its turns are paid
+pub loop_ends_short : (p : TypedParts) (t : ValueType) (l : LimitsValue) (ss : List Size) (R E I G : Size)
+    (n left r o i s g : ℕ)
+    → R ≡ size_of p.range l ss → n ≡ most_of R → E ≡ element_size R → I ≡ size_of p.init l ss
+    → G ≡ grown (next_size p l E ss) n I
+    → left ≡ cost_of p.range l ss + r → r ≡ 1 + n + o → o ≡ cost_of p.init l ss + i → i ≡ 1 + 0 + s
+    → s ≡ turns_cost (next_size p l E ss) (turn_cost p l E ss) n I + g
+    → g < 1 + cost_of p.result l (G ∷ ss)
+    → left < cost_of (loop_of t p) l ss
+loop_ends_short p t l ss R E I G n left r o i s g range most element init gathered h1 h2 h3 h4 h5 short =
+    let most' : n ≡ most_of (size_of p.range l ss) = most ∙ ap most_of range in
+    let element' : E ≡ element_size (size_of p.range l ss) = element ∙ ap element_size range in
+    let all = rw (element', most', init) at gathered in
+    let turns = rw (element', most', init) at h5 in
+    let opened = rw most' at h2 in
+    let result = rw all at short in
+    let whole : cost_of (loop_of t p) l ss
+    ≡ cost_of p.range l ss + (1 + most_of (size_of p.range l ss)) + cost_of p.init l ss + 1
+    + turns_cost (next_size p l (element_size (size_of p.range l ss)) ss)
+    (turn_cost p l (element_size (size_of p.range l ss)) ss) (most_of (size_of p.range l ss))
+    (size_of p.init l ss)
+    + 1 + cost_of p.result l (grown (next_size p l (element_size (size_of p.range l ss)) ss)
+    (most_of (size_of p.range l ss)) (size_of p.init l ss) ∷ ss) = refl in
+    rw whole (omega arith)
+
 -- and its size
 pub loop_size : (p : TypedParts) (t : ValueType) (l : LimitsValue) (ss : List Size) (R E I G : Size) (n : ℕ)
     → R ≡ size_of p.range l ss → n ≡ most_of R → E ≡ element_size R → I ≡ size_of p.init l ss

@@ -7,7 +7,6 @@ ghost use Rattle.cel_types.specs.View.{typed_view};
 ghost use Rattle.cost_bound.specs.Costs.{cost_of};
 
 use crate::measure::measure;
-use crate::memo::Memo;
 use crate::scope::Scope;
 use attributes::Limits;
 use cel_types::Typed;
@@ -23,6 +22,6 @@ pub fn bound(alloc: Global, typed: &Typed<'_>, limits: &Limits, budget: u64) -> 
         (e ≡ TooCostly) × (budget < cost_of (typed_view typed.now) limits.now []))) }
 {
     let scope = Scope::Empty;
-    let measured = measure(alloc, &typed.root, limits, &scope, &Memo::Unknown, budget)?;
+    let measured = measure(alloc, &typed.root, limits, &scope, None, budget)?;
     Ok(budget - measured.left)
 }

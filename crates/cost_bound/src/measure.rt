@@ -11,14 +11,14 @@ ghost use Rattle.cel_value.specs.Types.{ValueType};
 ghost use Rattle.cost_bound.specs.Costs.{call_cost, call_size, cost_of, costs_of, field_cost, grown, size_of, sizes_of, total, turns_cost};
 ghost use Rattle.cost_bound.specs.Sizes.{Size, join};
 ghost use Rattle.cost_bound.specs.steps.Measuring.{CostsMore, call_part, next_size, turn_cost};
-ghost use Rattle.cost_bound.specs.steps.Memos.{Holds, HoldsEach, Remembers, RemembersEach, Says, memo_view};
+ghost use Rattle.cost_bound.specs.steps.Memos.{Holds, HoldsEach, IsTold, Remembers, RemembersEach, Says, known_view, memo_view};
 ghost use Rattle.cost_bound.specs.steps.ScopeView.{IsCounted, locals_view, scope_view};
 ghost use Rattle.cost_bound.specs.steps.SizeView.{size_view, sizes_view};
 
 use crate::charges::{call_part, field_part, pay, pay_turns};
 use crate::known::{attribute_size, constant_size};
 use crate::made::{call_size, list_size, map_part, map_size};
-use crate::memo::{Memo, with_part};
+use crate::memo::{Memo, part, with_part};
 use crate::scope::Scope;
 use crate::size::{ValueSize, join, same};
 use crate::steady::{has_items, is_steady};
@@ -51,7 +51,20 @@ struct Remembered {
 }
 
 // What is known of an expression, where that is all of it. It is paid whole.
-fn recall(memo: &Memo, left: u64) -> Result<Option<Measured>, Refusal>
+fn recall(memo: Option<&Memo>, left: u64) -> Result<Option<Measured>, Refusal>
+    ensures found { IfOk result (λ o. IfSome o (λ m. (size : Size) (cost : ℕ)
+        → Says (known_view memo) size cost
+        → (size_view m.size ≡ size) × (left ≡ cost + m.left))) }
+    ensures fault { IfErr result (MemoryOr (λ e. (size : Size) (cost : ℕ)
+        → Says (known_view memo) size cost → CostsMore cost left e)) }
+{
+    match memo {
+        None => Ok(None),
+        Some(known) => recall_known(known, left),
+    }
+}
+
+fn recall_known(memo: &Memo, left: u64) -> Result<Option<Measured>, Refusal>
     ensures found { IfOk result (λ o. IfSome o (λ m. (size : Size) (cost : ℕ)
         → Says (memo_view memo.now) size cost
         → (size_view m.size ≡ size) × (left ≡ cost + m.left))) }
@@ -59,6 +72,7 @@ fn recall(memo: &Memo, left: u64) -> Result<Option<Measured>, Refusal>
         → Says (memo_view memo.now) size cost → CostsMore cost left e)) }
 {
     match memo {
+        Memo::Unknown => Ok(None),
         Memo::Known { size, cost } => {
             let left = pay_turns(left, 1, *cost)?;
             Ok(Some(Measured {
@@ -70,7 +84,7 @@ fn recall(memo: &Memo, left: u64) -> Result<Option<Measured>, Refusal>
             pay(left, *than)?;
             Ok(None)
         }
-        _ => Ok(None),
+        Memo::Parts(_) => Ok(None),
     }
 }
 
@@ -81,18 +95,17 @@ pub(crate) fn measure(
     expr: &TypedExpr<'_>,
     limits: &Limits,
     scope: &Scope<'_>,
-    memo: &Memo,
+    memo: Option<&Memo>,
     left: u64,
 ) -> Result<Measured, Refusal>
     requires counted { IsCounted (locals_view scope.now) }
-    requires holds { Holds (memo_view memo.now) (expr_view expr.now) limits.now (scope_view scope.now) }
+    requires holds { Holds (known_view memo) (expr_view expr.now) limits.now (scope_view scope.now) }
     ensures found { IfOk result (λ m.
         (size_view m.size ≡ size_of (expr_view expr.now) limits.now (scope_view scope.now))
         × (left ≡ cost_of (expr_view expr.now) limits.now (scope_view scope.now) + m.left)) }
     ensures fault { IfErr result (MemoryOr
         (CostsMore (cost_of (expr_view expr.now) limits.now (scope_view scope.now)) left)) }
 {
-    let nothing = Memo::Unknown;
     if let Some(known) = recall(memo, left)? {
         return Ok(known);
     }
@@ -119,30 +132,14 @@ pub(crate) fn measure(
             })
         }
         TypedExpr::Field { map, name, .. } => {
-            let found = measure_field(
-                alloc,
-                map,
-                limits,
-                scope,
-                memo.part(0, &nothing),
-                name,
-                left,
-            )?;
+            let found = measure_field(alloc, map, limits, scope, part(memo, 0), name, left)?;
             Ok(Measured {
                 size: found.size.value()?,
                 left: found.left,
             })
         }
         TypedExpr::HasField { map, name, .. } => {
-            let found = measure_field(
-                alloc,
-                map,
-                limits,
-                scope,
-                memo.part(0, &nothing),
-                name,
-                left,
-            )?;
+            let found = measure_field(alloc, map, limits, scope, part(memo, 0), name, left)?;
             Ok(Measured {
                 size: ValueSize::Flat,
                 left: found.left,
@@ -180,12 +177,12 @@ fn measure_field(
     map: &TypedExpr<'_>,
     limits: &Limits,
     scope: &Scope<'_>,
-    memo: &Memo,
+    memo: Option<&Memo>,
     name: &RcStr,
     left: u64,
 ) -> Result<Measured, Refusal>
     requires counted { IsCounted (locals_view scope.now) }
-    requires holds { Holds (memo_view memo.now) (expr_view map.now) limits.now (scope_view scope.now) }
+    requires holds { Holds (known_view memo) (expr_view map.now) limits.now (scope_view scope.now) }
     ensures found { IfOk result (λ m.
         (size_view m.size ≡ size_of (expr_view map.now) limits.now (scope_view scope.now))
         × (left ≡ cost_of (expr_view map.now) limits.now (scope_view scope.now)
@@ -211,23 +208,22 @@ fn measure_each(
     exprs: &[TypedExpr<'_>],
     limits: &Limits,
     scope: &Scope<'_>,
-    memo: &Memo,
+    memo: Option<&Memo>,
     left: u64,
 ) -> Result<MeasuredEach, Refusal>
     requires counted { IsCounted (locals_view scope.now) }
-    requires holds { HoldsEach (memo_view memo.now) 0 (exprs_view exprs.now) limits.now (scope_view scope.now) }
+    requires holds { HoldsEach (known_view memo) 0 (exprs_view exprs.now) limits.now (scope_view scope.now) }
     ensures found { IfOk result (λ m.
         (sizes_view m.sizes.items ≡ sizes_of (exprs_view exprs.now) limits.now (scope_view scope.now))
         × (left ≡ total (costs_of (exprs_view exprs.now) limits.now (scope_view scope.now)) + m.left)) }
     ensures fault { IfErr result (MemoryOr (CostsMore
         (total (costs_of (exprs_view exprs.now) limits.now (scope_view scope.now))) left)) }
 {
-    let nothing = Memo::Unknown;
     let mut sizes = Vec::with_capacity(alloc, exprs.len())?;
     let mut rest = left;
     let mut place = 0;
     for expr in exprs {
-        let found = measure(alloc, expr, limits, scope, memo.part(place, &nothing), rest)?;
+        let found = measure(alloc, expr, limits, scope, part(memo, place), rest)?;
         sizes.push(found.size)?;
         rest = found.left;
         place += 1;
@@ -242,12 +238,12 @@ fn measure_call(
     operands: &[TypedExpr<'_>],
     limits: &Limits,
     scope: &Scope<'_>,
-    memo: &Memo,
+    memo: Option<&Memo>,
     overload: Overload,
     left: u64,
 ) -> Result<Measured, Refusal>
     requires counted { IsCounted (locals_view scope.now) }
-    requires holds { HoldsEach (memo_view memo.now) 0 (exprs_view operands.now) limits.now (scope_view scope.now) }
+    requires holds { HoldsEach (known_view memo) 0 (exprs_view operands.now) limits.now (scope_view scope.now) }
     ensures found { IfOk result (λ m. let es = exprs_view operands.now in
         let sizes = scope_view scope.now in
         (size_view m.size ≡ call_size overload (sizes_of es limits.now sizes))
@@ -277,12 +273,12 @@ fn measure_operands(
     operands: &[TypedExpr<'_>],
     limits: &Limits,
     scope: &Scope<'_>,
-    memo: &Memo,
+    memo: Option<&Memo>,
     overload: Overload,
     left: u64,
 ) -> Result<Measured, Refusal>
     requires counted { IsCounted (locals_view scope.now) }
-    requires holds { HoldsEach (memo_view memo.now) 0 (exprs_view operands.now) limits.now (scope_view scope.now) }
+    requires holds { HoldsEach (known_view memo) 0 (exprs_view operands.now) limits.now (scope_view scope.now) }
     ensures found { let es = exprs_view operands.now in let sizes = scope_view scope.now in
         IfOk result (λ m. (size_view m.size ≡ call_size overload (sizes_of es limits.now sizes))
         × (left ≡ total (costs_of es limits.now sizes)
@@ -306,11 +302,11 @@ fn measure_conditional(
     operands: &[TypedExpr<'_>],
     limits: &Limits,
     scope: &Scope<'_>,
-    memo: &Memo,
+    memo: Option<&Memo>,
     left: u64,
 ) -> Result<Measured, Refusal>
     requires counted { IsCounted (locals_view scope.now) }
-    requires holds { HoldsEach (memo_view memo.now) 0 (exprs_view operands.now) limits.now (scope_view scope.now) }
+    requires holds { HoldsEach (known_view memo) 0 (exprs_view operands.now) limits.now (scope_view scope.now) }
     requires three { length operands.now ≡ 3 }
     ensures found { let es = exprs_view operands.now in let sizes = scope_view scope.now in
         IfOk result (λ m. (size_view m.size ≡ call_size Conditional (sizes_of es limits.now sizes))
@@ -320,20 +316,12 @@ fn measure_conditional(
         IfErr result (MemoryOr (CostsMore (call_cost Conditional (kinds es)
         (costs_of es limits.now sizes) (sizes_of es limits.now sizes)) left)) }
 {
-    let nothing = Memo::Unknown;
     match operands {
         [condition, first, second] => {
-            let tested = measure(
-                alloc,
-                condition,
-                limits,
-                scope,
-                memo.part(0, &nothing),
-                left,
-            )?;
+            let tested = measure(alloc, condition, limits, scope, part(memo, 0), left)?;
             let before = pay(tested.left, 0)?;
-            let one = measure(alloc, first, limits, scope, memo.part(1, &nothing), before)?;
-            let other = measure(alloc, second, limits, scope, memo.part(2, &nothing), before)?;
+            let one = measure(alloc, first, limits, scope, part(memo, 1), before)?;
+            let other = measure(alloc, second, limits, scope, part(memo, 2), before)?;
             let left = pay(one.left.min(other.left), 0)?;
             Ok(Measured {
                 size: join(alloc, &one.size, &other.size)?,
@@ -353,11 +341,11 @@ fn measure_loop(
     parts: &TypedLoop<'_>,
     limits: &Limits,
     scope: &Scope<'_>,
-    memo: &Memo,
+    memo: Option<&Memo>,
     left: u64,
 ) -> Result<Measured, Refusal>
     requires counted { IsCounted (locals_view scope.now) }
-    requires holds { (t : ValueType) → Holds (memo_view memo.now) (loop_of t (parts_view parts.now))
+    requires holds { (t : ValueType) → Holds (known_view memo) (loop_of t (parts_view parts.now))
         limits.now (scope_view scope.now) }
     ensures found { (t : ValueType) → IfOk result (λ m.
         (size_view m.size ≡ size_of (loop_of t (parts_view parts.now)) limits.now (scope_view scope.now))
@@ -365,24 +353,9 @@ fn measure_loop(
     ensures fault { (t : ValueType) → IfErr result (MemoryOr
         (CostsMore (cost_of (loop_of t (parts_view parts.now)) limits.now (scope_view scope.now)) left)) }
 {
-    let nothing = Memo::Unknown;
-    let range = measure(
-        alloc,
-        &parts.range,
-        limits,
-        scope,
-        memo.part(0, &nothing),
-        left,
-    )?;
+    let range = measure(alloc, &parts.range, limits, scope, part(memo, 0), left)?;
     let opened = pay(range.left, range.size.most())?;
-    let init = measure(
-        alloc,
-        &parts.init,
-        limits,
-        scope,
-        memo.part(1, &nothing),
-        opened,
-    )?;
+    let init = measure(alloc, &parts.init, limits, scope, part(memo, 1), opened)?;
     let stored = pay(init.left, 0)?;
     let element = range.size.element()?;
     let turns = range.size.most();
@@ -396,7 +369,7 @@ fn measure_loop(
         &parts.condition,
         limits,
         &inside,
-        memo.part(2, &nothing),
+        part(memo, 2),
         count,
         worth,
     )?;
@@ -405,7 +378,7 @@ fn measure_loop(
         &parts.step,
         limits,
         &inside,
-        memo.part(3, &nothing),
+        part(memo, 3),
         count,
         condition.left,
     )?;
@@ -423,14 +396,7 @@ fn measure_loop(
     )?;
     let closed = pay(gathered.left, 0)?;
     let inner = (&*scope).with(&gathered.size);
-    measure(
-        alloc,
-        &parts.result,
-        limits,
-        &inner,
-        memo.part(4, &nothing),
-        closed,
-    )
+    measure(alloc, &parts.result, limits, &inner, part(memo, 4), closed)
 }
 
 // All that is left, or nothing.
@@ -525,8 +491,15 @@ fn measure_turn(
 {
     let outer = (&*scope).with(&*gathered);
     let inner = outer.with(&*element);
-    let tested = measure(alloc, &parts.condition, limits, &inner, condition, left)?;
-    let stepped = measure(alloc, &parts.step, limits, &inner, step, tested.left)?;
+    let tested = measure(
+        alloc,
+        &parts.condition,
+        limits,
+        &inner,
+        Some(condition),
+        left,
+    )?;
+    let stepped = measure(alloc, &parts.step, limits, &inner, Some(step), tested.left)?;
     let left = pay(stepped.left, 3)?;
     Ok(Measured {
         size: join(alloc, gathered, &stepped.size)?,
@@ -545,17 +518,16 @@ fn remember(
     expr: &TypedExpr<'_>,
     limits: &Limits,
     scope: &Scope<'_>,
-    memo: &Memo,
+    memo: Option<&Memo>,
     around: u64,
     left: u64,
 ) -> Result<Remembered, Refusal>
     requires counted { IsCounted (locals_view scope.now) }
-    requires holds { Holds (memo_view memo.now) (expr_view expr.now) limits.now (scope_view scope.now) }
+    requires holds { Holds (known_view memo) (expr_view expr.now) limits.now (scope_view scope.now) }
     ensures found { IfOk result (λ r. Remembers (memo_view r.memo) (expr_view expr.now) limits.now
         around (scope_view scope.now)) }
     ensures fault { IfErr result (λ e. e ≡ Memory) }
 {
-    let nothing = Memo::Unknown;
     if left == 0 {
         return Ok(Remembered {
             memo: Memo::Unknown,
@@ -576,30 +548,14 @@ fn remember(
             left,
         }),
         TypedExpr::Field { map, .. } => {
-            let found = remember(
-                alloc,
-                map,
-                limits,
-                scope,
-                memo.part(0, &nothing),
-                around,
-                left,
-            )?;
+            let found = remember(alloc, map, limits, scope, part(memo, 0), around, left)?;
             Ok(Remembered {
                 memo: Memo::of_parts(with_part(Vec::new(alloc), 0, found.memo)?),
                 left: found.left,
             })
         }
         TypedExpr::HasField { map, .. } => {
-            let found = remember(
-                alloc,
-                map,
-                limits,
-                scope,
-                memo.part(0, &nothing),
-                around,
-                left,
-            )?;
+            let found = remember(alloc, map, limits, scope, part(memo, 0), around, left)?;
             Ok(Remembered {
                 memo: Memo::of_parts(with_part(Vec::new(alloc), 0, found.memo)?),
                 left: found.left,
@@ -621,23 +577,37 @@ fn remember(
         }
         TypedExpr::Loop { parts, .. } => {
             if is_steady(expr, around, scope.count()) {
-                return match measure(alloc, expr, limits, scope, memo, left) {
-                    Ok(found) => Ok(Remembered {
-                        memo: Memo::Known {
-                            size: found.size,
-                            cost: left - found.left,
-                        },
-                        left: found.left,
-                    }),
-                    Err(Refusal::TooCostly) => Ok(Remembered {
-                        memo: Memo::Costly { than: left },
-                        left: 0,
-                    }),
-                    Err(other) => Err(other),
-                };
+                let measured = measure(alloc, expr, limits, scope, memo, left);
+                return remembered(measured, left);
             }
             remember_loop(alloc, parts, limits, scope, memo, around, left)
         }
+    }
+}
+
+// What is remembered of a loop that was measured: its size and its cost, or that it costs more than
+// there was.
+fn remembered(measured: Result<Measured, Refusal>, left: u64) -> Result<Remembered, Refusal>
+    ensures found { (size : Size) (cost : ℕ)
+        → IfOk measured (λ m. (size_view m.size ≡ size) × (left ≡ cost + m.left))
+        → IfErr measured (MemoryOr (CostsMore cost left))
+        → IfOk result (λ r. IsTold (memo_view r.memo) size cost) }
+    ensures fault { (cost : ℕ) → IfErr measured (MemoryOr (CostsMore cost left))
+        → IfErr result (λ e. e ≡ Memory) }
+{
+    match measured {
+        Ok(found) => Ok(Remembered {
+            memo: Memo::Known {
+                size: found.size,
+                cost: left.saturating_sub(found.left),
+            },
+            left: found.left,
+        }),
+        Err(Refusal::TooCostly) => Ok(Remembered {
+            memo: Memo::Costly { than: left },
+            left: 0,
+        }),
+        Err(other) => Err(other),
     }
 }
 
@@ -649,33 +619,24 @@ fn remember_each(
     exprs: &[TypedExpr<'_>],
     limits: &Limits,
     scope: &Scope<'_>,
-    memo: &Memo,
+    memo: Option<&Memo>,
     around: u64,
     choice: bool,
     left: u64,
 ) -> Result<Remembered, Refusal>
     requires counted { IsCounted (locals_view scope.now) }
-    requires holds { HoldsEach (memo_view memo.now) 0 (exprs_view exprs.now) limits.now (scope_view scope.now) }
+    requires holds { HoldsEach (known_view memo) 0 (exprs_view exprs.now) limits.now (scope_view scope.now) }
     ensures found { IfOk result (λ r. ((size : Size) (cost : ℕ) → Says (memo_view r.memo) size cost)
         × RemembersEach (memo_view r.memo) (exprs_view exprs.now) limits.now around (scope_view scope.now)) }
     ensures fault { IfErr result (λ e. e ≡ Memory) }
 {
-    let nothing = Memo::Unknown;
     let mut parts = Vec::new(alloc);
     let mut rest = left;
     let mut before = left;
     let mut place = 0;
     for expr in exprs {
         let worth = budget_at(choice, place, before, rest);
-        let found = remember(
-            alloc,
-            expr,
-            limits,
-            scope,
-            memo.part(place, &nothing),
-            around,
-            worth,
-        )?;
+        let found = remember(alloc, expr, limits, scope, part(memo, place), around, worth)?;
         parts = with_part(parts, place, found.memo)?;
         before = rest;
         rest = rest.min(found.left);
@@ -703,24 +664,23 @@ fn remember_loop(
     parts: &TypedLoop<'_>,
     limits: &Limits,
     scope: &Scope<'_>,
-    memo: &Memo,
+    memo: Option<&Memo>,
     around: u64,
     left: u64,
 ) -> Result<Remembered, Refusal>
     requires counted { IsCounted (locals_view scope.now) }
-    requires holds { (t : ValueType) → Holds (memo_view memo.now) (loop_of t (parts_view parts.now))
+    requires holds { (t : ValueType) → Holds (known_view memo) (loop_of t (parts_view parts.now))
         limits.now (scope_view scope.now) }
     ensures found { (t : ValueType) → IfOk result (λ r. Remembers (memo_view r.memo)
         (loop_of t (parts_view parts.now)) limits.now around (scope_view scope.now)) }
     ensures fault { IfErr result (λ e. e ≡ Memory) }
 {
-    let nothing = Memo::Unknown;
     let range = remember(
         alloc,
         &parts.range,
         limits,
         scope,
-        memo.part(0, &nothing),
+        part(memo, 0),
         around,
         left,
     )?;
@@ -729,7 +689,7 @@ fn remember_loop(
         &parts.init,
         limits,
         scope,
-        memo.part(1, &nothing),
+        part(memo, 1),
         around,
         range.left,
     )?;
@@ -742,7 +702,7 @@ fn remember_loop(
         &parts.condition,
         limits,
         &inner,
-        memo.part(2, &nothing),
+        part(memo, 2),
         around,
         budget_for(turned, init.left),
     )?;
@@ -751,7 +711,7 @@ fn remember_loop(
         &parts.step,
         limits,
         &inner,
-        memo.part(3, &nothing),
+        part(memo, 3),
         around,
         condition.left,
     )?;
@@ -760,7 +720,7 @@ fn remember_loop(
         &parts.result,
         limits,
         &outer,
-        memo.part(4, &nothing),
+        part(memo, 4),
         around,
         budget_at(!turned, 2, init.left, step.left),
     )?;

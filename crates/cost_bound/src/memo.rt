@@ -2,8 +2,7 @@
 
 ghost use Rattle.std.specs.Prelude.{◌≡◌, ◌<◌, ◌≤◌, ◌+◌, ℕ, IfOk, IsTrue, length};
 ghost use Rattle.cost_bound.specs.Sizes.{Size};
-ghost use Rattle.cost_bound.specs.declared.memo.Memo.{Unknown};
-ghost use Rattle.cost_bound.specs.steps.Memos.{Says, memo_at, memo_view, memos_view, nothing_known, part_at};
+ghost use Rattle.cost_bound.specs.steps.Memos.{Says, known_view, memo_at, memo_view, memos_view, nothing_known, part_at};
 
 use crate::size::ValueSize;
 use std::alloc::AllocError;
@@ -21,25 +20,33 @@ pub(crate) enum Memo {
     Parts(Vec<Memo>),
 }
 
-impl Memo {
-    /// What is known of the part at a place; where it has no memo, that is nothing.
-    pub(crate) fn part<'s>(&'s self, place: usize, nothing: &'s Memo) -> &'s Memo
-        requires { nothing.now ≡ Unknown }
-        ensures { memo_view result.now ≡ part_at place (memo_view self.now) }
-    {
-        match self {
-            Memo::Unknown => nothing,
-            Memo::Known { .. } => nothing,
-            Memo::Costly { .. } => nothing,
-            Memo::Parts(parts) => {
-                if place < parts.len() {
-                    return &parts[place];
-                }
-                nothing
+/// What is known of the part at a place.
+pub(crate) fn part<'s>(memo: Option<&'s Memo>, place: usize) -> Option<&'s Memo>
+    ensures { known_view result ≡ part_at place (known_view memo) }
+{
+    match memo {
+        None => None,
+        Some(known) => part_of(known, place),
+    }
+}
+
+fn part_of(memo: &Memo, place: usize) -> Option<&Memo>
+    ensures { known_view result ≡ part_at place (memo_view memo.now) }
+{
+    match memo {
+        Memo::Unknown => None,
+        Memo::Known { .. } => None,
+        Memo::Costly { .. } => None,
+        Memo::Parts(parts) => {
+            if place < parts.len() {
+                return Some(&parts[place]);
             }
+            None
         }
     }
+}
 
+impl Memo {
     /// The memo of an expression by those of its parts.
     pub(crate) fn of_parts(parts: Vec<Memo>) -> Memo
         ensures at { (i : ℕ) → part_at i (memo_view result) ≡ memo_at i (memos_view parts.items) }

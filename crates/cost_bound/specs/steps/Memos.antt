@@ -1,5 +1,6 @@
 -- What is known of an expression before it is measured, and when it is true.
-use Rattle.std.specs.Prelude.{ℕ, zero, suc, ◌≡◌, ◌<◌, ◌≤◌, ◌+◌, ◌⊎◌, List, [], ◌∷◌, length, map}
+use Rattle.std.specs.Prelude.{ℕ, zero, suc, ◌≡◌, ◌<◌, ◌≤◌, ◌+◌, ◌⊎◌, List, [], ◌∷◌, length, map, Option, Some, None}
+use denote.Ref.{Bor}
 use Rattle.attributes.specs.Limits.{LimitsValue}
 use Rattle.cel_types.specs.Elaborated.{TypedTree, typed_constant, typed_local, typed_attribute, typed_field, typed_has, typed_call, typed_list, typed_map, typed_loop, TypedTrees, no_typed, typed}
 use Rattle.cel_types.specs.TypedMeaning.{local_at}
@@ -39,6 +40,11 @@ memo_level (Memo-F.Parts ms) = parts_known (memos_of ms.items)
 abbrev pub memo_view : Memo → MemoTree
 memo_view = fold-Memo MemoTree memo_level
 
+-- what is known, where there may be a memo
+abbrev pub known_view : Option (Bor Memo) → MemoTree
+known_view None = nothing_known
+known_view (Some m) = memo_view m.now
+
 -- the same of parts one after the other
 abbrev pub memos_view : List Memo → MemoTrees
 memos_view ms = memos_of (map memo_view ms)
@@ -62,6 +68,10 @@ Says nothing_known size cost = Unit {0}
 Says (known_as s c) size cost = (s ≡ size) × (c ≡ cost)
 Says (more_than n) size cost = n < cost
 Says (parts_known ms) size cost = Unit {0}
+
+-- it says all of them, or that the cost is more than a number that it is more than
+abbrev pub IsTold : MemoTree → Size → ℕ → Type 0
+IsTold m size cost = (m ≡ known_as size cost) ⊎ ((n : ℕ) × (m ≡ more_than n) × (n < cost))
 
 -- it says so of an expression, and more
 abbrev pub SaysAnd : MemoTree → TypedTree → LimitsValue → List Size → (More : Type 0) → Type 0
