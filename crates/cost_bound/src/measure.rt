@@ -578,7 +578,7 @@ fn remember(
         TypedExpr::Loop { parts, .. } => {
             if is_steady(expr, around, scope.count()) {
                 let measured = measure(alloc, expr, limits, scope, memo, left);
-                return remembered(measured, left);
+                return keep_measured(measured, left);
             }
             remember_loop(alloc, parts, limits, scope, memo, around, left)
         }
@@ -587,7 +587,7 @@ fn remember(
 
 // What is remembered of a loop that was measured: its size and its cost, or that it costs more than
 // there was.
-fn remembered(measured: Result<Measured, Refusal>, left: u64) -> Result<Remembered, Refusal>
+fn keep_measured(measured: Result<Measured, Refusal>, left: u64) -> Result<Remembered, Refusal>
     ensures found { (size : Size) (cost : ℕ)
         → IfOk measured (λ m. (size_view m.size ≡ size) × (left ≡ cost + m.left))
         → IfErr measured (MemoryOr (CostsMore cost left))
