@@ -53,10 +53,10 @@ struct Remembered {
 // What is known of an expression, where that is all of it. It is paid whole.
 fn recall(memo: Option<&Memo>, left: u64) -> Result<Option<Measured>, Refusal>
     ensures found { IfOk result (λ o. IfSome o (λ m. (size : Size) (cost : ℕ)
-        → Says (known_view memo) size cost
+        → Says (known_view memo.entry) size cost
         → (size_view m.size ≡ size) × (left ≡ cost + m.left))) }
     ensures fault { IfErr result (MemoryOr (λ e. (size : Size) (cost : ℕ)
-        → Says (known_view memo) size cost → CostsMore cost left e)) }
+        → Says (known_view memo.entry) size cost → CostsMore cost left e)) }
 {
     match memo {
         None => Ok(None),

@@ -22,7 +22,7 @@ pub(crate) enum Memo {
 
 /// What is known of the part at a place.
 pub(crate) fn part<'s>(memo: Option<&'s Memo>, place: usize) -> Option<&'s Memo>
-    ensures { known_view result ≡ part_at place (known_view memo) }
+    ensures { known_view result ≡ part_at place (known_view memo.entry) }
 {
     match memo {
         None => None,
@@ -70,11 +70,22 @@ pub(crate) fn with_part(parts: Vec<Memo>, place: usize, memo: Memo) -> Result<Ve
     if is_unknown(&memo) {
         return Ok(parts);
     }
+    let mut all = padded(parts, place)?;
+    all.push(memo)?;
+    Ok(all)
+}
+
+// The memos of parts up to a place; of those behind nothing is known.
+fn padded(parts: Vec<Memo>, place: usize) -> Result<Vec<Memo>, AllocError>
+    requires { length parts.items ≤ place }
+    ensures full { IfOk result (λ all. length all.items ≡ place) }
+    ensures same { IfOk result (λ all. (i : ℕ)
+        → memo_at i (memos_view all.items) ≡ memo_at i (memos_view parts.items)) }
+{
     let mut all = parts;
     'padding: while all.len() < place {
         all.push(Memo::Unknown)?;
     }
-    all.push(memo)?;
     Ok(all)
 }
 

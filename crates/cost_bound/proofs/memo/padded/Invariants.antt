@@ -1,6 +1,6 @@
 use Rattle.std.proofs.Common.{◌≡◌, ℕ, ◌-◌, ◌≤◌, length}
 use Rattle.cost_bound.specs.steps.Memos.{memo_at, memos_view}
-use Rattle.cost_bound.proofs.memo.with_part.Given as goal
+use Rattle.cost_bound.proofs.memo.padded.Given as goal
 
 abbrev pub invariant-padding : goal.invariant-padding
 invariant-padding l = (length l.all.items ≤ l.place)
