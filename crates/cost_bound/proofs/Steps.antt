@@ -7,7 +7,8 @@ use Rattle.cel_types.specs.View.{TypedParts, expr_view, exprs_view, loop_of}
 use Rattle.cel_types.specs.declared.typed.TypedExpr.{TypedExpr}
 use Rattle.cel_value.specs.Types.{ValueType}
 use Rattle.std.specs.Prelude.{Result, IfErr, IsErrAnd}
-use Rattle.proto_wire.proofs.Exits.{exit_memory_or}
+use Rattle.std.proofs.lemmas.Result.{IfErr-weaker}
+use Rattle.proto_wire.proofs.Exits.{exit_memory_or, memory_or_weaker}
 use Rattle.proto_wire.specs.Refusal.{MemoryOr}
 use Rattle.proto_wire.specs.declared.refusal.Refusal.{Refusal}
 use Rattle.cost_bound.specs.Costs.{cost_of, costs_of, element_size, field_cost, grown, size_of, sizes_of, total, turns_cost}
@@ -65,6 +66,13 @@ pub exit_charge : {T : Type 0} (a rest b left : ℕ) (r : Result T Refusal) (e :
     → IsErrAnd r (λ y. y ≡ e) → CostsMore a rest e → (rest < a → left < b)
     → IfErr r (MemoryOr (CostsMore b left))
 exit_charge a rest b left r e told fault more = exit_more a rest b left r e told (inr fault) more
+
+-- the same at a last call
+pub last_more : {T : Type 0} (a rest b left : ℕ) (r : Result T Refusal) → (rest < a → left < b)
+    → IfErr r (MemoryOr (CostsMore a rest)) → IfErr r (MemoryOr (CostsMore b left))
+last_more a rest b left r more h =
+    IfErr-weaker r (MemoryOr (CostsMore a rest)) (MemoryOr (CostsMore b left))
+    (λ e fault. memory_or_weaker (CostsMore a rest) (CostsMore b left) e (λ d f. (f.0, more f.1)) fault) h
 
 -- a comprehension: what is paid for its parts, one after the other
 pub loop_adds : (p : TypedParts) (t : ValueType) (l : LimitsValue) (ss : List Size) (R E I G : Size)

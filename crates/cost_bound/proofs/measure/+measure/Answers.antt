@@ -1,9 +1,8 @@
-use Rattle.std.proofs.Common.{◌≡◌, false, true, length, ◌+◌, ◌<◌, ◌^◌, ◌∙◌, ap, sym, refl, arith, rules}
+use Rattle.std.proofs.Common.{◌≡◌, false, true, length, ◌∷◌, ◌+◌, ◌<◌, ◌^◌, ◌∙◌, ap, sym, refl, arith, rules}
 use Rattle.std.proofs.lemmas.Grind.{common_steps}
-use Rattle.std.proofs.lemmas.Result.{IfErr-weaker, IfOk-weaker}
-use Rattle.proto_wire.proofs.Exits.{memory_or_weaker}
+use Rattle.std.proofs.lemmas.Result.{IfOk-weaker}
 use Rattle.cel_types.specs.Elaborated.{kinds}
-use Rattle.cel_types.specs.View.{expr_view, exprs_view, parts_view}
+use Rattle.cel_types.specs.View.{expr_view, exprs_view, loop_of, parts_view}
 use Rattle.cel_types.specs.declared.typed.TypedExpr.{the_lemmas}
 use Rattle.cel_value.specs.Types.{bool_type, type_view}
 use Rattle.cost_bound.specs.Costs.{charge_at, cost_of, size_of, sizes_of}
@@ -18,7 +17,7 @@ use Rattle.cost_bound.proofs.ExprViews.{view_call, view_list, view_loop, view_ma
 use Rattle.cost_bound.proofs.Locals as locals
 use Rattle.cost_bound.proofs.MemoViews.{view_unknown}
 use Rattle.cost_bound.proofs.Remembering.{each_holds, holds_nothing, loop_remembered, more_parts, part_holds, remembered_turns, told_in_turns}
-use Rattle.cost_bound.proofs.Steps.{as_many, cost_count, exit_charge, exit_more, loop_adds, loop_ends_short, loop_short, loop_size}
+use Rattle.cost_bound.proofs.Steps.{as_many, cost_count, exit_charge, exit_more, last_more, loop_adds, loop_ends_short, loop_short, loop_size}
 use Rattle.cost_bound.proofs.Turns.{grown_next, grown_still, still_paid, still_short, turns_next}
 use Rattle.cost_bound.proofs.measure.+measure.Goals as goal
 
@@ -148,56 +147,40 @@ measure_turns-returns-then-same-clause-found t c =
 pub measure_each-measure-requires : goal.measure_each-measure-requires
 measure_each-measure-requires t c = (
   first_of (search (rules, the_lemmas), grind (arith, the_lemmas), grind (arith, common_steps)),
-  record {
-    counted = c.requires.counted;
-    holds = part_holds (known_view c.args.memo) _ c.args.limits.now (scope_view c.args.scope.now)
+  (c.requires.counted, part_holds (known_view c.args.memo) _ c.args.limits.now (scope_view c.args.scope.now)
         c.args.exprs.now c.loop-expr.expr-index c.expr-item.result c.loop-expr-test.true c.expr-item.is
-        (c.part.ensures ∙ ap (λ i. part_at i (known_view c.args.memo)) c.loop-expr.invariant.2) c.requires.holds;
-  },
+        (c.part.ensures ∙ ap (λ i. part_at i (known_view c.args.memo)) c.loop-expr.invariant.2) c.requires.holds),
 )
 
 pub measure_loop-measure-requires : goal.measure_loop-measure-requires
 measure_loop-measure-requires t c = (
   first_of (search (rules, the_lemmas), grind (arith, the_lemmas), grind (arith, common_steps)),
-  record {
-    counted = c.requires.counted;
-    holds = rw c.part.ensures (c.requires.holds bool_type).1.0;
-  },
+  (c.requires.counted, rw c.part.ensures (c.requires.holds bool_type).1.0),
 )
 
 pub measure_loop-measure-requires-2 : goal.measure_loop-measure-requires-2
 measure_loop-measure-requires-2 t c = (
   first_of (search (rules, the_lemmas), grind (arith, the_lemmas), grind (arith, common_steps)),
-  record {
-    counted = c.requires.counted;
-    holds = rw c.part-2.ensures (c.requires.holds bool_type).1.1;
-  },
+  (c.requires.counted, rw c.part-2.ensures (c.requires.holds bool_type).1.1),
 )
 
 pub measure_loop-remember-requires : goal.measure_loop-remember-requires
 measure_loop-remember-requires t c = (
   first_of (search (rules, the_lemmas), grind (arith, the_lemmas), grind (arith, common_steps)),
-  record {
-    counted = c.with-inside.ensures.counted;
-    holds = rw (c.part-3.ensures, c.with-inside.ensures.sizes, c.with-around.ensures.sizes) ((c.requires.holds bool_type).1.2 _ _);
-  },
+  (c.with-inside.ensures.counted, rw (c.part-3.ensures, c.with-inside.ensures.sizes, c.with-around.ensures.sizes) ((c.requires.holds bool_type).1.2 _ _)),
 )
 
 pub measure_loop-remember-requires-2 : goal.measure_loop-remember-requires-2
 measure_loop-remember-requires-2 t c = (
   first_of (search (rules, the_lemmas), grind (arith, the_lemmas), grind (arith, common_steps)),
-  record {
-    counted = c.with-inside.ensures.counted;
-    holds = rw (c.part-4.ensures, c.with-inside.ensures.sizes, c.with-around.ensures.sizes) ((c.requires.holds bool_type).1.3 _ _);
-  },
+  (c.with-inside.ensures.counted, rw (c.part-4.ensures, c.with-inside.ensures.sizes, c.with-around.ensures.sizes) ((c.requires.holds bool_type).1.3 _ _)),
 )
 
 pub measure_loop-measure_turns-requires : goal.measure_loop-measure_turns-requires
 measure_loop-measure_turns-requires t c =
     let inside = rw c.with-around.ensures.sizes at c.with-inside.ensures.sizes in (
       first_of (search (rules, the_lemmas), grind (arith, the_lemmas), grind (arith, common_steps)),
-      record {
-        counted = c.requires.counted;
+      (c.requires.counted;
         condition_holds = remembered_turns _ _ c.args.limits.now _ _ _ _ (locals_view c.args.scope.now)
             c.count-count.ensures inside c.in_ok-condition.ensures.found;
         step_holds = remembered_turns _ _ c.args.limits.now _ _ _ _ (locals_view c.args.scope.now)
@@ -209,9 +192,7 @@ pub measure_loop-measure-requires-3 : goal.measure_loop-measure-requires-3
 measure_loop-measure-requires-3 t c = (
   first_of (search (rules, the_lemmas), grind (arith, the_lemmas), grind (arith, common_steps)),
   record {
-    counted = c.with-inner.ensures.counted;
-    holds = rw (c.part-5.ensures, c.with-inner.ensures.sizes) ((c.requires.holds bool_type).1.4 _);
-  },
+    counted = c.with-inner.ensures.counted, rw (c.part-5.ensures, c.with-inner.ensures.sizes) ((c.requires.holds bool_type).1.4 _)),
 )
 
 pub measure_loop-returns-in_err-gathered-clause-fault : goal.measure_loop-returns-in_err-gathered-clause-fault
@@ -245,13 +226,14 @@ measure_loop-returns-clause-fault t c = λ kind.
     let gathered = c.in_ok-gathered.ensures.found in
     let closed = c.in_ok-closed.ensures.found in
     let opened = ap (λ k. 1 + k + c.in_ok-opened.opened) (c.most.ensures.most ∙ sym c.most-turns.ensures.most) in
-    IfErr-weaker c.measure-3.result _ _ (λ e fault. memory_or_weaker _ _ e (λ d more. (
-      more.0,
-      loop_ends_short (parts_view c.args.parts.now) kind c.args.limits.now (scope_view c.args.scope.now)
-          _ _ _ _ _ _ _ _ _ _ _ range.0 c.most-turns.ensures.most c.in_ok-element.ensures init.0 gathered.0
-          range.1 (c.in_ok-opened.ensures.found ∙ opened) init.1 c.in_ok-stored.ensures.found gathered.1
-          (omega (arith, more.1, closed)),
-    )) fault)
+    last_more (cost_of (parts_view c.args.parts.now).result c.args.limits.now
+    (size_view c.in_ok-gathered.gathered.size ∷ scope_view c.args.scope.now)) c.in_ok-closed.closed
+    (cost_of (loop_of kind (parts_view c.args.parts.now)) c.args.limits.now (scope_view c.args.scope.now))
+    c.args.left c.measure-3.result
+    (λ more. loop_ends_short (parts_view c.args.parts.now) kind c.args.limits.now (scope_view c.args.scope.now)
+    _ _ _ _ _ _ _ _ _ _ _ range.0 c.most-turns.ensures.most c.in_ok-element.ensures init.0 gathered.0
+    range.1 (c.in_ok-opened.ensures.found ∙ opened) init.1 c.in_ok-stored.ensures.found gathered.1
+    (omega (arith, more, closed)))
     (rw c.with-inner.ensures.sizes at c.measure-3.ensures.fault)
 
 -- ---- what is remembered
@@ -293,21 +275,15 @@ pub remember-remember_loop-requires : goal.remember-remember_loop-requires
 remember-remember_loop-requires t c =
     let seen = ap expr_view c.in-Loop.is ∙ view_loop c.in-Loop.cel_type c.in-Loop.parts in (
       first_of (search (rules, the_lemmas), grind (arith, the_lemmas), grind (arith, common_steps)),
-      record {
-        counted = c.requires.counted;
-        holds = λ kind. rw c.deref-in-Loop.ensures (rw seen at c.requires.holds);
-      },
+      (c.requires.counted, λ kind. rw c.deref-in-Loop.ensures (rw seen at c.requires.holds)),
     )
 
 pub remember_each-remember-requires : goal.remember_each-remember-requires
 remember_each-remember-requires t c = (
   first_of (search (rules, the_lemmas), grind (arith, the_lemmas), grind (arith, common_steps)),
-  record {
-    counted = c.requires.counted;
-    holds = part_holds (known_view c.args.memo) _ c.args.limits.now (scope_view c.args.scope.now)
+  (c.requires.counted, part_holds (known_view c.args.memo) _ c.args.limits.now (scope_view c.args.scope.now)
         c.args.exprs.now c.loop-expr.expr-index c.expr-item.result c.loop-expr-test.true c.expr-item.is
-        (c.part.ensures ∙ ap (λ i. part_at i (known_view c.args.memo)) c.loop-expr.invariant.0) c.requires.holds;
-  },
+        (c.part.ensures ∙ ap (λ i. part_at i (known_view c.args.memo)) c.loop-expr.invariant.0) c.requires.holds),
 )
 
 pub remember_each-loop-expr-preserved : goal.remember_each-loop-expr-preserved
@@ -331,46 +307,31 @@ remember_each-returns-clause-found t c = (
 pub remember_loop-remember-requires : goal.remember_loop-remember-requires
 remember_loop-remember-requires t c = (
   first_of (search (rules, the_lemmas), grind (arith, the_lemmas), grind (arith, common_steps)),
-  record {
-    counted = c.requires.counted;
-    holds = rw c.part.ensures (c.requires.holds bool_type).1.0;
-  },
+  (c.requires.counted, rw c.part.ensures (c.requires.holds bool_type).1.0),
 )
 
 pub remember_loop-remember-requires-2 : goal.remember_loop-remember-requires-2
 remember_loop-remember-requires-2 t c = (
   first_of (search (rules, the_lemmas), grind (arith, the_lemmas), grind (arith, common_steps)),
-  record {
-    counted = c.requires.counted;
-    holds = rw c.part-2.ensures (c.requires.holds bool_type).1.1;
-  },
+  (c.requires.counted, rw c.part-2.ensures (c.requires.holds bool_type).1.1),
 )
 
 pub remember_loop-remember-requires-3 : goal.remember_loop-remember-requires-3
 remember_loop-remember-requires-3 t c = (
   first_of (search (rules, the_lemmas), grind (arith, the_lemmas), grind (arith, common_steps)),
-  record {
-    counted = c.with-inner.ensures.counted;
-    holds = rw (c.part-3.ensures, c.with-inner.ensures.sizes, c.with-outer.ensures.sizes) ((c.requires.holds bool_type).1.2 _ _);
-  },
+  (c.with-inner.ensures.counted, rw (c.part-3.ensures, c.with-inner.ensures.sizes, c.with-outer.ensures.sizes) ((c.requires.holds bool_type).1.2 _ _)),
 )
 
 pub remember_loop-remember-requires-4 : goal.remember_loop-remember-requires-4
 remember_loop-remember-requires-4 t c = (
   first_of (search (rules, the_lemmas), grind (arith, the_lemmas), grind (arith, common_steps)),
-  record {
-    counted = c.with-inner.ensures.counted;
-    holds = rw (c.part-4.ensures, c.with-inner.ensures.sizes, c.with-outer.ensures.sizes) ((c.requires.holds bool_type).1.3 _ _);
-  },
+  (c.with-inner.ensures.counted, rw (c.part-4.ensures, c.with-inner.ensures.sizes, c.with-outer.ensures.sizes) ((c.requires.holds bool_type).1.3 _ _)),
 )
 
 pub remember_loop-remember-requires-5 : goal.remember_loop-remember-requires-5
 remember_loop-remember-requires-5 t c = (
   first_of (search (rules, the_lemmas), grind (arith, the_lemmas), grind (arith, common_steps)),
-  record {
-    counted = c.with-outer.ensures.counted;
-    holds = rw (c.part-5.ensures, c.with-outer.ensures.sizes) ((c.requires.holds bool_type).1.4 _);
-  },
+  (c.with-outer.ensures.counted, rw (c.part-5.ensures, c.with-outer.ensures.sizes) ((c.requires.holds bool_type).1.4 _)),
 )
 
 pub remember_loop-returns-clause-found : goal.remember_loop-returns-clause-found
