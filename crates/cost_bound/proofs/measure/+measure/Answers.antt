@@ -147,9 +147,12 @@ measure_turns-returns-then-same-clause-found t c =
 pub measure_each-measure-requires : goal.measure_each-measure-requires
 measure_each-measure-requires t c = (
   first_of (search (rules, the_lemmas), grind (arith, the_lemmas), grind (arith, common_steps)),
-  (c.requires.counted, part_holds (known_view c.args.memo) _ c.args.limits.now (scope_view c.args.scope.now)
+  (
+    c.requires.counted,
+    part_holds (known_view c.args.memo) _ c.args.limits.now (scope_view c.args.scope.now)
         c.args.exprs.now c.loop-expr.expr-index c.expr-item.result c.loop-expr-test.true c.expr-item.is
-        (c.part.ensures ∙ ap (λ i. part_at i (known_view c.args.memo)) c.loop-expr.invariant.2) c.requires.holds),
+        (c.part.ensures ∙ ap (λ i. part_at i (known_view c.args.memo)) c.loop-expr.invariant.2) c.requires.holds,
+  ),
 )
 
 pub measure_loop-measure-requires : goal.measure_loop-measure-requires
@@ -180,19 +183,19 @@ pub measure_loop-measure_turns-requires : goal.measure_loop-measure_turns-requir
 measure_loop-measure_turns-requires t c =
     let inside = rw c.with-around.ensures.sizes at c.with-inside.ensures.sizes in (
       first_of (search (rules, the_lemmas), grind (arith, the_lemmas), grind (arith, common_steps)),
-      (c.requires.counted;
-        condition_holds = remembered_turns _ _ c.args.limits.now _ _ _ _ (locals_view c.args.scope.now)
-            c.count-count.ensures inside c.in_ok-condition.ensures.found;
-        step_holds = remembered_turns _ _ c.args.limits.now _ _ _ _ (locals_view c.args.scope.now)
-            c.count-count.ensures inside c.in_ok-step.ensures.found;
-      },
+      (
+        c.requires.counted,
+        remembered_turns _ _ c.args.limits.now _ _ _ _ (locals_view c.args.scope.now)
+            c.count-count.ensures inside c.in_ok-condition.ensures.found,
+        remembered_turns _ _ c.args.limits.now _ _ _ _ (locals_view c.args.scope.now)
+            c.count-count.ensures inside c.in_ok-step.ensures.found,
+      ),
     )
 
 pub measure_loop-measure-requires-3 : goal.measure_loop-measure-requires-3
 measure_loop-measure-requires-3 t c = (
   first_of (search (rules, the_lemmas), grind (arith, the_lemmas), grind (arith, common_steps)),
-  record {
-    counted = c.with-inner.ensures.counted, rw (c.part-5.ensures, c.with-inner.ensures.sizes) ((c.requires.holds bool_type).1.4 _)),
+  (c.with-inner.ensures.counted, rw (c.part-5.ensures, c.with-inner.ensures.sizes) ((c.requires.holds bool_type).1.4 _)),
 )
 
 pub measure_loop-returns-in_err-gathered-clause-fault : goal.measure_loop-returns-in_err-gathered-clause-fault
@@ -281,9 +284,12 @@ remember-remember_loop-requires t c =
 pub remember_each-remember-requires : goal.remember_each-remember-requires
 remember_each-remember-requires t c = (
   first_of (search (rules, the_lemmas), grind (arith, the_lemmas), grind (arith, common_steps)),
-  (c.requires.counted, part_holds (known_view c.args.memo) _ c.args.limits.now (scope_view c.args.scope.now)
+  (
+    c.requires.counted,
+    part_holds (known_view c.args.memo) _ c.args.limits.now (scope_view c.args.scope.now)
         c.args.exprs.now c.loop-expr.expr-index c.expr-item.result c.loop-expr-test.true c.expr-item.is
-        (c.part.ensures ∙ ap (λ i. part_at i (known_view c.args.memo)) c.loop-expr.invariant.0) c.requires.holds),
+        (c.part.ensures ∙ ap (λ i. part_at i (known_view c.args.memo)) c.loop-expr.invariant.0) c.requires.holds,
+  ),
 )
 
 pub remember_each-loop-expr-preserved : goal.remember_each-loop-expr-preserved
