@@ -185,10 +185,12 @@ measure_loop-measure_turns-requires t c =
       first_of (search (rules, the_lemmas), grind (arith, the_lemmas), grind (arith, common_steps)),
       (
         c.requires.counted,
-        remembered_turns _ _ c.args.limits.now _ _ _ _ (locals_view c.args.scope.now)
-            c.count-count.ensures inside c.in_ok-condition.ensures.found,
-        remembered_turns _ _ c.args.limits.now _ _ _ _ (locals_view c.args.scope.now)
-            c.count-count.ensures inside c.in_ok-step.ensures.found,
+        (
+          remembered_turns _ _ c.args.limits.now _ _ _ _ (locals_view c.args.scope.now)
+              c.count-count.ensures inside c.in_ok-condition.ensures.found,
+          remembered_turns _ _ c.args.limits.now _ _ _ _ (locals_view c.args.scope.now)
+              c.count-count.ensures inside c.in_ok-step.ensures.found,
+        ),
       ),
     )
 
