@@ -23,7 +23,7 @@ struct Words {
     letters: Constant,
 }
 
-fn words(alloc: Global) -> Result<Words, AllocError> {
+fn make_words(alloc: Global) -> Result<Words, AllocError> {
     Ok(Words {
         yes: Constant::Bool(true),
         no: Constant::Bool(false),
@@ -48,9 +48,14 @@ fn all<'a>(
 }
 
 // `[true, false, true].all(x, x)`, which costs 45.
-fn all_of_three(alloc: Global, outside: u8, w: &Words) -> Result<TypedExpr<'_>, AllocError> {
+fn all_of_three(
+    alloc: Global,
+    outside: u8,
+    element: u8,
+    w: &Words,
+) -> Result<TypedExpr<'_>, AllocError> {
     let range = list(vec![in alloc; constant(&w.yes), constant(&w.no), constant(&w.yes)]?);
-    all(alloc, range, outside, local(outside + 1), &w.yes)
+    all(alloc, range, outside, local(element), &w.yes)
 }
 
 // `[true, false].all(x, test)`, inside of one loop.
@@ -103,8 +108,8 @@ fn equals_letter<'a>(
 #[test]
 fn inner_loop_by_itself(rt: HostRuntime) -> Result<(), Fail> {
     let alloc = rt.alloc();
-    let w = words(alloc)?;
-    let inner = all_of_three(alloc, 2, &w)?;
+    let w = make_words(alloc)?;
+    let inner = all_of_three(alloc, 2, 3, &w)?;
     let root = growing(alloc, &w, twice(alloc, &w.one)?, inner)?;
     let typed = Typed { root };
     assert!(rt; bound(alloc, &typed, &Limits::largest(), 125) == Ok(125));
@@ -117,7 +122,7 @@ fn inner_loop_by_itself(rt: HostRuntime) -> Result<(), Fail> {
 #[test]
 fn inner_loop_of_what_is_gathered(rt: HostRuntime) -> Result<(), Fail> {
     let alloc = rt.alloc();
-    let w = words(alloc)?;
+    let w = make_words(alloc)?;
     let inner = all_of_two(alloc, &w, equals_letter(alloc, &w, 0)?)?;
     let root = growing(alloc, &w, twice(alloc, &w.one)?, inner)?;
     let typed = Typed { root };
@@ -130,7 +135,7 @@ fn inner_loop_of_what_is_gathered(rt: HostRuntime) -> Result<(), Fail> {
 #[test]
 fn inner_loop_of_the_element(rt: HostRuntime) -> Result<(), Fail> {
     let alloc = rt.alloc();
-    let w = words(alloc)?;
+    let w = make_words(alloc)?;
     let inner = all_of_two(alloc, &w, equals_letter(alloc, &w, 1)?)?;
     let range = list(vec![in alloc; constant(&w.letter), constant(&w.letters)]?);
     let root = growing(alloc, &w, range, inner)?;
@@ -145,8 +150,8 @@ fn inner_loop_of_the_element(rt: HostRuntime) -> Result<(), Fail> {
 #[test]
 fn loop_by_itself_in_one_of_what_is_gathered(rt: HostRuntime) -> Result<(), Fail> {
     let alloc = rt.alloc();
-    let w = words(alloc)?;
-    let innermost = all_of_three(alloc, 4, &w)?;
+    let w = make_words(alloc)?;
+    let innermost = all_of_three(alloc, 4, 5, &w)?;
     let both = binary(
         alloc,
         Overload::LogicalAnd,
@@ -167,7 +172,7 @@ fn loop_by_itself_in_one_of_what_is_gathered(rt: HostRuntime) -> Result<(), Fail
 #[test]
 fn forty_loops(rt: HostRuntime) -> Result<(), Fail> {
     let alloc = rt.alloc();
-    let w = words(alloc)?;
+    let w = make_words(alloc)?;
     let mut root = constant(&w.letter);
     for level in 0..40u8 {
         let outside = 2 * (39 - level);
