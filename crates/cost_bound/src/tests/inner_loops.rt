@@ -166,21 +166,35 @@ fn loop_by_itself_in_one_of_what_is_gathered(rt: HostRuntime) -> Result<(), Fail
     Ok(())
 }
 
+// A text that grows in two turns by what an expression comes to.
+fn grown_twice<'a>(
+    alloc: Global,
+    w: &'a Words,
+    outside: u8,
+    inner: TypedExpr<'a>,
+) -> Result<TypedExpr<'a>, AllocError> {
+    let step = binary(alloc, Overload::Concat, local(outside), inner)?;
+    comprehension(
+        alloc,
+        twice(alloc, &w.one)?,
+        constant(&w.empty),
+        constant(&w.yes),
+        step,
+        local(outside),
+    )
+}
+
 // Forty loops in one another, each of two turns with a text that grows by what the next one comes to.
 // With k of them the text has 2^k letters. They cost c(k + 1) = 26 + 2 * c(k) + 3 * 2^k where c(0) = 1, so
 // 87 * 2^40 - 26. No one lives to see 2^40 turns measured.
 #[test]
 fn forty_loops(rt: HostRuntime) -> Result<(), Fail> {
     let alloc = rt.alloc();
-    let w = make_words(alloc)?;
+    let all_words = make_words(alloc)?;
+    let w = &all_words;
     let mut root = constant(&w.letter);
     for level in 0..40u8 {
-        let outside = 2 * (39 - level);
-        let step = binary(alloc, Overload::Concat, local(outside), root)?;
-        let range = twice(alloc, &w.one)?;
-        let empty = constant(&w.empty);
-        let yes = constant(&w.yes);
-        root = comprehension(alloc, range, empty, yes, step, local(outside))?;
+        root = grown_twice(alloc, w, 2 * (39 - level), root)?;
     }
     let typed = Typed { root };
     let cost = 95_657_511_616_486;
