@@ -8,6 +8,9 @@ pub mod Places
 pub mod Steps
 pub mod Counting
 pub mod Joins
+pub mod Alike
+pub mod MemoViews
+pub mod Remembering
 pub mod Scalars
 pub mod Within
 pub mod Reached

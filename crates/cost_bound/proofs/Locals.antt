@@ -14,7 +14,8 @@ pub view_local : (s : Bor ValueSize) (n : ℕ) (o : Bor Scope)
     → locals_view (Local s n o) ≡ record { outside = n; size = size_view s.now } ∷ locals_view o.now
 view_local s n o = search (rules, the_lemmas)
 
-as_many : (cs : List Counted) → length (sizes_among cs) ≡ length cs
+-- there are as many sizes as locals
+pub as_many : (cs : List Counted) → length (sizes_among cs) ≡ length cs
 as_many [] = refl
 as_many (c ∷ cs) = ap suc (as_many cs)
 

@@ -7,7 +7,8 @@ use Rattle.cel_types.specs.View.{TypedParts, expr_view, exprs_view, loop_of}
 use Rattle.cel_types.specs.declared.typed.TypedExpr.{TypedExpr}
 use Rattle.cel_value.specs.Types.{ValueType}
 use Rattle.std.specs.Prelude.{Result, IfErr, IsErrAnd}
-use Rattle.proto_wire.proofs.Exits.{exit_memory_or}
+use Rattle.std.proofs.lemmas.Result.{IfErr-weaker}
+use Rattle.proto_wire.proofs.Exits.{exit_memory_or, memory_or_weaker}
 use Rattle.proto_wire.specs.Refusal.{MemoryOr}
 use Rattle.proto_wire.specs.declared.refusal.Refusal.{Refusal}
 use Rattle.cost_bound.specs.Costs.{cost_of, costs_of, element_size, field_cost, grown, size_of, sizes_of, total, turns_cost}
@@ -66,6 +67,13 @@ pub exit_charge : {T : Type 0} (a rest b left : ℕ) (r : Result T Refusal) (e :
     → IfErr r (MemoryOr (CostsMore b left))
 exit_charge a rest b left r e told fault more = exit_more a rest b left r e told (inr fault) more
 
+-- the same at a last call
+pub last_more : {T : Type 0} (a rest b left : ℕ) (r : Result T Refusal) → (rest < a → left < b)
+    → IfErr r (MemoryOr (CostsMore a rest)) → IfErr r (MemoryOr (CostsMore b left))
+last_more a rest b left r more h =
+    IfErr-weaker r (MemoryOr (CostsMore a rest)) (MemoryOr (CostsMore b left))
+    (λ e fault. memory_or_weaker (CostsMore a rest) (CostsMore b left) e (λ d f. (f.0, more f.1)) fault) h
+
 -- a comprehension: what is paid for its parts, one after the other
 pub loop_adds : (p : TypedParts) (t : ValueType) (l : LimitsValue) (ss : List Size) (R E I G : Size)
     (n left r o i s g c m : ℕ)
@@ -82,6 +90,52 @@ loop_adds p t l ss R E I G n left r o i s g c m range most element init gathered
     let turns = rw (element', most', init) at h5 in
     let opened = rw most' at h2 in
     let result = rw all at h7 in
+    let whole : cost_of (loop_of t p) l ss
+    ≡ cost_of p.range l ss + (1 + most_of (size_of p.range l ss)) + cost_of p.init l ss + 1
+    + turns_cost (next_size p l (element_size (size_of p.range l ss)) ss)
+    (turn_cost p l (element_size (size_of p.range l ss)) ss) (most_of (size_of p.range l ss))
+    (size_of p.init l ss)
+    + 1 + cost_of p.result l (grown (next_size p l (element_size (size_of p.range l ss)) ss)
+    (most_of (size_of p.range l ss)) (size_of p.init l ss) ∷ ss) = refl in
+    rw whole (omega arith)
+
+-- what is short of the cost of its turns is short of its own
+pub loop_short : (p : TypedParts) (t : ValueType) (l : LimitsValue) (ss : List Size) (R E I : Size)
+    (n left r o i s : ℕ)
+    → R ≡ size_of p.range l ss → n ≡ most_of R → E ≡ element_size R → I ≡ size_of p.init l ss
+    → left ≡ cost_of p.range l ss + r → r ≡ 1 + n + o → o ≡ cost_of p.init l ss + i → i ≡ 1 + 0 + s
+    → s < turns_cost (next_size p l E ss) (turn_cost p l E ss) n I
+    → left < cost_of (loop_of t p) l ss
+loop_short p t l ss R E I n left r o i s range most element init h1 h2 h3 h4 short =
+    let most' : n ≡ most_of (size_of p.range l ss) = most ∙ ap most_of range in
+    let element' : E ≡ element_size (size_of p.range l ss) = element ∙ ap element_size range in
+    let turns = rw (element', most', init) at short in
+    let opened = rw most' at h2 in
+    let whole : cost_of (loop_of t p) l ss
+    ≡ cost_of p.range l ss + (1 + most_of (size_of p.range l ss)) + cost_of p.init l ss + 1
+    + turns_cost (next_size p l (element_size (size_of p.range l ss)) ss)
+    (turn_cost p l (element_size (size_of p.range l ss)) ss) (most_of (size_of p.range l ss))
+    (size_of p.init l ss)
+    + 1 + cost_of p.result l (grown (next_size p l (element_size (size_of p.range l ss)) ss)
+    (most_of (size_of p.range l ss)) (size_of p.init l ss) ∷ ss) = refl in
+    rw whole (omega arith)
+
+-- and what is short of the cost of its end once its turns are paid
+pub loop_ends_short : (p : TypedParts) (t : ValueType) (l : LimitsValue) (ss : List Size) (R E I G : Size)
+    (n left r o i s g : ℕ)
+    → R ≡ size_of p.range l ss → n ≡ most_of R → E ≡ element_size R → I ≡ size_of p.init l ss
+    → G ≡ grown (next_size p l E ss) n I
+    → left ≡ cost_of p.range l ss + r → r ≡ 1 + n + o → o ≡ cost_of p.init l ss + i → i ≡ 1 + 0 + s
+    → s ≡ turns_cost (next_size p l E ss) (turn_cost p l E ss) n I + g
+    → g < 1 + cost_of p.result l (G ∷ ss)
+    → left < cost_of (loop_of t p) l ss
+loop_ends_short p t l ss R E I G n left r o i s g range most element init gathered h1 h2 h3 h4 h5 short =
+    let most' : n ≡ most_of (size_of p.range l ss) = most ∙ ap most_of range in
+    let element' : E ≡ element_size (size_of p.range l ss) = element ∙ ap element_size range in
+    let all = rw (element', most', init) at gathered in
+    let turns = rw (element', most', init) at h5 in
+    let opened = rw most' at h2 in
+    let result = rw all at short in
     let whole : cost_of (loop_of t p) l ss
     ≡ cost_of p.range l ss + (1 + most_of (size_of p.range l ss)) + cost_of p.init l ss + 1
     + turns_cost (next_size p l (element_size (size_of p.range l ss)) ss)

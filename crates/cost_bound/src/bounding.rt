@@ -22,6 +22,6 @@ pub fn bound(alloc: Global, typed: &Typed<'_>, limits: &Limits, budget: u64) -> 
         (e ≡ TooCostly) × (budget < cost_of (typed_view typed.now) limits.now []))) }
 {
     let scope = Scope::Empty;
-    let measured = measure(alloc, &typed.root, limits, &scope, budget)?;
+    let measured = measure(alloc, &typed.root, limits, &scope, None, budget)?;
     Ok(budget - measured.left)
 }

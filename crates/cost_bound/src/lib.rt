@@ -6,8 +6,10 @@ mod charges;
 mod known;
 mod made;
 mod measure;
+mod memo;
 mod scope;
 mod size;
+mod steady;
 #[cfg(test)]
 mod tests;
 

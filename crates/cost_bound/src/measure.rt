@@ -1,23 +1,27 @@
 //! Measuring expressions: how large what they come to may be, and what they cost.
 
-ghost use Rattle.std.specs.Prelude.{◌≡◌, ◌+◌, ◌*◌, ◌↔◌, ℕ, IfErr, IfOk, IsTrue, length};
+ghost use Rattle.std.specs.Prelude.{◌≡◌, ◌+◌, ◌*◌, ◌↔◌, ◌∷◌, ℕ, IfErr, IfOk, IfSome, IsTrue, length};
 ghost use Rattle.proto_wire.specs.Refusal.{MemoryOr};
+ghost use Rattle.proto_wire.specs.declared.refusal.Refusal.TheVariants.{Memory};
 ghost use Rattle.cel_overload.specs.declared.overload.Overload.TheVariants.{Conditional};
 ghost use Rattle.cel_types.specs.Elaborated.{kinds, typed_loop};
 ghost use Rattle.cel_types.specs.View.{expr_view, exprs_view, loop_of, parts_view};
 ghost use Rattle.cel_value.specs.Texts.{text_view};
 ghost use Rattle.cel_value.specs.Types.{ValueType};
 ghost use Rattle.cost_bound.specs.Costs.{call_cost, call_size, cost_of, costs_of, field_cost, grown, size_of, sizes_of, total, turns_cost};
-ghost use Rattle.cost_bound.specs.Sizes.{join};
+ghost use Rattle.cost_bound.specs.Sizes.{Size, join};
 ghost use Rattle.cost_bound.specs.steps.Measuring.{CostsMore, call_part, next_size, turn_cost};
+ghost use Rattle.cost_bound.specs.steps.Memos.{Holds, HoldsEach, IsTold, Remembers, RemembersEach, Says, known_view, memo_view};
 ghost use Rattle.cost_bound.specs.steps.ScopeView.{IsCounted, locals_view, scope_view};
 ghost use Rattle.cost_bound.specs.steps.SizeView.{size_view, sizes_view};
 
 use crate::charges::{call_part, field_part, pay, pay_turns};
 use crate::known::{attribute_size, constant_size};
 use crate::made::{call_size, list_size, map_part, map_size};
+use crate::memo::{Memo, part, with_part};
 use crate::scope::Scope;
 use crate::size::{ValueSize, join, same};
+use crate::steady::{has_items, is_steady};
 use attributes::Limits;
 use cel_overload::Overload;
 use cel_types::{TypedExpr, TypedLoop};
@@ -39,22 +43,72 @@ struct MeasuredEach {
     left: u64,
 }
 
-/// Measures an expression, with the sizes of the locals in scope.
+// What a loop remembers of an expression inside of it, and what is left of its budget.
+#[derive(Drop)]
+struct Remembered {
+    memo: Memo,
+    left: u64,
+}
+
+// What is known of an expression, where that is all of it. It is paid whole.
+fn recall(memo: Option<&Memo>, left: u64) -> Result<Option<Measured>, Refusal>
+    ensures found { IfOk result (λ o. IfSome o (λ m. (size : Size) (cost : ℕ)
+        → Says (known_view memo.entry) size cost
+        → (size_view m.size ≡ size) × (left ≡ cost + m.left))) }
+    ensures fault { IfErr result (MemoryOr (λ e. (size : Size) (cost : ℕ)
+        → Says (known_view memo.entry) size cost → CostsMore cost left e)) }
+{
+    match memo {
+        None => Ok(None),
+        Some(known) => recall_known(known, left),
+    }
+}
+
+fn recall_known(memo: &Memo, left: u64) -> Result<Option<Measured>, Refusal>
+    ensures found { IfOk result (λ o. IfSome o (λ m. (size : Size) (cost : ℕ)
+        → Says (memo_view memo.now) size cost
+        → (size_view m.size ≡ size) × (left ≡ cost + m.left))) }
+    ensures fault { IfErr result (MemoryOr (λ e. (size : Size) (cost : ℕ)
+        → Says (memo_view memo.now) size cost → CostsMore cost left e)) }
+{
+    match memo {
+        Memo::Unknown => Ok(None),
+        Memo::Known { size, cost } => {
+            let left = pay_turns(left, 1, *cost)?;
+            Ok(Some(Measured {
+                size: size.copy()?,
+                left,
+            }))
+        }
+        Memo::Costly { than } => {
+            pay(left, *than)?;
+            Ok(None)
+        }
+        Memo::Parts(_) => Ok(None),
+    }
+}
+
+/// Measures an expression, with the sizes of the locals in scope and with what is known of it.
 #[cycle(measure)]
 pub(crate) fn measure(
     alloc: Global,
     expr: &TypedExpr<'_>,
     limits: &Limits,
     scope: &Scope<'_>,
+    memo: Option<&Memo>,
     left: u64,
 ) -> Result<Measured, Refusal>
-    requires { IsCounted (locals_view scope.now) }
+    requires counted { IsCounted (locals_view scope.now) }
+    requires holds { Holds (known_view memo) (expr_view expr.now) limits.now (scope_view scope.now) }
     ensures found { IfOk result (λ m.
         (size_view m.size ≡ size_of (expr_view expr.now) limits.now (scope_view scope.now))
         × (left ≡ cost_of (expr_view expr.now) limits.now (scope_view scope.now) + m.left)) }
     ensures fault { IfErr result (MemoryOr
         (CostsMore (cost_of (expr_view expr.now) limits.now (scope_view scope.now)) left)) }
 {
+    if let Some(known) = recall(memo, left)? {
+        return Ok(known);
+    }
     match expr {
         TypedExpr::Constant { value, .. } => {
             let left = pay(left, 0)?;
@@ -78,14 +132,14 @@ pub(crate) fn measure(
             })
         }
         TypedExpr::Field { map, name, .. } => {
-            let found = measure_field(alloc, map, limits, scope, name, left)?;
+            let found = measure_field(alloc, map, limits, scope, part(memo, 0), name, left)?;
             Ok(Measured {
                 size: found.size.value()?,
                 left: found.left,
             })
         }
         TypedExpr::HasField { map, name, .. } => {
-            let found = measure_field(alloc, map, limits, scope, name, left)?;
+            let found = measure_field(alloc, map, limits, scope, part(memo, 0), name, left)?;
             Ok(Measured {
                 size: ValueSize::Flat,
                 left: found.left,
@@ -95,9 +149,9 @@ pub(crate) fn measure(
             overload,
             operands,
             ..
-        } => { measure_call(alloc, operands, limits, scope, *overload, left) }
+        } => { measure_call(alloc, operands, limits, scope, memo, *overload, left) }
         TypedExpr::List { cel_type, elements } => {
-            let found = measure_each(alloc, elements, limits, scope, left)?;
+            let found = measure_each(alloc, elements, limits, scope, memo, left)?;
             let left = pay(found.left, elements.len() as u64)?;
             Ok(Measured {
                 size: list_size(alloc, cel_type, &found.sizes)?,
@@ -105,14 +159,14 @@ pub(crate) fn measure(
             })
         }
         TypedExpr::Map { cel_type, pairs } => {
-            let found = measure_each(alloc, pairs, limits, scope, left)?;
+            let found = measure_each(alloc, pairs, limits, scope, memo, left)?;
             let left = pay(found.left, map_part(&found.sizes))?;
             Ok(Measured {
                 size: map_size(alloc, cel_type, &found.sizes)?,
                 left,
             })
         }
-        TypedExpr::Loop { parts, .. } => measure_loop(alloc, parts, limits, scope, left),
+        TypedExpr::Loop { parts, .. } => measure_loop(alloc, parts, limits, scope, memo, left),
     }
 }
 
@@ -123,10 +177,12 @@ fn measure_field(
     map: &TypedExpr<'_>,
     limits: &Limits,
     scope: &Scope<'_>,
+    memo: Option<&Memo>,
     name: &RcStr,
     left: u64,
 ) -> Result<Measured, Refusal>
-    requires { IsCounted (locals_view scope.now) }
+    requires counted { IsCounted (locals_view scope.now) }
+    requires holds { Holds (known_view memo) (expr_view map.now) limits.now (scope_view scope.now) }
     ensures found { IfOk result (λ m.
         (size_view m.size ≡ size_of (expr_view map.now) limits.now (scope_view scope.now))
         × (left ≡ cost_of (expr_view map.now) limits.now (scope_view scope.now)
@@ -137,7 +193,7 @@ fn measure_field(
         + field_cost (text_view name.now) (size_of (expr_view map.now) limits.now (scope_view scope.now)))
         left)) }
 {
-    let found = measure(alloc, map, limits, scope, left)?;
+    let found = measure(alloc, map, limits, scope, memo, left)?;
     let left = pay(found.left, field_part(name, &found.size))?;
     Ok(Measured {
         size: found.size,
@@ -145,16 +201,18 @@ fn measure_field(
     })
 }
 
-// Expressions one after the other.
+// Expressions one after the other, with what is known of each.
 #[cycle(measure)]
 fn measure_each(
     alloc: Global,
     exprs: &[TypedExpr<'_>],
     limits: &Limits,
     scope: &Scope<'_>,
+    memo: Option<&Memo>,
     left: u64,
 ) -> Result<MeasuredEach, Refusal>
-    requires { IsCounted (locals_view scope.now) }
+    requires counted { IsCounted (locals_view scope.now) }
+    requires holds { HoldsEach (known_view memo) 0 (exprs_view exprs.now) limits.now (scope_view scope.now) }
     ensures found { IfOk result (λ m.
         (sizes_view m.sizes.items ≡ sizes_of (exprs_view exprs.now) limits.now (scope_view scope.now))
         × (left ≡ total (costs_of (exprs_view exprs.now) limits.now (scope_view scope.now)) + m.left)) }
@@ -163,10 +221,12 @@ fn measure_each(
 {
     let mut sizes = Vec::with_capacity(alloc, exprs.len())?;
     let mut rest = left;
+    let mut place = 0;
     for expr in exprs {
-        let found = measure(alloc, expr, limits, scope, rest)?;
+        let found = measure(alloc, expr, limits, scope, part(memo, place), rest)?;
         sizes.push(found.size)?;
         rest = found.left;
+        place += 1;
     }
     Ok(MeasuredEach { sizes, left: rest })
 }
@@ -178,10 +238,12 @@ fn measure_call(
     operands: &[TypedExpr<'_>],
     limits: &Limits,
     scope: &Scope<'_>,
+    memo: Option<&Memo>,
     overload: Overload,
     left: u64,
 ) -> Result<Measured, Refusal>
-    requires { IsCounted (locals_view scope.now) }
+    requires counted { IsCounted (locals_view scope.now) }
+    requires holds { HoldsEach (known_view memo) 0 (exprs_view operands.now) limits.now (scope_view scope.now) }
     ensures found { IfOk result (λ m. let es = exprs_view operands.now in
         let sizes = scope_view scope.now in
         (size_view m.size ≡ call_size overload (sizes_of es limits.now sizes))
@@ -192,9 +254,9 @@ fn measure_call(
         (costs_of es limits.now sizes) (sizes_of es limits.now sizes)) left)) }
 {
     if is_choice(overload, operands) {
-        return measure_conditional(alloc, operands, limits, scope, left);
+        return measure_conditional(alloc, operands, limits, scope, memo, left);
     }
-    measure_operands(alloc, operands, limits, scope, overload, left)
+    measure_operands(alloc, operands, limits, scope, memo, overload, left)
 }
 
 // Whether of a call's operands one alone of the last two is asked for.
@@ -211,10 +273,12 @@ fn measure_operands(
     operands: &[TypedExpr<'_>],
     limits: &Limits,
     scope: &Scope<'_>,
+    memo: Option<&Memo>,
     overload: Overload,
     left: u64,
 ) -> Result<Measured, Refusal>
-    requires { IsCounted (locals_view scope.now) }
+    requires counted { IsCounted (locals_view scope.now) }
+    requires holds { HoldsEach (known_view memo) 0 (exprs_view operands.now) limits.now (scope_view scope.now) }
     ensures found { let es = exprs_view operands.now in let sizes = scope_view scope.now in
         IfOk result (λ m. (size_view m.size ≡ call_size overload (sizes_of es limits.now sizes))
         × (left ≡ total (costs_of es limits.now sizes)
@@ -223,7 +287,7 @@ fn measure_operands(
         IfErr result (MemoryOr (CostsMore (total (costs_of es limits.now sizes)
         + (1 + call_part overload (kinds es) (sizes_of es limits.now sizes))) left)) }
 {
-    let found = measure_each(alloc, operands, limits, scope, left)?;
+    let found = measure_each(alloc, operands, limits, scope, memo, left)?;
     let left = pay(found.left, call_part(overload, operands, &found.sizes))?;
     Ok(Measured {
         size: call_size(alloc, overload, &found.sizes)?,
@@ -238,9 +302,11 @@ fn measure_conditional(
     operands: &[TypedExpr<'_>],
     limits: &Limits,
     scope: &Scope<'_>,
+    memo: Option<&Memo>,
     left: u64,
 ) -> Result<Measured, Refusal>
     requires counted { IsCounted (locals_view scope.now) }
+    requires holds { HoldsEach (known_view memo) 0 (exprs_view operands.now) limits.now (scope_view scope.now) }
     requires three { length operands.now ≡ 3 }
     ensures found { let es = exprs_view operands.now in let sizes = scope_view scope.now in
         IfOk result (λ m. (size_view m.size ≡ call_size Conditional (sizes_of es limits.now sizes))
@@ -252,10 +318,10 @@ fn measure_conditional(
 {
     match operands {
         [condition, first, second] => {
-            let tested = measure(alloc, condition, limits, scope, left)?;
+            let tested = measure(alloc, condition, limits, scope, part(memo, 0), left)?;
             let before = pay(tested.left, 0)?;
-            let one = measure(alloc, first, limits, scope, before)?;
-            let other = measure(alloc, second, limits, scope, before)?;
+            let one = measure(alloc, first, limits, scope, part(memo, 1), before)?;
+            let other = measure(alloc, second, limits, scope, part(memo, 2), before)?;
             let left = pay(one.left.min(other.left), 0)?;
             Ok(Measured {
                 size: join(alloc, &one.size, &other.size)?,
@@ -266,34 +332,79 @@ fn measure_conditional(
     }
 }
 
-// A comprehension: the range, the turns over its elements, and the result.
+// A comprehension: the range, the turns over its elements, and the result. Before the turns it is
+// remembered what they all measure alike. That is paid in the first turn at the latest; where there is
+// none, nothing is left for it.
 #[cycle(measure)]
 fn measure_loop(
     alloc: Global,
     parts: &TypedLoop<'_>,
     limits: &Limits,
     scope: &Scope<'_>,
+    memo: Option<&Memo>,
     left: u64,
 ) -> Result<Measured, Refusal>
-    requires { IsCounted (locals_view scope.now) }
+    requires counted { IsCounted (locals_view scope.now) }
+    requires holds { (t : ValueType) → Holds (known_view memo) (loop_of t (parts_view parts.now))
+        limits.now (scope_view scope.now) }
     ensures found { (t : ValueType) → IfOk result (λ m.
         (size_view m.size ≡ size_of (loop_of t (parts_view parts.now)) limits.now (scope_view scope.now))
         × (left ≡ cost_of (loop_of t (parts_view parts.now)) limits.now (scope_view scope.now) + m.left)) }
     ensures fault { (t : ValueType) → IfErr result (MemoryOr
         (CostsMore (cost_of (loop_of t (parts_view parts.now)) limits.now (scope_view scope.now)) left)) }
 {
-    let range = measure(alloc, &parts.range, limits, scope, left)?;
+    let range = measure(alloc, &parts.range, limits, scope, part(memo, 0), left)?;
     let opened = pay(range.left, range.size.most())?;
-    let init = measure(alloc, &parts.init, limits, scope, opened)?;
+    let init = measure(alloc, &parts.init, limits, scope, part(memo, 1), opened)?;
     let stored = pay(init.left, 0)?;
     let element = range.size.element()?;
     let turns = range.size.most();
+    let any = ValueSize::Flat;
+    let around = (&*scope).with(&any);
+    let inside = around.with(&element);
+    let count = scope.count();
+    let worth = budget_for(turns > 0, stored);
+    let condition = remember(
+        alloc,
+        &parts.condition,
+        limits,
+        &inside,
+        part(memo, 2),
+        count,
+        worth,
+    )?;
+    let step = remember(
+        alloc,
+        &parts.step,
+        limits,
+        &inside,
+        part(memo, 3),
+        count,
+        condition.left,
+    )?;
     let gathered = measure_turns(
-        alloc, parts, limits, scope, &element, turns, init.size, stored,
+        alloc,
+        parts,
+        limits,
+        scope,
+        &condition.memo,
+        &step.memo,
+        &element,
+        turns,
+        init.size,
+        stored,
     )?;
     let closed = pay(gathered.left, 0)?;
     let inner = (&*scope).with(&gathered.size);
-    measure(alloc, &parts.result, limits, &inner, closed)
+    measure(alloc, &parts.result, limits, &inner, part(memo, 4), closed)
+}
+
+// All that is left, or nothing.
+fn budget_for(wanted: bool, left: u64) -> u64 {
+    if wanted {
+        return left;
+    }
+    0
 }
 
 // So many turns, one after the other, until what is gathered grows no more: then the others cost as
@@ -304,12 +415,18 @@ fn measure_turns(
     parts: &TypedLoop<'_>,
     limits: &Limits,
     scope: &Scope<'_>,
+    condition: &Memo,
+    step: &Memo,
     element: &ValueSize,
     turns: u64,
     init: ValueSize,
     left: u64,
 ) -> Result<Measured, Refusal>
-    requires { IsCounted (locals_view scope.now) }
+    requires counted { IsCounted (locals_view scope.now) }
+    requires condition_holds { let p = parts_view parts.now in (s : Size) → Holds (memo_view condition.now)
+        p.condition limits.now (size_view element.now ∷ s ∷ scope_view scope.now) }
+    requires step_holds { let p = parts_view parts.now in (s : Size) → Holds (memo_view step.now)
+        p.step limits.now (size_view element.now ∷ s ∷ scope_view scope.now) }
     ensures found { IfOk result (λ m. let p = parts_view parts.now in
         let sizes = scope_view scope.now in let e = size_view element.now in
         (size_view m.size ≡ grown (next_size p limits.now e sizes) turns (size_view init))
@@ -324,7 +441,9 @@ fn measure_turns(
     let mut rest = left;
     let mut others = turns;
     while others > 0 {
-        let turn = measure_turn(alloc, parts, limits, scope, element, &gathered, rest)?;
+        let turn = measure_turn(
+            alloc, parts, limits, scope, condition, step, element, &gathered, rest,
+        )?;
         others -= 1;
         if same(&turn.size, &gathered) {
             let left = pay_turns(turn.left, others, rest - turn.left)?;
@@ -349,11 +468,17 @@ fn measure_turn(
     parts: &TypedLoop<'_>,
     limits: &Limits,
     scope: &Scope<'_>,
+    condition: &Memo,
+    step: &Memo,
     element: &ValueSize,
     gathered: &ValueSize,
     left: u64,
 ) -> Result<Measured, Refusal>
-    requires { IsCounted (locals_view scope.now) }
+    requires counted { IsCounted (locals_view scope.now) }
+    requires condition_holds { let p = parts_view parts.now in (s : Size) → Holds (memo_view condition.now)
+        p.condition limits.now (size_view element.now ∷ s ∷ scope_view scope.now) }
+    requires step_holds { let p = parts_view parts.now in (s : Size) → Holds (memo_view step.now)
+        p.step limits.now (size_view element.now ∷ s ∷ scope_view scope.now) }
     ensures found { IfOk result (λ m. let p = parts_view parts.now in
         let sizes = scope_view scope.now in let e = size_view element.now in
         let s = size_view gathered.now in
@@ -366,11 +491,246 @@ fn measure_turn(
 {
     let outer = (&*scope).with(&*gathered);
     let inner = outer.with(&*element);
-    let tested = measure(alloc, &parts.condition, limits, &inner, left)?;
-    let step = measure(alloc, &parts.step, limits, &inner, tested.left)?;
-    let left = pay(step.left, 3)?;
-    Ok(Measured {
-        size: join(alloc, gathered, &step.size)?,
+    let tested = measure(
+        alloc,
+        &parts.condition,
+        limits,
+        &inner,
+        Some(condition),
         left,
+    )?;
+    let stepped = measure(alloc, &parts.step, limits, &inner, Some(step), tested.left)?;
+    let left = pay(stepped.left, 3)?;
+    Ok(Measured {
+        size: join(alloc, gathered, &stepped.size)?,
+        left,
+    })
+}
+
+// What a loop with so many locals outside of it remembers of an expression inside of it: the size and
+// the cost of each loop there that names no local which a turn changes. These have any sizes in the
+// scope. Measured is what the first turn measures as well, in the same order, so it takes no more time.
+// No budget there is greater than here. A loop that costs more is no fault yet, since a turn may want of
+// memory before; but where the turn comes to it, it is refused at once. Nothing more is remembered then.
+#[cycle(measure)]
+fn remember(
+    alloc: Global,
+    expr: &TypedExpr<'_>,
+    limits: &Limits,
+    scope: &Scope<'_>,
+    memo: Option<&Memo>,
+    around: u64,
+    left: u64,
+) -> Result<Remembered, Refusal>
+    requires counted { IsCounted (locals_view scope.now) }
+    requires holds { Holds (known_view memo) (expr_view expr.now) limits.now (scope_view scope.now) }
+    ensures found { IfOk result (λ r. Remembers (memo_view r.memo) (expr_view expr.now) limits.now
+        around (scope_view scope.now)) }
+    ensures fault { IfErr result (λ e. e ≡ Memory) }
+{
+    if left == 0 {
+        return Ok(Remembered {
+            memo: Memo::Unknown,
+            left,
+        });
+    }
+    match expr {
+        TypedExpr::Constant { .. } => Ok(Remembered {
+            memo: Memo::Unknown,
+            left,
+        }),
+        TypedExpr::Local { .. } => Ok(Remembered {
+            memo: Memo::Unknown,
+            left,
+        }),
+        TypedExpr::Attribute { .. } => Ok(Remembered {
+            memo: Memo::Unknown,
+            left,
+        }),
+        TypedExpr::Field { map, .. } => {
+            let found = remember(alloc, map, limits, scope, part(memo, 0), around, left)?;
+            Ok(Remembered {
+                memo: Memo::of_parts(with_part(Vec::new(alloc), 0, found.memo)?),
+                left: found.left,
+            })
+        }
+        TypedExpr::HasField { map, .. } => {
+            let found = remember(alloc, map, limits, scope, part(memo, 0), around, left)?;
+            Ok(Remembered {
+                memo: Memo::of_parts(with_part(Vec::new(alloc), 0, found.memo)?),
+                left: found.left,
+            })
+        }
+        TypedExpr::Call {
+            overload,
+            operands,
+            ..
+        } => {
+            let choice = is_choice(*overload, operands);
+            remember_each(alloc, operands, limits, scope, memo, around, choice, left)
+        }
+        TypedExpr::List { elements, .. } => {
+            remember_each(alloc, elements, limits, scope, memo, around, false, left)
+        }
+        TypedExpr::Map { pairs, .. } => {
+            remember_each(alloc, pairs, limits, scope, memo, around, false, left)
+        }
+        TypedExpr::Loop { parts, .. } => {
+            if is_steady(expr, around, scope.count()) {
+                let measured = measure(alloc, expr, limits, scope, memo, left);
+                return keep_measured(measured, left);
+            }
+            remember_loop(alloc, parts, limits, scope, memo, around, left)
+        }
+    }
+}
+
+// What is remembered of a loop that was measured: its size and its cost, or that it costs more than
+// there was.
+fn keep_measured(measured: Result<Measured, Refusal>, left: u64) -> Result<Remembered, Refusal>
+    ensures found { (size : Size) (cost : ℕ)
+        → IfOk measured (λ m. (size_view m.size ≡ size) × (left ≡ cost + m.left))
+        → IfErr measured (MemoryOr (CostsMore cost left))
+        → IfOk result (λ r. IsTold (memo_view r.memo) size cost) }
+    ensures fault { (cost : ℕ) → IfErr measured (MemoryOr (CostsMore cost left))
+        → IfErr result (λ e. e ≡ Memory) }
+{
+    match measured {
+        Ok(found) => Ok(Remembered {
+            memo: Memo::Known {
+                size: found.size,
+                cost: left.saturating_sub(found.left),
+            },
+            left: found.left,
+        }),
+        Err(Refusal::TooCostly) => Ok(Remembered {
+            memo: Memo::Costly { than: left },
+            left: 0,
+        }),
+        Err(other) => Err(other),
+    }
+}
+
+// The same of expressions one after the other. Of a choice's last two parts each has the budget that
+// the first one leaves.
+#[cycle(measure)]
+fn remember_each(
+    alloc: Global,
+    exprs: &[TypedExpr<'_>],
+    limits: &Limits,
+    scope: &Scope<'_>,
+    memo: Option<&Memo>,
+    around: u64,
+    choice: bool,
+    left: u64,
+) -> Result<Remembered, Refusal>
+    requires counted { IsCounted (locals_view scope.now) }
+    requires holds { HoldsEach (known_view memo) 0 (exprs_view exprs.now) limits.now (scope_view scope.now) }
+    ensures found { IfOk result (λ r. ((size : Size) (cost : ℕ) → Says (memo_view r.memo) size cost)
+        × RemembersEach (memo_view r.memo) (exprs_view exprs.now) limits.now around (scope_view scope.now)) }
+    ensures fault { IfErr result (λ e. e ≡ Memory) }
+{
+    let mut parts = Vec::new(alloc);
+    let mut rest = left;
+    let mut before = left;
+    let mut place = 0;
+    for expr in exprs {
+        let worth = budget_at(choice, place, before, rest);
+        let found = remember(alloc, expr, limits, scope, part(memo, place), around, worth)?;
+        parts = with_part(parts, place, found.memo)?;
+        before = rest;
+        rest = rest.min(found.left);
+        place += 1;
+    }
+    Ok(Remembered {
+        memo: Memo::of_parts(parts),
+        left: rest,
+    })
+}
+
+// What is left for the part at a place: of a choice's last part what was left for the one before.
+fn budget_at(choice: bool, place: usize, before: u64, rest: u64) -> u64 {
+    if choice && place == 2 {
+        return before;
+    }
+    rest
+}
+
+// The same of a loop that a turn changes. Its condition and its step are measured in a turn only where
+// its range has an item.
+#[cycle(measure)]
+fn remember_loop(
+    alloc: Global,
+    parts: &TypedLoop<'_>,
+    limits: &Limits,
+    scope: &Scope<'_>,
+    memo: Option<&Memo>,
+    around: u64,
+    left: u64,
+) -> Result<Remembered, Refusal>
+    requires counted { IsCounted (locals_view scope.now) }
+    requires holds { (t : ValueType) → Holds (known_view memo) (loop_of t (parts_view parts.now))
+        limits.now (scope_view scope.now) }
+    ensures found { (t : ValueType) → IfOk result (λ r. Remembers (memo_view r.memo)
+        (loop_of t (parts_view parts.now)) limits.now around (scope_view scope.now)) }
+    ensures fault { IfErr result (λ e. e ≡ Memory) }
+{
+    let range = remember(
+        alloc,
+        &parts.range,
+        limits,
+        scope,
+        part(memo, 0),
+        around,
+        left,
+    )?;
+    let init = remember(
+        alloc,
+        &parts.init,
+        limits,
+        scope,
+        part(memo, 1),
+        around,
+        range.left,
+    )?;
+    let any = ValueSize::Flat;
+    let outer = (&*scope).with(&any);
+    let inner = outer.with(&any);
+    let turned = has_items(&parts.range);
+    let condition = remember(
+        alloc,
+        &parts.condition,
+        limits,
+        &inner,
+        part(memo, 2),
+        around,
+        budget_for(turned, init.left),
+    )?;
+    let step = remember(
+        alloc,
+        &parts.step,
+        limits,
+        &inner,
+        part(memo, 3),
+        around,
+        condition.left,
+    )?;
+    let end = remember(
+        alloc,
+        &parts.result,
+        limits,
+        &outer,
+        part(memo, 4),
+        around,
+        budget_at(!turned, 2, init.left, step.left),
+    )?;
+    let one = with_part(Vec::new(alloc), 0, range.memo)?;
+    let two = with_part(one, 1, init.memo)?;
+    let three = with_part(two, 2, condition.memo)?;
+    let four = with_part(three, 3, step.memo)?;
+    let five = with_part(four, 4, end.memo)?;
+    Ok(Remembered {
+        memo: Memo::of_parts(five),
+        left: end.left,
     })
 }

@@ -37,8 +37,8 @@ impl<'s> Scope<'s> {
         }
     }
 
-    // How many there are, or the greatest number where that is less.
-    fn count(&self) -> u64
+    /// How many there are, or the greatest number where that is less.
+    pub(crate) fn count(&self) -> u64
         requires { IsCounted (locals_view self.now) }
         ensures { result ≡ capped (length (locals_view self.now)) }
     {

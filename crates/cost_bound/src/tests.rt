@@ -1,6 +1,7 @@
 //! Bounds worked out by hand.
 
 mod exprs;
+mod inner_loops;
 
 use crate::bound;
 use attributes::{AttrId, Limits};

@@ -1,17 +1,23 @@
-use Rattle.std.proofs.Common.{◌≡◌, false, true, ◌+◌, ◌<◌, ◌^◌, ◌∙◌, ap, sym, arith}
+use Rattle.std.proofs.Common.{◌≡◌, false, true, length, ◌∷◌, ◌+◌, ◌<◌, ◌^◌, ◌∙◌, ap, sym, refl, arith, rules}
+use Rattle.std.proofs.lemmas.Grind.{common_steps}
 use Rattle.std.proofs.lemmas.Result.{IfOk-weaker}
 use Rattle.cel_types.specs.Elaborated.{kinds}
-use Rattle.cel_types.specs.View.{expr_view, exprs_view, parts_view}
-use Rattle.cel_value.specs.Types.{type_view}
-use Rattle.cost_bound.specs.Costs.{charge_at, sizes_of}
+use Rattle.cel_types.specs.View.{expr_view, exprs_view, loop_of, parts_view}
+use Rattle.cel_types.specs.declared.typed.TypedExpr.{the_lemmas}
+use Rattle.cel_value.specs.Types.{bool_type, type_view}
+use Rattle.cost_bound.specs.Costs.{charge_at, cost_of, size_of, sizes_of}
 use Rattle.cost_bound.specs.steps.Measuring.{call_part, next_size, turn_cost}
+use Rattle.cost_bound.specs.steps.Memos.{known_view, part_at}
 use Rattle.cost_bound.specs.steps.Numbers.{capped}
-use Rattle.cost_bound.specs.steps.ScopeView.{scope_view}
+use Rattle.cost_bound.specs.steps.ScopeView.{locals_view, scope_view}
 use Rattle.cost_bound.specs.steps.SizeView.{size_view}
 use Rattle.cost_bound.proofs.Calls.{call_costs, part_covers}
 use Rattle.cost_bound.proofs.Capped.{paid}
-use Rattle.cost_bound.proofs.ExprViews.{view_list, view_loop}
-use Rattle.cost_bound.proofs.Steps.{as_many, cost_count, exit_charge, loop_adds, loop_size}
+use Rattle.cost_bound.proofs.ExprViews.{view_call, view_list, view_loop, view_map}
+use Rattle.cost_bound.proofs.Locals as locals
+use Rattle.cost_bound.proofs.MemoViews.{view_unknown}
+use Rattle.cost_bound.proofs.Remembering.{each_holds, holds_nothing, loop_remembered, more_parts, part_holds, remembered_turns, told_in_turns}
+use Rattle.cost_bound.proofs.Steps.{as_many, cost_count, exit_charge, exit_more, last_more, loop_adds, loop_ends_short, loop_short, loop_size}
 use Rattle.cost_bound.proofs.Turns.{grown_next, grown_still, still_paid, still_short, turns_next}
 use Rattle.cost_bound.proofs.measure.+measure.Goals as goal
 
@@ -135,3 +141,215 @@ measure_turns-returns-then-same-clause-found t c =
       sym (grown_still next cost c.loop-others.others _ (sym turn.0 ∙ still)) ∙ before.0,
       still_paid next cost _ _ _ _ _ _ _ _ some turn.0 still before.1 turn.1 c.in_ok-left.ensures.found,
     )
+
+-- ---- what is known beforehand
+
+pub measure_each-measure-requires : goal.measure_each-measure-requires
+measure_each-measure-requires t c = (
+  first_of (search (rules, the_lemmas), grind (arith, the_lemmas), grind (arith, common_steps)),
+  (
+    c.requires.counted,
+    part_holds (known_view c.args.memo) _ c.args.limits.now (scope_view c.args.scope.now)
+        c.args.exprs.now c.loop-expr.expr-index c.expr-item.result c.loop-expr-test.true c.expr-item.is
+        (c.part.ensures ∙ ap (λ i. part_at i (known_view c.args.memo)) c.loop-expr.invariant.2) c.requires.holds,
+  ),
+)
+
+pub measure_loop-measure-requires : goal.measure_loop-measure-requires
+measure_loop-measure-requires t c = (
+  first_of (search (rules, the_lemmas), grind (arith, the_lemmas), grind (arith, common_steps)),
+  (c.requires.counted, rw c.part.ensures (c.requires.holds bool_type).1.0),
+)
+
+pub measure_loop-measure-requires-2 : goal.measure_loop-measure-requires-2
+measure_loop-measure-requires-2 t c = (
+  first_of (search (rules, the_lemmas), grind (arith, the_lemmas), grind (arith, common_steps)),
+  (c.requires.counted, rw c.part-2.ensures (c.requires.holds bool_type).1.1),
+)
+
+pub measure_loop-remember-requires : goal.measure_loop-remember-requires
+measure_loop-remember-requires t c = (
+  first_of (search (rules, the_lemmas), grind (arith, the_lemmas), grind (arith, common_steps)),
+  (c.with-inside.ensures.counted, rw (c.part-3.ensures, c.with-inside.ensures.sizes, c.with-around.ensures.sizes) ((c.requires.holds bool_type).1.2 _ _)),
+)
+
+pub measure_loop-remember-requires-2 : goal.measure_loop-remember-requires-2
+measure_loop-remember-requires-2 t c = (
+  first_of (search (rules, the_lemmas), grind (arith, the_lemmas), grind (arith, common_steps)),
+  (c.with-inside.ensures.counted, rw (c.part-4.ensures, c.with-inside.ensures.sizes, c.with-around.ensures.sizes) ((c.requires.holds bool_type).1.3 _ _)),
+)
+
+pub measure_loop-measure_turns-requires : goal.measure_loop-measure_turns-requires
+measure_loop-measure_turns-requires t c =
+    let inside = rw c.with-around.ensures.sizes at c.with-inside.ensures.sizes in (
+      first_of (search (rules, the_lemmas), grind (arith, the_lemmas), grind (arith, common_steps)),
+      (
+        c.requires.counted,
+        (
+          remembered_turns _ _ c.args.limits.now _ _ _ _ (locals_view c.args.scope.now)
+              c.count-count.ensures inside c.in_ok-condition.ensures.found,
+          remembered_turns _ _ c.args.limits.now _ _ _ _ (locals_view c.args.scope.now)
+              c.count-count.ensures inside c.in_ok-step.ensures.found,
+        ),
+      ),
+    )
+
+pub measure_loop-measure-requires-3 : goal.measure_loop-measure-requires-3
+measure_loop-measure-requires-3 t c = (
+  first_of (search (rules, the_lemmas), grind (arith, the_lemmas), grind (arith, common_steps)),
+  (c.with-inner.ensures.counted, rw (c.part-5.ensures, c.with-inner.ensures.sizes) ((c.requires.holds bool_type).1.4 _)),
+)
+
+pub measure_loop-returns-in_err-gathered-clause-fault : goal.measure_loop-returns-in_err-gathered-clause-fault
+measure_loop-returns-in_err-gathered-clause-fault t c = λ kind.
+    let exit = c.from_residual-in_err-gathered in
+    let range = c.in_ok-range.ensures.found in
+    let init = c.in_ok-init.ensures.found in
+    let opened = ap (λ k. 1 + k + c.in_ok-opened.opened) (c.most.ensures.most ∙ sym c.most-turns.ensures.most) in
+    exit_more _ _ _ _ exit.result _ exit.ensures.1 c.in_err-gathered.ensures.fault
+    (λ more. loop_short (parts_view c.args.parts.now) kind c.args.limits.now (scope_view c.args.scope.now)
+    _ _ _ _ _ _ _ _ _ range.0 c.most-turns.ensures.most c.in_ok-element.ensures init.0
+    range.1 (c.in_ok-opened.ensures.found ∙ opened) init.1 c.in_ok-stored.ensures.found more)
+
+pub measure_loop-returns-in_err-closed-clause-fault : goal.measure_loop-returns-in_err-closed-clause-fault
+measure_loop-returns-in_err-closed-clause-fault t c = λ kind.
+    let exit = c.from_residual-in_err-closed in
+    let range = c.in_ok-range.ensures.found in
+    let init = c.in_ok-init.ensures.found in
+    let gathered = c.in_ok-gathered.ensures.found in
+    let opened = ap (λ k. 1 + k + c.in_ok-opened.opened) (c.most.ensures.most ∙ sym c.most-turns.ensures.most) in
+    exit_charge _ _ _ _ exit.result _ exit.ensures.1 c.in_err-closed.ensures.fault
+    (λ more. loop_ends_short (parts_view c.args.parts.now) kind c.args.limits.now (scope_view c.args.scope.now)
+    _ _ _ _ _ _ _ _ _ _ _ range.0 c.most-turns.ensures.most c.in_ok-element.ensures init.0 gathered.0
+    range.1 (c.in_ok-opened.ensures.found ∙ opened) init.1 c.in_ok-stored.ensures.found gathered.1
+    (omega (arith, more)))
+
+pub measure_loop-returns-clause-fault : goal.measure_loop-returns-clause-fault
+measure_loop-returns-clause-fault t c = λ kind.
+    let range = c.in_ok-range.ensures.found in
+    let init = c.in_ok-init.ensures.found in
+    let gathered = c.in_ok-gathered.ensures.found in
+    let closed = c.in_ok-closed.ensures.found in
+    let opened = ap (λ k. 1 + k + c.in_ok-opened.opened) (c.most.ensures.most ∙ sym c.most-turns.ensures.most) in
+    last_more (cost_of (parts_view c.args.parts.now).result c.args.limits.now
+    (size_view c.in_ok-gathered.gathered.size ∷ scope_view c.args.scope.now)) c.in_ok-closed.closed
+    (cost_of (loop_of kind (parts_view c.args.parts.now)) c.args.limits.now (scope_view c.args.scope.now))
+    c.args.left c.measure-3.result
+    (λ more. loop_ends_short (parts_view c.args.parts.now) kind c.args.limits.now (scope_view c.args.scope.now)
+    _ _ _ _ _ _ _ _ _ _ _ range.0 c.most-turns.ensures.most c.in_ok-element.ensures init.0 gathered.0
+    range.1 (c.in_ok-opened.ensures.found ∙ opened) init.1 c.in_ok-stored.ensures.found gathered.1
+    (omega (arith, more, closed)))
+    (rw c.with-inner.ensures.sizes at c.measure-3.ensures.fault)
+
+-- ---- what is remembered
+
+pub remember-returns-then-left-eq0-clause-found : goal.remember-returns-then-left-eq0-clause-found
+remember-returns-then-left-eq0-clause-found t c = λ k others counted turns.
+    holds_nothing _ (expr_view c.args.expr.now) c.args.limits.now others view_unknown
+
+pub remember-returns-in-Call-clause-found : goal.remember-returns-in-Call-clause-found
+remember-returns-in-Call-clause-found t c =
+    let seen = ap expr_view c.in-Call.is ∙ view_call c.in-Call.cel_type c.in-Call.overload c.in-Call.operands in
+    rw seen (IfOk-weaker c.remember_each.result _ _ (λ r h. λ k others counted turns.
+    (h.0 _ _, h.1 k others counted turns)) (rw c.deref-in-Call-2.ensures.value at c.remember_each.ensures.found))
+
+pub remember-returns-in-Map-clause-found : goal.remember-returns-in-Map-clause-found
+remember-returns-in-Map-clause-found t c =
+    let seen = ap expr_view c.in-Map.is ∙ view_map c.in-Map.cel_type c.in-Map.pairs in
+    rw seen (IfOk-weaker c.remember_each-in-Map.result _ _ (λ r h. λ k others counted turns.
+    (h.0 _ _, h.1 k others counted turns)) (rw c.deref-in-Map.ensures.value at c.remember_each-in-Map.ensures.found))
+
+pub remember-returns-then-is_steady-clause-found : goal.remember-returns-then-is_steady-clause-found
+remember-returns-then-is_steady-clause-found t c =
+    let sizes = scope_view c.args.scope.now in
+    let e = expr_view c.args.expr.now in
+    IfOk-weaker c.keep_measured.result _ _ (λ r told. λ k others counted turns.
+    told_in_turns k (length sizes) e c.args.limits.now sizes others _
+    (c.is_steady.ensures k (length sizes) counted
+    (c.count.ensures ∙ ap capped (sym (locals.as_many (locals_view c.args.scope.now)))) c.if-is_steady.true)
+    refl turns told)
+    (c.keep_measured.ensures.found (size_of e c.args.limits.now sizes) (cost_of e c.args.limits.now sizes)
+    c.measure-measured.ensures.found c.measure-measured.ensures.fault)
+
+pub remember-returns-else-is_steady-clause-found : goal.remember-returns-else-is_steady-clause-found
+remember-returns-else-is_steady-clause-found t c =
+    let seen = ap expr_view c.in-Loop.is ∙ view_loop c.in-Loop.cel_type c.in-Loop.parts in
+    rw seen (rw c.deref-in-Loop.ensures at c.remember_loop.ensures.found (type_view c.in-Loop.cel_type))
+
+pub remember-remember_loop-requires : goal.remember-remember_loop-requires
+remember-remember_loop-requires t c =
+    let seen = ap expr_view c.in-Loop.is ∙ view_loop c.in-Loop.cel_type c.in-Loop.parts in (
+      first_of (search (rules, the_lemmas), grind (arith, the_lemmas), grind (arith, common_steps)),
+      (c.requires.counted, λ kind. rw c.deref-in-Loop.ensures (rw seen at c.requires.holds)),
+    )
+
+pub remember_each-remember-requires : goal.remember_each-remember-requires
+remember_each-remember-requires t c = (
+  first_of (search (rules, the_lemmas), grind (arith, the_lemmas), grind (arith, common_steps)),
+  (
+    c.requires.counted,
+    part_holds (known_view c.args.memo) _ c.args.limits.now (scope_view c.args.scope.now)
+        c.args.exprs.now c.loop-expr.expr-index c.expr-item.result c.loop-expr-test.true c.expr-item.is
+        (c.part.ensures ∙ ap (λ i. part_at i (known_view c.args.memo)) c.loop-expr.invariant.0) c.requires.holds,
+  ),
+)
+
+pub remember_each-loop-expr-preserved : goal.remember_each-loop-expr-preserved
+remember_each-loop-expr-preserved t c =
+    let before = c.loop-expr.invariant in (
+      omega (arith, before.0),
+      c.in_ok-parts.ensures.short,
+      λ k others counted turns. more_parts c.args.exprs.now c.loop-expr.expr-index c.loop-expr.place
+          c.expr-item.result _ _ _ c.args.limits.now others before.0 c.expr-item.is c.loop-expr-test.true
+          c.in_ok-parts.ensures.before c.in_ok-parts.ensures.there
+          (c.in_ok-found.ensures.found k others counted turns) (before.2 k others counted turns),
+    )
+
+pub remember_each-returns-clause-found : goal.remember_each-returns-clause-found
+remember_each-returns-clause-found t c = (
+  c.of_parts.ensures.silent,
+  λ k others counted turns. each_holds _ _ c.args.limits.now others c.args.exprs.now c.of_parts.ensures.at
+      (λ i x within is. c.loop-expr.invariant.2 k others counted turns i x (omega arith) is),
+)
+
+pub remember_loop-remember-requires : goal.remember_loop-remember-requires
+remember_loop-remember-requires t c = (
+  first_of (search (rules, the_lemmas), grind (arith, the_lemmas), grind (arith, common_steps)),
+  (c.requires.counted, rw c.part.ensures (c.requires.holds bool_type).1.0),
+)
+
+pub remember_loop-remember-requires-2 : goal.remember_loop-remember-requires-2
+remember_loop-remember-requires-2 t c = (
+  first_of (search (rules, the_lemmas), grind (arith, the_lemmas), grind (arith, common_steps)),
+  (c.requires.counted, rw c.part-2.ensures (c.requires.holds bool_type).1.1),
+)
+
+pub remember_loop-remember-requires-3 : goal.remember_loop-remember-requires-3
+remember_loop-remember-requires-3 t c = (
+  first_of (search (rules, the_lemmas), grind (arith, the_lemmas), grind (arith, common_steps)),
+  (c.with-inner.ensures.counted, rw (c.part-3.ensures, c.with-inner.ensures.sizes, c.with-outer.ensures.sizes) ((c.requires.holds bool_type).1.2 _ _)),
+)
+
+pub remember_loop-remember-requires-4 : goal.remember_loop-remember-requires-4
+remember_loop-remember-requires-4 t c = (
+  first_of (search (rules, the_lemmas), grind (arith, the_lemmas), grind (arith, common_steps)),
+  (c.with-inner.ensures.counted, rw (c.part-4.ensures, c.with-inner.ensures.sizes, c.with-outer.ensures.sizes) ((c.requires.holds bool_type).1.3 _ _)),
+)
+
+pub remember_loop-remember-requires-5 : goal.remember_loop-remember-requires-5
+remember_loop-remember-requires-5 t c = (
+  first_of (search (rules, the_lemmas), grind (arith, the_lemmas), grind (arith, common_steps)),
+  (c.with-outer.ensures.counted, rw (c.part-5.ensures, c.with-outer.ensures.sizes) ((c.requires.holds bool_type).1.4 _)),
+)
+
+pub remember_loop-returns-clause-found : goal.remember_loop-returns-clause-found
+remember_loop-returns-clause-found t c = λ kind. λ k others counted turns.
+    loop_remembered (parts_view c.args.parts.now) kind c.args.limits.now c.args.around k
+    (scope_view c.args.scope.now) others _ _ _ _ _ _ _ _ _ _ _ _ _ _
+    c.of_parts.ensures.at c.of_parts.ensures.silent
+    c.in_ok-one.ensures.there c.in_ok-two.ensures.before c.in_ok-two.ensures.there
+    c.in_ok-three.ensures.before c.in_ok-three.ensures.there c.in_ok-four.ensures.before c.in_ok-four.ensures.there
+    c.in_ok-five.ensures.before c.in_ok-five.ensures.there
+    c.with-outer.ensures.sizes c.with-inner.ensures.sizes
+    c.in_ok-range.ensures.found c.in_ok-init.ensures.found c.in_ok-condition.ensures.found
+    c.in_ok-step.ensures.found c.in_ok-end.ensures.found counted turns

@@ -1,7 +1,11 @@
-use Rattle.std.proofs.Common.{◌≡◌, ◌+◌, ◌++◌, drop}
-use Rattle.cel_types.specs.View.{exprs_view, parts_view}
+use Rattle.std.proofs.Common.{◌≡◌, ℕ, ◌+◌, ◌<◌, ◌≤◌, List, ◌++◌, drop, get_or, length}
+use Rattle.cel_types.specs.View.{expr_view, exprs_view, parts_view}
+use Rattle.cel_types.specs.declared.typed.TypedExpr.{TypedExpr}
 use Rattle.cost_bound.specs.Costs.{costs_of, grown, sizes_of, total, turns_cost}
+use Rattle.cost_bound.specs.Sizes.{Size}
 use Rattle.cost_bound.specs.steps.Measuring.{next_size, turn_cost}
+use Rattle.cost_bound.specs.steps.Memos.{Holds, InTurns, memo_at, memos_view}
+use Rattle.cost_bound.specs.steps.Numbers.{capped}
 use Rattle.cost_bound.specs.steps.ScopeView.{scope_view}
 use Rattle.cost_bound.specs.steps.SizeView.{size_view, sizes_view}
 use Rattle.cost_bound.proofs.measure.+measure.Given as goal
@@ -13,6 +17,16 @@ invariant-measure_each-loop-expr l =
     ≡ sizes_of (exprs_view l.exprs) l.limits (scope_view l.scope))
     × (l.left + total (costs_of (exprs_view (drop l.expr-index l.exprs)) l.limits (scope_view l.scope))
     ≡ total (costs_of (exprs_view l.exprs) l.limits (scope_view l.scope)) + l.rest)
+    × (l.place ≡ l.expr-index)
+
+-- what is remembered of the expressions so far
+abbrev pub invariant-remember_each-loop-expr : goal.invariant-remember_each-loop-expr
+invariant-remember_each-loop-expr l =
+    (l.place ≡ l.expr-index)
+    × (length l.parts.items ≤ l.place)
+    × ((k : ℕ) (others : List Size) → l.around ≡ capped k → InTurns k (scope_view l.scope) others
+    → (i : ℕ) (x : TypedExpr) → i < l.expr-index → x ≡ get_or l.exprs i x
+    → Holds (memo_at i (memos_view l.parts.items)) (expr_view x) l.limits others)
 
 abbrev pub invariant-measure_turns-loop-others : goal.invariant-measure_turns-loop-others
 invariant-measure_turns-loop-others l =

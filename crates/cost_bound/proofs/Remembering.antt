@@ -1,0 +1,197 @@
+-- When what is known of expressions holds.
+use Rattle.std.proofs.Common.{◌≡◌, ◌⊎◌, ℕ, zero, suc, ◌+◌, ◌-◌, ◌<◌, ◌≤◌, List, [], ◌∷◌, length, get_or, refl, sym, ap, ◌∙◌, inl, inr, arith}
+use Rattle.std.proofs.lemmas.Bool.{cases_lt}
+use Rattle.std.proofs.lemmas.List.{get_or_read}
+use Rattle.attributes.specs.Limits.{LimitsValue}
+use Rattle.cel_types.specs.Elaborated.{TypedTree, typed_constant, typed_local, typed_attribute, typed_field, typed_has, typed_call, typed_list, typed_map, typed_loop, TypedTrees, no_typed, typed}
+use Rattle.cel_types.specs.View.{TypedParts, expr_view, exprs_view, loop_of}
+use Rattle.cel_types.specs.declared.typed.TypedExpr.{TypedExpr}
+use Rattle.cel_value.specs.Types.{ValueType}
+use Rattle.cost_bound.specs.Costs.{cost_of, size_of}
+use Rattle.cost_bound.specs.Sizes.{Size}
+use Rattle.cost_bound.specs.steps.Memos.{MemoTree, nothing_known, known_as, more_than, parts_known, MemoTrees, memo_at, part_at, Says, Holds, HoldsEach, HoldsInside, InTurns, IsSettled, IsTold, NamesOnly}
+use Rattle.cost_bound.specs.steps.Memos.{Remembers}
+use Rattle.cost_bound.specs.steps.Numbers.{capped}
+use Rattle.cost_bound.specs.steps.ScopeView.{Counted, sizes_among}
+use Rattle.cost_bound.proofs.Alike.{alike_settled, same_cost, same_size, turns_of, turns_with}
+use Rattle.cost_bound.proofs.Locals.{as_many}
+
+-- where nothing is known of parts, that is true of them
+mutual
+  alone_inside : (m : MemoTree) → ((i : ℕ) → part_at i m ≡ nothing_known) → (e : TypedTree) (l : LimitsValue)
+      (ss : List Size) → HoldsInside m e l ss
+  alone_inside m h (typed_constant t v) l ss = tt
+  alone_inside m h (typed_local t n) l ss = tt
+  alone_inside m h (typed_attribute t a) l ss = tt
+  alone_inside m h (typed_field t on name) l ss = rw (h 0) (tt, alone_inside nothing_known (λ i. refl) on l ss)
+  alone_inside m h (typed_has t on name) l ss = rw (h 0) (tt, alone_inside nothing_known (λ i. refl) on l ss)
+  alone_inside m h (typed_call t o es) l ss = alone_each m h 0 es l ss
+  alone_inside m h (typed_list t es) l ss = alone_each m h 0 es l ss
+  alone_inside m h (typed_map t es) l ss = alone_each m h 0 es l ss
+  alone_inside m h (typed_loop t range init condition step result) l ss = (
+    rw (h 0) (tt, alone_inside nothing_known (λ i. refl) range l ss),
+    rw (h 1) (tt, alone_inside nothing_known (λ i. refl) init l ss),
+    λ s e. rw (h 2) (tt, alone_inside nothing_known (λ i. refl) condition l (e ∷ s ∷ ss)),
+    λ s e. rw (h 3) (tt, alone_inside nothing_known (λ i. refl) step l (e ∷ s ∷ ss)),
+    λ s. rw (h 4) (tt, alone_inside nothing_known (λ i. refl) result l (s ∷ ss)),
+  )
+
+  alone_each : (m : MemoTree) → ((i : ℕ) → part_at i m ≡ nothing_known) → (n : ℕ) (es : TypedTrees)
+      (l : LimitsValue) (ss : List Size) → HoldsEach m n es l ss
+  alone_each m h n no_typed l ss = tt
+  alone_each m h n (typed e es) l ss =
+      (rw (h n) (tt, alone_inside nothing_known (λ i. refl) e l ss), alone_each m h (suc n) es l ss)
+
+-- nothing is always true
+pub holds_nothing : (m : MemoTree) (e : TypedTree) (l : LimitsValue) (ss : List Size) → m ≡ nothing_known
+    → Holds m e l ss
+holds_nothing m e l ss is = rw is (tt, alone_inside nothing_known (λ i. refl) e l ss)
+
+pub holds_known : (m : MemoTree) (s : Size) (c : ℕ) (e : TypedTree) (l : LimitsValue) (ss : List Size)
+    → m ≡ known_as s c → s ≡ size_of e l ss → c ≡ cost_of e l ss → Holds m e l ss
+holds_known m s c e l ss is size cost =
+    rw is ((size, cost), alone_inside (known_as s c) (λ i. refl) e l ss)
+
+pub holds_more : (m : MemoTree) (n : ℕ) (e : TypedTree) (l : LimitsValue) (ss : List Size)
+    → m ≡ more_than n → n < cost_of e l ss → Holds m e l ss
+holds_more m n e l ss is more = rw is (more, alone_inside (more_than n) (λ i. refl) e l ss)
+
+-- what holds of expressions one after the other holds of that at a place
+part_from : (m : MemoTree) (l : LimitsValue) (ss : List Size) (n : ℕ) (es : List TypedExpr) (i : ℕ)
+    (x : TypedExpr) (j : ℕ) → i < length es → x ≡ get_or es i x → j ≡ n + i
+    → HoldsEach m n (exprs_view es) l ss → Holds (part_at j m) (expr_view x) l ss
+part_from m l ss n [] i x j within is e h = absurd (omega arith)
+part_from m l ss n (y ∷ ys) zero x j within is e h =
+    let one : x ≡ y = is in
+    let same : j ≡ n = omega arith in
+    rw (same, one) h.0
+part_from m l ss n (y ∷ ys) (suc i) x j within is e h =
+    part_from m l ss (suc n) ys i x j (omega arith) is (omega arith) h.1
+
+pub part_holds : (m p : MemoTree) (l : LimitsValue) (ss : List Size) (es : List TypedExpr) (i : ℕ)
+    (x : TypedExpr) → i < length es → x ≡ get_or es i x → p ≡ part_at i m
+    → HoldsEach m 0 (exprs_view es) l ss → Holds p (expr_view x) l ss
+part_holds m p l ss es i x within is e h = rw e (part_from m l ss 0 es i x i within is (omega arith) h)
+
+-- and the other way round
+each_from : (m : MemoTree) (l : LimitsValue) (ss : List Size) (n : ℕ) (es : List TypedExpr)
+    → ((i : ℕ) (x : TypedExpr) (j : ℕ) → i < length es → x ≡ get_or es i x → j ≡ n + i
+    → Holds (part_at j m) (expr_view x) l ss)
+    → HoldsEach m n (exprs_view es) l ss
+each_from m l ss n [] h = tt
+each_from m l ss n (y ∷ ys) h = (
+  h 0 y n (omega arith) refl (omega arith),
+  each_from m l ss (suc n) ys (λ i x j within is e. h (suc i) x j (omega arith) is (omega arith)),
+)
+
+pub each_holds : (m : MemoTree) (ms : MemoTrees) (l : LimitsValue) (ss : List Size) (es : List TypedExpr)
+    → ((i : ℕ) → part_at i m ≡ memo_at i ms)
+    → ((i : ℕ) (x : TypedExpr) → i < length es → x ≡ get_or es i x → Holds (memo_at i ms) (expr_view x) l ss)
+    → HoldsEach m 0 (exprs_view es) l ss
+each_holds m ms l ss es at h = each_from m l ss 0 es (λ i x j within is e.
+    let same : j ≡ i = omega arith in
+    let part : part_at j m ≡ memo_at i ms = rw same (at i) in
+    rw part (h i x within is))
+
+-- the parts so far, and one more
+pub more_parts : (es : List TypedExpr) (n p : ℕ) (y : TypedExpr) (old new : MemoTrees) (m : MemoTree)
+    (l : LimitsValue) (ss : List Size) → p ≡ n → y ≡ get_or es n y → n < length es
+    → ((i : ℕ) → i < p → memo_at i new ≡ memo_at i old) → memo_at p new ≡ m → Holds m (expr_view y) l ss
+    → ((i : ℕ) (x : TypedExpr) → i < n → x ≡ get_or es i x → Holds (memo_at i old) (expr_view x) l ss)
+    → (i : ℕ) (x : TypedExpr) → i < n + 1 → x ≡ get_or es i x → Holds (memo_at i new) (expr_view x) l ss
+more_parts es n p y old new m l ss place there within before at one all i x less is = elim (cases_lt i n) [
+  | inl lower ↦ rw (before i (omega arith)) (all i x lower is)
+  | inr high ↦
+      let same : i ≡ n = omega arith in
+      let here : i ≡ p = omega arith in
+      let found : x ≡ y = get_or_read es i x (omega arith) is y ∙ ap (λ k. get_or es k y) same ∙ sym there in
+      let part : memo_at i new ≡ m = ap (λ k. memo_at k new) here ∙ at in
+      rw (part, found) one
+]
+
+-- what names no local that a turn changes measures in each as here
+pub holds_in_turns : (k d : ℕ) (e : TypedTree) (l : LimitsValue) (a b : List Size) → NamesOnly (IsSettled k d) e
+    → d ≡ length a → InTurns k a b → (size_of e l a ≡ size_of e l b) × (cost_of e l a ≡ cost_of e l b)
+holds_in_turns k d e l a b only deep turns =
+    let same = alike_settled k d a b deep turns in
+    (same_size (IsSettled k d) l e a b only same, same_cost (IsSettled k d) l e a b only same)
+
+pub told_in_turns : (k d : ℕ) (e : TypedTree) (l : LimitsValue) (a b : List Size) (m : MemoTree)
+    → NamesOnly (IsSettled k d) e → d ≡ length a → InTurns k a b → IsTold m (size_of e l a) (cost_of e l a)
+    → Holds m e l b
+told_in_turns k d e l a b m only deep turns told =
+    let same = holds_in_turns k d e l a b only deep turns in
+    elim told [
+      | inl is ↦ holds_known m (size_of e l a) (cost_of e l a) e l b is same.0 same.1
+      | inr more ↦ holds_more m more.0 e l b more.1 (rw (← same.1) more.2)
+    ]
+
+-- what is known of a map that a name is looked up in
+pub field_holds : (m p : MemoTree) (t : ValueType) (e on : TypedTree) (name : List ℕ) (l : LimitsValue)
+    (ss : List Size) → e ≡ typed_field t on name → p ≡ part_at 0 m → Holds m e l ss → Holds p on l ss
+field_holds m p t e on name l ss is part h = rw part (rw is at h).1
+
+pub has_holds : (m p : MemoTree) (t : ValueType) (e on : TypedTree) (name : List ℕ) (l : LimitsValue)
+    (ss : List Size) → e ≡ typed_has t on name → p ≡ part_at 0 m → Holds m e l ss → Holds p on l ss
+has_holds m p t e on name l ss is part h = rw part (rw is at h).1
+
+-- what is remembered of the parts, at their places
+pub one_held : (m p : MemoTree) (ms : MemoTrees) (e : TypedTree) (l : LimitsValue) (ss : List Size) (i : ℕ)
+    → part_at i m ≡ memo_at i ms → memo_at i ms ≡ p → Holds p e l ss → Holds (part_at i m) e l ss
+one_held m p ms e l ss i part at h = rw (part, at) h
+
+-- what is remembered inside of a loop holds in each of its turns
+pub remembered_turns : (m : MemoTree) (e : TypedTree) (l : LimitsValue) (n : ℕ) (inside : List Size)
+    (element any : Size) (cs : List Counted) → n ≡ capped (length cs)
+    → inside ≡ element ∷ any ∷ sizes_among cs → Remembers m e l n inside
+    → (s : Size) → Holds m e l (element ∷ s ∷ sizes_among cs)
+remembered_turns m e l n inside element any cs counted is h s =
+    h (length (sizes_among cs)) (element ∷ s ∷ sizes_among cs) (counted ∙ ap capped (sym (as_many cs)))
+    (rw is (turns_of element any s (sizes_among cs)))
+
+-- and in each turn of a loop inside of it
+pub remembered_inside : (m : MemoTree) (e : TypedTree) (l : LimitsValue) (n k : ℕ) (ss others inside : List Size)
+    (any t : Size) → inside ≡ any ∷ ss → Remembers m e l n inside → n ≡ capped k → InTurns k ss others
+    → Holds m e l (t ∷ others)
+remembered_inside m e l n k ss others inside any t is h counted turns =
+    h k (t ∷ others) counted (rw is (turns_with k any t ss others turns))
+
+pub remembered_turned : (m : MemoTree) (e : TypedTree) (l : LimitsValue) (n k : ℕ) (ss others inside : List Size)
+    (any more t u : Size) → inside ≡ more ∷ any ∷ ss → Remembers m e l n inside → n ≡ capped k
+    → InTurns k ss others → Holds m e l (u ∷ t ∷ others)
+remembered_turned m e l n k ss others inside any more t u is h counted turns =
+    h k (u ∷ t ∷ others) counted
+    (rw is (turns_with k more u (any ∷ ss) (t ∷ others) (turns_with k any t ss others turns)))
+
+-- what is remembered of a loop that a turn changes, by what is remembered of its parts
+pub loop_remembered : (p : TypedParts) (t : ValueType) (l : LimitsValue) (n k : ℕ)
+    (ss others outer inner : List Size) (any : Size) (m r i c s e : MemoTree)
+    (one two three four five : MemoTrees)
+    → ((j : ℕ) → part_at j m ≡ memo_at j five) → ((size : Size) (cost : ℕ) → Says m size cost)
+    → memo_at 0 one ≡ r
+    → ((j : ℕ) → j < 1 → memo_at j two ≡ memo_at j one) → memo_at 1 two ≡ i
+    → ((j : ℕ) → j < 2 → memo_at j three ≡ memo_at j two) → memo_at 2 three ≡ c
+    → ((j : ℕ) → j < 3 → memo_at j four ≡ memo_at j three) → memo_at 3 four ≡ s
+    → ((j : ℕ) → j < 4 → memo_at j five ≡ memo_at j four) → memo_at 4 five ≡ e
+    → outer ≡ any ∷ ss → inner ≡ any ∷ outer
+    → Remembers r p.range l n ss → Remembers i p.init l n ss → Remembers c p.condition l n inner
+    → Remembers s p.step l n inner → Remembers e p.result l n outer
+    → n ≡ capped k → InTurns k ss others → Holds m (loop_of t p) l others
+loop_remembered p t l n k ss others outer inner any m r i c s e one two three four five at silent a0 b1 a1 b2 a2 b3 a3
+    b4 a4 isOuter isInner hr hi hc hs he counted turns =
+    let at0 : part_at 0 m ≡ r = at 0 ∙ b4 0 (omega arith) ∙ b3 0 (omega arith) ∙ b2 0 (omega arith)
+    ∙ b1 0 (omega arith) ∙ a0 in
+    let at1 : part_at 1 m ≡ i = at 1 ∙ b4 1 (omega arith) ∙ b3 1 (omega arith) ∙ b2 1 (omega arith) ∙ a1 in
+    let at2 : part_at 2 m ≡ c = at 2 ∙ b4 2 (omega arith) ∙ b3 2 (omega arith) ∙ a2 in
+    let at3 : part_at 3 m ≡ s = at 3 ∙ b4 3 (omega arith) ∙ a3 in
+    let at4 : part_at 4 m ≡ e = at 4 ∙ a4 in
+    let isInner' : inner ≡ any ∷ any ∷ ss = isInner ∙ ap (λ x. any ∷ x) isOuter in (
+      silent _ _,
+      (
+        rw at0 (hr k others counted turns),
+        rw at1 (hi k others counted turns),
+        λ u v. rw at2 (remembered_turned c p.condition l n k ss others inner any any u v isInner' hc counted turns),
+        λ u v. rw at3 (remembered_turned s p.step l n k ss others inner any any u v isInner' hs counted turns),
+        λ u. rw at4 (remembered_inside e p.result l n k ss others outer any u isOuter he counted turns),
+      ),
+    )

@@ -1,0 +1,97 @@
+//! What is known of an expression and of its parts before it is measured.
+
+ghost use Rattle.std.specs.Prelude.{◌≡◌, ◌<◌, ◌≤◌, ◌+◌, ℕ, IfOk, IsTrue, length};
+ghost use Rattle.cost_bound.specs.Sizes.{Size};
+ghost use Rattle.cost_bound.specs.steps.Memos.{Says, known_view, memo_at, memo_view, memos_view, nothing_known, part_at};
+
+use crate::size::ValueSize;
+use std::alloc::AllocError;
+
+/// What is known of an expression. Measuring a loop remembers so what no turn changes.
+#[derive(Drop)]
+pub(crate) enum Memo {
+    /// Nothing.
+    Unknown,
+    /// What it measures.
+    Known { size: ValueSize, cost: u64 },
+    /// That it costs more than so much.
+    Costly { than: u64 },
+    /// What is known of its parts, each at its place. Of those behind the last nothing is known.
+    Parts(Vec<Memo>),
+}
+
+/// What is known of the part at a place.
+pub(crate) fn part<'s>(memo: Option<&'s Memo>, place: usize) -> Option<&'s Memo>
+    ensures { known_view result ≡ part_at place (known_view memo.entry) }
+{
+    match memo {
+        None => None,
+        Some(known) => part_of(known, place),
+    }
+}
+
+fn part_of(memo: &Memo, place: usize) -> Option<&Memo>
+    ensures { known_view result ≡ part_at place (memo_view memo.now) }
+{
+    match memo {
+        Memo::Unknown => None,
+        Memo::Known { .. } => None,
+        Memo::Costly { .. } => None,
+        Memo::Parts(parts) => {
+            if place < parts.len() {
+                return Some(&parts[place]);
+            }
+            None
+        }
+    }
+}
+
+impl Memo {
+    /// The memo of an expression by those of its parts.
+    pub(crate) fn of_parts(parts: Vec<Memo>) -> Memo
+        ensures at { (i : ℕ) → part_at i (memo_view result) ≡ memo_at i (memos_view parts.items) }
+        ensures silent { (size : Size) (cost : ℕ) → Says (memo_view result) size cost }
+    {
+        if parts.is_empty() {
+            return Memo::Unknown;
+        }
+        Memo::Parts(parts)
+    }
+}
+
+/// The memos of parts with one more, of the part at a place behind them. Nothing known takes no room.
+pub(crate) fn with_part(parts: Vec<Memo>, place: usize, memo: Memo) -> Result<Vec<Memo>, AllocError>
+    requires { length parts.items ≤ place }
+    ensures short { IfOk result (λ all. length all.items ≤ place + 1) }
+    ensures before { IfOk result (λ all. (i : ℕ) → i < place
+        → memo_at i (memos_view all.items) ≡ memo_at i (memos_view parts.items)) }
+    ensures there { IfOk result (λ all. memo_at place (memos_view all.items) ≡ memo_view memo) }
+{
+    if is_unknown(&memo) {
+        return Ok(parts);
+    }
+    let mut all = padded(parts, place)?;
+    all.push(memo)?;
+    Ok(all)
+}
+
+// The memos of parts up to a place; of those behind nothing is known.
+fn padded(parts: Vec<Memo>, place: usize) -> Result<Vec<Memo>, AllocError>
+    requires { length parts.items ≤ place }
+    ensures full { IfOk result (λ all. length all.items ≡ place) }
+    ensures same { IfOk result (λ all. (i : ℕ)
+        → memo_at i (memos_view all.items) ≡ memo_at i (memos_view parts.items)) }
+{
+    let mut all = parts;
+    'padding: while all.len() < place {
+        all.push(Memo::Unknown)?;
+    }
+    Ok(all)
+}
+
+// Whether nothing is known.
+fn is_unknown(memo: &Memo) -> bool
+    ensures { IsTrue result → memo_view memo.now ≡ nothing_known }
+{
+    matches!(memo, Memo::Unknown)
+}
