@@ -26,7 +26,7 @@ const WORDS: &[&str] = &["--explain"];
 
 const JSON: &[&str] = &["--json", "--explain"];
 
-const CASES: [Case; 33] = [
+const CASES: [Case; 19] = [
     ("any_any", &[], PLAIN, "allow 0\n", 0),
     ("any_any", WORDS, PLAIN, "allow 0\n0 \"p\": match\n", 0),
     (
@@ -114,6 +114,20 @@ const CASES: [Case; 33] = [
         "allow -\n0 \"p\": condition error Overflow\n",
         0,
     ),
+    ("method_alone", WORDS, PLAIN, "refused: 13 NotBool\n", 1),
+    (
+        "method_alone",
+        JSON,
+        PLAIN,
+        "{\"name\":\"NotBool\",\"refused\":13}\n",
+        1,
+    ),
+    ("each_reason", WORDS, b"GET", "head: 400\n", 4),
+    ("each_reason", JSON, b"GET", "{\"head\":400}\n", 4),
+];
+
+/// Filters with one condition, and how it came out.
+const CONDITIONS: [Case; 14] = [
     (
         "true_and_true",
         WORDS,
@@ -212,36 +226,48 @@ const CASES: [Case; 33] = [
         "deny -\n0 \"p\": condition false\n",
         3,
     ),
-    ("method_alone", WORDS, PLAIN, "refused: 13 NotBool\n", 1),
-    (
-        "method_alone",
-        JSON,
-        PLAIN,
-        "{\"name\":\"NotBool\",\"refused\":13}\n",
-        1,
-    ),
-    ("each_reason", WORDS, b"GET", "head: 400\n", 4),
-    ("each_reason", JSON, b"GET", "{\"head\":400}\n", 4),
 ];
+
+/// What `judge` on the filter with these words answers the head: the status, and what stands on both outputs.
+fn judged(
+    alloc: Global,
+    filter: &'static str,
+    more: &[&'static str],
+    head: &[u8],
+) -> Result<(u8, Vec<u8>, Vec<u8>), Fail> {
+    let mut words = vec![in alloc; "rbacd", "judge", "--policy", filter]?;
+    words.extend_from_slice(more)?;
+    let mut out = Vec::new(alloc);
+    let mut errors = Vec::new(alloc);
+    let ended = run(
+        alloc,
+        words.as_slice(),
+        &Filters,
+        head,
+        &mut out,
+        &mut errors,
+    );
+    Ok((ended, out, errors))
+}
 
 #[test]
 fn explains_verdicts(rt: HostRuntime) -> Result<(), Fail> {
     for (filter, more, head, text, status) in CASES {
-        let mut words = vec![in rt.alloc(); "rbacd", "judge", "--policy", filter]?;
-        words.extend_from_slice(more)?;
-        let mut out = Vec::new(rt.alloc());
-        let mut errors = Vec::new(rt.alloc());
-        let ended = run(
-            rt.alloc(),
-            words.as_slice(),
-            &Filters,
-            head,
-            &mut out,
-            &mut errors,
-        );
-        assert_eq!(rt; str::from_utf8(&out).unwrap_or("no text"), text);
+        let (ended, out, errors) = judged(rt.alloc(), filter, more, head)?;
+        assert_eq!(rt; out.as_slice(), text.as_bytes());
         assert_eq!(rt; ended, status);
         assert_eq!(rt; errors.is_empty(), status == 0 || status == 3);
+    }
+    Ok(())
+}
+
+#[test]
+fn explains_conditions(rt: HostRuntime) -> Result<(), Fail> {
+    for (filter, more, head, text, status) in CONDITIONS {
+        let (ended, out, errors) = judged(rt.alloc(), filter, more, head)?;
+        assert_eq!(rt; out.as_slice(), text.as_bytes());
+        assert_eq!(rt; ended, status);
+        assert!(rt; errors.is_empty());
     }
     Ok(())
 }

@@ -294,7 +294,7 @@ fn runs_cases(rt: HostRuntime) -> Result<(), Fail> {
         let mut out = Full::new(rt.alloc(), 1_000);
         let mut errors = Vec::new(rt.alloc());
         let ended = run(rt.alloc(), &words, &Shelf, head, &mut out, &mut errors);
-        assert_eq!(rt; ended, status, "{line}{told}");
+        assert_eq!(rt; ended, status);
         assert_eq!(rt; out.held.as_slice(), line.as_bytes());
         assert_eq!(rt; out.calls, if line.is_empty() { 0 } else { 1 });
         assert_eq!(rt; str::from_utf8(&errors).unwrap_or("no text"), told);
