@@ -30,14 +30,15 @@ fn answered(
     Ok(replies)
 }
 
-/// A client answers the bytes alike wherever they are cut: at each place, and then at each place behind it or at every seventh.
-/// Once they were answered, a stream begins with this request.
+/// A client answers the bytes alike wherever they are cut: first at a place of this range, and then at each place behind it or
+/// at every seventh. Once they were answered, a stream begins with this request.
 fn answers_alike(
     rt: &impl Abort,
     alloc: Global,
     bytes: &[u8],
     request: &[&[u8]],
     each: bool,
+    (from, to): (usize, usize),
 ) -> Result<(), Fail> {
     let mut client = client_of(alloc, &["f", "g"])?;
     let length = bytes.len();
@@ -46,7 +47,7 @@ fn answers_alike(
     assert!(rt; !at_once.is_empty());
     for first in 0..=length {
         for second in first..=length {
-            if each || second % 7 == 0 {
+            if from <= first && first < to && (each || second % 7 == 0) {
                 let cut = (first, second);
                 let replies = answered(rt, alloc, &mut client, request, bytes, cut)?;
                 assert!(rt; replies == at_once);
@@ -56,19 +57,34 @@ fn answers_alike(
     Ok(())
 }
 
-#[test]
-fn responses(rt: HostRuntime) -> Result<(), Fail> {
-    let alloc = rt.alloc();
+/// A response with a filter, whose first cut is within this range.
+fn response_alike(rt: &impl Abort, alloc: Global, range: (usize, usize)) -> Result<(), Fail> {
     let filter = resource(alloc, "f", TRUE_AND_TRUE)?;
     let first = response(alloc, "1", "n1", &[&filter])?;
     assert_eq!(rt; first.len(), 261);
-    answers_alike(&rt, alloc, &first, RESUMED_FOR_BOTH, true)
+    answers_alike(rt, alloc, &first, RESUMED_FOR_BOTH, true, range)
+}
+
+#[test]
+fn responses_cut_early(rt: HostRuntime) -> Result<(), Fail> {
+    response_alike(&rt, rt.alloc(), (0, 48))
+}
+
+#[test]
+fn responses_cut_before_the_middle(rt: HostRuntime) -> Result<(), Fail> {
+    response_alike(&rt, rt.alloc(), (48, 110))
+}
+
+#[test]
+fn responses_cut_behind_the_middle(rt: HostRuntime) -> Result<(), Fail> {
+    response_alike(&rt, rt.alloc(), (110, 262))
 }
 
 #[test]
 fn half_bad_responses(rt: HostRuntime) -> Result<(), Fail> {
     let alloc = rt.alloc();
-    answers_alike(&rt, alloc, &half_bad(alloc)?, FIRST_FOR_BOTH, false)
+    let whole = (0, usize::MAX);
+    answers_alike(&rt, alloc, &half_bad(alloc)?, FIRST_FOR_BOTH, false, whole)
 }
 
 /// The requests as responses: those that name no node are accepted.
@@ -76,10 +92,24 @@ fn half_bad_responses(rt: HostRuntime) -> Result<(), Fail> {
 fn requests_as_responses(rt: HostRuntime) -> Result<(), Fail> {
     let alloc = rt.alloc();
     for pieces in &[FIRST_REQUEST, RESUMED_REQUEST] {
-        answers_alike(&rt, alloc, &joined(alloc, pieces)?, FIRST_FOR_BOTH, true)?;
+        answers_alike(
+            &rt,
+            alloc,
+            &joined(alloc, pieces)?,
+            FIRST_FOR_BOTH,
+            true,
+            (0, usize::MAX),
+        )?;
     }
     for pieces in &[FIRST_ACK, HALF_BAD_NACK] {
-        answers_alike(&rt, alloc, &joined(alloc, pieces)?, RESUMED_FOR_BOTH, true)?;
+        answers_alike(
+            &rt,
+            alloc,
+            &joined(alloc, pieces)?,
+            RESUMED_FOR_BOTH,
+            true,
+            (0, usize::MAX),
+        )?;
     }
     Ok(())
 }
