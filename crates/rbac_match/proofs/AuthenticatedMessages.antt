@@ -4,7 +4,7 @@ use Rattle.proto_wire.specs.Values.{payloads}
 use Rattle.proto_wire.proofs.Unique.{merges_unique}
 use Rattle.proto_wire.proofs.Messages.{message_total, message_disjoint}
 use Rattle.proto_wire.specs.declared.refusal.Refusal.{Refusal}
-use Rattle.rbac_match.specs.Authenticated.{principal_name_field, authenticated_keys, SaysName, IsAuthenticated, AuthenticatedFault, authenticated_fields, in_name}
+use Rattle.rbac_match.specs.Authenticated.{authenticated_field, authenticated_keys, SaysName, IsAuthenticated, AuthenticatedFault, authenticated_fields, in_name}
 use Rattle.rbac_match.specs.Text.{TextTest, TextFault}
 use Rattle.rbac_match.proofs.Basics.{nil_or_not}
 use Rattle.rbac_match.proofs.TextMessages.{text_total, text_disjoint, text_unique}
@@ -15,9 +15,9 @@ pub authenticated_total : (parts : List (List ℕ))
     ⊎ ((e : Refusal) × AuthenticatedFault parts e)
 authenticated_total parts = elim (message_total authenticated_keys parts) [
   | inr bad ↦ inr (bad.0, authenticated_fields bad.1)
-  | inl message ↦ elim (nil_or_not (payloads principal_name_field message.0)) [
+  | inl message ↦ elim (nil_or_not (payloads authenticated_field.principal_name message.0)) [
     | inl none ↦ inl (None, (message.0, message.1, none))
-    | inr some ↦ elim (text_total (payloads principal_name_field message.0)) [
+    | inr some ↦ elim (text_total (payloads authenticated_field.principal_name message.0)) [
       | inl good ↦ inl (Some good.0, (message.0, message.1, (some, good.1)))
       | inr bad ↦ inr (bad.0, in_name message.0 message.1.0 some bad.1)
     ]
@@ -37,8 +37,8 @@ authenticated_disjoint parts name e (fs, message, says) (authenticated_fields ba
     message_disjoint authenticated_keys parts fs e message bad
 authenticated_disjoint parts name e (fs, message, says) (in_name gs also there bad) =
     let same : gs ≡ fs = merges_unique parts gs fs also message.0 in
-    name_disjoint (payloads principal_name_field fs) name e says (subst (λ hs. payloads principal_name_field hs ≢ []) same there)
-    (subst (λ hs. TextFault (payloads principal_name_field hs) e) same bad)
+    name_disjoint (payloads authenticated_field.principal_name fs) name e says (subst (λ hs. payloads authenticated_field.principal_name hs ≢ []) same there)
+    (subst (λ hs. TextFault (payloads authenticated_field.principal_name hs) e) same bad)
 
 -- the payloads of a name say one test
 name_unique : (names : List (List ℕ)) (a b : Option TextTest) → SaysName names a → SaysName names b
@@ -52,5 +52,5 @@ name_unique names (Some t) (Some u) says also = ap Some (text_unique names t u s
 pub authenticated_unique : (parts : List (List ℕ)) (a b : Option TextTest) → IsAuthenticated parts a
     → IsAuthenticated parts b → a ≡ b
 authenticated_unique parts a b (fs, message, says) (gs, other, also) =
-    name_unique (payloads principal_name_field fs) a b says
-    (subst (λ hs. SaysName (payloads principal_name_field hs) b) (merges_unique parts gs fs other.0 message.0) also)
+    name_unique (payloads authenticated_field.principal_name fs) a b says
+    (subst (λ hs. SaysName (payloads authenticated_field.principal_name hs) b) (merges_unique parts gs fs other.0 message.0) also)

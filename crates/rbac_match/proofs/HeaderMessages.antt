@@ -11,9 +11,9 @@ use Rattle.proto_wire.proofs.Unique.{merges_unique}
 use Rattle.proto_wire.proofs.Messages.{message_total, message_disjoint}
 use Rattle.proto_wire.specs.declared.refusal.Refusal.{Refusal}
 use Rattle.proto_wire.specs.declared.refusal.Refusal.TheVariants.{BadText, Missing, Unsupported}
-use Rattle.rbac_match.specs.Message.{start_field, end_field, range_keys}
+use Rattle.rbac_match.specs.Message.{range_field, range_keys}
 use Rattle.rbac_match.specs.Int64Range.{IsRange}
-use Rattle.rbac_match.specs.Header.{HeaderTest, specifiers, name_field, invert_match_field, treat_missing_header_as_empty_field, header_keys, SaysMember, SaysSpecifier, says_nothing, says_member, IsHeader, HeaderMemberFault, MemberReads, HeaderFault, header_fields, name_unreadable, name_missing, in_specifier}
+use Rattle.rbac_match.specs.Header.{HeaderTest, specifiers, header_field, header_keys, SaysMember, SaysSpecifier, says_nothing, says_member, IsHeader, HeaderMemberFault, MemberReads, HeaderFault, header_fields, name_unreadable, name_missing, in_specifier}
 use Rattle.rbac_match.specs.declared.int64_range.Int64Range.{Int64Range}
 use Rattle.rbac_match.specs.declared.header.HeaderMember.{HeaderMember}
 use Rattle.rbac_match.specs.declared.header.HeaderMember.TheVariants as members
@@ -47,7 +47,7 @@ range_total : (parts : List (List ℕ))
 range_total parts = elim (message_total range_keys parts) [
   | inr bad ↦ inr bad
   | inl (fs, message) ↦
-      inl (record { start = int64_at start_field fs; end = int64_at end_field fs }, (fs, message, refl, refl))
+      inl (record { start = int64_at range_field.start fs; end = int64_at range_field.end fs }, (fs, message, refl, refl))
 ]
 
 -- and they are one range at most
@@ -55,8 +55,8 @@ range_unique : (parts : List (List ℕ)) (r q : Int64Range) → IsRange parts r 
     → r ≡ q
 range_unique parts r q (fs, a, start, end) (gs, b, also_start, also_end) =
     let same : fs ≡ gs = merges_unique parts fs gs a.0 b.0 in
-    let first : r.start ≡ q.start = start ∙ ap (int64_at start_field) same ∙ sym also_start in
-    let past : r.end ≡ q.end = end ∙ ap (int64_at end_field) same ∙ sym also_end in
+    let first : r.start ≡ q.start = start ∙ ap (int64_at range_field.start) same ∙ sym also_start in
+    let past : r.end ≡ q.end = end ∙ ap (int64_at range_field.end) same ∙ sym also_end in
     λ i. record { start = first i; end = past i }
 
 -- ---- one member
@@ -184,16 +184,16 @@ header_total parts = elim (message_total header_keys parts) [
   | inr bad ↦ inr (bad.0, header_fields bad.1)
   | inl (fs, message) ↦ elim (specifier_total fs) [
     | inr (e, n, last, bad) ↦ inr (e, in_specifier fs n message.0 last bad)
-    | inl (s, asked) ↦ elim (utf8_or_not (bytes_at name_field fs)) [
+    | inl (s, asked) ↦ elim (utf8_or_not (bytes_at header_field.name fs)) [
       | inr bad ↦ inr (BadText, name_unreadable fs message.0 (bad, refl))
-      | inl readable ↦ elim (nil_or_not (bytes_at name_field fs)) [
+      | inl readable ↦ elim (nil_or_not (bytes_at header_field.name fs)) [
         | inl none ↦ inr (Missing, name_missing fs message none (member_reads fs s asked) refl)
         | inr named ↦ inl (
           record {
-            name = str_to_ascii_lowercase (bytes_at name_field fs);
+            name = str_to_ascii_lowercase (bytes_at header_field.name fs);
             specifier = s;
-            invert_match = bool_at invert_match_field fs;
-            treat_missing_header_as_empty = bool_at treat_missing_header_as_empty_field fs;
+            invert_match = bool_at header_field.invert_match fs;
+            treat_missing_header_as_empty = bool_at header_field.treat_missing_header_as_empty fs;
           },
           record {
             fields = fs;
@@ -217,10 +217,10 @@ pub header_disjoint : (parts : List (List ℕ)) (h : HeaderTest) (e : Refusal) �
 header_disjoint parts h e is (header_fields bad) =
     message_disjoint header_keys parts is.fields e is.message bad
 header_disjoint parts h e is (name_unreadable fs merged bad) =
-    let P : List Wire → Type 0 = λ xs. IsUtf8 (bytes_at name_field xs) in
+    let P : List Wire → Type 0 = λ xs. IsUtf8 (bytes_at header_field.name xs) in
     bad.0 (subst P (merges_unique parts is.fields fs is.message.0 merged) is.readable)
 header_disjoint parts h e is (name_missing fs message none reads err) =
-    is.named (ap (bytes_at name_field) (merges_unique parts is.fields fs is.message.0 message.0) ∙ none)
+    is.named (ap (bytes_at header_field.name) (merges_unique parts is.fields fs is.message.0 message.0) ∙ none)
 header_disjoint parts h e is (in_specifier fs n merged last bad) =
     let P : List Wire → Type 0 = λ xs. SaysSpecifier xs h.specifier in
     specifier_disjoint fs h.specifier e n
@@ -233,13 +233,13 @@ header_unique parts h k a b =
     let same : a.fields ≡ b.fields = merges_unique parts a.fields b.fields a.message.0 b.message.0 in
     let P : List Wire → Type 0 = λ fs. SaysSpecifier fs h.specifier in
     let name : h.name ≡ k.name =
-    a.lowered ∙ ap (λ fs. str_to_ascii_lowercase (bytes_at name_field fs)) same ∙ sym b.lowered in
+    a.lowered ∙ ap (λ fs. str_to_ascii_lowercase (bytes_at header_field.name fs)) same ∙ sym b.lowered in
     let specifier : h.specifier ≡ k.specifier =
     specifier_unique b.fields h.specifier k.specifier (subst P same a.asked) b.asked in
     let invert : h.invert_match ≡ k.invert_match =
-    a.inverted ∙ ap (bool_at invert_match_field) same ∙ sym b.inverted in
+    a.inverted ∙ ap (bool_at header_field.invert_match) same ∙ sym b.inverted in
     let empty : h.treat_missing_header_as_empty ≡ k.treat_missing_header_as_empty =
-    a.emptied ∙ ap (bool_at treat_missing_header_as_empty_field) same ∙ sym b.emptied in
+    a.emptied ∙ ap (bool_at header_field.treat_missing_header_as_empty) same ∙ sym b.emptied in
     λ i. record {
       name = name i;
       specifier = specifier i;
@@ -250,7 +250,7 @@ header_unique parts h k a b =
 -- what is wrong with the name is wrong with the matcher, where its last member says what is asked
 pub name_fault : (parts : List (List ℕ)) (fs : List Wire) (s : Specifier) (e : Refusal)
     → IsMessage header_keys parts fs → SaysSpecifier fs s
-    → Utf8Fault (bytes_at name_field fs) e ⊎ ((e ≡ Missing) × (bytes_at name_field fs ≡ []))
+    → Utf8Fault (bytes_at header_field.name fs) e ⊎ ((e ≡ Missing) × (bytes_at header_field.name fs ≡ []))
     → HeaderFault parts e
 name_fault parts fs s e message says (inl bad) = name_unreadable fs message.0 bad
 name_fault parts fs s e message says (inr none) =

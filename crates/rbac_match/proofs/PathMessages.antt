@@ -15,9 +15,9 @@ pub path_total : (parts : List (List ℕ))
     → ((t : TextTest) × IsPathMatcher parts t) ⊎ ((e : Refusal) × PathFault parts e)
 path_total parts = elim (message_total path_keys parts) [
   | inr bad ↦ inr (bad.0, path_fields bad.1)
-  | inl message ↦ elim (nil_or_not (payloads path_field message.0)) [
+  | inl message ↦ elim (nil_or_not (payloads path_field.path message.0)) [
     | inl none ↦ inr (Missing, no_path message.0 message.1 none refl)
-    | inr some ↦ elim (text_total (payloads path_field message.0)) [
+    | inr some ↦ elim (text_total (payloads path_field.path message.0)) [
       | inl good ↦ inl (good.0, (message.0, message.1, some, good.1))
       | inr bad ↦ inr (bad.0, in_path message.0 message.1.0 some bad.1)
     ]
@@ -30,14 +30,14 @@ pub path_disjoint : (parts : List (List ℕ)) (t : TextTest) (e : Refusal) → I
 path_disjoint parts t e (fs, message, some, is) (path_fields bad) =
     message_disjoint path_keys parts fs e message bad
 path_disjoint parts t e (fs, message, some, is) (no_path gs also none err) =
-    some (subst (λ hs. payloads path_field hs ≡ []) (merges_unique parts gs fs also.0 message.0) none)
+    some (subst (λ hs. payloads path_field.path hs ≡ []) (merges_unique parts gs fs also.0 message.0) none)
 path_disjoint parts t e (fs, message, some, is) (in_path gs also there bad) =
-    text_disjoint (payloads path_field fs) t e is
-    (subst (λ hs. TextFault (payloads path_field hs) e) (merges_unique parts gs fs also message.0) bad)
+    text_disjoint (payloads path_field.path fs) t e is
+    (subst (λ hs. TextFault (payloads path_field.path hs) e) (merges_unique parts gs fs also message.0) bad)
 
 -- a PathMatcher means one test
 pub path_unique : (parts : List (List ℕ)) (t u : TextTest) → IsPathMatcher parts t
     → IsPathMatcher parts u → t ≡ u
 path_unique parts t u (fs, a, _, is) (gs, b, _, also) =
-    text_unique (payloads path_field fs) t u is
-    (subst (λ hs. IsTextMatcher (payloads path_field hs) u) (merges_unique parts gs fs b.0 a.0) also)
+    text_unique (payloads path_field.path fs) t u is
+    (subst (λ hs. IsTextMatcher (payloads path_field.path hs) u) (merges_unique parts gs fs b.0 a.0) also)

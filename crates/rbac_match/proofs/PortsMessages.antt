@@ -9,7 +9,7 @@ use Rattle.proto_wire.proofs.Messages.{message_total, message_disjoint}
 use Rattle.proto_wire.specs.declared.refusal.Refusal.{Refusal}
 use Rattle.proto_wire.specs.declared.refusal.Refusal.TheVariants.{OutOfRange}
 use Rattle.std.specs.declared.ops.Range.{Range}
-use Rattle.rbac_match.specs.Message.{start_field, end_field, range_keys}
+use Rattle.rbac_match.specs.Message.{range_field, range_keys}
 use Rattle.rbac_match.specs.Ports.{IsPort, PortFault, AreBounds, IsPortRange, PortRangeFault, range_fields, no_bounds}
 use Rattle.rbac_match.specs.steps.Ports.{AreNoBounds}
 
@@ -29,7 +29,7 @@ pub port_unique : (n : ℕ) (run : List Wire) (p q : ℕ) → IsPort n run p →
 port_unique n run p q a b = a.0 ∙ sym b.0
 
 -- two bounds are those of some ports, or of none
-bounds_total : (fs : List Wire) (s e : ℤ) → int32_at start_field fs ≡ s → int32_at end_field fs ≡ e
+bounds_total : (fs : List Wire) (s e : ℤ) → int32_at range_field.start fs ≡ s → int32_at range_field.end fs ≡ e
     → ((span : Range ℕ) × AreBounds fs span) ⊎ AreNoBounds fs
 bounds_total fs (negsuc m) e start end = inr (inl (omega (arith, ints, start)))
 bounds_total fs (pos m) (negsuc n) start end = inr (inr (inr (omega (arith, ints, start, end))))

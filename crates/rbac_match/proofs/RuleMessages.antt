@@ -11,7 +11,7 @@ use Rattle.proto_wire.proofs.Messages.{message_total, message_disjoint}
 use Rattle.proto_wire.specs.declared.refusal.Refusal.{Refusal}
 use Rattle.proto_wire.specs.declared.refusal.Refusal.TheVariants.{Missing, OutOfRange, Unsupported, TooLarge}
 use Rattle.rbac_match.specs.Formula.{Formula, any, and_of, or_of, not_of, leaf, Formulas, end, formula}
-use Rattle.rbac_match.specs.Message.{members, rule_keys, rules_field, set_keys}
+use Rattle.rbac_match.specs.Message.{members, rule_keys, set_field, set_keys}
 use Rattle.rbac_match.specs.Rules.{AreRules, IsSet, MemberSays, IsLevel, IsRule, SetFault, set_fields, set_empty, in_rule, MemberFault, LevelFault, rule_fields, no_member, in_member, RuleFault}
 use Rattle.rbac_match.specs.declared.member.Member.{Member}
 use Rattle.rbac_match.specs.declared.member.Member.TheVariants.{And, Or, Any, Not, Leaf}
@@ -70,9 +70,9 @@ module _ (Below : List (List ℕ) → Formula → Type 0) (Fails : List (List �
         → ((gs : Formulas) × IsSet Below parts gs) ⊎ ((e : Refusal) × SetFault Fails parts e)
     set_total parts = elim (message_total set_keys parts) [
       | inr bad ↦ inr (bad.0, set_fields bad.1)
-      | inl message ↦ elim (nil_or_not (payloads rules_field message.0)) [
+      | inl message ↦ elim (nil_or_not (payloads set_field.rules message.0)) [
         | inl none ↦ inr (Missing, set_empty message.0 message.1 none refl)
-        | inr some ↦ elim (rules_of_total (payloads rules_field message.0)) [
+        | inr some ↦ elim (rules_of_total (payloads set_field.rules message.0)) [
           | inl rules ↦ inl (rules.0, (message.0, message.1, some, rules.1))
           | inr bad ↦ inr (bad.2, in_rule message.0 bad.0 message.1.0 bad.1 bad.3)
         ]
@@ -158,11 +158,11 @@ module _ (Below : List (List ℕ) → Formula → Type 0) (Fails : List (List �
     set_disjoint parts gs e (fs, message, some, are) (set_fields bad) =
         message_disjoint set_keys parts fs e message bad
     set_disjoint parts gs e (fs, message, some, are) (set_empty hs also none is) =
-        let P : List Wire → Type 0 = λ xs. payloads rules_field xs ≡ [] in
+        let P : List Wire → Type 0 = λ xs. payloads set_field.rules xs ≡ [] in
         some (subst P (merges_unique parts hs fs also.0 message.0) none)
     set_disjoint parts gs e (fs, message, some, are) (in_rule hs child also here bad) =
-        let P : List Wire → Type 0 = λ xs. Contains (payloads rules_field xs) child in
-        rules_of_disjoint (payloads rules_field fs) gs child e are
+        let P : List Wire → Type 0 = λ xs. Contains (payloads set_field.rules xs) child in
+        rules_of_disjoint (payloads set_field.rules fs) gs child e are
         (subst P (merges_unique parts hs fs also message.0) here) bad
 
     member_disjoint : (member : Member) (n : ℕ) (run : List Wire) (f : Formula) (e : Refusal)
@@ -220,8 +220,8 @@ module _ (Below : List (List ℕ) → Formula → Type 0) (below_unique : (parts
   set_unique : (parts : List (List ℕ)) (fs gs : Formulas) → IsSet Below parts fs → IsSet Below parts gs
       → fs ≡ gs
   set_unique parts fs gs a b =
-      let P : List Wire → Type 0 = λ xs. AreRules Below (payloads rules_field xs) gs in
-      rules_of_unique (payloads rules_field a.0) fs gs a.3 (subst P (merges_unique parts b.0 a.0 b.1.0 a.1.0) b.3)
+      let P : List Wire → Type 0 = λ xs. AreRules Below (payloads set_field.rules xs) gs in
+      rules_of_unique (payloads set_field.rules a.0) fs gs a.3 (subst P (merges_unique parts b.0 a.0 b.1.0 a.1.0) b.3)
 
   member_unique : (member : Member) (n : ℕ) (run : List Wire) (f g : Formula)
       → MemberSays Below member n run f → MemberSays Below member n run g → f ≡ g

@@ -9,7 +9,7 @@ use Rattle.proto_wire.proofs.Messages.{message_total, message_disjoint}
 use Rattle.proto_wire.specs.declared.refusal.Refusal.{Refusal}
 use Rattle.proto_wire.specs.declared.refusal.Refusal.TheVariants.{BadText, Missing, OutOfRange, Unsupported}
 use Rattle.proto_wire.specs.Oneof.{last_number, member_in}
-use Rattle.rbac_match.specs.Text.{TextTest, string_members, ignore_case_field, string_keys, IsFilled, IsSought, IsTextMatcher, SoughtFault, TextFault, text_fields, no_pattern, in_pattern}
+use Rattle.rbac_match.specs.Text.{TextTest, string_members, string_field, string_keys, IsFilled, IsSought, IsTextMatcher, SoughtFault, TextFault, text_fields, no_pattern, in_pattern}
 use Rattle.rbac_match.specs.declared.text.Pattern.{Pattern}
 use Rattle.rbac_match.specs.declared.text.Pattern.TheVariants.{Exact, Prefix, Suffix, Contains}
 use Rattle.rbac_match.proofs.Basics.{nil_or_not, utf8_or_not}
@@ -53,7 +53,7 @@ last_total parts fs n message last None is =
 last_total parts fs n message last (Some pattern) is = elim (sought_total pattern (bytes_at n fs)) [
   | inr (e, bad) ↦ inr (e, in_pattern fs n message.0 last (rw is bad))
   | inl accepted ↦ inl (
-    record { pattern = pattern; sought = bytes_at n fs; ignore_case = bool_at ignore_case_field fs },
+    record { pattern = pattern; sought = bytes_at n fs; ignore_case = bool_at string_field.ignore_case fs },
     record {
       fields = fs;
       number = n;
@@ -96,7 +96,7 @@ pub text_unique : (parts : List (List ℕ)) (t u : TextTest) → IsTextMatcher p
     → IsTextMatcher parts u → t ≡ u
 text_unique parts t u a b =
     let P : List Wire → ℕ → Type 0 = λ hs k. (member_in string_members k ≡ Some u.pattern)
-    × (u.sought ≡ bytes_at k hs) × (u.ignore_case ≡ bool_at ignore_case_field hs) in
+    × (u.sought ≡ bytes_at k hs) × (u.ignore_case ≡ bool_at string_field.ignore_case hs) in
     let same = of_last (keys_of string_members) parts a.fields a.number a.message.0 a.last P
     b.fields b.number b.message.0 b.last (b.pattern, b.sought, b.case) in
     let whole : Some t.pattern ≡ Some u.pattern = sym a.pattern ∙ same.0 in
@@ -110,7 +110,7 @@ module _ (parts : List (List ℕ)) (fs : List Wire) (message : IsMessage string_
   pub text_found : (t : TextTest)
       → MatchOption (last_number (keys_of string_members) fs) ⊥ (λ n.
       (member_in string_members n ≡ Some t.pattern) × (t.sought ≡ bytes_at n fs) × IsSought t.pattern t.sought)
-      → t.ignore_case ≡ bool_at ignore_case_field fs → IsTextMatcher parts t
+      → t.ignore_case ≡ bool_at string_field.ignore_case fs → IsTextMatcher parts t
   text_found t found case = elim (last_number (keys_of string_members) fs) as (λ o.
       last_number (keys_of string_members) fs ≡ o → MatchOption o ⊥ (λ n.
       (member_in string_members n ≡ Some t.pattern) × (t.sought ≡ bytes_at n fs) × IsSought t.pattern t.sought)

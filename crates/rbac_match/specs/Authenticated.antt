@@ -11,13 +11,13 @@ use Rattle.proto_wire.specs.declared.key.Key.{Key}
 use Rattle.proto_wire.specs.Keys.{len_key}
 use Rattle.rbac_match.specs.Text.{TextTest, text_holds, IsTextMatcher, TextFault}
 
--- the number of an Authenticated's principal_name
-abbrev pub principal_name_field : ℕ
-principal_name_field = 2
+-- the number of the field of an Authenticated (`config.rbac.v3.Principal.Authenticated`)
+abbrev pub authenticated_field : record { principal_name : ℕ }
+authenticated_field = record { principal_name = 2 }
 
 -- the fields of an Authenticated
 abbrev pub authenticated_keys : List Key
-authenticated_keys = len_key principal_name_field ∷ []
+authenticated_keys = len_key authenticated_field.principal_name ∷ []
 
 -- what the payloads of principal_name say: without one every name will do
 abbrev pub SaysName : List (List ℕ) → Option TextTest → Type 0
@@ -27,13 +27,13 @@ SaysName names (Some test) = (names ≢ []) × IsTextMatcher names test
 -- the payloads merge to an Authenticated that means this test of the name, if any
 abbrev pub IsAuthenticated : List (List ℕ) → Option TextTest → Type 0
 IsAuthenticated parts name = (fs : List Wire) × IsMessage authenticated_keys parts fs
-    × SaysName (payloads principal_name_field fs) name
+    × SaysName (payloads authenticated_field.principal_name fs) name
 
 -- a fault of an Authenticated: of its fields, or of its principal_name
 pub data AuthenticatedFault (parts : List (List ℕ)) (e : Refusal) : Type 0 where
   authenticated_fields : MessageFault authenticated_keys parts e → AuthenticatedFault parts e
-  in_name : (fs : List Wire) → Merges parts fs → payloads principal_name_field fs ≢ []
-      → TextFault (payloads principal_name_field fs) e → AuthenticatedFault parts e
+  in_name : (fs : List Wire) → Merges parts fs → payloads authenticated_field.principal_name fs ≢ []
+      → TextFault (payloads authenticated_field.principal_name fs) e → AuthenticatedFault parts e
 
 -- the peer's name: the first that is there of its URI SAN, its DNS SAN and its subject
 abbrev pub peer_name : Facts → Option (List ℕ)

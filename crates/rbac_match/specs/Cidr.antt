@@ -16,37 +16,34 @@ use Rattle.proto_wire.specs.Keys.{len_key, varint_key}
 use Rattle.rbac_match.specs.declared.cidr.AddressSource.{AddressSource}
 use Rattle.rbac_match.specs.declared.cidr.AddressSource.TheVariants.{Destination, DirectRemote, Remote}
 
--- the number of a CidrRange's address
-abbrev pub address_prefix_field : ℕ
-address_prefix_field = 1
-
--- the number of how many of its first bits count
-abbrev pub prefix_len_field : ℕ
-prefix_len_field = 2
+-- the numbers of the fields of a CidrRange (`config.core.v3.CidrRange`): an address, and how many
+-- of its first bits count
+abbrev pub cidr_field : record { address_prefix : ℕ; prefix_len : ℕ }
+cidr_field = record { address_prefix = 1; prefix_len = 2 }
 
 -- the fields of a CidrRange
 abbrev pub cidr_keys : List Key
-cidr_keys = len_key address_prefix_field ∷ len_key prefix_len_field ∷ []
+cidr_keys = len_key cidr_field.address_prefix ∷ len_key cidr_field.prefix_len ∷ []
 
--- the number of a UInt32Value's value
-abbrev pub value_field : ℕ
-value_field = 1
+-- the number of the field of a UInt32Value (`google.protobuf.UInt32Value`)
+abbrev pub uint32_field : record { value : ℕ }
+uint32_field = record { value = 1 }
 
 -- the fields of a UInt32Value
 abbrev pub uint32_keys : List Key
-uint32_keys = varint_key value_field ∷ []
+uint32_keys = varint_key uint32_field.value ∷ []
 
 -- the parts merge to a UInt32Value of this value; no parts are 0
 abbrev pub IsUint32 : List (List ℕ) → ℕ → Type 0
 IsUint32 parts n = (fs : List Wire) × IsMessage uint32_keys parts fs
-    × (n ≡ uint32_at value_field fs)
+    × (n ≡ uint32_at uint32_field.value fs)
 
 -- the parts merge to a CidrRange that means these addresses
 abbrev pub IsCidr : List (List ℕ) → Range → Type 0
 IsCidr parts range = (fs : List Wire) × IsMessage cidr_keys parts fs
-    × IsUtf8 (bytes_at address_prefix_field fs)
-    × IsIpText (bytes_at address_prefix_field fs) range.address
-    × IsUint32 (payloads prefix_len_field fs) range.prefix_len
+    × IsUtf8 (bytes_at cidr_field.address_prefix fs)
+    × IsIpText (bytes_at cidr_field.address_prefix fs) range.address
+    × IsUint32 (payloads cidr_field.prefix_len fs) range.prefix_len
     × (range.prefix_len ≤ width_of range.address)
 
 -- the bytes are no text, or one that spells no address
@@ -58,12 +55,13 @@ AddressFault bytes e = Utf8Fault bytes e
 pub data CidrFault (parts : List (List ℕ)) (e : Refusal) : Type 0 where
   cidr_fields : MessageFault cidr_keys parts e → CidrFault parts e
   in_address : (fs : List Wire) → Merges parts fs
-      → AddressFault (bytes_at address_prefix_field fs) e → CidrFault parts e
+      → AddressFault (bytes_at cidr_field.address_prefix fs) e → CidrFault parts e
   in_length : (fs : List Wire) → Merges parts fs
-      → MessageFault uint32_keys (payloads prefix_len_field fs) e → CidrFault parts e
+      → MessageFault uint32_keys (payloads cidr_field.prefix_len fs) e → CidrFault parts e
   too_long : (fs ls : List Wire) (ip : Ip) → Merges parts fs
-      → IsIpText (bytes_at address_prefix_field fs) ip → Merges (payloads prefix_len_field fs) ls
-      → width_of ip < uint32_at value_field ls → e ≡ OutOfRange → CidrFault parts e
+      → IsIpText (bytes_at cidr_field.address_prefix fs) ip
+      → Merges (payloads cidr_field.prefix_len fs) ls
+      → width_of ip < uint32_at uint32_field.value ls → e ≡ OutOfRange → CidrFault parts e
 
 -- the address of the connection that the rule looks at
 abbrev pub source_ip : AddressSource → Facts → Option Ip

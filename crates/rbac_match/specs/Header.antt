@@ -54,66 +54,50 @@ specifier_holds (Range range) invert empty found =
 
 -- ---- its message
 
--- the number of `name`
-abbrev pub name_field : ℕ
-name_field = 1
-
--- the number of `exact_match`
-abbrev pub exact_match_field : ℕ
-exact_match_field = 4
-
--- the number of `range_match`
-abbrev pub range_match_field : ℕ
-range_match_field = 6
-
--- the number of `present_match`
-abbrev pub present_match_field : ℕ
-present_match_field = 7
-
--- the number of `invert_match`: whether the answer is turned
-abbrev pub invert_match_field : ℕ
-invert_match_field = 8
-
--- the number of `prefix_match`
-abbrev pub prefix_match_field : ℕ
-prefix_match_field = 9
-
--- the number of `suffix_match`
-abbrev pub suffix_match_field : ℕ
-suffix_match_field = 10
-
--- the number of `safe_regex_match`
-abbrev pub safe_regex_match_field : ℕ
-safe_regex_match_field = 11
-
--- the number of `contains_match`
-abbrev pub contains_match_field : ℕ
-contains_match_field = 12
-
--- the number of `string_match`
-abbrev pub string_match_field : ℕ
-string_match_field = 13
-
--- the number of `treat_missing_header_as_empty`: whether a missing header counts as one of the
--- empty value
-abbrev pub treat_missing_header_as_empty_field : ℕ
-treat_missing_header_as_empty_field = 14
+-- the numbers of the fields of a HeaderMatcher (`config.route.v3.HeaderMatcher`): `invert_match`
+-- says whether the answer is turned, `treat_missing_header_as_empty` whether a missing header
+-- counts as one of the empty value
+abbrev pub header_field : record {
+  name : ℕ;
+  exact_match : ℕ;
+  range_match : ℕ;
+  present_match : ℕ;
+  invert_match : ℕ;
+  prefix_match : ℕ;
+  suffix_match : ℕ;
+  safe_regex_match : ℕ;
+  contains_match : ℕ;
+  string_match : ℕ;
+  treat_missing_header_as_empty : ℕ;
+}
+header_field = record {
+  name = 1;
+  exact_match = 4;
+  range_match = 6;
+  present_match = 7;
+  invert_match = 8;
+  prefix_match = 9;
+  suffix_match = 10;
+  safe_regex_match = 11;
+  contains_match = 12;
+  string_match = 13;
+  treat_missing_header_as_empty = 14;
+}
 
 -- the members of the oneof; a regular expression is not supported
 abbrev pub specifiers : List (Key × Option HeaderMember)
-specifiers = (len_key exact_match_field, Some (members.Text Exact))
-    ∷ (len_key range_match_field, Some members.Range)
-    ∷ (varint_key present_match_field, Some members.Present)
-    ∷ (len_key prefix_match_field, Some (members.Text Prefix))
-    ∷ (len_key suffix_match_field, Some (members.Text Suffix))
-    ∷ (len_key safe_regex_match_field, None)
-    ∷ (len_key contains_match_field, Some (members.Text Contains))
-    ∷ (len_key string_match_field, Some members.Matcher) ∷ []
+specifiers = let h = header_field in (len_key h.exact_match, Some (members.Text Exact))
+    ∷ (len_key h.range_match, Some members.Range)
+    ∷ (varint_key h.present_match, Some members.Present)
+    ∷ (len_key h.prefix_match, Some (members.Text Prefix))
+    ∷ (len_key h.suffix_match, Some (members.Text Suffix)) ∷ (len_key h.safe_regex_match, None)
+    ∷ (len_key h.contains_match, Some (members.Text Contains))
+    ∷ (len_key h.string_match, Some members.Matcher) ∷ []
 
 -- all fields
 abbrev pub header_keys : List Key
-header_keys = len_key name_field ∷ varint_key invert_match_field
-    ∷ varint_key treat_missing_header_as_empty_field ∷ keys_of specifiers
+header_keys = len_key header_field.name ∷ varint_key header_field.invert_match
+    ∷ varint_key header_field.treat_missing_header_as_empty ∷ keys_of specifiers
 
 -- the run of this member, which has this number, says what is asked; in a text of its own the case
 -- of letters counts
@@ -135,12 +119,13 @@ pub data SaysSpecifier (fs : List Wire) (s : Specifier) : Type 0 where
 pub record IsHeader (parts : List (List ℕ)) (h : HeaderTest) : Type 0 where
   pub fields : List Wire
   pub message : IsMessage header_keys parts fields
-  pub readable : IsUtf8 (bytes_at name_field fields)
-  pub named : bytes_at name_field fields ≢ []
-  pub lowered : h.name ≡ str_to_ascii_lowercase (bytes_at name_field fields)
+  pub readable : IsUtf8 (bytes_at header_field.name fields)
+  pub named : bytes_at header_field.name fields ≢ []
+  pub lowered : h.name ≡ str_to_ascii_lowercase (bytes_at header_field.name fields)
   pub asked : SaysSpecifier fields h.specifier
-  pub inverted : h.invert_match ≡ bool_at invert_match_field fields
-  pub emptied : h.treat_missing_header_as_empty ≡ bool_at treat_missing_header_as_empty_field fields
+  pub inverted : h.invert_match ≡ bool_at header_field.invert_match fields
+  pub emptied :
+      h.treat_missing_header_as_empty ≡ bool_at header_field.treat_missing_header_as_empty fields
 
 -- ---- its faults
 
@@ -163,10 +148,10 @@ MemberReads fs = (n : ℕ) (pattern : Pattern) → last_number (keys_of specifie
 -- counts only where its own texts read
 pub data HeaderFault (parts : List (List ℕ)) (e : Refusal) : Type 0 where
   header_fields : MessageFault header_keys parts e → HeaderFault parts e
-  name_unreadable : (fs : List Wire) → Merges parts fs → Utf8Fault (bytes_at name_field fs) e
+  name_unreadable : (fs : List Wire) → Merges parts fs → Utf8Fault (bytes_at header_field.name fs) e
       → HeaderFault parts e
-  name_missing : (fs : List Wire) → IsMessage header_keys parts fs → bytes_at name_field fs ≡ []
-      → MemberReads fs → e ≡ Missing → HeaderFault parts e
+  name_missing : (fs : List Wire) → IsMessage header_keys parts fs
+      → bytes_at header_field.name fs ≡ [] → MemberReads fs → e ≡ Missing → HeaderFault parts e
   in_specifier : (fs : List Wire) (n : ℕ) → Merges parts fs
       → last_number (keys_of specifiers) fs ≡ Some n
       → HeaderMemberFault (member_in specifiers n) n (member_run (keys_of specifiers) fs) e

@@ -8,7 +8,7 @@ use Rattle.std.specs.Str.Parse.{without_leading_sign, signed_digits_value}
 use Rattle.proto_wire.specs.Values.{int64_at}
 use Rattle.proto_wire.specs.Fields.{Wire}
 use Rattle.proto_wire.specs.Messages.{IsMessage}
-use Rattle.rbac_match.specs.Message.{start_field, end_field, range_keys}
+use Rattle.rbac_match.specs.Message.{range_field, range_keys}
 use Rattle.rbac_match.specs.declared.int64_range.Int64Range.{Int64Range}
 
 -- the number is from -2^63 to 2^63 - 1
@@ -34,4 +34,4 @@ range_holds range text = option_map_or (is_within range) (int64_in text) false
 -- the parts merge to an Int64Range of these bounds; it has no fault but of its fields
 abbrev pub IsRange : List (List ℕ) → Int64Range → Type 0
 IsRange parts range = (fs : List Wire) × IsMessage range_keys parts fs
-    × (range.start ≡ int64_at start_field fs) × (range.end ≡ int64_at end_field fs)
+    × (range.start ≡ int64_at range_field.start fs) × (range.end ≡ int64_at range_field.end fs)

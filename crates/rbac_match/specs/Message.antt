@@ -11,134 +11,106 @@ use Rattle.rbac_match.specs.declared.member.Member.TheVariants.{And, Or, Any, No
 use Rattle.rbac_match.specs.declared.rule.Side.{Side}
 use Rattle.rbac_match.specs.declared.rule.Side.TheVariants.{Permission, Principal}
 
--- ---- members that have one number in a permission and in a principal
+-- ---- rules
 
--- the number of `and_rules` and of `and_ids`
-abbrev pub and_field : ℕ
-and_field = 1
+-- the numbers of the fields of a Permission (`config.rbac.v3.Permission`)
+abbrev pub permission_field : record {
+  and_rules : ℕ;
+  or_rules : ℕ;
+  any : ℕ;
+  header : ℕ;
+  destination_ip : ℕ;
+  destination_port : ℕ;
+  metadata : ℕ;
+  not_rule : ℕ;
+  requested_server_name : ℕ;
+  url_path : ℕ;
+  destination_port_range : ℕ;
+  matcher : ℕ;
+}
+permission_field = record {
+  and_rules = 1;
+  or_rules = 2;
+  any = 3;
+  header = 4;
+  destination_ip = 5;
+  destination_port = 6;
+  metadata = 7;
+  not_rule = 8;
+  requested_server_name = 9;
+  url_path = 10;
+  destination_port_range = 11;
+  matcher = 12;
+}
 
--- the number of `or_rules` and of `or_ids`
-abbrev pub or_field : ℕ
-or_field = 2
-
--- the number of `any`
-abbrev pub any_field : ℕ
-any_field = 3
-
--- the number of `not_rule` and of `not_id`
-abbrev pub not_field : ℕ
-not_field = 8
-
--- ---- a permission's other members
-
--- the number of a permission's `header`
-abbrev pub permission_header_field : ℕ
-permission_header_field = 4
-
--- the number of `destination_ip`
-abbrev pub destination_ip_field : ℕ
-destination_ip_field = 5
-
--- the number of `destination_port`
-abbrev pub destination_port_field : ℕ
-destination_port_field = 6
-
--- the number of a permission's `metadata`
-abbrev pub permission_metadata_field : ℕ
-permission_metadata_field = 7
-
--- the number of `requested_server_name`
-abbrev pub requested_server_name_field : ℕ
-requested_server_name_field = 9
-
--- the number of a permission's `url_path`
-abbrev pub permission_url_path_field : ℕ
-permission_url_path_field = 10
-
--- the number of `destination_port_range`
-abbrev pub destination_port_range_field : ℕ
-destination_port_range_field = 11
-
--- the number of `matcher`
-abbrev pub matcher_field : ℕ
-matcher_field = 12
-
--- ---- a principal's other members
-
--- the number of `authenticated`
-abbrev pub authenticated_field : ℕ
-authenticated_field = 4
-
--- the number of `source_ip`
-abbrev pub source_ip_field : ℕ
-source_ip_field = 5
-
--- the number of a principal's `header`
-abbrev pub principal_header_field : ℕ
-principal_header_field = 6
-
--- the number of a principal's `metadata`
-abbrev pub principal_metadata_field : ℕ
-principal_metadata_field = 7
-
--- the number of a principal's `url_path`
-abbrev pub principal_url_path_field : ℕ
-principal_url_path_field = 9
-
--- the number of `direct_remote_ip`
-abbrev pub direct_remote_ip_field : ℕ
-direct_remote_ip_field = 10
-
--- the number of `remote_ip`
-abbrev pub remote_ip_field : ℕ
-remote_ip_field = 11
-
--- the number of `filter_state`
-abbrev pub filter_state_field : ℕ
-filter_state_field = 12
-
--- ---- the messages
+-- the numbers of the fields of a Principal (`config.rbac.v3.Principal`): `direct_remote_ip` is
+-- where the connection comes from, `remote_ip` where the request does
+abbrev pub principal_field : record {
+  and_ids : ℕ;
+  or_ids : ℕ;
+  any : ℕ;
+  authenticated : ℕ;
+  source_ip : ℕ;
+  header : ℕ;
+  metadata : ℕ;
+  not_id : ℕ;
+  url_path : ℕ;
+  direct_remote_ip : ℕ;
+  remote_ip : ℕ;
+  filter_state : ℕ;
+}
+principal_field = record {
+  and_ids = 1;
+  or_ids = 2;
+  any = 3;
+  authenticated = 4;
+  source_ip = 5;
+  header = 6;
+  metadata = 7;
+  not_id = 8;
+  url_path = 9;
+  direct_remote_ip = 10;
+  remote_ip = 11;
+  filter_state = 12;
+}
 
 -- the members of the oneof; `metadata`, `matcher`, `source_ip` and `filter_state` are not supported
 abbrev pub members : Side → List (Key × Option Member)
-members Permission = (len_key and_field, Some And) ∷ (len_key or_field, Some Or)
-    ∷ (varint_key any_field, Some Any) ∷ (len_key permission_header_field, Some (Leaf Header))
-    ∷ (len_key destination_ip_field, Some (Leaf (Address Destination)))
-    ∷ (varint_key destination_port_field, Some (Leaf Port))
-    ∷ (len_key permission_metadata_field, None) ∷ (len_key not_field, Some Not)
-    ∷ (len_key requested_server_name_field, Some (Leaf ServerName))
-    ∷ (len_key permission_url_path_field, Some (Leaf UrlPath))
-    ∷ (len_key destination_port_range_field, Some (Leaf PortRange)) ∷ (len_key matcher_field, None)
-    ∷ []
-members Principal = (len_key and_field, Some And) ∷ (len_key or_field, Some Or)
-    ∷ (varint_key any_field, Some Any) ∷ (len_key authenticated_field, Some (Leaf Authenticated))
-    ∷ (len_key source_ip_field, None) ∷ (len_key principal_header_field, Some (Leaf Header))
-    ∷ (len_key principal_metadata_field, None) ∷ (len_key not_field, Some Not)
-    ∷ (len_key principal_url_path_field, Some (Leaf UrlPath))
-    ∷ (len_key direct_remote_ip_field, Some (Leaf (Address DirectRemote)))
-    ∷ (len_key remote_ip_field, Some (Leaf (Address Remote))) ∷ (len_key filter_state_field, None)
-    ∷ []
+members Permission = let p = permission_field in
+    (len_key p.and_rules, Some And) ∷ (len_key p.or_rules, Some Or) ∷ (varint_key p.any, Some Any)
+    ∷ (len_key p.header, Some (Leaf Header))
+    ∷ (len_key p.destination_ip, Some (Leaf (Address Destination)))
+    ∷ (varint_key p.destination_port, Some (Leaf Port)) ∷ (len_key p.metadata, None)
+    ∷ (len_key p.not_rule, Some Not) ∷ (len_key p.requested_server_name, Some (Leaf ServerName))
+    ∷ (len_key p.url_path, Some (Leaf UrlPath))
+    ∷ (len_key p.destination_port_range, Some (Leaf PortRange)) ∷ (len_key p.matcher, None) ∷ []
+members Principal = let p = principal_field in
+    (len_key p.and_ids, Some And) ∷ (len_key p.or_ids, Some Or) ∷ (varint_key p.any, Some Any)
+    ∷ (len_key p.authenticated, Some (Leaf Authenticated)) ∷ (len_key p.source_ip, None)
+    ∷ (len_key p.header, Some (Leaf Header)) ∷ (len_key p.metadata, None)
+    ∷ (len_key p.not_id, Some Not) ∷ (len_key p.url_path, Some (Leaf UrlPath))
+    ∷ (len_key p.direct_remote_ip, Some (Leaf (Address DirectRemote)))
+    ∷ (len_key p.remote_ip, Some (Leaf (Address Remote))) ∷ (len_key p.filter_state, None) ∷ []
 
 -- all fields: each is a member
 abbrev pub rule_keys : Side → List Key
 rule_keys side = keys_of (members side)
 
--- the number of a Set's rules or ids
-abbrev pub rules_field : ℕ
-rules_field = 1
+-- ---- what they hold
+
+-- the number of the field of a Set (`config.rbac.v3.Permission.Set`); a Principal calls it `ids`
+abbrev pub set_field : record { rules : ℕ }
+set_field = record { rules = 1 }
 
 -- the fields of a Set
 abbrev pub set_keys : List Key
-set_keys = len_key rules_field ∷ []
+set_keys = len_key set_field.rules ∷ []
 
--- the number of the first integer of an Int32Range and of an Int64Range
-abbrev pub start_field : ℕ
-start_field = 1
+-- the numbers of the fields of a range (`type.v3.Int32Range`, `type.v3.Int64Range`): its first
+-- integer, and the one behind its last
+abbrev pub range_field : record { start : ℕ; end : ℕ }
+range_field = record { start = 1; end = 2 }
 
--- the number of the one behind their last
-abbrev pub end_field : ℕ
-end_field = 2
-
--- their fields
+-- the fields of a range
 abbrev pub range_keys : List Key
-range_keys = varint_key start_field ∷ varint_key end_field ∷ []
+range_keys = varint_key range_field.start ∷ varint_key range_field.end ∷ []

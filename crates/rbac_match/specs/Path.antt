@@ -10,23 +10,23 @@ use Rattle.proto_wire.specs.declared.key.Key.{Key}
 use Rattle.proto_wire.specs.Keys.{len_key}
 use Rattle.rbac_match.specs.Text.{TextTest, IsTextMatcher, TextFault}
 
--- the number of a PathMatcher's path
-abbrev pub path_field : ℕ
-path_field = 1
+-- the number of the field of a PathMatcher (`type.matcher.v3.PathMatcher`)
+abbrev pub path_field : record { path : ℕ }
+path_field = record { path = 1 }
 
 -- the fields of a PathMatcher
 abbrev pub path_keys : List Key
-path_keys = len_key path_field ∷ []
+path_keys = len_key path_field.path ∷ []
 
 -- the payloads merge to a PathMatcher whose path means the test
 abbrev pub IsPathMatcher : List (List ℕ) → TextTest → Type 0
 IsPathMatcher parts test = (fs : List Wire) × IsMessage path_keys parts fs
-    × (payloads path_field fs ≢ []) × IsTextMatcher (payloads path_field fs) test
+    × (payloads path_field.path fs ≢ []) × IsTextMatcher (payloads path_field.path fs) test
 
 -- a fault of a PathMatcher: of its fields, that it has no path, or of its path
 pub data PathFault (parts : List (List ℕ)) (e : Refusal) : Type 0 where
   path_fields : MessageFault path_keys parts e → PathFault parts e
-  no_path : (fs : List Wire) → IsMessage path_keys parts fs → payloads path_field fs ≡ []
+  no_path : (fs : List Wire) → IsMessage path_keys parts fs → payloads path_field.path fs ≡ []
       → e ≡ Missing → PathFault parts e
-  in_path : (fs : List Wire) → Merges parts fs → payloads path_field fs ≢ []
-      → TextFault (payloads path_field fs) e → PathFault parts e
+  in_path : (fs : List Wire) → Merges parts fs → payloads path_field.path fs ≢ []
+      → TextFault (payloads path_field.path fs) e → PathFault parts e

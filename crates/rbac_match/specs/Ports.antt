@@ -8,7 +8,7 @@ use Rattle.proto_wire.specs.Merge.{Merges}
 use Rattle.proto_wire.specs.Messages.{IsMessage, MessageFault}
 use Rattle.proto_wire.specs.declared.refusal.Refusal.{Refusal}
 use Rattle.proto_wire.specs.declared.refusal.Refusal.TheVariants.{OutOfRange}
-use Rattle.rbac_match.specs.Message.{start_field, end_field, range_keys}
+use Rattle.rbac_match.specs.Message.{range_field, range_keys}
 
 -- the run of a permission's `destination_port`, which has this number, says this port
 abbrev pub IsPort : ℕ → List Wire → ℕ → Type 0
@@ -20,8 +20,8 @@ PortFault n run e = (65535 < uint32_at n run) × (e ≡ OutOfRange)
 
 -- the fields' bounds are those of the ports: there is some port, and each is from 0 to 65,535
 abbrev pub AreBounds : List Wire → Range ℕ → Type 0
-AreBounds fs span = (int32_at start_field fs ≡ pos span.start)
-    × (int32_at end_field fs ≡ pos span.end) × (span.start < span.end) × (span.end ≤ 65536)
+AreBounds fs span = (int32_at range_field.start fs ≡ pos span.start)
+    × (int32_at range_field.end fs ≡ pos span.end) × (span.start < span.end) × (span.end ≤ 65536)
 
 -- the parts merge to an Int32Range of these ports
 abbrev pub IsPortRange : List (List ℕ) → Range ℕ → Type 0

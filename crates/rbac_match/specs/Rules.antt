@@ -8,7 +8,7 @@ use Rattle.proto_wire.specs.Merge.{Merges}
 use Rattle.proto_wire.specs.Messages.{IsMessage, MessageFault}
 use Rattle.proto_wire.specs.declared.refusal.Refusal.{Refusal}
 use Rattle.proto_wire.specs.declared.refusal.Refusal.TheVariants.{Missing, OutOfRange, Unsupported, TooLarge}
-use Rattle.rbac_match.specs.Message.{members, rule_keys, rules_field, set_keys}
+use Rattle.rbac_match.specs.Message.{members, rule_keys, set_field, set_keys}
 use Rattle.rbac_match.specs.Formula.{Formula, any, and_of, or_of, not_of, leaf, Formulas, end, formula}
 use Rattle.rbac_match.specs.Leaves.{IsLeaf, LeafFault}
 use Rattle.rbac_match.specs.declared.matcher.Matcher.{Matcher}
@@ -27,7 +27,7 @@ AreRules Below children fs = ⊥
 -- the parts merge to a Set of some rules
 abbrev pub IsSet : (List (List ℕ) → Formula → Type 0) → List (List ℕ) → Formulas → Type 0
 IsSet Below parts gs = (fs : List Wire) × IsMessage set_keys parts fs
-    × (payloads rules_field fs ≢ []) × AreRules Below (payloads rules_field fs) gs
+    × (payloads set_field.rules fs ≢ []) × AreRules Below (payloads set_field.rules fs) gs
 
 -- the run of the member, which has this number, says the formula
 abbrev pub MemberSays : (List (List ℕ) → Formula → Type 0) → Member → ℕ → List Wire → Formula
@@ -55,10 +55,10 @@ IsRule side (suc depth) parts f = IsLevel side (IsRule side depth) parts f
 pub data SetFault (Below : List (List ℕ) → Refusal → Type 0) (parts : List (List ℕ)) (e : Refusal)
     : Type 0 where
   set_fields : MessageFault set_keys parts e → SetFault Below parts e
-  set_empty : (fs : List Wire) → IsMessage set_keys parts fs → payloads rules_field fs ≡ []
+  set_empty : (fs : List Wire) → IsMessage set_keys parts fs → payloads set_field.rules fs ≡ []
       → e ≡ Missing → SetFault Below parts e
   in_rule : (fs : List Wire) (child : List ℕ) → Merges parts fs
-      → Contains (payloads rules_field fs) child → Below (child ∷ []) e → SetFault Below parts e
+      → Contains (payloads set_field.rules fs) child → Below (child ∷ []) e → SetFault Below parts e
 
 -- a fault of the run of the last member, which has this number: some members are not supported
 abbrev pub MemberFault : (List (List ℕ) → Refusal → Type 0) → Option Member → ℕ → List Wire

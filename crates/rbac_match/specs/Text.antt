@@ -47,39 +47,27 @@ text_holds test bytes = let fold = folded test.ignore_case in
 
 -- ---- its message
 
--- the number of `exact`
-abbrev pub exact_field : ℕ
-exact_field = 1
-
--- the number of `prefix`
-abbrev pub prefix_field : ℕ
-prefix_field = 2
-
--- the number of `suffix`
-abbrev pub suffix_field : ℕ
-suffix_field = 3
-
--- the number of `safe_regex`
-abbrev pub safe_regex_field : ℕ
-safe_regex_field = 5
-
--- the number of `ignore_case`
-abbrev pub ignore_case_field : ℕ
-ignore_case_field = 6
-
--- the number of `contains`
-abbrev pub contains_field : ℕ
-contains_field = 7
+-- the numbers of the fields of a StringMatcher (`type.matcher.v3.StringMatcher`)
+abbrev pub string_field : record {
+  exact : ℕ;
+  prefix : ℕ;
+  suffix : ℕ;
+  safe_regex : ℕ;
+  ignore_case : ℕ;
+  contains : ℕ;
+}
+string_field =
+    record { exact = 1; prefix = 2; suffix = 3; safe_regex = 5; ignore_case = 6; contains = 7 }
 
 -- the members of the oneof; a regular expression is not supported
 abbrev pub string_members : List (Key × Option Pattern)
-string_members = (len_key exact_field, Some Exact) ∷ (len_key prefix_field, Some Prefix)
-    ∷ (len_key suffix_field, Some Suffix) ∷ (len_key safe_regex_field, None)
-    ∷ (len_key contains_field, Some Contains) ∷ []
+string_members = (len_key string_field.exact, Some Exact)
+    ∷ (len_key string_field.prefix, Some Prefix) ∷ (len_key string_field.suffix, Some Suffix)
+    ∷ (len_key string_field.safe_regex, None) ∷ (len_key string_field.contains, Some Contains) ∷ []
 
 -- all fields of a StringMatcher
 abbrev pub string_keys : List Key
-string_keys = varint_key ignore_case_field ∷ keys_of string_members
+string_keys = varint_key string_field.ignore_case ∷ keys_of string_members
 
 -- a prefix, a suffix and a contained text are not empty; an exact text may be
 abbrev pub IsFilled : Pattern → List ℕ → Type 0
@@ -99,7 +87,7 @@ pub record IsTextMatcher (parts : List (List ℕ)) (test : TextTest) : Type 0 wh
   pub pattern : member_in string_members number ≡ Some test.pattern
   pub sought : test.sought ≡ bytes_at number fields
   pub accepted : IsSought test.pattern test.sought
-  pub case : test.ignore_case ≡ bool_at ignore_case_field fields
+  pub case : test.ignore_case ≡ bool_at string_field.ignore_case fields
 
 -- ---- its faults
 

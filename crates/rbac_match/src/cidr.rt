@@ -9,7 +9,7 @@ ghost use Rattle.proto_wire.specs.Messages.{MessageFault};
 ghost use Rattle.proto_wire.specs.Refusal.{MemoryOr};
 ghost use Rattle.proto_wire.specs.declared.refusal.Refusal.TheVariants.{OutOfRange};
 ghost use Rattle.proto_wire.specs.Values.{bytes_at};
-ghost use Rattle.rbac_match.specs.Cidr.{address_prefix_field, IsCidr, IsUint32, AddressFault, CidrFault, uint32_keys, source_ip};
+ghost use Rattle.rbac_match.specs.Cidr.{cidr_field, IsCidr, IsUint32, AddressFault, CidrFault, uint32_keys, source_ip};
 ghost use Rattle.rbac_match.specs.Matcher.{matcher_holds};
 ghost use Rattle.rbac_match.specs.declared.matcher.Matcher.TheVariants.{Address};
 
@@ -67,9 +67,9 @@ pub(crate) fn read_cidr(alloc: Global, parts: &[&[u8]]) -> Result<Cidr, Refusal>
 
 /// The address that the fields of a range name.
 fn address_prefix(fields: &[Field<'_>]) -> Result<Ip, Refusal>
-    ensures found { let text = bytes_at address_prefix_field (map field_view fields.now) in
+    ensures found { let text = bytes_at cidr_field.address_prefix (map field_view fields.now) in
         IfOk result (λ ip. IsUtf8 text × IsIpText text ip) }
-    ensures fault { let text = bytes_at address_prefix_field (map field_view fields.now) in
+    ensures fault { let text = bytes_at cidr_field.address_prefix (map field_view fields.now) in
         IfErr result (λ e. AddressFault text e) }
 {
     let text = text_at(fields, ADDRESS_PREFIX)?;

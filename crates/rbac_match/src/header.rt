@@ -12,7 +12,7 @@ ghost use Rattle.proto_wire.specs.Values.{bytes_at, Utf8Fault};
 ghost use Rattle.proto_wire.specs.declared.refusal.Refusal.TheVariants.{Missing, Unsupported};
 ghost use Rattle.rbac_match.specs.Matcher.{matcher_holds};
 ghost use Rattle.rbac_match.specs.declared.matcher.Matcher.TheVariants.{Header};
-ghost use Rattle.rbac_match.specs.Header.{name_field, specifiers, specifier_holds, SaysMember, SaysSpecifier, IsHeader, HeaderMemberFault, HeaderFault};
+ghost use Rattle.rbac_match.specs.Header.{header_field, specifiers, specifier_holds, SaysMember, SaysSpecifier, IsHeader, HeaderMemberFault, HeaderFault};
 
 use crate::fields::last_number;
 use crate::int64_range::{Int64Range, read_int64_range};
@@ -195,9 +195,9 @@ pub(crate) fn read_header_matcher(alloc: Global, parts: &[&[u8]]) -> Result<Head
 
 /// The name as it stands in the message.
 fn header_name<'a>(fields: &[Field<'a>]) -> Result<&'a str, Refusal>
-    ensures found { let bytes = bytes_at name_field (map field_view fields.now) in
+    ensures found { let bytes = bytes_at header_field.name (map field_view fields.now) in
         IfOk result (λ name. (name.now ≡ bytes) × IsUtf8 bytes × (bytes ≢ [])) }
-    ensures fault { let bytes = bytes_at name_field (map field_view fields.now) in
+    ensures fault { let bytes = bytes_at header_field.name (map field_view fields.now) in
         IfErr result (λ e. Utf8Fault bytes e ⊎ ((e ≡ Missing) × (bytes ≡ []))) }
 {
     let bytes = bytes_at(fields, NAME);

@@ -2,9 +2,10 @@
 use Rattle.std.specs.Prelude.{pos, ◌<ℤ◌, ◌≤ℤ◌, ◌⊎◌, List}
 use Rattle.proto_wire.specs.Fields.{Wire}
 use Rattle.proto_wire.specs.Values.{int32_at}
-use Rattle.rbac_match.specs.Message.{start_field, end_field}
+use Rattle.rbac_match.specs.Message.{range_field}
 
 -- the first is below 0, the last above 65,535, or there is none
 abbrev pub AreNoBounds : List Wire → Type 0
-AreNoBounds fs = (int32_at start_field fs <ℤ pos 0) ⊎ (pos 65536 <ℤ int32_at end_field fs)
-    ⊎ (int32_at end_field fs ≤ℤ int32_at start_field fs)
+AreNoBounds fs = (int32_at range_field.start fs <ℤ pos 0)
+    ⊎ (pos 65536 <ℤ int32_at range_field.end fs)
+    ⊎ (int32_at range_field.end fs ≤ℤ int32_at range_field.start fs)

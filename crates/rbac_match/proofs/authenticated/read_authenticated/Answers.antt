@@ -4,7 +4,7 @@ use Rattle.proto_wire.specs.Fields.{Wire, field_view}
 use Rattle.proto_wire.specs.Merge.{parts_view}
 use Rattle.proto_wire.specs.Messages.{IsMessage, MessageFault}
 use Rattle.proto_wire.specs.Values.{payloads}
-use Rattle.rbac_match.specs.Authenticated.{principal_name_field, authenticated_keys, AuthenticatedFault, authenticated_fields, in_name}
+use Rattle.rbac_match.specs.Authenticated.{authenticated_field, authenticated_keys, AuthenticatedFault, authenticated_fields, in_name}
 use Rattle.rbac_match.specs.Text.{TextFault}
 use Rattle.rbac_match.proofs.Basics.{payloads_some}
 use Rattle.rbac_match.proofs.Exits.{exit_memory_or}
@@ -22,11 +22,11 @@ returns-in_err-read_text_matcher-clause-fault c =
     let parts : List (List ℕ) = parts_view c.args.parts.now in
     let fs : List Wire = map field_view c.in_ok-fields.fields.items in
     let message : IsMessage authenticated_keys parts fs = c.in_ok-fields.ensures.found in
-    let given : parts_view c.deref-2.result.now ≡ payloads principal_name_field fs =
+    let given : parts_view c.deref-2.result.now ≡ payloads authenticated_field.principal_name fs =
     rw c.deref-2.ensures (rw c.deref.ensures at c.in_ok-name.ensures) in
     let more : 0 < length c.in_ok-name.name.items = grind (arith, common_steps) in
-    let some : payloads principal_name_field fs ≢ [] =
-    payloads_some c.deref-2.result.now (payloads principal_name_field fs) given (rw c.deref-2.ensures more) in
-    exit_memory_or (TextFault (payloads principal_name_field fs)) (AuthenticatedFault parts)
+    let some : payloads authenticated_field.principal_name fs ≢ [] =
+    payloads_some c.deref-2.result.now (payloads authenticated_field.principal_name fs) given (rw c.deref-2.ensures more) in
+    exit_memory_or (TextFault (payloads authenticated_field.principal_name fs)) (AuthenticatedFault parts)
     c.from_residual-in_err-read_text_matcher.result _ c.from_residual-in_err-read_text_matcher.ensures.1
     (rw given at c.in_err-read_text_matcher.ensures.fault) (λ e bad. in_name fs message.0 some bad)

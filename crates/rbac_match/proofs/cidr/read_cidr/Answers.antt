@@ -6,7 +6,7 @@ use Rattle.proto_wire.specs.Merge.{parts_view}
 use Rattle.proto_wire.specs.Messages.{MessageFault}
 use Rattle.proto_wire.specs.Values.{payloads}
 use Rattle.proto_wire.specs.declared.refusal.Refusal.TheVariants.{OutOfRange}
-use Rattle.rbac_match.specs.Cidr.{prefix_len_field, cidr_keys, uint32_keys, CidrFault, cidr_fields, in_address, in_length, too_long}
+use Rattle.rbac_match.specs.Cidr.{cidr_field, cidr_keys, uint32_keys, CidrFault, cidr_fields, in_address, in_length, too_long}
 use Rattle.rbac_match.proofs.Exits.{exit_memory_or, exit_fault, last_fault}
 use Rattle.rbac_match.proofs.cidr.read_cidr.Goals as goal
 
@@ -28,7 +28,7 @@ pub returns-in_err-prefix_len-clause-fault : goal.returns-in_err-prefix_len-clau
 returns-in_err-prefix_len-clause-fault c =
     let parts : List (List ℕ) = parts_view c.args.parts.now in
     let fs : List Wire = map field_view c.in_ok-fields.fields.items in
-    exit_memory_or (MessageFault uint32_keys (payloads prefix_len_field fs)) (CidrFault parts)
+    exit_memory_or (MessageFault uint32_keys (payloads cidr_field.prefix_len fs)) (CidrFault parts)
     c.from_residual-in_err-prefix_len.result _ c.from_residual-in_err-prefix_len.ensures.1
     (rw (c.deref-3.ensures, c.in_ok-payloads.ensures, c.deref-2.ensures) at c.in_err-prefix_len.ensures.fault)
     (λ e bad. in_length fs c.in_ok-fields.ensures.found.0 bad)

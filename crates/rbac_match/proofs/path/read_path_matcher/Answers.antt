@@ -30,6 +30,6 @@ returns-clause-fault c =
     let fs : List Wire = map field_view c.in_ok-fields.fields.items in
     let message : IsMessage path_keys parts fs = c.in_ok-fields.ensures.found in
     let some = rw c.deref.ensures at c.in_ok-require_payload.ensures.found in
-    last_memory_or (TextFault (payloads path_field fs)) (PathFault parts) c.read_text_matcher.result
+    last_memory_or (TextFault (payloads path_field.path fs)) (PathFault parts) c.read_text_matcher.result
     (rw (c.deref-3.ensures, c.in_ok-path.ensures, c.deref-2.ensures) at c.read_text_matcher.ensures.fault)
     (λ e bad. in_path fs message.0 some bad)

@@ -9,7 +9,7 @@ use Rattle.proto_wire.specs.Oneof.{member_run, trailing_run}
 use Rattle.proto_wire.specs.Values.{len_in, payloads}
 use Rattle.proto_wire.specs.declared.field.Field.{Field}
 use Rattle.proto_wire.proofs.ValueLemmas.{picked_none, picked_some}
-use Rattle.rbac_match.specs.Message.{rule_keys, rules_field, set_keys}
+use Rattle.rbac_match.specs.Message.{rule_keys, set_field, set_keys}
 use Rattle.rbac_match.specs.Rules.{IsRule, SetFault, MemberFault, RuleFault, SomeRuleFault, rule_fields, set_fields, set_empty, in_rule}
 use Rattle.rbac_match.proofs.Exits.{exit_memory_or, exit_fault, last_memory_or}
 use Rattle.rbac_match.proofs.Levels.{rule_found, fault_deeper, member_fault, last_fault, are_rules_push, payload_in}
@@ -106,7 +106,7 @@ read_set-returns-clause-found t c =
     let parts : List (List ℕ) = parts_view c.args.parts.now in
     let fs : List Wire = map field_view c.in_ok-fields.fields.items in
     let message : IsMessage set_keys parts fs = c.in_ok-fields.ensures.found in
-    let some : payloads rules_field fs ≢ [] = rw c.deref.ensures at c.in_ok-require_payload.ensures.found in
+    let some : payloads set_field.rules fs ≢ [] = rw c.deref.ensures at c.in_ok-require_payload.ensures.found in
     MatchResult-weaker c.read_rules.result c.read_rules.ensures.found
     (λ rules h. (fs, message, some, rw c.deref-2.ensures at h)) (λ _ _. tt)
 
@@ -115,7 +115,7 @@ read_set-returns-clause-fault t c =
     let parts : List (List ℕ) = parts_view c.args.parts.now in
     let fs : List Wire = map field_view c.in_ok-fields.fields.items in
     let message : IsMessage set_keys parts fs = c.in_ok-fields.ensures.found in
-    last_memory_or (SomeRuleFault c.args.side c.args.depth (payloads rules_field fs))
+    last_memory_or (SomeRuleFault c.args.side c.args.depth (payloads set_field.rules fs))
     (SetFault (RuleFault c.args.side c.args.depth) parts) c.read_rules.result
     (rw c.deref-2.ensures at c.read_rules.ensures.fault)
     (λ e bad. in_rule fs bad.0 message.0 bad.1 bad.2)
