@@ -57,32 +57,8 @@ specifier_holds (Range range) invert empty found =
 -- the numbers of the fields of a HeaderMatcher (`config.route.v3.HeaderMatcher`): `invert_match`
 -- says whether the answer is turned, `treat_missing_header_as_empty` whether a missing header
 -- counts as one of the empty value
-abbrev pub header_field : record {
-  name : ℕ;
-  exact_match : ℕ;
-  range_match : ℕ;
-  present_match : ℕ;
-  invert_match : ℕ;
-  prefix_match : ℕ;
-  suffix_match : ℕ;
-  safe_regex_match : ℕ;
-  contains_match : ℕ;
-  string_match : ℕ;
-  treat_missing_header_as_empty : ℕ;
-}
-header_field = record {
-  name = 1;
-  exact_match = 4;
-  range_match = 6;
-  present_match = 7;
-  invert_match = 8;
-  prefix_match = 9;
-  suffix_match = 10;
-  safe_regex_match = 11;
-  contains_match = 12;
-  string_match = 13;
-  treat_missing_header_as_empty = 14;
-}
+abbrev pub header_field : record { name : ℕ; exact_match : ℕ; range_match : ℕ; present_match : ℕ; invert_match : ℕ; prefix_match : ℕ; suffix_match : ℕ; safe_regex_match : ℕ; contains_match : ℕ; string_match : ℕ; treat_missing_header_as_empty : ℕ }
+header_field = record { name = 1; exact_match = 4; range_match = 6; present_match = 7; invert_match = 8; prefix_match = 9; suffix_match = 10; safe_regex_match = 11; contains_match = 12; string_match = 13; treat_missing_header_as_empty = 14 }
 
 -- the members of the oneof; a regular expression is not supported
 abbrev pub specifiers : List (Key × Option HeaderMember)

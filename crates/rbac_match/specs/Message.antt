@@ -14,65 +14,13 @@ use Rattle.rbac_match.specs.declared.rule.Side.TheVariants.{Permission, Principa
 -- ---- rules
 
 -- the numbers of the fields of a Permission (`config.rbac.v3.Permission`)
-abbrev pub permission_field : record {
-  and_rules : ℕ;
-  or_rules : ℕ;
-  any : ℕ;
-  header : ℕ;
-  destination_ip : ℕ;
-  destination_port : ℕ;
-  metadata : ℕ;
-  not_rule : ℕ;
-  requested_server_name : ℕ;
-  url_path : ℕ;
-  destination_port_range : ℕ;
-  matcher : ℕ;
-}
-permission_field = record {
-  and_rules = 1;
-  or_rules = 2;
-  any = 3;
-  header = 4;
-  destination_ip = 5;
-  destination_port = 6;
-  metadata = 7;
-  not_rule = 8;
-  requested_server_name = 9;
-  url_path = 10;
-  destination_port_range = 11;
-  matcher = 12;
-}
+abbrev pub permission_field : record { and_rules : ℕ; or_rules : ℕ; any : ℕ; header : ℕ; destination_ip : ℕ; destination_port : ℕ; metadata : ℕ; not_rule : ℕ; requested_server_name : ℕ; url_path : ℕ; destination_port_range : ℕ; matcher : ℕ }
+permission_field = record { and_rules = 1; or_rules = 2; any = 3; header = 4; destination_ip = 5; destination_port = 6; metadata = 7; not_rule = 8; requested_server_name = 9; url_path = 10; destination_port_range = 11; matcher = 12 }
 
 -- the numbers of the fields of a Principal (`config.rbac.v3.Principal`): `direct_remote_ip` is
 -- where the connection comes from, `remote_ip` where the request does
-abbrev pub principal_field : record {
-  and_ids : ℕ;
-  or_ids : ℕ;
-  any : ℕ;
-  authenticated : ℕ;
-  source_ip : ℕ;
-  header : ℕ;
-  metadata : ℕ;
-  not_id : ℕ;
-  url_path : ℕ;
-  direct_remote_ip : ℕ;
-  remote_ip : ℕ;
-  filter_state : ℕ;
-}
-principal_field = record {
-  and_ids = 1;
-  or_ids = 2;
-  any = 3;
-  authenticated = 4;
-  source_ip = 5;
-  header = 6;
-  metadata = 7;
-  not_id = 8;
-  url_path = 9;
-  direct_remote_ip = 10;
-  remote_ip = 11;
-  filter_state = 12;
-}
+abbrev pub principal_field : record { and_ids : ℕ; or_ids : ℕ; any : ℕ; authenticated : ℕ; source_ip : ℕ; header : ℕ; metadata : ℕ; not_id : ℕ; url_path : ℕ; direct_remote_ip : ℕ; remote_ip : ℕ; filter_state : ℕ }
+principal_field = record { and_ids = 1; or_ids = 2; any = 3; authenticated = 4; source_ip = 5; header = 6; metadata = 7; not_id = 8; url_path = 9; direct_remote_ip = 10; remote_ip = 11; filter_state = 12 }
 
 -- the members of the oneof; `metadata`, `matcher`, `source_ip` and `filter_state` are not supported
 abbrev pub members : Side → List (Key × Option Member)

@@ -48,16 +48,8 @@ text_holds test bytes = let fold = folded test.ignore_case in
 -- ---- its message
 
 -- the numbers of the fields of a StringMatcher (`type.matcher.v3.StringMatcher`)
-abbrev pub string_field : record {
-  exact : ℕ;
-  prefix : ℕ;
-  suffix : ℕ;
-  safe_regex : ℕ;
-  ignore_case : ℕ;
-  contains : ℕ;
-}
-string_field =
-    record { exact = 1; prefix = 2; suffix = 3; safe_regex = 5; ignore_case = 6; contains = 7 }
+abbrev pub string_field : record { exact : ℕ; prefix : ℕ; suffix : ℕ; safe_regex : ℕ; ignore_case : ℕ; contains : ℕ }
+string_field = record { exact = 1; prefix = 2; suffix = 3; safe_regex = 5; ignore_case = 6; contains = 7 }
 
 -- the members of the oneof; a regular expression is not supported
 abbrev pub string_members : List (Key × Option Pattern)
