@@ -18,7 +18,7 @@ use Rattle.rbac_policy.specs.Admission.{IsAdmittedAs}
 use Rattle.rbac_policy.specs.Condition.{IsProgramOf, Program, TakesTooLong, is_met}
 use Rattle.rbac_policy.specs.Enforced.{EnforcesPolicy}
 use Rattle.rbac_policy.specs.Filter.{Filter, Policy}
-use Rattle.rbac_policy.specs.Keys.{checked_condition_field}
+use Rattle.rbac_policy.specs.Keys.{policy_field}
 use Rattle.rbac_policy.specs.Message.{IsCondition, IsPolicy}
 use Rattle.rbac_policy.specs.Named.{named_views, policy_view}
 use Rattle.rbac_policy.specs.Verdict.{IsUnconditional, IsVerdict, SomeAsked, condition_holds, policy_matches, sides_match}
@@ -38,9 +38,9 @@ GoodCondition (Some c) = HasGoodConstants c.tree
 good_of : (parts : List (List ℕ)) (p : Policy CelChecked) → IsPolicy parts p → GoodCondition p.condition
 good_of parts p is = by p.condition is.condition
   where
-    by : (c : Option CelChecked) → IsCondition (payloads checked_condition_field is.fs) c → GoodCondition c
+    by : (c : Option CelChecked) → IsCondition (payloads policy_field.checked_condition is.fs) c → GoodCondition c
     by None none = tt
-    by (Some c) reads = checked_good (payloads checked_condition_field is.fs) c reads.1
+    by (Some c) reads = checked_good (payloads policy_field.checked_condition is.fs) c reads.1
 
 module _ (limits : LimitsValue) (r : RequestValue) (valid : IsRequest r) where
   -- what is enforced stands for the policy

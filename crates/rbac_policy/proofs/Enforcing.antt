@@ -20,7 +20,7 @@ use Rattle.rbac_policy.specs.Costs.{Costs, FilterCosts, PoliciesCost, PolicyCost
 use Rattle.rbac_policy.specs.Enforced.{Enforces, EnforcesPolicy, bound_of, bounds_of, total_bound}
 use Rattle.rbac_policy.specs.Fault.{PolicyHas, SomeCost}
 use Rattle.rbac_policy.specs.Filter.{Filter, Policy}
-use Rattle.rbac_policy.specs.Keys.{checked_condition_field}
+use Rattle.rbac_policy.specs.Keys.{policy_field}
 use Rattle.rbac_policy.specs.Message.{IsCondition, IsPolicy}
 use Rattle.rbac_policy.specs.declared.filter.Action.{Action}
 use Rattle.rbac_policy.specs.steps.Conditions.{IsEnforced}
@@ -132,7 +132,7 @@ module _ (limits : LimitsValue) where
   one_costs n more v cost (p, is, enforces) others =
       by p.condition v.condition is.condition enforces.condition
     where
-      by : (c : Option CelChecked) (q : Option Program) → IsCondition (payloads checked_condition_field is.fs) c
+      by : (c : Option CelChecked) (q : Option Program) → IsCondition (payloads policy_field.checked_condition is.fs) c
           → MatchOption c (q ≡ None) (λ d. IsSomeAnd q (IsProgramOf limits d))
           → SomeCost limits (n ∷ more) (bound_of q + cost)
       by None q reads none = inl (rw (none, zero-add cost) others)
@@ -166,19 +166,19 @@ module _ (limits : LimitsValue) where
       rw made (omega (arith, most))
   cost_most (n ∷ ns) vs cost (v, others, (p, is, enforces), rest, made) (inr (c, own, less, has, costs, g, sum)) =
       let most = cost_most ns others less rest g in
-      let reads : IsChecked (payloads checked_condition_field is.fs) c =
-      subst (λ fs. IsChecked (payloads checked_condition_field fs) c) (merges_unique n.1 has.fs is.fs has.merges is.message.0) has.reads in
+      let reads : IsChecked (payloads policy_field.checked_condition is.fs) c =
+      subst (λ fs. IsChecked (payloads policy_field.checked_condition fs) c) (merges_unique n.1 has.fs is.fs has.merges is.message.0) has.reads in
       let same : own ≤ bound_of v.condition = by reads p.condition v.condition is.condition enforces.condition in
       rw made (omega (arith, most, same, sum))
     where
-      by : IsChecked (payloads checked_condition_field is.fs) c → (d : Option CelChecked) (x : Option Program)
-          → IsCondition (payloads checked_condition_field is.fs) d
+      by : IsChecked (payloads policy_field.checked_condition is.fs) c → (d : Option CelChecked) (x : Option Program)
+          → IsCondition (payloads policy_field.checked_condition is.fs) d
           → MatchOption d (x ≡ None) (λ e. IsSomeAnd x (IsProgramOf limits e)) → own ≤ bound_of x
       by reads None x none h =
           absurd (nothing_read c (subst (λ parts. IsChecked parts c) none reads))
       by reads (Some d) None there h = absurd h
       by reads (Some d) (Some x) there h =
-          let one : c ≡ d = checked_unique (payloads checked_condition_field is.fs) c d reads there.1 in
+          let one : c ≡ d = checked_unique (payloads policy_field.checked_condition is.fs) c d reads there.1 in
           let same : own ≡ x.bound = cost_unique limits d own x.bound (subst (λ e. Costs limits e own) one costs) (program_costs limits d x h) in
           omega (arith, same)
 

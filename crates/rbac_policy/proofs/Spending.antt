@@ -13,7 +13,7 @@ use Rattle.rbac_policy.specs.Enforced.{bound_of, bounds_of}
 use Rattle.rbac_policy.specs.Admission.{Fault, too_costly}
 use Rattle.rbac_policy.specs.Fault.{HoldsPolicies, PolicyFault, PolicyHas, not_bool, unreadable, untyped}
 use Rattle.rbac_policy.specs.Filter.{Policy}
-use Rattle.rbac_policy.specs.Keys.{checked_condition_field}
+use Rattle.rbac_policy.specs.Keys.{policy_field}
 use Rattle.rbac_policy.specs.steps.Conditions as step
 use Rattle.rbac_policy.specs.steps.Conditions.{ConditionFault, ConditionsFault, ExpressionFault, IsEnforced, cost_too_much}
 use Rattle.rbac_policy.proofs.Besides.{Beside}
@@ -28,8 +28,8 @@ module _ (limits : LimitsValue) (name : List ℕ) (parts : List (List ℕ)) (lef
       inr (cost_too_much cost (inr (c, cost, 0, has, costs, refl, sym (add-zero cost))) above is)
 
   -- the fault of a policy's condition is one of the policy, or one of its cost
-  pub condition_fails : (fs : List Wire) → Merges parts fs → payloads checked_condition_field fs ≢ []
-      → ConditionFault (payloads checked_condition_field fs) limits left e
+  pub condition_fails : (fs : List Wire) → Merges parts fs → payloads policy_field.checked_condition fs ≢ []
+      → ConditionFault (payloads policy_field.checked_condition fs) limits left e
       → PolicyFault parts e ⊎ ConditionsFault ((name, parts) ∷ []) limits left e
   condition_fails fs merges there (step.unreadable bad) = inl (unreadable fs merges there bad)
   condition_fails fs merges there (step.expression c reads bad) =

@@ -1,16 +1,17 @@
 -- The filter of StandardFacts with the condition `true && true`: its bytes as an encoder writes them, what
 -- they say, what the condition costs, whether they are admissible, and the filter's answer.
-use Rattle.std.proofs.Common.{◌≡◌, ℕ, suc, ◌*◌, ◌<◌, ◌≤◌, ◌≢◌, ℤ, pos, Bool, true, false, cond, IsTrue, List, [], ◌∷◌, ◌++◌, Option, Some, None, IsSomeAnd, MatchOption, codes, length, map, refl, sym, ap, subst, arith, ◌∙◌}
+use Rattle.std.proofs.Common.{◌≡◌, ℕ, suc, ◌<◌, ℤ, pos, true, false, cond, IsTrue, List, [], ◌∷◌, ◌++◌, Option, Some, None, IsSomeAnd, MatchOption, codes, length, map, refl, sym, ap, subst, arith, ◌∙◌}
 use Rattle.std.specs.Str.{IsUtf8, chars}
 use Rattle.std.specs.Ordering.{int_cmp, is_eq, is_lt}
 use Rattle.std.specs.declared.cmp.Ordering.TheVariants.{Less, Equal, Greater}
 use Rattle.std.specs.Cmp.{int_cmp_total}
 use Rattle.std.specs.Cmp.Lexicographic.{nat_list_cmp_total}
 use Rattle.std.specs.FinMap.{FinMap, entries, from_entries, get, get-from_entries, keys, len, len-entries}
-use Rattle.proto_wire.specs.Fields.{varint, len as len_of, Wire, StartsField, Fields}
+use Rattle.proto_wire.specs.Fields.{varint, len as len_of, Wire, Fields}
 use Rattle.proto_wire.specs.Maps.{Entry, text, IsEntry, map_of}
 use Rattle.proto_wire.proofs.MapOrder.{entries_from_entries}
 use Rattle.proto_wire.proofs.MapValues.{held_are_values}
+use Rattle.proto_wire.proofs.StandardFacts.{field, len_starts, merged, varint_starts}
 use Rattle.attributes.specs.Headers.{name_cmp}
 use Rattle.attributes.specs.Limits.{LimitsValue}
 use Rattle.attributes.specs.Request.{RequestValue}
@@ -19,7 +20,7 @@ use Rattle.cel_value.specs.Types.{ValueType, bool_type}
 use Rattle.cel_value.specs.Values.{bool, value}
 use Rattle.cel_tree.specs.Checked.{CelChecked, CelReference, CelTypeEntry}
 use Rattle.cel_tree.specs.Constants.{IsConstant}
-use Rattle.cel_tree.specs.Message.{CheckedSays, IsChecked}
+use Rattle.cel_tree.specs.Message.{IsChecked}
 use Rattle.cel_tree.specs.Nodes.{IsNode, call_node, constant_node}
 use Rattle.cel_tree.specs.Tree.{CelTree, CelTrees, call, constant, no_target, no_trees, tree}
 use Rattle.cel_tree.specs.Trees.{IsTree, node_count}
@@ -37,7 +38,7 @@ use Rattle.rbac_policy.specs.Filter.{Filter, Policy}
 use Rattle.rbac_policy.specs.Message.{AreFilterRules, IsFilter, IsPolicy}
 use Rattle.rbac_policy.specs.Verdict.{IsVerdict, Matches, policy_matches}
 use Rattle.rbac_policy.specs.declared.filter.Action.TheVariants.{Allow}
-use Rattle.rbac_policy.proofs.StandardFacts.{field, is_rule, len_starts, merged, name_reads, rule_bytes, varint_starts}
+use Rattle.rbac_policy.proofs.StandardFacts.{is_rule, name_reads, rule_bytes}
 
 -- ---- the bytes, from the innermost out
 

@@ -1,18 +1,17 @@
 -- One filter of Envoy (extensions.filters.http.rbac.v3.RBAC) that allows requests by one policy `p` of any
 -- permission and any principal: its bytes as an encoder writes them, what they say, and its answer,
 -- so that a wrong rule in the specs does not check.
-use Rattle.std.proofs.Common.{◌≡◌, ℕ, ◌+◌, ◌*◌, ◌<◌, ◌≤◌, Bool, true, false, cond, IsTrue, List, [], ◌∷◌, ◌++◌, Some, None, IsSomeAnd, codes, length, map, append-nil, refl, sym, ap, arith, ◌∙◌}
+use Rattle.std.proofs.Common.{◌≡◌, ℕ, ◌+◌, Bool, true, false, cond, IsTrue, List, [], ◌∷◌, ◌++◌, Some, None, IsSomeAnd, codes, length, map, refl, ap, arith, ◌∙◌}
 use Rattle.std.specs.Str.{IsUtf8}
 use Rattle.std.specs.Ordering.{is_eq, is_lt}
 use Rattle.std.specs.declared.cmp.Ordering.TheVariants.{Less, Equal, Greater}
 use Rattle.std.specs.Cmp.Lexicographic.{nat_list_cmp_total}
 use Rattle.std.specs.FinMap.{entries, from_entries, get, keys, len, len-entries, get-from_entries}
-use Rattle.proto_wire.specs.Varint.{SpellsVarint}
-use Rattle.proto_wire.specs.Fields.{varint, len as len_of, Payload, Wire, StartsField, Fields}
-use Rattle.proto_wire.specs.Merge.{Merges}
+use Rattle.proto_wire.specs.Fields.{varint, len as len_of, Fields}
 use Rattle.proto_wire.specs.Maps.{Entry, text, IsEntry, map_of}
 use Rattle.proto_wire.proofs.MapOrder.{entries_from_entries}
 use Rattle.proto_wire.proofs.MapValues.{held_are_values}
+use Rattle.proto_wire.proofs.StandardFacts.{field, len_starts, merged, varint_starts}
 use Rattle.attributes.specs.Headers.{name_cmp}
 use Rattle.attributes.specs.Request.{RequestValue}
 use Rattle.rbac_match.specs.Formula.{any, end, formula}
@@ -49,9 +48,6 @@ filter_bytes = 10 ∷ 15 ∷ rules_bytes
 
 -- ---- what they say
 
-abbrev pub field : ℕ → Payload → Wire
-field n p = record { number = n; payload = p }
-
 abbrev pub policy : Policy CelChecked
 policy = record { permissions = formula any end; principals = formula any end; condition = None }
 
@@ -60,49 +56,6 @@ policies = (codes "p", policy) ∷ []
 
 abbrev pub filter : Filter CelChecked
 filter = record { action = Allow; policies = from_entries policies }
-
--- ---- one field
-
--- a number below 128 is one byte
-one_byte : (b : ℕ) → b < 128 → SpellsVarint (b ∷ []) b
-one_byte b small =
-    record { groups = small; short = omega arith; value = omega arith; fits = omega arith }
-
--- a LEN field whose tag and size are one byte each, and a rest
-pub len_starts : (k : ℕ) (bytes rest : List ℕ) → 1 ≤ k → 8 * k + 2 < 128 → length bytes < 128
-    → StartsField ((8 * k + 2) ∷ length bytes ∷ (bytes ++ rest)) (field k (len_of bytes)) rest
-len_starts k bytes rest some small short = record {
-  spelling = (8 * k + 2) ∷ length bytes ∷ bytes;
-  spells = record {
-    tag = (8 * k + 2) ∷ [];
-    behind = length bytes ∷ bytes;
-    numbered = (some, omega arith);
-    spells_tag = one_byte (8 * k + 2) small;
-    spells_payload = (length bytes ∷ [], one_byte _ short, refl);
-    whole = refl;
-  };
-  whole = refl;
-}
-
--- a VARINT field whose tag and number are one byte each, and a rest
-pub varint_starts : (k n : ℕ) (rest : List ℕ) → 1 ≤ k → 8 * k + 0 < 128 → n < 128
-    → StartsField ((8 * k + 0) ∷ n ∷ rest) (field k (varint n)) rest
-varint_starts k n rest some small short = record {
-  spelling = (8 * k + 0) ∷ n ∷ [];
-  spells = record {
-    tag = (8 * k + 0) ∷ [];
-    behind = n ∷ [];
-    numbered = (some, omega arith);
-    spells_tag = one_byte (8 * k + 0) small;
-    spells_payload = one_byte n short;
-    whole = refl;
-  };
-  whole = refl;
-}
-
--- a message that stands in one payload
-pub merged : (bytes : List ℕ) (fs : List Wire) → Fields bytes fs → Merges (bytes ∷ []) fs
-merged bytes fs whole = (fs, [], whole, refl, sym (append-nil fs))
 
 -- ---- each message
 

@@ -34,7 +34,7 @@ use Rattle.rbac_policy.specs.Admission.{Admissible, Fault, in_message, too_costl
 use Rattle.rbac_policy.specs.Condition.{IsProgramOf, Program}
 use Rattle.rbac_policy.specs.Enforced.{Enforces, EnforcesPolicy, bounds_of, total_bound}
 use Rattle.rbac_policy.specs.Filter.{Policy, Filter}
-use Rattle.rbac_policy.specs.Keys.{audit_logging_options_field, checked_condition_field, condition_field, filter_keys, permissions_field, policies_field, policy_keys, principals_field, rules_field, rules_keys}
+use Rattle.rbac_policy.specs.Keys.{rules_field, policy_field, filter_keys, policy_keys, filter_field, rules_keys}
 use Rattle.rbac_policy.specs.Message.{rule_depth, most_policies, HasBothSides, IsCondition, IsPolicy, action_in, action_number, AreFilterRules, IsFilter}
 use Rattle.proto_wire.specs.Maps.{Entry, text, AreEntries, AreValues, Readable, map_of, in_entry, in_value}
 use Rattle.proto_wire.proofs.MapLaws.{entries_total, entries_readable, readable_unique}
@@ -55,9 +55,9 @@ ruled side fs k = rules_total side rule_depth (payloads k fs)
 
 -- fields have both sides or not
 sides_total : (fs : List Wire) → HasBothSides fs ⊎ ¬ (HasBothSides fs)
-sides_total fs = elim (nil_or_not (payloads permissions_field fs)) [
+sides_total fs = elim (nil_or_not (payloads policy_field.permissions fs)) [
   | inl none ↦ inr (λ sides. sides.0 none)
-  | inr permission ↦ elim (nil_or_not (payloads principals_field fs)) [
+  | inr permission ↦ elim (nil_or_not (payloads policy_field.principals fs)) [
     | inl none ↦ inr (λ sides. sides.1 none)
     | inr principal ↦ inl (permission, principal)
   ]
@@ -90,12 +90,12 @@ module _ (limits : LimitsValue) where
 
   -- the condition in the payloads has a program, or has a fault, or there is none
   condition_total : (parts : List (List ℕ)) (fs : List Wire) → Merges parts fs
-      → ((condition : Option CelChecked) × (program : Option Program) × IsCondition (payloads checked_condition_field fs) condition
+      → ((condition : Option CelChecked) × (program : Option Program) × IsCondition (payloads policy_field.checked_condition fs) condition
       × MatchOption condition (program ≡ None) (λ c. IsSomeAnd program (IsProgramOf limits c)))
       ⊎ ((e : Refusal) × PolicyFault parts e)
-  condition_total parts fs merges = elim (nil_or_not (payloads checked_condition_field fs)) [
+  condition_total parts fs merges = elim (nil_or_not (payloads policy_field.checked_condition fs)) [
     | inl none ↦ inl (None, None, none, refl)
-    | inr there ↦ elim (checked_total (payloads checked_condition_field fs)) [
+    | inr there ↦ elim (checked_total (payloads policy_field.checked_condition fs)) [
       | inr bad ↦ inr (bad.0, unreadable fs merges there bad.1)
       | inl reads ↦
           let has : PolicyHas parts reads.0 = record { fs = fs; merges = merges; reads = reads.1 } in
@@ -112,11 +112,11 @@ module _ (limits : LimitsValue) where
   ]
 
   fields_total : (parts : List (List ℕ)) (fs : List Wire) → IsMessage policy_keys parts fs
-      → payloads condition_field fs ≡ [] → HasBothSides fs
+      → payloads policy_field.condition fs ≡ [] → HasBothSides fs
       → ((enforced : Policy Program) × IsEnforced limits parts enforced) ⊎ ((e : Refusal) × PolicyFault parts e)
-  fields_total parts fs message plain sides = elim (ruled Permission fs permissions_field) [
+  fields_total parts fs message plain sides = elim (ruled Permission fs policy_field.permissions) [
     | inr bad ↦ inr (bad.2, in_permission fs message.0 (bad.0, bad.1, bad.3))
-    | inl permissions ↦ elim (ruled Principal fs principals_field) [
+    | inl permissions ↦ elim (ruled Principal fs policy_field.principals) [
       | inr bad ↦ inr (bad.2, in_principal fs message.0 (bad.0, bad.1, bad.3))
       | inl principals ↦ elim (condition_total parts fs message.0) [
         | inr bad ↦ inr bad
@@ -144,8 +144,8 @@ module _ (limits : LimitsValue) where
       → ((enforced : Policy Program) × IsEnforced limits parts enforced) ⊎ ((e : Refusal) × PolicyFault parts e)
   policy_total parts = elim (message_total policy_keys parts) [
     | inr bad ↦ inr (bad.0, policy_fields bad.1)
-    | inl message ↦ elim (nil_or_not (payloads condition_field message.0)) [
-      | inr there ↦ elim (nil_or_not (payloads checked_condition_field message.0)) [
+    | inl message ↦ elim (nil_or_not (payloads policy_field.condition message.0)) [
+      | inr there ↦ elim (nil_or_not (payloads policy_field.checked_condition message.0)) [
         | inl none ↦ inr (Unsupported, unchecked message.0 message.1.0 there none refl)
         | inr also ↦ inr (BothConditions, both_conditions message.0 message.1.0 there also refl)
       ]
@@ -171,37 +171,37 @@ module _ (limits : LimitsValue) where
     -- a condition that the parts have is of type bool
     has_bool : (c : CelChecked) → PolicyHas parts c → IsTyped c bool_type
     has_bool c has =
-        by (moved (λ fs. IsChecked (payloads checked_condition_field fs) c) has.fs has.merges has.reads)
+        by (moved (λ fs. IsChecked (payloads policy_field.checked_condition fs) c) has.fs has.merges has.reads)
         policy.condition enforced.condition is.condition whole.2.condition
       where
-        by : IsChecked (payloads checked_condition_field is.fs) c → (d : Option CelChecked) (x : Option Program)
-            → IsCondition (payloads checked_condition_field is.fs) d
+        by : IsChecked (payloads policy_field.checked_condition is.fs) c → (d : Option CelChecked) (x : Option Program)
+            → IsCondition (payloads policy_field.checked_condition is.fs) d
             → MatchOption d (x ≡ None) (λ e. IsSomeAnd x (IsProgramOf limits e)) → IsTyped c bool_type
         by reads None x none h = absurd (nothing_read c (subst (λ ps. IsChecked ps c) none reads))
         by reads (Some d) None there h = absurd h
         by reads (Some d) (Some x) there h =
-            let same : d ≡ c = checked_unique (payloads checked_condition_field is.fs) d c there.1 reads in
+            let same : d ≡ c = checked_unique (payloads policy_field.checked_condition is.fs) d c there.1 reads in
             subst (λ e. IsTyped e bool_type) same (subst (IsTyped d) h.has_type h.elaborated.typed)
 
     policy_disjoint : (e : Refusal) → PolicyFault parts e → ⊥
     policy_disjoint e (policy_fields bad) = message_disjoint policy_keys parts is.fs e is.message bad
     policy_disjoint e (lacks_side gs also bad at) = moved (λ xs. ¬ (HasBothSides xs)) gs also.0 bad is.sides
-    policy_disjoint e (both_conditions gs also there checked at) = moved (λ xs. payloads condition_field xs ≢ []) gs also there is.unchecked
-    policy_disjoint e (unchecked gs also there none at) = moved (λ xs. payloads condition_field xs ≢ []) gs also there is.unchecked
+    policy_disjoint e (both_conditions gs also there checked at) = moved (λ xs. payloads policy_field.condition xs ≢ []) gs also there is.unchecked
+    policy_disjoint e (unchecked gs also there none at) = moved (λ xs. payloads policy_field.condition xs ≢ []) gs also there is.unchecked
     policy_disjoint e (unreadable gs also there bad) =
-        reads policy.condition is.condition (moved (λ xs. payloads checked_condition_field xs ≢ []) gs also there) (moved (λ xs. CheckedFault (payloads checked_condition_field xs) e) gs also bad)
+        reads policy.condition is.condition (moved (λ xs. payloads policy_field.checked_condition xs ≢ []) gs also there) (moved (λ xs. CheckedFault (payloads policy_field.checked_condition xs) e) gs also bad)
       where
-        reads : (d : Option CelChecked) → IsCondition (payloads checked_condition_field is.fs) d
-            → payloads checked_condition_field is.fs ≢ [] → CheckedFault (payloads checked_condition_field is.fs) e → ⊥
+        reads : (d : Option CelChecked) → IsCondition (payloads policy_field.checked_condition is.fs) d
+            → payloads policy_field.checked_condition is.fs ≢ [] → CheckedFault (payloads policy_field.checked_condition is.fs) e → ⊥
         reads None none some fault = some none
-        reads (Some d) has some fault = checked_disjoint (payloads checked_condition_field is.fs) d e has.1 fault
+        reads (Some d) has some fault = checked_disjoint (payloads policy_field.checked_condition is.fs) d e has.1 fault
     policy_disjoint e (untyped c has bad) = check_disjoint c bool_type e (has_bool c has) bad
     policy_disjoint e (not_bool c t has typed other at) =
         other (one_type (maps_of c) [] c.tree t bool_type typed.types (has_bool c has).types)
     policy_disjoint e (in_permission gs also (child, here, bad)) =
-        rules_disjoint Permission rule_depth (payloads permissions_field is.fs) policy.permissions child e is.permissions (moved (λ xs. Contains (payloads permissions_field xs) child) gs also here) bad
+        rules_disjoint Permission rule_depth (payloads policy_field.permissions is.fs) policy.permissions child e is.permissions (moved (λ xs. Contains (payloads policy_field.permissions xs) child) gs also here) bad
     policy_disjoint e (in_principal gs also (child, here, bad)) =
-        rules_disjoint Principal rule_depth (payloads principals_field is.fs) policy.principals child e is.principals (moved (λ xs. Contains (payloads principals_field xs) child) gs also here) bad
+        rules_disjoint Principal rule_depth (payloads policy_field.principals is.fs) policy.principals child e is.principals (moved (λ xs. Contains (payloads policy_field.principals xs) child) gs also here) bad
 
 -- the values of payloads by name are as many as these
 pub as_many : (named : FinMap name_cmp (List (List ℕ))) (values : FinMap name_cmp (Policy CelChecked))
@@ -235,13 +235,13 @@ module _ (limits : LimitsValue) where
   abbrev FilterOf : (Filter CelChecked → Type 0) → Type 0
   FilterOf Is = (filter : Filter CelChecked) × (enforced : Filter Program) × Is filter × Enforces limits filter enforced
 
-  entries_done : (fs : List Wire) (action : Action) → payloads audit_logging_options_field fs ≡ []
-      → action_in fs ≡ action_number action → (es : List (Entry text)) → AreEntries text (payloads policies_field fs) es
+  entries_done : (fs : List Wire) (action : Action) → payloads rules_field.audit_logging_options fs ≡ []
+      → action_in fs ≡ action_number action → (es : List (Entry text)) → AreEntries text (payloads rules_field.policies fs) es
       → FilterOf (AreFilterRules fs) ⊎ ((e : Refusal) × RulesFault fs e)
   entries_done fs action unaudited is es are = elim (cases_lt most_policies (len (map_of text es))) [
-    | inl many ↦ inr (TooLarge, too_many es (entries_readable text (payloads policies_field fs) es are) many refl)
+    | inl many ↦ inr (TooLarge, too_many es (entries_readable text (payloads rules_field.policies fs) es are) many refl)
     | inr few ↦ elim (values_total text (IsEnforced limits) PolicyFault (policy_total limits) (map_of text es)) [
-      | inr bad ↦ inr (bad.0, in_policies (in_value es (entries_readable text (payloads policies_field fs) es are) bad.1))
+      | inr bad ↦ inr (bad.0, in_policies (in_value es (entries_readable text (payloads rules_field.policies fs) es are) bad.1))
       | inl held ↦
           let named : FinMap name_cmp (List (List ℕ)) = map_of text es in
           let listed = beside_map (IsEnforced limits) held.0 (entries named) (entries_sorted named) (λ name. rw (← get-entries named name) (held.1 name)) in
@@ -257,11 +257,11 @@ module _ (limits : LimitsValue) where
   ]
 
   rules_fields_total : (fs : List Wire) → FilterOf (AreFilterRules fs) ⊎ ((e : Refusal) × RulesFault fs e)
-  rules_fields_total fs = elim (nil_or_not (payloads audit_logging_options_field fs)) [
+  rules_fields_total fs = elim (nil_or_not (payloads rules_field.audit_logging_options fs)) [
     | inr there ↦ inr (Unsupported, audited there refl)
     | inl unaudited ↦ elim (action_total (action_in fs)) [
       | inr large ↦ inr (OutOfRange, bad_action large refl)
-      | inl action ↦ elim (entries_total text (payloads policies_field fs)) [
+      | inl action ↦ elim (entries_total text (payloads rules_field.policies fs)) [
         | inr bad ↦ inr (bad.0, in_policies (in_entry bad.1))
         | inl read ↦ entries_done fs action.0 unaudited action.1 read.0 read.1
       ]
@@ -272,9 +272,9 @@ module _ (limits : LimitsValue) where
   filter_total : (bytes : List ℕ) → FilterOf (IsFilter bytes) ⊎ ((e : Refusal) × FilterFault bytes e)
   filter_total bytes = elim (message_total filter_keys (bytes ∷ [])) [
     | inr bad ↦ inr (bad.0, filter_fields bad.1)
-    | inl top ↦ elim (nil_or_not (payloads rules_field top.0)) [
+    | inl top ↦ elim (nil_or_not (payloads filter_field.rules top.0)) [
       | inl none ↦ inr (Missing, no_rules top.0 top.1 none refl)
-      | inr there ↦ elim (message_total rules_keys (payloads rules_field top.0)) [
+      | inr there ↦ elim (message_total rules_keys (payloads filter_field.rules top.0)) [
         | inr bad ↦ inr (bad.0, rules_fields top.0 top.1.0 there bad.1)
         | inl inner ↦ elim (rules_fields_total inner.0) [
           | inr bad ↦ inr (bad.0, in_rules top.0 inner.0 top.1.0 there inner.1.0 bad.1)
@@ -318,7 +318,7 @@ module _ (limits : LimitsValue) where
               read = is.rules.policies.0;
               outer = is.message.0;
               inner = is.inner.0;
-              readable = entries_readable text (payloads policies_field is.fs) is.rules.policies.0 is.rules.policies.1;
+              readable = entries_readable text (payloads rules_field.policies is.fs) is.rules.policies.0 is.rules.policies.1;
               named = refl;
             }) (all_cost limits ns listed.0 listed.1) (rw (← listed.2) more) refl,
           )
@@ -335,13 +335,13 @@ module _ (limits : LimitsValue) where
       let same = as_many (map_of text is.policies.0) filter.policies is.policies.2 in
       let P : List (Entry text) → Type 0 = λ xs. most_policies < len (map_of text xs) in
       let more : most_policies < len (map_of text is.policies.0) =
-      subst P (readable_unique text (payloads policies_field fs) is.policies.0 es is.policies.1 reads) many in absurd (omega (arith, same, few, more))
+      subst P (readable_unique text (payloads rules_field.policies fs) is.policies.0 es is.policies.1 reads) many in absurd (omega (arith, same, few, more))
   rules_fields_disjoint fs filter enforced e is enforces (in_policies bad) =
       let named : FinMap name_cmp (List (List ℕ)) = map_of text is.policies.0 in
       let are : AreValues text (IsEnforced limits) named enforced.policies = (λ name.
       in_a_row IsPolicy (EnforcesPolicy limits) (IsEnforced limits) (λ parts p v policy enf. (p, policy, enf))
       (get named name) (get filter.policies name) (get enforced.policies name) (is.policies.2 name) (enforces.policies name)) in
-      map_disjoint text (IsEnforced limits) PolicyFault (λ parts v d held fault. policy_disjoint limits parts v held d fault) (payloads policies_field fs) enforced.policies e
+      map_disjoint text (IsEnforced limits) PolicyFault (λ parts v d held fault. policy_disjoint limits parts v held d fault) (payloads rules_field.policies fs) enforced.policies e
       (is.policies.0, is.policies.1, are) bad
 
   -- the message of a filter has no fault
@@ -349,13 +349,13 @@ module _ (limits : LimitsValue) where
       → IsFilter bytes filter → Enforces limits filter enforced → FilterFault bytes e → ⊥
   filter_disjoint bytes filter enforced e is enforces (filter_fields bad) = message_disjoint filter_keys (bytes ∷ []) is.top e is.message bad
   filter_disjoint bytes filter enforced e is enforces (no_rules gs also none at) =
-      is.there (let P : List Wire → Type 0 = λ xs. payloads rules_field xs ≡ [] in subst P (merges_unique (bytes ∷ []) gs is.top also.0 is.message.0) none)
+      is.there (let P : List Wire → Type 0 = λ xs. payloads filter_field.rules xs ≡ [] in subst P (merges_unique (bytes ∷ []) gs is.top also.0 is.message.0) none)
   filter_disjoint bytes filter enforced e is enforces (rules_fields gs also there bad) =
-      let P : List Wire → Type 0 = λ xs. MessageFault rules_keys (payloads rules_field xs) e in
-      message_disjoint rules_keys (payloads rules_field is.top) is.fs e is.inner (subst P (merges_unique (bytes ∷ []) gs is.top also is.message.0) bad)
+      let P : List Wire → Type 0 = λ xs. MessageFault rules_keys (payloads filter_field.rules xs) e in
+      message_disjoint rules_keys (payloads filter_field.rules is.top) is.fs e is.inner (subst P (merges_unique (bytes ∷ []) gs is.top also is.message.0) bad)
   filter_disjoint bytes filter enforced e is enforces (in_rules gs hs also there merges bad) =
-      let P : List Wire → Type 0 = λ xs. Merges (payloads rules_field xs) hs in
-      let same : hs ≡ is.fs = merges_unique (payloads rules_field is.top) hs is.fs (subst P (merges_unique (bytes ∷ []) gs is.top also is.message.0) merges) is.inner.0 in
+      let P : List Wire → Type 0 = λ xs. Merges (payloads filter_field.rules xs) hs in
+      let same : hs ≡ is.fs = merges_unique (payloads filter_field.rules is.top) hs is.fs (subst P (merges_unique (bytes ∷ []) gs is.top also is.message.0) merges) is.inner.0 in
       let Q : List Wire → Type 0 = λ xs. RulesFault xs e in
       rules_fields_disjoint is.fs filter enforced e is.rules enforces (subst Q same bad)
 
@@ -363,10 +363,10 @@ module _ (limits : LimitsValue) where
   policies_are : (bytes : List ℕ) (filter : Filter CelChecked) (is : IsFilter bytes filter) (policies : List (Entry text))
       → HoldsPolicies bytes policies → policies ≡ entries (map_of text is.rules.policies.0)
   policies_are bytes filter is policies holds =
-      let P : List Wire → Type 0 = λ xs. Merges (payloads rules_field xs) holds.fs in
-      let same : holds.fs ≡ is.fs = merges_unique (payloads rules_field is.top) holds.fs is.fs (subst P (merges_unique (bytes ∷ []) holds.top is.top holds.outer is.message.0) holds.inner) is.inner.0 in
-      let Q : List Wire → Type 0 = λ xs. Readable text (payloads policies_field xs) holds.read in
-      holds.named ∙ ap (λ es. entries (map_of text es)) (readable_unique text (payloads policies_field is.fs) is.rules.policies.0 holds.read is.rules.policies.1 (subst Q same holds.readable))
+      let P : List Wire → Type 0 = λ xs. Merges (payloads filter_field.rules xs) holds.fs in
+      let same : holds.fs ≡ is.fs = merges_unique (payloads filter_field.rules is.top) holds.fs is.fs (subst P (merges_unique (bytes ∷ []) holds.top is.top holds.outer is.message.0) holds.inner) is.inner.0 in
+      let Q : List Wire → Type 0 = λ xs. Readable text (payloads rules_field.policies xs) holds.read in
+      holds.named ∙ ap (λ es. entries (map_of text es)) (readable_unique text (payloads rules_field.policies is.fs) is.rules.policies.0 holds.read is.rules.policies.1 (subst Q same holds.readable))
 
   -- admissible bytes have no fault
   pub bytes_disjoint : (e : Refusal) (bytes : List ℕ) (budget : ℕ) → Admissible bytes limits budget

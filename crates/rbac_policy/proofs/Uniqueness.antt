@@ -18,7 +18,7 @@ use Rattle.rbac_policy.specs.Condition.{Program}
 use Rattle.rbac_policy.specs.Enforced.{Enforces}
 use Rattle.rbac_policy.specs.Filter.{Policy, Filter}
 use Rattle.attributes.specs.Headers.{name_cmp}
-use Rattle.rbac_policy.specs.Keys.{checked_condition_field, permissions_field, policies_field, principals_field, rules_field, rules_keys}
+use Rattle.rbac_policy.specs.Keys.{policy_field, rules_field, filter_field, rules_keys}
 use Rattle.rbac_policy.specs.Message.{rule_depth, IsCondition, IsPolicy, action_number, AreFilterRules, IsFilter}
 use Rattle.rbac_policy.specs.declared.filter.Action.{Action}
 use Rattle.rbac_policy.specs.declared.filter.Action.TheVariants.{Allow, Deny, Log}
@@ -45,10 +45,10 @@ module _ (parts : List (List ℕ)) (p q : Policy CelChecked) (a : IsPolicy parts
 
   policy_unique : p ≡ q
   policy_unique =
-      let permissions : p.permissions ≡ q.permissions = side_unique Permission permissions_field p.permissions q.permissions a.permissions b.permissions in
-      let principals : p.principals ≡ q.principals = side_unique Principal principals_field p.principals q.principals a.principals b.principals in
-      let P : List Wire → Type 0 = λ fs. IsCondition (payloads checked_condition_field fs) q.condition in
-      let condition : p.condition ≡ q.condition = condition_unique (payloads checked_condition_field a.fs) p.condition q.condition a.condition
+      let permissions : p.permissions ≡ q.permissions = side_unique Permission policy_field.permissions p.permissions q.permissions a.permissions b.permissions in
+      let principals : p.principals ≡ q.principals = side_unique Principal policy_field.principals p.principals q.principals a.principals b.principals in
+      let P : List Wire → Type 0 = λ fs. IsCondition (payloads policy_field.checked_condition fs) q.condition in
+      let condition : p.condition ≡ q.condition = condition_unique (payloads policy_field.checked_condition a.fs) p.condition q.condition a.condition
       (subst P (merges_unique parts b.fs a.fs b.message.0 a.message.0) b.condition) in
       λ i. record { permissions = permissions i; principals = principals i; condition = condition i }
 
@@ -69,14 +69,14 @@ rules_unique : (fs : List Wire) (f g : Filter CelChecked) → AreFilterRules fs 
 rules_unique fs f g a b =
     let make : Action → FinMap name_cmp (Policy CelChecked) → Filter CelChecked = λ x m. record { action = x; policies = m } in
     ap₂ make (action_unique f.action g.action (sym a.action ∙ b.action))
-    (map_unique text IsPolicy policy_unique (payloads policies_field fs) f.policies g.policies a.policies b.policies)
+    (map_unique text IsPolicy policy_unique (payloads rules_field.policies fs) f.policies g.policies a.policies b.policies)
 
 -- bytes are the message of one filter
 pub filter_unique : (bytes : List ℕ) (f g : Filter CelChecked) → IsFilter bytes f → IsFilter bytes g → f ≡ g
 filter_unique bytes f g a b =
-    let P : List Wire → Type 0 = λ top. IsMessage rules_keys (payloads rules_field top) b.fs in
+    let P : List Wire → Type 0 = λ top. IsMessage rules_keys (payloads filter_field.rules top) b.fs in
     let top : b.top ≡ a.top = merges_unique (bytes ∷ []) b.top a.top b.message.0 a.message.0 in
-    let same : b.fs ≡ a.fs = merges_unique (payloads rules_field a.top) b.fs a.fs (subst P top b.inner).0 a.inner.0 in
+    let same : b.fs ≡ a.fs = merges_unique (payloads filter_field.rules a.top) b.fs a.fs (subst P top b.inner).0 a.inner.0 in
     let Q : List Wire → Type 0 = λ fs. AreFilterRules fs g in
     rules_unique a.fs f g a.rules (subst Q same b.rules)
 

@@ -17,7 +17,7 @@ use Rattle.cel_types.specs.TypingFaults.{CheckFault}
 use Rattle.rbac_policy.specs.Costs.{Costs}
 use Rattle.rbac_match.specs.Rules.{SomeRuleFault}
 use Rattle.rbac_match.specs.declared.rule.Side.TheVariants.{Permission, Principal}
-use Rattle.rbac_policy.specs.Keys.{filter_keys, rules_keys, policy_keys, rules_field, policies_field, audit_logging_options_field, permissions_field, principals_field, condition_field, checked_condition_field}
+use Rattle.rbac_policy.specs.Keys.{filter_keys, rules_keys, policy_keys, filter_field, rules_field, policy_field}
 use Rattle.rbac_policy.specs.Message.{rule_depth, most_policies, action_in, action_number, HasBothSides}
 use Rattle.rbac_policy.specs.declared.filter.Action.TheVariants.{Log}
 
@@ -25,7 +25,7 @@ use Rattle.rbac_policy.specs.declared.filter.Action.TheVariants.{Log}
 pub record PolicyHas (parts : List (List ℕ)) (condition : CelChecked) : Type 0 where
   pub fs : List Wire
   pub merges : Merges parts fs
-  pub reads : IsChecked (payloads checked_condition_field fs) condition
+  pub reads : IsChecked (payloads policy_field.checked_condition fs) condition
 
 -- a fault of a policy: of its own fields, that it lacks permissions or principals, of its rules, that it has an
 -- unchecked condition, alone or beside a checked one, or of its checked condition: it does not read, has no type,
@@ -34,38 +34,38 @@ pub data PolicyFault (parts : List (List ℕ)) (e : Refusal) : Type 0 where
   policy_fields : MessageFault policy_keys parts e → PolicyFault parts e
   lacks_side : (fs : List Wire) → IsMessage policy_keys parts fs → ¬ (HasBothSides fs) → e ≡ Missing
       → PolicyFault parts e
-  both_conditions : (fs : List Wire) → Merges parts fs → payloads condition_field fs ≢ []
-      → payloads checked_condition_field fs ≢ [] → e ≡ BothConditions → PolicyFault parts e
-  unchecked : (fs : List Wire) → Merges parts fs → payloads condition_field fs ≢ []
-      → payloads checked_condition_field fs ≡ [] → e ≡ Unsupported → PolicyFault parts e
-  unreadable : (fs : List Wire) → Merges parts fs → payloads checked_condition_field fs ≢ []
-      → CheckedFault (payloads checked_condition_field fs) e → PolicyFault parts e
+  both_conditions : (fs : List Wire) → Merges parts fs → payloads policy_field.condition fs ≢ []
+      → payloads policy_field.checked_condition fs ≢ [] → e ≡ BothConditions → PolicyFault parts e
+  unchecked : (fs : List Wire) → Merges parts fs → payloads policy_field.condition fs ≢ []
+      → payloads policy_field.checked_condition fs ≡ [] → e ≡ Unsupported → PolicyFault parts e
+  unreadable : (fs : List Wire) → Merges parts fs → payloads policy_field.checked_condition fs ≢ []
+      → CheckedFault (payloads policy_field.checked_condition fs) e → PolicyFault parts e
   untyped : (condition : CelChecked) → PolicyHas parts condition → CheckFault condition e → PolicyFault parts e
   not_bool : (condition : CelChecked) (t : ValueType) → PolicyHas parts condition → IsTyped condition t
       → t ≢ bool_type → e ≡ NotBool → PolicyFault parts e
   in_permission : (fs : List Wire) → Merges parts fs
-      → SomeRuleFault Permission rule_depth (payloads permissions_field fs) e → PolicyFault parts e
+      → SomeRuleFault Permission rule_depth (payloads policy_field.permissions fs) e → PolicyFault parts e
   in_principal : (fs : List Wire) → Merges parts fs
-      → SomeRuleFault Principal rule_depth (payloads principals_field fs) e → PolicyFault parts e
+      → SomeRuleFault Principal rule_depth (payloads policy_field.principals fs) e → PolicyFault parts e
 
 -- a fault of what the fields of the filter's rules hold: an action above LOG, the audit log's options, the map
 -- of policies, or that it has too many
 pub data RulesFault (fs : List Wire) (e : Refusal) : Type 0 where
   bad_action : action_number Log < action_in fs → e ≡ OutOfRange → RulesFault fs e
-  audited : payloads audit_logging_options_field fs ≢ [] → e ≡ Unsupported → RulesFault fs e
-  in_policies : MapFault text PolicyFault (payloads policies_field fs) e → RulesFault fs e
-  too_many : (read : List (Entry text)) → Readable text (payloads policies_field fs) read
+  audited : payloads rules_field.audit_logging_options fs ≢ [] → e ≡ Unsupported → RulesFault fs e
+  in_policies : MapFault text PolicyFault (payloads rules_field.policies fs) e → RulesFault fs e
+  too_many : (read : List (Entry text)) → Readable text (payloads rules_field.policies fs) read
       → most_policies < len (map_of text read) → e ≡ TooLarge → RulesFault fs e
 
 -- a fault of the filter's message
 pub data FilterFault (bytes : List ℕ) (e : Refusal) : Type 0 where
   filter_fields : MessageFault filter_keys (bytes ∷ []) e → FilterFault bytes e
   no_rules : (top : List Wire) → IsMessage filter_keys (bytes ∷ []) top
-      → payloads rules_field top ≡ [] → e ≡ Missing → FilterFault bytes e
-  rules_fields : (top : List Wire) → Merges (bytes ∷ []) top → payloads rules_field top ≢ []
-      → MessageFault rules_keys (payloads rules_field top) e → FilterFault bytes e
-  in_rules : (top fs : List Wire) → Merges (bytes ∷ []) top → payloads rules_field top ≢ []
-      → Merges (payloads rules_field top) fs → RulesFault fs e → FilterFault bytes e
+      → payloads filter_field.rules top ≡ [] → e ≡ Missing → FilterFault bytes e
+  rules_fields : (top : List Wire) → Merges (bytes ∷ []) top → payloads filter_field.rules top ≢ []
+      → MessageFault rules_keys (payloads filter_field.rules top) e → FilterFault bytes e
+  in_rules : (top fs : List Wire) → Merges (bytes ∷ []) top → payloads filter_field.rules top ≢ []
+      → Merges (payloads filter_field.rules top) fs → RulesFault fs e → FilterFault bytes e
 
 -- the filter's message holds these policies by their names
 pub record HoldsPolicies (bytes : List ℕ) (policies : List (Entry text)) : Type 0 where
@@ -73,8 +73,8 @@ pub record HoldsPolicies (bytes : List ℕ) (policies : List (Entry text)) : Typ
   pub fs : List Wire
   pub read : List (Entry text)
   pub outer : Merges (bytes ∷ []) top
-  pub inner : Merges (payloads rules_field top) fs
-  pub readable : Readable text (payloads policies_field fs) read
+  pub inner : Merges (payloads filter_field.rules top) fs
+  pub readable : Readable text (payloads rules_field.policies fs) read
   pub named : policies ≡ entries (map_of text read)
 
 -- some of the policies have conditions of type bool that cost this together

@@ -4,63 +4,32 @@ use Rattle.std.specs.Prelude.{ℕ, List, [], ◌∷◌}
 use Rattle.proto_wire.specs.Keys.{len_key, varint_key}
 use Rattle.proto_wire.specs.declared.key.Key.{Key}
 
--- ---- the HTTP filter, `extensions.filters.http.rbac.v3.RBAC`
-
--- the number of its `rules`: what it enforces
-abbrev pub rules_field : ℕ
-rules_field = 1
-
--- the number of its `shadow_rules`, which are skipped
-abbrev pub shadow_rules_field : ℕ
-shadow_rules_field = 2
-
--- the number of its `shadow_rules_stat_prefix`, which is skipped
-abbrev pub shadow_rules_stat_prefix_field : ℕ
-shadow_rules_stat_prefix_field = 3
+-- the numbers of the fields of the HTTP filter (`extensions.filters.http.rbac.v3.RBAC`): `rules` is
+-- what it enforces; the others are skipped
+abbrev pub filter_field : record { rules : ℕ; shadow_rules : ℕ; shadow_rules_stat_prefix : ℕ }
+filter_field = record { rules = 1; shadow_rules = 2; shadow_rules_stat_prefix = 3 }
 
 -- the fields of the HTTP filter
 abbrev pub filter_keys : List Key
-filter_keys = len_key rules_field ∷ len_key shadow_rules_field
-    ∷ len_key shadow_rules_stat_prefix_field ∷ []
+filter_keys = len_key filter_field.rules ∷ len_key filter_field.shadow_rules
+    ∷ len_key filter_field.shadow_rules_stat_prefix ∷ []
 
--- ---- its rules, `config.rbac.v3.RBAC`
-
--- the number of the rules' `action`
-abbrev pub action_field : ℕ
-action_field = 1
-
--- the number of the rules' `policies`: a map from names to policies
-abbrev pub policies_field : ℕ
-policies_field = 2
-
--- the number of the rules' `audit_logging_options`
-abbrev pub audit_logging_options_field : ℕ
-audit_logging_options_field = 3
+-- the numbers of the fields of its rules (`config.rbac.v3.RBAC`): `action` is an enum, and
+-- `policies` a map from names to policies
+abbrev pub rules_field : record { action : ℕ; policies : ℕ; audit_logging_options : ℕ }
+rules_field = record { action = 1; policies = 2; audit_logging_options = 3 }
 
 -- the fields of the rules
 abbrev pub rules_keys : List Key
-rules_keys =
-    varint_key action_field ∷ len_key policies_field ∷ len_key audit_logging_options_field ∷ []
+rules_keys = varint_key rules_field.action ∷ len_key rules_field.policies
+    ∷ len_key rules_field.audit_logging_options ∷ []
 
--- ---- a policy, `config.rbac.v3.Policy`
-
--- the number of a policy's `permissions`
-abbrev pub permissions_field : ℕ
-permissions_field = 1
-
--- the number of a policy's `principals`
-abbrev pub principals_field : ℕ
-principals_field = 2
-
--- the number of a policy's `condition`, as it was parsed
-abbrev pub condition_field : ℕ
-condition_field = 3
-
--- the number of a policy's `checked_condition`, as a type checker left it
-abbrev pub checked_condition_field : ℕ
-checked_condition_field = 4
+-- the numbers of the fields of a policy (`config.rbac.v3.Policy`): `condition` is one as it was
+-- parsed, and `checked_condition` one as a type checker left it
+abbrev pub policy_field : record { permissions : ℕ; principals : ℕ; condition : ℕ; checked_condition : ℕ }
+policy_field = record { permissions = 1; principals = 2; condition = 3; checked_condition = 4 }
 
 -- the fields of a policy
 abbrev pub policy_keys : List Key
-policy_keys = len_key permissions_field ∷ len_key principals_field ∷ len_key condition_field
-    ∷ len_key checked_condition_field ∷ []
+policy_keys = len_key policy_field.permissions ∷ len_key policy_field.principals
+    ∷ len_key policy_field.condition ∷ len_key policy_field.checked_condition ∷ []

@@ -11,7 +11,7 @@ use Rattle.cel_tree.specs.Message.{IsChecked}
 use Rattle.rbac_match.specs.Rules.{AreRules, IsRule}
 use Rattle.rbac_match.specs.declared.rule.Side.TheVariants.{Permission, Principal}
 use Rattle.rbac_policy.specs.Filter.{Policy, Filter}
-use Rattle.rbac_policy.specs.Keys.{filter_keys, rules_keys, policy_keys, rules_field, action_field, policies_field, audit_logging_options_field, permissions_field, principals_field, condition_field, checked_condition_field}
+use Rattle.rbac_policy.specs.Keys.{filter_keys, rules_keys, policy_keys, filter_field, rules_field, policy_field}
 use Rattle.rbac_policy.specs.declared.filter.Action.{Action}
 use Rattle.rbac_policy.specs.declared.filter.Action.TheVariants.{Allow, Deny, Log}
 
@@ -25,7 +25,8 @@ most_policies = 256
 
 -- some permission and some principal
 abbrev pub HasBothSides : List Wire → Type 0
-HasBothSides fs = (payloads permissions_field fs ≢ []) × (payloads principals_field fs ≢ [])
+HasBothSides fs =
+    (payloads policy_field.permissions fs ≢ []) × (payloads policy_field.principals fs ≢ [])
 
 -- the payloads of a condition: there are none, or they merge to a checked expression
 abbrev pub IsCondition : List (List ℕ) → Option CelChecked → Type 0
@@ -36,17 +37,17 @@ IsCondition parts (Some condition) = (parts ≢ []) × IsChecked parts condition
 pub record IsPolicy (parts : List (List ℕ)) (policy : Policy CelChecked) : Type 0 where
   pub fs : List Wire
   pub message : IsMessage policy_keys parts fs
-  pub unchecked : payloads condition_field fs ≡ []
-  pub condition : IsCondition (payloads checked_condition_field fs) policy.condition
+  pub unchecked : payloads policy_field.condition fs ≡ []
+  pub condition : IsCondition (payloads policy_field.checked_condition fs) policy.condition
   pub sides : HasBothSides fs
-  pub permissions :
-      AreRules (IsRule Permission rule_depth) (payloads permissions_field fs) policy.permissions
-  pub principals :
-      AreRules (IsRule Principal rule_depth) (payloads principals_field fs) policy.principals
+  pub permissions : AreRules (IsRule Permission rule_depth) (payloads policy_field.permissions fs)
+      policy.permissions
+  pub principals : AreRules (IsRule Principal rule_depth) (payloads policy_field.principals fs)
+      policy.principals
 
 -- the number of the action, an enum
 abbrev pub action_in : List Wire → ℕ
-action_in fs = uint32_at action_field fs
+action_in fs = uint32_at rules_field.action fs
 
 -- the number of each action
 abbrev pub action_number : Action → ℕ
@@ -56,9 +57,9 @@ action_number Log = 2
 
 -- the fields are rules of the filter
 pub record AreFilterRules (fs : List Wire) (filter : Filter CelChecked) : Type 0 where
-  pub unaudited : payloads audit_logging_options_field fs ≡ []
+  pub unaudited : payloads rules_field.audit_logging_options fs ≡ []
   pub action : action_in fs ≡ action_number filter.action
-  pub policies : IsMap text IsPolicy (payloads policies_field fs) filter.policies
+  pub policies : IsMap text IsPolicy (payloads rules_field.policies fs) filter.policies
   pub few : len filter.policies ≤ most_policies
 
 -- the bytes are the message of the filter
@@ -66,6 +67,6 @@ pub record IsFilter (bytes : List ℕ) (filter : Filter CelChecked) : Type 0 whe
   pub top : List Wire
   pub fs : List Wire
   pub message : IsMessage filter_keys (bytes ∷ []) top
-  pub there : payloads rules_field top ≢ []
-  pub inner : IsMessage rules_keys (payloads rules_field top) fs
+  pub there : payloads filter_field.rules top ≢ []
+  pub inner : IsMessage rules_keys (payloads filter_field.rules top) fs
   pub rules : AreFilterRules fs filter

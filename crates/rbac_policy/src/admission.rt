@@ -10,7 +10,7 @@ ghost use Rattle.proto_wire.specs.Maps.{Entry, text, Readable, map_of};
 ghost use Rattle.proto_wire.specs.declared.refusal.Refusal.TheVariants.{Missing, OutOfRange, TooLarge, Unsupported};
 ghost use Rattle.rbac_policy.specs.Enforced.{Enforces, total_bound};
 ghost use Rattle.rbac_policy.specs.Filter.{Filter};
-ghost use Rattle.rbac_policy.specs.Keys.{audit_logging_options_field, policies_field, rules_field};
+ghost use Rattle.rbac_policy.specs.Keys.{rules_field, filter_field};
 ghost use Rattle.rbac_policy.specs.Message.{AreFilterRules, action_in, action_number, most_policies};
 ghost use Rattle.rbac_policy.specs.declared.filter.Action.TheVariants.{Log};
 ghost use Rattle.rbac_policy.specs.Fault.{FilterFault, HoldsPolicies, RulesFault};
@@ -68,9 +68,9 @@ fn read_filter(
 
 /// Refuses a filter without rules.
 fn require_rules(top: &[Field<'_>]) -> Result<(), Refusal>
-    ensures found { OnOk result (payloads rules_field (map field_view top.now) ≢ []) }
+    ensures found { OnOk result (payloads filter_field.rules (map field_view top.now) ≢ []) }
     ensures fault { IfErr result (λ e. (e ≡ Missing)
-        × (payloads rules_field (map field_view top.now) ≡ [])) }
+        × (payloads filter_field.rules (map field_view top.now) ≡ [])) }
 {
     if !has_payload(top, RULES) {
         return Err(Refusal::Missing);
@@ -91,7 +91,7 @@ fn read_rules(
     ensures cheap { IfOk result (λ rules. total_bound (rules_view rules) ≤ budget) }
     ensures fault { IfErr result (MemoryOr (λ e. RulesFault (map field_view fields.now) e
         ⊎ ((read : List (Entry text))
-        × Readable text (payloads policies_field (map field_view fields.now)) read
+        × Readable text (payloads rules_field.policies (map field_view fields.now)) read
         × ConditionsFault (entries (map_of text read)) limits.now budget e))) }
 {
     refuse_audit_options(fields)?;
@@ -105,10 +105,10 @@ fn read_rules(
 
 /// Refuses rules with options of an audit log.
 pub(crate) fn refuse_audit_options(fields: &[Field<'_>]) -> Result<(), Refusal>
-    ensures found { OnOk result (payloads audit_logging_options_field (map field_view fields.now)
+    ensures found { OnOk result (payloads rules_field.audit_logging_options (map field_view fields.now)
         ≡ []) }
     ensures fault { IfErr result (λ e. (e ≡ Unsupported)
-        × (payloads audit_logging_options_field (map field_view fields.now) ≢ [])) }
+        × (payloads rules_field.audit_logging_options (map field_view fields.now) ≢ [])) }
 {
     if has_payload(fields, AUDIT_LOGGING_OPTIONS) {
         return Err(Refusal::Unsupported);

@@ -13,7 +13,7 @@ ghost use Rattle.proto_wire.specs.Merge.{parts_view};
 ghost use Rattle.rbac_match.specs.Rules.{IsRule, AreRules, SomeRuleFault};
 ghost use Rattle.rbac_match.specs.View.{rules_view};
 ghost use Rattle.rbac_policy.specs.Enforced.{bound_of, bounds_of};
-ghost use Rattle.rbac_policy.specs.Keys.{checked_condition_field, condition_field};
+ghost use Rattle.rbac_policy.specs.Keys.{policy_field};
 ghost use Rattle.rbac_policy.specs.Message.{HasBothSides, rule_depth};
 ghost use Rattle.rbac_policy.specs.Fault.{PolicyFault};
 ghost use Rattle.rbac_policy.specs.Named.{named_views, policy_view, program_view};
@@ -112,12 +112,12 @@ pub(crate) fn read_policy(
 
 /// Refuses a policy that has an unchecked condition, alone or beside a checked one.
 fn refuse_unchecked(fields: &[Field<'_>]) -> Result<(), Refusal>
-    ensures found { OnOk result (payloads condition_field (map field_view fields.now) ≡ []) }
-    ensures fault { IfErr result (λ e. (payloads condition_field (map field_view fields.now) ≢ [])
+    ensures found { OnOk result (payloads policy_field.condition (map field_view fields.now) ≡ []) }
+    ensures fault { IfErr result (λ e. (payloads policy_field.condition (map field_view fields.now) ≢ [])
         × (((e ≡ BothConditions)
-        × (payloads checked_condition_field (map field_view fields.now) ≢ []))
+        × (payloads policy_field.checked_condition (map field_view fields.now) ≢ []))
         ⊎ ((e ≡ Unsupported)
-        × (payloads checked_condition_field (map field_view fields.now) ≡ [])))) }
+        × (payloads policy_field.checked_condition (map field_view fields.now) ≡ [])))) }
 {
     if !has_payload(fields, CONDITION) {
         return Ok(());
@@ -136,12 +136,12 @@ pub(crate) fn read_checked(
     left: u64,
 ) -> Result<Option<Condition>, Refusal>
     ensures found { IfOk result (λ found. HasProgram limits.now
-        (payloads checked_condition_field (map field_view fields.now))
+        (payloads policy_field.checked_condition (map field_view fields.now))
         (option_map program_view found)) }
     ensures cheap { IfOk result (λ found. bound_of (option_map program_view found) ≤ left) }
     ensures fault { IfErr result (MemoryOr (λ e.
-        (payloads checked_condition_field (map field_view fields.now) ≢ [])
-        × ConditionFault (payloads checked_condition_field (map field_view fields.now)) limits.now
+        (payloads policy_field.checked_condition (map field_view fields.now) ≢ [])
+        × ConditionFault (payloads policy_field.checked_condition (map field_view fields.now)) limits.now
         left e)) }
 {
     if !has_payload(fields, CHECKED_CONDITION) {

@@ -10,7 +10,7 @@ use Rattle.proto_wire.specs.Values.{payloads}
 use Rattle.proto_wire.specs.Merge.{parts_view}
 use Rattle.proto_wire.specs.Messages.{IsMessage, MessageFault}
 use Rattle.proto_wire.proofs.Exits.{exit_memory_or, memory_or_weaker}
-use Rattle.rbac_policy.specs.Keys.{filter_keys, rules_keys, rules_field, policies_field}
+use Rattle.rbac_policy.specs.Keys.{filter_keys, rules_keys, filter_field, rules_field}
 use Rattle.rbac_policy.specs.Admission.{Admits}
 use Rattle.rbac_policy.specs.Admitted.{rules_view}
 use Rattle.rbac_policy.specs.Enforced.{Enforces, total_bound}
@@ -38,7 +38,7 @@ returns-in_err-require_rules-clause-fault c =
     let top : List Wire = map field_view c.in_ok-top.top.items in
     let message : IsMessage filter_keys (c.args.bytes.now ∷ []) top = c.in_ok-top.ensures.found in
     let bad = c.in_err-require_rules.ensures.fault in
-    let none : payloads rules_field top ≡ [] = rw c.deref.ensures at bad.1 in
+    let none : payloads filter_field.rules top ≡ [] = rw c.deref.ensures at bad.1 in
     exit_memory_or (Fails c.args.bytes.now c.args.limits.now c.args.budget) (Fails c.args.bytes.now c.args.limits.now c.args.budget)
     c.from_residual-in_err-require_rules.result _ c.from_residual-in_err-require_rules.ensures.1
     (inr (inl (no_rules top message none bad.0))) (λ e fault. fault)
@@ -46,9 +46,9 @@ returns-in_err-require_rules-clause-fault c =
 pub returns-in_err-fields-clause-fault : goal.returns-in_err-fields-clause-fault
 returns-in_err-fields-clause-fault c =
     let top : List Wire = map field_view c.in_ok-top.top.items in
-    let there : payloads rules_field top ≢ [] = rw c.deref.ensures at c.in_ok-require_rules.ensures.found in
-    let parts : parts_view c.deref-3.result.now ≡ payloads rules_field top = ap parts_view c.deref-3.ensures ∙ (rw c.deref-2.ensures at c.in_ok-parts.ensures) in
-    exit_memory_or (MessageFault rules_keys (payloads rules_field top)) (Fails c.args.bytes.now c.args.limits.now c.args.budget)
+    let there : payloads filter_field.rules top ≢ [] = rw c.deref.ensures at c.in_ok-require_rules.ensures.found in
+    let parts : parts_view c.deref-3.result.now ≡ payloads filter_field.rules top = ap parts_view c.deref-3.ensures ∙ (rw c.deref-2.ensures at c.in_ok-parts.ensures) in
+    exit_memory_or (MessageFault rules_keys (payloads filter_field.rules top)) (Fails c.args.bytes.now c.args.limits.now c.args.budget)
     c.from_residual-in_err-fields.result _ c.from_residual-in_err-fields.ensures.1
     (rw parts at c.in_err-fields.ensures.fault)
     (λ e bad. inl (rules_fields top c.in_ok-top.ensures.found.0 there bad))
@@ -57,11 +57,11 @@ pub returns-clause-fault : goal.returns-clause-fault
 returns-clause-fault c =
     let top : List Wire = map field_view c.in_ok-top.top.items in
     let fs : List Wire = map field_view c.in_ok-fields.fields.items in
-    let there : payloads rules_field top ≢ [] = rw c.deref.ensures at c.in_ok-require_rules.ensures.found in
-    let parts : parts_view c.deref-3.result.now ≡ payloads rules_field top = ap parts_view c.deref-3.ensures ∙ (rw c.deref-2.ensures at c.in_ok-parts.ensures) in
-    let inner : IsMessage rules_keys (payloads rules_field top) fs = rw parts at c.in_ok-fields.ensures.found in
+    let there : payloads filter_field.rules top ≢ [] = rw c.deref.ensures at c.in_ok-require_rules.ensures.found in
+    let parts : parts_view c.deref-3.result.now ≡ payloads filter_field.rules top = ap parts_view c.deref-3.ensures ∙ (rw c.deref-2.ensures at c.in_ok-parts.ensures) in
+    let inner : IsMessage rules_keys (payloads filter_field.rules top) fs = rw parts at c.in_ok-fields.ensures.found in
     MatchResult-weaker c.read_rules.result c.read_rules.ensures.fault (λ _ _. tt)
-    (λ e h. memory_or_weaker (λ d. RulesFault fs d ⊎ ((read : List (Entry text)) × Readable text (payloads policies_field fs) read × ConditionsFault (entries (map_of text read)) c.args.limits.now c.args.budget d))
+    (λ e h. memory_or_weaker (λ d. RulesFault fs d ⊎ ((read : List (Entry text)) × Readable text (payloads rules_field.policies fs) read × ConditionsFault (entries (map_of text read)) c.args.limits.now c.args.budget d))
     (Fails c.args.bytes.now c.args.limits.now c.args.budget) e
     (λ d bad. elim bad [
       | inl own ↦ inl (in_rules top fs c.in_ok-top.ensures.found.0 there inner.0 own)
@@ -84,10 +84,10 @@ pub returns-clause-found : goal.returns-clause-found
 returns-clause-found c =
     let top : List Wire = map field_view c.in_ok-top.top.items in
     let fs : List Wire = map field_view c.in_ok-fields.fields.items in
-    let there : payloads rules_field top ≢ [] = rw c.deref.ensures at c.in_ok-require_rules.ensures.found in
-    let parts : parts_view c.deref-3.result.now ≡ payloads rules_field top = ap parts_view c.deref-3.ensures ∙ (rw c.deref-2.ensures at c.in_ok-parts.ensures) in
+    let there : payloads filter_field.rules top ≢ [] = rw c.deref.ensures at c.in_ok-require_rules.ensures.found in
+    let parts : parts_view c.deref-3.result.now ≡ payloads filter_field.rules top = ap parts_view c.deref-3.ensures ∙ (rw c.deref-2.ensures at c.in_ok-parts.ensures) in
     let message : IsMessage filter_keys (c.args.bytes.now ∷ []) top = c.in_ok-top.ensures.found in
-    let inner : IsMessage rules_keys (payloads rules_field top) fs = rw parts at c.in_ok-fields.ensures.found in
+    let inner : IsMessage rules_keys (payloads filter_field.rules top) fs = rw parts at c.in_ok-fields.ensures.found in
     both_ok (λ rules. (filter : Filter CelChecked) × AreFilterRules fs filter × Enforces c.args.limits.now filter (rules_view rules))
     (λ rules. total_bound (rules_view rules) ≤ c.args.budget)
     (λ rules. (filter : Filter CelChecked) × Admits c.args.bytes.now c.args.limits.now c.args.budget filter (rules_view rules))

@@ -13,7 +13,7 @@ use Rattle.rbac_policy.specs.Admitted.{rules_view}
 use Rattle.rbac_policy.specs.Condition.{Program}
 use Rattle.rbac_policy.specs.Enforced.{bounds_of, total_bound}
 use Rattle.rbac_policy.specs.Filter.{Filter, Policy}
-use Rattle.rbac_policy.specs.Keys.{policies_field}
+use Rattle.rbac_policy.specs.Keys.{rules_field}
 use Rattle.rbac_policy.specs.Message.{IsPolicy, most_policies}
 use Rattle.rbac_policy.specs.Fault.{PolicyFault, RulesFault, in_policies, too_many}
 use Rattle.rbac_policy.specs.Named.{named_views}
@@ -29,23 +29,23 @@ use Rattle.rbac_policy.proofs.admission.read_rules.Goals as goal
 
 -- what is wrong with the rules
 abbrev Fails : List Wire → LimitsValue → ℕ → Refusal → Type 0
-Fails fs limits budget e = RulesFault fs e ⊎ ((read : List (Entry text)) × Readable text (payloads policies_field fs) read
+Fails fs limits budget e = RulesFault fs e ⊎ ((read : List (Entry text)) × Readable text (payloads rules_field.policies fs) read
     × ConditionsFault (entries (map_of text read)) limits budget e)
 
 pub returns-in_err-named-clause-fault : goal.returns-in_err-named-clause-fault
 returns-in_err-named-clause-fault c =
     let fs : List Wire = map field_view c.args.fields.now in
-    let parts : parts_view c.deref.result.now ≡ payloads policies_field fs = ap parts_view c.deref.ensures ∙ c.in_ok-entries.ensures in
-    exit_memory_or (SomeEntryFault text (payloads policies_field fs)) (Fails fs c.args.limits.now c.args.budget)
+    let parts : parts_view c.deref.result.now ≡ payloads rules_field.policies fs = ap parts_view c.deref.ensures ∙ c.in_ok-entries.ensures in
+    exit_memory_or (SomeEntryFault text (payloads rules_field.policies fs)) (Fails fs c.args.limits.now c.args.budget)
     c.from_residual-in_err-named.result _ c.from_residual-in_err-named.ensures.1 (rw parts at c.in_err-named.ensures.fault)
     (λ e bad. inl (in_policies (in_entry bad)))
 
 pub returns-in_err-refuse_many-clause-fault : goal.returns-in_err-refuse_many-clause-fault
 returns-in_err-refuse_many-clause-fault c =
     let F : Refusal → Type 0 = Fails (map field_view c.args.fields.now) c.args.limits.now c.args.budget in
-    let parts : parts_view c.deref.result.now ≡ payloads policies_field (map field_view c.args.fields.now) = ap parts_view c.deref.ensures ∙ c.in_ok-entries.ensures in
+    let parts : parts_view c.deref.result.now ≡ payloads rules_field.policies (map field_view c.args.fields.now) = ap parts_view c.deref.ensures ∙ c.in_ok-entries.ensures in
     let es : List (Entry text) = c.in_ok-named.ensures.found.0 in
-    let read : AreEntries text (payloads policies_field (map field_view c.args.fields.now)) es = rw parts at c.in_ok-named.ensures.found.1 in
+    let read : AreEntries text (payloads rules_field.policies (map field_view c.args.fields.now)) es = rw parts at c.in_ok-named.ensures.found.1 in
     let size : len (map_of text es) ≡ length c.in_ok-named.named.items = len-entries (map_of text es) ∙ ap length (sym c.in_ok-named.ensures.found.2) ∙ length-map c.in_ok-named.named.items _ in
     let bad = c.in_err-refuse_many.ensures.fault in
     let above : most_policies < c.len.result = bad.1 in
@@ -57,10 +57,10 @@ returns-in_err-refuse_many-clause-fault c =
 pub returns-in_err-policies-clause-fault : goal.returns-in_err-policies-clause-fault
 returns-in_err-policies-clause-fault c =
     let fs : List Wire = map field_view c.args.fields.now in
-    let parts : parts_view c.deref.result.now ≡ payloads policies_field fs = ap parts_view c.deref.ensures ∙ c.in_ok-entries.ensures in
+    let parts : parts_view c.deref.result.now ≡ payloads rules_field.policies fs = ap parts_view c.deref.ensures ∙ c.in_ok-entries.ensures in
     let es : List (Entry text) = c.in_ok-named.ensures.found.0 in
-    let read : AreEntries text (payloads policies_field fs) es = rw parts at c.in_ok-named.ensures.found.1 in
-    let readable : Readable text (payloads policies_field fs) es = entries_readable text _ es read in
+    let read : AreEntries text (payloads rules_field.policies fs) es = rw parts at c.in_ok-named.ensures.found.1 in
+    let readable : Readable text (payloads rules_field.policies fs) es = entries_readable text _ es read in
     exit_memory_or (λ e. SomeValueFault text PolicyFault (entries (map_of text es)) e ⊎ ConditionsFault (entries (map_of text es)) c.args.limits.now c.args.budget e)
     (Fails fs c.args.limits.now c.args.budget)
     c.from_residual-in_err-policies.result _ c.from_residual-in_err-policies.ensures.1
@@ -82,7 +82,7 @@ new-requires-clause-bounded c = c.in_ok-policies.ensures.cost
 
 pub returns-clause-found : goal.returns-clause-found
 returns-clause-found c =
-    let parts : parts_view c.deref.result.now ≡ payloads policies_field (map field_view c.args.fields.now) = ap parts_view c.deref.ensures ∙ c.in_ok-entries.ensures in
+    let parts : parts_view c.deref.result.now ≡ payloads rules_field.policies (map field_view c.args.fields.now) = ap parts_view c.deref.ensures ∙ c.in_ok-entries.ensures in
     let es : List (Entry text) = c.in_ok-named.ensures.found.0 in
     let vs : List (List ℕ × Policy Program) = named_views c.in_ok-policies.policies.items in
     let held : Held text (IsEnforced c.args.limits.now) (entries (map_of text es)) vs = rw (c.deref-2.ensures.value, c.in_ok-named.ensures.found.2) at c.in_ok-policies.ensures.found in

@@ -9,7 +9,7 @@ use Rattle.proto_wire.proofs.Exits.{exit_memory_or}
 use Rattle.rbac_match.specs.Rules.{SomeRuleFault}
 use Rattle.rbac_match.specs.View.{rules_view}
 use Rattle.rbac_match.specs.declared.rule.Side.TheVariants.{Permission, Principal}
-use Rattle.rbac_policy.specs.Keys.{policy_keys, permissions_field, principals_field, checked_condition_field}
+use Rattle.rbac_policy.specs.Keys.{policy_keys, policy_field}
 use Rattle.rbac_policy.specs.Message.{rule_depth}
 use Rattle.rbac_policy.specs.Fault.{PolicyFault, policy_fields, lacks_side, both_conditions, unchecked, in_permission, in_principal}
 use Rattle.rbac_policy.specs.Named.{program_view}
@@ -50,7 +50,7 @@ returns-in_err-require_sides-clause-fault c =
 pub returns-in_err-permissions-clause-fault : goal.returns-in_err-permissions-clause-fault
 returns-in_err-permissions-clause-fault c =
     let fs : List Wire = map field_view c.in_ok-fields.fields.items in
-    exit_memory_or (SomeRuleFault Permission rule_depth (payloads permissions_field fs)) (Fails c.args.name.now (parts_view c.args.parts.now) c.args.limits.now c.args.left)
+    exit_memory_or (SomeRuleFault Permission rule_depth (payloads policy_field.permissions fs)) (Fails c.args.name.now (parts_view c.args.parts.now) c.args.limits.now c.args.left)
     c.from_residual-in_err-permissions.result _ c.from_residual-in_err-permissions.ensures.1
     (rw c.deref-3.ensures at c.in_err-permissions.ensures.fault)
     (λ e bad. inl (in_permission fs c.in_ok-fields.ensures.found.0 bad))
@@ -58,7 +58,7 @@ returns-in_err-permissions-clause-fault c =
 pub returns-in_err-principals-clause-fault : goal.returns-in_err-principals-clause-fault
 returns-in_err-principals-clause-fault c =
     let fs : List Wire = map field_view c.in_ok-fields.fields.items in
-    exit_memory_or (SomeRuleFault Principal rule_depth (payloads principals_field fs)) (Fails c.args.name.now (parts_view c.args.parts.now) c.args.limits.now c.args.left)
+    exit_memory_or (SomeRuleFault Principal rule_depth (payloads policy_field.principals fs)) (Fails c.args.name.now (parts_view c.args.parts.now) c.args.limits.now c.args.left)
     c.from_residual-in_err-principals.result _ c.from_residual-in_err-principals.ensures.1
     (rw c.deref-4.ensures at c.in_err-principals.ensures.fault)
     (λ e bad. inl (in_principal fs c.in_ok-fields.ensures.found.0 bad))
@@ -66,7 +66,7 @@ returns-in_err-principals-clause-fault c =
 pub returns-in_err-condition-clause-fault : goal.returns-in_err-condition-clause-fault
 returns-in_err-condition-clause-fault c =
     let fs : List Wire = map field_view c.in_ok-fields.fields.items in
-    let given : List (List ℕ) = payloads checked_condition_field fs in
+    let given : List (List ℕ) = payloads policy_field.checked_condition fs in
     exit_memory_or (λ e. (given ≢ []) × ConditionFault given c.args.limits.now c.args.left e) (Fails c.args.name.now (parts_view c.args.parts.now) c.args.limits.now c.args.left)
     c.from_residual-in_err-condition.result _ c.from_residual-in_err-condition.ensures.1
     (rw c.deref-5.ensures at c.in_err-condition.ensures.fault)
@@ -75,7 +75,7 @@ returns-in_err-condition-clause-fault c =
 pub returns-clause-found : goal.returns-clause-found
 returns-clause-found c =
     let fs : List Wire = map field_view c.in_ok-fields.fields.items in
-    let has : HasProgram c.args.limits.now (payloads checked_condition_field fs) (option_map program_view c.in_ok-condition.condition) =
+    let has : HasProgram c.args.limits.now (payloads policy_field.checked_condition fs) (option_map program_view c.in_ok-condition.condition) =
     rw c.deref-5.ensures at c.in_ok-condition.ensures.found in (
       record {
         permissions = rules_view c.in_ok-permissions.permissions.items;
