@@ -6,7 +6,7 @@ use Rattle.std.specs.Cmp.Lexicographic.{nat_list_cmp_total}
 use Rattle.std.specs.FinMap.{FinMap, IsAntisymmetric, nat_cmp-IsAntisymmetric, slice_cmp-IsAntisymmetric, find, is_sorted, get, from_entries, get-from_entries, same_map}
 use Rattle.std.specs.FinMap.Entries.{below_all}
 use Rattle.attributes.specs.Headers.{name_cmp}
-use Rattle.proto_wire.proofs.MapOrder.{both_first, both_second, tie, found_later}
+use Rattle.proto_wire.proofs.MapOrder.{both_second, tie, found_later}
 
 -- a test that is true
 pub t_of : (b : Bool) → IsTrue b → T b

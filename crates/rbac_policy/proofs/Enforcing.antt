@@ -1,5 +1,5 @@
 -- What is enforced of policies, in lists and in maps, and what their conditions cost together.
-use Rattle.std.proofs.Common.{arith, ◌≡◌, ◌≢◌, ◌≤◌, ◌+◌, ◌⊎◌, ◌↔◌, inl, inr, ℕ, List, [], ◌∷◌, ◌++◌, Option, Some, None, MatchOption, IsSomeAnd, T, refl, sym, ap, subst, ◌∙◌, zero-add}
+use Rattle.std.proofs.Common.{arith, ◌≡◌, ◌≤◌, ◌+◌, ◌↔◌, inl, inr, ℕ, List, [], ◌∷◌, ◌++◌, Option, Some, None, MatchOption, IsSomeAnd, T, refl, sym, ap, subst, ◌∙◌, zero-add}
 use Rattle.std.specs.Cmp.Lexicographic.{nat_list_cmp_total}
 use Rattle.std.specs.FinMap.{FinMap, entries, entries_sorted, find, from_entries, get, get-entries, get-from_entries, is_sorted, same_map}
 use Rattle.attributes.specs.Headers.{name_cmp}
@@ -7,18 +7,15 @@ use Rattle.attributes.specs.Limits.{LimitsValue}
 use Rattle.cel_tree.specs.Checked.{CelChecked}
 use Rattle.cel_tree.specs.Message.{IsChecked}
 use Rattle.cel_tree.proofs.CheckedLaws.{checked_unique}
-use Rattle.proto_wire.specs.Fields.{Wire}
 use Rattle.proto_wire.specs.Maps.{Entry, text, AreValues}
-use Rattle.proto_wire.specs.Merge.{Merges}
 use Rattle.proto_wire.specs.Values.{payloads}
 use Rattle.proto_wire.specs.steps.Maps.{Held}
 use Rattle.proto_wire.proofs.MapOrder.{entries_from_entries}
 use Rattle.proto_wire.proofs.Unique.{merges_unique}
-use Rattle.rbac_match.specs.Formula.{Formulas}
 use Rattle.rbac_policy.specs.Condition.{IsProgramOf, Program}
-use Rattle.rbac_policy.specs.Costs.{Costs, FilterCosts, PoliciesCost, PolicyCosts}
+use Rattle.rbac_policy.specs.Costs.{Costs, FilterCosts, PoliciesCost}
 use Rattle.rbac_policy.specs.Enforced.{Enforces, EnforcesPolicy, bound_of, bounds_of, total_bound}
-use Rattle.rbac_policy.specs.Fault.{PolicyHas, SomeCost}
+use Rattle.rbac_policy.specs.Fault.{SomeCost}
 use Rattle.rbac_policy.specs.Filter.{Filter, Policy}
 use Rattle.rbac_policy.specs.Keys.{policy_field}
 use Rattle.rbac_policy.specs.Message.{IsCondition, IsPolicy}

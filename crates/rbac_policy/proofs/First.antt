@@ -1,12 +1,11 @@
 -- The first policy that matches, among policies in ascending order of names.
-use Rattle.std.proofs.Common.{◌≡◌, ℕ, ◌+◌, ◌↔◌, Bool, true, false, ◌&&◌, cond, T, IsTrue, List, [], ◌∷◌, Option, Some, None, MatchOption, IsSomeAnd, is_some, map, count_by, refl, sym, ap, subst, arith, ◌∙◌, zero-add}
+use Rattle.std.proofs.Common.{◌≡◌, ℕ, ◌+◌, ◌↔◌, Bool, true, false, cond, T, IsTrue, List, [], ◌∷◌, Option, Some, None, MatchOption, IsSomeAnd, is_some, map, count_by, refl, sym, ap, subst, arith, ◌∙◌, zero-add}
 use Rattle.std.proofs.lemmas.List.Sums.{sum_by-cons}
-use Rattle.std.proofs.Math.Path.{fun_ext}
 use Rattle.std.specs.List.{position_from}
-use Rattle.std.specs.Ordering.{eq_by_cmp, is_eq, is_lt}
+use Rattle.std.specs.Ordering.{eq_by_cmp, is_lt}
 use Rattle.std.specs.Cmp.{tied_itself}
 use Rattle.std.specs.Cmp.Lexicographic.{nat_list_cmp_total}
-use Rattle.std.specs.FinMap.{IsAntisymmetric, nat_cmp-IsAntisymmetric, slice_cmp-IsAntisymmetric, find, is_sorted, get, keys, from_entries, get-from_entries}
+use Rattle.std.specs.FinMap.{find, is_sorted, get, keys, from_entries, get-from_entries}
 use Rattle.attributes.specs.Request.{RequestValue}
 use Rattle.rbac_policy.specs.Filter.{Policy, Filter}
 use Rattle.attributes.specs.Headers.{name_cmp}

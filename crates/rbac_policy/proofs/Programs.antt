@@ -1,6 +1,6 @@
 -- What is enforced of a condition: one program at most, whose run ends with what the condition means on
 -- every request, and within its bound on those within the limits.
-use Rattle.std.proofs.Common.{arith, ◌≡◌, ◌≤◌, ◌<◌, ◌+◌, ℕ, Bool, List, [], ◌∷◌, length, get_or, Option, Some, None, refl, sym, ap, ap₂, ◌∙◌}
+use Rattle.std.proofs.Common.{arith, ◌≡◌, ◌≤◌, ◌+◌, ℕ, Bool, List, [], ◌∷◌, length, Option, Some, None, refl, sym, ap, ap₂, ◌∙◌}
 use Rattle.std.specs.Prelude.{max}
 use Rattle.std.specs.List.{AllByRecursion}
 use Rattle.std.specs.FinMap.{entries}
@@ -14,7 +14,6 @@ use Rattle.cel_value.specs.Values.{CelAnswer}
 use Rattle.cel_tree.specs.Checked.{CelChecked}
 use Rattle.cel_tree.specs.GoodConstants.{HasGoodConstants}
 use Rattle.cel_tree.specs.Message.{IsChecked}
-use Rattle.cel_types.specs.Elaborated.{TypedTree}
 use Rattle.cel_types.specs.Meaning.{eval}
 use Rattle.cel_types.specs.Typing.{maps_of}
 use Rattle.cel_types.proofs.OneElaboration.{one_elaboration}

@@ -1,7 +1,7 @@
 -- One filter of Envoy (extensions.filters.http.rbac.v3.RBAC) that allows requests by one policy `p` of any
 -- permission and any principal: its bytes as an encoder writes them, what they say, and its answer,
 -- so that a wrong rule in the specs does not check.
-use Rattle.std.proofs.Common.{◌≡◌, ℕ, ◌+◌, Bool, true, false, cond, IsTrue, List, [], ◌∷◌, ◌++◌, Some, None, IsSomeAnd, codes, length, map, refl, ap, arith, ◌∙◌}
+use Rattle.std.proofs.Common.{◌≡◌, ℕ, Bool, true, false, cond, IsTrue, List, [], ◌∷◌, ◌++◌, Some, None, IsSomeAnd, codes, length, map, refl, ap, arith, ◌∙◌}
 use Rattle.std.specs.Str.{IsUtf8}
 use Rattle.std.specs.Ordering.{is_eq, is_lt}
 use Rattle.std.specs.declared.cmp.Ordering.TheVariants.{Less, Equal, Greater}

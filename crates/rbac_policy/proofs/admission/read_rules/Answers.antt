@@ -3,7 +3,6 @@ use Rattle.std.proofs.lemmas.List.{length-map}
 use Rattle.std.specs.FinMap.{FinMap, entries, entries_sorted, from_entries, is_sorted, len, len-entries}
 use Rattle.attributes.specs.Headers.{name_cmp}
 use Rattle.attributes.specs.Limits.{LimitsValue}
-use Rattle.cel_tree.specs.Checked.{CelChecked}
 use Rattle.proto_wire.specs.Fields.{Wire, field_view}
 use Rattle.proto_wire.specs.Values.{payloads}
 use Rattle.proto_wire.specs.Merge.{parts_view}
@@ -12,7 +11,7 @@ use Rattle.proto_wire.proofs.Exits.{exit_memory_or}
 use Rattle.rbac_policy.specs.Admitted.{rules_view}
 use Rattle.rbac_policy.specs.Condition.{Program}
 use Rattle.rbac_policy.specs.Enforced.{bounds_of, total_bound}
-use Rattle.rbac_policy.specs.Filter.{Filter, Policy}
+use Rattle.rbac_policy.specs.Filter.{Policy}
 use Rattle.rbac_policy.specs.Keys.{rules_field}
 use Rattle.rbac_policy.specs.Message.{IsPolicy, most_policies}
 use Rattle.rbac_policy.specs.Fault.{PolicyFault, RulesFault, in_policies, too_many}

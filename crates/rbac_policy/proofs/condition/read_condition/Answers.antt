@@ -2,7 +2,6 @@ use Rattle.proto_wire.specs.Merge.{parts_view}
 use Rattle.cel_tree.specs.Message.{CheckedFault}
 use Rattle.cel_tree.specs.View.{checked_view}
 use Rattle.proto_wire.proofs.Exits.{exit_memory_or, memory_or_weaker}
-use Rattle.std.specs.Prelude.{MatchResult}
 use Rattle.std.proofs.lemmas.Result.{MatchResult-weaker}
 use Rattle.rbac_policy.specs.steps.Conditions.{ConditionFault, ExpressionFault, expression, unreadable}
 use Rattle.rbac_policy.proofs.condition.read_condition.Goals as goal

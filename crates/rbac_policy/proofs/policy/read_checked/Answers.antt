@@ -1,6 +1,5 @@
-use Rattle.std.proofs.Common.{◌≡◌, ◌≢◌, ℕ, [], Some, refl, List, map, sym, ap, ◌∙◌}
-use Rattle.cel_tree.specs.Message.{IsChecked}
-use Rattle.proto_wire.specs.Fields.{Wire, field_view}
+use Rattle.std.proofs.Common.{◌≡◌, ◌≢◌, ℕ, [], Some, List, map, ap, ◌∙◌}
+use Rattle.proto_wire.specs.Fields.{field_view}
 use Rattle.proto_wire.specs.Values.{payloads}
 use Rattle.proto_wire.specs.Merge.{parts_view}
 use Rattle.proto_wire.proofs.Exits.{exit_memory_or}
