@@ -1,6 +1,6 @@
 -- Frames as the gRPC over HTTP/2 document gives them ("Length-Prefixed-Message"), and discovery messages as the Protocol
 -- Buffers encoding guide spells them, so that a wrong rule in the specs does not check.
-use Rattle.std.proofs.Common.{◌≡◌, ℕ, ◌+◌, ◌*◌, ◌<◌, ◌≤◌, List, [], ◌∷◌, ◌++◌, None, codes, length, refl, arith, lit<, lit≤}
+use Rattle.std.proofs.Common.{ℕ, ◌+◌, ◌*◌, ◌<◌, ◌≤◌, List, [], ◌∷◌, ◌++◌, None, codes, length, refl, arith, lit<, lit≤}
 use Rattle.std.specs.Prelude.{IsUtf8}
 use Rattle.proto_wire.specs.Fields.{Wire, len}
 use Rattle.proto_wire.specs.Shortest.{ShortestVarint, ShortestField, Shortest, field_of}

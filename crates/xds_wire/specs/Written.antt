@@ -1,6 +1,6 @@
 -- What writers write of the discovery messages: Protocol Buffers encoding guide. Fields stand in ascending
 -- order of number, each number in its shortest spelling, and defaults are left out.
-use Rattle.std.specs.Prelude.{◌≡◌, ℕ, ℤ, ◌==◌, Option, Some, None, List, [], ◌∷◌, map, if◌then◌else◌, IsUtf8, IfSome, FitsSigned}
+use Rattle.std.specs.Prelude.{◌≡◌, ℕ, ℤ, ◌==◌, Option, Some, None, List, [], ◌∷◌, ◌++◌, map, if◌then◌else◌, IsUtf8, IfSome, FitsSigned}
 use Rattle.std.specs.Int.{w32, w64, cast_unsigned}
 use Rattle.std.specs.List.{AllByRecursion, flat_map}
 use Rattle.proto_wire.specs.Fields.{Wire, varint, len}
@@ -79,6 +79,10 @@ pub record ExtensionWritten (m : ExtensionMessage) (bytes : List ℕ) : Type 0 w
   pub typed_config : List Wire
   pub config_fields : AreOptional AnyWritten extension_typed_config_field m.typed_config typed_config
   pub spells : SpellsGroups (string_fields extension_name_field m.name ∷ typed_config ∷ []) bytes
+
+-- a message stands behind what was there
+abbrev pub AddsMessage : (List ℕ → Type 0) → List ℕ → List ℕ → Type 0
+AddsMessage Written before after = (bytes : List ℕ) × Written bytes × (after ≡ before ++ bytes)
 
 -- ---- which messages may be written so that the same is read: strings are UTF-8, and a code is an int32
 

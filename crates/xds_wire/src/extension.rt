@@ -5,8 +5,7 @@ ghost use Rattle.proto_wire.specs.Refusal.{MemoryOr};
 ghost use Rattle.xds_wire.specs.Discovery.{IsExtension, ExtensionFault};
 ghost use Rattle.proto_wire.specs.steps.Writing.{Keeps};
 ghost use Rattle.xds_wire.specs.View.{extension_view};
-ghost use Rattle.xds_wire.specs.Written.{ExtensionWritten};
-ghost use Rattle.xds_wire.specs.steps.Writing.{AddsMessage};
+ghost use Rattle.xds_wire.specs.Written.{ExtensionWritten, AddsMessage};
 
 use crate::any::{Any, merged_any, put_any};
 use crate::writing::{put_back, put_text, take_writer};

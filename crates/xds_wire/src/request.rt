@@ -5,8 +5,7 @@ ghost use Rattle.proto_wire.specs.Refusal.{MemoryOr};
 ghost use Rattle.xds_wire.specs.Discovery.{IsRequest, RequestFault};
 ghost use Rattle.proto_wire.specs.steps.Writing.{Keeps};
 ghost use Rattle.xds_wire.specs.View.{request_view};
-ghost use Rattle.xds_wire.specs.Written.{RequestWritten};
-ghost use Rattle.xds_wire.specs.steps.Writing.{AddsMessage};
+ghost use Rattle.xds_wire.specs.Written.{RequestWritten, AddsMessage};
 
 use crate::node::{Node, merged_node, put_node};
 use crate::status::{Status, merged_status, put_status};

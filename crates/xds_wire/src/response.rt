@@ -5,8 +5,7 @@ ghost use Rattle.proto_wire.specs.Refusal.{MemoryOr};
 ghost use Rattle.xds_wire.specs.Discovery.{IsResponse, ResponseFault};
 ghost use Rattle.proto_wire.specs.steps.Writing.{Keeps};
 ghost use Rattle.xds_wire.specs.View.{response_view};
-ghost use Rattle.xds_wire.specs.Written.{ResponseWritten};
-ghost use Rattle.xds_wire.specs.steps.Writing.{AddsMessage};
+ghost use Rattle.xds_wire.specs.Written.{ResponseWritten, AddsMessage};
 
 use crate::any::{Any, put_each_any, repeated_any};
 use crate::writing::{put_back, put_text, take_writer};

@@ -30,10 +30,12 @@ pub data NotLed (p : ℕ) (w : Way) (old : Known) : Type 0 where
   no_join : p < w.target → (due : Shape) → local_of old w.target ≡ Some due
       → IsShapeJoin due w.shape None → NotLed p w old
 
+-- the ways are noted one after the other
 abbrev pub LedAll : ℕ → List Way → Known → Known → Type 0
 LedAll p [] old new = new ≡ old
 LedAll p (w ∷ ws) old new = (mid : Known) × Led p w old mid × LedAll p ws mid new
 
+-- one of the ways can't be noted, once those before it are
 abbrev pub NotLedAll : ℕ → List Way → Known → Type 0
 NotLedAll p [] old = ⊥
 NotLedAll p (w ∷ ws) old = NotLed p w old ⊎ ((mid : Known) × Led p w old mid × NotLedAll p ws mid)
@@ -48,6 +50,7 @@ pub record Passed (code : List Instruction) (p : ℕ) (old new : Known) : Type 0
   pub ways_on : ways instr p shape ≡ Some on
   pub led : LedAll p on old new
 
+-- the instruction at a position has no shape, lacks what it needs, or has a way that can't be noted
 pub data NotPassed (code : List Instruction) (p : ℕ) (old : Known) : Type 0 where
   unknown : local_of old p ≡ None → NotPassed code p old
   lacks : (shape : Shape) (i : Instruction) → local_of old p ≡ Some shape

@@ -11,6 +11,7 @@ use Rattle.code_verifier.specs.declared.table.Table.{Table}
 use Rattle.code_verifier.specs.steps.SlotView.{slot_view, locals_view}
 use Rattle.code_verifier.specs.steps.Stacks.{Extends, stack_at}
 
+-- the shape that the verifier's stands for, where it has these stacks
 abbrev pub shape_view : List Entry → ShapeOfCode → Shape
 shape_view stacks s = record {
   slots = stack_at stacks s.slots;
@@ -18,6 +19,7 @@ shape_view stacks s = record {
   loops = stack_at stacks s.loops;
 }
 
+-- the way that stands for a shape that is due at a position
 abbrev pub way_view : List Entry → Due → Way
 way_view stacks d = record { target = d.target; shape = shape_view stacks d.shape }
 
@@ -26,6 +28,7 @@ pub record Stands (stacks : List Entry) (s : ShapeOfCode) : Type 0 where
   pub slots : s.slots < length stacks
   pub loops : s.loops < length stacks
 
+-- the stacks of each way's shape are there
 abbrev pub WaysStand : List Entry → List Due → Type 0
 WaysStand stacks ways = AllByRecursion (λ (d : Due). Stands stacks d.shape) ways
 
@@ -50,9 +53,11 @@ AreTaken stacks i n (Some taken) =
 abbrev pub Known : Type 0
 Known = List (Option Shape)
 
+-- the shapes that those of the verifier stand for
 abbrev pub known_view : List Entry → List (Option ShapeOfCode) → Known
 known_view stacks shapes = map (option_map (shape_view stacks)) shapes
 
+-- the shapes of its table
 abbrev pub table_view : Table → Known
 table_view t = known_view t.stacks t.shapes.items
 
@@ -60,5 +65,6 @@ table_view t = known_view t.stacks t.shapes.items
 abbrev pub ShapesStand : List Entry → List (Option ShapeOfCode) → Type 0
 ShapesStand stacks shapes = (p : ℕ) (s : ShapeOfCode) → local_of shapes p ≡ Some s → Stands stacks s
 
+-- the stacks of the table's shapes are there
 abbrev pub TableStands : Table → Type 0
 TableStands t = ShapesStand t.stacks t.shapes.items

@@ -6,6 +6,7 @@ use Rattle.stack_machine.specs.Slots.{Slot, failing, of}
 use Rattle.code_verifier.specs.declared.slot.Slot.{Slot as SlotOfCode}
 use Rattle.code_verifier.specs.declared.slot.Slot.TheVariants as slots
 
+-- the slot that the verifier's stands for
 abbrev pub slot_view : SlotOfCode → Slot
 slot_view slots.Failing = failing
 slot_view (slots.Of t) = of (type_view t)
@@ -20,5 +21,6 @@ slot_eq _ _ = false
 abbrev pub places_view : List (Option SlotOfCode) → List (Option Slot)
 places_view = map (option_map slot_view)
 
+-- what is kept of a local, where its number is known
 abbrev pub locals_view : List (Option SlotOfCode) → ℕ → Option Slot
 locals_view places = local_of (places_view places)

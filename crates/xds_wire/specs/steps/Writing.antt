@@ -6,7 +6,3 @@ use Rattle.proto_wire.specs.Shortest.{Shortest}
 -- the fields stand behind what was there
 abbrev pub Adds : List ℕ → List Wire → List ℕ → Type 0
 Adds before fs after = (bytes : List ℕ) × Shortest fs bytes × (after ≡ before ++ bytes)
-
--- a message stands behind what was there
-abbrev pub AddsMessage : (List ℕ → Type 0) → List ℕ → List ℕ → Type 0
-AddsMessage Written before after = (bytes : List ℕ) × Written bytes × (after ≡ before ++ bytes)
