@@ -44,7 +44,7 @@ members Principal = let p = principal_field in
 abbrev pub rule_keys : Side → List Key
 rule_keys side = keys_of (members side)
 
--- ---- what they hold
+-- ---- sets of rules, and ranges of integers
 
 -- the number of the field of a Set (`config.rbac.v3.Permission.Set`); a Principal calls it `ids`
 abbrev pub set_field : record { rules : ℕ }

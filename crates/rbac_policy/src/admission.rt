@@ -10,7 +10,7 @@ ghost use Rattle.proto_wire.specs.Maps.{Entry, text, Readable, map_of};
 ghost use Rattle.proto_wire.specs.declared.refusal.Refusal.TheVariants.{Missing, OutOfRange, TooLarge, Unsupported};
 ghost use Rattle.rbac_policy.specs.Enforced.{Enforces, total_bound};
 ghost use Rattle.rbac_policy.specs.Filter.{Filter};
-ghost use Rattle.rbac_policy.specs.Keys.{rules_field, filter_field};
+ghost use Rattle.rbac_policy.specs.Keys.{filter_field, rules_field};
 ghost use Rattle.rbac_policy.specs.Message.{AreFilterRules, action_in, action_number, most_policies};
 ghost use Rattle.rbac_policy.specs.declared.filter.Action.TheVariants.{Log};
 ghost use Rattle.rbac_policy.specs.Fault.{FilterFault, HoldsPolicies, RulesFault};
