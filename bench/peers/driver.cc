@@ -21,6 +21,7 @@
 
 extern "C" {
 uint64_t engine_admit(const char* filter, size_t length, uint64_t rounds);
+uint64_t engine_admit_together(const char* filter, size_t length, uint64_t count, uint64_t rounds);
 uint64_t engine_head(const char* head, size_t length, uint64_t rounds);
 uint64_t engine_httparse(const char* head, size_t length, uint64_t rounds);
 uint64_t engine_decide(const char* filter, size_t filter_length, const char* head, size_t head_length, uint64_t copies,
@@ -160,7 +161,8 @@ static void AddStream(const std::string& size, uint64_t resources) {
   });
 }
 
-// The large stream fed to a client, beside the admissions of its eight filters alone.
+// The large stream fed to a client, beside the admissions of its eight filters alone: each kept until the last is there, as the
+// client does, and each let go before the next.
 static void AddFeed() {
   const std::string& stream = Input("responses_large.bin");
   const std::string& filter = Input("path_256.bin");
@@ -171,7 +173,11 @@ static void AddFeed() {
   };
   add("engine_feed_in_pieces", kPiece);
   add("engine_feed_at_once", stream.size());
-  Add("engine_admissions", [&](uint64_t calls) {
+  Add("engine_admissions_together", [&](uint64_t calls) {
+    uint64_t sum = engine_admit_together(filter.data(), filter.size(), 8, calls);
+    Expect(sum == 8 * 256 * calls, "the admissions that are kept");
+  });
+  Add("engine_admissions_in_turn", [&](uint64_t calls) {
     Expect(engine_admit(filter.data(), filter.size(), 8 * calls) == 8 * 256 * calls, "the admissions");
   });
 }
