@@ -1,8 +1,9 @@
 // driver INPUTS ROUNDS MILLISECONDS [WORD..]: runs the engine and its peers in turn within each round, and prints a line for
-// each subject: its name, the least and the median nanoseconds of a call over all rounds. Words choose the subjects whose
-// names have one of them. Time is the thread's own on a processor, and the least counts, since other work on the machine can
-// only add to it.
+// each subject: its name, the least and the median nanoseconds of a call over all rounds, and how many pages the system gave
+// to a call, on average. Words choose the subjects whose names have one of them. Time is the thread's own on a processor, and
+// the least counts, since other work on the machine can only add to it.
 // driver INPUTS only NAME CALLS: runs one subject so often, for a profile.
+#include <sys/resource.h>
 #include <time.h>
 #include <unistd.h>
 
@@ -41,6 +42,7 @@ struct Subject {
   uint64_t count = 1;
   double fixed = 0;
   std::vector<double> nanoseconds = {};
+  long faults = 0;
 };
 
 static std::string folder;
@@ -188,6 +190,12 @@ static double Now() {
   return time.tv_sec * 1e9 + time.tv_nsec;
 }
 
+static long Faults() {
+  rusage usage;
+  getrusage(RUSAGE_THREAD, &usage);
+  return usage.ru_minflt;
+}
+
 static double Timed(const Subject& subject, uint64_t count) {
   double start = Now();
   subject.calls(count);
@@ -206,6 +214,13 @@ static void Tune(Subject& subject, double milliseconds) {
     }
   }
   subject.count = (subject.count + kCopies - 1) / kCopies * kCopies;
+}
+
+static void Measure(Subject& subject) {
+  long before = Faults();
+  double taken = Timed(subject, subject.count) - subject.fixed;
+  subject.faults += Faults() - before;
+  subject.nanoseconds.push_back(taken / subject.count);
 }
 
 static void Choose(const std::vector<std::string>& words) {
@@ -242,12 +257,12 @@ int main(int count, char** words) {
   double milliseconds = atof(words[3]);
   for (Subject& subject : subjects) Tune(subject, milliseconds);
   for (int round = 0; round < rounds; round++)
-    for (Subject& subject : subjects)
-      subject.nanoseconds.push_back((Timed(subject, subject.count) - subject.fixed) / subject.count);
+    for (Subject& subject : subjects) Measure(subject);
   for (Subject& subject : subjects) {
     auto& times = subject.nanoseconds;
     std::sort(times.begin(), times.end());
-    printf("%s %.2f %.2f\n", subject.name.c_str(), times.front(), times[times.size() / 2]);
+    double faults = double(subject.faults) / (double(rounds) * subject.count);
+    printf("%s %.2f %.2f %.1f\n", subject.name.c_str(), times.front(), times[times.size() / 2], faults);
   }
   fflush(stdout);
   _exit(0);  // gRPC's threads need not be waited for
