@@ -6,6 +6,9 @@ import subprocess
 import tempfile
 
 WORK = pathlib.Path(os.environ.get("BENCH_WORK") or os.path.join(os.environ.get("TMPDIR") or "/tmp", "vupresal-bench"))
+# Long copies go by vectors: the one instruction that glibc has for them counts once for each byte, and only from some
+# length on.
+TUNED = {**os.environ, "GLIBC_TUNABLES": "glibc.cpu.x86_rep_movsb_threshold=1073741824"}
 TOOL = ["valgrind", "--tool=callgrind", f"--callgrind-out-file={os.devnull}", "--toggle-collect=engine_*"]
 
 
@@ -19,5 +22,5 @@ def instructions(words):
                 file.write_bytes(word)
                 word = str(file)
             arguments.append(word)
-        ran = subprocess.run([*TOOL, str(WORK / "probe"), *arguments], capture_output=True, check=True)
+        ran = subprocess.run([*TOOL, str(WORK / "probe"), *arguments], capture_output=True, check=True, env=TUNED)
     return int(re.search(rb"Collected : (\d+)", ran.stderr)[1]), int(re.search(rb"answer (\d+)", ran.stdout)[1])

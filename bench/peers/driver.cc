@@ -1,8 +1,9 @@
 // driver INPUTS ROUNDS MILLISECONDS [WORD..]: runs the engine and its peers in turn within each round, and prints a line for
-// each subject: its name, the least and the median nanoseconds of a call over all rounds. Words choose the subjects whose
-// names have one of them. Time is the thread's own on a processor, and the least counts, since other work on the machine can
-// only add to it.
+// each subject: its name, the least and the median nanoseconds of a call over all rounds, and how many pages the system gave
+// to a call, on average. Words choose the subjects whose names have one of them. Time is the thread's own on a processor, and
+// the least counts, since other work on the machine can only add to it.
 // driver INPUTS only NAME CALLS: runs one subject so often, for a profile.
+#include <sys/resource.h>
 #include <time.h>
 #include <unistd.h>
 
@@ -21,6 +22,7 @@
 
 extern "C" {
 uint64_t engine_admit(const char* filter, size_t length, uint64_t rounds);
+uint64_t engine_admit_together(const char* filter, size_t length, uint64_t count, uint64_t rounds);
 uint64_t engine_head(const char* head, size_t length, uint64_t rounds);
 uint64_t engine_httparse(const char* head, size_t length, uint64_t rounds);
 uint64_t engine_decide(const char* filter, size_t filter_length, const char* head, size_t head_length, uint64_t copies,
@@ -40,6 +42,7 @@ struct Subject {
   uint64_t count = 1;
   double fixed = 0;
   std::vector<double> nanoseconds = {};
+  long faults = 0;
 };
 
 static std::string folder;
@@ -160,7 +163,8 @@ static void AddStream(const std::string& size, uint64_t resources) {
   });
 }
 
-// The large stream fed to a client, beside the admissions of its eight filters alone.
+// The large stream fed to a client, beside the admissions of its eight filters alone: each kept until the last is there, as the
+// client does, and each let go before the next.
 static void AddFeed() {
   const std::string& stream = Input("responses_large.bin");
   const std::string& filter = Input("path_256.bin");
@@ -171,7 +175,11 @@ static void AddFeed() {
   };
   add("engine_feed_in_pieces", kPiece);
   add("engine_feed_at_once", stream.size());
-  Add("engine_admissions", [&](uint64_t calls) {
+  Add("engine_admissions_together", [&](uint64_t calls) {
+    uint64_t sum = engine_admit_together(filter.data(), filter.size(), 8, calls);
+    Expect(sum == 8 * 256 * calls, "the admissions that are kept");
+  });
+  Add("engine_admissions_in_turn", [&](uint64_t calls) {
     Expect(engine_admit(filter.data(), filter.size(), 8 * calls) == 8 * 256 * calls, "the admissions");
   });
 }
@@ -180,6 +188,12 @@ static double Now() {
   timespec time;
   clock_gettime(CLOCK_THREAD_CPUTIME_ID, &time);
   return time.tv_sec * 1e9 + time.tv_nsec;
+}
+
+static long Faults() {
+  rusage usage;
+  getrusage(RUSAGE_THREAD, &usage);
+  return usage.ru_minflt;
 }
 
 static double Timed(const Subject& subject, uint64_t count) {
@@ -200,6 +214,13 @@ static void Tune(Subject& subject, double milliseconds) {
     }
   }
   subject.count = (subject.count + kCopies - 1) / kCopies * kCopies;
+}
+
+static void Measure(Subject& subject) {
+  long before = Faults();
+  double taken = Timed(subject, subject.count) - subject.fixed;
+  subject.faults += Faults() - before;
+  subject.nanoseconds.push_back(taken / subject.count);
 }
 
 static void Choose(const std::vector<std::string>& words) {
@@ -236,12 +257,12 @@ int main(int count, char** words) {
   double milliseconds = atof(words[3]);
   for (Subject& subject : subjects) Tune(subject, milliseconds);
   for (int round = 0; round < rounds; round++)
-    for (Subject& subject : subjects)
-      subject.nanoseconds.push_back((Timed(subject, subject.count) - subject.fixed) / subject.count);
+    for (Subject& subject : subjects) Measure(subject);
   for (Subject& subject : subjects) {
     auto& times = subject.nanoseconds;
     std::sort(times.begin(), times.end());
-    printf("%s %.2f %.2f\n", subject.name.c_str(), times.front(), times[times.size() / 2]);
+    double faults = double(subject.faults) / (double(rounds) * subject.count);
+    printf("%s %.2f %.2f %.1f\n", subject.name.c_str(), times.front(), times[times.size() / 2], faults);
   }
   fflush(stdout);
   _exit(0);  // gRPC's threads need not be waited for

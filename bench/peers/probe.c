@@ -1,6 +1,7 @@
 // Does one work of the engine, and prints its answer and what the heap did in the meantime, a line of words and numbers. The
 // linker leads the engine's malloc, realloc and free here.
 //   probe admit FILTER [ROUNDS]
+//   probe together FILTER [ROUNDS [COUNT]] admissions of which so many stay until the last is there (8)
 //   probe keep FILTER
 //   probe head HEAD [ROUNDS]
 //   probe judge FILTER HEAD [ROUNDS]      admission and head once, the decision so often
@@ -12,14 +13,16 @@
 //   probe bound EXPRESSION [ROUNDS [BUDGET]]
 //                                         the bound of an expression that was read and checked once
 // `kept` is what stands when a filter was admitted (work `keep`), `peak` the most that ever stood; both count the blocks as
-// malloc makes them.
+// malloc makes them. `faults` is how many pages the system gave to the work.
 #include <malloc.h>
 #include <stdint.h>
 #include <stdio.h>
 #include <stdlib.h>
 #include <string.h>
+#include <sys/resource.h>
 
 uint64_t engine_admit(const char *filter, size_t length, uint64_t rounds);
+uint64_t engine_admit_together(const char *filter, size_t length, uint64_t count, uint64_t rounds);
 uint64_t engine_keep(const char *filter, size_t length, size_t mark);
 uint64_t engine_head(const char *head, size_t length, uint64_t rounds);
 uint64_t engine_decide(const char *filter, size_t filter_length, const char *head, size_t head_length, uint64_t copies,
@@ -92,16 +95,26 @@ static struct bytes contents_of(const char *name) {
   return bytes;
 }
 
+static long faults(void) {
+  struct rusage usage;
+  getrusage(RUSAGE_SELF, &usage);
+  return usage.ru_minflt;
+}
+
 int main(int count, char **words) {
   if (count < 3) {
-    fprintf(stderr, "usage: probe admit|keep|head|stream|feed|expression|bound FILE [ROUNDS [PIECE, PART or BUDGET]] | "
+    fprintf(stderr, "usage: probe admit|together|keep|head|stream|feed|expression|bound FILE "
+                    "[ROUNDS [COUNT, PIECE, PART or BUDGET]] | "
                     "probe judge FILTER HEAD [ROUNDS]\n");
     return 2;
   }
   const char *work = words[1];
   struct bytes input = contents_of(words[2]);
   uint64_t rounds = count > 3 ? strtoull(words[3], 0, 10) : 1, answer = 0;
+  long before = faults();
   if (!strcmp(work, "admit")) answer = engine_admit(input.start, input.length, rounds);
+  if (!strcmp(work, "together"))
+    answer = engine_admit_together(input.start, input.length, count > 4 ? strtoull(words[4], 0, 10) : 8, rounds);
   if (!strcmp(work, "keep")) answer = engine_keep(input.start, input.length, MARK);
   if (!strcmp(work, "head")) answer = engine_head(input.start, input.length, rounds);
   if (!strcmp(work, "stream"))
@@ -116,7 +129,7 @@ int main(int count, char **words) {
     struct bytes head = contents_of(words[3]);
     answer = engine_decide(input.start, input.length, head.start, head.length, 1, count > 4 ? strtoull(words[4], 0, 10) : 1);
   }
-  printf("bytes %zu answer %llu allocations %zu reallocations %zu kept %zu peak %zu\n", input.length,
-         (unsigned long long)answer, allocations, reallocations, kept, peak);
+  printf("bytes %zu answer %llu allocations %zu reallocations %zu kept %zu peak %zu faults %ld\n", input.length,
+         (unsigned long long)answer, allocations, reallocations, kept, peak, faults() - before);
   return 0;
 }
