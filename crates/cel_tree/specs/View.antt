@@ -145,11 +145,11 @@ loop_view c = record {
 
 -- what a type map says of nodes, by their ids
 abbrev pub types_view : TypeMap → FinMap int_cmp CelTypeEntry
-types_view m = from_entries (map (λ e. (e.0, type_entry_view e.1)) m.entries.entries)
+types_view m = from_entries (map (λ e. (e.0, type_entry_view e.1)) m.entries)
 
 -- what a reference map says of nodes, by their ids
 abbrev pub references_view : ReferenceMap → FinMap int_cmp CelReference
-references_view m = from_entries (map (λ e. (e.0, reference_view e.1)) m.entries.entries)
+references_view m = from_entries (map (λ e. (e.0, reference_view e.1)) m.entries)
 
 -- the checked expression that a `Checked` stands for
 abbrev pub checked_view : Checked → CelChecked
