@@ -54,15 +54,17 @@ module _ {V : Type 0} where
       let none : n ≡ zero = omega (arith, next) in rw none (less, tt)
   below_take id (e ∷ es) (suc i) (suc n) d sorted within less next =
       let later : i < length es = omega (arith, within) in
-      let before : n ≡ suc i = omega (arith, next) in
-      (int_cmp_total.trans e.0 (get_or es i d).0 id (below_at e.0 es i d (both_first _ _ sorted) later) less,
-      below_take id es i n d (both_second _ _ sorted) later less before)
+      let before : n ≡ suc i = omega (arith, next) in (
+        int_cmp_total.trans e.0 (get_or es i d).0 id (below_at e.0 es i d (both_first _ _ sorted) later) less,
+        below_take id es i n d (both_second _ _ sorted) later less before,
+      )
 
   above_all : (id k : ℤ) (es : List (ℤ × V)) → int_cmp id k ≡ Less → T (below_all int_cmp k es) → AllAbove id es
   above_all id k [] less below = tt
-  above_all id k (e ∷ es) less below =
-      (turned_less id e.0 (int_cmp_total.trans id k e.0 less (lt_is_less _ (both_first _ _ below))),
-      above_all id k es less (both_second _ _ below))
+  above_all id k (e ∷ es) less below = (
+    turned_less id e.0 (int_cmp_total.trans id k e.0 less (lt_is_less _ (both_first _ _ below))),
+    above_all id k es less (both_second _ _ below),
+  )
 
   -- from an entry whose id is above another, all are
   pub above_drop : (id : ℤ) (es : List (ℤ × V)) (i : ℕ) (d : ℤ × V) → T (is_sorted int_cmp es) → i < length es

@@ -5,6 +5,7 @@ use Rattle.std.specs.FinMap.{FinMap, from_entries}
 use Rattle.std.specs.Ordering.{int_cmp}
 use Rattle.std.specs.declared.alloc.Global.{Global}
 use Rattle.std.specs.declared.boxed.Box.{Box}
+use Rattle.std.specs.declared.rc.RcStr.{RcStr}
 use Rattle.cel_value.specs.Texts.{text_view}
 use Rattle.cel_value.specs.Types.{type_view}
 use Rattle.cel_value.specs.Values.{CelValue, bool, int, uint, text, bytes}
@@ -39,10 +40,15 @@ type_entry_view (entries.Type t) = of_type (type_view t)
 type_entry_view entries.Dyn = dyn_type
 type_entry_view entries.Unsupported = unsupported_type
 
+-- a name that is kept where it is not empty
+abbrev pub name_view : Option (RcStr Global) → List ℕ
+name_view None = []
+name_view (Some name) = text_view name
+
 -- what a reference entry says
 abbrev pub reference_view : Reference → CelReference
 reference_view r = record {
-  name = text_view r.name;
+  name = name_view r.name;
   value = option_map constant_view r.value;
 }
 

@@ -24,8 +24,8 @@ pub enum TypeEntry {
 /// What an entry of the reference map says of its node.
 #[derive(Drop)]
 pub struct Reference {
-    /// The name that is meant.
-    pub name: RcStr,
+    /// The name that is meant; none where it is empty.
+    pub name: Option<RcStr>,
     /// The value, where the name is that of a constant.
     pub value: Option<Constant>,
 }

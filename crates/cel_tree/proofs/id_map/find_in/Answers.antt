@@ -1,5 +1,4 @@
 use Rattle.std.proofs.Common.{◌≡◌, ◌+◌, ◌-◌, ◌/◌, ◌<◌, ◌≤◌, ℕ, length, w64, to_z, of_z, to_z-of_z, sym, ◌∙◌, arith}
-use Rattle.cel_tree.specs.steps.Places.{AllAbove}
 use Rattle.cel_tree.proofs.IdPlaces.{above_drop, below_take, found_at, not_found}
 use Rattle.cel_tree.proofs.id_map.find_in.Goals as goal
 
@@ -19,10 +18,13 @@ loop-low-preserved-in-Less g c =
     let high = c.loop-low.high in
     let middle : ℕ = low + (high - low) / 2 in
     let within : middle < length es = omega (arith, c.loop-low-test.true, c.loop-low.invariant.1) in
-    let on : middle + 1 ≤ high = omega (arith, c.loop-low-test.true) in
-    (on, c.loop-low.invariant.1,
-    below_take _ es middle (middle + 1) c.index-entries-middle.result c.requires within (sym c.cmp.ensures ∙ c.in-Less.is)
-    (omega arith), c.loop-low.invariant.3)
+    let on : middle + 1 ≤ high = omega (arith, c.loop-low-test.true) in (
+      on,
+      c.loop-low.invariant.1,
+      below_take _ es middle (middle + 1) c.index-entries-middle.result c.requires within (sym c.cmp.ensures ∙ c.in-Less.is)
+          (omega arith),
+      c.loop-low.invariant.3,
+    )
 
 pub loop-low-preserved : goal.loop-low-preserved
 loop-low-preserved g c =
@@ -32,9 +34,12 @@ loop-low-preserved g c =
     let middle : ℕ = low + (high - low) / 2 in
     let within : middle < length es = omega (arith, c.loop-low-test.true, c.loop-low.invariant.1) in
     let on : low ≤ middle = omega arith in
-    let most : middle ≤ length es = omega (arith, within) in
-    (on, most, c.loop-low.invariant.2,
-    above_drop _ es middle c.index-entries-middle.result c.requires within (sym c.cmp.ensures ∙ c.in-Greater.is))
+    let most : middle ≤ length es = omega (arith, within) in (
+      on,
+      most,
+      c.loop-low.invariant.2,
+      above_drop _ es middle c.index-entries-middle.result c.requires within (sym c.cmp.ensures ∙ c.in-Greater.is),
+    )
 
 pub returns : goal.returns
 returns g c =

@@ -1,5 +1,7 @@
 use Rattle.std.proofs.Common.{◌≡◌, ◌<◌, length, drop, false, true, w64, to_z, of_z, to_z-of_z, sym, ◌∙◌}
+use Rattle.std.specs.FinMap.{put}
 use Rattle.std.specs.List.{insert}
+use Rattle.std.specs.Ordering.{int_cmp}
 use Rattle.cel_tree.specs.steps.Places.{IsPlace, starts_with}
 use Rattle.cel_tree.proofs.IdPlaces.{put_new, put_old, put_sorted}
 use Rattle.cel_tree.proofs.id_map.IdMap.insert.Goals as goal
@@ -24,8 +26,9 @@ invariant_of-self-2 g c =
     let new : starts_with c.args.id (drop at es) ≡ false =
     rw (same, c.deref-2.ensures.value) at (sym c.stands_at.ensures.first ∙ c.if-stands_at.false) in
     let done : c.insert.new.self.items ≡ insert es at (c.args.id, c.args.value) = rw same at c.in_ok-insert.ensures.items in
-    put_sorted c.args.id c.args.value es c.insert.new.self.items
-    (put_new c.args.id c.args.value es at place new ∙ sym done) c.self.invariant
+    let is : put int_cmp c.args.id c.args.value es ≡ c.insert.new.self.items =
+    put_new c.args.id c.args.value es at place new ∙ sym done in
+    put_sorted c.args.id c.args.value es c.insert.new.self.items is c.self.invariant
 
 pub returns-then-stands_at : goal.returns-then-stands_at
 returns-then-stands_at g c =
