@@ -70,9 +70,7 @@ fn found_overload<'t>(
 {
     match operands {
         [one] => overload_of(name, has_target, &[one.cel_type()]),
-        [first, second] => {
-            overload_of(name, has_target, &[first.cel_type(), second.cel_type()])
-        }
+        [first, second] => { overload_of(name, has_target, &[first.cel_type(), second.cel_type()]) }
         [first, second, third] => {
             let types = [first.cel_type(), second.cel_type(), third.cel_type()];
             overload_of(name, has_target, &types)
