@@ -1,5 +1,5 @@
 -- Entries in ascending order of ids: where an id stands among them, and what is put there.
-use Rattle.std.proofs.Common.{◌≡◌, ℕ, ℤ, zero, suc, ◌+◌, ◌<◌, T, true, false, cond, take, drop, get_or, length, slice_index_or, slice_set, List, [], ◌∷◌, ◌++◌, Some, None, arith, refl, sym, ap, subst, ◌∙◌}
+use Rattle.std.proofs.Common.{◌≡◌, ℕ, ℤ, zero, suc, ◌<◌, T, true, false, cond, take, drop, get_or, length, slice_index_or, slice_set, List, [], ◌∷◌, ◌++◌, Some, None, arith, refl, sym, ap, subst, ◌∙◌}
 use Rattle.std.specs.Cmp.{int_cmp_total}
 use Rattle.std.specs.FinMap.{find, is_sorted, put, int_cmp-IsAntisymmetric}
 use Rattle.std.specs.FinMap.Entries.{below_all, by_order, is_sorted-put}
