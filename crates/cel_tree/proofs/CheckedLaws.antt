@@ -1,5 +1,5 @@
 -- The payloads of a checked expression are one or have a fault, never both, and are one at most.
-use Rattle.std.proofs.Common.{◌≡◌, ◌≢◌, ◌≤◌, ◌⊎◌, inl, inr, ℕ, List, [], Contains, arith, refl, subst}
+use Rattle.std.proofs.Common.{◌≡◌, ◌≢◌, ◌≤◌, ◌⊎◌, inl, inr, ℕ, List, [], arith, refl}
 use Rattle.std.proofs.lemmas.Bool.{cases_lt}
 use Rattle.proto_wire.specs.Fields.{Wire}
 use Rattle.proto_wire.specs.Maps.{int64}

@@ -1,12 +1,10 @@
 -- Maps from ids, as the code fills and reads them.
 use Rattle.std.proofs.Common.{◌≡◌, ℕ, ℤ, ◌+◌, ◌<◌, T, take, get_or, length, true, false, cond, List, [], ◌∷◌, ◌++◌, map, Option, Some, None, option_map, IsSomeAnd, MatchOption, Bor, refl, sym, ap, subst, ◌∙◌}
-use Rattle.std.specs.BTreeMap.{insert_entry}
 use Rattle.std.specs.Cmp.{int_cmp_total}
 use Rattle.std.specs.FinMap.{FinMap, find, get, insert, is_sorted, empty, entries, from_entries, same_map, get-empty, get-entries, get-from_entries, get-insert, int_cmp-IsAntisymmetric}
 use Rattle.std.specs.FinMap.Entries.{put, by_order, find-put}
-use Rattle.std.specs.Map.{lookup}
 use Rattle.std.specs.Option.{option_copied}
-use Rattle.std.specs.Ordering.{int_cmp, eq_by_cmp, is_eq, match_ordering}
+use Rattle.std.specs.Ordering.{int_cmp, eq_by_cmp, is_eq}
 use Rattle.std.specs.declared.cmp.Ordering.TheVariants.{Less, Equal, Greater}
 use Rattle.proto_wire.specs.Maps.{Entry, int64, AreValues}
 use Rattle.proto_wire.specs.Merge.{parts_view}
@@ -22,10 +20,10 @@ module _ {V X : Type 0} (view : V → X) where
   abbrev pub seen : List (ℤ × V) → FinMap int_cmp X
   seen es = from_entries (map (λ e. (e.0, view e.1)) es)
 
-  view_insert : (es : List (ℤ × V)) (k : ℤ) (v : V)
-      → map (λ e. (e.0, view e.1)) (insert_entry int_cmp es k v) ≡ put int_cmp k (view v) (map (λ e. (e.0, view e.1)) es)
-  view_insert [] k v = refl
-  view_insert (e ∷ es) k v =
+  view_put : (es : List (ℤ × V)) (k : ℤ) (v : V)
+      → map (λ e. (e.0, view e.1)) (put int_cmp k v es) ≡ put int_cmp k (view v) (map (λ e. (e.0, view e.1)) es)
+  view_put [] k v = refl
+  view_put (e ∷ es) k v =
       let rest : List (ℤ × X) = map (λ x. (x.0, view x.1)) es in
       let new : ℤ × X = (k, view v) in
       let old : ℤ × X = (e.0, view e.1) in
@@ -34,27 +32,27 @@ module _ {V X : Type 0} (view : V → X) where
       let put_over : ℤ × V = (e.0, v) in
       let seen_all : List (ℤ × V) → List (ℤ × X) = λ xs. map (λ x. (x.0, view x.1)) xs in
       elim (int_cmp k e.0) as
-      (λ o. seen_all (match_ordering o (put_in ∷ e ∷ es) (put_over ∷ es) (e ∷ insert_entry int_cmp es k v))
+      (λ o. seen_all (by_order o (put_in ∷ e ∷ es) (put_over ∷ es) (e ∷ put int_cmp k v es))
       ≡ by_order o (new ∷ old ∷ rest) (over ∷ rest) (old ∷ put int_cmp k (view v) rest)) [
         | Less ↦ refl
         | Equal ↦ refl
-        | Greater ↦ ap (λ xs. old ∷ xs) (view_insert es k v)
+        | Greater ↦ ap (λ xs. old ∷ xs) (view_put es k v)
       ]
 
   -- one entry more
-  pub seen_insert : (es : List (ℤ × V)) (k : ℤ) (v : V) → seen (insert_entry int_cmp es k v) ≡ insert (seen es) k (view v)
-  seen_insert es k v = same_map int_cmp_total int_cmp-IsAntisymmetric _ _ (λ q.
-      get-from_entries int_cmp_total (map (λ e. (e.0, view e.1)) (insert_entry int_cmp es k v)) q
-      ∙ ap (find int_cmp q) (view_insert es k v)
+  pub seen_put : (es : List (ℤ × V)) (k : ℤ) (v : V) → seen (put int_cmp k v es) ≡ insert (seen es) k (view v)
+  seen_put es k v = same_map int_cmp_total int_cmp-IsAntisymmetric _ _ (λ q.
+      get-from_entries int_cmp_total (map (λ e. (e.0, view e.1)) (put int_cmp k v es)) q
+      ∙ ap (find int_cmp q) (view_put es k v)
       ∙ find-put int_cmp int_cmp_total q k (view v) (map (λ e. (e.0, view e.1)) es)
       ∙ ap (cond (eq_by_cmp int_cmp q k) (Some (view v))) (sym (get-from_entries int_cmp_total (map (λ e. (e.0, view e.1)) es) q))
       ∙ sym (get-insert int_cmp_total (seen es) k (view v) q))
 
   seen_find : (es : List (ℤ × V)) (k : ℤ)
-      → option_map view (lookup (λ x. is_eq (int_cmp k x)) es) ≡ find int_cmp k (map (λ e. (e.0, view e.1)) es)
+      → option_map view (find int_cmp k es) ≡ find int_cmp k (map (λ e. (e.0, view e.1)) es)
   seen_find [] k = refl
   seen_find (e ∷ es) k = elim (is_eq (int_cmp k e.0)) as
-      (λ b. option_map view (cond b (Some e.1) (lookup (λ x. is_eq (int_cmp k x)) es))
+      (λ b. option_map view (cond b (Some e.1) (find int_cmp k es))
       ≡ cond b (Some (view e.1)) (find int_cmp k (map (λ x. (x.0, view x.1)) es))) [
         | true ↦ refl
         | false ↦ seen_find es k
@@ -65,7 +63,7 @@ module _ {V X : Type 0} (view : V → X) where
   copied_map (Some e) = refl
 
   -- what stands at an id
-  pub seen_get : (es : List (ℤ × V)) (k : ℤ) (o : Option (Bor V)) → option_copied o ≡ lookup (λ x. is_eq (int_cmp k x)) es
+  pub seen_get : (es : List (ℤ × V)) (k : ℤ) (o : Option (Bor V)) → option_copied o ≡ find int_cmp k es
       → option_map (λ e. view e.now) o ≡ get (seen es) k
   seen_get es k o is =
       copied_map o ∙ ap (option_map view) is ∙ seen_find es k

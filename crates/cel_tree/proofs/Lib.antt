@@ -8,6 +8,7 @@ pub mod InnerLaws
 pub mod Counting
 pub mod Insides
 pub mod TypeLevels
+pub mod IdPlaces
 pub mod IdMaps
 pub mod ReadingLaws
 pub mod ConstantLaws

@@ -1,6 +1,6 @@
 -- Messages as cel-go 0.18 and Go's encoder write them, byte by byte, and what they say, so that a wrong rule
 -- in the specs does not check.
-use Rattle.std.proofs.Common.{◌≡◌, ℕ, suc, ◌+◌, ◌*◌, ◌<◌, ℤ, pos, negsuc, Bool, true, false, ◌&&◌, T, ltb, List, [], ◌∷◌, ◌++◌, Some, None, codes, length, append-nil, ltb→lt, refl, sym, ap, ap₂, subst, arith}
+use Rattle.std.proofs.Common.{◌≡◌, ℕ, suc, ◌+◌, ◌*◌, ◌<◌, ℤ, pos, negsuc, Bool, true, false, ◌&&◌, T, ltb, List, [], ◌∷◌, ◌++◌, None, codes, length, append-nil, ltb→lt, refl, sym, ap, ap₂, subst, arith}
 use Rattle.std.specs.Str.{IsUtf8, chars}
 use Rattle.std.specs.Ordering.{int_cmp}
 use Rattle.std.specs.Cmp.{int_cmp_total}

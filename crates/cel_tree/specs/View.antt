@@ -5,6 +5,7 @@ use Rattle.std.specs.FinMap.{FinMap, from_entries}
 use Rattle.std.specs.Ordering.{int_cmp}
 use Rattle.std.specs.declared.alloc.Global.{Global}
 use Rattle.std.specs.declared.boxed.Box.{Box}
+use Rattle.std.specs.declared.rc.RcStr.{RcStr}
 use Rattle.cel_value.specs.Texts.{text_view}
 use Rattle.cel_value.specs.Types.{type_view}
 use Rattle.cel_value.specs.Values.{CelValue, bool, int, uint, text, bytes}
@@ -39,10 +40,15 @@ type_entry_view (entries.Type t) = of_type (type_view t)
 type_entry_view entries.Dyn = dyn_type
 type_entry_view entries.Unsupported = unsupported_type
 
+-- a name that is kept where it is not empty
+abbrev pub name_view : Option (RcStr Global) → List ℕ
+name_view None = []
+name_view (Some name) = text_view name
+
 -- what a reference entry says
 abbrev pub reference_view : Reference → CelReference
 reference_view r = record {
-  name = text_view r.name;
+  name = name_view r.name;
   value = option_map constant_view r.value;
 }
 
@@ -145,11 +151,11 @@ loop_view c = record {
 
 -- what a type map says of nodes, by their ids
 abbrev pub types_view : TypeMap → FinMap int_cmp CelTypeEntry
-types_view m = from_entries (map (λ e. (e.0, type_entry_view e.1)) m.entries.entries)
+types_view m = from_entries (map (λ e. (e.0, type_entry_view e.1)) m.entries)
 
 -- what a reference map says of nodes, by their ids
 abbrev pub references_view : ReferenceMap → FinMap int_cmp CelReference
-references_view m = from_entries (map (λ e. (e.0, reference_view e.1)) m.entries.entries)
+references_view m = from_entries (map (λ e. (e.0, reference_view e.1)) m.entries)
 
 -- the checked expression that a `Checked` stands for
 abbrev pub checked_view : Checked → CelChecked

@@ -5,3 +5,4 @@ pub mod InnerTypes
 pub mod Inside
 pub mod NodeViews
 pub mod Named
+pub mod Places

@@ -4,10 +4,10 @@ ghost use Rattle.std.specs.Prelude.{◌≡◌, MatchResult, option_map};
 ghost use Rattle.std.specs.FinMap.{empty, get, insert};
 ghost use Rattle.cel_tree.specs.View.{reference_view, references_view, type_entry_view, types_view};
 
+use crate::id_map::IdMap;
 use crate::tree::{Constant, Tree};
 use cel_value::CelType;
 use std::alloc::{AllocError, Global};
-use std::collections::BTreeMap;
 use std::rc::RcStr;
 
 /// What an entry of the type map says of its node.
@@ -24,8 +24,8 @@ pub enum TypeEntry {
 /// What an entry of the reference map says of its node.
 #[derive(Drop)]
 pub struct Reference {
-    /// The name that is meant.
-    pub name: RcStr,
+    /// The name that is meant; none where it is empty.
+    pub name: Option<RcStr>,
     /// The value, where the name is that of a constant.
     pub value: Option<Constant>,
 }
@@ -33,13 +33,13 @@ pub struct Reference {
 /// What a type map says of nodes, by their ids.
 #[derive(Drop)]
 pub struct TypeMap {
-    entries: BTreeMap<i64, TypeEntry>,
+    entries: IdMap<TypeEntry>,
 }
 
 /// What a reference map says of nodes, by their ids.
 #[derive(Drop)]
 pub struct ReferenceMap {
-    entries: BTreeMap<i64, Reference>,
+    entries: IdMap<Reference>,
 }
 
 /// A checked expression (`google.api.expr.v1alpha1.CheckedExpr`).
@@ -56,7 +56,7 @@ impl TypeMap {
         ensures { types_view result ≡ empty }
     {
         TypeMap {
-            entries: BTreeMap::new(alloc),
+            entries: IdMap::new(alloc),
         }
     }
 
@@ -74,7 +74,7 @@ impl TypeMap {
     pub fn get(&self, id: i64) -> Option<&TypeEntry>
         ensures { option_map (λ entry. type_entry_view entry.now) result ≡ get (types_view self.now) id }
     {
-        self.entries.get(&id)
+        self.entries.get(id)
     }
 }
 
@@ -84,7 +84,7 @@ impl ReferenceMap {
         ensures { references_view result ≡ empty }
     {
         ReferenceMap {
-            entries: BTreeMap::new(alloc),
+            entries: IdMap::new(alloc),
         }
     }
 
@@ -102,6 +102,6 @@ impl ReferenceMap {
     pub fn get(&self, id: i64) -> Option<&Reference>
         ensures { option_map (λ entry. reference_view entry.now) result ≡ get (references_view self.now) id }
     {
-        self.entries.get(&id)
+        self.entries.get(id)
     }
 }

@@ -4,6 +4,7 @@
 mod checked;
 mod constant;
 mod fields;
+mod id_map;
 pub mod laws;
 mod literals;
 mod loops;

@@ -1,21 +1,22 @@
 //! References, and how their message is read.
 
-ghost use Rattle.std.specs.Prelude.{ℕ, List, Some, IfOk, IfErr, OnOk, Contains, map, option_map};
+ghost use Rattle.std.specs.Prelude.{◌≡◌, ℕ, List, Some, IfOk, IfErr, OnOk, Contains, map, option_map};
 ghost use Rattle.std.specs.List.{AllByRecursion};
 ghost use Rattle.std.specs.Str.{IsUtf8};
 ghost use Rattle.proto_wire.specs.Fields.{field_view};
 ghost use Rattle.proto_wire.specs.Merge.{parts_view};
 ghost use Rattle.proto_wire.specs.Refusal.{MemoryOr};
 ghost use Rattle.proto_wire.specs.Values.{Utf8Fault};
+ghost use Rattle.cel_value.specs.Texts.{points_of};
 ghost use Rattle.cel_tree.specs.Reading.{ValuesFault, LacksNothing};
 ghost use Rattle.cel_tree.specs.References.{ReferenceSays, ReferenceWrong, IsReference, ReferenceFault, IsValue, ValueFault};
-ghost use Rattle.cel_tree.specs.View.{constant_view, reference_view};
+ghost use Rattle.cel_tree.specs.View.{constant_view, name_view, reference_view};
 
 use crate::checked::Reference;
 use crate::constant::read_constant;
 use crate::tree::Constant;
 use proto_wire::{Field, Key, Refusal, keys, payloads_of, read_message, text_at, text_of};
-use std::alloc::Global;
+use std::alloc::{AllocError, Global};
 use std::rc::RcStr;
 
 const NAME: u32 = 1;
@@ -45,8 +46,18 @@ fn reference_of(alloc: Global, fields: &[Field<'_>]) -> Result<Reference, Refusa
     require_texts(&ids)?;
     let parts = payloads_of(alloc, fields, VALUE)?;
     let value = read_value(alloc, &parts)?;
-    let name = RcStr::from_str(alloc, name)?;
+    let name = kept_name(alloc, name)?;
     Ok(Reference { name, value })
+}
+
+/// A name to keep; none where it is empty, as those of functions are.
+fn kept_name(alloc: Global, name: &str) -> Result<Option<RcStr>, AllocError>
+    ensures { IfOk result (λ kept. name_view kept ≡ points_of name.now) }
+{
+    if name.is_empty() {
+        return Ok(None);
+    }
+    Ok(Some(RcStr::from_str(alloc, name)?))
 }
 
 /// Refuses payloads of which some is no text.

@@ -7,6 +7,7 @@ use Rattle.proto_wire.specs.declared.refusal.Refusal.{Refusal}
 use Rattle.cel_types.proofs.CheckNames.{nameless}
 use Rattle.std.proofs.Math.Nat.{le-max_left, le-max_right, max-le}
 use Rattle.std.proofs.lemmas.Bool.Decides.{nat_tests}
+use Rattle.std.specs.Str.{bytes_eq}
 use Rattle.std.specs.declared.alloc.Global.{Global}
 use Rattle.std.specs.declared.boxed.Box.{Box}
 use Rattle.std.specs.declared.vec.Vec.{Vec}
@@ -88,6 +89,17 @@ empty_name (x ∷ bs) u b e = rw e (λ t. absurd (let none : length (x ∷ bs) �
   where
     other : x ∷ bs ≡ [] → ⊥
     other k = cc
+
+-- whether a text is empty, asked of its points
+pub empty_same : (bs : List ℕ) → IsUtf8 bs → (b : Bool) → b ≡ (length bs == 0) → b ≡ bytes_eq [] (points_of bs)
+empty_same bs u b e =
+    elim (points_of bs) as (λ ps. ((IsTrue b → ps ≡ []) × (ps ≡ [] → IsTrue b)) → b ≡ bytes_eq [] ps) [
+      | [] ↦ λ both. both.1 refl
+      | p ∷ ps ↦ λ both. elim b as (λ c. (IsTrue c → p ∷ ps ≡ []) → c ≡ false) [
+        | true ↦ λ none. absurd (let clash : p ∷ ps ≡ [] = none refl in cc)
+        | false ↦ λ none. refl
+      ] both.0
+    ] (empty_name bs u b e)
 
 -- the greater of two numbers is below a third where both are
 pub max_below : (a b n : ℕ) → nat_lt (max a b) n ≡ (nat_lt a n && nat_lt b n)

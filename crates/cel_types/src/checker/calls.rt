@@ -50,10 +50,36 @@ fn call_type(
     ensures fault { IfErr result (MemoryOr (NoCall (text_view function.now) has_target
         (kinds (exprs_view operands.now)))) }
 {
-    let types = types_of(alloc, operands)?;
-    let found = overload_of(function.as_str(), has_target, &types)?;
+    let found = found_overload(alloc, function.as_str(), has_target, operands)?;
     let cel_type = result_type(found.result)?;
     Ok((found.overload, cel_type))
+}
+
+/// The overload of a call on these operands. No overload has more than three, and no list is made of
+/// the types of so few.
+fn found_overload<'t>(
+    alloc: Global,
+    name: &str,
+    has_target: bool,
+    operands: &'t [TypedExpr<'_>],
+) -> Result<Found<'t>, Refusal>
+    ensures found { IfOk result (λ f. IsCall (points_of name.now) has_target (kinds (exprs_view operands.now))
+        f.overload (result_view f.result)) }
+    ensures fault { IfErr result (MemoryOr (NoCall (points_of name.now) has_target
+        (kinds (exprs_view operands.now)))) }
+{
+    match operands {
+        [one] => overload_of(name, has_target, &[one.cel_type()]),
+        [first, second] => { overload_of(name, has_target, &[first.cel_type(), second.cel_type()]) }
+        [first, second, third] => {
+            let types = [first.cel_type(), second.cel_type(), third.cel_type()];
+            overload_of(name, has_target, &types)
+        }
+        _ => {
+            let types = types_of(alloc, operands)?;
+            overload_of(name, has_target, &types)
+        }
+    }
 }
 
 /// The types of expressions.

@@ -2,8 +2,8 @@
 
 ghost use Rattle.std.specs.Prelude.{◌≡◌, ◌↔◌, IfErr, IfOk, IsTrue, OnOk, Some, option_map};
 ghost use Rattle.std.specs.Str.{bytes_eq};
-ghost use Rattle.cel_tree.specs.View.{reference_view, type_entry_view};
-ghost use Rattle.cel_value.specs.Texts.{points_of, text_view};
+ghost use Rattle.cel_tree.specs.View.{name_view, reference_view, type_entry_view};
+ghost use Rattle.cel_value.specs.Texts.{points_of};
 ghost use Rattle.cel_value.specs.Types.{type_view};
 ghost use Rattle.cel_types.specs.Typing.{RefAgrees, TypeAgrees, TypeGiven};
 ghost use Rattle.cel_types.specs.TypingFaults.{EntryFault, RefDiffers};
@@ -67,15 +67,18 @@ fn agrees(reference: &Reference, name: &str) -> bool
 {
     match reference.value {
         Some(_) => false,
-        None => is_text(&reference.name, name),
+        None => is_name(&reference.name, name),
     }
 }
 
-/// Whether a shared text is this one.
-fn is_text(text: &RcStr, other: &str) -> bool
-    ensures { result ≡ bytes_eq (text_view text.now) (points_of other.now) }
+/// Whether a kept name is this one.
+fn is_name(kept: &Option<RcStr>, name: &str) -> bool
+    ensures { result ≡ bytes_eq (name_view kept.now) (points_of name.now) }
 {
-    text.as_str() == other
+    match kept {
+        None => name.is_empty(),
+        Some(text) => text.as_str() == name,
+    }
 }
 
 /// The type that its entry gives an empty literal.

@@ -137,7 +137,8 @@ pub(crate) fn is_root(name: &str) -> bool
 pub(crate) fn joined_name(alloc: Global, root: &str, field: &str) -> Result<String, AllocError>
     ensures { IfOk result (λ name. points_of (string_bytes name) ≡ joined_name (points_of root.now) (points_of field.now)) }
 {
-    let mut name = String::new(alloc);
+    let length = root.len().saturating_add(field.len()).saturating_add(1);
+    let mut name = String::with_capacity(alloc, length)?;
     name.push_str(root)?;
     name.push_str(".")?;
     name.push_str(field)?;

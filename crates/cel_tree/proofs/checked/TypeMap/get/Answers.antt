@@ -6,4 +6,4 @@ use Rattle.cel_tree.proofs.checked.TypeMap.get.Goals as goal
 pub returns : goal.returns
 returns c =
     let same : to_z w64 (of_z w64 c.args.id) ≡ c.args.id = to_z-of_z c.ranges.id in
-    seen_get type_entry_view c.args.self.now.entries.entries c.args.id c.get.result (rw same at c.get.ensures.value)
+    seen_get type_entry_view c.args.self.now.entries c.args.id c.get.result (rw same at c.get.ensures)

@@ -7,5 +7,5 @@ returns c =
       c.in_ok-push_str-3.ensures.bytes,
       c.in_ok-push_str-2.ensures.bytes,
       c.in_ok-push_str.ensures.bytes,
-      c.new-name.ensures.bytes,
+      c.in_ok-name.ensures.bytes,
     ) (joined_points c.args.root.now c.args.field.now c.utf8.root)
