@@ -1,6 +1,8 @@
 //! Streams of both ends, cut at each two places: what comes out is what comes out at once.
 use super::control::{ACK, NACK};
-use super::making::{client_of, control_of, half_bad, resource, response};
+use super::making::{
+    begins, client_of, control_of, half_bad, has_acknowledged, resource, response,
+};
 use super::vectors::{
     ANY_ANY, FIRST_ACK, FIRST_FOR_BOTH, FIRST_REQUEST, HALF_BAD_NACK, RESUMED_FOR_BOTH,
     RESUMED_REQUEST, TRUE_AND_TRUE, before, behind, joined,
@@ -9,6 +11,19 @@ use crate::{Client, Control};
 use std::alloc::Global;
 use std::process::Abort;
 use std::test::Fail;
+
+/// A piece is given to the client: what it answers is put behind the replies.
+fn feeds(
+    rt: &impl Abort,
+    client: &mut Client,
+    piece: &[u8],
+    replies: &mut Vec<u8>,
+) -> Result<(), Fail> {
+    let fed = client.feed(piece)?;
+    assert!(rt; !fed.broken);
+    replies.extend_from_slice(&fed.replies)?;
+    Ok(())
+}
 
 /// A new stream of the client begins with this request, and gives the bytes in three pieces: all that it answers.
 fn answered(
@@ -19,14 +34,12 @@ fn answered(
     bytes: &[u8],
     (first, second): (usize, usize),
 ) -> Result<Vec<u8>, Fail> {
-    assert!(rt; client.connected()? == joined(alloc, request)?);
+    begins(rt, alloc, client, request)?;
     let mut replies = Vec::new(alloc);
     let (front, back) = (before(bytes, second), behind(bytes, second));
-    for piece in &[before(front, first), behind(front, first), back] {
-        let fed = client.feed(piece)?;
-        assert!(rt; !fed.broken);
-        replies.extend_from_slice(&fed.replies)?;
-    }
+    feeds(rt, client, before(front, first), &mut replies)?;
+    feeds(rt, client, behind(front, first), &mut replies)?;
+    feeds(rt, client, back, &mut replies)?;
     Ok(replies)
 }
 
@@ -50,11 +63,15 @@ fn answers_alike(
             if from <= first && first < to && (each || second % 7 == 0) {
                 let cut = (first, second);
                 let replies = answered(rt, alloc, &mut client, request, bytes, cut)?;
-                assert!(rt; replies == at_once);
+                are_equal(rt, &replies, &at_once);
             }
         }
     }
     Ok(())
+}
+
+fn are_equal(rt: &impl Abort, replies: &[u8], expected: &[u8]) {
+    assert!(rt; replies == expected);
 }
 
 /// A response with a filter, whose first cut is within this range.
@@ -114,6 +131,19 @@ fn requests_as_responses(rt: HostRuntime) -> Result<(), Fail> {
     Ok(())
 }
 
+/// A piece is given to the control plane: what it sends is put behind the replies.
+pub fn serves(
+    rt: &impl Abort,
+    control: &mut Control,
+    piece: &[u8],
+    replies: &mut Vec<u8>,
+) -> Result<(), Fail> {
+    let fed = control.feed(piece)?;
+    assert!(rt; !fed.broken);
+    replies.extend_from_slice(&fed.replies)?;
+    Ok(())
+}
+
 /// A control plane gets the bytes in three pieces: all that it sends.
 fn sent(
     rt: &impl Abort,
@@ -124,11 +154,9 @@ fn sent(
 ) -> Result<Vec<u8>, Fail> {
     let mut replies = Vec::new(alloc);
     let (front, back) = (before(bytes, second), behind(bytes, second));
-    for piece in &[before(front, first), behind(front, first), back] {
-        let fed = control.feed(piece)?;
-        assert!(rt; !fed.broken);
-        replies.extend_from_slice(&fed.replies)?;
-    }
+    serves(rt, control, before(front, first), &mut replies)?;
+    serves(rt, control, behind(front, first), &mut replies)?;
+    serves(rt, control, back, &mut replies)?;
     Ok(replies)
 }
 
@@ -141,25 +169,54 @@ const STREAMS: [(&[&[&[u8]]], Option<u64>); 5] = [
     (&[RESUMED_REQUEST, NACK], None),
 ];
 
+/// The bytes of these requests.
+fn stream_of(alloc: Global, requests: &[&[&[u8]]]) -> Result<Vec<u8>, Fail> {
+    let mut bytes = Vec::new(alloc);
+    for pieces in requests {
+        bytes.extend_from_slice(&joined(alloc, pieces)?)?;
+    }
+    Ok(bytes)
+}
+
+/// A new control plane sends this for the bytes, cut at these two places, and has this acknowledged then.
+fn sends_alike(
+    rt: &impl Abort,
+    alloc: Global,
+    bytes: &[u8],
+    cut: (usize, usize),
+    at_once: &[u8],
+    number: Option<u64>,
+) -> Result<(), Fail> {
+    let mut control = control_of(alloc, "f", &[TRUE_AND_TRUE, ANY_ANY])?;
+    let replies = sent(rt, alloc, &mut control, bytes, cut)?;
+    are_equal(rt, &replies, at_once);
+    has_acknowledged(rt, &control, number);
+    Ok(())
+}
+
+/// A control plane sends the same for the bytes wherever they are cut.
+fn stream_alike(
+    rt: &impl Abort,
+    alloc: Global,
+    bytes: &[u8],
+    number: Option<u64>,
+) -> Result<(), Fail> {
+    let length = bytes.len();
+    let mut whole = control_of(alloc, "f", &[TRUE_AND_TRUE, ANY_ANY])?;
+    let at_once = sent(rt, alloc, &mut whole, bytes, (0, length))?;
+    for first in 0..=length {
+        for second in first..=length {
+            sends_alike(rt, alloc, bytes, (first, second), &at_once, number)?;
+        }
+    }
+    Ok(())
+}
+
 #[test]
 fn requests(rt: HostRuntime) -> Result<(), Fail> {
-    let alloc = rt.alloc();
     for (requests, number) in &STREAMS {
-        let mut bytes = Vec::new(alloc);
-        for pieces in *requests {
-            bytes.extend_from_slice(&joined(alloc, pieces)?)?;
-        }
-        let length = bytes.len();
-        let mut whole = control_of(alloc, "f", &[TRUE_AND_TRUE, ANY_ANY])?;
-        let at_once = sent(&rt, alloc, &mut whole, &bytes, (0, length))?;
-        for first in 0..=length {
-            for second in first..=length {
-                let mut control = control_of(alloc, "f", &[TRUE_AND_TRUE, ANY_ANY])?;
-                let cut = (first, second);
-                assert!(rt; sent(&rt, alloc, &mut control, &bytes, cut)? == at_once);
-                assert_eq!(rt; control.acknowledged(), *number);
-            }
-        }
+        let bytes = stream_of(rt.alloc(), requests)?;
+        stream_alike(&rt, rt.alloc(), &bytes, *number)?;
     }
     Ok(())
 }
