@@ -3,6 +3,7 @@ mod addresses;
 mod command_line;
 mod conditions;
 mod depth;
+mod endings;
 mod explain;
 mod filter_bytes;
 mod filters;

@@ -1,7 +1,7 @@
 //! Worked cases of the client: what it answers, and what it has accepted then.
 use super::making::{
-    LET_THROUGH, answers, bound, client_of, client_with, half_bad, policies, refuses, request_by,
-    resource, response, shown, verdict,
+    LET_THROUGH, answers, begins, client_of, client_with, connects, decides, half_bad, has_bound,
+    has_generation, has_policies, is_shown, refuses, request_by, resource, response, shown,
 };
 use super::vectors::{
     ANY_ANY, FIRST_ACK, FIRST_REQUEST, FIRST_RESPONSE, HALF_BAD_NACK, RESUMED_REQUEST, SECOND_ACK,
@@ -19,12 +19,12 @@ const NO_POLICIES: &[u8] = b"\x0a\x00";
 fn first_response(rt: HostRuntime) -> Result<(), Fail> {
     let alloc = rt.alloc();
     let mut client = client_of(alloc, &["f"])?;
-    assert!(rt; client.connected()? == joined(alloc, FIRST_REQUEST)?);
+    begins(&rt, alloc, &mut client, FIRST_REQUEST)?;
     let first = joined(alloc, FIRST_RESPONSE)?;
     answers(&rt, alloc, &mut client, &first, FIRST_ACK)?;
-    assert_eq!(rt; policies(&client, "f"), Some(1));
-    assert_eq!(rt; bound(&client, "f"), Some(4));
-    assert_eq!(rt; client.generation(), 1);
+    has_policies(&rt, &client, "f", Some(1));
+    has_bound(&rt, &client, "f", Some(4));
+    has_generation(&rt, &client, 1);
     Ok(())
 }
 
@@ -33,14 +33,14 @@ fn first_response(rt: HostRuntime) -> Result<(), Fail> {
 fn half_bad_response(rt: HostRuntime) -> Result<(), Fail> {
     let alloc = rt.alloc();
     let mut client = client_with(alloc, &["f", "g"], ANY_ANY)?;
-    assert_eq!(rt; client.generation(), 1);
+    has_generation(&rt, &client, 1);
     let before = shown(alloc, &client)?;
     answers(&rt, alloc, &mut client, &half_bad(alloc)?, HALF_BAD_NACK)?;
-    assert!(rt; shown(alloc, &client)? == before);
-    assert_eq!(rt; client.generation(), 1);
+    is_shown(&rt, alloc, &client, &before)?;
+    has_generation(&rt, &client, 1);
     let get = request_by(alloc, "GET")?;
-    assert_eq!(rt; verdict(&client, "f", &get), Some(LET_THROUGH));
-    assert_eq!(rt; verdict(&client, "g", &get), Some(LET_THROUGH));
+    decides(&rt, &client, "f", &get, LET_THROUGH);
+    decides(&rt, &client, "g", &get, LET_THROUGH);
     Ok(())
 }
 
@@ -50,12 +50,12 @@ fn lost_after(rt: &impl Abort, alloc: Global, second: &[u8], count: usize) -> Re
     let mut client = client_with(alloc, &["f"], TRUE_AND_TRUE)?;
     answers(rt, alloc, &mut client, before(second, count), &[])?;
     client.lost();
-    assert_eq!(rt; bound(&client, "f"), Some(4));
-    assert_eq!(rt; client.generation(), 1);
-    assert!(rt; client.connected()? == joined(alloc, RESUMED_REQUEST)?);
+    has_bound(rt, &client, "f", Some(4));
+    has_generation(rt, &client, 1);
+    begins(rt, alloc, &mut client, RESUMED_REQUEST)?;
     answers(rt, alloc, &mut client, second, SECOND_ACK)?;
-    assert_eq!(rt; policies(&client, "f"), Some(0));
-    assert_eq!(rt; client.generation(), 2);
+    has_policies(rt, &client, "f", Some(0));
+    has_generation(rt, &client, 2);
     Ok(())
 }
 
@@ -76,8 +76,8 @@ fn empty_response(rt: HostRuntime) -> Result<(), Fail> {
     let mut client = client_with(alloc, &["f"], ANY_ANY)?;
     let empty = response(alloc, "1", "n1", &[])?;
     answers(&rt, alloc, &mut client, &empty, FIRST_ACK)?;
-    assert_eq!(rt; policies(&client, "f"), Some(1));
-    assert_eq!(rt; client.generation(), 2);
+    has_policies(&rt, &client, "f", Some(1));
+    has_generation(&rt, &client, 2);
     Ok(())
 }
 
@@ -86,13 +86,13 @@ fn empty_response(rt: HostRuntime) -> Result<(), Fail> {
 fn names_not_asked_for(rt: HostRuntime) -> Result<(), Fail> {
     let alloc = rt.alloc();
     let mut client = client_of(alloc, &["f"])?;
-    client.connected()?;
+    connects(&mut client)?;
     let other = resource(alloc, "x", b"\x22\x00")?;
     let filter = resource(alloc, "f", ANY_ANY)?;
     let all = response(alloc, "1", "n1", &[&other, &filter, &other])?;
     answers(&rt, alloc, &mut client, &all, FIRST_ACK)?;
-    assert_eq!(rt; policies(&client, "f"), Some(1));
-    assert_eq!(rt; policies(&client, "x"), None);
+    has_policies(&rt, &client, "f", Some(1));
+    has_policies(&rt, &client, "x", None);
     Ok(())
 }
 

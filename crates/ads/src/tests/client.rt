@@ -1,6 +1,8 @@
 //! A client over bytes.
-use super::making::{client_of, policies, resource, response};
-use super::vectors::{ANY_ANY, FIRST_ACK, FIRST_REQUEST, RESUMED_REQUEST, joined};
+use super::making::{
+    begins, client_of, connects, has_generation, has_policies, is_broken_by, resource, response,
+};
+use super::vectors::{ANY_ANY, FIRST_ACK, FIRST_REQUEST, RESUMED_REQUEST};
 use std::alloc::Global;
 use std::process::Abort;
 use std::test::Fail;
@@ -8,19 +10,14 @@ use std::test::Fail;
 /// A stream of a client that has accepted a filter breaks, and the filter stays.
 fn breaks(rt: &impl Abort, alloc: Global, bytes: &[u8]) -> Result<(), Fail> {
     let mut client = client_of(alloc, &["f"])?;
-    client.connected()?;
+    connects(&mut client)?;
     let filter = resource(alloc, "f", ANY_ANY)?;
     let mut all = response(alloc, "1", "n1", &[&filter])?;
     all.extend_from_slice(bytes)?;
-    let fed = client.feed(&all)?;
-    assert!(rt; fed.broken);
-    assert!(rt; fed.replies == joined(alloc, FIRST_ACK)?);
-    assert_eq!(rt; policies(&client, "f"), Some(1));
-    let fed = client.feed(&all)?;
-    assert!(rt; fed.broken);
-    assert!(rt; fed.replies.is_empty());
-    assert!(rt; client.connected()? == joined(alloc, RESUMED_REQUEST)?);
-    Ok(())
+    is_broken_by(rt, alloc, &mut client, &all, FIRST_ACK)?;
+    has_policies(rt, &client, "f", Some(1));
+    is_broken_by(rt, alloc, &mut client, &all, &[])?;
+    begins(rt, alloc, &mut client, RESUMED_REQUEST)
 }
 
 /// Frames that break a stream: one that is compressed, one that is too long, responses that are no list of fields or hold a
@@ -49,9 +46,8 @@ fn broken_streams(rt: HostRuntime) -> Result<(), Fail> {
 fn first_requests(rt: HostRuntime) -> Result<(), Fail> {
     let alloc = rt.alloc();
     let mut client = client_of(alloc, &["f"])?;
-    assert!(rt; client.connected()? == joined(alloc, FIRST_REQUEST)?);
+    begins(&rt, alloc, &mut client, FIRST_REQUEST)?;
     client.feed(&response(alloc, "1", "n1", &[])?)?;
-    assert_eq!(rt; client.generation(), 1);
-    assert!(rt; client.connected()? == joined(alloc, RESUMED_REQUEST)?);
-    Ok(())
+    has_generation(&rt, &client, 1);
+    begins(&rt, alloc, &mut client, RESUMED_REQUEST)
 }

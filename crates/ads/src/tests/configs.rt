@@ -1,6 +1,8 @@
 //! Configurations and their faults.
 use super::making::{config_of, long_text};
 use crate::ConfigFault;
+use std::alloc::Global;
+use std::process::Abort;
 use std::test::Fail;
 
 /// Names, a budget, and the fault of a configuration with both.
@@ -21,34 +23,50 @@ const FAULTS: [(&[&str], u64, Option<ConfigFault>); 10] = [
     (&["a"], 100_000_001, Some(ConfigFault::BadBudget)),
 ];
 
+/// The configuration of node `n` in cluster `c` has this fault, or none.
+fn has_fault(
+    rt: &impl Abort,
+    alloc: Global,
+    names: &[&str],
+    budget: u64,
+    fault: Option<ConfigFault>,
+) -> Result<(), Fail> {
+    let config = config_of(alloc, "n", "c", names, budget)?;
+    assert_eq!(rt; config.err(), fault);
+    Ok(())
+}
+
 #[test]
 fn faults(rt: HostRuntime) -> Result<(), Fail> {
-    let alloc = rt.alloc();
     for (names, budget, fault) in &FAULTS {
-        let config = config_of(alloc, "n", "c", names, *budget)?;
-        assert_eq!(rt; config.err(), *fault);
+        has_fault(&rt, rt.alloc(), names, *budget, *fault)?;
     }
+    Ok(())
+}
+
+/// Whether the names are taken, for this node in this cluster.
+fn takes_names(
+    rt: &impl Abort,
+    alloc: Global,
+    node: &str,
+    cluster: &str,
+    names: &[&str],
+    fault: Option<ConfigFault>,
+) -> Result<(), Fail> {
+    let config = config_of(alloc, node, cluster, names, 1)?;
+    assert_eq!(rt; config.err(), fault);
     Ok(())
 }
 
 #[test]
 fn long_names(rt: HostRuntime) -> Result<(), Fail> {
     let alloc = rt.alloc();
+    let bad = Some(ConfigFault::BadName);
     let fits = long_text(alloc, 256)?;
-    assert!(rt; config_of(alloc, &fits, &fits, &[&fits], 1)?.is_ok());
-    assert!(rt; config_of(alloc, "", "", &["f"], 1)?.is_ok());
+    takes_names(&rt, alloc, &fits, &fits, &[&fits], None)?;
+    takes_names(&rt, alloc, "", "", &["f"], None)?;
     let more = long_text(alloc, 257)?;
-    assert_eq!(rt;
-        config_of(alloc, "n", "c", &["f", &more], 1)?.err(),
-        Some(ConfigFault::BadName)
-    );
-    assert_eq!(rt;
-        config_of(alloc, &more, "c", &["f"], 1)?.err(),
-        Some(ConfigFault::BadName)
-    );
-    assert_eq!(rt;
-        config_of(alloc, "n", &more, &["f"], 1)?.err(),
-        Some(ConfigFault::BadName)
-    );
-    Ok(())
+    takes_names(&rt, alloc, "n", "c", &["f", &more], bad)?;
+    takes_names(&rt, alloc, &more, "c", &["f"], bad)?;
+    takes_names(&rt, alloc, "n", &more, &["f"], bad)
 }

@@ -1,5 +1,7 @@
 //! Frames of what protobuf's own runtimes write, from all fields that Envoy's messages have, at both ends.
-use super::making::{answers, client_of, control_of, policies, refuses, sends};
+use super::making::{
+    answers, client_of, connects, control_of, has_acknowledged, has_policies, refuses, sends,
+};
 use super::vectors::{ANY_ANY, FIRST_ACK, R, U, joined};
 use std::test::Fail;
 
@@ -108,7 +110,7 @@ const SENT_NEXT: &[&[u8]] = &[
 fn at_a_client(rt: HostRuntime) -> Result<(), Fail> {
     let alloc = rt.alloc();
     let mut client = client_of(alloc, &["f"])?;
-    client.connected()?;
+    connects(&mut client)?;
     answers(
         &rt,
         alloc,
@@ -116,7 +118,7 @@ fn at_a_client(rt: HostRuntime) -> Result<(), Fail> {
         &joined(alloc, RESPONSE)?,
         FIRST_ACK,
     )?;
-    assert_eq!(rt; policies(&client, "f"), Some(1));
+    has_policies(&rt, &client, "f", Some(1));
     refuses(&rt, alloc, &joined(alloc, WITH_TTL)?, b"17")?;
     refuses(&rt, alloc, &joined(alloc, CLUSTERS)?, b"17")
 }
@@ -129,6 +131,6 @@ fn at_a_control_plane(rt: HostRuntime) -> Result<(), Fail> {
     sends(&rt, alloc, &mut control, FIRST, SENT)?;
     sends(&rt, alloc, &mut control, OTHER_TYPE, &[])?;
     sends(&rt, alloc, &mut control, REFUSAL, SENT_NEXT)?;
-    assert_eq!(rt; control.acknowledged(), None);
+    has_acknowledged(&rt, &control, None);
     Ok(())
 }

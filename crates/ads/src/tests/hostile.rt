@@ -1,6 +1,10 @@
 //! Responses of a hostile control plane: each is refused by its number, and what was accepted stays.
-use super::making::{answers, client_of, client_with, policies, refuses, response, shown};
+use super::making::{
+    answers, client_of, client_with, connects, has_generation, has_policies, is_shown, refuses,
+    response, shown,
+};
 use super::vectors::{ANY_ANY, FIRST_ACK, HALF_BAD_NACK, OTHER_CASE, RESUMED_REQUEST, U, joined};
+use std::alloc::Global;
 use std::test::Fail;
 
 /// Responses whose type, or whose resource's type, is empty, absent, short or of another case.
@@ -79,24 +83,28 @@ fn empty_and_repeated(rt: HostRuntime) -> Result<(), Fail> {
     let empty = response(alloc, "", "", &[])?;
     let ack: &[&[u8]] = &[b"\x00\x00\x00\x00\x42\x1a\x01f\x22\x3d", U];
     answers(&rt, alloc, &mut client, &empty, ack)?;
-    assert_eq!(rt; client.generation(), 3);
-    assert_eq!(rt; policies(&client, "f"), Some(1));
+    has_generation(&rt, &client, 3);
+    has_policies(&rt, &client, "f", Some(1));
     Ok(())
 }
 
-/// 10,000 resources that nobody asked for.
+/// A response with so many resources that nobody asked for.
+fn others(alloc: Global, count: usize) -> Result<Vec<u8>, Fail> {
+    let mut others: Vec<&[u8]> = Vec::new(alloc);
+    for _ in 0..count {
+        others.push(b"\x0a\x01x")?;
+    }
+    response(alloc, "1", "n1", &others)
+}
+
 #[test]
 fn many_others(rt: HostRuntime) -> Result<(), Fail> {
     let alloc = rt.alloc();
-    let mut others: Vec<&[u8]> = Vec::new(alloc);
-    for _ in 0..10_000 {
-        others.push(b"\x0a\x01x")?;
-    }
     let mut client = client_with(alloc, &["f"], ANY_ANY)?;
-    let all = response(alloc, "1", "n1", &others)?;
+    let all = others(alloc, 10_000)?;
     answers(&rt, alloc, &mut client, &all, FIRST_ACK)?;
-    assert_eq!(rt; policies(&client, "f"), Some(1));
-    assert_eq!(rt; policies(&client, "x"), None);
+    has_policies(&rt, &client, "f", Some(1));
+    has_policies(&rt, &client, "x", None);
     Ok(())
 }
 
@@ -106,7 +114,7 @@ fn many_others(rt: HostRuntime) -> Result<(), Fail> {
 fn requests_as_responses(rt: HostRuntime) -> Result<(), Fail> {
     let alloc = rt.alloc();
     let mut client = client_of(alloc, &["f"])?;
-    client.connected()?;
+    connects(&mut client)?;
     answers(
         &rt,
         alloc,
@@ -133,7 +141,7 @@ fn requests_as_responses(rt: HostRuntime) -> Result<(), Fail> {
         &joined(alloc, RESUMED_REQUEST)?,
         nack,
     )?;
-    assert!(rt; shown(alloc, &client)? == before);
-    assert_eq!(rt; client.generation(), 2);
+    is_shown(&rt, alloc, &client, &before)?;
+    has_generation(&rt, &client, 2);
     Ok(())
 }

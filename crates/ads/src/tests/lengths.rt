@@ -1,6 +1,10 @@
 //! Long texts, the longest message, and many messages without bytes, at a client.
-use super::making::{answers, client_of, client_with, long_text, response, shown, takes_get_alone};
+use super::making::{
+    answers, begins, client_of, client_with, has_generation, is_broken_by, is_shown, long_text,
+    response, shown, takes_get_alone,
+};
 use super::vectors::{FIRST_REQUEST, METHOD_IS_GET, RESUMED_REQUEST, U, joined};
+use crate::Client;
 use std::alloc::Global;
 use std::process::Abort;
 use std::test::Fail;
@@ -15,9 +19,9 @@ fn is_acknowledged(
     resumed: &[&[u8]],
 ) -> Result<(), Fail> {
     let mut client = client_of(alloc, &["f"])?;
-    assert!(rt; client.connected()? == joined(alloc, FIRST_REQUEST)?);
+    begins(rt, alloc, &mut client, FIRST_REQUEST)?;
     answers(rt, alloc, &mut client, response, ack)?;
-    assert!(rt; client.connected()? == joined(alloc, resumed)?);
+    begins(rt, alloc, &mut client, resumed)?;
     if let Some((last, bytes)) = response.split_last() {
         for byte in bytes {
             answers(rt, alloc, &mut client, &[*byte], &[])?;
@@ -67,7 +71,7 @@ fn a_long_nonce(rt: HostRuntime) -> Result<(), Fail> {
 fn the_longest_response(rt: HostRuntime) -> Result<(), Fail> {
     let alloc = rt.alloc();
     let mut client = client_of(alloc, &["f"])?;
-    assert!(rt; client.connected()? == joined(alloc, FIRST_REQUEST)?);
+    begins(&rt, alloc, &mut client, FIRST_REQUEST)?;
     let version = long_text(alloc, 1_048_505)?;
     let longest = response(alloc, &version, "n1", &[])?;
     let ack: &[&[u8]] = &[
@@ -79,17 +83,15 @@ fn the_longest_response(rt: HostRuntime) -> Result<(), Fail> {
     ];
     answers(&rt, alloc, &mut client, &longest, ack)?;
     let longer = response(alloc, &version, "n12", &[])?;
-    let fed = client.feed(&longer)?;
-    assert!(rt; fed.broken && fed.replies.is_empty());
-    assert_eq!(rt; client.generation(), 1);
+    is_broken_by(&rt, alloc, &mut client, &longer, &[])?;
+    has_generation(&rt, &client, 1);
     let resumed: &[&[u8]] = &[
         b"\x00\x00\x10\x00\x07\x0a\xb9\xff\x3f",
         version.as_bytes(),
         b"\x12\x06\x0a\x01n\x12\x01c\x1a\x01f\x22\x3d",
         U,
     ];
-    assert!(rt; client.connected()? == joined(alloc, resumed)?);
-    Ok(())
+    begins(&rt, alloc, &mut client, resumed)
 }
 
 /// The refusal of a response without bytes, after version `1`.
@@ -102,22 +104,34 @@ const EMPTY_REFUSED: &[&[u8]] = &[
 /// How many bytes it has.
 const REFUSAL_LENGTH: usize = 98;
 
+/// The client refuses 10,000 responses without bytes, each by itself, and its stream stays up.
+fn refuses_empty_ones(rt: &impl Abort, alloc: Global, client: &mut Client) -> Result<(), Fail> {
+    let empty = vec![in alloc; 0u8; 50_000]?;
+    let fed = client.feed(&empty)?;
+    assert!(rt; !fed.broken);
+    are_refusals(rt, alloc, &fed.replies, 10_000)
+}
+
+/// The replies are so many refusals of a response without bytes.
+fn are_refusals(rt: &impl Abort, alloc: Global, replies: &[u8], count: usize) -> Result<(), Fail> {
+    let refusal = joined(alloc, EMPTY_REFUSED)?;
+    assert_eq!(rt; refusal.len(), REFUSAL_LENGTH);
+    assert_eq!(rt; replies.len() / REFUSAL_LENGTH, count);
+    assert_eq!(rt; replies.len() % REFUSAL_LENGTH, 0);
+    for reply in replies.chunks(REFUSAL_LENGTH) {
+        assert!(rt; reply == refusal.as_slice());
+    }
+    Ok(())
+}
+
 #[test]
 fn many_empty_responses(rt: HostRuntime) -> Result<(), Fail> {
     let alloc = rt.alloc();
     let mut client = client_with(alloc, &["f"], METHOD_IS_GET)?;
     let before = shown(alloc, &client)?;
-    let empty = vec![in alloc; 0u8; 50_000]?;
-    let fed = client.feed(&empty)?;
-    assert!(rt; !fed.broken);
-    assert_eq!(rt; fed.replies.len(), 10_000 * REFUSAL_LENGTH);
-    let refusal = joined(alloc, EMPTY_REFUSED)?;
-    for reply in fed.replies.chunks(REFUSAL_LENGTH) {
-        assert!(rt; reply == refusal.as_slice());
-    }
-    assert!(rt; shown(alloc, &client)? == before);
+    refuses_empty_ones(&rt, alloc, &mut client)?;
+    is_shown(&rt, alloc, &client, &before)?;
     takes_get_alone(&rt, alloc, &client)?;
-    assert_eq!(rt; client.generation(), 1);
-    assert!(rt; client.connected()? == joined(alloc, RESUMED_REQUEST)?);
-    Ok(())
+    has_generation(&rt, &client, 1);
+    begins(&rt, alloc, &mut client, RESUMED_REQUEST)
 }

@@ -11,6 +11,16 @@ use xds_wire::{
     Any, DiscoveryResponse, TypedExtensionConfig, write_extension, write_frame, write_response,
 };
 
+/// Filters with these names and this budget.
+fn filters_of(alloc: Global, names: &[&str], budget: u64) -> Result<Vec<Filter>, Fail> {
+    let mut filters = Vec::new(alloc);
+    for name in names {
+        let name = String::from_str(alloc, name)?;
+        filters.push(Filter { name, budget })?;
+    }
+    Ok(filters)
+}
+
 /// What a configuration of this node in this cluster, and of filters with these names and this budget, answers.
 pub fn config_of(
     alloc: Global,
@@ -19,11 +29,7 @@ pub fn config_of(
     names: &[&str],
     budget: u64,
 ) -> Result<Result<Config, ConfigFault>, Fail> {
-    let mut filters = Vec::new(alloc);
-    for name in names {
-        let name = String::from_str(alloc, name)?;
-        filters.push(Filter { name, budget })?;
-    }
+    let filters = filters_of(alloc, names, budget)?;
     let limits = Limits::new(64, 128, 4096, 32, 4096, 1024)?;
     let node = String::from_str(alloc, node)?;
     let cluster = String::from_str(alloc, cluster)?;
@@ -38,11 +44,7 @@ pub fn client_of(alloc: Global, names: &[&str]) -> Result<Client, Fail> {
 
 /// A text of so many bytes.
 pub fn long_text(alloc: Global, count: usize) -> Result<String, Fail> {
-    let mut text = String::new(alloc);
-    for _ in 0..count {
-        text.push('a')?;
-    }
-    Ok(text)
+    Ok("a".repeat(alloc, count)?)
 }
 
 /// The resource that gives a name this filter.
@@ -59,6 +61,28 @@ pub fn resource(alloc: Global, name: &str, filter: &[u8]) -> Result<Vec<u8>, Fai
     Ok(bytes)
 }
 
+/// The values as resources of a response.
+fn packed<'a>(alloc: Global, values: &[&'a [u8]]) -> Result<Vec<Any<'a>>, Fail> {
+    let mut each = Vec::new(alloc);
+    for value in values {
+        each.push(Any {
+            type_url: EXTENSION_TYPE,
+            value: *value,
+        })?;
+    }
+    Ok(each)
+}
+
+/// The message in a frame.
+fn framed(alloc: Global, message: &[u8]) -> Result<Vec<u8>, Fail> {
+    if message.len() > 100_000_000 {
+        return Err(Fail::from("a message too long for a test"));
+    }
+    let mut frame = Vec::new(alloc);
+    write_frame(message, &mut frame)?;
+    Ok(frame)
+}
+
 /// The frame of a response with these resources.
 pub fn response(
     alloc: Global,
@@ -66,27 +90,15 @@ pub fn response(
     nonce: &str,
     resources: &[&[u8]],
 ) -> Result<Vec<u8>, Fail> {
-    let mut each = Vec::new(alloc);
-    for value in resources {
-        each.push(Any {
-            type_url: EXTENSION_TYPE,
-            value: *value,
-        })?;
-    }
     let response = DiscoveryResponse {
         version_info: version,
-        resources: each,
+        resources: packed(alloc, resources)?,
         type_url: EXTENSION_TYPE,
         nonce,
     };
     let mut message = Vec::new(alloc);
     write_response(&response, &mut message)?;
-    if message.len() > 100_000_000 {
-        return Err(Fail::from("a message too long for a test"));
-    }
-    let mut frame = Vec::new(alloc);
-    write_frame(&message, &mut frame)?;
-    Ok(frame)
+    framed(alloc, &message)
 }
 
 /// A response that gives `f` a filter without policies, and `g` one with an unknown field.
@@ -101,20 +113,46 @@ pub fn shown(alloc: Global, client: &Client) -> Result<String, Fail> {
     Ok(format!(in alloc; "{client:?}")?)
 }
 
+/// The client is what was shown before.
+pub fn is_shown(
+    rt: &impl Abort,
+    alloc: Global,
+    client: &Client,
+    before: &String,
+) -> Result<(), Fail> {
+    assert!(rt; shown(alloc, client)? == *before);
+    Ok(())
+}
+
+/// The client has accepted so many responses.
+pub fn has_generation(rt: &impl Abort, client: &Client, expected: u64) {
+    assert_eq!(rt; client.generation(), expected);
+}
+
 /// How many policies the filter of this name has.
-pub fn policies(client: &Client, name: &str) -> Option<usize> {
+fn policies(client: &Client, name: &str) -> Option<usize> {
     match client.current(name) {
         Some(admitted) => Some(admitted.policies()),
         None => None,
     }
 }
 
+/// The filter of this name has so many policies, or is not there.
+pub fn has_policies(rt: &impl Abort, client: &Client, name: &str, expected: Option<usize>) {
+    assert_eq!(rt; policies(client, name), expected);
+}
+
 /// How many steps the conditions of the filter of this name may take.
-pub fn bound(client: &Client, name: &str) -> Option<u64> {
+fn bound(client: &Client, name: &str) -> Option<u64> {
     match client.current(name) {
         Some(admitted) => Some(admitted.bound()),
         None => None,
     }
+}
+
+/// The conditions of the filter of this name may take so many steps.
+pub fn has_bound(rt: &impl Abort, client: &Client, name: &str, expected: Option<u64>) {
+    assert_eq!(rt; bound(client, name), expected);
 }
 
 /// The request by this method for `/` with the Host field `h`, on a connection of which the scheme alone is known.
@@ -131,11 +169,16 @@ pub fn request_by(alloc: Global, method: &str) -> Result<Request, Fail> {
 }
 
 /// What the filter of this name answers the request.
-pub fn verdict(client: &Client, name: &str, request: &Request) -> Option<Verdict> {
+fn verdict(client: &Client, name: &str, request: &Request) -> Option<Verdict> {
     match client.current(name) {
         Some(admitted) => admitted.decide(request).ok(),
         None => None,
     }
+}
+
+/// The filter of this name answers the request by this verdict.
+pub fn decides(rt: &impl Abort, client: &Client, name: &str, request: &Request, expected: Verdict) {
+    assert_eq!(rt; verdict(client, name, request), Some(expected));
 }
 
 /// The request is let through, by the first policy.
@@ -154,24 +197,52 @@ pub const REFUSED: Verdict = Verdict {
 pub fn takes_get_alone(rt: &impl Abort, alloc: Global, client: &Client) -> Result<(), Fail> {
     let get = request_by(alloc, "GET")?;
     let post = request_by(alloc, "POST")?;
-    assert_eq!(rt; verdict(client, "f", &get), Some(LET_THROUGH));
-    assert_eq!(rt; verdict(client, "f", &post), Some(REFUSED));
+    decides(rt, client, "f", &get, LET_THROUGH);
+    decides(rt, client, "f", &post, REFUSED);
     Ok(())
+}
+
+/// The client begins a stream.
+pub fn connects(client: &mut Client) -> Result<(), Fail> {
+    client.connected()?;
+    Ok(())
+}
+
+/// The client begins a stream by these bytes.
+pub fn begins(
+    rt: &impl Abort,
+    alloc: Global,
+    client: &mut Client,
+    request: &[&[u8]],
+) -> Result<(), Fail> {
+    assert!(rt; client.connected()? == joined(alloc, request)?);
+    Ok(())
+}
+
+/// The resources that give each of these names this filter.
+fn resources_of(alloc: Global, names: &[&str], filter: &[u8]) -> Result<Vec<Vec<u8>>, Fail> {
+    let mut resources = Vec::new(alloc);
+    for name in names {
+        resources.push(resource(alloc, name, filter)?)?;
+    }
+    Ok(resources)
+}
+
+/// A response of version `1` and nonce `n1` with these resources.
+fn first_response(alloc: Global, resources: &[Vec<u8>]) -> Result<Vec<u8>, Fail> {
+    let mut each = Vec::new(alloc);
+    for resource in resources {
+        each.push(resource.as_slice())?;
+    }
+    response(alloc, "1", "n1", &each)
 }
 
 /// A client whose stream is up, and which has accepted this filter for all of its names in one response, of version `1`.
 pub fn client_with(alloc: Global, names: &[&str], filter: &[u8]) -> Result<Client, Fail> {
     let mut client = client_of(alloc, names)?;
-    client.connected()?;
-    let mut resources = Vec::new(alloc);
-    for name in names {
-        resources.push(resource(alloc, name, filter)?)?;
-    }
-    let mut each = Vec::new(alloc);
-    for resource in &resources {
-        each.push(resource.as_slice())?;
-    }
-    client.feed(&response(alloc, "1", "n1", &each)?)?;
+    connects(&mut client)?;
+    let resources = resources_of(alloc, names, filter)?;
+    client.feed(&first_response(alloc, &resources)?)?;
     Ok(client)
 }
 
@@ -185,6 +256,20 @@ pub fn answers(
 ) -> Result<(), Fail> {
     let fed = client.feed(response)?;
     assert!(rt; !fed.broken);
+    assert!(rt; fed.replies == joined(alloc, reply)?);
+    Ok(())
+}
+
+/// The client answers the bytes with these, and its stream is broken.
+pub fn is_broken_by(
+    rt: &impl Abort,
+    alloc: Global,
+    client: &mut Client,
+    bytes: &[u8],
+    reply: &[&[u8]],
+) -> Result<(), Fail> {
+    let fed = client.feed(bytes)?;
+    assert!(rt; fed.broken);
     assert!(rt; fed.replies == joined(alloc, reply)?);
     Ok(())
 }
@@ -212,12 +297,11 @@ pub fn refuses(rt: &impl Abort, alloc: Global, response: &[u8], number: &[u8]) -
     let nack: &[&[u8]] = &[head, U, status, b"policy refused: ", number];
     let before = shown(alloc, &client)?;
     answers(rt, alloc, &mut client, response, nack)?;
-    assert!(rt; shown(alloc, &client)? == before);
+    is_shown(rt, alloc, &client, &before)?;
     takes_get_alone(rt, alloc, &client)?;
-    assert_eq!(rt; client.generation(), 1);
+    has_generation(rt, &client, 1);
     client.lost();
-    assert!(rt; client.connected()? == joined(alloc, RESUMED_REQUEST)?);
-    Ok(())
+    begins(rt, alloc, &mut client, RESUMED_REQUEST)
 }
 
 /// A snapshot that gives these names filters, in this order.
@@ -252,4 +336,23 @@ pub fn sends(
     assert!(rt; !fed.broken);
     assert!(rt; fed.replies == joined(alloc, reply)?);
     Ok(())
+}
+
+/// The control plane answers the bytes with these, and its stream is broken.
+pub fn ends_by(
+    rt: &impl Abort,
+    alloc: Global,
+    control: &mut Control,
+    bytes: &[u8],
+    reply: &[&[u8]],
+) -> Result<(), Fail> {
+    let fed = control.feed(bytes)?;
+    assert!(rt; fed.broken);
+    assert!(rt; fed.replies == joined(alloc, reply)?);
+    Ok(())
+}
+
+/// The snapshot of this number was acknowledged last, or none was.
+pub fn has_acknowledged(rt: &impl Abort, control: &Control, expected: Option<u64>) {
+    assert_eq!(rt; control.acknowledged(), expected);
 }

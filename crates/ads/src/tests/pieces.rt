@@ -1,6 +1,8 @@
 //! Streams of both ends, cut at each two places: what comes out is what comes out at once.
 use super::control::{ACK, NACK};
-use super::making::{client_of, control_of, half_bad, resource, response};
+use super::making::{
+    begins, client_of, control_of, half_bad, has_acknowledged, resource, response,
+};
 use super::vectors::{
     ANY_ANY, FIRST_ACK, FIRST_FOR_BOTH, FIRST_REQUEST, HALF_BAD_NACK, RESUMED_FOR_BOTH,
     RESUMED_REQUEST, TRUE_AND_TRUE, before, behind, joined,
@@ -9,6 +11,19 @@ use crate::{Client, Control};
 use std::alloc::Global;
 use std::process::Abort;
 use std::test::Fail;
+
+/// A piece is given to the client: what it answers is put behind the replies.
+fn feeds(
+    rt: &impl Abort,
+    client: &mut Client,
+    piece: &[u8],
+    replies: &mut Vec<u8>,
+) -> Result<(), Fail> {
+    let fed = client.feed(piece)?;
+    assert!(rt; !fed.broken);
+    replies.extend_from_slice(&fed.replies)?;
+    Ok(())
+}
 
 /// A new stream of the client begins with this request, and gives the bytes in three pieces: all that it answers.
 fn answered(
@@ -19,39 +34,73 @@ fn answered(
     bytes: &[u8],
     (first, second): (usize, usize),
 ) -> Result<Vec<u8>, Fail> {
-    assert!(rt; client.connected()? == joined(alloc, request)?);
+    begins(rt, alloc, client, request)?;
     let mut replies = Vec::new(alloc);
     let (front, back) = (before(bytes, second), behind(bytes, second));
-    for piece in &[before(front, first), behind(front, first), back] {
-        let fed = client.feed(piece)?;
-        assert!(rt; !fed.broken);
-        replies.extend_from_slice(&fed.replies)?;
-    }
+    feeds(rt, client, before(front, first), &mut replies)?;
+    feeds(rt, client, behind(front, first), &mut replies)?;
+    feeds(rt, client, back, &mut replies)?;
     Ok(replies)
 }
 
-/// A client answers the bytes alike wherever they are cut: first at a place of this range, and then at each place behind it or
-/// at every seventh. Once they were answered, a stream begins with this request.
+fn are_equal(rt: &impl Abort, replies: &[u8], expected: &[u8]) {
+    assert!(rt; replies == expected);
+}
+
+/// A stream that begins with this request and goes on with these bytes, and whether each second cut is tried or every seventh.
+#[derive(Clone, Copy)]
+struct Cuts<'a> {
+    request: &'a [&'a [u8]],
+    bytes: &'a [u8],
+    each: bool,
+}
+
+fn answers_cut(
+    rt: &impl Abort,
+    alloc: Global,
+    client: &mut Client,
+    cuts: &Cuts<'_>,
+    cut: (usize, usize),
+    at_once: &[u8],
+) -> Result<(), Fail> {
+    let replies = answered(rt, alloc, client, cuts.request, cuts.bytes, cut)?;
+    are_equal(rt, &replies, at_once);
+    Ok(())
+}
+
+/// The client answers alike where the first cut is here and the second at each place behind it.
+fn answers_cuts_at(
+    rt: &impl Abort,
+    alloc: Global,
+    client: &mut Client,
+    cuts: &Cuts<'_>,
+    first: usize,
+    at_once: &[u8],
+) -> Result<(), Fail> {
+    for second in first..=cuts.bytes.len() {
+        if cuts.each || second % 7 == 0 {
+            answers_cut(rt, alloc, client, cuts, (first, second), at_once)?;
+        }
+    }
+    Ok(())
+}
+
+/// A client answers the bytes alike wherever they are cut: first at a place of this range, and then behind it. Once they were
+/// answered, a stream begins with the request.
 fn answers_alike(
     rt: &impl Abort,
     alloc: Global,
-    bytes: &[u8],
-    request: &[&[u8]],
-    each: bool,
+    cuts: &Cuts<'_>,
     (from, to): (usize, usize),
 ) -> Result<(), Fail> {
     let mut client = client_of(alloc, &["f", "g"])?;
-    let length = bytes.len();
-    answered(rt, alloc, &mut client, FIRST_FOR_BOTH, bytes, (0, length))?;
-    let at_once = answered(rt, alloc, &mut client, request, bytes, (0, length))?;
+    let whole = (0, cuts.bytes.len());
+    answered(rt, alloc, &mut client, FIRST_FOR_BOTH, cuts.bytes, whole)?;
+    let at_once = answered(rt, alloc, &mut client, cuts.request, cuts.bytes, whole)?;
     assert!(rt; !at_once.is_empty());
-    for first in 0..=length {
-        for second in first..=length {
-            if from <= first && first < to && (each || second % 7 == 0) {
-                let cut = (first, second);
-                let replies = answered(rt, alloc, &mut client, request, bytes, cut)?;
-                assert!(rt; replies == at_once);
-            }
+    for first in 0..=cuts.bytes.len() {
+        if from <= first && first < to {
+            answers_cuts_at(rt, alloc, &mut client, cuts, first, &at_once)?;
         }
     }
     Ok(())
@@ -62,7 +111,12 @@ fn response_alike(rt: &impl Abort, alloc: Global, range: (usize, usize)) -> Resu
     let filter = resource(alloc, "f", TRUE_AND_TRUE)?;
     let first = response(alloc, "1", "n1", &[&filter])?;
     assert_eq!(rt; first.len(), 261);
-    answers_alike(rt, alloc, &first, RESUMED_FOR_BOTH, true, range)
+    let cuts = Cuts {
+        request: RESUMED_FOR_BOTH,
+        bytes: &first,
+        each: true,
+    };
+    answers_alike(rt, alloc, &cuts, range)
 }
 
 #[test]
@@ -80,37 +134,56 @@ fn responses_cut_behind_the_middle(rt: HostRuntime) -> Result<(), Fail> {
     response_alike(&rt, rt.alloc(), (110, 262))
 }
 
+/// Every place.
+const ANYWHERE: (usize, usize) = (0, usize::MAX);
+
 #[test]
 fn half_bad_responses(rt: HostRuntime) -> Result<(), Fail> {
-    let alloc = rt.alloc();
-    let whole = (0, usize::MAX);
-    answers_alike(&rt, alloc, &half_bad(alloc)?, FIRST_FOR_BOTH, false, whole)
+    let bytes = half_bad(rt.alloc())?;
+    let cuts = Cuts {
+        request: FIRST_FOR_BOTH,
+        bytes: &bytes,
+        each: false,
+    };
+    answers_alike(&rt, rt.alloc(), &cuts, ANYWHERE)
+}
+
+/// A request is answered alike as a response, on a stream that begins with this one.
+fn request_alike(
+    rt: &impl Abort,
+    alloc: Global,
+    pieces: &[&[u8]],
+    request: &[&[u8]],
+) -> Result<(), Fail> {
+    let bytes = joined(alloc, pieces)?;
+    let cuts = Cuts {
+        request,
+        bytes: &bytes,
+        each: true,
+    };
+    answers_alike(rt, alloc, &cuts, ANYWHERE)
 }
 
 /// The requests as responses: those that name no node are accepted.
 #[test]
 fn requests_as_responses(rt: HostRuntime) -> Result<(), Fail> {
     let alloc = rt.alloc();
-    for pieces in &[FIRST_REQUEST, RESUMED_REQUEST] {
-        answers_alike(
-            &rt,
-            alloc,
-            &joined(alloc, pieces)?,
-            FIRST_FOR_BOTH,
-            true,
-            (0, usize::MAX),
-        )?;
-    }
-    for pieces in &[FIRST_ACK, HALF_BAD_NACK] {
-        answers_alike(
-            &rt,
-            alloc,
-            &joined(alloc, pieces)?,
-            RESUMED_FOR_BOTH,
-            true,
-            (0, usize::MAX),
-        )?;
-    }
+    request_alike(&rt, alloc, FIRST_REQUEST, FIRST_FOR_BOTH)?;
+    request_alike(&rt, alloc, RESUMED_REQUEST, FIRST_FOR_BOTH)?;
+    request_alike(&rt, alloc, FIRST_ACK, RESUMED_FOR_BOTH)?;
+    request_alike(&rt, alloc, HALF_BAD_NACK, RESUMED_FOR_BOTH)
+}
+
+/// A piece is given to the control plane: what it sends is put behind the replies.
+pub fn serves(
+    rt: &impl Abort,
+    control: &mut Control,
+    piece: &[u8],
+    replies: &mut Vec<u8>,
+) -> Result<(), Fail> {
+    let fed = control.feed(piece)?;
+    assert!(rt; !fed.broken);
+    replies.extend_from_slice(&fed.replies)?;
     Ok(())
 }
 
@@ -124,11 +197,9 @@ fn sent(
 ) -> Result<Vec<u8>, Fail> {
     let mut replies = Vec::new(alloc);
     let (front, back) = (before(bytes, second), behind(bytes, second));
-    for piece in &[before(front, first), behind(front, first), back] {
-        let fed = control.feed(piece)?;
-        assert!(rt; !fed.broken);
-        replies.extend_from_slice(&fed.replies)?;
-    }
+    serves(rt, control, before(front, first), &mut replies)?;
+    serves(rt, control, behind(front, first), &mut replies)?;
+    serves(rt, control, back, &mut replies)?;
     Ok(replies)
 }
 
@@ -141,25 +212,67 @@ const STREAMS: [(&[&[&[u8]]], Option<u64>); 5] = [
     (&[RESUMED_REQUEST, NACK], None),
 ];
 
+/// The bytes of these requests.
+fn stream_of(alloc: Global, requests: &[&[&[u8]]]) -> Result<Vec<u8>, Fail> {
+    let mut bytes = Vec::new(alloc);
+    for pieces in requests {
+        bytes.extend_from_slice(&joined(alloc, pieces)?)?;
+    }
+    Ok(bytes)
+}
+
+/// A new control plane sends this for the bytes, cut at these two places, and has this acknowledged then.
+fn sends_alike(
+    rt: &impl Abort,
+    alloc: Global,
+    bytes: &[u8],
+    cut: (usize, usize),
+    at_once: &[u8],
+    number: Option<u64>,
+) -> Result<(), Fail> {
+    let mut control = control_of(alloc, "f", &[TRUE_AND_TRUE, ANY_ANY])?;
+    let replies = sent(rt, alloc, &mut control, bytes, cut)?;
+    are_equal(rt, &replies, at_once);
+    has_acknowledged(rt, &control, number);
+    Ok(())
+}
+
+/// A control plane sends the same where the first cut is here and the second at each place behind it.
+fn stream_cut_at(
+    rt: &impl Abort,
+    alloc: Global,
+    bytes: &[u8],
+    first: usize,
+    at_once: &[u8],
+    number: Option<u64>,
+) -> Result<(), Fail> {
+    for second in first..=bytes.len() {
+        sends_alike(rt, alloc, bytes, (first, second), at_once, number)?;
+    }
+    Ok(())
+}
+
+/// A control plane sends the same for the bytes wherever they are cut.
+fn stream_alike(
+    rt: &impl Abort,
+    alloc: Global,
+    bytes: &[u8],
+    number: Option<u64>,
+) -> Result<(), Fail> {
+    let length = bytes.len();
+    let mut whole = control_of(alloc, "f", &[TRUE_AND_TRUE, ANY_ANY])?;
+    let at_once = sent(rt, alloc, &mut whole, bytes, (0, length))?;
+    for first in 0..=length {
+        stream_cut_at(rt, alloc, bytes, first, &at_once, number)?;
+    }
+    Ok(())
+}
+
 #[test]
 fn requests(rt: HostRuntime) -> Result<(), Fail> {
-    let alloc = rt.alloc();
     for (requests, number) in &STREAMS {
-        let mut bytes = Vec::new(alloc);
-        for pieces in *requests {
-            bytes.extend_from_slice(&joined(alloc, pieces)?)?;
-        }
-        let length = bytes.len();
-        let mut whole = control_of(alloc, "f", &[TRUE_AND_TRUE, ANY_ANY])?;
-        let at_once = sent(&rt, alloc, &mut whole, &bytes, (0, length))?;
-        for first in 0..=length {
-            for second in first..=length {
-                let mut control = control_of(alloc, "f", &[TRUE_AND_TRUE, ANY_ANY])?;
-                let cut = (first, second);
-                assert!(rt; sent(&rt, alloc, &mut control, &bytes, cut)? == at_once);
-                assert_eq!(rt; control.acknowledged(), *number);
-            }
-        }
+        let bytes = stream_of(rt.alloc(), requests)?;
+        stream_alike(&rt, rt.alloc(), &bytes, *number)?;
     }
     Ok(())
 }

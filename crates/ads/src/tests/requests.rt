@@ -1,6 +1,9 @@
 //! Requests with long texts, for a type in another case of letters and for a name twice, at a control plane.
 use super::control::{ACK, FIRST, SECOND};
-use super::making::{answers, client_of, control_of, long_text, sends, shown, snapshot_of};
+use super::making::{
+    answers, client_of, connects, control_of, has_acknowledged, is_shown, long_text, sends, shown,
+    snapshot_of,
+};
 use super::vectors::{ANY_ANY, FIRST_REQUEST, OTHER_CASE, R, TRUE_AND_TRUE, U, joined};
 use crate::Control;
 use std::alloc::Global;
@@ -41,7 +44,7 @@ fn long_versions(rt: HostRuntime) -> Result<(), Fail> {
         b"\x2a\x011\x32\x00",
     ];
     sends(&rt, alloc, &mut control, nack, SECOND)?;
-    assert_eq!(rt; control.acknowledged(), None);
+    has_acknowledged(&rt, &control, None);
     Ok(())
 }
 
@@ -67,9 +70,9 @@ fn long_nonces(rt: HostRuntime) -> Result<(), Fail> {
         nonce,
     ];
     sends(&rt, alloc, &mut control, ack, &[])?;
-    assert_eq!(rt; control.acknowledged(), None);
+    has_acknowledged(&rt, &control, None);
     sends(&rt, alloc, &mut control, ACK, SECOND)?;
-    assert_eq!(rt; control.acknowledged(), Some(1));
+    has_acknowledged(&rt, &control, Some(1));
     Ok(())
 }
 
@@ -89,9 +92,9 @@ fn types_in_another_case(rt: HostRuntime) -> Result<(), Fail> {
     sends(&rt, alloc, &mut control, OTHER_FIRST, &[])?;
     sends(&rt, alloc, &mut control, FIRST_REQUEST, FIRST)?;
     sends(&rt, alloc, &mut control, OTHER_ACK, &[])?;
-    assert_eq!(rt; control.acknowledged(), None);
+    has_acknowledged(&rt, &control, None);
     sends(&rt, alloc, &mut control, ACK, SECOND)?;
-    assert_eq!(rt; control.acknowledged(), Some(1));
+    has_acknowledged(&rt, &control, Some(1));
     Ok(())
 }
 
@@ -140,12 +143,12 @@ fn a_name_twice_in_a_snapshot(rt: HostRuntime) -> Result<(), Fail> {
     let mut control = Control::new(alloc, vec![in alloc; snapshot]?);
     sends(&rt, alloc, &mut control, FIRST_REQUEST, BOTH)?;
     let mut client = client_of(alloc, &["f"])?;
-    client.connected()?;
+    connects(&mut client)?;
     let before = shown(alloc, &client)?;
     let both = joined(alloc, BOTH)?;
     answers(&rt, alloc, &mut client, &both, BOTH_REFUSED)?;
-    assert!(rt; shown(alloc, &client)? == before);
+    is_shown(&rt, alloc, &client, &before)?;
     sends(&rt, alloc, &mut control, BOTH_REFUSED, &[])?;
-    assert_eq!(rt; control.acknowledged(), None);
+    has_acknowledged(&rt, &control, None);
     Ok(())
 }

@@ -1,5 +1,6 @@
 //! Streams of a control plane that ask for nothing, in pieces, or badly.
-use super::making::{control_of, sends};
+use super::making::{control_of, ends_by, has_acknowledged, sends};
+use super::pieces::serves;
 use super::vectors::{ANY_ANY, FIRST_REQUEST, RESUMED_REQUEST, U, joined};
 use std::alloc::Global;
 use std::process::Abort;
@@ -36,7 +37,7 @@ fn no_snapshots(rt: HostRuntime) -> Result<(), Fail> {
     let alloc = rt.alloc();
     let mut control = control_of(alloc, "f", &[])?;
     sends(&rt, alloc, &mut control, FIRST_REQUEST, &[])?;
-    assert_eq!(rt; control.acknowledged(), None);
+    has_acknowledged(&rt, &control, None);
     Ok(())
 }
 
@@ -46,8 +47,7 @@ fn requests_before_the_first(rt: HostRuntime) -> Result<(), Fail> {
     let alloc = rt.alloc();
     let mut control = control_of(alloc, "g", &[ANY_ANY])?;
     for other in &OTHERS {
-        let fed = control.feed(&joined(alloc, other)?)?;
-        assert!(rt; fed.replies.is_empty() && !fed.broken);
+        sends(&rt, alloc, &mut control, other, &[])?;
     }
     sends(&rt, alloc, &mut control, FIRST_REQUEST, NOTHING)
 }
@@ -59,9 +59,7 @@ fn a_request_in_bytes(rt: HostRuntime) -> Result<(), Fail> {
     let mut replies = Vec::new(alloc);
     let request = joined(alloc, RESUMED_REQUEST)?;
     for byte in &request {
-        let fed = control.feed(&[*byte])?;
-        assert!(rt; !fed.broken);
-        replies.extend_from_slice(&fed.replies)?;
+        serves(&rt, &mut control, &[*byte], &mut replies)?;
     }
     assert!(rt; replies == joined(alloc, NOTHING)?);
     Ok(())
@@ -72,10 +70,8 @@ fn breaks(rt: &impl Abort, alloc: Global, bytes: &[u8]) -> Result<(), Fail> {
     let mut control = control_of(alloc, "g", &[ANY_ANY])?;
     let mut all = joined(alloc, FIRST_REQUEST)?;
     all.extend_from_slice(bytes)?;
-    let fed = control.feed(&all)?;
-    assert!(rt; fed.broken && fed.replies == joined(alloc, NOTHING)?);
-    let fed = control.feed(&all)?;
-    assert!(rt; fed.broken && fed.replies.is_empty());
+    ends_by(rt, alloc, &mut control, &all, NOTHING)?;
+    ends_by(rt, alloc, &mut control, &all, &[])?;
     control.lost();
     assert!(rt; !control.feed(b"")?.broken);
     Ok(())
@@ -109,14 +105,10 @@ fn broken_streams(rt: HostRuntime) -> Result<(), Fail> {
 #[test]
 fn too_long_a_response(rt: HostRuntime) -> Result<(), Fail> {
     let alloc = rt.alloc();
-    let mut filter = Vec::new(alloc);
-    for _ in 0..1_048_576 {
-        filter.push(0)?;
-    }
+    let filter = vec![in alloc; 0u8; 1_048_576]?;
     let mut control = control_of(alloc, "f", &[&filter])?;
-    let fed = control.feed(&joined(alloc, FIRST_REQUEST)?)?;
-    assert!(rt; fed.broken && fed.replies.is_empty());
-    Ok(())
+    let request = joined(alloc, FIRST_REQUEST)?;
+    ends_by(&rt, alloc, &mut control, &request, &[])
 }
 
 /// A million requests without bytes, in one call, are ignored.
@@ -125,7 +117,6 @@ fn a_million_empty_requests(rt: HostRuntime) -> Result<(), Fail> {
     let alloc = rt.alloc();
     let mut control = control_of(alloc, "g", &[ANY_ANY])?;
     let empty = vec![in alloc; 0u8; 5_000_000]?;
-    let fed = control.feed(&empty)?;
-    assert!(rt; fed.replies.is_empty() && !fed.broken);
+    sends(&rt, alloc, &mut control, &[empty.as_slice()], &[])?;
     sends(&rt, alloc, &mut control, FIRST_REQUEST, NOTHING)
 }

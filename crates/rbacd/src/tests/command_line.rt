@@ -1,7 +1,10 @@
 //! Words of the command line that are no UTF-8.
+use super::endings::is_text;
 use crate::{first_bad_word, tell_bad_words, words_of};
+use std::alloc::Global;
 use std::env::{Env, FillError};
 use std::io::{ErrorKind, Read};
+use std::process::Abort;
 use std::test::Fail;
 
 /// A command line of these words, and no environment.
@@ -34,13 +37,17 @@ impl Env for Line {
 
 const GOOD: &[&[u8]] = &[b"rbacd", b"judge", b"--policy", b"\xc3\xa9"];
 
+fn is_word(rt: &impl Abort, word: &str, bytes: &[u8]) {
+    assert_eq!(rt; word.as_bytes(), bytes);
+}
+
 #[test]
 fn takes_words_of_utf8(rt: HostRuntime) -> Result<(), Fail> {
     let line = (Line(GOOD), rt.alloc());
     let words = words_of(&line)?;
     assert_eq!(rt; words.len(), 4);
     for (word, bytes) in words.iter().zip(GOOD) {
-        assert_eq!(rt; word.as_bytes(), *bytes);
+        is_word(&rt, word.as_str(), bytes);
     }
     assert_eq!(rt; first_bad_word(&line), None);
     Ok(())
@@ -62,17 +69,27 @@ const BAD: [(&[&[u8]], &str); 3] = [
     ),
 ];
 
+fn tells_of(
+    rt: &impl Abort,
+    alloc: Global,
+    words: &'static [&'static [u8]],
+    told: &str,
+) -> Result<(), Fail> {
+    let line = (Line(words), alloc);
+    let Err(cause) = words_of(&line) else {
+        return Err(Fail::from("words"));
+    };
+    assert_eq!(rt; cause.kind(), ErrorKind::InvalidData);
+    let mut errors = Vec::new(alloc);
+    tell_bad_words(&line, cause, &mut errors);
+    is_text(rt, &errors, told);
+    Ok(())
+}
+
 #[test]
 fn tells_which_word_is_no_utf8(rt: HostRuntime) -> Result<(), Fail> {
-    for (words, told) in BAD {
-        let line = (Line(words), rt.alloc());
-        let Err(cause) = words_of(&line) else {
-            return Err(Fail::from("words"));
-        };
-        assert_eq!(rt; cause.kind(), ErrorKind::InvalidData);
-        let mut errors = Vec::new(rt.alloc());
-        tell_bad_words(&line, cause, &mut errors);
-        assert_eq!(rt; str::from_utf8(&errors).unwrap_or("no text"), told);
+    for (words, told) in &BAD {
+        tells_of(&rt, rt.alloc(), words, told)?;
     }
     Ok(())
 }

@@ -1,7 +1,8 @@
 //! Rules that nest far past the limit.
-use super::judging::PLAIN;
-use crate::judge::{judge, plain_conn};
+use super::endings::is_text;
+use super::judging::{PLAIN, judged};
 use std::alloc::{AllocError, Global};
+use std::process::Abort;
 use std::test::Fail;
 
 /// Puts a tag of a length-delimited field before bytes that are written from their end, with their length.
@@ -51,32 +52,34 @@ fn chained(alloc: Global, levels: usize, tags: &[u8]) -> Result<Vec<u8>, AllocEr
     Ok(reversed)
 }
 
+/// How many levels of which tags, and the line.
+type Case = (usize, &'static [u8], &'static str);
+
+const CASES: [Case; 10] = [
+    (30, NOT, "allow 0\n"),
+    (31, NOT, "deny -\n"),
+    (32, NOT, "refused: 8 TooLarge\n"),
+    (250_000, NOT, "refused: 8 TooLarge\n"),
+    (31, AND, "allow 0\n"),
+    (32, AND, "refused: 8 TooLarge\n"),
+    (100_000, AND, "refused: 8 TooLarge\n"),
+    (31, OR, "allow 0\n"),
+    (32, OR, "refused: 8 TooLarge\n"),
+    (100_000, OR, "refused: 8 TooLarge\n"),
+];
+
+fn judges_chain(rt: &impl Abort, alloc: Global, case: &Case) -> Result<(), Fail> {
+    let (levels, tags, expected) = *case;
+    let policy = chained(alloc, levels, tags)?;
+    let (_, out) = judged(alloc, &policy, 1, PLAIN)?;
+    is_text(rt, &out, expected);
+    Ok(())
+}
+
 #[test]
 fn refuses_deep_chains(rt: HostRuntime) -> Result<(), Fail> {
-    let cases = [
-        (30, NOT, "allow 0\n"),
-        (31, NOT, "deny -\n"),
-        (32, NOT, "refused: 8 TooLarge\n"),
-        (250_000, NOT, "refused: 8 TooLarge\n"),
-        (31, AND, "allow 0\n"),
-        (32, AND, "refused: 8 TooLarge\n"),
-        (100_000, AND, "refused: 8 TooLarge\n"),
-        (31, OR, "allow 0\n"),
-        (32, OR, "refused: 8 TooLarge\n"),
-        (100_000, OR, "refused: 8 TooLarge\n"),
-    ];
-    for (levels, tags, expected) in cases {
-        let policy = chained(rt.alloc(), levels, tags)?;
-        let mut out = Vec::new(rt.alloc());
-        judge(
-            rt.alloc(),
-            &policy,
-            1,
-            plain_conn(rt.alloc())?,
-            PLAIN,
-            &mut out,
-        )?;
-        assert_eq!(rt; str::from_utf8(&out).unwrap_or(""), expected);
+    for case in &CASES {
+        judges_chain(&rt, rt.alloc(), case)?;
     }
     Ok(())
 }

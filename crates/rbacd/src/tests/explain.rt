@@ -1,11 +1,11 @@
 //! What `judge --explain` tells: a line for each policy that was tried, each reason at least once, and names that are not
 //! plain.
+use super::endings::{Ending, ending_of, has_ended, is_text};
 use super::judging::PLAIN;
 use super::places::Filters;
 use crate::explain::{Explanation, OwnTrial, untold_text};
 use crate::judge::print_report;
 use crate::outcome::{Outcome, Report};
-use crate::run::run;
 use rbac_policy::Reason;
 use stack_machine::RunError;
 use std::alloc::Global;
@@ -228,46 +228,44 @@ const CONDITIONS: [Case; 14] = [
     ),
 ];
 
-/// What `judge` on the filter with these words answers the head: the status, and what stands on both outputs.
+/// What `judge` on the filter with these words answers the head.
 fn judged(
     alloc: Global,
     filter: &'static str,
     more: &[&'static str],
     head: &[u8],
-) -> Result<(u8, Vec<u8>, Vec<u8>), Fail> {
+) -> Result<Ending, Fail> {
     let mut words = vec![in alloc; "rbacd", "judge", "--policy", filter]?;
     words.extend_from_slice(more)?;
-    let mut out = Vec::new(alloc);
-    let mut errors = Vec::new(alloc);
-    let ended = run(
-        alloc,
-        words.as_slice(),
-        &Filters,
-        head,
-        &mut out,
-        &mut errors,
-    );
-    Ok((ended, out, errors))
+    Ok(ending_of(alloc, words.as_slice(), &Filters, head))
+}
+
+/// Standard error says something of a refusal and of a head's fault, and nothing of a verdict.
+fn is_told(rt: &impl Abort, errors: &[u8], status: u8) {
+    assert_eq!(rt; errors.is_empty(), status == 0 || status == 3);
+}
+
+fn explains(rt: &impl Abort, alloc: Global, case: &Case) -> Result<(), Fail> {
+    let (filter, more, head, text, status) = *case;
+    let ending = judged(alloc, filter, more, head)?;
+    is_text(rt, &ending.out, text);
+    has_ended(rt, ending.status, status);
+    is_told(rt, &ending.errors, status);
+    Ok(())
 }
 
 #[test]
 fn explains_verdicts(rt: HostRuntime) -> Result<(), Fail> {
-    for (filter, more, head, text, status) in CASES {
-        let (ended, out, errors) = judged(rt.alloc(), filter, more, head)?;
-        assert_eq!(rt; out.as_slice(), text.as_bytes());
-        assert_eq!(rt; ended, status);
-        assert_eq!(rt; errors.is_empty(), status == 0 || status == 3);
+    for case in &CASES {
+        explains(&rt, rt.alloc(), case)?;
     }
     Ok(())
 }
 
 #[test]
 fn explains_conditions(rt: HostRuntime) -> Result<(), Fail> {
-    for (filter, more, head, text, status) in CONDITIONS {
-        let (ended, out, errors) = judged(rt.alloc(), filter, more, head)?;
-        assert_eq!(rt; out.as_slice(), text.as_bytes());
-        assert_eq!(rt; ended, status);
-        assert!(rt; errors.is_empty());
+    for case in &CONDITIONS {
+        explains(&rt, rt.alloc(), case)?;
     }
     Ok(())
 }
@@ -276,7 +274,7 @@ fn explains_conditions(rt: HostRuntime) -> Result<(), Fail> {
 fn prints(rt: &impl Abort, alloc: Global, report: Report, text: &str) -> Result<(), Fail> {
     let mut out = Vec::new(alloc);
     print_report(alloc, report, &mut out)?;
-    assert_eq!(rt; str::from_utf8(&out).unwrap_or("no text"), text);
+    is_text(rt, &out, text);
     Ok(())
 }
 
@@ -299,6 +297,6 @@ fn tells_nothing_by_half(rt: HostRuntime) -> Result<(), Fail> {
     report.explanation = trials_of_one(rt.alloc())?;
     prints(&rt, rt.alloc(), report.without_memory(), "memory\n")?;
     let told = untold_text(RunError::Memory);
-    assert_eq!(rt; told, b"cannot explain\n  memory ran out\n".as_slice());
+    is_text(&rt, told, "cannot explain\n  memory ran out\n");
     Ok(())
 }

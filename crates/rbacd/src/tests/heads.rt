@@ -1,7 +1,8 @@
 //! Heads, good and bad, with the answers that the rules give them.
-use attributes::{Conn, Limits};
+use attributes::{Conn, Limits, Request};
 use http_front::{Ask, HEAD_ROOM, HeadFault, HeadPart, read_head};
 use std::alloc::{AllocError, Global};
+use std::process::Abort;
 use std::rc::RcStr;
 use std::test::Fail;
 
@@ -82,10 +83,17 @@ const LINES: [(&[u8], Answer); 23] = [
     (b"GET / HTTP/1.1\r\nHost: h\r\nhost: h\r\n\r\n", TWO_HOSTS),
 ];
 
+/// The head is answered so.
+fn answers(rt: &impl Abort, alloc: Global, bytes: &[u8], expected: Answer) -> Result<(), Fail> {
+    let answer = answer_of(alloc, bytes)?;
+    assert_eq!(rt; answer, expected);
+    Ok(())
+}
+
 #[test]
 fn answers_start_lines_and_hosts(rt: HostRuntime) -> Result<(), Fail> {
-    for (bytes, expected) in LINES {
-        assert_eq!(rt; answer_of(rt.alloc(), bytes)?, expected);
+    for (bytes, expected) in &LINES {
+        answers(&rt, rt.alloc(), bytes, *expected)?;
     }
     Ok(())
 }
@@ -119,13 +127,19 @@ const FIELDS: [(&[u8], Answer); 25] = [
     (b"TE: trailers", JUDGED),
 ];
 
+/// A plain GET head with these field lines behind a Host line.
+fn with_fields(alloc: Global, lines: &[u8]) -> Result<Vec<u8>, AllocError> {
+    let mut bytes = Vec::from_slice(alloc, b"GET / HTTP/1.1\r\nHost: h\r\n")?;
+    bytes.extend_from_slice(lines)?;
+    bytes.extend_from_slice(b"\r\n\r\n")?;
+    Ok(bytes)
+}
+
 #[test]
 fn answers_fields(rt: HostRuntime) -> Result<(), Fail> {
-    for (lines, expected) in FIELDS {
-        let mut bytes = Vec::from_slice(rt.alloc(), b"GET / HTTP/1.1\r\nHost: h\r\n")?;
-        bytes.extend_from_slice(lines)?;
-        bytes.extend_from_slice(b"\r\n\r\n")?;
-        assert_eq!(rt; answer_of(rt.alloc(), &bytes)?, expected);
+    for (lines, expected) in &FIELDS {
+        let bytes = with_fields(rt.alloc(), lines)?;
+        answers(&rt, rt.alloc(), &bytes, *expected)?;
     }
     Ok(())
 }
@@ -154,18 +168,20 @@ fn sized(
     Ok(bytes)
 }
 
+/// Lengths of a method, a target, a name and a value, and the answer.
+const SIZES: [(usize, usize, usize, usize, Answer); 5] = [
+    (32, 4096, 128, 4096, JUDGED),
+    (33, 4096, 128, 4096, OUTSIDE_LIMITS),
+    (32, 4097, 128, 4096, OUTSIDE_LIMITS),
+    (32, 4096, 129, 4096, OUTSIDE_LIMITS),
+    (32, 4096, 128, 4097, OUTSIDE_LIMITS),
+];
+
 #[test]
 fn answers_borders_of_texts(rt: HostRuntime) -> Result<(), Fail> {
-    let sizes = [
-        (32, 4096, 128, 4096, JUDGED),
-        (33, 4096, 128, 4096, OUTSIDE_LIMITS),
-        (32, 4097, 128, 4096, OUTSIDE_LIMITS),
-        (32, 4096, 129, 4096, OUTSIDE_LIMITS),
-        (32, 4096, 128, 4097, OUTSIDE_LIMITS),
-    ];
-    for (method, target, name, value, expected) in sizes {
-        let bytes = sized(rt.alloc(), method, target, name, value)?;
-        assert_eq!(rt; answer_of(rt.alloc(), &bytes)?, expected);
+    for (method, target, name, value, expected) in &SIZES {
+        let bytes = sized(rt.alloc(), *method, *target, *name, *value)?;
+        answers(&rt, rt.alloc(), &bytes, *expected)?;
     }
     Ok(())
 }
@@ -182,20 +198,22 @@ fn crowded(alloc: Global, fields: usize, value: usize) -> Result<Vec<u8>, AllocE
     Ok(bytes)
 }
 
+/// Numbers of fields of one name, the length of each value, and the answer. The joined value has a comma between each two, so
+/// two of 2,048 bytes are one too long.
+const COUNTS: [(usize, usize, Answer); 6] = [
+    (60, 1, JUDGED),
+    (61, 1, OUTSIDE_LIMITS),
+    (60, 67, JUDGED),
+    (60, 68, OUTSIDE_LIMITS),
+    (2, 2047, JUDGED),
+    (2, 2048, OUTSIDE_LIMITS),
+];
+
 #[test]
 fn answers_borders_of_counts(rt: HostRuntime) -> Result<(), Fail> {
-    // The joined value has a comma between each two, so two of 2,048 bytes are one too long.
-    let counts = [
-        (60, 1, JUDGED),
-        (61, 1, OUTSIDE_LIMITS),
-        (60, 67, JUDGED),
-        (60, 68, OUTSIDE_LIMITS),
-        (2, 2047, JUDGED),
-        (2, 2048, OUTSIDE_LIMITS),
-    ];
-    for (fields, value, expected) in counts {
-        let bytes = crowded(rt.alloc(), fields, value)?;
-        assert_eq!(rt; answer_of(rt.alloc(), &bytes)?, expected);
+    for (fields, value, expected) in &COUNTS {
+        let bytes = crowded(rt.alloc(), *fields, *value)?;
+        answers(&rt, rt.alloc(), &bytes, *expected)?;
     }
     Ok(())
 }
@@ -217,56 +235,80 @@ fn long_head(alloc: Global, length: usize) -> Result<Vec<u8>, AllocError> {
     Ok(bytes)
 }
 
+fn has_length(rt: &impl Abort, bytes: &[u8], expected: usize) {
+    assert_eq!(rt; bytes.len(), expected);
+}
+
 #[test]
 fn answers_borders_of_room(rt: HostRuntime) -> Result<(), Fail> {
     let alloc = rt.alloc();
     let longest = long_head(alloc, HEAD_ROOM)?;
-    assert_eq!(rt; longest.len(), HEAD_ROOM);
-    assert_eq!(rt; answer_of(alloc, &longest)?, JUDGED);
+    has_length(&rt, &longest, HEAD_ROOM);
+    answers(&rt, alloc, &longest, JUDGED)?;
     let longer = long_head(alloc, HEAD_ROOM + 1)?;
-    assert_eq!(rt; longer.len(), HEAD_ROOM + 1);
-    assert_eq!(rt; answer_of(alloc, &longer)?, TOO_LONG);
-    let unfinished = &longest[..longest.len() - 1];
-    assert_eq!(rt; answer_of(alloc, unfinished)?, UNFINISHED);
-    Ok(())
+    has_length(&rt, &longer, HEAD_ROOM + 1);
+    answers(&rt, alloc, &longer, TOO_LONG)?;
+    let Some((_, unfinished)) = longest.split_last() else {
+        return Err(Fail::from("a head"));
+    };
+    answers(&rt, alloc, unfinished, UNFINISHED)
+}
+
+/// The request that a head of this connection asks to judge.
+fn asked(alloc: Global, bytes: &[u8], scheme: &str) -> Result<Request, Fail> {
+    let conn = Conn::of_scheme(RcStr::from_str(alloc, scheme)?);
+    match read_head(alloc, bytes, &Limits::largest(), conn)? {
+        Some(Ask::Judge(request)) => Ok(request),
+        _ => Err(Fail::from("a request")),
+    }
+}
+
+fn has_start(rt: &impl Abort, request: &Request, method: &str, target: &str) {
+    assert_eq!(rt; request.method(), method);
+    assert_eq!(rt; request.target(), target);
+}
+
+fn has_header(rt: &impl Abort, request: &Request, name: &str, value: Option<&str>) {
+    assert_eq!(rt; request.header(name), value);
 }
 
 #[test]
 fn keeps_what_a_head_says(rt: HostRuntime) -> Result<(), Fail> {
-    let alloc = rt.alloc();
     let bytes = b"PUT /a?b HTTP/1.0\r\nX-A: 1\r\nhost: h\r\nx-a:2\r\n\r\nbody";
-    let conn = Conn::of_scheme(RcStr::from_str(alloc, "https")?);
-    let Some(Ask::Judge(request)) = read_head(alloc, bytes, &Limits::largest(), conn)? else {
-        return Err(Fail::from("a request"));
-    };
-    assert_eq!(rt; request.method(), "PUT");
-    assert_eq!(rt; request.target(), "/a?b");
+    let request = asked(rt.alloc(), bytes, "https")?;
+    has_start(&rt, &request, "PUT", "/a?b");
     assert!(rt; !request.is_http11());
     assert_eq!(rt; request.line_count(), 3);
-    assert_eq!(rt; request.header("x-a"), Some("1,2"));
-    assert_eq!(rt; request.header(":authority"), Some("h"));
-    assert_eq!(rt; request.header(":scheme"), Some("https"));
-    assert_eq!(rt; request.header("host"), None);
+    has_header(&rt, &request, "x-a", Some("1,2"));
+    has_header(&rt, &request, ":authority", Some("h"));
+    has_header(&rt, &request, ":scheme", Some("https"));
+    has_header(&rt, &request, "host", None);
+    Ok(())
+}
+
+const FAULTS: [(HeadFault, &str); 11] = [
+    (HeadFault::Malformed(HeadPart::LineEnd), "400"),
+    (HeadFault::Unfinished, "400"),
+    (HeadFault::OtherForm, "400"),
+    (HeadFault::BadText, "400"),
+    (HeadFault::NoHost, "400"),
+    (HeadFault::TwoHosts, "400"),
+    (HeadFault::TwoLengths, "400"),
+    (HeadFault::BadLength, "400"),
+    (HeadFault::TooLong, "431"),
+    (HeadFault::OutsideLimits, "431"),
+    (HeadFault::TransferCoding, "501"),
+];
+
+fn prints(rt: &impl Abort, alloc: Global, fault: HeadFault, expected: &str) -> Result<(), Fail> {
+    assert_eq!(rt; fault.to_string(alloc)?.as_str(), expected);
     Ok(())
 }
 
 #[test]
 fn prints_faults(rt: HostRuntime) -> Result<(), Fail> {
-    let faults = [
-        (HeadFault::Malformed(HeadPart::LineEnd), "400"),
-        (HeadFault::Unfinished, "400"),
-        (HeadFault::OtherForm, "400"),
-        (HeadFault::BadText, "400"),
-        (HeadFault::NoHost, "400"),
-        (HeadFault::TwoHosts, "400"),
-        (HeadFault::TwoLengths, "400"),
-        (HeadFault::BadLength, "400"),
-        (HeadFault::TooLong, "431"),
-        (HeadFault::OutsideLimits, "431"),
-        (HeadFault::TransferCoding, "501"),
-    ];
-    for (fault, expected) in faults {
-        assert_eq!(rt; fault.to_string(rt.alloc())?.as_str(), expected);
+    for (fault, expected) in &FAULTS {
+        prints(&rt, rt.alloc(), *fault, expected)?;
     }
     Ok(())
 }

@@ -1,10 +1,14 @@
 //! How much of an input is read: no more than decides what its head asks.
 use crate::input::read_ask;
-use crate::judge::{judge, plain_conn};
+use crate::judge::plain_conn;
+use crate::tests::endings::is_text;
+use crate::tests::judging::judged;
 use crate::tests::rows::filter_of;
 use attributes::Limits;
 use http_front::{Ask, HeadFault};
+use std::alloc::Global;
 use std::io::{self, ErrorKind, Read};
+use std::process::Abort;
 use std::test::Fail;
 
 /// A reader that gives pieces of this size, is interrupted before each, and fails behind the last.
@@ -54,28 +58,37 @@ const SETTLED: [&[u8]; 8] = [
     b"GET / HTTP/1.1\r\nX-A: b\r\n more",
 ];
 
+/// What is read of an input on a plain connection.
+fn ask_of<R: Read>(alloc: Global, input: &mut R) -> Result<Option<Ask>, Fail> {
+    let conn = plain_conn(alloc)?;
+    Ok(read_ask(alloc, &Limits::largest(), &conn, input)?)
+}
+
+fn leaves_more(rt: &impl Abort, alloc: Global, bytes: &'static [u8]) -> Result<(), Fail> {
+    let mut input = Pieces::new(bytes, 1);
+    let found = ask_of(alloc, &mut input)?;
+    assert!(rt; found.is_some());
+    is_text(rt, input.left, "more");
+    Ok(())
+}
+
 #[test]
 fn reads_no_further_than_the_head(rt: HostRuntime) -> Result<(), Fail> {
-    let conn = plain_conn(rt.alloc())?;
-    for bytes in SETTLED {
-        let mut input = Pieces::new(bytes, 1);
-        let found = read_ask(rt.alloc(), &Limits::largest(), &conn, &mut input)?;
-        assert!(rt; found.is_some());
-        assert_eq!(rt; input.left, b"more".as_slice());
+    for bytes in &SETTLED {
+        leaves_more(&rt, rt.alloc(), bytes)?;
     }
     Ok(())
 }
 
 #[test]
 fn reads_by_chunks(rt: HostRuntime) -> Result<(), Fail> {
-    let conn = plain_conn(rt.alloc())?;
     let long = vec![in rt.alloc(); b'a'; 70_000]?;
     let mut input = long.as_slice();
-    let found = read_ask(rt.alloc(), &Limits::largest(), &conn, &mut input)?;
+    let found = ask_of(rt.alloc(), &mut input)?;
     assert!(rt; matches!(found, Some(Ask::Fault(HeadFault::TooLong))));
     assert_eq!(rt; input.len(), 368);
     let mut unfinished = b"GET /".as_slice();
-    let found = read_ask(rt.alloc(), &Limits::largest(), &conn, &mut unfinished)?;
+    let found = ask_of(rt.alloc(), &mut unfinished)?;
     assert!(rt; found.is_none() && unfinished.is_empty());
     Ok(())
 }
@@ -91,16 +104,25 @@ const ANSWERED: [(&[u8], &str); 4] = [
     ),
 ];
 
+/// The head is answered by this line where its reader gives pieces of this size.
+fn answers_by(
+    rt: &impl Abort,
+    alloc: Global,
+    bytes: &'static [u8],
+    size: usize,
+    line: &str,
+) -> Result<(), Fail> {
+    let policy = filter_of(alloc, "any_any")?;
+    let (_, out) = judged(alloc, &policy, 1, Pieces::new(bytes, size))?;
+    is_text(rt, &out, line);
+    Ok(())
+}
+
 #[test]
 fn answers_before_the_end(rt: HostRuntime) -> Result<(), Fail> {
-    let policy = filter_of(rt.alloc(), "any_any")?;
-    for (bytes, line) in ANSWERED {
+    for (bytes, line) in &ANSWERED {
         for size in [1, 7, 4_096] {
-            let input = Pieces::new(bytes, size);
-            let conn = plain_conn(rt.alloc())?;
-            let mut out = Vec::new(rt.alloc());
-            judge(rt.alloc(), &policy, 1, conn, input, &mut out)?;
-            assert_eq!(rt; out.as_slice(), line.as_bytes());
+            answers_by(&rt, rt.alloc(), bytes, size, line)?;
         }
     }
     Ok(())

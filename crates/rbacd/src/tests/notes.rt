@@ -1,12 +1,13 @@
 //! What is told below a line: what a policy file looks like that is no filter, and the texts of refusals and of heads' faults.
+use super::endings::ending_of;
 use super::judging::PLAIN;
 use crate::files::Source;
 use crate::notes::{Likeness, likeness_of, meaning_of, rule_of};
-use crate::run::run;
 use http_front::{HeadFault, HeadPart};
 use proto_wire::Refusal;
 use std::alloc::Global;
 use std::io;
+use std::process::Abort;
 use std::test::Fail;
 
 /// The bytes that stand at each path.
@@ -70,36 +71,43 @@ const LIKENESSES: [(&[u8], Likeness, &str); 11] = [
     ),
 ];
 
+/// The bytes look so.
+fn looks_like(rt: &impl Abort, bytes: &[u8], likeness: Option<Likeness>) {
+    assert_eq!(rt; likeness_of(bytes), likeness);
+}
+
+/// The file is refused, with a hint at the end that calls it so.
+fn hints_at(rt: &impl Abort, alloc: Global, bytes: &[u8], name: &str) -> Result<(), Fail> {
+    let bytes = Vec::from_slice(alloc, bytes)?;
+    let words = ["rbacd", "check", "--policy", "f"];
+    let ending = ending_of(alloc, &words, &One { bytes }, PLAIN);
+    assert_eq!(rt; ending.status, 1, "{name}");
+    let hint = format!(in alloc;
+        "\n  the policy file looks like {name}; it has to be one binary message envoy.extensions.filters.http.rbac.v3.RBAC\n"
+    )?;
+    assert!(rt;
+        ending.errors.as_slice().ends_with(hint.as_bytes()),
+        "{name}"
+    );
+    Ok(())
+}
+
 #[test]
 fn tells_what_a_file_looks_like(rt: HostRuntime) -> Result<(), Fail> {
-    for (bytes, likeness, name) in LIKENESSES {
-        assert_eq!(rt; likeness_of(bytes), Some(likeness));
-        let words = ["rbacd", "check", "--policy", "f"];
-        let bytes = Vec::from_slice(rt.alloc(), bytes)?;
-        let mut out = Vec::new(rt.alloc());
-        let mut errors = Vec::new(rt.alloc());
-        let ended = run(
-            rt.alloc(),
-            &words,
-            &One { bytes },
-            PLAIN,
-            &mut out,
-            &mut errors,
-        );
-        assert_eq!(rt; ended, 1, "{name}");
-        let hint = format!(in rt.alloc();
-            "\n  the policy file looks like {name}; it has to be one binary message envoy.extensions.filters.http.rbac.v3.RBAC\n"
-        )?;
-        assert!(rt; errors.as_slice().ends_with(hint.as_bytes()), "{name}");
+    for (bytes, likeness, name) in &LIKENESSES {
+        looks_like(&rt, bytes, Some(*likeness));
+        hints_at(&rt, rt.alloc(), bytes, name)?;
     }
-    assert_eq!(rt; likeness_of(b""), None);
+    looks_like(&rt, b"", None);
     Ok(())
 }
 
 /// Filters by their digits that are refused though their own fields and those of their rules are a filter's, or of which no
 /// more can be told; the budget, and all that stands on standard error. In three the path begins with
 /// `/type.googleapis.com/`, in the others `shadow_rules` stand first.
-const READABLE: [(&str, &str, &str); 7] = [
+type Readable = (&'static str, &'static str, &'static str);
+
+const READABLE: [Readable; 7] = [
     (
         "0a4612440a0170123f0a1b52190a1712152f747970652e676f6f676c65617069732e636f6d2f12021801221c221a1002321612045f26265f1a0610011a0210011a0610031a021001",
         "3",
@@ -137,26 +145,23 @@ const READABLE: [(&str, &str, &str); 7] = [
     ),
 ];
 
+/// This job refuses the filter, and this is all that it tells.
+fn refuses(rt: &impl Abort, alloc: Global, job: &'static str, row: &Readable) -> Result<(), Fail> {
+    let (digits, budget, expected) = *row;
+    let words = ["rbacd", job, "--policy", "f", "--budget", budget];
+    let bytes = hex::decode(alloc, digits)?;
+    let ending = ending_of(alloc, &words, &One { bytes }, PLAIN);
+    assert_eq!(rt; ending.status, 1, "{digits}");
+    let told = str::from_utf8(&ending.errors).unwrap_or("no text");
+    assert_eq!(rt; told, expected, "{digits}");
+    Ok(())
+}
+
 #[test]
 fn gives_no_hint_about_filters(rt: HostRuntime) -> Result<(), Fail> {
-    for (digits, budget, expected) in READABLE {
-        for job in ["check", "judge"] {
-            let words = ["rbacd", job, "--policy", "f", "--budget", budget];
-            let bytes = hex::decode(rt.alloc(), digits)?;
-            let mut out = Vec::new(rt.alloc());
-            let mut errors = Vec::new(rt.alloc());
-            let ended = run(
-                rt.alloc(),
-                &words,
-                &One { bytes },
-                PLAIN,
-                &mut out,
-                &mut errors,
-            );
-            assert_eq!(rt; ended, 1, "{digits}");
-            let told = str::from_utf8(&errors).unwrap_or("no text");
-            assert_eq!(rt; told, expected, "{digits}");
-        }
+    for row in &READABLE {
+        refuses(&rt, rt.alloc(), "check", row)?;
+        refuses(&rt, rt.alloc(), "judge", row)?;
     }
     Ok(())
 }
@@ -214,10 +219,14 @@ const MEANINGS: [(Refusal, &str); 19] = [
     (Refusal::Memory, "memory ran out"),
 ];
 
+fn means(rt: &impl Abort, refusal: Refusal, expected: &str) {
+    assert_eq!(rt; meaning_of(refusal), expected);
+}
+
 #[test]
 fn tells_what_refusals_mean(rt: HostRuntime) {
-    for (refusal, expected) in MEANINGS {
-        assert_eq!(rt; meaning_of(refusal), expected);
+    for (refusal, expected) in &MEANINGS {
+        means(&rt, *refusal, expected);
     }
 }
 
@@ -281,9 +290,13 @@ const RULES: [(HeadFault, &str); 17] = [
     ),
 ];
 
+fn breaks(rt: &impl Abort, fault: HeadFault, expected: &str) {
+    assert_eq!(rt; rule_of(fault), expected);
+}
+
 #[test]
 fn tells_which_rule_a_head_breaks(rt: HostRuntime) {
-    for (fault, expected) in RULES {
-        assert_eq!(rt; rule_of(fault), expected);
+    for (fault, expected) in &RULES {
+        breaks(&rt, *fault, expected);
     }
 }

@@ -2,9 +2,9 @@
 use crate::facts::cause_of_bad_facts;
 use crate::files::{Source, read_whole};
 use crate::run::run;
+use crate::tests::endings::{Ending, ending_of, has_ended, is_text, leaves};
 use crate::tests::judging::PLAIN;
 use crate::tests::places::Filters;
-use crate::tests::rows::filter_of;
 use std::alloc::Global;
 use std::io::{self, ErrorKind, Read, Write};
 use std::process::Abort;
@@ -287,30 +287,64 @@ fn words_of(alloc: Global, more: &[&'static str]) -> Result<Vec<&'static str>, F
     Ok(words)
 }
 
+/// What a run of a case leaves, and in how many calls its standard output was written.
+fn ran_case(alloc: Global, case: &Case) -> Result<(Ending, u32), Fail> {
+    let (more, head, ..) = *case;
+    let words = words_of(alloc, more)?;
+    let mut output = Full::new(alloc, 1_000);
+    let mut errors = Vec::new(alloc);
+    let status = run(alloc, &words, &Shelf, head, &mut output, &mut errors);
+    let Full {
+        held: out,
+        calls,
+        ..
+    } = output;
+    Ok((
+        Ending {
+            status,
+            out,
+            errors,
+        },
+        calls,
+    ))
+}
+
+/// A line is written in one call, and no line in none.
+fn is_written_at_once(rt: &impl Abort, calls: u32, line: &str) {
+    assert_eq!(rt; calls, if line.is_empty() { 0 } else { 1 });
+}
+
+fn runs_case(rt: &impl Abort, alloc: Global, case: &Case) -> Result<(), Fail> {
+    let (_, _, line, told, status) = *case;
+    let (ending, calls) = ran_case(alloc, case)?;
+    leaves(rt, &ending, status, line, told);
+    is_written_at_once(rt, calls, line);
+    Ok(())
+}
+
 #[test]
 fn runs_cases(rt: HostRuntime) -> Result<(), Fail> {
-    for (more, head, line, told, status) in CASES {
-        let words = words_of(rt.alloc(), more)?;
-        let mut out = Full::new(rt.alloc(), 1_000);
-        let mut errors = Vec::new(rt.alloc());
-        let ended = run(rt.alloc(), &words, &Shelf, head, &mut out, &mut errors);
-        assert_eq!(rt; ended, status);
-        assert_eq!(rt; out.held.as_slice(), line.as_bytes());
-        assert_eq!(rt; out.calls, if line.is_empty() { 0 } else { 1 });
-        assert_eq!(rt; str::from_utf8(&errors).unwrap_or("no text"), told);
+    for case in &CASES {
+        runs_case(&rt, rt.alloc(), case)?;
     }
+    Ok(())
+}
+
+fn keeps_status(rt: &impl Abort, alloc: Global, case: &Case) -> Result<(), Fail> {
+    let (more, head, line, _, status) = *case;
+    let words = words_of(alloc, more)?;
+    let mut out = Vec::new(alloc);
+    let mut errors = Full::new(alloc, 0);
+    let ended = run(alloc, &words, &Shelf, head, &mut out, &mut errors);
+    has_ended(rt, ended, status);
+    is_text(rt, &out, line);
     Ok(())
 }
 
 #[test]
 fn keeps_the_status_where_standard_error_is_closed(rt: HostRuntime) -> Result<(), Fail> {
-    for (more, head, line, _, status) in CASES {
-        let words = words_of(rt.alloc(), more)?;
-        let mut out = Vec::new(rt.alloc());
-        let mut errors = Full::new(rt.alloc(), 0);
-        let ended = run(rt.alloc(), &words, &Shelf, head, &mut out, &mut errors);
-        assert_eq!(rt; ended, status);
-        assert_eq!(rt; out.as_slice(), line.as_bytes());
+    for case in &CASES {
+        keeps_status(&rt, rt.alloc(), case)?;
     }
     Ok(())
 }
@@ -343,17 +377,32 @@ const TEXTS: [(&[&str], &str); 6] = [
 /// What stands on standard error where standard output has no room.
 const NO_ROOM: &str = "cannot write standard output\n  no storage space\n";
 
-/// A run whose standard output has so much room: the status, what stands there, and what stands on standard error.
-fn told_with_room(
-    alloc: Global,
-    more: &[&'static str],
-    room: usize,
-) -> Result<(u8, Vec<u8>, Vec<u8>), Fail> {
+/// A run whose standard output has so much room.
+fn ran_with_room(alloc: Global, more: &[&'static str], room: usize) -> Result<Ending, Fail> {
     let words = words_of(alloc, more)?;
     let mut out = Full::new(alloc, room);
     let mut errors = Vec::new(alloc);
-    let ended = run(alloc, &words, &Shelf, PLAIN, &mut out, &mut errors);
-    Ok((ended, out.held, errors))
+    let status = run(alloc, &words, &Shelf, PLAIN, &mut out, &mut errors);
+    Ok(Ending {
+        status,
+        out: out.held,
+        errors,
+    })
+}
+
+/// Where standard output breaks off here, the beginning of the text stands there, and the status is 2.
+fn breaks_off_at(
+    rt: &impl Abort,
+    alloc: Global,
+    more: &[&'static str],
+    text: &str,
+    room: usize,
+) -> Result<(), Fail> {
+    let ending = ran_with_room(alloc, more, room)?;
+    has_ended(rt, ending.status, 2);
+    assert_eq!(rt; Some(ending.out.as_slice()), text.as_bytes().get(..room));
+    is_text(rt, &ending.errors, NO_ROOM);
+    Ok(())
 }
 
 /// Wherever standard output breaks off, a beginning of the text stands there, and the status is 2.
@@ -364,21 +413,16 @@ fn breaks_off(
     text: &str,
 ) -> Result<(), Fail> {
     for room in 0..text.len() {
-        let (ended, held, errors) = told_with_room(alloc, more, room)?;
-        assert_eq!(rt; ended, 2);
-        assert_eq!(rt; Some(held.as_slice()), text.as_bytes().get(..room));
-        assert_eq!(rt; errors.as_slice(), NO_ROOM.as_bytes());
+        breaks_off_at(rt, alloc, more, text, room)?;
     }
-    let (ended, held, errors) = told_with_room(alloc, more, text.len())?;
-    assert_eq!(rt; ended, 0);
-    assert_eq!(rt; held.as_slice(), text.as_bytes());
-    assert!(rt; errors.is_empty());
+    let ending = ran_with_room(alloc, more, text.len())?;
+    leaves(rt, &ending, 0, text, "");
     Ok(())
 }
 
 #[test]
 fn ends_with_2_where_standard_output_breaks_off(rt: HostRuntime) -> Result<(), Fail> {
-    for (more, text) in TEXTS {
+    for (more, text) in &TEXTS {
         breaks_off(&rt, rt.alloc(), more, text)?;
     }
     Ok(())
@@ -391,14 +435,16 @@ fn does_not_speak_of_a_reader_that_went_away(rt: HostRuntime) -> Result<(), Fail
     out.kind = ErrorKind::BrokenPipe;
     let mut errors = Vec::new(rt.alloc());
     let ended = run(rt.alloc(), &words, &Shelf, PLAIN, &mut out, &mut errors);
-    assert_eq!(rt; ended, 2);
-    assert!(rt; errors.is_empty());
+    has_ended(&rt, ended, 2);
+    is_text(&rt, &errors, "");
     Ok(())
 }
 
 /// The policy file, the kind of the reader's error, what stands on standard output and on standard error,
 /// and the status.
-const INPUTS: [(&str, ErrorKind, &str, &str, u8); 5] = [
+type Input = (&'static str, ErrorKind, &'static str, &'static str, u8);
+
+const INPUTS: [Input; 5] = [
     (
         "any_any",
         ErrorKind::ConnectionReset,
@@ -430,25 +476,18 @@ const INPUTS: [(&str, ErrorKind, &str, &str, u8); 5] = [
     ),
 ];
 
+fn tells_of_input(rt: &impl Abort, alloc: Global, input: &Input) {
+    let (policy, kind, line, told, status) = *input;
+    let words = ["rbacd", "judge", "--policy", policy];
+    let ending = ending_of(alloc, &words, &Shelf, Broken(kind));
+    leaves(rt, &ending, status, line, told);
+}
+
 #[test]
-fn tells_of_an_input_that_fails(rt: HostRuntime) -> Result<(), Fail> {
-    for (policy, kind, line, told, status) in INPUTS {
-        let words = words_of(rt.alloc(), &["judge", "--policy", policy])?;
-        let mut out = Vec::new(rt.alloc());
-        let mut errors = Vec::new(rt.alloc());
-        let ended = run(
-            rt.alloc(),
-            &words,
-            &Shelf,
-            Broken(kind),
-            &mut out,
-            &mut errors,
-        );
-        assert_eq!(rt; ended, status);
-        assert_eq!(rt; out.as_slice(), line.as_bytes());
-        assert_eq!(rt; str::from_utf8(&errors).unwrap_or("no text"), told);
+fn tells_of_an_input_that_fails(rt: HostRuntime) {
+    for input in &INPUTS {
+        tells_of_input(&rt, rt.alloc(), input);
     }
-    Ok(())
 }
 
 #[test]
@@ -506,11 +545,16 @@ const CAUSES: [(&str, &str); 8] = [
     ),
 ];
 
+fn tells_cause(rt: &impl Abort, alloc: Global, text: &str, cause: &str) -> Result<(), Fail> {
+    let told = cause_of_bad_facts(alloc, text.as_bytes())?;
+    assert_eq!(rt; told.as_str(), cause);
+    Ok(())
+}
+
 #[test]
 fn tells_the_cause_of_bad_facts(rt: HostRuntime) -> Result<(), Fail> {
-    for (text, cause) in CAUSES {
-        let told = cause_of_bad_facts(rt.alloc(), text.as_bytes())?;
-        assert_eq!(rt; told.as_str(), cause);
+    for (text, cause) in &CAUSES {
+        tells_cause(&rt, rt.alloc(), text, cause)?;
     }
     let told = cause_of_bad_facts(rt.alloc(), b"{")?;
     assert!(rt; told.as_str().starts_with("it is no JSON text: "));

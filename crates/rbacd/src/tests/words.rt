@@ -1,6 +1,8 @@
 //! Command lines, good and bad, and the statuses of the bad ones.
 use crate::words::{Job, read_words};
 use clap::error::ErrorKind;
+use std::alloc::Global;
+use std::process::Abort;
 use std::test::Fail;
 
 /// Words behind `rbacd judge --policy f`, with the budget that they declare.
@@ -18,31 +20,60 @@ const BUDGETS: [(&[&str], Option<u64>); 11] = [
     (&["--budget", "1", "--budget", "1"], None),
 ];
 
+/// What the words ask for, or the status of their fault.
+fn read(alloc: Global, words: &[&str]) -> Result<Job, i32> {
+    match read_words(alloc, words) {
+        Ok(job) => Ok(job),
+        Err(error) => Err(error.exit_code()),
+    }
+}
+
+/// The words `judge --policy f` with these behind them.
+fn to_judge(alloc: Global, more: &[&'static str]) -> Result<Vec<&'static str>, Fail> {
+    let mut words = Vec::from_slice(alloc, &["rbacd", "judge", "--policy", "f"])?;
+    words.extend_from_slice(more)?;
+    Ok(words)
+}
+
+/// The job judges by `f` without facts, prints as is usual, and has this budget.
+fn judges_plainly(rt: &impl Abort, job: &Job, expected: u64) {
+    match job {
+        Job::Judge {
+            policy,
+            facts,
+            budget,
+            json,
+            explain,
+        } => {
+            assert_eq!(rt; policy.as_str(), "f");
+            assert!(rt; facts.is_none() && !*json && !*explain);
+            assert_eq!(rt; *budget, expected);
+        }
+        Job::Check { .. } => panic!(rt; "another job"),
+    }
+}
+
+fn reads_budget(
+    rt: &impl Abort,
+    alloc: Global,
+    more: &[&'static str],
+    expected: Option<u64>,
+) -> Result<(), Fail> {
+    let words = to_judge(alloc, more)?;
+    let found = read(alloc, words.as_slice());
+    match (found, expected) {
+        (Ok(job), Some(budget)) => judges_plainly(rt, &job, budget),
+        (Ok(_), None) => panic!(rt; "a job"),
+        (Err(status), None) => assert_eq!(rt; status, 2),
+        (Err(_), Some(_)) => panic!(rt; "a fault"),
+    }
+    Ok(())
+}
+
 #[test]
 fn reads_budgets(rt: HostRuntime) -> Result<(), Fail> {
-    for (more, expected) in BUDGETS {
-        let mut words = Vec::from_slice(rt.alloc(), &["rbacd", "judge", "--policy", "f"])?;
-        words.extend_from_slice(more)?;
-        match read_words(rt.alloc(), words.as_slice()) {
-            Ok(
-                Job::Judge {
-                    policy,
-                    facts,
-                    budget,
-                    json,
-                    explain,
-                },
-            ) => {
-                assert_eq!(rt; policy.as_str(), "f");
-                assert!(rt; facts.is_none() && !json && !explain);
-                assert_eq!(rt; Some(budget), expected);
-            }
-            Ok(Job::Check { .. }) => panic!(rt; "another job"),
-            Err(error) => {
-                assert_eq!(rt; error.exit_code(), 2);
-                assert_eq!(rt; expected, None);
-            }
-        }
+    for (more, expected) in &BUDGETS {
+        reads_budget(&rt, rt.alloc(), more, *expected)?;
     }
     Ok(())
 }
@@ -50,7 +81,7 @@ fn reads_budgets(rt: HostRuntime) -> Result<(), Fail> {
 #[test]
 fn reads_the_facts_file(rt: HostRuntime) -> Result<(), Fail> {
     let words = ["rbacd", "judge", "--facts", "g", "--policy", "f"];
-    let Ok(Job::Judge { policy, facts, .. }) = read_words(rt.alloc(), &words) else {
+    let Ok(Job::Judge { policy, facts, .. }) = read(rt.alloc(), &words) else {
         return Err(Fail::from("a job"));
     };
     assert_eq!(rt; policy.as_str(), "f");
@@ -58,20 +89,23 @@ fn reads_the_facts_file(rt: HostRuntime) -> Result<(), Fail> {
     Ok(())
 }
 
+fn reads_flags(rt: &impl Abort, alloc: Global, flags: &[&'static str]) -> Result<(), Fail> {
+    let words = to_judge(alloc, flags)?;
+    let Ok(Job::Judge { json, explain, .. }) = read(alloc, words.as_slice()) else {
+        return Err(Fail::from("a job"));
+    };
+    assert_eq!(rt; json, flags.contains(&"--json"));
+    assert_eq!(rt; explain, flags.contains(&"--explain"));
+    Ok(())
+}
+
 #[test]
 fn reads_how_to_print(rt: HostRuntime) -> Result<(), Fail> {
-    let flags: [&[&str]; 3] = [&["--explain"], &["--json"], &["--json", "--explain"]];
-    for flag in flags {
-        let mut words = vec![in rt.alloc(); "rbacd", "judge", "--policy", "f"]?;
-        words.extend_from_slice(flag)?;
-        let Ok(Job::Judge { json, explain, .. }) = read_words(rt.alloc(), words.as_slice()) else {
-            return Err(Fail::from("a job"));
-        };
-        assert_eq!(rt; json, flag.contains(&"--json"));
-        assert_eq!(rt; explain, flag.contains(&"--explain"));
-    }
+    reads_flags(&rt, rt.alloc(), &["--explain"])?;
+    reads_flags(&rt, rt.alloc(), &["--json"])?;
+    reads_flags(&rt, rt.alloc(), &["--json", "--explain"])?;
     let words = ["rbacd", "check", "--policy", "f", "--explain"];
-    assert!(rt; read_words(rt.alloc(), &words).is_err());
+    assert!(rt; read(rt.alloc(), &words).is_err());
     Ok(())
 }
 
@@ -86,7 +120,7 @@ fn reads_checks(rt: HostRuntime) -> Result<(), Fail> {
             budget,
             json,
         },
-    ) = read_words(rt.alloc(), &words)
+    ) = read(rt.alloc(), &words)
     else {
         return Err(Fail::from("a job"));
     };
@@ -113,13 +147,17 @@ const MISTAKES: [&[&str]; 12] = [
     &["rbacd", "judge", "--policy", "f", "--json", "--json"],
 ];
 
+fn refuses(rt: &impl Abort, alloc: Global, words: &[&str]) {
+    match read(alloc, words) {
+        Ok(_) => panic!(rt; "a job"),
+        Err(status) => assert_eq!(rt; status, 2),
+    }
+}
+
 #[test]
 fn refuses_mistakes(rt: HostRuntime) {
-    for words in MISTAKES {
-        match read_words(rt.alloc(), words) {
-            Ok(_) => panic!(rt; "a job"),
-            Err(error) => assert_eq!(rt; error.exit_code(), 2),
-        }
+    for words in &MISTAKES {
+        refuses(&rt, rt.alloc(), words);
     }
 }
 
