@@ -6,3 +6,4 @@ mod codes;
 mod long_codes;
 mod random_codes;
 mod runs;
+mod turns;

@@ -18,6 +18,7 @@ pub mod Chains
 pub mod LeastCharge
 pub mod Runs
 pub mod Moves
+pub mod Leaps
 pub mod Outcomes
 pub mod PlainCharges
 pub mod PlainLoops

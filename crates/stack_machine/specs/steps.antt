@@ -1,5 +1,6 @@
 -- Definitions that clauses of private functions cite.
 pub mod Few
+pub mod Leaps
 pub mod Plain
 pub mod Rarer
 pub mod Reached

@@ -9,6 +9,7 @@ mod few;
 mod held;
 mod instr;
 pub mod laws;
+mod leap;
 mod locals;
 mod open_loop;
 mod operations;

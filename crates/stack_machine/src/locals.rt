@@ -59,6 +59,7 @@ impl<T: Drop> Locals<T> {
 }
 
 // At least so many places, none of the new ones set.
+#[inline(always)]
 fn grow<T: Drop>(items: &mut Vec<Option<T>>, len: usize) -> Result<(), AllocError>
     requires { len < 1000 }
     ensures long { OnOk result (len ≤ length items.new.items) }

@@ -19,7 +19,7 @@ const ROUNDS: usize = 4;
 
 // How runs end.
 #[derive(Clone, Copy, PartialEq, Eq)]
-enum End {
+pub(crate) enum End {
     Value,
     Error,
     OutOfSteps,
@@ -52,7 +52,7 @@ fn same_at(
 }
 
 // How both machines end with the most fuel; with less than their steps neither has an answer.
-fn same_at_each(
+pub(crate) fn same_at_each(
     rt: &impl Abort,
     alloc: Global,
     code: &Verified,
