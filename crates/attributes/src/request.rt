@@ -7,15 +7,16 @@ ghost use Rattle.std.specs.Rc.{rc_str_bytes};
 ghost use Rattle.std.specs.String.{string_bytes};
 ghost use Rattle.attributes.specs.Attributes.{query_of, url_path_of};
 ghost use Rattle.attributes.specs.Conn.{conn_view};
-ghost use Rattle.attributes.specs.Headers.{headers_view, lines_view};
+ghost use Rattle.attributes.specs.Headers.{lines_view};
 ghost use Rattle.attributes.specs.Request.{IsRequest, header_of, protocol_of, request_of};
 ghost use Rattle.attributes.specs.steps.Request.{lent_view};
 
 use crate::conn::{Conn, facts_are_sound};
-use crate::headers::{Header, find_header, join_headers};
+use crate::headers::join_headers;
+use crate::lookup::Headers;
 use std::alloc::{AllocError, Global};
 use std::marker::Model;
-use std::rc::{Rc, RcStr};
+use std::rc::RcStr;
 
 /// A request: its method, target, version and headers, and the facts of its connection. Its texts
 /// are shared with those that keep them.
@@ -28,14 +29,13 @@ pub struct Request {
     protocol: RcStr,
     http11: bool,
     lines: usize,
-    headers: Rc<Vec<Header>>,
+    headers: Headers,
     conn: Conn,
 }
 
 impl Model for Request {
     ghost use Rattle.std.specs.Rc.{rc_str_bytes};
     ghost use Rattle.attributes.specs.Conn.{conn_view};
-    ghost use Rattle.attributes.specs.Headers.{headers_view};
     ghost use Rattle.attributes.specs.Request.{RequestValue};
     ghost use Rattle.attributes.specs.contracts.address.Ip as ip;
     ghost use Rattle.std.specs.Coded.{codes};
@@ -47,12 +47,12 @@ impl Model for Request {
     ghost coded = { Prim.hlevel (codes, header_map_code, ip.the_row.coded) };
 
     ghost view = { λ r. of_parts (rc_str_bytes r.method) (rc_str_bytes r.target) r.http11 r.lines
-        (headers_view r.headers.value.items) (conn_view r.conn) };
+        r.headers (conn_view r.conn) };
 
     ghost invariant = { λ r. AreKept
         (of_parts (rc_str_bytes r.method) (rc_str_bytes r.target) r.http11 r.lines
-        (headers_view r.headers.value.items) (conn_view r.conn))
-        (headers_view r.headers.value.items) (rc_str_bytes r.url_path) (rc_str_bytes r.query)
+        r.headers (conn_view r.conn))
+        r.headers (rc_str_bytes r.url_path) (rc_str_bytes r.query)
         (rc_str_bytes r.protocol) };
 }
 
@@ -86,7 +86,7 @@ impl Request {
             target,
             http11,
             lines: count,
-            headers: Rc::new(alloc, headers)?,
+            headers: Headers::new(alloc, headers)?,
             conn,
         })
     }
@@ -127,8 +127,8 @@ impl Request {
     }
 
     /// All headers by ascending name, pseudo-headers included.
-    pub fn headers(&self) -> &Rc<Vec<Header>>
-        ensures value { headers_view result.now.value.items ≡ entries self.now.headers }
+    pub fn headers(&self) -> &Headers
+        ensures value { result.now ≡ entries self.now.headers }
         ensures sound { IsRequest self.now }
     {
         &self.headers
@@ -185,7 +185,7 @@ impl Request {
     pub(crate) fn header_text(&self, name: &str) -> Option<&RcStr>
         ensures { lent_view result ≡ header_of self.now name.now }
     {
-        find_header(self.headers.as_slice(), name)
+        self.headers.find(name)
     }
 }
 

@@ -1,0 +1,117 @@
+//! Headers by ascending name, and how one is found by its name.
+ghost use Rattle.std.specs.Prelude.{◌≡◌, All, IfOk, IfSome, IsTrue, Some};
+ghost use Rattle.std.specs.FinMap.{find, is_sorted};
+ghost use Rattle.std.specs.Rc.{rc_str_bytes};
+ghost use Rattle.attributes.specs.Headers.{headers_view, name_cmp};
+ghost use Rattle.attributes.specs.Request.{IsTextEntry};
+ghost use Rattle.attributes.specs.steps.Request.{lent_view};
+
+use crate::headers::{Header, find_header};
+use std::alloc::{AllocError, Global};
+use std::marker::Model;
+use std::rc::{Rc, RcStr};
+
+/// Headers by ascending name, each name once.
+#[derive(Debug, Drop)]
+pub struct Headers {
+    pairs: Rc<Vec<Header>>,
+    // the start of each name
+    starts: Vec<u64>,
+}
+
+impl Model for Headers {
+    ghost use Rattle.std.specs.Prelude.{List, IsTrue};
+    ghost use Rattle.std.specs.FinMap.{is_sorted};
+    ghost use Rattle.attributes.specs.Headers.{Entry, headers_view, name_cmp};
+
+    ghost Value = { List Entry };
+
+    ghost view = { λ h. headers_view h.pairs.value.items };
+
+    ghost invariant = { λ h. IsTrue (is_sorted name_cmp (headers_view h.pairs.value.items)) };
+}
+
+impl Headers {
+    pub(crate) fn new(alloc: Global, pairs: Vec<Header>) -> Result<Headers, AllocError>
+        requires { IsTrue (is_sorted name_cmp (headers_view pairs.items)) }
+        ensures { IfOk result (λ headers. headers ≡ headers_view pairs.items) }
+    {
+        let starts = starts_of(alloc, pairs.as_slice())?;
+        Ok(Headers {
+            pairs: Rc::new(alloc, pairs)?,
+            starts,
+        })
+    }
+
+    /// The names with their values: who keeps them clones the handle.
+    pub fn pairs(&self) -> &Rc<Vec<Header>>
+        ensures { headers_view result.now.value.items ≡ self.now }
+    {
+        &self.pairs
+    }
+
+    /// The value of the header of this name.
+    pub fn find(&self, name: &str) -> Option<&RcStr>
+        ensures value { lent_view result ≡ find name_cmp name.now self.now }
+        ensures texts { All IsTextEntry self.now }
+    {
+        let pairs = self.pairs.as_slice();
+        match value_at(pairs, self.likely_place(name), name) {
+            Some(value) => Some(value),
+            None => find_header(pairs, name),
+        }
+    }
+
+    // Where the header of this name is looked for first. No contract rests on it.
+    fn likely_place(&self, name: &str) -> usize {
+        match self.starts.binary_search(&start_of(name)) {
+            Ok(place) => place,
+            Err(place) => place,
+        }
+    }
+}
+
+// The value of the header at this place, if it has this name.
+fn value_at<'a>(headers: &'a [Header], place: usize, name: &str) -> Option<&'a RcStr>
+    requires { IsTrue (is_sorted name_cmp (headers_view headers.now)) }
+    ensures { IfSome result (λ value.
+        Some (rc_str_bytes value.now) ≡ find name_cmp name.now (headers_view headers.now)) }
+{
+    let header = headers.get(place)?;
+    if header.0.as_str() == name {
+        return Some(&header.1);
+    }
+    None
+}
+
+// The start of each header's name.
+fn starts_of(alloc: Global, headers: &[Header]) -> Result<Vec<u64>, AllocError> {
+    let mut starts = Vec::with_capacity(alloc, headers.len())?;
+    for (name, _) in headers {
+        starts.push(start_of(name.as_str()))?;
+    }
+    Ok(starts)
+}
+
+// The first eight bytes of a name as a number that ascends as names do, with zeros where the name
+// is shorter.
+fn start_of(name: &str) -> u64 {
+    let bytes = name.as_bytes();
+    if let Some(first) = bytes.first_chunk::<8>() {
+        return u64::from_be_bytes(*first);
+    }
+    short_start(bytes)
+}
+
+// The same of fewer than eight bytes.
+fn short_start(bytes: &[u8]) -> u64 {
+    let mut start = 0;
+    for place in 0..8 {
+        let byte = match bytes.get(place) {
+            Some(byte) => u64::from(*byte),
+            None => 0,
+        };
+        start = (start << 8) | byte;
+    }
+    start
+}
