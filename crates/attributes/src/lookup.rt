@@ -1,5 +1,5 @@
 //! Headers by ascending name, and how one is found by its name.
-ghost use Rattle.std.specs.Prelude.{◌≡◌, All, IfOk, IfSome, IsTrue, Some};
+ghost use Rattle.std.specs.Prelude.{◌≡◌, ◌<◌, All, IfOk, IfSome, IsTrue, Some, length};
 ghost use Rattle.std.specs.FinMap.{find, is_sorted};
 ghost use Rattle.std.specs.Rc.{rc_str_bytes};
 ghost use Rattle.attributes.specs.Headers.{headers_view, name_cmp};
@@ -95,23 +95,36 @@ fn starts_of(alloc: Global, headers: &[Header]) -> Result<Vec<u64>, AllocError> 
 
 // The first eight bytes of a name as a number that ascends as names do, with zeros where the name
 // is shorter.
+#[inline(always)]
 fn start_of(name: &str) -> u64 {
     let bytes = name.as_bytes();
-    if let Some(first) = bytes.first_chunk::<8>() {
-        return u64::from_be_bytes(*first);
+    match bytes.first_chunk::<8>() {
+        Some(first) => u64::from_be_bytes(*first),
+        None => short_start(bytes),
     }
-    short_start(bytes)
 }
 
 // The same of fewer than eight bytes.
-fn short_start(bytes: &[u8]) -> u64 {
-    let mut start = 0;
-    for place in 0..8 {
-        let byte = match bytes.get(place) {
-            Some(byte) => u64::from(*byte),
-            None => 0,
-        };
-        start = (start << 8) | byte;
+#[inline(always)]
+fn short_start(bytes: &[u8]) -> u64
+    requires { length bytes.now < 8 }
+{
+    match (bytes.first_chunk::<4>(), bytes.last_chunk::<4>()) {
+        (Some(first), Some(last)) => {
+            let first = u64::from(u32::from_be_bytes(*first));
+            let last = u64::from(u32::from_be_bytes(*last));
+            let behind = (last << (8 * (8 - bytes.len()))) & 0xffff_ffff;
+            (first << 32) | behind
+        }
+        _ => (byte_at(bytes, 0) << 56) | (byte_at(bytes, 1) << 48) | (byte_at(bytes, 2) << 40),
     }
-    start
+}
+
+// The byte at this place, or 0 past the end.
+#[inline(always)]
+fn byte_at(bytes: &[u8], place: usize) -> u64 {
+    match bytes.get(place) {
+        Some(byte) => u64::from(*byte),
+        None => 0,
+    }
 }
