@@ -78,9 +78,10 @@ impl Request {
         let method = RcStr::from_string(method)?;
         let target = RcStr::from_string(target)?;
         let headers = join_headers(alloc, &method, &target, &conn.scheme, lines)?;
+        let (path, query) = cut_target(target.as_str());
         Ok(Request {
-            url_path: share_url_path(alloc, &target)?,
-            query: share_query(alloc, &target)?,
+            url_path: share_path(alloc, &target, path)?,
+            query: RcStr::from_str(alloc, query)?,
             protocol: RcStr::from_str(alloc, protocol_text(http11))?,
             method,
             target,
@@ -189,23 +190,24 @@ impl Request {
     }
 }
 
-// The target before its first `#` and the first `?`; the target's own text where that is all.
-fn share_url_path(alloc: Global, target: &RcStr) -> Result<RcStr, AllocError>
+// The target before its first `#` and the first `?`, and what stands between the two.
+fn cut_target(target: &str) -> (&str, &str)
+    ensures path { result.0.now ≡ url_path_of target.now }
+    ensures query { result.1.now ≡ query_of target.now }
+{
+    cut(before(target, '#'), '?')
+}
+
+// The path of this target as a text of its own; the target's where that is all.
+fn share_path(alloc: Global, target: &RcStr, path: &str) -> Result<RcStr, AllocError>
+    requires { path.now ≡ url_path_of (rc_str_bytes target.now) }
     ensures { IfOk result (λ text. rc_str_bytes text ≡ url_path_of (rc_str_bytes target.now)) }
 {
-    let path = before(before(target.as_str(), '#'), '?');
     if path.len() == target.len() {
         target.clone()
     } else {
         RcStr::from_str(alloc, path)
     }
-}
-
-// What stands between the target's first `?` and the first `#`.
-fn share_query(alloc: Global, target: &RcStr) -> Result<RcStr, AllocError>
-    ensures { IfOk result (λ text. rc_str_bytes text ≡ query_of (rc_str_bytes target.now)) }
-{
-    RcStr::from_str(alloc, after(before(target.as_str(), '#'), '?'))
 }
 
 fn protocol_text(http11: bool) -> &'static str
@@ -225,13 +227,14 @@ fn before(text: &str, mark: char) -> &str
     }
 }
 
-// The text after the first such character, or the empty text.
-fn after(text: &str, mark: char) -> &str
+// The text before the first such character, or all of it, and the text after, or the empty one.
+fn cut(text: &str, mark: char) -> (&str, &str)
     requires { mark < 128 }
-    ensures { result.now ≡ after_first (λ b. b == mark) text.now }
+    ensures front { result.0.now ≡ before_first (λ b. b == mark) text.now }
+    ensures back { result.1.now ≡ after_first (λ b. b == mark) text.now }
 {
     match text.split_once(mark) {
-        Some((_, back)) => back,
-        None => "",
+        Some(parts) => parts,
+        None => (text, ""),
     }
 }

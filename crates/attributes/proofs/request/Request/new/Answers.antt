@@ -1,9 +1,10 @@
 -- The headers are those of the lines and the pseudo-headers, so the parts make that request.
-use Rattle.std.proofs.Common.{◌≡◌, ◌∙◌, ℕ, List, length, sym, arith}
+use Rattle.std.proofs.Common.{◌≡◌, ◌∙◌, ℕ, List, length, sym, ap, arith}
 use Rattle.std.proofs.lemmas.Grind.{common_steps}
 use Rattle.std.proofs.lemmas.List.{length-map}
 use Rattle.std.specs.Rc.{rc_str_bytes}
 use Rattle.std.specs.FinMap.{entries}
+use Rattle.attributes.specs.Attributes.{query_of}
 use Rattle.attributes.specs.Conn.{conn_view}
 use Rattle.attributes.specs.Headers.{Entry, all_entries, headers_of, line_view, lines_view}
 use Rattle.attributes.proofs.Adding.{sorted_from_held}
@@ -26,9 +27,11 @@ invariant_of-result c =
     let items : c.len-count.result ≡ length c.args.lines.items = grind (arith, common_steps) in
     let count : c.len-count.result ≡ length lines =
     items ∙ sym (length-map c.args.lines.items line_view) in
+    let query = c.in_ok-from_str.ensures.ok ∙ c.cut_target.ensures.query
+    ∙ ap query_of c.as_str.ensures.value in
     request_kept method target c.args.http11 lines kept (conn_view c.args.conn)
-    c.len-count.result count joined _ _ _ c.in_ok-share_url_path.ensures
-    c.in_ok-share_query.ensures (c.in_ok-from_str.ensures.ok ∙ c.protocol_text.ensures)
+    c.len-count.result count joined _ _ _ c.in_ok-share_path.ensures query
+    (c.in_ok-from_str-2.ensures.ok ∙ c.protocol_text.ensures)
     (is_utf8_rc_str_bytes c.in_ok-method.method) (is_utf8_rc_str_bytes c.in_ok-target.target)
     (rw c.in_ok-new.ensures (text_headers c.in_ok-headers.headers.items)) c.facts_are_sound.ensures (omega (arith, c))
 
