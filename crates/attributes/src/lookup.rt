@@ -1,9 +1,10 @@
 //! Headers by ascending name, and how one is found by its name.
-ghost use Rattle.std.specs.Prelude.{◌≡◌, ◌<◌, All, IfOk, IfSome, IsTrue, Some, length};
+ghost use Rattle.std.specs.Prelude.{◌≡◌, ◌<◌, ◌≤◌, All, IfOk, IfSome, IsTrue, None, Some, length};
 ghost use Rattle.std.specs.FinMap.{find, is_sorted};
 ghost use Rattle.std.specs.Rc.{rc_str_bytes};
 ghost use Rattle.attributes.specs.Headers.{headers_view, name_cmp};
 ghost use Rattle.attributes.specs.Request.{IsTextEntry};
+ghost use Rattle.attributes.specs.steps.Headers.{AreBefore, AreBehind};
 ghost use Rattle.attributes.specs.steps.Request.{lent_view};
 
 use crate::headers::{Header, find_header};
@@ -56,18 +57,19 @@ impl Headers {
         ensures texts { All IsTextEntry self.now }
     {
         let pairs = self.pairs.as_slice();
-        match value_at(pairs, self.likely_place(name), name) {
-            Some(value) => Some(value),
-            None => find_header(pairs, name),
-        }
-    }
-
-    // Where the header of this name is looked for first. No contract rests on it.
-    fn likely_place(&self, name: &str) -> usize {
         match self.starts.binary_search(&start_of(name)) {
-            Ok(place) => place,
-            Err(place) => place,
+            Ok(place) => {
+                if let Some(value) = value_at(pairs, place, name) {
+                    return Some(value);
+                }
+            }
+            Err(place) => {
+                if is_gap(pairs, place, name) {
+                    return None;
+                }
+            }
         }
+        find_header(pairs, name)
     }
 }
 
@@ -82,6 +84,44 @@ fn value_at<'a>(headers: &'a [Header], place: usize, name: &str) -> Option<&'a R
         return Some(&header.1);
     }
     None
+}
+
+// Whether the name would stand at this place, where it is not there.
+fn is_gap(headers: &[Header], place: usize, name: &str) -> bool
+    requires { IsTrue (is_sorted name_cmp (headers_view headers.now)) }
+    ensures { IsTrue result → find name_cmp name.now (headers_view headers.now) ≡ None }
+{
+    if place > headers.len() {
+        return false;
+    }
+    if !all_before(headers, place, name) {
+        return false;
+    }
+    all_behind(headers, place, name)
+}
+
+// Whether the names before this place come before the name: the last of them does.
+fn all_before(headers: &[Header], place: usize, name: &str) -> bool
+    requires sorted { IsTrue (is_sorted name_cmp (headers_view headers.now)) }
+    requires fits { place ≤ length headers.now }
+    ensures { IsTrue result → AreBefore place name.now (headers_view headers.now) }
+{
+    if place == 0 {
+        return true;
+    }
+    headers[place - 1].0.as_str().cmp(name).is_lt()
+}
+
+// Whether the names from this place on come after the name: the first of them does.
+fn all_behind(headers: &[Header], place: usize, name: &str) -> bool
+    requires sorted { IsTrue (is_sorted name_cmp (headers_view headers.now)) }
+    requires fits { place ≤ length headers.now }
+    ensures { IsTrue result → AreBehind place name.now (headers_view headers.now) }
+{
+    if place == headers.len() {
+        return true;
+    }
+    headers[place].0.as_str().cmp(name).is_gt()
 }
 
 // The start of each header's name.
