@@ -16,7 +16,7 @@ use std::rc::{Rc, RcStr};
 #[derive(Debug, Drop)]
 pub struct Headers {
     pairs: Rc<Vec<Header>>,
-    // the start of each name
+    // the start of each name, which says where to look first; no contract speaks of it
     starts: Vec<u64>,
 }
 
