@@ -7,6 +7,7 @@ pub mod Neighbours
 pub mod Sorting
 pub mod Searching
 pub mod Adding
+mod Gaps
 pub mod AddressText
 pub mod OneAddress
 pub mod Facts

@@ -53,7 +53,7 @@ put_last name v w (e ∷ es) up =
     rw (after_from_before e.0 name first) (ap (λ xs. e ∷ xs) later.0, later.1)
 
 -- the first of ascending names is before each other
-above_first : (name : List ℕ) (es : List Entry) (i : ℕ) (d : Entry)
+pub above_first : (name : List ℕ) (es : List Entry) (i : ℕ) (d : Entry)
     → T (below_all name_cmp name es) → i < length es → IsBefore name (get_or es i d).0
 above_first name [] i d up below = absurd (omega arith)
 above_first name (e ∷ es) zero d up below = less_from_test _ (both_first _ _ up)

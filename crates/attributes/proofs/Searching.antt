@@ -1,10 +1,10 @@
 -- A binary search by name in ascending headers finds the place of the name.
-use Rattle.std.proofs.Common.{◌≡◌, ℕ, ◌+◌, ◌<◌, ◌≤◌, Bool, T, IsTrue, List, [], ◌∷◌, Result, Ok, Err, Some, length, get_or, refl, ◌∙◌, ap, arith, suc, zero}
+use Rattle.std.proofs.Common.{◌≡◌, ℕ, ◌+◌, ◌<◌, ◌≤◌, Bool, T, IsTrue, List, [], ◌∷◌, Result, Ok, Err, Some, length, get_or, refl, sym, ◌∙◌, ap, arith, suc, zero}
 use Rattle.std.specs.declared.alloc.Global.{Global}
 use Rattle.std.specs.declared.cmp.Ordering.{Ordering}
 use Rattle.std.specs.declared.cmp.Ordering.TheVariants.{Greater}
 use Rattle.std.specs.declared.rc.RcStr.{RcStr}
-use Rattle.std.specs.FinMap.{is_sorted}
+use Rattle.std.specs.FinMap.{find, is_sorted}
 use Rattle.std.specs.Fn.{Called, ComputesKey}
 use Rattle.std.specs.List.Sorted.{IsSortedBy, IsBinarySearchResult, IsSearchInRange}
 use Rattle.std.specs.Ordering.{is_lt, ordering_reverse}
@@ -50,6 +50,20 @@ kept_at : (xs : List Pair) (k : ℕ) (d : Entry) → k < length xs
 kept_at [] k d below = absurd (omega arith)
 kept_at (x ∷ xs) zero d below = (x, refl)
 kept_at (x ∷ xs) (suc k) d below = kept_at xs k d (omega arith)
+
+-- a header that has the name is the one of that name
+pub found_at : (name : List ℕ) (xs : List Pair) (i : ℕ) (x : Pair)
+    → IsTrue (is_sorted name_cmp (headers_view xs)) → i < length xs → x ≡ get_or xs i x
+    → rc_str_bytes x.0 ≡ name → Some (rc_str_bytes x.1) ≡ find name_cmp name (headers_view xs)
+found_at name xs i x up below there same =
+    let es : List Entry = headers_view xs in
+    let long : length es ≡ length xs = length-map xs header_view in
+    let at : get_or es i (header_view x) ≡ header_view x =
+    get_or-map header_view xs i x ∙ ap header_view (sym there) in
+    let named : (get_or es i (header_view x)).0 ≡ name = ap (λ (e : Entry). e.0) at ∙ same in
+    let found = put_at name [] es i (header_view x) (t_from_true _ up) (omega (arith, long, below))
+    named in
+    sym (found.1 ∙ ap (λ (e : Entry). Some e.1) at)
 
 -- what the closure that the search is given answers
 module _ (name : List ℕ) {F : Type 0} {g : Mut F (Bor Pair × Unit {0}) Ordering} {f : F}

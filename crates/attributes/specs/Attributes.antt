@@ -1,10 +1,10 @@
 -- The attributes of a request: Envoy, "Attributes"; the target's parts by RFC 3986 section 3.
 use Rattle.std.specs.Prelude.{ℕ, ◌^◌, ◌<◌, ℤ, pos, FitsSigned, Bool, ◌==◌, IsTrue, IsUtf8, List, Option, Some, ⊤, option_map, codes}
 use Rattle.std.specs.List.{before_first, after_first}
-use Rattle.std.specs.FinMap.{is_sorted}
+use Rattle.std.specs.FinMap.{from_sorted, is_sorted}
 use Rattle.std.specs.Int.{w64}
 use Rattle.std.specs.Rc.{rc_str_bytes}
-use Rattle.attributes.specs.Headers.{HeaderMap, headers_view, map_view, name_cmp}
+use Rattle.attributes.specs.Headers.{HeaderMap, name_cmp}
 use Rattle.attributes.specs.Request.{AreTextHeaders, RequestValue, header_of, protocol_of}
 use Rattle.attributes.specs.declared.attribute.AttrId.{AttrId}
 use Rattle.attributes.specs.declared.attribute.AttrId.TheVariants.{RequestPath, RequestUrlPath, RequestHost, RequestScheme, RequestMethod, RequestHeaders, RequestReferer, RequestUseragent, RequestId, RequestProtocol, RequestQuery, SourceAddress, SourcePort, DestinationAddress, DestinationPort, ConnectionMtls, ConnectionId, ConnectionRequestedServerName, ConnectionTlsVersion, ConnectionSubjectPeerCertificate, ConnectionDnsSanPeerCertificate, ConnectionUriSanPeerCertificate}
@@ -26,11 +26,11 @@ attr_view (values.Text t) = text (rc_str_bytes t.now)
 attr_view (values.Int n) = int n
 attr_view (values.Uint n) = uint n
 attr_view (values.Bool b) = bool b
-attr_view (values.Pairs ps) = text_map (map_view ps.now.value.items)
+attr_view (values.Pairs ps) = text_map (from_sorted ps.now)
 
 -- pairs stand by ascending name, each name once
 abbrev pub IsOrdered : AttrValue → Type 0
-IsOrdered (values.Pairs ps) = IsTrue (is_sorted name_cmp (headers_view ps.now.value.items))
+IsOrdered (values.Pairs ps) = IsTrue (is_sorted name_cmp ps.now)
 IsOrdered _ = ⊤
 
 -- the target up to its first `#` (35)

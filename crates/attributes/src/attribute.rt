@@ -7,9 +7,9 @@ ghost use Rattle.attributes.specs.Conn.{conn_view};
 ghost use Rattle.attributes.specs.Request.{IsRequest};
 ghost use Rattle.attributes.specs.steps.Request.{lent_view};
 
-use crate::headers::Header;
+use crate::lookup::Headers;
 use crate::request::Request;
-use std::rc::{Rc, RcStr};
+use std::rc::RcStr;
 
 /// An attribute, by its name with a dot: `RequestUrlPath` is `request.url_path`.
 #[derive(Clone, Copy, Debug, PartialEq, Eq)]
@@ -87,7 +87,7 @@ pub enum AttrValue<'a> {
     /// Yes or no.
     Bool(bool),
     /// Texts with texts, by ascending name.
-    Pairs(&'a Rc<Vec<Header>>),
+    Pairs(&'a Headers),
 }
 
 // Every attribute.

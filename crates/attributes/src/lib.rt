@@ -7,6 +7,7 @@ mod conn;
 mod headers;
 pub mod laws;
 mod limits;
+mod lookup;
 mod request;
 #[cfg(test)]
 mod tests;
@@ -16,4 +17,5 @@ pub use attribute::{AttrId, AttrType, AttrValue, attr_named, attr_type};
 pub use conn::Conn;
 pub use headers::Header;
 pub use limits::{Limit, LimitFault, Limits};
+pub use lookup::Headers;
 pub use request::Request;

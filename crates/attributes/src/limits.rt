@@ -246,7 +246,7 @@ impl Limits {
     fn fits_headers(&self, request: &Request) -> bool
         ensures { IsTrue result ↔ All (EntryInLimits self.now) (entries request.now.headers) }
     {
-        self.fits_pairs(request.headers().as_slice())
+        self.fits_pairs(request.headers().pairs().as_slice())
     }
 
     fn fits_pairs(&self, headers: &[Header]) -> bool

@@ -7,15 +7,16 @@ ghost use Rattle.std.specs.Rc.{rc_str_bytes};
 ghost use Rattle.std.specs.String.{string_bytes};
 ghost use Rattle.attributes.specs.Attributes.{query_of, url_path_of};
 ghost use Rattle.attributes.specs.Conn.{conn_view};
-ghost use Rattle.attributes.specs.Headers.{headers_view, lines_view};
+ghost use Rattle.attributes.specs.Headers.{lines_view};
 ghost use Rattle.attributes.specs.Request.{IsRequest, header_of, protocol_of, request_of};
 ghost use Rattle.attributes.specs.steps.Request.{lent_view};
 
 use crate::conn::{Conn, facts_are_sound};
-use crate::headers::{Header, find_header, join_headers};
+use crate::headers::join_headers;
+use crate::lookup::Headers;
 use std::alloc::{AllocError, Global};
 use std::marker::Model;
-use std::rc::{Rc, RcStr};
+use std::rc::RcStr;
 
 /// A request: its method, target, version and headers, and the facts of its connection. Its texts
 /// are shared with those that keep them.
@@ -28,14 +29,13 @@ pub struct Request {
     protocol: RcStr,
     http11: bool,
     lines: usize,
-    headers: Rc<Vec<Header>>,
+    headers: Headers,
     conn: Conn,
 }
 
 impl Model for Request {
     ghost use Rattle.std.specs.Rc.{rc_str_bytes};
     ghost use Rattle.attributes.specs.Conn.{conn_view};
-    ghost use Rattle.attributes.specs.Headers.{headers_view};
     ghost use Rattle.attributes.specs.Request.{RequestValue};
     ghost use Rattle.attributes.specs.contracts.address.Ip as ip;
     ghost use Rattle.std.specs.Coded.{codes};
@@ -47,12 +47,12 @@ impl Model for Request {
     ghost coded = { Prim.hlevel (codes, header_map_code, ip.the_row.coded) };
 
     ghost view = { λ r. of_parts (rc_str_bytes r.method) (rc_str_bytes r.target) r.http11 r.lines
-        (headers_view r.headers.value.items) (conn_view r.conn) };
+        r.headers (conn_view r.conn) };
 
     ghost invariant = { λ r. AreKept
         (of_parts (rc_str_bytes r.method) (rc_str_bytes r.target) r.http11 r.lines
-        (headers_view r.headers.value.items) (conn_view r.conn))
-        (headers_view r.headers.value.items) (rc_str_bytes r.url_path) (rc_str_bytes r.query)
+        r.headers (conn_view r.conn))
+        r.headers (rc_str_bytes r.url_path) (rc_str_bytes r.query)
         (rc_str_bytes r.protocol) };
 }
 
@@ -78,15 +78,16 @@ impl Request {
         let method = RcStr::from_string(method)?;
         let target = RcStr::from_string(target)?;
         let headers = join_headers(alloc, &method, &target, &conn.scheme, lines)?;
+        let (path, query) = cut_target(target.as_str());
         Ok(Request {
-            url_path: share_url_path(alloc, &target)?,
-            query: share_query(alloc, &target)?,
+            url_path: share_path(alloc, &target, path)?,
+            query: RcStr::from_str(alloc, query)?,
             protocol: RcStr::from_str(alloc, protocol_text(http11))?,
             method,
             target,
             http11,
             lines: count,
-            headers: Rc::new(alloc, headers)?,
+            headers: Headers::new(alloc, headers)?,
             conn,
         })
     }
@@ -127,8 +128,8 @@ impl Request {
     }
 
     /// All headers by ascending name, pseudo-headers included.
-    pub fn headers(&self) -> &Rc<Vec<Header>>
-        ensures value { headers_view result.now.value.items ≡ entries self.now.headers }
+    pub fn headers(&self) -> &Headers
+        ensures value { result.now ≡ entries self.now.headers }
         ensures sound { IsRequest self.now }
     {
         &self.headers
@@ -185,27 +186,28 @@ impl Request {
     pub(crate) fn header_text(&self, name: &str) -> Option<&RcStr>
         ensures { lent_view result ≡ header_of self.now name.now }
     {
-        find_header(self.headers.as_slice(), name)
+        self.headers.find(name)
     }
 }
 
-// The target before its first `#` and the first `?`; the target's own text where that is all.
-fn share_url_path(alloc: Global, target: &RcStr) -> Result<RcStr, AllocError>
+// The target before its first `#` and the first `?`, and what stands between the two.
+fn cut_target(target: &str) -> (&str, &str)
+    ensures path { result.0.now ≡ url_path_of target.now }
+    ensures query { result.1.now ≡ query_of target.now }
+{
+    cut(before(target, '#'), '?')
+}
+
+// The path of this target as a text of its own; the target's where that is all.
+fn share_path(alloc: Global, target: &RcStr, path: &str) -> Result<RcStr, AllocError>
+    requires { path.now ≡ url_path_of (rc_str_bytes target.now) }
     ensures { IfOk result (λ text. rc_str_bytes text ≡ url_path_of (rc_str_bytes target.now)) }
 {
-    let path = before(before(target.as_str(), '#'), '?');
     if path.len() == target.len() {
         target.clone()
     } else {
         RcStr::from_str(alloc, path)
     }
-}
-
-// What stands between the target's first `?` and the first `#`.
-fn share_query(alloc: Global, target: &RcStr) -> Result<RcStr, AllocError>
-    ensures { IfOk result (λ text. rc_str_bytes text ≡ query_of (rc_str_bytes target.now)) }
-{
-    RcStr::from_str(alloc, after(before(target.as_str(), '#'), '?'))
 }
 
 fn protocol_text(http11: bool) -> &'static str
@@ -225,13 +227,14 @@ fn before(text: &str, mark: char) -> &str
     }
 }
 
-// The text after the first such character, or the empty text.
-fn after(text: &str, mark: char) -> &str
+// The text before the first such character, or all of it, and the text after, or the empty one.
+fn cut(text: &str, mark: char) -> (&str, &str)
     requires { mark < 128 }
-    ensures { result.now ≡ after_first (λ b. b == mark) text.now }
+    ensures front { result.0.now ≡ before_first (λ b. b == mark) text.now }
+    ensures back { result.1.now ≡ after_first (λ b. b == mark) text.now }
 {
     match text.split_once(mark) {
-        Some((_, back)) => back,
-        None => "",
+        Some(parts) => parts,
+        None => (text, ""),
     }
 }

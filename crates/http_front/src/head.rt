@@ -116,6 +116,7 @@ impl<'a> Head<'a> {
     }
 
     /// The request that the head makes on this connection.
+    #[inline(always)]
     pub(crate) fn to_request(&self, alloc: Global, conn: Conn) -> Result<Request, AllocError>
         requires { AreTexts self.now }
         ensures { IfOk result (λ r. r ≡ request_of_head self.now (conn_view conn)) }

@@ -102,7 +102,7 @@ impl<'a> State<'a> {
     {
         match answer {
             Held::List(items) => self.open(Range::Items(items)),
-            Held::Headers(headers) => self.open(Range::Names(headers)),
+            Held::Headers(headers) => self.open(Range::Names(headers.pairs())),
             Held::Entries(entries) => self.open(Range::Keys(Map::Entries(entries))),
             Held::Texts(pairs) => self.open(Range::Keys(Map::Texts(pairs))),
             Held::Fails(error) => {

@@ -1,11 +1,11 @@
 -- The steps by which the headers of a request are made and searched.
-use Rattle.std.specs.Prelude.{◌≡◌, ℕ, ◌≤◌, List, [], ◌∷◌, Option, Some, None, Result, Ok, Err, length}
+use Rattle.std.specs.Prelude.{◌≡◌, ℕ, ◌<◌, ◌≤◌, List, [], ◌∷◌, Option, Some, None, Result, Ok, Err, get_or, length}
 use Rattle.std.specs.Coded.{Coded, coded_list, coded_ℕ}
 use Rattle.std.specs.FinMap.{code, entries, find, get}
 use Rattle.std.specs.FinMap.Entries.{put}
 use Rattle.std.specs.List.{insert, slice_get, slice_set}
 use Rattle.std.specs.declared.alloc.Global.{Global}
-use Rattle.std.specs.declared.cmp.Ordering.TheVariants.{Less}
+use Rattle.std.specs.declared.cmp.Ordering.TheVariants.{Greater, Less}
 use Rattle.std.specs.declared.rc.RcStr.{RcStr}
 use Rattle.attributes.specs.Headers.{Entry, HeaderMap, headers_of, headers_view, name_cmp, values_of, with_commas}
 
@@ -40,3 +40,12 @@ IsPlace name es (Ok i) = (value : List ℕ) × (slice_get es i ≡ Some (name, v
     × ((w : List ℕ) → put name_cmp name w es ≡ slice_set es i (name, w))
 IsPlace name es (Err i) = (i ≤ length es) × (find name_cmp name es ≡ None)
     × ((w : List ℕ) → put name_cmp name w es ≡ insert es i (name, w))
+
+-- the names before this place come before the name
+abbrev pub AreBefore : ℕ → List ℕ → List Entry → Type 0
+AreBefore n name es = (k : ℕ) (d : Entry) → k < n → name_cmp (get_or es k d).0 name ≡ Less
+
+-- the names from this place on come after the name
+abbrev pub AreBehind : ℕ → List ℕ → List Entry → Type 0
+AreBehind n name es =
+    (k : ℕ) (d : Entry) → n ≤ k → k < length es → name_cmp (get_or es k d).0 name ≡ Greater

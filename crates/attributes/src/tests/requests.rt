@@ -16,6 +16,44 @@ const LINES: [(&str, &str); 9] = [
     ("accept", ""),
 ];
 
+// Lines with names that begin alike, of each length up to nine and more.
+const ALIKE: [(&str, &str); 18] = [
+    ("content-type", "1"),
+    ("content-length", "2"),
+    ("content-", "3"),
+    ("content", "4"),
+    ("conten", "5"),
+    ("conte", "6"),
+    ("cont", "7"),
+    ("con", "8"),
+    ("co", "9"),
+    ("c", "10"),
+    ("", "11"),
+    ("x-forwarded-for", "12"),
+    ("x-forwarded-host", "13"),
+    ("x-forwarded-proto", "14"),
+    ("x-forwar", "15"),
+    ("x-forwards", "16"),
+    ("content-encoding", "17"),
+    ("conteng", "18"),
+];
+
+// Names beside those: before the first, after the last, and between.
+const NOT_ALIKE: [&str; 12] = [
+    "!",
+    "~",
+    "x-forwarded-",
+    "x-forwarded-for-",
+    "x-forwa",
+    "content-typf",
+    "content-a",
+    "content-z",
+    "contend",
+    "conu",
+    "d",
+    "\u{10ffff}",
+];
+
 // The attributes of `GET /a/b?x=1#f?y` in HTTP/1.1 with these lines, on a connection of which all
 // is known.
 const FULL: [(AttrId, &str); 22] = [
@@ -188,7 +226,7 @@ fn shown(alloc: Global, value: Option<AttrValue<'_>>) -> Result<String, AllocErr
         Some(AttrValue::Bool(answer)) => format!(in alloc; "bool {answer}"),
         Some(AttrValue::Pairs(pairs)) => {
             let mut words = String::from_str(alloc, "pairs ")?;
-            for (name, value) in pairs.as_slice() {
+            for (name, value) in pairs.pairs().as_slice() {
                 words.push_str(name.as_str())?;
                 words.push_str("=")?;
                 words.push_str(value.as_str())?;
@@ -239,12 +277,30 @@ fn finds_headers(rt: HostRuntime) -> Result<(), Fail> {
     assert_eq!(rt; full.header("x-request-id"), Some("7"));
     assert_eq!(rt; full.header("x-request-ie"), None);
     assert_eq!(rt; full.header(""), None);
-    assert_eq!(rt; full.headers().len(), 10);
+    assert_eq!(rt; full.headers().pairs().len(), 10);
     assert_eq!(rt; full.line_count(), 9);
     assert_eq!(rt; full.method(), "GET");
     assert_eq!(rt; full.target(), "/a/b?x=1#f?y");
     assert!(rt; full.is_http11());
     assert_eq!(rt; full.conn().remote_ip, parse_ip("::1"));
+    Ok(())
+}
+
+// Names that begin with the same eight bytes, and shorter ones.
+#[test]
+fn finds_headers_that_begin_alike(rt: HostRuntime) -> Result<(), Fail> {
+    let alloc = rt.alloc();
+    let conn = Conn::of_scheme(RcStr::from_str(alloc, "http")?);
+    let method = String::from_str(alloc, "GET")?;
+    let target = String::from_str(alloc, "/")?;
+    let lines = lines_of(alloc, &ALIKE)?;
+    let request = Request::new(alloc, method, target, true, lines, conn)?;
+    for (name, value) in ALIKE {
+        assert_eq!(rt; request.header(name), Some(value), "{name}");
+    }
+    for name in NOT_ALIKE {
+        assert_eq!(rt; request.header(name), None, "{name}");
+    }
     Ok(())
 }
 
@@ -272,7 +328,7 @@ fn joins_lines_with_pseudo_headers(rt: HostRuntime) -> Result<(), Fail> {
     assert_eq!(rt; request.header(":path"), Some("/x,/"));
     assert_eq!(rt; request.header(":authority"), Some("a,b"));
     assert_eq!(rt; request.header(":method"), Some("GET"));
-    assert_eq!(rt; request.headers().len(), 4);
+    assert_eq!(rt; request.headers().pairs().len(), 4);
     assert_eq!(rt; request.line_count(), 3);
     Ok(())
 }

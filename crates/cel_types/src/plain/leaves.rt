@@ -89,6 +89,6 @@ fn share_value(found: AttrValue<'_>) -> Result<Value, AllocError>
         AttrValue::Int(n) => Ok(Value::Int(n)),
         AttrValue::Uint(n) => Ok(Value::Uint(n)),
         AttrValue::Bool(b) => Ok(Value::Bool(b)),
-        AttrValue::Pairs(pairs) => Ok(Value::Map(Map::Texts(pairs.clone()?))),
+        AttrValue::Pairs(headers) => Ok(Value::Map(Map::Texts(headers.pairs().clone()?))),
     }
 }
