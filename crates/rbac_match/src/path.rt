@@ -31,6 +31,7 @@ pub(crate) fn read_path_matcher(alloc: Global, parts: &[&[u8]]) -> Result<TextMa
 }
 
 /// Whether the target up to its first `?` or `#` passes the test.
+#[inline(always)]
 pub(crate) fn path_matches(matcher: &TextMatcher, request: &Request) -> bool
     ensures { result ≡ matcher_holds (UrlPath matcher.now) request.now }
 {
