@@ -61,18 +61,6 @@ pub fn resource(alloc: Global, name: &str, filter: &[u8]) -> Result<Vec<u8>, Fai
     Ok(bytes)
 }
 
-/// The values as resources of a response.
-fn packed<'a>(alloc: Global, values: &[&'a [u8]]) -> Result<Vec<Any<'a>>, Fail> {
-    let mut each = Vec::new(alloc);
-    for value in values {
-        each.push(Any {
-            type_url: EXTENSION_TYPE,
-            value: *value,
-        })?;
-    }
-    Ok(each)
-}
-
 /// The message in a frame.
 fn framed(alloc: Global, message: &[u8]) -> Result<Vec<u8>, Fail> {
     if message.len() > 100_000_000 {
@@ -90,9 +78,16 @@ pub fn response(
     nonce: &str,
     resources: &[&[u8]],
 ) -> Result<Vec<u8>, Fail> {
+    let mut each = Vec::new(alloc);
+    for value in resources {
+        each.push(Any {
+            type_url: EXTENSION_TYPE,
+            value: *value,
+        })?;
+    }
     let response = DiscoveryResponse {
         version_info: version,
-        resources: packed(alloc, resources)?,
+        resources: each,
         type_url: EXTENSION_TYPE,
         nonce,
     };
