@@ -72,8 +72,8 @@ fn all_match(rules: &[Rule], request: &Request) -> bool
     true
 }
 
-/// Whether some of the rules matches the request. It takes no memory. Each function here calls
-/// itself on a rule's children, each child once at most, so no rule is looked at twice.
+/// Whether some of the rules matches the request. It takes no memory. Each rule is handed on to its answer
+/// once, and each of its children once at most, so no rule is looked at twice.
 #[cycle(matching)]
 #[inline(always)]
 pub fn any_matches(rules: &[Rule], request: &Request) -> bool
