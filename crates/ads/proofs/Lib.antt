@@ -17,3 +17,4 @@ pub mod ScheduleLemmas
 pub mod Apart
 pub mod ServeTurns
 pub mod ServeStreams
+pub mod StandardFacts

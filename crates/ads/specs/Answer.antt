@@ -1,5 +1,6 @@
 -- What a client answers a response, and what it has accepted after it: xDS REST and gRPC protocol, "ACK and
--- NACK". The resources are of type `envoy.config.core.v3.TypedExtensionConfig`.
+-- NACK". The resources are of type `envoy.config.core.v3.TypedExtensionConfig`. What an error tells of a refusal is
+-- this project's own, but for the code (google.rpc.Code).
 use Rattle.std.specs.Prelude.{◌≡◌, ◌≢◌, ◌⊎◌, ℕ, ℤ, pos, ◌+◌, ◌-◌, ◌^◌, min, Option, Some, None, List, [], ◌∷◌, ◌++◌, map, filter, codes, decimal, bytes_eq, IsSomeAnd}
 use Rattle.std.specs.List.{AllZip}
 use Rattle.attributes.specs.Limits.{LimitsValue}

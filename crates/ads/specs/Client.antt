@@ -1,4 +1,6 @@
--- A client of an update stream, and what each call on it does.
+-- A client of an update stream, and what each call on it does: xDS REST and gRPC protocol, "ACK and NACK", in the frames
+-- of gRPC over HTTP/2, "Length-Prefixed-Message". That bytes come by calls is this project's own, and so is the limit of
+-- a message.
 use Rattle.std.specs.Prelude.{◌≡◌, ℕ, ◌<◌, ◌^◌, Bool, true, false, Option, Some, None, ◌⊎◌, List, [], ◌∷◌, ◌++◌, length, is_none, bytes_eq, if◌then◌else◌}
 use Rattle.proto_wire.specs.declared.refusal.Refusal.{Refusal}
 use Rattle.attributes.specs.Limits.{LimitsValue}
@@ -79,7 +81,7 @@ FeedsBy (Some rest) old bytes replies is_broken versions new =
 abbrev pub Feeds : ClientValue → List ℕ → List ℕ → Bool → List (List ℕ) → ClientValue → Type 0
 Feeds old bytes replies is_broken versions new = FeedsBy old.stream old bytes replies is_broken versions new
 
--- the client with no stream, and with a new one
+-- the client without a stream
 abbrev pub stream_down : ClientValue → ClientValue
 stream_down c = record { config = c.config; stream = None; accepted = c.accepted }
 

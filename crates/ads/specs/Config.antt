@@ -1,4 +1,5 @@
--- A configuration of a client: who asks, its filters, and the limits of their requests.
+-- A configuration of a client: who asks (Envoy v3 API, `config/core/v3/base.proto`, Node), its filters, and the limits of
+-- their requests. What it may hold is this project's own.
 use Rattle.std.specs.Prelude.{◌≡◌, ◌≢◌, ◌⊎◌, ℕ, ◌<◌, ◌≤◌, List, [], ◌∷◌, map, length}
 use Rattle.std.specs.List.{AllByRecursion}
 use Rattle.attributes.specs.Limits.{LimitsValue}

@@ -1,5 +1,6 @@
 -- The control plane's end of the update stream, and what each call on it does: xDS REST and gRPC protocol,
--- "ACK and NACK".
+-- "ACK and NACK". That it serves snapshots, numbered from 1, each after the answer to the one before, is this project's
+-- own; so is that versions and nonces are numbers in decimal.
 use Rattle.std.specs.Prelude.{◌≡◌, ◌≢◌, ◌⊎◌, ℕ, ◌+◌, ◌-◌, ◌^◌, ◌<◌, ◌≤◌, Bool, true, false, Option, Some, None, List, [], ◌∷◌, ◌++◌, length, filter, decimal, bytes_eq, is_none, IsSomeAnd}
 use Rattle.std.specs.List.{AllZip, list_any}
 use Rattle.proto_wire.specs.declared.refusal.Refusal.{Refusal}

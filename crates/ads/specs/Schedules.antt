@@ -1,5 +1,5 @@
--- A client and a control plane joined by a stream: the steps that they take, the versions that were accepted and the
--- numbers that were recorded.
+-- A client and a control plane joined by a stream (this project's own): the steps that they take, the versions that were
+-- accepted and the numbers that were recorded.
 use Rattle.std.specs.Prelude.{◌≡◌, ◌⊎◌, ℕ, ◌≤◌, Bool, true, false, List, [], ◌∷◌, ◌++◌, map, decimal}
 use Rattle.std.specs.List.{AllByRecursion}
 use Rattle.ads.specs.Config.{ConfigValue}

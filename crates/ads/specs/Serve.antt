@@ -1,5 +1,5 @@
 -- All that a control plane sends and records for its streams, by the whole lists of their requests: xDS REST and gRPC
--- protocol, "ACK and NACK".
+-- protocol, "ACK and NACK". Turns and calls are this project's own.
 use Rattle.std.specs.Prelude.{◌≡◌, ◌⊎◌, ◌↔◌, ℕ, ◌+◌, ◌==◌, min, max, Bool, true, false, Some, None, List, [], ◌∷◌, ◌++◌, length, filter, if◌then◌else◌}
 use Rattle.std.specs.List.{AllZip, flat_map}
 use Rattle.proto_wire.specs.Values.{last_of}

@@ -1,4 +1,4 @@
--- What private clauses and proofs of this crate cite.
+-- What private clauses and proofs of this crate cite (this project's own).
 pub mod Views
 pub mod Streams
 pub mod Taking

@@ -18,7 +18,7 @@ impl Client {
     ghost use Rattle.ads.specs.Client.{Feeds, WasAdmittedAs, new_client, policies_of, stream_down, stream_up};
     ghost use Rattle.ads.specs.steps.Drafts.{client_view};
 
-    /// A client that has accepted nothing, and whose stream is down.
+    /// A client that has accepted nothing, and whose stream is down. The one error is want of memory.
     pub fn new(alloc: Global, config: &Config) -> Result<Client, AllocError>
         ensures { IfOk result (λ c. client_view c ≡ new_client config.now) }
     {
@@ -32,8 +32,8 @@ impl Client {
         })
     }
 
-    /// A stream comes up: the bytes to send first. A stream that is up is lost before. After an error all is as before
-    /// the call.
+    /// A stream comes up: the bytes to send first. A stream that is up is lost before. The one error is want of memory;
+    /// after it all is as before the call.
     pub fn connected(&mut self) -> Result<Vec<u8>, AllocError>
         ensures found { IfOk result (λ bytes.
             IsFrameThen (first_request self.old.config (client_view self.old).accepted) bytes.items []) }
@@ -46,8 +46,11 @@ impl Client {
         Ok(bytes)
     }
 
-    /// The stream gives bytes. Each response that they complete is answered, in order; a broken frame or a message that
-    /// is no response ends the stream. After an error all is as before the call.
+    /// The stream gives bytes. Each response that they complete is answered, in order: it is accepted, or refused by the
+    /// number of a refusal, which is `WrongType`, `BadWire`, `BadText`, `Missing`, `DuplicateResource` or one of
+    /// `rbac_policy::admit`, `Memory` among them. A broken frame or a message that is no response ends the stream, and
+    /// without a stream nothing is done: then it is `broken`. The one error is want of memory elsewhere than in an
+    /// admission; after it all is as before the call.
     pub fn feed(&mut self, bytes: &[u8]) -> Result<Fed, AllocError>
         ensures found { IfOk result (λ fed. (versions : List (List ℕ))
             × Feeds (client_view self.old) bytes.now fed.replies.items fed.broken versions (client_view self.new)) }
@@ -80,7 +83,7 @@ impl Client {
     }
 
     /// The filter of this name, as it was accepted last; it was admitted for the configuration's limits, under the
-    /// filter's budget. It takes no memory.
+    /// filter's budget. None where no filter has the name or nothing was accepted for it. It takes no memory.
     pub fn current(&self, name: &str) -> Option<&Admitted>
         ensures found { let found = policies_of (client_view self.now) name.now in
             MatchOption result (found ≡ None) (λ a. found ≡ Some (admitted_view a.now)) }

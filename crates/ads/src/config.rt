@@ -99,7 +99,9 @@ impl Config {
     ghost use Rattle.ads.specs.Config.{IsSound, IsAtFault};
     ghost use Rattle.ads.specs.steps.Views.{config_of, entries_view};
 
-    /// A configuration of these parts. Of several faults one that is there is answered.
+    /// A configuration of these parts. It is refused for a fault that is there: `NoFilter`, `TooManyFilters`, `BadName`
+    /// (of a filter, the node or the cluster), `BadBudget` or `DoubledName`; or for want of memory, by `Memory`. Of several
+    /// faults one is answered.
     pub fn new(
         alloc: Global,
         node: String,
@@ -126,7 +128,7 @@ impl Config {
         })
     }
 
-    /// The same configuration once more.
+    /// The same configuration once more. The one error is want of memory.
     pub fn copy(&self) -> Result<Config, AllocError>
         ensures { IfOk result (λ copy. copy ≡ self.now) }
     {

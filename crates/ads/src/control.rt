@@ -40,8 +40,8 @@ impl Control {
     }
 
     /// The stream gives bytes. Each request that they complete is served, in order. A broken frame, a message that is
-    /// no request, and a response that is too long or has no number of 64 bits end the stream: from then on nothing is
-    /// sent until it is `lost`. After an error all is as before the call.
+    /// no request, and a response that is too long or has no number of 64 bits end the stream: from then on it is `broken`,
+    /// and nothing is sent until it is `lost`. The one error is want of memory; after it all is as before the call.
     pub fn feed(&mut self, bytes: &[u8]) -> Result<Fed, AllocError>
         ensures found { IfOk result (λ fed. (numbers : List ℕ)
             × ServesBytes (control_view self.old) bytes.now fed.replies.items fed.broken numbers
@@ -82,7 +82,7 @@ impl Control {
         self.served.last = None;
     }
 
-    /// The number of the snapshot that was acknowledged last. It takes no memory.
+    /// The number of the snapshot that was acknowledged last; none where none was. It takes no memory.
     pub fn acknowledged(&self) -> Option<u64>
         ensures { result ≡ (control_view self.now).served.acknowledged }
     {

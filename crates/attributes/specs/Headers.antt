@@ -4,7 +4,7 @@ use Rattle.std.specs.Prelude.{ℕ, List, [], ◌∷◌, ◌++◌, if◌then◌el
 use Rattle.std.specs.List.{join_with_byte}
 use Rattle.std.specs.Ordering.{nat_cmp}
 use Rattle.std.specs.Cmp.Lexicographic.{slice_cmp}
-use Rattle.std.specs.FinMap.{FinMap, from_entries, from_sorted}
+use Rattle.std.specs.FinMap.{FinMap, from_entries}
 use Rattle.std.specs.Str.{bytes_eq}
 use Rattle.std.specs.Rc.{rc_str_bytes}
 use Rattle.std.specs.String.{string_bytes}
@@ -40,10 +40,6 @@ name_cmp = slice_cmp nat_cmp
 -- headers as a finite map: from names to values
 abbrev pub HeaderMap : Type 0
 HeaderMap = FinMap name_cmp (List ℕ)
-
--- the map that headers are where they stand by ascending name
-abbrev pub map_view : List (RcStr Global × RcStr Global) → HeaderMap
-map_view headers = from_sorted (headers_view headers)
 
 -- the values of all entries of this name, in order
 abbrev pub values_of : List ℕ → List Entry → List (List ℕ)

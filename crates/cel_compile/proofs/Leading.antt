@@ -7,7 +7,7 @@ use Rattle.std.proofs.lemmas.Bool.Decides.{nat_tests}
 use Rattle.std.proofs.lemmas.Grind.{reverse_onto}
 use Rattle.std.proofs.lemmas.List.{length-map, length-reverse, reverse-reverse}
 use Rattle.std.proofs.Math.Seq.{take-append_seam, drop-append_seam}
-use Rattle.cel_value.specs.EqualityLaws.{type_eq_decides}
+use Rattle.cel_value.specs.steps.EqualityLaws.{type_eq_decides}
 use Rattle.cel_value.specs.Types.{HasType, ValueType, bool_type, int_type, uint_type, text_type, bytes_type, list_type, map_type, type_eq, type_of_key}
 use Rattle.cel_value.specs.Values.{CelValue, bool, int, uint, text, bytes}
 use Rattle.cel_value.specs.declared.cel_type.KeyType.{KeyType}

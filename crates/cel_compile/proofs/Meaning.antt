@@ -9,7 +9,7 @@ use Rattle.cel_types.specs.Meaning.{eval}
 use Rattle.cel_types.specs.Typing.{maps_of}
 use Rattle.cel_types.specs.TypedMeaning.{typed_answer}
 use Rattle.cel_types.specs.WellTyped.{IsWellTyped}
-use Rattle.cel_types.proofs.MeansTheSame.{means-same}
+use Rattle.cel_types.proofs.MeansTheSame.{means_same}
 use Rattle.cel_types.proofs.WellTypedElaborations.{elaborated_typed}
 use Rattle.cel_compile.specs.Codes.{code_of}
 use Rattle.cel_compile.specs.Sound.{RunsTo, RunsToMeaning}
@@ -23,7 +23,7 @@ code_means c e good elaborated request limits valid within =
     let run : RunsTo (code_of 0 0 e) e request limits =
     code_is_sound e (code_of 0 0 e) typed refl request limits valid within in
     let same : eval c.tree request [] ≡ typed_answer e request [] =
-    means-same (maps_of c) request valid c.tree e [] tt good elaborated.elaborates in
+    means_same (maps_of c) request valid c.tree e [] tt good elaborated.elaborates in
     record {
       answer = run.answer;
       means = let means = run.means in cc;

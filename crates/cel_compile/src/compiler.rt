@@ -24,8 +24,11 @@ use proto_wire::Refusal;
 use stack_machine::{Code, CodeFault, Instr};
 use std::alloc::{AllocError, Global};
 
-/// The code of an expression, which shares its texts. It is `TooLarge` where it has more than 65,535
-/// instructions, or somewhere more than 255 locals in scope.
+/// The code of an expression, which shares its texts.
+///
+/// It refuses with 8, `TooLarge`, where the code has more than 65,535 instructions, or where some part of the
+/// expression has more than 255 locals in scope; and with 19, `Memory`, for want of memory. An expression that
+/// was read and checked is never too large.
 pub fn compile(alloc: Global, typed: &Typed<'_>) -> Result<Code, Refusal>
     ensures found { IfOk result (λ code. code_view code ≡ code_of 0 0 (typed_view typed.now)) }
     ensures sound { IfOk result (λ code. IsWellTyped [] (typed_view typed.now)

@@ -5,6 +5,7 @@ mod container_rows;
 mod loop_rows;
 mod operator_rows;
 mod random_trees;
+mod too_large;
 mod worked_rows;
 
 use crate::compile;

@@ -3,7 +3,7 @@ use Rattle.std.proofs.Common.{◌≡◌, ◌≢◌, ◌&&◌, Bool, true, false,
 use Rattle.std.proofs.lemmas.Option.{none-some}
 use Rattle.cel_value.specs.Values.{CelKey, CelValue, CelValues, no_items, item, CelEntries, no_entries, entry, CelAnswer, value, fails, map_of}
 use Rattle.cel_value.specs.Equality.{key_eq}
-use Rattle.cel_value.specs.EqualityLaws.{key_eq_equiv}
+use Rattle.cel_value.specs.steps.EqualityLaws.{key_eq_equiv}
 use Rattle.cel_value.specs.Keys.{get, key_of_value, put, IsAscending}
 use Rattle.cel_value.specs.View.{items_of}
 use Rattle.cel_value.specs.declared.error.CelError.{CelError}

@@ -10,7 +10,7 @@ use Rattle.cel_value.specs.declared.error.CelError.{CelError}
 use Rattle.cel_value.proofs.Spending.{left_checked, left_twice, left_none, more_spent}
 use Rattle.cel_ops.specs.Strict.{all_values, first_error, gather, gathered_after}
 use Rattle.cel_ops.specs.Charges.{keys_mass, list_literal_charge, map_literal_charge, pair_count, strict_charge_all}
-use Rattle.cel_ops.specs.Gathering.{answer_mass, firsts_mass, some_error}
+use Rattle.cel_ops.specs.steps.Gathering.{answer_mass, firsts_mass, some_error}
 use Rattle.cel_value.specs.declared.value.Value.{Value}
 use Rattle.std.specs.Prelude.{Result}
 

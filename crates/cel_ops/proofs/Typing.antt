@@ -6,7 +6,7 @@ use Rattle.std.proofs.lemmas.Bool.{and_parts}
 use Rattle.std.proofs.lemmas.Option.{none-some}
 use Rattle.cel_value.specs.Values.{CelKey, bool_key, int_key, uint_key, text_key, CelValue, bool, int, uint, text, bytes, list, map_of, CelValues, no_items, item, CelEntries, no_entries, entry, CelAnswer, value, fails, value_of_key}
 use Rattle.cel_value.specs.Equality.{key_eq}
-use Rattle.cel_value.specs.EqualityLaws.{key_eq_decides}
+use Rattle.cel_value.specs.steps.EqualityLaws.{key_eq_decides}
 use Rattle.cel_value.specs.Items.{item_at, joined_items, keys_of}
 use Rattle.cel_value.specs.Keys.{IsAscending, get, is_ascending, key_of_value, put, key_cmp}
 use Rattle.cel_value.specs.Types.{ValueType, bool_type, int_type, uint_type, text_type, bytes_type, list_type, map_type, type_of_key, AnswerHasType, EachEntry, EachItem, Holds, HasType, KeyHasType}

@@ -1,6 +1,6 @@
 pub mod Attributes
 pub mod Strict
-pub mod Gathering
+pub mod steps
 pub mod Logic
 pub mod Arithmetic
 pub mod Comparison

@@ -3,7 +3,7 @@ use Rattle.std.proofs.Common.{◌≡◌, ◌&&◌, Bool, true, false, cond, List
 use Rattle.std.proofs.lemmas.Bool.{and_parts}
 use Rattle.std.proofs.lemmas.Option.{none-some}
 use Rattle.cel_value.specs.Types.{ValueType, bool_type, int_type, uint_type, text_type, bytes_type, list_type, map_type, type_eq, type_of_key}
-use Rattle.cel_value.specs.EqualityLaws.{type_eq_decides}
+use Rattle.cel_value.specs.steps.EqualityLaws.{type_eq_decides}
 use Rattle.cel_ops.specs.Typed.{IsJoined, IsOrdered, IsSized}
 use Rattle.cel_ops.specs.declared.arithmetic.ArithmeticOp.{ArithmeticOp}
 use Rattle.cel_ops.specs.declared.arithmetic.ArithmeticOp.TheVariants as ops

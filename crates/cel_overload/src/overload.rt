@@ -59,7 +59,8 @@ pub enum OverloadFault {
 }
 
 /// The overload of a call, by its function's name, whether it has a target, and its operands' types, a
-/// target first.
+/// target first. `UnknownName` where no function has the name, else `NoOverload` where it takes no such
+/// target or operands.
 pub fn find_overload<'a>(
     name: &str,
     has_target: bool,

@@ -13,7 +13,7 @@ use Rattle.cel_tree.specs.Nodes.{Parts, Node, constant_node, ident_node, select_
 use Rattle.cel_tree.specs.Trees.{MadeEntries, AreTrees, IsTree, in_node, node_count, trees_count, entries_count}
 use Rattle.cel_tree.specs.View.{constant_view, tree_view, trees_view, tree_entries_view, loop_view, loop_of, boxed_view, target_of, LoopParts}
 use Rattle.cel_tree.specs.steps.EntryViews.{entry_nodes_view}
-use Rattle.cel_tree.specs.steps.Inside.{TreeFails, SomeFails, Inside, IsTarget, target_nodes, EntryTrees, AreEntryTrees, AreLoopTrees}
+use Rattle.cel_tree.specs.steps.Inside.{TreeFails, SomeFails, Inside, IsTarget, target_nodes, EntryTrees, AreEntryTrees, AreLoopTrees, AreTwoTrees}
 use Rattle.cel_tree.specs.declared.literals.EntryNode.{EntryNode}
 use Rattle.cel_tree.specs.declared.tree.Constant as constants
 use Rattle.cel_tree.specs.declared.tree.TreeEntry.{TreeEntry}
@@ -46,7 +46,7 @@ view_comprehension : (id : ℤ) (b : Box loops.Comprehension Global)
 view_comprehension id b = search (rules, the_lemmas)
 
 -- an id is the one that was written
-same_id : (id : ℤ) → SFits w64 id → to_z w64 (of_z w64 id) ≡ id
+pub same_id : (id : ℤ) → SFits w64 id → to_z w64 (of_z w64 id) ≡ id
 same_id id fits = to_z-of_z fits
 
 module _ (depth : ℕ) (id : ℤ) (fits : SFits w64 id) where
@@ -150,6 +150,13 @@ tree_fails (suc depth) parts id node mid left e more is sum bad =
 -- ---- loops
 
 module _ (depth : ℕ) where
+  -- trees of which the first two read
+  pub fails_past_two : (a b : Parts) (cs : List Parts) (t u : CelTree) (rest left : ℕ) (e : Refusal)
+      → AreTwoTrees depth a b t u rest left → SomeFails depth rest cs e → SomeFails depth left (a ∷ b ∷ cs) e
+  fails_past_two a b cs t u rest left e both bad =
+      let sum : rest + (node_count t + node_count u) ≡ left = both.count in
+      inr (t, rest + node_count u, both.first, omega (arith, sum), inr (u, rest, both.second, refl, bad))
+
   -- the tree at a place fails
   pub trees_fail : (slices : List (Bor (List ℕ))) (i : ℕ) (d : Bor (List ℕ)) (ts : CelTrees) (rest left : ℕ) (e : Refusal)
       → i < length slices → AreTrees (IsTree depth) (singles (parts_view (take i slices))) ts

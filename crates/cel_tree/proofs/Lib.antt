@@ -1,5 +1,6 @@
 pub mod Basics
 pub mod Readers
+pub mod PairFacts
 pub mod Texts
 pub mod Entries
 pub mod Standing

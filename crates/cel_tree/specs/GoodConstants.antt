@@ -26,14 +26,17 @@ abbrev mutual
       HasGoodConstants range × HasGoodConstants init × HasGoodConstants condition
       × HasGoodConstants step × HasGoodConstants result
 
+  -- a call's target, if there is one, has good constants
   pub TargetIsGood : CelTarget → Type 0
   TargetIsGood no_target = Unit {0}
   TargetIsGood (target on) = HasGoodConstants on
 
+  -- each of these expressions has
   pub AreGood : CelTrees → Type 0
   AreGood no_trees = Unit {0}
   AreGood (tree t ts) = HasGoodConstants t × AreGood ts
 
+  -- each key and each value of these entries has
   pub EntriesAreGood : CelTreeEntries → Type 0
   EntriesAreGood no_tree_entries = Unit {0}
   EntriesAreGood (tree_entry id key value es) =

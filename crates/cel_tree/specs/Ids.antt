@@ -19,14 +19,17 @@ abbrev mutual
   HasIds (comprehension id x acc range init condition step result) =
       IsInt64 id × HasIds range × HasIds init × HasIds condition × HasIds step × HasIds result
 
+  -- those of a call's target are, if there is one
   pub TargetHasIds : CelTarget → Type 0
   TargetHasIds no_target = Unit {0}
   TargetHasIds (target on) = HasIds on
 
+  -- those of each of these expressions are
   pub AllHaveIds : CelTrees → Type 0
   AllHaveIds no_trees = Unit {0}
   AllHaveIds (tree t ts) = HasIds t × AllHaveIds ts
 
+  -- those of these entries, of their keys and of their values are
   pub EntriesHaveIds : CelTreeEntries → Type 0
   EntriesHaveIds no_tree_entries = Unit {0}
   EntriesHaveIds (tree_entry id key value es) =

@@ -80,14 +80,17 @@ abbrev mutual
       1 + (node_count range
       + (node_count init + (node_count condition + (node_count step + node_count result))))
 
+  -- how many a call's target has, if there is one
   pub target_count : CelTarget → ℕ
   target_count no_target = 0
   target_count (target on) = node_count on
 
+  -- how many these expressions have together
   pub trees_count : CelTrees → ℕ
   trees_count no_trees = 0
   trees_count (tree t ts) = node_count t + trees_count ts
 
+  -- how many the keys and values of these entries have together; an entry itself is none
   pub entries_count : CelTreeEntries → ℕ
   entries_count no_tree_entries = 0
   entries_count (tree_entry id key value es) =

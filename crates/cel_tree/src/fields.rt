@@ -1,13 +1,21 @@
 //! What is asked of a message's fields: the last member of a oneof, a part that must be there.
 
-ghost use Rattle.std.specs.Prelude.{◌≡◌, ◌≢◌, [], map, OnOk, IfErr, MatchBool};
+ghost use Rattle.std.specs.Prelude.{◌≡◌, ◌≢◌, [], map, IfOk, IfErr, OnOk, MatchBool};
+ghost use Rattle.std.specs.Str.{IsUtf8};
+ghost use Rattle.cel_value.specs.Texts.{points_of, text_view};
 ghost use Rattle.cel_value.specs.Types.{IsInt64};
 ghost use Rattle.proto_wire.specs.Fields.{field_view};
-ghost use Rattle.proto_wire.specs.Values.{payloads};
+ghost use Rattle.proto_wire.specs.Merge.{parts_view};
+ghost use Rattle.proto_wire.specs.Refusal.{MemoryOr};
+ghost use Rattle.proto_wire.specs.Values.{payloads, bytes_at, Utf8Fault};
 ghost use Rattle.proto_wire.specs.declared.refusal.Refusal.TheVariants.{Missing};
-ghost use Rattle.proto_wire.specs.Oneof.{last_number};
+ghost use Rattle.proto_wire.specs.Oneof.{last_number, member_run};
 
-use proto_wire::{Field, Key, Refusal, last_len, last_member};
+use proto_wire::{
+    Field, Key, Payloads, Refusal, last_len, last_member, member_run, payloads_of, text_at,
+};
+use std::alloc::{AllocError, Global};
+use std::rc::RcStr;
 
 /// Of a oneof, whose members have these keys, the number of the last member.
 pub(crate) fn last_number(fields: &[Field<'_>], keys: &[Key]) -> Option<u32>
@@ -41,4 +49,45 @@ pub(crate) fn number_of(number: &i64) -> i64
     ensures ranged { IsInt64 result }
 {
     *number
+}
+
+/// The text of this number, to keep.
+#[inline(always)]
+pub(crate) fn name_at(alloc: Global, fields: &[Field<'_>], number: u32) -> Result<RcStr, Refusal>
+    ensures found { let bytes = bytes_at number (map field_view fields.now) in
+        IfOk result (λ name. (text_view name ≡ points_of bytes) × IsUtf8 bytes) }
+    ensures fault { IfErr result (MemoryOr (Utf8Fault (bytes_at number (map field_view fields.now)))) }
+{
+    let text = text_at(fields, number)?;
+    Ok(RcStr::from_str(alloc, text)?)
+}
+
+/// Of a oneof, whose members have these keys, the payloads of this number in the run of the last member.
+#[inline(always)]
+pub(crate) fn run_payloads<'a>(
+    alloc: Global,
+    fields: &[Field<'a>],
+    keys: &[Key],
+    number: u32,
+) -> Result<Payloads<'a>, AllocError>
+    ensures { IfOk result (λ v. parts_view v.items ≡ payloads number (member_run keys.now (map field_view fields.now))) }
+{
+    let run = member_run(alloc, fields, keys)?;
+    payloads_of(alloc, &run, number)
+}
+
+/// The payloads of two numbers.
+#[inline(always)]
+pub(crate) fn two_payloads_of<'a>(
+    alloc: Global,
+    fields: &[Field<'a>],
+    first: u32,
+    second: u32,
+) -> Result<(Payloads<'a>, Payloads<'a>), AllocError>
+    ensures { IfOk result (λ two. (parts_view two.0.items ≡ payloads first (map field_view fields.now))
+        × (parts_view two.1.items ≡ payloads second (map field_view fields.now))) }
+{
+    let first = payloads_of(alloc, fields, first)?;
+    let second = payloads_of(alloc, fields, second)?;
+    Ok((first, second))
 }

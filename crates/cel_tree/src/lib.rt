@@ -12,6 +12,7 @@ mod maps;
 mod message;
 mod node;
 mod operands;
+mod pairs;
 mod read;
 mod reference;
 mod tree;

@@ -4,7 +4,7 @@ ghost use Rattle.std.specs.Prelude.{◌≡◌, ◌≢◌, ℕ, List, [], true, f
 ghost use Rattle.proto_wire.specs.Fields.{field_view};
 ghost use Rattle.proto_wire.specs.Merge.{parts_view};
 ghost use Rattle.proto_wire.specs.Refusal.{MemoryOr};
-ghost use Rattle.proto_wire.specs.Values.{has_field, bool_at, bytes_at};
+ghost use Rattle.proto_wire.specs.Values.{has_field, bool_at, bytes_at, payloads};
 ghost use Rattle.proto_wire.specs.declared.refusal.Refusal.TheVariants.{Missing, Unsupported};
 ghost use Rattle.cel_tree.specs.Nodes.{list_field, list_keys, ListSays, ListWrong, entry_field, key_members, EntrySays, EntryLacks, EntryWrong, IsEntry, EntryFault, AreEntries, struct_field, struct_keys, StructSays, StructWrong};
 ghost use Rattle.cel_tree.specs.Reading.{Reads, ReadFault, ValuesFault, LacksNothing};
@@ -12,11 +12,11 @@ ghost use Rattle.proto_wire.specs.Oneof.{last_number};
 ghost use Rattle.cel_tree.specs.steps.NodeViews.{node_view};
 ghost use Rattle.cel_tree.specs.steps.EntryViews.{entry_node_view, entry_nodes_view};
 
-use crate::fields::{last_number, require_part};
+use crate::fields::{last_number, require_part, run_payloads};
 use crate::node::Node;
 use proto_wire::{
-    Field, Key, Payloads, Refusal, bool_at, bytes_at, has_field, int64_at, keys, member_run,
-    payloads_of, read_message,
+    Field, Key, Payloads, Refusal, bool_at, bytes_at, has_field, int64_at, keys, payloads_of,
+    read_message,
 };
 use std::alloc::Global;
 
@@ -104,9 +104,18 @@ fn struct_of<'a>(alloc: Global, fields: &[Field<'a>]) -> Result<Node<'a>, Refusa
     ensures fault { IfErr result (MemoryOr (ValuesFault LacksNothing StructWrong (map field_view fields.now))) }
 {
     refuse_message(fields)?;
+    Ok(Node::Map(entries_of(alloc, fields)?))
+}
+
+/// The entries that the fields of a CreateStruct say.
+fn entries_of<'a>(alloc: Global, fields: &[Field<'a>]) -> Result<Vec<EntryNode<'a>>, Refusal>
+    ensures found { IfOk result (λ entries.
+        AreEntries (payloads struct_field.entries (map field_view fields.now)) (entry_nodes_view entries.items)) }
+    ensures fault { IfErr result (MemoryOr (λ e. (payload : List ℕ)
+        × Contains (payloads struct_field.entries (map field_view fields.now)) payload × EntryFault payload e)) }
+{
     let payloads = payloads_of(alloc, fields, ENTRIES)?;
-    let entries = read_entries(alloc, &payloads)?;
-    Ok(Node::Map(entries))
+    read_entries(alloc, &payloads)
 }
 
 /// Refuses the construction of a message, which has a name.
@@ -152,8 +161,7 @@ fn entry_of<'a>(alloc: Global, fields: &[Field<'a>]) -> Result<EntryNode<'a>, Re
     refuse_optional_entry(fields)?;
     require_map_key(fields)?;
     require_part(fields, VALUE)?;
-    let run = member_run(alloc, fields, &ENTRY_KEY)?;
-    let key = payloads_of(alloc, &run, MAP_KEY)?;
+    let key = run_payloads(alloc, fields, &ENTRY_KEY, MAP_KEY)?;
     let value = payloads_of(alloc, fields, VALUE)?;
     let id = int64_at(fields, ID);
     Ok(EntryNode { id, key, value })

@@ -4,18 +4,18 @@ ghost use Rattle.std.specs.Prelude.{◌≡◌, ◌≢◌, [], IfOk, IfErr, OnOk,
 ghost use Rattle.proto_wire.specs.Fields.{field_view};
 ghost use Rattle.proto_wire.specs.Merge.{parts_view};
 ghost use Rattle.proto_wire.specs.Refusal.{MemoryOr};
-ghost use Rattle.proto_wire.specs.Values.{bytes_at};
+ghost use Rattle.proto_wire.specs.Values.{bytes_at, payloads};
 ghost use Rattle.proto_wire.specs.declared.refusal.Refusal.TheVariants.{Missing, Unsupported};
 ghost use Rattle.cel_tree.specs.Nodes.{loop_field, loop_keys, NamesRead, PartsThere, LacksPart, LoopSays, LoopLacks, LoopWrong};
 ghost use Rattle.cel_tree.specs.Reading.{Reads, ReadFault, ValuesFault};
 ghost use Rattle.cel_tree.specs.steps.NodeViews.{node_view};
 
-use crate::fields::require_part;
+use crate::fields::{name_at, require_part, two_payloads_of};
 use crate::node::Node;
 use proto_wire::{
     Field, Key, Payloads, Refusal, bytes_at, keys, payloads_of, read_message, text_at,
 };
-use std::alloc::Global;
+use std::alloc::{AllocError, Global};
 use std::rc::RcStr;
 
 const ITER_VAR: u32 = 1;
@@ -67,16 +67,35 @@ fn loop_of<'a>(alloc: Global, fields: &[Field<'a>]) -> Result<Node<'a>, Refusal>
 {
     require_names(fields)?;
     require_parts(fields)?;
-    let node = LoopNode {
-        iter_var: RcStr::from_str(alloc, text_at(fields, ITER_VAR)?)?,
-        accu_var: RcStr::from_str(alloc, text_at(fields, ACCU_VAR)?)?,
-        iter_range: payloads_of(alloc, fields, ITER_RANGE)?,
-        accu_init: payloads_of(alloc, fields, ACCU_INIT)?,
-        loop_condition: payloads_of(alloc, fields, LOOP_CONDITION)?,
-        loop_step: payloads_of(alloc, fields, LOOP_STEP)?,
-        result: payloads_of(alloc, fields, RESULT)?,
-    };
-    Ok(Node::Comprehension(node))
+    let iter_var = name_at(alloc, fields, ITER_VAR)?;
+    let accu_var = name_at(alloc, fields, ACCU_VAR)?;
+    let (iter_range, accu_init) = two_payloads_of(alloc, fields, ITER_RANGE, ACCU_INIT)?;
+    let (loop_condition, loop_step, result) = body_of(alloc, fields)?;
+    Ok(Node::Comprehension(LoopNode {
+        iter_var,
+        accu_var,
+        iter_range,
+        accu_init,
+        loop_condition,
+        loop_step,
+        result,
+    }))
+}
+
+/// The payloads of the condition, of the step and of the result.
+#[inline(always)]
+fn body_of<'a>(
+    alloc: Global,
+    fields: &[Field<'a>],
+) -> Result<(Payloads<'a>, Payloads<'a>, Payloads<'a>), AllocError>
+    ensures { IfOk result (λ body.
+        (parts_view body.0.items ≡ payloads loop_field.loop_condition (map field_view fields.now))
+        × (parts_view body.1.items ≡ payloads loop_field.loop_step (map field_view fields.now))
+        × (parts_view body.2.items ≡ payloads loop_field.result (map field_view fields.now))) }
+{
+    let (loop_condition, loop_step) = two_payloads_of(alloc, fields, LOOP_CONDITION, LOOP_STEP)?;
+    let result = payloads_of(alloc, fields, RESULT)?;
+    Ok((loop_condition, loop_step, result))
 }
 
 /// Refuses names that are no texts, and a second name of the element.

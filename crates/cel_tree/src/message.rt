@@ -2,18 +2,22 @@
 
 ghost use Rattle.std.specs.Prelude.{◌≤◌, [], ◌∷◌, IfOk, IfErr, map};
 ghost use Rattle.proto_wire.specs.Fields.{field_view};
+ghost use Rattle.proto_wire.specs.Maps.{int64, IsMap};
 ghost use Rattle.proto_wire.specs.Merge.{parts_view};
 ghost use Rattle.proto_wire.specs.Refusal.{MemoryOr};
 ghost use Rattle.proto_wire.specs.Values.{payloads};
 ghost use Rattle.cel_tree.specs.Message.{checked_field, most_nodes, tree_depth, CheckedSays, CheckedLacks, CheckedWrong, IsChecked, CheckedFault};
 ghost use Rattle.cel_tree.specs.Reading.{ValuesFault};
+ghost use Rattle.cel_tree.specs.References.{IsReference};
 ghost use Rattle.cel_tree.specs.Trees.{IsTree, node_count};
-ghost use Rattle.cel_tree.specs.View.{checked_view, tree_view};
+ghost use Rattle.cel_tree.specs.TypeEntries.{IsTypeEntry};
+ghost use Rattle.cel_tree.specs.View.{checked_view, references_view, tree_view, types_view};
 ghost use Rattle.cel_tree.specs.steps.Inside.{TreeFails};
 
-use crate::checked::Checked;
+use crate::checked::{Checked, ReferenceMap, TypeMap};
 use crate::fields::require_part;
 use crate::maps::{REFERENCE_MAP, TREE_DEPTH, TYPE_MAP, references_of, types_of};
+use crate::pairs::both;
 use crate::read::read_tree;
 use crate::tree::Tree;
 use proto_wire::{Field, Key, Refusal, keys, payloads_of, read_message};
@@ -58,9 +62,20 @@ fn checked_of(alloc: Global, fields: &[Field<'_>]) -> Result<Checked, Refusal>
 {
     require_part(fields, EXPR)?;
     let tree = tree_of(alloc, fields)?;
+    let (tree, (types, refs)) = both(tree, maps_of(alloc, fields))?;
+    Ok(Checked { tree, types, refs })
+}
+
+/// Both maps of the fields.
+fn maps_of(alloc: Global, fields: &[Field<'_>]) -> Result<(TypeMap, ReferenceMap), Refusal>
+    ensures found { let fs = map field_view fields.now in IfOk result (λ maps.
+        IsMap int64 (IsTypeEntry tree_depth) (payloads checked_field.type_map fs) (types_view maps.0)
+        × IsMap int64 IsReference (payloads checked_field.reference_map fs) (references_view maps.1)) }
+    ensures fault { IfErr result (MemoryOr (CheckedWrong (map field_view fields.now))) }
+{
     let types = types_of(alloc, fields)?;
     let refs = references_of(alloc, fields)?;
-    Ok(Checked { tree, types, refs })
+    Ok((types, refs))
 }
 
 /// The tree of the fields.

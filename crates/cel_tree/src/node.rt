@@ -6,20 +6,18 @@ ghost use Rattle.proto_wire.specs.Merge.{parts_view};
 ghost use Rattle.proto_wire.specs.Refusal.{MemoryOr};
 ghost use Rattle.proto_wire.specs.declared.refusal.Refusal.TheVariants.{Missing, Unsupported};
 ghost use Rattle.cel_value.specs.Types.{IsInt64};
-ghost use Rattle.cel_tree.specs.Nodes.{node_kinds, kind_keys, KindSays, KindFault, MemberFails, NodeSays, IsNode, NodeFault};
+ghost use Rattle.cel_tree.specs.Nodes.{node_kinds, kind_keys, KindSays, KindFault, MemberSays, MemberFails, NodeSays, IsNode, NodeFault};
 ghost use Rattle.cel_tree.specs.Reading.{ValuesFault, LacksMember, IsUnsupported, OneofFault};
-ghost use Rattle.proto_wire.specs.Oneof.{last_number, member_in};
+ghost use Rattle.proto_wire.specs.Oneof.{last_number, member_in, member_run};
 ghost use Rattle.cel_tree.specs.steps.NodeViews.{node_view, numbered_view};
 
 use crate::constant::read_constant;
-use crate::fields::last_number;
+use crate::fields::{last_number, run_payloads};
 use crate::literals::{EntryNode, read_list, read_struct};
 use crate::loops::{LoopNode, read_loop};
 use crate::operands::{read_call, read_ident, read_select};
 use crate::tree::Constant;
-use proto_wire::{
-    Field, Key, Payloads, Refusal, int64_at, keys, member_run, payloads_of, read_message,
-};
+use proto_wire::{Field, Key, Payloads, Refusal, int64_at, keys, read_message};
 use std::alloc::Global;
 use std::rc::RcStr;
 
@@ -115,11 +113,19 @@ fn node_of<'a>(alloc: Global, fields: &[Field<'a>]) -> Result<(i64, Node<'a>), R
         (OneofFault node_kinds IsUnsupported MemberFails) (map field_view fields.now))) }
 {
     let last = last_kind(fields)?;
-    let run = member_run(alloc, fields, &KINDS)?;
-    let parts = payloads_of(alloc, &run, last.number)?;
-    let node = read_kind(alloc, last.kind, &parts)?;
-    let id = int64_at(fields, ID);
-    Ok((id, node))
+    let node = last_node(alloc, fields, last)?;
+    Ok((int64_at(fields, ID), node))
+}
+
+/// The node that the last member of an Expr's fields says.
+fn last_node<'a>(alloc: Global, fields: &[Field<'a>], last: LastKind) -> Result<Node<'a>, Refusal>
+    ensures found { IfOk result (λ node. MemberSays last.kind last.number
+        (member_run kind_keys (map field_view fields.now)) (node_view node)) }
+    ensures fault { IfErr result (MemoryOr (MemberFails last.kind last.number
+        (member_run kind_keys (map field_view fields.now)))) }
+{
+    let parts = run_payloads(alloc, fields, &KINDS, last.number)?;
+    read_kind(alloc, last.kind, &parts)
 }
 
 /// The last member of an Expr's fields: `Missing` without one.

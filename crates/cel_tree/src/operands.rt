@@ -8,7 +8,7 @@ ghost use Rattle.cel_tree.specs.Nodes.{ident_keys, IdentSays, IdentWrong, select
 ghost use Rattle.cel_tree.specs.Reading.{Reads, ReadFault, ValuesFault, LacksNothing};
 ghost use Rattle.cel_tree.specs.steps.NodeViews.{node_view};
 
-use crate::fields::require_part;
+use crate::fields::{name_at, require_part, two_payloads_of};
 use crate::node::Node;
 use proto_wire::{Field, Key, Refusal, bool_at, keys, payloads_of, read_message, text_at};
 use std::alloc::Global;
@@ -51,8 +51,7 @@ fn ident_of<'a>(alloc: Global, fields: &[Field<'a>]) -> Result<Node<'a>, Refusal
     ensures found { IfOk result (λ node. IdentSays (map field_view fields.now) (node_view node)) }
     ensures fault { IfErr result (MemoryOr (ValuesFault LacksNothing IdentWrong (map field_view fields.now))) }
 {
-    let name = text_at(fields, NAME)?;
-    Ok(Node::Ident(RcStr::from_str(alloc, name)?))
+    Ok(Node::Ident(name_at(alloc, fields, NAME)?))
 }
 
 /// Reads a Select, whose message stands in the parts.
@@ -95,10 +94,8 @@ fn call_of<'a>(alloc: Global, fields: &[Field<'a>]) -> Result<Node<'a>, Refusal>
     ensures found { IfOk result (λ node. CallSays (map field_view fields.now) (node_view node)) }
     ensures fault { IfErr result (MemoryOr (ValuesFault LacksNothing CallWrong (map field_view fields.now))) }
 {
-    let name = text_at(fields, FUNCTION)?;
-    let function = RcStr::from_str(alloc, name)?;
-    let target = payloads_of(alloc, fields, TARGET)?;
-    let args = payloads_of(alloc, fields, ARGS)?;
+    let function = name_at(alloc, fields, FUNCTION)?;
+    let (target, args) = two_payloads_of(alloc, fields, TARGET, ARGS)?;
     Ok(Node::Call {
         function,
         target,

@@ -1,24 +1,27 @@
 //! The reading of trees, down to a depth and to a number of nodes.
 
-ghost use Rattle.std.specs.Prelude.{◌≡◌, ◌+◌, IfOk, IfErr, OnOk};
+ghost use Rattle.std.specs.Prelude.{◌≡◌, ◌+◌, ◌++◌, [], ◌∷◌, IfOk, IfErr, OnOk};
 ghost use Rattle.proto_wire.specs.Merge.{parts_view};
 ghost use Rattle.proto_wire.specs.Refusal.{MemoryOr};
 ghost use Rattle.proto_wire.specs.declared.refusal.Refusal.TheVariants.{TooLarge};
-ghost use Rattle.cel_tree.specs.Nodes.{children, entry_children, if_there, loop_children, singles};
+ghost use Rattle.cel_value.specs.Texts.{text_view};
+ghost use Rattle.cel_tree.specs.Nodes.{select_node, call_node, list_node, map_node, loop_node, children, entry_children, if_there, loop_children, singles};
 ghost use Rattle.cel_tree.specs.Trees.{IsTree, AreTrees, node_count, trees_count};
 ghost use Rattle.cel_tree.specs.View.{tree_view, trees_view, tree_entries_view, loop_view, boxed_view};
 ghost use Rattle.cel_tree.specs.steps.EntryViews.{entry_nodes_view};
-ghost use Rattle.cel_tree.specs.steps.Inside.{AreEntryTrees, AreLoopTrees, Inside, IsTarget, SomeFails, TreeFails, target_nodes};
+ghost use Rattle.cel_tree.specs.steps.Inside.{AreEntryTrees, AreLoopTrees, AreTwoTrees, Inside, IsLoopBody, IsTarget, SomeFails, TreeFails, loop_body, target_nodes};
 ghost use Rattle.cel_tree.specs.steps.NodeViews.{loop_node_view, node_view};
 
 use crate::fields::number_of;
 use crate::literals::EntryNode;
 use crate::loops::LoopNode;
 use crate::node::{Node, read_node};
+use crate::pairs::both;
 use crate::tree::{Comprehension, Tree, TreeEntry};
 use crate::type_entry::require_level;
-use proto_wire::Refusal;
-use std::alloc::Global;
+use proto_wire::{Payloads, Refusal};
+use std::alloc::{AllocError, Global};
+use std::rc::RcStr;
 
 /// Reads a tree of at most `depth` levels and `left` nodes, whose message stands in the parts. Depth and number are
 /// looked at before anything of a node is read.
@@ -58,44 +61,137 @@ fn read_inside(
             operand,
             field,
             test_only,
-        } => {
-            let operand = read_tree(alloc, &operand, depth, left)?;
-            let operand = Box::new(alloc, operand)?;
-            Ok(Tree::Select {
-                id,
-                operand,
-                field,
-                test_only,
-            })
-        }
+        } => select_tree(alloc, id, &operand, field, test_only, depth, left),
         Node::Call {
             function,
             target,
             args,
-        } => {
-            let target = read_target(alloc, &target, depth, left)?;
-            let args = read_trees(alloc, &args, depth, left)?;
-            Ok(Tree::Call {
-                id,
-                function,
-                target,
-                args,
-            })
-        }
-        Node::List(elements) => {
-            let elements = read_trees(alloc, &elements, depth, left)?;
-            Ok(Tree::List { id, elements })
-        }
-        Node::Map(entries) => {
-            let entries = read_entry_trees(alloc, &entries, depth, left)?;
-            Ok(Tree::Map { id, entries })
-        }
-        Node::Comprehension(node) => {
-            let parts = read_loop_trees(alloc, &node, depth, left)?;
-            let parts = Box::new(alloc, parts)?;
-            Ok(Tree::Comprehension { id, parts })
-        }
+        } => call_tree(alloc, id, function, &target, &args, depth, left),
+        Node::List(elements) => list_tree(alloc, id, &elements, depth, left),
+        Node::Map(entries) => map_tree(alloc, id, &entries, depth, left),
+        Node::Comprehension(node) => loop_tree(alloc, id, node, depth, left),
     }
+}
+
+/// The Select of this id and field, once its operand is read.
+#[cycle(read)]
+#[inline(always)]
+fn select_tree(
+    alloc: Global,
+    id: i64,
+    operand: &Payloads<'_>,
+    field: RcStr,
+    test_only: bool,
+    depth: u32,
+    left: &mut u32,
+) -> Result<Tree, Refusal>
+    ensures found { IfOk result (λ t.
+        Inside depth id (select_node (parts_view operand.now.items) (text_view field) test_only) (tree_view t) left.new left.old) }
+    ensures fault { IfErr result (MemoryOr (SomeFails depth left.old (parts_view operand.now.items ∷ []))) }
+{
+    let operand = read_tree(alloc, operand, depth, left)?;
+    let operand = Box::new(alloc, operand)?;
+    Ok(Tree::Select {
+        id,
+        operand,
+        field,
+        test_only,
+    })
+}
+
+/// The Call of this id and function, once its target and arguments are read.
+#[cycle(read)]
+#[inline(always)]
+fn call_tree(
+    alloc: Global,
+    id: i64,
+    function: RcStr,
+    target: &Payloads<'_>,
+    args: &Payloads<'_>,
+    depth: u32,
+    left: &mut u32,
+) -> Result<Tree, Refusal>
+    ensures found { IfOk result (λ t.
+        Inside depth id (call_node (text_view function) (parts_view target.now.items) (parts_view args.now.items)) (tree_view t) left.new left.old) }
+    ensures fault { IfErr result (MemoryOr
+        (SomeFails depth left.old (if_there (parts_view target.now.items) ++ singles (parts_view args.now.items)))) }
+{
+    let target = read_target(alloc, target, depth, left)?;
+    let args = read_trees(alloc, args, depth, left)?;
+    Ok(Tree::Call {
+        id,
+        function,
+        target,
+        args,
+    })
+}
+
+/// The list of this id, once its elements are read.
+#[cycle(read)]
+#[inline(always)]
+fn list_tree(
+    alloc: Global,
+    id: i64,
+    elements: &Payloads<'_>,
+    depth: u32,
+    left: &mut u32,
+) -> Result<Tree, Refusal>
+    ensures found { IfOk result (λ t. Inside depth id (list_node (parts_view elements.now.items)) (tree_view t) left.new left.old) }
+    ensures fault { IfErr result (MemoryOr (SomeFails depth left.old (singles (parts_view elements.now.items)))) }
+{
+    let elements = read_trees(alloc, elements, depth, left)?;
+    Ok(Tree::List { id, elements })
+}
+
+/// The map of this id, once its entries are read.
+#[cycle(read)]
+#[inline(always)]
+fn map_tree(
+    alloc: Global,
+    id: i64,
+    nodes: &[EntryNode<'_>],
+    depth: u32,
+    left: &mut u32,
+) -> Result<Tree, Refusal>
+    ensures found { IfOk result (λ t. Inside depth id (map_node (entry_nodes_view nodes.now)) (tree_view t) left.new left.old) }
+    ensures fault { IfErr result (MemoryOr (SomeFails depth left.old (entry_children (entry_nodes_view nodes.now)))) }
+{
+    let entries = read_entry_trees(alloc, nodes, depth, left)?;
+    Ok(Tree::Map { id, entries })
+}
+
+/// The comprehension of this id, once its trees are read. What this function does itself is to drop the node.
+#[cycle(read)]
+#[inline(always)]
+fn loop_tree(
+    alloc: Global,
+    id: i64,
+    node: LoopNode<'_>,
+    depth: u32,
+    left: &mut u32,
+) -> Result<Tree, Refusal>
+    ensures found { IfOk result (λ t. Inside depth id (loop_node (loop_node_view node.entry)) (tree_view t) left.new left.old) }
+    ensures fault { IfErr result (MemoryOr (SomeFails depth left.old (loop_children (loop_node_view node.entry)))) }
+{
+    lent_loop_tree(alloc, id, &node, depth, left)
+}
+
+/// The same of a node that is lent.
+#[cycle(read)]
+#[inline(always)]
+fn lent_loop_tree(
+    alloc: Global,
+    id: i64,
+    node: &LoopNode<'_>,
+    depth: u32,
+    left: &mut u32,
+) -> Result<Tree, Refusal>
+    ensures found { IfOk result (λ t. Inside depth id (loop_node (loop_node_view node.now)) (tree_view t) left.new left.old) }
+    ensures fault { IfErr result (MemoryOr (SomeFails depth left.old (loop_children (loop_node_view node.now)))) }
+{
+    let parts = read_loop_trees(alloc, node, depth, left)?;
+    let parts = Box::new(alloc, parts)?;
+    Ok(Tree::Comprehension { id, parts })
 }
 
 /// Reads the target of a call; none where there is no part of it.
@@ -151,8 +247,7 @@ fn read_entry_trees(
 {
     let mut entries = Vec::new(alloc);
     for node in nodes {
-        let key = read_tree(alloc, &node.key, depth, left)?;
-        let value = read_tree(alloc, &node.value, depth, left)?;
+        let (key, value) = read_two(alloc, &node.key, &node.value, depth, left)?;
         entries.push(TreeEntry {
             id: number_of(&node.id),
             key,
@@ -173,20 +268,66 @@ fn read_loop_trees(
     ensures found { IfOk result (λ c. AreLoopTrees depth (loop_node_view node.now) (loop_view c) left.new left.old) }
     ensures fault { IfErr result (MemoryOr (SomeFails depth left.old (loop_children (loop_node_view node.now)))) }
 {
-    let iter_range = read_tree(alloc, &node.iter_range, depth, left)?;
-    let accu_init = read_tree(alloc, &node.accu_init, depth, left)?;
-    let loop_condition = read_tree(alloc, &node.loop_condition, depth, left)?;
-    let loop_step = read_tree(alloc, &node.loop_step, depth, left)?;
-    let result = read_tree(alloc, &node.result, depth, left)?;
+    let (iter_var, accu_var) = names_of(node)?;
+    let start = read_two(alloc, &node.iter_range, &node.accu_init, depth, left)?;
+    let (start, body) = both(start, read_loop_body(alloc, node, depth, left))?;
+    let (iter_range, accu_init) = start;
+    let ((loop_condition, loop_step), result) = body;
     Ok(Comprehension {
-        iter_var: node.iter_var.clone()?,
-        accu_var: node.accu_var.clone()?,
+        iter_var,
+        accu_var,
         iter_range,
         accu_init,
         loop_condition,
         loop_step,
         result,
     })
+}
+
+/// Reads the condition, the step and the result of a comprehension.
+#[cycle(read)]
+#[inline(always)]
+fn read_loop_body(
+    alloc: Global,
+    node: &LoopNode<'_>,
+    depth: u32,
+    left: &mut u32,
+) -> Result<((Tree, Tree), Tree), Refusal>
+    ensures found { IfOk result (λ trees. IsLoopBody depth (loop_node_view node.now)
+        (tree_view trees.0.0) (tree_view trees.0.1) (tree_view trees.1) left.new left.old) }
+    ensures fault { IfErr result (MemoryOr (SomeFails depth left.old (loop_body (loop_node_view node.now)))) }
+{
+    let two = read_two(alloc, &node.loop_condition, &node.loop_step, depth, left)?;
+    both(two, read_tree(alloc, &node.result, depth, left))
+}
+
+/// Reads two trees, one after the other.
+#[cycle(read)]
+#[inline(always)]
+fn read_two(
+    alloc: Global,
+    first: &[&[u8]],
+    second: &[&[u8]],
+    depth: u32,
+    left: &mut u32,
+) -> Result<(Tree, Tree), Refusal>
+    ensures found { IfOk result (λ trees. AreTwoTrees depth (parts_view first.now) (parts_view second.now)
+        (tree_view trees.0) (tree_view trees.1) left.new left.old) }
+    ensures fault { IfErr result (MemoryOr
+        (SomeFails depth left.old (parts_view first.now ∷ parts_view second.now ∷ []))) }
+{
+    let first = read_tree(alloc, first, depth, left)?;
+    both(first, read_tree(alloc, second, depth, left))
+}
+
+/// The names of a comprehension.
+fn names_of(node: &LoopNode<'_>) -> Result<(RcStr, RcStr), AllocError>
+    ensures { IfOk result (λ names. (text_view names.0 ≡ text_view node.now.iter_var)
+        × (text_view names.1 ≡ text_view node.now.accu_var)) }
+{
+    let iter_var = node.iter_var.clone()?;
+    let accu_var = node.accu_var.clone()?;
+    Ok((iter_var, accu_var))
 }
 
 /// Takes one of the nodes that are left; refuses where none is.

@@ -6,10 +6,10 @@ ghost use Rattle.std.specs.Str.{IsUtf8};
 ghost use Rattle.proto_wire.specs.Fields.{field_view};
 ghost use Rattle.proto_wire.specs.Merge.{parts_view};
 ghost use Rattle.proto_wire.specs.Refusal.{MemoryOr};
-ghost use Rattle.proto_wire.specs.Values.{Utf8Fault};
+ghost use Rattle.proto_wire.specs.Values.{payloads, Utf8Fault};
 ghost use Rattle.cel_value.specs.Texts.{points_of};
 ghost use Rattle.cel_tree.specs.Reading.{ValuesFault, LacksNothing};
-ghost use Rattle.cel_tree.specs.References.{ReferenceSays, ReferenceWrong, IsReference, ReferenceFault, IsValue, ValueFault};
+ghost use Rattle.cel_tree.specs.References.{reference_field, ReferenceSays, ReferenceWrong, IsReference, ReferenceFault, IsValue, ValueFault};
 ghost use Rattle.cel_tree.specs.View.{constant_view, name_view, reference_view};
 
 use crate::checked::Reference;
@@ -42,12 +42,30 @@ fn reference_of(alloc: Global, fields: &[Field<'_>]) -> Result<Reference, Refusa
     ensures fault { IfErr result (MemoryOr (ValuesFault LacksNothing ReferenceWrong (map field_view fields.now))) }
 {
     let name = text_at(fields, NAME)?;
-    let ids = payloads_of(alloc, fields, OVERLOAD_ID)?;
-    require_texts(&ids)?;
-    let parts = payloads_of(alloc, fields, VALUE)?;
-    let value = read_value(alloc, &parts)?;
+    require_ids(alloc, fields)?;
+    let value = value_of(alloc, fields)?;
     let name = kept_name(alloc, name)?;
     Ok(Reference { name, value })
+}
+
+/// Refuses ids of overloads of which some is no text.
+fn require_ids(alloc: Global, fields: &[Field<'_>]) -> Result<(), Refusal>
+    ensures found { OnOk result (AllByRecursion IsUtf8 (payloads reference_field.overload_id (map field_view fields.now))) }
+    ensures fault { IfErr result (MemoryOr (λ e. (text : List ℕ)
+        × Contains (payloads reference_field.overload_id (map field_view fields.now)) text × Utf8Fault text e)) }
+{
+    let ids = payloads_of(alloc, fields, OVERLOAD_ID)?;
+    require_texts(&ids)
+}
+
+/// The value that the fields say; none where they say none.
+fn value_of(alloc: Global, fields: &[Field<'_>]) -> Result<Option<Constant>, Refusal>
+    ensures found { IfOk result (λ value.
+        IsValue (payloads reference_field.value (map field_view fields.now)) (option_map constant_view value)) }
+    ensures fault { IfErr result (MemoryOr (ValueFault (payloads reference_field.value (map field_view fields.now)))) }
+{
+    let parts = payloads_of(alloc, fields, VALUE)?;
+    read_value(alloc, &parts)
 }
 
 /// A name to keep; none where it is empty, as those of functions are.

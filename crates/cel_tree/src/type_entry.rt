@@ -1,11 +1,11 @@
 //! The reading of types, down to a depth.
 
-ghost use Rattle.std.specs.Prelude.{◌≡◌, ◌<◌, IfOk, IfErr, OnOk};
+ghost use Rattle.std.specs.Prelude.{◌≡◌, ◌⊎◌, ◌<◌, IfOk, IfErr, OnOk};
 ghost use Rattle.proto_wire.specs.Merge.{parts_view};
 ghost use Rattle.proto_wire.specs.Refusal.{MemoryOr};
 ghost use Rattle.proto_wire.specs.declared.refusal.Refusal.TheVariants.{TooLarge};
 ghost use Rattle.cel_value.specs.Types.{type_view};
-ghost use Rattle.cel_tree.specs.TypeEntries.{list_entry, map_entry, key_type_of, Holds, IsTypeEntry, TypeEntryFault};
+ghost use Rattle.cel_tree.specs.TypeEntries.{list_of, map_of, list_entry, map_entry, key_type_of, Holds, IsTypeEntry, TypeEntryFault};
 ghost use Rattle.cel_tree.specs.View.{type_entry_view};
 ghost use Rattle.cel_tree.specs.steps.InnerTypes.{HoldsFault};
 ghost use Rattle.cel_tree.specs.steps.NodeViews.{type_node_view};
@@ -13,7 +13,7 @@ ghost use Rattle.cel_tree.specs.steps.NodeViews.{type_node_view};
 use crate::checked::TypeEntry;
 use crate::type_node::{TypeNode, read_type_node};
 use cel_value::{CelType, KeyType};
-use proto_wire::Refusal;
+use proto_wire::{Payloads, Refusal};
 use std::alloc::{AllocError, Global};
 use std::rc::Rc;
 
@@ -38,16 +38,40 @@ fn read_inner(alloc: Global, node: TypeNode<'_>, depth: u32) -> Result<TypeEntry
 {
     match node {
         TypeNode::Plain(entry) => Ok(entry),
-        TypeNode::List { elem } => {
-            let item = read_type(alloc, &elem, depth)?;
-            Ok(list_entry(alloc, item)?)
-        }
-        TypeNode::Map { key, value } => {
-            let keys = read_type(alloc, &key, depth)?;
-            let values = read_type(alloc, &value, depth)?;
-            Ok(map_entry(alloc, keys, values)?)
-        }
+        TypeNode::List { elem } => read_list(alloc, &elem, depth),
+        TypeNode::Map { key, value } => read_map(alloc, &key, &value, depth),
     }
+}
+
+/// Reads the type of a list's items.
+#[cycle(type_entry)]
+#[inline(always)]
+fn read_list(alloc: Global, elem: &Payloads<'_>, depth: u32) -> Result<TypeEntry, Refusal>
+    ensures found { IfOk result (λ entry.
+        Holds (IsTypeEntry depth) (list_of (parts_view elem.now.items)) (type_entry_view entry)) }
+    ensures fault { IfErr result (MemoryOr (TypeEntryFault depth (parts_view elem.now.items))) }
+{
+    let item = read_type(alloc, elem, depth)?;
+    Ok(list_entry(alloc, item)?)
+}
+
+/// Reads the types of a map's keys and values.
+#[cycle(type_entry)]
+#[inline(always)]
+fn read_map(
+    alloc: Global,
+    key: &Payloads<'_>,
+    value: &Payloads<'_>,
+    depth: u32,
+) -> Result<TypeEntry, Refusal>
+    ensures found { IfOk result (λ entry. Holds (IsTypeEntry depth)
+        (map_of (parts_view key.now.items) (parts_view value.now.items)) (type_entry_view entry)) }
+    ensures fault { IfErr result (MemoryOr (λ e.
+        TypeEntryFault depth (parts_view key.now.items) e ⊎ TypeEntryFault depth (parts_view value.now.items) e)) }
+{
+    let keys = read_type(alloc, key, depth)?;
+    let values = read_type(alloc, value, depth)?;
+    Ok(map_entry(alloc, keys, values)?)
 }
 
 /// Refuses a tree or a type where no level is left.

@@ -13,7 +13,7 @@ ghost use Rattle.cel_tree.specs.View.{type_entry_view};
 ghost use Rattle.cel_tree.specs.steps.NodeViews.{type_node_view};
 
 use crate::checked::TypeEntry;
-use crate::fields::{has_payload, last_number};
+use crate::fields::{has_payload, last_number, two_payloads_of};
 use cel_value::CelType;
 use proto_wire::{
     Field, Key, Payloads, Refusal, keys, member_run, payloads_of, read_message, uint32_at,
@@ -211,8 +211,7 @@ fn map_type_of<'a>(alloc: Global, fields: &[Field<'a>]) -> Result<TypeNode<'a>, 
 {
     require_type(fields, KEY)?;
     require_type(fields, VALUE)?;
-    let key = payloads_of(alloc, fields, KEY)?;
-    let value = payloads_of(alloc, fields, VALUE)?;
+    let (key, value) = two_payloads_of(alloc, fields, KEY, VALUE)?;
     Ok(TypeNode::Map { key, value })
 }
 

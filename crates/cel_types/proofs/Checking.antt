@@ -8,7 +8,7 @@ use Rattle.cel_types.specs.declared.typed.TypedExpr.{TypedExpr}
 use Rattle.std.specs.FinMap.{get}
 use Rattle.cel_tree.specs.Checked.{CelTypeEntry}
 use Rattle.cel_tree.specs.Tree.{CelTree, constant, ident, select, call, list_literal, map_literal, comprehension, CelTarget, no_target, target, CelTrees, no_trees, tree, CelTreeEntries, no_tree_entries, tree_entry, id_of}
-use Rattle.cel_value.specs.EqualityLaws.{type_eq_decides}
+use Rattle.cel_value.specs.steps.EqualityLaws.{type_eq_decides}
 use Rattle.cel_value.specs.Types.{ValueType, bool_type, map_type, type_eq, type_of_key}
 use Rattle.cel_value.specs.declared.cel_type.KeyType.TheVariants as keys
 use Rattle.cel_types.specs.Elaborated.{Elaborates, ElaboratesEach, ElaboratesPairs, ElaboratesTarget, TypedTree, TypedTrees, kind, kinds, no_typed, typed, typed_attribute, typed_call, typed_constant, typed_field, typed_has, typed_list, typed_local, typed_loop, typed_map}
@@ -378,9 +378,9 @@ module _ (m : Maps) (ks : Kinds) (id : ℤ) (p : LoopParts) where
     has_range : Types m ks p.iter_range (kind r)
     has_range = types_of m ks p.iter_range r range.0
 
-    pub elements-none : (e : Refusal) → ((t : ValueType) → IsOver (kind r) t → ⊥) → e ≡ NoOverload
+    pub elements_none : (e : Refusal) → ((t : ValueType) → IsOver (kind r) t → ⊥) → e ≡ NoOverload
         → TypeFault m ks (loop_of id p) e
-    elements-none e never err = inl (no_elements (kind r) has_range never err)
+    elements_none e never err = inl (no_elements (kind r) has_range never err)
 
     module _ (i : TypedTree) (init : IsFound m ks p.accu_init i) (s : ValueType) (over : IsOver (kind r) s)
       where
@@ -392,19 +392,19 @@ module _ (m : Maps) (ks : Kinds) (id : ℤ) (p : LoopParts) where
         turns IsSo so = each_turn (Types m ks p.iter_range) (Types m ks p.accu_init) IsSo (kind r) s (kind i)
             has_range over has_init so
 
-        pub turn-bad : (e : Refusal)
+        pub turn_bad : (e : Refusal)
             → TurnFault m (turn_of s (kind i)) p.loop_condition p.loop_step (kind i) e
             → TypeFault m ks (loop_of id p) e
-        turn-bad e (inl f) = inl (faulty_turn (turns (λ s a. TypeFault m (turn_of s a) p.loop_condition e
+        turn_bad e (inl f) = inl (faulty_turn (turns (λ s a. TypeFault m (turn_of s a) p.loop_condition e
             ⊎ TypeFault m (turn_of s a) p.loop_step e) f))
-        turn-bad e (inr (inl (f, err))) = inl (no_condition (turns
+        turn_bad e (inr (inl (f, err))) = inl (no_condition (turns
             (λ s a. (t : ValueType) × Types m (turn_of s a) p.loop_condition t × (t ≢ bool_type)) f) err)
-        turn-bad e (inr (inr (f, err))) = inl (no_step (turns
+        turn_bad e (inr (inr (f, err))) = inl (no_step (turns
             (λ s a. (t : ValueType) × Types m (turn_of s a) p.loop_step t × (t ≢ a)) f) err)
 
-        pub result-bad : (e : Refusal) → TypeFault m ((p.accu_var, kind i) ∷ ks) p.result e
+        pub result_bad : (e : Refusal) → TypeFault m ((p.accu_var, kind i) ∷ ks) p.result e
             → TypeFault m ks (loop_of id p) e
-        result-bad e f = inl (in_result
+        result_bad e f = inl (in_result
             (λ b may. subst (λ b. TypeFault m ((p.accu_var, b) ∷ ks) p.result e) (may (kind i) has_init) f))
 
         pub loop_found : NamesDiffer p.iter_var p.accu_var → (c u e : TypedTree)

@@ -166,100 +166,100 @@ module _ (m : Maps) (request : RequestValue) (sound : IsRequest request) where
       rw (a.1) (a.2)
 
   mutual
-    pub means-same : (t : CelTree) (e : TypedTree) (ls : Scope Bound) → AreTyped ls
+    pub means_same : (t : CelTree) (e : TypedTree) (ls : Scope Bound) → AreTyped ls
         → HasGoodConstants t → Elaborates m (kinds_of ls) t e
         → eval t request (locals_of ls) ≡ typed_answer e request (known (locals_of ls))
-    means-same (constant id v) (typed_constant t w) ls h good g = ap (λ v. Some (value v)) g.1
-    means-same (constant id v) _ ls h good g = absurd g
-    means-same (ident id name) (typed_local t outside) ls h good g =
+    means_same (constant id v) (typed_constant t w) ls h good g = ap (λ v. Some (value v)) g.1
+    means_same (constant id v) _ ls h good g = absurd g
+    means_same (ident id name) (typed_local t outside) ls h good g =
         let found = slot_known name (locals_of ls) outside (slots_same name ls ∙ g.1) in
         ap (name_answer request name) found.1 ∙ sym found.2
-    means-same (ident id name) (typed_attribute t a) ls h good g =
+    means_same (ident id name) (typed_attribute t a) ls h good g =
         ap (name_answer request name) (no_slot name (locals_of ls) (slots_same name ls ∙ g.1))
         ∙ ap (option_map (attribute request)) g.2
-    means-same (ident id name) _ ls h good g = absurd g
-    means-same (select id operand name test_only) (typed_attribute t a) ls h good g =
+    means_same (ident id name) _ ls h good g = absurd g
+    means_same (select id operand name test_only) (typed_attribute t a) ls h good g =
         ap (λ root. select_answer request root (eval operand request (locals_of ls)) name test_only)
         (roots_same operand ls ∙ g.2)
         ∙ select_attribute request g.1 name (Types m (kinds_of ls) operand)
         (eval operand request (locals_of ls)) test_only t a
         (subst (λ o. SelectRule o (Types m (kinds_of ls) operand) name test_only t) g.2 g.0) g.3
-    means-same (select id operand name test_only) (typed_field t on field_name) ls h good g =
-        rw (roots_same operand ls, g.2, g.1, g.3, means-same operand on ls h good g.4) refl
-    means-same (select id operand name test_only) (typed_has t on field_name) ls h good g =
-        rw (roots_same operand ls, g.2, g.1, g.3, means-same operand on ls h good g.4) refl
-    means-same (select id operand name test_only) _ ls h good g = absurd g
-    means-same (call id name on args) (typed_call t o operands) ls h good g =
+    means_same (select id operand name test_only) (typed_field t on field_name) ls h good g =
+        rw (roots_same operand ls, g.2, g.1, g.3, means_same operand on ls h good g.4) refl
+    means_same (select id operand name test_only) (typed_has t on field_name) ls h good g =
+        rw (roots_same operand ls, g.2, g.1, g.3, means_same operand on ls h good g.4) refl
+    means_same (select id operand name test_only) _ ls h good g = absurd g
+    means_same (call id name on args) (typed_call t o operands) ls h good g =
         let ready = elaborated_typed m (kinds_of ls) (call id name on args)
         (typed_call t o operands) good g in
         let found = answers_typed request sound operands (known (kinds_of ls))
         (known (locals_of ls)) (have_types ls h) ready.0 in
         rw (
-          target-same on args operands ls h good.0 (λ es each. each-same args es ls h good.1 each)
+          target_same on args operands ls h good.0 (λ es each. each_same args es ls h good.1 each)
               g.2,
           g.1.1,
         )
         (call_means (function_answer g.1.0) (overload_answer o)
         (typed_answers operands request (known (locals_of ls))) found.0 found.1
         (call_same g.1.0 _ (kinds operands) o t found.0 g.1.2 found.2))
-    means-same (call id name on args) _ ls h good g = absurd g
-    means-same (list_literal id elements) (typed_list t es) ls h good g =
-        ap (option_and_then collections.list_literal) (each-same elements es ls h good g.1)
-    means-same (list_literal id elements) _ ls h good g = absurd g
-    means-same (map_literal id entries) (typed_map t pairs) ls h good g =
-        ap (option_and_then collections.map_literal) (pairs-same entries pairs ls h good g.1)
-    means-same (map_literal id entries) _ ls h good g = absurd g
-    means-same (comprehension id x acc range init condition step result)
+    means_same (call id name on args) _ ls h good g = absurd g
+    means_same (list_literal id elements) (typed_list t es) ls h good g =
+        ap (option_and_then collections.list_literal) (each_same elements es ls h good g.1)
+    means_same (list_literal id elements) _ ls h good g = absurd g
+    means_same (map_literal id entries) (typed_map t pairs) ls h good g =
+        ap (option_and_then collections.map_literal) (pairs_same entries pairs ls h good g.1)
+    means_same (map_literal id entries) _ ls h good g = absurd g
+    means_same (comprehension id x acc range init condition step result)
         (typed_loop t r i c s e) ls h good g =
         let of = loop_kinds m (kinds_of ls) id x acc range init condition step result t r i c s e g in
         let inside = λ (v : CelValue) (a : CelAnswer).
         (x, (value v, g.1)) ∷ (acc, (a, g.2)) ∷ ls in
         let at_end = λ (a : CelAnswer). (acc, (a, g.2)) ∷ ls in
-        rw (means-same range r ls h good.0 g.5, means-same init i ls h good.1 g.6)
+        rw (means_same range r ls h good.0 g.5, means_same init i ls h good.1 g.6)
         (over_same (typed_answer r request (known (locals_of ls))) _ _ (kind r) g.1 g.3
         (has_type range r ls h good.0 g.5)
         (λ vs each. then_same (typed_answer i request (known (locals_of ls))) _ _ (kind i)
         (has_type init i ls h good.1 g.6)
         (λ a gathered. fold_same _ _ _ _ _ _ g.1 g.2
-        (λ v b hv hb. means-same condition c (inside v b) (hv, (hb, h)) good.2 g.7)
-        (λ v b hv hb. means-same step s (inside v b) (hv, (hb, h)) good.3 g.8)
-        (λ b hb. means-same result e (at_end b) (hb, h) good.4 g.9)
+        (λ v b hv hb. means_same condition c (inside v b) (hv, (hb, h)) good.2 g.7)
+        (λ v b hv hb. means_same step s (inside v b) (hv, (hb, h)) good.3 g.8)
+        (λ b hb. means_same result e (at_end b) (hb, h) good.4 g.9)
         (λ v b hv hb. subst (Answers (typed_answer s request (known (locals_of (inside v b)))))
         (of.1 ∙ g.4) (has_type step s (inside v b) (hv, (hb, h)) good.3 g.8))
         vs a each (subst (AnswerHasType a) g.4 gathered))))
-    means-same (comprehension id x acc range init condition step result) _ ls h good g = absurd g
+    means_same (comprehension id x acc range init condition step result) _ ls h good g = absurd g
 
-    target-same : (on : CelTarget) (args : CelTrees) (es : TypedTrees) (ls : Scope Bound)
+    target_same : (on : CelTarget) (args : CelTrees) (es : TypedTrees) (ls : Scope Bound)
         → AreTyped ls → TargetIsGood on
         → ((fs : TypedTrees) → ElaboratesEach m (kinds_of ls) args fs
         → eval_each args request (locals_of ls) ≡ typed_answers fs request (known (locals_of ls)))
         → ElaboratesTarget m (kinds_of ls) on (ElaboratesEach m (kinds_of ls) args) es
         → eval_target on request (locals_of ls) (eval_each args request (locals_of ls))
         ≡ typed_answers es request (known (locals_of ls))
-    target-same no_target args es ls h good others g = others es g
-    target-same (target on) args no_typed ls h good others g = absurd g
-    target-same (target on) args (typed e es) ls h good others g =
-        ap₂ before (means-same on e ls h good g.0) (others es g.1)
+    target_same no_target args es ls h good others g = others es g
+    target_same (target on) args no_typed ls h good others g = absurd g
+    target_same (target on) args (typed e es) ls h good others g =
+        ap₂ before (means_same on e ls h good g.0) (others es g.1)
 
-    each-same : (ts : CelTrees) (es : TypedTrees) (ls : Scope Bound) → AreTyped ls → AreGood ts
+    each_same : (ts : CelTrees) (es : TypedTrees) (ls : Scope Bound) → AreTyped ls → AreGood ts
         → ElaboratesEach m (kinds_of ls) ts es
         → eval_each ts request (locals_of ls) ≡ typed_answers es request (known (locals_of ls))
-    each-same no_trees no_typed ls h good g = refl
-    each-same no_trees (typed e es) ls h good g = absurd g
-    each-same (tree t ts) no_typed ls h good g = absurd g
-    each-same (tree t ts) (typed e es) ls h good g =
-        ap₂ before (means-same t e ls h good.0 g.0) (each-same ts es ls h good.1 g.1)
+    each_same no_trees no_typed ls h good g = refl
+    each_same no_trees (typed e es) ls h good g = absurd g
+    each_same (tree t ts) no_typed ls h good g = absurd g
+    each_same (tree t ts) (typed e es) ls h good g =
+        ap₂ before (means_same t e ls h good.0 g.0) (each_same ts es ls h good.1 g.1)
 
-    pairs-same : (ts : CelTreeEntries) (es : TypedTrees) (ls : Scope Bound) → AreTyped ls
+    pairs_same : (ts : CelTreeEntries) (es : TypedTrees) (ls : Scope Bound) → AreTyped ls
         → EntriesAreGood ts → ElaboratesPairs m (kinds_of ls) ts es
         → eval_entries ts request (locals_of ls) ≡ typed_answers es request (known (locals_of ls))
-    pairs-same no_tree_entries no_typed ls h good g = refl
-    pairs-same no_tree_entries (typed e es) ls h good g = absurd g
-    pairs-same (tree_entry id key v ts) no_typed ls h good g = absurd g
-    pairs-same (tree_entry id key v ts) (typed e no_typed) ls h good g = absurd g
-    pairs-same (tree_entry id key v ts) (typed e (typed f es)) ls h good g =
-        ap₂ before (means-same key e ls h good.0 g.0)
-        (ap₂ before (means-same v f ls h good.1 g.1) (pairs-same ts es ls h good.2 g.2))
+    pairs_same no_tree_entries no_typed ls h good g = refl
+    pairs_same no_tree_entries (typed e es) ls h good g = absurd g
+    pairs_same (tree_entry id key v ts) no_typed ls h good g = absurd g
+    pairs_same (tree_entry id key v ts) (typed e no_typed) ls h good g = absurd g
+    pairs_same (tree_entry id key v ts) (typed e (typed f es)) ls h good g =
+        ap₂ before (means_same key e ls h good.0 g.0)
+        (ap₂ before (means_same v f ls h good.1 g.1) (pairs_same ts es ls h good.2 g.2))
 
 -- an expression with an elaboration has an answer of its type
 pub meaning_typed : (m : Maps) (request : RequestValue) → IsRequest request → (t : CelTree)
@@ -267,4 +267,4 @@ pub meaning_typed : (m : Maps) (request : RequestValue) → IsRequest request �
     → (a : CelAnswer) × (eval t request [] ≡ Some a) × AnswerHasType a (kind e)
 meaning_typed m request sound t e good g =
     let a = answer_typed request sound e [] [] tt (elaborated_typed m [] t e good g) in
-    (a.0, means-same m request sound t e [] tt good g ∙ a.1, a.2)
+    (a.0, means_same m request sound t e [] tt good g ∙ a.1, a.2)

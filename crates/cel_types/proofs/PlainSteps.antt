@@ -1,15 +1,15 @@
 -- What the single steps of the plain evaluator come to.
 use Rattle.std.proofs.Common.{arith, ◌≡◌, ◌≢◌, ◌<◌, ◌+◌, ◌&&◌, ℕ, zero, suc, IsTrue, true, false, List, [], ◌∷◌, ◌++◌, drop, length, get_or, Option, Some, None, option_map, IfSome, is_some, refl, sym, ap, ◌∙◌}
 use Rattle.std.proofs.lemmas.List.{append_assoc, append-nil, drop_more}
-use Rattle.std.specs.FinMap.{entries, entries-from_sorted, is_sorted}
+use Rattle.std.specs.FinMap.{entries, entries-from_sorted, from_sorted, is_sorted}
 use Rattle.std.specs.declared.alloc.Global.{Global}
 use Rattle.std.specs.declared.rc.RcStr.{RcStr}
-use Rattle.attributes.specs.Headers.{headers_view, map_view, name_cmp}
+use Rattle.attributes.specs.Headers.{headers_view, name_cmp}
 use Rattle.attributes.specs.Request.{RequestValue}
 use Rattle.attributes.proofs.TextOrder.{t_from_true}
 use Rattle.cel_ops.specs.Attributes.{header_entries}
 use Rattle.cel_ops.specs.Collections.{entry_before, map_literal, written_entries}
-use Rattle.cel_ops.specs.Gathering.{some_error}
+use Rattle.cel_ops.specs.steps.Gathering.{some_error}
 use Rattle.cel_ops.specs.Strict.{all_values, first_error, gather, gathered_after}
 use Rattle.cel_tree.specs.Tree.{CelTarget, no_target, target}
 use Rattle.cel_tree.specs.View.{tree_entries_view, tree_view, trees_view}
@@ -41,7 +41,7 @@ seen_pairs (p ∷ ps) =
 -- where they stand by ascending name, they are the map that they are seen as
 pub seen_headers : (ps : List (RcStr Global × RcStr Global))
     → IsTrue (is_sorted name_cmp (headers_view ps))
-    → header_entries (entries (map_view ps)) ≡ pairs_view ps
+    → header_entries (entries (from_sorted {R = name_cmp} (headers_view ps))) ≡ pairs_view ps
 seen_headers ps sorted =
     ap header_entries (entries-from_sorted name_cmp (headers_view ps) (t_from_true _ sorted))
     ∙ seen_pairs ps

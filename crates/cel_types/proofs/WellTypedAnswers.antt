@@ -137,55 +137,55 @@ over_typed (Some (value v)) go w x t is h each = at (elements_of v) (walked_type
 
 module _ (request : RequestValue) (sound : IsRequest request) where
   mutual
-    typed-here : (e : TypedTree) (ks : List ValueType) (ls : List CelAnswer) → HaveTypes ls ks
+    typed_here : (e : TypedTree) (ks : List ValueType) (ls : List CelAnswer) → HaveTypes ls ks
         → IsWellTyped ks e → Answers (typed_answer e request ls) (kind e)
-    typed-here (typed_constant t v) ks ls h g = g.1
-    typed-here (typed_local t outside) ks ls h g = local_typed outside ls ks t h g
-    typed-here (typed_attribute t a) ks ls h g = rw g (attribute_typed_fact request sound a)
-    typed-here (typed_field t on name) ks ls h g =
+    typed_here (typed_constant t v) ks ls h g = g.1
+    typed_here (typed_local t outside) ks ls h g = local_typed outside ls ks t h g
+    typed_here (typed_attribute t a) ks ls h g = rw g (attribute_typed_fact request sound a)
+    typed_here (typed_field t on name) ks ls h g =
         then_typed _ (typed_answer on request ls) (map_type keys.Text t) t
-        (rw (← g.1) (typed-here on ks ls h g.0))
+        (rw (← g.1) (typed_here on ks ls h g.0))
         (one (field_of name) (map_type keys.Text t) t (field_typed keys.Text t name))
-    typed-here (typed_has t on name) ks ls h g = rw (g.2)
+    typed_here (typed_has t on name) ks ls h g = rw (g.2)
         (then_typed _ (typed_answer on request ls) (map_type keys.Text g.1.0) bool_type
-        (rw (← g.1.1) (typed-here on ks ls h g.0))
+        (rw (← g.1.1) (typed_here on ks ls h g.0))
         (one (has_field_of name) (map_type keys.Text g.1.0) bool_type
         (has_field_typed keys.Text g.1.0 name)))
-    typed-here (typed_call t o operands) ks ls h g =
+    typed_here (typed_call t o operands) ks ls h g =
         all_then_typed _ (typed_answers operands request ls) (kinds operands) t
-        (all-typed-here operands ks ls h g.0)
+        (all_typed_here operands ks ls h g.0)
         (λ answers have. overload_typed_fact o (kinds operands) t answers g.1 have)
-    typed-here (typed_list t elements) ks ls h g = rw (g.1.1)
+    typed_here (typed_list t elements) ks ls h g = rw (g.1.1)
         (all_then_typed _ (typed_answers elements request ls) (kinds elements) (list_type g.1.0)
-        (all-typed-here elements ks ls h g.0)
+        (all_typed_here elements ks ls h g.0)
         (λ answers have. list_typed g.1.0 answers
         (each_typed answers (kinds elements) g.1.0 g.1.2 have)))
-    typed-here (typed_map t pairs) ks ls h g = rw (g.1.2)
+    typed_here (typed_map t pairs) ks ls h g = rw (g.1.2)
         (all_then_typed _ (typed_answers pairs request ls) (kinds pairs) (map_type g.1.0 g.1.1)
-        (all-typed-here pairs ks ls h g.0)
+        (all_typed_here pairs ks ls h g.0)
         (λ answers have. map_typed g.1.0 g.1.1 answers
         (pairs_typed answers (kinds pairs) g.1.0 g.1.1 g.1.3 have)))
-    typed-here (typed_loop t range init condition step result) ks ls h g =
+    typed_here (typed_loop t range init condition step result) ks ls h g =
         let element = g.2.0 in
         rw (g.4)
         (over_typed (typed_answer range request ls) _ (kind range) element (kind result) g.2.1
-        (typed-here range ks ls h g.0)
+        (typed_here range ks ls h g.0)
         (λ vs each. then_typed _ (typed_answer init request ls) (kind init) (kind result)
-        (typed-here init ks ls h g.1)
+        (typed_here init ks ls h g.1)
         (λ a gathered. fold_typed _ _ _ element (kind init) (kind result)
-        (λ v b hv hb. rw (← g.2.3) (typed-here condition (element ∷ kind init ∷ ks)
+        (λ v b hv hb. rw (← g.2.3) (typed_here condition (element ∷ kind init ∷ ks)
         (value v ∷ b ∷ ls) (hv, (hb, h)) g.2.2))
-        (λ v b hv hb. rw (← g.2.5) (typed-here step (element ∷ kind init ∷ ks)
+        (λ v b hv hb. rw (← g.2.5) (typed_here step (element ∷ kind init ∷ ks)
         (value v ∷ b ∷ ls) (hv, (hb, h)) g.2.4))
-        (λ b hb. typed-here result (kind init ∷ ks) (b ∷ ls) (hb, h) g.3)
+        (λ b hb. typed_here result (kind init ∷ ks) (b ∷ ls) (hb, h) g.3)
         vs a each gathered)))
 
-    all-typed-here : (es : TypedTrees) (ks : List ValueType) (ls : List CelAnswer)
+    all_typed_here : (es : TypedTrees) (ks : List ValueType) (ls : List CelAnswer)
         → HaveTypes ls ks → AreWellTyped ks es → HaveAnswers (typed_answers es request ls) (kinds es)
-    all-typed-here no_typed ks ls h g = tt
-    all-typed-here (typed e es) ks ls h g =
+    all_typed_here no_typed ks ls h g = tt
+    all_typed_here (typed e es) ks ls h g =
         before_typed (typed_answer e request ls) (typed_answers es request ls) (kind e) (kinds es)
-        (typed-here e ks ls h g.0) (all-typed-here es ks ls h g.1)
+        (typed_here e ks ls h g.0) (all_typed_here es ks ls h g.1)
 
 -- an answer that there is
 the_answer : (o : Option CelAnswer) (t : ValueType) → Answers o t
@@ -203,7 +203,7 @@ pub answer_typed : (r : RequestValue) → IsRequest r → (e : TypedTree) (ks : 
     (ls : List CelAnswer) → HaveTypes ls ks → IsWellTyped ks e
     → (a : CelAnswer) × (typed_answer e r ls ≡ Some a) × AnswerHasType a (kind e)
 answer_typed r sound e ks ls h g =
-    the_answer (typed_answer e r ls) (kind e) (typed-here r sound e ks ls h g)
+    the_answer (typed_answer e r ls) (kind e) (typed_here r sound e ks ls h g)
 
 -- and so do expressions one after the other
 pub answers_typed : (r : RequestValue) → IsRequest r → (es : TypedTrees) (ks : List ValueType)
@@ -211,4 +211,4 @@ pub answers_typed : (r : RequestValue) → IsRequest r → (es : TypedTrees) (ks
     → (answers : List CelAnswer) × (typed_answers es r ls ≡ Some answers)
     × HaveTypes answers (kinds es)
 answers_typed r sound es ks ls h g =
-    the_answers (typed_answers es r ls) (kinds es) (all-typed-here r sound es ks ls h g)
+    the_answers (typed_answers es r ls) (kinds es) (all_typed_here r sound es ks ls h g)

@@ -277,14 +277,17 @@ abbrev mutual
       greatest (locals_in range) (locals_in init) (2 + locals_in condition) (2 + locals_in step)
       (1 + locals_in result)
 
+  -- the same of a call's target, if there is one
   pub locals_in_target : CelTarget → ℕ
   locals_in_target no_target = 0
   locals_in_target (target on) = locals_in on
 
+  -- the most of any of these expressions
   pub locals_in_each : CelTrees → ℕ
   locals_in_each no_trees = 0
   locals_in_each (tree t ts) = max (locals_in t) (locals_in_each ts)
 
+  -- the most of any key or value of these entries
   pub locals_in_entries : CelTreeEntries → ℕ
   locals_in_entries no_tree_entries = 0
   locals_in_entries (tree_entry id key value es) =

@@ -13,7 +13,7 @@ use Rattle.cel_value.specs.View.{entries_view, key_view, pairs_view, value_view}
 use Rattle.cel_value.specs.Keys.{get, key_cmp, IsAscending, put}
 use Rattle.cel_value.specs.declared.value.Key.{Key}
 use Rattle.cel_value.specs.declared.value.Value.{Value}
-use Rattle.cel_value.proofs.Searching.{made_of, get-found, get-absent, put-absent}
+use Rattle.cel_value.proofs.Searching.{made_of, get_found, get_absent, put_absent}
 
 abbrev entry_key : Key × Value → CelKey
 entry_key e = key_view e.0
@@ -45,14 +45,14 @@ module _ (q : CelKey) {F : Type 0} {g : Mut F (Bor (Key × Value) × Unit {0}) O
       → get (entries_view xs) q ≡ Some (value_view (get_or xs i d).1)
   entry_found xs i d up below found =
       rw (entries_made xs)
-      (get-found entry_key entry_value q answers xs i d (rw (entries_made xs) at up) below found)
+      (get_found entry_key entry_value q answers xs i d (rw (entries_made xs) at up) below found)
 
   pub entry_absent : (xs : List (Key × Value)) (i : ℕ) → IsAscending (entries_view xs)
       → ((ord : Key × Value → Ordering) → ComputesKey g ord f → IsBinarySearchResult ord xs (Err i))
       → get (entries_view xs) q ≡ None
   entry_absent xs i up found =
       rw (entries_made xs)
-      (get-absent entry_key entry_value q answers xs i (rw (entries_made xs) at up) found)
+      (get_absent entry_key entry_value q answers xs i (rw (entries_made xs) at up) found)
 
   pub entry_placed : (x : Key × Value) (xs : List (Key × Value)) (i : ℕ) → key_view x.0 ≡ q
       → i ≤ length xs → IsAscending (entries_view xs)
@@ -61,7 +61,7 @@ module _ (q : CelKey) {F : Type 0} {g : Mut F (Bor (Key × Value) × Unit {0}) O
       ≡ put (key_view x.0) (value_view x.1) (entries_view xs)
   entry_placed x xs i same within up found =
       entries_made (take i xs ++ x ∷ drop i xs)
-      ∙ put-absent entry_key entry_value q answers x xs i same within (rw
+      ∙ put_absent entry_key entry_value q answers x xs i same within (rw
       (entries_made xs) at up) found
       ∙ ap (put (key_view x.0) (value_view x.1)) (sym (entries_made xs))
 
@@ -78,7 +78,7 @@ module _ (q : CelKey) {F : Type 0} {g : Mut F (Bor
       → get (pairs_view xs) q ≡ Some (text (text_view (get_or xs i d).1))
   pair_found xs i d up below found =
       rw (pairs_made xs)
-      (get-found pair_key pair_value q answers xs i d (rw (pairs_made xs) at up) below found)
+      (get_found pair_key pair_value q answers xs i d (rw (pairs_made xs) at up) below found)
 
   pub pair_absent : (xs : List (RcStr Global × RcStr Global)) (i : ℕ) → IsAscending (pairs_view xs)
       → ((ord : RcStr Global × RcStr Global → Ordering) → ComputesKey g ord f
@@ -86,7 +86,7 @@ module _ (q : CelKey) {F : Type 0} {g : Mut F (Bor
       → get (pairs_view xs) q ≡ None
   pair_absent xs i up found =
       rw (pairs_made xs)
-      (get-absent pair_key pair_value q answers xs i (rw (pairs_made xs) at up) found)
+      (get_absent pair_key pair_value q answers xs i (rw (pairs_made xs) at up) found)
 
 -- no key of texts is another kind's
 

@@ -20,7 +20,7 @@ use Rattle.cel_value.specs.Equality.{key_eq}
 use Rattle.cel_value.specs.declared.value.Key.{Key}
 use Rattle.cel_value.specs.declared.value.Value.{Value}
 use Rattle.std.proofs.lemmas.Bool.{cases_Bool, false_from_ne_true}
-use Rattle.cel_value.specs.EqualityLaws.{key_eq_decides}
+use Rattle.cel_value.specs.steps.EqualityLaws.{key_eq_decides}
 
 bool_ties : (a b : Bool) → beq a b ≡ is_eq (bool_cmp a b)
 bool_ties true true = refl

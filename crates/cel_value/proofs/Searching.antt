@@ -13,7 +13,7 @@ use denote.Ref.{Bor}
 use Rattle.cel_value.specs.Values.{CelKey, CelValue, CelEntries, no_entries, entry}
 use Rattle.cel_value.specs.Keys.{get, key_cmp, AllAbove, IsAscending, put}
 use Rattle.cel_value.specs.Equality.{key_eq}
-use Rattle.cel_value.specs.EqualityLaws.{key_eq_decides}
+use Rattle.cel_value.specs.steps.EqualityLaws.{key_eq_decides}
 use Rattle.cel_value.proofs.Places.{key_eq_cmp, key_cmp_total}
 
 -- entries made of any items that have a key and a value
@@ -110,18 +110,18 @@ module _ {X : Type 0} (key : X → CelKey) (val : X → CelValue) where
     by_key : ComputesKey g place f
     by_key = always_returns_same g (λ a r. r ≡ place a.0.now) f answers
 
-    pub get-found : (xs : List X) (i : ℕ) (d : X) → IsAscending (made_of xs)
+    pub get_found : (xs : List X) (i : ℕ) (d : X) → IsAscending (made_of xs)
         → i < length xs
         → ((ord : X → Ordering) → ComputesKey g ord f → IsBinarySearchResult ord xs (Ok i))
         → get (made_of xs) q ≡ Some (val (get_or xs i d))
-    get-found xs i d up below found =
+    get_found xs i d up below found =
         get_index q xs i d up below
         (key_eq_cmp (key (get_or xs i d)) q ∙ ap is_eq (found place by_key d))
 
-    pub get-absent : (xs : List X) (i : ℕ) → IsAscending (made_of xs)
+    pub get_absent : (xs : List X) (i : ℕ) → IsAscending (made_of xs)
         → ((ord : X → Ordering) → ComputesKey g ord f → IsBinarySearchResult ord xs (Err i))
         → get (made_of xs) q ≡ None
-    get-absent xs i up found =
+    get_absent xs i up found =
         let halves = found place by_key
         (searchable_from_sorted key_cmp_total key xs q (sorted xs up)) in
         let differs : (o : Ordering) → (o ≡ Less) ⊎ (o ≡ Greater) → is_eq o ≡ false =
@@ -133,11 +133,11 @@ module _ {X : Type 0} (key : X → CelKey) (val : X → CelValue) where
           | inr last ↦ inr (halves.1 k d last below)
         ]))
 
-    pub put-absent : (x : X) (xs : List X) (i : ℕ) → key x ≡ q → i ≤ length xs
+    pub put_absent : (x : X) (xs : List X) (i : ℕ) → key x ≡ q → i ≤ length xs
         → IsAscending (made_of xs)
         → ((ord : X → Ordering) → ComputesKey g ord f → IsBinarySearchResult ord xs (Err i))
         → made_of (take i xs ++ x ∷ drop i xs) ≡ put (key x) (val x) (made_of xs)
-    put-absent x xs i same within up found =
+    put_absent x xs i same within up found =
         let halves = found place by_key
         (searchable_from_sorted key_cmp_total key xs q (sorted xs up)) in
         put_place x xs i within up

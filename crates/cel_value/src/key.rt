@@ -65,7 +65,7 @@ impl Value {
 }
 
 /// How the keys stand: bools, ints, uints, texts; false before true, texts by code point.
-pub fn compare_keys(left: LentKey<'_>, right: LentKey<'_>) -> Ordering
+pub(crate) fn compare_keys(left: LentKey<'_>, right: LentKey<'_>) -> Ordering
     ensures { result ≡ key_cmp (lent_view left.entry) (lent_view right.entry) }
 {
     match (left, right) {

@@ -132,7 +132,7 @@ fn find_text<'a>(pairs: &'a [(RcStr, RcStr)], key: LentKey<'_>) -> Option<&'a Rc
 }
 
 /// The text that stands with this one, found by binary search.
-pub fn find_pair<'a>(pairs: &'a [(RcStr, RcStr)], name: &RcStr) -> Option<&'a RcStr>
+pub(crate) fn find_pair<'a>(pairs: &'a [(RcStr, RcStr)], name: &RcStr) -> Option<&'a RcStr>
     requires { IsAscending (pairs_view pairs.now) }
     ensures { option_map (λ t. text (text_view t.now)) result
         ≡ get (pairs_view pairs.now) (text_key (text_view name.now)) }

@@ -45,7 +45,7 @@ fn spend_text(text: &RcStr, left: u64) -> Option<u64>
 }
 
 /// What is left of a number once the key's mass is taken from it, if it is enough.
-pub fn spend_key(key: &Key, left: u64) -> Option<u64>
+pub(crate) fn spend_key(key: &Key, left: u64) -> Option<u64>
     ensures { result ≡ left_of left (key_mass (key_view key.now)) }
 {
     match key {

@@ -3,7 +3,7 @@ use Rattle.std.proofs.Common.{◌≡◌, ℕ, zero, suc, ◌<◌, List, [], ◌�
 use Rattle.std.specs.Option.{option_map}
 use Rattle.std.proofs.lemmas.List.{map-set}
 use Rattle.std.proofs.lemmas.Option.{slice_get_read}
-use Rattle.stack_machine.specs.Locals.{local_in, local_of}
+use Rattle.stack_machine.specs.steps.Places.{local_in, local_of}
 use Rattle.stack_machine.specs.Shapes.{Shape, empty}
 use Rattle.stack_machine.proofs.Places.{local_of_append, local_of_map}
 use Rattle.code_verifier.specs.declared.shape.Shape.{Shape as ShapeOfCode}

@@ -4,7 +4,7 @@ use Rattle.std.specs.Bool.{Decides}
 use Rattle.std.specs.Option.{option_and_then}
 use Rattle.std.proofs.Math.Path.{fun_ext}
 use Rattle.cel_value.specs.Types.{ValueType, type_eq}
-use Rattle.cel_value.specs.EqualityLaws.{type_eq_decides}
+use Rattle.cel_value.specs.steps.EqualityLaws.{type_eq_decides}
 use Rattle.stack_machine.specs.Slots.{Slot, failing, of, SlotFits, joined_slot}
 use Rattle.stack_machine.specs.Shapes.{Shape, SlotsFit, Serves}
 use Rattle.code_verifier.specs.steps.Joining.{put_on, joined_slots, agreed, IsShapeJoin}

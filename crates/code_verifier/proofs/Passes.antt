@@ -1,8 +1,8 @@
 -- Ways that are noted one after the other, and the end.
 use Rattle.std.proofs.Common.{◌≡◌, ℕ, inl, inr, true, false, List, [], ◌∷◌, map, Some, refl, sym, ap, ◌∙◌}
 use Rattle.cel_value.specs.Types.{ValueType}
-use Rattle.cel_value.specs.EqualityLaws.{type_eq_decides}
-use Rattle.stack_machine.specs.Locals.{local_of}
+use Rattle.cel_value.specs.steps.EqualityLaws.{type_eq_decides}
+use Rattle.stack_machine.specs.steps.Places.{local_of}
 use Rattle.stack_machine.specs.Slots.{Slot, failing, of, SlotFits, is_a}
 use Rattle.stack_machine.specs.Shapes.{Shape, SlotsFit}
 use Rattle.code_verifier.specs.declared.shape.Due.{Due}

@@ -4,7 +4,7 @@ use Rattle.std.specs.List.{AllByRecursion}
 use Rattle.std.proofs.lemmas.Option.{slice_get_within}
 use Rattle.std.proofs.lemmas.List.{append-nil}
 use Rattle.cel_value.specs.Types.{ValueType}
-use Rattle.stack_machine.specs.Locals.{local_of}
+use Rattle.stack_machine.specs.steps.Places.{local_of}
 use Rattle.stack_machine.specs.Instructions.{Instruction}
 use Rattle.stack_machine.specs.Shapes.{Shape, Way, empty, ways, Serves}
 use Rattle.stack_machine.specs.Typable.{Table, Leads, IsTyped, ways_at, ways_before, AllServe, SomeEnds, Least, IsForward}

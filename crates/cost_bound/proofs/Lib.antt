@@ -9,6 +9,8 @@ pub mod Steps
 pub mod Counting
 pub mod Joins
 pub mod Alike
+pub mod Neighbours
+pub mod Pairs
 pub mod MemoViews
 pub mod Remembering
 pub mod Scalars

@@ -4,9 +4,12 @@
 mod bounding;
 mod charges;
 mod known;
+mod likeness;
 mod made;
 mod measure;
+mod measured;
 mod memo;
+mod remembered;
 mod scope;
 mod size;
 mod steady;

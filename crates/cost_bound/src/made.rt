@@ -3,7 +3,7 @@
 ghost use Rattle.std.specs.Prelude.{◌≡◌, ◌<◌, ◌+◌, ◌-◌, ◌^◌, List, IfOk, length};
 ghost use Rattle.cel_value.specs.Types.{ValueType, type_view};
 ghost use Rattle.cost_bound.specs.Costs.{call_size, charge_at, concat_size, join_all, keys_of, list_size, map_cost, map_size, masses, values_of};
-ghost use Rattle.cost_bound.specs.Sizes.{most_of};
+ghost use Rattle.cost_bound.specs.Sizes.{Size, most_of};
 ghost use Rattle.cost_bound.specs.steps.Numbers.{capped};
 ghost use Rattle.cost_bound.specs.steps.SizeView.{size_view, sizes_view};
 
@@ -56,27 +56,17 @@ fn concat_size(
 pub(crate) fn list_size(
     alloc: Global,
     cel_type: &CelType,
-    sizes: &[ValueSize],
+    count: u64,
+    joined: ValueSize,
 ) -> Result<ValueSize, AllocError>
-    ensures { IfOk result (λ size. size_view size
-        ≡ list_size (type_view cel_type.now) (sizes_view sizes.now)) }
+    ensures { IfOk result (λ size. (sizes : List Size) → count ≡ length sizes
+        → size_view joined ≡ join_all sizes
+        → size_view size ≡ list_size (type_view cel_type.now) sizes) }
 {
-    if sizes.is_empty() {
+    if count == 0 {
         return least(alloc, cel_type);
     }
-    many(alloc, sizes.len() as u64, join_all(alloc, sizes)?)
-}
-
-fn join_all(alloc: Global, sizes: &[ValueSize]) -> Result<ValueSize, AllocError>
-    ensures { IfOk result (λ size. size_view size ≡ join_all (sizes_view sizes.now)) }
-{
-    let mut joined = ValueSize::Flat;
-    let mut at = sizes.len();
-    while at > 0 {
-        at -= 1;
-        joined = join(alloc, &sizes[at], &joined)?;
-    }
-    Ok(joined)
+    many(alloc, count, joined)
 }
 
 /// A map literal likewise; keys and values stand in turn.

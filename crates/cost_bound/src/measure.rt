@@ -1,6 +1,6 @@
 //! Measuring expressions: how large what they come to may be, and what they cost.
 
-ghost use Rattle.std.specs.Prelude.{◌≡◌, ◌+◌, ◌*◌, ◌↔◌, ◌∷◌, ℕ, IfErr, IfOk, IfSome, IsTrue, length};
+ghost use Rattle.std.specs.Prelude.{◌≡◌, ◌+◌, ◌*◌, ◌↔◌, ◌∷◌, ℕ, IfErr, IfOk, IsTrue, length};
 ghost use Rattle.proto_wire.specs.Refusal.{MemoryOr};
 ghost use Rattle.proto_wire.specs.declared.refusal.Refusal.TheVariants.{Memory};
 ghost use Rattle.cel_overload.specs.declared.overload.Overload.TheVariants.{Conditional};
@@ -8,17 +8,20 @@ ghost use Rattle.cel_types.specs.Elaborated.{kinds, typed_loop};
 ghost use Rattle.cel_types.specs.View.{expr_view, exprs_view, loop_of, parts_view};
 ghost use Rattle.cel_value.specs.Texts.{text_view};
 ghost use Rattle.cel_value.specs.Types.{ValueType};
-ghost use Rattle.cost_bound.specs.Costs.{call_cost, call_size, cost_of, costs_of, field_cost, grown, size_of, sizes_of, total, turns_cost};
+ghost use Rattle.cost_bound.specs.Costs.{call_cost, call_size, cost_of, costs_of, field_cost, grown, join_all, size_of, sizes_of, total, turns_cost};
 ghost use Rattle.cost_bound.specs.Sizes.{Size, join};
 ghost use Rattle.cost_bound.specs.steps.Measuring.{CostsMore, call_part, next_size, turn_cost};
-ghost use Rattle.cost_bound.specs.steps.Memos.{Holds, HoldsEach, IsTold, Remembers, RemembersEach, Says, known_view, memo_view};
+ghost use Rattle.cost_bound.specs.steps.Memos.{Holds, HoldsEach, Remembers, RemembersEach, Says, known_view, memo_view};
 ghost use Rattle.cost_bound.specs.steps.ScopeView.{IsCounted, locals_view, scope_view};
 ghost use Rattle.cost_bound.specs.steps.SizeView.{size_view, sizes_view};
 
 use crate::charges::{call_part, field_part, pay, pay_turns};
 use crate::known::{attribute_size, constant_size};
+use crate::likeness::{is_repeated, measure_alike};
 use crate::made::{call_size, list_size, map_part, map_size};
+use crate::measured::{Measured, MeasuredItems, recall};
 use crate::memo::{Memo, part, with_part};
+use crate::remembered::{Remembered, budget_at, budget_for, keep_measured};
 use crate::scope::Scope;
 use crate::size::{ValueSize, join, same};
 use crate::steady::{has_items, is_steady};
@@ -29,63 +32,11 @@ use proto_wire::Refusal;
 use std::alloc::Global;
 use std::rc::RcStr;
 
-/// The size of what an expression comes to, and what is left of the budget once it is paid.
-#[derive(Drop)]
-pub(crate) struct Measured {
-    pub(crate) size: ValueSize,
-    pub(crate) left: u64,
-}
-
-// The same of expressions one after the other.
+// What expressions one after the other come to, and what is left once all are paid.
 #[derive(Drop)]
 struct MeasuredEach {
     sizes: Vec<ValueSize>,
     left: u64,
-}
-
-// What a loop remembers of an expression inside of it, and what is left of its budget.
-#[derive(Drop)]
-struct Remembered {
-    memo: Memo,
-    left: u64,
-}
-
-// What is known of an expression, where that is all of it. It is paid whole.
-fn recall(memo: Option<&Memo>, left: u64) -> Result<Option<Measured>, Refusal>
-    ensures found { IfOk result (λ o. IfSome o (λ m. (size : Size) (cost : ℕ)
-        → Says (known_view memo.entry) size cost
-        → (size_view m.size ≡ size) × (left ≡ cost + m.left))) }
-    ensures fault { IfErr result (MemoryOr (λ e. (size : Size) (cost : ℕ)
-        → Says (known_view memo.entry) size cost → CostsMore cost left e)) }
-{
-    match memo {
-        None => Ok(None),
-        Some(known) => recall_known(known, left),
-    }
-}
-
-fn recall_known(memo: &Memo, left: u64) -> Result<Option<Measured>, Refusal>
-    ensures found { IfOk result (λ o. IfSome o (λ m. (size : Size) (cost : ℕ)
-        → Says (memo_view memo.now) size cost
-        → (size_view m.size ≡ size) × (left ≡ cost + m.left))) }
-    ensures fault { IfErr result (MemoryOr (λ e. (size : Size) (cost : ℕ)
-        → Says (memo_view memo.now) size cost → CostsMore cost left e)) }
-{
-    match memo {
-        Memo::Unknown => Ok(None),
-        Memo::Known { size, cost } => {
-            let left = pay_turns(left, 1, *cost)?;
-            Ok(Some(Measured {
-                size: size.copy()?,
-                left,
-            }))
-        }
-        Memo::Costly { than } => {
-            pay(left, *than)?;
-            Ok(None)
-        }
-        Memo::Parts(_) => Ok(None),
-    }
 }
 
 /// Measures an expression, with the sizes of the locals in scope and with what is known of it.
@@ -151,10 +102,11 @@ pub(crate) fn measure(
             ..
         } => { measure_call(alloc, operands, limits, scope, memo, *overload, left) }
         TypedExpr::List { cel_type, elements } => {
-            let found = measure_each(alloc, elements, limits, scope, memo, left)?;
-            let left = pay(found.left, elements.len() as u64)?;
+            let found = measure_list(alloc, elements, limits, scope, memo, left)?;
+            let count = elements.len() as u64;
+            let left = pay(found.left, count)?;
             Ok(Measured {
-                size: list_size(alloc, cel_type, &found.sizes)?,
+                size: list_size(alloc, cel_type, count, found.size)?,
                 left,
             })
         }
@@ -231,6 +183,89 @@ fn measure_each(
     Ok(MeasuredEach { sizes, left: rest })
 }
 
+// The items of a list literal: their sizes joined. From the last to the first; those that measure as
+// the one behind them are not measured again.
+#[cycle(measure)]
+fn measure_list(
+    alloc: Global,
+    items: &[TypedExpr<'_>],
+    limits: &Limits,
+    scope: &Scope<'_>,
+    memo: Option<&Memo>,
+    left: u64,
+) -> Result<Measured, Refusal>
+    requires counted { IsCounted (locals_view scope.now) }
+    requires holds { HoldsEach (known_view memo) 0 (exprs_view items.now) limits.now (scope_view scope.now) }
+    ensures found { IfOk result (λ m.
+        (size_view m.size ≡ join_all (sizes_of (exprs_view items.now) limits.now (scope_view scope.now)))
+        × (left ≡ total (costs_of (exprs_view items.now) limits.now (scope_view scope.now)) + m.left)) }
+    ensures fault { IfErr result (MemoryOr (CostsMore
+        (total (costs_of (exprs_view items.now) limits.now (scope_view scope.now))) left)) }
+{
+    let mut after = MeasuredItems {
+        size: ValueSize::Flat,
+        cost: 0,
+        left,
+    };
+    let mut at = items.len();
+    while at > 0 {
+        at -= 1;
+        let again = is_repeated(items, at);
+        after = measure_item(
+            alloc,
+            &items[at],
+            again,
+            limits,
+            scope,
+            part(memo, at),
+            after,
+        )?;
+    }
+    Ok(Measured {
+        size: after.size,
+        left: after.left,
+    })
+}
+
+// One item more, before the others. Where it measures as the first of these, that is known.
+#[cycle(measure)]
+fn measure_item(
+    alloc: Global,
+    item: &TypedExpr<'_>,
+    again: bool,
+    limits: &Limits,
+    scope: &Scope<'_>,
+    memo: Option<&Memo>,
+    after: MeasuredItems,
+) -> Result<MeasuredItems, Refusal>
+    requires counted { IsCounted (locals_view scope.now) }
+    requires holds { Holds (known_view memo) (expr_view item.now) limits.now (scope_view scope.now) }
+    requires again { IsTrue again
+        → (join (size_of (expr_view item.now) limits.now (scope_view scope.now)) (size_view after.size)
+        ≡ size_view after.size)
+        × (after.cost ≡ cost_of (expr_view item.now) limits.now (scope_view scope.now)) }
+    ensures found { let e = expr_view item.now in let sizes = scope_view scope.now in
+        IfOk result (λ m. (size_view m.size ≡ join (size_of e limits.now sizes) (size_view after.size))
+        × (m.cost ≡ cost_of e limits.now sizes) × (after.left ≡ cost_of e limits.now sizes + m.left)) }
+    ensures fault { IfErr result (MemoryOr
+        (CostsMore (cost_of (expr_view item.now) limits.now (scope_view scope.now)) after.left)) }
+{
+    if again {
+        let left = pay_turns(after.left, 1, after.cost)?;
+        return Ok(MeasuredItems {
+            size: after.size,
+            cost: after.cost,
+            left,
+        });
+    }
+    let found = measure(alloc, item, limits, scope, memo, after.left)?;
+    Ok(MeasuredItems {
+        size: join(alloc, &found.size, &after.size)?,
+        cost: after.left - found.left,
+        left: found.left,
+    })
+}
+
 // A call; of a conditional's branches one runs.
 #[cycle(measure)]
 fn measure_call(
@@ -287,12 +322,52 @@ fn measure_operands(
         IfErr result (MemoryOr (CostsMore (total (costs_of es limits.now sizes)
         + (1 + call_part overload (kinds es) (sizes_of es limits.now sizes))) left)) }
 {
+    if operands.len() == 2 {
+        return measure_pair(alloc, operands, limits, scope, memo, overload, left);
+    }
     let found = measure_each(alloc, operands, limits, scope, memo, left)?;
     let left = pay(found.left, call_part(overload, operands, &found.sizes))?;
     Ok(Measured {
         size: call_size(alloc, overload, &found.sizes)?,
         left,
     })
+}
+
+// The same of two operands; their sizes take no memory.
+#[cycle(measure)]
+fn measure_pair(
+    alloc: Global,
+    operands: &[TypedExpr<'_>],
+    limits: &Limits,
+    scope: &Scope<'_>,
+    memo: Option<&Memo>,
+    overload: Overload,
+    left: u64,
+) -> Result<Measured, Refusal>
+    requires counted { IsCounted (locals_view scope.now) }
+    requires holds { HoldsEach (known_view memo) 0 (exprs_view operands.now) limits.now (scope_view scope.now) }
+    requires two { length operands.now ≡ 2 }
+    ensures found { let es = exprs_view operands.now in let sizes = scope_view scope.now in
+        IfOk result (λ m. (size_view m.size ≡ call_size overload (sizes_of es limits.now sizes))
+        × (left ≡ total (costs_of es limits.now sizes)
+        + (1 + call_part overload (kinds es) (sizes_of es limits.now sizes)) + m.left)) }
+    ensures fault { let es = exprs_view operands.now in let sizes = scope_view scope.now in
+        IfErr result (MemoryOr (CostsMore (total (costs_of es limits.now sizes)
+        + (1 + call_part overload (kinds es) (sizes_of es limits.now sizes))) left)) }
+{
+    match operands {
+        [first, second] => {
+            let one = measure(alloc, first, limits, scope, part(memo, 0), left)?;
+            let other = measure(alloc, second, limits, scope, part(memo, 1), one.left)?;
+            let sizes = [one.size, other.size];
+            let left = pay(other.left, call_part(overload, operands, &sizes))?;
+            Ok(Measured {
+                size: call_size(alloc, overload, &sizes)?,
+                left,
+            })
+        }
+        _ => unreachable!(),
+    }
 }
 
 // A conditional of three operands.
@@ -321,6 +396,13 @@ fn measure_conditional(
             let tested = measure(alloc, condition, limits, scope, part(memo, 0), left)?;
             let before = pay(tested.left, 0)?;
             let one = measure(alloc, first, limits, scope, part(memo, 1), before)?;
+            if measure_alike(first, second) {
+                let left = pay(one.left, 0)?;
+                return Ok(Measured {
+                    size: one.size,
+                    left,
+                });
+            }
             let other = measure(alloc, second, limits, scope, part(memo, 2), before)?;
             let left = pay(one.left.min(other.left), 0)?;
             Ok(Measured {
@@ -397,14 +479,6 @@ fn measure_loop(
     let closed = pay(gathered.left, 0)?;
     let inner = (&*scope).with(&gathered.size);
     measure(alloc, &parts.result, limits, &inner, part(memo, 4), closed)
-}
-
-// All that is left, or nothing.
-fn budget_for(wanted: bool, left: u64) -> u64 {
-    if wanted {
-        return left;
-    }
-    0
 }
 
 // So many turns, one after the other, until what is gathered grows no more: then the others cost as
@@ -585,32 +659,6 @@ fn remember(
     }
 }
 
-// What is remembered of a loop that was measured: its size and its cost, or that it costs more than
-// there was.
-fn keep_measured(measured: Result<Measured, Refusal>, left: u64) -> Result<Remembered, Refusal>
-    ensures found { (size : Size) (cost : ℕ)
-        → IfOk measured (λ m. (size_view m.size ≡ size) × (left ≡ cost + m.left))
-        → IfErr measured (MemoryOr (CostsMore cost left))
-        → IfOk result (λ r. IsTold (memo_view r.memo) size cost) }
-    ensures fault { (cost : ℕ) → IfErr measured (MemoryOr (CostsMore cost left))
-        → IfErr result (λ e. e ≡ Memory) }
-{
-    match measured {
-        Ok(found) => Ok(Remembered {
-            memo: Memo::Known {
-                size: found.size,
-                cost: left.saturating_sub(found.left),
-            },
-            left: found.left,
-        }),
-        Err(Refusal::TooCostly) => Ok(Remembered {
-            memo: Memo::Costly { than: left },
-            left: 0,
-        }),
-        Err(other) => Err(other),
-    }
-}
-
 // The same of expressions one after the other. Of a choice's last two parts each has the budget that
 // the first one leaves.
 #[cycle(measure)]
@@ -646,14 +694,6 @@ fn remember_each(
         memo: Memo::of_parts(parts),
         left: rest,
     })
-}
-
-// What is left for the part at a place: of a choice's last part what was left for the one before.
-fn budget_at(choice: bool, place: usize, before: u64, rest: u64) -> u64 {
-    if choice && place == 2 {
-        return before;
-    }
-    rest
 }
 
 // The same of a loop that a turn changes. Its condition and its step are measured in a turn only where

@@ -2,6 +2,7 @@
 
 mod exprs;
 mod inner_loops;
+mod neighbours;
 
 use crate::bound;
 use attributes::{AttrId, Limits};

@@ -39,7 +39,7 @@ impl<'a> Model for Head<'a> {
 
     ghost Value = { HeadValue };
 
-    ghost use Rattle.http_front.specs.steps.Parsed.{HoldsHead};
+    ghost use Rattle.http_front.specs.steps.Parsed.{LieInBytes};
 
     ghost view = { λ h. record {
       method = h.method.now;
@@ -48,7 +48,7 @@ impl<'a> Model for Head<'a> {
       fields = map (header_bytes h.bytes.now) h.fields.now;
     } };
 
-    ghost invariant = { λ h. HoldsHead h.bytes.now h.fields.now (record {
+    ghost invariant = { λ h. LieInBytes h.bytes.now h.fields.now (record {
       method = h.method.now;
       target = h.target.now;
       http11 = h.is_http11;

@@ -31,7 +31,7 @@ pub enum Payload<'a> {
 
 impl<'a> Payload<'a> {
     /// The wire type by which the payload is spelt.
-    pub fn wire_type(&self) -> WireType
+    pub(crate) fn wire_type(&self) -> WireType
         ensures { result ≡ wire_type_of (payload_view self.now) }
     {
         match self {

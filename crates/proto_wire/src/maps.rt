@@ -111,7 +111,7 @@ pub type MapEntry<'a, K> = (K, Payloads<'a>);
 
 /// Reads the entries of a map, of which each has a payload, as the payloads of the values in
 /// ascending order of keys: of the entries with one key the last counts. `BadWire` where an entry
-/// breaks, `UnknownField` where it has another field, `BadText` where its key is no UTF-8.
+/// breaks, `UnknownField` where it has another field, `BadText` where its key is no UTF-8, or `Memory`.
 pub fn read_entries<'a, K: MapKey<'a>>(
     alloc: Global,
     payloads: &[&'a [u8]],

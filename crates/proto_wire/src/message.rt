@@ -32,7 +32,7 @@ pub fn read_fields<'a>(alloc: Global, bytes: &'a [u8]) -> Result<MessageFields<'
 }
 
 /// The fields of a message that stands in several payloads, each of them whole fields by itself:
-/// those of the payloads put one after the other. `BadWire` where a payload breaks.
+/// those of the payloads put one after the other. `BadWire` where a payload breaks, or `Memory`.
 pub fn read_parts<'a>(alloc: Global, parts: &[&'a [u8]]) -> Result<MessageFields<'a>, Refusal>
     ensures found { IfOk result (λ v. Merges (parts_view parts.now) (map field_view v.items)) }
     ensures fault { IfErr result (MemoryOr (PartsFault (parts_view parts.now))) }
@@ -48,7 +48,7 @@ pub fn read_parts<'a>(alloc: Global, parts: &[&'a [u8]]) -> Result<MessageFields
 }
 
 /// The fields of a message that stands in several payloads, each of them whole fields by itself:
-/// `BadWire` where a payload breaks, `UnknownField` where some field has none of the keys.
+/// `BadWire` where a payload breaks, `UnknownField` where some field has none of the keys, or `Memory`.
 pub fn read_message<'a>(
     alloc: Global,
     parts: &[&'a [u8]],

@@ -28,8 +28,8 @@ impl<'a> Reader<'a> {
         Reader { rest: bytes }
     }
 
-    /// The next field, and `None` exactly at the end, where the reader stays. After an error the
-    /// reader stands where it stood, so the same error comes again.
+    /// The next field, and `None` exactly at the end, where the reader stays. Each of the errors of
+    /// `WireError` may come; after one the reader stands where it stood, so it comes again.
     pub fn next(&mut self) -> Result<Option<Field<'a>>, WireError>
         ensures field { IfOk result (λ found.
             IfSome found (λ f. StartsField self.old (field_view f) self.new)) }

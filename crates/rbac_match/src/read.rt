@@ -21,7 +21,9 @@ use std::alloc::Global;
 pub const RULE_DEPTH: u32 = 32;
 
 /// Reads a rule of at most `depth` levels, whose message stands in the parts. The depth is looked
-/// at before anything of the rule is read.
+/// at before anything of the rule is read. It is refused as `TooLarge` where it has more levels, as
+/// `BadWire`, `BadText`, `UnknownField`, `Missing`, `OutOfRange` or `Unsupported` by what it says, and
+/// as `Memory`.
 #[cycle(rule)]
 pub fn read_rule(alloc: Global, side: Side, parts: &[&[u8]], depth: u32) -> Result<Rule, Refusal>
     ensures found { IfOk result (λ rule. IsRule side depth (parts_view parts.now)

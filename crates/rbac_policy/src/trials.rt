@@ -42,7 +42,7 @@ pub enum Reason {
 
 impl Reason {
     /// Whether the policy matches.
-    pub fn is_match(self) -> bool
+    pub(crate) fn is_match(self) -> bool
         ensures { result ≡ is_match self }
     {
         match self {

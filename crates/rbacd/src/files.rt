@@ -8,7 +8,7 @@ use std::fs::File;
 use std::io::{self, ErrorKind, Read};
 
 /// A file that the program reads has at most so many bytes: 16 MiB.
-pub const MOST_FILE: u64 = 16_777_216;
+pub(crate) const MOST_FILE: u64 = 16_777_216;
 
 /// A source of files.
 pub trait Source {

@@ -177,7 +177,7 @@ fn memory_line(json: bool) -> &'static [u8]
 }
 
 /// A connection of which nothing but the scheme `http` is known.
-pub fn plain_conn(alloc: Global) -> Result<Conn, AllocError>
+pub(crate) fn plain_conn(alloc: Global) -> Result<Conn, AllocError>
     ensures { IfOk result (λ conn. conn_view conn ≡ plain_facts) }
 {
     Ok(Conn::of_scheme(RcStr::from_str(alloc, "http")?))

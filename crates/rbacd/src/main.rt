@@ -8,9 +8,9 @@ use std::io::{ErrorKind, Write};
 use std::process::ExitCode;
 use std::{env, io};
 
-pub mod explain;
+mod explain;
 pub mod facts;
-pub mod files;
+mod files;
 mod input;
 mod json;
 pub mod judge;

@@ -27,10 +27,10 @@ use std::convert::AsStr;
 use std::io::{self, ErrorKind, Read, Write};
 
 /// The status of words that name no job, and of a file or an output that fails.
-pub const MISTAKE: u8 = 2;
+pub(crate) const MISTAKE: u8 = 2;
 
 /// The status of a file whose JSON text is not as it has to be.
-pub const BAD_JSON: u8 = 6;
+pub(crate) const BAD_JSON: u8 = 6;
 
 /// Why nothing is judged.
 #[derive(Debug, Drop)]

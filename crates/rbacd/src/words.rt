@@ -11,7 +11,7 @@ use std::alloc::{AllocError, Global};
 use std::convert::AsStr;
 
 /// The most that the conditions of one filter may cost.
-pub const MOST_BUDGET: u64 = 100_000_000;
+pub(crate) const MOST_BUDGET: u64 = 100_000_000;
 
 /// The program's version, and the kit that it is proved with.
 const VERSION: &str = "0.0 (not yet numbered), proved with rattle-kit-13b, logic dac8208d650f15bf";

@@ -2,15 +2,15 @@
 
 ghost use Rattle.std.specs.Prelude.{◌≡◌, ◌≢◌, ◌<◌, ◌^◌, IfErr, MatchOption, None, OnOk, Some, map};
 ghost use Rattle.cel_value.specs.Masses.{left_of};
-ghost use Rattle.stack_machine.specs.Held.{held_view};
+ghost use Rattle.stack_machine.specs.steps.Held.{held_view};
 ghost use Rattle.cel_value.specs.Values.{bool, fails, value};
 ghost use Rattle.cel_ops.specs.Charges.{loop_charge};
 ghost use Rattle.cel_ops.specs.Logic.{not_strictly_false};
 ghost use Rattle.cel_value.specs.declared.error.CelError.{CelError};
 ghost use Rattle.stack_machine.specs.Charges.{of_one};
 ghost use Rattle.stack_machine.specs.Machine.{branch, goes, loop_next, loop_start, loop_test, opened, ranges_over, stuck, test};
-ghost use Rattle.stack_machine.specs.Loops.{range_view};
-ghost use Rattle.stack_machine.specs.StateView.{state_view};
+ghost use Rattle.stack_machine.specs.steps.Loops.{range_view};
+ghost use Rattle.stack_machine.specs.steps.StateView.{state_view};
 
 use crate::error::RunError;
 use crate::held::Held;

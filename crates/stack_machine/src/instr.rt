@@ -3,7 +3,7 @@
 ghost use Rattle.std.specs.Prelude.{◌≡◌, IfOk};
 ghost use Rattle.cel_value.specs.View.{value_view};
 ghost use Rattle.cel_value.specs.Values.{value};
-ghost use Rattle.stack_machine.specs.Held.{held_view};
+ghost use Rattle.stack_machine.specs.steps.Held.{held_view};
 ghost use Rattle.stack_machine.specs.Instructions.{constant_view, instr_view};
 
 use crate::held::Held;

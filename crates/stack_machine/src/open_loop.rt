@@ -5,8 +5,8 @@ ghost use Rattle.cel_value.specs.Items.{item_at, keys_of};
 ghost use Rattle.cel_value.specs.Masses.{item_count};
 ghost use Rattle.cel_value.specs.Values.{CelValue, item, no_items, value};
 ghost use Rattle.cel_value.specs.View.{answer_view, map_view, pairs_view, values_view};
-ghost use Rattle.stack_machine.specs.Held.{held_view};
-ghost use Rattle.stack_machine.specs.Loops.{loop_view, range_view};
+ghost use Rattle.stack_machine.specs.steps.Held.{held_view};
+ghost use Rattle.stack_machine.specs.steps.Loops.{loop_view, range_view};
 
 use crate::held::Held;
 use attributes::Header;

@@ -1,4 +1,4 @@
--- What stands beside the accepted state while bytes are answered.
+-- What stands beside the accepted state while bytes are answered (this project's own).
 use Rattle.std.specs.Prelude.{◌≡◌, ◌⊎◌, ℕ, ◌<◌, ◌^◌, Option, List, ◌++◌, length}
 use Rattle.std.specs.String.{string_bytes}
 use Rattle.proto_wire.specs.declared.refusal.Refusal.{Refusal}

@@ -1,4 +1,4 @@
--- What the parts of a control stand for, and what the serving of one request does.
+-- What the parts of a control stand for, and what the serving of one request does (this project's own).
 use Rattle.std.specs.Prelude.{◌≡◌, ℕ, Bool, List, [], ◌++◌, map}
 use Rattle.std.specs.String.{string_bytes}
 use Rattle.xds_wire.specs.Discovery.{AnyMessage, RequestMessage, IsRequest}

@@ -1,4 +1,4 @@
--- A stream that is up, as its reader of frames keeps it.
+-- A stream that is up, as its reader of frames keeps it (this project's own).
 use Rattle.std.specs.Prelude.{◌≡◌, ℕ, Bool, true, false, List, []}
 use Rattle.xds_wire.specs.Frames.{Tail, unfinished, broken}
 use Rattle.xds_wire.specs.Stream.{Kept, IsUnfinished}

@@ -1,4 +1,4 @@
--- What a filter takes of the extensions of a response.
+-- What a filter takes of the extensions of a response (this project's own).
 use Rattle.std.specs.Prelude.{◌≡◌, ◌⊎◌, ℕ, Option, List, ◌∷◌, map, option_map}
 use Rattle.std.specs.List.{AllZip}
 use Rattle.attributes.specs.Limits.{LimitsValue}

@@ -1,4 +1,4 @@
--- What the parts of a configuration stand for.
+-- What the parts of a configuration stand for (this project's own).
 use Rattle.std.specs.Prelude.{ℕ, List, map}
 use Rattle.std.specs.String.{string_bytes}
 use Rattle.std.specs.declared.string.String.{String}

@@ -1,10 +1,20 @@
 //! Comprehensions. `fold(x, range, acc, init, condition, step, result)` is one as it stands.
+//!
+//! The bound and the steps of every row are counted by hand from the machine's charges, as those of operators,
+//! lists and maps are. A comprehension's own charges are 1 and the number of elements at its start, 1 where the
+//! first value is stored, and 1 where no element is left: 3 and that number. A turn's own are its next element,
+//! the test of its condition, the store and the jump back: 4. A condition that ends the loop (`ending`) is
+//! charged with its test; its element was looked for in the place of the one that would be missing. The condition
+//! of `all` is charged 2, that of `exists` 3. Where what is gathered grows, a later turn is charged for the joining
+//! of what is there by then. Of the headers a bound takes 64, with names of 128 bytes and values of 4,096.
 
 use crate::tests::Row;
 use cel_value::CelError;
 
 /// Macros: all, exists, exists_one, map and filter.
 pub(super) const LOOPS: [Row; 27] = [
+    // turn: condition 2, step 1 + 1 + (1 + 1 + 3) + 1, own 4 = 14; bound: range 3 + 4, own 3 + 3, init 1,
+    // turns 3 * 14, result 1 = 57; steps: the same
     (
         "[1, 2, 3].all(x, x > 0)",
         Ok(true),
@@ -17,6 +27,8 @@ pub(super) const LOOPS: [Row; 27] = [
           ult__\x1a\x1a\x10\x0c2\x16\x12\x03_>_\x1a\x07\x10\x0b\x22\x03\x0a\x01x\x1a\x06\x10\x0d\
           \x1a\x02\x18\x00:\x10\x10\x0e\x22\x0c\x0a\x0a__result__",
     ),
+    // turn: condition 2, step 1 + 1 + (1 + 1 + 3) + 1, own 4 = 14; bound: range 2 + 3, own 3 + 2, init 1,
+    // turns 2 * 14, result 1 = 40; steps: the same, since no element is left to pass over
     (
         "[2, 1].all(x, x > 1)",
         Ok(false),
@@ -29,6 +41,8 @@ pub(super) const LOOPS: [Row; 27] = [
           \x03_>_\x1a\x07\x10\x0a\x22\x03\x0a\x01x\x1a\x06\x10\x0c\x1a\x02\x18\x01:\x10\x10\x0d\
           \x22\x0c\x0a\x0a__result__",
     ),
+    // turn: condition 3, step 1 + 1 + (1 + 1 + 3) + 1, own 4 = 15; bound: range 2 + 3, own 3 + 2, init 1,
+    // turns 2 * 15, result 1 = 42; steps: the same
     (
         "[1, 2].exists(x, x == 3)",
         Ok(false),
@@ -41,6 +55,9 @@ pub(super) const LOOPS: [Row; 27] = [
           ult__\x1a\x1b\x10\x0c2\x17\x12\x04_==_\x1a\x07\x10\x0b\x22\x03\x0a\x01x\x1a\x06\x10\x0d\
           \x1a\x02\x18\x03:\x10\x10\x0e\x22\x0c\x0a\x0a__result__",
     ),
+    // turn: condition 3, step 1 + 1 + (1 + 1 + 3) + 1, own 4 = 15; bound: range 2 + 3, own 3 + 2, init 1,
+    // turns 2 * 15, result 1 = 42; steps: range 2 + 3, own 3 + 2, init 1, turn 15, ending 3 + 1,
+    // result 1 = 31
     (
         "[1, 2].exists(x, x == 1)",
         Ok(true),
@@ -53,6 +70,7 @@ pub(super) const LOOPS: [Row; 27] = [
           ult__\x1a\x1b\x10\x0c2\x17\x12\x04_==_\x1a\x07\x10\x0b\x22\x03\x0a\x01x\x1a\x06\x10\x0d\
           \x1a\x02\x18\x01:\x10\x10\x0e\x22\x0c\x0a\x0a__result__",
     ),
+    // bound: range 1, own 3 + 0, init 1, result 1 = 6; steps: the same
     (
         "[].exists(x, x == \"a\")",
         Ok(false),
@@ -65,6 +83,9 @@ pub(super) const LOOPS: [Row; 27] = [
           2\x18\x12\x04_==_\x1a\x07\x10\x09\x22\x03\x0a\x01x\x1a\x07\x10\x0b\x1a\x032\x01a:\x10\
           \x10\x0c\x22\x0c\x0a\x0a__result__",
     ),
+    // turn: condition 3, step 1 + 1 + (3 + 1 + 3) + 1, own 4 = 17; bound: range 2 + 3, own 3 + 2, init 1,
+    // turns 2 * 17, result 1 = 46; failing turn: condition 3, step 1 + 1 + (3 + 1 + 1) + 1, own 4 = 15;
+    // steps: range 2 + 3, own 3 + 2, init 1, turns 15 + 17, result 1 = 44
     (
         "[0, 2].exists(x, 1 / x == 1)",
         Err(CelError::ZeroDivisor),
@@ -78,6 +99,9 @@ pub(super) const LOOPS: [Row; 27] = [
           \x02\x18\x01\x1a\x07\x10\x0d\x22\x03\x0a\x01x\x1a\x06\x10\x0f\x1a\x02\x18\x01:\x10\x10\
           \x10\x22\x0c\x0a\x0a__result__",
     ),
+    // turn: condition 1, step (1 + 1 + 3) + 1 + 3 + 1, own 4 = 15; bound: range 2 + 3, own 3 + 2, init 1,
+    // turns 2 * 15, result 1 + 1 + 3 = 46; turn that does not count: condition 1, step (1 + 1 + 3) + 1 + 1,
+    // own 4 = 12; steps: range 2 + 3, own 3 + 2, init 1, turns 12 + 15, result 1 + 1 + 3 = 43
     (
         "[2, 1].exists_one(x, x == 1)",
         Ok(true),
@@ -91,6 +115,8 @@ pub(super) const LOOPS: [Row; 27] = [
           \x10\x10\x0e\x22\x0c\x0a\x0a__result__:$\x10\x102 \x12\x04_==_\x1a\x10\x10\x0f\x22\x0c\
           \x0a\x0a__result__\x1a\x06\x10\x11\x1a\x02\x18\x01",
     ),
+    // turns as before; bound: range 3 + 4, own 3 + 3, init 1, turns 3 * 15, result 1 + 1 + 3 = 64;
+    // steps: range 3 + 4, own 3 + 3, init 1, turns 15 + 12 + 15, result 1 + 1 + 3 = 61
     (
         "[1, 2, 1].exists_one(x, x == 1)",
         Ok(false),
@@ -104,6 +130,9 @@ pub(super) const LOOPS: [Row; 27] = [
           \x06\x10\x0e\x1a\x02\x18\x01\x1a\x10\x10\x0f\x22\x0c\x0a\x0a__result__:$\x10\x112 \x12\
           \x04_==_\x1a\x10\x10\x10\x22\x0c\x0a\x0a__result__\x1a\x06\x10\x12\x1a\x02\x18\x01",
     ),
+    // turn: condition 1, step (3 + 1 + 3) + 1 + 3 + 1, own 4 = 17; bound: range 2 + 3, own 3 + 2, init 1,
+    // turns 2 * 17, result 1 + 1 + 3 = 50; failing turn: condition 1, step (3 + 1 + 1) + 1, own 4 = 11;
+    // steps: range 2 + 3, own 3 + 2, init 1, turns 17 + 11, result with an error 1 + 1 + 1 = 42
     (
         "[1, 0].exists_one(x, 1 / x == 1)",
         Err(CelError::ZeroDivisor),
@@ -118,6 +147,8 @@ pub(super) const LOOPS: [Row; 27] = [
           \x0a__result__:$\x10\x122 \x12\x04_==_\x1a\x10\x10\x11\x22\x0c\x0a\x0a__result__\x1a\
           \x06\x10\x13\x1a\x02\x18\x01",
     ),
+    // first turn: condition 1, step 1 + (3 + 2) + (1 + 0 + 1), own 4 = 13; bound: range 2 + 3, own 3 + 2,
+    // init 1, turns 13 + 14, result 1, right 2 + 3, `==` 1 + (3 + 3) = 51; steps: the same
     (
         "[1, 2].map(x, x * 2) == [2, 4]",
         Ok(true),
@@ -131,6 +162,10 @@ pub(super) const LOOPS: [Row; 27] = [
           \x06\x10\x0c\x1a\x02\x18\x02:\x10\x10\x0d\x22\x0c\x0a\x0a__result__\x1a\x14\x10\x0f:\
           \x10\x0a\x06\x10\x10\x1a\x02\x18\x02\x0a\x06\x10\x11\x1a\x02\x18\x04",
     ),
+    // bound: range 2 + 3, own 3 + 2, init 1, turns 13 + 14 as before, result 1, right 1 + 2,
+    // `==` 1 + (3 + 2) = 48; failing turn: condition 1, step 1 + (3 + 1) + 1, own 4 = 11;
+    // turn after it: condition 1, step 1 + (3 + 2) + 1, own 4 = 12; steps: range 2 + 3, own 3 + 2, init 1,
+    // turns 11 + 12, result 1, right 1 + 2, `==` of an error 1 = 39
     (
         "[0, 1].map(x, 1 / x) == [1]",
         Err(CelError::ZeroDivisor),
@@ -144,6 +179,10 @@ pub(super) const LOOPS: [Row; 27] = [
           \x07\x10\x0c\x22\x03\x0a\x01x:\x10\x10\x0d\x22\x0c\x0a\x0a__result__\x1a\x0c\x10\x0f:\
           \x08\x0a\x06\x10\x10\x1a\x02\x18\x01",
     ),
+    // first turn: condition 1, step (1 + 1 + 3) + 1 + (1 + (1 + 2) + (1 + 0 + 1)) + 1, own 4 = 18;
+    // bound: range 3 + 4, own 3 + 3, init 1, turns 18 + 19 + 20, result 1, right 2 + 3,
+    // `==` 1 + (4 + 3) = 85; turn that leaves out: condition 1, step (1 + 1 + 3) + 1 + 1, own 4 = 12;
+    // steps: range 3 + 4, own 3 + 3, init 1, turns 18 + 12 + 19, result 1, right 2 + 3, `==` 1 + (3 + 3) = 76
     (
         "[3, 1, 2].filter(x, x > 1) == [3, 2]",
         Ok(true),
@@ -159,6 +198,10 @@ pub(super) const LOOPS: [Row; 27] = [
           \x10\x11\x22\x0c\x0a\x0a__result__\x1a\x14\x10\x13:\x10\x0a\x06\x10\x14\x1a\x02\x18\x03\
           \x0a\x06\x10\x15\x1a\x02\x18\x02",
     ),
+    // first turn: condition 1, step (1 + 1 + 3) + 1 + (1 + (3 + 2) + (1 + 0 + 1)) + 1, own 4 = 20;
+    // bound: range 3 + 4, own 3 + 3, init 1, turns 20 + 21 + 22, result 1, right 2 + 3,
+    // `==` 1 + (4 + 3) = 91; steps: range 3 + 4, own 3 + 3, init 1, turns 12 + 20 + 21, result 1,
+    // right 2 + 3, `==` 1 + (3 + 3) = 80
     (
         "[1, 2, 3].map(x, x > 1, x * x) == [4, 9]",
         Ok(true),
@@ -175,6 +218,10 @@ pub(super) const LOOPS: [Row; 27] = [
           esult__\x1a\x14\x10\x15:\x10\x0a\x06\x10\x16\x1a\x02\x18\x04\x0a\x06\x10\x17\x1a\x02\
           \x18\x09",
     ),
+    // turn: condition 2, step 1 + 1 + (1 + (1 + 2) + 1 + 3) + 1, own 4 = 17;
+    // bound: range 4 + (1 + 2 * (2 + 3)), own 3 + 2, init 1, turns 2 * 17, result 1 = 56;
+    // steps: range 4 + (1 + 2 * (2 + 3)), own 3 + 2, init 1, turns, the first with the shorter key, 16 + 17,
+    // result 1 = 55
     (
         "{\"a\": 1, \"bc\": 2}.all(k, size(k) == 1)",
         Ok(false),
@@ -188,6 +235,9 @@ pub(super) const LOOPS: [Row; 27] = [
           _==_\x1a\x13\x10\x0e2\x0f\x12\x04size\x1a\x07\x10\x0f\x22\x03\x0a\x01k\x1a\x06\x10\x11\
           \x1a\x02\x18\x01:\x10\x10\x12\x22\x0c\x0a\x0a__result__",
     ),
+    // first turn: condition 1, step 1 + (1 + 2) + (1 + 0 + 1), own 4 = 11;
+    // bound: range 4 + (1 + 2 * (1 + 1)), own 3 + 2, init 1, turns 11 + 12, result 1, right 2 + 3,
+    // `==` 1 + (3 + 3) = 51; steps: the same
     (
         "{2: \"x\", 1: \"y\"}.map(k, k) == [1, 2]",
         Ok(true),
@@ -202,6 +252,11 @@ pub(super) const LOOPS: [Row; 27] = [
           sult__\x1a\x14\x10\x11:\x10\x0a\x06\x10\x12\x1a\x02\x18\x01\x0a\x06\x10\x13\x1a\x02\x18\
           \x02",
     ),
+    // inner turn as in the first row; inner loop: range 1, own 3 + 2, init 1, turns 2 * 14, result 1 = 36;
+    // turn: condition 2, step 1 + 1 + 36 + 1, own 4 = 45; bound: range (2 + 3) + (1 + 2) + 3, own 3 + 2,
+    // init 1, turns 2 * 45, result 1 = 108; second inner loop: range 1, own 3 + 1, init 1, turn 14,
+    // result 1 = 21; steps: range (2 + 3) + (1 + 2) + 3, own 3 + 2, init 1,
+    // turns 45 + (2 + (1 + 1 + 21 + 1) + 4), result 1 = 93
     (
         "[[1, 2], [3]].all(l, l.all(x, x > 0))",
         Ok(true),
@@ -218,6 +273,11 @@ pub(super) const LOOPS: [Row; 27] = [
           \x16\x12\x03_>_\x1a\x07\x10\x14\x22\x03\x0a\x01x\x1a\x06\x10\x16\x1a\x02\x18\x00:\x10\
           \x10\x17\x22\x0c\x0a\x0a__result__:\x10\x10\x18\x22\x0c\x0a\x0a__result__",
     ),
+    // inner turn: condition 3, step 1 + 1 + (1 + 1 + 3) + 1, own 4 = 15; inner loop: range 2 + 3, own 3 + 2,
+    // init 1, turns 2 * 15, result 1 = 42; bound: range 2 + 3, own 3 + 2, init 1,
+    // turns 2 * (3 + (1 + 1 + 42 + 1) + 4), result 1 = 116; second inner loop: range 2 + 3, own 3 + 2,
+    // init 1, turn 15, ending 3 + 1, result 1 = 31; steps: range 2 + 3, own 3 + 2, init 1,
+    // turns 52 + (3 + (1 + 1 + 31 + 1) + 4), result 1 = 105
     (
         "[1, 2].exists(x, [2, 3].exists(y, x == y))",
         Ok(true),
@@ -235,6 +295,11 @@ pub(super) const LOOPS: [Row; 27] = [
           \x03\x0a\x01x\x1a\x07\x10\x17\x22\x03\x0a\x01y:\x10\x10\x18\x22\x0c\x0a\x0a__result__:\
           \x10\x10\x19\x22\x0c\x0a\x0a__result__",
     ),
+    // inner turn: condition 2, step 1 + 1 + (3 + 1 + 3) + 1, own 4 = 16; inner loop: range 1, own 3 + 1,
+    // init 1, turn 16, result 1 = 23; bound: range (1 + 2) + (1 + 2) + 3, own 3 + 2, init 1,
+    // turns 2 * (3 + (1 + 1 + 23 + 1) + 4), result 1 = 82; inner loop that fails: range 1, own 3 + 1, init 1,
+    // turn 2 + (1 + 1 + (3 + 1 + 1) + 1) + 4, result 1 = 21; steps: range (1 + 2) + (1 + 2) + 3, own 3 + 2,
+    // init 1, turns (3 + (1 + 1 + 21 + 1) + 4) + 33, result 1 = 80
     (
         "[[0], [1]].exists(l, l.all(x, 1 / x == 1))",
         Ok(true),
@@ -252,6 +317,9 @@ pub(super) const LOOPS: [Row; 27] = [
           \x16\x22\x03\x0a\x01x\x1a\x06\x10\x18\x1a\x02\x18\x01:\x10\x10\x19\x22\x0c\x0a\x0a__res\
           ult__:\x10\x10\x1a\x22\x0c\x0a\x0a__result__",
     ),
+    // inner loop: range 1 + 2, own 3 + 1, init 1, turn 13 as of `map` above, result 1 = 22;
+    // first turn: condition 1, step 1 + (22 + 2) + (1 + 0 + 1), own 4 = 32; bound: range 2 + 3, own 3 + 2,
+    // init 1, turns 32 + 33, result 1, right (1 + 2) + (1 + 2) + 3, `==` 1 + (5 + 5) = 97; steps: the same
     (
         "[1, 2].map(x, [3].map(y, x + y)) == [[4], [5]]",
         Ok(true),
@@ -270,6 +338,10 @@ pub(super) const LOOPS: [Row; 27] = [
           \x20\x10\x18:\x1c\x0a\x0c\x10\x19:\x08\x0a\x06\x10\x1a\x1a\x02\x18\x04\x0a\x0c\x10\x1b:\
           \x08\x0a\x06\x10\x1c\x1a\x02\x18\x05",
     ),
+    // innermost loop: range 1, own 3 + 1, init 1, turn 14 as in the first row, result 1 = 21;
+    // middle loop: range 1, own 3 + 1, init 1, turn 2 + (1 + 1 + 21 + 1) + 4, result 1 = 37;
+    // bound: range 1 + 2 + 2 + 2, own 3 + 1, init 1, turn 2 + (1 + 1 + 37 + 1) + 4, result 1 = 59;
+    // steps: the same
     (
         "[[[1]]].all(a, a.all(b, b.all(c, c == 1)))",
         Ok(true),
@@ -289,6 +361,8 @@ pub(super) const LOOPS: [Row; 27] = [
           \x22\x03\x0a\x01c\x1a\x06\x10\x1b\x1a\x02\x18\x01:\x10\x10\x1c\x22\x0c\x0a\x0a__result_\
           _:\x10\x10\x1d\x22\x0c\x0a\x0a__result__:\x10\x10\x1e\x22\x0c\x0a\x0a__result__",
     ),
+    // inner loop: range 1 + 2, own 3 + 1, init 1, turn 14 as in the first row, result 1 = 23;
+    // bound: range 1 + 2, own 3 + 1, init 1, turn 2 + (1 + 1 + 23 + 1) + 4, result 1 = 41; steps: the same
     (
         "[1].all(x, [2].all(x, x == 2))",
         Ok(true),
@@ -304,6 +378,8 @@ pub(super) const LOOPS: [Row; 27] = [
           \x122\x17\x12\x04_==_\x1a\x07\x10\x11\x22\x03\x0a\x01x\x1a\x06\x10\x13\x1a\x02\x18\x02:\
           \x10\x10\x14\x22\x0c\x0a\x0a__result__:\x10\x10\x15\x22\x0c\x0a\x0a__result__",
     ),
+    // range: list 2 + 3, own 3 + 2, init 1, turns 13 + 14 as of `map` above, result 1 = 39; bound: range 39,
+    // own 3 + 2, init 1, turns 2 * 14, result 1 = 74; steps: the same
     (
         "[1, 2].map(x, x + 1).all(y, y > 1)",
         Ok(true),
@@ -320,6 +396,8 @@ pub(super) const LOOPS: [Row; 27] = [
           _\x1a\x1a\x10\x152\x16\x12\x03_>_\x1a\x07\x10\x14\x22\x03\x0a\x01y\x1a\x06\x10\x16\x1a\
           \x02\x18\x01:\x10\x10\x17\x22\x0c\x0a\x0a__result__",
     ),
+    // bound: range (1 + 2) + (1 + 2) + (1 + 1 + 1), own 3 + 2, init 1, turns 2 * 14 as in the first row,
+    // result 1 = 44; steps: the same
     (
         "([1] + [2]).all(x, x > 0)",
         Ok(true),
@@ -332,6 +410,8 @@ pub(super) const LOOPS: [Row; 27] = [
           \x22\x0c\x0a\x0a__result__\x1a\x1a\x10\x0d2\x16\x12\x03_>_\x1a\x07\x10\x0c\x22\x03\x0a\
           \x01x\x1a\x06\x10\x0e\x1a\x02\x18\x00:\x10\x10\x0f\x22\x0c\x0a\x0a__result__",
     ),
+    // bound: range 1 + 1 + (3 + 4) + 1, own 3 + 3, init 1, turns 3 * 14 as in the first row, result 1 = 60;
+    // steps: range 1 + 1 + (1 + 2) + 1, own 3 + 1, init 1, turn 14, result 1 = 26
     (
         "(true ? [1] : [1, 2, 3]).all(x, x == 1)",
         Ok(true),
@@ -346,6 +426,8 @@ pub(super) const LOOPS: [Row; 27] = [
           \x22\x03\x0a\x01x\x1a\x06\x10\x11\x1a\x02\x18\x01:\x10\x10\x12\x22\x0c\x0a\x0a__result_\
           _",
     ),
+    // bound: range (1 + 1 + 1) + 2, own 3 + 1, init 1, turn 14 as in the first row, result 1 = 25;
+    // steps: range (1 + 1 + 1) + 1, start at an error 1 = 5
     (
         "[1 / 0].all(x, x == 1)",
         Err(CelError::ZeroDivisor),
@@ -358,6 +440,9 @@ pub(super) const LOOPS: [Row; 27] = [
           _result__\x1a\x1b\x10\x0c2\x17\x12\x04_==_\x1a\x07\x10\x0b\x22\x03\x0a\x01x\x1a\x06\x10\
           \x0d\x1a\x02\x18\x01:\x10\x10\x0e\x22\x0c\x0a\x0a__result__",
     ),
+    // turn: condition 3, step 1 + 1 + (1 + 1 + 1 + (129 + 6)) + 1, own 4 = 148; bound: range 1, own 3 + 64,
+    // init 1, turns 64 * 148, result 1 = 9542; steps: range 1, own 3 + 4, init 1,
+    // turns at names of masses 11, 8 and 6: 30 + 27 + 25, ending 3 + 1, result 1 = 96
     (
         "request.headers.exists(k, k == \":path\")",
         Ok(true),
@@ -370,6 +455,10 @@ pub(super) const LOOPS: [Row; 27] = [
           \x10\x0b2\x1c\x12\x04_==_\x1a\x07\x10\x0a\x22\x03\x0a\x01k\x1a\x0b\x10\x0c\x1a\x072\x05\
           :path:\x10\x10\x0d\x22\x0c\x0a\x0a__result__",
     ),
+    // test: look-up 1 + 1 + (1 + 129 * 64), constant 1, `!=` 1 + (4097 + 2) = 12360; bound: range 1,
+    // own 3 + 64, init 1, turns 64 * (2 + (1 + 1 + 12360 + 1) + 4), result 1 = 791686; steps: range 1,
+    // own 3 + 4, init 1, turns 4 * (2 + (1 + 1 + (1 + 1 + 1 + 1 + 1 + 2) + 1) + 4),
+    // names' masses 4 * (11 + 8 + 6 + 8), values' masses 2 + 4 + 2 + 5, result 1 = 219
     (
         "request.headers.all(k, request.headers[k] != \"x\")",
         Ok(true),
@@ -387,6 +476,8 @@ pub(super) const LOOPS: [Row; 27] = [
 
 /// Comprehensions that no macro gives.
 pub(super) const FOLDS: [Row; 20] = [
+    // first turn: condition 1, step 1 + 1 + (1 + 0 + 2), own 4 = 10; bound: range 3 + 4, own 3 + 3, init 1,
+    // turns 10 + 12 + 14, result 1, right 1, `==` 1 + (7 + 7) = 67; steps: the same
     (
         "fold(x, [1, 2, 3], acc, \"\", true, acc + \"ab\", acc) == \"ababab\"",
         Ok(true),
@@ -398,6 +489,9 @@ pub(super) const FOLDS: [Row; 20] = [
           \x12\x03_+_\x1a\x09\x10\x08\x22\x05\x0a\x03acc\x1a\x08\x10\x0a\x1a\x042\x02ab:\x09\x10\
           \x0b\x22\x05\x0a\x03acc\x1a\x0c\x10\x0d\x1a\x082\x06ababab",
     ),
+    // first turn: condition 1, step 1 + 1 + (1 + 1 + 1), own 4 = 10; the others join 2 + 2 and 4 + 4;
+    // bound: range 3 + 4, own 3 + 3, init 1, turns 10 + 12 + 16, result 1 + (1 + 8), right 1,
+    // `==` 1 + (1 + 1) = 66; steps: the same
     (
         "fold(x, [1, 2, 3], acc, \"a\", true, acc + acc, size(acc)) == 8",
         Ok(true),
@@ -410,6 +504,11 @@ pub(super) const FOLDS: [Row; 20] = [
           \x03acc:\x15\x10\x0b2\x11\x12\x04size\x1a\x09\x10\x0c\x22\x05\x0a\x03acc\x1a\x06\x10\
           \x0e\x1a\x02\x18\x08",
     ),
+    // first turn: condition 1, step 1 + 1 + (1 + 0 + 128), own 4 = 136; each other is charged 128 more;
+    // bound: range 1, own 3 + 64, init 1, turns 64 * 136 + 128 * (63 * 32), result 1 + (1 + 64 * 128),
+    // right 1, `==` 1 + (1 + 1) = 275019; steps: range 1, own 3 + 4, init 1,
+    // turns 4 * (1 + (1 + 1 + 1) + 4) + (10 + 17 + 22 + 29), result 1 + (1 + 29), right 1,
+    // `==` 1 + (1 + 1) = 154
     (
         "fold(k, request.headers, acc, \"\", true, acc + k, size(acc)) == 29",
         Ok(true),
@@ -421,6 +520,8 @@ pub(super) const FOLDS: [Row; 20] = [
           \x05\x0a\x03acc\x1a\x07\x10\x08\x22\x03\x0a\x01k:\x15\x10\x092\x11\x12\x04size\x1a\x09\
           \x10\x0a\x22\x05\x0a\x03acc\x1a\x06\x10\x0c\x1a\x02\x18\x1d",
     ),
+    // first turn: condition 1, step 1 + (1 + 2) + (1 + 1 + 1), own 4 = 12; bound: range 3 + 4, own 3 + 3,
+    // init 1 + 2, turns 12 + 13 + 14, result 1 + 1, right 1, `==` 1 + (1 + 1) = 61; steps: the same
     (
         "fold(x, [1, 2, 3], acc, [0], true, acc + [x], size(acc)) == 4",
         Ok(true),
@@ -433,6 +534,9 @@ pub(super) const FOLDS: [Row; 20] = [
           \x0d\x10\x0b:\x09\x0a\x07\x10\x0c\x22\x03\x0a\x01x:\x15\x10\x0d2\x11\x12\x04size\x1a\
           \x09\x10\x0e\x22\x05\x0a\x03acc\x1a\x06\x10\x10\x1a\x02\x18\x04",
     ),
+    // first turn: condition 1, step 1 + 1 + (1 + 1 + 1), own 4 = 10; the second joins 2 + 2;
+    // bound: range 2 + 3, own 3 + 2, init 1 + 2, turns 10 + 12, result 1, right 4 + 5, `==` 1 + (5 + 5) = 56;
+    // steps: the same
     (
         "fold(x, [1, 2], acc, [0], true, acc + acc, acc) == [0, 0, 0, 0]",
         Ok(true),
@@ -446,6 +550,9 @@ pub(super) const FOLDS: [Row; 20] = [
           \x10\x0f\x1a\x02\x18\x00\x0a\x06\x10\x10\x1a\x02\x18\x00\x0a\x06\x10\x11\x1a\x02\x18\
           \x00",
     ),
+    // first turn: condition 1, step 1 + (1 + 2) + (1 + 1 + 1), own 4 = 12; bound: range 2 + 3, own 3 + 2,
+    // init 1 + 2, turns 12 + 13, result 1, right 3 + 4, `==` of 3 texts, each of 3 bytes 1 + (13 + 13) = 73;
+    // steps: range 2 + 3, own 3 + 2, init 1 + 2, turns 12 + 13, result 1, right 3 + 4, `==` 1 + (8 + 8) = 63
     (
         "fold(x, [\"a\", \"bcd\"], acc, [\"\"], true, acc + [x], acc) == [\"\", \"a\", \"bcd\"]",
         Ok(true),
@@ -458,6 +565,9 @@ pub(super) const FOLDS: [Row; 20] = [
           \x0a\x01x:\x09\x10\x0c\x22\x05\x0a\x03acc\x1a \x10\x0e:\x1c\x0a\x06\x10\x0f\x1a\x022\
           \x00\x0a\x07\x10\x10\x1a\x032\x01a\x0a\x09\x10\x11\x1a\x052\x03bcd",
     ),
+    // first turn: condition 1, step 1 + (1 + (1 + 2 * 1) + 1 + (1 + 0 + 2)) + (1 + 1 * 2), own 4 = 17;
+    // bound: range 2 + 3, own 3 + 2, init 2 + (1 + 1 * 2), turns 17 + 19, result 1 + (1 + 2 * 1), right 1,
+    // `==` 1 + (5 + 5) = 67; steps: the same
     (
         "fold(x, [1, 2], acc, {\"k\": \"\"}, true, {\"k\": acc.k + \"ab\"}, acc.k) == \"abab\"",
         Ok(true),
@@ -471,6 +581,10 @@ pub(super) const FOLDS: [Row; 20] = [
           \x03acc\x12\x01k\x1a\x08\x10\x10\x1a\x042\x02ab:\x12\x10\x12*\x0e\x0a\x09\x10\x11\x22\
           \x05\x0a\x03acc\x12\x01k\x1a\x0a\x10\x14\x1a\x062\x04abab",
     ),
+    // turn: condition 1, step (1 + 1 + 3) + 1 + (4 + (1 + 2 * (2 + 2))) + 1, own 4 = 25; bound: range 2 + 3,
+    // own 3 + 2, init 2 + (1 + 1 * 2), turns 2 * 25, result 1 + 1, right 1, `==` 1 + (1 + 1) = 71;
+    // second turn: condition 1, step (1 + 1 + 3) + 1 + 1, own 4 = 12; steps: range 2 + 3, own 3 + 2,
+    // init 2 + (1 + 1 * 2), turns 25 + 12, result 1 + 1, right 1, `==` 1 + (1 + 1) = 58
     (
         "fold(x, [1, 2], acc, {\"a\": 1}, true, x == 1 ? {\"a\": 2, \"b\": 3} : acc, size(acc)) == 2",
         Ok(true),
@@ -486,6 +600,8 @@ pub(super) const FOLDS: [Row; 20] = [
           \x09\x10\x15\x22\x05\x0a\x03acc:\x15\x10\x162\x11\x12\x04size\x1a\x09\x10\x17\x22\x05\
           \x0a\x03acc\x1a\x06\x10\x19\x1a\x02\x18\x02",
     ),
+    // turn: condition 1, step 2 + (1 + 1 * 1), own 4 = 9; bound: range 2 + 3, own 3 + 2, init 1, turns 2 * 9,
+    // result 1, right 2 + (1 + 1 * 1), `==` 1 + (4 + 4) = 43; steps: the same
     (
         "fold(x, [1, 2], acc, {}, true, {x: \"a\"}, acc) == {2: \"a\"}",
         Ok(true),
@@ -498,6 +614,10 @@ pub(super) const FOLDS: [Row; 20] = [
           \x032\x01a:\x09\x10\x0b\x22\x05\x0a\x03acc\x1a\x19\x10\x0dB\x15\x12\x13\x08\x0f\x1a\x06\
           \x10\x0e\x1a\x02\x18\x02\x22\x07\x10\x10\x1a\x032\x01a",
     ),
+    // turn: condition 1, step (3 + 1 + 3) + 1 + 3 + 1, own 4 = 17; bound: range 3 + 4, own 3 + 3, init 1,
+    // turns 3 * 17, result 1, right 1, `==` 1 + (1 + 1) = 70; turn at an even number: condition 1,
+    // step (3 + 1 + 3) + 1 + 1, own 4 = 14; steps: range 3 + 4, own 3 + 3, init 1, turns 17 + 14 + 17,
+    // result 1, right 1, `==` 1 + (1 + 1) = 67
     (
         "fold(x, [1, 2, 3], acc, 0, true, x % 2 == 1 ? acc + x : acc, acc) == 4",
         Ok(true),
@@ -512,6 +632,9 @@ pub(super) const FOLDS: [Row; 20] = [
           \x03acc\x1a\x07\x10\x10\x22\x03\x0a\x01x\x1a\x09\x10\x11\x22\x05\x0a\x03acc:\x09\x10\
           \x12\x22\x05\x0a\x03acc\x1a\x06\x10\x14\x1a\x02\x18\x04",
     ),
+    // bound: range 3 + 4, own 3 + 3, init 1, turns 3 * 17 as before, result 1, right 1,
+    // `==` 1 + (1 + 1) = 70; failing turn: condition 1, step (3 + 1 + 1) + 1, own 4 = 11; steps: range 3 + 4,
+    // own 3 + 3, init 1, turns 17 + 11 + 14, result 1, right 1, `==` of an error 1 = 59
     (
         "fold(x, [1, 0, 2], acc, 0, true, 1 / x > 0 ? acc + 1 : acc, acc) == 1",
         Err(CelError::ZeroDivisor),
@@ -526,6 +649,10 @@ pub(super) const FOLDS: [Row; 20] = [
           \x03acc\x1a\x06\x10\x10\x1a\x02\x18\x01\x1a\x09\x10\x11\x22\x05\x0a\x03acc:\x09\x10\x12\
           \x22\x05\x0a\x03acc\x1a\x06\x10\x14\x1a\x02\x18\x01",
     ),
+    // first turn: condition 1, step (1 + 1 + 3) + 1 + (1 + 1 + (1 + 0 + 2)) + 1, own 4 = 17;
+    // bound: range 2 + 3, own 3 + 2, init 1, turns 17 + 19, result 1, right 1, `==` 1 + (5 + 4) = 59;
+    // second turn: condition 1, step (1 + 1 + 3) + 1 + (1 + 1 + (1 + 2 + 1)), own 4 = 17; steps: range 2 + 3,
+    // own 3 + 2, init 1, turns 17 + 17, result 1, right 1, `==` 1 + (4 + 4) = 56
     (
         "fold(x, [1, 2], acc, \"\", true, x == 1 ? acc + \"ab\" : acc + \"c\", acc) == \"abc\"",
         Ok(true),
@@ -540,6 +667,9 @@ pub(super) const FOLDS: [Row; 20] = [
           acc\x1a\x07\x10\x10\x1a\x032\x01c:\x09\x10\x11\x22\x05\x0a\x03acc\x1a\x09\x10\x13\x1a\
           \x052\x03abc",
     ),
+    // turn: condition 1 + 1 + 3, step 3, own 4 = 12; bound: range 3 + 4, own 3 + 3, init 1, turns 3 * 12,
+    // result 1, right 1, `==` 1 + (1 + 1) = 55; steps: range 3 + 4, own 3 + 3, init 1, turns 2 * 12,
+    // ending 5 + 1, result 1, right 1, `==` 1 + (1 + 1) = 49
     (
         "fold(x, [1, 2, 3], acc, 0, x < 3, acc + x, acc) == 3",
         Ok(true),
@@ -552,6 +682,9 @@ pub(super) const FOLDS: [Row; 20] = [
           \x03_+_\x1a\x09\x10\x0a\x22\x05\x0a\x03acc\x1a\x07\x10\x0c\x22\x03\x0a\x01x:\x09\x10\
           \x0d\x22\x05\x0a\x03acc\x1a\x06\x10\x0f\x1a\x02\x18\x03",
     ),
+    // turn: condition 3 + 1 + 3, step 3, own 4 = 14; bound: range 2 + 3, own 3 + 2, init 1, turns 2 * 14,
+    // result 1, right 1, `==` 1 + (1 + 1) = 44; steps: range 2 + 3, own 3 + 2, init 1, turn 14,
+    // ending with an error (3 + 1 + 1) + 1, no result, right 1, `==` of an error 1 = 33
     (
         "fold(x, [1, 0], acc, 0, 1 / x == 1, acc + x, acc) == 1",
         Err(CelError::ZeroDivisor),
@@ -565,6 +698,8 @@ pub(super) const FOLDS: [Row; 20] = [
           \x10\x0d\x22\x03\x0a\x01x:\x09\x10\x0e\x22\x05\x0a\x03acc\x1a\x06\x10\x10\x1a\x02\x18\
           \x01",
     ),
+    // turn: condition 1, step 1, own 4 = 6; bound: range 2 + 3, own 3 + 2, init 1 + 1 + 1, turns 2 * 6,
+    // result 1, right 1, `==` 1 + (1 + 1) = 30; steps: the same
     (
         "fold(x, [1, 2], acc, 1 / 0, true, x, acc) == 2",
         Ok(true),
@@ -576,6 +711,9 @@ pub(super) const FOLDS: [Row; 20] = [
           \x08\x1a\x02\x10\x012\x07\x10\x09\x22\x03\x0a\x01x:\x09\x10\x0a\x22\x05\x0a\x03acc\x1a\
           \x06\x10\x0c\x1a\x02\x18\x02",
     ),
+    // bound: range 1 + 2, own 3 + 1, init 1 + 1 + 1, turn 6 as before, result 1, right 1,
+    // `==` 1 + (1 + 1) = 21; steps: range 1 + 2, own 3 + 1, init 1 + 1 + 1, ending 1 + 1, result 1, right 1,
+    // `==` of an error 1 = 15
     (
         "fold(x, [1], acc, 1 / 0, false, x, acc) == 1",
         Err(CelError::ZeroDivisor),
@@ -586,6 +724,7 @@ pub(super) const FOLDS: [Row; 20] = [
           \x18\x01\x1a\x06\x10\x06\x1a\x02\x18\x00*\x06\x10\x07\x1a\x02\x10\x002\x07\x10\x08\x22\
           \x03\x0a\x01x:\x09\x10\x09\x22\x05\x0a\x03acc\x1a\x06\x10\x0b\x1a\x02\x18\x01",
     ),
+    // bound: range 1 + 2, own 3 + 1, init 1 + 1 + 1, turn 6 as before, result 1 = 17; steps: the same
     (
         "fold(x, [1], acc, 1 / 0, true, acc, true)",
         Ok(true),
@@ -596,6 +735,9 @@ pub(super) const FOLDS: [Row; 20] = [
           \x02\x18\x00*\x06\x10\x07\x1a\x02\x10\x012\x09\x10\x08\x22\x05\x0a\x03acc:\x06\x10\x09\
           \x1a\x02\x10\x01",
     ),
+    // inner turn: condition 1, step 3, own 4 = 8; inner loop: range 2 + 3, own 3 + 2, init 1, turns 2 * 8,
+    // result 1 = 28; bound: range 1 + 2, own 3 + 1, init 1, turn 1 + 28 + 4, result 1, right 1,
+    // `==` 1 + (1 + 1) = 46; steps: the same
     (
         "fold(x, [1], acc, 0, true, fold(y, [x, 5], other, acc, true, other + y, other), acc) == 6",
         Ok(true),
@@ -609,6 +751,9 @@ pub(super) const FOLDS: [Row; 20] = [
           \x0c\x22\x07\x0a\x05other\x1a\x07\x10\x0e\x22\x03\x0a\x01y:\x0b\x10\x0f\x22\x07\x0a\x05\
           other:\x09\x10\x10\x22\x05\x0a\x03acc\x1a\x06\x10\x12\x1a\x02\x18\x06",
     ),
+    // turn: condition 1, step 3, own 4 = 8; bound: range (1 + 2) + 2 + 1 + 1, own 3 + 1, init 1, turn 8,
+    // result 1, right 1, `==` 1 + (1 + 1) = 25; steps: range (1 + 2) + 2 + 1 + 1, start at an error 1,
+    // right 1, `==` of an error 1 = 10
     (
         "fold(x, [[1]][1], acc, 0, true, acc + x, acc) == 1",
         Err(CelError::Index),
@@ -620,6 +765,11 @@ pub(super) const FOLDS: [Row; 20] = [
           \x10\x012\x1d\x10\x0a2\x19\x12\x03_+_\x1a\x09\x10\x09\x22\x05\x0a\x03acc\x1a\x07\x10\
           \x0b\x22\x03\x0a\x01x:\x09\x10\x0c\x22\x05\x0a\x03acc\x1a\x06\x10\x0e\x1a\x02\x18\x01",
     ),
+    // inner turn with no text yet: condition 1, step 1 + 1 + (1 + 0 + 1), own 4 = 9;
+    // inner loops: range 2 + 3, own 3 + 2, init 1, turns 9 + 10, result 1 = 31; with two bytes: range 2 + 3,
+    // own 3 + 2, init 1, turns 11 + 12, result 1 = 35; bound: range 2 + 3, own 3 + 2, init 1,
+    // turns (1 + (1 + 31 + (1 + 0 + 2)) + 4) + (1 + (1 + 35 + (1 + 2 + 4)) + 4), result 1, right 1,
+    // `==` 1 + (7 + 7) = 116; steps: the same
     (
         "fold(x, [1, 2], a, \"\", true, a + fold(y, [\"p\", \"q\"], b, a, true, b + y, b), a) == \"pqpqpq\"",
         Ok(true),

@@ -23,6 +23,13 @@ abbrev pub Inside : ℕ → ℤ → Node → CelTree → ℕ → ℕ → Type 0
 Inside depth id node t rest left = (ts : CelTrees) × AreTrees (IsTree depth) (children node) ts
     × Makes id node ts t × (rest + trees_count ts ≡ left)
 
+-- two messages are trees
+pub record AreTwoTrees (depth : ℕ) (a b : Parts) (t u : CelTree) (rest : ℕ) (left : ℕ)
+    : Type 0 where
+  pub first : IsTree depth a t
+  pub second : IsTree depth b u
+  pub count : rest + (node_count t + node_count u) ≡ left
+
 -- the target of a call is this tree, or is not there
 abbrev pub IsTarget : ℕ → Parts → Option CelTree → Type 0
 IsTarget depth [] None = Unit {0}
@@ -59,3 +66,15 @@ pub record AreLoopTrees (depth : ℕ) (node : LoopNode) (parts : LoopParts) (res
   pub count : rest + (node_count parts.iter_range + (node_count parts.accu_init
       + (node_count parts.loop_condition + (node_count parts.loop_step
       + node_count parts.result)))) ≡ left
+
+-- the condition, the step and the result of a comprehension
+abbrev pub loop_body : LoopNode → List Parts
+loop_body node = node.loop_condition ∷ node.loop_step ∷ node.result ∷ []
+
+-- they are these trees
+pub record IsLoopBody (depth : ℕ) (node : LoopNode) (t u v : CelTree) (rest : ℕ) (left : ℕ)
+    : Type 0 where
+  pub condition : IsTree depth node.loop_condition t
+  pub step : IsTree depth node.loop_step u
+  pub result : IsTree depth node.result v
+  pub count : rest + (node_count t + (node_count u + node_count v)) ≡ left

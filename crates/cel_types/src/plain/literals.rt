@@ -2,7 +2,7 @@
 
 ghost use Rattle.std.specs.Prelude.{◌≡◌, IfOk, is_some, map, option_map};
 ghost use Rattle.cel_ops.specs.Collections.{list_literal, map_literal};
-ghost use Rattle.cel_ops.specs.Gathering.{some_error};
+ghost use Rattle.cel_ops.specs.steps.Gathering.{some_error};
 ghost use Rattle.cel_value.specs.View.{answer_view};
 ghost use Rattle.cel_types.specs.steps.Plain.{are_pairs, is_key};
 

@@ -5,7 +5,7 @@ ghost use Rattle.cel_value.specs.Masses.{left_of};
 ghost use Rattle.cel_value.specs.View.{answer_view};
 ghost use Rattle.cel_ops.specs.Charges.{loop_charge};
 ghost use Rattle.stack_machine.specs.Charges.{charge_on, of_one};
-ghost use Rattle.stack_machine.specs.Groups.{binary_instr, unary_instr};
+ghost use Rattle.stack_machine.specs.steps.Groups.{binary_instr, unary_instr};
 ghost use Rattle.stack_machine.specs.Instructions.{MakeList, MakeMap, instr_view};
 
 use crate::instr::Instr;

@@ -2,7 +2,7 @@ use Rattle.std.proofs.Common.{◌≡◌, ◌+◌, ◌*◌, ◌/◌, ◌<◌, Som
 use Rattle.cel_value.specs.Masses.{left_of}
 use Rattle.cel_value.specs.View.{answer_view}
 use Rattle.cel_value.proofs.Spending.{left_none, left_twice, left_zero}
-use Rattle.cel_ops.specs.Gathering.{answer_mass, firsts_mass}
+use Rattle.cel_ops.specs.steps.Gathering.{answer_mass, firsts_mass}
 use Rattle.cel_ops.proofs.Operands.{next_first_times, no_first}
 use Rattle.cel_ops.proofs.charges.spend_firsts.Goals as goal
 

@@ -3,7 +3,7 @@ use Rattle.std.proofs.lemmas.List.{length-map}
 use Rattle.cel_value.specs.Masses.{left_of}
 use Rattle.cel_value.specs.View.{answer_view}
 use Rattle.cel_value.proofs.Spending.{left_checked, more_spent}
-use Rattle.cel_ops.specs.Gathering.{firsts_mass}
+use Rattle.cel_ops.specs.steps.Gathering.{firsts_mass}
 use Rattle.cel_ops.proofs.Operands.{map_error, map_values}
 use Rattle.cel_ops.proofs.charges.spend_map_literal.Goals as goal
 

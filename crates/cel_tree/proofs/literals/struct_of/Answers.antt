@@ -1,18 +1,16 @@
-use Rattle.std.proofs.Common.{◌≡◌, ℕ, List, map, inr, ap, ◌∙◌}
+use Rattle.std.proofs.Common.{ℕ, List, map, inr}
 use Rattle.std.specs.Prelude.{Contains}
 use Rattle.proto_wire.specs.Fields.{Wire, field_view}
-use Rattle.proto_wire.specs.Merge.{parts_view}
 use Rattle.proto_wire.specs.Values.{payloads}
 use Rattle.cel_tree.specs.Nodes.{EntryFault, struct_field, StructWrong, in_entry}
 use Rattle.cel_tree.specs.Reading.{ValuesFault, LacksNothing}
 use Rattle.cel_tree.proofs.Readers.{exit_memory_or}
 use Rattle.cel_tree.proofs.literals.struct_of.Goals as goal
 
-pub returns-in_err-entries-clause-fault : goal.returns-in_err-entries-clause-fault
-returns-in_err-entries-clause-fault c =
+pub returns-in_err-entries_of-clause-fault : goal.returns-in_err-entries_of-clause-fault
+returns-in_err-entries_of-clause-fault c =
     let fs : List Wire = map field_view c.args.fields.now in
-    let parts : parts_view c.deref.result.now ≡ payloads struct_field.entries fs = ap parts_view c.deref.ensures ∙ c.in_ok-payloads.ensures in
     exit_memory_or (λ e. (p : List ℕ) × Contains (payloads struct_field.entries fs) p × EntryFault p e)
     (ValuesFault LacksNothing StructWrong fs)
-    c.from_residual-in_err-entries.result _ c.from_residual-in_err-entries.ensures.1
-    (rw parts at c.in_err-entries.ensures.fault) (λ e bad. inr (in_entry bad.0 bad.1 bad.2))
+    c.from_residual-in_err-entries_of.result _ c.from_residual-in_err-entries_of.ensures.1
+    c.in_err-entries_of.ensures.fault (λ e bad. inr (in_entry bad.0 bad.1 bad.2))

@@ -1,12 +1,9 @@
 use Rattle.std.proofs.Common.{List, map, inl, inr}
 use Rattle.proto_wire.specs.Fields.{Wire, field_view}
-use Rattle.proto_wire.specs.Maps.{int64, MapFault}
 use Rattle.proto_wire.specs.Values.{payloads}
 use Rattle.proto_wire.specs.declared.refusal.Refusal.{Refusal}
-use Rattle.cel_tree.specs.Message.{tree_depth, most_nodes, checked_field, CheckedLacks, CheckedWrong, in_tree, in_nodes, in_types, in_refs}
+use Rattle.cel_tree.specs.Message.{tree_depth, most_nodes, checked_field, CheckedLacks, CheckedWrong, in_tree, in_nodes}
 use Rattle.cel_tree.specs.Reading.{ValuesFault}
-use Rattle.cel_tree.specs.References.{ReferenceFault}
-use Rattle.cel_tree.specs.TypeEntries.{TypeEntryFault}
 use Rattle.cel_tree.specs.steps.Inside.{TreeFails}
 use Rattle.cel_tree.proofs.Readers.{exit_memory_or}
 use Rattle.cel_tree.proofs.message.checked_of.Goals as goal
@@ -23,18 +20,9 @@ returns-in_err-tree-clause-fault c =
       | inr many ↦ inr (in_nodes there many)
     ])
 
-pub returns-in_err-types-clause-fault : goal.returns-in_err-types-clause-fault
-returns-in_err-types-clause-fault c =
+pub returns-in_err-tree-2-clause-fault : goal.returns-in_err-tree-2-clause-fault
+returns-in_err-tree-2-clause-fault c =
     let fs : List Wire = map field_view c.args.fields.now in
-    exit_memory_or (MapFault int64 (TypeEntryFault tree_depth) (payloads checked_field.type_map fs))
-    (ValuesFault CheckedLacks CheckedWrong fs)
-    c.from_residual-in_err-types.result _ c.from_residual-in_err-types.ensures.1 c.in_err-types.ensures.fault
-    (λ e bad. inr (in_types bad))
-
-pub returns-in_err-refs-clause-fault : goal.returns-in_err-refs-clause-fault
-returns-in_err-refs-clause-fault c =
-    let fs : List Wire = map field_view c.args.fields.now in
-    exit_memory_or (MapFault int64 ReferenceFault (payloads checked_field.reference_map fs))
-    (ValuesFault CheckedLacks CheckedWrong fs)
-    c.from_residual-in_err-refs.result _ c.from_residual-in_err-refs.ensures.1 c.in_err-refs.ensures.fault
-    (λ e bad. inr (in_refs bad))
+    exit_memory_or (CheckedWrong fs) (ValuesFault CheckedLacks CheckedWrong fs)
+    c.from_residual-in_err-tree-2.result _ c.from_residual-in_err-tree-2.ensures.1
+    (rw c.in_err-tree-2.ensures.fault at c.maps_of.ensures.fault) (λ e bad. inr bad)

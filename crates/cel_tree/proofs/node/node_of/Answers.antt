@@ -1,9 +1,7 @@
-use Rattle.std.proofs.Common.{◌≡◌, List, map, inr}
+use Rattle.std.proofs.Common.{List, map, inr}
 use Rattle.proto_wire.specs.Fields.{Wire, field_view}
-use Rattle.proto_wire.specs.Merge.{parts_view}
 use Rattle.proto_wire.specs.Oneof.{member_run}
-use Rattle.proto_wire.specs.Values.{payloads}
-use Rattle.cel_tree.specs.Nodes.{node_kinds, kind_keys, KindFault, MemberFails}
+use Rattle.cel_tree.specs.Nodes.{node_kinds, kind_keys, MemberFails}
 use Rattle.cel_tree.specs.Reading.{ValuesFault, LacksMember, IsUnsupported, OneofFault}
 use Rattle.cel_tree.proofs.Readers.{exit_memory_or, oneof_bad}
 use Rattle.cel_tree.proofs.node.node_of.Goals as goal
@@ -12,11 +10,8 @@ pub returns-in_err-node-clause-fault : goal.returns-in_err-node-clause-fault
 returns-in_err-node-clause-fault c =
     let fs : List Wire = map field_view c.args.fields.now in
     let last = c.in_ok-last.last in
-    let run : map field_view c.deref.result.now ≡ member_run kind_keys fs = rw c.deref.ensures c.in_ok-run.ensures in
-    let parts : parts_view c.deref-2.result.now ≡ payloads last.number (member_run kind_keys fs) = rw c.deref-2.ensures (rw run at c.in_ok-parts.ensures) in
-    exit_memory_or (KindFault last.kind (payloads last.number (member_run kind_keys fs)))
+    exit_memory_or (MemberFails last.kind last.number (member_run kind_keys fs))
     (ValuesFault (LacksMember node_kinds) (OneofFault node_kinds IsUnsupported MemberFails) fs)
-    c.from_residual-in_err-node.result _ c.from_residual-in_err-node.ensures.1
-    (rw parts at c.in_err-node.ensures.fault)
+    c.from_residual-in_err-node.result _ c.from_residual-in_err-node.ensures.1 c.in_err-node.ensures.fault
     (λ e bad. inr (oneof_bad node_kinds fs IsUnsupported MemberFails last.number last.kind
     c.in_ok-last.ensures.found.0 c.in_ok-last.ensures.found.1 e bad))

@@ -1,7 +1,7 @@
 use Rattle.std.proofs.Common.{[]}
 use Rattle.cel_types.specs.Typing.{maps_of}
-use Rattle.cel_types.proofs.MeansTheSame.{means-same}
+use Rattle.cel_types.proofs.MeansTheSame.{means_same}
 use Rattle.cel_types.proofs.laws.elaboration_means_the_same.Goals as goal
 
 pub returns : goal.returns
-returns c d e r good g sound = means-same (maps_of d) r sound d.tree e [] tt good g.elaborates
+returns c d e r good g sound = means_same (maps_of d) r sound d.tree e [] tt good g.elaborates

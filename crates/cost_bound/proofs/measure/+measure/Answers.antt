@@ -1,4 +1,4 @@
-use Rattle.std.proofs.Common.{◌≡◌, false, true, length, ◌∷◌, ◌+◌, ◌<◌, ◌^◌, ◌∙◌, ap, sym, refl, arith, rules}
+use Rattle.std.proofs.Common.{◌≡◌, false, true, length, ◌∷◌, ◌+◌, ◌-◌, ◌<◌, ◌^◌, ◌∙◌, ap, sym, refl, arith, rules}
 use Rattle.std.proofs.lemmas.Grind.{common_steps}
 use Rattle.std.proofs.lemmas.Result.{IfOk-weaker}
 use Rattle.cel_types.specs.Elaborated.{kinds}
@@ -16,6 +16,8 @@ use Rattle.cost_bound.proofs.Capped.{paid}
 use Rattle.cost_bound.proofs.ExprViews.{view_call, view_list, view_loop, view_map}
 use Rattle.cost_bound.proofs.Locals as locals
 use Rattle.cost_bound.proofs.MemoViews.{view_unknown}
+use Rattle.cost_bound.proofs.Neighbours.{choice_alike, choice_found, choice_short, item_again, items_short}
+use Rattle.cost_bound.proofs.Pairs.{pair_found}
 use Rattle.cost_bound.proofs.Remembering.{each_holds, holds_nothing, loop_remembered, more_parts, part_holds, remembered_turns, told_in_turns}
 use Rattle.cost_bound.proofs.Steps.{as_many, cost_count, exit_charge, exit_more, last_more, loop_adds, loop_ends_short, loop_short, loop_size}
 use Rattle.cost_bound.proofs.Turns.{grown_next, grown_still, still_paid, still_short, turns_next}
@@ -27,7 +29,7 @@ measure-returns-in_err-left-in-List-clause-fault t c =
     let seen = ap expr_view c.in-List.is ∙ view_list c.in-List.cel_type c.in-List.elements in
     let found = rw c.deref-in-List.ensures.value at c.in_ok-found-in-List.ensures.found in
     let counted = cost_count c.in-List.elements.items c.args.limits.now (scope_view c.args.scope.now) in
-    let many = c.len.ensures in
+    let many = c.len-count.ensures in
     rw seen (exit_charge _ _ _ _ exit.result _ exit.ensures.1 c.in_err-left-in-List.ensures.fault
     (λ more. omega (arith, more, found.1)))
 
@@ -35,13 +37,13 @@ pub measure-returns-in_ok-list_size-in-List-clause-found : goal.measure-returns-
 measure-returns-in_ok-list_size-in-List-clause-found t c =
     let seen = ap expr_view c.in-List.is ∙ view_list c.in-List.cel_type c.in-List.elements in
     let found = rw c.deref-in-List.ensures.value at c.in_ok-found-in-List.ensures.found in
+    let es = exprs_view c.in-List.elements.items in
+    let sizes = sizes_of es c.args.limits.now (scope_view c.args.scope.now) in
     let counted = cost_count c.in-List.elements.items c.args.limits.now (scope_view c.args.scope.now) in
-    let many = c.len.ensures in
+    let same = as_many es c.args.limits.now (scope_view c.args.scope.now) in
+    let many = c.len-count.ensures in
     let left = c.in_ok-left-in-List.ensures.found in
-    rw seen (
-      rw (c.deref-in-List-2.ensures.value, found.0) at c.in_ok-list_size-in-List.ensures,
-      omega (arith, found.1),
-    )
+    rw seen (c.in_ok-list_size-in-List.ensures sizes (omega arith) found.0, omega (arith, found.1))
 
 pub measure-returns-in-Loop-clause-found : goal.measure-returns-in-Loop-clause-found
 measure-returns-in-Loop-clause-found t c =
@@ -70,6 +72,57 @@ measure_call-returns-clause-fault t c =
     (λ is three. absurd (let g : false ≡ true = sym c.if-is_choice.false
     ∙ c.is_choice.ensures.1 (is, sym counted ∙ three) in cc)) in
     rw whole c.measure_operands.ensures.fault
+
+pub measure_list-measure_item-requires : goal.measure_list-measure_item-requires
+measure_list-measure_item-requires t c =
+    let before = c.loop-at.invariant in (
+      first_of (search (rules, the_lemmas), grind (arith, the_lemmas), grind (arith, common_steps)),
+      (
+        c.requires.counted,
+        (
+          part_holds (known_view c.args.memo) _ c.args.limits.now (scope_view c.args.scope.now) c.args.items.now
+              (c.loop-at.at - 1) c.index-items-at.result (omega (arith, before.0, c.loop-at-test.true))
+              c.index-items-at.is c.part.ensures c.requires.holds,
+          λ again. item_again c.args.items.now c.args.limits.now (scope_view c.args.scope.now) c.loop-at.at
+              c.index-items-at.result _ _ c.loop-at-test.true c.index-items-at.is before.1 before.3
+              (c.is_repeated-again.ensures c.index-items-at.result again),
+        ),
+      ),
+    )
+
+pub measure_list-returns-in_err-after-clause-fault : goal.measure_list-returns-in_err-after-clause-fault
+measure_list-returns-in_err-after-clause-fault t c =
+    let exit = c.from_residual in
+    let before = c.loop-at.invariant in
+    exit_more _ _ _ _ exit.result _ exit.ensures.1 c.in_err-after.ensures.fault
+    (λ more. items_short c.args.items.now c.args.limits.now (scope_view c.args.scope.now) c.loop-at.at
+    c.index-items-at.result _ _ c.loop-at-test.true before.0 c.index-items-at.is before.2 more)
+
+pub measure_conditional-returns-then-measure_alike-clause-found : goal.measure_conditional-returns-then-measure_alike-clause-found
+measure_conditional-returns-then-measure_alike-clause-found t c =
+    choice_alike c.args.operands.now c.condition-item.result c.first-item.result c.second-item.result
+    c.args.limits.now (scope_view c.args.scope.now) _ _ _ _ _ _ c.requires.three
+    c.condition-item.is c.first-item.is c.second-item.is c.in_ok-tested-in-len3.ensures.found.1
+    c.in_ok-before-in-len3.ensures.found c.in_ok-one-in-len3.ensures.found c.in_ok-left-in-len3.ensures.found
+    (c.measure_alike.ensures c.if-measure_alike.true)
+
+pub measure_conditional-returns-in_err-left-in-len3-2-clause-fault : goal.measure_conditional-returns-in_err-left-in-len3-2-clause-fault
+measure_conditional-returns-in_err-left-in-len3-2-clause-fault t c =
+    let exit = c.from_residual-in_err-left-in-len3-2 in
+    exit_charge _ _ _ _ exit.result _ exit.ensures.1 c.in_err-left-in-len3-2.ensures.fault
+    (λ more. choice_short c.args.operands.now c.condition-item.result c.first-item.result c.second-item.result
+    c.args.limits.now (scope_view c.args.scope.now) _ _ _ _ _ _ _ _ c.requires.three
+    c.condition-item.is c.first-item.is c.second-item.is c.in_ok-tested-in-len3.ensures.found.1
+    c.in_ok-before-in-len3.ensures.found c.in_ok-one-in-len3.ensures.found c.in_ok-other-in-len3.ensures.found
+    c.min.ensures more)
+
+pub measure_conditional-returns-clause-found : goal.measure_conditional-returns-clause-found
+measure_conditional-returns-clause-found t c =
+    choice_found c.args.operands.now c.condition-item.result c.first-item.result c.second-item.result
+    c.args.limits.now (scope_view c.args.scope.now) _ _ _ _ _ _ _ _ _ _ c.requires.three
+    c.condition-item.is c.first-item.is c.second-item.is c.in_ok-tested-in-len3.ensures.found.1
+    c.in_ok-before-in-len3.ensures.found c.in_ok-one-in-len3.ensures.found c.in_ok-other-in-len3.ensures.found
+    c.min.ensures c.in_ok-left-in-len3-2.ensures.found c.in_ok-join-in-len3.ensures
 
 pub measure_loop-returns-clause-found : goal.measure_loop-returns-clause-found
 measure_loop-returns-clause-found t c = λ kind.
@@ -100,6 +153,16 @@ measure_operands-returns-clause-found t c =
     let small : charge_at c.args.overload types sizes < 2 ^ 64 = omega (arith, covered, rest, fits) in
     let size = rw (c.deref-2.ensures.value, found.0) at c.in_ok-call_size.ensures in
     (size types small, omega (arith, found.1, rest))
+
+pub measure_pair-returns-clause-found : goal.measure_pair-returns-clause-found
+measure_pair-returns-clause-found t c =
+    pair_found c.args.operands.now c.args.overload c.first-item.result c.second-item.result c.args.limits.now
+    (scope_view c.args.scope.now) (size_view c.in_ok-one-in-len2.one.size) (size_view c.in_ok-other-in-len2.other.size)
+    (size_view c.in_ok-call_size-in-len2.field-0) c.args.left c.in_ok-one-in-len2.one.left
+    c.in_ok-other-in-len2.other.left c.call_part.result c.in_ok-left-in-len2.left c.requires.two
+    c.first-item.is c.second-item.is c.ranges.left.fits c.in_ok-one-in-len2.ensures.found
+    c.in_ok-other-in-len2.ensures.found c.call_part.ensures c.in_ok-left-in-len2.ensures.found
+    c.in_ok-call_size-in-len2.ensures
 
 pub measure_turns-loop-others-preserved : goal.measure_turns-loop-others-preserved
 measure_turns-loop-others-preserved t c =

@@ -1,7 +1,7 @@
 use Rattle.std.proofs.Common.{◌≡◌, ℕ, ◌+◌, ◌<◌, ◌≤◌, List, ◌++◌, drop, get_or, length}
 use Rattle.cel_types.specs.View.{expr_view, exprs_view, parts_view}
 use Rattle.cel_types.specs.declared.typed.TypedExpr.{TypedExpr}
-use Rattle.cost_bound.specs.Costs.{costs_of, grown, sizes_of, total, turns_cost}
+use Rattle.cost_bound.specs.Costs.{cost_of, costs_of, grown, join_all, sizes_of, total, turns_cost}
 use Rattle.cost_bound.specs.Sizes.{Size}
 use Rattle.cost_bound.specs.steps.Measuring.{next_size, turn_cost}
 use Rattle.cost_bound.specs.steps.Memos.{Holds, InTurns, memo_at, memos_view}
@@ -18,6 +18,18 @@ invariant-measure_each-loop-expr l =
     × (l.left + total (costs_of (exprs_view (drop l.expr-index l.exprs)) l.limits (scope_view l.scope))
     ≡ total (costs_of (exprs_view l.exprs) l.limits (scope_view l.scope)) + l.rest)
     × (l.place ≡ l.expr-index)
+
+-- the items from a place on, and the first of them
+abbrev pub invariant-measure_list-loop-at : goal.invariant-measure_list-loop-at
+invariant-measure_list-loop-at l =
+    (l.at ≤ length l.items)
+    × (size_view l.after.size ≡ join_all (sizes_of (exprs_view (drop l.at l.items)) l.limits (scope_view l.scope)))
+    × (l.left ≡ total (costs_of (exprs_view (drop l.at l.items)) l.limits (scope_view l.scope)) + l.after.left)
+    × ((d : TypedExpr) → l.at < length l.items
+    → l.after.cost ≡ cost_of (expr_view (get_or l.items l.at d)) l.limits (scope_view l.scope))
+
+abbrev pub decreases-measure_list-loop-at : goal.decreases-measure_list-loop-at
+decreases-measure_list-loop-at l = l.at
 
 -- what is remembered of the expressions so far
 abbrev pub invariant-remember_each-loop-expr : goal.invariant-remember_each-loop-expr

@@ -11,7 +11,7 @@ use Rattle.cel_types.specs.View.{expr_view, exprs_view}
 use Rattle.cel_types.specs.steps.Kinds.{elements_type}
 use Rattle.cel_types.specs.steps.Scopes.{scope_view}
 use Rattle.cel_types.proofs.CheckSteps.{target_some, tree_call, tree_comprehension, tree_ident, tree_map, view_list, view_loop, view_map}
-use Rattle.cel_types.proofs.Checking.{attribute_bad, call_bad, call_found, each_more, each_within, elements-none, entry_within, entry_wrong, field_bad, field_found, list_bad, list_found, loop_found, map_bad, map_found, node_found, pair_at, pairs_more, result-bad, some_at, turn-bad, types_of}
+use Rattle.cel_types.proofs.Checking.{attribute_bad, call_bad, call_found, each_more, each_within, elements_none, entry_within, entry_wrong, field_bad, field_found, list_bad, list_found, loop_found, map_bad, map_found, node_found, pair_at, pairs_more, result_bad, some_at, turn_bad, types_of}
 use Rattle.cel_types.proofs.checker.nodes.+check.Goals as goal
 
 pub check_select-returns-in-Some-clause-fault : goal.check_select-returns-in-Some-clause-fault
@@ -191,7 +191,7 @@ pub check_loop-returns-in_err-elements-clause-fault : goal.check_loop-returns-in
 check_loop-returns-in_err-elements-clause-fault t c =
     let bad = rw c.cel_type.ensures at c.in_err-elements.ensures.fault in
     exit_fault _ c.from_residual-in_err-elements.result _ c.from_residual-in_err-elements.ensures.1
-    (elements-none (maps_of (checked_view c.args.checked.now)) (scope_view c.args.scope.now) c.args.id
+    (elements_none (maps_of (checked_view c.args.checked.now)) (scope_view c.args.scope.now) c.args.id
     (loop_view c.args.parts.now) (expr_view c.in_ok-range.range) c.in_ok-range.ensures.found _ bad.0 bad.1)
 
 pub check_loop-returns-in_err-condition-clause-fault : goal.check_loop-returns-in_err-condition-clause-fault
@@ -205,7 +205,7 @@ check_loop-returns-in_err-condition-clause-fault t c =
       c.cel_type-2.ensures,
       c.cel_type-3.ensures,
     ) at c.in_err-condition.ensures.fault)
-    (λ e bad. turn-bad (maps_of (checked_view c.args.checked.now)) (scope_view c.args.scope.now) c.args.id
+    (λ e bad. turn_bad (maps_of (checked_view c.args.checked.now)) (scope_view c.args.scope.now) c.args.id
     (loop_view c.args.parts.now) (expr_view c.in_ok-range.range) c.in_ok-range.ensures.found (expr_view c.in_ok-init.init) c.in_ok-init.ensures.found
     (elements_type c.in_ok-elements.elements) over e bad)
 
@@ -214,7 +214,7 @@ check_loop-returns-in_err-result-clause-fault t c =
     let over = rw c.cel_type.ensures at c.in_ok-elements.ensures.found in
     exit_memory_or _ _ c.from_residual-in_err-result.result _ c.from_residual-in_err-result.ensures.1
     (rw (c.with-inner.ensures, c.cel_type-2.ensures) at c.in_err-result.ensures.fault)
-    (λ e bad. result-bad (maps_of (checked_view c.args.checked.now)) (scope_view c.args.scope.now) c.args.id
+    (λ e bad. result_bad (maps_of (checked_view c.args.checked.now)) (scope_view c.args.scope.now) c.args.id
     (loop_view c.args.parts.now) (expr_view c.in_ok-range.range) c.in_ok-range.ensures.found (expr_view c.in_ok-init.init) c.in_ok-init.ensures.found
     (elements_type c.in_ok-elements.elements) over e bad)
 

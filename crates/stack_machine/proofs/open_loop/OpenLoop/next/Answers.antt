@@ -1,5 +1,5 @@
 use Rattle.std.proofs.Common.{arith, add-one}
-use Rattle.stack_machine.specs.Loops.{range_view}
+use Rattle.stack_machine.specs.steps.Loops.{range_view}
 use Rattle.stack_machine.proofs.Walking.{from_past, from_found}
 use Rattle.stack_machine.proofs.open_loop.OpenLoop.next.Goals as goal
 

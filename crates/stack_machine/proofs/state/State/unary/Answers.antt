@@ -1,8 +1,8 @@
 use Rattle.std.proofs.Common.{◌∙◌, sym, ap, map, drop, Some}
 use Rattle.cel_value.specs.Masses.{left_of}
-use Rattle.stack_machine.specs.Groups.{unary_answer, unary_charge}
-use Rattle.stack_machine.specs.Held.{held_view}
-use Rattle.stack_machine.specs.StateView.{state_view}
+use Rattle.stack_machine.specs.steps.Groups.{unary_answer, unary_charge}
+use Rattle.stack_machine.specs.steps.Held.{held_view}
+use Rattle.stack_machine.specs.steps.StateView.{state_view}
 use Rattle.stack_machine.proofs.Operands.{one_on_top, unary_kinds, unary_goes}
 use Rattle.stack_machine.proofs.PlainCharges.{unary_on}
 use Rattle.stack_machine.proofs.state.State.unary.Goals as goal

@@ -1,0 +1,2 @@
+-- Facts that the language asks of a type with `==`: no promise cites them.
+pub mod EqualityLaws

@@ -1,0 +1,166 @@
+//! Which expressions measure alike, whatever the limits and the sizes of the locals are.
+
+ghost use Rattle.std.specs.Prelude.{◌≡◌, ◌<◌, ◌+◌, ℕ, List, IfSome, IsTrue, get_or, if◌then◌else◌, length};
+ghost use Rattle.cel_types.specs.Elaborated.{kinds};
+ghost use Rattle.cel_types.specs.View.{expr_view, exprs_view};
+ghost use Rattle.cel_types.specs.declared.typed.TypedExpr.{TypedExpr};
+ghost use Rattle.cel_value.specs.Types.{type_view};
+ghost use Rattle.cost_bound.specs.Costs.{call_cost, counted_cost};
+ghost use Rattle.cost_bound.specs.Sizes.{Size, most_of};
+ghost use Rattle.cost_bound.specs.steps.Measuring.{EachAlike, MeasureAlike};
+
+use crate::known::constant_size;
+use crate::size::same;
+use cel_overload::Overload;
+use cel_types::TypedExpr;
+use cel_value::{CelType, text_length};
+
+// How many parts of an expression are looked at: fewer than it takes time to measure.
+const MOST_PARTS: u64 = 16;
+
+/// Whether two expressions measure alike. It looks at a few parts alone, and may say no of others.
+pub(crate) fn measure_alike(left: &TypedExpr<'_>, right: &TypedExpr<'_>) -> bool
+    ensures { IsTrue result → MeasureAlike (expr_view left.now) (expr_view right.now) }
+{
+    compare(left, right, MOST_PARTS).is_some()
+}
+
+/// Whether the expression at a place measures as the one behind it.
+pub(crate) fn is_repeated(exprs: &[TypedExpr<'_>], place: usize) -> bool
+    requires { place < length exprs.now }
+    ensures { (d : TypedExpr) → IsTrue result → (place + 1 < length exprs.now)
+        × MeasureAlike (expr_view (get_or exprs.now place d)) (expr_view (get_or exprs.now (place + 1) d)) }
+{
+    place + 1 < exprs.len() && measure_alike(&exprs[place], &exprs[place + 1])
+}
+
+// How many parts more may be looked at, where they measure alike.
+#[cycle(likeness)]
+fn compare(left: &TypedExpr<'_>, right: &TypedExpr<'_>, parts: u64) -> Option<u64>
+    ensures { IfSome result (λ rest. MeasureAlike (expr_view left.now) (expr_view right.now)) }
+{
+    if parts == 0 {
+        return None;
+    }
+    let rest = parts - 1;
+    match (left, right) {
+        (TypedExpr::Constant { value, .. }, TypedExpr::Constant { value: other, .. }) => {
+            if same(&constant_size(value), &constant_size(other)) {
+                return Some(rest);
+            }
+            None
+        }
+        (TypedExpr::Local { outside, .. }, TypedExpr::Local { outside: other, .. }) => {
+            if *outside == *other {
+                return Some(rest);
+            }
+            None
+        }
+        (TypedExpr::Attribute { id, .. }, TypedExpr::Attribute { id: other, .. }) => {
+            if *id == *other {
+                return Some(rest);
+            }
+            None
+        }
+        (
+            TypedExpr::Field { map, name, .. },
+            TypedExpr::Field {
+                map: other,
+                name: word,
+                ..
+            },
+        ) => {
+            if text_length(name) == text_length(word) {
+                return compare(map, other, rest);
+            }
+            None
+        }
+        (
+            TypedExpr::Call {
+                overload,
+                operands,
+                ..
+            },
+            TypedExpr::Call {
+                overload: call,
+                operands: others,
+                ..
+            },
+        ) => {
+            if charge_alike(*overload, *call, operands, others) {
+                return compare_each(operands, others, rest);
+            }
+            None
+        }
+        (
+            TypedExpr::List { elements, .. },
+            TypedExpr::List {
+                elements: others,
+                ..
+            },
+        ) => {
+            if elements.is_empty() {
+                return None;
+            }
+            compare_each(elements, others, rest)
+        }
+        _ => None,
+    }
+}
+
+// The same of expressions one after the other.
+#[cycle(likeness)]
+fn compare_each(left: &[TypedExpr<'_>], right: &[TypedExpr<'_>], parts: u64) -> Option<u64>
+    ensures { IfSome result (λ rest. EachAlike (exprs_view left.now) (exprs_view right.now)) }
+{
+    if left.len() != right.len() {
+        return None;
+    }
+    let mut rest = parts;
+    let mut place = 0;
+    for expr in left {
+        rest = compare(expr, &right[place], rest)?;
+        place += 1;
+    }
+    Some(rest)
+}
+
+// Whether two calls do the same, and charge alike where their operands' sizes are the same. Counting
+// alone asks for types.
+fn charge_alike(
+    overload: Overload,
+    other: Overload,
+    left: &[TypedExpr<'_>],
+    right: &[TypedExpr<'_>],
+) -> bool
+    ensures same { IsTrue result → overload ≡ other }
+    ensures charge { IsTrue result → (costs : List ℕ) (sizes : List Size)
+        → call_cost overload (kinds (exprs_view left.now)) costs sizes
+        ≡ call_cost overload (kinds (exprs_view right.now)) costs sizes }
+{
+    if overload != other {
+        return false;
+    }
+    if overload != Overload::Size {
+        return true;
+    }
+    match (left, right) {
+        ([first], [second]) => is_counted(first.cel_type()) == is_counted(second.cel_type()),
+        _ => false,
+    }
+}
+
+// Whether counting takes as long as the value is.
+fn is_counted(cel_type: &CelType) -> bool
+    ensures { (s : Size) → counted_cost (type_view cel_type.now) s ≡ (if result then most_of s else 0) }
+{
+    match cel_type {
+        CelType::Bool => false,
+        CelType::Int => false,
+        CelType::Uint => false,
+        CelType::Text => true,
+        CelType::Bytes => true,
+        CelType::List(_) => false,
+        CelType::Map(_, _) => false,
+    }
+}
