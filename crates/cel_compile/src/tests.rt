@@ -10,7 +10,7 @@ mod worked_rows;
 
 use crate::compile;
 use attributes::{Conn, Limits, Request};
-use cel_tree::read_checked;
+use cel_tree::{Checked, read_checked};
 use cel_types::{Typed, check};
 use cel_value::{CelError, Value};
 use code_verifier::verify;
@@ -19,7 +19,7 @@ use cost_bound::bound;
 use loop_rows::{FOLDS, LOOPS};
 use operator_rows::{CHOICES, OPERATORS};
 use proto_wire::Refusal;
-use stack_machine::{Instr, RunError, Verified, run};
+use stack_machine::{Code, Instr, RunError, Verified, run};
 use std::alloc::Global;
 use std::process::Abort;
 use std::rc::RcStr;
@@ -82,13 +82,34 @@ fn comes_to(
     )
 }
 
+// The rows' functions lend what they own to the next: an exit of a function drops all that it owns, and trees
+// are dear to drop in a proof.
+
 // Whether the expression does as its row says.
 fn is_right(alloc: Global, request: &Request, row: &Row) -> Result<bool, Fail> {
-    let (_, want, steps, most, bytes) = row;
-    let checked = read_checked(alloc, bytes)?;
-    let typed = check(alloc, &checked)?;
-    let code = verified(alloc, &typed)?;
-    Ok(has_bound(alloc, &typed, *most) && comes_to(alloc, &code, request, *want, *steps, *most)?)
+    let checked = read_checked(alloc, row.4)?;
+    is_right_checked(alloc, request, row, &checked)
+}
+
+fn is_right_checked(
+    alloc: Global,
+    request: &Request,
+    row: &Row,
+    checked: &Checked,
+) -> Result<bool, Fail> {
+    let typed = check(alloc, checked)?;
+    is_right_typed(alloc, request, row, &typed)
+}
+
+fn is_right_typed(
+    alloc: Global,
+    request: &Request,
+    row: &Row,
+    typed: &Typed<'_>,
+) -> Result<bool, Fail> {
+    let (_, want, steps, most, _) = row;
+    let code = verified(alloc, typed)?;
+    Ok(has_bound(alloc, typed, *most) && comes_to(alloc, &code, request, *want, *steps, *most)?)
 }
 
 fn check_rows(rt: &impl Abort, alloc: Global, rows: &[Row]) -> Result<(), Fail> {
@@ -133,7 +154,11 @@ fn comprehensions(rt: HostRuntime) -> Result<(), Fail> {
 // The bound of a message's expression.
 fn bound_of(alloc: Global, bytes: &[u8]) -> Result<u64, Refusal> {
     let checked = read_checked(alloc, bytes)?;
-    let typed = check(alloc, &checked)?;
+    bound_of_checked(alloc, &checked)
+}
+
+fn bound_of_checked(alloc: Global, checked: &Checked) -> Result<u64, Refusal> {
+    let typed = check(alloc, checked)?;
     bound(alloc, &typed, &Limits::largest(), u64::MAX)
 }
 
@@ -145,13 +170,21 @@ fn refused(rt: HostRuntime) -> Result<(), Fail> {
     Ok(())
 }
 
+// The code of a message's expression.
+fn code_of(alloc: Global, bytes: &[u8]) -> Result<Code, Refusal> {
+    let checked = read_checked(alloc, bytes)?;
+    code_of_checked(alloc, &checked)
+}
+
+fn code_of_checked(alloc: Global, checked: &Checked) -> Result<Code, Refusal> {
+    let typed = check(alloc, checked)?;
+    compile(alloc, &typed)
+}
+
 // `true && true`: the right side is passed over where the left one is false.
 #[test]
 fn code_of_true_and_true(rt: HostRuntime) -> Result<(), Fail> {
-    let alloc = rt.alloc();
-    let checked = read_checked(alloc, WORKED[0].4)?;
-    let typed = check(alloc, &checked)?;
-    let code = compile(alloc, &typed)?;
+    let code = code_of(rt.alloc(), WORKED[0].4)?;
     assert!(rt; code.len() == 4);
     assert!(rt; matches!(code.instr(1)?, Some(Instr::IfFalse(4))));
     assert!(rt; matches!(code.instr(3)?, Some(Instr::And)));

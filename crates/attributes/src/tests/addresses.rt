@@ -1,5 +1,6 @@
 //! Texts of addresses, and ranges.
 use crate::{Cidr, Ip, parse_ip};
+use std::process::Abort;
 use std::test::Fail;
 
 // Texts with the numbers that they spell.
@@ -330,18 +331,26 @@ const RANGES: [(&str, u32, &str, Option<bool>); 52] = [
     ("::2", 0xffff_ffff, "::2", None),
 ];
 
+fn reads(rt: &impl Abort, text: &str, address: Ip) {
+    assert_eq!(rt; parse_ip(text), Some(address), "{text}");
+}
+
 #[test]
 fn reads_addresses(rt: HostRuntime) -> Result<(), Fail> {
-    for (text, address) in READ {
-        assert_eq!(rt; parse_ip(text), Some(address), "{text}");
+    for (text, address) in &READ {
+        reads(&rt, text, *address);
     }
     Ok(())
 }
 
+fn refuses(rt: &impl Abort, text: &str) {
+    assert_eq!(rt; parse_ip(text), None, "{text}");
+}
+
 #[test]
 fn refuses_other_texts(rt: HostRuntime) -> Result<(), Fail> {
-    for text in REFUSED {
-        assert_eq!(rt; parse_ip(text), None, "{text}");
+    for text in &REFUSED {
+        refuses(&rt, text);
     }
     Ok(())
 }
@@ -351,14 +360,18 @@ fn in_range(address: &str, prefix_len: u32, ip: &str) -> Option<bool> {
     Some(Cidr::new(parse_ip(address)?, prefix_len)?.contains(parse_ip(ip)?))
 }
 
+fn knows(rt: &impl Abort, address: &str, prefix_len: u32, ip: &str, answer: Option<bool>) {
+    assert_eq!(rt;
+        in_range(address, prefix_len, ip),
+        answer,
+        "{address}/{prefix_len} {ip}"
+    );
+}
+
 #[test]
 fn knows_ranges(rt: HostRuntime) -> Result<(), Fail> {
-    for (address, prefix_len, ip, answer) in RANGES {
-        assert_eq!(rt;
-            in_range(address, prefix_len, ip),
-            answer,
-            "{address}/{prefix_len} {ip}"
-        );
+    for (address, prefix_len, ip, answer) in &RANGES {
+        knows(&rt, address, *prefix_len, ip, *answer);
     }
     Ok(())
 }

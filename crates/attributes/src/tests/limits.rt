@@ -1,6 +1,7 @@
 //! The borders of declared limits, and of requests within them.
 use crate::{Conn, Limit, LimitFault, Limits, Request};
 use std::alloc::{AllocError, Global};
+use std::process::Abort;
 use std::rc::RcStr;
 use std::test::Fail;
 
@@ -72,37 +73,63 @@ fn declare(numbers: [usize; 6]) -> Result<Limits, LimitFault> {
     Limits::new(fields, name, value, method, target, text)
 }
 
+fn declares(rt: &impl Abort, numbers: [usize; 6], fault: Option<LimitFault>) {
+    assert_eq!(rt; declare(numbers).err(), fault, "{numbers:?}");
+}
+
 #[test]
 fn declares_limits(rt: HostRuntime) -> Result<(), Fail> {
-    for (numbers, fault) in DECLARED {
-        assert_eq!(rt; declare(numbers).err(), fault, "{numbers:?}");
+    for (numbers, fault) in &DECLARED {
+        declares(&rt, *numbers, *fault);
     }
     Ok(())
+}
+
+fn keeps(rt: &impl Abort, limits: &Limits, limit: Limit, number: usize) {
+    assert_eq!(rt; limits.get(limit), number, "{limit:?}");
 }
 
 #[test]
 fn keeps_limits(rt: HostRuntime) -> Result<(), Fail> {
     let limits = Limits::new(6, 5, 4, 3, 2, 1)?;
     for (limit, number) in LIMITS.iter().zip([6usize, 5, 4, 3, 2, 1]) {
-        assert_eq!(rt; limits.get(*limit), number, "{limit:?}");
+        keeps(&rt, &limits, *limit, number);
     }
+    Ok(())
+}
+
+fn is_largest(rt: &impl Abort, limit: Limit, number: usize) {
+    keeps(rt, &Limits::largest(), limit, number);
+    assert_eq!(rt; limit.largest(), number, "{limit:?}");
+}
+
+#[test]
+fn keeps_largest_limits(rt: HostRuntime) -> Result<(), Fail> {
     for (limit, number) in LIMITS.iter().zip([64usize, 128, 4096, 32, 4096, 1024]) {
-        assert_eq!(rt; Limits::largest().get(*limit), number, "{limit:?}");
-        assert_eq!(rt; limit.largest(), number, "{limit:?}");
+        is_largest(&rt, *limit, number);
     }
     Ok(())
 }
 
 #[test]
-fn names_limits(rt: HostRuntime) -> Result<(), Fail> {
+fn prints_faults_of_limits(rt: HostRuntime) -> Result<(), Fail> {
     let alloc = rt.alloc();
     let zero = LimitFault::Zero(Limit::Fields).to_string(alloc)?;
     assert_eq!(rt; zero.as_str(), "the limit fields is 0");
     let above = LimitFault::Above(Limit::Text).to_string(alloc)?;
     assert_eq!(rt; above.as_str(), "the limit text is above 1024");
+    Ok(())
+}
+
+fn is_named(rt: &impl Abort, limit: Limit, name: &str) {
+    assert_eq!(rt; limit.name(), name);
+}
+
+#[test]
+fn names_limits(rt: HostRuntime) -> Result<(), Fail> {
     let names = ["fields", "name", "value", "method", "target", "text"];
     for (limit, name) in LIMITS.iter().zip(names) {
-        assert_eq!(rt; limit.name(), name);
+        is_named(&rt, *limit, name);
     }
     Ok(())
 }
@@ -175,22 +202,37 @@ fn request_of(alloc: Global, head: &Head) -> Result<Request, AllocError> {
     Request::new(alloc, method, target, true, lines, conn)
 }
 
+fn fits(rt: &impl Abort, head: &Head, request: &Request) -> Result<(), Fail> {
+    let target = head.target;
+    assert!(rt; declare(head.least)?.fits(request), "{target}");
+    assert!(rt; Limits::largest().fits(request), "{target}");
+    Ok(())
+}
+
+// With one number less the request is not within the limits.
+fn needs(rt: &impl Abort, head: &Head, request: &Request, place: usize) {
+    let mut less = head.least;
+    less[place] = less[place].saturating_sub(1);
+    let within = match declare(less) {
+        Ok(limits) => limits.fits(request),
+        Err(_) => false,
+    };
+    assert!(rt; !within, "{} {place}", head.target);
+}
+
+fn fits_at_borders_of(rt: &impl Abort, alloc: Global, head: &Head) -> Result<(), Fail> {
+    let request = request_of(alloc, head)?;
+    fits(rt, head, &request)?;
+    for place in 0..6usize {
+        needs(rt, head, &request, place);
+    }
+    Ok(())
+}
+
 #[test]
 fn fits_at_each_border(rt: HostRuntime) -> Result<(), Fail> {
     for head in &HEADS {
-        let request = request_of(rt.alloc(), head)?;
-        let target = head.target;
-        assert!(rt; declare(head.least)?.fits(&request), "{target}");
-        assert!(rt; Limits::largest().fits(&request), "{target}");
-        for place in 0..6usize {
-            let mut less = head.least;
-            less[place] = less[place].saturating_sub(1);
-            let within = match declare(less) {
-                Ok(limits) => limits.fits(&request),
-                Err(_) => false,
-            };
-            assert!(rt; !within, "{target} {place}");
-        }
+        fits_at_borders_of(&rt, rt.alloc(), head)?;
     }
     Ok(())
 }
@@ -212,24 +254,50 @@ fn conn_with(alloc: Global, fact: usize, text: &str) -> Result<Conn, AllocError>
     Ok(conn)
 }
 
+// Limits of texts and values: wide enough for nine bytes, with texts of eight, and with values of eight.
+#[derive(Drop)]
+struct Wide {
+    limits: Limits,
+    less: Limits,
+    small_value: Limits,
+}
+
+fn fits_conn(rt: &impl Abort, wide: &Wide, conn: &Conn, fact: usize) {
+    assert!(rt; wide.limits.fits_conn(conn), "{fact}");
+    assert!(rt; wide.small_value.fits_conn(conn), "{fact}");
+    assert!(rt; !wide.less.fits_conn(conn), "{fact}");
+}
+
+fn fits_request(rt: &impl Abort, wide: &Wide, request: &Request, fact: usize) {
+    assert!(rt; wide.limits.fits(request), "{fact}");
+    assert!(rt; !wide.less.fits(request), "{fact}");
+    // The scheme is a header's value too.
+    assert_eq!(rt; wide.small_value.fits(request), fact < 7, "{fact}");
+}
+
+fn get_on(alloc: Global, conn: Conn) -> Result<Request, AllocError> {
+    let method = String::from_str(alloc, "GET")?;
+    let target = String::from_str(alloc, "/")?;
+    Request::new(alloc, method, target, true, Vec::new(alloc), conn)
+}
+
+fn fits_fact(rt: &impl Abort, alloc: Global, wide: &Wide, fact: usize) -> Result<(), Fail> {
+    let conn = conn_with(alloc, fact, "123456789")?;
+    fits_conn(rt, wide, &conn, fact);
+    let request = get_on(alloc, conn)?;
+    fits_request(rt, wide, &request, fact);
+    Ok(())
+}
+
 #[test]
 fn fits_each_text_of_a_connection(rt: HostRuntime) -> Result<(), Fail> {
-    let alloc = rt.alloc();
-    let limits = Limits::new(3, 7, 9, 3, 1, 9)?;
-    let less = Limits::new(3, 7, 9, 3, 1, 8)?;
-    let small_value = Limits::new(3, 7, 8, 3, 1, 9)?;
+    let wide = Wide {
+        limits: Limits::new(3, 7, 9, 3, 1, 9)?,
+        less: Limits::new(3, 7, 9, 3, 1, 8)?,
+        small_value: Limits::new(3, 7, 8, 3, 1, 9)?,
+    };
     for fact in 0..8usize {
-        let conn = conn_with(alloc, fact, "123456789")?;
-        assert!(rt; limits.fits_conn(&conn), "{fact}");
-        assert!(rt; small_value.fits_conn(&conn), "{fact}");
-        assert!(rt; !less.fits_conn(&conn), "{fact}");
-        let method = String::from_str(alloc, "GET")?;
-        let target = String::from_str(alloc, "/")?;
-        let request = Request::new(alloc, method, target, true, Vec::new(alloc), conn)?;
-        assert!(rt; limits.fits(&request), "{fact}");
-        assert!(rt; !less.fits(&request), "{fact}");
-        // The scheme is a header's value too.
-        assert_eq!(rt; small_value.fits(&request), fact < 7, "{fact}");
+        fits_fact(&rt, rt.alloc(), &wide, fact)?;
     }
     Ok(())
 }

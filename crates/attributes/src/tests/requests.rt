@@ -1,6 +1,7 @@
 //! Attributes and headers of two requests, and copies of connections.
 use crate::{AttrId, AttrType, AttrValue, Conn, Request, attr_named, attr_type, parse_ip};
 use std::alloc::{AllocError, Global};
+use std::process::Abort;
 use std::rc::RcStr;
 use std::test::Fail;
 
@@ -237,48 +238,88 @@ fn shown(alloc: Global, value: Option<AttrValue<'_>>) -> Result<String, AllocErr
     }
 }
 
+fn gives(
+    rt: &impl Abort,
+    alloc: Global,
+    request: &Request,
+    id: AttrId,
+    value: &str,
+) -> Result<(), Fail> {
+    assert_eq!(rt; shown(alloc, request.attr(id))?.as_str(), value, "{id:?}");
+    Ok(())
+}
+
 #[test]
 fn gives_each_attribute(rt: HostRuntime) -> Result<(), Fail> {
     let full = full_request(rt.alloc())?;
-    for (id, value) in FULL {
-        assert_eq!(rt; shown(rt.alloc(), full.attr(id))?.as_str(), value, "{id:?}");
+    for (id, value) in &FULL {
+        gives(&rt, rt.alloc(), &full, *id, value)?;
     }
+    Ok(())
+}
+
+#[test]
+fn gives_each_attribute_of_a_bare_request(rt: HostRuntime) -> Result<(), Fail> {
     let bare = bare_request(rt.alloc(), "/p#q?z")?;
-    for (id, value) in BARE {
-        assert_eq!(rt; shown(rt.alloc(), bare.attr(id))?.as_str(), value, "{id:?}");
+    for (id, value) in &BARE {
+        gives(&rt, rt.alloc(), &bare, *id, value)?;
     }
+    Ok(())
+}
+
+fn cuts(rt: &impl Abort, alloc: Global, target: &str, path: &str, query: &str) -> Result<(), Fail> {
+    let request = bare_request(alloc, target)?;
+    assert_eq!(rt; request.url_path(), path, "{target}");
+    let found = shown(alloc, request.attr(AttrId::RequestQuery))?;
+    assert_eq!(rt;
+        found.as_str().strip_prefix("text "),
+        Some(query),
+        "{target}"
+    );
     Ok(())
 }
 
 #[test]
 fn cuts_targets(rt: HostRuntime) -> Result<(), Fail> {
-    for (target, path, query) in TARGETS {
-        let request = bare_request(rt.alloc(), target)?;
-        let found = request.url_path();
-        assert_eq!(rt; found, path, "{target}");
-        let found = shown(rt.alloc(), request.attr(AttrId::RequestQuery))?;
-        assert_eq!(rt;
-            found.as_str().strip_prefix("text "),
-            Some(query),
-            "{target}"
-        );
+    for (target, path, query) in &TARGETS {
+        cuts(&rt, rt.alloc(), target, path, query)?;
     }
     Ok(())
+}
+
+fn has_header(rt: &impl Abort, request: &Request, name: &str, value: &str) {
+    assert_eq!(rt; request.header(name), Some(value), "{name}");
+}
+
+fn lacks_header(rt: &impl Abort, request: &Request, name: &str) {
+    assert_eq!(rt; request.header(name), None, "{name}");
 }
 
 #[test]
 fn finds_headers(rt: HostRuntime) -> Result<(), Fail> {
     let full = full_request(rt.alloc())?;
-    assert_eq!(rt; full.header("accept"), Some("a,b, c,"));
-    assert_eq!(rt; full.header(":authority"), Some("h:8080"));
-    assert_eq!(rt; full.header("host"), None);
-    assert_eq!(rt; full.header("cookie"), Some(""));
-    assert_eq!(rt; full.header("!first"), Some("0"));
-    assert_eq!(rt; full.header("x-request-id"), Some("7"));
-    assert_eq!(rt; full.header("x-request-ie"), None);
-    assert_eq!(rt; full.header(""), None);
+    has_header(&rt, &full, "accept", "a,b, c,");
+    has_header(&rt, &full, ":authority", "h:8080");
+    lacks_header(&rt, &full, "host");
+    has_header(&rt, &full, "cookie", "");
+    has_header(&rt, &full, "!first", "0");
+    has_header(&rt, &full, "x-request-id", "7");
+    lacks_header(&rt, &full, "x-request-ie");
+    lacks_header(&rt, &full, "");
+    Ok(())
+}
+
+#[test]
+fn counts_headers_and_lines(rt: HostRuntime) -> Result<(), Fail> {
+    let full = full_request(rt.alloc())?;
     assert_eq!(rt; full.headers().pairs().len(), 10);
     assert_eq!(rt; full.line_count(), 9);
+    Ok(())
+}
+
+#[test]
+fn keeps_what_it_was_made_of(rt: HostRuntime) -> Result<(), Fail> {
+    let full = full_request(rt.alloc())?;
     assert_eq!(rt; full.method(), "GET");
     assert_eq!(rt; full.target(), "/a/b?x=1#f?y");
     assert!(rt; full.is_http11());
@@ -286,32 +327,55 @@ fn finds_headers(rt: HostRuntime) -> Result<(), Fail> {
     Ok(())
 }
 
-// Names that begin with the same eight bytes, and shorter ones.
-#[test]
-fn finds_headers_that_begin_alike(rt: HostRuntime) -> Result<(), Fail> {
-    let alloc = rt.alloc();
+// `GET /` in HTTP/1.1 with these lines, on a connection of which the scheme alone is known.
+fn get_with(alloc: Global, lines: &[(&str, &str)]) -> Result<Request, AllocError> {
     let conn = Conn::of_scheme(RcStr::from_str(alloc, "http")?);
     let method = String::from_str(alloc, "GET")?;
     let target = String::from_str(alloc, "/")?;
-    let lines = lines_of(alloc, &ALIKE)?;
-    let request = Request::new(alloc, method, target, true, lines, conn)?;
-    for (name, value) in ALIKE {
-        assert_eq!(rt; request.header(name), Some(value), "{name}");
-    }
-    for name in NOT_ALIKE {
-        assert_eq!(rt; request.header(name), None, "{name}");
+    let lines = lines_of(alloc, lines)?;
+    Request::new(alloc, method, target, true, lines, conn)
+}
+
+// Names that begin with the same eight bytes, and shorter ones.
+#[test]
+fn finds_headers_that_begin_alike(rt: HostRuntime) -> Result<(), Fail> {
+    let request = get_with(rt.alloc(), &ALIKE)?;
+    for (name, value) in &ALIKE {
+        has_header(&rt, &request, name, value);
     }
     Ok(())
 }
 
 #[test]
-fn names_attributes(rt: HostRuntime) -> Result<(), Fail> {
-    for ((name, kind), (id, _)) in NAMES.iter().zip(FULL) {
-        assert_eq!(rt; attr_named(name), Some(id), "{name}");
-        assert_eq!(rt; attr_type(id), *kind, "{name}");
+fn finds_no_other_headers(rt: HostRuntime) -> Result<(), Fail> {
+    let request = get_with(rt.alloc(), &ALIKE)?;
+    for name in &NOT_ALIKE {
+        lacks_header(&rt, &request, name);
     }
-    for name in NO_NAMES {
-        assert_eq!(rt; attr_named(name), None, "{name}");
+    Ok(())
+}
+
+fn is_named(rt: &impl Abort, name: &str, kind: AttrType, id: AttrId) {
+    assert_eq!(rt; attr_named(name), Some(id), "{name}");
+    assert_eq!(rt; attr_type(id), kind, "{name}");
+}
+
+#[test]
+fn names_attributes(rt: HostRuntime) -> Result<(), Fail> {
+    for ((name, kind), (id, _)) in NAMES.iter().zip(&FULL) {
+        is_named(&rt, name, *kind, *id);
+    }
+    Ok(())
+}
+
+fn names_none(rt: &impl Abort, name: &str) {
+    assert_eq!(rt; attr_named(name), None, "{name}");
+}
+
+#[test]
+fn knows_no_other_names(rt: HostRuntime) -> Result<(), Fail> {
+    for name in &NO_NAMES {
+        names_none(&rt, name);
     }
     Ok(())
 }
@@ -319,31 +383,33 @@ fn names_attributes(rt: HostRuntime) -> Result<(), Fail> {
 // A line that has the name of a pseudo-header comes before its value.
 #[test]
 fn joins_lines_with_pseudo_headers(rt: HostRuntime) -> Result<(), Fail> {
-    let alloc = rt.alloc();
-    let lines = lines_of(alloc, &[(":path", "/x"), ("host", "a"), ("host", "b")])?;
-    let method = String::from_str(alloc, "GET")?;
-    let target = String::from_str(alloc, "/")?;
-    let conn = Conn::of_scheme(RcStr::from_str(alloc, "http")?);
-    let request = Request::new(alloc, method, target, true, lines, conn)?;
-    assert_eq!(rt; request.header(":path"), Some("/x,/"));
-    assert_eq!(rt; request.header(":authority"), Some("a,b"));
-    assert_eq!(rt; request.header(":method"), Some("GET"));
+    let request = get_with(rt.alloc(), &[(":path", "/x"), ("host", "a"), ("host", "b")])?;
+    has_header(&rt, &request, ":path", "/x,/");
+    has_header(&rt, &request, ":authority", "a,b");
+    has_header(&rt, &request, ":method", "GET");
     assert_eq!(rt; request.headers().pairs().len(), 4);
     assert_eq!(rt; request.line_count(), 3);
     Ok(())
 }
 
-#[test]
-fn copies_connections(rt: HostRuntime) -> Result<(), Fail> {
-    let alloc = rt.alloc();
-    let bare = Conn::of_scheme(RcStr::from_str(alloc, "http")?);
-    for conn in [full_conn(alloc)?, bare] {
-        let copy = conn.copy()?;
-        assert_eq!(rt; copy.source_port, conn.source_port);
-        assert_eq!(rt; copy.direct_remote_ip, conn.direct_remote_ip);
-        let before = format!(in alloc; "{conn:?}")?;
-        let after = format!(in alloc; "{copy:?}")?;
-        assert_eq!(rt; after.as_str(), before.as_str());
-    }
+fn is_copied(rt: &impl Abort, alloc: Global, conn: &Conn) -> Result<(), Fail> {
+    let copy = conn.copy()?;
+    assert_eq!(rt; copy.source_port, conn.source_port);
+    assert_eq!(rt; copy.direct_remote_ip, conn.direct_remote_ip);
+    let before = format!(in alloc; "{conn:?}")?;
+    let after = format!(in alloc; "{copy:?}")?;
+    assert_eq!(rt; after.as_str(), before.as_str());
     Ok(())
+}
+
+#[test]
+fn copies_full_connections(rt: HostRuntime) -> Result<(), Fail> {
+    let conn = full_conn(rt.alloc())?;
+    is_copied(&rt, rt.alloc(), &conn)
+}
+
+#[test]
+fn copies_bare_connections(rt: HostRuntime) -> Result<(), Fail> {
+    let conn = Conn::of_scheme(RcStr::from_str(rt.alloc(), "http")?);
+    is_copied(&rt, rt.alloc(), &conn)
 }

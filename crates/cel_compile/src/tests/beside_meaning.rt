@@ -8,7 +8,7 @@ use crate::tests::random_trees::{
 use crate::tests::{plain_get, verified};
 use attributes::{Conn, Limits, Request};
 use cel_tree::{Checked, read_checked};
-use cel_types::{check, evaluate_plainly};
+use cel_types::{Typed, check, evaluate_plainly};
 use cost_bound::bound;
 use proto_wire::Refusal;
 use stack_machine::{Code, Instr, RunError, Verified, run};
@@ -105,27 +105,17 @@ fn is_two_deep(code: &Code) -> Result<bool, Fail> {
 }
 
 // Does so on each request. What has a bound ends within it.
-fn compare(
+fn compare_on_each(
     rt: &impl Abort,
     alloc: Global,
     requests: &[Request],
-    expr: &[u8],
+    checked: &Checked,
+    code: &Verified,
+    most: Result<u64, Refusal>,
     tally: &mut Tally,
 ) -> Result<(), Fail> {
-    let message = checked_message(alloc, expr)?;
-    let checked = read_checked(alloc, &message)?;
-    let typed = check(alloc, &checked)?;
-    let most = bound(alloc, &typed, &Limits::largest(), BUDGET);
-    let code = verified(alloc, &typed)?;
-    tally.trees = tally.trees.saturating_add(1);
-    if is_two_deep(&compile(alloc, &typed)?)? {
-        tally.two_deep = tally.two_deep.saturating_add(1);
-    }
-    if most == Err(Refusal::TooCostly) {
-        tally.costly = tally.costly.saturating_add(1);
-    }
     for request in requests {
-        match compare_on(rt, alloc, &checked, &code, request, most.unwrap_or(BUDGET))? {
+        match compare_on(rt, alloc, checked, code, request, most.unwrap_or(BUDGET))? {
             Some(true) => tally.values = tally.values.saturating_add(1),
             Some(false) => tally.errors = tally.errors.saturating_add(1),
             None => {
@@ -135,6 +125,49 @@ fn compare(
         }
     }
     Ok(())
+}
+
+fn compare_typed(
+    rt: &impl Abort,
+    alloc: Global,
+    requests: &[Request],
+    checked: &Checked,
+    typed: &Typed<'_>,
+    tally: &mut Tally,
+) -> Result<(), Fail> {
+    let most = bound(alloc, typed, &Limits::largest(), BUDGET);
+    let code = verified(alloc, typed)?;
+    tally.trees = tally.trees.saturating_add(1);
+    if is_two_deep(&compile(alloc, typed)?)? {
+        tally.two_deep = tally.two_deep.saturating_add(1);
+    }
+    if most == Err(Refusal::TooCostly) {
+        tally.costly = tally.costly.saturating_add(1);
+    }
+    compare_on_each(rt, alloc, requests, checked, &code, most, tally)
+}
+
+fn compare_checked(
+    rt: &impl Abort,
+    alloc: Global,
+    requests: &[Request],
+    checked: &Checked,
+    tally: &mut Tally,
+) -> Result<(), Fail> {
+    let typed = check(alloc, checked)?;
+    compare_typed(rt, alloc, requests, checked, &typed, tally)
+}
+
+fn compare(
+    rt: &impl Abort,
+    alloc: Global,
+    requests: &[Request],
+    expr: &[u8],
+    tally: &mut Tally,
+) -> Result<(), Fail> {
+    let message = checked_message(alloc, expr)?;
+    let checked = read_checked(alloc, &message)?;
+    compare_checked(rt, alloc, requests, &checked, tally)
 }
 
 // Fills each template once for no locals, which is compared, and once for some scope.

@@ -47,10 +47,26 @@ fn three_and_one<'a>(
 }
 
 // Over `[true, true]`: init `["a"]`, condition `true`, step `acc + [acc[0], acc[0], acc[0], "bcd"]`, result
-// `acc == acc`. The range costs 2 + 3, its loop 1 + 2, the initial list 1 + 2, and storing it 1. Where `acc`
-// has k items, the literal costs 3 * 3 + 1 + 5, the concatenation 1 + 15 + 1 + k + 4, and the turn 5 more:
-// 27 with 1 item and 31 with 5. Then there are 9 items of 3 bytes, of mass 1 + 9 * 4; the result costs
-// 1 + 1 + 1 + 37 + 37, and 1 before it.
+// `acc == acc`.
+fn gathering<'a>(
+    alloc: Global,
+    yes: &'a Constant,
+    zero: &'a Constant,
+    letter: &'a Constant,
+    letters: &'a Constant,
+) -> Result<TypedExpr<'a>, AllocError> {
+    let range = list(vec![in alloc; constant(yes), constant(yes)]?);
+    let init = list(vec![in alloc; constant(letter)]?);
+    let more = three_and_one(alloc, zero, letters)?;
+    let step = binary(alloc, Overload::Concat, local(0), more)?;
+    let end = equal(alloc, local(0), local(0))?;
+    comprehension(alloc, range, init, constant(yes), step, end)
+}
+
+// The range costs 2 + 3, its loop 1 + 2, the initial list 1 + 2, and storing it 1. Where `acc` has k items,
+// the literal costs 3 * 3 + 1 + 5, the concatenation 1 + 15 + 1 + k + 4, and the turn 5 more: 27 with 1 item
+// and 31 with 5. Then there are 9 items of 3 bytes, of mass 1 + 9 * 4; the result costs 1 + 1 + 1 + 37 + 37,
+// and 1 before it.
 #[test]
 fn three_items_of_what_grows(rt: HostRuntime) -> Result<(), Fail> {
     let alloc = rt.alloc();
@@ -58,32 +74,36 @@ fn three_items_of_what_grows(rt: HostRuntime) -> Result<(), Fail> {
     let zero = Constant::Int(0);
     let letter = text(alloc, "a")?;
     let letters = text(alloc, "bcd")?;
-    let range = list(vec![in alloc; constant(&yes), constant(&yes)]?);
-    let init = list(vec![in alloc; constant(&letter)]?);
-    let more = three_and_one(alloc, &zero, &letters)?;
-    let step = binary(alloc, Overload::Concat, local(0), more)?;
-    let end = equal(alloc, local(0), local(0))?;
-    let root = comprehension(alloc, range, init, constant(&yes), step, end)?;
+    let root = gathering(alloc, &yes, &zero, &letter, &letters)?;
     assert!(rt; costs(alloc, root, 148));
     Ok(())
 }
 
-// `["ab", "cd", "efg", "cd", "ab"] == request.method`: the list costs 5 + 1 + 5 and is of mass 1 + 5 * 4,
-// the attribute costs 1 and is of mass 33.
+// `["ab", "cd", "efg", "cd", "ab"] == request.method`.
+fn five_texts<'a>(
+    alloc: Global,
+    short: &'a Constant,
+    same: &'a Constant,
+    long: &'a Constant,
+) -> Result<TypedExpr<'a>, AllocError> {
+    let items = list(vec![in alloc;
+        constant(short),
+        constant(same),
+        constant(long),
+        constant(same),
+        constant(short),
+    ]?);
+    equal(alloc, items, attribute(AttrId::RequestMethod))
+}
+
+// The list costs 5 + 1 + 5 and is of mass 1 + 5 * 4, the attribute costs 1 and is of mass 33.
 #[test]
 fn one_longer_among_four(rt: HostRuntime) -> Result<(), Fail> {
     let alloc = rt.alloc();
     let short = text(alloc, "ab")?;
     let same = text(alloc, "cd")?;
     let long = text(alloc, "efg")?;
-    let items = list(vec![in alloc;
-        constant(&short),
-        constant(&same),
-        constant(&long),
-        constant(&same),
-        constant(&short),
-    ]?);
-    let root = equal(alloc, items, attribute(AttrId::RequestMethod))?;
+    let root = five_texts(alloc, &short, &same, &long)?;
     assert!(rt; costs(alloc, root, 67));
     Ok(())
 }
