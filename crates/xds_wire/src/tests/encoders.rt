@@ -1,8 +1,10 @@
 //! What protobuf's own runtimes write, from all fields that Envoy's messages have: libprotobuf 3.21 by Python and protobuf-go
 //! write the same bytes but for the order of maps. The fields that no message here knows are skipped.
+use super::compare::{are_names, is_node, is_response_of_one, is_status, is_text};
 use super::vectors::{EXTENSION_TYPE, FILTER_TYPE, R, U, joined};
-use crate::{Node, Status, read_extension, read_request, read_response};
+use crate::{Any, Node, Status, read_extension, read_request, read_response};
 use std::alloc::Global;
+use std::process::Abort;
 use std::test::Fail;
 
 /// A response that gives `f` the filter, with a canary and a control plane.
@@ -79,38 +81,43 @@ const NODE: Node<'static> = Node {
 
 const CLUSTER_TYPE: &str = "type.googleapis.com/envoy.config.cluster.v3.Cluster";
 
+/// A resource of the filter `f`.
+fn is_filter(rt: &impl Abort, alloc: Global, resource: &Any<'_>) -> Result<(), Fail> {
+    is_text(rt, resource.type_url, EXTENSION_TYPE);
+    let extension = read_extension(alloc, resource.value)?;
+    is_text(rt, extension.name, "f");
+    assert!(rt; matches!(extension.typed_config, Some(any) if any.type_url == FILTER_TYPE));
+    Ok(())
+}
+
 #[test]
 fn a_response(rt: HostRuntime) -> Result<(), Fail> {
     let alloc = rt.alloc();
     let bytes = joined(alloc, RESPONSE)?;
     let response = read_response(alloc, &bytes)?;
-    assert_eq!(rt; response.version_info, "1");
-    assert_eq!(rt; response.type_url, EXTENSION_TYPE);
-    assert_eq!(rt; response.nonce, "n1");
-    assert_eq!(rt; response.resources.len(), 1);
+    is_response_of_one(&rt, &response, "1", EXTENSION_TYPE, "n1");
     for resource in &response.resources {
-        assert_eq!(rt; resource.type_url, EXTENSION_TYPE);
-        let extension = read_extension(alloc, resource.value)?;
-        assert_eq!(rt; extension.name, "f");
-        assert!(rt; matches!(extension.typed_config, Some(any) if any.type_url == FILTER_TYPE));
+        is_filter(&rt, alloc, resource)?;
     }
     Ok(())
 }
 
 const WRAPPER_TYPE: &str = "type.googleapis.com/envoy.service.discovery.v3.Resource";
 
+/// A resource of this type, whose value can be read as an extension.
+fn is_readable(rt: &impl Abort, alloc: Global, resource: &Any<'_>, type_url: &str) {
+    is_text(rt, resource.type_url, type_url);
+    assert!(rt; read_extension(alloc, resource.value).is_ok());
+}
+
 #[test]
 fn a_resource_in_a_wrapper(rt: HostRuntime) -> Result<(), Fail> {
     let alloc = rt.alloc();
     let bytes = joined(alloc, WITH_TTL)?;
     let response = read_response(alloc, &bytes)?;
-    assert_eq!(rt; response.version_info, "2");
-    assert_eq!(rt; response.type_url, EXTENSION_TYPE);
-    assert_eq!(rt; response.nonce, "n2");
-    assert_eq!(rt; response.resources.len(), 1);
+    is_response_of_one(&rt, &response, "2", EXTENSION_TYPE, "n2");
     for resource in &response.resources {
-        assert_eq!(rt; resource.type_url, WRAPPER_TYPE);
-        assert!(rt; read_extension(alloc, resource.value).is_ok());
+        is_readable(&rt, alloc, resource, WRAPPER_TYPE);
     }
     Ok(())
 }
@@ -120,36 +127,38 @@ fn a_resource_of_another_type(rt: HostRuntime) -> Result<(), Fail> {
     let alloc = rt.alloc();
     let bytes = joined(alloc, CLUSTERS)?;
     let response = read_response(alloc, &bytes)?;
-    assert_eq!(rt; response.version_info, "2");
-    assert_eq!(rt; response.type_url, CLUSTER_TYPE);
-    assert_eq!(rt; response.nonce, "n2");
-    assert_eq!(rt; response.resources.len(), 1);
+    is_response_of_one(&rt, &response, "2", CLUSTER_TYPE, "n2");
     for resource in &response.resources {
-        assert_eq!(rt; resource.type_url, CLUSTER_TYPE);
-        assert!(rt; read_extension(alloc, resource.value).is_ok());
+        is_readable(&rt, alloc, resource, CLUSTER_TYPE);
     }
     Ok(())
 }
 
 #[test]
-fn requests(rt: HostRuntime) -> Result<(), Fail> {
+fn a_first_request(rt: HostRuntime) -> Result<(), Fail> {
     let alloc = rt.alloc();
     let bytes = joined(alloc, FIRST)?;
     let request = read_request(alloc, &bytes)?;
-    assert_eq!(rt; request.version_info, "");
-    assert_eq!(rt; request.node, Some(NODE));
-    assert!(rt; request.resource_names.as_slice() == ["f"].as_slice());
-    assert_eq!(rt; request.type_url, EXTENSION_TYPE);
-    assert_eq!(rt; request.response_nonce, "");
-    assert_eq!(rt; request.error_detail, None);
+    is_text(&rt, request.version_info, "");
+    is_node(&rt, request.node, Some(NODE));
+    are_names(&rt, request.resource_names.as_slice(), &["f"]);
+    is_text(&rt, request.type_url, EXTENSION_TYPE);
+    is_text(&rt, request.response_nonce, "");
+    is_status(&rt, request.error_detail, None);
+    Ok(())
+}
+
+#[test]
+fn a_refusal(rt: HostRuntime) -> Result<(), Fail> {
+    let alloc = rt.alloc();
     let bytes = joined(alloc, REFUSAL)?;
     let request = read_request(alloc, &bytes)?;
     let error = Status {
         code: 13,
         message: "no",
     };
-    assert_eq!(rt; request.error_detail, Some(error));
-    assert_eq!(rt; request.response_nonce, "1");
+    is_status(&rt, request.error_detail, Some(error));
+    is_text(&rt, request.response_nonce, "1");
     Ok(())
 }
 
@@ -158,14 +167,14 @@ fn a_request_of_another_type(rt: HostRuntime) -> Result<(), Fail> {
     let alloc = rt.alloc();
     let bytes = joined(alloc, OTHER_TYPE)?;
     let request = read_request(alloc, &bytes)?;
-    assert_eq!(rt; request.version_info, "9");
-    assert_eq!(rt; request.node, Some(NODE));
+    is_text(&rt, request.version_info, "9");
+    is_node(&rt, request.node, Some(NODE));
     let names = [
         "outbound|80||a.b",
         "xdstp://x/envoy.config.cluster.v3.Cluster/*",
     ];
-    assert!(rt; request.resource_names.as_slice() == names.as_slice());
-    assert_eq!(rt; request.type_url, CLUSTER_TYPE);
-    assert_eq!(rt; request.response_nonce, "1");
+    are_names(&rt, request.resource_names.as_slice(), &names);
+    is_text(&rt, request.type_url, CLUSTER_TYPE);
+    is_text(&rt, request.response_nonce, "1");
     Ok(())
 }

@@ -16,21 +16,43 @@ fn gives(rt: &impl Abort, frames: &mut Frames, messages: &[&[u8]]) {
     assert!(rt; frames.next().is_none());
 }
 
+/// The frame, fed in three pieces, gives its message.
+fn gives_in_three(
+    rt: &impl Abort,
+    alloc: Global,
+    bytes: &[u8],
+    first: usize,
+    second: usize,
+) -> Result<(), Fail> {
+    let mut frames = Frames::new(alloc, LIMIT);
+    frames.feed(before(bytes, first))?;
+    frames.feed(behind(before(bytes, second), first))?;
+    frames.feed(behind(bytes, second))?;
+    gives(rt, &mut frames, &[behind(bytes, 5)]);
+    Ok(())
+}
+
+/// It does so, wherever the second cut is.
+fn gives_cut_at(rt: &impl Abort, alloc: Global, bytes: &[u8], first: usize) -> Result<(), Fail> {
+    for second in first..=bytes.len() {
+        gives_in_three(rt, alloc, bytes, first, second)?;
+    }
+    Ok(())
+}
+
+fn gives_cut(rt: &impl Abort, alloc: Global, pieces: &[&[u8]], length: usize) -> Result<(), Fail> {
+    let bytes = joined(alloc, pieces)?;
+    assert_eq!(rt; bytes.len(), length);
+    for first in 0..=bytes.len() {
+        gives_cut_at(rt, alloc, &bytes, first)?;
+    }
+    Ok(())
+}
+
 #[test]
 fn each_vector_cut_at_each_two_places(rt: HostRuntime) -> Result<(), Fail> {
-    let alloc = rt.alloc();
     for (pieces, length) in &VECTORS {
-        let bytes = joined(alloc, pieces)?;
-        assert_eq!(rt; bytes.len(), *length);
-        for first in 0..=bytes.len() {
-            for second in first..=bytes.len() {
-                let mut frames = Frames::new(alloc, LIMIT);
-                frames.feed(before(&bytes, first))?;
-                frames.feed(behind(before(&bytes, second), first))?;
-                frames.feed(behind(&bytes, second))?;
-                gives(&rt, &mut frames, &[behind(&bytes, 5)]);
-            }
-        }
+        gives_cut(&rt, rt.alloc(), pieces, *length)?;
     }
     Ok(())
 }
@@ -53,17 +75,55 @@ const PARTS: [(&[u8], &[u8], bool); 13] = [
     (b"\x00\x00\x10\x00", b"\x01", false),
 ];
 
+fn is_part_of(
+    rt: &impl Abort,
+    alloc: Global,
+    kept: &[u8],
+    bytes: &[u8],
+    is_part: bool,
+) -> Result<(), Fail> {
+    let mut frames = Frames::new(alloc, LIMIT);
+    frames.feed(kept)?;
+    assert_eq!(rt; frames.stays_partial(bytes), is_part);
+    Ok(())
+}
+
 #[test]
 fn parts_of_frames(rt: HostRuntime) -> Result<(), Fail> {
-    let alloc = rt.alloc();
     for (kept, bytes, is_part) in &PARTS {
-        let mut frames = Frames::new(alloc, LIMIT);
-        frames.feed(kept)?;
-        assert_eq!(rt; frames.stays_partial(bytes), *is_part);
+        is_part_of(&rt, rt.alloc(), kept, bytes, *is_part)?;
     }
-    let mut frames = Frames::new(alloc, LIMIT);
+    Ok(())
+}
+
+#[test]
+fn a_broken_frame_stays_broken(rt: HostRuntime) -> Result<(), Fail> {
+    let mut frames = Frames::new(rt.alloc(), LIMIT);
     assert_eq!(rt; frames.feed(b"\x01"), Err(FrameError::Compressed));
     assert!(rt; !frames.stays_partial(b""));
+    Ok(())
+}
+
+/// The stream of these two frames and the start of the first anew, fed in two pieces; what is copied between them
+/// goes on as the stream does, and apart from it.
+fn gives_two(
+    rt: &impl Abort,
+    alloc: Global,
+    first: &[u8],
+    second: &[u8],
+    early: &[u8],
+    late: &[u8],
+) -> Result<(), Fail> {
+    let mut frames = Frames::new(alloc, LIMIT);
+    frames.feed(early)?;
+    let mut copy = frames.copy()?;
+    frames.feed(late)?;
+    gives(rt, &mut frames, &[behind(first, 5), behind(second, 5)]);
+    copy.feed(late)?;
+    gives(rt, &mut copy, &[behind(first, 5), behind(second, 5)]);
+    copy.feed(behind(first, 40))?;
+    gives(rt, &mut copy, &[behind(first, 5)]);
+    gives(rt, &mut frames, &[]);
     Ok(())
 }
 
@@ -75,16 +135,8 @@ fn a_stream_cut_at_each_place(rt: HostRuntime) -> Result<(), Fail> {
     let second = joined(alloc, FIRST_ACK)?;
     let bytes = joined(alloc, &[&first, &second, before(&first, 40)])?;
     for place in 0..=bytes.len() {
-        let mut frames = Frames::new(alloc, LIMIT);
-        frames.feed(before(&bytes, place))?;
-        let mut copy = frames.copy()?;
-        frames.feed(behind(&bytes, place))?;
-        gives(&rt, &mut frames, &[behind(&first, 5), behind(&second, 5)]);
-        copy.feed(behind(&bytes, place))?;
-        gives(&rt, &mut copy, &[behind(&first, 5), behind(&second, 5)]);
-        copy.feed(behind(&first, 40))?;
-        gives(&rt, &mut copy, &[behind(&first, 5)]);
-        gives(&rt, &mut frames, &[]);
+        let (early, late) = (before(&bytes, place), behind(&bytes, place));
+        gives_two(&rt, alloc, &first, &second, early, late)?;
     }
     Ok(())
 }
@@ -96,23 +148,41 @@ fn frame_of(alloc: Global, length: usize) -> Result<Vec<u8>, Fail> {
 }
 
 #[test]
-fn lengths(rt: HostRuntime) -> Result<(), Fail> {
+fn heads_of_frames(rt: HostRuntime) -> Result<(), Fail> {
+    let longest = frame_of(rt.alloc(), LIMIT)?;
+    assert!(rt; longest.starts_with(b"\x00\x00\x10\x00\x00\x07"));
+    let empty = frame_of(rt.alloc(), 0)?;
+    assert!(rt; empty.as_slice() == b"\x00\x00\x00\x00\x00".as_slice());
+    Ok(())
+}
+
+#[test]
+fn the_longest_message(rt: HostRuntime) -> Result<(), Fail> {
     let alloc = rt.alloc();
     let longest = frame_of(alloc, LIMIT)?;
-    assert!(rt; longest.starts_with(b"\x00\x00\x10\x00\x00\x07"));
-    let empty = frame_of(alloc, 0)?;
-    assert!(rt; empty.as_slice() == b"\x00\x00\x00\x00\x00".as_slice());
     let mut frames = Frames::new(alloc, LIMIT);
-    frames.feed(&empty)?;
+    frames.feed(b"\x00\x00\x00\x00\x00")?;
     frames.feed(&longest)?;
-    frames.feed(&empty)?;
+    frames.feed(b"\x00\x00\x00\x00\x00")?;
     gives(&rt, &mut frames, &[&[], behind(&longest, 5), &[]]);
+    Ok(())
+}
+
+#[test]
+fn too_long_a_message(rt: HostRuntime) -> Result<(), Fail> {
+    let alloc = rt.alloc();
     let longer = frame_of(alloc, LIMIT + 1)?;
+    let mut frames = Frames::new(alloc, LIMIT);
     assert!(rt; frames.feed(before(&longer, 4)).is_ok());
     assert!(rt; frames.feed(behind(&longer, 4)) == Err(FrameError::TooLong));
-    assert!(rt; frames.feed(&empty) == Err(FrameError::TooLong));
+    assert!(rt; frames.feed(b"\x00\x00\x00\x00\x00") == Err(FrameError::TooLong));
     gives(&rt, &mut frames, &[]);
     Ok(())
+}
+
+/// The next message is empty.
+fn gives_nothing(rt: &impl Abort, frames: &mut Frames) {
+    assert!(rt; matches!(frames.next(), Some(message) if message.as_slice().is_empty()));
 }
 
 #[test]
@@ -122,7 +192,7 @@ fn a_million_empty_messages(rt: HostRuntime) -> Result<(), Fail> {
     let mut frames = Frames::new(alloc, LIMIT);
     frames.feed(&bytes)?;
     for _ in 0..1_000_000 {
-        assert!(rt; matches!(frames.next(), Some(message) if message.as_slice().is_empty()));
+        gives_nothing(&rt, &mut frames);
     }
     assert!(rt; frames.next().is_none());
     frames.feed(b"\x00\x01x")?;
@@ -155,21 +225,37 @@ const PIECES: [(usize, usize); 7] = [
     (199_999, 2),
 ];
 
+/// What a copy is fed comes to the frame's message.
+fn copy_gives(rt: &impl Abort, frames: &Frames, rest: &[u8], frame: &[u8]) -> Result<(), Fail> {
+    let mut copy = frames.copy()?;
+    copy.feed(rest)?;
+    gives(rt, &mut copy, &[behind(frame, 5)]);
+    Ok(())
+}
+
+fn gives_in_pieces(
+    rt: &impl Abort,
+    alloc: Global,
+    frame: &[u8],
+    piece: usize,
+    turns: usize,
+) -> Result<(), Fail> {
+    let mut frames = Frames::new(alloc, LIMIT);
+    let mut rest = frame;
+    for _ in 0..turns {
+        frames.feed(before(rest, piece))?;
+        rest = behind(rest, piece);
+        copy_gives(rt, &frames, rest, frame)?;
+    }
+    gives(rt, &mut frames, &[behind(frame, 5)]);
+    Ok(())
+}
+
 #[test]
 fn a_long_message_in_pieces(rt: HostRuntime) -> Result<(), Fail> {
-    let alloc = rt.alloc();
-    let frame = frame_of(alloc, 200_000)?;
+    let frame = frame_of(rt.alloc(), 200_000)?;
     for (piece, turns) in &PIECES {
-        let mut frames = Frames::new(alloc, LIMIT);
-        let mut rest = frame.as_slice();
-        for _ in 0..*turns {
-            frames.feed(before(rest, *piece))?;
-            rest = behind(rest, *piece);
-            let mut copy = frames.copy()?;
-            copy.feed(rest)?;
-            gives(&rt, &mut copy, &[behind(&frame, 5)]);
-        }
-        gives(&rt, &mut frames, &[behind(&frame, 5)]);
+        gives_in_pieces(&rt, rt.alloc(), &frame, *piece, *turns)?;
     }
     Ok(())
 }

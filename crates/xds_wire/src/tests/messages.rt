@@ -1,4 +1,5 @@
 //! Discovery messages at given bytes.
+use super::compare::{are_names, is_count, is_node, is_response_of_one, is_status, is_text};
 use super::vectors::{
     EXTENSION_TYPE, FILTER_TYPE, FIRST_ACK, FIRST_REQUEST, FIRST_RESPONSE, HALF_BAD_NACK,
     RESUMED_REQUEST, TRUE_AND_TRUE, behind, framed_bytes, joined,
@@ -9,6 +10,7 @@ use crate::{
 };
 use proto_wire::Refusal;
 use std::alloc::{AllocError, Global};
+use std::process::Abort;
 use std::test::Fail;
 
 const NODE: Node<'static> = Node {
@@ -17,93 +19,132 @@ const NODE: Node<'static> = Node {
 };
 
 #[test]
-fn requests(rt: HostRuntime) -> Result<(), Fail> {
+fn a_first_request(rt: HostRuntime) -> Result<(), Fail> {
     let alloc = rt.alloc();
-    let first = joined(alloc, FIRST_REQUEST)?;
-    let request = read_request(alloc, behind(&first, 5))?;
-    assert_eq!(rt; request.version_info, "");
-    assert_eq!(rt; request.node, Some(NODE));
-    assert!(rt; request.resource_names.as_slice() == ["f"].as_slice());
-    assert_eq!(rt; request.type_url, EXTENSION_TYPE);
-    assert_eq!(rt; request.response_nonce, "");
-    assert_eq!(rt; request.error_detail, None);
-    let resumed = joined(alloc, RESUMED_REQUEST)?;
-    let request = read_request(alloc, behind(&resumed, 5))?;
-    assert_eq!(rt; request.version_info, "1");
-    assert_eq!(rt; request.node, Some(NODE));
-    let ack = joined(alloc, FIRST_ACK)?;
-    let request = read_request(alloc, behind(&ack, 5))?;
-    assert_eq!(rt; request.version_info, "1");
-    assert_eq!(rt; request.node, None);
-    assert_eq!(rt; request.response_nonce, "n1");
-    let nack = joined(alloc, HALF_BAD_NACK)?;
-    let request = read_request(alloc, behind(&nack, 5))?;
-    assert!(rt; request.resource_names.as_slice() == ["f", "g"].as_slice());
-    assert_eq!(rt; request.response_nonce, "n2");
-    let status = Status {
-        code: 3,
-        message: "policy refused: 3",
-    };
-    assert_eq!(rt; request.error_detail, Some(status));
+    let frame = joined(alloc, FIRST_REQUEST)?;
+    let request = read_request(alloc, behind(&frame, 5))?;
+    is_text(&rt, request.version_info, "");
+    is_node(&rt, request.node, Some(NODE));
+    are_names(&rt, &request.resource_names, &["f"]);
+    is_text(&rt, request.type_url, EXTENSION_TYPE);
+    is_text(&rt, request.response_nonce, "");
+    is_status(&rt, request.error_detail, None);
     Ok(())
 }
 
 #[test]
-fn responses(rt: HostRuntime) -> Result<(), Fail> {
+fn a_resumed_request(rt: HostRuntime) -> Result<(), Fail> {
+    let alloc = rt.alloc();
+    let frame = joined(alloc, RESUMED_REQUEST)?;
+    let request = read_request(alloc, behind(&frame, 5))?;
+    is_text(&rt, request.version_info, "1");
+    is_node(&rt, request.node, Some(NODE));
+    Ok(())
+}
+
+#[test]
+fn an_acknowledgement(rt: HostRuntime) -> Result<(), Fail> {
+    let alloc = rt.alloc();
+    let frame = joined(alloc, FIRST_ACK)?;
+    let request = read_request(alloc, behind(&frame, 5))?;
+    is_text(&rt, request.version_info, "1");
+    is_node(&rt, request.node, None);
+    is_text(&rt, request.response_nonce, "n1");
+    Ok(())
+}
+
+#[test]
+fn a_refusal(rt: HostRuntime) -> Result<(), Fail> {
+    let alloc = rt.alloc();
+    let frame = joined(alloc, HALF_BAD_NACK)?;
+    let request = read_request(alloc, behind(&frame, 5))?;
+    are_names(&rt, &request.resource_names, &["f", "g"]);
+    is_text(&rt, request.response_nonce, "n2");
+    let status = Status {
+        code: 3,
+        message: "policy refused: 3",
+    };
+    is_status(&rt, request.error_detail, Some(status));
+    Ok(())
+}
+
+/// A resource of the filter `f`, which allows all.
+fn is_filter(rt: &impl Abort, alloc: Global, resource: &Any<'_>) -> Result<(), Fail> {
+    is_text(rt, resource.type_url, EXTENSION_TYPE);
+    let extension = read_extension(alloc, resource.value)?;
+    is_text(rt, extension.name, "f");
+    let config = extension.typed_config;
+    assert!(rt; matches!(&config, Some(any) if any.type_url == FILTER_TYPE));
+    assert!(rt; matches!(&config, Some(any) if any.value == TRUE_AND_TRUE));
+    Ok(())
+}
+
+#[test]
+fn a_response(rt: HostRuntime) -> Result<(), Fail> {
     let alloc = rt.alloc();
     let frame = joined(alloc, FIRST_RESPONSE)?;
     let response = read_response(alloc, behind(&frame, 5))?;
-    assert_eq!(rt; response.version_info, "1");
-    assert_eq!(rt; response.type_url, EXTENSION_TYPE);
-    assert_eq!(rt; response.nonce, "n1");
-    assert_eq!(rt; response.resources.len(), 1);
+    is_response_of_one(&rt, &response, "1", EXTENSION_TYPE, "n1");
     for resource in &response.resources {
-        assert_eq!(rt; resource.type_url, EXTENSION_TYPE);
-        let extension = read_extension(alloc, resource.value)?;
-        assert_eq!(rt; extension.name, "f");
-        let config = extension.typed_config;
-        assert!(rt; matches!(&config, Some(any) if any.type_url == FILTER_TYPE));
-        assert!(rt; matches!(&config, Some(any) if any.value == TRUE_AND_TRUE));
+        is_filter(&rt, alloc, resource)?;
     }
-    let empty = read_response(alloc, b"")?;
+    Ok(())
+}
+
+#[test]
+fn an_empty_response(rt: HostRuntime) -> Result<(), Fail> {
+    let empty = read_response(rt.alloc(), b"")?;
     assert!(rt; empty.resources.is_empty());
-    assert_eq!(rt; empty.nonce, "");
+    is_text(&rt, empty.nonce, "");
     Ok(())
 }
 
 /// Unknown fields, and known numbers with another wire type, are skipped; of a scalar the last counts, and a replaced text
 /// may be anything; messages merge.
 #[test]
-fn rules_of_fields(rt: HostRuntime) -> Result<(), Fail> {
-    let alloc = rt.alloc();
+fn fields_of_requests(rt: HostRuntime) -> Result<(), Fail> {
     let bytes =
         b"\x0a\x01\xff\x0a\x01a\x08\x05\x12\x03\x0a\x01p\x12\x03\x12\x01q\x12\x00\x7a\x02hi\x1a\x00\x1a\x01z\x35\x01\x02\x03\x04";
-    let request = read_request(alloc, bytes)?;
-    assert_eq!(rt; request.version_info, "a");
+    let request = read_request(rt.alloc(), bytes)?;
+    is_text(&rt, request.version_info, "a");
     let node = Node {
         id: "p",
         cluster: "q",
     };
-    assert_eq!(rt; request.node, Some(node));
-    assert!(rt; request.resource_names.as_slice() == ["", "z"].as_slice());
-    assert_eq!(rt; request.error_detail, None);
-    let empty = Status {
-        code: 0,
-        message: "",
-    };
-    assert_eq!(rt; read_request(alloc, b"\x32\x00")?.error_detail, Some(empty));
-    let minus = read_request(
-        alloc,
-        b"\x32\x0b\x08\xff\xff\xff\xff\xff\xff\xff\xff\xff\x01\x32\x00",
-    )?;
-    let minus_one = Status {
-        code: -1,
-        message: "",
-    };
-    assert_eq!(rt; minus.error_detail, Some(minus_one));
-    let two = read_response(alloc, b"\x12\x03\x0a\x01a\x12\x03\x12\x01\xff")?;
-    assert_eq!(rt; two.resources.len(), 2);
-    let merged = read_extension(alloc, b"\x12\x03\x0a\x01a\x12\x03\x12\x01\xff")?;
+    is_node(&rt, request.node, Some(node));
+    are_names(&rt, &request.resource_names, &["", "z"]);
+    is_status(&rt, request.error_detail, None);
+    Ok(())
+}
+
+/// A request's error has this code and no message.
+fn has_code(rt: &impl Abort, alloc: Global, request: &[u8], code: i32) -> Result<(), Fail> {
+    let request = read_request(alloc, request)?;
+    let status = Status { code, message: "" };
+    is_status(rt, request.error_detail, Some(status));
+    Ok(())
+}
+
+#[test]
+fn codes_of_errors(rt: HostRuntime) -> Result<(), Fail> {
+    has_code(&rt, rt.alloc(), b"\x32\x00", 0)?;
+    let minus_one = b"\x32\x0b\x08\xff\xff\xff\xff\xff\xff\xff\xff\xff\x01\x32\x00";
+    has_code(&rt, rt.alloc(), minus_one, -1)
+}
+
+/// What one field gives twice: two resources, and one configuration.
+const TWICE: &[u8] = b"\x12\x03\x0a\x01a\x12\x03\x12\x01\xff";
+
+#[test]
+fn resources_stand_apart(rt: HostRuntime) -> Result<(), Fail> {
+    let two = read_response(rt.alloc(), TWICE)?;
+    is_count(&rt, two.resources.len(), 2);
+    Ok(())
+}
+
+#[test]
+fn configurations_merge(rt: HostRuntime) -> Result<(), Fail> {
+    let merged = read_extension(rt.alloc(), TWICE)?;
     assert!(rt;
         matches!(merged.typed_config, Some(any) if any.type_url == "a" && any.value == b"\xff".as_slice())
     );
@@ -133,13 +174,25 @@ const REFUSALS: [(&[u8], &[u8], &[u8], Refusal); 4] = [
     ),
 ];
 
+fn refuses_request(rt: &impl Abort, alloc: Global, request: &[u8], refusal: Refusal) {
+    assert!(rt; matches!(read_request(alloc, request), Err(error) if error == refusal));
+}
+
+fn refuses_response(rt: &impl Abort, alloc: Global, response: &[u8], refusal: Refusal) {
+    assert!(rt; matches!(read_response(alloc, response), Err(error) if error == refusal));
+}
+
+fn refuses_extension(rt: &impl Abort, alloc: Global, extension: &[u8], refusal: Refusal) {
+    assert!(rt; matches!(read_extension(alloc, extension), Err(error) if error == refusal));
+}
+
 #[test]
 fn refusals(rt: HostRuntime) {
     let alloc = rt.alloc();
     for (request, response, extension, refusal) in &REFUSALS {
-        assert!(rt; matches!(read_request(alloc, request), Err(error) if error == *refusal));
-        assert!(rt; matches!(read_response(alloc, response), Err(error) if error == *refusal));
-        assert!(rt; matches!(read_extension(alloc, extension), Err(error) if error == *refusal));
+        refuses_request(&rt, alloc, request, *refusal);
+        refuses_response(&rt, alloc, response, *refusal);
+        refuses_extension(&rt, alloc, extension, *refusal);
     }
 }
 
@@ -162,26 +215,41 @@ fn framed(alloc: Global, request: &DiscoveryRequest<'_>) -> Result<Vec<u8>, Fail
     framed_bytes(alloc, &message)
 }
 
+/// The request in a frame is these bytes.
+fn is_framed(
+    rt: &impl Abort,
+    alloc: Global,
+    request: &DiscoveryRequest<'_>,
+    pieces: &[&[u8]],
+) -> Result<(), Fail> {
+    let frame = framed(alloc, request)?;
+    let wanted = joined(alloc, pieces)?;
+    assert!(rt; frame == wanted);
+    Ok(())
+}
+
 #[test]
 fn written_requests(rt: HostRuntime) -> Result<(), Fail> {
-    let alloc = rt.alloc();
-    let mut request = asks(alloc, &["f"])?;
+    let mut request = asks(rt.alloc(), &["f"])?;
     request.node = Some(NODE);
-    assert!(rt; framed(alloc, &request)? == joined(alloc, FIRST_REQUEST)?);
+    is_framed(&rt, rt.alloc(), &request, FIRST_REQUEST)?;
     request.version_info = "1";
-    assert!(rt; framed(alloc, &request)? == joined(alloc, RESUMED_REQUEST)?);
+    is_framed(&rt, rt.alloc(), &request, RESUMED_REQUEST)?;
     request.node = None;
     request.response_nonce = "n1";
-    assert!(rt; framed(alloc, &request)? == joined(alloc, FIRST_ACK)?);
-    let mut refusal = asks(alloc, &["f", "g"])?;
+    is_framed(&rt, rt.alloc(), &request, FIRST_ACK)
+}
+
+#[test]
+fn a_written_refusal(rt: HostRuntime) -> Result<(), Fail> {
+    let mut refusal = asks(rt.alloc(), &["f", "g"])?;
     refusal.version_info = "1";
     refusal.response_nonce = "n2";
     refusal.error_detail = Some(Status {
         code: 3,
         message: "policy refused: 3",
     });
-    assert!(rt; framed(alloc, &refusal)? == joined(alloc, HALF_BAD_NACK)?);
-    Ok(())
+    is_framed(&rt, rt.alloc(), &refusal, HALF_BAD_NACK)
 }
 
 #[test]
@@ -214,37 +282,56 @@ fn a_written_response(rt: HostRuntime) -> Result<(), Fail> {
     Ok(())
 }
 
-/// A node and an error that are there are written even if all in them is empty; repeated strings are, too; a negative code
-/// takes ten bytes.
-#[test]
-fn written_defaults(rt: HostRuntime) -> Result<(), Fail> {
-    let alloc = rt.alloc();
+/// A request for two names, of which one is empty, with an empty node and this error.
+fn almost_empty<'a>(alloc: Global, error: Status<'a>) -> Result<DiscoveryRequest<'a>, AllocError> {
     let mut request = asks(alloc, &["", "g"])?;
     request.type_url = "";
     request.node = Some(Node {
         id: "",
         cluster: "",
     });
-    request.error_detail = Some(Status {
+    request.error_detail = Some(error);
+    Ok(request)
+}
+
+/// A node and an error that are there are written even if all in them is empty; repeated strings are, too.
+#[test]
+fn written_defaults(rt: HostRuntime) -> Result<(), Fail> {
+    let alloc = rt.alloc();
+    let error = Status {
         code: 0,
         message: "",
-    });
+    };
+    let request = almost_empty(alloc, error)?;
     let mut bytes = Vec::new(alloc);
     write_request(&request, &mut bytes)?;
     assert!(rt; bytes.as_slice() == b"\x12\x00\x1a\x00\x1a\x01g\x32\x00".as_slice());
-    request.error_detail = Some(Status {
+    Ok(())
+}
+
+/// A negative code takes ten bytes.
+#[test]
+fn a_written_negative_code(rt: HostRuntime) -> Result<(), Fail> {
+    let alloc = rt.alloc();
+    let error = Status {
         code: -1,
         message: "m",
-    });
-    bytes.clear();
+    };
+    let request = almost_empty(alloc, error)?;
+    let mut bytes = Vec::new(alloc);
     write_request(&request, &mut bytes)?;
     let end = b"\x32\x0e\x08\xff\xff\xff\xff\xff\xff\xff\xff\xff\x01\x12\x01m";
     assert!(rt; bytes.ends_with(end));
+    Ok(())
+}
+
+#[test]
+fn a_written_extension_of_nothing(rt: HostRuntime) -> Result<(), Fail> {
     let nothing = TypedExtensionConfig {
         name: "",
         typed_config: None,
     };
-    bytes.clear();
+    let mut bytes = Vec::new(rt.alloc());
     write_extension(&nothing, &mut bytes)?;
     assert!(rt; bytes.is_empty());
     Ok(())

@@ -1,4 +1,5 @@
 //! Fields that no message knows, of every wire type and in every envelope, and wire types that there are not.
+use super::compare::{are_names, is_count, is_node, is_status, is_text};
 use super::vectors::joined;
 use crate::{read_extension, read_request, read_response};
 use proto_wire::Refusal;
@@ -36,20 +37,34 @@ fn envelopes(alloc: Global, field: &[u8]) -> Result<(Vec<u8>, Vec<u8>, Vec<u8>),
     Ok((request, response, extension))
 }
 
+fn is_skipped_in_request(rt: &impl Abort, alloc: Global, bytes: &[u8]) -> Result<(), Fail> {
+    let request = read_request(alloc, bytes)?;
+    assert!(rt; matches!(request.node, Some(node) if node.id == "n"));
+    assert!(rt; matches!(request.error_detail, Some(error) if error.code == 3));
+    are_names(rt, &request.resource_names, &["f"]);
+    Ok(())
+}
+
+fn is_skipped_in_response(rt: &impl Abort, alloc: Global, bytes: &[u8]) -> Result<(), Fail> {
+    let response = read_response(alloc, bytes)?;
+    is_text(rt, response.version_info, "1");
+    is_count(rt, response.resources.len(), 1);
+    Ok(())
+}
+
+fn is_skipped_in_extension(rt: &impl Abort, alloc: Global, bytes: &[u8]) -> Result<(), Fail> {
+    let extension = read_extension(alloc, bytes)?;
+    is_text(rt, extension.name, "f");
+    assert!(rt; matches!(extension.typed_config, Some(any) if any.value == b"v".as_slice()));
+    Ok(())
+}
+
 /// The field is skipped in all of them.
 fn is_skipped(rt: &impl Abort, alloc: Global, field: &[u8]) -> Result<(), Fail> {
     let (request, response, extension) = envelopes(alloc, field)?;
-    let request = read_request(alloc, &request)?;
-    assert!(rt; matches!(request.node, Some(node) if node.id == "n"));
-    assert!(rt; matches!(request.error_detail, Some(error) if error.code == 3));
-    assert!(rt; request.resource_names.as_slice() == ["f"].as_slice());
-    let response = read_response(alloc, &response)?;
-    assert_eq!(rt; response.version_info, "1");
-    assert_eq!(rt; response.resources.len(), 1);
-    let extension = read_extension(alloc, &extension)?;
-    assert_eq!(rt; extension.name, "f");
-    assert!(rt; matches!(extension.typed_config, Some(any) if any.value == b"v".as_slice()));
-    Ok(())
+    is_skipped_in_request(rt, alloc, &request)?;
+    is_skipped_in_response(rt, alloc, &response)?;
+    is_skipped_in_extension(rt, alloc, &extension)
 }
 
 #[test]
@@ -61,32 +76,44 @@ fn unknown_fields(rt: HostRuntime) -> Result<(), Fail> {
     Ok(())
 }
 
+/// The field is refused in all of them.
+fn is_bad(rt: &impl Abort, alloc: Global, field: &[u8]) -> Result<(), Fail> {
+    let (request, response, extension) = envelopes(alloc, field)?;
+    assert!(rt; matches!(read_request(alloc, &request), Err(Refusal::BadWire)));
+    assert!(rt; matches!(read_response(alloc, &response), Err(Refusal::BadWire)));
+    assert!(rt; matches!(read_extension(alloc, &extension), Err(Refusal::BadWire)));
+    Ok(())
+}
+
 #[test]
 fn bad_wire_types(rt: HostRuntime) -> Result<(), Fail> {
     let alloc = rt.alloc();
     for field in &BAD {
-        let (request, response, extension) = envelopes(alloc, field)?;
-        assert!(rt; matches!(read_request(alloc, &request), Err(Refusal::BadWire)));
-        assert!(rt; matches!(read_response(alloc, &response), Err(Refusal::BadWire)));
-        assert!(rt; matches!(read_extension(alloc, &extension), Err(Refusal::BadWire)));
+        is_bad(&rt, alloc, field)?;
     }
     Ok(())
 }
 
 /// A field of the wrong wire type is as one that is not known.
 #[test]
-fn known_numbers_of_other_types(rt: HostRuntime) -> Result<(), Fail> {
+fn known_numbers_of_other_types_in_requests(rt: HostRuntime) -> Result<(), Fail> {
     let alloc = rt.alloc();
     let request = read_request(
         alloc,
         b"\x08\x01\x15abcd\x19abcdefgh\x20\x01\x28\x01\x35abcd",
     )?;
-    assert_eq!(rt; request.version_info, "");
-    assert_eq!(rt; request.node, None);
+    is_text(&rt, request.version_info, "");
+    is_node(&rt, request.node, None);
     assert!(rt; request.resource_names.is_empty());
-    assert_eq!(rt; request.error_detail, None);
+    is_status(&rt, request.error_detail, None);
+    Ok(())
+}
+
+#[test]
+fn known_numbers_of_other_types_in_responses(rt: HostRuntime) -> Result<(), Fail> {
+    let alloc = rt.alloc();
     let response = read_response(alloc, b"\x08\x01\x10\x01\x25abcd\x29abcdefgh")?;
     assert!(rt; response.resources.is_empty());
-    assert_eq!(rt; response.nonce, "");
+    is_text(&rt, response.nonce, "");
     Ok(())
 }
