@@ -209,23 +209,28 @@ fn fits(rt: &impl Abort, head: &Head, request: &Request) -> Result<(), Fail> {
     Ok(())
 }
 
-// With one number less the request is not within the limits.
-fn needs(rt: &impl Abort, head: &Head, request: &Request, place: usize) {
-    let mut less = head.least;
-    less[place] = less[place].saturating_sub(1);
-    let within = match declare(less) {
+// The request is not within limits of these numbers, or there are none.
+fn is_outside(rt: &impl Abort, request: &Request, numbers: [usize; 6], target: &str) {
+    let within = match declare(numbers) {
         Ok(limits) => limits.fits(request),
         Err(_) => false,
     };
-    assert!(rt; !within, "{} {place}", head.target);
+    assert!(rt; !within, "{target} {numbers:?}");
+}
+
+// With one number less the request is not within the limits.
+fn needs_each(rt: &impl Abort, head: &Head, request: &Request) {
+    for place in 0..6usize {
+        let mut less = head.least;
+        less[place] = less[place].saturating_sub(1);
+        is_outside(rt, request, less, head.target);
+    }
 }
 
 fn fits_at_borders_of(rt: &impl Abort, alloc: Global, head: &Head) -> Result<(), Fail> {
     let request = request_of(alloc, head)?;
     fits(rt, head, &request)?;
-    for place in 0..6usize {
-        needs(rt, head, &request, place);
-    }
+    needs_each(rt, head, &request);
     Ok(())
 }
 

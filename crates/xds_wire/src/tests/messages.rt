@@ -283,7 +283,10 @@ fn a_written_response(rt: HostRuntime) -> Result<(), Fail> {
 }
 
 /// A request for two names, of which one is empty, with an empty node and this error.
-fn almost_empty<'a>(alloc: Global, error: Status<'a>) -> Result<DiscoveryRequest<'a>, AllocError> {
+fn almost_empty(
+    alloc: Global,
+    error: Status<'static>,
+) -> Result<DiscoveryRequest<'static>, AllocError> {
     let mut request = asks(alloc, &["", "g"])?;
     request.type_url = "";
     request.node = Some(Node {
