@@ -74,19 +74,33 @@ fn nested_results(
 
 // How many instructions an expression has.
 fn code_length(alloc: Global, root: TypedExpr<'_>) -> Result<usize, Refusal> {
-    Ok(compile(alloc, &Typed { root })?.len())
+    let typed = Typed { root };
+    typed_length(alloc, &typed)
+}
+
+fn typed_length(alloc: Global, typed: &Typed<'_>) -> Result<usize, Refusal> {
+    Ok(compile(alloc, typed)?.len())
+}
+
+fn length_of_list(alloc: Global, value: &Constant, count: u32) -> Result<usize, Refusal> {
+    code_length(alloc, list_of(alloc, value, count)?)
+}
+
+fn length_of_steps(alloc: Global, value: &Constant, count: u32) -> Result<usize, Refusal> {
+    code_length(alloc, nested_steps(alloc, value, count)?)
+}
+
+fn length_of_results(alloc: Global, value: &Constant, count: u32) -> Result<usize, Refusal> {
+    code_length(alloc, nested_results(alloc, value, count)?)
 }
 
 #[test]
 fn too_many_instructions(rt: HostRuntime) -> Result<(), Fail> {
     let alloc = rt.alloc();
     let value = YES;
-    let most = list_of(alloc, &value, 65_534)?;
-    assert!(rt; code_length(alloc, most) == Ok(65_535));
-    let more = list_of(alloc, &value, 65_535)?;
-    assert!(rt; code_length(alloc, more) == Err(Refusal::TooLarge));
-    let many = list_of(alloc, &value, 70_000)?;
-    assert!(rt; code_length(alloc, many) == Err(Refusal::TooLarge));
+    assert!(rt; length_of_list(alloc, &value, 65_534) == Ok(65_535));
+    assert!(rt; length_of_list(alloc, &value, 65_535) == Err(Refusal::TooLarge));
+    assert!(rt; length_of_list(alloc, &value, 70_000) == Err(Refusal::TooLarge));
     Ok(())
 }
 
@@ -95,10 +109,8 @@ fn too_many_instructions(rt: HostRuntime) -> Result<(), Fail> {
 fn too_many_locals_in_steps(rt: HostRuntime) -> Result<(), Fail> {
     let alloc = rt.alloc();
     let value = YES;
-    let most = nested_steps(alloc, &value, 127)?;
-    assert!(rt; code_length(alloc, most) == Ok(1271));
-    let more = nested_steps(alloc, &value, 128)?;
-    assert!(rt; code_length(alloc, more) == Err(Refusal::TooLarge));
+    assert!(rt; length_of_steps(alloc, &value, 127) == Ok(1271));
+    assert!(rt; length_of_steps(alloc, &value, 128) == Err(Refusal::TooLarge));
     Ok(())
 }
 
@@ -107,9 +119,7 @@ fn too_many_locals_in_steps(rt: HostRuntime) -> Result<(), Fail> {
 fn too_many_locals_in_results(rt: HostRuntime) -> Result<(), Fail> {
     let alloc = rt.alloc();
     let value = YES;
-    let most = nested_results(alloc, &value, 254)?;
-    assert!(rt; code_length(alloc, most) == Ok(2541));
-    let more = nested_results(alloc, &value, 255)?;
-    assert!(rt; code_length(alloc, more) == Err(Refusal::TooLarge));
+    assert!(rt; length_of_results(alloc, &value, 254) == Ok(2541));
+    assert!(rt; length_of_results(alloc, &value, 255) == Err(Refusal::TooLarge));
     Ok(())
 }
