@@ -4,15 +4,16 @@ mod exprs;
 mod inner_loops;
 mod neighbours;
 
-use crate::bound;
-use attributes::{AttrId, Limits};
+use attributes::AttrId;
 use cel_ops::{ArithmeticOp, CompareOp};
 use cel_overload::Overload;
 use cel_tree::Constant;
 use cel_types::{Typed, TypedExpr};
 use cel_value::CelType;
-use exprs::{attribute, binary, comprehension, constant, list, local, text, unary};
-use proto_wire::Refusal;
+use exprs::{
+    attribute, binary, comprehension, constant, costs, costs_within, exceeds, list, local, text,
+    unary,
+};
 use std::alloc::{AllocError, Global};
 use std::rc::Rc;
 use std::test::Fail;
@@ -29,8 +30,7 @@ fn method_is_get(rt: HostRuntime) -> Result<(), Fail> {
         constant(&get),
     )?;
     let typed = Typed { root };
-    assert!(rt; bound(alloc, &typed, &Limits::largest(), 40) == Ok(40));
-    assert!(rt; bound(alloc, &typed, &Limits::largest(), 39) == Err(Refusal::TooCostly));
+    assert!(rt; costs(alloc, &typed, 40));
     Ok(())
 }
 
@@ -41,12 +41,29 @@ fn true_and_true(rt: HostRuntime) -> Result<(), Fail> {
     let yes = Constant::Bool(true);
     let root = binary(alloc, Overload::LogicalAnd, constant(&yes), constant(&yes))?;
     let typed = Typed { root };
-    assert!(rt; bound(alloc, &typed, &Limits::largest(), 4) == Ok(4));
-    assert!(rt; bound(alloc, &typed, &Limits::largest(), 3) == Err(Refusal::TooCostly));
+    assert!(rt; costs(alloc, &typed, 4));
     Ok(())
 }
 
-// `(true ? 1 / 0 : 2) == 2`.
+// `(true ? 1 / 0 : 2) == 2`, of `true` and of 0, 1 and 2.
+fn choice_equals<'a>(
+    alloc: Global,
+    yes: &'a Constant,
+    zero: &'a Constant,
+    one: &'a Constant,
+    two: &'a Constant,
+) -> Result<TypedExpr<'a>, AllocError> {
+    let divide = Overload::Arithmetic(ArithmeticOp::Divide);
+    let quotient = binary(alloc, divide, constant(one), constant(zero))?;
+    let choice = TypedExpr::Call {
+        cel_type: CelType::Int,
+        overload: Overload::Conditional,
+        operands: vec![in alloc; constant(yes), quotient, constant(two)]?,
+    };
+    let equal = Overload::Compare(CompareOp::Equal);
+    binary(alloc, equal, choice, constant(two))
+}
+
 #[test]
 fn conditional_counts_its_dearer_branch(rt: HostRuntime) -> Result<(), Fail> {
     let alloc = rt.alloc();
@@ -54,22 +71,10 @@ fn conditional_counts_its_dearer_branch(rt: HostRuntime) -> Result<(), Fail> {
     let zero = Constant::Int(0);
     let one = Constant::Int(1);
     let two = Constant::Int(2);
-    let divide = Overload::Arithmetic(ArithmeticOp::Divide);
-    let quotient = binary(alloc, divide, constant(&one), constant(&zero))?;
-    let choice = TypedExpr::Call {
-        cel_type: CelType::Int,
-        overload: Overload::Conditional,
-        operands: vec![in alloc; constant(&yes), quotient, constant(&two)]?,
-    };
-    let root = binary(
-        alloc,
-        Overload::Compare(CompareOp::Equal),
-        choice,
-        constant(&two),
-    )?;
+    let root = choice_equals(alloc, &yes, &zero, &one, &two)?;
     let typed = Typed { root };
-    assert!(rt; bound(alloc, &typed, &Limits::largest(), u64::MAX) == Ok(10));
-    assert!(rt; bound(alloc, &typed, &Limits::largest(), 9) == Err(Refusal::TooCostly));
+    assert!(rt; costs_within(alloc, &typed, 10, u64::MAX));
+    assert!(rt; exceeds(alloc, &typed, 9));
     Ok(())
 }
 
@@ -83,8 +88,7 @@ fn sixty_three_nots(rt: HostRuntime) -> Result<(), Fail> {
         root = unary(alloc, Overload::LogicalNot, root)?;
     }
     let typed = Typed { root };
-    assert!(rt; bound(alloc, &typed, &Limits::largest(), 64) == Ok(64));
-    assert!(rt; bound(alloc, &typed, &Limits::largest(), 63) == Err(Refusal::TooCostly));
+    assert!(rt; costs(alloc, &typed, 64));
     Ok(())
 }
 
@@ -100,21 +104,29 @@ fn quotient_compares<'a>(
 }
 
 // `[0, 1].exists(x, 1 / x == 1)`.
+fn exists_quotient<'a>(
+    alloc: Global,
+    no: &'a Constant,
+    zero: &'a Constant,
+    one: &'a Constant,
+) -> Result<TypedExpr<'a>, AllocError> {
+    let range = list(vec![in alloc; constant(zero), constant(one)]?);
+    let goes_on = unary(alloc, Overload::LogicalNot, local(0))?;
+    let condition = unary(alloc, Overload::NotStrictlyFalse, goes_on)?;
+    let test = quotient_compares(alloc, CompareOp::Equal, one)?;
+    let step = binary(alloc, Overload::LogicalOr, local(0), test)?;
+    comprehension(alloc, range, constant(no), condition, step, local(0))
+}
+
 #[test]
 fn exists_over_two(rt: HostRuntime) -> Result<(), Fail> {
     let alloc = rt.alloc();
     let no = Constant::Bool(false);
     let zero = Constant::Int(0);
     let one = Constant::Int(1);
-    let range = list(vec![in alloc; constant(&zero), constant(&one)]?);
-    let goes_on = unary(alloc, Overload::LogicalNot, local(0))?;
-    let condition = unary(alloc, Overload::NotStrictlyFalse, goes_on)?;
-    let test = quotient_compares(alloc, CompareOp::Equal, &one)?;
-    let step = binary(alloc, Overload::LogicalOr, local(0), test)?;
-    let root = comprehension(alloc, range, constant(&no), condition, step, local(0))?;
+    let root = exists_quotient(alloc, &no, &zero, &one)?;
     let typed = Typed { root };
-    assert!(rt; bound(alloc, &typed, &Limits::largest(), 46) == Ok(46));
-    assert!(rt; bound(alloc, &typed, &Limits::largest(), 45) == Err(Refusal::TooCostly));
+    assert!(rt; costs(alloc, &typed, 46));
     Ok(())
 }
 
@@ -129,7 +141,7 @@ fn all_over_three(rt: HostRuntime) -> Result<(), Fail> {
     let step = binary(alloc, Overload::LogicalAnd, local(0), local(1))?;
     let root = comprehension(alloc, range, constant(&yes), condition, step, local(0))?;
     let typed = Typed { root };
-    assert!(rt; bound(alloc, &typed, &Limits::largest(), 45) == Ok(45));
+    assert!(rt; costs(alloc, &typed, 45));
     Ok(())
 }
 
@@ -162,24 +174,33 @@ fn all_over_none(rt: HostRuntime) -> Result<(), Fail> {
     let zero = Constant::Int(0);
     let root = all_of_none(alloc, &yes, &zero)?;
     let typed = Typed { root };
-    assert!(rt; bound(alloc, &typed, &Limits::largest(), 6) == Ok(6));
+    assert!(rt; costs(alloc, &typed, 6));
     Ok(())
 }
 
 // `[0, 1].all(x, 1 / x > 1)`.
+fn all_quotients<'a>(
+    alloc: Global,
+    yes: &'a Constant,
+    zero: &'a Constant,
+    one: &'a Constant,
+) -> Result<TypedExpr<'a>, AllocError> {
+    let range = list(vec![in alloc; constant(zero), constant(one)]?);
+    let condition = unary(alloc, Overload::NotStrictlyFalse, local(0))?;
+    let test = quotient_compares(alloc, CompareOp::Greater, one)?;
+    let step = binary(alloc, Overload::LogicalAnd, local(0), test)?;
+    comprehension(alloc, range, constant(yes), condition, step, local(0))
+}
+
 #[test]
 fn all_with_zero_divisor(rt: HostRuntime) -> Result<(), Fail> {
     let alloc = rt.alloc();
     let yes = Constant::Bool(true);
     let zero = Constant::Int(0);
     let one = Constant::Int(1);
-    let range = list(vec![in alloc; constant(&zero), constant(&one)]?);
-    let condition = unary(alloc, Overload::NotStrictlyFalse, local(0))?;
-    let test = quotient_compares(alloc, CompareOp::Greater, &one)?;
-    let step = binary(alloc, Overload::LogicalAnd, local(0), test)?;
-    let root = comprehension(alloc, range, constant(&yes), condition, step, local(0))?;
+    let root = all_quotients(alloc, &yes, &zero, &one)?;
     let typed = Typed { root };
-    assert!(rt; bound(alloc, &typed, &Limits::largest(), 44) == Ok(44));
+    assert!(rt; costs(alloc, &typed, 44));
     Ok(())
 }
 
@@ -203,6 +224,6 @@ fn doubling_accumulator(rt: HostRuntime) -> Result<(), Fail> {
     let letter = text(alloc, "a")?;
     let root = doubling(alloc, &yes, &letter)?;
     let typed = Typed { root };
-    assert!(rt; bound(alloc, &typed, &Limits::largest(), u64::MAX) == Err(Refusal::TooCostly));
+    assert!(rt; exceeds(alloc, &typed, u64::MAX));
     Ok(())
 }

@@ -1,11 +1,13 @@
 //! Elaborated expressions, built by hand. Measuring looks at no type but that of an empty literal and
 //! of what is counted.
 
-use attributes::AttrId;
+use crate::bound;
+use attributes::{AttrId, Limits};
 use cel_overload::Overload;
 use cel_tree::Constant;
-use cel_types::{TypedExpr, TypedLoop};
+use cel_types::{Typed, TypedExpr, TypedLoop};
 use cel_value::CelType;
+use proto_wire::Refusal;
 use std::alloc::{AllocError, Global};
 use std::rc::RcStr;
 
@@ -91,4 +93,19 @@ pub(super) fn comprehension<'a>(
         cel_type: CelType::Bool,
         parts: Box::new(alloc, parts)?,
     })
+}
+
+/// Whether an expression costs more than a budget.
+pub(super) fn exceeds(alloc: Global, typed: &Typed<'_>, budget: u64) -> bool {
+    bound(alloc, typed, &Limits::largest(), budget) == Err(Refusal::TooCostly)
+}
+
+/// Whether an expression costs so many steps, where the budget is this.
+pub(super) fn costs_within(alloc: Global, typed: &Typed<'_>, steps: u64, budget: u64) -> bool {
+    bound(alloc, typed, &Limits::largest(), budget) == Ok(steps)
+}
+
+/// Whether an expression costs just so many steps: a budget of one less is too small.
+pub(super) fn costs(alloc: Global, typed: &Typed<'_>, steps: u64) -> bool {
+    costs_within(alloc, typed, steps, steps) && exceeds(alloc, typed, steps.saturating_sub(1))
 }

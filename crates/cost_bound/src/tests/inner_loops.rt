@@ -1,14 +1,11 @@
 //! Loops in the turns of other loops: each costs in every turn what it costs there, remembered or not.
 
-use super::exprs::{binary, comprehension, constant, list, local, text, unary};
-use crate::bound;
-use attributes::Limits;
+use super::exprs::{binary, comprehension, constant, costs, exceeds, list, local, text, unary};
 use cel_ops::CompareOp;
 use cel_overload::Overload;
 use cel_tree::Constant;
 use cel_types::{Typed, TypedExpr};
 use cel_value::CelType;
-use proto_wire::Refusal;
 use std::alloc::{AllocError, Global};
 use std::test::Fail;
 
@@ -104,18 +101,28 @@ fn equals_letter<'a>(
     binary(alloc, equal, local(outside), constant(&w.letter))
 }
 
+// In two turns, and in each `[true, false, true].all(x, x)`.
+fn growing_by_itself<'a>(alloc: Global, w: &'a Words) -> Result<TypedExpr<'a>, AllocError> {
+    let inner = all_of_three(alloc, 2, 3, w)?;
+    growing(alloc, w, twice(alloc, &w.one)?, inner)
+}
+
 // The turns cost 56 and 57: the text is one letter longer in the second.
 #[test]
 fn inner_loop_by_itself(rt: HostRuntime) -> Result<(), Fail> {
     let alloc = rt.alloc();
     let w = make_words(alloc)?;
-    let inner = all_of_three(alloc, 2, 3, &w)?;
-    let root = growing(alloc, &w, twice(alloc, &w.one)?, inner)?;
+    let root = growing_by_itself(alloc, &w)?;
     let typed = Typed { root };
-    assert!(rt; bound(alloc, &typed, &Limits::largest(), 125) == Ok(125));
-    assert!(rt; bound(alloc, &typed, &Limits::largest(), 124) == Err(Refusal::TooCostly));
-    assert!(rt; bound(alloc, &typed, &Limits::largest(), 40) == Err(Refusal::TooCostly));
+    assert!(rt; costs(alloc, &typed, 125));
+    assert!(rt; exceeds(alloc, &typed, 40));
     Ok(())
+}
+
+// In two turns, and in each `[true, false].all(x, t == "a")`.
+fn growing_by_text<'a>(alloc: Global, w: &'a Words) -> Result<TypedExpr<'a>, AllocError> {
+    let inner = all_of_two(alloc, w, equals_letter(alloc, w, 0)?)?;
+    growing(alloc, w, twice(alloc, &w.one)?, inner)
 }
 
 // The inner loop looks at the text: it costs 42 and 44, the turns 53 and 56.
@@ -123,12 +130,17 @@ fn inner_loop_by_itself(rt: HostRuntime) -> Result<(), Fail> {
 fn inner_loop_of_what_is_gathered(rt: HostRuntime) -> Result<(), Fail> {
     let alloc = rt.alloc();
     let w = make_words(alloc)?;
-    let inner = all_of_two(alloc, &w, equals_letter(alloc, &w, 0)?)?;
-    let root = growing(alloc, &w, twice(alloc, &w.one)?, inner)?;
+    let root = growing_by_text(alloc, &w)?;
     let typed = Typed { root };
-    assert!(rt; bound(alloc, &typed, &Limits::largest(), 121) == Ok(121));
-    assert!(rt; bound(alloc, &typed, &Limits::largest(), 120) == Err(Refusal::TooCostly));
+    assert!(rt; costs(alloc, &typed, 121));
     Ok(())
+}
+
+// Over `["a", "bc"]`, and in each turn `[true, false].all(x, e == "a")`.
+fn growing_by_element<'a>(alloc: Global, w: &'a Words) -> Result<TypedExpr<'a>, AllocError> {
+    let inner = all_of_two(alloc, w, equals_letter(alloc, w, 1)?)?;
+    let range = list(vec![in alloc; constant(&w.letter), constant(&w.letters)]?);
+    growing(alloc, w, range, inner)
 }
 
 // It looks at the element, a text of two letters at most: it costs 46, the turns 57 and 58.
@@ -136,13 +148,23 @@ fn inner_loop_of_what_is_gathered(rt: HostRuntime) -> Result<(), Fail> {
 fn inner_loop_of_the_element(rt: HostRuntime) -> Result<(), Fail> {
     let alloc = rt.alloc();
     let w = make_words(alloc)?;
-    let inner = all_of_two(alloc, &w, equals_letter(alloc, &w, 1)?)?;
-    let range = list(vec![in alloc; constant(&w.letter), constant(&w.letters)]?);
-    let root = growing(alloc, &w, range, inner)?;
+    let root = growing_by_element(alloc, &w)?;
     let typed = Typed { root };
-    assert!(rt; bound(alloc, &typed, &Limits::largest(), 127) == Ok(127));
-    assert!(rt; bound(alloc, &typed, &Limits::largest(), 126) == Err(Refusal::TooCostly));
+    assert!(rt; costs(alloc, &typed, 127));
     Ok(())
+}
+
+// `t == "a" && [true, false, true].all(x, x)`.
+fn both<'a>(alloc: Global, w: &'a Words) -> Result<TypedExpr<'a>, AllocError> {
+    let equal = equals_letter(alloc, w, 0)?;
+    let innermost = all_of_three(alloc, 4, 5, w)?;
+    binary(alloc, Overload::LogicalAnd, equal, innermost)
+}
+
+// In two turns, and in each `[true, false].all(x, both)`.
+fn growing_by_both<'a>(alloc: Global, w: &'a Words) -> Result<TypedExpr<'a>, AllocError> {
+    let inner = all_of_two(alloc, w, both(alloc, w)?)?;
+    growing(alloc, w, twice(alloc, &w.one)?, inner)
 }
 
 // It looks at the text, and in it a loop looks at nothing: the inner one costs 136 and 138, the turns 147
@@ -151,18 +173,9 @@ fn inner_loop_of_the_element(rt: HostRuntime) -> Result<(), Fail> {
 fn loop_by_itself_in_one_of_what_is_gathered(rt: HostRuntime) -> Result<(), Fail> {
     let alloc = rt.alloc();
     let w = make_words(alloc)?;
-    let innermost = all_of_three(alloc, 4, 5, &w)?;
-    let both = binary(
-        alloc,
-        Overload::LogicalAnd,
-        equals_letter(alloc, &w, 0)?,
-        innermost,
-    )?;
-    let inner = all_of_two(alloc, &w, both)?;
-    let root = growing(alloc, &w, twice(alloc, &w.one)?, inner)?;
+    let root = growing_by_both(alloc, &w)?;
     let typed = Typed { root };
-    assert!(rt; bound(alloc, &typed, &Limits::largest(), 309) == Ok(309));
-    assert!(rt; bound(alloc, &typed, &Limits::largest(), 308) == Err(Refusal::TooCostly));
+    assert!(rt; costs(alloc, &typed, 309));
     Ok(())
 }
 
@@ -198,7 +211,6 @@ fn forty_loops(rt: HostRuntime) -> Result<(), Fail> {
     }
     let typed = Typed { root };
     let cost = 95_657_511_616_486;
-    assert!(rt; bound(alloc, &typed, &Limits::largest(), cost) == Ok(cost));
-    assert!(rt; bound(alloc, &typed, &Limits::largest(), cost - 1) == Err(Refusal::TooCostly));
+    assert!(rt; costs(alloc, &typed, cost));
     Ok(())
 }

@@ -1,24 +1,14 @@
 //! Neighbours that measure alike: each costs what it would cost alone.
 
-use super::exprs::{attribute, binary, comprehension, constant, list, local, text, unary};
-use crate::bound;
-use attributes::{AttrId, Limits};
+use super::exprs::{attribute, binary, comprehension, constant, costs, list, local, text, unary};
+use attributes::AttrId;
 use cel_ops::CompareOp;
 use cel_overload::Overload;
 use cel_tree::Constant;
 use cel_types::{Typed, TypedExpr};
 use cel_value::CelType;
-use proto_wire::Refusal;
 use std::alloc::{AllocError, Global};
 use std::test::Fail;
-
-// Whether an expression costs just so many steps.
-fn costs(alloc: Global, root: TypedExpr<'_>, steps: u64) -> bool {
-    let typed = Typed { root };
-    let limits = Limits::largest();
-    bound(alloc, &typed, &limits, steps) == Ok(steps)
-        && bound(alloc, &typed, &limits, steps - 1) == Err(Refusal::TooCostly)
-}
 
 fn equal<'a>(
     alloc: Global,
@@ -75,7 +65,8 @@ fn three_items_of_what_grows(rt: HostRuntime) -> Result<(), Fail> {
     let letter = text(alloc, "a")?;
     let letters = text(alloc, "bcd")?;
     let root = gathering(alloc, &yes, &zero, &letter, &letters)?;
-    assert!(rt; costs(alloc, root, 148));
+    let typed = Typed { root };
+    assert!(rt; costs(alloc, &typed, 148));
     Ok(())
 }
 
@@ -104,7 +95,8 @@ fn one_longer_among_four(rt: HostRuntime) -> Result<(), Fail> {
     let same = text(alloc, "cd")?;
     let long = text(alloc, "efg")?;
     let root = five_texts(alloc, &short, &same, &long)?;
-    assert!(rt; costs(alloc, root, 67));
+    let typed = Typed { root };
+    assert!(rt; costs(alloc, &typed, 67));
     Ok(())
 }
 
@@ -131,7 +123,8 @@ fn branches_of_one_length(rt: HostRuntime) -> Result<(), Fail> {
     let first = text(alloc, "abc")?;
     let second = text(alloc, "def")?;
     let root = choice_equals(alloc, &yes, &first, &second)?;
-    assert!(rt; costs(alloc, root, 14));
+    let typed = Typed { root };
+    assert!(rt; costs(alloc, &typed, 14));
     Ok(())
 }
 
@@ -154,6 +147,7 @@ fn counting_asks_for_types(rt: HostRuntime) -> Result<(), Fail> {
     let two = counted(alloc, &letter, CelType::Bool)?;
     let three = counted(alloc, &letter, CelType::Bytes)?;
     let root = list(vec![in alloc; one, two, three]?);
-    assert!(rt; costs(alloc, root, 12));
+    let typed = Typed { root };
+    assert!(rt; costs(alloc, &typed, 12));
     Ok(())
 }
