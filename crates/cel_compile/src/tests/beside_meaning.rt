@@ -58,19 +58,23 @@ fn full_request(alloc: Global) -> Result<Request, Fail> {
 }
 
 fn full_conn(alloc: Global) -> Result<Conn, Fail> {
-    let mut conn = Conn::of_scheme(RcStr::from_str(alloc, "https")?);
-    conn.source_address = Some(RcStr::from_str(alloc, "a:1")?);
-    conn.source_port = Some(1);
-    conn.destination_address = Some(RcStr::from_str(alloc, "b:2")?);
-    conn.destination_port = Some(2);
-    conn.mtls = Some(true);
-    conn.connection_id = Some(3);
-    conn.requested_server_name = Some(RcStr::from_str(alloc, "b")?);
-    conn.tls_version = Some(RcStr::from_str(alloc, "TLSv1.3")?);
-    conn.subject_peer_certificate = Some(RcStr::from_str(alloc, "CN=a")?);
-    conn.dns_san_peer_certificate = Some(RcStr::from_str(alloc, "a")?);
-    conn.uri_san_peer_certificate = Some(RcStr::from_str(alloc, "")?);
-    Ok(conn)
+    Ok(Conn {
+        source_address: Some(RcStr::from_str(alloc, "a:1")?),
+        source_port: Some(1),
+        destination_address: Some(RcStr::from_str(alloc, "b:2")?),
+        destination_port: Some(2),
+        mtls: Some(true),
+        connection_id: Some(3),
+        requested_server_name: Some(RcStr::from_str(alloc, "b")?),
+        tls_version: Some(RcStr::from_str(alloc, "TLSv1.3")?),
+        subject_peer_certificate: Some(RcStr::from_str(alloc, "CN=a")?),
+        dns_san_peer_certificate: Some(RcStr::from_str(alloc, "a")?),
+        uri_san_peer_certificate: Some(RcStr::from_str(alloc, "")?),
+        direct_remote_ip: None,
+        remote_ip: None,
+        destination_ip: None,
+        scheme: RcStr::from_str(alloc, "https")?,
+    })
 }
 
 // Runs the code with this fuel, and compares what it comes to with what the expression means.
