@@ -1,11 +1,15 @@
-//! Worked expressions, from their bytes to bounds, codes and answers.
+//! Worked expressions, from their bytes to bounds, codes and answers; and each stage by itself: the trees that
+//! are read (`trees`), their types (`typing`) and their bounds (`bounds`).
 
 mod beside_meaning;
+mod bounds;
 mod container_rows;
 mod loop_rows;
 mod operator_rows;
 mod random_trees;
 mod too_large;
+mod trees;
+mod typing;
 mod worked_rows;
 
 use crate::compile;

@@ -1,6 +1,14 @@
+ghost use Rattle.std.specs.Prelude.{◌≢◌, None};
+ghost use Rattle.cel_value.specs.Texts.{text_view};
+ghost use Rattle.cel_value.specs.View.{answer_view};
+ghost use Rattle.cel_ops.specs.Collections.{field, in_list, in_map, list_index, map_index};
+ghost use Rattle.cel_ops.specs.Logic.{conjunction, disjunction, logical_not, not_strictly_false};
+ghost use Rattle.cel_ops.specs.Parts.{joined};
+
 use crate::*;
 use cel_value::{Answer, CelError, Key, Map, Value, insert_entry, spend};
 use std::alloc::{AllocError, Global};
+use std::process::Abort;
 use std::rc::{Rc, RcSlice, RcStr};
 use std::test::Fail;
 
@@ -173,292 +181,602 @@ const SIZES: [(&str, i64, u64); 6] = [
     ("a\u{e9}\u{20ac}\u{1f600}", 4, 11),
 ];
 
+/// An answer is this one.
+fn is_answer(rt: &impl Abort, found: Answer, wanted: Answer) {
+    assert!(rt; found == wanted);
+}
+
+/// So much is left, or it was too little.
+fn is_left(rt: &impl Abort, found: Option<u64>, wanted: Option<u64>) {
+    assert_eq!(rt; found, wanted);
+}
+
+fn truth(value: bool) -> Answer {
+    Ok(Value::Bool(value))
+}
+
+fn int(value: i64) -> Answer {
+    Ok(Value::Int(value))
+}
+
+fn text(alloc: Global, value: &str) -> Result<Answer, AllocError> {
+    Ok(Ok(Value::Text(RcStr::from_str(alloc, value)?)))
+}
+
+fn answer_of_ints(op: ArithmeticOp, a: i64, b: i64, wanted: Result<i64, CelError>) -> bool {
+    let found = calculate(op, &Ok(Value::Int(a)), &Ok(Value::Int(b)));
+    match wanted {
+        Ok(number) => found == int(number),
+        Err(error) => found == Err(error),
+    }
+}
+
+fn answer_of_uints(op: ArithmeticOp, a: u64, b: u64, wanted: Result<u64, CelError>) -> bool {
+    let found = calculate(op, &Ok(Value::Uint(a)), &Ok(Value::Uint(b)));
+    match wanted {
+        Ok(number) => found == Ok(Value::Uint(number)),
+        Err(error) => found == Err(error),
+    }
+}
+
+fn row_of_ints(rt: &impl Abort, a: i64, b: i64, wants: &[Result<i64, CelError>]) {
+    for (op, want) in OPERATORS.iter().zip(wants) {
+        assert!(rt; answer_of_ints(*op, a, b, *want), "{a} {b}");
+    }
+}
+
+fn row_of_uints(rt: &impl Abort, a: u64, b: u64, wants: &[Result<u64, CelError>]) {
+    for (op, want) in OPERATORS.iter().zip(wants) {
+        assert!(rt; answer_of_uints(*op, a, b, *want), "{a} {b}");
+    }
+}
+
 #[test]
-fn arithmetic_of_ints(rt: HostRuntime) -> Result<(), Fail> {
+fn arithmetic_of_ints(rt: HostRuntime) {
     for (a, b, wants) in &INTS {
-        for index in 0..5 {
-            let answer = calculate(OPERATORS[index], &Ok(Value::Int(*a)), &Ok(Value::Int(*b)));
-            let want = match wants[index] {
-                Ok(number) => Ok(Value::Int(number)),
-                Err(error) => Err(error),
-            };
-            assert!(rt; answer == want, "{a} {b} {index}");
-        }
+        row_of_ints(&rt, *a, *b, wants);
     }
-    Ok(())
 }
 
 #[test]
-fn arithmetic_of_uints(rt: HostRuntime) -> Result<(), Fail> {
+fn arithmetic_of_uints(rt: HostRuntime) {
     for (a, b, wants) in &UINTS {
-        for index in 0..5 {
-            let answer = calculate(OPERATORS[index], &Ok(Value::Uint(*a)), &Ok(Value::Uint(*b)));
-            let want = match wants[index] {
-                Ok(number) => Ok(Value::Uint(number)),
-                Err(error) => Err(error),
-            };
-            assert!(rt; answer == want, "{a} {b} {index}");
-        }
+        row_of_uints(&rt, *a, *b, wants);
     }
-    Ok(())
+}
+
+fn is_opposite(rt: &impl Abort, number: i64, wanted: Answer) {
+    is_answer(rt, negate(&Ok(Value::Int(number))), wanted);
 }
 
 #[test]
-fn opposites(rt: HostRuntime) -> Result<(), Fail> {
-    assert!(rt; negate(&Ok(Value::Int(7))) == Ok(Value::Int(-7)));
-    assert!(rt; negate(&Ok(Value::Int(-9223372036854775807))) == Ok(Value::Int(GREATEST)));
-    assert!(rt; negate(&Ok(Value::Int(LEAST))) == Err(CelError::Overflow));
-    assert!(rt; negate(&Err(CelError::NoKey)) == Err(CelError::NoKey));
-    Ok(())
+fn opposites(rt: HostRuntime) {
+    is_opposite(&rt, 7, int(-7));
+    is_opposite(&rt, -9223372036854775807, int(GREATEST));
+    is_opposite(&rt, LEAST, Err(CelError::Overflow));
+    is_answer(&rt, negate(&Err(CelError::NoKey)), Err(CelError::NoKey));
+}
+
+fn is_both(rt: &impl Abort, left: Answer, right: Answer, wanted: Answer)
+    requires kinds { conjunction (answer_view left) (answer_view right) ≢ None }
+{
+    is_answer(rt, conjunction(&left, &right), wanted);
+}
+
+fn is_either(rt: &impl Abort, left: Answer, right: Answer, wanted: Answer)
+    requires kinds { disjunction (answer_view left) (answer_view right) ≢ None }
+{
+    is_answer(rt, disjunction(&left, &right), wanted);
+}
+
+const FIRST: CelError = CelError::ZeroDivisor;
+
+const SECOND: CelError = CelError::NoKey;
+
+#[test]
+fn conjunctions(rt: HostRuntime) {
+    is_both(
+        &rt,
+        Ok(Value::Bool(true)),
+        Ok(Value::Bool(true)),
+        truth(true),
+    );
+    is_both(
+        &rt,
+        Ok(Value::Bool(true)),
+        Ok(Value::Bool(false)),
+        truth(false),
+    );
+    is_both(&rt, Ok(Value::Bool(false)), Err(FIRST), truth(false));
+    is_both(&rt, Err(FIRST), Ok(Value::Bool(false)), truth(false));
+    is_both(&rt, Err(FIRST), Ok(Value::Bool(true)), Err(FIRST));
+    is_both(&rt, Ok(Value::Bool(true)), Err(FIRST), Err(FIRST));
+    is_both(&rt, Err(FIRST), Err(SECOND), Err(FIRST));
 }
 
 #[test]
-fn logic(rt: HostRuntime) -> Result<(), Fail> {
-    let yes: Answer = Ok(Value::Bool(true));
-    let no: Answer = Ok(Value::Bool(false));
-    let first: Answer = Err(CelError::ZeroDivisor);
-    let second: Answer = Err(CelError::NoKey);
-    assert!(rt; conjunction(&yes, &yes) == Ok(Value::Bool(true)));
-    assert!(rt; conjunction(&yes, &no) == Ok(Value::Bool(false)));
-    assert!(rt; conjunction(&no, &first) == Ok(Value::Bool(false)));
-    assert!(rt; conjunction(&first, &no) == Ok(Value::Bool(false)));
-    assert!(rt; conjunction(&first, &yes) == Err(CelError::ZeroDivisor));
-    assert!(rt; conjunction(&yes, &first) == Err(CelError::ZeroDivisor));
-    assert!(rt; conjunction(&first, &second) == Err(CelError::ZeroDivisor));
-    assert!(rt; disjunction(&no, &no) == Ok(Value::Bool(false)));
-    assert!(rt; disjunction(&yes, &first) == Ok(Value::Bool(true)));
-    assert!(rt; disjunction(&first, &yes) == Ok(Value::Bool(true)));
-    assert!(rt; disjunction(&first, &no) == Err(CelError::ZeroDivisor));
-    assert!(rt; disjunction(&no, &first) == Err(CelError::ZeroDivisor));
-    assert!(rt; disjunction(&second, &first) == Err(CelError::NoKey));
-    assert!(rt; logical_not(&yes) == Ok(Value::Bool(false)));
-    assert!(rt; logical_not(&no) == Ok(Value::Bool(true)));
-    assert!(rt; logical_not(&first) == Err(CelError::ZeroDivisor));
-    assert!(rt; not_strictly_false(&yes) == Ok(Value::Bool(true)));
-    assert!(rt; not_strictly_false(&no) == Ok(Value::Bool(false)));
-    assert!(rt; not_strictly_false(&first) == Ok(Value::Bool(true)));
+fn disjunctions(rt: HostRuntime) {
+    is_either(
+        &rt,
+        Ok(Value::Bool(false)),
+        Ok(Value::Bool(false)),
+        truth(false),
+    );
+    is_either(&rt, Ok(Value::Bool(true)), Err(FIRST), truth(true));
+    is_either(&rt, Err(FIRST), Ok(Value::Bool(true)), truth(true));
+    is_either(&rt, Err(FIRST), Ok(Value::Bool(false)), Err(FIRST));
+    is_either(&rt, Ok(Value::Bool(false)), Err(FIRST), Err(FIRST));
+    is_either(&rt, Err(SECOND), Err(FIRST), Err(SECOND));
+}
+
+fn is_negation(rt: &impl Abort, operand: Answer, wanted: Answer)
+    requires kinds { logical_not (answer_view operand) ≢ None }
+{
+    is_answer(rt, logical_not(&operand), wanted);
+}
+
+fn is_not_false(rt: &impl Abort, operand: Answer, wanted: bool)
+    requires kinds { not_strictly_false (answer_view operand) ≢ None }
+{
+    is_answer(rt, not_strictly_false(&operand), truth(wanted));
+}
+
+#[test]
+fn negations(rt: HostRuntime) {
+    is_negation(&rt, Ok(Value::Bool(true)), truth(false));
+    is_negation(&rt, Ok(Value::Bool(false)), truth(true));
+    is_negation(&rt, Err(FIRST), Err(FIRST));
+    is_not_false(&rt, Ok(Value::Bool(true)), true);
+    is_not_false(&rt, Ok(Value::Bool(false)), false);
+    is_not_false(&rt, Err(FIRST), true);
+}
+
+fn row_of_texts(
+    rt: &impl Abort,
+    alloc: Global,
+    left: &str,
+    right: &str,
+    wants: &[bool],
+) -> Result<(), AllocError> {
+    let a: Answer = Ok(Value::Text(RcStr::from_str(alloc, left)?));
+    let b: Answer = Ok(Value::Text(RcStr::from_str(alloc, right)?));
+    for (op, want) in COMPARISONS.iter().zip(wants) {
+        is_answer(rt, compare(*op, &a, &b), truth(*want));
+    }
     Ok(())
 }
 
 #[test]
 fn comparisons_of_texts(rt: HostRuntime) -> Result<(), Fail> {
-    let alloc = rt.alloc();
     for (left, right, wants) in &TEXTS {
-        let a: Answer = Ok(Value::Text(RcStr::from_str(alloc, left)?));
-        let b: Answer = Ok(Value::Text(RcStr::from_str(alloc, right)?));
-        for index in 0..6 {
-            let answer = compare(COMPARISONS[index], &a, &b);
-            assert!(rt;
-                answer == Ok(Value::Bool(wants[index])),
-                "{left} {right} {index}"
-            );
-        }
+        row_of_texts(&rt, rt.alloc(), left, right, wants)?;
     }
     Ok(())
 }
 
+fn compares_ints(rt: &impl Abort, op: CompareOp, a: i64, b: i64, want: bool) {
+    is_answer(
+        rt,
+        compare(op, &Ok(Value::Int(a)), &Ok(Value::Int(b))),
+        truth(want),
+    );
+}
+
+fn compares_uints(rt: &impl Abort, op: CompareOp, a: u64, b: u64, want: bool) {
+    is_answer(
+        rt,
+        compare(op, &Ok(Value::Uint(a)), &Ok(Value::Uint(b))),
+        truth(want),
+    );
+}
+
+fn compares_bools(rt: &impl Abort, op: CompareOp, a: bool, b: bool, want: bool) {
+    is_answer(
+        rt,
+        compare(op, &Ok(Value::Bool(a)), &Ok(Value::Bool(b))),
+        truth(want),
+    );
+}
+
+fn compares_bytes(
+    rt: &impl Abort,
+    alloc: Global,
+    op: CompareOp,
+    a: &[u8],
+    b: &[u8],
+    want: bool,
+) -> Result<(), AllocError> {
+    let left: Answer = Ok(Value::Bytes(RcSlice::from_slice(alloc, a)?));
+    let right: Answer = Ok(Value::Bytes(RcSlice::from_slice(alloc, b)?));
+    is_answer(rt, compare(op, &left, &right), truth(want));
+    Ok(())
+}
+
 #[test]
-fn comparisons_of_others(rt: HostRuntime) -> Result<(), Fail> {
-    let alloc = rt.alloc();
-    for index in 0..6 {
-        let op = COMPARISONS[index];
-        let below: Answer = Ok(Value::Bool(BELOW[index]));
-        assert!(rt;
-            compare(op, &Ok(Value::Bool(false)), &Ok(Value::Bool(true))) == below,
-            "{index}"
-        );
-        assert!(rt;
-            compare(op, &Ok(Value::Int(-2)), &Ok(Value::Int(-1))) == below,
-            "{index}"
-        );
-        assert!(rt;
-            compare(op, &Ok(Value::Int(LEAST)), &Ok(Value::Int(GREATEST))) == below,
-            "{index}"
-        );
-        let great = Ok(Value::Uint(u64::MAX));
-        assert!(rt;
-            compare(op, &Ok(Value::Uint(GREATEST as u64)), &great) == below,
-            "{index}"
-        );
-        let short = Ok(Value::Bytes(RcSlice::from_slice(alloc, &[1u8, 255])?));
-        let long = Ok(Value::Bytes(RcSlice::from_slice(alloc, &[2u8])?));
-        assert!(rt; compare(op, &short, &long) == below, "{index}");
-        let wrong: Answer = Err(CelError::Index);
-        let error: Answer = Err(CelError::NoKey);
-        assert!(rt;
-            compare(op, &wrong, &error) == Err(CelError::Index),
-            "{index}"
-        );
-        assert!(rt;
-            compare(op, &great, &error) == Err(CelError::NoKey),
-            "{index}"
-        );
+fn comparisons_of_numbers_and_bools(rt: HostRuntime) {
+    for (op, below) in COMPARISONS.iter().zip(&BELOW) {
+        compares_bools(&rt, *op, false, true, *below);
+        compares_ints(&rt, *op, -2, -1, *below);
+        compares_ints(&rt, *op, LEAST, GREATEST, *below);
+        compares_uints(&rt, *op, GREATEST as u64, u64::MAX, *below);
+    }
+}
+
+#[test]
+fn comparisons_of_bytes(rt: HostRuntime) -> Result<(), Fail> {
+    for (op, below) in COMPARISONS.iter().zip(&BELOW) {
+        compares_bytes(&rt, rt.alloc(), *op, &[1, 255], &[2], *below)?;
+    }
+    Ok(())
+}
+
+fn compares_errors(rt: &impl Abort, op: CompareOp) {
+    let found = compare(op, &Err(CelError::Index), &Err(CelError::NoKey));
+    is_answer(rt, found, Err(CelError::Index));
+}
+
+fn compares_with_an_error(rt: &impl Abort, op: CompareOp) {
+    let found = compare(op, &Ok(Value::Uint(u64::MAX)), &Err(CelError::NoKey));
+    is_answer(rt, found, Err(CelError::NoKey));
+}
+
+#[test]
+fn comparisons_of_errors(rt: HostRuntime) {
+    for op in &COMPARISONS {
+        compares_errors(&rt, *op);
+        compares_with_an_error(&rt, *op);
+    }
+}
+
+fn row_of_parts(
+    rt: &impl Abort,
+    alloc: Global,
+    whole: &str,
+    part: &str,
+    wants: &[bool],
+) -> Result<(), AllocError> {
+    let tests = [TextTest::Contains, TextTest::StartsWith, TextTest::EndsWith];
+    let a: Answer = Ok(Value::Text(RcStr::from_str(alloc, whole)?));
+    let b: Answer = Ok(Value::Text(RcStr::from_str(alloc, part)?));
+    for (test, want) in tests.iter().zip(wants) {
+        is_answer(rt, test_text(*test, &a, &b), truth(*want));
     }
     Ok(())
 }
 
 #[test]
 fn parts_of_texts(rt: HostRuntime) -> Result<(), Fail> {
-    let alloc = rt.alloc();
-    let tests = [TextTest::Contains, TextTest::StartsWith, TextTest::EndsWith];
-    for (text, part, wants) in &PARTS {
-        let a: Answer = Ok(Value::Text(RcStr::from_str(alloc, text)?));
-        let b: Answer = Ok(Value::Text(RcStr::from_str(alloc, part)?));
-        for index in 0..3 {
-            let answer = test_text(tests[index], &a, &b);
-            assert!(rt;
-                answer == Ok(Value::Bool(wants[index])),
-                "{text} {part} {index}"
-            );
-        }
+    for (whole, part, wants) in &PARTS {
+        row_of_parts(&rt, rt.alloc(), whole, part, wants)?;
     }
+    Ok(())
+}
+
+fn row_of_sizes(
+    rt: &impl Abort,
+    alloc: Global,
+    value: &str,
+    points: i64,
+    charge: u64,
+    less: u64,
+) -> Result<(), AllocError> {
+    let operand: Answer = Ok(Value::Text(RcStr::from_str(alloc, value)?));
+    is_answer(rt, size(&operand), int(points));
+    is_left(rt, spend_size(&operand, charge), Some(0));
+    is_left(rt, spend_size(&operand, less), None);
     Ok(())
 }
 
 #[test]
 fn sizes_of_texts(rt: HostRuntime) -> Result<(), Fail> {
-    let alloc = rt.alloc();
-    for (text, points, charge) in &SIZES {
-        let operand: Answer = Ok(Value::Text(RcStr::from_str(alloc, text)?));
-        assert!(rt; size(&operand) == Ok(Value::Int(*points)), "{text}");
-        assert!(rt; spend_size(&operand, *charge) == Some(0), "{text}");
-        assert!(rt; spend_size(&operand, *charge - 1) == None, "{text}");
+    for (value, points, charge) in &SIZES {
+        row_of_sizes(&rt, rt.alloc(), value, *points, *charge, *charge - 1)?;
     }
     Ok(())
 }
 
 #[test]
-fn lists(rt: HostRuntime) -> Result<(), Fail> {
+fn list_literals(rt: HostRuntime) -> Result<(), Fail> {
     let alloc = rt.alloc();
+    let operands = vec![in alloc; int(10), int(20), int(30)]?;
+    is_left(&rt, spend_list_literal(&operands, 4), Some(0));
+    is_left(&rt, spend_list_literal(&operands, 3), None);
+    let made = make_list(alloc, operands)?;
+    is_answer(&rt, made, Ok(Value::List(three_items(alloc)?)));
+    Ok(())
+}
+
+#[test]
+fn list_literals_with_errors(rt: HostRuntime) -> Result<(), Fail> {
+    let alloc = rt.alloc();
+    let wrong = vec![in alloc; int(1), Err(CelError::Index), Err(CelError::NoKey)]?;
+    is_left(&rt, spend_list_literal(&wrong, 1), Some(0));
+    is_answer(&rt, make_list(alloc, wrong)?, Err(CelError::Index));
+    Ok(())
+}
+
+/// The items 10, 20 and 30.
+fn three_items(alloc: Global) -> Result<Rc<Vec<Value>>, AllocError> {
     let items = vec![in alloc; Value::Int(10), Value::Int(20), Value::Int(30)]?;
-    let list: Answer = Ok(Value::List(Rc::new(alloc, items)?));
-    let operands = vec![in alloc; Ok(Value::Int(10)), Ok(Value::Int(20)), Ok(Value::Int(30))]?;
-    assert!(rt; spend_list_literal(&operands, 4) == Some(0));
-    assert!(rt; spend_list_literal(&operands, 3) == None);
-    assert!(rt; make_list(alloc, operands)? == list);
-    let wrong = vec![in alloc;
-        Ok(Value::Int(1)),
-        Err(CelError::Index),
-        Err(CelError::NoKey),
-    ]?;
-    assert!(rt; spend_list_literal(&wrong, 1) == Some(0));
-    assert!(rt; make_list(alloc, wrong)? == Err(CelError::Index));
-    assert!(rt; index_list(&list, &Ok(Value::Int(0)))? == Ok(Value::Int(10)));
-    assert!(rt; index_list(&list, &Ok(Value::Int(2)))? == Ok(Value::Int(30)));
-    assert!(rt; index_list(&list, &Ok(Value::Int(3)))? == Err(CelError::Index));
-    assert!(rt; index_list(&list, &Ok(Value::Int(-1)))? == Err(CelError::Index));
-    assert!(rt; index_list(&list, &Ok(Value::Int(LEAST)))? == Err(CelError::Index));
-    assert!(rt; is_in_list(&Ok(Value::Int(20)), &list) == Ok(Value::Bool(true)));
-    assert!(rt; is_in_list(&Ok(Value::Int(21)), &list) == Ok(Value::Bool(false)));
-    assert!(rt; size(&list) == Ok(Value::Int(3)));
-    assert!(rt; spend_size(&list, 1) == Some(0));
+    Ok(Rc::new(alloc, items)?)
+}
+
+fn is_item(rt: &impl Abort, list: &Answer, place: Answer, wanted: Answer) -> Result<(), AllocError>
+    requires kinds { list_index (answer_view list.now) (answer_view place) ≢ None }
+{
+    is_answer(rt, index_list(list, &place)?, wanted);
+    Ok(())
+}
+
+#[test]
+fn items_of_lists(rt: HostRuntime) -> Result<(), Fail> {
+    let list: Answer = Ok(Value::List(three_items(rt.alloc())?));
+    is_item(&rt, &list, Ok(Value::Int(0)), int(10))?;
+    is_item(&rt, &list, Ok(Value::Int(2)), int(30))?;
+    is_item(&rt, &list, Ok(Value::Int(3)), Err(CelError::Index))?;
+    is_item(&rt, &list, Ok(Value::Int(-1)), Err(CelError::Index))?;
+    is_item(&rt, &list, Ok(Value::Int(LEAST)), Err(CelError::Index))?;
+    Ok(())
+}
+
+fn is_among(rt: &impl Abort, item: Answer, list: &Answer, wanted: bool)
+    requires kinds { in_list (answer_view item) (answer_view list.now) ≢ None }
+{
+    is_answer(rt, is_in_list(&item, list), truth(wanted));
+}
+
+fn is_left_of_search(rt: &impl Abort, item: Answer, list: &Answer, fuel: u64, wanted: Option<u64>) {
+    is_left(rt, spend_in_list(&item, list, fuel), wanted);
+}
+
+#[test]
+fn lists(rt: HostRuntime) -> Result<(), Fail> {
+    let list: Answer = Ok(Value::List(three_items(rt.alloc())?));
+    is_among(&rt, Ok(Value::Int(20)), &list, true);
+    is_among(&rt, Ok(Value::Int(21)), &list, false);
+    is_answer(&rt, size(&list), int(3));
+    is_left(&rt, spend_size(&list, 1), Some(0));
     // 1, the list's mass of 4, and three times 1
-    assert!(rt; spend_in_list(&Ok(Value::Int(20)), &list, 8) == Some(0));
-    assert!(rt; spend_in_list(&Ok(Value::Int(20)), &list, 7) == None);
-    assert!(rt; spend_loop(&list, 4) == Some(0));
-    assert!(rt; spend_loop(&Err(CelError::NoKey), 1) == Some(0));
+    is_left_of_search(&rt, int(20), &list, 8, Some(0));
+    is_left_of_search(&rt, int(20), &list, 7, None);
+    is_left(&rt, spend_loop(&list, 4), Some(0));
     Ok(())
 }
 
 #[test]
-fn joined_values(rt: HostRuntime) -> Result<(), Fail> {
+fn loops_over_errors(rt: HostRuntime) {
+    is_left(&rt, spend_loop(&Err(CelError::NoKey), 1), Some(0));
+}
+
+fn is_joined(
+    rt: &impl Abort,
+    alloc: Global,
+    left: &Answer,
+    right: &Answer,
+    wanted: Answer,
+) -> Result<(), AllocError>
+    requires kinds { joined (answer_view left.now) (answer_view right.now) ≢ None }
+{
+    is_answer(rt, join(alloc, left, right)?, wanted);
+    Ok(())
+}
+
+#[test]
+fn joined_texts(rt: HostRuntime) -> Result<(), Fail> {
     let alloc = rt.alloc();
-    let text: Answer = Ok(Value::Text(RcStr::from_str(alloc, "a\u{20ac}")?));
+    let first: Answer = Ok(Value::Text(RcStr::from_str(alloc, "a\u{20ac}")?));
     let other: Answer = Ok(Value::Text(RcStr::from_str(alloc, "b")?));
-    let both: Answer = Ok(Value::Text(RcStr::from_str(alloc, "a\u{20ac}b")?));
-    assert!(rt; join(alloc, &text, &other)? == both);
-    assert!(rt; spend_join(&text, &other, 6) == Some(0));
-    assert!(rt; spend_join(&text, &other, 5) == None);
-    assert!(rt; spend_comparison(&text, &other, 8) == Some(0));
-    assert!(rt; spend_comparison(&text, &other, 7) == None);
-    let bytes: Answer = Ok(Value::Bytes(RcSlice::from_slice(alloc, &[1u8, 2])?));
-    let more: Answer = Ok(Value::Bytes(RcSlice::from_slice(alloc, &[3u8])?));
-    let all: Answer = Ok(Value::Bytes(RcSlice::from_slice(alloc, &[1u8, 2, 3])?));
-    assert!(rt; join(alloc, &bytes, &more)? == all);
-    let one: Answer = Ok(Value::List(Rc::new(alloc, vec![in alloc; Value::Int(1)]?)?));
-    let two: Answer = Ok(Value::List(Rc::new(alloc, vec![in alloc; Value::Int(2)]?)?));
-    let items = vec![in alloc; Value::Int(1), Value::Int(2)]?;
-    assert!(rt; join(alloc, &one, &two)? == Ok(Value::List(Rc::new(alloc, items)?)));
-    assert!(rt; join(alloc, &Err(CelError::NoKey), &two)? == Err(CelError::NoKey));
+    is_joined(&rt, alloc, &first, &other, text(alloc, "a\u{20ac}b")?)?;
+    is_left(&rt, spend_join(&first, &other, 6), Some(0));
+    is_left(&rt, spend_join(&first, &other, 5), None);
+    is_left(&rt, spend_comparison(&first, &other, 8), Some(0));
+    is_left(&rt, spend_comparison(&first, &other, 7), None);
     Ok(())
 }
 
+fn bytes(alloc: Global, value: &[u8]) -> Result<Answer, AllocError> {
+    Ok(Ok(Value::Bytes(RcSlice::from_slice(alloc, value)?)))
+}
+
 #[test]
-fn maps(rt: HostRuntime) -> Result<(), Fail> {
+fn joined_bytes(rt: HostRuntime) -> Result<(), Fail> {
     let alloc = rt.alloc();
-    let mut operands = vec![in alloc; Ok(Value::Int(3)), Ok(Value::Bool(true))]?;
-    operands.push(Ok(Value::Int(-1)))?;
-    operands.push(Ok(Value::Bool(false)))?;
-    assert!(rt; spend_map_literal(&operands, 5) == Some(0));
-    assert!(rt; spend_map_literal(&operands, 4) == None);
+    let first: Answer = Ok(Value::Bytes(RcSlice::from_slice(alloc, &[1u8, 2])?));
+    let other: Answer = Ok(Value::Bytes(RcSlice::from_slice(alloc, &[3u8])?));
+    is_joined(&rt, alloc, &first, &other, bytes(alloc, &[1, 2, 3])?)?;
+    Ok(())
+}
+
+/// The list of these two ints.
+fn pair_of(alloc: Global, first: i64, second: i64) -> Result<Answer, AllocError> {
+    let items = vec![in alloc; Value::Int(first), Value::Int(second)]?;
+    Ok(Ok(Value::List(Rc::new(alloc, items)?)))
+}
+
+/// The items of a list of this int alone.
+fn one_item(alloc: Global, item: i64) -> Result<Rc<Vec<Value>>, AllocError> {
+    Ok(Rc::new(alloc, vec![in alloc; Value::Int(item)]?)?)
+}
+
+#[test]
+fn joined_lists(rt: HostRuntime) -> Result<(), Fail> {
+    let alloc = rt.alloc();
+    let one: Answer = Ok(Value::List(one_item(alloc, 1)?));
+    let two: Answer = Ok(Value::List(one_item(alloc, 2)?));
+    is_joined(&rt, alloc, &one, &two, pair_of(alloc, 1, 2)?)?;
+    is_joined(
+        &rt,
+        alloc,
+        &Err(CelError::NoKey),
+        &two,
+        Err(CelError::NoKey),
+    )?;
+    Ok(())
+}
+
+/// The map in which -1 is false, and 3 is true.
+fn two_entries(alloc: Global) -> Result<Map, AllocError> {
     let entries = vec![in alloc;
         (Key::Int(-1), Value::Bool(false)),
         (Key::Int(3), Value::Bool(true)),
     ]?;
-    let map = Map::Entries(Rc::new(alloc, entries)?);
-    assert!(rt; map.rises());
-    let operand: Answer = Ok(Value::Map(map));
-    assert!(rt; index_map(&operand, &Ok(Value::Int(3)))? == Ok(Value::Bool(true)));
-    assert!(rt; index_map(&operand, &Ok(Value::Int(-1)))? == Ok(Value::Bool(false)));
-    assert!(rt; index_map(&operand, &Ok(Value::Int(0)))? == Err(CelError::NoKey));
-    assert!(rt; index_map(&operand, &Ok(Value::Uint(3)))? == Err(CelError::NoKey));
-    assert!(rt; is_in_map(&Ok(Value::Int(3)), &operand) == Ok(Value::Bool(true)));
-    assert!(rt; is_in_map(&Ok(Value::Int(4)), &operand) == Ok(Value::Bool(false)));
-    assert!(rt; size(&operand) == Ok(Value::Int(2)));
-    assert!(rt; spend_map_index(&operand, &Ok(Value::Int(3)), 3) == Some(0));
-    assert!(rt; spend_in_map(&Ok(Value::Int(3)), &operand, 3) == Some(0));
-    assert!(rt; spend_in_map(&Ok(Value::Int(3)), &operand, 2) == None);
-    assert!(rt; make_map(alloc, operands)? == operand);
+    Ok(Map::Entries(Rc::new(alloc, entries)?))
+}
+
+#[test]
+fn map_literals(rt: HostRuntime) -> Result<(), Fail> {
+    let alloc = rt.alloc();
+    let mut operands = vec![in alloc; Ok(Value::Int(3)), Ok(Value::Bool(true))]?;
+    operands.push(Ok(Value::Int(-1)))?;
+    operands.push(Ok(Value::Bool(false)))?;
+    is_left(&rt, spend_map_literal(&operands, 5), Some(0));
+    is_left(&rt, spend_map_literal(&operands, 4), None);
+    let made = make_map(alloc, operands)?;
+    is_answer(&rt, made, Ok(Value::Map(two_entries(alloc)?)));
+    Ok(())
+}
+
+#[test]
+fn map_literals_with_a_key_twice(rt: HostRuntime) -> Result<(), Fail> {
+    let alloc = rt.alloc();
     let twice = vec![in alloc;
         Ok(Value::Int(3)),
         Ok(Value::Bool(true)),
         Ok(Value::Int(3)),
         Ok(Value::Bool(true)),
     ]?;
-    assert!(rt; make_map(alloc, twice)? == Err(CelError::RepeatedKey));
+    is_answer(&rt, make_map(alloc, twice)?, Err(CelError::RepeatedKey));
     Ok(())
+}
+
+fn is_entry(rt: &impl Abort, map: &Answer, key: Answer, wanted: Answer) -> Result<(), AllocError>
+    requires kinds { map_index (answer_view map.now) (answer_view key) ≢ None }
+{
+    is_answer(rt, index_map(map, &key)?, wanted);
+    Ok(())
+}
+
+#[test]
+fn entries_of_maps(rt: HostRuntime) -> Result<(), Fail> {
+    let map = two_entries(rt.alloc())?;
+    assert!(rt; map.rises());
+    let operand: Answer = Ok(Value::Map(map));
+    is_entry(&rt, &operand, Ok(Value::Int(3)), truth(true))?;
+    is_entry(&rt, &operand, Ok(Value::Int(-1)), truth(false))?;
+    is_entry(&rt, &operand, Ok(Value::Int(0)), Err(CelError::NoKey))?;
+    is_entry(&rt, &operand, Ok(Value::Uint(3)), Err(CelError::NoKey))?;
+    Ok(())
+}
+
+fn is_key(rt: &impl Abort, key: Answer, map: &Answer, wanted: bool)
+    requires kinds { in_map (answer_view key) (answer_view map.now) ≢ None }
+{
+    is_answer(rt, is_in_map(&key, map), truth(wanted));
+}
+
+fn is_left_of_index(rt: &impl Abort, map: &Answer, key: Answer, fuel: u64, wanted: Option<u64>) {
+    is_left(rt, spend_map_index(map, &key, fuel), wanted);
+}
+
+fn is_left_of_key(rt: &impl Abort, key: Answer, map: &Answer, fuel: u64, wanted: Option<u64>) {
+    is_left(rt, spend_in_map(&key, map, fuel), wanted);
+}
+
+#[test]
+fn maps(rt: HostRuntime) -> Result<(), Fail> {
+    let map = two_entries(rt.alloc())?;
+    assert!(rt; map.rises());
+    let operand: Answer = Ok(Value::Map(map));
+    is_key(&rt, Ok(Value::Int(3)), &operand, true);
+    is_key(&rt, Ok(Value::Int(4)), &operand, false);
+    is_answer(&rt, size(&operand), int(2));
+    is_left_of_index(&rt, &operand, int(3), 3, Some(0));
+    is_left_of_key(&rt, int(3), &operand, 3, Some(0));
+    is_left_of_key(&rt, int(3), &operand, 2, None);
+    Ok(())
+}
+
+fn is_field(rt: &impl Abort, name: &RcStr, map: &Answer, wanted: Answer) -> Result<(), AllocError>
+    requires kinds { field (text_view name.now) (answer_view map.now) ≢ None }
+{
+    is_answer(rt, select_field(name, map)?, wanted);
+    Ok(())
+}
+
+/// Headers: `:authority` is `h`, and `accept` is `*`.
+fn two_headers(alloc: Global) -> Result<Map, AllocError> {
+    let pairs = vec![in alloc;
+        (
+            RcStr::from_str(alloc, ":authority")?,
+            RcStr::from_str(alloc, "h")?
+        ),
+        (
+            RcStr::from_str(alloc, "accept")?,
+            RcStr::from_str(alloc, "*")?
+        ),
+    ]?;
+    Ok(Map::Texts(Rc::new(alloc, pairs)?))
 }
 
 #[test]
 fn fields_of_sorted_texts(rt: HostRuntime) -> Result<(), Fail> {
     let alloc = rt.alloc();
-    let authority = RcStr::from_str(alloc, ":authority")?;
-    let accept = RcStr::from_str(alloc, "accept")?;
-    let other = RcStr::from_str(alloc, "other")?;
-    let host = RcStr::from_str(alloc, "h")?;
-    let pairs = vec![in alloc;
-        (authority.clone()?, host.clone()?),
-        (accept.clone()?, authority.clone()?),
-    ]?;
-    let map = Map::Texts(Rc::new(alloc, pairs)?);
+    let map = two_headers(alloc)?;
     assert!(rt; map.rises());
     let headers: Answer = Ok(Value::Map(map));
-    assert!(rt; select_field(&authority, &headers)? == Ok(Value::Text(host)));
-    assert!(rt; select_field(&other, &headers)? == Err(CelError::NoKey));
-    assert!(rt; has_field(&accept, &headers) == Ok(Value::Bool(true)));
-    assert!(rt; has_field(&other, &headers) == Ok(Value::Bool(false)));
-    // 1, and two entries by 1 + 5
-    assert!(rt; spend_field(&other, &headers, 13) == Some(0));
-    assert!(rt; spend_field(&other, &headers, 12) == None);
-    assert!(rt;
-        select_field(&other, &Err(CelError::MissingAttribute))? == Err(CelError::MissingAttribute)
-    );
+    let authority = RcStr::from_str(alloc, ":authority")?;
+    is_field(&rt, &authority, &headers, text(alloc, "h")?)?;
+    let other = RcStr::from_str(alloc, "other")?;
+    is_field(&rt, &other, &headers, Err(CelError::NoKey))?;
+    is_field(
+        &rt,
+        &other,
+        &Err(CelError::MissingAttribute),
+        Err(CelError::MissingAttribute),
+    )?;
     Ok(())
 }
 
 #[test]
-fn elements_in_order(rt: HostRuntime) -> Result<(), Fail> {
+fn names_of_sorted_texts(rt: HostRuntime) -> Result<(), Fail> {
+    let alloc = rt.alloc();
+    let map = two_headers(alloc)?;
+    assert!(rt; map.rises());
+    let headers: Answer = Ok(Value::Map(map));
+    let accept = RcStr::from_str(alloc, "accept")?;
+    is_answer(&rt, has_field(&accept, &headers), truth(true));
+    let other = RcStr::from_str(alloc, "other")?;
+    is_answer(&rt, has_field(&other, &headers), truth(false));
+    // 1, and two entries by 1 + 5
+    is_left(&rt, spend_field(&other, &headers, 13), Some(0));
+    is_left(&rt, spend_field(&other, &headers, 12), None);
+    Ok(())
+}
+
+fn is_value(rt: &impl Abort, found: Option<Value>, wanted: Option<Value>) {
+    assert!(rt; found == wanted);
+}
+
+#[test]
+fn items_in_order(rt: HostRuntime) -> Result<(), Fail> {
+    let alloc = rt.alloc();
+    let items = vec![in alloc; Value::Int(5), Value::Int(4)]?;
+    let list = Value::List(Rc::new(alloc, items)?);
+    is_value(&rt, element_at(&list, 0)?, Some(Value::Int(5)));
+    is_value(&rt, element_at(&list, 1)?, Some(Value::Int(4)));
+    is_value(&rt, element_at(&list, 2)?, None);
+    Ok(())
+}
+
+#[test]
+fn keys_in_order(rt: HostRuntime) -> Result<(), Fail> {
     let alloc = rt.alloc();
     let mut entries = Vec::new(alloc);
     assert!(rt; insert_entry(&mut entries, Key::Uint(1), Value::Int(0))?);
-    let list = Value::List(Rc::new(alloc, vec![in alloc; Value::Int(5), Value::Int(4)]?)?);
-    assert!(rt; element_at(&list, 0)? == Some(Value::Int(5)));
-    assert!(rt; element_at(&list, 1)? == Some(Value::Int(4)));
-    assert!(rt; element_at(&list, 2)? == None);
     let map = Value::Map(Map::Entries(Rc::new(alloc, entries)?));
-    assert!(rt; element_at(&map, 0)? == Some(Value::Uint(1)));
-    assert!(rt; element_at(&map, 1)? == None);
-    assert!(rt; spend(&map, 3) == Some(0));
-    assert!(rt; spend(&map, 2) == None);
+    is_value(&rt, element_at(&map, 0)?, Some(Value::Uint(1)));
+    is_value(&rt, element_at(&map, 1)?, None);
+    is_left(&rt, spend(&map, 3), Some(0));
+    is_left(&rt, spend(&map, 2), None);
     Ok(())
 }

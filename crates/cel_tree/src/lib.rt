@@ -23,6 +23,3 @@ pub use checked::{Checked, Reference, ReferenceMap, TypeEntry, TypeMap};
 pub use fields::has_payload;
 pub use message::{read_checked, read_checked_parts};
 pub use tree::{Comprehension, Constant, Tree, TreeEntry};
-
-#[cfg(test)]
-mod tests;

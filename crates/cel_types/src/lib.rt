@@ -9,6 +9,3 @@ mod typed;
 pub use checker::check;
 pub use plain::evaluate_plainly;
 pub use typed::{Typed, TypedExpr, TypedLoop};
-
-#[cfg(test)]
-mod tests;

@@ -13,8 +13,6 @@ mod remembered;
 mod scope;
 mod size;
 mod steady;
-#[cfg(test)]
-mod tests;
 
 pub use bounding::bound;
 

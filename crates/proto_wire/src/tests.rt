@@ -1,6 +1,7 @@
 use crate::key::all_known;
 use crate::varint::read_varint;
 use crate::*;
+use std::alloc::{AllocError, Global};
 use std::process::Abort;
 use std::test::Fail;
 
@@ -160,44 +161,95 @@ fn refused(rt: HostRuntime) {
     }
 }
 
+/// There are so many.
+fn is_count(rt: &impl Abort, found: usize, wanted: usize) {
+    assert_eq!(rt; found, wanted);
+}
+
+/// Two payloads of one message, with the fields `Varint 1`, `Len 2` and `Varint 3`.
+const FIRST: &[u8] = b"\x08\x01\x12\x01a\x08\x02";
+
+const SECOND: &[u8] = b"\x12\x01b\x18\x07\x12\x01c";
+
 #[test]
 fn values(rt: HostRuntime) -> Result<(), Fail> {
-    let alloc = rt.alloc();
-    let first: &[u8] = b"\x08\x01\x12\x01a\x08\x02";
-    let second: &[u8] = b"\x12\x01b\x18\x07\x12\x01c";
-    let parts = [first, second];
-    let fields = read_parts(alloc, &parts)?;
-    assert_eq!(rt; fields.len(), 6);
-    assert_eq!(rt; read_fields(alloc, second)?.len(), 3);
-    assert!(rt; matches!(read_fields(alloc, b"\x0b"), Err(Refusal::BadWire)));
-    assert_eq!(rt; last_varint(&fields, 1), Some(2));
-    assert!(rt; matches!(last_len(&fields, 2), Some(b"c")));
-    assert_eq!(rt; payloads_of(alloc, &fields, 2)?.len(), 3);
-    assert!(rt; has_field(&fields, 1) && has_field(&fields, 2) && !has_field(&fields, 4));
-    assert_eq!(rt; text_at(&fields, 2), Ok("c"));
-    assert_eq!(rt; text_at(&fields, 4), Ok(""));
-    assert_eq!(rt; text_of(b"a\xff"), Err(Refusal::BadText));
+    let fields = read_parts(rt.alloc(), &[FIRST, SECOND])?;
+    last_values(&rt, &fields);
+    last_texts(&rt, &fields);
+    known_fields(&rt, &fields);
+    last_of_a_choice(&rt, &fields);
+    Ok(())
+}
+
+fn last_values(rt: &impl Abort, fields: &[Field<'_>]) {
+    assert_eq!(rt; last_varint(fields, 1), Some(2));
+    assert!(rt; matches!(last_len(fields, 2), Some(b"c")));
+    assert!(rt; has_field(fields, 1) && has_field(fields, 2) && !has_field(fields, 4));
+}
+
+fn last_texts(rt: &impl Abort, fields: &[Field<'_>]) {
+    assert_eq!(rt; text_at(fields, 2), Ok("c"));
+    assert_eq!(rt; text_at(fields, 4), Ok(""));
+}
+
+fn known_fields(rt: &impl Abort, fields: &[Field<'_>]) {
+    assert!(rt; all_known(fields, &keys![Varint 1, Len 2, Varint 3]));
+    assert!(rt; !all_known(fields, &keys![Varint 1, Len 2]));
+}
+
+fn last_of_a_choice(rt: &impl Abort, fields: &[Field<'_>]) {
     assert_eq!(rt;
-        text_at(&read_fields(alloc, b"\x12\x01\xc3")?, 2),
-        Err(Refusal::BadText)
-    );
-    assert!(rt; all_known(&fields, &keys![Varint 1, Len 2, Varint 3]));
-    assert!(rt; !all_known(&fields, &keys![Varint 1, Len 2]));
-    assert_eq!(rt;
-        member_run(alloc, &fields, &keys![Varint 1, Len 2])?.len(),
-        2
-    );
-    assert_eq!(rt;
-        member_run(alloc, &fields, &keys![Varint 1, Varint 3])?.len(),
-        1
-    );
-    assert_eq!(rt;
-        last_member(&fields, &keys![Varint 1, Varint 3]),
+        last_member(fields, &keys![Varint 1, Varint 3]),
         Some(Field {
             number: 3,
             payload: Payload::Varint(7)
         })
     );
+}
+
+fn count_of_payloads(
+    alloc: Global,
+    fields: &[Field<'_>],
+    number: u32,
+) -> Result<usize, AllocError> {
+    Ok(payloads_of(alloc, fields, number)?.len())
+}
+
+fn length_of_run(alloc: Global, fields: &[Field<'_>], keys: &[Key]) -> Result<usize, AllocError> {
+    Ok(member_run(alloc, fields, keys)?.len())
+}
+
+#[test]
+fn counts(rt: HostRuntime) -> Result<(), Fail> {
+    let alloc = rt.alloc();
+    let fields = read_parts(alloc, &[FIRST, SECOND])?;
+    is_count(&rt, fields.len(), 6);
+    is_count(&rt, count_of_payloads(alloc, &fields, 2)?, 3);
+    is_count(
+        &rt,
+        length_of_run(alloc, &fields, &keys![Varint 1, Len 2])?,
+        2,
+    );
+    is_count(
+        &rt,
+        length_of_run(alloc, &fields, &keys![Varint 1, Varint 3])?,
+        1,
+    );
+    Ok(())
+}
+
+#[test]
+fn fields_of_one_payload(rt: HostRuntime) -> Result<(), Fail> {
+    is_count(&rt, read_fields(rt.alloc(), SECOND)?.len(), 3);
+    assert!(rt; matches!(read_fields(rt.alloc(), b"\x0b"), Err(Refusal::BadWire)));
+    Ok(())
+}
+
+#[test]
+fn broken_texts(rt: HostRuntime) -> Result<(), Fail> {
+    let fields = read_fields(rt.alloc(), b"\x12\x01\xc3")?;
+    assert_eq!(rt; text_at(&fields, 2), Err(Refusal::BadText));
+    assert_eq!(rt; text_of(b"a\xff"), Err(Refusal::BadText));
     Ok(())
 }
 
@@ -206,14 +258,26 @@ fn values(rt: HostRuntime) -> Result<(), Fail> {
 fn scalars(rt: HostRuntime) -> Result<(), Fail> {
     let bytes = b"\x08\x05\x08\xff\xff\xff\xff\xff\xff\xff\xff\xff\x01\x10\x80\x80\x80\x80\x10";
     let fields = read_fields(rt.alloc(), bytes)?;
-    assert_eq!(rt; uint32_at(&fields, 1), u32::MAX);
-    assert_eq!(rt; int32_at(&fields, 1), -1);
-    assert_eq!(rt; int64_at(&fields, 1), -1);
-    assert_eq!(rt; uint32_at(&fields, 2), 0);
-    assert_eq!(rt; int64_at(&fields, 2), 4_294_967_296);
-    assert!(rt; bool_at(&fields, 1) && bool_at(&fields, 2) && !bool_at(&fields, 3));
-    assert_eq!(rt; int64_at(&fields, 3), 0);
+    all_bits(&rt, &fields);
+    low_bits(&rt, &fields);
+    bools(&rt, &fields);
     Ok(())
+}
+
+fn all_bits(rt: &impl Abort, fields: &[Field<'_>]) {
+    assert_eq!(rt; uint32_at(fields, 1), u32::MAX);
+    assert_eq!(rt; int32_at(fields, 1), -1);
+    assert_eq!(rt; int64_at(fields, 1), -1);
+}
+
+fn low_bits(rt: &impl Abort, fields: &[Field<'_>]) {
+    assert_eq!(rt; uint32_at(fields, 2), 0);
+    assert_eq!(rt; int64_at(fields, 2), 4_294_967_296);
+    assert_eq!(rt; int64_at(fields, 3), 0);
+}
+
+fn bools(rt: &impl Abort, fields: &[Field<'_>]) {
+    assert!(rt; bool_at(fields, 1) && bool_at(fields, 2) && !bool_at(fields, 3));
 }
 
 /// Entries with a fault: one that breaks, one with a field 3, one whose key has another wire type,
@@ -225,53 +289,117 @@ const BAD_ENTRIES: [(&[u8], Refusal); 4] = [
     (b"\x0a\x01\xff", Refusal::BadText),
 ];
 
+/// The entry at a place has this key and these values.
+fn is_text_entry(
+    rt: &impl Abort,
+    map: &[MapEntry<'_, &str>],
+    place: usize,
+    key: &str,
+    values: &[&[u8]],
+) {
+    match map.get(place) {
+        Some((found, payloads)) => {
+            assert!(rt; *found == key && payloads.as_slice() == values);
+        }
+        None => assert!(rt; false, "there is no entry {place}"),
+    }
+}
+
+fn is_int64_entry(
+    rt: &impl Abort,
+    map: &[MapEntry<'_, i64>],
+    place: usize,
+    key: i64,
+    values: &[&[u8]],
+) {
+    match map.get(place) {
+        Some((found, payloads)) => {
+            assert!(rt; *found == key && payloads.as_slice() == values);
+        }
+        None => assert!(rt; false, "there is no entry {place}"),
+    }
+}
+
 /// The last entry of a key counts, its two values merge, and an entry without a key has the empty
 /// one.
 #[test]
 fn text_maps(rt: HostRuntime) -> Result<(), Fail> {
-    let alloc = rt.alloc();
-    let first: &[u8] = b"\x0a\x01p\x12\x01a";
-    let second: &[u8] = b"\x12\x00";
     let third: &[u8] = b"\x12\x01b\x0a\x01q\x0a\x01p\x12\x01c";
-    let map: Vec<MapEntry<&str>> = read_entries(alloc, &[first, second, third])?;
-    assert_eq!(rt; map.len(), 2);
-    assert!(rt; map[0].0 == "" && map[0].1.len() == 1 && map[0].1[0].is_empty());
-    assert!(rt; map[1].0 == "p" && map[1].1.len() == 2 && map[1].1[1] == b"c".as_slice());
-    for (entry, want) in &BAD_ENTRIES {
-        let answer: Result<Vec<MapEntry<&str>>, Refusal> = read_entries(alloc, &[first, *entry]);
-        assert!(rt;
-            matches!(answer, Err(refusal) if refusal == *want),
-            "at {entry:?}"
-        );
-    }
+    let entries = [
+        b"\x0a\x01p\x12\x01a".as_slice(),
+        b"\x12\x00".as_slice(),
+        third,
+    ];
+    let map: Vec<MapEntry<&str>> = read_entries(rt.alloc(), &entries)?;
+    is_count(&rt, map.len(), 2);
+    is_text_entry(&rt, &map, 0, "", &[b"".as_slice()]);
+    is_text_entry(&rt, &map, 1, "p", &[b"b".as_slice(), b"c".as_slice()]);
     Ok(())
 }
 
-/// The same with int64 keys: 5 twice, -1, and none, which is 0; a key that is a string is an
-/// unknown field.
+#[test]
+fn entries_with_faults(rt: HostRuntime) {
+    for (entry, want) in &BAD_ENTRIES {
+        is_refused_entry(&rt, rt.alloc(), entry, *want);
+    }
+}
+
+fn is_refused_entry(rt: &impl Abort, alloc: Global, entry: &[u8], want: Refusal) {
+    let answer: Result<Vec<MapEntry<&str>>, Refusal> = read_entries(
+        alloc,
+        &[b"\x0a\x01p\x12\x01a".as_slice(), entry],
+    );
+    assert!(rt;
+        matches!(answer, Err(refusal) if refusal == want),
+        "at {entry:?}"
+    );
+}
+
+/// Entries with int64 keys: 5 with a value, -1, none, which is 0, and 5 without a value.
+const FIVE: &[u8] = b"\x08\x05\x12\x01a";
+
+const MINUS_ONE: &[u8] = b"\x08\xff\xff\xff\xff\xff\xff\xff\xff\xff\x01";
+
+const NO_KEY: &[u8] = b"\x12\x01z";
+
+const FIVE_ALONE: &[u8] = b"\x08\x05";
+
 #[test]
 fn int64_maps(rt: HostRuntime) -> Result<(), Fail> {
-    let alloc = rt.alloc();
-    let first: &[u8] = b"\x08\x05\x12\x01a";
-    let second: &[u8] = b"\x08\xff\xff\xff\xff\xff\xff\xff\xff\xff\x01";
-    let third: &[u8] = b"\x12\x01z";
-    let fourth: &[u8] = b"\x08\x05";
-    let map: Vec<MapEntry<i64>> = read_entries(alloc, &[first, second, third, fourth])?;
-    assert_eq!(rt; map.len(), 3);
-    assert!(rt; map[0].0 == -1 && map[0].1.is_empty());
-    assert!(rt; map[1].0 == 0 && map[1].1.len() == 1 && map[1].1[0] == b"z".as_slice());
-    assert!(rt; map[2].0 == 5 && map[2].1.is_empty());
-    let ascending: Vec<MapEntry<i64>> = read_entries(alloc, &[second, third, first])?;
-    assert_eq!(rt; ascending.len(), 3);
-    assert!(rt; ascending[0].0 == -1 && ascending[1].0 == 0 && ascending[2].0 == 5);
-    assert!(rt; ascending[2].1.len() == 1 && ascending[2].1[0] == b"a".as_slice());
-    let twice: Vec<MapEntry<i64>> = read_entries(alloc, &[first, fourth])?;
-    assert_eq!(rt; twice.len(), 1);
-    assert!(rt; twice[0].0 == 5 && twice[0].1.is_empty());
-    let text_key: &[u8] = b"\x0a\x01p";
-    let answer: Result<Vec<MapEntry<i64>>, Refusal> = read_entries(alloc, &[first, text_key]);
-    assert!(rt; matches!(answer, Err(Refusal::UnknownField)));
+    let map: Vec<MapEntry<i64>> = read_entries(rt.alloc(), &[FIVE, MINUS_ONE, NO_KEY, FIVE_ALONE])?;
+    is_count(&rt, map.len(), 3);
+    is_int64_entry(&rt, &map, 0, -1, &[]);
+    is_int64_entry(&rt, &map, 1, 0, &[b"z".as_slice()]);
+    is_int64_entry(&rt, &map, 2, 5, &[]);
     Ok(())
+}
+
+#[test]
+fn int64_keys_ascend(rt: HostRuntime) -> Result<(), Fail> {
+    let map: Vec<MapEntry<i64>> = read_entries(rt.alloc(), &[MINUS_ONE, NO_KEY, FIVE])?;
+    is_count(&rt, map.len(), 3);
+    is_int64_entry(&rt, &map, 0, -1, &[]);
+    is_int64_entry(&rt, &map, 1, 0, &[b"z".as_slice()]);
+    is_int64_entry(&rt, &map, 2, 5, &[b"a".as_slice()]);
+    Ok(())
+}
+
+#[test]
+fn int64_key_twice(rt: HostRuntime) -> Result<(), Fail> {
+    let map: Vec<MapEntry<i64>> = read_entries(rt.alloc(), &[FIVE, FIVE_ALONE])?;
+    is_count(&rt, map.len(), 1);
+    is_int64_entry(&rt, &map, 0, 5, &[]);
+    Ok(())
+}
+
+/// A key that is a string is an unknown field.
+#[test]
+fn text_key_among_int64_keys(rt: HostRuntime) {
+    let answer: Result<Vec<MapEntry<i64>>, Refusal> = read_entries(
+        rt.alloc(),
+        &[FIVE, b"\x0a\x01p".as_slice()],
+    );
+    assert!(rt; matches!(answer, Err(Refusal::UnknownField)));
 }
 
 /// The encoding guide's examples of varints, and those on both sides of a byte more.

@@ -16,6 +16,3 @@ pub use admission::admit;
 pub use filter::{Admitted, Verdict};
 pub use place::place_of;
 pub use trials::{Reason, Trial};
-
-#[cfg(test)]
-mod tests;

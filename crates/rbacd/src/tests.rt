@@ -5,6 +5,7 @@ mod conditions;
 mod depth;
 mod endings;
 mod explain;
+mod fault_places;
 mod filter_bytes;
 mod filters;
 mod headers;

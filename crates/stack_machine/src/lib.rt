@@ -20,8 +20,6 @@ mod seen;
 mod stack;
 mod state;
 mod step;
-#[cfg(test)]
-mod tests;
 mod verified;
 
 pub use code::{Code, CodeFault};

@@ -214,10 +214,53 @@ fn fill_loops(
     Ok(())
 }
 
+fn are_within_limits(rt: &impl Abort, requests: &[Request]) {
+    for request in requests {
+        assert!(rt; Limits::largest().fits(request));
+    }
+}
+
+fn compare_leaves(
+    rt: &impl Abort,
+    alloc: Global,
+    requests: &[Request],
+    tally: &mut Tally,
+) -> Result<(), Fail> {
+    for (_, template) in &LEAVES {
+        compare(rt, alloc, requests, &leaf(alloc, template)?, tally)?;
+    }
+    Ok(())
+}
+
+fn fill_round(
+    rt: &impl Abort,
+    alloc: Global,
+    requests: &[Request],
+    dice: &mut Dice,
+    pool: &mut Pool,
+    tally: &mut Tally,
+) -> Result<(), Fail> {
+    fill_templates(rt, alloc, requests, dice, pool, tally)?;
+    for _ in 0..LOOP_ROUNDS {
+        fill_loops(rt, alloc, requests, dice, pool, tally)?;
+    }
+    Ok(())
+}
+
+fn is_enough(rt: &impl Abort, tally: &Tally) {
+    assert!(rt; tally.trees == 1159);
+    assert!(rt; tally.two_deep >= 150);
+    assert!(rt; tally.values >= 800);
+    assert!(rt; tally.errors >= 800);
+    assert!(rt; tally.costly <= 20);
+    assert!(rt; tally.unended == 0);
+}
+
 #[test]
 fn same_answers_within_bounds(rt: HostRuntime) -> Result<(), Fail> {
     let alloc = rt.alloc();
     let requests = vec![in alloc; plain_get(alloc)?, full_request(alloc)?]?;
+    are_within_limits(&rt, &requests);
     let mut dice = Dice::of_seed(1);
     let mut pool = Pool::new(alloc, &mut dice)?;
     let mut tally = Tally {
@@ -228,23 +271,10 @@ fn same_answers_within_bounds(rt: HostRuntime) -> Result<(), Fail> {
         errors: 0,
         unended: 0,
     };
-    for request in &requests {
-        assert!(rt; Limits::largest().fits(request));
-    }
-    for (_, template) in &LEAVES {
-        compare(&rt, alloc, &requests, &leaf(alloc, template)?, &mut tally)?;
-    }
+    compare_leaves(&rt, alloc, &requests, &mut tally)?;
     for _ in 0..ROUNDS {
-        fill_templates(&rt, alloc, &requests, &mut dice, &mut pool, &mut tally)?;
-        for _ in 0..LOOP_ROUNDS {
-            fill_loops(&rt, alloc, &requests, &mut dice, &mut pool, &mut tally)?;
-        }
+        fill_round(&rt, alloc, &requests, &mut dice, &mut pool, &mut tally)?;
     }
-    assert!(rt; tally.trees == 1159);
-    assert!(rt; tally.two_deep >= 150);
-    assert!(rt; tally.values >= 800);
-    assert!(rt; tally.errors >= 800);
-    assert!(rt; tally.costly <= 20);
-    assert!(rt; tally.unended == 0);
+    is_enough(&rt, &tally);
     Ok(())
 }

@@ -135,6 +135,13 @@ fn check_round(
     Ok(())
 }
 
+fn is_enough(rt: &impl Abort, tally: &Tally) {
+    assert!(rt; tally.codes == 372);
+    assert!(rt; tally.values >= 300);
+    assert!(rt; tally.errors >= 300);
+    assert!(rt; tally.unended >= 5);
+}
+
 #[test]
 fn same_answers_at_each_fuel(rt: HostRuntime) -> Result<(), Fail> {
     let alloc = rt.alloc();
@@ -150,9 +157,6 @@ fn same_answers_at_each_fuel(rt: HostRuntime) -> Result<(), Fail> {
     for _ in 0..ROUNDS {
         check_round(&rt, alloc, &requests, &mut dice, &mut pool, &mut tally)?;
     }
-    assert!(rt; tally.codes == 372);
-    assert!(rt; tally.values >= 300);
-    assert!(rt; tally.errors >= 300);
-    assert!(rt; tally.unended >= 5);
+    is_enough(&rt, &tally);
     Ok(())
 }

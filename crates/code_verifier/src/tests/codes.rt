@@ -304,15 +304,20 @@ const LOOPS: [(&str, &str, bool); 18] = [
 
 fn compare(rt: &impl Abort, alloc: Global, rows: &[(&str, &str, bool)]) -> Result<(), Fail> {
     for (result_type, code, want) in rows {
-        let found = verified(
-            rt,
-            alloc,
-            code_of(alloc, code)?,
-            &type_of(alloc, result_type)?,
-        )?;
-        assert!(rt; found.is_some() == *want, "at {code}");
+        let found = is_verified(rt, alloc, result_type, code)?;
+        assert!(rt; found == *want, "at {code}");
     }
     Ok(())
+}
+
+fn is_verified(
+    rt: &impl Abort,
+    alloc: Global,
+    result_type: &str,
+    code: &str,
+) -> Result<bool, Fail> {
+    let result_type = type_of(alloc, result_type)?;
+    Ok(verified(rt, alloc, code_of(alloc, code)?, &result_type)?.is_some())
 }
 
 #[test]

@@ -3,6 +3,7 @@ use crate::tests::assembly::verified;
 use cel_value::CelType;
 use stack_machine::{Code, Constant, Instr};
 use std::alloc::{AllocError, Global};
+use std::process::Abort;
 use std::rc::Rc;
 use std::test::Fail;
 
@@ -10,15 +11,44 @@ fn flag() -> Instr {
     Instr::Const(Constant::Bool(true))
 }
 
+/// Whether the code is verified as one of this type.
+fn is_verified(
+    rt: &impl Abort,
+    alloc: Global,
+    instrs: Vec<Instr>,
+    result_type: &CelType,
+) -> Result<bool, Fail> {
+    Ok(verified(rt, alloc, Code::new(instrs)?, result_type)?.is_some())
+}
+
+/// So many times the same instruction behind others.
+fn push_flags(instrs: &mut Vec<Instr>, count: usize) -> Result<(), AllocError> {
+    for _ in 0..count {
+        instrs.push(flag())?;
+    }
+    Ok(())
+}
+
+fn push_ands(instrs: &mut Vec<Instr>, count: usize) -> Result<(), AllocError> {
+    for _ in 0..count {
+        instrs.push(Instr::And)?;
+    }
+    Ok(())
+}
+
+fn push_nots(instrs: &mut Vec<Instr>, count: usize) -> Result<(), AllocError> {
+    for _ in 0..count {
+        instrs.push(Instr::Not)?;
+    }
+    Ok(())
+}
+
 #[test]
 fn negations(rt: HostRuntime) -> Result<(), Fail> {
     let alloc = rt.alloc();
     let mut instrs = vec![in alloc; flag()]?;
-    for _ in 0..65_534 {
-        instrs.push(Instr::Not)?;
-    }
-    let code = Code::new(instrs)?;
-    assert!(rt; verified(&rt, alloc, code, &CelType::Bool)?.is_some());
+    push_nots(&mut instrs, 65_534)?;
+    assert!(rt; is_verified(&rt, alloc, instrs, &CelType::Bool)?);
     Ok(())
 }
 
@@ -27,14 +57,9 @@ fn negations(rt: HostRuntime) -> Result<(), Fail> {
 fn deep_stack(rt: HostRuntime) -> Result<(), Fail> {
     let alloc = rt.alloc();
     let mut instrs = Vec::new(alloc);
-    for _ in 0..32_768 {
-        instrs.push(flag())?;
-    }
-    for _ in 0..32_767 {
-        instrs.push(Instr::And)?;
-    }
-    let code = Code::new(instrs)?;
-    assert!(rt; verified(&rt, alloc, code, &CelType::Bool)?.is_some());
+    push_flags(&mut instrs, 32_768)?;
+    push_ands(&mut instrs, 32_767)?;
+    assert!(rt; is_verified(&rt, alloc, instrs, &CelType::Bool)?);
     Ok(())
 }
 
@@ -42,11 +67,8 @@ fn deep_stack(rt: HostRuntime) -> Result<(), Fail> {
 fn too_many_slots(rt: HostRuntime) -> Result<(), Fail> {
     let alloc = rt.alloc();
     let mut instrs = Vec::new(alloc);
-    for _ in 0..65_535 {
-        instrs.push(flag())?;
-    }
-    let code = Code::new(instrs)?;
-    assert!(rt; verified(&rt, alloc, code, &CelType::Bool)?.is_none());
+    push_flags(&mut instrs, 65_535)?;
+    assert!(rt; !is_verified(&rt, alloc, instrs, &CelType::Bool)?);
     Ok(())
 }
 
@@ -67,20 +89,24 @@ fn push_choice(instrs: &mut Vec<Instr>, start: u16) -> Result<(), AllocError> {
     Ok(())
 }
 
+fn push_choices(instrs: &mut Vec<Instr>, count: usize) -> Result<(), AllocError> {
+    let mut start: u16 = 0;
+    for _ in 0..count {
+        push_choice(instrs, start)?;
+        start = start.saturating_add(5);
+    }
+    Ok(())
+}
+
 // `[c ? 1 : 1, c ? 1 : 1, ..]`: the ways of a choice meet on ever deeper stacks.
 #[test]
 fn list_of_choices(rt: HostRuntime) -> Result<(), Fail> {
     let alloc = rt.alloc();
     let mut instrs = Vec::new(alloc);
-    let mut start: u16 = 0;
-    for _ in 0..13_106 {
-        push_choice(&mut instrs, start)?;
-        start = start.saturating_add(5);
-    }
+    push_choices(&mut instrs, 13_106)?;
     instrs.push(Instr::MakeList(13_106))?;
-    let code = Code::new(instrs)?;
-    assert!(rt; code.len() == 65_531);
+    assert!(rt; instrs.len() == 65_531);
     let ints = CelType::List(Rc::new(alloc, CelType::Int)?);
-    assert!(rt; verified(&rt, alloc, code, &ints)?.is_some());
+    assert!(rt; is_verified(&rt, alloc, instrs, &ints)?);
     Ok(())
 }

@@ -1,8 +1,8 @@
 //! What verified codes come to, and in how many steps.
 use crate::tests::assembly::{code_of, verified};
 use attributes::{Conn, Request};
-use cel_value::{CelError, CelType, Value};
-use stack_machine::{RunError, run};
+use cel_value::{Answer, CelError, CelType, Value};
+use stack_machine::{RunError, Verified, run};
 use std::alloc::Global;
 use std::process::Abort;
 use std::rc::RcStr;
@@ -144,6 +144,45 @@ fn request_of(alloc: Global, lines: Vec<(String, String)>, conn: Conn) -> Result
     Ok(Request::new(alloc, method, target, true, lines, conn)?)
 }
 
+// With less than its steps the code does not end.
+fn wants_its_steps(rt: &impl Abort, alloc: Global, code: &Verified, request: &Request, steps: u64) {
+    for fuel in 0..steps {
+        runs_out(rt, alloc, code, request, fuel);
+    }
+}
+
+fn runs_out(rt: &impl Abort, alloc: Global, code: &Verified, request: &Request, fuel: u64) {
+    assert!(rt; matches!(run(alloc, code, request, fuel), Err(RunError::OutOfSteps)));
+}
+
+fn comes_to(
+    alloc: Global,
+    code: &Verified,
+    request: &Request,
+    want: Answer,
+    steps: u64,
+) -> Result<bool, Fail> {
+    let outcome = run(alloc, code, request, steps)?;
+    Ok(outcome.result == want && outcome.steps == steps)
+}
+
+fn compare_row(
+    rt: &impl Abort,
+    alloc: Global,
+    request: &Request,
+    text: &str,
+    want: Result<bool, CelError>,
+    steps: u64,
+) -> Result<(), Fail> {
+    let Some(code) = verified(rt, alloc, code_of(alloc, text)?, &CelType::Bool)? else {
+        return Err(Fail::from("a code is not verified"));
+    };
+    let found = comes_to(alloc, &code, request, want.map(Value::Bool), steps)?;
+    assert!(rt; found, "at {text}");
+    wants_its_steps(rt, alloc, &code, request, steps);
+    Ok(())
+}
+
 fn compare(
     rt: &impl Abort,
     alloc: Global,
@@ -151,17 +190,7 @@ fn compare(
     rows: &[(&str, Result<bool, CelError>, u64)],
 ) -> Result<(), Fail> {
     for (text, want, steps) in rows {
-        let Some(code) = verified(rt, alloc, code_of(alloc, text)?, &CelType::Bool)? else {
-            assert!(rt; false, "at {text}");
-            return Ok(());
-        };
-        let outcome = run(alloc, &code, request, *steps)?;
-        assert!(rt; outcome.result == (*want).map(Value::Bool), "at {text}");
-        assert!(rt; outcome.steps == *steps, "at {text}");
-        for fuel in 0..*steps {
-            let short = run(alloc, &code, request, fuel);
-            assert!(rt; matches!(short, Err(RunError::OutOfSteps)), "at {text}");
-        }
+        compare_row(rt, alloc, request, text, *want, *steps)?;
     }
     Ok(())
 }
@@ -188,12 +217,7 @@ fn endless_code(rt: HostRuntime) -> Result<(), Fail> {
         assert!(rt; false);
         return Ok(());
     };
-    assert!(rt; matches!(run(alloc, &code, &request, 10), Err(RunError::OutOfSteps)));
-    assert!(rt;
-        matches!(
-            run(alloc, &code, &request, 65_536),
-            Err(RunError::OutOfSteps)
-        )
-    );
+    runs_out(&rt, alloc, &code, &request, 10);
+    runs_out(&rt, alloc, &code, &request, 65_536);
     Ok(())
 }

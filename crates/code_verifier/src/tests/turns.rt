@@ -2,7 +2,10 @@
 use crate::tests::assembly::{code_of, verified};
 use crate::tests::both_machines::{End, same_at_each};
 use crate::tests::runs::{plain_request, request_with_facts};
+use attributes::Request;
 use cel_value::CelType;
+use std::alloc::Global;
+use std::process::Abort;
 use std::test::Fail;
 
 // Codes of bools, and how their runs end. Targets are positions.
@@ -123,18 +126,28 @@ const CODES: [(&str, End); 19] = [
     ),
 ];
 
+fn ends_alike(
+    rt: &impl Abort,
+    alloc: Global,
+    requests: &[Request],
+    text: &str,
+    end: End,
+) -> Result<(), Fail> {
+    let Some(code) = verified(rt, alloc, code_of(alloc, text)?, &CelType::Bool)? else {
+        return Err(Fail::from("a code is not verified"));
+    };
+    for request in requests {
+        assert!(rt; same_at_each(rt, alloc, &code, request)? == end);
+    }
+    Ok(())
+}
+
 #[test]
 fn turns_at_each_fuel(rt: HostRuntime) -> Result<(), Fail> {
     let alloc = rt.alloc();
     let requests = [plain_request(alloc)?, request_with_facts(alloc, true)?];
     for (text, end) in &CODES {
-        let code = code_of(alloc, text)?;
-        let Some(code) = verified(&rt, alloc, code, &CelType::Bool)? else {
-            return Err(Fail::from("a code is not verified"));
-        };
-        for request in &requests {
-            assert!(rt; same_at_each(&rt, alloc, &code, request)? == *end);
-        }
+        ends_alike(&rt, alloc, &requests, text, *end)?;
     }
     Ok(())
 }

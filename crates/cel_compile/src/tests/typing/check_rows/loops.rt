@@ -4,7 +4,7 @@ use super::Row;
 use proto_wire::Refusal;
 
 /// Comprehensions.
-pub(in crate::tests) const LOOPS: [Row; 49] = [
+pub(in crate::tests::typing) const LOOPS: [Row; 49] = [
     (
         "[1].all(x, x == 1)",
         Ok(b'b'),

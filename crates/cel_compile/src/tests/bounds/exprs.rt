@@ -1,12 +1,12 @@
 //! Elaborated expressions, built by hand. Measuring looks at no type but that of an empty literal and
 //! of what is counted.
 
-use crate::bound;
 use attributes::{AttrId, Limits};
 use cel_overload::Overload;
 use cel_tree::Constant;
 use cel_types::{Typed, TypedExpr, TypedLoop};
 use cel_value::CelType;
+use cost_bound::bound;
 use proto_wire::Refusal;
 use std::alloc::{AllocError, Global};
 use std::rc::RcStr;

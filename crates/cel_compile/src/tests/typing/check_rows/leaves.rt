@@ -4,7 +4,7 @@ use super::Row;
 use proto_wire::Refusal;
 
 /// Constants and names.
-pub(in crate::tests) const LEAVES: [Row; 33] = [
+pub(in crate::tests::typing) const LEAVES: [Row; 33] = [
     ("true", Ok(b'b'), b"\x22\x04\x1a\x02\x10\x01"),
     (
         "-1",

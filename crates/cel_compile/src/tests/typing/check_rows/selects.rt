@@ -4,7 +4,7 @@ use super::Row;
 use proto_wire::Refusal;
 
 /// Selects.
-pub(in crate::tests) const SELECTS: [Row; 47] = [
+pub(in crate::tests::typing) const SELECTS: [Row; 47] = [
     (
         "{\"a\": \"b\"} asked for the empty name",
         Ok(b's'),

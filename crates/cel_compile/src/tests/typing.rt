@@ -4,10 +4,10 @@ mod answer_rows;
 mod check_rows;
 mod written_rows;
 
-use crate::{check, evaluate_plainly};
 use answer_rows::ANSWERS;
 use attributes::{Conn, Request};
 use cel_tree::read_checked;
+use cel_types::{check, evaluate_plainly};
 use cel_value::{Answer, CelType, KeyType, Value};
 use check_rows::Row;
 use check_rows::calls::CALLS;
@@ -18,6 +18,7 @@ use check_rows::scopes::SCOPES;
 use check_rows::selects::SELECTS;
 use proto_wire::Refusal;
 use std::alloc::{AllocError, Global};
+use std::process::Abort;
 use std::rc::RcStr;
 use std::test::Fail;
 use written_rows::WRITTEN;
@@ -128,14 +129,30 @@ fn word(answer: &Option<Answer>) -> &'static str {
     }
 }
 
+/// What the bytes of a checked expression answer, in a word.
+fn answer_of(alloc: Global, bytes: &[u8], request: &Request) -> Result<&'static str, Fail> {
+    let checked = read_checked(alloc, bytes)?;
+    Ok(word(&evaluate_plainly(alloc, &checked.tree, request)?))
+}
+
+fn is_answer(
+    rt: &impl Abort,
+    alloc: Global,
+    bytes: &[u8],
+    request: &Request,
+    text: &str,
+    want: &str,
+) -> Result<(), Fail> {
+    let found = answer_of(alloc, bytes, request)?;
+    assert!(rt; found == want, "at {text}");
+    Ok(())
+}
+
 #[test]
 fn answers(rt: HostRuntime) -> Result<(), Fail> {
-    let alloc = rt.alloc();
-    let request = get(alloc)?;
+    let request = get(rt.alloc())?;
     for (text, want, bytes) in &ANSWERS {
-        let checked = read_checked(alloc, bytes)?;
-        let answer = evaluate_plainly(alloc, &checked.tree, &request)?;
-        assert!(rt; word(&answer) == *want, "at {text}");
+        is_answer(&rt, rt.alloc(), bytes, &request, text, want)?;
     }
     Ok(())
 }

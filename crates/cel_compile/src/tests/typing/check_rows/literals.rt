@@ -4,7 +4,7 @@ use super::Row;
 use proto_wire::Refusal;
 
 /// List and map literals.
-pub(in crate::tests) const LITERALS: [Row; 42] = [
+pub(in crate::tests::typing) const LITERALS: [Row; 42] = [
     (
         "[1, 2]",
         Ok(b'I'),

@@ -1,7 +1,7 @@
 //! Messages as checkers write them: ids in any order, repeated or left out, a type at each node, names at
 //! variables and overloads at calls.
 
-use crate::tests::check_rows::Row;
+use super::check_rows::Row;
 use proto_wire::Refusal;
 
 pub(super) const WRITTEN: [Row; 23] = [

@@ -4,7 +4,7 @@ use super::Row;
 use proto_wire::Refusal;
 
 /// Calls.
-pub(in crate::tests) const CALLS: [Row; 91] = [
+pub(in crate::tests::typing) const CALLS: [Row; 91] = [
     (
         "true && true",
         Ok(b'b'),

@@ -1,7 +1,10 @@
-use crate::{admit, place_of};
+//! The place of a fault in a filter that is refused.
+
 use attributes::Limits;
 use proto_wire::Refusal;
-use std::test::Fail;
+use rbac_policy::{admit, place_of};
+use std::alloc::Global;
+use std::process::Abort;
 
 /// Filters, why each is refused, and the place of its fault.
 const FAULTS: [(&[u8], Refusal, &str); 4] = [
@@ -30,19 +33,25 @@ const FAULTS: [(&[u8], Refusal, &str); 4] = [
     ),
 ];
 
+fn refusal_of(alloc: Global, bytes: &[u8]) -> Option<Refusal> {
+    admit(alloc, bytes, &Limits::largest(), u64::MAX).err()
+}
+
+fn has_its_fault_at(rt: &impl Abort, alloc: Global, bytes: &[u8], refusal: Refusal, place: &str) {
+    let refused = refusal_of(alloc, bytes);
+    assert!(rt; refused == Some(refusal), "{refused:?} at {place}");
+    let found = place_of(alloc, bytes, refusal);
+    assert!(rt;
+        matches!(&found, Some(text) if text.as_str() == place),
+        "{found:?} at {place}"
+    );
+}
+
 #[test]
-fn faults_have_places(rt: HostRuntime) -> Result<(), Fail> {
-    let alloc = rt.alloc();
+fn faults_have_places(rt: HostRuntime) {
     for (bytes, refusal, place) in &FAULTS {
-        let refused = admit(alloc, bytes, &Limits::largest(), u64::MAX).err();
-        assert!(rt; refused == Some(*refusal), "{refused:?} at {place}");
-        let found = place_of(alloc, bytes, *refusal);
-        assert!(rt;
-            matches!(&found, Some(text) if text.as_str() == *place),
-            "{found:?} at {place}"
-        );
+        has_its_fault_at(&rt, rt.alloc(), bytes, *refusal, place);
     }
-    Ok(())
 }
 
 #[test]

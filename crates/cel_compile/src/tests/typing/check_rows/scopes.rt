@@ -4,7 +4,7 @@ use super::Row;
 use proto_wire::Refusal;
 
 /// Comprehensions in each other.
-pub(in crate::tests) const SCOPES: [Row; 5] = [
+pub(in crate::tests::typing) const SCOPES: [Row; 5] = [
     (
         "64 locals in scope",
         Ok(b'b'),
