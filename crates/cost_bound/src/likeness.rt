@@ -5,18 +5,20 @@ ghost use Rattle.cel_types.specs.Elaborated.{kinds};
 ghost use Rattle.cel_types.specs.View.{expr_view, exprs_view};
 ghost use Rattle.cel_types.specs.declared.typed.TypedExpr.{TypedExpr};
 ghost use Rattle.cel_value.specs.Types.{type_view};
-ghost use Rattle.cost_bound.specs.Costs.{call_cost, counted_cost};
+ghost use Rattle.cel_tree.specs.View.{constant_view};
+ghost use Rattle.cost_bound.specs.Costs.{call_cost, constant_size, counted_cost};
 ghost use Rattle.cost_bound.specs.Sizes.{Size, most_of};
 ghost use Rattle.cost_bound.specs.steps.Measuring.{EachAlike, MeasureAlike};
 
 use crate::known::constant_size;
 use crate::size::same;
 use cel_overload::Overload;
+use cel_tree::Constant;
 use cel_types::TypedExpr;
 use cel_value::{CelType, text_length};
 
 // How many parts of an expression are looked at: fewer than it takes time to measure.
-const MOST_PARTS: u64 = 16;
+const MOST_PARTS: u64 = 48;
 
 /// Whether two expressions measure alike. It looks at a few parts alone, and may say no of others.
 pub(crate) fn measure_alike(left: &TypedExpr<'_>, right: &TypedExpr<'_>) -> bool
@@ -45,7 +47,7 @@ fn compare(left: &TypedExpr<'_>, right: &TypedExpr<'_>, parts: u64) -> Option<u6
     let rest = parts - 1;
     match (left, right) {
         (TypedExpr::Constant { value, .. }, TypedExpr::Constant { value: other, .. }) => {
-            if same(&constant_size(value), &constant_size(other)) {
+            if are_as_large(value, other) {
                 return Some(rest);
             }
             None
@@ -123,6 +125,18 @@ fn compare_each(left: &[TypedExpr<'_>], right: &[TypedExpr<'_>], parts: u64) -> 
         place += 1;
     }
     Some(rest)
+}
+
+// Whether two constants have one size.
+fn are_as_large(value: &Constant, other: &Constant) -> bool
+    ensures { IsTrue result → constant_size (constant_view value.now) ≡ constant_size (constant_view other.now) }
+{
+    match (value, other) {
+        (Constant::Bool(_), Constant::Bool(_)) => true,
+        (Constant::Int(_), Constant::Int(_)) => true,
+        (Constant::Uint(_), Constant::Uint(_)) => true,
+        _ => same(&constant_size(value), &constant_size(other)),
+    }
 }
 
 // Whether two calls do the same, and charge alike where their operands' sizes are the same. Counting
