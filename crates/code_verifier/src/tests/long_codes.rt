@@ -21,24 +21,10 @@ fn is_verified(
     Ok(verified(rt, alloc, Code::new(instrs)?, result_type)?.is_some())
 }
 
-/// So many times the same instruction behind others.
-fn push_flags(instrs: &mut Vec<Instr>, count: usize) -> Result<(), AllocError> {
+/// The instruction so many times behind others.
+fn push_copies(instrs: &mut Vec<Instr>, instr: &Instr, count: usize) -> Result<(), AllocError> {
     for _ in 0..count {
-        instrs.push(flag())?;
-    }
-    Ok(())
-}
-
-fn push_ands(instrs: &mut Vec<Instr>, count: usize) -> Result<(), AllocError> {
-    for _ in 0..count {
-        instrs.push(Instr::And)?;
-    }
-    Ok(())
-}
-
-fn push_nots(instrs: &mut Vec<Instr>, count: usize) -> Result<(), AllocError> {
-    for _ in 0..count {
-        instrs.push(Instr::Not)?;
+        instrs.push(instr.copy()?)?;
     }
     Ok(())
 }
@@ -47,7 +33,7 @@ fn push_nots(instrs: &mut Vec<Instr>, count: usize) -> Result<(), AllocError> {
 fn negations(rt: HostRuntime) -> Result<(), Fail> {
     let alloc = rt.alloc();
     let mut instrs = vec![in alloc; flag()]?;
-    push_nots(&mut instrs, 65_534)?;
+    push_copies(&mut instrs, &Instr::Not, 65_534)?;
     assert!(rt; is_verified(&rt, alloc, instrs, &CelType::Bool)?);
     Ok(())
 }
@@ -57,8 +43,8 @@ fn negations(rt: HostRuntime) -> Result<(), Fail> {
 fn deep_stack(rt: HostRuntime) -> Result<(), Fail> {
     let alloc = rt.alloc();
     let mut instrs = Vec::new(alloc);
-    push_flags(&mut instrs, 32_768)?;
-    push_ands(&mut instrs, 32_767)?;
+    push_copies(&mut instrs, &flag(), 32_768)?;
+    push_copies(&mut instrs, &Instr::And, 32_767)?;
     assert!(rt; is_verified(&rt, alloc, instrs, &CelType::Bool)?);
     Ok(())
 }
@@ -67,7 +53,7 @@ fn deep_stack(rt: HostRuntime) -> Result<(), Fail> {
 fn too_many_slots(rt: HostRuntime) -> Result<(), Fail> {
     let alloc = rt.alloc();
     let mut instrs = Vec::new(alloc);
-    push_flags(&mut instrs, 65_535)?;
+    push_copies(&mut instrs, &flag(), 65_535)?;
     assert!(rt; !is_verified(&rt, alloc, instrs, &CelType::Bool)?);
     Ok(())
 }
