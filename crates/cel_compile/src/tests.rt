@@ -10,6 +10,7 @@ mod random_trees;
 mod too_large;
 mod trees;
 mod typing;
+mod verifying;
 mod worked_rows;
 
 use crate::compile;

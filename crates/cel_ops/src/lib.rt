@@ -8,8 +8,6 @@ mod comparison;
 pub mod laws;
 mod literals;
 mod logic;
-#[cfg(test)]
-mod tests;
 mod texts;
 
 pub use arithmetic::{ArithmeticOp, calculate, negate};

@@ -1,3 +1,6 @@
+//! The table of overloads, and the operations of `cel_ops` on which they end (`operations`).
+
+mod operations;
 mod table;
 
 use crate::*;

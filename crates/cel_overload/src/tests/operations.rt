@@ -1,3 +1,5 @@
+//! What the operations of `cel_ops` answer and charge, by tables made by hand.
+
 ghost use Rattle.std.specs.Prelude.{◌≢◌, None};
 ghost use Rattle.cel_value.specs.Texts.{text_view};
 ghost use Rattle.cel_value.specs.View.{answer_view};
@@ -5,7 +7,7 @@ ghost use Rattle.cel_ops.specs.Collections.{field, in_list, in_map, list_index, 
 ghost use Rattle.cel_ops.specs.Logic.{conjunction, disjunction, logical_not, not_strictly_false};
 ghost use Rattle.cel_ops.specs.Parts.{joined};
 
-use crate::*;
+use cel_ops::*;
 use cel_value::{Answer, CelError, Key, Map, Value, insert_entry, spend};
 use std::alloc::{AllocError, Global};
 use std::process::Abort;

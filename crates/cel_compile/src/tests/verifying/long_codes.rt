@@ -1,5 +1,5 @@
 //! Codes of the greatest length.
-use crate::tests::assembly::verified;
+use crate::tests::verifying::assembly::verified;
 use cel_value::CelType;
 use stack_machine::{Code, Constant, Instr};
 use std::alloc::{AllocError, Global};

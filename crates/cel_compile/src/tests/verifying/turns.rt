@@ -1,7 +1,7 @@
 //! Turns of loops that the machine does at once, beside the plain machine at each fuel.
-use crate::tests::assembly::{code_of, verified};
-use crate::tests::both_machines::{End, same_at_each};
-use crate::tests::runs::{plain_request, request_with_facts};
+use crate::tests::verifying::assembly::{code_of, verified};
+use crate::tests::verifying::both_machines::{End, same_at_each};
+use crate::tests::verifying::runs::{plain_request, request_with_facts};
 use attributes::Request;
 use cel_value::CelType;
 use std::alloc::Global;

@@ -1,7 +1,7 @@
 //! The two machines beside each other, on codes made at random.
-use crate::tests::assembly::{type_of, verified};
-use crate::tests::random_codes::{Dice, Piece, START, TEMPLATES, append, filled};
-use crate::tests::runs::{plain_request, request_with_facts};
+use crate::tests::verifying::assembly::{type_of, verified};
+use crate::tests::verifying::random_codes::{Dice, Piece, START, TEMPLATES, append, filled};
+use crate::tests::verifying::runs::{plain_request, request_with_facts};
 use attributes::Request;
 use stack_machine::{Code, Instr, RunError, Verified, run, run_plainly};
 use std::alloc::Global;

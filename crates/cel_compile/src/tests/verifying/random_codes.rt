@@ -1,5 +1,5 @@
 //! Codes made at random, each of them typable: a template is filled with codes made earlier.
-use crate::tests::assembly::{instr_of, words_of};
+use crate::tests::verifying::assembly::{instr_of, words_of};
 use stack_machine::Instr;
 use std::alloc::Global;
 use std::test::Fail;

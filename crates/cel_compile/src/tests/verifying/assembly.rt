@@ -1,8 +1,8 @@
 //! Codes written as text.
-use crate::{VerifyFault, verify};
 use attributes::{AttrId, attr_named};
 use cel_ops::{ArithmeticOp, CompareOp};
 use cel_value::{CelType, KeyType};
+use code_verifier::{VerifyFault, verify};
 use stack_machine::{Code, Constant, Instr, Verified};
 use std::alloc::Global;
 use std::process::Abort;

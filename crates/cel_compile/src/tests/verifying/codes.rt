@@ -1,5 +1,5 @@
 //! Which codes are verified.
-use crate::tests::assembly::{code_of, type_of, verified};
+use crate::tests::verifying::assembly::{code_of, type_of, verified};
 use std::alloc::Global;
 use std::process::Abort;
 use std::test::Fail;

@@ -1,5 +1,5 @@
 //! What verified codes come to, and in how many steps.
-use crate::tests::assembly::{code_of, verified};
+use crate::tests::verifying::assembly::{code_of, verified};
 use attributes::{Conn, Request};
 use cel_value::{Answer, CelError, CelType, Value};
 use stack_machine::{RunError, Verified, run};
