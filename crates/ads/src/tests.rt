@@ -1,4 +1,5 @@
-//! What no contract says: that calls succeed, and that stored bytes are what the definitions say.
+//! What no contract says: that calls succeed, and that stored bytes are what the definitions say. The tests of
+//! `proto_wire` (`protobuf`) and of `xds_wire` (`wire`) stand here too.
 mod cases;
 mod client;
 mod configs;
@@ -8,6 +9,8 @@ mod hostile;
 mod lengths;
 mod making;
 mod pieces;
+mod protobuf;
 mod requests;
 mod serving;
 mod vectors;
+mod wire;

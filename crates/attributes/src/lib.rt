@@ -9,8 +9,6 @@ pub mod laws;
 mod limits;
 mod lookup;
 mod request;
-#[cfg(test)]
-mod tests;
 
 pub use address::{Cidr, Ip, parse_ip};
 pub use attribute::{AttrId, AttrType, AttrValue, attr_named, attr_type};

@@ -1,6 +1,8 @@
-//! The table of overloads, and the operations of `cel_ops` on which they end (`operations`).
+//! The table of overloads; the operations of `cel_ops` on which they end (`operations`), and the requests of
+//! `attributes` (`request_facts`).
 
 mod operations;
+mod request_facts;
 mod table;
 
 use crate::*;

@@ -28,6 +28,3 @@ pub use values::{
     text_at, text_of, uint32_at,
 };
 pub use writer::Writer;
-
-#[cfg(test)]
-mod tests;

@@ -1,5 +1,5 @@
 //! Texts of addresses, and ranges.
-use crate::{Cidr, Ip, parse_ip};
+use attributes::{Cidr, Ip, parse_ip};
 use std::process::Abort;
 use std::test::Fail;
 

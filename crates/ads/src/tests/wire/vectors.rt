@@ -1,7 +1,7 @@
 //! Bytes of the update stream, written by hand from the encoding guide: each a frame, as the pieces that it is made of.
-use crate::write_frame;
 use std::alloc::{AllocError, Global};
 use std::test::Fail;
+use xds_wire::write_frame;
 
 /// The type of the resources.
 pub const EXTENSION_TYPE: &str = "type.googleapis.com/envoy.config.core.v3.TypedExtensionConfig";

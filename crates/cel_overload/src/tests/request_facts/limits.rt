@@ -1,5 +1,5 @@
 //! The borders of declared limits, and of requests within them.
-use crate::{Conn, Limit, LimitFault, Limits, Request};
+use attributes::{Conn, Limit, LimitFault, Limits, Request};
 use std::alloc::{AllocError, Global};
 use std::process::Abort;
 use std::rc::RcStr;
@@ -100,7 +100,6 @@ fn keeps_limits(rt: HostRuntime) -> Result<(), Fail> {
 
 fn is_largest(rt: &impl Abort, limit: Limit, number: usize) {
     keeps(rt, &Limits::largest(), limit, number);
-    assert_eq!(rt; limit.largest(), number, "{limit:?}");
 }
 
 #[test]
@@ -111,25 +110,50 @@ fn keeps_largest_limits(rt: HostRuntime) -> Result<(), Fail> {
     Ok(())
 }
 
-#[test]
-fn prints_faults_of_limits(rt: HostRuntime) -> Result<(), Fail> {
-    let alloc = rt.alloc();
-    let zero = LimitFault::Zero(Limit::Fields).to_string(alloc)?;
-    assert_eq!(rt; zero.as_str(), "the limit fields is 0");
-    let above = LimitFault::Above(Limit::Text).to_string(alloc)?;
-    assert_eq!(rt; above.as_str(), "the limit text is above 1024");
+// Each limit's faults as texts.
+const FAULTS: [(Limit, &str, &str); 6] = [
+    (
+        Limit::Fields,
+        "the limit fields is 0",
+        "the limit fields is above 64",
+    ),
+    (
+        Limit::Name,
+        "the limit name is 0",
+        "the limit name is above 128",
+    ),
+    (
+        Limit::Value,
+        "the limit value is 0",
+        "the limit value is above 4096",
+    ),
+    (
+        Limit::Method,
+        "the limit method is 0",
+        "the limit method is above 32",
+    ),
+    (
+        Limit::Target,
+        "the limit target is 0",
+        "the limit target is above 4096",
+    ),
+    (
+        Limit::Text,
+        "the limit text is 0",
+        "the limit text is above 1024",
+    ),
+];
+
+fn tells(rt: &impl Abort, alloc: Global, fault: LimitFault, text: &str) -> Result<(), Fail> {
+    assert_eq!(rt; fault.to_string(alloc)?.as_str(), text);
     Ok(())
 }
 
-fn is_named(rt: &impl Abort, limit: Limit, name: &str) {
-    assert_eq!(rt; limit.name(), name);
-}
-
 #[test]
-fn names_limits(rt: HostRuntime) -> Result<(), Fail> {
-    let names = ["fields", "name", "value", "method", "target", "text"];
-    for (limit, name) in LIMITS.iter().zip(names) {
-        is_named(&rt, *limit, name);
+fn prints_faults_of_limits(rt: HostRuntime) -> Result<(), Fail> {
+    for (limit, zero, above) in &FAULTS {
+        tells(&rt, rt.alloc(), LimitFault::Zero(*limit), zero)?;
+        tells(&rt, rt.alloc(), LimitFault::Above(*limit), above)?;
     }
     Ok(())
 }

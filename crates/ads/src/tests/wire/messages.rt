@@ -4,14 +4,14 @@ use super::vectors::{
     EXTENSION_TYPE, FILTER_TYPE, FIRST_ACK, FIRST_REQUEST, FIRST_RESPONSE, HALF_BAD_NACK,
     RESUMED_REQUEST, TRUE_AND_TRUE, behind, framed_bytes, joined,
 };
-use crate::{
-    Any, DiscoveryRequest, DiscoveryResponse, Node, Status, TypedExtensionConfig, read_extension,
-    read_request, read_response, write_extension, write_request, write_response,
-};
 use proto_wire::Refusal;
 use std::alloc::{AllocError, Global};
 use std::process::Abort;
 use std::test::Fail;
+use xds_wire::{
+    Any, DiscoveryRequest, DiscoveryResponse, Node, Status, TypedExtensionConfig, read_extension,
+    read_request, read_response, write_extension, write_request, write_response,
+};
 
 const NODE: Node<'static> = Node {
     id: "n",

@@ -1,9 +1,9 @@
 //! Streams of frames, cut at every place.
 use super::vectors::{FIRST_ACK, FIRST_REQUEST, VECTORS, before, behind, framed_bytes, joined};
-use crate::{FrameError, Frames};
 use std::alloc::Global;
 use std::process::Abort;
 use std::test::Fail;
+use xds_wire::{FrameError, Frames};
 
 const LIMIT: usize = 1_048_576;
 

@@ -2,10 +2,10 @@
 //! write the same bytes but for the order of maps. The fields that no message here knows are skipped.
 use super::compare::{are_names, is_node, is_response_of_one, is_status, is_text};
 use super::vectors::{EXTENSION_TYPE, FILTER_TYPE, R, U, joined};
-use crate::{Any, Node, Status, read_extension, read_request, read_response};
 use std::alloc::Global;
 use std::process::Abort;
 use std::test::Fail;
+use xds_wire::{Any, Node, Status, read_extension, read_request, read_response};
 
 /// A response that gives `f` the filter, with a canary and a control plane.
 const RESPONSE: &[&[u8]] = &[

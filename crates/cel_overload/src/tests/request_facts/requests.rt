@@ -1,5 +1,5 @@
 //! Attributes and headers of two requests, and copies of connections.
-use crate::{AttrId, AttrType, AttrValue, Conn, Request, attr_named, attr_type, parse_ip};
+use attributes::{AttrId, AttrType, AttrValue, Conn, Request, attr_named, attr_type, parse_ip};
 use std::alloc::{AllocError, Global};
 use std::process::Abort;
 use std::rc::RcStr;
