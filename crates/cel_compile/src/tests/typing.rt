@@ -10,12 +10,12 @@ use cel_tree::read_checked;
 use cel_types::{check, evaluate_plainly};
 use cel_value::{Answer, CelType, KeyType, Value};
 use check_rows::Row;
-use check_rows::calls::CALLS;
+use check_rows::calls::{CALLS, LAST_CALLS, MORE_CALLS};
 use check_rows::leaves::LEAVES;
-use check_rows::literals::LITERALS;
-use check_rows::loops::LOOPS;
+use check_rows::literals::{LITERALS, MORE_LITERALS};
+use check_rows::loops::{LOOPS, MORE_LOOPS};
 use check_rows::scopes::SCOPES;
-use check_rows::selects::SELECTS;
+use check_rows::selects::{MORE_SELECTS, SELECTS};
 use proto_wire::Refusal;
 use std::alloc::{AllocError, Global};
 use std::process::Abort;
@@ -86,8 +86,23 @@ fn selects(rt: HostRuntime) {
 }
 
 #[test]
+fn more_selects(rt: HostRuntime) {
+    assert_eq!(rt; first_wrong(rt.alloc(), &MORE_SELECTS), None);
+}
+
+#[test]
 fn calls(rt: HostRuntime) {
     assert_eq!(rt; first_wrong(rt.alloc(), &CALLS), None);
+}
+
+#[test]
+fn more_calls(rt: HostRuntime) {
+    assert_eq!(rt; first_wrong(rt.alloc(), &MORE_CALLS), None);
+}
+
+#[test]
+fn last_calls(rt: HostRuntime) {
+    assert_eq!(rt; first_wrong(rt.alloc(), &LAST_CALLS), None);
 }
 
 #[test]
@@ -96,8 +111,18 @@ fn literals(rt: HostRuntime) {
 }
 
 #[test]
+fn more_literals(rt: HostRuntime) {
+    assert_eq!(rt; first_wrong(rt.alloc(), &MORE_LITERALS), None);
+}
+
+#[test]
 fn loops(rt: HostRuntime) {
     assert_eq!(rt; first_wrong(rt.alloc(), &LOOPS), None);
+}
+
+#[test]
+fn more_loops(rt: HostRuntime) {
+    assert_eq!(rt; first_wrong(rt.alloc(), &MORE_LOOPS), None);
 }
 
 #[test]

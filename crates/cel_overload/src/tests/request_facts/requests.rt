@@ -267,16 +267,20 @@ fn gives_each_attribute_of_a_bare_request(rt: HostRuntime) -> Result<(), Fail> {
     Ok(())
 }
 
+fn has_path(rt: &impl Abort, request: &Request, path: &str) {
+    assert_eq!(rt; request.url_path(), path);
+}
+
+fn has_query(rt: &impl Abort, alloc: Global, request: &Request, query: &str) -> Result<(), Fail> {
+    let found = shown(alloc, request.attr(AttrId::RequestQuery))?;
+    assert_eq!(rt; found.as_str().strip_prefix("text "), Some(query));
+    Ok(())
+}
+
 fn cuts(rt: &impl Abort, alloc: Global, target: &str, path: &str, query: &str) -> Result<(), Fail> {
     let request = bare_request(alloc, target)?;
-    assert_eq!(rt; request.url_path(), path, "{target}");
-    let found = shown(alloc, request.attr(AttrId::RequestQuery))?;
-    assert_eq!(rt;
-        found.as_str().strip_prefix("text "),
-        Some(query),
-        "{target}"
-    );
-    Ok(())
+    has_path(rt, &request, path);
+    has_query(rt, alloc, &request, query)
 }
 
 #[test]

@@ -4,7 +4,7 @@ use super::Row;
 use proto_wire::Refusal;
 
 /// Calls.
-pub(in crate::tests::typing) const CALLS: [Row; 91] = [
+pub(in crate::tests::typing) const CALLS: [Row; 31] = [
     (
         "true && true",
         Ok(b'b'),
@@ -172,6 +172,9 @@ pub(in crate::tests::typing) const CALLS: [Row; 91] = [
         b"\x22\x1b2\x19\x12\x03_>_\x1a\x08:\x06\x0a\x04\x1a\x02\x18\x01\x1a\x08:\x06\x0a\x04\
           \x1a\x02\x18\x02",
     ),
+];
+
+pub(in crate::tests::typing) const MORE_CALLS: [Row; 31] = [
     (
         "\"a\" >= \"b\"",
         Ok(b'b'),
@@ -334,6 +337,9 @@ pub(in crate::tests::typing) const CALLS: [Row; 91] = [
         Err(Refusal::NoOverload),
         b"\x22\x142\x12\x12\x04_[_]\x1a\x04\x1a\x02\x18\x01\x1a\x04\x1a\x02\x18\x00",
     ),
+];
+
+pub(in crate::tests::typing) const LAST_CALLS: [Row; 29] = [
     (
         "1 in [1] by @in",
         Ok(b'b'),

@@ -4,7 +4,7 @@ use super::Row;
 use proto_wire::Refusal;
 
 /// List and map literals.
-pub(in crate::tests::typing) const LITERALS: [Row; 42] = [
+pub(in crate::tests::typing) const LITERALS: [Row; 21] = [
     (
         "[1, 2]",
         Ok(b'I'),
@@ -113,6 +113,9 @@ pub(in crate::tests::typing) const LITERALS: [Row; 42] = [
         b"\x1a\x0a\x08\x01\x12\x062\x04\x0a\x02\x18\x02\x22\x1e2\x1c\x12\x04_==_\x1a\x0e2\x0c\
           \x12\x04size\x1a\x04\x10\x01:\x00\x1a\x04\x1a\x02\x18\x00",
     ),
+];
+
+pub(in crate::tests::typing) const MORE_LITERALS: [Row; 21] = [
     (
         "size([]) == 0, type list(dyn)",
         Err(Refusal::Unsupported),

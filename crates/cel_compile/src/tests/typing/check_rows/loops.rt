@@ -4,7 +4,7 @@ use super::Row;
 use proto_wire::Refusal;
 
 /// Comprehensions.
-pub(in crate::tests::typing) const LOOPS: [Row; 49] = [
+pub(in crate::tests::typing) const LOOPS: [Row; 25] = [
     (
         "[1].all(x, x == 1)",
         Ok(b'b'),
@@ -190,6 +190,9 @@ pub(in crate::tests::typing) const LOOPS: [Row; 49] = [
         b"\x22-J+\x0a\x01x\x12\x09:\x07\x0a\x05\x22\x03\x0a\x01a\x1a\x01a\x22\x04\x1a\x02\x10\
           \x01*\x04\x1a\x02\x10\x012\x05\x22\x03\x0a\x01a:\x05\x22\x03\x0a\x01a",
     ),
+];
+
+pub(in crate::tests::typing) const MORE_LOOPS: [Row; 24] = [
     (
         "what is gathered in the beginning",
         Err(Refusal::UnknownName),

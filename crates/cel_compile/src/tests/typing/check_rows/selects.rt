@@ -4,7 +4,7 @@ use super::Row;
 use proto_wire::Refusal;
 
 /// Selects.
-pub(in crate::tests::typing) const SELECTS: [Row; 47] = [
+pub(in crate::tests::typing) const SELECTS: [Row; 24] = [
     (
         "{\"a\": \"b\"} asked for the empty name",
         Ok(b's'),
@@ -125,6 +125,9 @@ pub(in crate::tests::typing) const SELECTS: [Row; 47] = [
         Ok(b's'),
         b"\x22,**\x0a\x0e\x22\x0c\x0a\x0aconnection\x12\x18uri_san_peer_certificate",
     ),
+];
+
+pub(in crate::tests::typing) const MORE_SELECTS: [Row; 23] = [
     (
         "request.color",
         Err(Refusal::UnknownName),
