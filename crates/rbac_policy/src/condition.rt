@@ -4,6 +4,8 @@ ghost use Rattle.std.specs.Prelude.{◌≡◌, ◌≢◌, ◌≤◌, ◌⊎◌, 
 ghost use Rattle.cel_tree.specs.Checked.{CelChecked};
 ghost use Rattle.cel_tree.specs.Message.{IsChecked};
 ghost use Rattle.cel_tree.specs.View.{checked_view};
+ghost use Rattle.cel_types.specs.Elaborated.{IsElaborated};
+ghost use Rattle.cel_types.specs.View.{typed_view};
 ghost use Rattle.cel_value.specs.Types.{bool_type, type_view};
 ghost use Rattle.proto_wire.specs.Merge.{parts_view};
 ghost use Rattle.proto_wire.specs.Refusal.{MemoryOr};
@@ -11,7 +13,7 @@ ghost use Rattle.proto_wire.specs.declared.refusal.Refusal.TheVariants.{NotBool}
 ghost use Rattle.cel_value.specs.View.{answer_view};
 ghost use Rattle.rbac_policy.specs.Condition.{IsProgramOf, came_true};
 ghost use Rattle.rbac_policy.specs.Named.{program_view};
-ghost use Rattle.rbac_policy.specs.steps.Conditions.{ConditionFault, ExpressionFault};
+ghost use Rattle.rbac_policy.specs.steps.Conditions.{ConditionFault, Enforces, EnforcingFault, ExpressionFault};
 ghost use Rattle.rbac_policy.specs.steps.Runs.{RunsAs};
 ghost use Rattle.rbac_policy.specs.Trials.{IsReasonOf};
 ghost use Rattle.rbac_policy.specs.steps.Trials.{EndsWith, TakesOf};
@@ -23,7 +25,7 @@ use crate::trials::Reason;
 use attributes::{Limits, Request};
 use cel_compile::compile;
 use cel_tree::{Checked, read_checked_parts};
-use cel_types::check;
+use cel_types::{Typed, check};
 use cel_value::{Answer, CelType, Value};
 use code_verifier::{VerifyFault, verify};
 use cost_bound::bound;
@@ -116,9 +118,25 @@ fn condition_of(
     ensures fault { IfErr result (MemoryOr (ExpressionFault (checked_view checked.now) limits.now left)) }
 {
     let typed = check(alloc, checked)?;
+    enforced(alloc, &typed, limits, left)
+}
+
+/// What is enforced of an expression that was elaborated.
+fn enforced(
+    alloc: Global,
+    typed: &Typed<'_>,
+    limits: &Limits,
+    left: u64,
+) -> Result<Condition, Refusal>
+    requires { (parts : List (List ℕ)) × (x : CelChecked) × IsChecked parts x
+        × IsElaborated x (typed_view typed.now) }
+    ensures found { IfOk result (λ c. Enforces limits.now (typed_view typed.now) (program_view c)) }
+    ensures cheap { IfOk result (λ c. c.bound ≤ left) }
+    ensures fault { IfErr result (MemoryOr (EnforcingFault limits.now left (typed_view typed.now))) }
+{
     require_bool(typed.root.cel_type())?;
-    let steps = bound(alloc, &typed, limits, left)?;
-    let code = compile(alloc, &typed)?;
+    let steps = bound(alloc, typed, limits, left)?;
+    let code = compile(alloc, typed)?;
     let code = verified(alloc, code)?;
     Ok(Condition { code, bound: steps })
 }

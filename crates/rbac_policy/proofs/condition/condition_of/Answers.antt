@@ -1,63 +1,46 @@
-use Rattle.std.proofs.Common.{arith, ◌≡◌, ◌<◌, ◌⊎◌, inl, inr, [], refl, subst}
-use Rattle.cel_value.specs.Types.{bool_type}
+use Rattle.std.proofs.Common.{◌≡◌, ◌<◌, ◌⊎◌, ℕ, inl, inr, [], refl}
+use Rattle.std.proofs.lemmas.Result.{MatchResult-weaker}
 use Rattle.cel_tree.specs.Checked.{CelChecked}
 use Rattle.cel_tree.specs.View.{checked_view}
-use Rattle.cel_tree.proofs.GoodConstantLaws.{checked_good}
 use Rattle.cel_types.specs.Elaborated.{IsElaborated, TypedTree, kind}
 use Rattle.cel_types.specs.View.{typed_view}
+use Rattle.proto_wire.proofs.Exits.{memory_or_weaker}
+use Rattle.attributes.specs.Limits.{LimitsValue}
+use Rattle.cel_value.specs.Types.{bool_type}
 use Rattle.cost_bound.specs.Costs.{cost_of}
-use Rattle.cel_compile.specs.Codes.{code_of, extent}
-use Rattle.cel_compile.specs.Slots.{HasFewLocals}
-use Rattle.cel_compile.proofs.Forwards.{elaborated_code_is_forward}
-use Rattle.cel_compile.proofs.Placing.{extent_is}
-use Rattle.cel_compile.proofs.Short.{fitting_code}
-use Rattle.proto_wire.specs.declared.refusal.Refusal.TheVariants.{TooCostly, TooLarge}
-use Rattle.stack_machine.specs.Typable.{Forward}
-use Rattle.proto_wire.proofs.Exits.{exit_memory_or}
+use Rattle.proto_wire.specs.declared.refusal.Refusal.{Refusal}
 use Rattle.rbac_policy.specs.Costs.{Costs}
-use Rattle.rbac_policy.specs.steps.Conditions.{ExpressionFault, not_bool, too_costly}
+use Rattle.rbac_policy.specs.steps.Conditions.{EnforcingFault, ExpressionFault, not_bool, too_costly}
 use Rattle.rbac_policy.proofs.condition.condition_of.Goals as goal
 
-pub returns-in_err-require_bool-clause-fault : goal.returns-in_err-require_bool-clause-fault
-returns-in_err-require_bool-clause-fault c =
+told : (x : CelChecked) (e : TypedTree) → IsElaborated x e → (limits : LimitsValue) (left : ℕ) (d : Refusal)
+    → EnforcingFault limits left e d → ExpressionFault x limits left d
+told x e elaborated limits left d (inl (other, err)) = not_bool (kind e) elaborated.typed other err
+told x e elaborated limits left d (inr (is_bool, more, err)) =
+    let costs : Costs limits x (cost_of e limits []) =
+    record { e = e; elaborated = elaborated; has_type = is_bool; is = refl } in
+    too_costly (cost_of e limits []) costs more err
+
+pub enforced-requires : goal.enforced-requires
+enforced-requires c =
+    (c.requires.0, checked_view c.args.checked.now, c.requires.1, c.in_ok-typed.ensures.found)
+
+pub returns-clause-found : goal.returns-clause-found
+returns-clause-found c =
+    MatchResult-weaker c.enforced.result c.enforced.ensures.found
+    (λ found is. record {
+      e = typed_view c.in_ok-typed.typed;
+      elaborated = c.in_ok-typed.ensures.found;
+      has_type = is.0;
+      code = is.1;
+      bound = is.2;
+    }) (λ _ _. tt)
+
+pub returns-clause-fault : goal.returns-clause-fault
+returns-clause-fault c =
     let x : CelChecked = checked_view c.args.checked.now in
     let e : TypedTree = typed_view c.in_ok-typed.typed in
     let elaborated : IsElaborated x e = c.in_ok-typed.ensures.found in
-    let bad = rw c.cel_type.ensures at c.in_err-require_bool.ensures.fault in
-    let F = ExpressionFault x c.args.limits.now c.args.left in
-    exit_memory_or F F c.from_residual-in_err-require_bool.result _ c.from_residual-in_err-require_bool.ensures.1
-    (inr (not_bool (kind e) elaborated.typed bad.0 bad.1)) (λ e fault. fault)
-
-pub returns-in_err-steps-clause-fault : goal.returns-in_err-steps-clause-fault
-returns-in_err-steps-clause-fault c =
-    let x : CelChecked = checked_view c.args.checked.now in
-    let e : TypedTree = typed_view c.in_ok-typed.typed in
-    let is_bool : kind e ≡ bool_type = rw c.cel_type.ensures at c.in_ok-require_bool.ensures.found in
-    let costs : Costs c.args.limits.now x (cost_of e c.args.limits.now []) =
-    record { e = e; elaborated = c.in_ok-typed.ensures.found; has_type = is_bool; is = refl } in
-    exit_memory_or (λ d. (d ≡ TooCostly) × (c.args.left < cost_of e c.args.limits.now [])) (ExpressionFault x c.args.limits.now c.args.left)
-    c.from_residual-in_err-steps.result _ c.from_residual-in_err-steps.ensures.1 c.in_err-steps.ensures.fault
-    (λ d bad. too_costly _ costs bad.1 bad.0)
-
--- a code has room for the expression
-pub returns-in_err-code-clause-fault : goal.returns-in_err-code-clause-fault
-returns-in_err-code-clause-fault c =
-    let x : CelChecked = checked_view c.args.checked.now in
-    let e : TypedTree = typed_view c.in_ok-typed.typed in
-    let room = fitting_code c.requires.0 x e c.requires.1 c.in_ok-typed.ensures.found in
-    let short = room.0 in
-    let size = extent_is e 0 0 in
-    exit_memory_or (λ d. (d ≡ TooLarge) × ((65535 < extent e) ⊎ (HasFewLocals 0 e → ⊥))) (ExpressionFault x c.args.limits.now c.args.left)
-    c.from_residual-in_err-code.result _ c.from_residual-in_err-code.ensures.1 c.in_err-code.ensures.fault
-    (λ d bad. elim bad.1 [
-      | inl long ↦ absurd (omega (arith, short, size, long))
-      | inr many ↦ absurd (many room.1)
-    ])
-
-pub verified-requires : goal.verified-requires
-verified-requires c =
-    let x : CelChecked = checked_view c.args.checked.now in
-    let e : TypedTree = typed_view c.in_ok-typed.typed in
-    let is_bool : kind e ≡ bool_type = rw c.cel_type.ensures at c.in_ok-require_bool.ensures.found in
-    let good = checked_good c.requires.0 x c.requires.1 in
-    rw c.in_ok-code.ensures.found (subst (Forward (code_of 0 0 e)) is_bool (elaborated_code_is_forward x e good c.in_ok-typed.ensures.found))
+    MatchResult-weaker c.enforced.result c.enforced.ensures.fault (λ _ _. tt)
+    (λ d h. memory_or_weaker (EnforcingFault c.args.limits.now c.args.left e) (ExpressionFault x c.args.limits.now c.args.left) d
+    (λ d bad. told x e elaborated c.args.limits.now c.args.left d bad) h)
