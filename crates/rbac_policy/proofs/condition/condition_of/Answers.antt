@@ -1,4 +1,4 @@
-use Rattle.std.proofs.Common.{◌≡◌, ◌<◌, ◌⊎◌, ℕ, inl, inr, [], refl}
+use Rattle.std.proofs.Common.{ℕ, inl, inr, [], refl}
 use Rattle.std.proofs.lemmas.Result.{MatchResult-weaker}
 use Rattle.cel_tree.specs.Checked.{CelChecked}
 use Rattle.cel_tree.specs.View.{checked_view}
@@ -6,7 +6,6 @@ use Rattle.cel_types.specs.Elaborated.{IsElaborated, TypedTree, kind}
 use Rattle.cel_types.specs.View.{typed_view}
 use Rattle.proto_wire.proofs.Exits.{memory_or_weaker}
 use Rattle.attributes.specs.Limits.{LimitsValue}
-use Rattle.cel_value.specs.Types.{bool_type}
 use Rattle.cost_bound.specs.Costs.{cost_of}
 use Rattle.proto_wire.specs.declared.refusal.Refusal.{Refusal}
 use Rattle.rbac_policy.specs.Costs.{Costs}
