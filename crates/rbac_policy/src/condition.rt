@@ -13,7 +13,7 @@ ghost use Rattle.proto_wire.specs.declared.refusal.Refusal.TheVariants.{NotBool}
 ghost use Rattle.cel_value.specs.View.{answer_view};
 ghost use Rattle.rbac_policy.specs.Condition.{IsProgramOf, came_true};
 ghost use Rattle.rbac_policy.specs.Named.{program_view};
-ghost use Rattle.rbac_policy.specs.steps.Conditions.{ConditionFault, Enforces, EnforcingFault, ExpressionFault};
+ghost use Rattle.rbac_policy.specs.steps.Conditions.{ConditionFault, ExpressionFault};
 ghost use Rattle.rbac_policy.specs.steps.Runs.{RunsAs};
 ghost use Rattle.rbac_policy.specs.Trials.{IsReasonOf};
 ghost use Rattle.rbac_policy.specs.steps.Trials.{EndsWith, TakesOf};
@@ -121,7 +121,7 @@ fn condition_of(
     enforced(alloc, &typed, limits, left)
 }
 
-/// What is enforced of an expression that was elaborated.
+/// What is enforced of an expression that was elaborated. It was read from some parts.
 fn enforced(
     alloc: Global,
     typed: &Typed<'_>,
@@ -130,9 +130,11 @@ fn enforced(
 ) -> Result<Condition, Refusal>
     requires { (parts : List (List ℕ)) × (x : CelChecked) × IsChecked parts x
         × IsElaborated x (typed_view typed.now) }
-    ensures found { IfOk result (λ c. Enforces limits.now (typed_view typed.now) (program_view c)) }
+    ensures found { (x : CelChecked) → IsElaborated x (typed_view typed.now)
+        → IfOk result (λ c. IsProgramOf limits.now x (program_view c)) }
     ensures cheap { IfOk result (λ c. c.bound ≤ left) }
-    ensures fault { IfErr result (MemoryOr (EnforcingFault limits.now left (typed_view typed.now))) }
+    ensures fault { (x : CelChecked) → IsElaborated x (typed_view typed.now)
+        → IfErr result (MemoryOr (ExpressionFault x limits.now left)) }
 {
     require_bool(typed.root.cel_type())?;
     let steps = bound(alloc, typed, limits, left)?;

@@ -1,14 +1,11 @@
 -- Why conditions are not admitted, step by step.
-use Rattle.std.specs.Prelude.{◌≡◌, ◌≢◌, ◌<◌, ◌⊎◌, ℕ, List, [], Option, None, IsSomeAnd, MatchOption}
+use Rattle.std.specs.Prelude.{◌≡◌, ◌≢◌, ◌<◌, ℕ, List, Option, None, IsSomeAnd, MatchOption}
 use Rattle.attributes.specs.Limits.{LimitsValue}
 use Rattle.cel_value.specs.Types.{ValueType, bool_type}
 use Rattle.cel_tree.specs.Checked.{CelChecked}
 use Rattle.cel_tree.specs.Message.{CheckedFault, IsChecked}
-use Rattle.cel_types.specs.Elaborated.{TypedTree, kind}
 use Rattle.cel_types.specs.Typing.{IsTyped}
 use Rattle.cel_types.specs.TypingFaults.{CheckFault}
-use Rattle.cost_bound.specs.Costs.{cost_of}
-use Rattle.cel_compile.specs.Codes.{code_of}
 use Rattle.proto_wire.specs.Maps.{Entry, text}
 use Rattle.proto_wire.specs.declared.refusal.Refusal.{Refusal}
 use Rattle.proto_wire.specs.declared.refusal.Refusal.TheVariants.{NotBool, TooCostly}
@@ -18,17 +15,6 @@ use Rattle.rbac_policy.specs.Enforced.{EnforcesPolicy}
 use Rattle.rbac_policy.specs.Fault.{SomeCost}
 use Rattle.rbac_policy.specs.Filter.{Policy}
 use Rattle.rbac_policy.specs.Message.{IsCondition, IsPolicy}
-
--- this is enforced of an elaborated expression: it is a bool, with its code and what it costs
-abbrev pub Enforces : LimitsValue → TypedTree → Program → Type 0
-Enforces limits e program = (kind e ≡ bool_type) × (program.code ≡ code_of 0 0 e)
-    × (program.bound ≡ cost_of e limits [])
-
--- why nothing is enforced of it with so many steps left
-abbrev pub EnforcingFault : LimitsValue → ℕ → TypedTree → Refusal → Type 0
-EnforcingFault limits left e d =
-    ((kind e ≢ bool_type) × (d ≡ NotBool))
-    ⊎ ((kind e ≡ bool_type) × (left < cost_of e limits []) × (d ≡ TooCostly))
 
 -- why a condition is not admitted with so many steps left
 pub data ExpressionFault (condition : CelChecked) (limits : LimitsValue) (left : ℕ) (e : Refusal)

@@ -1,4 +1,4 @@
-use Rattle.std.proofs.Common.{arith, ◌≡◌, ◌<◌, ◌⊎◌, inl, inr, [], subst}
+use Rattle.std.proofs.Common.{arith, ◌≡◌, ◌<◌, ◌⊎◌, inl, inr, [], refl, subst}
 use Rattle.cel_value.specs.Types.{bool_type}
 use Rattle.cel_types.specs.Elaborated.{TypedTree, kind}
 use Rattle.cel_types.specs.View.{typed_view}
@@ -12,32 +12,35 @@ use Rattle.cel_tree.proofs.GoodConstantLaws.{checked_good}
 use Rattle.proto_wire.specs.declared.refusal.Refusal.TheVariants.{TooCostly, TooLarge}
 use Rattle.proto_wire.proofs.Exits.{exit_memory_or}
 use Rattle.stack_machine.specs.Typable.{Forward}
-use Rattle.rbac_policy.specs.steps.Conditions.{EnforcingFault}
+use Rattle.rbac_policy.specs.Costs.{Costs}
+use Rattle.rbac_policy.specs.steps.Conditions.{ExpressionFault, not_bool, too_costly}
 use Rattle.rbac_policy.proofs.condition.enforced.Goals as goal
 
 pub returns-in_err-require_bool-clause-fault : goal.returns-in_err-require_bool-clause-fault
-returns-in_err-require_bool-clause-fault c =
+returns-in_err-require_bool-clause-fault c x elaborated =
     let bad = rw c.cel_type.ensures at c.in_err-require_bool.ensures.fault in
-    let F = EnforcingFault c.args.limits.now c.args.left (typed_view c.args.typed.now) in
+    let F = ExpressionFault x c.args.limits.now c.args.left in
     exit_memory_or F F c.from_residual.result _ c.from_residual.ensures.1
-    (inr (inl (bad.0, bad.1))) (λ d fault. fault)
+    (inr (not_bool (kind (typed_view c.args.typed.now)) elaborated.typed bad.0 bad.1)) (λ d fault. fault)
 
 pub returns-in_err-steps-clause-fault : goal.returns-in_err-steps-clause-fault
-returns-in_err-steps-clause-fault c =
+returns-in_err-steps-clause-fault c x elaborated =
     let e : TypedTree = typed_view c.args.typed.now in
     let is_bool : kind e ≡ bool_type = rw c.cel_type.ensures at c.in_ok-require_bool.ensures.found in
-    exit_memory_or (λ d. (d ≡ TooCostly) × (c.args.left < cost_of e c.args.limits.now [])) (EnforcingFault c.args.limits.now c.args.left e)
+    let costs : Costs c.args.limits.now x (cost_of e c.args.limits.now []) =
+    record { e = e; elaborated = elaborated; has_type = is_bool; is = refl } in
+    exit_memory_or (λ d. (d ≡ TooCostly) × (c.args.left < cost_of e c.args.limits.now [])) (ExpressionFault x c.args.limits.now c.args.left)
     c.from_residual-in_err-steps.result _ c.from_residual-in_err-steps.ensures.1 c.in_err-steps.ensures.fault
-    (λ d bad. inr (is_bool, bad.1, bad.0))
+    (λ d bad. too_costly _ costs bad.1 bad.0)
 
 -- a code has room for the expression
 pub returns-in_err-code-clause-fault : goal.returns-in_err-code-clause-fault
-returns-in_err-code-clause-fault c =
+returns-in_err-code-clause-fault c x elaborated =
     let e : TypedTree = typed_view c.args.typed.now in
     let room = fitting_code c.requires.0 c.requires.1 e c.requires.2 c.requires.3 in
     let short = room.0 in
     let size = extent_is e 0 0 in
-    exit_memory_or (λ d. (d ≡ TooLarge) × ((65535 < extent e) ⊎ (HasFewLocals 0 e → ⊥))) (EnforcingFault c.args.limits.now c.args.left e)
+    exit_memory_or (λ d. (d ≡ TooLarge) × ((65535 < extent e) ⊎ (HasFewLocals 0 e → ⊥))) (ExpressionFault x c.args.limits.now c.args.left)
     c.from_residual-in_err-code.result _ c.from_residual-in_err-code.ensures.1 c.in_err-code.ensures.fault
     (λ d bad. elim bad.1 [
       | inl long ↦ absurd (omega (arith, short, size, long))
