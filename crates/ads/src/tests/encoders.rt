@@ -6,7 +6,7 @@ use super::vectors::{ANY_ANY, FIRST_ACK, R, U, joined};
 use std::test::Fail;
 
 /// A response that gives `f` the filter, with a canary and a control plane.
-const RESPONSE: &[&[u8]] = &[
+pub const RESPONSE: &[&[u8]] = &[
     b"\x00\x00\x00\x00\xf9",
     b"\x0a\x011\x12\x99\x01\x0a=",
     U,
@@ -20,7 +20,7 @@ const RESPONSE: &[&[u8]] = &[
 ];
 
 /// A response whose resource stands in a `Resource`, with a version, an alias and a time to live.
-const WITH_TTL: &[&[u8]] = &[
+pub const WITH_TTL: &[&[u8]] = &[
     b"\x00\x00\x00\x01\x3a",
     b"\x0a\x012\x12\xef\x01\x0a7type.googleapis.com/envoy.service.discovery.v3.Resource",
     b"\x12\xb3\x01\x0a\x017\x12\x99\x01\x0a=",
@@ -35,14 +35,14 @@ const WITH_TTL: &[&[u8]] = &[
 ];
 
 /// A response of another type.
-const CLUSTERS: &[&[u8]] = &[
+pub const CLUSTERS: &[&[u8]] = &[
     b"\x00\x00\x00\x00\x81",
     b"\x0a\x012\x12A\x0a3type.googleapis.com/envoy.config.cluster.v3.Cluster\x12\x0a\x0a",
     b"\x08outbound\x18\x01\"3type.googleapis.com/envoy.config.cluster.v3.Cluster*\x02n2",
 ];
 
 /// A first request by a node with metadata, a locality, a version, extensions, features and an address, as Go writes it.
-const FIRST: &[&[u8]] = &[
+pub const FIRST: &[&[u8]] = &[
     b"\x00\x00\x00\x01\x84",
     b"\x12\xbf\x02\x0a\x01n\x12\x01c\x1aO\x0a\x0d\x0a\x07NOTHING\x12\x02\x08\x00\x0a\x08",
     b"\x0a\x02ON\x12\x02 \x01\x0a!\x0a\x05PORTS\x12\x182\x16\x0a\x09\x11\x00\x00\x00\x00",
@@ -57,7 +57,7 @@ const FIRST: &[&[u8]] = &[
 ];
 
 /// A refusal whose error has details.
-const REFUSAL: &[&[u8]] = &[
+pub const REFUSAL: &[&[u8]] = &[
     b"\x00\x00\x00\x00\x81",
     b"\x0a\x011\x1a\x01f\"=",
     U,
@@ -66,7 +66,7 @@ const REFUSAL: &[&[u8]] = &[
 ];
 
 /// A request of such a node for names and locators of another type, as C++ writes it: the order of a map differs.
-const OTHER_TYPE: &[&[u8]] = &[
+pub const OTHER_TYPE: &[&[u8]] = &[
     b"\x00\x00\x00\x01\xc9",
     b"\x0a\x019\x12\xbf\x02\x0a\x01n\x12\x01c\x1aO\x0a\x0d\x0a\x07NOTHING\x12\x02\x08\x00",
     b"\x0a!\x0a\x05PORTS\x12\x182\x16\x0a\x09\x11\x00\x00\x00\x00\x00\x00T@\x0a\x09\x11",

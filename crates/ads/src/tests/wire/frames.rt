@@ -1,5 +1,6 @@
 //! Streams of frames, cut at every place.
-use super::vectors::{FIRST_ACK, FIRST_REQUEST, VECTORS, before, behind, framed_bytes, joined};
+use super::vectors::{VECTORS, framed_bytes};
+use crate::tests::vectors::{FIRST_ACK, FIRST_REQUEST, before, behind, joined};
 use std::alloc::Global;
 use std::process::Abort;
 use std::test::Fail;

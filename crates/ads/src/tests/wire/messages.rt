@@ -1,8 +1,9 @@
 //! Discovery messages at given bytes.
 use super::compare::{are_names, is_count, is_node, is_response_of_one, is_status, is_text};
-use super::vectors::{
+use super::vectors::framed_bytes;
+use crate::tests::vectors::{
     EXTENSION_TYPE, FILTER_TYPE, FIRST_ACK, FIRST_REQUEST, FIRST_RESPONSE, HALF_BAD_NACK,
-    RESUMED_REQUEST, TRUE_AND_TRUE, behind, framed_bytes, joined,
+    RESUMED_REQUEST, TRUE_AND_TRUE, behind, joined,
 };
 use proto_wire::Refusal;
 use std::alloc::{AllocError, Global};

@@ -1,6 +1,6 @@
 //! Fields that no message knows, of every wire type and in every envelope, and wire types that there are not.
 use super::compare::{are_names, is_count, is_node, is_status, is_text};
-use super::vectors::joined;
+use crate::tests::vectors::joined;
 use proto_wire::Refusal;
 use std::alloc::Global;
 use std::process::Abort;
