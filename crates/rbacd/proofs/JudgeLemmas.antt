@@ -1,5 +1,5 @@
 -- From what is found under an admitted filter to what is found under its policy.
-use Rattle.std.proofs.Common.{◌≡◌, ◌↔◌, ℕ, Bool, true, false, List, [], Option, Some, None, Result, Ok, Err, OnErr, inl, inr, refl, option_map, string_bytes}
+use Rattle.std.proofs.Common.{◌≡◌, ◌↔◌, ℕ, Bool, true, false, List, [], Option, Some, None, Result, Ok, Err, OnErr, refl, option_map, string_bytes}
 use Rattle.std.specs.Prelude.{IfOk}
 use Rattle.std.proofs.lemmas.Result.{IfOk-weaker}
 use Rattle.attributes.specs.Conn.{Facts}
@@ -14,8 +14,8 @@ use Rattle.rbac_policy.specs.Admission.{Admits}
 use Rattle.rbac_policy.specs.Condition.{Program}
 use Rattle.rbac_policy.specs.Filter.{Filter}
 use Rattle.rbacd.specs.Explain.{Explains, IsGiven}
-use Rattle.rbacd.specs.Judging.{InputFault, IsAllOf, IsCheckOf, IsDecided, IsDecision, IsOutcomeOf}
-use Rattle.rbacd.specs.Outcome.{IsPrintedFor, less_told, line_of, plain, printed_of}
+use Rattle.rbacd.specs.Judging.{InputFault, IsAllOf, IsDecided, IsDecision, IsOutcomeOf}
+use Rattle.rbacd.specs.Outcome.{less_told}
 use Rattle.rbacd.specs.steps.Judged.{IsAnswerTo, IsExplanationOf, IsNameOf, IsOutcomeOfAsk, IsOutcomeUnder, bare}
 use Rattle.rbacd.specs.steps.Reading.{IsFound}
 use Rattle.rbacd.specs.declared.explain.Explanation.{Explanation}
@@ -23,7 +23,6 @@ use Rattle.rbacd.specs.declared.explain.Explanation.TheVariants as explanations
 use Rattle.rbacd.specs.declared.judge.Finding.{Finding}
 use Rattle.rbacd.specs.declared.outcome.Outcome.{Outcome}
 use Rattle.rbacd.specs.declared.outcome.Outcome.TheVariants as outcomes
-use Rattle.rbacd.specs.declared.outcome.Report.{Report}
 
 -- there are bytes that an input may give
 pub some_bytes : (input : Option (List ℕ)) → (bytes : List ℕ) × IsAllOf input bytes
@@ -78,24 +77,6 @@ module _ (policy : List ℕ) (budget : ℕ) (facts : Facts) (bytes : List ℕ) w
       found_as name explanation (less_told explanation) outcome
       (λ r filter explains. less_explains r filter explanation explains) found
 
-  -- and where nothing is
-  none_found : (name : Option (List ℕ)) (explanation : Explanation) (outcome : Outcome)
-      → IsOutcomeOf policy budget facts bytes name explanation outcome
-      → IsOutcomeOf policy budget facts bytes name explanations.Absent outcome
-  none_found name explanation outcome found =
-      found_as name explanation explanations.Absent outcome (λ r filter explains. tt) found
-
-  -- what is printed of an outcome is one too
-  pub of_printed : (name : Option (List ℕ)) (explanation : Explanation) (outcome : Outcome)
-      (printed : Report) → IsPrintedFor (plain outcome) printed
-      → IsOutcomeOf policy budget facts bytes name explanation outcome
-      → (name : Option (List ℕ)) × IsOutcomeOf policy budget facts bytes name explanations.Absent printed.outcome
-  of_printed name explanation outcome printed (inl same) found =
-      rw same (name, none_found name explanation outcome found)
-  of_printed name explanation outcome printed (inr (inl same)) found =
-      rw same (name, none_found name explanation outcome found)
-  of_printed name explanation outcome printed (inr (inr none)) found = rw none (name, tt)
-
   -- a request that is asked for is not outside the limits
   within_limits : (r : RequestValue) → Asks bytes largest facts r → ¬ (¬ (InLimits r largest))
   within_limits r asks outside =
@@ -148,21 +129,6 @@ under_found enforced facts bytes (Some (Fault fault)) outcome explanation is ans
     rw answers.fault ((_, admits.admissible), InputFault.present is.fault)
 under_found enforced facts bytes None outcome explanation is answers explains policy budget filter name admits named =
     rw answers.none ((_, admits.admissible), InputFault.unfinished is.none refl)
-
--- what is printed of an outcome alone is its line
-pub printed_plain : (outcome : Outcome) (printed : Report) → IsPrintedFor (plain outcome) printed
-    → printed_of printed ≡ line_of printed.outcome
-printed_plain outcome printed (inl same) = rw same refl
-printed_plain outcome printed (inr (inl same)) = rw same refl
-printed_plain outcome printed (inr (inr none)) = rw none refl
-
--- and it is an outcome of the check
-pub check_printed : (policy : List ℕ) (budget : ℕ) (outcome : Outcome) (printed : Report)
-    → IsPrintedFor (plain outcome) printed → IsCheckOf policy budget outcome
-    → IsCheckOf policy budget printed.outcome
-check_printed policy budget outcome printed (inl same) found = rw same found
-check_printed policy budget outcome printed (inr (inl same)) found = rw same found
-check_printed policy budget outcome printed (inr (inr none)) found = rw none tt
 
 module _ {E : Type 0} where
   -- what is found under the admitted filter, or want of memory, is found under the policy

@@ -1,5 +1,5 @@
 -- What is printed of an outcome, and its exit status.
-use Rattle.std.specs.Prelude.{◌≡◌, ◌⊎◌, ℕ, List, [], ◌∷◌, ◌++◌, false, if◌then◌else◌, Option, Some, None, codes, option_map, string_bytes}
+use Rattle.std.specs.Prelude.{◌≡◌, ◌⊎◌, ℕ, List, [], ◌∷◌, ◌++◌, if◌then◌else◌, Option, Some, None, codes, option_map, string_bytes}
 use Rattle.std.specs.Fmt.{decimal}
 use Rattle.http_front.specs.Head.{fault_text}
 use Rattle.proto_wire.specs.Refusal as refusal
@@ -42,11 +42,6 @@ printed_of report =
     then compact_text (json_of (option_map string_bytes report.name) (told_in report.explanation) report.outcome)
     ++ 10 ∷ []
     else with_trials (line_of report.outcome) (told_in report.explanation)
-
--- the outcome, printed in words and by itself
-abbrev pub plain : Outcome → Report
-plain outcome =
-    record { outcome = outcome; name = None; json = false; explanation = explanations.Absent }
 
 -- the report of want of memory, printed in the same way
 abbrev pub without_memory : Report → Report

@@ -18,9 +18,6 @@ use std::error::Error;
 use std::fmt;
 use std::rc::RcStr;
 
-#[cfg(test)]
-mod tests;
-
 /// Why facts are not read.
 #[derive(Clone, Copy, Debug, PartialEq, Eq)]
 pub enum FactsFault {

@@ -11,9 +11,8 @@ ghost use Rattle.rbacd.specs.Judging.{IsAllOf, IsCheckOf, IsDecision, IsOutcomeO
 ghost use Rattle.rbac_policy.specs.Admitted.{filter_view, limits_view};
 ghost use Rattle.rbac_policy.specs.Admission.{Admissible};
 ghost use Rattle.rbac_policy.specs.Verdict.{IsUnconditional};
-ghost use Rattle.rbacd.specs.Outcome.{IsPrintedFor, line_of, printed_of, without_memory};
+ghost use Rattle.rbacd.specs.Outcome.{IsPrintedFor, printed_of, without_memory};
 ghost use Rattle.rbacd.specs.declared.outcome.Report.{Report};
-ghost use Rattle.rbacd.specs.declared.explain.Explanation.TheVariants as explanations;
 ghost use Rattle.rbacd.specs.Output.{BreaksOff};
 ghost use Rattle.rbacd.specs.steps.Judged.{IsAnswerTo, IsExplanationOf, IsNameOf, IsOutcomeOfAsk, IsOutcomeUnder, bare, report_with};
 
@@ -62,49 +61,6 @@ impl Finding {
             explanation: self.explanation,
         }
     }
-}
-
-/// Judges the head that `input` begins with, which came by this connection, by the policy, an HTTP RBAC
-/// filter whose conditions may cost `budget`, and prints the outcome's line. An error is one of the
-/// input, and nothing is printed then; or one of the output, which may hold the beginning of the line.
-pub fn judge<R: Read + Drop, W: Write>(
-    alloc: Global,
-    policy: &[u8],
-    budget: u64,
-    conn: Conn,
-    input: R,
-    out: &mut W,
-) -> io::Result<Outcome>
-    ensures outcome { IfOk result (λ outcome. (bytes : List ℕ) × IsAllOf (R.remaining input) bytes
-        × ((name : Option (List ℕ))
-        × IsOutcomeOf policy.now budget (conn_view conn) bytes name explanations.Absent outcome)) }
-    ensures line { IfOk result (λ outcome. Appends (W.contents out.old) (W.contents out.new)
-        (line_of outcome)) }
-    ensures part { OnErr result ((out.new ≡ out.old) ⊎ ((outcome : Outcome)
-        × BreaksOff (W.contents out.old) (W.contents out.new) (line_of outcome))) }
-{
-    let finding = finding_of(alloc, policy, budget, conn, false, input)?;
-    let printed = print_report(alloc, Report::plain(finding.outcome), out)?;
-    Ok(printed.outcome)
-}
-
-/// Checks the policy, an HTTP RBAC filter whose conditions may cost `budget`, and prints the outcome's
-/// line. An error is one of the output, which may hold the beginning of the line.
-pub fn check<W: Write>(
-    alloc: Global,
-    policy: &[u8],
-    budget: u64,
-    out: &mut W,
-) -> io::Result<Outcome>
-    ensures outcome { IfOk result (IsCheckOf policy.now budget) }
-    ensures line { IfOk result (λ outcome. Appends (W.contents out.old) (W.contents out.new)
-        (line_of outcome)) }
-    ensures part { OnErr result ((outcome : Outcome)
-        × BreaksOff (W.contents out.old) (W.contents out.new) (line_of outcome)) }
-{
-    let outcome = check_of(alloc, policy, budget);
-    let printed = print_report(alloc, Report::plain(outcome), out)?;
-    Ok(printed.outcome)
 }
 
 /// What `check` prints.

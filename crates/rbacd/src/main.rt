@@ -70,6 +70,3 @@ fn main(rt: HostRuntime) -> ExitCode {
     let status = run(rt.alloc(), &words, &rt, rt.reader(), &mut out, &mut errors);
     ExitCode::from(status)
 }
-
-#[cfg(test)]
-mod tests;

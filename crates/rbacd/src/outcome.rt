@@ -2,7 +2,7 @@
 ghost use Rattle.std.specs.Prelude.{◌≡◌, ◌↔◌, IfOk, IsTrue, string_bytes, true};
 ghost use Rattle.rbacd.specs.Explain.{told_in, with_trials};
 ghost use Rattle.rbacd.specs.Judging.{IsDecision};
-ghost use Rattle.rbacd.specs.Outcome.{line_of, plain, printed_of, status_of, unexplained, without_memory};
+ghost use Rattle.rbacd.specs.Outcome.{line_of, printed_of, status_of, unexplained, without_memory};
 ghost use Rattle.rbacd.specs.steps.Judged.{matched_in};
 
 use crate::explain::{Explanation, push_lines};
@@ -122,18 +122,6 @@ pub struct Report {
 }
 
 impl Report {
-    /// The outcome, to be printed in words and by itself.
-    pub fn plain(outcome: Outcome) -> Report
-        ensures { result ≡ plain outcome }
-    {
-        Report {
-            outcome,
-            name: None,
-            json: false,
-            explanation: Explanation::Absent,
-        }
-    }
-
     /// The report without its trials, for which no memory is left.
     pub(crate) fn unexplained(self) -> Report
         ensures { result ≡ unexplained self }
