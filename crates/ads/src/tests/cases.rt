@@ -9,97 +9,96 @@ use super::vectors::{
 };
 use std::alloc::Global;
 use std::process::Abort;
-use std::test::Fail;
 
 /// A filter without policies.
 const NO_POLICIES: &[u8] = b"\x0a\x00";
 
 /// A filter with a condition is accepted.
 #[test]
-fn first_response(rt: HostRuntime) -> Result<(), Fail> {
+fn first_response(rt: HostRuntime) {
     let alloc = rt.alloc();
-    let mut client = client_of(alloc, &["f"])?;
-    begins(&rt, alloc, &mut client, FIRST_REQUEST)?;
-    let first = joined(alloc, FIRST_RESPONSE)?;
-    answers(&rt, alloc, &mut client, &first, FIRST_ACK)?;
+    let mut client = client_of(&rt, alloc, &["f"]);
+    begins(&rt, alloc, &mut client, FIRST_REQUEST);
+    let first = joined(&rt, alloc, FIRST_RESPONSE);
+    answers(&rt, alloc, &mut client, &first, FIRST_ACK);
     has_policies(&rt, &client, "f", Some(1));
     has_bound(&rt, &client, "f", Some(4));
     has_generation(&rt, &client, 1);
-    Ok(())
 }
 
 /// Of a response that is refused the good half is not kept either.
 #[test]
-fn half_bad_response(rt: HostRuntime) -> Result<(), Fail> {
+fn half_bad_response(rt: HostRuntime) {
     let alloc = rt.alloc();
-    let mut client = client_with(alloc, &["f", "g"], ANY_ANY)?;
+    let mut client = client_with(&rt, alloc, &["f", "g"], ANY_ANY);
     has_generation(&rt, &client, 1);
-    let before = shown(alloc, &client)?;
-    answers(&rt, alloc, &mut client, &half_bad(alloc)?, HALF_BAD_NACK)?;
-    is_shown(&rt, alloc, &client, &before)?;
+    let before = shown(&rt, alloc, &client);
+    answers(
+        &rt,
+        alloc,
+        &mut client,
+        &half_bad(&rt, alloc),
+        HALF_BAD_NACK,
+    );
+    is_shown(&rt, alloc, &client, &before);
     has_generation(&rt, &client, 1);
-    let get = request_by(alloc, "GET")?;
+    let get = request_by(&rt, alloc, "GET");
     decides(&rt, &client, "f", &get, LET_THROUGH);
     decides(&rt, &client, "g", &get, LET_THROUGH);
-    Ok(())
 }
 
 /// The stream is lost when this many bytes of a second response came. They are forgotten: on the next stream the whole
 /// response is read from its own first byte.
-fn lost_after(rt: &impl Abort, alloc: Global, second: &[u8], count: usize) -> Result<(), Fail> {
-    let mut client = client_with(alloc, &["f"], TRUE_AND_TRUE)?;
-    answers(rt, alloc, &mut client, before(second, count), &[])?;
+fn lost_after(rt: &impl Abort, alloc: Global, second: &[u8], count: usize) {
+    let mut client = client_with(rt, alloc, &["f"], TRUE_AND_TRUE);
+    answers(rt, alloc, &mut client, before(second, count), &[]);
     client.lost();
     has_bound(rt, &client, "f", Some(4));
     has_generation(rt, &client, 1);
-    begins(rt, alloc, &mut client, RESUMED_REQUEST)?;
-    answers(rt, alloc, &mut client, second, SECOND_ACK)?;
+    begins(rt, alloc, &mut client, RESUMED_REQUEST);
+    answers(rt, alloc, &mut client, second, SECOND_ACK);
     has_policies(rt, &client, "f", Some(0));
     has_generation(rt, &client, 2);
-    Ok(())
 }
 
 #[test]
-fn lost_mid_response(rt: HostRuntime) -> Result<(), Fail> {
+fn lost_mid_response(rt: HostRuntime) {
     let alloc = rt.alloc();
-    let filter = resource(alloc, "f", NO_POLICIES)?;
-    let second = response(alloc, "2", "n2", &[&filter])?;
+    let filter = resource(&rt, alloc, "f", NO_POLICIES);
+    let second = response(&rt, alloc, "2", "n2", &[&filter]);
     for count in 0..second.len() {
-        lost_after(&rt, alloc, &second, count)?;
+        lost_after(&rt, alloc, &second, count);
     }
-    Ok(())
 }
 
 #[test]
-fn empty_response(rt: HostRuntime) -> Result<(), Fail> {
+fn empty_response(rt: HostRuntime) {
     let alloc = rt.alloc();
-    let mut client = client_with(alloc, &["f"], ANY_ANY)?;
-    let empty = response(alloc, "1", "n1", &[])?;
-    answers(&rt, alloc, &mut client, &empty, FIRST_ACK)?;
+    let mut client = client_with(&rt, alloc, &["f"], ANY_ANY);
+    let empty = response(&rt, alloc, "1", "n1", &[]);
+    answers(&rt, alloc, &mut client, &empty, FIRST_ACK);
     has_policies(&rt, &client, "f", Some(1));
     has_generation(&rt, &client, 2);
-    Ok(())
 }
 
 /// A name that was not asked for is ignored, also twice.
 #[test]
-fn names_not_asked_for(rt: HostRuntime) -> Result<(), Fail> {
+fn names_not_asked_for(rt: HostRuntime) {
     let alloc = rt.alloc();
-    let mut client = client_of(alloc, &["f"])?;
-    connects(&mut client)?;
-    let other = resource(alloc, "x", b"\x22\x00")?;
-    let filter = resource(alloc, "f", ANY_ANY)?;
-    let all = response(alloc, "1", "n1", &[&other, &filter, &other])?;
-    answers(&rt, alloc, &mut client, &all, FIRST_ACK)?;
+    let mut client = client_of(&rt, alloc, &["f"]);
+    connects(&rt, &mut client);
+    let other = resource(&rt, alloc, "x", b"\x22\x00");
+    let filter = resource(&rt, alloc, "f", ANY_ANY);
+    let all = response(&rt, alloc, "1", "n1", &[&other, &filter, &other]);
+    answers(&rt, alloc, &mut client, &all, FIRST_ACK);
     has_policies(&rt, &client, "f", Some(1));
     has_policies(&rt, &client, "x", None);
-    Ok(())
 }
 
 #[test]
-fn doubled_names(rt: HostRuntime) -> Result<(), Fail> {
+fn doubled_names(rt: HostRuntime) {
     let alloc = rt.alloc();
-    let filter = resource(alloc, "f", ANY_ANY)?;
-    let twice = response(alloc, "4", "n2", &[&filter, &filter])?;
+    let filter = resource(&rt, alloc, "f", ANY_ANY);
+    let twice = response(&rt, alloc, "4", "n2", &[&filter, &filter]);
     refuses(&rt, alloc, &twice, b"16")
 }

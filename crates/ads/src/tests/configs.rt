@@ -3,7 +3,6 @@ use super::making::{config_of, long_text};
 use crate::ConfigFault;
 use std::alloc::Global;
 use std::process::Abort;
-use std::test::Fail;
 
 /// Names, a budget, and the fault of a configuration with both.
 const FAULTS: [(&[&str], u64, Option<ConfigFault>); 10] = [
@@ -30,18 +29,16 @@ fn has_fault(
     names: &[&str],
     budget: u64,
     fault: Option<ConfigFault>,
-) -> Result<(), Fail> {
-    let config = config_of(alloc, "n", "c", names, budget)?;
+) {
+    let config = config_of(rt, alloc, "n", "c", names, budget);
     assert_eq!(rt; config.err(), fault);
-    Ok(())
 }
 
 #[test]
-fn faults(rt: HostRuntime) -> Result<(), Fail> {
+fn faults(rt: HostRuntime) {
     for (names, budget, fault) in &FAULTS {
-        has_fault(&rt, rt.alloc(), names, *budget, *fault)?;
+        has_fault(&rt, rt.alloc(), names, *budget, *fault);
     }
-    Ok(())
 }
 
 /// Whether the names are taken, for this node in this cluster.
@@ -52,21 +49,20 @@ fn takes_names(
     cluster: &str,
     names: &[&str],
     fault: Option<ConfigFault>,
-) -> Result<(), Fail> {
-    let config = config_of(alloc, node, cluster, names, 1)?;
+) {
+    let config = config_of(rt, alloc, node, cluster, names, 1);
     assert_eq!(rt; config.err(), fault);
-    Ok(())
 }
 
 #[test]
-fn long_names(rt: HostRuntime) -> Result<(), Fail> {
+fn long_names(rt: HostRuntime) {
     let alloc = rt.alloc();
     let bad = Some(ConfigFault::BadName);
-    let fits = long_text(alloc, 256)?;
-    takes_names(&rt, alloc, &fits, &fits, &[&fits], None)?;
-    takes_names(&rt, alloc, "", "", &["f"], None)?;
-    let more = long_text(alloc, 257)?;
-    takes_names(&rt, alloc, "n", "c", &["f", &more], bad)?;
-    takes_names(&rt, alloc, &more, "c", &["f"], bad)?;
+    let fits = long_text(&rt, alloc, 256);
+    takes_names(&rt, alloc, &fits, &fits, &[&fits], None);
+    takes_names(&rt, alloc, "", "", &["f"], None);
+    let more = long_text(&rt, alloc, 257);
+    takes_names(&rt, alloc, "n", "c", &["f", &more], bad);
+    takes_names(&rt, alloc, &more, "c", &["f"], bad);
     takes_names(&rt, alloc, "n", &more, &["f"], bad)
 }

@@ -4,7 +4,6 @@ use super::vectors::{ANY_ANY, FIRST_REQUEST, R, RESUMED_REQUEST, TRUE_AND_TRUE, 
 use crate::Control;
 use std::alloc::Global;
 use std::process::Abort;
-use std::test::Fail;
 
 /// The first snapshot with nonce `1`.
 pub const FIRST: &[&[u8]] = &[
@@ -60,42 +59,40 @@ pub const NACK: &[&[u8]] = &[
 ];
 
 /// The control plane, after its first snapshot was sent and acknowledged.
-fn acknowledged(rt: &impl Abort, alloc: Global) -> Result<Control, Fail> {
-    let mut control = control_of(alloc, "f", &[TRUE_AND_TRUE, ANY_ANY])?;
-    sends(rt, alloc, &mut control, FIRST_REQUEST, FIRST)?;
+fn acknowledged(rt: &impl Abort, alloc: Global) -> Control {
+    let mut control = control_of(rt, alloc, "f", &[TRUE_AND_TRUE, ANY_ANY]);
+    sends(rt, alloc, &mut control, FIRST_REQUEST, FIRST);
     has_acknowledged(rt, &control, None);
-    sends(rt, alloc, &mut control, ACK, SECOND)?;
-    Ok(control)
+    sends(rt, alloc, &mut control, ACK, SECOND);
+    control
 }
 
 #[test]
-fn serves_the_next(rt: HostRuntime) -> Result<(), Fail> {
+fn serves_the_next(rt: HostRuntime) {
     let alloc = rt.alloc();
-    let control = acknowledged(&rt, alloc)?;
+    let control = acknowledged(&rt, alloc);
     has_acknowledged(&rt, &control, Some(1));
-    Ok(())
 }
 
 #[test]
-fn ignores_a_stale_one(rt: HostRuntime) -> Result<(), Fail> {
+fn ignores_a_stale_one(rt: HostRuntime) {
     let alloc = rt.alloc();
-    let mut control = acknowledged(&rt, alloc)?;
-    sends(&rt, alloc, &mut control, ACK, &[])?;
+    let mut control = acknowledged(&rt, alloc);
+    sends(&rt, alloc, &mut control, ACK, &[]);
     sends(&rt, alloc, &mut control, FIRST_REQUEST, &[])
 }
 
 /// A stale acknowledgement stands between, which is ignored.
 #[test]
-fn sends_again_after_a_loss(rt: HostRuntime) -> Result<(), Fail> {
+fn sends_again_after_a_loss(rt: HostRuntime) {
     let alloc = rt.alloc();
-    let mut control = acknowledged(&rt, alloc)?;
-    sends(&rt, alloc, &mut control, ACK, &[])?;
+    let mut control = acknowledged(&rt, alloc);
+    sends(&rt, alloc, &mut control, ACK, &[]);
     has_acknowledged(&rt, &control, Some(1));
     control.lost();
-    sends(&rt, alloc, &mut control, RESUMED_REQUEST, SECOND_AGAIN)?;
-    sends(&rt, alloc, &mut control, NACK, &[])?;
+    sends(&rt, alloc, &mut control, RESUMED_REQUEST, SECOND_AGAIN);
+    sends(&rt, alloc, &mut control, NACK, &[]);
     has_acknowledged(&rt, &control, Some(1));
-    Ok(())
 }
 
 /// Answers to the second snapshot whose nonce is not the last one: of an earlier response, of a later one, spelt otherwise,
@@ -132,26 +129,19 @@ const SECOND_ACK: &[&[u8]] = &[
 ];
 
 /// The control plane sends nothing for an answer, and the snapshot of this number was acknowledged last.
-fn ignores(
-    rt: &impl Abort,
-    alloc: Global,
-    control: &mut Control,
-    answer: &[&[u8]],
-    number: u64,
-) -> Result<(), Fail> {
-    sends(rt, alloc, control, answer, &[])?;
+fn ignores(rt: &impl Abort, alloc: Global, control: &mut Control, answer: &[&[u8]], number: u64) {
+    sends(rt, alloc, control, answer, &[]);
     has_acknowledged(rt, control, Some(number));
-    Ok(())
 }
 
 /// The acknowledgement of the last snapshot changes nothing when it is repeated.
 #[test]
-fn ignores_other_nonces(rt: HostRuntime) -> Result<(), Fail> {
+fn ignores_other_nonces(rt: HostRuntime) {
     let alloc = rt.alloc();
-    let mut control = acknowledged(&rt, alloc)?;
+    let mut control = acknowledged(&rt, alloc);
     for answer in &OTHER_NONCES {
-        ignores(&rt, alloc, &mut control, answer, 1)?;
+        ignores(&rt, alloc, &mut control, answer, 1);
     }
-    ignores(&rt, alloc, &mut control, SECOND_ACK, 2)?;
+    ignores(&rt, alloc, &mut control, SECOND_ACK, 2);
     ignores(&rt, alloc, &mut control, SECOND_ACK, 2)
 }

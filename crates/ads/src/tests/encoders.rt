@@ -3,7 +3,6 @@ use super::making::{
     answers, client_of, connects, control_of, has_acknowledged, has_policies, refuses, sends,
 };
 use super::vectors::{ANY_ANY, FIRST_ACK, R, U, joined};
-use std::test::Fail;
 
 /// A response that gives `f` the filter, with a canary and a control plane.
 pub const RESPONSE: &[&[u8]] = &[
@@ -107,30 +106,29 @@ const SENT_NEXT: &[&[u8]] = &[
 ];
 
 #[test]
-fn at_a_client(rt: HostRuntime) -> Result<(), Fail> {
+fn at_a_client(rt: HostRuntime) {
     let alloc = rt.alloc();
-    let mut client = client_of(alloc, &["f"])?;
-    connects(&mut client)?;
+    let mut client = client_of(&rt, alloc, &["f"]);
+    connects(&rt, &mut client);
     answers(
         &rt,
         alloc,
         &mut client,
-        &joined(alloc, RESPONSE)?,
+        &joined(&rt, alloc, RESPONSE),
         FIRST_ACK,
-    )?;
+    );
     has_policies(&rt, &client, "f", Some(1));
-    refuses(&rt, alloc, &joined(alloc, WITH_TTL)?, b"17")?;
-    refuses(&rt, alloc, &joined(alloc, CLUSTERS)?, b"17")
+    refuses(&rt, alloc, &joined(&rt, alloc, WITH_TTL), b"17");
+    refuses(&rt, alloc, &joined(&rt, alloc, CLUSTERS), b"17")
 }
 
 #[test]
-fn at_a_control_plane(rt: HostRuntime) -> Result<(), Fail> {
+fn at_a_control_plane(rt: HostRuntime) {
     let alloc = rt.alloc();
-    let mut control = control_of(alloc, "f", &[ANY_ANY, ANY_ANY])?;
-    sends(&rt, alloc, &mut control, OTHER_TYPE, &[])?;
-    sends(&rt, alloc, &mut control, FIRST, SENT)?;
-    sends(&rt, alloc, &mut control, OTHER_TYPE, &[])?;
-    sends(&rt, alloc, &mut control, REFUSAL, SENT_NEXT)?;
+    let mut control = control_of(&rt, alloc, "f", &[ANY_ANY, ANY_ANY]);
+    sends(&rt, alloc, &mut control, OTHER_TYPE, &[]);
+    sends(&rt, alloc, &mut control, FIRST, SENT);
+    sends(&rt, alloc, &mut control, OTHER_TYPE, &[]);
+    sends(&rt, alloc, &mut control, REFUSAL, SENT_NEXT);
     has_acknowledged(&rt, &control, None);
-    Ok(())
 }

@@ -5,7 +5,7 @@ use super::making::{
 };
 use super::vectors::{ANY_ANY, FIRST_ACK, HALF_BAD_NACK, OTHER_CASE, RESUMED_REQUEST, U, joined};
 use std::alloc::Global;
-use std::test::Fail;
+use std::process::Abort;
 
 /// Responses whose type, or whose resource's type, is empty, absent, short or of another case.
 const TYPES: [&[&[u8]]; 7] = [
@@ -37,13 +37,12 @@ const TYPES: [&[&[u8]]; 7] = [
 ];
 
 #[test]
-fn wrong_types(rt: HostRuntime) -> Result<(), Fail> {
+fn wrong_types(rt: HostRuntime) {
     let alloc = rt.alloc();
     for pieces in &TYPES {
-        let response = joined(alloc, pieces)?;
-        refuses(&rt, alloc, &response, b"17")?;
+        let response = joined(&rt, alloc, pieces);
+        refuses(&rt, alloc, &response, b"17");
     }
-    Ok(())
 }
 
 /// Resources and the number of their refusal: bytes that don't read, no name, no configuration, and some of another type;
@@ -64,84 +63,86 @@ const RESOURCES: [(&[u8], &[u8]); 9] = [
 ];
 
 #[test]
-fn bad_resources(rt: HostRuntime) -> Result<(), Fail> {
+fn bad_resources(rt: HostRuntime) {
     let alloc = rt.alloc();
     for (bytes, number) in &RESOURCES {
-        let response = response(alloc, "2", "n2", &[*bytes])?;
-        refuses(&rt, alloc, &response, number)?;
+        let response = response(&rt, alloc, "2", "n2", &[*bytes]);
+        refuses(&rt, alloc, &response, number);
     }
-    Ok(())
 }
 
 /// A version and a nonce that are empty, and those that were accepted last.
 #[test]
-fn empty_and_repeated(rt: HostRuntime) -> Result<(), Fail> {
+fn empty_and_repeated(rt: HostRuntime) {
     let alloc = rt.alloc();
-    let mut client = client_with(alloc, &["f"], ANY_ANY)?;
-    let again = response(alloc, "1", "n1", &[])?;
-    answers(&rt, alloc, &mut client, &again, FIRST_ACK)?;
-    let empty = response(alloc, "", "", &[])?;
+    let mut client = client_with(&rt, alloc, &["f"], ANY_ANY);
+    let again = response(&rt, alloc, "1", "n1", &[]);
+    answers(&rt, alloc, &mut client, &again, FIRST_ACK);
+    let empty = response(&rt, alloc, "", "", &[]);
     let ack: &[&[u8]] = &[b"\x00\x00\x00\x00\x42\x1a\x01f\x22\x3d", U];
-    answers(&rt, alloc, &mut client, &empty, ack)?;
+    answers(&rt, alloc, &mut client, &empty, ack);
     has_generation(&rt, &client, 3);
     has_policies(&rt, &client, "f", Some(1));
-    Ok(())
 }
 
 /// A response with so many resources that nobody asked for.
-fn others(alloc: Global, count: usize) -> Result<Vec<u8>, Fail> {
+fn others(rt: &impl Abort, alloc: Global, count: usize) -> Vec<u8> {
     let mut others: Vec<&[u8]> = Vec::new(alloc);
     for _ in 0..count {
-        others.push(b"\x0a\x01x")?;
+        others.push(b"\x0a\x01x").expect(rt, "memory");
     }
-    response(alloc, "1", "n1", &others)
+    response(rt, alloc, "1", "n1", &others)
 }
 
 #[test]
-fn many_others(rt: HostRuntime) -> Result<(), Fail> {
+fn many_others(rt: HostRuntime) {
     let alloc = rt.alloc();
-    let mut client = client_with(alloc, &["f"], ANY_ANY)?;
-    let all = others(alloc, 10_000)?;
-    answers(&rt, alloc, &mut client, &all, FIRST_ACK)?;
+    let mut client = client_with(&rt, alloc, &["f"], ANY_ANY);
+    let all = others(&rt, alloc, 10_000);
+    answers(&rt, alloc, &mut client, &all, FIRST_ACK);
     has_policies(&rt, &client, "f", Some(1));
     has_policies(&rt, &client, "x", None);
-    Ok(())
 }
 
 /// A client's own requests, sent back to it: one without a node reads as a response without resources, which is
 /// acknowledged; a node reads as a resource of another type.
 #[test]
-fn requests_as_responses(rt: HostRuntime) -> Result<(), Fail> {
+fn requests_as_responses(rt: HostRuntime) {
     let alloc = rt.alloc();
-    let mut client = client_of(alloc, &["f"])?;
-    connects(&mut client)?;
+    let mut client = client_of(&rt, alloc, &["f"]);
+    connects(&rt, &mut client);
     answers(
         &rt,
         alloc,
         &mut client,
-        &joined(alloc, FIRST_ACK)?,
+        &joined(&rt, alloc, FIRST_ACK),
         FIRST_ACK,
-    )?;
+    );
     let ack: &[&[u8]] = &[
         b"\x00\x00\x00\x00\x49\x0a\x01\x31\x1a\x01f\x22\x3d",
         U,
         b"\x2a\x02n2",
     ];
-    answers(&rt, alloc, &mut client, &joined(alloc, HALF_BAD_NACK)?, ack)?;
+    answers(
+        &rt,
+        alloc,
+        &mut client,
+        &joined(&rt, alloc, HALF_BAD_NACK),
+        ack,
+    );
     let nack: &[&[u8]] = &[
         b"\x00\x00\x00\x00\x5d\x0a\x01\x31\x1a\x01f\x22\x3d",
         U,
         b"\x32\x16\x08\x03\x12\x12policy refused: 17",
     ];
-    let before = shown(alloc, &client)?;
+    let before = shown(&rt, alloc, &client);
     answers(
         &rt,
         alloc,
         &mut client,
-        &joined(alloc, RESUMED_REQUEST)?,
+        &joined(&rt, alloc, RESUMED_REQUEST),
         nack,
-    )?;
-    is_shown(&rt, alloc, &client, &before)?;
+    );
+    is_shown(&rt, alloc, &client, &before);
     has_generation(&rt, &client, 2);
-    Ok(())
 }

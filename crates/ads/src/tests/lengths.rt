@@ -7,7 +7,6 @@ use super::vectors::{FIRST_REQUEST, METHOD_IS_GET, RESUMED_REQUEST, U, joined};
 use crate::Client;
 use std::alloc::Global;
 use std::process::Abort;
-use std::test::Fail;
 
 /// A client gets the response whole, and then byte by byte on another stream, and sends this answer to both; the other
 /// stream begins with this request.
@@ -17,25 +16,24 @@ fn is_acknowledged(
     response: &[u8],
     ack: &[&[u8]],
     resumed: &[&[u8]],
-) -> Result<(), Fail> {
-    let mut client = client_of(alloc, &["f"])?;
-    begins(rt, alloc, &mut client, FIRST_REQUEST)?;
-    answers(rt, alloc, &mut client, response, ack)?;
-    begins(rt, alloc, &mut client, resumed)?;
+) {
+    let mut client = client_of(rt, alloc, &["f"]);
+    begins(rt, alloc, &mut client, FIRST_REQUEST);
+    answers(rt, alloc, &mut client, response, ack);
+    begins(rt, alloc, &mut client, resumed);
     if let Some((last, bytes)) = response.split_last() {
         for byte in bytes {
-            answers(rt, alloc, &mut client, &[*byte], &[])?;
+            answers(rt, alloc, &mut client, &[*byte], &[]);
         }
-        answers(rt, alloc, &mut client, &[*last], ack)?;
+        answers(rt, alloc, &mut client, &[*last], ack);
     }
-    Ok(())
 }
 
 #[test]
-fn a_long_version(rt: HostRuntime) -> Result<(), Fail> {
+fn a_long_version(rt: HostRuntime) {
     let alloc = rt.alloc();
-    let version = long_text(alloc, 65_536)?;
-    let long = response(alloc, &version, "n1", &[])?;
+    let version = long_text(&rt, alloc, 65_536);
+    let long = response(&rt, alloc, &version, "n1", &[]);
     let ack: &[&[u8]] = &[
         b"\x00\x00\x01\x00\x4a\x0a\x80\x80\x04",
         version.as_bytes(),
@@ -53,10 +51,10 @@ fn a_long_version(rt: HostRuntime) -> Result<(), Fail> {
 }
 
 #[test]
-fn a_long_nonce(rt: HostRuntime) -> Result<(), Fail> {
+fn a_long_nonce(rt: HostRuntime) {
     let alloc = rt.alloc();
-    let nonce = long_text(alloc, 65_536)?;
-    let long = response(alloc, "1", &nonce, &[])?;
+    let nonce = long_text(&rt, alloc, 65_536);
+    let long = response(&rt, alloc, "1", &nonce, &[]);
     let ack: &[&[u8]] = &[
         b"\x00\x00\x01\x00\x49\x0a\x011\x1a\x01f\x22\x3d",
         U,
@@ -68,12 +66,12 @@ fn a_long_nonce(rt: HostRuntime) -> Result<(), Fail> {
 
 /// A response of 1,048,576 bytes, and one of a byte more, after which the next stream goes on from the first.
 #[test]
-fn the_longest_response(rt: HostRuntime) -> Result<(), Fail> {
+fn the_longest_response(rt: HostRuntime) {
     let alloc = rt.alloc();
-    let mut client = client_of(alloc, &["f"])?;
-    begins(&rt, alloc, &mut client, FIRST_REQUEST)?;
-    let version = long_text(alloc, 1_048_505)?;
-    let longest = response(alloc, &version, "n1", &[])?;
+    let mut client = client_of(&rt, alloc, &["f"]);
+    begins(&rt, alloc, &mut client, FIRST_REQUEST);
+    let version = long_text(&rt, alloc, 1_048_505);
+    let longest = response(&rt, alloc, &version, "n1", &[]);
     let ack: &[&[u8]] = &[
         b"\x00\x00\x10\x00\x03\x0a\xb9\xff\x3f",
         version.as_bytes(),
@@ -81,9 +79,9 @@ fn the_longest_response(rt: HostRuntime) -> Result<(), Fail> {
         U,
         b"\x2a\x02n1",
     ];
-    answers(&rt, alloc, &mut client, &longest, ack)?;
-    let longer = response(alloc, &version, "n12", &[])?;
-    is_broken_by(&rt, alloc, &mut client, &longer, &[])?;
+    answers(&rt, alloc, &mut client, &longest, ack);
+    let longer = response(&rt, alloc, &version, "n12", &[]);
+    is_broken_by(&rt, alloc, &mut client, &longer, &[]);
     has_generation(&rt, &client, 1);
     let resumed: &[&[u8]] = &[
         b"\x00\x00\x10\x00\x07\x0a\xb9\xff\x3f",
@@ -105,33 +103,32 @@ const EMPTY_REFUSED: &[&[u8]] = &[
 const REFUSAL_LENGTH: usize = 98;
 
 /// The client refuses 10,000 responses without bytes, each by itself, and its stream stays up.
-fn refuses_empty_ones(rt: &impl Abort, alloc: Global, client: &mut Client) -> Result<(), Fail> {
-    let empty = vec![in alloc; 0u8; 50_000]?;
-    let fed = client.feed(&empty)?;
+fn refuses_empty_ones(rt: &impl Abort, alloc: Global, client: &mut Client) {
+    let empty = vec![in alloc; 0u8; 50_000].expect(rt, "memory");
+    let fed = client.feed(&empty).expect(rt, "memory");
     assert!(rt; !fed.broken);
     are_refusals(rt, alloc, &fed.replies, 10_000)
 }
 
 /// The replies are so many refusals of a response without bytes.
-fn are_refusals(rt: &impl Abort, alloc: Global, replies: &[u8], count: usize) -> Result<(), Fail> {
-    let refusal = joined(alloc, EMPTY_REFUSED)?;
+fn are_refusals(rt: &impl Abort, alloc: Global, replies: &[u8], count: usize) {
+    let refusal = joined(rt, alloc, EMPTY_REFUSED);
     assert_eq!(rt; refusal.len(), REFUSAL_LENGTH);
     assert_eq!(rt; replies.len() / REFUSAL_LENGTH, count);
     assert_eq!(rt; replies.len() % REFUSAL_LENGTH, 0);
     for reply in replies.chunks(REFUSAL_LENGTH) {
         assert!(rt; reply == refusal.as_slice());
     }
-    Ok(())
 }
 
 #[test]
-fn many_empty_responses(rt: HostRuntime) -> Result<(), Fail> {
+fn many_empty_responses(rt: HostRuntime) {
     let alloc = rt.alloc();
-    let mut client = client_with(alloc, &["f"], METHOD_IS_GET)?;
-    let before = shown(alloc, &client)?;
-    refuses_empty_ones(&rt, alloc, &mut client)?;
-    is_shown(&rt, alloc, &client, &before)?;
-    takes_get_alone(&rt, alloc, &client)?;
+    let mut client = client_with(&rt, alloc, &["f"], METHOD_IS_GET);
+    let before = shown(&rt, alloc, &client);
+    refuses_empty_ones(&rt, alloc, &mut client);
+    is_shown(&rt, alloc, &client, &before);
+    takes_get_alone(&rt, alloc, &client);
     has_generation(&rt, &client, 1);
     begins(&rt, alloc, &mut client, RESUMED_REQUEST)
 }

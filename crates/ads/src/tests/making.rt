@@ -6,49 +6,49 @@ use rbac_policy::Verdict;
 use std::alloc::Global;
 use std::process::Abort;
 use std::rc::RcStr;
-use std::test::Fail;
 use xds_wire::{
     Any, DiscoveryResponse, TypedExtensionConfig, write_extension, write_frame, write_response,
 };
 
 /// Filters with these names and this budget.
-fn filters_of(alloc: Global, names: &[&str], budget: u64) -> Result<Vec<Filter>, Fail> {
+fn filters_of(rt: &impl Abort, alloc: Global, names: &[&str], budget: u64) -> Vec<Filter> {
     let mut filters = Vec::new(alloc);
     for name in names {
-        let name = String::from_str(alloc, name)?;
-        filters.push(Filter { name, budget })?;
+        let name = String::from_str(alloc, name).expect(rt, "memory");
+        filters.push(Filter { name, budget }).expect(rt, "memory");
     }
-    Ok(filters)
+    filters
 }
 
 /// What a configuration of this node in this cluster, and of filters with these names and this budget, answers.
 pub fn config_of(
+    rt: &impl Abort,
     alloc: Global,
     node: &str,
     cluster: &str,
     names: &[&str],
     budget: u64,
-) -> Result<Result<Config, ConfigFault>, Fail> {
-    let filters = filters_of(alloc, names, budget)?;
-    let limits = Limits::new(64, 128, 4096, 32, 4096, 1024)?;
-    let node = String::from_str(alloc, node)?;
-    let cluster = String::from_str(alloc, cluster)?;
-    Ok(Config::new(alloc, node, cluster, filters, limits))
+) -> Result<Config, ConfigFault> {
+    let filters = filters_of(rt, alloc, names, budget);
+    let limits = Limits::new(64, 128, 4096, 32, 4096, 1024).expect(rt, "a result");
+    let node = String::from_str(alloc, node).expect(rt, "memory");
+    let cluster = String::from_str(alloc, cluster).expect(rt, "memory");
+    Config::new(alloc, node, cluster, filters, limits)
 }
 
 /// A client for these names.
-pub fn client_of(alloc: Global, names: &[&str]) -> Result<Client, Fail> {
-    let config = config_of(alloc, "n", "c", names, 1_000_000)??;
-    Ok(Client::new(alloc, &config)?)
+pub fn client_of(rt: &impl Abort, alloc: Global, names: &[&str]) -> Client {
+    let config = config_of(rt, alloc, "n", "c", names, 1_000_000).expect(rt, "a result");
+    Client::new(alloc, &config).expect(rt, "memory")
 }
 
 /// A text of so many bytes.
-pub fn long_text(alloc: Global, count: usize) -> Result<String, Fail> {
-    Ok("a".repeat(alloc, count)?)
+pub fn long_text(rt: &impl Abort, alloc: Global, count: usize) -> String {
+    "a".repeat(alloc, count).expect(rt, "memory")
 }
 
 /// The resource that gives a name this filter.
-pub fn resource(alloc: Global, name: &str, filter: &[u8]) -> Result<Vec<u8>, Fail> {
+pub fn resource(rt: &impl Abort, alloc: Global, name: &str, filter: &[u8]) -> Vec<u8> {
     let extension = TypedExtensionConfig {
         name,
         typed_config: Some(Any {
@@ -57,33 +57,33 @@ pub fn resource(alloc: Global, name: &str, filter: &[u8]) -> Result<Vec<u8>, Fai
         }),
     };
     let mut bytes = Vec::new(alloc);
-    write_extension(&extension, &mut bytes)?;
-    Ok(bytes)
+    write_extension(&extension, &mut bytes).expect(rt, "memory");
+    bytes
 }
 
-/// The message in a frame.
-fn framed(alloc: Global, message: &[u8]) -> Result<Vec<u8>, Fail> {
-    if message.len() > 100_000_000 {
-        return Err(Fail::from("a message too long for a test"));
-    }
+/// The frame of a message.
+pub fn message_frame(rt: &impl Abort, alloc: Global, message: &[u8]) -> Vec<u8> {
+    assert!(rt; message.len() <= 100_000_000);
     let mut frame = Vec::new(alloc);
-    write_frame(message, &mut frame)?;
-    Ok(frame)
+    write_frame(message, &mut frame).expect(rt, "memory");
+    frame
 }
 
 /// The frame of a response with these resources.
 pub fn response(
+    rt: &impl Abort,
     alloc: Global,
     version: &str,
     nonce: &str,
     resources: &[&[u8]],
-) -> Result<Vec<u8>, Fail> {
+) -> Vec<u8> {
     let mut each = Vec::new(alloc);
     for value in resources {
         each.push(Any {
             type_url: EXTENSION_TYPE,
             value: *value,
-        })?;
+        })
+        .expect(rt, "memory");
     }
     let response = DiscoveryResponse {
         version_info: version,
@@ -92,31 +92,25 @@ pub fn response(
         nonce,
     };
     let mut message = Vec::new(alloc);
-    write_response(&response, &mut message)?;
-    framed(alloc, &message)
+    write_response(&response, &mut message).expect(rt, "memory");
+    message_frame(rt, alloc, &message)
 }
 
 /// A response that gives `f` a filter without policies, and `g` one with an unknown field.
-pub fn half_bad(alloc: Global) -> Result<Vec<u8>, Fail> {
-    let good = resource(alloc, "f", b"\x0a\x00")?;
-    let bad = resource(alloc, "g", b"\x22\x00")?;
-    response(alloc, "2", "n2", &[&good, &bad])
+pub fn half_bad(rt: &impl Abort, alloc: Global) -> Vec<u8> {
+    let good = resource(rt, alloc, "f", b"\x0a\x00");
+    let bad = resource(rt, alloc, "g", b"\x22\x00");
+    response(rt, alloc, "2", "n2", &[&good, &bad])
 }
 
 /// All that the client is: its configuration, its stream, and what it has accepted.
-pub fn shown(alloc: Global, client: &Client) -> Result<String, Fail> {
-    Ok(format!(in alloc; "{client:?}")?)
+pub fn shown(rt: &impl Abort, alloc: Global, client: &Client) -> String {
+    format!(in alloc; "{client:?}").expect(rt, "memory")
 }
 
 /// The client is what was shown before.
-pub fn is_shown(
-    rt: &impl Abort,
-    alloc: Global,
-    client: &Client,
-    before: &String,
-) -> Result<(), Fail> {
-    assert!(rt; shown(alloc, client)? == *before);
-    Ok(())
+pub fn is_shown(rt: &impl Abort, alloc: Global, client: &Client, before: &String) {
+    assert!(rt; shown(rt, alloc, client) == *before);
 }
 
 /// The client has accepted so many responses.
@@ -151,16 +145,16 @@ pub fn has_bound(rt: &impl Abort, client: &Client, name: &str, expected: Option<
 }
 
 /// The request by this method for `/` with the Host field `h`, on a connection of which the scheme alone is known.
-pub fn request_by(alloc: Global, method: &str) -> Result<Request, Fail> {
+pub fn request_by(rt: &impl Abort, alloc: Global, method: &str) -> Request {
     let host = (
-        String::from_str(alloc, "host")?,
-        String::from_str(alloc, "h")?,
+        String::from_str(alloc, "host").expect(rt, "memory"),
+        String::from_str(alloc, "h").expect(rt, "memory"),
     );
-    let method = String::from_str(alloc, method)?;
-    let target = String::from_str(alloc, "/")?;
-    let conn = Conn::of_scheme(RcStr::from_str(alloc, "http")?);
-    let lines = vec![in alloc; host]?;
-    Ok(Request::new(alloc, method, target, true, lines, conn)?)
+    let method = String::from_str(alloc, method).expect(rt, "memory");
+    let target = String::from_str(alloc, "/").expect(rt, "memory");
+    let conn = Conn::of_scheme(RcStr::from_str(alloc, "http").expect(rt, "memory"));
+    let lines = vec![in alloc; host].expect(rt, "memory");
+    Request::new(alloc, method, target, true, lines, conn).expect(rt, "a result")
 }
 
 /// What the filter of this name answers the request.
@@ -189,56 +183,52 @@ pub const REFUSED: Verdict = Verdict {
 };
 
 /// The filter `f` of the client lets `GET` through and refuses `POST`, as its condition says.
-pub fn takes_get_alone(rt: &impl Abort, alloc: Global, client: &Client) -> Result<(), Fail> {
-    let get = request_by(alloc, "GET")?;
-    let post = request_by(alloc, "POST")?;
+pub fn takes_get_alone(rt: &impl Abort, alloc: Global, client: &Client) {
+    let get = request_by(rt, alloc, "GET");
+    let post = request_by(rt, alloc, "POST");
     decides(rt, client, "f", &get, LET_THROUGH);
     decides(rt, client, "f", &post, REFUSED);
-    Ok(())
 }
 
 /// The client begins a stream.
-pub fn connects(client: &mut Client) -> Result<(), Fail> {
-    client.connected()?;
-    Ok(())
+pub fn connects(rt: &impl Abort, client: &mut Client) {
+    client.connected().expect(rt, "memory");
 }
 
 /// The client begins a stream by these bytes.
-pub fn begins(
-    rt: &impl Abort,
-    alloc: Global,
-    client: &mut Client,
-    request: &[&[u8]],
-) -> Result<(), Fail> {
-    assert!(rt; client.connected()? == joined(alloc, request)?);
-    Ok(())
+pub fn begins(rt: &impl Abort, alloc: Global, client: &mut Client, request: &[&[u8]]) {
+    assert!(rt; client.connected().expect(rt, "memory") == joined(rt, alloc, request));
 }
 
 /// The resources that give each of these names this filter.
-fn resources_of(alloc: Global, names: &[&str], filter: &[u8]) -> Result<Vec<Vec<u8>>, Fail> {
+fn resources_of(rt: &impl Abort, alloc: Global, names: &[&str], filter: &[u8]) -> Vec<Vec<u8>> {
     let mut resources = Vec::new(alloc);
     for name in names {
-        resources.push(resource(alloc, name, filter)?)?;
+        resources
+            .push(resource(rt, alloc, name, filter))
+            .expect(rt, "memory");
     }
-    Ok(resources)
+    resources
 }
 
 /// A response of version `1` and nonce `n1` with these resources.
-fn first_response(alloc: Global, resources: &[Vec<u8>]) -> Result<Vec<u8>, Fail> {
+fn first_response(rt: &impl Abort, alloc: Global, resources: &[Vec<u8>]) -> Vec<u8> {
     let mut each = Vec::new(alloc);
     for resource in resources {
-        each.push(resource.as_slice())?;
+        each.push(resource.as_slice()).expect(rt, "memory");
     }
-    response(alloc, "1", "n1", &each)
+    response(rt, alloc, "1", "n1", &each)
 }
 
 /// A client whose stream is up, and which has accepted this filter for all of its names in one response, of version `1`.
-pub fn client_with(alloc: Global, names: &[&str], filter: &[u8]) -> Result<Client, Fail> {
-    let mut client = client_of(alloc, names)?;
-    connects(&mut client)?;
-    let resources = resources_of(alloc, names, filter)?;
-    client.feed(&first_response(alloc, &resources)?)?;
-    Ok(client)
+pub fn client_with(rt: &impl Abort, alloc: Global, names: &[&str], filter: &[u8]) -> Client {
+    let mut client = client_of(rt, alloc, names);
+    connects(rt, &mut client);
+    let resources = resources_of(rt, alloc, names, filter);
+    client
+        .feed(&first_response(rt, alloc, &resources))
+        .expect(rt, "memory");
+    client
 }
 
 /// The client answers the response with these bytes, and its stream stays up.
@@ -248,11 +238,10 @@ pub fn answers(
     client: &mut Client,
     response: &[u8],
     reply: &[&[u8]],
-) -> Result<(), Fail> {
-    let fed = client.feed(response)?;
+) {
+    let fed = client.feed(response).expect(rt, "memory");
     assert!(rt; !fed.broken);
-    assert!(rt; fed.replies == joined(alloc, reply)?);
-    Ok(())
+    assert!(rt; fed.replies == joined(rt, alloc, reply));
 }
 
 /// The client answers the bytes with these, and its stream is broken.
@@ -262,11 +251,10 @@ pub fn is_broken_by(
     client: &mut Client,
     bytes: &[u8],
     reply: &[&[u8]],
-) -> Result<(), Fail> {
-    let fed = client.feed(bytes)?;
+) {
+    let fed = client.feed(bytes).expect(rt, "memory");
     assert!(rt; fed.broken);
-    assert!(rt; fed.replies == joined(alloc, reply)?);
-    Ok(())
+    assert!(rt; fed.replies == joined(rt, alloc, reply));
 }
 
 /// The start of the refusal's frame, and what stands between the type and the text, for a number of one digit and of two.
@@ -282,41 +270,45 @@ const TWO_DIGITS: (&[u8], &[u8]) = (
 
 /// A client for `f` that has accepted version `1`, a filter with a condition, refuses a response with nonce `n2` by this
 /// number. What it accepted stays, and a later stream goes on from there.
-pub fn refuses(rt: &impl Abort, alloc: Global, response: &[u8], number: &[u8]) -> Result<(), Fail> {
-    let mut client = client_with(alloc, &["f"], METHOD_IS_GET)?;
+pub fn refuses(rt: &impl Abort, alloc: Global, response: &[u8], number: &[u8]) {
+    let mut client = client_with(rt, alloc, &["f"], METHOD_IS_GET);
     let (head, status) = if number.len() == 1 {
         ONE_DIGIT
     } else {
         TWO_DIGITS
     };
     let nack: &[&[u8]] = &[head, U, status, b"policy refused: ", number];
-    let before = shown(alloc, &client)?;
-    answers(rt, alloc, &mut client, response, nack)?;
-    is_shown(rt, alloc, &client, &before)?;
-    takes_get_alone(rt, alloc, &client)?;
+    let before = shown(rt, alloc, &client);
+    answers(rt, alloc, &mut client, response, nack);
+    is_shown(rt, alloc, &client, &before);
+    takes_get_alone(rt, alloc, &client);
     has_generation(rt, &client, 1);
     client.lost();
     begins(rt, alloc, &mut client, RESUMED_REQUEST)
 }
 
 /// A snapshot that gives these names filters, in this order.
-pub fn snapshot_of(alloc: Global, filters: &[(&str, &[u8])]) -> Result<Snapshot, Fail> {
+pub fn snapshot_of(rt: &impl Abort, alloc: Global, filters: &[(&str, &[u8])]) -> Snapshot {
     let mut resources = Vec::new(alloc);
     for (name, filter) in filters {
-        let name = String::from_str(alloc, name)?;
-        let filter = Vec::from_slice(alloc, filter)?;
-        resources.push(Resource { name, filter })?;
+        let name = String::from_str(alloc, name).expect(rt, "memory");
+        let filter = Vec::from_slice(alloc, filter).expect(rt, "memory");
+        resources
+            .push(Resource { name, filter })
+            .expect(rt, "memory");
     }
-    Ok(Snapshot { resources })
+    Snapshot { resources }
 }
 
 /// A control plane of snapshots that each give this name one of the filters.
-pub fn control_of(alloc: Global, name: &str, filters: &[&[u8]]) -> Result<Control, Fail> {
+pub fn control_of(rt: &impl Abort, alloc: Global, name: &str, filters: &[&[u8]]) -> Control {
     let mut snapshots = Vec::new(alloc);
     for filter in filters {
-        snapshots.push(snapshot_of(alloc, &[(name, *filter)])?)?;
+        snapshots
+            .push(snapshot_of(rt, alloc, &[(name, *filter)]))
+            .expect(rt, "memory");
     }
-    Ok(Control::new(alloc, snapshots))
+    Control::new(alloc, snapshots)
 }
 
 /// The control plane sends these bytes for a request, and its stream is not broken.
@@ -326,11 +318,12 @@ pub fn sends(
     control: &mut Control,
     request: &[&[u8]],
     reply: &[&[u8]],
-) -> Result<(), Fail> {
-    let fed = control.feed(&joined(alloc, request)?)?;
+) {
+    let fed = control
+        .feed(&joined(rt, alloc, request))
+        .expect(rt, "memory");
     assert!(rt; !fed.broken);
-    assert!(rt; fed.replies == joined(alloc, reply)?);
-    Ok(())
+    assert!(rt; fed.replies == joined(rt, alloc, reply));
 }
 
 /// The control plane answers the bytes with these, and its stream is broken.
@@ -340,11 +333,10 @@ pub fn ends_by(
     control: &mut Control,
     bytes: &[u8],
     reply: &[&[u8]],
-) -> Result<(), Fail> {
-    let fed = control.feed(bytes)?;
+) {
+    let fed = control.feed(bytes).expect(rt, "memory");
     assert!(rt; fed.broken);
-    assert!(rt; fed.replies == joined(alloc, reply)?);
-    Ok(())
+    assert!(rt; fed.replies == joined(rt, alloc, reply));
 }
 
 /// The snapshot of this number was acknowledged last, or none was.

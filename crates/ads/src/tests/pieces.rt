@@ -10,19 +10,12 @@ use super::vectors::{
 use crate::{Client, Control};
 use std::alloc::Global;
 use std::process::Abort;
-use std::test::Fail;
 
 /// A piece is given to the client: what it answers is put behind the replies.
-fn feeds(
-    rt: &impl Abort,
-    client: &mut Client,
-    piece: &[u8],
-    replies: &mut Vec<u8>,
-) -> Result<(), Fail> {
-    let fed = client.feed(piece)?;
+fn feeds(rt: &impl Abort, client: &mut Client, piece: &[u8], replies: &mut Vec<u8>) {
+    let fed = client.feed(piece).expect(rt, "memory");
     assert!(rt; !fed.broken);
-    replies.extend_from_slice(&fed.replies)?;
-    Ok(())
+    replies.extend_from_slice(&fed.replies).expect(rt, "memory");
 }
 
 /// A new stream of the client begins with this request, and gives the bytes in three pieces: all that it answers.
@@ -33,14 +26,14 @@ fn answered(
     request: &[&[u8]],
     bytes: &[u8],
     (first, second): (usize, usize),
-) -> Result<Vec<u8>, Fail> {
-    begins(rt, alloc, client, request)?;
+) -> Vec<u8> {
+    begins(rt, alloc, client, request);
     let mut replies = Vec::new(alloc);
     let (front, back) = (before(bytes, second), behind(bytes, second));
-    feeds(rt, client, before(front, first), &mut replies)?;
-    feeds(rt, client, behind(front, first), &mut replies)?;
-    feeds(rt, client, back, &mut replies)?;
-    Ok(replies)
+    feeds(rt, client, before(front, first), &mut replies);
+    feeds(rt, client, behind(front, first), &mut replies);
+    feeds(rt, client, back, &mut replies);
+    replies
 }
 
 fn are_equal(rt: &impl Abort, replies: &[u8], expected: &[u8]) {
@@ -62,10 +55,9 @@ fn answers_cut(
     cuts: &Cuts<'_>,
     cut: (usize, usize),
     at_once: &[u8],
-) -> Result<(), Fail> {
-    let replies = answered(rt, alloc, client, cuts.request, cuts.bytes, cut)?;
+) {
+    let replies = answered(rt, alloc, client, cuts.request, cuts.bytes, cut);
     are_equal(rt, &replies, at_once);
-    Ok(())
 }
 
 /// The client answers alike where the first cut is here and the second at each place behind it.
@@ -76,40 +68,33 @@ fn answers_cuts_at(
     cuts: &Cuts<'_>,
     first: usize,
     at_once: &[u8],
-) -> Result<(), Fail> {
+) {
     for second in first..=cuts.bytes.len() {
         if cuts.each || second % 7 == 0 {
-            answers_cut(rt, alloc, client, cuts, (first, second), at_once)?;
+            answers_cut(rt, alloc, client, cuts, (first, second), at_once);
         }
     }
-    Ok(())
 }
 
 /// A client answers the bytes alike wherever they are cut: first at a place of this range, and then behind it. Once they were
 /// answered, a stream begins with the request.
-fn answers_alike(
-    rt: &impl Abort,
-    alloc: Global,
-    cuts: &Cuts<'_>,
-    (from, to): (usize, usize),
-) -> Result<(), Fail> {
-    let mut client = client_of(alloc, &["f", "g"])?;
+fn answers_alike(rt: &impl Abort, alloc: Global, cuts: &Cuts<'_>, (from, to): (usize, usize)) {
+    let mut client = client_of(rt, alloc, &["f", "g"]);
     let whole = (0, cuts.bytes.len());
-    answered(rt, alloc, &mut client, FIRST_FOR_BOTH, cuts.bytes, whole)?;
-    let at_once = answered(rt, alloc, &mut client, cuts.request, cuts.bytes, whole)?;
+    answered(rt, alloc, &mut client, FIRST_FOR_BOTH, cuts.bytes, whole);
+    let at_once = answered(rt, alloc, &mut client, cuts.request, cuts.bytes, whole);
     assert!(rt; !at_once.is_empty());
     for first in 0..=cuts.bytes.len() {
         if from <= first && first < to {
-            answers_cuts_at(rt, alloc, &mut client, cuts, first, &at_once)?;
+            answers_cuts_at(rt, alloc, &mut client, cuts, first, &at_once);
         }
     }
-    Ok(())
 }
 
 /// A response with a filter, whose first cut is within this range.
-fn response_alike(rt: &impl Abort, alloc: Global, range: (usize, usize)) -> Result<(), Fail> {
-    let filter = resource(alloc, "f", TRUE_AND_TRUE)?;
-    let first = response(alloc, "1", "n1", &[&filter])?;
+fn response_alike(rt: &impl Abort, alloc: Global, range: (usize, usize)) {
+    let filter = resource(rt, alloc, "f", TRUE_AND_TRUE);
+    let first = response(rt, alloc, "1", "n1", &[&filter]);
     assert_eq!(rt; first.len(), 261);
     let cuts = Cuts {
         request: RESUMED_FOR_BOTH,
@@ -120,17 +105,17 @@ fn response_alike(rt: &impl Abort, alloc: Global, range: (usize, usize)) -> Resu
 }
 
 #[test]
-fn responses_cut_early(rt: HostRuntime) -> Result<(), Fail> {
+fn responses_cut_early(rt: HostRuntime) {
     response_alike(&rt, rt.alloc(), (0, 48))
 }
 
 #[test]
-fn responses_cut_before_the_middle(rt: HostRuntime) -> Result<(), Fail> {
+fn responses_cut_before_the_middle(rt: HostRuntime) {
     response_alike(&rt, rt.alloc(), (48, 110))
 }
 
 #[test]
-fn responses_cut_behind_the_middle(rt: HostRuntime) -> Result<(), Fail> {
+fn responses_cut_behind_the_middle(rt: HostRuntime) {
     response_alike(&rt, rt.alloc(), (110, 262))
 }
 
@@ -138,8 +123,8 @@ fn responses_cut_behind_the_middle(rt: HostRuntime) -> Result<(), Fail> {
 const ANYWHERE: (usize, usize) = (0, usize::MAX);
 
 #[test]
-fn half_bad_responses(rt: HostRuntime) -> Result<(), Fail> {
-    let bytes = half_bad(rt.alloc())?;
+fn half_bad_responses(rt: HostRuntime) {
+    let bytes = half_bad(&rt, rt.alloc());
     let cuts = Cuts {
         request: FIRST_FOR_BOTH,
         bytes: &bytes,
@@ -149,13 +134,8 @@ fn half_bad_responses(rt: HostRuntime) -> Result<(), Fail> {
 }
 
 /// A request is answered alike as a response, on a stream that begins with this one.
-fn request_alike(
-    rt: &impl Abort,
-    alloc: Global,
-    pieces: &[&[u8]],
-    request: &[&[u8]],
-) -> Result<(), Fail> {
-    let bytes = joined(alloc, pieces)?;
+fn request_alike(rt: &impl Abort, alloc: Global, pieces: &[&[u8]], request: &[&[u8]]) {
+    let bytes = joined(rt, alloc, pieces);
     let cuts = Cuts {
         request,
         bytes: &bytes,
@@ -166,25 +146,19 @@ fn request_alike(
 
 /// The requests as responses: those that name no node are accepted.
 #[test]
-fn requests_as_responses(rt: HostRuntime) -> Result<(), Fail> {
+fn requests_as_responses(rt: HostRuntime) {
     let alloc = rt.alloc();
-    request_alike(&rt, alloc, FIRST_REQUEST, FIRST_FOR_BOTH)?;
-    request_alike(&rt, alloc, RESUMED_REQUEST, FIRST_FOR_BOTH)?;
-    request_alike(&rt, alloc, FIRST_ACK, RESUMED_FOR_BOTH)?;
+    request_alike(&rt, alloc, FIRST_REQUEST, FIRST_FOR_BOTH);
+    request_alike(&rt, alloc, RESUMED_REQUEST, FIRST_FOR_BOTH);
+    request_alike(&rt, alloc, FIRST_ACK, RESUMED_FOR_BOTH);
     request_alike(&rt, alloc, HALF_BAD_NACK, RESUMED_FOR_BOTH)
 }
 
 /// A piece is given to the control plane: what it sends is put behind the replies.
-pub fn serves(
-    rt: &impl Abort,
-    control: &mut Control,
-    piece: &[u8],
-    replies: &mut Vec<u8>,
-) -> Result<(), Fail> {
-    let fed = control.feed(piece)?;
+pub fn serves(rt: &impl Abort, control: &mut Control, piece: &[u8], replies: &mut Vec<u8>) {
+    let fed = control.feed(piece).expect(rt, "memory");
     assert!(rt; !fed.broken);
-    replies.extend_from_slice(&fed.replies)?;
-    Ok(())
+    replies.extend_from_slice(&fed.replies).expect(rt, "memory");
 }
 
 /// A control plane gets the bytes in three pieces: all that it sends.
@@ -194,13 +168,13 @@ fn sent(
     control: &mut Control,
     bytes: &[u8],
     (first, second): (usize, usize),
-) -> Result<Vec<u8>, Fail> {
+) -> Vec<u8> {
     let mut replies = Vec::new(alloc);
     let (front, back) = (before(bytes, second), behind(bytes, second));
-    serves(rt, control, before(front, first), &mut replies)?;
-    serves(rt, control, behind(front, first), &mut replies)?;
-    serves(rt, control, back, &mut replies)?;
-    Ok(replies)
+    serves(rt, control, before(front, first), &mut replies);
+    serves(rt, control, behind(front, first), &mut replies);
+    serves(rt, control, back, &mut replies);
+    replies
 }
 
 /// Requests of a stream, and the number that they acknowledge.
@@ -213,12 +187,14 @@ const STREAMS: [(&[&[&[u8]]], Option<u64>); 5] = [
 ];
 
 /// The bytes of these requests.
-fn stream_of(alloc: Global, requests: &[&[&[u8]]]) -> Result<Vec<u8>, Fail> {
+fn stream_of(rt: &impl Abort, alloc: Global, requests: &[&[&[u8]]]) -> Vec<u8> {
     let mut bytes = Vec::new(alloc);
     for pieces in requests {
-        bytes.extend_from_slice(&joined(alloc, pieces)?)?;
+        bytes
+            .extend_from_slice(&joined(rt, alloc, pieces))
+            .expect(rt, "memory");
     }
-    Ok(bytes)
+    bytes
 }
 
 /// A new control plane sends this for the bytes, cut at these two places, and has this acknowledged then.
@@ -229,12 +205,11 @@ fn sends_alike(
     cut: (usize, usize),
     at_once: &[u8],
     number: Option<u64>,
-) -> Result<(), Fail> {
-    let mut control = control_of(alloc, "f", &[TRUE_AND_TRUE, ANY_ANY])?;
-    let replies = sent(rt, alloc, &mut control, bytes, cut)?;
+) {
+    let mut control = control_of(rt, alloc, "f", &[TRUE_AND_TRUE, ANY_ANY]);
+    let replies = sent(rt, alloc, &mut control, bytes, cut);
     are_equal(rt, &replies, at_once);
     has_acknowledged(rt, &control, number);
-    Ok(())
 }
 
 /// A control plane sends the same where the first cut is here and the second at each place behind it.
@@ -245,34 +220,26 @@ fn stream_cut_at(
     first: usize,
     at_once: &[u8],
     number: Option<u64>,
-) -> Result<(), Fail> {
+) {
     for second in first..=bytes.len() {
-        sends_alike(rt, alloc, bytes, (first, second), at_once, number)?;
+        sends_alike(rt, alloc, bytes, (first, second), at_once, number);
     }
-    Ok(())
 }
 
 /// A control plane sends the same for the bytes wherever they are cut.
-fn stream_alike(
-    rt: &impl Abort,
-    alloc: Global,
-    bytes: &[u8],
-    number: Option<u64>,
-) -> Result<(), Fail> {
+fn stream_alike(rt: &impl Abort, alloc: Global, bytes: &[u8], number: Option<u64>) {
     let length = bytes.len();
-    let mut whole = control_of(alloc, "f", &[TRUE_AND_TRUE, ANY_ANY])?;
-    let at_once = sent(rt, alloc, &mut whole, bytes, (0, length))?;
+    let mut whole = control_of(rt, alloc, "f", &[TRUE_AND_TRUE, ANY_ANY]);
+    let at_once = sent(rt, alloc, &mut whole, bytes, (0, length));
     for first in 0..=length {
-        stream_cut_at(rt, alloc, bytes, first, &at_once, number)?;
+        stream_cut_at(rt, alloc, bytes, first, &at_once, number);
     }
-    Ok(())
 }
 
 #[test]
-fn requests(rt: HostRuntime) -> Result<(), Fail> {
+fn requests(rt: HostRuntime) {
     for (requests, number) in &STREAMS {
-        let bytes = stream_of(rt.alloc(), requests)?;
-        stream_alike(&rt, rt.alloc(), &bytes, *number)?;
+        let bytes = stream_of(&rt, rt.alloc(), requests);
+        stream_alike(&rt, rt.alloc(), &bytes, *number);
     }
-    Ok(())
 }

@@ -1,9 +1,8 @@
 //! What the codec of `proto_wire` reads and writes, by bytes made by hand.
 
 use proto_wire::{keys, *};
-use std::alloc::{AllocError, Global};
+use std::alloc::Global;
 use std::process::Abort;
-use std::test::Fail;
 
 /// Messages of one VARINT field, and its value.
 const VARINTS: [(&[u8], Result<Option<u64>, WireError>); 9] = [
@@ -147,22 +146,20 @@ fn messages(rt: HostRuntime) {
 }
 
 #[test]
-fn refusals(rt: HostRuntime) -> Result<(), Fail> {
+fn refusals(rt: HostRuntime) {
     for (refusal, want) in &REFUSALS {
-        let text = format!(in rt.alloc(); "{refusal}")?;
+        let text = format!(in rt.alloc(); "{refusal}").expect(&rt, "memory");
         assert_eq!(rt; text.as_str(), *want);
     }
-    Ok(())
 }
 
 #[test]
-fn wire_errors(rt: HostRuntime) -> Result<(), Fail> {
+fn wire_errors(rt: HostRuntime) {
     for (error, want) in &WIRE_ERRORS {
-        let text = format!(in rt.alloc(); "{error}")?;
+        let text = format!(in rt.alloc(); "{error}").expect(&rt, "memory");
         assert_eq!(rt; text.as_str(), *want);
         assert!(rt; Refusal::from(*error) == Refusal::BadWire);
     }
-    Ok(())
 }
 
 #[test]
@@ -187,12 +184,11 @@ const FIRST: &[u8] = b"\x08\x01\x12\x01a\x08\x02";
 const SECOND: &[u8] = b"\x12\x01b\x18\x07\x12\x01c";
 
 #[test]
-fn values(rt: HostRuntime) -> Result<(), Fail> {
-    let fields = read_parts(rt.alloc(), &[FIRST, SECOND])?;
+fn values(rt: HostRuntime) {
+    let fields = read_parts(rt.alloc(), &[FIRST, SECOND]).expect(&rt, "a result");
     last_values(&rt, &fields);
     last_texts(&rt, &fields);
     last_of_a_choice(&rt, &fields);
-    Ok(())
 }
 
 fn last_values(rt: &impl Abort, fields: &[Field<'_>]) {
@@ -225,61 +221,61 @@ fn last_of_a_choice(rt: &impl Abort, fields: &[Field<'_>]) {
     );
 }
 
-fn count_of_payloads(
-    alloc: Global,
-    fields: &[Field<'_>],
-    number: u32,
-) -> Result<usize, AllocError> {
-    Ok(payloads_of(alloc, fields, number)?.len())
+fn count_of_payloads(rt: &impl Abort, alloc: Global, fields: &[Field<'_>], number: u32) -> usize {
+    payloads_of(alloc, fields, number)
+        .expect(rt, "a result")
+        .len()
 }
 
-fn length_of_run(alloc: Global, fields: &[Field<'_>], keys: &[Key]) -> Result<usize, AllocError> {
-    Ok(member_run(alloc, fields, keys)?.len())
+fn length_of_run(rt: &impl Abort, alloc: Global, fields: &[Field<'_>], keys: &[Key]) -> usize {
+    member_run(alloc, fields, keys).expect(rt, "a result").len()
 }
 
 #[test]
-fn counts(rt: HostRuntime) -> Result<(), Fail> {
+fn counts(rt: HostRuntime) {
     let alloc = rt.alloc();
-    let fields = read_parts(alloc, &[FIRST, SECOND])?;
+    let fields = read_parts(alloc, &[FIRST, SECOND]).expect(&rt, "a result");
     is_count(&rt, fields.len(), 6);
-    is_count(&rt, count_of_payloads(alloc, &fields, 2)?, 3);
+    is_count(&rt, count_of_payloads(&rt, alloc, &fields, 2), 3);
     is_count(
         &rt,
-        length_of_run(alloc, &fields, &keys![Varint 1, Len 2])?,
+        length_of_run(&rt, alloc, &fields, &keys![Varint 1, Len 2]),
         2,
     );
     is_count(
         &rt,
-        length_of_run(alloc, &fields, &keys![Varint 1, Varint 3])?,
+        length_of_run(&rt, alloc, &fields, &keys![Varint 1, Varint 3]),
         1,
     );
-    Ok(())
 }
 
 #[test]
-fn fields_of_one_payload(rt: HostRuntime) -> Result<(), Fail> {
-    is_count(&rt, read_fields(rt.alloc(), SECOND)?.len(), 3);
+fn fields_of_one_payload(rt: HostRuntime) {
+    is_count(
+        &rt,
+        read_fields(rt.alloc(), SECOND)
+            .expect(&rt, "a result")
+            .len(),
+        3,
+    );
     assert!(rt; matches!(read_fields(rt.alloc(), b"\x0b"), Err(Refusal::BadWire)));
-    Ok(())
 }
 
 #[test]
-fn broken_texts(rt: HostRuntime) -> Result<(), Fail> {
-    let fields = read_fields(rt.alloc(), b"\x12\x01\xc3")?;
+fn broken_texts(rt: HostRuntime) {
+    let fields = read_fields(rt.alloc(), b"\x12\x01\xc3").expect(&rt, "a result");
     assert_eq!(rt; text_at(&fields, 2), Err(Refusal::BadText));
     assert_eq!(rt; text_of(b"a\xff"), Err(Refusal::BadText));
-    Ok(())
 }
 
 /// The last varint of field 1 is 2^64 - 1, that of field 2 is 2^32, and there is no field 3.
 #[test]
-fn scalars(rt: HostRuntime) -> Result<(), Fail> {
+fn scalars(rt: HostRuntime) {
     let bytes = b"\x08\x05\x08\xff\xff\xff\xff\xff\xff\xff\xff\xff\x01\x10\x80\x80\x80\x80\x10";
-    let fields = read_fields(rt.alloc(), bytes)?;
+    let fields = read_fields(rt.alloc(), bytes).expect(&rt, "a result");
     all_bits(&rt, &fields);
     low_bits(&rt, &fields);
     bools(&rt, &fields);
-    Ok(())
 }
 
 fn all_bits(rt: &impl Abort, fields: &[Field<'_>]) {
@@ -341,18 +337,17 @@ fn is_int64_entry(
 /// The last entry of a key counts, its two values merge, and an entry without a key has the empty
 /// one.
 #[test]
-fn text_maps(rt: HostRuntime) -> Result<(), Fail> {
+fn text_maps(rt: HostRuntime) {
     let third: &[u8] = b"\x12\x01b\x0a\x01q\x0a\x01p\x12\x01c";
     let entries = [
         b"\x0a\x01p\x12\x01a".as_slice(),
         b"\x12\x00".as_slice(),
         third,
     ];
-    let map: Vec<MapEntry<&str>> = read_entries(rt.alloc(), &entries)?;
+    let map: Vec<MapEntry<&str>> = read_entries(rt.alloc(), &entries).expect(&rt, "a result");
     is_count(&rt, map.len(), 2);
     is_text_entry(&rt, &map, 0, "", &[b"".as_slice()]);
     is_text_entry(&rt, &map, 1, "p", &[b"b".as_slice(), b"c".as_slice()]);
-    Ok(())
 }
 
 #[test]
@@ -383,31 +378,35 @@ const NO_KEY: &[u8] = b"\x12\x01z";
 const FIVE_ALONE: &[u8] = b"\x08\x05";
 
 #[test]
-fn int64_maps(rt: HostRuntime) -> Result<(), Fail> {
-    let map: Vec<MapEntry<i64>> = read_entries(rt.alloc(), &[FIVE, MINUS_ONE, NO_KEY, FIVE_ALONE])?;
+fn int64_maps(rt: HostRuntime) {
+    let map: Vec<MapEntry<i64>> = read_entries(
+        rt.alloc(),
+        &[FIVE, MINUS_ONE, NO_KEY, FIVE_ALONE],
+    ).expect(&rt, "a result");
     is_count(&rt, map.len(), 3);
     is_int64_entry(&rt, &map, 0, -1, &[]);
     is_int64_entry(&rt, &map, 1, 0, &[b"z".as_slice()]);
     is_int64_entry(&rt, &map, 2, 5, &[]);
-    Ok(())
 }
 
 #[test]
-fn int64_keys_ascend(rt: HostRuntime) -> Result<(), Fail> {
-    let map: Vec<MapEntry<i64>> = read_entries(rt.alloc(), &[MINUS_ONE, NO_KEY, FIVE])?;
+fn int64_keys_ascend(rt: HostRuntime) {
+    let map: Vec<MapEntry<i64>> = read_entries(rt.alloc(), &[MINUS_ONE, NO_KEY, FIVE]).expect(
+        &rt, "memory",
+    );
     is_count(&rt, map.len(), 3);
     is_int64_entry(&rt, &map, 0, -1, &[]);
     is_int64_entry(&rt, &map, 1, 0, &[b"z".as_slice()]);
     is_int64_entry(&rt, &map, 2, 5, &[b"a".as_slice()]);
-    Ok(())
 }
 
 #[test]
-fn int64_key_twice(rt: HostRuntime) -> Result<(), Fail> {
-    let map: Vec<MapEntry<i64>> = read_entries(rt.alloc(), &[FIVE, FIVE_ALONE])?;
+fn int64_key_twice(rt: HostRuntime) {
+    let map: Vec<MapEntry<i64>> = read_entries(rt.alloc(), &[FIVE, FIVE_ALONE]).expect(
+        &rt, "memory",
+    );
     is_count(&rt, map.len(), 1);
     is_int64_entry(&rt, &map, 0, 5, &[]);
-    Ok(())
 }
 
 /// A key that is a string is an unknown field.
@@ -436,51 +435,50 @@ const WRITTEN: [(u64, &[u8]); 8] = [
 ];
 
 #[test]
-fn written_varints(rt: HostRuntime) -> Result<(), Fail> {
+fn written_varints(rt: HostRuntime) {
     for (value, want) in &WRITTEN {
         let mut writer = Writer::new(Vec::new(rt.alloc()));
-        writer.varint(1, *value)?;
+        writer.varint(1, *value).expect(&rt, "memory");
         assert!(rt; writer.into_bytes().as_slice() == *want, "at {value}");
     }
-    Ok(())
 }
 
 /// The string "testing" as field 2, a message whose field 1 is 150 as field 3, packed numbers as
 /// field 6, and the greatest field number, behind a byte that was there.
 #[test]
-fn written_fields(rt: HostRuntime) -> Result<(), Fail> {
+fn written_fields(rt: HostRuntime) {
     let mut bytes = Vec::new(rt.alloc());
-    bytes.push(0)?;
+    bytes.push(0).expect(&rt, "memory");
     let mut writer = Writer::new(bytes);
-    writer.text(2, "testing")?;
-    writer.message(3, b"\x08\x96\x01")?;
-    writer.bytes(6, b"\x03\x8e\x02\x9e\xa7\x05")?;
-    writer.varint(536_870_911, 1)?;
+    writer.text(2, "testing").expect(&rt, "memory");
+    writer.message(3, b"\x08\x96\x01").expect(&rt, "memory");
+    writer
+        .bytes(6, b"\x03\x8e\x02\x9e\xa7\x05")
+        .expect(&rt, "memory");
+    writer.varint(536_870_911, 1).expect(&rt, "memory");
     let want: &[u8] =
         b"\x00\x12\x07testing\x1a\x03\x08\x96\x01\x32\x06\x03\x8e\x02\x9e\xa7\x05\xf8\xff\xff\xff\x0f\x01";
     assert!(rt; writer.into_bytes().as_slice() == want);
-    Ok(())
 }
 
 /// A filter of one policy, `p`, that lets all through: each message is written, and then stands in
 /// the next as a field.
 #[test]
-fn written_messages(rt: HostRuntime) -> Result<(), Fail> {
+fn written_messages(rt: HostRuntime) {
     let alloc = rt.alloc();
     let mut rule = Writer::new(Vec::new(alloc));
-    rule.varint(3, 1)?;
+    rule.varint(3, 1).expect(&rt, "memory");
     let rule = rule.into_bytes();
     let mut policy = Writer::new(Vec::new(alloc));
-    policy.message(1, &rule)?;
-    policy.message(2, &rule)?;
+    policy.message(1, &rule).expect(&rt, "memory");
+    policy.message(2, &rule).expect(&rt, "memory");
     let mut entry = Writer::new(Vec::new(alloc));
-    entry.text(1, "p")?;
-    entry.message(2, &policy.into_bytes())?;
+    entry.text(1, "p").expect(&rt, "memory");
+    entry.message(2, &policy.into_bytes()).expect(&rt, "memory");
     let mut rules = Writer::new(Vec::new(alloc));
-    rules.message(2, &entry.into_bytes())?;
+    rules.message(2, &entry.into_bytes()).expect(&rt, "memory");
     let mut filter = Writer::new(Vec::new(alloc));
-    filter.message(1, &rules.into_bytes())?;
+    filter.message(1, &rules.into_bytes()).expect(&rt, "memory");
     let want: &[u8] = b"\x0a\x0f\x12\x0d\x0a\x01p\x12\x08\x0a\x02\x18\x01\x12\x02\x18\x01";
     assert!(rt; filter.into_bytes().as_slice() == want);
-    Ok(())
 }

@@ -7,27 +7,27 @@ use super::making::{
 use super::vectors::{ANY_ANY, FIRST_REQUEST, OTHER_CASE, R, TRUE_AND_TRUE, U, joined};
 use crate::Control;
 use std::alloc::Global;
-use std::test::Fail;
+use std::process::Abort;
 
 /// The control plane, of which nothing was asked.
-fn new_control(alloc: Global) -> Result<Control, Fail> {
-    control_of(alloc, "f", &[TRUE_AND_TRUE, ANY_ANY])
+fn new_control(rt: &impl Abort, alloc: Global) -> Control {
+    control_of(rt, alloc, "f", &[TRUE_AND_TRUE, ANY_ANY])
 }
 
 /// With a version of 65,536 bytes a first request is served, and so is a refusal; no acknowledgement has it.
 #[test]
-fn long_versions(rt: HostRuntime) -> Result<(), Fail> {
+fn long_versions(rt: HostRuntime) {
     let alloc = rt.alloc();
-    let text = long_text(alloc, 65_536)?;
+    let text = long_text(&rt, alloc, 65_536);
     let version = text.as_bytes();
-    let mut control = new_control(alloc)?;
+    let mut control = new_control(&rt, alloc);
     let first: &[&[u8]] = &[
         b"\x00\x00\x01\x00\x46\x0a\x80\x80\x04",
         version,
         b"\x1a\x01f\x22\x3d",
         U,
     ];
-    sends(&rt, alloc, &mut control, first, FIRST)?;
+    sends(&rt, alloc, &mut control, first, FIRST);
     let ack: &[&[u8]] = &[
         b"\x00\x00\x01\x00\x49\x0a\x80\x80\x04",
         version,
@@ -35,7 +35,7 @@ fn long_versions(rt: HostRuntime) -> Result<(), Fail> {
         U,
         b"\x2a\x011",
     ];
-    sends(&rt, alloc, &mut control, ack, &[])?;
+    sends(&rt, alloc, &mut control, ack, &[]);
     let nack: &[&[u8]] = &[
         b"\x00\x00\x01\x00\x4b\x0a\x80\x80\x04",
         version,
@@ -43,37 +43,35 @@ fn long_versions(rt: HostRuntime) -> Result<(), Fail> {
         U,
         b"\x2a\x011\x32\x00",
     ];
-    sends(&rt, alloc, &mut control, nack, SECOND)?;
+    sends(&rt, alloc, &mut control, nack, SECOND);
     has_acknowledged(&rt, &control, None);
-    Ok(())
 }
 
 /// No response has a nonce of 65,536 bytes.
 #[test]
-fn long_nonces(rt: HostRuntime) -> Result<(), Fail> {
+fn long_nonces(rt: HostRuntime) {
     let alloc = rt.alloc();
-    let text = long_text(alloc, 65_536)?;
+    let text = long_text(&rt, alloc, 65_536);
     let nonce = text.as_bytes();
-    let mut control = new_control(alloc)?;
+    let mut control = new_control(&rt, alloc);
     let first: &[&[u8]] = &[
         b"\x00\x00\x01\x00\x46\x1a\x01f\x22\x3d",
         U,
         b"\x2a\x80\x80\x04",
         nonce,
     ];
-    sends(&rt, alloc, &mut control, first, &[])?;
-    sends(&rt, alloc, &mut control, FIRST_REQUEST, FIRST)?;
+    sends(&rt, alloc, &mut control, first, &[]);
+    sends(&rt, alloc, &mut control, FIRST_REQUEST, FIRST);
     let ack: &[&[u8]] = &[
         b"\x00\x00\x01\x00\x49\x0a\x011\x1a\x01f\x22\x3d",
         U,
         b"\x2a\x80\x80\x04",
         nonce,
     ];
-    sends(&rt, alloc, &mut control, ack, &[])?;
+    sends(&rt, alloc, &mut control, ack, &[]);
     has_acknowledged(&rt, &control, None);
-    sends(&rt, alloc, &mut control, ACK, SECOND)?;
+    sends(&rt, alloc, &mut control, ACK, SECOND);
     has_acknowledged(&rt, &control, Some(1));
-    Ok(())
 }
 
 /// A first request and an acknowledgement whose type differs in the case of one letter.
@@ -86,16 +84,15 @@ const OTHER_ACK: &[&[u8]] = &[
 ];
 
 #[test]
-fn types_in_another_case(rt: HostRuntime) -> Result<(), Fail> {
+fn types_in_another_case(rt: HostRuntime) {
     let alloc = rt.alloc();
-    let mut control = new_control(alloc)?;
-    sends(&rt, alloc, &mut control, OTHER_FIRST, &[])?;
-    sends(&rt, alloc, &mut control, FIRST_REQUEST, FIRST)?;
-    sends(&rt, alloc, &mut control, OTHER_ACK, &[])?;
+    let mut control = new_control(&rt, alloc);
+    sends(&rt, alloc, &mut control, OTHER_FIRST, &[]);
+    sends(&rt, alloc, &mut control, FIRST_REQUEST, FIRST);
+    sends(&rt, alloc, &mut control, OTHER_ACK, &[]);
     has_acknowledged(&rt, &control, None);
-    sends(&rt, alloc, &mut control, ACK, SECOND)?;
+    sends(&rt, alloc, &mut control, ACK, SECOND);
     has_acknowledged(&rt, &control, Some(1));
-    Ok(())
 }
 
 /// A first request that asks for `f` twice.
@@ -103,9 +100,9 @@ const ASKED_TWICE: &[&[u8]] = &[b"\x00\x00\x00\x00\x45\x1a\x01f\x1a\x01f\x22\x3d
 
 /// A name that is asked for twice is sent once.
 #[test]
-fn a_name_asked_twice(rt: HostRuntime) -> Result<(), Fail> {
+fn a_name_asked_twice(rt: HostRuntime) {
     let alloc = rt.alloc();
-    let mut control = new_control(alloc)?;
+    let mut control = new_control(&rt, alloc);
     sends(&rt, alloc, &mut control, ASKED_TWICE, FIRST)
 }
 
@@ -137,18 +134,17 @@ const BOTH_REFUSED: &[&[u8]] = &[
 
 /// A snapshot is sent as it is: a name that stands in it twice is sent twice, and the client refuses it.
 #[test]
-fn a_name_twice_in_a_snapshot(rt: HostRuntime) -> Result<(), Fail> {
+fn a_name_twice_in_a_snapshot(rt: HostRuntime) {
     let alloc = rt.alloc();
-    let snapshot = snapshot_of(alloc, &[("f", TRUE_AND_TRUE), ("f", ANY_ANY)])?;
-    let mut control = Control::new(alloc, vec![in alloc; snapshot]?);
-    sends(&rt, alloc, &mut control, FIRST_REQUEST, BOTH)?;
-    let mut client = client_of(alloc, &["f"])?;
-    connects(&mut client)?;
-    let before = shown(alloc, &client)?;
-    let both = joined(alloc, BOTH)?;
-    answers(&rt, alloc, &mut client, &both, BOTH_REFUSED)?;
-    is_shown(&rt, alloc, &client, &before)?;
-    sends(&rt, alloc, &mut control, BOTH_REFUSED, &[])?;
+    let snapshot = snapshot_of(&rt, alloc, &[("f", TRUE_AND_TRUE), ("f", ANY_ANY)]);
+    let mut control = Control::new(alloc, vec![in alloc; snapshot].expect(&rt, "memory"));
+    sends(&rt, alloc, &mut control, FIRST_REQUEST, BOTH);
+    let mut client = client_of(&rt, alloc, &["f"]);
+    connects(&rt, &mut client);
+    let before = shown(&rt, alloc, &client);
+    let both = joined(&rt, alloc, BOTH);
+    answers(&rt, alloc, &mut client, &both, BOTH_REFUSED);
+    is_shown(&rt, alloc, &client, &before);
+    sends(&rt, alloc, &mut control, BOTH_REFUSED, &[]);
     has_acknowledged(&rt, &control, None);
-    Ok(())
 }

@@ -4,7 +4,6 @@ use super::pieces::serves;
 use super::vectors::{ANY_ANY, FIRST_REQUEST, RESUMED_REQUEST, U, joined};
 use std::alloc::Global;
 use std::process::Abort;
-use std::test::Fail;
 
 /// The first snapshot, where `f` has no filter in it, with nonce `1`.
 const NOTHING: &[&[u8]] = &[
@@ -26,55 +25,52 @@ const OTHERS: [&[&[u8]]; 4] = [
 ];
 
 #[test]
-fn names_that_are_not_there(rt: HostRuntime) -> Result<(), Fail> {
+fn names_that_are_not_there(rt: HostRuntime) {
     let alloc = rt.alloc();
-    let mut control = control_of(alloc, "g", &[ANY_ANY])?;
+    let mut control = control_of(&rt, alloc, "g", &[ANY_ANY]);
     sends(&rt, alloc, &mut control, FIRST_REQUEST, NOTHING)
 }
 
 #[test]
-fn no_snapshots(rt: HostRuntime) -> Result<(), Fail> {
+fn no_snapshots(rt: HostRuntime) {
     let alloc = rt.alloc();
-    let mut control = control_of(alloc, "f", &[])?;
-    sends(&rt, alloc, &mut control, FIRST_REQUEST, &[])?;
+    let mut control = control_of(&rt, alloc, "f", &[]);
+    sends(&rt, alloc, &mut control, FIRST_REQUEST, &[]);
     has_acknowledged(&rt, &control, None);
-    Ok(())
 }
 
 /// Readable requests before the first one are ignored.
 #[test]
-fn requests_before_the_first(rt: HostRuntime) -> Result<(), Fail> {
+fn requests_before_the_first(rt: HostRuntime) {
     let alloc = rt.alloc();
-    let mut control = control_of(alloc, "g", &[ANY_ANY])?;
+    let mut control = control_of(&rt, alloc, "g", &[ANY_ANY]);
     for other in &OTHERS {
-        sends(&rt, alloc, &mut control, other, &[])?;
+        sends(&rt, alloc, &mut control, other, &[]);
     }
     sends(&rt, alloc, &mut control, FIRST_REQUEST, NOTHING)
 }
 
 #[test]
-fn a_request_in_bytes(rt: HostRuntime) -> Result<(), Fail> {
+fn a_request_in_bytes(rt: HostRuntime) {
     let alloc = rt.alloc();
-    let mut control = control_of(alloc, "g", &[ANY_ANY])?;
+    let mut control = control_of(&rt, alloc, "g", &[ANY_ANY]);
     let mut replies = Vec::new(alloc);
-    let request = joined(alloc, RESUMED_REQUEST)?;
+    let request = joined(&rt, alloc, RESUMED_REQUEST);
     for byte in &request {
-        serves(&rt, &mut control, &[*byte], &mut replies)?;
+        serves(&rt, &mut control, &[*byte], &mut replies);
     }
-    assert!(rt; replies == joined(alloc, NOTHING)?);
-    Ok(())
+    assert!(rt; replies == joined(&rt, alloc, NOTHING));
 }
 
 /// A first request and then these bytes break the stream, and it stays so until it is lost.
-fn breaks(rt: &impl Abort, alloc: Global, bytes: &[u8]) -> Result<(), Fail> {
-    let mut control = control_of(alloc, "g", &[ANY_ANY])?;
-    let mut all = joined(alloc, FIRST_REQUEST)?;
-    all.extend_from_slice(bytes)?;
-    ends_by(rt, alloc, &mut control, &all, NOTHING)?;
-    ends_by(rt, alloc, &mut control, &all, &[])?;
+fn breaks(rt: &impl Abort, alloc: Global, bytes: &[u8]) {
+    let mut control = control_of(rt, alloc, "g", &[ANY_ANY]);
+    let mut all = joined(rt, alloc, FIRST_REQUEST);
+    all.extend_from_slice(bytes).expect(rt, "memory");
+    ends_by(rt, alloc, &mut control, &all, NOTHING);
+    ends_by(rt, alloc, &mut control, &all, &[]);
     control.lost();
-    assert!(rt; !control.feed(b"")?.broken);
-    Ok(())
+    assert!(rt; !control.feed(b"").expect(rt, "memory").broken);
 }
 
 /// Frames that break a stream: one that is compressed, one that is too long, one that is no list of fields, and requests of
@@ -93,30 +89,29 @@ const BREAKS: [&[u8]; 10] = [
 ];
 
 #[test]
-fn broken_streams(rt: HostRuntime) -> Result<(), Fail> {
+fn broken_streams(rt: HostRuntime) {
     let alloc = rt.alloc();
     for bytes in &BREAKS {
-        breaks(&rt, alloc, bytes)?;
+        breaks(&rt, alloc, bytes);
     }
-    Ok(())
 }
 
 /// A response longer than a message may be is not sent, and ends the stream.
 #[test]
-fn too_long_a_response(rt: HostRuntime) -> Result<(), Fail> {
+fn too_long_a_response(rt: HostRuntime) {
     let alloc = rt.alloc();
-    let filter = vec![in alloc; 0u8; 1_048_576]?;
-    let mut control = control_of(alloc, "f", &[&filter])?;
-    let request = joined(alloc, FIRST_REQUEST)?;
+    let filter = vec![in alloc; 0u8; 1_048_576].expect(&rt, "memory");
+    let mut control = control_of(&rt, alloc, "f", &[&filter]);
+    let request = joined(&rt, alloc, FIRST_REQUEST);
     ends_by(&rt, alloc, &mut control, &request, &[])
 }
 
 /// A million requests without bytes, in one call, are ignored.
 #[test]
-fn a_million_empty_requests(rt: HostRuntime) -> Result<(), Fail> {
+fn a_million_empty_requests(rt: HostRuntime) {
     let alloc = rt.alloc();
-    let mut control = control_of(alloc, "g", &[ANY_ANY])?;
-    let empty = vec![in alloc; 0u8; 5_000_000]?;
-    sends(&rt, alloc, &mut control, &[empty.as_slice()], &[])?;
+    let mut control = control_of(&rt, alloc, "g", &[ANY_ANY]);
+    let empty = vec![in alloc; 0u8; 5_000_000].expect(&rt, "memory");
+    sends(&rt, alloc, &mut control, &[empty.as_slice()], &[]);
     sends(&rt, alloc, &mut control, FIRST_REQUEST, NOTHING)
 }

@@ -1,5 +1,6 @@
 //! Bytes of the update stream, written by hand from the encoding guide: each as the pieces that it is made of.
-use std::alloc::{AllocError, Global};
+use std::alloc::Global;
+use std::process::Abort;
 
 /// The type of the resources.
 pub const EXTENSION_TYPE: &str = "type.googleapis.com/envoy.config.core.v3.TypedExtensionConfig";
@@ -86,12 +87,12 @@ pub const HALF_BAD_NACK: &[&[u8]] = &[
 ];
 
 /// The pieces in one.
-pub fn joined(alloc: Global, pieces: &[&[u8]]) -> Result<Vec<u8>, AllocError> {
+pub fn joined(rt: &impl Abort, alloc: Global, pieces: &[&[u8]]) -> Vec<u8> {
     let mut bytes = Vec::new(alloc);
     for piece in pieces {
-        bytes.extend_from_slice(piece)?;
+        bytes.extend_from_slice(piece).expect(rt, "memory");
     }
-    Ok(bytes)
+    bytes
 }
 
 /// The bytes from this place on, none past the end.

@@ -5,7 +5,6 @@ use crate::tests::encoders::{CLUSTERS, FIRST, OTHER_TYPE, REFUSAL, RESPONSE, WIT
 use crate::tests::vectors::{EXTENSION_TYPE, FILTER_TYPE, behind, joined};
 use std::alloc::Global;
 use std::process::Abort;
-use std::test::Fail;
 use xds_wire::{Any, Node, Status, read_extension, read_request, read_response};
 
 const NODE: Node<'static> = Node {
@@ -16,24 +15,22 @@ const NODE: Node<'static> = Node {
 const CLUSTER_TYPE: &str = "type.googleapis.com/envoy.config.cluster.v3.Cluster";
 
 /// A resource of the filter `f`.
-fn is_filter(rt: &impl Abort, alloc: Global, resource: &Any<'_>) -> Result<(), Fail> {
+fn is_filter(rt: &impl Abort, alloc: Global, resource: &Any<'_>) {
     is_text(rt, resource.type_url, EXTENSION_TYPE);
-    let extension = read_extension(alloc, resource.value)?;
+    let extension = read_extension(alloc, resource.value).expect(rt, "a result");
     is_text(rt, extension.name, "f");
     assert!(rt; matches!(extension.typed_config, Some(any) if any.type_url == FILTER_TYPE));
-    Ok(())
 }
 
 #[test]
-fn a_response(rt: HostRuntime) -> Result<(), Fail> {
+fn a_response(rt: HostRuntime) {
     let alloc = rt.alloc();
-    let frame = joined(alloc, RESPONSE)?;
-    let response = read_response(alloc, behind(&frame, 5))?;
+    let frame = joined(&rt, alloc, RESPONSE);
+    let response = read_response(alloc, behind(&frame, 5)).expect(&rt, "a result");
     is_response_of_one(&rt, &response, "1", EXTENSION_TYPE, "n1");
     for resource in &response.resources {
-        is_filter(&rt, alloc, resource)?;
+        is_filter(&rt, alloc, resource);
     }
-    Ok(())
 }
 
 const WRAPPER_TYPE: &str = "type.googleapis.com/envoy.service.discovery.v3.Resource";
@@ -45,62 +42,58 @@ fn is_readable(rt: &impl Abort, alloc: Global, resource: &Any<'_>, type_url: &st
 }
 
 #[test]
-fn a_resource_in_a_wrapper(rt: HostRuntime) -> Result<(), Fail> {
+fn a_resource_in_a_wrapper(rt: HostRuntime) {
     let alloc = rt.alloc();
-    let frame = joined(alloc, WITH_TTL)?;
-    let response = read_response(alloc, behind(&frame, 5))?;
+    let frame = joined(&rt, alloc, WITH_TTL);
+    let response = read_response(alloc, behind(&frame, 5)).expect(&rt, "a result");
     is_response_of_one(&rt, &response, "2", EXTENSION_TYPE, "n2");
     for resource in &response.resources {
         is_readable(&rt, alloc, resource, WRAPPER_TYPE);
     }
-    Ok(())
 }
 
 #[test]
-fn a_resource_of_another_type(rt: HostRuntime) -> Result<(), Fail> {
+fn a_resource_of_another_type(rt: HostRuntime) {
     let alloc = rt.alloc();
-    let frame = joined(alloc, CLUSTERS)?;
-    let response = read_response(alloc, behind(&frame, 5))?;
+    let frame = joined(&rt, alloc, CLUSTERS);
+    let response = read_response(alloc, behind(&frame, 5)).expect(&rt, "a result");
     is_response_of_one(&rt, &response, "2", CLUSTER_TYPE, "n2");
     for resource in &response.resources {
         is_readable(&rt, alloc, resource, CLUSTER_TYPE);
     }
-    Ok(())
 }
 
 #[test]
-fn a_first_request(rt: HostRuntime) -> Result<(), Fail> {
+fn a_first_request(rt: HostRuntime) {
     let alloc = rt.alloc();
-    let frame = joined(alloc, FIRST)?;
-    let request = read_request(alloc, behind(&frame, 5))?;
+    let frame = joined(&rt, alloc, FIRST);
+    let request = read_request(alloc, behind(&frame, 5)).expect(&rt, "a result");
     is_text(&rt, request.version_info, "");
     is_node(&rt, request.node, Some(NODE));
     are_names(&rt, request.resource_names.as_slice(), &["f"]);
     is_text(&rt, request.type_url, EXTENSION_TYPE);
     is_text(&rt, request.response_nonce, "");
     is_status(&rt, request.error_detail, None);
-    Ok(())
 }
 
 #[test]
-fn a_refusal(rt: HostRuntime) -> Result<(), Fail> {
+fn a_refusal(rt: HostRuntime) {
     let alloc = rt.alloc();
-    let frame = joined(alloc, REFUSAL)?;
-    let request = read_request(alloc, behind(&frame, 5))?;
+    let frame = joined(&rt, alloc, REFUSAL);
+    let request = read_request(alloc, behind(&frame, 5)).expect(&rt, "a result");
     let error = Status {
         code: 13,
         message: "no",
     };
     is_status(&rt, request.error_detail, Some(error));
     is_text(&rt, request.response_nonce, "1");
-    Ok(())
 }
 
 #[test]
-fn a_request_of_another_type(rt: HostRuntime) -> Result<(), Fail> {
+fn a_request_of_another_type(rt: HostRuntime) {
     let alloc = rt.alloc();
-    let frame = joined(alloc, OTHER_TYPE)?;
-    let request = read_request(alloc, behind(&frame, 5))?;
+    let frame = joined(&rt, alloc, OTHER_TYPE);
+    let request = read_request(alloc, behind(&frame, 5)).expect(&rt, "a result");
     is_text(&rt, request.version_info, "9");
     is_node(&rt, request.node, Some(NODE));
     let names = [
@@ -110,5 +103,4 @@ fn a_request_of_another_type(rt: HostRuntime) -> Result<(), Fail> {
     are_names(&rt, request.resource_names.as_slice(), &names);
     is_text(&rt, request.type_url, CLUSTER_TYPE);
     is_text(&rt, request.response_nonce, "1");
-    Ok(())
 }

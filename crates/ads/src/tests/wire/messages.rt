@@ -1,14 +1,13 @@
 //! Discovery messages at given bytes.
 use super::compare::{are_names, is_count, is_node, is_response_of_one, is_status, is_text};
-use super::vectors::framed_bytes;
+use crate::tests::making::message_frame;
 use crate::tests::vectors::{
     EXTENSION_TYPE, FILTER_TYPE, FIRST_ACK, FIRST_REQUEST, FIRST_RESPONSE, HALF_BAD_NACK,
     RESUMED_REQUEST, TRUE_AND_TRUE, behind, joined,
 };
 use proto_wire::Refusal;
-use std::alloc::{AllocError, Global};
+use std::alloc::Global;
 use std::process::Abort;
-use std::test::Fail;
 use xds_wire::{
     Any, DiscoveryRequest, DiscoveryResponse, Node, Status, TypedExtensionConfig, read_extension,
     read_request, read_response, write_extension, write_request, write_response,
@@ -20,45 +19,42 @@ const NODE: Node<'static> = Node {
 };
 
 #[test]
-fn a_first_request(rt: HostRuntime) -> Result<(), Fail> {
+fn a_first_request(rt: HostRuntime) {
     let alloc = rt.alloc();
-    let frame = joined(alloc, FIRST_REQUEST)?;
-    let request = read_request(alloc, behind(&frame, 5))?;
+    let frame = joined(&rt, alloc, FIRST_REQUEST);
+    let request = read_request(alloc, behind(&frame, 5)).expect(&rt, "a result");
     is_text(&rt, request.version_info, "");
     is_node(&rt, request.node, Some(NODE));
     are_names(&rt, &request.resource_names, &["f"]);
     is_text(&rt, request.type_url, EXTENSION_TYPE);
     is_text(&rt, request.response_nonce, "");
     is_status(&rt, request.error_detail, None);
-    Ok(())
 }
 
 #[test]
-fn a_resumed_request(rt: HostRuntime) -> Result<(), Fail> {
+fn a_resumed_request(rt: HostRuntime) {
     let alloc = rt.alloc();
-    let frame = joined(alloc, RESUMED_REQUEST)?;
-    let request = read_request(alloc, behind(&frame, 5))?;
+    let frame = joined(&rt, alloc, RESUMED_REQUEST);
+    let request = read_request(alloc, behind(&frame, 5)).expect(&rt, "a result");
     is_text(&rt, request.version_info, "1");
     is_node(&rt, request.node, Some(NODE));
-    Ok(())
 }
 
 #[test]
-fn an_acknowledgement(rt: HostRuntime) -> Result<(), Fail> {
+fn an_acknowledgement(rt: HostRuntime) {
     let alloc = rt.alloc();
-    let frame = joined(alloc, FIRST_ACK)?;
-    let request = read_request(alloc, behind(&frame, 5))?;
+    let frame = joined(&rt, alloc, FIRST_ACK);
+    let request = read_request(alloc, behind(&frame, 5)).expect(&rt, "a result");
     is_text(&rt, request.version_info, "1");
     is_node(&rt, request.node, None);
     is_text(&rt, request.response_nonce, "n1");
-    Ok(())
 }
 
 #[test]
-fn a_refusal(rt: HostRuntime) -> Result<(), Fail> {
+fn a_refusal(rt: HostRuntime) {
     let alloc = rt.alloc();
-    let frame = joined(alloc, HALF_BAD_NACK)?;
-    let request = read_request(alloc, behind(&frame, 5))?;
+    let frame = joined(&rt, alloc, HALF_BAD_NACK);
+    let request = read_request(alloc, behind(&frame, 5)).expect(&rt, "a result");
     are_names(&rt, &request.resource_names, &["f", "g"]);
     is_text(&rt, request.response_nonce, "n2");
     let status = Status {
@@ -66,47 +62,43 @@ fn a_refusal(rt: HostRuntime) -> Result<(), Fail> {
         message: "policy refused: 3",
     };
     is_status(&rt, request.error_detail, Some(status));
-    Ok(())
 }
 
 /// A resource of the filter `f`, which allows all.
-fn is_filter(rt: &impl Abort, alloc: Global, resource: &Any<'_>) -> Result<(), Fail> {
+fn is_filter(rt: &impl Abort, alloc: Global, resource: &Any<'_>) {
     is_text(rt, resource.type_url, EXTENSION_TYPE);
-    let extension = read_extension(alloc, resource.value)?;
+    let extension = read_extension(alloc, resource.value).expect(rt, "a result");
     is_text(rt, extension.name, "f");
     let config = extension.typed_config;
     assert!(rt; matches!(&config, Some(any) if any.type_url == FILTER_TYPE));
     assert!(rt; matches!(&config, Some(any) if any.value == TRUE_AND_TRUE));
-    Ok(())
 }
 
 #[test]
-fn a_response(rt: HostRuntime) -> Result<(), Fail> {
+fn a_response(rt: HostRuntime) {
     let alloc = rt.alloc();
-    let frame = joined(alloc, FIRST_RESPONSE)?;
-    let response = read_response(alloc, behind(&frame, 5))?;
+    let frame = joined(&rt, alloc, FIRST_RESPONSE);
+    let response = read_response(alloc, behind(&frame, 5)).expect(&rt, "a result");
     is_response_of_one(&rt, &response, "1", EXTENSION_TYPE, "n1");
     for resource in &response.resources {
-        is_filter(&rt, alloc, resource)?;
+        is_filter(&rt, alloc, resource);
     }
-    Ok(())
 }
 
 #[test]
-fn an_empty_response(rt: HostRuntime) -> Result<(), Fail> {
-    let empty = read_response(rt.alloc(), b"")?;
+fn an_empty_response(rt: HostRuntime) {
+    let empty = read_response(rt.alloc(), b"").expect(&rt, "a result");
     assert!(rt; empty.resources.is_empty());
     is_text(&rt, empty.nonce, "");
-    Ok(())
 }
 
 /// Unknown fields, and known numbers with another wire type, are skipped; of a scalar the last counts, and a replaced text
 /// may be anything; messages merge.
 #[test]
-fn fields_of_requests(rt: HostRuntime) -> Result<(), Fail> {
+fn fields_of_requests(rt: HostRuntime) {
     let bytes =
         b"\x0a\x01\xff\x0a\x01a\x08\x05\x12\x03\x0a\x01p\x12\x03\x12\x01q\x12\x00\x7a\x02hi\x1a\x00\x1a\x01z\x35\x01\x02\x03\x04";
-    let request = read_request(rt.alloc(), bytes)?;
+    let request = read_request(rt.alloc(), bytes).expect(&rt, "a result");
     is_text(&rt, request.version_info, "a");
     let node = Node {
         id: "p",
@@ -115,20 +107,18 @@ fn fields_of_requests(rt: HostRuntime) -> Result<(), Fail> {
     is_node(&rt, request.node, Some(node));
     are_names(&rt, &request.resource_names, &["", "z"]);
     is_status(&rt, request.error_detail, None);
-    Ok(())
 }
 
 /// A request's error has this code and no message.
-fn has_code(rt: &impl Abort, alloc: Global, request: &[u8], code: i32) -> Result<(), Fail> {
-    let request = read_request(alloc, request)?;
+fn has_code(rt: &impl Abort, alloc: Global, request: &[u8], code: i32) {
+    let request = read_request(alloc, request).expect(rt, "a result");
     let status = Status { code, message: "" };
     is_status(rt, request.error_detail, Some(status));
-    Ok(())
 }
 
 #[test]
-fn codes_of_errors(rt: HostRuntime) -> Result<(), Fail> {
-    has_code(&rt, rt.alloc(), b"\x32\x00", 0)?;
+fn codes_of_errors(rt: HostRuntime) {
+    has_code(&rt, rt.alloc(), b"\x32\x00", 0);
     let minus_one = b"\x32\x0b\x08\xff\xff\xff\xff\xff\xff\xff\xff\xff\x01\x32\x00";
     has_code(&rt, rt.alloc(), minus_one, -1)
 }
@@ -137,19 +127,17 @@ fn codes_of_errors(rt: HostRuntime) -> Result<(), Fail> {
 const TWICE: &[u8] = b"\x12\x03\x0a\x01a\x12\x03\x12\x01\xff";
 
 #[test]
-fn resources_stand_apart(rt: HostRuntime) -> Result<(), Fail> {
-    let two = read_response(rt.alloc(), TWICE)?;
+fn resources_stand_apart(rt: HostRuntime) {
+    let two = read_response(rt.alloc(), TWICE).expect(&rt, "a result");
     is_count(&rt, two.resources.len(), 2);
-    Ok(())
 }
 
 #[test]
-fn configurations_merge(rt: HostRuntime) -> Result<(), Fail> {
-    let merged = read_extension(rt.alloc(), TWICE)?;
+fn configurations_merge(rt: HostRuntime) {
+    let merged = read_extension(rt.alloc(), TWICE).expect(&rt, "a result");
     assert!(rt;
         matches!(merged.typed_config, Some(any) if any.type_url == "a" && any.value == b"\xff".as_slice())
     );
-    Ok(())
 }
 
 /// Bytes of a request, of a response and of an extension, each with the refusal of it.
@@ -198,52 +186,46 @@ fn refusals(rt: HostRuntime) {
 }
 
 /// A request that carries no node, no version, no nonce and no error.
-fn asks<'a>(alloc: Global, names: &[&'a str]) -> Result<DiscoveryRequest<'a>, AllocError> {
-    Ok(DiscoveryRequest {
+fn asks<'a>(rt: &impl Abort, alloc: Global, names: &[&'a str]) -> DiscoveryRequest<'a> {
+    DiscoveryRequest {
         version_info: "",
         node: None,
-        resource_names: Vec::from_slice(alloc, names)?,
+        resource_names: Vec::from_slice(alloc, names).expect(rt, "memory"),
         type_url: EXTENSION_TYPE,
         response_nonce: "",
         error_detail: None,
-    })
+    }
 }
 
 /// The request in a frame.
-fn framed(alloc: Global, request: &DiscoveryRequest<'_>) -> Result<Vec<u8>, Fail> {
+fn framed(rt: &impl Abort, alloc: Global, request: &DiscoveryRequest<'_>) -> Vec<u8> {
     let mut message = Vec::new(alloc);
-    write_request(request, &mut message)?;
-    framed_bytes(alloc, &message)
+    write_request(request, &mut message).expect(rt, "memory");
+    message_frame(rt, alloc, &message)
 }
 
 /// The request in a frame is these bytes.
-fn is_framed(
-    rt: &impl Abort,
-    alloc: Global,
-    request: &DiscoveryRequest<'_>,
-    pieces: &[&[u8]],
-) -> Result<(), Fail> {
-    let frame = framed(alloc, request)?;
-    let wanted = joined(alloc, pieces)?;
+fn is_framed(rt: &impl Abort, alloc: Global, request: &DiscoveryRequest<'_>, pieces: &[&[u8]]) {
+    let frame = framed(rt, alloc, request);
+    let wanted = joined(rt, alloc, pieces);
     assert!(rt; frame == wanted);
-    Ok(())
 }
 
 #[test]
-fn written_requests(rt: HostRuntime) -> Result<(), Fail> {
-    let mut request = asks(rt.alloc(), &["f"])?;
+fn written_requests(rt: HostRuntime) {
+    let mut request = asks(&rt, rt.alloc(), &["f"]);
     request.node = Some(NODE);
-    is_framed(&rt, rt.alloc(), &request, FIRST_REQUEST)?;
+    is_framed(&rt, rt.alloc(), &request, FIRST_REQUEST);
     request.version_info = "1";
-    is_framed(&rt, rt.alloc(), &request, RESUMED_REQUEST)?;
+    is_framed(&rt, rt.alloc(), &request, RESUMED_REQUEST);
     request.node = None;
     request.response_nonce = "n1";
     is_framed(&rt, rt.alloc(), &request, FIRST_ACK)
 }
 
 #[test]
-fn a_written_refusal(rt: HostRuntime) -> Result<(), Fail> {
-    let mut refusal = asks(rt.alloc(), &["f", "g"])?;
+fn a_written_refusal(rt: HostRuntime) {
+    let mut refusal = asks(&rt, rt.alloc(), &["f", "g"]);
     refusal.version_info = "1";
     refusal.response_nonce = "n2";
     refusal.error_detail = Some(Status {
@@ -254,7 +236,7 @@ fn a_written_refusal(rt: HostRuntime) -> Result<(), Fail> {
 }
 
 #[test]
-fn a_written_response(rt: HostRuntime) -> Result<(), Fail> {
+fn a_written_response(rt: HostRuntime) {
     let alloc = rt.alloc();
     let extension = TypedExtensionConfig {
         name: "f",
@@ -264,79 +246,76 @@ fn a_written_response(rt: HostRuntime) -> Result<(), Fail> {
         }),
     };
     let mut value = Vec::new(alloc);
-    write_extension(&extension, &mut value)?;
+    write_extension(&extension, &mut value).expect(&rt, "memory");
     let resources = [Any {
         type_url: EXTENSION_TYPE,
         value: &value,
     }];
     let response = DiscoveryResponse {
         version_info: "1",
-        resources: Vec::from_slice(alloc, &resources)?,
+        resources: Vec::from_slice(alloc, &resources).expect(&rt, "memory"),
         type_url: EXTENSION_TYPE,
         nonce: "n1",
     };
-    let mut message = Vec::from_slice(alloc, b"before")?;
-    write_response(&response, &mut message)?;
+    let mut message = Vec::from_slice(alloc, b"before").expect(&rt, "memory");
+    write_response(&response, &mut message).expect(&rt, "memory");
     assert!(rt; message.starts_with(b"before"));
-    let frame = framed_bytes(alloc, behind(&message, 6))?;
-    assert!(rt; frame == joined(alloc, FIRST_RESPONSE)?);
-    Ok(())
+    let frame = message_frame(&rt, alloc, behind(&message, 6));
+    assert!(rt; frame == joined(&rt, alloc, FIRST_RESPONSE));
 }
 
 /// A request for two names, of which one is empty, with an empty node and this error.
 fn almost_empty(
+    rt: &impl Abort,
     alloc: Global,
     error: Status<'static>,
-) -> Result<DiscoveryRequest<'static>, AllocError> {
-    let mut request = asks(alloc, &["", "g"])?;
+) -> DiscoveryRequest<'static> {
+    let mut request = asks(rt, alloc, &["", "g"]);
     request.type_url = "";
     request.node = Some(Node {
         id: "",
         cluster: "",
     });
     request.error_detail = Some(error);
-    Ok(request)
+    request
 }
 
 /// A node and an error that are there are written even if all in them is empty; repeated strings are, too.
 #[test]
-fn written_defaults(rt: HostRuntime) -> Result<(), Fail> {
+fn written_defaults(rt: HostRuntime) {
     let alloc = rt.alloc();
     let error = Status {
         code: 0,
         message: "",
     };
-    let request = almost_empty(alloc, error)?;
+    let request = almost_empty(&rt, alloc, error);
     let mut bytes = Vec::new(alloc);
-    write_request(&request, &mut bytes)?;
+    write_request(&request, &mut bytes).expect(&rt, "memory");
     assert!(rt; bytes.as_slice() == b"\x12\x00\x1a\x00\x1a\x01g\x32\x00".as_slice());
-    Ok(())
 }
 
 /// A negative code takes ten bytes.
 #[test]
-fn a_written_negative_code(rt: HostRuntime) -> Result<(), Fail> {
+fn a_written_negative_code(rt: HostRuntime) {
     let alloc = rt.alloc();
     let error = Status {
         code: -1,
         message: "m",
     };
-    let request = almost_empty(alloc, error)?;
+    let request = almost_empty(&rt, alloc, error);
     let mut bytes = Vec::new(alloc);
-    write_request(&request, &mut bytes)?;
+    write_request(&request, &mut bytes).expect(&rt, "memory");
     let end = b"\x32\x0e\x08\xff\xff\xff\xff\xff\xff\xff\xff\xff\x01\x12\x01m";
     assert!(rt; bytes.ends_with(end));
-    Ok(())
 }
 
 #[test]
-fn a_written_extension_of_nothing(rt: HostRuntime) -> Result<(), Fail> {
+fn a_written_extension_of_nothing(rt: HostRuntime) {
     let nothing = TypedExtensionConfig {
         name: "",
         typed_config: None,
     };
     let mut bytes = Vec::new(rt.alloc());
-    write_extension(&nothing, &mut bytes)?;
+    write_extension(&nothing, &mut bytes).expect(&rt, "memory");
     assert!(rt; bytes.is_empty());
-    Ok(())
 }
