@@ -9,10 +9,9 @@ ghost use Rattle.cel_ops.specs.Parts.{joined};
 
 use cel_ops::*;
 use cel_value::{Answer, CelError, Key, Map, Value, insert_entry, spend};
-use std::alloc::{AllocError, Global};
+use std::alloc::Global;
 use std::process::Abort;
 use std::rc::{Rc, RcSlice, RcStr};
-use std::test::Fail;
 
 const LEAST: i64 = i64::MIN;
 
@@ -201,8 +200,8 @@ fn int(value: i64) -> Answer {
     Ok(Value::Int(value))
 }
 
-fn text(alloc: Global, value: &str) -> Result<Answer, AllocError> {
-    Ok(Ok(Value::Text(RcStr::from_str(alloc, value)?)))
+fn text(rt: &impl Abort, alloc: Global, value: &str) -> Answer {
+    Ok(Value::Text(RcStr::from_str(alloc, value).expect(rt, "memory")))
 }
 
 fn answer_of_ints(op: ArithmeticOp, a: i64, b: i64, wanted: Result<i64, CelError>) -> bool {
@@ -333,27 +332,19 @@ fn negations(rt: HostRuntime) {
     is_not_false(&rt, Err(FIRST), true);
 }
 
-fn row_of_texts(
-    rt: &impl Abort,
-    alloc: Global,
-    left: &str,
-    right: &str,
-    wants: &[bool],
-) -> Result<(), AllocError> {
-    let a: Answer = Ok(Value::Text(RcStr::from_str(alloc, left)?));
-    let b: Answer = Ok(Value::Text(RcStr::from_str(alloc, right)?));
+fn row_of_texts(rt: &impl Abort, alloc: Global, left: &str, right: &str, wants: &[bool]) {
+    let a: Answer = Ok(Value::Text(RcStr::from_str(alloc, left).expect(rt, "memory")));
+    let b: Answer = Ok(Value::Text(RcStr::from_str(alloc, right).expect(rt, "memory")));
     for (op, want) in COMPARISONS.iter().zip(wants) {
         is_answer(rt, compare(*op, &a, &b), truth(*want));
     }
-    Ok(())
 }
 
 #[test]
-fn comparisons_of_texts(rt: HostRuntime) -> Result<(), Fail> {
+fn comparisons_of_texts(rt: HostRuntime) {
     for (left, right, wants) in &TEXTS {
-        row_of_texts(&rt, rt.alloc(), left, right, wants)?;
+        row_of_texts(&rt, rt.alloc(), left, right, wants);
     }
-    Ok(())
 }
 
 fn compares_ints(rt: &impl Abort, op: CompareOp, a: i64, b: i64, want: bool) {
@@ -380,18 +371,10 @@ fn compares_bools(rt: &impl Abort, op: CompareOp, a: bool, b: bool, want: bool) 
     );
 }
 
-fn compares_bytes(
-    rt: &impl Abort,
-    alloc: Global,
-    op: CompareOp,
-    a: &[u8],
-    b: &[u8],
-    want: bool,
-) -> Result<(), AllocError> {
-    let left: Answer = Ok(Value::Bytes(RcSlice::from_slice(alloc, a)?));
-    let right: Answer = Ok(Value::Bytes(RcSlice::from_slice(alloc, b)?));
+fn compares_bytes(rt: &impl Abort, alloc: Global, op: CompareOp, a: &[u8], b: &[u8], want: bool) {
+    let left: Answer = Ok(Value::Bytes(RcSlice::from_slice(alloc, a).expect(rt, "memory")));
+    let right: Answer = Ok(Value::Bytes(RcSlice::from_slice(alloc, b).expect(rt, "memory")));
     is_answer(rt, compare(op, &left, &right), truth(want));
-    Ok(())
 }
 
 #[test]
@@ -405,11 +388,10 @@ fn comparisons_of_numbers_and_bools(rt: HostRuntime) {
 }
 
 #[test]
-fn comparisons_of_bytes(rt: HostRuntime) -> Result<(), Fail> {
+fn comparisons_of_bytes(rt: HostRuntime) {
     for (op, below) in COMPARISONS.iter().zip(&BELOW) {
-        compares_bytes(&rt, rt.alloc(), *op, &[1, 255], &[2], *below)?;
+        compares_bytes(&rt, rt.alloc(), *op, &[1, 255], &[2], *below);
     }
-    Ok(())
 }
 
 fn compares_errors(rt: &impl Abort, op: CompareOp) {
@@ -430,95 +412,80 @@ fn comparisons_of_errors(rt: HostRuntime) {
     }
 }
 
-fn row_of_parts(
-    rt: &impl Abort,
-    alloc: Global,
-    whole: &str,
-    part: &str,
-    wants: &[bool],
-) -> Result<(), AllocError> {
+fn row_of_parts(rt: &impl Abort, alloc: Global, whole: &str, part: &str, wants: &[bool]) {
     let tests = [TextTest::Contains, TextTest::StartsWith, TextTest::EndsWith];
-    let a: Answer = Ok(Value::Text(RcStr::from_str(alloc, whole)?));
-    let b: Answer = Ok(Value::Text(RcStr::from_str(alloc, part)?));
+    let a: Answer = Ok(Value::Text(RcStr::from_str(alloc, whole).expect(rt, "memory")));
+    let b: Answer = Ok(Value::Text(RcStr::from_str(alloc, part).expect(rt, "memory")));
     for (test, want) in tests.iter().zip(wants) {
         is_answer(rt, test_text(*test, &a, &b), truth(*want));
     }
-    Ok(())
 }
 
 #[test]
-fn parts_of_texts(rt: HostRuntime) -> Result<(), Fail> {
+fn parts_of_texts(rt: HostRuntime) {
     for (whole, part, wants) in &PARTS {
-        row_of_parts(&rt, rt.alloc(), whole, part, wants)?;
+        row_of_parts(&rt, rt.alloc(), whole, part, wants);
     }
-    Ok(())
 }
 
-fn row_of_sizes(
-    rt: &impl Abort,
-    alloc: Global,
-    value: &str,
-    points: i64,
-    charge: u64,
-    less: u64,
-) -> Result<(), AllocError> {
-    let operand: Answer = Ok(Value::Text(RcStr::from_str(alloc, value)?));
+fn row_of_sizes(rt: &impl Abort, alloc: Global, value: &str, points: i64, charge: u64, less: u64) {
+    let operand: Answer = Ok(Value::Text(RcStr::from_str(alloc, value).expect(rt, "memory")));
     is_answer(rt, size(&operand), int(points));
     is_left(rt, spend_size(&operand, charge), Some(0));
     is_left(rt, spend_size(&operand, less), None);
-    Ok(())
 }
 
 #[test]
-fn sizes_of_texts(rt: HostRuntime) -> Result<(), Fail> {
+fn sizes_of_texts(rt: HostRuntime) {
     for (value, points, charge) in &SIZES {
-        row_of_sizes(&rt, rt.alloc(), value, *points, *charge, *charge - 1)?;
+        row_of_sizes(&rt, rt.alloc(), value, *points, *charge, *charge - 1);
     }
-    Ok(())
 }
 
 #[test]
-fn list_literals(rt: HostRuntime) -> Result<(), Fail> {
+fn list_literals(rt: HostRuntime) {
     let alloc = rt.alloc();
-    let operands = vec![in alloc; int(10), int(20), int(30)]?;
+    let operands = vec![in alloc; int(10), int(20), int(30)].expect(&rt, "memory");
     is_left(&rt, spend_list_literal(&operands, 4), Some(0));
     is_left(&rt, spend_list_literal(&operands, 3), None);
-    let made = make_list(alloc, operands)?;
-    is_answer(&rt, made, Ok(Value::List(three_items(alloc)?)));
-    Ok(())
+    let made = make_list(alloc, operands).expect(&rt, "memory");
+    is_answer(&rt, made, Ok(Value::List(three_items(&rt, alloc))));
 }
 
 #[test]
-fn list_literals_with_errors(rt: HostRuntime) -> Result<(), Fail> {
+fn list_literals_with_errors(rt: HostRuntime) {
     let alloc = rt.alloc();
-    let wrong = vec![in alloc; int(1), Err(CelError::Index), Err(CelError::NoKey)]?;
+    let wrong = vec![in alloc; int(1), Err(CelError::Index), Err(CelError::NoKey)].expect(
+        &rt, "memory",
+    );
     is_left(&rt, spend_list_literal(&wrong, 1), Some(0));
-    is_answer(&rt, make_list(alloc, wrong)?, Err(CelError::Index));
-    Ok(())
+    is_answer(
+        &rt,
+        make_list(alloc, wrong).expect(&rt, "memory"),
+        Err(CelError::Index),
+    );
 }
 
 /// The items 10, 20 and 30.
-fn three_items(alloc: Global) -> Result<Rc<Vec<Value>>, AllocError> {
-    let items = vec![in alloc; Value::Int(10), Value::Int(20), Value::Int(30)]?;
-    Ok(Rc::new(alloc, items)?)
+fn three_items(rt: &impl Abort, alloc: Global) -> Rc<Vec<Value>> {
+    let items = vec![in alloc; Value::Int(10), Value::Int(20), Value::Int(30)].expect(rt, "memory");
+    Rc::new(alloc, items).expect(rt, "memory")
 }
 
-fn is_item(rt: &impl Abort, list: &Answer, place: Answer, wanted: Answer) -> Result<(), AllocError>
+fn is_item(rt: &impl Abort, list: &Answer, place: Answer, wanted: Answer)
     requires kinds { list_index (answer_view list.now) (answer_view place) ≢ None }
 {
-    is_answer(rt, index_list(list, &place)?, wanted);
-    Ok(())
+    is_answer(rt, index_list(list, &place).expect(rt, "memory"), wanted);
 }
 
 #[test]
-fn items_of_lists(rt: HostRuntime) -> Result<(), Fail> {
-    let list: Answer = Ok(Value::List(three_items(rt.alloc())?));
-    is_item(&rt, &list, Ok(Value::Int(0)), int(10))?;
-    is_item(&rt, &list, Ok(Value::Int(2)), int(30))?;
-    is_item(&rt, &list, Ok(Value::Int(3)), Err(CelError::Index))?;
-    is_item(&rt, &list, Ok(Value::Int(-1)), Err(CelError::Index))?;
-    is_item(&rt, &list, Ok(Value::Int(LEAST)), Err(CelError::Index))?;
-    Ok(())
+fn items_of_lists(rt: HostRuntime) {
+    let list: Answer = Ok(Value::List(three_items(&rt, rt.alloc())));
+    is_item(&rt, &list, Ok(Value::Int(0)), int(10));
+    is_item(&rt, &list, Ok(Value::Int(2)), int(30));
+    is_item(&rt, &list, Ok(Value::Int(3)), Err(CelError::Index));
+    is_item(&rt, &list, Ok(Value::Int(-1)), Err(CelError::Index));
+    is_item(&rt, &list, Ok(Value::Int(LEAST)), Err(CelError::Index));
 }
 
 fn is_among(rt: &impl Abort, item: Answer, list: &Answer, wanted: bool)
@@ -532,8 +499,8 @@ fn is_left_of_search(rt: &impl Abort, item: Answer, list: &Answer, fuel: u64, wa
 }
 
 #[test]
-fn lists(rt: HostRuntime) -> Result<(), Fail> {
-    let list: Answer = Ok(Value::List(three_items(rt.alloc())?));
+fn lists(rt: HostRuntime) {
+    let list: Answer = Ok(Value::List(three_items(&rt, rt.alloc())));
     is_among(&rt, Ok(Value::Int(20)), &list, true);
     is_among(&rt, Ok(Value::Int(21)), &list, false);
     is_answer(&rt, size(&list), int(3));
@@ -542,7 +509,6 @@ fn lists(rt: HostRuntime) -> Result<(), Fail> {
     is_left_of_search(&rt, int(20), &list, 8, Some(0));
     is_left_of_search(&rt, int(20), &list, 7, None);
     is_left(&rt, spend_loop(&list, 4), Some(0));
-    Ok(())
 }
 
 #[test]
@@ -550,124 +516,120 @@ fn loops_over_errors(rt: HostRuntime) {
     is_left(&rt, spend_loop(&Err(CelError::NoKey), 1), Some(0));
 }
 
-fn is_joined(
-    rt: &impl Abort,
-    alloc: Global,
-    left: &Answer,
-    right: &Answer,
-    wanted: Answer,
-) -> Result<(), AllocError>
+fn is_joined(rt: &impl Abort, alloc: Global, left: &Answer, right: &Answer, wanted: Answer)
     requires kinds { joined (answer_view left.now) (answer_view right.now) ≢ None }
 {
-    is_answer(rt, join(alloc, left, right)?, wanted);
-    Ok(())
+    is_answer(rt, join(alloc, left, right).expect(rt, "memory"), wanted);
 }
 
 #[test]
-fn joined_texts(rt: HostRuntime) -> Result<(), Fail> {
+fn joined_texts(rt: HostRuntime) {
     let alloc = rt.alloc();
-    let first: Answer = Ok(Value::Text(RcStr::from_str(alloc, "a\u{20ac}")?));
-    let other: Answer = Ok(Value::Text(RcStr::from_str(alloc, "b")?));
-    is_joined(&rt, alloc, &first, &other, text(alloc, "a\u{20ac}b")?)?;
+    let first: Answer = Ok(Value::Text(RcStr::from_str(alloc, "a\u{20ac}").expect(&rt, "memory")));
+    let other: Answer = Ok(Value::Text(RcStr::from_str(alloc, "b").expect(&rt, "memory")));
+    is_joined(&rt, alloc, &first, &other, text(&rt, alloc, "a\u{20ac}b"));
     is_left(&rt, spend_join(&first, &other, 6), Some(0));
     is_left(&rt, spend_join(&first, &other, 5), None);
     is_left(&rt, spend_comparison(&first, &other, 8), Some(0));
     is_left(&rt, spend_comparison(&first, &other, 7), None);
-    Ok(())
 }
 
-fn bytes(alloc: Global, value: &[u8]) -> Result<Answer, AllocError> {
-    Ok(Ok(Value::Bytes(RcSlice::from_slice(alloc, value)?)))
+fn bytes(rt: &impl Abort, alloc: Global, value: &[u8]) -> Answer {
+    Ok(Value::Bytes(RcSlice::from_slice(alloc, value).expect(rt, "memory")))
 }
 
 #[test]
-fn joined_bytes(rt: HostRuntime) -> Result<(), Fail> {
+fn joined_bytes(rt: HostRuntime) {
     let alloc = rt.alloc();
-    let first: Answer = Ok(Value::Bytes(RcSlice::from_slice(alloc, &[1u8, 2])?));
-    let other: Answer = Ok(Value::Bytes(RcSlice::from_slice(alloc, &[3u8])?));
-    is_joined(&rt, alloc, &first, &other, bytes(alloc, &[1, 2, 3])?)?;
-    Ok(())
+    let first: Answer = Ok(Value::Bytes(RcSlice::from_slice(alloc, &[1u8, 2]).expect(
+        &rt, "memory",
+    )));
+    let other: Answer = Ok(Value::Bytes(RcSlice::from_slice(alloc, &[3u8]).expect(&rt, "memory")));
+    is_joined(&rt, alloc, &first, &other, bytes(&rt, alloc, &[1, 2, 3]));
 }
 
 /// The list of these two ints.
-fn pair_of(alloc: Global, first: i64, second: i64) -> Result<Answer, AllocError> {
-    let items = vec![in alloc; Value::Int(first), Value::Int(second)]?;
-    Ok(Ok(Value::List(Rc::new(alloc, items)?)))
+fn pair_of(rt: &impl Abort, alloc: Global, first: i64, second: i64) -> Answer {
+    let items = vec![in alloc; Value::Int(first), Value::Int(second)].expect(rt, "memory");
+    Ok(Value::List(Rc::new(alloc, items).expect(rt, "memory")))
 }
 
 /// The items of a list of this int alone.
-fn one_item(alloc: Global, item: i64) -> Result<Rc<Vec<Value>>, AllocError> {
-    Ok(Rc::new(alloc, vec![in alloc; Value::Int(item)]?)?)
+fn one_item(rt: &impl Abort, alloc: Global, item: i64) -> Rc<Vec<Value>> {
+    Rc::new(alloc, vec![in alloc; Value::Int(item)].expect(rt, "memory")).expect(rt, "memory")
 }
 
 #[test]
-fn joined_lists(rt: HostRuntime) -> Result<(), Fail> {
+fn joined_lists(rt: HostRuntime) {
     let alloc = rt.alloc();
-    let one: Answer = Ok(Value::List(one_item(alloc, 1)?));
-    let two: Answer = Ok(Value::List(one_item(alloc, 2)?));
-    is_joined(&rt, alloc, &one, &two, pair_of(alloc, 1, 2)?)?;
+    let one: Answer = Ok(Value::List(one_item(&rt, alloc, 1)));
+    let two: Answer = Ok(Value::List(one_item(&rt, alloc, 2)));
+    is_joined(&rt, alloc, &one, &two, pair_of(&rt, alloc, 1, 2));
     is_joined(
         &rt,
         alloc,
         &Err(CelError::NoKey),
         &two,
         Err(CelError::NoKey),
-    )?;
-    Ok(())
+    );
 }
 
 /// The map in which -1 is false, and 3 is true.
-fn two_entries(alloc: Global) -> Result<Map, AllocError> {
+fn two_entries(rt: &impl Abort, alloc: Global) -> Map {
     let entries = vec![in alloc;
         (Key::Int(-1), Value::Bool(false)),
         (Key::Int(3), Value::Bool(true)),
-    ]?;
-    Ok(Map::Entries(Rc::new(alloc, entries)?))
+    ]
+    .expect(rt, "memory");
+    Map::Entries(Rc::new(alloc, entries).expect(rt, "memory"))
 }
 
 #[test]
-fn map_literals(rt: HostRuntime) -> Result<(), Fail> {
+fn map_literals(rt: HostRuntime) {
     let alloc = rt.alloc();
-    let mut operands = vec![in alloc; Ok(Value::Int(3)), Ok(Value::Bool(true))]?;
-    operands.push(Ok(Value::Int(-1)))?;
-    operands.push(Ok(Value::Bool(false)))?;
+    let mut operands = vec![in alloc; Ok(Value::Int(3)), Ok(Value::Bool(true))].expect(
+        &rt, "memory",
+    );
+    operands.push(Ok(Value::Int(-1))).expect(&rt, "memory");
+    operands.push(Ok(Value::Bool(false))).expect(&rt, "memory");
     is_left(&rt, spend_map_literal(&operands, 5), Some(0));
     is_left(&rt, spend_map_literal(&operands, 4), None);
-    let made = make_map(alloc, operands)?;
-    is_answer(&rt, made, Ok(Value::Map(two_entries(alloc)?)));
-    Ok(())
+    let made = make_map(alloc, operands).expect(&rt, "memory");
+    is_answer(&rt, made, Ok(Value::Map(two_entries(&rt, alloc))));
 }
 
 #[test]
-fn map_literals_with_a_key_twice(rt: HostRuntime) -> Result<(), Fail> {
+fn map_literals_with_a_key_twice(rt: HostRuntime) {
     let alloc = rt.alloc();
     let twice = vec![in alloc;
         Ok(Value::Int(3)),
         Ok(Value::Bool(true)),
         Ok(Value::Int(3)),
         Ok(Value::Bool(true)),
-    ]?;
-    is_answer(&rt, make_map(alloc, twice)?, Err(CelError::RepeatedKey));
-    Ok(())
+    ]
+    .expect(&rt, "memory");
+    is_answer(
+        &rt,
+        make_map(alloc, twice).expect(&rt, "memory"),
+        Err(CelError::RepeatedKey),
+    );
 }
 
-fn is_entry(rt: &impl Abort, map: &Answer, key: Answer, wanted: Answer) -> Result<(), AllocError>
+fn is_entry(rt: &impl Abort, map: &Answer, key: Answer, wanted: Answer)
     requires kinds { map_index (answer_view map.now) (answer_view key) ≢ None }
 {
-    is_answer(rt, index_map(map, &key)?, wanted);
-    Ok(())
+    is_answer(rt, index_map(map, &key).expect(rt, "memory"), wanted);
 }
 
 #[test]
-fn entries_of_maps(rt: HostRuntime) -> Result<(), Fail> {
-    let map = two_entries(rt.alloc())?;
+fn entries_of_maps(rt: HostRuntime) {
+    let map = two_entries(&rt, rt.alloc());
     assert!(rt; map.rises());
     let operand: Answer = Ok(Value::Map(map));
-    is_entry(&rt, &operand, Ok(Value::Int(3)), truth(true))?;
-    is_entry(&rt, &operand, Ok(Value::Int(-1)), truth(false))?;
-    is_entry(&rt, &operand, Ok(Value::Int(0)), Err(CelError::NoKey))?;
-    is_entry(&rt, &operand, Ok(Value::Uint(3)), Err(CelError::NoKey))?;
-    Ok(())
+    is_entry(&rt, &operand, Ok(Value::Int(3)), truth(true));
+    is_entry(&rt, &operand, Ok(Value::Int(-1)), truth(false));
+    is_entry(&rt, &operand, Ok(Value::Int(0)), Err(CelError::NoKey));
+    is_entry(&rt, &operand, Ok(Value::Uint(3)), Err(CelError::NoKey));
 }
 
 fn is_key(rt: &impl Abort, key: Answer, map: &Answer, wanted: bool)
@@ -685,8 +647,8 @@ fn is_left_of_key(rt: &impl Abort, key: Answer, map: &Answer, fuel: u64, wanted:
 }
 
 #[test]
-fn maps(rt: HostRuntime) -> Result<(), Fail> {
-    let map = two_entries(rt.alloc())?;
+fn maps(rt: HostRuntime) {
+    let map = two_entries(&rt, rt.alloc());
     assert!(rt; map.rises());
     let operand: Answer = Ok(Value::Map(map));
     is_key(&rt, Ok(Value::Int(3)), &operand, true);
@@ -695,64 +657,61 @@ fn maps(rt: HostRuntime) -> Result<(), Fail> {
     is_left_of_index(&rt, &operand, int(3), 3, Some(0));
     is_left_of_key(&rt, int(3), &operand, 3, Some(0));
     is_left_of_key(&rt, int(3), &operand, 2, None);
-    Ok(())
 }
 
-fn is_field(rt: &impl Abort, name: &RcStr, map: &Answer, wanted: Answer) -> Result<(), AllocError>
+fn is_field(rt: &impl Abort, name: &RcStr, map: &Answer, wanted: Answer)
     requires kinds { field (text_view name.now) (answer_view map.now) ≢ None }
 {
-    is_answer(rt, select_field(name, map)?, wanted);
-    Ok(())
+    is_answer(rt, select_field(name, map).expect(rt, "memory"), wanted);
 }
 
 /// Headers: `:authority` is `h`, and `accept` is `*`.
-fn two_headers(alloc: Global) -> Result<Map, AllocError> {
+fn two_headers(rt: &impl Abort, alloc: Global) -> Map {
     let pairs = vec![in alloc;
         (
-            RcStr::from_str(alloc, ":authority")?,
-            RcStr::from_str(alloc, "h")?
+            RcStr::from_str(alloc, ":authority").expect(rt, "memory"),
+            RcStr::from_str(alloc, "h").expect(rt, "memory")
         ),
         (
-            RcStr::from_str(alloc, "accept")?,
-            RcStr::from_str(alloc, "*")?
+            RcStr::from_str(alloc, "accept").expect(rt, "memory"),
+            RcStr::from_str(alloc, "*").expect(rt, "memory")
         ),
-    ]?;
-    Ok(Map::Texts(Rc::new(alloc, pairs)?))
+    ]
+    .expect(rt, "memory");
+    Map::Texts(Rc::new(alloc, pairs).expect(rt, "memory"))
 }
 
 #[test]
-fn fields_of_sorted_texts(rt: HostRuntime) -> Result<(), Fail> {
+fn fields_of_sorted_texts(rt: HostRuntime) {
     let alloc = rt.alloc();
-    let map = two_headers(alloc)?;
+    let map = two_headers(&rt, alloc);
     assert!(rt; map.rises());
     let headers: Answer = Ok(Value::Map(map));
-    let authority = RcStr::from_str(alloc, ":authority")?;
-    is_field(&rt, &authority, &headers, text(alloc, "h")?)?;
-    let other = RcStr::from_str(alloc, "other")?;
-    is_field(&rt, &other, &headers, Err(CelError::NoKey))?;
+    let authority = RcStr::from_str(alloc, ":authority").expect(&rt, "memory");
+    is_field(&rt, &authority, &headers, text(&rt, alloc, "h"));
+    let other = RcStr::from_str(alloc, "other").expect(&rt, "memory");
+    is_field(&rt, &other, &headers, Err(CelError::NoKey));
     is_field(
         &rt,
         &other,
         &Err(CelError::MissingAttribute),
         Err(CelError::MissingAttribute),
-    )?;
-    Ok(())
+    );
 }
 
 #[test]
-fn names_of_sorted_texts(rt: HostRuntime) -> Result<(), Fail> {
+fn names_of_sorted_texts(rt: HostRuntime) {
     let alloc = rt.alloc();
-    let map = two_headers(alloc)?;
+    let map = two_headers(&rt, alloc);
     assert!(rt; map.rises());
     let headers: Answer = Ok(Value::Map(map));
-    let accept = RcStr::from_str(alloc, "accept")?;
+    let accept = RcStr::from_str(alloc, "accept").expect(&rt, "memory");
     is_answer(&rt, has_field(&accept, &headers), truth(true));
-    let other = RcStr::from_str(alloc, "other")?;
+    let other = RcStr::from_str(alloc, "other").expect(&rt, "memory");
     is_answer(&rt, has_field(&other, &headers), truth(false));
     // 1, and two entries by 1 + 5
     is_left(&rt, spend_field(&other, &headers, 13), Some(0));
     is_left(&rt, spend_field(&other, &headers, 12), None);
-    Ok(())
 }
 
 fn is_value(rt: &impl Abort, found: Option<Value>, wanted: Option<Value>) {
@@ -760,25 +719,35 @@ fn is_value(rt: &impl Abort, found: Option<Value>, wanted: Option<Value>) {
 }
 
 #[test]
-fn items_in_order(rt: HostRuntime) -> Result<(), Fail> {
+fn items_in_order(rt: HostRuntime) {
     let alloc = rt.alloc();
-    let items = vec![in alloc; Value::Int(5), Value::Int(4)]?;
-    let list = Value::List(Rc::new(alloc, items)?);
-    is_value(&rt, element_at(&list, 0)?, Some(Value::Int(5)));
-    is_value(&rt, element_at(&list, 1)?, Some(Value::Int(4)));
-    is_value(&rt, element_at(&list, 2)?, None);
-    Ok(())
+    let items = vec![in alloc; Value::Int(5), Value::Int(4)].expect(&rt, "memory");
+    let list = Value::List(Rc::new(alloc, items).expect(&rt, "memory"));
+    is_value(
+        &rt,
+        element_at(&list, 0).expect(&rt, "memory"),
+        Some(Value::Int(5)),
+    );
+    is_value(
+        &rt,
+        element_at(&list, 1).expect(&rt, "memory"),
+        Some(Value::Int(4)),
+    );
+    is_value(&rt, element_at(&list, 2).expect(&rt, "memory"), None);
 }
 
 #[test]
-fn keys_in_order(rt: HostRuntime) -> Result<(), Fail> {
+fn keys_in_order(rt: HostRuntime) {
     let alloc = rt.alloc();
     let mut entries = Vec::new(alloc);
-    assert!(rt; insert_entry(&mut entries, Key::Uint(1), Value::Int(0))?);
-    let map = Value::Map(Map::Entries(Rc::new(alloc, entries)?));
-    is_value(&rt, element_at(&map, 0)?, Some(Value::Uint(1)));
-    is_value(&rt, element_at(&map, 1)?, None);
+    assert!(rt; insert_entry(&mut entries, Key::Uint(1), Value::Int(0)).expect(&rt, "memory"));
+    let map = Value::Map(Map::Entries(Rc::new(alloc, entries).expect(&rt, "memory")));
+    is_value(
+        &rt,
+        element_at(&map, 0).expect(&rt, "memory"),
+        Some(Value::Uint(1)),
+    );
+    is_value(&rt, element_at(&map, 1).expect(&rt, "memory"), None);
     is_left(&rt, spend(&map, 3), Some(0));
     is_left(&rt, spend(&map, 2), None);
-    Ok(())
 }

@@ -1,9 +1,8 @@
 //! The borders of declared limits, and of requests within them.
 use attributes::{Conn, Limit, LimitFault, Limits, Request};
-use std::alloc::{AllocError, Global};
+use std::alloc::Global;
 use std::process::Abort;
 use std::rc::RcStr;
-use std::test::Fail;
 
 // Six declared limits, in the order of `Limits::new`, and the fault that is there.
 const DECLARED: [([usize; 6], Option<LimitFault>); 14] = [
@@ -78,11 +77,10 @@ fn declares(rt: &impl Abort, numbers: [usize; 6], fault: Option<LimitFault>) {
 }
 
 #[test]
-fn declares_limits(rt: HostRuntime) -> Result<(), Fail> {
+fn declares_limits(rt: HostRuntime) {
     for (numbers, fault) in &DECLARED {
         declares(&rt, *numbers, *fault);
     }
-    Ok(())
 }
 
 fn keeps(rt: &impl Abort, limits: &Limits, limit: Limit, number: usize) {
@@ -90,12 +88,11 @@ fn keeps(rt: &impl Abort, limits: &Limits, limit: Limit, number: usize) {
 }
 
 #[test]
-fn keeps_limits(rt: HostRuntime) -> Result<(), Fail> {
-    let limits = Limits::new(6, 5, 4, 3, 2, 1)?;
+fn keeps_limits(rt: HostRuntime) {
+    let limits = Limits::new(6, 5, 4, 3, 2, 1).expect(&rt, "memory");
     for (limit, number) in LIMITS.iter().zip([6usize, 5, 4, 3, 2, 1]) {
         keeps(&rt, &limits, *limit, number);
     }
-    Ok(())
 }
 
 fn is_largest(rt: &impl Abort, limit: Limit, number: usize) {
@@ -103,11 +100,10 @@ fn is_largest(rt: &impl Abort, limit: Limit, number: usize) {
 }
 
 #[test]
-fn keeps_largest_limits(rt: HostRuntime) -> Result<(), Fail> {
+fn keeps_largest_limits(rt: HostRuntime) {
     for (limit, number) in LIMITS.iter().zip([64usize, 128, 4096, 32, 4096, 1024]) {
         is_largest(&rt, *limit, number);
     }
-    Ok(())
 }
 
 // Each limit's faults as texts.
@@ -144,18 +140,16 @@ const FAULTS: [(Limit, &str, &str); 6] = [
     ),
 ];
 
-fn tells(rt: &impl Abort, alloc: Global, fault: LimitFault, text: &str) -> Result<(), Fail> {
-    assert_eq!(rt; fault.to_string(alloc)?.as_str(), text);
-    Ok(())
+fn tells(rt: &impl Abort, alloc: Global, fault: LimitFault, text: &str) {
+    assert_eq!(rt; fault.to_string(alloc).expect(rt, "memory").as_str(), text);
 }
 
 #[test]
-fn prints_faults_of_limits(rt: HostRuntime) -> Result<(), Fail> {
+fn prints_faults_of_limits(rt: HostRuntime) {
     for (limit, zero, above) in &FAULTS {
-        tells(&rt, rt.alloc(), LimitFault::Zero(*limit), zero)?;
-        tells(&rt, rt.alloc(), LimitFault::Above(*limit), above)?;
+        tells(&rt, rt.alloc(), LimitFault::Zero(*limit), zero);
+        tells(&rt, rt.alloc(), LimitFault::Above(*limit), above);
     }
-    Ok(())
 }
 
 // A head: the method, the target, the scheme, the field lines, and the least limits that it keeps.
@@ -212,25 +206,29 @@ const HEADS: [Head; 5] = [
     },
 ];
 
-fn request_of(alloc: Global, head: &Head) -> Result<Request, AllocError> {
+fn request_of(rt: &impl Abort, alloc: Global, head: &Head) -> Request {
     let mut lines: Vec<(String, String)> = Vec::new(alloc);
     for (name, value) in head.lines {
-        lines.push((
-            String::from_str(alloc, name)?,
-            String::from_str(alloc, value)?,
-        ))?;
+        lines
+            .push((
+                String::from_str(alloc, name).expect(rt, "memory"),
+                String::from_str(alloc, value).expect(rt, "memory"),
+            ))
+            .expect(rt, "memory");
     }
-    let method = String::from_str(alloc, head.method)?;
-    let target = String::from_str(alloc, head.target)?;
-    let conn = Conn::of_scheme(RcStr::from_str(alloc, head.scheme)?);
-    Request::new(alloc, method, target, true, lines, conn)
+    let method = String::from_str(alloc, head.method).expect(rt, "memory");
+    let target = String::from_str(alloc, head.target).expect(rt, "memory");
+    let conn = Conn::of_scheme(RcStr::from_str(alloc, head.scheme).expect(rt, "memory"));
+    Request::new(alloc, method, target, true, lines, conn).expect(rt, "memory")
 }
 
-fn fits(rt: &impl Abort, head: &Head, request: &Request) -> Result<(), Fail> {
+fn fits(rt: &impl Abort, head: &Head, request: &Request) {
     let target = head.target;
-    assert!(rt; declare(head.least)?.fits(request), "{target}");
+    assert!(rt;
+        declare(head.least).expect(rt, "memory").fits(request),
+        "{target}"
+    );
     assert!(rt; Limits::largest().fits(request), "{target}");
-    Ok(())
 }
 
 // The request is not within limits of these numbers, or there are none.
@@ -251,25 +249,23 @@ fn needs_each(rt: &impl Abort, head: &Head, request: &Request) {
     }
 }
 
-fn fits_at_borders_of(rt: &impl Abort, alloc: Global, head: &Head) -> Result<(), Fail> {
-    let request = request_of(alloc, head)?;
-    fits(rt, head, &request)?;
+fn fits_at_borders_of(rt: &impl Abort, alloc: Global, head: &Head) {
+    let request = request_of(rt, alloc, head);
+    fits(rt, head, &request);
     needs_each(rt, head, &request);
-    Ok(())
 }
 
 #[test]
-fn fits_at_each_border(rt: HostRuntime) -> Result<(), Fail> {
+fn fits_at_each_border(rt: HostRuntime) {
     for head in &HEADS {
-        fits_at_borders_of(&rt, rt.alloc(), head)?;
+        fits_at_borders_of(&rt, rt.alloc(), head);
     }
-    Ok(())
 }
 
 // A connection of which one text is known, beside the scheme.
-fn conn_with(alloc: Global, fact: usize, text: &str) -> Result<Conn, AllocError> {
-    let mut conn = Conn::of_scheme(RcStr::from_str(alloc, "http")?);
-    let text = RcStr::from_str(alloc, text)?;
+fn conn_with(rt: &impl Abort, alloc: Global, fact: usize, text: &str) -> Conn {
+    let mut conn = Conn::of_scheme(RcStr::from_str(alloc, "http").expect(rt, "memory"));
+    let text = RcStr::from_str(alloc, text).expect(rt, "memory");
     match fact {
         0 => conn.source_address = Some(text),
         1 => conn.destination_address = Some(text),
@@ -280,7 +276,7 @@ fn conn_with(alloc: Global, fact: usize, text: &str) -> Result<Conn, AllocError>
         6 => conn.uri_san_peer_certificate = Some(text),
         _ => conn.scheme = text,
     }
-    Ok(conn)
+    conn
 }
 
 // Limits of texts and values: wide enough for nine bytes, with texts of eight, and with values of eight.
@@ -304,29 +300,27 @@ fn fits_request(rt: &impl Abort, wide: &Wide, request: &Request, fact: usize) {
     assert_eq!(rt; wide.small_value.fits(request), fact < 7, "{fact}");
 }
 
-fn get_on(alloc: Global, conn: Conn) -> Result<Request, AllocError> {
-    let method = String::from_str(alloc, "GET")?;
-    let target = String::from_str(alloc, "/")?;
-    Request::new(alloc, method, target, true, Vec::new(alloc), conn)
+fn get_on(rt: &impl Abort, alloc: Global, conn: Conn) -> Request {
+    let method = String::from_str(alloc, "GET").expect(rt, "memory");
+    let target = String::from_str(alloc, "/").expect(rt, "memory");
+    Request::new(alloc, method, target, true, Vec::new(alloc), conn).expect(rt, "memory")
 }
 
-fn fits_fact(rt: &impl Abort, alloc: Global, wide: &Wide, fact: usize) -> Result<(), Fail> {
-    let conn = conn_with(alloc, fact, "123456789")?;
+fn fits_fact(rt: &impl Abort, alloc: Global, wide: &Wide, fact: usize) {
+    let conn = conn_with(rt, alloc, fact, "123456789");
     fits_conn(rt, wide, &conn, fact);
-    let request = get_on(alloc, conn)?;
+    let request = get_on(rt, alloc, conn);
     fits_request(rt, wide, &request, fact);
-    Ok(())
 }
 
 #[test]
-fn fits_each_text_of_a_connection(rt: HostRuntime) -> Result<(), Fail> {
+fn fits_each_text_of_a_connection(rt: HostRuntime) {
     let wide = Wide {
-        limits: Limits::new(3, 7, 9, 3, 1, 9)?,
-        less: Limits::new(3, 7, 9, 3, 1, 8)?,
-        small_value: Limits::new(3, 7, 8, 3, 1, 9)?,
+        limits: Limits::new(3, 7, 9, 3, 1, 9).expect(&rt, "memory"),
+        less: Limits::new(3, 7, 9, 3, 1, 8).expect(&rt, "memory"),
+        small_value: Limits::new(3, 7, 8, 3, 1, 9).expect(&rt, "memory"),
     };
     for fact in 0..8usize {
-        fits_fact(&rt, rt.alloc(), &wide, fact)?;
+        fits_fact(&rt, rt.alloc(), &wide, fact);
     }
-    Ok(())
 }

@@ -3,7 +3,6 @@ use attributes::{AttrId, AttrType, AttrValue, Conn, Request, attr_named, attr_ty
 use std::alloc::{AllocError, Global};
 use std::process::Abort;
 use std::rc::RcStr;
-use std::test::Fail;
 
 const LINES: [(&str, &str); 9] = [
     ("host", "h:8080"),
@@ -172,49 +171,50 @@ const TARGETS: [(&str, &str, &str); 14] = [
     ("/a/b/../c?/d?/e", "/a/b/../c", "/d?/e"),
 ];
 
-fn lines_of(alloc: Global, lines: &[(&str, &str)]) -> Result<Vec<(String, String)>, AllocError> {
+fn lines_of(rt: &impl Abort, alloc: Global, lines: &[(&str, &str)]) -> Vec<(String, String)> {
     let mut made = Vec::new(alloc);
     for (name, value) in lines {
         made.push((
-            String::from_str(alloc, name)?,
-            String::from_str(alloc, value)?,
-        ))?;
+            String::from_str(alloc, name).expect(rt, "memory"),
+            String::from_str(alloc, value).expect(rt, "memory"),
+        ))
+        .expect(rt, "memory");
     }
-    Ok(made)
+    made
 }
 
-fn full_conn(alloc: Global) -> Result<Conn, AllocError> {
-    Ok(Conn {
-        source_address: Some(RcStr::from_str(alloc, "10.0.0.1:1")?),
+fn full_conn(rt: &impl Abort, alloc: Global) -> Conn {
+    Conn {
+        source_address: Some(RcStr::from_str(alloc, "10.0.0.1:1").expect(rt, "memory")),
         source_port: Some(1),
-        destination_address: Some(RcStr::from_str(alloc, "10.0.0.2:65535")?),
+        destination_address: Some(RcStr::from_str(alloc, "10.0.0.2:65535").expect(rt, "memory")),
         destination_port: Some(65535),
         mtls: Some(true),
         connection_id: Some(u64::MAX),
-        requested_server_name: Some(RcStr::from_str(alloc, "server")?),
-        tls_version: Some(RcStr::from_str(alloc, "TLSv1.3")?),
-        subject_peer_certificate: Some(RcStr::from_str(alloc, "subject")?),
-        dns_san_peer_certificate: Some(RcStr::from_str(alloc, "dns")?),
-        uri_san_peer_certificate: Some(RcStr::from_str(alloc, "uri")?),
+        requested_server_name: Some(RcStr::from_str(alloc, "server").expect(rt, "memory")),
+        tls_version: Some(RcStr::from_str(alloc, "TLSv1.3").expect(rt, "memory")),
+        subject_peer_certificate: Some(RcStr::from_str(alloc, "subject").expect(rt, "memory")),
+        dns_san_peer_certificate: Some(RcStr::from_str(alloc, "dns").expect(rt, "memory")),
+        uri_san_peer_certificate: Some(RcStr::from_str(alloc, "uri").expect(rt, "memory")),
         direct_remote_ip: parse_ip("10.0.0.1"),
         remote_ip: parse_ip("::1"),
         destination_ip: parse_ip("10.0.0.2"),
-        scheme: RcStr::from_str(alloc, "https")?,
-    })
+        scheme: RcStr::from_str(alloc, "https").expect(rt, "memory"),
+    }
 }
 
-fn full_request(alloc: Global) -> Result<Request, AllocError> {
-    let method = String::from_str(alloc, "GET")?;
-    let target = String::from_str(alloc, "/a/b?x=1#f?y")?;
-    let lines = lines_of(alloc, &LINES)?;
-    Request::new(alloc, method, target, true, lines, full_conn(alloc)?)
+fn full_request(rt: &impl Abort, alloc: Global) -> Request {
+    let method = String::from_str(alloc, "GET").expect(rt, "memory");
+    let target = String::from_str(alloc, "/a/b?x=1#f?y").expect(rt, "memory");
+    let lines = lines_of(rt, alloc, &LINES);
+    Request::new(alloc, method, target, true, lines, full_conn(rt, alloc)).expect(rt, "memory")
 }
 
-fn bare_request(alloc: Global, target: &str) -> Result<Request, AllocError> {
-    let method = String::from_str(alloc, "POST")?;
-    let target = String::from_str(alloc, target)?;
-    let conn = Conn::of_scheme(RcStr::from_str(alloc, "http")?);
-    Request::new(alloc, method, target, false, Vec::new(alloc), conn)
+fn bare_request(rt: &impl Abort, alloc: Global, target: &str) -> Request {
+    let method = String::from_str(alloc, "POST").expect(rt, "memory");
+    let target = String::from_str(alloc, target).expect(rt, "memory");
+    let conn = Conn::of_scheme(RcStr::from_str(alloc, "http").expect(rt, "memory"));
+    Request::new(alloc, method, target, false, Vec::new(alloc), conn).expect(rt, "memory")
 }
 
 // An attribute's value in words.
@@ -238,57 +238,50 @@ fn shown(alloc: Global, value: Option<AttrValue<'_>>) -> Result<String, AllocErr
     }
 }
 
-fn gives(
-    rt: &impl Abort,
-    alloc: Global,
-    request: &Request,
-    id: AttrId,
-    value: &str,
-) -> Result<(), Fail> {
-    assert_eq!(rt; shown(alloc, request.attr(id))?.as_str(), value, "{id:?}");
-    Ok(())
+fn gives(rt: &impl Abort, alloc: Global, request: &Request, id: AttrId, value: &str) {
+    assert_eq!(rt;
+        shown(alloc, request.attr(id)).expect(rt, "memory").as_str(),
+        value,
+        "{id:?}"
+    );
 }
 
 #[test]
-fn gives_each_attribute(rt: HostRuntime) -> Result<(), Fail> {
-    let full = full_request(rt.alloc())?;
+fn gives_each_attribute(rt: HostRuntime) {
+    let full = full_request(&rt, rt.alloc());
     for (id, value) in &FULL {
-        gives(&rt, rt.alloc(), &full, *id, value)?;
+        gives(&rt, rt.alloc(), &full, *id, value);
     }
-    Ok(())
 }
 
 #[test]
-fn gives_each_attribute_of_a_bare_request(rt: HostRuntime) -> Result<(), Fail> {
-    let bare = bare_request(rt.alloc(), "/p#q?z")?;
+fn gives_each_attribute_of_a_bare_request(rt: HostRuntime) {
+    let bare = bare_request(&rt, rt.alloc(), "/p#q?z");
     for (id, value) in &BARE {
-        gives(&rt, rt.alloc(), &bare, *id, value)?;
+        gives(&rt, rt.alloc(), &bare, *id, value);
     }
-    Ok(())
 }
 
 fn has_path(rt: &impl Abort, request: &Request, path: &str) {
     assert_eq!(rt; request.url_path(), path);
 }
 
-fn has_query(rt: &impl Abort, alloc: Global, request: &Request, query: &str) -> Result<(), Fail> {
-    let found = shown(alloc, request.attr(AttrId::RequestQuery))?;
+fn has_query(rt: &impl Abort, alloc: Global, request: &Request, query: &str) {
+    let found = shown(alloc, request.attr(AttrId::RequestQuery)).expect(rt, "memory");
     assert_eq!(rt; found.as_str().strip_prefix("text "), Some(query));
-    Ok(())
 }
 
-fn cuts(rt: &impl Abort, alloc: Global, target: &str, path: &str, query: &str) -> Result<(), Fail> {
-    let request = bare_request(alloc, target)?;
+fn cuts(rt: &impl Abort, alloc: Global, target: &str, path: &str, query: &str) {
+    let request = bare_request(rt, alloc, target);
     has_path(rt, &request, path);
     has_query(rt, alloc, &request, query)
 }
 
 #[test]
-fn cuts_targets(rt: HostRuntime) -> Result<(), Fail> {
+fn cuts_targets(rt: HostRuntime) {
     for (target, path, query) in &TARGETS {
-        cuts(&rt, rt.alloc(), target, path, query)?;
+        cuts(&rt, rt.alloc(), target, path, query);
     }
-    Ok(())
 }
 
 fn has_header(rt: &impl Abort, request: &Request, name: &str, value: &str) {
@@ -300,8 +293,8 @@ fn lacks_header(rt: &impl Abort, request: &Request, name: &str) {
 }
 
 #[test]
-fn finds_headers(rt: HostRuntime) -> Result<(), Fail> {
-    let full = full_request(rt.alloc())?;
+fn finds_headers(rt: HostRuntime) {
+    let full = full_request(&rt, rt.alloc());
     has_header(&rt, &full, "accept", "a,b, c,");
     has_header(&rt, &full, ":authority", "h:8080");
     lacks_header(&rt, &full, "host");
@@ -310,53 +303,48 @@ fn finds_headers(rt: HostRuntime) -> Result<(), Fail> {
     has_header(&rt, &full, "x-request-id", "7");
     lacks_header(&rt, &full, "x-request-ie");
     lacks_header(&rt, &full, "");
-    Ok(())
 }
 
 #[test]
-fn counts_headers_and_lines(rt: HostRuntime) -> Result<(), Fail> {
-    let full = full_request(rt.alloc())?;
+fn counts_headers_and_lines(rt: HostRuntime) {
+    let full = full_request(&rt, rt.alloc());
     assert_eq!(rt; full.headers().pairs().len(), 10);
     assert_eq!(rt; full.line_count(), 9);
-    Ok(())
 }
 
 #[test]
-fn keeps_what_it_was_made_of(rt: HostRuntime) -> Result<(), Fail> {
-    let full = full_request(rt.alloc())?;
+fn keeps_what_it_was_made_of(rt: HostRuntime) {
+    let full = full_request(&rt, rt.alloc());
     assert_eq!(rt; full.method(), "GET");
     assert_eq!(rt; full.target(), "/a/b?x=1#f?y");
     assert!(rt; full.is_http11());
     assert_eq!(rt; full.conn().remote_ip, parse_ip("::1"));
-    Ok(())
 }
 
 // `GET /` in HTTP/1.1 with these lines, on a connection of which the scheme alone is known.
-fn get_with(alloc: Global, lines: &[(&str, &str)]) -> Result<Request, AllocError> {
-    let conn = Conn::of_scheme(RcStr::from_str(alloc, "http")?);
-    let method = String::from_str(alloc, "GET")?;
-    let target = String::from_str(alloc, "/")?;
-    let lines = lines_of(alloc, lines)?;
-    Request::new(alloc, method, target, true, lines, conn)
+fn get_with(rt: &impl Abort, alloc: Global, lines: &[(&str, &str)]) -> Request {
+    let conn = Conn::of_scheme(RcStr::from_str(alloc, "http").expect(rt, "memory"));
+    let method = String::from_str(alloc, "GET").expect(rt, "memory");
+    let target = String::from_str(alloc, "/").expect(rt, "memory");
+    let lines = lines_of(rt, alloc, lines);
+    Request::new(alloc, method, target, true, lines, conn).expect(rt, "memory")
 }
 
 // Names that begin with the same eight bytes, and shorter ones.
 #[test]
-fn finds_headers_that_begin_alike(rt: HostRuntime) -> Result<(), Fail> {
-    let request = get_with(rt.alloc(), &ALIKE)?;
+fn finds_headers_that_begin_alike(rt: HostRuntime) {
+    let request = get_with(&rt, rt.alloc(), &ALIKE);
     for (name, value) in &ALIKE {
         has_header(&rt, &request, name, value);
     }
-    Ok(())
 }
 
 #[test]
-fn finds_no_other_headers(rt: HostRuntime) -> Result<(), Fail> {
-    let request = get_with(rt.alloc(), &ALIKE)?;
+fn finds_no_other_headers(rt: HostRuntime) {
+    let request = get_with(&rt, rt.alloc(), &ALIKE);
     for name in &NOT_ALIKE {
         lacks_header(&rt, &request, name);
     }
-    Ok(())
 }
 
 fn is_named(rt: &impl Abort, name: &str, kind: AttrType, id: AttrId) {
@@ -365,11 +353,10 @@ fn is_named(rt: &impl Abort, name: &str, kind: AttrType, id: AttrId) {
 }
 
 #[test]
-fn names_attributes(rt: HostRuntime) -> Result<(), Fail> {
+fn names_attributes(rt: HostRuntime) {
     for ((name, kind), (id, _)) in NAMES.iter().zip(&FULL) {
         is_named(&rt, name, *kind, *id);
     }
-    Ok(())
 }
 
 fn names_none(rt: &impl Abort, name: &str) {
@@ -377,43 +364,44 @@ fn names_none(rt: &impl Abort, name: &str) {
 }
 
 #[test]
-fn knows_no_other_names(rt: HostRuntime) -> Result<(), Fail> {
+fn knows_no_other_names(rt: HostRuntime) {
     for name in &NO_NAMES {
         names_none(&rt, name);
     }
-    Ok(())
 }
 
 // A line that has the name of a pseudo-header comes before its value.
 #[test]
-fn joins_lines_with_pseudo_headers(rt: HostRuntime) -> Result<(), Fail> {
-    let request = get_with(rt.alloc(), &[(":path", "/x"), ("host", "a"), ("host", "b")])?;
+fn joins_lines_with_pseudo_headers(rt: HostRuntime) {
+    let request = get_with(
+        &rt,
+        rt.alloc(),
+        &[(":path", "/x"), ("host", "a"), ("host", "b")],
+    );
     has_header(&rt, &request, ":path", "/x,/");
     has_header(&rt, &request, ":authority", "a,b");
     has_header(&rt, &request, ":method", "GET");
     assert_eq!(rt; request.headers().pairs().len(), 4);
     assert_eq!(rt; request.line_count(), 3);
-    Ok(())
 }
 
-fn is_copied(rt: &impl Abort, alloc: Global, conn: &Conn) -> Result<(), Fail> {
-    let copy = conn.copy()?;
+fn is_copied(rt: &impl Abort, alloc: Global, conn: &Conn) {
+    let copy = conn.copy().expect(rt, "memory");
     assert_eq!(rt; copy.source_port, conn.source_port);
     assert_eq!(rt; copy.direct_remote_ip, conn.direct_remote_ip);
-    let before = format!(in alloc; "{conn:?}")?;
-    let after = format!(in alloc; "{copy:?}")?;
+    let before = format!(in alloc; "{conn:?}").expect(rt, "memory");
+    let after = format!(in alloc; "{copy:?}").expect(rt, "memory");
     assert_eq!(rt; after.as_str(), before.as_str());
-    Ok(())
 }
 
 #[test]
-fn copies_full_connections(rt: HostRuntime) -> Result<(), Fail> {
-    let conn = full_conn(rt.alloc())?;
+fn copies_full_connections(rt: HostRuntime) {
+    let conn = full_conn(&rt, rt.alloc());
     is_copied(&rt, rt.alloc(), &conn)
 }
 
 #[test]
-fn copies_bare_connections(rt: HostRuntime) -> Result<(), Fail> {
-    let conn = Conn::of_scheme(RcStr::from_str(rt.alloc(), "http")?);
+fn copies_bare_connections(rt: HostRuntime) {
+    let conn = Conn::of_scheme(RcStr::from_str(rt.alloc(), "http").expect(&rt, "memory"));
     is_copied(&rt, rt.alloc(), &conn)
 }
