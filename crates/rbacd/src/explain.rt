@@ -11,7 +11,7 @@ use std::alloc::{AllocError, Global};
 use std::fmt;
 
 /// A policy that was tried, by its number and its name.
-#[derive(Debug, Drop)]
+#[derive(Drop)]
 pub struct OwnTrial {
     pub number: usize,
     pub name: String,
@@ -19,7 +19,7 @@ pub struct OwnTrial {
 }
 
 /// Why a request is answered as it is, as far as that is told.
-#[derive(Debug, Drop)]
+#[derive(Drop)]
 pub enum Explanation {
     /// Nobody asked for it, or no request was answered.
     Absent,

@@ -19,7 +19,7 @@ use std::fmt;
 use std::rc::RcStr;
 
 /// Why facts are not read.
-#[derive(Clone, Copy, Debug, PartialEq, Eq)]
+#[derive(Clone, Copy, Debug)]
 pub enum FactsFault {
     /// The text is no JSON object of facts.
     Bad,
@@ -71,7 +71,7 @@ impl From<serde_json::Error> for FactsFault {
 }
 
 /// A fact, by the name of the member that tells it: `SourcePort` is `source.port`.
-#[derive(Clone, Copy, Debug, PartialEq, Eq)]
+#[derive(Clone, Copy)]
 pub(crate) enum Fact {
     /// The address that the connection comes from.
     SourceAddress,

@@ -29,7 +29,7 @@ use std::io::{self, ErrorKind, Read, Write};
 use std::rc::RcStr;
 
 /// What judging finds.
-#[derive(Debug, Drop)]
+#[derive(Drop)]
 pub(crate) struct Finding {
     pub(crate) outcome: Outcome,
     /// The name of the policy that matched, if one did.

@@ -11,7 +11,7 @@ use std::alloc::{AllocError, Global};
 use std::fmt;
 
 /// What was noticed while a job was done.
-#[derive(Debug, Drop)]
+#[derive(Drop)]
 pub(crate) struct Notes {
     /// What the policy file looks like that is refused, if it is plainly no filter message.
     pub(crate) policy: Option<Likeness>,
@@ -58,7 +58,7 @@ fn is_of_fields(refusal: Refusal) -> bool {
 }
 
 /// What a file looks like that is no filter message.
-#[derive(Clone, Copy, Debug, PartialEq, Eq)]
+#[derive(Clone, Copy)]
 pub(crate) enum Likeness {
     Json,
     Yaml,
@@ -118,7 +118,7 @@ fn begins_as_any(bytes: &[u8]) -> bool {
 }
 
 /// What stands among the fields of a file, up to its end or to where its bytes break.
-#[derive(Clone, Copy, Debug, PartialEq, Eq)]
+#[derive(Clone, Copy)]
 struct FirstFields {
     /// Whether one is a filter's rules, by its number and wire type.
     has_rules: bool,

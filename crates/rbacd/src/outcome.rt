@@ -13,7 +13,7 @@ use std::alloc::{AllocError, Global};
 use std::fmt;
 
 /// What came of checking one policy file, or of judging one head by it.
-#[derive(Clone, Copy, Debug, PartialEq, Eq)]
+#[derive(Clone, Copy)]
 pub enum Outcome {
     /// The policy is admitted.
     Admitted {
@@ -109,7 +109,7 @@ impl fmt::Display for Outcome {
 }
 
 /// An outcome, and how it is printed.
-#[derive(Debug, Drop)]
+#[derive(Drop)]
 pub struct Report {
     /// What was found.
     pub outcome: Outcome,

@@ -33,7 +33,7 @@ pub(crate) const MISTAKE: u8 = 2;
 pub(crate) const BAD_JSON: u8 = 6;
 
 /// Why nothing is judged.
-#[derive(Debug, Drop)]
+#[derive(Drop)]
 pub enum JobFault {
     /// The words name no job: they ask for help, or hold a mistake.
     Words(clap::Error),

@@ -83,7 +83,7 @@ Examples:
   rbacd judge --policy examples/condition.bin --json --explain < examples/get.http";
 
 /// What the program is asked to do.
-#[derive(Debug, Drop)]
+#[derive(Drop)]
 pub enum Job {
     /// `check --policy FILE [--budget N] [--json]`: to check whether a policy file is admitted.
     Check {
