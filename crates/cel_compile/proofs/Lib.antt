@@ -16,3 +16,4 @@ pub mod Settling
 pub mod Tables
 pub mod Forks
 pub mod Forwards
+pub mod PlainSteps

@@ -6,6 +6,7 @@ mod bounds;
 mod container_rows;
 mod loop_rows;
 mod operator_rows;
+mod plain;
 mod random_trees;
 mod too_large;
 mod trees;

@@ -15,4 +15,3 @@ pub mod MeansTheSame
 pub mod Checking
 pub mod CheckNames
 pub mod CheckSteps
-pub mod PlainSteps

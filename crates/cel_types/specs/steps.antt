@@ -3,4 +3,3 @@
 pub mod Scopes
 pub mod Kinds
 pub mod Checks
-pub mod Plain

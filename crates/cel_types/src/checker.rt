@@ -15,7 +15,7 @@ mod locals;
 mod loops;
 pub(crate) mod names;
 mod nodes;
-pub(crate) mod scope;
+mod scope;
 mod variables;
 
 use crate::typed::Typed;

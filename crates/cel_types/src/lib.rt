@@ -3,9 +3,8 @@
 
 mod checker;
 pub mod laws;
-mod plain;
 mod typed;
 
 pub use checker::check;
-pub use plain::evaluate_plainly;
+pub use checker::names::{attribute_named, is_root, joined_name};
 pub use typed::{Typed, TypedExpr, TypedLoop};

@@ -1,6 +1,7 @@
 //! Code beside the meaning of expressions made at random.
 
 use crate::compile;
+use crate::tests::plain::evaluate_plainly;
 use crate::tests::random_trees::{
     Dice, LEAVES, Pool, TEMPLATES, checked_message, comprehension, filled, leaf, loop_count,
     loop_kind,
@@ -8,7 +9,7 @@ use crate::tests::random_trees::{
 use crate::tests::{plain_get, verified};
 use attributes::{Conn, Limits, Request};
 use cel_tree::{Checked, read_checked};
-use cel_types::{Typed, check, evaluate_plainly};
+use cel_types::{Typed, check};
 use cost_bound::bound;
 use proto_wire::Refusal;
 use stack_machine::{Code, Instr, RunError, Verified, run};

@@ -4,10 +4,11 @@ mod answer_rows;
 mod check_rows;
 mod written_rows;
 
+use crate::tests::plain::evaluate_plainly;
 use answer_rows::ANSWERS;
 use attributes::{Conn, Request};
 use cel_tree::read_checked;
-use cel_types::{check, evaluate_plainly};
+use cel_types::check;
 use cel_value::{Answer, CelType, KeyType, Value};
 use check_rows::Row;
 use check_rows::calls::{CALLS, LAST_CALLS, MORE_CALLS};

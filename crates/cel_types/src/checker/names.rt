@@ -63,7 +63,7 @@ pub(super) fn resolve_field(name: &str, test_only: bool) -> Result<AttrId, Refus
 }
 
 /// The attribute of a name with a dot.
-pub(crate) fn attribute_named(name: &str) -> Option<AttrId>
+pub fn attribute_named(name: &str) -> Option<AttrId>
     ensures { result ≡ attribute_named (points_of name.now) }
 {
     attr_named(name)
@@ -127,14 +127,14 @@ fn is_bare_root(name: &RcStr, scope: &Scope<'_>) -> bool
 }
 
 /// Whether the name is a root of attributes' names.
-pub(crate) fn is_root(name: &str) -> bool
+pub fn is_root(name: &str) -> bool
     ensures { result ≡ is_root (points_of name.now) }
 {
     matches!(name, "request" | "source" | "destination" | "connection")
 }
 
 /// A root's name and a field's, joined by a dot.
-pub(crate) fn joined_name(alloc: Global, root: &str, field: &str) -> Result<String, AllocError>
+pub fn joined_name(alloc: Global, root: &str, field: &str) -> Result<String, AllocError>
     ensures { IfOk result (λ name. points_of (string_bytes name) ≡ joined_name (points_of root.now) (points_of field.now)) }
 {
     let length = root.len().saturating_add(field.len()).saturating_add(1);

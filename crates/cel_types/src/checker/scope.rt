@@ -81,7 +81,7 @@ impl<'s> Scope<'s> {
 }
 
 /// Whether two names are the same.
-pub(crate) fn same_names(left: &RcStr, right: &RcStr) -> bool
+pub(super) fn same_names(left: &RcStr, right: &RcStr) -> bool
     ensures { result ≡ bytes_eq (text_view left.now) (text_view right.now) }
 {
     left == right
