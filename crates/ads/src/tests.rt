@@ -1,5 +1,5 @@
 //! What no contract says: that calls succeed, and that stored bytes are what the definitions say. The tests of
-//! `proto_wire` (`protobuf`) and of `xds_wire` (`wire`) stand here too.
+//! `xds_wire` (`wire`) stand here too.
 mod cases;
 mod client;
 mod configs;
@@ -9,7 +9,6 @@ mod hostile;
 mod lengths;
 mod making;
 mod pieces;
-mod protobuf;
 mod requests;
 mod serving;
 mod vectors;
