@@ -1,5 +1,4 @@
-//! What no contract says: that calls succeed, and that stored bytes are what the definitions say. The tests of
-//! `xds_wire` (`wire`) stand here too.
+//! What no contract says: that calls succeed, and that stored bytes are what the definitions say.
 mod cases;
 mod client;
 mod configs;
@@ -9,7 +8,7 @@ mod hostile;
 mod lengths;
 mod making;
 mod pieces;
+mod readings;
 mod requests;
 mod serving;
 mod vectors;
-mod wire;

@@ -1,5 +1,5 @@
-//! Worked expressions, from their bytes to bounds, codes and answers; and each stage by itself: the trees that
-//! are read (`trees`), their types (`typing`) and their bounds (`bounds`).
+//! Worked expressions, from their bytes to bounds, codes and answers; and bounds (`bounds`) and codes
+//! (`verifying`) by themselves. Which trees are read, and their types, the cases of the program show.
 
 mod beside_meaning;
 mod bounds;
@@ -9,8 +9,6 @@ mod operator_rows;
 mod plain;
 mod random_trees;
 mod too_large;
-mod trees;
-mod typing;
 mod verifying;
 mod worked_rows;
 

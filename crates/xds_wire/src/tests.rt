@@ -1,2 +1,8 @@
-//! What no contract says of `proto_wire`: that calls succeed, and the answers at given bytes.
+//! What no contract says: that calls succeed, and that stored bytes are what the definitions say; those of `proto_wire`
+//! stand in `protobuf`.
+mod compare;
+mod frames;
+mod messages;
 mod protobuf;
+mod unknown;
+mod vectors;

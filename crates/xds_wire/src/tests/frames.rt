@@ -1,10 +1,8 @@
 //! Streams of frames, cut at every place.
-use super::vectors::VECTORS;
-use crate::tests::making::message_frame;
-use crate::tests::vectors::{FIRST_ACK, FIRST_REQUEST, before, behind, joined};
+use super::vectors::{FIRST_ACK, FIRST_REQUEST, VECTORS, before, behind, joined, message_frame};
+use crate::{FrameError, Frames};
 use std::alloc::Global;
 use std::process::Abort;
-use xds_wire::{FrameError, Frames};
 
 const LIMIT: usize = 1_048_576;
 

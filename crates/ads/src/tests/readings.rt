@@ -1,11 +1,10 @@
 //! What protobuf's own runtimes write, from all fields that Envoy's messages have: libprotobuf 3.21 by Python and protobuf-go
 //! write the same bytes but for the order of maps. The fields that no message here knows are skipped.
-use super::compare::{are_names, is_node, is_response_of_one, is_status, is_text};
-use crate::tests::encoders::{CLUSTERS, FIRST, OTHER_TYPE, REFUSAL, RESPONSE, WITH_TTL};
-use crate::tests::vectors::{EXTENSION_TYPE, FILTER_TYPE, behind, joined};
+use super::encoders::{CLUSTERS, FIRST, OTHER_TYPE, REFUSAL, RESPONSE, WITH_TTL};
+use super::vectors::{EXTENSION_TYPE, FILTER_TYPE, behind, joined};
 use std::alloc::Global;
 use std::process::Abort;
-use xds_wire::{Any, Node, Status, read_extension, read_request, read_response};
+use xds_wire::{Any, DiscoveryResponse, Node, Status, read_extension, read_request, read_response};
 
 const NODE: Node<'static> = Node {
     id: "n",
@@ -13,6 +12,25 @@ const NODE: Node<'static> = Node {
 };
 
 const CLUSTER_TYPE: &str = "type.googleapis.com/envoy.config.cluster.v3.Cluster";
+
+/// A text is this one.
+fn is_text(rt: &impl Abort, found: &str, wanted: &str) {
+    assert_eq!(rt; found, wanted);
+}
+
+/// A response has this version, type of its resources and nonce, and one resource.
+fn is_response_of_one(
+    rt: &impl Abort,
+    response: &DiscoveryResponse<'_>,
+    version: &str,
+    type_url: &str,
+    nonce: &str,
+) {
+    is_text(rt, response.version_info, version);
+    is_text(rt, response.type_url, type_url);
+    is_text(rt, response.nonce, nonce);
+    assert_eq!(rt; response.resources.len(), 1);
+}
 
 /// A resource of the filter `f`.
 fn is_filter(rt: &impl Abort, alloc: Global, resource: &Any<'_>) {
@@ -69,11 +87,11 @@ fn a_first_request(rt: HostRuntime) {
     let frame = joined(&rt, alloc, FIRST);
     let request = read_request(alloc, behind(&frame, 5)).expect(&rt, "a result");
     is_text(&rt, request.version_info, "");
-    is_node(&rt, request.node, Some(NODE));
-    are_names(&rt, request.resource_names.as_slice(), &["f"]);
+    assert_eq!(rt; request.node, Some(NODE));
+    assert!(rt; request.resource_names.as_slice() == ["f"].as_slice());
     is_text(&rt, request.type_url, EXTENSION_TYPE);
     is_text(&rt, request.response_nonce, "");
-    is_status(&rt, request.error_detail, None);
+    assert_eq!(rt; request.error_detail, None);
 }
 
 #[test]
@@ -85,7 +103,7 @@ fn a_refusal(rt: HostRuntime) {
         code: 13,
         message: "no",
     };
-    is_status(&rt, request.error_detail, Some(error));
+    assert_eq!(rt; request.error_detail, Some(error));
     is_text(&rt, request.response_nonce, "1");
 }
 
@@ -95,12 +113,12 @@ fn a_request_of_another_type(rt: HostRuntime) {
     let frame = joined(&rt, alloc, OTHER_TYPE);
     let request = read_request(alloc, behind(&frame, 5)).expect(&rt, "a result");
     is_text(&rt, request.version_info, "9");
-    is_node(&rt, request.node, Some(NODE));
+    assert_eq!(rt; request.node, Some(NODE));
     let names = [
         "outbound|80||a.b",
         "xdstp://x/envoy.config.cluster.v3.Cluster/*",
     ];
-    are_names(&rt, request.resource_names.as_slice(), &names);
+    assert!(rt; request.resource_names.as_slice() == names.as_slice());
     is_text(&rt, request.type_url, CLUSTER_TYPE);
     is_text(&rt, request.response_nonce, "1");
 }

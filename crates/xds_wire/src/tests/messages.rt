@@ -1,17 +1,16 @@
 //! Discovery messages at given bytes.
 use super::compare::{are_names, is_count, is_node, is_response_of_one, is_status, is_text};
-use crate::tests::making::message_frame;
-use crate::tests::vectors::{
+use super::vectors::{
     EXTENSION_TYPE, FILTER_TYPE, FIRST_ACK, FIRST_REQUEST, FIRST_RESPONSE, HALF_BAD_NACK,
-    RESUMED_REQUEST, TRUE_AND_TRUE, behind, joined,
+    RESUMED_REQUEST, TRUE_AND_TRUE, behind, joined, message_frame,
+};
+use crate::{
+    Any, DiscoveryRequest, DiscoveryResponse, Node, Status, TypedExtensionConfig, read_extension,
+    read_request, read_response, write_extension, write_request, write_response,
 };
 use proto_wire::Refusal;
 use std::alloc::Global;
 use std::process::Abort;
-use xds_wire::{
-    Any, DiscoveryRequest, DiscoveryResponse, Node, Status, TypedExtensionConfig, read_extension,
-    read_request, read_response, write_extension, write_request, write_response,
-};
 
 const NODE: Node<'static> = Node {
     id: "n",

@@ -1,6 +1,6 @@
 //! Comparisons that tests share: each stands once, so that a test's proof is told little of it.
+use crate::{DiscoveryResponse, Node, Status};
 use std::process::Abort;
-use xds_wire::{DiscoveryResponse, Node, Status};
 
 /// A text is this one.
 pub(super) fn is_text(rt: &impl Abort, found: &str, wanted: &str) {

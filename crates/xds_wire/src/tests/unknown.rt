@@ -1,10 +1,10 @@
 //! Fields that no message knows, of every wire type and in every envelope, and wire types that there are not.
 use super::compare::{are_names, is_count, is_node, is_status, is_text};
-use crate::tests::vectors::joined;
+use super::vectors::joined;
+use crate::{read_extension, read_request, read_response};
 use proto_wire::Refusal;
 use std::alloc::Global;
 use std::process::Abort;
-use xds_wire::{read_extension, read_request, read_response};
 
 /// Field 99: VARINT, I64, LEN, LEN without bytes, I32.
 const UNKNOWN: [&[u8]; 5] = [
