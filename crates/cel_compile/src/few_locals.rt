@@ -1,10 +1,11 @@
 //! Whether an expression's locals have numbers of one byte.
 
 ghost use Rattle.std.specs.Prelude.{◌≡◌, IsTrue, ◌↔◌, OnOk, IfErr};
-ghost use Rattle.cel_types.specs.View.{expr_view, exprs_view};
+ghost use Rattle.cel_types.specs.View.{expr_view, exprs_view, loop_of, parts_view};
+ghost use Rattle.cel_value.specs.Types.{ValueType};
 ghost use Rattle.cel_compile.specs.Slots.{HasFewLocals, HaveFewLocals};
 
-use cel_types::TypedExpr;
+use cel_types::{TypedExpr, TypedLoop};
 use proto_wire::Refusal;
 
 /// Refuses an expression of which some part has more than 255 locals in scope.
@@ -33,17 +34,23 @@ fn has_few_locals(depth: u8, expr: &TypedExpr<'_>) -> bool
         TypedExpr::Call { operands, .. } => have_few_locals(depth, operands),
         TypedExpr::List { elements, .. } => have_few_locals(depth, elements),
         TypedExpr::Map { pairs, .. } => have_few_locals(depth, pairs),
-        TypedExpr::Loop { parts, .. } => {
-            if depth > 253 {
-                return false;
-            }
-            has_few_locals(depth, &parts.range)
-                && has_few_locals(depth, &parts.init)
-                && has_few_locals(depth + 2, &parts.condition)
-                && has_few_locals(depth + 2, &parts.step)
-                && has_few_locals(depth + 1, &parts.result)
-        }
+        TypedExpr::Loop { parts, .. } => loop_has_few_locals(depth, parts),
     }
+}
+
+// The same of a comprehension.
+#[cycle(few_locals)]
+fn loop_has_few_locals(depth: u8, parts: &TypedLoop<'_>) -> bool
+    ensures { (t : ValueType) → IsTrue result ↔ HasFewLocals depth (loop_of t (parts_view parts.now)) }
+{
+    if depth > 253 {
+        return false;
+    }
+    has_few_locals(depth, &parts.range)
+        && has_few_locals(depth, &parts.init)
+        && has_few_locals(depth + 2, &parts.condition)
+        && has_few_locals(depth + 2, &parts.step)
+        && has_few_locals(depth + 1, &parts.result)
 }
 
 // The same of each of the expressions.

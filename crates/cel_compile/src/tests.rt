@@ -1,8 +1,7 @@
-//! Worked expressions, from their bytes to bounds, codes and answers; and bounds (`bounds`) and codes
-//! (`verifying`) by themselves. Which trees are read, and their types, the cases of the program show.
+//! Worked expressions, from their bytes to bounds, codes and answers; and codes by themselves (`verifying`). Which
+//! trees are read, their types, and further bounds, the cases of the program show.
 
 mod beside_meaning;
-mod bounds;
 mod container_rows;
 mod loop_rows;
 mod operator_rows;
@@ -28,7 +27,7 @@ use std::alloc::Global;
 use std::process::Abort;
 use std::rc::RcStr;
 use std::test::Fail;
-use worked_rows::{REFUSED, WORKED};
+use worked_rows::WORKED;
 
 /// An expression, what it comes to, in how many steps, its bound, and its message.
 type Row = (
@@ -153,25 +152,6 @@ fn macros(rt: HostRuntime) -> Result<(), Fail> {
 #[test]
 fn comprehensions(rt: HostRuntime) -> Result<(), Fail> {
     check_rows(&rt, rt.alloc(), &FOLDS)
-}
-
-// The bound of a message's expression.
-fn bound_of(alloc: Global, bytes: &[u8]) -> Result<u64, Refusal> {
-    let checked = read_checked(alloc, bytes)?;
-    bound_of_checked(alloc, &checked)
-}
-
-fn bound_of_checked(alloc: Global, checked: &Checked) -> Result<u64, Refusal> {
-    let typed = check(alloc, checked)?;
-    bound(alloc, &typed, &Limits::largest(), u64::MAX)
-}
-
-#[test]
-fn refused(rt: HostRuntime) -> Result<(), Fail> {
-    for (text, fault, bytes) in &REFUSED {
-        assert!(rt; bound_of(rt.alloc(), bytes) == Err(*fault), "at {text}");
-    }
-    Ok(())
 }
 
 // The code of a message's expression.

@@ -170,7 +170,7 @@ fn compare(
     expr: &[u8],
     tally: &mut Tally,
 ) -> Result<(), Fail> {
-    let message = checked_message(alloc, expr)?;
+    let message = checked_message(rt, alloc, expr);
     let checked = read_checked(alloc, &message)?;
     compare_checked(rt, alloc, requests, &checked, tally)
 }
@@ -185,12 +185,12 @@ fn fill_templates(
     tally: &mut Tally,
 ) -> Result<(), Fail> {
     for (kind, template) in &TEMPLATES {
-        let closed = filled(alloc, dice, pool, 0, template)?;
+        let closed = filled(rt, alloc, dice, pool, 0, template);
         compare(rt, alloc, requests, &closed, tally)?;
-        pool.keep(dice, kind, 0, closed)?;
+        pool.keep(rt, dice, kind, 0, closed);
         let scope = dice.scope();
-        let open = filled(alloc, dice, pool, scope, template)?;
-        pool.keep(dice, kind, scope, open)?;
+        let open = filled(rt, alloc, dice, pool, scope, template);
+        pool.keep(rt, dice, kind, scope, open);
     }
     Ok(())
 }
@@ -205,12 +205,12 @@ fn fill_loops(
     tally: &mut Tally,
 ) -> Result<(), Fail> {
     for number in 0..loop_count() {
-        let (kind, scope) = loop_kind(number)?;
-        let expr = comprehension(alloc, dice, pool, number)?;
+        let (kind, scope) = loop_kind(rt, number);
+        let expr = comprehension(rt, alloc, dice, pool, number);
         if scope == 0 {
             compare(rt, alloc, requests, &expr, tally)?;
         }
-        pool.keep(dice, kind, scope, expr)?;
+        pool.keep(rt, dice, kind, scope, expr);
     }
     Ok(())
 }
@@ -228,7 +228,7 @@ fn compare_leaves(
     tally: &mut Tally,
 ) -> Result<(), Fail> {
     for (_, template) in &LEAVES {
-        compare(rt, alloc, requests, &leaf(alloc, template)?, tally)?;
+        compare(rt, alloc, requests, &leaf(rt, alloc, template), tally)?;
     }
     Ok(())
 }
@@ -263,7 +263,7 @@ fn same_answers_within_bounds(rt: HostRuntime) -> Result<(), Fail> {
     let requests = vec![in alloc; plain_get(alloc)?, full_request(alloc)?]?;
     are_within_limits(&rt, &requests);
     let mut dice = Dice::of_seed(1);
-    let mut pool = Pool::new(alloc, &mut dice)?;
+    let mut pool = Pool::new(&rt, alloc, &mut dice);
     let mut tally = Tally {
         trees: 0,
         two_deep: 0,

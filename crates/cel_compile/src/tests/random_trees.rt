@@ -2,7 +2,7 @@
 
 use proto_wire::Writer;
 use std::alloc::Global;
-use std::test::Fail;
+use std::process::Abort;
 
 // The kinds of values; `ints` and `texts` are lists, the last three are maps to ints from texts, to bools
 // from ints, and to texts from texts.
@@ -241,76 +241,71 @@ pub(super) struct Pool {
 }
 
 // The place of the parts of a kind for a scope.
-fn place_of(kind: &str, scope: usize) -> Result<usize, Fail> {
+fn place_of(kind: &str, scope: usize) -> Option<usize> {
     let mut place = scope;
     for name in &KINDS {
         if *name == kind {
-            return Ok(place);
+            return Some(place);
         }
         place = place.saturating_add(SCOPES.len());
     }
-    Err(Fail::from("no such kind"))
+    None
 }
 
 impl Pool {
     /// The leaves for scope 0, and its local for each other.
-    pub(super) fn new(alloc: Global, dice: &mut Dice) -> Result<Pool, Fail> {
+    pub(super) fn new(rt: &impl Abort, alloc: Global, dice: &mut Dice) -> Pool {
         let mut parts = Vec::new(alloc);
         for _ in 0..KINDS.len().saturating_mul(SCOPES.len()) {
-            parts.push(Vec::new(alloc))?;
+            parts.push(Vec::new(alloc)).expect(rt, "memory");
         }
         let mut pool = Pool { parts };
         for (kind, template) in &LEAVES {
-            let bytes = leaf(alloc, template)?;
-            pool.keep(dice, kind, 0, bytes)?;
+            let bytes = leaf(rt, alloc, template);
+            pool.keep(rt, dice, kind, 0, bytes);
         }
         for scope in 1..SCOPES.len() {
             let (_, name, kind) = SCOPES[scope];
-            let bytes = ident(alloc, name)?;
-            pool.keep(dice, kind, scope, bytes)?;
+            let bytes = ident(rt, alloc, name);
+            pool.keep(rt, dice, kind, scope, bytes);
         }
-        Ok(pool)
+        pool
     }
 
     /// Keeps a short expression of this kind for this scope, in the place of another where there are many.
     pub(super) fn keep(
         &mut self,
+        rt: &impl Abort,
         dice: &mut Dice,
         kind: &str,
         scope: usize,
         bytes: Vec<u8>,
-    ) -> Result<(), Fail> {
+    ) {
         if bytes.len() > LONGEST {
-            return Ok(());
+            return;
         }
-        let Some(parts) = self.parts.get_mut(place_of(kind, scope)?) else {
-            return Err(Fail::from("no such scope"));
-        };
+        let place = place_of(kind, scope).expect(rt, "a kind");
+        let parts = self.parts.get_mut(place).expect(rt, "a scope");
         if parts.len() < MOST_KEPT {
-            parts.push(bytes)?;
-            return Ok(());
-        }
-        if let Some(old) = parts.get_mut(dice.below(MOST_KEPT)) {
+            parts.push(bytes).expect(rt, "memory");
+        } else if let Some(old) = parts.get_mut(dice.below(MOST_KEPT)) {
             *old = bytes;
         }
-        Ok(())
     }
 
     // Some expression of this kind for this scope: one of its own, or one of an outer scope.
-    fn some(&self, dice: &mut Dice, kind: &str, scope: usize) -> Result<&[u8], Fail> {
+    fn some(&self, dice: &mut Dice, kind: &str, scope: usize) -> Option<&[u8]> {
         let mut at = scope;
         for _ in 0..SCOPES.len() {
-            let Some(parts) = self.parts.get(place_of(kind, at)?) else {
-                return Err(Fail::from("no such scope"));
-            };
+            let parts = self.parts.get(place_of(kind, at)?)?;
             if at == 0 || dice.below(4) > 0 {
                 if let Some(part) = parts.get(dice.below(parts.len())) {
-                    return Ok(part);
+                    return Some(part);
                 }
             }
             at = outer_of(at);
         }
-        Err(Fail::from("no part of this kind"))
+        None
     }
 }
 
@@ -329,166 +324,186 @@ fn words_of(text: &str) -> (&str, &str) {
     }
 }
 
-fn constant(alloc: Global, name: &str, operand: &str) -> Result<Vec<u8>, Fail> {
+fn constant(rt: &impl Abort, alloc: Global, name: &str, operand: &str) -> Vec<u8> {
     let mut value = Writer::new(Vec::new(alloc));
     match name {
-        "true" => value.varint(2, 1)?,
-        "false" => value.varint(2, 0)?,
-        "int" => value.varint(3, operand.parse()?)?,
-        "uint" => value.varint(4, operand.parse()?)?,
-        "text" => value.text(6, operand)?,
-        "bytes" => value.bytes(7, operand.as_bytes())?,
-        _ => return Err(Fail::from("no such constant")),
+        "true" => value.varint(2, 1).expect(rt, "memory"),
+        "false" => value.varint(2, 0).expect(rt, "memory"),
+        "int" => value
+            .varint(3, operand.parse().expect(rt, "a number"))
+            .expect(rt, "memory"),
+        "uint" => value
+            .varint(4, operand.parse().expect(rt, "a number"))
+            .expect(rt, "memory"),
+        "text" => value.text(6, operand).expect(rt, "memory"),
+        "bytes" => value.bytes(7, operand.as_bytes()).expect(rt, "memory"),
+        _ => assert!(rt; false, "no such constant"),
     }
     let mut expr = Writer::new(Vec::new(alloc));
-    expr.message(3, &value.into_bytes())?;
-    Ok(expr.into_bytes())
+    expr.message(3, &value.into_bytes()).expect(rt, "memory");
+    expr.into_bytes()
 }
 
-fn ident(alloc: Global, name: &str) -> Result<Vec<u8>, Fail> {
+fn ident(rt: &impl Abort, alloc: Global, name: &str) -> Vec<u8> {
     let mut ident = Writer::new(Vec::new(alloc));
-    ident.text(1, name)?;
+    ident.text(1, name).expect(rt, "memory");
     let mut expr = Writer::new(Vec::new(alloc));
-    expr.message(4, &ident.into_bytes())?;
-    Ok(expr.into_bytes())
+    expr.message(4, &ident.into_bytes()).expect(rt, "memory");
+    expr.into_bytes()
 }
 
-fn select(alloc: Global, operand: &[u8], field: &str, test_only: bool) -> Result<Vec<u8>, Fail> {
+fn select(rt: &impl Abort, alloc: Global, operand: &[u8], field: &str, test_only: bool) -> Vec<u8> {
     let mut select = Writer::new(Vec::new(alloc));
-    select.message(1, operand)?;
-    select.text(2, field)?;
+    select.message(1, operand).expect(rt, "memory");
+    select.text(2, field).expect(rt, "memory");
     if test_only {
-        select.varint(3, 1)?;
+        select.varint(3, 1).expect(rt, "memory");
     }
     let mut expr = Writer::new(Vec::new(alloc));
-    expr.message(5, &select.into_bytes())?;
-    Ok(expr.into_bytes())
+    expr.message(5, &select.into_bytes()).expect(rt, "memory");
+    expr.into_bytes()
 }
 
 // An empty list or map of an id.
-fn empty(alloc: Global, id: u64, is_list: bool) -> Result<Vec<u8>, Fail> {
+fn empty(rt: &impl Abort, alloc: Global, id: u64, is_list: bool) -> Vec<u8> {
     let mut expr = Writer::new(Vec::new(alloc));
-    expr.varint(2, id)?;
+    expr.varint(2, id).expect(rt, "memory");
     if is_list {
-        expr.message(7, b"")?;
+        expr.message(7, b"").expect(rt, "memory");
     } else {
-        expr.message(8, b"")?;
+        expr.message(8, b"").expect(rt, "memory");
     }
-    Ok(expr.into_bytes())
+    expr.into_bytes()
 }
 
 /// The expression of a template without parts.
-pub(super) fn leaf(alloc: Global, template: &str) -> Result<Vec<u8>, Fail> {
+pub(super) fn leaf(rt: &impl Abort, alloc: Global, template: &str) -> Vec<u8> {
     let (form, rest) = words_of(template);
     match form {
         "attr" => {
             let (root, field) = words_of(rest);
-            let operand = ident(alloc, root)?;
-            select(alloc, &operand, field, false)
+            let operand = ident(rt, alloc, root);
+            select(rt, alloc, &operand, field, false)
         }
-        "ident" => ident(alloc, rest),
-        "no_ints" => empty(alloc, 1, true),
-        "no_texts" => empty(alloc, 2, true),
-        "no_counts" => empty(alloc, 3, false),
-        "no_flags" => empty(alloc, 4, false),
-        _ => constant(alloc, form, rest),
+        "ident" => ident(rt, alloc, rest),
+        "no_ints" => empty(rt, alloc, 1, true),
+        "no_texts" => empty(rt, alloc, 2, true),
+        "no_counts" => empty(rt, alloc, 3, false),
+        "no_flags" => empty(rt, alloc, 4, false),
+        _ => constant(rt, alloc, form, rest),
     }
 }
 
 // A call of a function on expressions of these kinds; the first is the target, where there is one.
 fn call(
+    rt: &impl Abort,
     alloc: Global,
     dice: &mut Dice,
     pool: &Pool,
     scope: usize,
     words: &str,
     has_target: bool,
-) -> Result<Vec<u8>, Fail> {
+) -> Vec<u8> {
     let (function, kinds) = words_of(words);
     let mut call = Writer::new(Vec::new(alloc));
     let mut is_target = has_target;
     for kind in kinds.split(' ') {
-        let part = pool.some(dice, kind, scope)?;
+        let part = pool.some(dice, kind, scope).expect(rt, "a part");
         if is_target {
-            call.message(1, part)?;
+            call.message(1, part).expect(rt, "memory");
         } else {
-            call.message(3, part)?;
+            call.message(3, part).expect(rt, "memory");
         }
         is_target = false;
     }
-    call.text(2, function)?;
+    call.text(2, function).expect(rt, "memory");
     let mut expr = Writer::new(Vec::new(alloc));
-    expr.message(6, &call.into_bytes())?;
-    Ok(expr.into_bytes())
+    expr.message(6, &call.into_bytes()).expect(rt, "memory");
+    expr.into_bytes()
 }
 
 fn list(
+    rt: &impl Abort,
     alloc: Global,
     dice: &mut Dice,
     pool: &Pool,
     scope: usize,
     kinds: &str,
-) -> Result<Vec<u8>, Fail> {
+) -> Vec<u8> {
     let mut list = Writer::new(Vec::new(alloc));
     for kind in kinds.split(' ') {
-        list.message(1, pool.some(dice, kind, scope)?)?;
+        list.message(1, pool.some(dice, kind, scope).expect(rt, "a part"))
+            .expect(rt, "memory");
     }
     let mut expr = Writer::new(Vec::new(alloc));
-    expr.message(7, &list.into_bytes())?;
-    Ok(expr.into_bytes())
+    expr.message(7, &list.into_bytes()).expect(rt, "memory");
+    expr.into_bytes()
 }
 
 // A map literal: keys and values in turn.
 fn map(
+    rt: &impl Abort,
     alloc: Global,
     dice: &mut Dice,
     pool: &Pool,
     scope: usize,
     kinds: &str,
-) -> Result<Vec<u8>, Fail> {
+) -> Vec<u8> {
     let mut map = Writer::new(Vec::new(alloc));
     let mut entry = Writer::new(Vec::new(alloc));
     let mut is_key = true;
     for kind in kinds.split(' ') {
-        let part = pool.some(dice, kind, scope)?;
+        let part = pool.some(dice, kind, scope).expect(rt, "a part");
         if is_key {
             entry = Writer::new(Vec::new(alloc));
-            entry.message(3, part)?;
+            entry.message(3, part).expect(rt, "memory");
         } else {
-            entry.message(4, part)?;
-            map.message(2, &entry.into_bytes())?;
+            entry.message(4, part).expect(rt, "memory");
+            map.message(2, &entry.into_bytes()).expect(rt, "memory");
             entry = Writer::new(Vec::new(alloc));
         }
         is_key = !is_key;
     }
     let mut expr = Writer::new(Vec::new(alloc));
-    expr.message(8, &map.into_bytes())?;
-    Ok(expr.into_bytes())
+    expr.message(8, &map.into_bytes()).expect(rt, "memory");
+    expr.into_bytes()
 }
 
 /// The expression of a template, filled with parts that may stand in a scope.
 pub(super) fn filled(
+    rt: &impl Abort,
     alloc: Global,
     dice: &mut Dice,
     pool: &Pool,
     scope: usize,
     template: &str,
-) -> Result<Vec<u8>, Fail> {
+) -> Vec<u8> {
     let (form, rest) = words_of(template);
     match form {
-        "call" => call(alloc, dice, pool, scope, rest, false),
-        "on" => call(alloc, dice, pool, scope, rest, true),
-        "list" => list(alloc, dice, pool, scope, rest),
-        "map" => map(alloc, dice, pool, scope, rest),
+        "call" => call(rt, alloc, dice, pool, scope, rest, false),
+        "on" => call(rt, alloc, dice, pool, scope, rest, true),
+        "list" => list(rt, alloc, dice, pool, scope, rest),
+        "map" => map(rt, alloc, dice, pool, scope, rest),
         "field" => {
             let (name, kind) = words_of(rest);
-            select(alloc, pool.some(dice, kind, scope)?, name, false)
+            select(
+                rt,
+                alloc,
+                pool.some(dice, kind, scope).expect(rt, "a part"),
+                name,
+                false,
+            )
         }
-        "has" => {
+        _ => {
             let (name, kind) = words_of(rest);
-            select(alloc, pool.some(dice, kind, scope)?, name, true)
+            select(
+                rt,
+                alloc,
+                pool.some(dice, kind, scope).expect(rt, "a part"),
+                name,
+                true,
+            )
         }
-        _ => Err(Fail::from("no such form")),
     }
 }
 
@@ -498,53 +513,62 @@ pub(super) fn loop_count() -> usize {
 }
 
 /// The kind of a comprehension, and the scope that it stands in.
-pub(super) fn loop_kind(number: usize) -> Result<(&'static str, usize), Fail> {
-    match LOOPS.get(number) {
-        Some((kind, scope, _, _)) => Ok((*kind, *scope)),
-        None => Err(Fail::from("no such comprehension")),
-    }
+pub(super) fn loop_kind(rt: &impl Abort, number: usize) -> (&'static str, usize) {
+    let (kind, scope, _, _) = LOOPS.get(number).expect(rt, "a comprehension");
+    (*kind, *scope)
 }
 
 /// A comprehension. Its condition is `true` or some test.
 pub(super) fn comprehension(
+    rt: &impl Abort,
     alloc: Global,
     dice: &mut Dice,
     pool: &Pool,
     number: usize,
-) -> Result<Vec<u8>, Fail> {
-    let Some((kind, scope, gathers, range)) = LOOPS.get(number) else {
-        return Err(Fail::from("no such comprehension"));
-    };
+) -> Vec<u8> {
+    let (kind, scope, gathers, range) = LOOPS.get(number).expect(rt, "a comprehension");
     let inner = gathers.saturating_add(1);
-    let (Some((_, gathered, gathered_kind)), Some((_, element, _))) = (
-        SCOPES.get(*gathers),
-        SCOPES.get(inner),
-    ) else {
-        return Err(Fail::from("no such scope"));
-    };
-    let goes_on = leaf(alloc, "true")?;
+    let (_, gathered, gathered_kind) = SCOPES.get(*gathers).expect(rt, "a scope");
+    let (_, element, _) = SCOPES.get(inner).expect(rt, "a scope");
+    let goes_on = leaf(rt, alloc, "true");
     let mut parts = Writer::new(Vec::new(alloc));
-    parts.text(1, element)?;
-    parts.message(2, pool.some(dice, range, *scope)?)?;
-    parts.text(3, gathered)?;
-    parts.message(4, pool.some(dice, gathered_kind, *scope)?)?;
+    parts.text(1, element).expect(rt, "memory");
+    parts
+        .message(2, pool.some(dice, range, *scope).expect(rt, "a part"))
+        .expect(rt, "memory");
+    parts.text(3, gathered).expect(rt, "memory");
+    parts
+        .message(
+            4,
+            pool.some(dice, gathered_kind, *scope).expect(rt, "a part"),
+        )
+        .expect(rt, "memory");
     if dice.below(3) > 0 {
-        parts.message(5, &goes_on)?;
+        parts.message(5, &goes_on).expect(rt, "memory");
     } else {
-        parts.message(5, pool.some(dice, "bool", inner)?)?;
+        parts
+            .message(5, pool.some(dice, "bool", inner).expect(rt, "a part"))
+            .expect(rt, "memory");
     }
-    parts.message(6, pool.some(dice, gathered_kind, inner)?)?;
-    parts.message(7, pool.some(dice, kind, *gathers)?)?;
+    parts
+        .message(
+            6,
+            pool.some(dice, gathered_kind, inner).expect(rt, "a part"),
+        )
+        .expect(rt, "memory");
+    parts
+        .message(7, pool.some(dice, kind, *gathers).expect(rt, "a part"))
+        .expect(rt, "memory");
     let mut expr = Writer::new(Vec::new(alloc));
-    expr.message(9, &parts.into_bytes())?;
-    Ok(expr.into_bytes())
+    expr.message(9, &parts.into_bytes()).expect(rt, "memory");
+    expr.into_bytes()
 }
 
 /// The message of a checked expression: the types of empty literals, and the expression.
-pub(super) fn checked_message(alloc: Global, expr: &[u8]) -> Result<Vec<u8>, Fail> {
+pub(super) fn checked_message(rt: &impl Abort, alloc: Global, expr: &[u8]) -> Vec<u8> {
     let mut types = Vec::new(alloc);
-    types.extend_from_slice(TYPES)?;
+    types.extend_from_slice(TYPES).expect(rt, "memory");
     let mut message = Writer::new(types);
-    message.message(4, expr)?;
-    Ok(message.into_bytes())
+    message.message(4, expr).expect(rt, "memory");
+    message.into_bytes()
 }

@@ -18,60 +18,45 @@ fn nots(alloc: Global, count: usize) -> Result<Vec<Instr>, AllocError> {
     Ok(instrs)
 }
 
-/// No instruction stands there.
-fn is_behind(rt: &impl Abort, code: &Code, place: usize) -> Result<(), AllocError> {
-    assert!(rt; code.instr(place)?.is_none());
-    Ok(())
+/// An instruction of these tests in a word: each has its own operands.
+fn word_of(instr: &Instr) -> &'static str {
+    match instr {
+        Instr::Not => "not",
+        Instr::Attr(AttrId::ConnectionMtls) => "mtls",
+        Instr::Test {
+            otherwise: 3,
+            failed: 4,
+        } => "test",
+        Instr::Jump(0) => "jump",
+        Instr::Const(Constant::Bool(false)) => "false",
+        Instr::LoopNext {
+            local: 255,
+            done: 65_535,
+        } => "next",
+        Instr::LoopTest { done: 7, failed: 8 } => "left",
+        Instr::LoopStart { failed: 9 } => "opened",
+        Instr::Arith(ArithmeticOp::Remainder) => "remainder",
+        Instr::Compare(CompareOp::Less) => "less",
+        _ => "another",
+    }
 }
 
-fn is_not(rt: &impl Abort, code: &Code, place: usize) -> Result<(), AllocError> {
-    assert!(rt; matches!(&code.instr(place)?, Some(Instr::Not)));
-    Ok(())
+/// This instruction stands there, or none.
+fn stands(rt: &impl Abort, code: &Code, place: usize, wanted: Option<&str>) {
+    let found = code.instr(place).expect(rt, "memory");
+    assert!(rt; found.as_ref().map(|instr| word_of(instr)) == wanted);
 }
 
-fn is_mtls(rt: &impl Abort, code: &Code, place: usize) -> Result<(), AllocError> {
-    assert!(rt;
-        matches!(
-            &code.instr(place)?,
-            Some(Instr::Attr(AttrId::ConnectionMtls))
-        )
-    );
-    Ok(())
-}
-
-fn is_test(rt: &impl Abort, code: &Code, place: usize) -> Result<(), AllocError> {
-    assert!(rt;
-        matches!(
-            &code.instr(place)?,
-            Some(Instr::Test {
-                otherwise: 3,
-                failed: 4
-            })
-        )
-    );
-    Ok(())
-}
-
-fn is_jump(rt: &impl Abort, code: &Code, place: usize) -> Result<(), AllocError> {
-    assert!(rt; matches!(&code.instr(place)?, Some(Instr::Jump(0))));
-    Ok(())
-}
-
-fn is_false(rt: &impl Abort, code: &Code, place: usize) -> Result<(), AllocError> {
-    assert!(rt;
-        matches!(
-            &code.instr(place)?,
-            Some(Instr::Const(Constant::Bool(false)))
-        )
-    );
-    Ok(())
+fn is_copied(rt: &impl Abort, instr: &Instr, wanted: &str) {
+    let copy = instr.copy().expect(rt, "memory");
+    assert!(rt; word_of(&copy) == wanted);
 }
 
 #[test]
 fn code_of_no_instructions(rt: HostRuntime) -> Result<(), Fail> {
     let code = Code::new(Vec::new(rt.alloc()))?;
     assert!(rt; code.len() == 0);
-    is_behind(&rt, &code, 0)?;
+    stands(&rt, &code, 0, None);
     Ok(())
 }
 
@@ -92,12 +77,12 @@ fn branches(alloc: Global) -> Result<Vec<Instr>, AllocError> {
 fn code_read_back_by_position(rt: HostRuntime) -> Result<(), Fail> {
     let code = Code::new(branches(rt.alloc())?)?;
     assert!(rt; code.len() == 4);
-    is_mtls(&rt, &code, 0)?;
-    is_test(&rt, &code, 1)?;
-    is_jump(&rt, &code, 2)?;
-    is_false(&rt, &code, 3)?;
-    is_behind(&rt, &code, 4)?;
-    is_behind(&rt, &code, usize::MAX)?;
+    stands(&rt, &code, 0, Some("mtls"));
+    stands(&rt, &code, 1, Some("test"));
+    stands(&rt, &code, 2, Some("jump"));
+    stands(&rt, &code, 3, Some("false"));
+    stands(&rt, &code, 4, None);
+    stands(&rt, &code, usize::MAX, None);
     Ok(())
 }
 
@@ -105,8 +90,8 @@ fn code_read_back_by_position(rt: HostRuntime) -> Result<(), Fail> {
 fn code_of_the_greatest_length(rt: HostRuntime) -> Result<(), Fail> {
     let code = Code::new(nots(rt.alloc(), 65_535)?)?;
     assert!(rt; code.len() == 65_535);
-    is_not(&rt, &code, 65_534)?;
-    is_behind(&rt, &code, 65_535)?;
+    stands(&rt, &code, 65_534, Some("not"));
+    stands(&rt, &code, 65_535, None);
     Ok(())
 }
 
@@ -118,49 +103,16 @@ fn code_that_is_too_long(rt: HostRuntime) -> Result<(), Fail> {
 }
 
 #[test]
-fn copy_of_loop_next(rt: HostRuntime) -> Result<(), Fail> {
+fn copies(rt: HostRuntime) {
     let done = Instr::LoopNext {
         local: 255,
         done: 65_535,
     };
-    assert!(rt;
-        matches!(
-            &done.copy()?,
-            Instr::LoopNext {
-                local: 255,
-                done: 65_535
-            }
-        )
-    );
-    Ok(())
-}
-
-#[test]
-fn copy_of_loop_test(rt: HostRuntime) -> Result<(), Fail> {
-    let left = Instr::LoopTest { done: 7, failed: 8 };
-    assert!(rt; matches!(&left.copy()?, Instr::LoopTest { done: 7, failed: 8 }));
-    Ok(())
-}
-
-#[test]
-fn copy_of_loop_start(rt: HostRuntime) -> Result<(), Fail> {
-    let opened = Instr::LoopStart { failed: 9 };
-    assert!(rt; matches!(&opened.copy()?, Instr::LoopStart { failed: 9 }));
-    Ok(())
-}
-
-#[test]
-fn copy_of_arithmetic(rt: HostRuntime) -> Result<(), Fail> {
-    let remainder = Instr::Arith(ArithmeticOp::Remainder);
-    assert!(rt; matches!(&remainder.copy()?, Instr::Arith(ArithmeticOp::Remainder)));
-    Ok(())
-}
-
-#[test]
-fn copy_of_a_comparison(rt: HostRuntime) -> Result<(), Fail> {
-    let less = Instr::Compare(CompareOp::Less);
-    assert!(rt; matches!(&less.copy()?, Instr::Compare(CompareOp::Less)));
-    Ok(())
+    is_copied(&rt, &done, "next");
+    is_copied(&rt, &Instr::LoopTest { done: 7, failed: 8 }, "left");
+    is_copied(&rt, &Instr::LoopStart { failed: 9 }, "opened");
+    is_copied(&rt, &Instr::Arith(ArithmeticOp::Remainder), "remainder");
+    is_copied(&rt, &Instr::Compare(CompareOp::Less), "less");
 }
 
 fn lists_of_bytes(alloc: Global) -> Result<CelType, AllocError> {
