@@ -724,6 +724,7 @@ fn remember_loop(
         around,
         left,
     )?;
+    let one = with_part(Vec::new(alloc), 0, range.memo)?;
     let init = remember(
         alloc,
         &parts.init,
@@ -733,6 +734,7 @@ fn remember_loop(
         around,
         range.left,
     )?;
+    let two = with_part(one, 1, init.memo)?;
     let any = ValueSize::Flat;
     let outer = (&*scope).with(&any);
     let inner = outer.with(&any);
@@ -746,6 +748,7 @@ fn remember_loop(
         around,
         budget_for(turned, init.left),
     )?;
+    let three = with_part(two, 2, condition.memo)?;
     let step = remember(
         alloc,
         &parts.step,
@@ -755,6 +758,7 @@ fn remember_loop(
         around,
         condition.left,
     )?;
+    let four = with_part(three, 3, step.memo)?;
     let end = remember(
         alloc,
         &parts.result,
@@ -764,10 +768,6 @@ fn remember_loop(
         around,
         budget_at(!turned, 2, init.left, step.left),
     )?;
-    let one = with_part(Vec::new(alloc), 0, range.memo)?;
-    let two = with_part(one, 1, init.memo)?;
-    let three = with_part(two, 2, condition.memo)?;
-    let four = with_part(three, 3, step.memo)?;
     let five = with_part(four, 4, end.memo)?;
     Ok(Remembered {
         memo: Memo::of_parts(five),
