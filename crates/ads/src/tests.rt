@@ -8,7 +8,6 @@ mod hostile;
 mod lengths;
 mod making;
 mod pieces;
-mod readings;
 mod requests;
 mod serving;
 mod vectors;

@@ -5,7 +5,7 @@ use super::making::{
 use super::vectors::{ANY_ANY, FIRST_ACK, R, U, joined};
 
 /// A response that gives `f` the filter, with a canary and a control plane.
-pub const RESPONSE: &[&[u8]] = &[
+const RESPONSE: &[&[u8]] = &[
     b"\x00\x00\x00\x00\xf9",
     b"\x0a\x011\x12\x99\x01\x0a=",
     U,
@@ -19,7 +19,7 @@ pub const RESPONSE: &[&[u8]] = &[
 ];
 
 /// A response whose resource stands in a `Resource`, with a version, an alias and a time to live.
-pub const WITH_TTL: &[&[u8]] = &[
+const WITH_TTL: &[&[u8]] = &[
     b"\x00\x00\x00\x01\x3a",
     b"\x0a\x012\x12\xef\x01\x0a7type.googleapis.com/envoy.service.discovery.v3.Resource",
     b"\x12\xb3\x01\x0a\x017\x12\x99\x01\x0a=",
@@ -34,14 +34,14 @@ pub const WITH_TTL: &[&[u8]] = &[
 ];
 
 /// A response of another type.
-pub const CLUSTERS: &[&[u8]] = &[
+const CLUSTERS: &[&[u8]] = &[
     b"\x00\x00\x00\x00\x81",
     b"\x0a\x012\x12A\x0a3type.googleapis.com/envoy.config.cluster.v3.Cluster\x12\x0a\x0a",
     b"\x08outbound\x18\x01\"3type.googleapis.com/envoy.config.cluster.v3.Cluster*\x02n2",
 ];
 
 /// A first request by a node with metadata, a locality, a version, extensions, features and an address, as Go writes it.
-pub const FIRST: &[&[u8]] = &[
+const FIRST: &[&[u8]] = &[
     b"\x00\x00\x00\x01\x84",
     b"\x12\xbf\x02\x0a\x01n\x12\x01c\x1aO\x0a\x0d\x0a\x07NOTHING\x12\x02\x08\x00\x0a\x08",
     b"\x0a\x02ON\x12\x02 \x01\x0a!\x0a\x05PORTS\x12\x182\x16\x0a\x09\x11\x00\x00\x00\x00",
@@ -56,7 +56,7 @@ pub const FIRST: &[&[u8]] = &[
 ];
 
 /// A refusal whose error has details.
-pub const REFUSAL: &[&[u8]] = &[
+const REFUSAL: &[&[u8]] = &[
     b"\x00\x00\x00\x00\x81",
     b"\x0a\x011\x1a\x01f\"=",
     U,
@@ -65,7 +65,7 @@ pub const REFUSAL: &[&[u8]] = &[
 ];
 
 /// A request of such a node for names and locators of another type, as C++ writes it: the order of a map differs.
-pub const OTHER_TYPE: &[&[u8]] = &[
+const OTHER_TYPE: &[&[u8]] = &[
     b"\x00\x00\x00\x01\xc9",
     b"\x0a\x019\x12\xbf\x02\x0a\x01n\x12\x01c\x1aO\x0a\x0d\x0a\x07NOTHING\x12\x02\x08\x00",
     b"\x0a!\x0a\x05PORTS\x12\x182\x16\x0a\x09\x11\x00\x00\x00\x00\x00\x00T@\x0a\x09\x11",
