@@ -117,8 +117,12 @@ fn are_refusals(rt: &impl Abort, alloc: Global, replies: &[u8], count: usize) {
     assert_eq!(rt; replies.len() / REFUSAL_LENGTH, count);
     assert_eq!(rt; replies.len() % REFUSAL_LENGTH, 0);
     for reply in replies.chunks(REFUSAL_LENGTH) {
-        assert!(rt; reply == refusal.as_slice());
+        is_reply(rt, reply, &refusal);
     }
+}
+
+fn is_reply(rt: &impl Abort, reply: &[u8], wanted: &[u8]) {
+    assert!(rt; reply == wanted);
 }
 
 #[test]

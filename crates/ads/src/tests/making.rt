@@ -184,10 +184,13 @@ pub const REFUSED: Verdict = Verdict {
 
 /// The filter `f` of the client lets `GET` through and refuses `POST`, as its condition says.
 pub fn takes_get_alone(rt: &impl Abort, alloc: Global, client: &Client) {
-    let get = request_by(rt, alloc, "GET");
-    let post = request_by(rt, alloc, "POST");
-    decides(rt, client, "f", &get, LET_THROUGH);
-    decides(rt, client, "f", &post, REFUSED);
+    decides_by(rt, alloc, client, "GET", LET_THROUGH);
+    decides_by(rt, alloc, client, "POST", REFUSED);
+}
+
+fn decides_by(rt: &impl Abort, alloc: Global, client: &Client, method: &str, expected: Verdict) {
+    let request = request_by(rt, alloc, method);
+    decides(rt, client, "f", &request, expected);
 }
 
 /// The client begins a stream.
