@@ -7,6 +7,7 @@ use super::vectors::{
     ANY_ANY, FIRST_ACK, FIRST_REQUEST, FIRST_RESPONSE, HALF_BAD_NACK, RESUMED_REQUEST, SECOND_ACK,
     TRUE_AND_TRUE, before, joined,
 };
+use crate::Client;
 use std::alloc::Global;
 use std::process::Abort;
 
@@ -18,12 +19,21 @@ const NO_POLICIES: &[u8] = b"\x0a\x00";
 fn first_response(rt: HostRuntime) {
     let alloc = rt.alloc();
     let mut client = client_of(&rt, alloc, &["f"]);
-    begins(&rt, alloc, &mut client, FIRST_REQUEST);
-    let first = joined(&rt, alloc, FIRST_RESPONSE);
-    answers(&rt, alloc, &mut client, &first, FIRST_ACK);
-    has_policies(&rt, &client, "f", Some(1));
-    has_bound(&rt, &client, "f", Some(4));
-    has_generation(&rt, &client, 1);
+    takes_the_first(&rt, alloc, &mut client);
+}
+
+fn takes_the_first(rt: &impl Abort, alloc: Global, client: &mut Client) {
+    begins(rt, alloc, client, FIRST_REQUEST);
+    answers(
+        rt,
+        alloc,
+        client,
+        &joined(rt, alloc, FIRST_RESPONSE),
+        FIRST_ACK,
+    );
+    has_policies(rt, client, "f", Some(1));
+    has_bound(rt, client, "f", Some(4));
+    has_generation(rt, client, 1);
 }
 
 /// Of a response that is refused the good half is not kept either.
@@ -32,19 +42,21 @@ fn half_bad_response(rt: HostRuntime) {
     let alloc = rt.alloc();
     let mut client = client_with(&rt, alloc, &["f", "g"], ANY_ANY);
     has_generation(&rt, &client, 1);
-    let before = shown(&rt, alloc, &client);
-    answers(
-        &rt,
-        alloc,
-        &mut client,
-        &half_bad(&rt, alloc),
-        HALF_BAD_NACK,
-    );
-    is_shown(&rt, alloc, &client, &before);
-    has_generation(&rt, &client, 1);
-    let get = request_by(&rt, alloc, "GET");
-    decides(&rt, &client, "f", &get, LET_THROUGH);
-    decides(&rt, &client, "g", &get, LET_THROUGH);
+    refuses_half_bad(&rt, alloc, &mut client);
+    lets_through(&rt, alloc, &client);
+}
+
+fn refuses_half_bad(rt: &impl Abort, alloc: Global, client: &mut Client) {
+    let before = shown(rt, alloc, client);
+    answers(rt, alloc, client, &half_bad(rt, alloc), HALF_BAD_NACK);
+    is_shown(rt, alloc, client, &before);
+    has_generation(rt, client, 1);
+}
+
+fn lets_through(rt: &impl Abort, alloc: Global, client: &Client) {
+    let get = request_by(rt, alloc, "GET");
+    decides(rt, client, "f", &get, LET_THROUGH);
+    decides(rt, client, "g", &get, LET_THROUGH);
 }
 
 /// The stream is lost when this many bytes of a second response came. They are forgotten: on the next stream the whole
@@ -53,12 +65,16 @@ fn lost_after(rt: &impl Abort, alloc: Global, second: &[u8], count: usize) {
     let mut client = client_with(rt, alloc, &["f"], TRUE_AND_TRUE);
     answers(rt, alloc, &mut client, before(second, count), &[]);
     client.lost();
-    has_bound(rt, &client, "f", Some(4));
-    has_generation(rt, &client, 1);
-    begins(rt, alloc, &mut client, RESUMED_REQUEST);
-    answers(rt, alloc, &mut client, second, SECOND_ACK);
-    has_policies(rt, &client, "f", Some(0));
-    has_generation(rt, &client, 2);
+    resumes(rt, alloc, &mut client, second);
+}
+
+fn resumes(rt: &impl Abort, alloc: Global, client: &mut Client, second: &[u8]) {
+    has_bound(rt, client, "f", Some(4));
+    has_generation(rt, client, 1);
+    begins(rt, alloc, client, RESUMED_REQUEST);
+    answers(rt, alloc, client, second, SECOND_ACK);
+    has_policies(rt, client, "f", Some(0));
+    has_generation(rt, client, 2);
 }
 
 #[test]
@@ -75,24 +91,32 @@ fn lost_mid_response(rt: HostRuntime) {
 fn empty_response(rt: HostRuntime) {
     let alloc = rt.alloc();
     let mut client = client_with(&rt, alloc, &["f"], ANY_ANY);
-    let empty = response(&rt, alloc, "1", "n1", &[]);
-    answers(&rt, alloc, &mut client, &empty, FIRST_ACK);
-    has_policies(&rt, &client, "f", Some(1));
-    has_generation(&rt, &client, 2);
+    takes_an_empty_one(&rt, alloc, &mut client);
+}
+
+fn takes_an_empty_one(rt: &impl Abort, alloc: Global, client: &mut Client) {
+    let empty = response(rt, alloc, "1", "n1", &[]);
+    answers(rt, alloc, client, &empty, FIRST_ACK);
+    has_policies(rt, client, "f", Some(1));
+    has_generation(rt, client, 2);
 }
 
 /// A name that was not asked for is ignored, also twice.
 #[test]
 fn names_not_asked_for(rt: HostRuntime) {
     let alloc = rt.alloc();
-    let mut client = client_of(&rt, alloc, &["f"]);
-    connects(&rt, &mut client);
     let other = resource(&rt, alloc, "x", b"\x22\x00");
     let filter = resource(&rt, alloc, "f", ANY_ANY);
     let all = response(&rt, alloc, "1", "n1", &[&other, &filter, &other]);
-    answers(&rt, alloc, &mut client, &all, FIRST_ACK);
-    has_policies(&rt, &client, "f", Some(1));
-    has_policies(&rt, &client, "x", None);
+    takes_its_own(&rt, alloc, &all);
+}
+
+fn takes_its_own(rt: &impl Abort, alloc: Global, all: &[u8]) {
+    let mut client = client_of(rt, alloc, &["f"]);
+    connects(rt, &mut client);
+    answers(rt, alloc, &mut client, all, FIRST_ACK);
+    has_policies(rt, &client, "f", Some(1));
+    has_policies(rt, &client, "x", None);
 }
 
 #[test]

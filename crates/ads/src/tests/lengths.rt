@@ -21,11 +21,21 @@ fn is_acknowledged(
     begins(rt, alloc, &mut client, FIRST_REQUEST);
     answers(rt, alloc, &mut client, response, ack);
     begins(rt, alloc, &mut client, resumed);
+    takes_bytes(rt, alloc, &mut client, response, ack);
+}
+
+fn takes_bytes(
+    rt: &impl Abort,
+    alloc: Global,
+    client: &mut Client,
+    response: &[u8],
+    ack: &[&[u8]],
+) {
     if let Some((last, bytes)) = response.split_last() {
         for byte in bytes {
-            answers(rt, alloc, &mut client, &[*byte], &[]);
+            answers(rt, alloc, client, &[*byte], &[]);
         }
-        answers(rt, alloc, &mut client, &[*last], ack);
+        answers(rt, alloc, client, &[*last], ack);
     }
 }
 
@@ -71,7 +81,12 @@ fn the_longest_response(rt: HostRuntime) {
     let mut client = client_of(&rt, alloc, &["f"]);
     begins(&rt, alloc, &mut client, FIRST_REQUEST);
     let version = long_text(&rt, alloc, 1_048_505);
-    let longest = response(&rt, alloc, &version, "n1", &[]);
+    takes_the_longest(&rt, alloc, &mut client, &version);
+    is_broken_by_more(&rt, alloc, &mut client, &version);
+}
+
+fn takes_the_longest(rt: &impl Abort, alloc: Global, client: &mut Client, version: &str) {
+    let longest = response(rt, alloc, version, "n1", &[]);
     let ack: &[&[u8]] = &[
         b"\x00\x00\x10\x00\x03\x0a\xb9\xff\x3f",
         version.as_bytes(),
@@ -79,17 +94,20 @@ fn the_longest_response(rt: HostRuntime) {
         U,
         b"\x2a\x02n1",
     ];
-    answers(&rt, alloc, &mut client, &longest, ack);
-    let longer = response(&rt, alloc, &version, "n12", &[]);
-    is_broken_by(&rt, alloc, &mut client, &longer, &[]);
-    has_generation(&rt, &client, 1);
+    answers(rt, alloc, client, &longest, ack);
+}
+
+fn is_broken_by_more(rt: &impl Abort, alloc: Global, client: &mut Client, version: &str) {
+    let longer = response(rt, alloc, version, "n12", &[]);
+    is_broken_by(rt, alloc, client, &longer, &[]);
+    has_generation(rt, client, 1);
     let resumed: &[&[u8]] = &[
         b"\x00\x00\x10\x00\x07\x0a\xb9\xff\x3f",
         version.as_bytes(),
         b"\x12\x06\x0a\x01n\x12\x01c\x1a\x01f\x22\x3d",
         U,
     ];
-    begins(&rt, alloc, &mut client, resumed)
+    begins(rt, alloc, client, resumed)
 }
 
 /// The refusal of a response without bytes, after version `1`.

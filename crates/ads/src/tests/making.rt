@@ -275,19 +275,29 @@ const TWO_DIGITS: (&[u8], &[u8]) = (
 /// number. What it accepted stays, and a later stream goes on from there.
 pub fn refuses(rt: &impl Abort, alloc: Global, response: &[u8], number: &[u8]) {
     let mut client = client_with(rt, alloc, &["f"], METHOD_IS_GET);
+    refuses_once(rt, alloc, &mut client, response, number);
+    takes_get_alone(rt, alloc, &client);
+    has_generation(rt, &client, 1);
+    client.lost();
+    begins(rt, alloc, &mut client, RESUMED_REQUEST)
+}
+
+fn refuses_once(
+    rt: &impl Abort,
+    alloc: Global,
+    client: &mut Client,
+    response: &[u8],
+    number: &[u8],
+) {
     let (head, status) = if number.len() == 1 {
         ONE_DIGIT
     } else {
         TWO_DIGITS
     };
     let nack: &[&[u8]] = &[head, U, status, b"policy refused: ", number];
-    let before = shown(rt, alloc, &client);
-    answers(rt, alloc, &mut client, response, nack);
-    is_shown(rt, alloc, &client, &before);
-    takes_get_alone(rt, alloc, &client);
-    has_generation(rt, &client, 1);
-    client.lost();
-    begins(rt, alloc, &mut client, RESUMED_REQUEST)
+    let before = shown(rt, alloc, client);
+    answers(rt, alloc, client, response, nack);
+    is_shown(rt, alloc, client, &before);
 }
 
 /// A snapshot that gives these names filters, in this order.
