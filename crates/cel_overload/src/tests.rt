@@ -1,7 +1,6 @@
-//! The table of overloads; the operations of `cel_ops` on which they end (`operations`), and the requests of
-//! `attributes` (`request_facts`).
+//! The table of overloads, and the requests of `attributes` (`request_facts`). The operations on which overloads end
+//! the cases of the program show.
 
-mod operations;
 mod request_facts;
 mod table;
 
