@@ -7,6 +7,7 @@ use crate::policy::{read_checked, read_policy};
 use attributes::Limits;
 use proto_wire::{Field, MapEntry, Refusal, payloads_of, read_entries, read_fields, read_parts};
 use rbac_match::{AND, NOT, OR, RULE_DEPTH, RULES as SET_RULES, Side, read_rule, trailing_run};
+use smallvec::SmallVec;
 use std::alloc::Global;
 
 /// The part of the filter's message that has this fault, as
@@ -16,18 +17,40 @@ use std::alloc::Global;
 pub fn place_of(alloc: Global, bytes: &[u8], refusal: Refusal) -> Option<String> {
     let top = read_fields(alloc, bytes).ok()?;
     let rules = payloads_of(alloc, &top, RULES).ok()?;
-    let fields = read_parts(alloc, &rules).ok()?;
-    if let Some(name) = part_of_rules(&fields, refusal) {
-        return String::from_str(alloc, name).ok();
+    place_in_rules(alloc, &rules, refusal)
+}
+
+// Each of the functions lends what it owns to the next: an exit of a function drops all that it owns, which
+// is dear in a proof.
+
+/// The part of the filter's rules that has the fault.
+fn place_in_rules(alloc: Global, rules: &[&[u8]], refusal: Refusal) -> Option<String> {
+    let fields = read_parts(alloc, rules).ok()?;
+    match part_of_rules(&fields, refusal) {
+        Some(name) => String::from_str(alloc, name).ok(),
+        None => place_in_policies(alloc, &fields, refusal),
     }
-    let entries = payloads_of(alloc, &fields, POLICIES).ok()?;
-    let named: Vec<MapEntry<'_, &str>> = read_entries(alloc, &entries).ok()?;
+}
+
+/// The first policy of the rules that has the fault by itself, and its part.
+fn place_in_policies(alloc: Global, fields: &[Field<'_>], refusal: Refusal) -> Option<String> {
+    let entries = payloads_of(alloc, fields, POLICIES).ok()?;
+    place_in_entries(alloc, &entries, refusal)
+}
+
+fn place_in_entries(alloc: Global, entries: &[&[u8]], refusal: Refusal) -> Option<String> {
+    let named: Vec<MapEntry<'_, &str>> = read_entries(alloc, entries).ok()?;
     for (name, parts) in &named {
-        if read_policy(alloc, name, parts, &Limits::largest(), u64::MAX).err() == Some(refusal) {
+        if is_at_fault(alloc, name, parts, refusal) {
             return place_in_policy(alloc, name, parts, refusal);
         }
     }
     None
+}
+
+/// Whether this policy has the fault.
+fn is_at_fault(alloc: Global, name: &str, parts: &[&[u8]], refusal: Refusal) -> bool {
+    read_policy(alloc, name, parts, &Limits::largest(), u64::MAX).err() == Some(refusal)
 }
 
 /// The field of the filter's rules that has the fault.
@@ -41,26 +64,31 @@ fn part_of_rules(fields: &[Field<'_>], refusal: Refusal) -> Option<&'static str>
     None
 }
 
-/// The part of this policy that has the fault: a rule, its checked condition, or all of it.
+/// This policy, and its part that has the fault: a rule, its checked condition, or all of it.
 fn place_in_policy(alloc: Global, name: &str, parts: &[&[u8]], refusal: Refusal) -> Option<String> {
-    let mut place = format!(in alloc; "policy {name:?}").ok()?;
-    let Ok(fields) = read_parts(alloc, parts) else {
-        return Some(place);
-    };
-    let rule = match path_in_side(alloc, Side::Permission, &fields, refusal) {
-        Some(path) => Some(path),
-        None => path_in_side(alloc, Side::Principal, &fields, refusal),
-    };
-    if let Some(path) = rule {
-        place.push_str(": ").ok()?;
-        place.push_str(path.as_str()).ok()?;
-        return Some(place);
+    match part_of_policy(alloc, parts, refusal) {
+        Some(part) => format!(in alloc; "policy {name:?}: {part}").ok(),
+        None => format!(in alloc; "policy {name:?}").ok(),
     }
-    let condition = read_checked(alloc, &fields, &Limits::largest(), u64::MAX);
-    if condition.err() == Some(refusal) {
-        place.push_str(": checked_condition").ok()?;
+}
+
+fn part_of_policy(alloc: Global, parts: &[&[u8]], refusal: Refusal) -> Option<String> {
+    let fields = read_parts(alloc, parts).ok()?;
+    if let Some(path) = path_in_side(alloc, Side::Permission, &fields, refusal) {
+        return Some(path);
     }
-    Some(place)
+    if let Some(path) = path_in_side(alloc, Side::Principal, &fields, refusal) {
+        return Some(path);
+    }
+    if is_condition_at_fault(alloc, &fields, refusal) {
+        return String::from_str(alloc, "checked_condition").ok();
+    }
+    None
+}
+
+/// Whether the checked condition of these fields has the fault.
+fn is_condition_at_fault(alloc: Global, fields: &[Field<'_>], refusal: Refusal) -> bool {
+    read_checked(alloc, fields, &Limits::largest(), u64::MAX).err() == Some(refusal)
 }
 
 /// The path to the innermost rule of one side that has the fault.
@@ -75,9 +103,19 @@ fn path_in_side(
         Side::Principal => (PRINCIPALS, "principals"),
     };
     let rules = payloads_of(alloc, fields, number).ok()?;
-    let index = index_at_fault(alloc, side, &rules, RULE_DEPTH, refusal)?;
-    let mut path = format!(in alloc; "{name}[{index}]").ok()?;
+    path_in_rules(alloc, side, name, &rules, refusal)
+}
+
+fn path_in_rules(
+    alloc: Global,
+    side: Side,
+    name: &str,
+    rules: &[&[u8]],
+    refusal: Refusal,
+) -> Option<String> {
+    let index = index_at_fault(alloc, side, rules, RULE_DEPTH, refusal)?;
     let mut rule = *rules.get(index)?;
+    let mut path = format!(in alloc; "{name}[{index}]").ok()?;
     for depth in (0..RULE_DEPTH).rev() {
         let Some((step, inner)) = inner_at_fault(alloc, side, rule, depth, refusal) else {
             return Some(path);
@@ -86,6 +124,14 @@ fn path_in_side(
         rule = inner;
     }
     Some(path)
+}
+
+/// The rules right inside of another one: the step to them, and whether they have numbers.
+#[derive(Drop)]
+struct Inside<'a> {
+    step: &'static str,
+    numbered: bool,
+    rules: SmallVec<&'a [u8], 1>,
 }
 
 /// The first rule inside this one that has the fault, where it may have `depth` levels, and the step
@@ -97,19 +143,58 @@ fn inner_at_fault<'a>(
     depth: u32,
     refusal: Refusal,
 ) -> Option<(String, &'a [u8])> {
+    let inside = inside_of(alloc, side, rule)?;
+    first_at_fault(alloc, side, &inside, depth, refusal)
+}
+
+fn first_at_fault<'a>(
+    alloc: Global,
+    side: Side,
+    inside: &Inside<'a>,
+    depth: u32,
+    refusal: Refusal,
+) -> Option<(String, &'a [u8])> {
+    let index = index_at_fault(alloc, side, &inside.rules, depth, refusal)?;
+    let rule = *inside.rules.get(index)?;
+    let step = step_to(alloc, inside.step, inside.numbered, index)?;
+    Some((step, rule))
+}
+
+fn step_to(alloc: Global, step: &str, numbered: bool, index: usize) -> Option<String> {
+    if numbered {
+        return format!(in alloc; "{step}[{index}]").ok();
+    }
+    String::from_str(alloc, step).ok()
+}
+
+/// The rules inside of this one, where it holds any.
+fn inside_of<'a>(alloc: Global, side: Side, rule: &'a [u8]) -> Option<Inside<'a>> {
     let fields = read_fields(alloc, rule).ok()?;
+    inside_of_fields(alloc, side, &fields)
+}
+
+fn inside_of_fields<'a>(alloc: Global, side: Side, fields: &[Field<'a>]) -> Option<Inside<'a>> {
     let number = fields.last()?.number;
     let step = step_of(side, number)?;
-    let payloads = payloads_of(alloc, trailing_run(&fields), number).ok()?;
+    let payloads = payloads_of(alloc, trailing_run(fields), number).ok()?;
     if number == NOT {
-        let index = index_at_fault(alloc, side, &payloads, depth, refusal)?;
-        return Some((String::from_str(alloc, step).ok()?, *payloads.get(index)?));
+        return Some(Inside {
+            step,
+            numbered: false,
+            rules: payloads,
+        });
     }
-    let set = read_parts(alloc, &payloads).ok()?;
-    let rules = payloads_of(alloc, &set, SET_RULES).ok()?;
-    let index = index_at_fault(alloc, side, &rules, depth, refusal)?;
-    let step = format!(in alloc; "{step}[{index}]").ok()?;
-    Some((step, *rules.get(index)?))
+    Some(Inside {
+        step,
+        numbered: true,
+        rules: rules_of_set(alloc, &payloads)?,
+    })
+}
+
+/// The rules of a set in these payloads.
+fn rules_of_set<'a>(alloc: Global, payloads: &[&'a [u8]]) -> Option<SmallVec<&'a [u8], 1>> {
+    let set = read_parts(alloc, payloads).ok()?;
+    payloads_of(alloc, &set, SET_RULES).ok()
 }
 
 /// The step to the rules in a member of this number, by Envoy's names.
