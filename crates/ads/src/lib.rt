@@ -20,6 +20,3 @@ pub use client::{Client, Fed};
 pub use config::{Config, ConfigFault, Filter};
 pub use control::Control;
 pub use snapshot::{Resource, Snapshot};
-
-#[cfg(test)]
-mod tests;

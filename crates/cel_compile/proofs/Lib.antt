@@ -16,4 +16,3 @@ pub mod Settling
 pub mod Tables
 pub mod Forks
 pub mod Forwards
-pub mod PlainSteps

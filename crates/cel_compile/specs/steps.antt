@@ -1,3 +1,2 @@
 -- Definitions that clauses of private functions cite.
 pub mod Emitting
-pub mod Plain

@@ -7,6 +7,3 @@ mod instructions;
 pub mod laws;
 
 pub use compiler::compile;
-
-#[cfg(test)]
-mod tests;

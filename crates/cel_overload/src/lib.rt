@@ -5,8 +5,6 @@ mod function;
 mod kinds;
 pub mod laws;
 mod overload;
-#[cfg(test)]
-mod tests;
 
 pub use function::{Function, function_named};
 pub use overload::{Found, Overload, OverloadFault, ResultType, find_overload};

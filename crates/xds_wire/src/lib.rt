@@ -26,6 +26,3 @@ pub use node::Node;
 pub use request::{DiscoveryRequest, read_request, write_request};
 pub use response::{DiscoveryResponse, read_response, write_response};
 pub use status::Status;
-
-#[cfg(test)]
-mod tests;

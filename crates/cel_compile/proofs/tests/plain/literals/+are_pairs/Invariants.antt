@@ -1,5 +1,0 @@
-use Rattle.std.proofs.Common.{length}
-use Rattle.cel_compile.proofs.tests.plain.literals.+are_pairs.Given as goal
-
-abbrev pub decreases-are_pairs : goal.decreases-are_pairs
-decreases-are_pairs l = length l.operands.now

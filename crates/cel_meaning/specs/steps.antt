@@ -1,0 +1,2 @@
+-- Definitions that clauses of private functions cite.
+pub mod Plain

@@ -1,0 +1,94 @@
+//! Constants, names and attributes.
+
+ghost use Rattle.std.specs.Prelude.{◌≡◌, IfOk, false, option_map};
+ghost use Rattle.attributes.specs.Attributes.{IsOrdered, attr_view};
+ghost use Rattle.cel_ops.specs.Attributes.{attribute, attribute_value};
+ghost use Rattle.cel_tree.specs.View.{constant_view};
+ghost use Rattle.cel_value.specs.Texts.{points_of, text_view};
+ghost use Rattle.cel_value.specs.View.{answer_view, value_view};
+ghost use Rattle.cel_types.specs.Meaning.{attribute_answer, name_answer};
+ghost use Rattle.cel_types.specs.Names.{joined_name, local};
+ghost use Rattle.cel_meaning.specs.steps.Plain.{locals_view};
+
+use crate::known::find;
+use attributes::{AttrId, AttrValue, Request};
+use cel_tree::Constant;
+use cel_types::{attribute_named, joined_name};
+use cel_value::{Answer, CelError, Map, Value, copy_answer};
+use std::alloc::{AllocError, Global};
+use std::rc::RcStr;
+
+/// A constant as a value that shares its text or bytes.
+pub(super) fn constant_value(constant: &Constant) -> Result<Value, AllocError>
+    ensures { IfOk result (λ value. value_view value ≡ constant_view constant.now) }
+{
+    match constant {
+        Constant::Bool(b) => Ok(Value::Bool(*b)),
+        Constant::Int(i) => Ok(Value::Int(*i)),
+        Constant::Uint(n) => Ok(Value::Uint(*n)),
+        Constant::Text(text) => Ok(Value::Text(text.clone()?)),
+        Constant::Bytes(bytes) => Ok(Value::Bytes(bytes.clone()?)),
+    }
+}
+
+/// What a name comes to: the innermost local of that name, or the attribute.
+pub(super) fn name_answer(
+    name: &RcStr,
+    request: &Request,
+    known: &[(RcStr, Answer)],
+) -> Result<Option<Answer>, AllocError>
+    ensures { IfOk result (λ found. option_map answer_view found ≡ name_answer request.now (text_view name.now)
+        (local (text_view name.now) (locals_view known.now))) }
+{
+    match find(known, name) {
+        Some(answer) => Ok(Some(copy_answer(answer)?)),
+        None => attribute_answer(name.as_str(), request),
+    }
+}
+
+/// The attribute of a root's field.
+pub(super) fn field_answer(
+    alloc: Global,
+    root: &RcStr,
+    field: &RcStr,
+    request: &Request,
+) -> Result<Option<Answer>, AllocError>
+    ensures { IfOk result (λ found. option_map answer_view found ≡ attribute_answer request.now
+        (joined_name (text_view root.now) (text_view field.now))) }
+{
+    let name = joined_name(alloc, root.as_str(), field.as_str())?;
+    attribute_answer(&name, request)
+}
+
+fn attribute_answer(name: &str, request: &Request) -> Result<Option<Answer>, AllocError>
+    ensures { IfOk result (λ found. option_map answer_view found ≡ attribute_answer request.now (points_of name.now)) }
+{
+    match attribute_named(name) {
+        Some(id) => Ok(Some(read_attribute(request, id)?)),
+        None => Ok(None),
+    }
+}
+
+// An attribute of the request, or `MissingAttribute`.
+fn read_attribute(request: &Request, id: AttrId) -> Result<Answer, AllocError>
+    ensures { IfOk result (λ answer. answer_view answer ≡ attribute request.now id) }
+{
+    match request.attr(id) {
+        Some(found) => Ok(Ok(share_value(found)?)),
+        None => Ok(Err(CelError::MissingAttribute)),
+    }
+}
+
+// The value that an attribute is; of headers, their own pairs.
+fn share_value(found: AttrValue<'_>) -> Result<Value, AllocError>
+    requires { IsOrdered found }
+    ensures { IfOk result (λ value. value_view value ≡ attribute_value (attr_view found.entry)) }
+{
+    match found {
+        AttrValue::Text(text) => Ok(Value::Text(text.clone()?)),
+        AttrValue::Int(n) => Ok(Value::Int(n)),
+        AttrValue::Uint(n) => Ok(Value::Uint(n)),
+        AttrValue::Bool(b) => Ok(Value::Bool(b)),
+        AttrValue::Pairs(headers) => Ok(Value::Map(Map::Texts(headers.pairs().clone()?))),
+    }
+}
