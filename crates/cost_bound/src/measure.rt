@@ -395,6 +395,7 @@ fn measure_conditional(
         [condition, first, second] => {
             let tested = measure(alloc, condition, limits, scope, part(memo, 0), left)?;
             let before = pay(tested.left, 0)?;
+            drop(tested);
             let one = measure(alloc, first, limits, scope, part(memo, 1), before)?;
             if measure_alike(first, second) {
                 let left = pay(one.left, 0)?;
@@ -437,10 +438,11 @@ fn measure_loop(
 {
     let range = measure(alloc, &parts.range, limits, scope, part(memo, 0), left)?;
     let opened = pay(range.left, range.size.most())?;
-    let init = measure(alloc, &parts.init, limits, scope, part(memo, 1), opened)?;
-    let stored = pay(init.left, 0)?;
     let element = range.size.element()?;
     let turns = range.size.most();
+    drop(range);
+    let init = measure(alloc, &parts.init, limits, scope, part(memo, 1), opened)?;
+    let stored = pay(init.left, 0)?;
     let any = ValueSize::Flat;
     let around = (&*scope).with(&any);
     let inside = around.with(&element);

@@ -2,7 +2,7 @@
 
 ghost use Rattle.std.specs.Prelude.{◌≡◌, ◌+◌, ◌*◌, ◌↔◌, ℕ, IfOk, IsTrue};
 ghost use Rattle.cost_bound.specs.Costs.{element_size, resized, value_size};
-ghost use Rattle.cost_bound.specs.Sizes.{Flat, Many, Table, Text, join, mass_of, most_of};
+ghost use Rattle.cost_bound.specs.Sizes.{Flat, Many, Size, Table, Text, join, mass_of, most_of};
 ghost use Rattle.cost_bound.specs.steps.Numbers.{capped};
 ghost use Rattle.cost_bound.specs.steps.SizeView.{size_view};
 
@@ -162,41 +162,46 @@ fn join_parts(alloc: Global, left: &ValueSize, right: &ValueSize) -> Result<Valu
             ValueSize::Many(other, others) => {
                 many(alloc, (*most).max(*other), join(alloc, items, others)?)
             }
-            ValueSize::Table(other, keys, values) => {
-                let first = join(alloc, items, keys)?;
-                table(
-                    alloc,
-                    (*most).max(*other),
-                    first,
-                    join(alloc, items, values)?,
-                )
-            }
+            ValueSize::Table(other, keys, values) => table_of(
+                alloc,
+                (*most).max(*other),
+                join(alloc, items, keys),
+                join(alloc, items, values),
+            ),
         },
         ValueSize::Table(most, keys, values) => match right {
             ValueSize::Flat => left.copy(),
             ValueSize::Text(other) => {
                 Ok(ValueSize::Table((*most).max(*other), keys.clone()?, values.clone()?))
             }
-            ValueSize::Many(other, items) => {
-                let first = join(alloc, keys, items)?;
-                table(
-                    alloc,
-                    (*most).max(*other),
-                    first,
-                    join(alloc, values, items)?,
-                )
-            }
-            ValueSize::Table(other, others, further) => {
-                let first = join(alloc, keys, others)?;
-                table(
-                    alloc,
-                    (*most).max(*other),
-                    first,
-                    join(alloc, values, further)?,
-                )
-            }
+            ValueSize::Many(other, items) => table_of(
+                alloc,
+                (*most).max(*other),
+                join(alloc, keys, items),
+                join(alloc, values, items),
+            ),
+            ValueSize::Table(other, others, further) => table_of(
+                alloc,
+                (*most).max(*other),
+                join(alloc, keys, others),
+                join(alloc, values, further),
+            ),
         },
     }
+}
+
+// The size of maps of these keys and values, where memory was there for both.
+fn table_of(
+    alloc: Global,
+    most: u64,
+    keys: Result<ValueSize, AllocError>,
+    values: Result<ValueSize, AllocError>,
+) -> Result<ValueSize, AllocError>
+    ensures { (k v : Size) → IfOk keys (λ size. size_view size ≡ k) → IfOk values (λ size. size_view size ≡ v)
+        → IfOk result (λ size. size_view size ≡ Table most k v) }
+{
+    let keys = keys?;
+    table(alloc, most, keys, values?)
 }
 
 fn join_text(most: u64, right: &ValueSize) -> Result<ValueSize, AllocError>
