@@ -156,11 +156,23 @@ def nested(wrap, count, inner):
     return inner
 
 
+def fold(element, over, gathered, init, step, result):
+    """A comprehension whose condition is true."""
+    parts = ((1, element), (2, over), (3, gathered), (4, init), (5, TRUE), (6, step), (7, result))
+    return text(LOOP, b"".join(text(number, part) for number, part in parts))
+
+
 def grown_twice(inner, result):
     """`fold(x, [1, 1], t, "", true, t + inner, result)`: a comprehension that no macro gives."""
     step = call(b"_+_", [ident(b"t"), inner])
-    parts = ((1, b"x"), (2, sequence([integer(1)] * 2)), (3, b"t"), (4, string(b"")), (5, TRUE), (6, step), (7, result))
-    return text(LOOP, b"".join(text(number, part) for number, part in parts))
+    return fold(b"x", sequence([integer(1)] * 2), b"t", string(b""), step, result)
+
+
+def grown_endlessly(result):
+    """A text that grows by a letter in each of 2^40 turns: a list is doubled forty times, and then walked."""
+    items, one = ident(b"l"), sequence([integer(1)])
+    doubled = fold(b"x", sequence([integer(1)] * 40), b"l", one, call(b"_+_", [items, items]), items)
+    return fold(b"y", doubled, b"t", string(b""), call(b"_+_", [ident(b"t"), string(b"a")]), result)
 
 
 # an expression of each type, in the notation above

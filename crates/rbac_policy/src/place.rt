@@ -15,10 +15,17 @@ use std::alloc::Global;
 /// cannot be told, as of `TooCostly`, which is a fault of several conditions together. Control
 /// characters of the name are escaped.
 pub fn place_of(alloc: Global, bytes: &[u8], refusal: Refusal) -> Option<String> {
+    if refusal == Refusal::TooCostly {
+        return None;
+    }
     let top = read_fields(alloc, bytes).ok()?;
     let rules = payloads_of(alloc, &top, RULES).ok()?;
     place_in_rules(alloc, &rules, refusal)
 }
+
+/// The budget with which conditions are read once more. Each other fault comes before a condition is
+/// bounded, and a bound without a budget might be sought for as long as the condition itself could run.
+const NO_STEPS: u64 = 0;
 
 // Each of the functions lends what it owns to the next: an exit of a function drops all that it owns, which
 // is dear in a proof.
@@ -50,7 +57,7 @@ fn place_in_entries(alloc: Global, entries: &[&[u8]], refusal: Refusal) -> Optio
 
 /// Whether this policy has the fault.
 fn is_at_fault(alloc: Global, name: &str, parts: &[&[u8]], refusal: Refusal) -> bool {
-    read_policy(alloc, name, parts, &Limits::largest(), u64::MAX).err() == Some(refusal)
+    read_policy(alloc, name, parts, &Limits::largest(), NO_STEPS).err() == Some(refusal)
 }
 
 /// The field of the filter's rules that has the fault.
@@ -88,7 +95,7 @@ fn part_of_policy(alloc: Global, parts: &[&[u8]], refusal: Refusal) -> Option<St
 
 /// Whether the checked condition of these fields has the fault.
 fn is_condition_at_fault(alloc: Global, fields: &[Field<'_>], refusal: Refusal) -> bool {
-    read_checked(alloc, fields, &Limits::largest(), u64::MAX).err() == Some(refusal)
+    read_checked(alloc, fields, &Limits::largest(), NO_STEPS).err() == Some(refusal)
 }
 
 /// The path to the innermost rule of one side that has the fault.
