@@ -2,6 +2,7 @@
 use Rattle.std.proofs.Common.{◌≡◌, ℕ, suc, ◌+◌, ◌<◌, ◌≤◌, inl, inr, List, [], ◌∷◌, length, Some, refl, sym, ap, ◌∙◌, subst, arith, slice_get}
 use Rattle.std.proofs.lemmas.Bool.{cases_lt}
 use Rattle.std.proofs.lemmas.Option.{slice_get_within}
+use Rattle.attributes.specs.Request.{IsRequest, RequestValue}
 use Rattle.cel_value.specs.Types.{ValueType, bool_type, map_type}
 use Rattle.cel_value.specs.declared.cel_type.KeyType.TheVariants as keys
 use Rattle.cel_overload.specs.declared.overload.Overload.TheVariants as overloads
@@ -12,9 +13,11 @@ use Rattle.cel_types.specs.Typing.{IsOver, maps_of}
 use Rattle.cel_types.specs.WellTyped.{AreWellTyped, IsWellTyped}
 use Rattle.cel_types.proofs.WellTypedElaborations.{elaborated_typed}
 use Rattle.stack_machine.specs.Instructions.{Instruction, Attr, And, Const, Field, HasField, IfFalse, IfTrue, Load, Or}
+use Rattle.stack_machine.specs.Machine.{NeverStuck}
 use Rattle.stack_machine.specs.Shapes.{Serves, leaves, ways}
 use Rattle.stack_machine.specs.Slots.{Slot, field_slot, has_field_slot, of}
 use Rattle.stack_machine.specs.Typable.{Forward, Table}
+use Rattle.stack_machine.proofs.Sound.{never_stuck_lem}
 use Rattle.cel_compile.specs.Codes.{code_of, extent, instruction_of, list_instruction, map_instruction}
 use Rattle.cel_compile.proofs.Forks.{both_flow, choice_flow, if_false, if_true, less_serves, loop_flow, tests}
 use Rattle.cel_compile.proofs.Leading.{call_leaves, constant_known, known_local, list_leaves, loop_known, map_leaves, pushed, shape, to, walked, walked_is}
@@ -356,3 +359,10 @@ pub elaborated_code_is_forward : (c : CelChecked) (e : TypedTree) → HasGoodCon
     → Forward (code_of 0 0 e) (kind e)
 elaborated_code_is_forward c e good elaborated =
     code_is_forward e (elaborated_typed (maps_of c) [] c.tree e good elaborated.elaborates)
+
+-- so no run of it is ever stuck
+pub code_never_stuck : (e : TypedTree) (request : RequestValue) → IsWellTyped [] e → IsRequest request
+    → NeverStuck (code_of 0 0 e) request
+code_never_stuck e request g sound =
+    let found = code_is_forward e g in
+    never_stuck_lem (code_of 0 0 e) (kind e) request (found.0, found.1.typed) sound

@@ -10,6 +10,7 @@ ghost use Rattle.cel_tree.specs.Trees.{node_count};
 ghost use Rattle.cel_types.specs.Elaborated.{IsElaborated, TypedTree, kind};
 ghost use Rattle.cel_types.specs.WellTyped.{IsWellTyped};
 ghost use Rattle.stack_machine.specs.Instructions.{Instruction};
+ghost use Rattle.stack_machine.specs.Machine.{NeverStuck};
 ghost use Rattle.stack_machine.specs.Typable.{Forward};
 ghost use Rattle.cel_compile.specs.Codes.{code_of, extent};
 ghost use Rattle.cel_compile.specs.Slots.{HasFewLocals};
@@ -28,6 +29,13 @@ pub fn compiled_code_means_its_expression()
     ensures { (c : CelChecked) (e : TypedTree) → HasGoodConstants c.tree → IsElaborated c e
         → (request : RequestValue) (limits : LimitsValue) → IsRequest request → InLimits request limits
         → RunsToMeaning (code_of 0 0 e) c e request limits }
+{}
+
+/// No run of a well typed expression's code is ever stuck, on any request: no instruction lacks an
+/// operand, meets one of the wrong kind or leads out of the code.
+pub fn compiled_code_is_never_stuck()
+    ensures { (e : TypedTree) (request : RequestValue) → IsWellTyped [] e → IsRequest request
+        → NeverStuck (code_of 0 0 e) request }
 {}
 
 /// The code of an expression has as many instructions as its extent, and that of an elaboration fewer

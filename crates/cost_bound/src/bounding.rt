@@ -1,16 +1,18 @@
 //! The bound of a checked expression.
 
-ghost use Rattle.std.specs.Prelude.{◌≡◌, ◌<◌, ◌≤◌, [], IfErr, IfOk, Some};
+ghost use Rattle.std.specs.Prelude.{◌≡◌, ◌<◌, ◌≤◌, List, [], IfErr, IfOk, Some};
 ghost use Rattle.attributes.specs.Limits.{InLimits};
 ghost use Rattle.attributes.specs.Request.{IsRequest, RequestValue};
 ghost use Rattle.proto_wire.specs.Refusal.{MemoryOr};
 ghost use Rattle.proto_wire.specs.declared.refusal.Refusal.TheVariants.{TooCostly};
+ghost use Rattle.cel_types.specs.Elaborated.{TypedTree};
 ghost use Rattle.cel_types.specs.TypedMeaning.{typed_answer};
 ghost use Rattle.cel_types.specs.View.{typed_view};
 ghost use Rattle.cel_types.specs.WellTyped.{IsWellTyped};
 ghost use Rattle.cel_value.specs.Values.{CelAnswer};
 ghost use Rattle.cost_bound.specs.Costs.{cost_of, size_of};
-ghost use Rattle.cost_bound.specs.Sizes.{Within};
+ghost use Rattle.cost_bound.specs.Reaches.{Reaches};
+ghost use Rattle.cost_bound.specs.Sizes.{AllWithin, Size, Within};
 
 use crate::measure::measure;
 use crate::scope::Scope;
@@ -20,8 +22,8 @@ use proto_wire::Refusal;
 use std::alloc::Global;
 
 /// How many steps the expression takes at most, of each request within the limits: its cost, where
-/// that is within the budget. What it comes to is within its size then. Otherwise it is refused, as
-/// `TooCostly` or for want of memory.
+/// that is within the budget. What it comes to is within its size then, and so is what each part comes
+/// to, wherever evaluation reaches it. Otherwise it is refused, as `TooCostly` or for want of memory.
 pub fn bound(alloc: Global, typed: &Typed<'_>, limits: &Limits, budget: u64) -> Result<u64, Refusal>
     ensures found { IfOk result (λ n.
         (n ≡ cost_of (typed_view typed.now) limits.now []) × (n ≤ budget)) }
@@ -29,6 +31,12 @@ pub fn bound(alloc: Global, typed: &Typed<'_>, limits: &Limits, budget: u64) -> 
         → IsWellTyped [] (typed_view typed.now) → IsRequest request → InLimits request limits.now
         → typed_answer (typed_view typed.now) request [] ≡ Some answer
         → Within answer (size_of (typed_view typed.now) limits.now [])) }
+    ensures parts { IfOk result (λ n. (request : RequestValue) (part : TypedTree)
+        (locals : List CelAnswer) (sizes : List Size)
+        → IsWellTyped [] (typed_view typed.now) → IsRequest request → InLimits request limits.now
+        → Reaches (typed_view typed.now) request limits.now part locals sizes
+        → AllWithin locals sizes × ((a : CelAnswer) × (typed_answer part request locals ≡ Some a)
+        × Within a (size_of part limits.now sizes))) }
     ensures fault { IfErr result (MemoryOr (λ e.
         (e ≡ TooCostly) × (budget < cost_of (typed_view typed.now) limits.now []))) }
 {
