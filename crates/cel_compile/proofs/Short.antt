@@ -1,5 +1,5 @@
 -- The code of an elaboration is short: fewer than two instructions a node, and few locals.
-use Rattle.std.proofs.Common.{◌≡◌, ℕ, ◌+◌, ◌*◌, ◌<◌, ◌≤◌, List, [], max, refl, arith, length}
+use Rattle.std.proofs.Common.{◌≡◌, ℕ, ◌+◌, ◌*◌, ◌<◌, ◌≤◌, ◌⊎◌, List, [], inl, inr, max, refl, arith, length}
 use Rattle.std.proofs.Math.Nat.{le-max_left, le-max_right}
 use Rattle.cel_value.specs.Types.{ValueType}
 use Rattle.cel_overload.specs.declared.overload.Overload.{Overload}
@@ -10,6 +10,9 @@ use Rattle.cel_tree.specs.Tree.{CelTree, constant, ident, select, call, list_lit
 use Rattle.cel_tree.specs.Trees.{entries_count, node_count, target_count, trees_count}
 use Rattle.cel_types.specs.Elaborated.{Elaborates, ElaboratesEach, ElaboratesPairs, ElaboratesTarget, IsElaborated, TypedTree, TypedTrees, no_typed, typed, typed_attribute, typed_call, typed_constant, typed_field, typed_has, typed_list, typed_local, typed_loop, typed_map}
 use Rattle.cel_types.specs.Typing.{Kinds, Maps, locals_in, locals_in_each, locals_in_entries, locals_in_target, maps_of}
+use Rattle.proto_wire.specs.Refusal.{MemoryOr}
+use Rattle.proto_wire.specs.declared.refusal.Refusal.{Refusal}
+use Rattle.proto_wire.specs.declared.refusal.Refusal.TheVariants.{Memory, TooLarge}
 use Rattle.cel_compile.specs.Codes.{code_of, count, extent, extents}
 use Rattle.cel_compile.specs.Slots.{HasFewLocals, HaveFewLocals}
 use Rattle.cel_compile.proofs.Placing.{extent_is}
@@ -182,3 +185,13 @@ fitting_code parts c e (fs, message, says) is =
     let nodes = says.few in
     let locals = is.typed.few in
     (omega (arith, long, bound, nodes), few (maps_of c) [] c.tree e 0 is.elaborates (omega (arith, locals)))
+
+-- so what `compile` refuses of it is want of memory
+pub room_alone : (parts : List (List ℕ)) (c : CelChecked) (e : TypedTree) → IsChecked parts c → IsElaborated c e
+    → (r : Refusal) → MemoryOr (λ f. (f ≡ TooLarge) × ((65535 < extent e) ⊎ (HasFewLocals 0 e → ⊥))) r → r ≡ Memory
+room_alone parts c e read is r (inl memory) = memory
+room_alone parts c e read is r (inr (large, inl long)) =
+    let same = extent_is e 0 0 in
+    let fits = (fitting_code parts c e read is).0 in
+    absurd (omega (arith, long, same, fits))
+room_alone parts c e read is r (inr (large, inr many)) = absurd (many (fitting_code parts c e read is).1)

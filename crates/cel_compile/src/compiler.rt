@@ -1,16 +1,23 @@
 //! From elaborated expressions to code.
 
-ghost use Rattle.std.specs.Prelude.{◌≡◌, ◌↔◌, IsTrue, ◌<◌, ◌^◌, ◌⊎◌, List, [], ◌∷◌, ◌++◌, length, slice_set, IfErr, IfOk, OnOk};
+ghost use Rattle.std.specs.Prelude.{◌≡◌, ◌↔◌, IsTrue, ◌<◌, ◌^◌, ◌⊎◌, ℕ, List, [], ◌∷◌, ◌++◌, length, slice_set, IfErr, IfOk, OnOk};
+ghost use Rattle.attributes.specs.Limits.{InLimits, LimitsValue};
+ghost use Rattle.attributes.specs.Request.{IsRequest, RequestValue};
 ghost use Rattle.cel_value.specs.Types.{ValueType};
-ghost use Rattle.cel_types.specs.Elaborated.{typed_call};
+ghost use Rattle.cel_tree.specs.Checked.{CelChecked};
+ghost use Rattle.cel_tree.specs.GoodConstants.{HasGoodConstants};
+ghost use Rattle.cel_tree.specs.Message.{IsChecked};
+ghost use Rattle.cel_types.specs.Elaborated.{IsElaborated, kind, typed_call};
 ghost use Rattle.cel_overload.specs.declared.overload.Overload.TheVariants as Overload;
 ghost use Rattle.cel_types.specs.View.{expr_view, exprs_view, parts_view, loop_of, typed_view};
 ghost use Rattle.cel_types.specs.WellTyped.{IsWellTyped};
 ghost use Rattle.proto_wire.specs.Refusal.{MemoryOr};
 ghost use Rattle.stack_machine.specs.Instructions.{code_view};
+ghost use Rattle.stack_machine.specs.Machine.{NeverStuck};
+ghost use Rattle.stack_machine.specs.Typable.{Forward};
 ghost use Rattle.cel_compile.specs.Codes.{code_of, extent};
 ghost use Rattle.cel_compile.specs.Slots.{HasFewLocals};
-ghost use Rattle.cel_compile.specs.Sound.{IsSound};
+ghost use Rattle.cel_compile.specs.Sound.{IsSound, RunsToMeaning};
 ghost use Rattle.cel_compile.specs.steps.Emitting.{Grows, GrowsAll};
 
 use crate::few_locals::require_few_locals;
@@ -33,8 +40,21 @@ pub fn compile(alloc: Global, typed: &Typed<'_>) -> Result<Code, Refusal>
     ensures found { IfOk result (λ code. code_view code ≡ code_of 0 0 (typed_view typed.now)) }
     ensures sound { IfOk result (λ code. IsWellTyped [] (typed_view typed.now)
         → IsSound (code_view code) (typed_view typed.now)) }
+    // what the code of a checked expression's elaboration comes to is what the expression means
+    ensures means { IfOk result (λ code. (c : CelChecked) (request : RequestValue) (limits : LimitsValue)
+        → HasGoodConstants c.tree → IsElaborated c (typed_view typed.now) → IsRequest request
+        → InLimits request limits
+        → RunsToMeaning (code_view code) c (typed_view typed.now) request limits) }
+    // one pass verifies it, and no run of it is stuck
+    ensures forward { IfOk result (λ code. IsWellTyped [] (typed_view typed.now)
+        → Forward (code_view code) (kind (typed_view typed.now))) }
+    ensures lives { IfOk result (λ code. (request : RequestValue) → IsWellTyped [] (typed_view typed.now)
+        → IsRequest request → NeverStuck (code_view code) request) }
     ensures fault { IfErr result (MemoryOr (λ e. (e ≡ Refusal.TooLarge)
         × ((65535 < extent (typed_view typed.now)) ⊎ (HasFewLocals 0 (typed_view typed.now) → ⊥)))) }
+    // an expression that was read and checked is refused for want of memory alone
+    ensures room { IfErr result (λ e. (parts : List (List ℕ)) (c : CelChecked) → IsChecked parts c
+        → IsElaborated c (typed_view typed.now) → e ≡ Refusal.Memory) }
 {
     compile_whole(alloc, typed)
 }

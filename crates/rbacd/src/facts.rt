@@ -166,7 +166,8 @@ fn find_named(facts: &[Fact], name: &str) -> Option<Fact>
 /// The facts that a JSON text tells (RFC 8259): an object whose members have the names of the facts in
 /// `Conn`. Texts are strings, addresses strings that `parse_ip` reads, ports integers below 65,536, the
 /// connection's number an integer below 2^64, and `connection.mtls` is `true` or `false`. Each may be
-/// absent, and `request.scheme` is then `http`. Of two members of one name the last counts.
+/// absent, and `request.scheme` is then `http`. Of two members of one name the last counts. `Bad` where the
+/// text tells no facts, `Memory` for want of memory.
 pub fn read_facts(alloc: Global, text: &[u8]) -> Result<Conn, FactsFault>
     ensures found { IfOk result (λ conn. IsFactsText text.now (conn_view conn)) }
     ensures fault { IfErr result (λ e. e ≡ Bad → (f : Facts) → ¬ IsFactsText text.now f) }
@@ -175,7 +176,8 @@ pub fn read_facts(alloc: Global, text: &[u8]) -> Result<Conn, FactsFault>
     conn_of(alloc, &value)
 }
 
-/// The connection that the text of a facts file tells of, as in `read_facts`, where it is within the limits.
+/// The connection that the text of a facts file tells of, as in `read_facts`, where it is within the limits;
+/// `Bad` where it tells of none, `Memory` for want of memory.
 pub fn read_conn(alloc: Global, text: &[u8]) -> Result<Conn, FactsFault>
     ensures found { IfOk result (λ conn. IsFactsText text.now (conn_view conn)
         × FactsInLimits (conn_view conn) largest) }
@@ -197,7 +199,7 @@ fn require_limits(conn: &Conn) -> Result<(), FactsFault>
     Ok(())
 }
 
-/// The facts that a JSON value tells, as in `read_facts`.
+/// The facts that a JSON value tells, and the faults, as in `read_facts`.
 pub fn conn_of(alloc: Global, value: &Value) -> Result<Conn, FactsFault>
     ensures found { IfOk result (λ conn. AreFacts (view value.now) (conn_view conn)) }
     ensures fault { IfErr result (λ e. e ≡ Bad → (f : Facts) → ¬ AreFacts (view value.now) f) }
