@@ -10,21 +10,8 @@ use Rattle.proto_wire.specs.Refusal.{MemoryOr}
 use Rattle.proto_wire.specs.declared.key.Key.{Key}
 use Rattle.proto_wire.specs.declared.refusal.Refusal.{Refusal}
 use Rattle.proto_wire.specs.declared.refusal.Refusal.TheVariants.{Missing, Unsupported}
-pub use Rattle.proto_wire.proofs.Exits.{exit_memory_or, exit_memory, memory_or_weaker}
+pub use Rattle.proto_wire.proofs.Exits.{exit_fault, exit_memory_or, exit_memory, last_memory_or, memory_or_weaker}
 use Rattle.cel_tree.specs.Reading.{Reads, ReadFault, in_fields, lacking, in_values, ValuesFault, OneofSays, IsUnsupported, OneofFault, LacksMember}
-
--- at a `?` on a callee without memory
-pub exit_fault : (G : Refusal → Type 0) {T : Type 0} (r : Result T Refusal) (e : Refusal)
-    → IsErrAnd r (λ y. y ≡ e) → G e → IfErr r (MemoryOr G)
-exit_fault G r e left fault =
-    let p = err_from_is_err_and r left in
-    rw (p.1, p.2) (inr fault)
-
--- at a call whose answer is returned as it is
-pub last_memory_or : (F G : Refusal → Type 0) {T : Type 0} (r : Result T Refusal)
-    → IfErr r (MemoryOr F) → ((e : Refusal) → F e → G e) → IfErr r (MemoryOr G)
-last_memory_or F G r fault weaker =
-    MatchResult-weaker r fault (λ x h. h) (λ e h. memory_or_weaker F G e weaker h)
 
 -- a fault of the values is one of the message
 pub values_fault : (keys : List Key) (Lacks : List Wire → Type 0) (Wrong : List Wire → Refusal → Type 0)
