@@ -18,8 +18,7 @@ use cel_types::TypedExpr;
 use cel_value::{CelType, text_length};
 
 // How many parts of an expression are looked at: half of those that a checked expression may have. Two
-// that differ late are compared for nothing, for a seventh of the time at most that measuring takes; two
-// that measure alike spare one of them.
+// that differ late are compared for nothing; two that measure alike spare one of them.
 const MOST_PARTS: u64 = 1_024;
 
 /// Whether two expressions measure alike. It looks at so many parts alone, and may say no of larger ones.
