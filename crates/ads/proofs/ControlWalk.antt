@@ -109,7 +109,7 @@ reached_current old (Some n) r is live reply =
     let told : (n ≤ old.sent) × (old.current ≤ old.sent) = rw is at live.last in told.1
 
 -- a stream on which nothing was sent
-first_live : (old : ServedValue) → old.last ≡ None → IsCounted old → IsLive old
+pub first_live : (old : ServedValue) → old.last ≡ None → IsCounted old → IsLive old
 first_live old is counted = record { counted = counted; last = rw is tt }
 
 pub one_served : (snapshots : List (List ResourceValue)) (request : RequestMessage) (old : ServedValue)

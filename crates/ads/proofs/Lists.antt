@@ -7,6 +7,7 @@ use Rattle.proto_wire.specs.Refusal.{MemoryOr}
 use Rattle.proto_wire.specs.declared.refusal.Refusal.{Refusal}
 use Rattle.proto_wire.proofs.Exits.{exit_memory_or}
 use Rattle.xds_wire.specs.Envelope.{SomeOf}
+pub use Rattle.xds_wire.proofs.Each.{zip_push}
 
 -- the element at a place is one of the elements
 pub some_at : {A B : Type 0} (P : B → Type 0) (view : A → B) (xs : List A) (i : ℕ) (d : A)
@@ -56,14 +57,6 @@ pub all_more : {A B : Type 0} (P : B → Type 0) (view : A → B) (xs : List A) 
     → AllByRecursion P (map view (take (i + 1) xs))
 all_more P view xs i d within all more =
     rw (map_more view xs i d within) (all_push P (map view (take i xs)) (view (get_or xs i d)) all more)
-
--- one pair more
-pub zip_push : {A B : Type 0} (R : A → B → Type 0) (xs : List A) (ys : List B) (x : A) (y : B)
-    → AllZip R xs ys → R x y → AllZip R (xs ++ x ∷ []) (ys ++ y ∷ [])
-zip_push R [] [] x y all more = (more, tt)
-zip_push R [] (b ∷ ys) x y all more = absurd all
-zip_push R (a ∷ xs) [] x y all more = absurd all
-zip_push R (a ∷ xs) (b ∷ ys) x y (first, all) more = (first, zip_push R xs ys x y all more)
 
 -- one pair more, both seen by views
 pub zip_more : {A B C D : Type 0} (R : B → D → Type 0) (seen : A → B) (view : C → D) (xs : List A)

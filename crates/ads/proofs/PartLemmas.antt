@@ -2,6 +2,7 @@
 use Rattle.std.proofs.Common.{◌≡◌, inl, inr, ℕ, ◌≤◌, List, [], ◌∷◌, ◌++◌, length, map, refl, ap, sym, subst, arith, length-append}
 use Rattle.std.specs.List.{AllByRecursion}
 use Rattle.ads.specs.Schedules.{NeverFalls, IsPart, IsLast}
+pub use Rattle.ads.proofs.Lists.{all_push as all_put}
 
 -- ---- parts
 
@@ -78,11 +79,6 @@ all_weaker P Q weaker (x ∷ xs) (first, all) = (weaker x first, all_weaker P Q 
 pub all_last : {A : Type 0} (P : A → Type 0) (xs : List A) (y : A) → AllByRecursion P (xs ++ y ∷ []) → P y
 all_last P [] y all = all.0
 all_last P (x ∷ xs) y all = all_last P xs y all.1
-
-pub all_put : {A : Type 0} (P : A → Type 0) (xs : List A) (y : A) → AllByRecursion P xs → P y
-    → AllByRecursion P (xs ++ y ∷ [])
-all_put P [] y all last = (last, tt)
-all_put P (x ∷ xs) y (first, all) last = (first, all_put P xs y all last)
 
 -- a number that is not less than the others comes last
 pub falls_put : (xs : List ℕ) (n : ℕ) → NeverFalls xs → AllByRecursion (λ m. m ≤ n) xs

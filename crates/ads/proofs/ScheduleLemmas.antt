@@ -11,7 +11,7 @@ use Rattle.ads.specs.Schedules.{AreInStep, IsPart, Joined, Moves, opens, client_
 use Rattle.ads.proofs.PartLemmas.{part_map, falls_part, last_none, last_part, part_same, part_more}
 use Rattle.ads.proofs.Flights.{IsCounted, IsLive, IsSent, AreAsked, asked_append, asked_framed, sent_framed, frames_append, zip_append, Numbers, numbers_dropped}
 use Rattle.ads.proofs.ClientWalk.{all_taken, first_asked}
-use Rattle.ads.proofs.ControlWalk.{all_served}
+use Rattle.ads.proofs.ControlWalk.{all_served, first_live as live_of}
 
 -- ---- each end of the stream
 
@@ -178,9 +178,6 @@ numbers_forgotten : (recorded accepted acks unread : List ℕ) (current : ℕ) (
 numbers_forgotten recorded accepted acks unread current version n =
     numbers_dropped recorded accepted [] unread current version unread acks [] (sym (append-nil unread))
     (rw (append-nil acks) n)
-
-live_of : (served : ServedValue) → served.last ≡ None → IsCounted served → IsLive served
-live_of served is counted = record { counted = counted; last = rw is tt }
 
 holds_start : (c : ConfigValue) (snapshots : List (List ResourceValue)) → Holds (new_joined c snapshots)
 holds_start c snapshots =

@@ -47,7 +47,7 @@ named_own AttrId.ConnectionDnsSanPeerCertificate = refl
 named_own AttrId.ConnectionUriSanPeerCertificate = refl
 
 -- what a search finds passes the test
-find_passes : {X : Type 0} (p : X → Bool) (xs : List X) (x : X) → find p xs ≡ Some x → p x ≡ true
+pub find_passes : {X : Type 0} (p : X → Bool) (xs : List X) (x : X) → find p xs ≡ Some x → p x ≡ true
 find_passes p [] x h = let clash : None ≡ Some x = h in cc
 find_passes p (y ∷ ys) x h = elim (p y) as (λ b. p y ≡ b → cond b (Some y) (find p ys) ≡ Some x
     → p x ≡ true) [

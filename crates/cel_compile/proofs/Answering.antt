@@ -1,10 +1,9 @@
 -- What there is where an answer is found: the answers of the parts.
 use Rattle.std.proofs.Common.{◌≡◌, List, [], ◌∷◌, Option, Some, None, refl}
 use Rattle.std.specs.Option.{option_and_then}
-use Rattle.cel_value.specs.Values.{CelAnswer, CelValue, CelValues, bool, value, fails}
-use Rattle.cel_ops.specs.Collections.{elements_of}
+use Rattle.cel_value.specs.Values.{CelAnswer}
 use Rattle.cel_overload.specs.Answers.{on_one, on_two}
-use Rattle.cel_types.specs.Meaning.{before, over}
+use Rattle.cel_types.specs.Meaning.{before}
 
 -- an operation has an answer: so has its operand
 pub then_some : {A : Type 0} (f : A → Option CelAnswer) (o : Option A) (r : CelAnswer) → option_and_then f o ≡ Some r

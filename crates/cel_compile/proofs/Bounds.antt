@@ -8,7 +8,8 @@ use Rattle.cel_value.specs.Values.{CelAnswer, CelValue, CelValues, no_items, ite
 use Rattle.cel_value.specs.Items.{keys_of}
 use Rattle.cel_ops.specs.Charges.{field_charge, list_literal_charge, map_literal_charge}
 use Rattle.cel_ops.specs.Collections.{elements_of}
-use Rattle.cel_overload.specs.Answers.{HaveTypes, overload_charge}
+use Rattle.cel_overload.specs.Answers.{HaveTypes}
+use Rattle.cel_overload.specs.steps.Charges.{overload_charge}
 use Rattle.cel_overload.specs.declared.overload.Overload.{Overload}
 use Rattle.cel_types.specs.Elaborated.{TypedTree}
 use Rattle.cel_types.specs.TypedMeaning.{typed_answer}

@@ -1,5 +1,5 @@
 -- Code that is written piece by piece is an expression's code; jumps are written last.
-use Rattle.std.proofs.Common.{◌≡◌, ℕ, suc, ◌+◌, ◌<◌, ◌≤◌, ◌^◌, ◌⊎◌, inl, inr, List, [], ◌∷◌, ◌++◌, length, refl, sym, ap, ◌∙◌, subst, arith, append_assoc, length-append}
+use Rattle.std.proofs.Common.{◌≡◌, ℕ, ◌+◌, ◌<◌, ◌≤◌, ◌^◌, ◌⊎◌, inl, inr, List, [], ◌∷◌, ◌++◌, length, refl, sym, ap, ◌∙◌, arith, append_assoc, length-append}
 use Rattle.std.proofs.Math.Seq.{set-append_seam}
 use Rattle.std.proofs.lemmas.List.{map-append, map-set, length-map, length-set}
 use Rattle.std.specs.Prelude.{slice_set}
@@ -9,10 +9,10 @@ use Rattle.cel_overload.specs.declared.overload.Overload.{Overload}
 use Rattle.cel_overload.specs.declared.overload.Overload.TheVariants as overloads
 use Rattle.stack_machine.specs.Instructions.{Instruction, code_view, instr_view, And, Or, IfFalse, IfTrue, Jump, LoopNext, LoopStart, LoopTest, Store, Test}
 use Rattle.stack_machine.specs.declared.instr.Instr.{Instr}
-use Rattle.cel_compile.specs.Codes.{code_of, codes_of, extent, extents, instruction_of}
+use Rattle.cel_compile.specs.Codes.{code_of, codes_of, extent, instruction_of}
 use Rattle.cel_compile.specs.Slots.{HasFewLocals, HaveFewLocals}
 use Rattle.cel_compile.specs.steps.Emitting.{Grows, GrowsAll, passing_over}
-use Rattle.cel_compile.proofs.Placing.{extent_is, extents_is}
+use Rattle.cel_compile.proofs.Placing.{extent_is}
 
 -- one more instruction
 pub one_longer : (i0 i1 : List Instr) (x : Instr) → i1 ≡ i0 ++ x ∷ [] → length i1 ≡ length i0 + 1

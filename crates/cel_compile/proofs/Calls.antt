@@ -1,5 +1,5 @@
 -- What the instruction of a call does to the answers of its operands.
-use Rattle.std.proofs.Common.{◌≡◌, ◌≢◌, ℕ, ◌+◌, ◌*◌, ◌≤◌, Bool, true, false, nat_le, List, [], ◌∷◌, ◌++◌, append_assoc, length-append, length, reverse, take, drop, Option, Some, None, refl, sym, ap, ◌∙◌, subst, arith, slice_get, if◌then◌else◌}
+use Rattle.std.proofs.Common.{◌≡◌, ℕ, ◌+◌, ◌≤◌, true, nat_le, List, [], ◌∷◌, ◌++◌, append_assoc, length-append, length, reverse, take, drop, Option, Some, refl, sym, ap, ◌∙◌, subst, arith, if◌then◌else◌}
 use Rattle.std.proofs.lemmas.Grind.{reverse_onto}
 use Rattle.std.proofs.lemmas.List.{length-reverse, reverse-reverse}
 use Rattle.std.proofs.Math.Seq.{take-append_seam, drop-append_seam}
@@ -12,7 +12,8 @@ use Rattle.cel_ops.specs.Comparison.{comparison}
 use Rattle.cel_ops.specs.Parts.{text_test, joined}
 use Rattle.cel_ops.specs.Collections.{size, list_index, map_index, in_map, in_list}
 use Rattle.cel_ops.specs.declared.texts.TextTest.TheVariants as tests
-use Rattle.cel_overload.specs.Answers.{on_one, on_two, overload_answer, overload_charge}
+use Rattle.cel_overload.specs.Answers.{on_one, on_two, overload_answer}
+use Rattle.cel_overload.specs.steps.Charges.{overload_charge}
 use Rattle.cel_overload.specs.declared.overload.Overload.{Overload}
 use Rattle.cel_overload.specs.declared.overload.Overload.TheVariants as overloads
 use Rattle.stack_machine.specs.Instructions.{Instruction}

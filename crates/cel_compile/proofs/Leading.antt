@@ -1,19 +1,16 @@
 -- Where instructions lead from shapes of well typed code.
-use Rattle.std.proofs.Common.{◌≡◌, ℕ, ℤ, pos, negsuc, suc, ◌+◌, ◌*◌, ◌<◌, ◌≤◌, ◌^◌, Bool, true, false, cond, nat_eq, nat_le, nat_lt, List, [], ◌∷◌, ◌++◌, length, reverse, take, drop, map, Option, Some, None, option_map, refl, sym, ap, ◌∙◌, subst, arith, append_assoc, length-append, ne_eqb, if◌then◌else◌}
-use Rattle.std.specs.Prelude.{FitsSigned}
-use Rattle.std.specs.Int.{w64}
+use Rattle.std.proofs.Common.{◌≡◌, ℕ, suc, ◌+◌, ◌*◌, ◌<◌, ◌≤◌, ◌^◌, Bool, true, false, cond, nat_eq, nat_le, nat_lt, List, [], ◌∷◌, ◌++◌, length, reverse, take, drop, map, Option, Some, None, option_map, refl, sym, ap, ◌∙◌, subst, arith, append_assoc, length-append, ne_eqb, if◌then◌else◌}
 use Rattle.std.specs.Option.{option_and_then}
 use Rattle.std.proofs.lemmas.Bool.Decides.{nat_tests}
 use Rattle.std.proofs.lemmas.Grind.{reverse_onto}
 use Rattle.std.proofs.lemmas.List.{length-map, length-reverse, reverse-reverse}
 use Rattle.std.proofs.Math.Seq.{take-append_seam, drop-append_seam}
-use Rattle.cel_value.specs.steps.EqualityLaws.{type_eq_decides}
-use Rattle.cel_value.specs.Types.{HasType, ValueType, bool_type, int_type, uint_type, text_type, bytes_type, list_type, map_type, type_eq, type_of_key}
+use Rattle.cel_value.specs.Types.{HasType, ValueType, bool_type, int_type, uint_type, text_type, bytes_type, list_type, map_type, type_of_key, key_type_of}
 use Rattle.cel_value.specs.Values.{CelValue, bool, int, uint, text, bytes}
 use Rattle.cel_value.specs.declared.cel_type.KeyType.{KeyType}
 use Rattle.cel_value.specs.declared.cel_type.KeyType.TheVariants as keys
 use Rattle.cel_ops.specs.Arithmetic.{is_int64}
-use Rattle.cel_ops.specs.Typed.{IsJoined, IsOrdered, IsSized}
+use Rattle.cel_ops.specs.Typed.{IsJoined, IsSized}
 use Rattle.cel_ops.specs.declared.comparison.CompareOp.{CompareOp}
 use Rattle.cel_ops.specs.declared.comparison.CompareOp.TheVariants as comparisons
 use Rattle.cel_ops.specs.declared.texts.TextTest.TheVariants as tests
@@ -26,11 +23,14 @@ use Rattle.cel_types.specs.Typing.{IsOver, constant_type}
 use Rattle.cel_types.specs.WellTyped.{AreAll, AreKeyed}
 use Rattle.stack_machine.specs.Instructions.{Instruction}
 use Rattle.stack_machine.specs.Locals.{with_local}
-use Rattle.stack_machine.specs.Slots.{Slot, of, arithmetic_slot, compare_slot, concat_slot, constant_slot, has_order, has_size, in_list_slot, in_map_slot, joined_all, joined_entries, joined_slot, key_type_of, list_literal_slot, list_of, loop_slot, map_index_slot, map_literal_slot, map_of_slots, may_compare, of_type_if, size_slot}
+use Rattle.stack_machine.specs.Slots.{Slot, of, arithmetic_slot, compare_slot, concat_slot, constant_slot, has_size, in_list_slot, in_map_slot, joined_all, joined_entries, joined_slot, list_literal_slot, list_of, loop_slot, map_index_slot, map_literal_slot, map_of_slots, may_compare, of_type_if, size_slot}
 use Rattle.stack_machine.specs.Shapes.{Shape, Way, binary, leaves, literal, unary, ways}
 use Rattle.cel_compile.specs.Codes.{count, instruction_of, list_instruction, map_instruction, pairs}
 use Rattle.cel_compile.proofs.Calls.{IsStrict}
 use Rattle.cel_compile.proofs.Sound.{some_list, some_map}
+use Rattle.cel_overload.proofs.Choosing.{ordered}
+pub use Rattle.cel_overload.proofs.Choosing.{itself as type_self}
+use Rattle.cel_ops.proofs.Numbers.{fits_int64, below_uint64}
 
 -- ---- shapes
 
@@ -93,13 +93,6 @@ known_again ks t u s l a same e = rw same (by_test (nat_eq l (length ks)) e
 
 -- ---- constants
 
-within : (z : ℤ) → FitsSigned w64 z → is_int64 z ≡ true
-within (pos n) h = grind (arith, nat_tests)
-within (negsuc n) h = grind (arith, nat_tests)
-
-below : (n : ℕ) → n < 2 ^ 64 → nat_lt n (2 ^ 64) ≡ true
-below n h = grind (arith, nat_tests)
-
 given : (b : Bool) (s t : ValueType) → b ≡ true → Some s ≡ Some t → of_type_if b s ≡ Some (of t)
 given b s t is e = let same : s ≡ t = cc (e) in rw (is, same) refl
 
@@ -108,11 +101,11 @@ constant_known (bool b) t e h = given true bool_type t refl e
 constant_known (int i) t e h =
     let same : int_type ≡ t = cc in
     let fits : HasType (int i) int_type = subst (λ z. HasType (int i) z) (sym same) h in
-    given (is_int64 i) int_type t (within i fits) e
+    given (is_int64 i) int_type t (fits_int64 i fits) e
 constant_known (uint n) t e h =
     let same : uint_type ≡ t = cc in
     let fits : HasType (uint n) uint_type = subst (λ z. HasType (uint n) z) (sym same) h in
-    given (nat_lt n (2 ^ 64)) uint_type t (below n fits) e
+    given (nat_lt n (2 ^ 64)) uint_type t (below_uint64 n fits) e
 constant_known (text cs) t e h =
     let same : text_type ≡ t = cc in
     let fits : HasType (text cs) text_type = subst (λ z. HasType (text cs) z) (sym same) h in
@@ -122,16 +115,8 @@ constant_known _ t e h = absurd cc
 
 -- ---- slots of one type
 
-pub type_self : (t : ValueType) → type_eq t t ≡ true
-type_self t = (type_eq_decides t t).1 refl
-
 joined_self : (t : ValueType) → joined_slot (of t) (of t) ≡ Some (of t)
 joined_self t = rw (type_self t) refl
-
-ordered : (t : ValueType) → IsOrdered t → has_order t ≡ true
-ordered (list_type t) h = absurd h
-ordered (map_type k t) h = absurd h
-ordered _ h = refl
 
 compared : (op : CompareOp) (t : ValueType) → IsCompared op t → may_compare op (of t) ≡ true
 compared comparisons.Equal t h = refl

@@ -1,5 +1,5 @@
 -- The run of a comprehension's loop, by induction on the elements that are left.
-use Rattle.std.proofs.Common.{◌≡◌, ℕ, zero, suc, ◌+◌, ◌≤◌, true, false, List, ◌∷◌, length, Option, Some, None, refl, sym, ap, ◌∙◌, subst, arith, slice_get}
+use Rattle.std.proofs.Common.{◌≡◌, ℕ, zero, suc, ◌+◌, ◌≤◌, true, false, List, ◌∷◌, length, Option, Some, None, refl, arith, slice_get}
 use Rattle.cel_value.specs.Types.{EachItem}
 use Rattle.cel_value.specs.Masses.{item_count}
 use Rattle.cel_value.specs.Values.{CelAnswer, CelValue, CelValues, no_items, item, bool, value, fails}

@@ -1,5 +1,5 @@
 -- The promise of compiled code in the words of the checked expression it was made from.
-use Rattle.std.proofs.Common.{◌≡◌, [], Some, refl}
+use Rattle.std.proofs.Common.{◌≡◌, [], refl}
 use Rattle.attributes.specs.Limits.{InLimits, LimitsValue}
 use Rattle.attributes.specs.Request.{IsRequest, RequestValue}
 use Rattle.cel_tree.specs.Checked.{CelChecked}

@@ -1,6 +1,6 @@
 -- The run of each kind of node from those of its parts.
-use Rattle.std.proofs.Common.{◌≡◌, ℕ, ◌+◌, ◌≤◌, true, false, List, [], ◌∷◌, Option, Some, None, refl, sym, ap, ◌∙◌, subst, arith, slice_get, max}
-use Rattle.cel_value.specs.Values.{CelAnswer, CelValues, CelValue, bool, int, uint, text, bytes, list, map_of, value, fails}
+use Rattle.std.proofs.Common.{◌≡◌, ℕ, ◌+◌, ◌≤◌, true, false, List, [], ◌∷◌, Some, refl, arith, slice_get, max}
+use Rattle.cel_value.specs.Values.{CelAnswer, CelValues, bool, value, fails}
 use Rattle.attributes.specs.Request.{RequestValue}
 use Rattle.cel_ops.specs.Logic.{conjunction, disjunction}
 use Rattle.cel_overload.specs.Answers.{conditional}

@@ -1,19 +1,19 @@
 -- Lists of the code's expressions, as the definitions see them.
-use Rattle.std.proofs.Common.{◌≡◌, ◌≢◌, ℕ, suc, ◌+◌, ◌/◌, ◌<◌, ◌≤◌, ◌^◌, ◌↔◌, ◌⊎◌, inl, inr, Bool, true, false, List, [], ◌∷◌, ◌++◌, length, drop, get_or, map, refl, sym, ap, ◌∙◌, subst, arith, append-nil, length-append}
+use Rattle.std.proofs.Common.{◌≡◌, ℕ, ◌+◌, ◌/◌, ◌<◌, ◌≤◌, ◌^◌, ◌↔◌, ◌⊎◌, inl, inr, Bool, true, false, List, [], ◌∷◌, ◌++◌, length, drop, get_or, refl, sym, ap, ◌∙◌, subst, arith, append-nil, length-append}
 use Rattle.std.specs.Prelude.{IsTrue}
 use Rattle.std.proofs.lemmas.List.{drop_all, drop_more}
 use Rattle.cel_value.specs.Types.{ValueType}
 use Rattle.cel_overload.specs.declared.overload.Overload.{Overload}
 use Rattle.cel_overload.specs.declared.overload.Overload.TheVariants as overloads
-use Rattle.cel_types.specs.Elaborated.{TypedTree, typed_constant, typed_local, typed_attribute, typed_field, typed_has, typed_call, typed_list, typed_map, typed_loop, TypedTrees, no_typed, typed}
+use Rattle.cel_types.specs.Elaborated.{TypedTree, typed_constant, typed_local, typed_attribute, typed_field, typed_has, typed_call, typed_list, typed_map, typed_loop, no_typed, typed}
 use Rattle.cel_types.specs.View.{expr_view, exprs_view}
 use Rattle.cel_types.specs.declared.typed.TypedExpr.{TypedExpr}
-use Rattle.stack_machine.specs.Instructions.{code_view, instr_view, And, IfFalse, IfTrue, MakeList, MakeMap, Or}
+use Rattle.stack_machine.specs.Instructions.{code_view, instr_view, MakeList, MakeMap}
 use Rattle.stack_machine.specs.declared.instr.Instr.{Instr}
 use Rattle.cel_compile.specs.Codes.{count, extent, extents, instruction_of, list_instruction, map_instruction, pairs, codes_of}
 use Rattle.cel_compile.specs.Slots.{HasFewLocals, HaveFewLocals}
 use Rattle.cel_compile.specs.steps.Emitting.{Grows, GrowsAll}
-use Rattle.cel_compile.proofs.Built.{both_built, closed, first_built}
+use Rattle.cel_compile.proofs.Built.{closed, first_built}
 use Rattle.cel_compile.proofs.Sound.{some_list, some_map}
 
 -- ---- numbers of expressions

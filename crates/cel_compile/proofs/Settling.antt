@@ -5,35 +5,15 @@ use Rattle.std.specs.List.{AllByRecursion}
 use Rattle.std.proofs.lemmas.Bool.{cases_lt}
 use Rattle.std.proofs.lemmas.Bool.Decides.{nat_tests}
 use Rattle.stack_machine.specs.Instructions.{Instruction}
-use Rattle.stack_machine.specs.Slots.{Slot}
-use Rattle.stack_machine.specs.Shapes.{Serves, Shape, SlotsFit, Way, ways}
+use Rattle.stack_machine.specs.Shapes.{Serves, Shape, Way, ways}
 use Rattle.stack_machine.specs.Typable.{AllServe, Leads, LeadsOn, Least, SomeEnds, Table, ways_at, ways_before, ways_found}
-use Rattle.stack_machine.proofs.Fitting.{slot_refl, slot_trans}
 use Rattle.cel_compile.proofs.Leading.{to}
+pub use Rattle.stack_machine.proofs.Fitting.{slots_refl, slots_trans, serves_trans, serve_front}
 
 -- ---- shapes that serve
 
-pub slots_refl : (ss : List Slot) → SlotsFit ss ss
-slots_refl [] = tt
-slots_refl (s ∷ ss) = (slot_refl s, slots_refl ss)
-
-slots_trans : (as' bs cs : List Slot) → SlotsFit as' bs → SlotsFit bs cs → SlotsFit as' cs
-slots_trans [] [] cs p q = q
-slots_trans [] (b ∷ bs) cs p q = absurd p
-slots_trans (a ∷ as') [] cs p q = absurd p
-slots_trans (a ∷ as') (b ∷ bs) [] p q = absurd q
-slots_trans (a ∷ as') (b ∷ bs) (c ∷ cs) p q =
-    (slot_trans a b c p.0 q.0, slots_trans as' bs cs p.1 q.1)
-
 pub serves_same : (s t : Shape) → s ≡ t → Serves s t
 serves_same s t e = subst (Serves s) e (record { slots = slots_refl s.slots; locals = λ l a h. h; loops = refl })
-
-pub serves_trans : (s t u : Shape) → Serves s t → Serves t u → Serves s u
-serves_trans s t u p q = record {
-  slots = slots_trans s.slots t.slots u.slots p.slots q.slots;
-  locals = λ l a e. p.locals l a (q.locals l a e);
-  loops = p.loops ∙ q.loops;
-}
 
 -- ---- tables in parts
 
@@ -68,10 +48,6 @@ module _ (table g : Table) (s : Shape) (m q : ℕ) (agrees : Agrees table (spot 
   next = back table (λ r. s) g m (m + 1) q agrees (omega arith)
 
 -- ---- ways
-
-serve_front : (t : ℕ) (xs ys : List Way) (u : Shape) → AllServe t (xs ++ ys) u → AllServe t xs u
-serve_front t [] ys u h = tt
-serve_front t (x ∷ xs) ys u h = (h.0, serve_front t xs ys u h.1)
 
 serve_back : (t : ℕ) (xs ys : List Way) (u : Shape) → AllServe t (xs ++ ys) u → AllServe t ys u
 serve_back t [] ys u h = h

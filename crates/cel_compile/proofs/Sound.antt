@@ -1,10 +1,10 @@
 -- The theorem, by induction on the expression.
-use Rattle.std.proofs.Common.{◌≡◌, ℕ, suc, ◌+◌, ◌*◌, ◌≤◌, List, [], ◌∷◌, length, Option, Some, None, refl, sym, ap, ◌∙◌, subst, arith, slice_get}
+use Rattle.std.proofs.Common.{◌≡◌, ℕ, ◌+◌, ◌*◌, ◌≤◌, List, [], ◌∷◌, length, Option, Some, None, refl, sym, ap, ◌∙◌, subst, arith, slice_get}
 use Rattle.std.specs.Option.{option_and_then}
 use Rattle.attributes.specs.Limits.{LimitsValue}
 use Rattle.attributes.specs.Request.{IsRequest, RequestValue}
-use Rattle.cel_value.specs.Masses.{item_count, length_of}
-use Rattle.cel_value.specs.Types.{AnswerHasType, EachItem, HasType, ValueType, bool_type, int_type, uint_type, text_type, bytes_type, list_type, map_type, type_of_key}
+use Rattle.cel_value.specs.Masses.{length_of}
+use Rattle.cel_value.specs.Types.{AnswerHasType, EachItem, HasType, ValueType, bool_type, list_type, map_type}
 use Rattle.cel_value.specs.Values.{CelAnswer, CelValue, CelValues, no_items, item, no_entries, list, map_of, value, fails}
 use Rattle.cel_value.specs.declared.cel_type.KeyType.{KeyType}
 use Rattle.cel_value.specs.declared.cel_type.KeyType.TheVariants as keys
@@ -13,8 +13,8 @@ use Rattle.cel_ops.specs.Charges.{list_literal_charge, loop_charge, map_literal_
 use Rattle.cel_ops.specs.Collections.{elements_of, field, has_field, list_literal, map_literal}
 use Rattle.cel_ops.specs.Logic.{conjunction, disjunction}
 use Rattle.cel_ops.specs.Typed.{ElementsHaveType}
-use Rattle.cel_overload.specs.Answers.{HaveTypes, conditional, on_two, overload_answer, overload_charge}
-use Rattle.cel_overload.specs.declared.overload.Overload.{Overload}
+use Rattle.cel_overload.specs.Answers.{HaveTypes, conditional, on_two, overload_answer}
+use Rattle.cel_overload.specs.steps.Charges.{overload_charge}
 use Rattle.cel_overload.specs.declared.overload.Overload.TheVariants as overloads
 use Rattle.cel_types.specs.Elaborated.{TypedTree, typed_constant, typed_local, typed_attribute, typed_field, typed_has, typed_call, typed_list, typed_map, typed_loop, TypedTrees, no_typed, typed, kind, kinds}
 use Rattle.cel_types.specs.Meaning.{before, fold, over}
@@ -22,14 +22,14 @@ use Rattle.cel_types.specs.TypedMeaning.{typed_answer, typed_answers}
 use Rattle.cel_types.specs.WellTyped.{AreKeyed, AreWellTyped, IsWellTyped}
 use Rattle.cel_types.proofs.WellTypedAnswers.{answer_typed, answers_typed, walked_typed}
 use Rattle.cost_bound.specs.Costs.{charge_at, cost_of, costs_of, element_size, grown, map_cost, size_of, sizes_of, total, turns_cost}
-use Rattle.cost_bound.specs.Sizes.{AllWithin, Fits, Size, Within, join, most_of}
+use Rattle.cost_bound.specs.Sizes.{AllWithin, Fits, Size, Within, most_of}
 use Rattle.stack_machine.specs.Instructions.{Instruction, Const, Attr, Load, Store, EmptyList, EmptyMap, Field, HasField, LoopStart, MakeList, MakeMap}
 use Rattle.stack_machine.specs.Machine.{gives, opened}
 use Rattle.cel_compile.specs.Codes.{count, instruction_of, list_instruction, map_instruction, pairs}
 use Rattle.cel_compile.proofs.Answering.{before_some, then_some}
 use Rattle.cel_compile.proofs.Bounds.{Bounds}
-use Rattle.cel_compile.proofs.Calls.{IsStrict, Makes, call_makes, literal_makes, pushed_all}
-use Rattle.cel_compile.proofs.Goes.{Goes, Locals, at, at_most, held, one, plain, state, stay, stores, then_goes}
+use Rattle.cel_compile.proofs.Calls.{Makes, call_makes, literal_makes, pushed_all}
+use Rattle.cel_compile.proofs.Goes.{Goes, at, at_most, held, one, plain, state, stay, stores, then_goes}
 use Rattle.cel_compile.proofs.Loop.{Parts, loop_goes}
 use Rattle.cel_compile.proofs.Nodes.{and_goes, choice_goes, makes_goes, or_goes}
 use Rattle.cel_compile.proofs.Placing.{Placed, PlacedAll}

@@ -1,6 +1,6 @@
 -- The promise of compiled code, from the run of the expression.
-use Rattle.std.proofs.Common.{◌≡◌, ℕ, ◌+◌, ◌≤◌, List, [], ◌∷◌, length, Some, None, refl, subst, arith}
-use Rattle.attributes.specs.Limits.{InLimits, LimitsValue}
+use Rattle.std.proofs.Common.{◌≡◌, ◌+◌, List, [], ◌∷◌, length, None, refl, subst, arith}
+use Rattle.attributes.specs.Limits.{LimitsValue}
 use Rattle.attributes.specs.Request.{IsRequest, RequestValue}
 use Rattle.cel_types.specs.Elaborated.{TypedTree}
 use Rattle.cel_types.specs.WellTyped.{IsWellTyped}

@@ -1,11 +1,9 @@
 -- The instructions of an elaborated expression (this project's code forms). Targets are positions in the
 -- whole code, so that the code of a part depends on where it begins; a local's number is how many
 -- locals are outside of it.
-use Rattle.std.specs.Prelude.{ℕ, ◌+◌, List, [], ◌∷◌, ◌++◌, length}
+use Rattle.std.specs.Prelude.{ℕ, ◌+◌, List, [], ◌∷◌, ◌++◌}
 use Rattle.cel_value.specs.Types.{ValueType, list_type, map_type}
-use Rattle.cel_value.specs.declared.cel_type.KeyType.{KeyType}
 use Rattle.cel_value.specs.declared.cel_type.KeyType.TheVariants as keys
-use Rattle.cel_ops.specs.declared.arithmetic.ArithmeticOp.TheVariants as arithmetics
 use Rattle.cel_ops.specs.declared.texts.TextTest.TheVariants as tests
 use Rattle.cel_overload.specs.declared.overload.Overload.{Overload}
 use Rattle.cel_overload.specs.declared.overload.Overload.TheVariants as overloads

@@ -1,5 +1,5 @@
 -- What the single steps of the plain evaluator come to.
-use Rattle.std.proofs.Common.{arith, ◌≡◌, ◌≢◌, ◌<◌, ◌+◌, ◌&&◌, ℕ, zero, suc, IsTrue, true, false, List, [], ◌∷◌, ◌++◌, drop, length, get_or, Option, Some, None, option_map, IfSome, is_some, refl, sym, ap, ◌∙◌}
+use Rattle.std.proofs.Common.{◌≡◌, ◌<◌, ◌+◌, ◌&&◌, ℕ, IsTrue, true, false, List, [], ◌∷◌, ◌++◌, drop, length, get_or, Option, Some, None, option_map, is_some, refl, sym, ap, ◌∙◌}
 use Rattle.std.proofs.lemmas.List.{append_assoc, append-nil, drop_more}
 use Rattle.std.specs.FinMap.{entries, entries-from_sorted, from_sorted, is_sorted}
 use Rattle.std.specs.declared.alloc.Global.{Global}
@@ -10,18 +10,15 @@ use Rattle.attributes.proofs.TextOrder.{t_from_true}
 use Rattle.cel_ops.specs.Attributes.{header_entries}
 use Rattle.cel_ops.specs.Collections.{entry_before, map_literal, written_entries}
 use Rattle.cel_ops.specs.steps.Gathering.{some_error}
-use Rattle.cel_ops.specs.Strict.{all_values, first_error, gather, gathered_after}
+use Rattle.cel_ops.specs.Strict.{all_values, gather, gathered_after}
 use Rattle.cel_tree.specs.Tree.{CelTarget, no_target, target}
 use Rattle.cel_tree.specs.View.{LoopParts, tree_entries_view, tree_view, trees_view}
 use Rattle.cel_tree.specs.declared.tree.Tree.{Tree}
 use Rattle.cel_tree.specs.declared.tree.TreeEntry.{TreeEntry}
 use Rattle.cel_value.specs.Items.{item_at, joined_items}
 use Rattle.cel_value.specs.Keys.{key_of_value}
-use Rattle.cel_value.specs.Masses.{item_count}
-use Rattle.cel_value.specs.Texts.{text_view}
-use Rattle.cel_value.specs.Values.{CelKey, CelValue, CelValues, no_items, item, CelEntries, CelAnswer, entry, fails, text, text_key, value}
+use Rattle.cel_value.specs.Values.{CelKey, CelValue, CelValues, no_items, item, CelEntries, CelAnswer, fails, value}
 use Rattle.cel_value.specs.View.{pairs_view, value_view, values_view}
-use Rattle.cel_value.specs.declared.error.CelError.{CelError}
 use Rattle.cel_value.specs.declared.value.Value.{Value}
 use Rattle.std.specs.Option.{option_and_then}
 use Rattle.cel_overload.specs.Answers.{function_answer}
@@ -29,14 +26,11 @@ use Rattle.cel_overload.specs.Functions.{function_named}
 use Rattle.cel_overload.specs.declared.function.Function.{Function}
 use Rattle.cel_types.specs.Meaning.{Locals, before, call_answer, eval, eval_each, eval_entries, eval_target, turn}
 use Rattle.cel_meaning.specs.steps.Plain.{are_pairs, behind, turns}
+use Rattle.cel_ops.proofs.Operands.{gather_error as erring}
+pub use Rattle.cel_value.proofs.Items.{ranged, is_ranged, at_ranged, joined_none, some_left}
+use Rattle.cel_ops.proofs.AttributeTypes.{seen_pairs}
 
 -- ---- headers as they are kept
-
-seen_pairs : (ps : List (RcStr Global × RcStr Global))
-    → header_entries (headers_view ps) ≡ pairs_view ps
-seen_pairs [] = refl
-seen_pairs (p ∷ ps) =
-    ap (entry (text_key (text_view p.0)) (text (text_view p.1))) (seen_pairs ps)
 
 -- where they stand by ascending name, they are the map that they are seen as
 pub seen_headers : (ps : List (RcStr Global × RcStr Global))
@@ -48,26 +42,9 @@ seen_headers ps sorted =
 
 -- ---- elements of a range
 
--- the elements, if there are any
-abbrev pub ranged : Option CelValues → CelValues
-ranged None = no_items
-ranged (Some vs) = vs
-
-pub is_ranged : (o : Option CelValues) → o ≢ None → o ≡ Some (ranged o)
-is_ranged None some = absurd (some refl)
-is_ranged (Some vs) some = refl
-
-pub at_ranged : (o : Option CelValues) (P : CelValues → Type 0) → o ≢ None → IfSome o P → P (ranged o)
-at_ranged None P some h = absurd (some refl)
-at_ranged (Some vs) P some h = h
-
 -- the items are the first of the elements
 abbrev pub Begin : CelValues → List Value → Type 0
 Begin vs items = (rest : CelValues) × (joined_items (values_view items) rest ≡ vs)
-
-joined_none : (vs : CelValues) → joined_items vs no_items ≡ vs
-joined_none no_items = refl
-joined_none (item v vs) = ap (item v) (joined_none vs)
 
 joined_more : (items : List Value) (x : Value) (rest : CelValues)
     → joined_items (values_view (items ++ x ∷ [])) rest
@@ -99,11 +76,6 @@ no_more vs items at (item w rest, is) =
     absurd (let some : None ≡ Some w =
     at ∙ ap (λ l. item_at l (length items)) (sym is) ∙ behind_items items (item w rest) in cc)
 
-pub some_left : (vs : CelValues) (i : ℕ) (v : CelValue) → Some v ≡ item_at vs i → i < item_count vs
-some_left no_items i v at = cc
-some_left (item w vs) zero v at = omega arith
-some_left (item w vs) (suc i) v at = let less = some_left vs i v at in omega arith
-
 -- ---- turns of a comprehension
 
 -- the turns that are left: the next one, and those behind it
@@ -119,13 +91,6 @@ next_turn p request ls elements i x a within here =
     ap (λ vs. turns p request ls (values_view vs) a) first
 
 -- ---- map literals
-
-erring : (answers : List CelAnswer) → some_error answers ≡ true
-    → (e : CelError) × (gather answers ≡ first_error e)
-erring [] some = cc
-erring (fails e ∷ answers) some = (e, refl)
-erring (value v ∷ answers) some =
-    let inner = erring answers some in (inner.0, ap (gathered_after v) inner.1)
 
 both_there : (k : Option CelKey) (v : CelValue) (es : Option CelEntries)
     → is_some (entry_before k v es) ≡ (is_some k && is_some es)

@@ -1,6 +1,6 @@
 -- What typed operands come to.
 use Rattle.std.specs.Prelude.{List, [], ◌∷◌, Option, Some, None}
-use Rattle.cel_value.specs.Values.{CelValue, CelValues, CelAnswer}
+use Rattle.cel_value.specs.Values.{CelValues, CelAnswer}
 use Rattle.cel_value.specs.Types.{ValueType, bool_type, int_type, uint_type, text_type, bytes_type, list_type, map_type, type_of_key, AnswerHasType, EachItem, HasType}
 use Rattle.cel_value.specs.declared.cel_type.KeyType.{KeyType}
 

@@ -2,7 +2,7 @@
 use Rattle.std.proofs.Common.{◌≡◌, ◌&&◌, Bool, true, false, cond, List, [], ◌∷◌, Some, None, refl, sym, ap}
 use Rattle.std.proofs.lemmas.Bool.{and_parts}
 use Rattle.std.proofs.lemmas.Option.{none-some}
-use Rattle.cel_value.specs.Types.{ValueType, bool_type, int_type, uint_type, text_type, bytes_type, list_type, map_type, type_eq, type_of_key}
+use Rattle.cel_value.specs.Types.{ValueType, bool_type, int_type, uint_type, text_type, bytes_type, list_type, map_type, type_eq, type_of_key, is_ordered}
 use Rattle.cel_value.specs.steps.EqualityLaws.{type_eq_decides}
 use Rattle.cel_ops.specs.Typed.{IsJoined, IsOrdered, IsSized}
 use Rattle.cel_ops.specs.declared.arithmetic.ArithmeticOp.{ArithmeticOp}
@@ -11,7 +11,7 @@ use Rattle.cel_ops.specs.declared.comparison.CompareOp.{CompareOp}
 use Rattle.cel_ops.specs.declared.comparison.CompareOp.TheVariants as compares
 use Rattle.cel_overload.specs.Functions.{may_take}
 use Rattle.cel_overload.specs.Overloads.{IsCompared, IsNumber, IsOverload, Takes, function_of}
-use Rattle.cel_overload.specs.steps.Choosing.{are_both, are_compared, calculated, choose, choose_arithmetic, choose_binary, choose_on, choose_ternary, choose_unary, is_joined, is_number, is_ordered, is_sized, when}
+use Rattle.cel_overload.specs.steps.Choosing.{are_both, are_compared, calculated, choose, choose_arithmetic, choose_binary, choose_on, choose_ternary, choose_unary, is_joined, is_number, is_sized, when}
 use Rattle.cel_overload.specs.declared.function.Function.{Function}
 use Rattle.cel_overload.specs.declared.function.Function.TheVariants as functions
 use Rattle.cel_overload.specs.declared.overload.Overload.{Overload}
@@ -20,12 +20,12 @@ use Rattle.cel_overload.specs.declared.overload.Overload.TheVariants as overload
 same : (s t : ValueType) → type_eq s t ≡ true → s ≡ t
 same s t e = (type_eq_decides s t).0 e
 
-itself : (t : ValueType) → type_eq t t ≡ true
+pub itself : (t : ValueType) → type_eq t t ≡ true
 itself t = (type_eq_decides t t).1 refl
 
 -- ---- what an overload takes is chosen
 
-ordered : (t : ValueType) → IsOrdered t → is_ordered t ≡ true
+pub ordered : (t : ValueType) → IsOrdered t → is_ordered t ≡ true
 ordered bool_type h = refl
 ordered int_type h = refl
 ordered uint_type h = refl

@@ -9,7 +9,8 @@ use Rattle.cel_value.specs.declared.error.CelError.TheVariants.{NoKey, ZeroDivis
 use Rattle.cel_ops.specs.declared.arithmetic.ArithmeticOp.TheVariants.{Add, Subtract}
 use Rattle.cel_ops.specs.declared.comparison.CompareOp.TheVariants.{Equal, Less}
 use Rattle.cel_ops.specs.declared.texts.TextTest.TheVariants.{StartsWith}
-use Rattle.cel_overload.specs.Answers.{function_answer, overload_answer, overload_charge}
+use Rattle.cel_overload.specs.Answers.{function_answer, overload_answer}
+use Rattle.cel_overload.specs.steps.Charges.{overload_charge}
 use Rattle.cel_overload.specs.Functions.{function_named}
 use Rattle.cel_overload.specs.Overloads.{CallFault, IsCall}
 use Rattle.cel_overload.specs.declared.function.Function.TheVariants as functions

@@ -27,12 +27,9 @@ use Rattle.cel_overload.specs.Answers.{HaveTypes, conditional, on_one, on_two, o
 use Rattle.cel_overload.specs.Overloads.{IsCompared, IsNumber, Takes}
 use Rattle.cel_overload.specs.declared.overload.Overload.{Overload}
 use Rattle.cel_overload.specs.declared.overload.Overload.TheVariants as overloads
+use Rattle.cel_ops.proofs.Numbers.{int64_fits as int64}
 
 -- ---- numbers of 64 bits
-
-int64 : (z : ℤ) → is_int64 z ≡ true → FitsSigned w64 z
-int64 (pos n) e = grind (arith, nat_tests)
-int64 (negsuc n) e = grind (arith, nat_tests)
 
 -- what a test chooses between
 typed_if : (t : ValueType) (b : Bool) (x y : CelAnswer) → (b ≡ true → AnswerHasType x t)

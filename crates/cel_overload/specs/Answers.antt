@@ -1,6 +1,6 @@
--- What calls answer and are charged: CEL language definition, "List of Standard Definitions"; the
+-- What calls answer: CEL language definition, "List of Standard Definitions"; the
 -- operations are those of `cel_ops`. None stands for operands of a wrong kind or number.
-use Rattle.std.specs.Prelude.{ℕ, true, false, List, [], ◌∷◌, Option, Some, None}
+use Rattle.std.specs.Prelude.{true, false, List, [], ◌∷◌, Option, Some, None}
 use Rattle.cel_value.specs.Values.{CelValue, bool, text, bytes, list, map_of, CelAnswer, value, fails}
 use Rattle.cel_value.specs.Types.{ValueType, AnswerHasType}
 use Rattle.cel_ops.specs.Strict.{strict_two}
@@ -9,7 +9,6 @@ use Rattle.cel_ops.specs.Logic.{conjunction, disjunction, logical_not, not_stric
 use Rattle.cel_ops.specs.Comparison.{comparison}
 use Rattle.cel_ops.specs.Parts.{joined, joined_of, text_test}
 use Rattle.cel_ops.specs.Collections.{entry_of, in_list, in_list_of, in_map, in_map_of, item_of, list_index, map_index, size}
-use Rattle.cel_ops.specs.Charges.{comparison_charge, in_list_charge, in_map_charge, joined_charge, map_index_charge, size_charge}
 use Rattle.cel_ops.specs.declared.arithmetic.ArithmeticOp.TheVariants.{Add}
 use Rattle.cel_overload.specs.declared.function.Function.{Function}
 use Rattle.cel_overload.specs.declared.function.Function.TheVariants as functions
@@ -50,27 +49,6 @@ overload_answer overloads.InList = on_two in_list
 overload_answer overloads.InMap = on_two in_map
 overload_answer overloads.Size = on_one size
 overload_answer (overloads.TestText test) = on_two (text_test test)
-
--- what an overload is charged; a conditional's jumps are charged where they stand
-abbrev pub charge_of_one : (CelAnswer → ℕ) → List CelAnswer → ℕ
-charge_of_one charge (a ∷ []) = charge a
-charge_of_one charge _ = 1
-
--- the charge of two operands
-abbrev pub charge_of_two : (CelAnswer → CelAnswer → ℕ) → List CelAnswer → ℕ
-charge_of_two charge (a ∷ b ∷ []) = charge a b
-charge_of_two charge _ = 1
-
--- what an overload is charged
-abbrev pub overload_charge : Overload → List CelAnswer → ℕ
-overload_charge (overloads.Compare op) = charge_of_two comparison_charge
-overload_charge overloads.Concat = charge_of_two joined_charge
-overload_charge overloads.IndexMap = charge_of_two map_index_charge
-overload_charge overloads.InList = charge_of_two in_list_charge
-overload_charge overloads.InMap = charge_of_two in_map_charge
-overload_charge overloads.Size = charge_of_one size_charge
-overload_charge (overloads.TestText test) = charge_of_two comparison_charge
-overload_charge _ = λ answers. 1
 
 -- ---- by the kinds of values, without types
 

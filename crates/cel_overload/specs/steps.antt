@@ -1,2 +1,4 @@
--- Definitions that clauses of private functions cite.
+-- Definitions that clauses of private functions and proofs cite.
+pub mod Charges
 pub mod Choosing
+pub mod View

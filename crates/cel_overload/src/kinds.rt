@@ -2,7 +2,7 @@
 
 ghost use Rattle.std.specs.Prelude.{◌≡◌};
 ghost use Rattle.cel_value.specs.Types.{type_eq, type_of_key, type_view};
-ghost use Rattle.cel_overload.specs.steps.Choosing.{is_joined, is_number, is_ordered, is_sized};
+ghost use Rattle.cel_overload.specs.steps.Choosing.{is_joined, is_number, is_sized};
 
 use cel_value::{CelType, KeyType};
 
@@ -13,16 +13,6 @@ pub(crate) fn is_number(kind: &CelType) -> bool
     match kind {
         CelType::Int | CelType::Uint => true,
         CelType::Bool | CelType::Text | CelType::Bytes => false,
-        CelType::List(_) | CelType::Map(_, _) => false,
-    }
-}
-
-// Whether values of the type have an order.
-pub(crate) fn is_ordered(kind: &CelType) -> bool
-    ensures { result ≡ is_ordered (type_view kind.now) }
-{
-    match kind {
-        CelType::Bool | CelType::Int | CelType::Uint | CelType::Text | CelType::Bytes => true,
         CelType::List(_) | CelType::Map(_, _) => false,
     }
 }

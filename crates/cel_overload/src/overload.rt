@@ -4,11 +4,12 @@ ghost use Rattle.std.specs.Prelude.{◌≡◌, IfErr, IfOk, option_map};
 ghost use Rattle.cel_value.specs.Texts.{points_of};
 ghost use Rattle.cel_value.specs.Types.{key_type_eq, type_eq, type_of_key, type_view};
 ghost use Rattle.cel_overload.specs.Overloads.{CallFault, IsCall};
-ghost use Rattle.cel_overload.specs.View.{found_view, result_view, types_of};
+ghost use Rattle.cel_overload.specs.View.{result_view, types_of};
+ghost use Rattle.cel_overload.specs.steps.View.{found_view};
 ghost use Rattle.cel_overload.specs.steps.Choosing.{are_both, choose, choose_arithmetic, choose_binary, choose_comparison, choose_in, choose_index, choose_ternary, choose_unary, when};
 
 use crate::function::{Function, function_named, may_take};
-use crate::kinds::{has_key_type, is_joined, is_number, is_ordered, is_sized};
+use crate::kinds::{has_key_type, is_joined, is_number, is_sized};
 use cel_ops::{ArithmeticOp, CompareOp, TextTest};
 use cel_value::CelType;
 
@@ -160,7 +161,7 @@ fn choose_comparison<'a>(op: CompareOp, left: &'a CelType, right: &'a CelType) -
 {
     let fits = match op {
         CompareOp::Equal | CompareOp::NotEqual => *left == *right,
-        _ => is_ordered(left) && *left == *right,
+        _ => left.is_ordered() && *left == *right,
     };
     when(fits, Overload::Compare(op), ResultType::Bool)
 }

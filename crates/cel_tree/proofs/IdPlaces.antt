@@ -10,6 +10,7 @@ use Rattle.std.specs.declared.cmp.Ordering.TheVariants.{Less, Equal, Greater}
 use Rattle.std.proofs.lemmas.List.{take-append-drop}
 use Rattle.proto_wire.proofs.MapOrder.{both_first, both_second, lt_is_less}
 use Rattle.cel_tree.specs.steps.Places.{AllAbove, AllBelow, IsPlace, StartsAbove, starts_with}
+pub use Rattle.cel_value.proofs.Places.{is_lt_less as is_less}
 
 -- ---- orders of two ids, turned round
 
@@ -21,11 +22,6 @@ turned_equal a b tied = int_cmp_total.antisymm b a ∙ ap ordering_reverse tied
 
 turned_greater : (a b : ℤ) → int_cmp a b ≡ Greater → int_cmp b a ≡ Less
 turned_greater a b greater = int_cmp_total.antisymm b a ∙ ap ordering_reverse greater
-
-pub is_less : (o : Ordering) → is_lt o ≡ true → o ≡ Less
-is_less Less lt = refl
-is_less Equal lt = absurd cc
-is_less Greater lt = absurd cc
 
 is_equal : (o : Ordering) → is_eq o ≡ true → o ≡ Equal
 is_equal Less eq = absurd cc

@@ -1,11 +1,10 @@
 -- Messages as cel-go 0.18 and Go's encoder write them, byte by byte, and what they say, so that a wrong rule
 -- in the specs does not check.
-use Rattle.std.proofs.Common.{◌≡◌, ℕ, suc, ◌+◌, ◌*◌, ◌<◌, ℤ, pos, negsuc, Bool, true, false, ◌&&◌, T, ltb, List, [], ◌∷◌, ◌++◌, None, codes, length, append-nil, ltb→lt, refl, sym, ap, ap₂, subst, arith}
+use Rattle.std.proofs.Common.{◌≡◌, ℕ, suc, ◌+◌, ◌*◌, ◌<◌, ℤ, pos, negsuc, Bool, true, false, ◌&&◌, T, ltb, List, [], ◌∷◌, ◌++◌, None, codes, length, ltb→lt, refl, sym, ap, ap₂, subst, arith}
 use Rattle.std.specs.Str.{IsUtf8, chars}
 use Rattle.std.specs.Ordering.{int_cmp}
 use Rattle.std.specs.Cmp.{int_cmp_total}
 use Rattle.std.specs.FinMap.{entries, from_entries}
-use Rattle.proto_wire.specs.Varint.{SpellsVarint}
 use Rattle.proto_wire.specs.Fields.{Payload, varint, i64, len, i32, Wire, StartsField, Fields}
 use Rattle.proto_wire.specs.Merge.{Merges}
 use Rattle.proto_wire.specs.Maps.{Entry, int64, map_of}
@@ -27,6 +26,7 @@ use Rattle.cel_tree.specs.References.{IsReference}
 use Rattle.cel_tree.specs.Tree.{CelTree, call, constant, ident, no_target, no_trees, select, tree}
 use Rattle.cel_tree.specs.Trees.{IsTree, in_node, node_count}
 use Rattle.cel_tree.specs.TypeEntries.{IsTypeEntry, list_of, map_of as map_of_types, plain}
+use Rattle.proto_wire.proofs.StandardFacts.{merged, one_byte}
 
 -- ---- messages whose tags, numbers and sizes are one byte each
 
@@ -50,11 +50,6 @@ is_short k _ = false
 abbrev are_short : List Wire → Bool
 are_short [] = true
 are_short (f ∷ fs) = is_short f.number f.payload && are_short fs
-
--- a number below 128 is one byte
-one_byte : (b : ℕ) → b < 128 → SpellsVarint (b ∷ []) b
-one_byte b small =
-    record { groups = small; short = omega arith; value = omega arith; fits = omega arith }
 
 -- what the tests say
 bounds : (k tag size : ℕ) → T (ltb 0 k && (ltb tag 128 && ltb size 128))
@@ -110,10 +105,6 @@ reads (f ∷ fs) short = (
   starts f.number f.payload (message fs) (both_first (is_short f.number f.payload) (are_short fs) short),
   reads fs (both_second (is_short f.number f.payload) (are_short fs) short),
 )
-
--- a message that stands in one payload
-merged : (part : List ℕ) (fs : List Wire) → Fields part fs → Merges (part ∷ []) fs
-merged part fs whole = (fs, [], whole, refl, sym (append-nil fs))
 
 merges : (fs : List Wire) → T (are_short fs) → Merges (message fs ∷ []) fs
 merges fs short = merged (message fs) fs (reads fs short)

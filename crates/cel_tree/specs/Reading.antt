@@ -1,6 +1,6 @@
 -- Messages that say something by their fields, and what is wrong with them: Protocol Buffers
 -- encoding guide, "Message Structure", "Last One Wins" and "Oneofs".
-use Rattle.std.specs.Prelude.{◌≡◌, ◌≢◌, ◌⊎◌, ℕ, List, [], ◌∷◌, Option, Some, None, MatchOption, Contains}
+use Rattle.std.specs.Prelude.{◌≡◌, ◌≢◌, ℕ, List, [], ◌∷◌, Option, Some, None, MatchOption, Contains}
 use Rattle.std.specs.Map.{keys_of}
 use Rattle.proto_wire.specs.Fields.{Wire}
 use Rattle.proto_wire.specs.Merge.{Merges}
@@ -16,11 +16,6 @@ use Rattle.proto_wire.specs.declared.refusal.Refusal.TheVariants.{Missing, Unsup
 -- the parts merge to a message of known fields, which say this
 abbrev pub Reads : {T : Type 0} → List Key → (List Wire → T → Type 0) → List (List ℕ) → T → Type 0
 Reads keys Says parts x = (fs : List Wire) × IsMessage keys parts fs × Says fs x
-
--- what is wrong with the values of fields: something that must be there lacks, or a value is wrong
-abbrev pub ValuesFault : (List Wire → Type 0) → (List Wire → Refusal → Type 0) → List Wire → Refusal
-    → Type 0
-ValuesFault Lacks Wrong fs e = (Lacks fs × (e ≡ Missing)) ⊎ Wrong fs e
 
 -- what is wrong with a message: its fields; that something lacks, where its fields are known; or a
 -- value

@@ -30,13 +30,3 @@ mutual
   pub data CelTreeEntries : Type 0 where
     no_tree_entries : CelTreeEntries
     tree_entry : ℤ → (key value : CelTree) → CelTreeEntries → CelTreeEntries
-
--- the id of the root
-abbrev pub id_of : CelTree → ℤ
-id_of (constant id c) = id
-id_of (ident id n) = id
-id_of (select id o f t) = id
-id_of (call id f t xs) = id
-id_of (list_literal id es) = id
-id_of (map_literal id es) = id
-id_of (comprehension id x acc range init condition step result) = id

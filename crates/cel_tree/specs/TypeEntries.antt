@@ -7,9 +7,8 @@ use Rattle.proto_wire.specs.Values.{payloads, uint32_at}
 use Rattle.proto_wire.specs.declared.key.Key.{Key}
 use Rattle.proto_wire.specs.declared.refusal.Refusal.{Refusal}
 use Rattle.proto_wire.specs.declared.refusal.Refusal.TheVariants.{OutOfRange, TooLarge}
-use Rattle.cel_value.specs.Types.{ValueType, bool_type, int_type, uint_type, text_type, bytes_type, list_type, map_type}
+use Rattle.cel_value.specs.Types.{ValueType, bool_type, int_type, uint_type, text_type, bytes_type, list_type, map_type, key_type_of}
 use Rattle.cel_value.specs.declared.cel_type.KeyType.{KeyType}
-use Rattle.cel_value.specs.declared.cel_type.KeyType.TheVariants as keys
 use Rattle.cel_tree.specs.Checked.{CelTypeEntry, of_type, dyn_type, unsupported_type}
 use Rattle.cel_tree.specs.Reading.{Reads, ReadFault, LacksNothing, OneofSays, Never, OneofFault, IsPart, StandsIn}
 use Rattle.cel_tree.specs.declared.type_node.TypeKind.{TypeKind}
@@ -21,14 +20,6 @@ use Rattle.cel_tree.specs.declared.type_node.TypeKind.TheVariants as kinds
 abbrev pub list_entry : CelTypeEntry → CelTypeEntry
 list_entry (of_type t) = of_type (list_type t)
 list_entry _ = unsupported_type
-
--- the type of keys that a type is, none where no key has it
-abbrev pub key_type_of : ValueType → Option KeyType
-key_type_of bool_type = Some keys.Bool
-key_type_of int_type = Some keys.Int
-key_type_of uint_type = Some keys.Uint
-key_type_of text_type = Some keys.Text
-key_type_of _ = None
 
 -- a map with keys of this type, and values of that one
 abbrev pub map_with : Option KeyType → ValueType → CelTypeEntry

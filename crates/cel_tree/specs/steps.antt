@@ -6,3 +6,4 @@ pub mod Inside
 pub mod NodeViews
 pub mod Named
 pub mod Places
+pub mod Values

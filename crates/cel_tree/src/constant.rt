@@ -6,15 +6,15 @@ ghost use Rattle.proto_wire.specs.Merge.{parts_view};
 ghost use Rattle.proto_wire.specs.Refusal.{MemoryOr};
 ghost use Rattle.proto_wire.specs.declared.refusal.Refusal.TheVariants.{Missing, Unsupported};
 ghost use Rattle.cel_tree.specs.Constants.{constants, constant_keys, ConstantSays, ConstantFails, IsConstant, ConstantFault};
-ghost use Rattle.cel_tree.specs.Reading.{ValuesFault, OneofSays, Never, LacksMember, IsUnsupported, OneofFault};
+ghost use Rattle.cel_tree.specs.Reading.{OneofSays, Never, LacksMember, IsUnsupported, OneofFault};
+ghost use Rattle.cel_tree.specs.steps.Values.{ValuesFault};
 ghost use Rattle.proto_wire.specs.Oneof.{last_number, member_in};
 ghost use Rattle.cel_tree.specs.View.{constant_view};
 
-use crate::fields::last_number;
 use crate::tree::Constant;
 use proto_wire::{
-    Field, Key, Refusal, bool_at, bytes_at, int64_at, keys, last_varint, member_run, read_message,
-    text_at,
+    Field, Key, Refusal, bool_at, bytes_at, int64_at, keys, last_number, last_varint, member_run,
+    read_message, text_at,
 };
 use std::alloc::Global;
 use std::rc::{RcSlice, RcStr};

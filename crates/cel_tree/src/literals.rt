@@ -7,16 +7,17 @@ ghost use Rattle.proto_wire.specs.Refusal.{MemoryOr};
 ghost use Rattle.proto_wire.specs.Values.{has_field, bool_at, bytes_at, payloads};
 ghost use Rattle.proto_wire.specs.declared.refusal.Refusal.TheVariants.{Missing, Unsupported};
 ghost use Rattle.cel_tree.specs.Nodes.{list_field, list_keys, ListSays, ListWrong, entry_field, key_members, EntrySays, EntryLacks, EntryWrong, IsEntry, EntryFault, AreEntries, struct_field, struct_keys, StructSays, StructWrong};
-ghost use Rattle.cel_tree.specs.Reading.{Reads, ReadFault, ValuesFault, LacksNothing};
+ghost use Rattle.cel_tree.specs.Reading.{Reads, ReadFault, LacksNothing};
+ghost use Rattle.cel_tree.specs.steps.Values.{ValuesFault};
 ghost use Rattle.proto_wire.specs.Oneof.{last_number};
 ghost use Rattle.cel_tree.specs.steps.NodeViews.{node_view};
 ghost use Rattle.cel_tree.specs.steps.EntryViews.{entry_node_view, entry_nodes_view};
 
-use crate::fields::{last_number, require_part, run_payloads};
+use crate::fields::run_payloads;
 use crate::node::Node;
 use proto_wire::{
-    Field, Key, Payloads, Refusal, bool_at, bytes_at, has_field, int64_at, keys, payloads_of,
-    read_message,
+    Field, Key, Payloads, Refusal, bool_at, bytes_at, has_field, int64_at, keys, last_number,
+    payloads_of, read_message, require_payload,
 };
 use std::alloc::Global;
 
@@ -160,7 +161,7 @@ fn entry_of<'a>(alloc: Global, fields: &[Field<'a>]) -> Result<EntryNode<'a>, Re
 {
     refuse_optional_entry(fields)?;
     require_map_key(fields)?;
-    require_part(fields, VALUE)?;
+    require_payload(fields, VALUE)?;
     let key = run_payloads(alloc, fields, &ENTRY_KEY, MAP_KEY)?;
     let value = payloads_of(alloc, fields, VALUE)?;
     let id = int64_at(fields, ID);

@@ -7,13 +7,15 @@ ghost use Rattle.proto_wire.specs.Refusal.{MemoryOr};
 ghost use Rattle.proto_wire.specs.Values.{bytes_at, payloads};
 ghost use Rattle.proto_wire.specs.declared.refusal.Refusal.TheVariants.{Missing, Unsupported};
 ghost use Rattle.cel_tree.specs.Nodes.{loop_field, loop_keys, NamesRead, PartsThere, LacksPart, LoopSays, LoopLacks, LoopWrong};
-ghost use Rattle.cel_tree.specs.Reading.{Reads, ReadFault, ValuesFault};
+ghost use Rattle.cel_tree.specs.Reading.{Reads, ReadFault};
+ghost use Rattle.cel_tree.specs.steps.Values.{ValuesFault};
 ghost use Rattle.cel_tree.specs.steps.NodeViews.{node_view};
 
-use crate::fields::{name_at, require_part, two_payloads_of};
+use crate::fields::{name_at, two_payloads_of};
 use crate::node::Node;
 use proto_wire::{
-    Field, Key, Payloads, Refusal, bytes_at, keys, payloads_of, read_message, text_at,
+    Field, Key, Payloads, Refusal, bytes_at, keys, payloads_of, read_message, require_payload,
+    text_at,
 };
 use std::alloc::{AllocError, Global};
 use std::rc::RcStr;
@@ -125,9 +127,9 @@ fn require_parts(fields: &[Field<'_>]) -> Result<(), Refusal>
     ensures found { OnOk result (PartsThere (map field_view fields.now)) }
     ensures fault { IfErr result (λ e. LacksPart (map field_view fields.now) × (e ≡ Missing)) }
 {
-    require_part(fields, ITER_RANGE)?;
-    require_part(fields, ACCU_INIT)?;
-    require_part(fields, LOOP_CONDITION)?;
-    require_part(fields, LOOP_STEP)?;
-    require_part(fields, RESULT)
+    require_payload(fields, ITER_RANGE)?;
+    require_payload(fields, ACCU_INIT)?;
+    require_payload(fields, LOOP_CONDITION)?;
+    require_payload(fields, LOOP_STEP)?;
+    require_payload(fields, RESULT)
 }

@@ -7,7 +7,7 @@ ghost use Rattle.proto_wire.specs.Merge.{parts_view};
 ghost use Rattle.proto_wire.specs.Refusal.{MemoryOr};
 ghost use Rattle.proto_wire.specs.Values.{payloads};
 ghost use Rattle.cel_tree.specs.Message.{checked_field, most_nodes, tree_depth, CheckedSays, CheckedLacks, CheckedWrong, IsChecked, CheckedFault};
-ghost use Rattle.cel_tree.specs.Reading.{ValuesFault};
+ghost use Rattle.cel_tree.specs.steps.Values.{ValuesFault};
 ghost use Rattle.cel_tree.specs.References.{IsReference};
 ghost use Rattle.cel_tree.specs.Trees.{IsTree, node_count};
 ghost use Rattle.cel_tree.specs.TypeEntries.{IsTypeEntry};
@@ -15,12 +15,11 @@ ghost use Rattle.cel_tree.specs.View.{checked_view, references_view, tree_view, 
 ghost use Rattle.cel_tree.specs.steps.Inside.{TreeFails};
 
 use crate::checked::{Checked, ReferenceMap, TypeMap};
-use crate::fields::require_part;
 use crate::maps::{REFERENCE_MAP, TREE_DEPTH, TYPE_MAP, references_of, types_of};
 use crate::pairs::both;
 use crate::read::read_tree;
 use crate::tree::Tree;
-use proto_wire::{Field, Key, Refusal, keys, payloads_of, read_message};
+use proto_wire::{Field, Key, Refusal, keys, payloads_of, read_message, require_payload};
 use std::alloc::Global;
 
 /// How many nodes a tree may have.
@@ -60,7 +59,7 @@ fn checked_of(alloc: Global, fields: &[Field<'_>]) -> Result<Checked, Refusal>
     ensures found { IfOk result (λ c. CheckedSays (map field_view fields.now) (checked_view c)) }
     ensures fault { IfErr result (MemoryOr (ValuesFault CheckedLacks CheckedWrong (map field_view fields.now))) }
 {
-    require_part(fields, EXPR)?;
+    require_payload(fields, EXPR)?;
     let tree = tree_of(alloc, fields)?;
     let (tree, (types, refs)) = both(tree, maps_of(alloc, fields))?;
     Ok(Checked { tree, types, refs })

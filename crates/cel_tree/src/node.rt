@@ -7,17 +7,18 @@ ghost use Rattle.proto_wire.specs.Refusal.{MemoryOr};
 ghost use Rattle.proto_wire.specs.declared.refusal.Refusal.TheVariants.{Missing, Unsupported};
 ghost use Rattle.cel_value.specs.Types.{IsInt64};
 ghost use Rattle.cel_tree.specs.Nodes.{node_kinds, kind_keys, KindSays, KindFault, MemberSays, MemberFails, NodeSays, IsNode, NodeFault};
-ghost use Rattle.cel_tree.specs.Reading.{ValuesFault, LacksMember, IsUnsupported, OneofFault};
+ghost use Rattle.cel_tree.specs.Reading.{LacksMember, IsUnsupported, OneofFault};
+ghost use Rattle.cel_tree.specs.steps.Values.{ValuesFault};
 ghost use Rattle.proto_wire.specs.Oneof.{last_number, member_in, member_run};
 ghost use Rattle.cel_tree.specs.steps.NodeViews.{node_view, numbered_view};
 
 use crate::constant::read_constant;
-use crate::fields::{last_number, run_payloads};
+use crate::fields::run_payloads;
 use crate::literals::{EntryNode, read_list, read_struct};
 use crate::loops::{LoopNode, read_loop};
 use crate::operands::{read_call, read_ident, read_select};
 use crate::tree::Constant;
-use proto_wire::{Field, Key, Payloads, Refusal, int64_at, keys, read_message};
+use proto_wire::{Field, Key, Payloads, Refusal, int64_at, keys, last_number, read_message};
 use std::alloc::Global;
 use std::rc::RcStr;
 

@@ -5,12 +5,15 @@ ghost use Rattle.proto_wire.specs.Fields.{field_view};
 ghost use Rattle.proto_wire.specs.Merge.{parts_view};
 ghost use Rattle.proto_wire.specs.Refusal.{MemoryOr};
 ghost use Rattle.cel_tree.specs.Nodes.{ident_keys, IdentSays, IdentWrong, select_keys, SelectSays, SelectLacks, SelectWrong, call_keys, CallSays, CallWrong};
-ghost use Rattle.cel_tree.specs.Reading.{Reads, ReadFault, ValuesFault, LacksNothing};
+ghost use Rattle.cel_tree.specs.Reading.{Reads, ReadFault, LacksNothing};
+ghost use Rattle.cel_tree.specs.steps.Values.{ValuesFault};
 ghost use Rattle.cel_tree.specs.steps.NodeViews.{node_view};
 
-use crate::fields::{name_at, require_part, two_payloads_of};
+use crate::fields::{name_at, two_payloads_of};
 use crate::node::Node;
-use proto_wire::{Field, Key, Refusal, bool_at, keys, payloads_of, read_message, text_at};
+use proto_wire::{
+    Field, Key, Refusal, bool_at, keys, payloads_of, read_message, require_payload, text_at,
+};
 use std::alloc::Global;
 use std::rc::RcStr;
 
@@ -69,7 +72,7 @@ fn select_of<'a>(alloc: Global, fields: &[Field<'a>]) -> Result<Node<'a>, Refusa
     ensures fault { IfErr result (MemoryOr (ValuesFault SelectLacks SelectWrong (map field_view fields.now))) }
 {
     let name = text_at(fields, FIELD)?;
-    require_part(fields, OPERAND)?;
+    require_payload(fields, OPERAND)?;
     let operand = payloads_of(alloc, fields, OPERAND)?;
     let field = RcStr::from_str(alloc, name)?;
     let test_only = bool_at(fields, TEST_ONLY);

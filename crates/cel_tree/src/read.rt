@@ -18,8 +18,7 @@ use crate::loops::LoopNode;
 use crate::node::{Node, read_node};
 use crate::pairs::both;
 use crate::tree::{Comprehension, Tree, TreeEntry};
-use crate::type_entry::require_level;
-use proto_wire::{Payloads, Refusal};
+use proto_wire::{Payloads, Refusal, require_level};
 use std::alloc::{AllocError, Global};
 use std::rc::RcStr;
 

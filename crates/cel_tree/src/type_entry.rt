@@ -1,19 +1,18 @@
 //! The reading of types, down to a depth.
 
-ghost use Rattle.std.specs.Prelude.{◌≡◌, ◌⊎◌, ◌<◌, IfOk, IfErr, OnOk};
+ghost use Rattle.std.specs.Prelude.{◌≡◌, ◌⊎◌, IfOk, IfErr};
 ghost use Rattle.proto_wire.specs.Merge.{parts_view};
 ghost use Rattle.proto_wire.specs.Refusal.{MemoryOr};
-ghost use Rattle.proto_wire.specs.declared.refusal.Refusal.TheVariants.{TooLarge};
 ghost use Rattle.cel_value.specs.Types.{type_view};
-ghost use Rattle.cel_tree.specs.TypeEntries.{list_of, map_of, list_entry, map_entry, key_type_of, Holds, IsTypeEntry, TypeEntryFault};
+ghost use Rattle.cel_tree.specs.TypeEntries.{list_of, map_of, list_entry, map_entry, Holds, IsTypeEntry, TypeEntryFault};
 ghost use Rattle.cel_tree.specs.View.{type_entry_view};
 ghost use Rattle.cel_tree.specs.steps.InnerTypes.{HoldsFault};
 ghost use Rattle.cel_tree.specs.steps.NodeViews.{type_node_view};
 
 use crate::checked::TypeEntry;
 use crate::type_node::{TypeNode, read_type_node};
-use cel_value::{CelType, KeyType};
-use proto_wire::{Payloads, Refusal};
+use cel_value::CelType;
+use proto_wire::{Payloads, Refusal, require_level};
 use std::alloc::{AllocError, Global};
 use std::rc::Rc;
 
@@ -74,17 +73,6 @@ fn read_map(
     Ok(map_entry(alloc, keys, values)?)
 }
 
-/// Refuses a tree or a type where no level is left.
-pub(crate) fn require_level(depth: u32) -> Result<(), Refusal>
-    ensures found { OnOk result (0 < depth) }
-    ensures fault { IfErr result (λ e. (depth ≡ 0) × (e ≡ TooLarge)) }
-{
-    if depth == 0 {
-        return Err(Refusal::TooLarge);
-    }
-    Ok(())
-}
-
 /// A list of items of this type.
 fn list_entry(alloc: Global, item: TypeEntry) -> Result<TypeEntry, AllocError>
     ensures { IfOk result (λ entry. type_entry_view entry ≡ list_entry (type_entry_view item)) }
@@ -100,23 +88,10 @@ fn map_entry(alloc: Global, keys: TypeEntry, values: TypeEntry) -> Result<TypeEn
     ensures { IfOk result (λ entry. type_entry_view entry ≡ map_entry (type_entry_view keys) (type_entry_view values)) }
 {
     match (keys, values) {
-        (TypeEntry::Type(keys), TypeEntry::Type(values)) => match key_type(&keys) {
+        (TypeEntry::Type(keys), TypeEntry::Type(values)) => match keys.key_type() {
             Some(keys) => Ok(TypeEntry::Type(CelType::Map(keys, Rc::new(alloc, values)?))),
             None => Ok(TypeEntry::Unsupported),
         },
         _ => Ok(TypeEntry::Unsupported),
-    }
-}
-
-/// The type of keys that a type is; `None` where no key has it.
-fn key_type(keys: &CelType) -> Option<KeyType>
-    ensures { result ≡ key_type_of (type_view keys.now) }
-{
-    match keys {
-        CelType::Bool => Some(KeyType::Bool),
-        CelType::Int => Some(KeyType::Int),
-        CelType::Uint => Some(KeyType::Uint),
-        CelType::Text => Some(KeyType::Text),
-        _ => None,
     }
 }

@@ -7,17 +7,17 @@ use Rattle.cel_tree.specs.declared.tree.TreeEntry.{TreeEntry}
 use Rattle.cel_types.specs.declared.typed.TypedExpr.{TypedExpr}
 use Rattle.std.specs.FinMap.{get}
 use Rattle.cel_tree.specs.Checked.{CelTypeEntry}
-use Rattle.cel_tree.specs.Tree.{CelTree, constant, ident, select, call, list_literal, map_literal, comprehension, CelTarget, no_target, target, CelTrees, no_trees, tree, CelTreeEntries, no_tree_entries, tree_entry, id_of}
+use Rattle.cel_tree.specs.Tree.{CelTree, constant, ident, select, call, list_literal, map_literal, comprehension, CelTarget, no_target, target, CelTrees, no_trees, tree, CelTreeEntries, no_tree_entries, tree_entry}
 use Rattle.cel_value.specs.steps.EqualityLaws.{type_eq_decides}
 use Rattle.cel_value.specs.Types.{ValueType, bool_type, map_type, type_eq, type_of_key}
 use Rattle.cel_value.specs.declared.cel_type.KeyType.TheVariants as keys
-use Rattle.cel_types.specs.Elaborated.{Elaborates, ElaboratesEach, ElaboratesPairs, ElaboratesTarget, TypedTree, TypedTrees, kind, kinds, no_typed, typed, typed_attribute, typed_call, typed_constant, typed_field, typed_has, typed_list, typed_local, typed_loop, typed_map}
+use Rattle.cel_types.specs.Elaborated.{ElaboratesEach, ElaboratesPairs, ElaboratesTarget, TypedTree, TypedTrees, kind, kinds, no_typed, typed, typed_list, typed_loop, typed_map}
 use Rattle.cel_types.specs.Names.{joined_name, root_of}
 use Rattle.cel_types.specs.Typing.{EachAgrees, EntriesAgree, EntryAgrees, ListRule, MapRule, IsOver, Kinds, Maps, NamesDiffer, PairsAgree, TargetAgrees, TypeAgrees, Types, TypesAll, TypesEach, TypesPairs, TypesTarget, has_target, locals_in, locals_in_each, locals_in_entries}
 use Rattle.cel_types.specs.TypingFaults.{CallsFault, ElementsFault, EntryFault, ItemTypes, KeyTypes, PairFault, PairsFault, SelectFault, SomeFault, SomeTypes, TargetFault, TypeFault}
 use Rattle.cel_types.specs.TypingFaults.{EachTurn, unsupported_kind, another_type, no_element_name, no_gathered_name, one_name, no_elements, no_condition, no_step, in_range, in_init, in_turn as faulty_turn, in_result}
 use Rattle.cel_types.specs.View.{expr_view, exprs_view, typed_of}
-use Rattle.cel_types.specs.steps.Checks.{AreFound, InsideAgrees, IsAttribute, IsCalled, IsFound, IsNode, IsTarget, IsTurn, NamesFault, TurnFault}
+use Rattle.cel_types.specs.steps.Checks.{AreFound, InsideAgrees, IsAttribute, IsCalled, IsFound, IsNode, IsTarget, IsTurn, NamesFault, TurnFault, id_of}
 use Rattle.cel_types.specs.steps.Kinds.{IsListOf, IsMapOf, NoCall, NoListOf, NoMapOf, field_of, in_turn}
 use Rattle.std.proofs.lemmas.Bool.{and_parts}
 use Rattle.cel_tree.specs.View.{EntryParts, LoopParts, entry_view, loop_of, tree_entries_of, tree_entries_view, tree_view, trees_of, trees_view}
@@ -25,23 +25,9 @@ use Rattle.cel_types.proofs.OneType.{OneAtMost, one_type, over_one}
 use Rattle.cel_types.proofs.Total.{each_turn, same_type, typed_no_root}
 use Rattle.proto_wire.specs.declared.refusal.Refusal.{Refusal}
 use Rattle.proto_wire.specs.declared.refusal.Refusal.TheVariants.{NoOverload}
+pub use Rattle.cel_types.proofs.WellTypedElaborations.{elaborates_types as types_of}
 
 -- ---- what is elaborated is typed
-
-pub types_of : (m : Maps) (ks : Kinds) (t : CelTree) (e : TypedTree) → Elaborates m ks t e
-    → Types m ks t (kind e)
-types_of m ks (constant id v) (typed_constant t w) g = g.0
-types_of m ks (ident id name) (typed_local t outside) g = g.0
-types_of m ks (ident id name) (typed_attribute t a) g = g.0
-types_of m ks (select id operand field test_only) (typed_attribute t a) g = g.0
-types_of m ks (select id operand field test_only) (typed_field t on name) g = g.0
-types_of m ks (select id operand field test_only) (typed_has t on name) g = g.0
-types_of m ks (call id name on args) (typed_call t o operands) g = g.0
-types_of m ks (list_literal id elements) (typed_list t es) g = g.0
-types_of m ks (map_literal id entries) (typed_map t pairs) g = g.0
-types_of m ks (comprehension id x acc range init condition step result) (typed_loop t r i c s e) g =
-    g.0
-types_of m ks _ _ g = absurd g
 
 pub each_types : (m : Maps) (ks : Kinds) (ts : CelTrees) (es : TypedTrees)
     → ElaboratesEach m ks ts es → TypesEach m ks ts (kinds es)

@@ -1,5 +1,5 @@
 -- Maps with ascending keys are equal where they give the same values.
-use Rattle.std.proofs.Common.{◌≡◌, Bool, true, false, cond, Option, Some, None, refl, sym, ap, ap₂, ◌∙◌, inl, inr}
+use Rattle.std.proofs.Common.{◌≡◌, false, Some, None, refl, sym, ap, ap₂, ◌∙◌, inl, inr}
 use Rattle.std.specs.declared.cmp.Ordering.{Ordering}
 use Rattle.std.specs.declared.cmp.Ordering.TheVariants.{Less, Equal, Greater}
 use Rattle.std.specs.Ordering.{is_eq, ordering_reverse}
@@ -8,7 +8,7 @@ use Rattle.cel_value.specs.Values.{CelKey, CelValue, CelEntries, no_entries, ent
 use Rattle.cel_value.specs.Keys.{get, key_cmp, AllAbove, IsAscending}
 use Rattle.cel_value.specs.Equality.{key_eq}
 use Rattle.cel_value.specs.steps.EqualityLaws.{key_eq_decides}
-use Rattle.cel_value.proofs.Places.{key_eq_cmp, key_cmp_trans, key_cmp_antisymm, above_lower}
+use Rattle.cel_value.proofs.Places.{key_eq_cmp, key_cmp_antisymm, above_lower}
 
 less_apart : (k j : CelKey) → key_cmp k j ≡ Less → key_eq j k ≡ false
 less_apart k j h = key_eq_cmp j k ∙ ap is_eq (key_cmp_antisymm j k ∙ ap ordering_reverse h)

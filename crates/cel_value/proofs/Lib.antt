@@ -1,3 +1,4 @@
+pub mod Items
 pub mod Views
 pub mod Same
 pub mod TextOrder

@@ -7,7 +7,7 @@ use Rattle.std.specs.Fn.{Called, ComputesKey}
 use Rattle.std.specs.List.Sorted.{IsBinarySearchResult}
 use denote.Param.Members.{Mut}
 use denote.Ref.{Bor}
-use Rattle.cel_value.specs.Values.{CelKey, CelValue, CelEntries, text, text_key, bool_key, int_key, uint_key, entry}
+use Rattle.cel_value.specs.Values.{CelKey, CelValue, text, text_key, bool_key, int_key, uint_key, entry}
 use Rattle.cel_value.specs.Texts.{text_view}
 use Rattle.cel_value.specs.View.{entries_view, key_view, pairs_view, value_view}
 use Rattle.cel_value.specs.Keys.{get, key_cmp, IsAscending, put}

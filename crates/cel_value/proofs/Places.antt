@@ -1,24 +1,20 @@
 -- Where an entry belongs, and what a map has once it is there.
-use Rattle.std.proofs.Common.{◌≡◌, ◌↔◌, ◌≢◌, ℕ, ◌+◌, ◌<◌, ◌≤◌, Bool, true, false, cond, List, [], ◌∷◌, ◌++◌, length, take, drop, get_or, map, Option, Some, None, refl, sym, ap, ◌∙◌, inl, inr, subst, ℤ, arith}
+use Rattle.std.proofs.Common.{◌≡◌, ◌↔◌, ◌≢◌, Bool, true, false, cond, Option, Some, None, refl, sym, ap, ◌∙◌, inl, inr, subst, ℤ, arith}
 use Rattle.std.specs.Prelude.{if◌then◌else◌}
-use Rattle.std.specs.Bool.{Decides, beq}
+use Rattle.std.specs.Bool.{beq}
 use Rattle.std.specs.FinMap.{int_cmp-IsAntisymmetric}
 use Rattle.std.specs.Ordering.{int_eq}
 use Rattle.std.proofs.lemmas.Int.{ints}
 use Rattle.std.proofs.lemmas.Bool.Decides.{Decides-int_eq, same_from_decides}
 use Rattle.std.specs.declared.cmp.Ordering.{Ordering}
 use Rattle.std.specs.declared.cmp.Ordering.TheVariants.{Less, Equal, Greater}
-use Rattle.std.specs.Ordering.{is_lt, is_eq, ordering_reverse, bool_cmp, int_cmp, nat_cmp}
+use Rattle.std.specs.Ordering.{is_lt, is_eq, ordering_reverse, bool_cmp, int_cmp}
 use Rattle.std.proofs.lemmas.Bool.{and_parts}
 use Rattle.std.specs.Cmp.{IsTotalOrder, bool_cmp_total, int_cmp_total, nat_cmp_total, unsigned_ties, Equal-is}
-use Rattle.std.specs.Cmp.Lexicographic.{slice_cmp, nat_list_cmp_total, texts_ties}
-use Rattle.std.proofs.lemmas.List.{drop_more, drop_all, take_more, take_all, map-append}
+use Rattle.std.specs.Cmp.Lexicographic.{nat_list_cmp_total, texts_ties}
 use Rattle.cel_value.specs.Values.{CelKey, bool_key, int_key, uint_key, text_key, CelValue, CelEntries, no_entries, entry}
-use Rattle.cel_value.specs.View.{key_view, value_view, entries_view, entries_of}
 use Rattle.cel_value.specs.Keys.{get, key_cmp, AllAbove, IsAscending, is_ascending, put}
 use Rattle.cel_value.specs.Equality.{key_eq}
-use Rattle.cel_value.specs.declared.value.Key.{Key}
-use Rattle.cel_value.specs.declared.value.Value.{Value}
 use Rattle.std.proofs.lemmas.Bool.{cases_Bool, false_from_ne_true}
 use Rattle.cel_value.specs.steps.EqualityLaws.{key_eq_decides}
 
@@ -131,7 +127,7 @@ above_then Less e f = cc
 above_then Equal e f = cc
 above_then Greater e f = refl
 
-is_lt_less : (r : Ordering) → is_lt r ≡ true → r ≡ Less
+pub is_lt_less : (r : Ordering) → is_lt r ≡ true → r ≡ Less
 is_lt_less Less e = refl
 is_lt_less Equal e = cc
 is_lt_less Greater e = cc

@@ -1,14 +1,11 @@
 -- Equality of values: the test decides it.
-use Rattle.std.proofs.Common.{◌≡◌, ℕ, ℤ, ◌+◌, ◌<◌, ◌&&◌, Bool, true, false, List, [], ◌∷◌, length, drop, get_or, map, refl, sym, ap, ◌∙◌, arith, nat_eq, IsUtf8}
-use Rattle.std.specs.Bool.{Decides, beq}
-use Rattle.std.specs.Cmp.{booleans_Decides, IsEquivalence}
+use Rattle.std.proofs.Common.{◌≡◌, ℕ, ◌&&◌, Bool, true, false, List, refl, sym, ap, ◌∙◌, arith, nat_eq, IsUtf8}
+use Rattle.std.specs.Bool.{Decides}
 use Rattle.std.specs.Cmp.Lexicographic.{pointwise, bytes_decides}
 use Rattle.std.specs.Str.{chars, encode_utf8_all}
-use Rattle.std.proofs.lemmas.Str.{encodes-chars, IsUtf8-string_bytes}
-use Rattle.std.proofs.lemmas.Bool.{and_parts}
-use Rattle.std.proofs.lemmas.Bool.Decides.{Decides-int_eq, Decides-eqb, same_from_decides}
-use Rattle.std.proofs.lemmas.List.{drop_more}
-use Rattle.cel_value.specs.Values.{CelKey, bool_key, int_key, uint_key, text_key, CelValue, bool, int, uint, text, bytes, list, map_of, CelValues, no_items, item, CelEntries, no_entries, entry}
+use Rattle.std.proofs.lemmas.Str.{encodes-chars}
+use Rattle.std.proofs.lemmas.Bool.Decides.{same_from_decides}
+use Rattle.cel_value.specs.Values.{CelValues, no_items, item, CelEntries, no_entries, entry}
 use Rattle.cel_value.specs.Masses.{item_count, entry_count}
 use Rattle.cel_value.specs.Equality.{key_eq, value_eq, values_eq, entries_eq}
 use Rattle.cel_value.specs.steps.EqualityLaws.{entries_eq_decides}

@@ -1,6 +1,5 @@
 -- What is left of a number, step by step.
-use Rattle.std.proofs.Common.{◌≡◌, ℕ, ◌+◌, ◌-◌, ◌≤◌, Bool, true, false, cond, List, [], ◌∷◌, length, drop, get_or, ◌<◌, Option, Some, None, refl, sym, ap, ◌∙◌, arith, inl, inr, map}
-use Rattle.std.specs.Prelude.{nat_le}
+use Rattle.std.proofs.Common.{◌≡◌, ℕ, ◌+◌, ◌-◌, ◌≤◌, length, ◌<◌, Option, Some, None, sym, ap, ◌∙◌, arith, inl, inr}
 use Rattle.std.specs.Option.{SomeIff}
 use Rattle.std.specs.Str.{chars, encode_utf8_all}
 use Rattle.std.specs.Rc.{rc_str_bytes}
@@ -8,12 +7,7 @@ use Rattle.std.specs.declared.rc.RcStr.{RcStr}
 use Rattle.std.proofs.lemmas.Str.{encodes-chars, IsUtf8-string_bytes}
 use Rattle.std.proofs.lemmas.Bool.{cases_lt}
 use Rattle.std.proofs.lemmas.Bool.Decides.{nat_tests}
-use Rattle.std.proofs.lemmas.List.{drop_more, drop_all}
-use Rattle.cel_value.specs.Values.{CelValue, CelValues, CelEntries, CelKey}
-use Rattle.cel_value.specs.View.{value_view, values_view, key_view, entries_view}
-use Rattle.cel_value.specs.Masses.{left_of, mass, items_mass, entries_mass, key_mass}
-use Rattle.cel_value.specs.declared.value.Key.{Key}
-use Rattle.cel_value.specs.declared.value.Value.{Value}
+use Rattle.cel_value.specs.Masses.{left_of}
 
 pub left_enough : (n m : ℕ) → m ≤ n → left_of n m ≡ Some (n - m)
 left_enough n m h = grind (arith, nat_tests)

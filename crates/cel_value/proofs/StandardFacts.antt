@@ -1,14 +1,14 @@
 -- The definitions of values on examples of the standards.
-use Rattle.std.proofs.Common.{◌≡◌, ℕ, ℤ, pos, negsuc, Bool, true, false, List, [], ◌∷◌, Some, None, refl}
+use Rattle.std.proofs.Common.{◌≡◌, pos, negsuc, true, false, [], ◌∷◌, Some, None, refl}
 use Rattle.std.specs.Prelude.{codes}
-use Rattle.std.specs.declared.cmp.Ordering.TheVariants.{Less, Greater}
+use Rattle.std.specs.declared.cmp.Ordering.TheVariants.{Less}
 use Rattle.std.specs.Cmp.Lexicographic.{slice_cmp}
 use Rattle.std.specs.Ordering.{nat_cmp}
 use Rattle.std.specs.Char.{encode_utf8}
-use Rattle.cel_value.specs.Values.{bool_key, int_key, uint_key, text_key, CelValue, bool, int, uint, text, bytes, list, map_of, no_items, item, CelEntries, no_entries, entry}
+use Rattle.cel_value.specs.Values.{bool_key, int_key, uint_key, text_key, bool, int, uint, text, bytes, list, map_of, no_items, item, CelEntries, no_entries, entry}
 use Rattle.cel_value.specs.Equality.{value_eq}
 use Rattle.cel_value.specs.Items.{keys_of}
-use Rattle.cel_value.specs.Keys.{IsAscending, get, is_ascending, key_cmp, put}
+use Rattle.cel_value.specs.Keys.{get, is_ascending, key_cmp, put}
 use Rattle.cel_value.specs.Masses.{length_of, mass}
 use Rattle.cel_value.specs.Texts.{utf8_of}
 

@@ -1,6 +1,6 @@
 -- Texts as code points and as UTF-8 bytes: RFC 3629, and CEL language definition, "String and Bytes
 -- Values".
-use Rattle.std.specs.Prelude.{ℕ, ◌≡◌, true, List, Bool}
+use Rattle.std.specs.Prelude.{ℕ, ◌≡◌, true, List}
 use Rattle.std.specs.Str.{chars, encode_utf8_all, all_scalars}
 use Rattle.std.specs.Rc.{rc_str_bytes}
 use Rattle.std.specs.declared.rc.RcStr.{RcStr}

@@ -1,5 +1,5 @@
 -- Types, and which values have them: CEL language definition, "Values" and "Type System".
-use Rattle.std.specs.Prelude.{ℕ, ℤ, Bool, true, false, ◌&&◌, ◌≡◌, ◌<◌, ◌^◌, FitsSigned}
+use Rattle.std.specs.Prelude.{ℕ, ℤ, Bool, true, false, ◌&&◌, Option, Some, None, ◌<◌, ◌^◌, FitsSigned}
 use Rattle.std.specs.Int.{w64}
 use Rattle.cel_value.specs.Values.{CelKey, bool_key, int_key, uint_key, text_key, CelValue, bool, int, uint, text, bytes, list, map_of, CelValues, no_items, item, CelEntries, no_entries, entry, CelAnswer, value, fails}
 use Rattle.cel_value.specs.Texts.{AreScalars}
@@ -58,6 +58,20 @@ type_of_key keys.Bool = bool_type
 type_of_key keys.Int = int_type
 type_of_key keys.Uint = uint_type
 type_of_key keys.Text = text_type
+
+-- the type of keys that a type is, none where no key has it
+abbrev pub key_type_of : ValueType → Option KeyType
+key_type_of bool_type = Some keys.Bool
+key_type_of int_type = Some keys.Int
+key_type_of uint_type = Some keys.Uint
+key_type_of text_type = Some keys.Text
+key_type_of _ = None
+
+-- whether values of the type are ordered: all but lists and maps
+abbrev pub is_ordered : ValueType → Bool
+is_ordered (list_type t) = false
+is_ordered (map_type k t) = false
+is_ordered _ = true
 
 -- the number is from -2^63 to 2^63 - 1
 abbrev pub IsInt64 : ℤ → Type 0

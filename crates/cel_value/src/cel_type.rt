@@ -3,7 +3,7 @@
 ghost use Rattle.std.specs.Prelude.{◌≡◌, IfOk};
 ghost use Rattle.std.specs.Cmp.{on_equiv, on_per, partial_equiv_from_equiv};
 ghost use Rattle.cel_value.specs.steps.EqualityLaws.{type_eq_equiv};
-ghost use Rattle.cel_value.specs.Types.{key_type_eq, type_eq, type_view};
+ghost use Rattle.cel_value.specs.Types.{is_ordered, key_type_eq, key_type_of, type_eq, type_view};
 
 use std::alloc::AllocError;
 use std::rc::Rc;
@@ -44,6 +44,30 @@ impl CelType {
             CelType::Bytes => Ok(CelType::Bytes),
             CelType::List(items) => Ok(CelType::List(items.clone()?)),
             CelType::Map(keys, values) => Ok(CelType::Map(*keys, values.clone()?)),
+        }
+    }
+
+    /// The type as that of a map's keys; `None` where no key has it.
+    pub fn key_type(&self) -> Option<KeyType>
+        ensures { result ≡ key_type_of (type_view self.now) }
+    {
+        match self {
+            CelType::Bool => Some(KeyType::Bool),
+            CelType::Int => Some(KeyType::Int),
+            CelType::Uint => Some(KeyType::Uint),
+            CelType::Text => Some(KeyType::Text),
+            CelType::Bytes | CelType::List(_) | CelType::Map(_, _) => None,
+        }
+    }
+
+    /// Whether values of the type are ordered (CEL language definition, "Ordering"): all but lists and
+    /// maps.
+    pub fn is_ordered(&self) -> bool
+        ensures { result ≡ is_ordered (type_view self.now) }
+    {
+        match self {
+            CelType::Bool | CelType::Int | CelType::Uint | CelType::Text | CelType::Bytes => true,
+            CelType::List(_) | CelType::Map(_, _) => false,
         }
     }
 }

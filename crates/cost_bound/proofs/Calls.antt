@@ -6,46 +6,7 @@ use Rattle.cel_value.specs.Types.{ValueType}
 use Rattle.cost_bound.specs.Sizes.{Size, Flat}
 use Rattle.cost_bound.specs.Costs.{call_cost, call_size, charge_at, total}
 use Rattle.cost_bound.specs.steps.Measuring.{call_part}
-
--- a call charges 1 at least
-pub charge_some : (o : Overload) (ts : List ValueType) (sizes : List Size) → 1 ≤ charge_at o ts sizes
-charge_some overloads.LogicalAnd ts sizes = omega arith
-charge_some overloads.LogicalOr ts sizes = omega arith
-charge_some overloads.LogicalNot ts sizes = omega arith
-charge_some overloads.NotStrictlyFalse ts sizes = omega arith
-charge_some overloads.Conditional ts sizes = omega arith
-charge_some (overloads.Compare op) ts [] = omega arith
-charge_some (overloads.Compare op) ts (s ∷ []) = omega arith
-charge_some (overloads.Compare op) ts (s ∷ t ∷ []) = omega arith
-charge_some (overloads.Compare op) ts (s ∷ t ∷ u ∷ us) = omega arith
-charge_some (overloads.Arithmetic op) ts sizes = omega arith
-charge_some overloads.Concat ts [] = omega arith
-charge_some overloads.Concat ts (s ∷ []) = omega arith
-charge_some overloads.Concat ts (s ∷ t ∷ []) = omega arith
-charge_some overloads.Concat ts (s ∷ t ∷ u ∷ us) = omega arith
-charge_some overloads.Negate ts sizes = omega arith
-charge_some overloads.IndexList ts sizes = omega arith
-charge_some overloads.IndexMap ts [] = omega arith
-charge_some overloads.IndexMap ts (s ∷ []) = omega arith
-charge_some overloads.IndexMap ts (s ∷ t ∷ []) = omega arith
-charge_some overloads.IndexMap ts (s ∷ t ∷ u ∷ us) = omega arith
-charge_some overloads.InList ts [] = omega arith
-charge_some overloads.InList ts (s ∷ []) = omega arith
-charge_some overloads.InList ts (s ∷ t ∷ []) = omega arith
-charge_some overloads.InList ts (s ∷ t ∷ u ∷ us) = omega arith
-charge_some overloads.InMap ts [] = omega arith
-charge_some overloads.InMap ts (s ∷ []) = omega arith
-charge_some overloads.InMap ts (s ∷ t ∷ []) = omega arith
-charge_some overloads.InMap ts (s ∷ t ∷ u ∷ us) = omega arith
-charge_some overloads.Size [] sizes = omega arith
-charge_some overloads.Size (k ∷ []) [] = omega arith
-charge_some overloads.Size (k ∷ []) (s ∷ []) = omega arith
-charge_some overloads.Size (k ∷ []) (s ∷ t ∷ us) = omega arith
-charge_some overloads.Size (k ∷ j ∷ ks) sizes = omega arith
-charge_some (overloads.TestText test) ts [] = omega arith
-charge_some (overloads.TestText test) ts (s ∷ []) = omega arith
-charge_some (overloads.TestText test) ts (s ∷ t ∷ []) = omega arith
-charge_some (overloads.TestText test) ts (s ∷ t ∷ u ∷ us) = omega arith
+pub use Rattle.cost_bound.proofs.Charged.{charge_some}
 
 -- a charge is one and the rest of it
 one_more : (n t : ℕ) → 1 ≤ n → t + n ≡ t + (1 + (n - 1))

@@ -46,6 +46,7 @@ use Rattle.cost_bound.specs.Costs.{attribute_size, call_size, concat_size, eleme
 use Rattle.cost_bound.specs.Sizes.{AllWithin, EachFits, EntriesFit, Fits, Flat, HasRoom, KeyFits, Many, Size, Table, Text, Within, join, most_of}
 use Rattle.cost_bound.proofs.Joins.{constant_within, each_left, each_right, entries_right, fits_left, grown_within, key_left, within_left, within_right}
 use Rattle.cost_bound.proofs.Scalars.{IsScalar, calculated, compared, conjoined, disjoined, listed, mapped, named, negated, one_operand, opposed, sized, strict_scalar, tested, two_operands, two_scalar, unstrict}
+use Rattle.cel_ops.proofs.AttributeTypes.{first_of, rest_of}
 
 -- an answer, if there is one, is within the size
 abbrev pub IfWithin : Option CelAnswer → Size → Type 0
@@ -107,12 +108,6 @@ data_within t (Some (attrs.uint n)) s h k = tt
 data_within t (Some (attrs.bool b)) s h k = tt
 data_within t (Some (attrs.text_map headers)) s h k = k
 data_within _ (Some (attrs.text bs)) s h k = absurd h
-
-first_of : (P : Entry → Type 0) (e : Entry) (es : List Entry) → All P (e ∷ es) → P e
-first_of P e es all = all 0 e (omega arith)
-
-rest_of : (P : Entry → Type 0) (e : Entry) (es : List Entry) → All P (e ∷ es) → All P es
-rest_of P e es all = λ i d below. all (suc i) d (omega arith)
 
 module _ (l : LimitsValue) where
   headers_fit : (es : List Entry) → All IsTextEntry es → All (EntryInLimits l) es

@@ -1,10 +1,15 @@
 -- Small facts on lists and texts: what is in a list, and UTF-8 or not.
-use Rattle.std.proofs.Common.{◌≡◌, ℕ, zero, suc, ◌<◌, length, get_or, Bor, ◌⊎◌, inl, inr, List, [], ◌∷◌, Contains, arith}
+use Rattle.std.proofs.Common.{◌≡◌, ◌≢◌, refl, ℕ, zero, suc, ◌<◌, length, get_or, Bor, ◌⊎◌, inl, inr, List, [], ◌∷◌, Contains, arith}
 use Rattle.std.specs.Str.{IsUtf8, is_utf8}
 use Rattle.std.proofs.lemmas.Bool.{both_ways, cases_Bool}
 use Rattle.std.proofs.lemmas.List.Elements.{Contains-append_left, Contains-append_right, Contains-append_cases, Contains-push_cases, Contains-push}
 use Rattle.proto_wire.specs.Merge.{parts_view}
 use Rattle.std.proofs.lemmas.Str.{IsUtf8-from_is_utf8, is_utf8-from_IsUtf8}
+
+-- a list is empty or has a first element
+pub nil_or_not : {A : Type 0} (xs : List A) → (xs ≡ []) ⊎ (xs ≢ [])
+nil_or_not [] = inl refl
+nil_or_not (x ∷ xs) = inr (λ e. cc)
 
 -- the first of a list is in it
 pub contains_first : {A : Type 0} (x : A) (xs : List A) → Contains (x ∷ xs) x

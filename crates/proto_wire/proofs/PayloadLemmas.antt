@@ -11,7 +11,7 @@ use Rattle.proto_wire.specs.declared.fault.WireError.TheVariants.{Truncated, Bad
 use Rattle.proto_wire.proofs.VarintLemmas.{groups_unique, varint_unique, varint_disjoint, varint_fault_unique, varint_total}
 
 -- fronts of one length are the same
-fronts_unique : (a b r s : List ℕ) → length a ≡ length b → a ++ r ≡ b ++ s → (a ≡ b) × (r ≡ s)
+pub fronts_unique : (a b r s : List ℕ) → length a ≡ length b → a ++ r ≡ b ++ s → (a ≡ b) × (r ≡ s)
 fronts_unique [] [] r s long e = (refl, e)
 fronts_unique [] (y ∷ b) r s long e = absurd (omega arith)
 fronts_unique (x ∷ a) [] r s long e = absurd (omega arith)

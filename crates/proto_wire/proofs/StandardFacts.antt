@@ -20,7 +20,7 @@ one_field bytes f spells =
     ([], record { spelling = bytes; spells = spells; whole = sym (append-nil bytes) }, refl)
 
 -- a number below 128 is one byte
-one_byte : (b : ℕ) → b < 128 → SpellsVarint (b ∷ []) b
+pub one_byte : (b : ℕ) → b < 128 → SpellsVarint (b ∷ []) b
 one_byte b small =
     record { groups = small; short = omega arith; value = omega arith; fits = omega arith }
 

@@ -1,6 +1,8 @@
 -- The values of a number: what one field more changes.
-use Rattle.std.proofs.Common.{◌≡◌, ◌==◌, ◌||◌, ℕ, Bool, cond, List, [], ◌∷◌, ◌++◌, Option, Some, None, map, take, get_or, length, ◌<◌, ◌+◌, refl, ap, ◌∙◌}
+use Rattle.std.proofs.Common.{◌≡◌, ◌≢◌, ◌==◌, ◌||◌, ℕ, Bool, cond, List, [], ◌∷◌, ◌++◌, Option, Some, None, MatchOption, Bor, map, take, get_or, length, ◌<◌, ◌+◌, refl, ap, ◌∙◌}
 use Rattle.std.specs.List.{filter_map, list_any}
+use Rattle.std.specs.Option.{is_some}
+use Rattle.std.specs.Prelude.{MatchBool}
 use Rattle.std.proofs.lemmas.List.{append-nil, map_more}
 use Rattle.std.proofs.lemmas.List.Elements.{filter_map-append}
 use Rattle.proto_wire.specs.Fields.{Payload, payload_view, Wire, field_view}
@@ -63,3 +65,11 @@ pub list_any_map : {A B : Type 0} (p : B → Bool) (f : A → B) (xs : List A)
     → list_any p (map f xs) ≡ list_any (λ x. p (f x)) xs
 list_any_map p f [] = refl
 list_any_map p f (x ∷ xs) = ap (λ b. p (f x) || b) (list_any_map p f xs)
+
+-- some payload is there where there is a last one
+pub there_by_last : (last : Option (Bor (List ℕ))) (xs : List (List ℕ))
+    → MatchOption last (last_of xs ≡ None) (λ t. last_of xs ≡ Some t.now)
+    → MatchBool (is_some last) (xs ≢ []) (xs ≡ [])
+there_by_last None xs none = last_of_none xs none
+there_by_last (Some t) [] at = let clash : None ≡ Some t.now = at in cc
+there_by_last (Some t) (x ∷ xs) at = λ e. cc

@@ -19,12 +19,12 @@ pub use fault::WireError;
 pub use field::{Field, Payload, WireType};
 pub use key::Key;
 pub use maps::{KeyOrder, MapEntry, MapKey, read_entries};
-pub use message::{MessageFields, read_fields, read_message, read_parts};
-pub use oneof::{MemberRun, last_member, member_run};
+pub use message::{MessageFields, read_fields, read_message, read_parts, require_level};
+pub use oneof::{MemberRun, last_member, last_number, member_run};
 pub use reader::Reader;
 pub use refusal::Refusal;
 pub use values::{
-    Payloads, bool_at, bytes_at, has_field, int32_at, int64_at, last_len, last_varint, payloads_of,
-    text_at, text_of, uint32_at,
+    Payloads, bool_at, bytes_at, has_field, has_payload, int32_at, int64_at, last_len, last_varint,
+    len_of, payloads_of, require_payload, text_at, text_of, uint32_at,
 };
 pub use writer::Writer;

@@ -1,6 +1,6 @@
 //! All fields of a message, and messages whose fields must all be known.
 
-ghost use Rattle.std.specs.Prelude.{◌≡◌, ◌++◌, List, [], ◌∷◌, Err, map, IfOk, IfErr, OnOk, MatchResult};
+ghost use Rattle.std.specs.Prelude.{◌≡◌, ◌<◌, ◌++◌, List, [], ◌∷◌, Err, map, IfOk, IfErr, OnOk, MatchResult};
 ghost use Rattle.proto_wire.specs.Fields.{Wire, Fields, IsBroken, field_view};
 ghost use Rattle.proto_wire.specs.Keys.{AllKnown, SomeUnknown};
 ghost use Rattle.proto_wire.specs.Merge.{Merges, FirstBreaks, parts_view};
@@ -74,6 +74,17 @@ pub(crate) fn require_known(fields: &[Field<'_>], keys: &[Key]) -> Result<(), Re
 {
     if !all_known(fields, keys) {
         return Err(Refusal::UnknownField);
+    }
+    Ok(())
+}
+
+/// Refuses a message in others where no level is left: `TooLarge`. It takes no memory.
+pub fn require_level(depth: u32) -> Result<(), Refusal>
+    ensures found { OnOk result (0 < depth) }
+    ensures fault { IfErr result (λ e. (depth ≡ 0) × (e ≡ Refusal.TooLarge)) }
+{
+    if depth == 0 {
+        return Err(Refusal::TooLarge);
     }
     Ok(())
 }

@@ -3,7 +3,7 @@
 ghost use Rattle.std.specs.Prelude.{◌≡◌, map, IfOk, OnOk};
 ghost use Rattle.std.specs.Option.{option_map};
 ghost use Rattle.proto_wire.specs.Fields.{field_view};
-ghost use Rattle.proto_wire.specs.Oneof.{last_member, member_run};
+ghost use Rattle.proto_wire.specs.Oneof.{last_member, last_number, member_run};
 ghost use Rattle.proto_wire.specs.steps.Run.{run_with};
 
 use crate::field::Field;
@@ -26,6 +26,13 @@ pub fn last_member<'a>(fields: &[Field<'a>], keys: &[Key]) -> Option<Field<'a>>
         }
     }
     last
+}
+
+/// Of a oneof the number of its last member. It takes no memory.
+pub fn last_number(fields: &[Field<'_>], keys: &[Key]) -> Option<u32>
+    ensures { result ≡ last_number keys.now (map field_view fields.now) }
+{
+    last_member(fields, keys).map(|field| field.number)
 }
 
 /// Of a oneof the occurrences of its last member that merge: the last run of fields of one number,

@@ -1,7 +1,7 @@
 //! The values among a message's fields: the varints and the LEN payloads of a number, and the
 //! scalars that the last of them are.
 
-ghost use Rattle.std.specs.Prelude.{◌≡◌, ◌==◌, cond, [], ◌∷◌, map, Some, None, IfOk, IfErr, MatchOption, IsUtf8};
+ghost use Rattle.std.specs.Prelude.{◌≡◌, ◌≢◌, ◌==◌, cond, [], ◌∷◌, map, Some, None, IfOk, IfErr, MatchBool, MatchOption, OnOk, IsUtf8};
 ghost use Rattle.proto_wire.specs.Fields.{payload_view, field_view};
 ghost use Rattle.proto_wire.specs.Keys.{len_key, varint_key, is_known};
 ghost use Rattle.proto_wire.specs.Merge.{parts_view};
@@ -57,6 +57,27 @@ pub fn payloads_of<'a>(
         }
     }
     Ok(parts)
+}
+
+/// Whether a LEN field of this number is there.
+pub fn has_payload(fields: &[Field<'_>], number: u32) -> bool
+    ensures { MatchBool result (payloads number (map field_view fields.now) ≢ [])
+        (payloads number (map field_view fields.now) ≡ []) }
+{
+    last_len(fields, number).is_some()
+}
+
+/// Refuses a message that must be there, and stands in no LEN field of this number: `Missing`. It takes
+/// no memory.
+pub fn require_payload(fields: &[Field<'_>], number: u32) -> Result<(), Refusal>
+    ensures found { OnOk result (payloads number (map field_view fields.now) ≢ []) }
+    ensures fault { IfErr result (λ e. (payloads number (map field_view fields.now) ≡ [])
+        × (e ≡ Refusal.Missing)) }
+{
+    if has_payload(fields, number) {
+        return Ok(());
+    }
+    Err(Refusal::Missing)
 }
 
 /// Whether a LEN or VARINT field of this number is there.
@@ -140,7 +161,8 @@ fn varint_of(field: &Field<'_>, number: u32) -> Option<u64>
     }
 }
 
-fn len_of<'a>(field: &Field<'a>, number: u32) -> Option<&'a [u8]>
+/// The payload of a LEN field of this number.
+pub fn len_of<'a>(field: &Field<'a>, number: u32) -> Option<&'a [u8]>
     ensures { let bytes = len_in (payload_view field.now.payload) in
         let found = cond (field.now.number == number) bytes None in
         MatchOption result (found ≡ None) (λ bytes. found ≡ Some bytes.now) }

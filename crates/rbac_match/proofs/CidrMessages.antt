@@ -12,7 +12,7 @@ use Rattle.proto_wire.proofs.Messages.{message_total, message_disjoint}
 use Rattle.proto_wire.specs.declared.refusal.Refusal.{Refusal}
 use Rattle.proto_wire.specs.declared.refusal.Refusal.TheVariants.{BadText, OutOfRange}
 use Rattle.rbac_match.specs.Cidr.{cidr_field, uint32_field, cidr_keys, uint32_keys, IsCidr, AddressFault, CidrFault, cidr_fields, in_address, in_length, too_long}
-use Rattle.rbac_match.proofs.Basics.{utf8_or_not}
+use Rattle.rbac_match.proofs.Basics.{utf8_total}
 use Rattle.attributes.proofs.OneAddress.{one_address}
 use Rattle.rbac_match.proofs.AddressTexts.{ip_total}
 
@@ -29,7 +29,7 @@ module _ (parts : List (List ℕ)) (fs : List Wire) (message : IsMessage cidr_ke
   ]
 
   address_settles : ((range : Range) × IsCidr parts range) ⊎ ((e : Refusal) × CidrFault parts e)
-  address_settles = elim (utf8_or_not (bytes_at cidr_field.address_prefix fs)) [
+  address_settles = elim (utf8_total (bytes_at cidr_field.address_prefix fs)) [
     | inr not_utf8 ↦ inr (BadText, in_address fs message.0 (inl (not_utf8, refl)))
     | inl utf8 ↦ elim (ip_total (bytes_at cidr_field.address_prefix fs)) [
       | inr none ↦ inr (OutOfRange, in_address fs message.0 (inr (refl, utf8, none)))

@@ -20,7 +20,7 @@ use Rattle.rbac_match.specs.declared.header.HeaderMember.TheVariants as members
 use Rattle.rbac_match.specs.declared.header.Specifier.{Specifier}
 use Rattle.rbac_match.specs.declared.header.Specifier.TheVariants.{Present, Text, Range}
 use Rattle.rbac_match.specs.declared.text.Pattern.{Pattern}
-use Rattle.rbac_match.proofs.Basics.{nil_or_not, utf8_or_not}
+use Rattle.rbac_match.proofs.Basics.{nil_or_not, utf8_total}
 use Rattle.rbac_match.proofs.TextMessages.{sought_total, sought_disjoint, text_total, text_disjoint, text_unique}
 
 -- ---- names
@@ -184,7 +184,7 @@ header_total parts = elim (message_total header_keys parts) [
   | inr bad ↦ inr (bad.0, header_fields bad.1)
   | inl (fs, message) ↦ elim (specifier_total fs) [
     | inr (e, n, last, bad) ↦ inr (e, in_specifier fs n message.0 last bad)
-    | inl (s, asked) ↦ elim (utf8_or_not (bytes_at header_field.name fs)) [
+    | inl (s, asked) ↦ elim (utf8_total (bytes_at header_field.name fs)) [
       | inr bad ↦ inr (BadText, name_unreadable fs message.0 (bad, refl))
       | inl readable ↦ elim (nil_or_not (bytes_at header_field.name fs)) [
         | inl none ↦ inr (Missing, name_missing fs message none (member_reads fs s asked) refl)

@@ -10,22 +10,22 @@ use Rattle.proto_wire.specs.declared.refusal.Refusal.{Refusal}
 use Rattle.proto_wire.specs.declared.refusal.Refusal.TheVariants.{OutOfRange}
 use Rattle.std.specs.declared.ops.Range.{Range}
 use Rattle.rbac_match.specs.Message.{range_field, range_keys}
-use Rattle.rbac_match.specs.Ports.{IsPort, PortFault, AreBounds, IsPortRange, PortRangeFault, range_fields, no_bounds}
+use Rattle.rbac_match.specs.Ports.{IsDestinationPort, PortFault, AreBounds, IsPortRange, PortRangeFault, range_fields, no_bounds}
 use Rattle.rbac_match.specs.steps.Ports.{AreNoBounds}
 
 -- a run says a port, or a number that is none
-pub port_total : (n : ℕ) (run : List Wire) → ((port : ℕ) × IsPort n run port) ⊎ ((e : Refusal) × PortFault n run e)
+pub port_total : (n : ℕ) (run : List Wire) → ((port : ℕ) × IsDestinationPort n run port) ⊎ ((e : Refusal) × PortFault n run e)
 port_total n run = elim (cases_lt 65535 (uint32_at n run)) [
   | inl above ↦ inr (OutOfRange, (above, refl))
   | inr within ↦ inl (uint32_at n run, (refl, within))
 ]
 
 -- not both
-pub port_disjoint : (n : ℕ) (run : List Wire) (port : ℕ) (e : Refusal) → IsPort n run port → PortFault n run e → ⊥
+pub port_disjoint : (n : ℕ) (run : List Wire) (port : ℕ) (e : Refusal) → IsDestinationPort n run port → PortFault n run e → ⊥
 port_disjoint n run port e is bad = omega (arith, is.0, is.1, bad.0)
 
 -- and one at most
-pub port_unique : (n : ℕ) (run : List Wire) (p q : ℕ) → IsPort n run p → IsPort n run q → p ≡ q
+pub port_unique : (n : ℕ) (run : List Wire) (p q : ℕ) → IsDestinationPort n run p → IsDestinationPort n run q → p ≡ q
 port_unique n run p q a b = a.0 ∙ sym b.0
 
 -- two bounds are those of some ports, or of none

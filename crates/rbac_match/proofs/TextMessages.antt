@@ -12,7 +12,7 @@ use Rattle.proto_wire.specs.Oneof.{last_number, member_in}
 use Rattle.rbac_match.specs.Text.{TextTest, string_members, string_field, string_keys, IsFilled, IsSought, IsTextMatcher, SoughtFault, TextFault, text_fields, no_pattern, in_pattern}
 use Rattle.rbac_match.specs.declared.text.Pattern.{Pattern}
 use Rattle.rbac_match.specs.declared.text.Pattern.TheVariants.{Exact, Prefix, Suffix, Contains}
-use Rattle.rbac_match.proofs.Basics.{nil_or_not, utf8_or_not}
+use Rattle.rbac_match.proofs.Basics.{nil_or_not, utf8_total}
 use Rattle.rbac_match.proofs.Oneofs.{of_last, some_last}
 
 -- bytes are none or some
@@ -29,7 +29,7 @@ filled_or_not Contains bytes = some_or_not bytes
 -- bytes may be sought, or have a fault
 pub sought_total : (pattern : Pattern) (bytes : List ℕ)
     → IsSought pattern bytes ⊎ ((e : Refusal) × SoughtFault (Some pattern) bytes e)
-sought_total pattern bytes = elim (utf8_or_not bytes) [
+sought_total pattern bytes = elim (utf8_total bytes) [
   | inr other ↦ inr (BadText, inl (other, refl))
   | inl utf8 ↦ elim (filled_or_not pattern bytes) [
     | inr empty ↦ inr (OutOfRange, inr (refl, empty))

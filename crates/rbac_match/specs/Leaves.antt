@@ -9,7 +9,7 @@ use Rattle.rbac_match.specs.Path.{IsPathMatcher, PathFault}
 use Rattle.rbac_match.specs.Authenticated.{IsAuthenticated, AuthenticatedFault}
 use Rattle.rbac_match.specs.Header.{IsHeader, HeaderFault}
 use Rattle.rbac_match.specs.Cidr.{IsCidr, CidrFault}
-use Rattle.rbac_match.specs.Ports.{IsPort, PortFault, IsPortRange, PortRangeFault}
+use Rattle.rbac_match.specs.Ports.{IsDestinationPort, PortFault, IsPortRange, PortRangeFault}
 use Rattle.rbac_match.specs.declared.matcher.Matcher.{Matcher}
 use Rattle.rbac_match.specs.declared.matcher.Matcher.TheVariants as matcher
 use Rattle.rbac_match.specs.declared.member.LeafKind.{LeafKind}
@@ -19,7 +19,7 @@ use Rattle.rbac_match.specs.declared.member.LeafKind.TheVariants.{Header, Addres
 abbrev pub IsLeaf : LeafKind → ℕ → List Wire → Matcher → Type 0
 IsLeaf Header n run m = MadeOf (IsHeader (payloads n run)) matcher.Header m
 IsLeaf (Address source) n run m = MadeOf (IsCidr (payloads n run)) (matcher.Address source) m
-IsLeaf Port n run m = MadeOf (IsPort n run) matcher.Port m
+IsLeaf Port n run m = MadeOf (IsDestinationPort n run) matcher.Port m
 IsLeaf PortRange n run m = MadeOf (IsPortRange (payloads n run)) matcher.PortRange m
 IsLeaf ServerName n run m = MadeOf (IsTextMatcher (payloads n run)) matcher.ServerName m
 IsLeaf UrlPath n run m = MadeOf (IsPathMatcher (payloads n run)) matcher.UrlPath m

@@ -11,8 +11,8 @@ use Rattle.proto_wire.specs.declared.refusal.Refusal.TheVariants.{OutOfRange}
 use Rattle.rbac_match.specs.Message.{range_field, range_keys}
 
 -- the run of a permission's `destination_port`, which has this number, says this port
-abbrev pub IsPort : ℕ → List Wire → ℕ → Type 0
-IsPort n run port = (port ≡ uint32_at n run) × (port ≤ 65535)
+abbrev pub IsDestinationPort : ℕ → List Wire → ℕ → Type 0
+IsDestinationPort n run port = (port ≡ uint32_at n run) × (port ≤ 65535)
 
 -- it says a number that no port has
 abbrev pub PortFault : ℕ → List Wire → Refusal → Type 0

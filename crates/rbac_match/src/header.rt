@@ -14,12 +14,12 @@ ghost use Rattle.rbac_match.specs.Matcher.{matcher_holds};
 ghost use Rattle.rbac_match.specs.declared.matcher.Matcher.TheVariants.{Header};
 ghost use Rattle.rbac_match.specs.Header.{header_field, specifiers, specifier_holds, SaysMember, SaysSpecifier, IsHeader, HeaderMemberFault, HeaderFault};
 
-use crate::fields::last_number;
 use crate::int64_range::{Int64Range, read_int64_range};
 use crate::text::{Pattern, TextMatcher, read_text_matcher, sought_text};
 use attributes::Request;
 use proto_wire::{
-    Field, Key, Refusal, bool_at, bytes_at, keys, member_run, payloads_of, read_message, text_of,
+    Field, Key, Refusal, bool_at, bytes_at, keys, last_number, member_run, payloads_of,
+    read_message, text_of,
 };
 use std::alloc::{AllocError, Global};
 use std::marker::Model;

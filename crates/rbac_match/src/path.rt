@@ -8,10 +8,9 @@ ghost use Rattle.rbac_match.specs.Path.{IsPathMatcher, PathFault};
 ghost use Rattle.rbac_match.specs.Matcher.{matcher_holds};
 ghost use Rattle.rbac_match.specs.declared.matcher.Matcher.TheVariants.{ServerName, UrlPath};
 
-use crate::fields::require_payload;
 use crate::text::{TextMatcher, read_text_matcher};
 use attributes::Request;
-use proto_wire::{Key, Refusal, keys, payloads_of, read_message};
+use proto_wire::{Key, Refusal, keys, payloads_of, read_message, require_payload};
 use std::alloc::Global;
 
 const PATH: u32 = 1;

@@ -5,7 +5,7 @@ ghost use Rattle.proto_wire.specs.Fields.{field_view};
 ghost use Rattle.proto_wire.specs.Merge.{parts_view};
 ghost use Rattle.proto_wire.specs.Refusal.{MemoryOr};
 ghost use Rattle.proto_wire.specs.declared.refusal.Refusal.TheVariants.{OutOfRange};
-ghost use Rattle.rbac_match.specs.Ports.{AreBounds, IsPort, IsPortRange, PortFault, PortRangeFault};
+ghost use Rattle.rbac_match.specs.Ports.{AreBounds, IsDestinationPort, IsPortRange, PortFault, PortRangeFault};
 ghost use Rattle.rbac_match.specs.Matcher.{matcher_holds};
 ghost use Rattle.rbac_match.specs.declared.matcher.Matcher.TheVariants.{Port, PortRange as PortsInARow};
 ghost use Rattle.rbac_match.specs.steps.Ports.{AreNoBounds};
@@ -42,7 +42,7 @@ impl Model for PortRange {
 /// Reads a permission's `destination_port` from its run, whose fields have this number:
 /// `OutOfRange` above 65,535.
 pub(crate) fn read_port(run: &[Field<'_>], number: u32) -> Result<u16, Refusal>
-    ensures found { IfOk result (λ port. IsPort number (map field_view run.now) port) }
+    ensures found { IfOk result (λ port. IsDestinationPort number (map field_view run.now) port) }
     ensures fault { IfErr result (λ e. PortFault number (map field_view run.now) e) }
 {
     let port = uint32_at(run, number);

@@ -1,20 +1,21 @@
 //! The reading of rules, down to a depth.
 
-ghost use Rattle.std.specs.Prelude.{◌≡◌, ◌<◌, Some, IfOk, IfErr, OnOk, map};
+ghost use Rattle.std.specs.Prelude.{Some, IfOk, IfErr, map};
 ghost use Rattle.proto_wire.specs.Fields.{field_view};
 ghost use Rattle.proto_wire.specs.Merge.{parts_view};
 ghost use Rattle.proto_wire.specs.Refusal.{MemoryOr};
 ghost use Rattle.proto_wire.specs.Values.{payloads};
-ghost use Rattle.proto_wire.specs.declared.refusal.Refusal.TheVariants.{TooLarge};
 ghost use Rattle.rbac_match.specs.Rules.{IsRule, AreRules, IsSet, MemberSays, RuleFault, SomeRuleFault, SetFault, MemberFault};
 ghost use Rattle.rbac_match.specs.View.{rule_view, rules_view};
 
-use crate::fields::{count_of, payload_of, require_payload, require_true, trailing_run};
+use crate::fields::{count_of, require_true, trailing_run};
 use crate::keys::{RULES, SET, rule_keys};
 use crate::leaf::read_leaf;
 use crate::member::{LastMember, Member, last_member};
 use crate::rule::{Rule, Side};
-use proto_wire::{Field, Refusal, payloads_of, read_message};
+use proto_wire::{
+    Field, Refusal, len_of, payloads_of, read_message, require_level, require_payload,
+};
 use std::alloc::Global;
 
 /// How many levels a permission or a principal may have; a rule that stands in no other is level 1.
@@ -107,21 +108,10 @@ pub fn read_rules(
 {
     let mut rules = Vec::with_capacity(alloc, count_of(fields, number))?;
     for field in fields {
-        if let Some(payload) = payload_of(field, number) {
+        if let Some(payload) = len_of(field, number) {
             let rule = read_rule(alloc, side, &[payload], depth)?;
             rules.push(rule)?;
         }
     }
     Ok(rules)
-}
-
-/// Refuses a rule where no level is left.
-fn require_level(depth: u32) -> Result<(), Refusal>
-    ensures found { OnOk result (0 < depth) }
-    ensures fault { IfErr result (λ e. (depth ≡ 0) × (e ≡ TooLarge)) }
-{
-    if depth == 0 {
-        return Err(Refusal::TooLarge);
-    }
-    Ok(())
 }

@@ -14,10 +14,11 @@ ghost use Rattle.proto_wire.specs.Oneof.{last_number, member_in};
 ghost use Rattle.rbac_match.specs.steps.Search.{AreBordersOf};
 ghost use Rattle.rbac_match.specs.Text.{is_substring, text_holds, pattern_holds, string_members, IsFilled, IsSought, IsTextMatcher, SoughtFault, TextFault};
 
-use crate::fields::last_number;
 use crate::search::{borders_of, contains_ignore_case};
 use memchr::memmem;
-use proto_wire::{Field, Key, Refusal, bool_at, bytes_at, keys, read_message, text_of};
+use proto_wire::{
+    Field, Key, Refusal, bool_at, bytes_at, keys, last_number, read_message, text_of,
+};
 use std::alloc::{AllocError, Global};
 use std::marker::Model;
 

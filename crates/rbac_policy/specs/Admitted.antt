@@ -8,13 +8,13 @@ use Rattle.rbac_policy.specs.declared.filter.Admitted.{Admitted}
 use Rattle.rbac_policy.specs.declared.filter.FilterRules.{FilterRules}
 
 -- the filter that its rules stand for
-abbrev pub rules_view : FilterRules → Filter Program
-rules_view rules =
+abbrev pub filter_rules_view : FilterRules → Filter Program
+filter_rules_view rules =
     record { action = rules.action; policies = from_entries (named_views rules.policies.items) }
 
 -- the filter that an `Admitted` stands for
 abbrev pub filter_view : Admitted → Filter Program
-filter_view a = rules_view a.rules
+filter_view a = filter_rules_view a.rules
 
 -- the limits of the requests for which it was admitted
 abbrev pub limits_view : Admitted → LimitsValue

@@ -1,5 +1,5 @@
 -- Conditions: Envoy RBAC, "Policy.checked_condition"; CEL language definition, "Evaluation".
-use Rattle.std.specs.Prelude.{◌≡◌, ℕ, Bool, true, false, List, [], Option, Some}
+use Rattle.std.specs.Prelude.{◌≡◌, ◌⊎◌, ℕ, Bool, true, false, List, [], Option, Some}
 use Rattle.attributes.specs.Limits.{LimitsValue}
 use Rattle.attributes.specs.Request.{RequestValue}
 use Rattle.cel_value.specs.Types.{bool_type}
@@ -11,6 +11,7 @@ use Rattle.cost_bound.specs.Costs.{cost_of}
 use Rattle.cel_compile.specs.Codes.{code_of}
 use Rattle.stack_machine.specs.Instructions.{Instruction}
 use Rattle.stack_machine.specs.Machine.{RunsOut}
+use Rattle.stack_machine.specs.declared.error.RunError.{RunError}
 
 -- whether an expression came to true: an error and any other value did not
 abbrev pub came_true : Option CelAnswer → Bool
@@ -38,3 +39,7 @@ pub record IsProgramOf (limits : LimitsValue) (condition : CelChecked) (program 
 abbrev pub TakesTooLong : LimitsValue → RequestValue → CelChecked → Type 0
 TakesTooLong limits request condition = (program : Program) × IsProgramOf limits condition program
     × RunsOut program.code request program.bound
+
+-- memory ran out, or the steps did and this is so
+abbrev pub MemoryOrSteps : Type 0 → RunError → Type 0
+MemoryOrSteps Cause e = (e ≡ RunError.Memory) ⊎ ((e ≡ RunError.OutOfSteps) × Cause)

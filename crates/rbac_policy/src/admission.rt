@@ -16,15 +16,14 @@ ghost use Rattle.rbac_policy.specs.declared.filter.Action.TheVariants.{Log};
 ghost use Rattle.rbac_policy.specs.Fault.{FilterFault, HoldsPolicies, RulesFault};
 ghost use Rattle.rbac_policy.specs.Admission.{Admits, Fault};
 ghost use Rattle.rbac_policy.specs.steps.Conditions.{ConditionsFault};
-ghost use Rattle.rbac_policy.specs.Admitted.{filter_view, limits_view, rules_view};
+ghost use Rattle.rbac_policy.specs.Admitted.{filter_view, limits_view, filter_rules_view};
 
 use crate::filter::{Action, Admitted, FilterRules};
 use crate::keys::{FILTER_KEYS, RULES_KEYS};
 use crate::numbers::{ACTION, AUDIT_LOGGING_OPTIONS, POLICIES, RULES};
 use crate::policy::read_policies;
 use attributes::Limits;
-use cel_tree::has_payload;
-use proto_wire::{Field, Refusal, payloads_of, read_entries, read_message, uint32_at};
+use proto_wire::{Field, Refusal, has_payload, payloads_of, read_entries, read_message, uint32_at};
 use std::alloc::Global;
 
 /// How many policies a filter may have.
@@ -54,7 +53,7 @@ fn read_filter(
     budget: u64,
 ) -> Result<FilterRules, Refusal>
     ensures found { IfOk result (λ rules. (filter : Filter CelChecked)
-        × Admits bytes.now limits.now budget filter (rules_view rules)) }
+        × Admits bytes.now limits.now budget filter (filter_rules_view rules)) }
     ensures fault { IfErr result (MemoryOr (λ e. FilterFault bytes.now e
         ⊎ ((policies : List (Entry text)) × HoldsPolicies bytes.now policies
         × ConditionsFault policies limits.now budget e))) }
@@ -87,8 +86,8 @@ fn read_rules(
 ) -> Result<FilterRules, Refusal>
     ensures found { IfOk result (λ rules. (filter : Filter CelChecked)
         × AreFilterRules (map field_view fields.now) filter
-        × Enforces limits.now filter (rules_view rules)) }
-    ensures cheap { IfOk result (λ rules. total_bound (rules_view rules) ≤ budget) }
+        × Enforces limits.now filter (filter_rules_view rules)) }
+    ensures cheap { IfOk result (λ rules. total_bound (filter_rules_view rules) ≤ budget) }
     ensures fault { IfErr result (MemoryOr (λ e. RulesFault (map field_view fields.now) e
         ⊎ ((read : List (Entry text))
         × Readable text (payloads rules_field.policies (map field_view fields.now)) read

@@ -1,6 +1,6 @@
 //! Conditions: how one is admitted, and its runs.
 
-ghost use Rattle.std.specs.Prelude.{◌≡◌, ◌≢◌, ◌≤◌, ◌⊎◌, ℕ, List, IfErr, IfOk, OnOk, Some};
+ghost use Rattle.std.specs.Prelude.{◌≡◌, ◌≢◌, ◌≤◌, ℕ, List, IfErr, IfOk, OnOk, Some};
 ghost use Rattle.cel_tree.specs.Checked.{CelChecked};
 ghost use Rattle.cel_tree.specs.Message.{IsChecked};
 ghost use Rattle.cel_tree.specs.View.{checked_view};
@@ -11,7 +11,7 @@ ghost use Rattle.proto_wire.specs.Merge.{parts_view};
 ghost use Rattle.proto_wire.specs.Refusal.{MemoryOr};
 ghost use Rattle.proto_wire.specs.declared.refusal.Refusal.TheVariants.{NotBool};
 ghost use Rattle.cel_value.specs.View.{answer_view};
-ghost use Rattle.rbac_policy.specs.Condition.{IsProgramOf, came_true};
+ghost use Rattle.rbac_policy.specs.Condition.{IsProgramOf, MemoryOrSteps, came_true};
 ghost use Rattle.rbac_policy.specs.Named.{program_view};
 ghost use Rattle.rbac_policy.specs.steps.Conditions.{ConditionFault, ExpressionFault};
 ghost use Rattle.rbac_policy.specs.steps.Runs.{RunsAs};
@@ -51,8 +51,8 @@ impl Condition {
     /// Whether the request meets the condition: its code comes to true. An error is no match.
     pub(crate) fn is_met(&self, alloc: Global, request: &Request) -> Result<bool, RunError>
         ensures found { IfOk result (λ met. RunsAs request.now (program_view self.now) met) }
-        ensures fault { IfErr result (λ e. (e ≡ RunError.Memory) ⊎ ((e ≡ RunError.OutOfSteps)
-            × RunsOut (code_view self.now.code) request.now self.now.bound)) }
+        ensures fault { IfErr result (MemoryOrSteps
+            (RunsOut (code_view self.now.code) request.now self.now.bound)) }
     {
         let outcome = run(alloc, &self.code, request, self.bound)?;
         Ok(is_true(&outcome.result))
@@ -62,8 +62,8 @@ impl Condition {
     pub(crate) fn reason(&self, alloc: Global, request: &Request) -> Result<Reason, RunError>
         ensures found { IfOk result (IsReasonOf (EndsWith request.now) (TakesOf request.now)
             (program_view self.now)) }
-        ensures fault { IfErr result (λ e. (e ≡ RunError.Memory) ⊎ ((e ≡ RunError.OutOfSteps)
-            × RunsOut (code_view self.now.code) request.now self.now.bound)) }
+        ensures fault { IfErr result (MemoryOrSteps
+            (RunsOut (code_view self.now.code) request.now self.now.bound)) }
     {
         let outcome = run(alloc, &self.code, request, self.bound)?;
         if is_true(&outcome.result) {

@@ -6,7 +6,7 @@ ghost use Rattle.attributes.specs.Request.{IsRequest};
 ghost use Rattle.cel_tree.specs.Checked.{CelChecked};
 ghost use Rattle.rbac_policy.specs.Admission.{IsAdmittedAs};
 ghost use Rattle.rbac_policy.specs.Admitted.{filter_view, limits_view};
-ghost use Rattle.rbac_policy.specs.Condition.{TakesTooLong, is_met};
+ghost use Rattle.rbac_policy.specs.Condition.{MemoryOrSteps, TakesTooLong, is_met};
 ghost use Rattle.rbac_policy.specs.Filter.{Filter};
 ghost use Rattle.rbac_policy.specs.Named.{policy_view};
 ghost use Rattle.rbac_policy.specs.Verdict.{IsUnconditional, IsVerdict, SomeAsked, sides_match};
@@ -33,11 +33,10 @@ impl Admitted {
         ensures unasked { (filter : Filter CelChecked)
             → IsAdmittedAs (limits_view self.now) filter (filter_view self.now)
             → SomeAsked (is_met request.now) (λ c. Unit {0}) request.now filter ⊎ IsOk result }
-        ensures fault { IfErr result (λ e. (e ≡ RunError.Memory) ⊎ ((e ≡ RunError.OutOfSteps)
-            × ((filter : Filter CelChecked)
+        ensures fault { IfErr result (MemoryOrSteps ((filter : Filter CelChecked)
             → IsAdmittedAs (limits_view self.now) filter (filter_view self.now)
             → SomeAsked (is_met request.now) (TakesTooLong (limits_view self.now) request.now)
-            request.now filter))) }
+            request.now filter)) }
         ensures told { (filter : Filter CelChecked)
             → IsAdmittedAs (limits_view self.now) filter (filter_view self.now)
             → SomeAsked (is_met request.now) (TakesTooLong (limits_view self.now) request.now)
@@ -65,8 +64,8 @@ fn first_match(
     ensures always { HaveNoConditions (map policy_view policies.now) → IsOk result }
     ensures asked { IfErr result (λ _. SomeAsks AnyProgram request.now
         (map policy_view policies.now)) }
-    ensures fault { IfErr result (λ e. (e ≡ RunError.Memory) ⊎ ((e ≡ RunError.OutOfSteps)
-        × SomeAsks (PassesBound request.now) request.now (map policy_view policies.now))) }
+    ensures fault { IfErr result (MemoryOrSteps
+        (SomeAsks (PassesBound request.now) request.now (map policy_view policies.now))) }
 {
     for (number, policy) in policies.iter().enumerate() {
         if policy_matches(alloc, policy, request)? {
@@ -81,8 +80,8 @@ fn policy_matches(alloc: Global, policy: &NamedPolicy, request: &Request) -> Res
     ensures found { IfOk result (Tells request.now (policy_view policy.now)) }
     ensures always { (policy_view policy.now).condition ≡ None → IsOk result }
     ensures asked { IfErr result (λ _. Asks AnyProgram request.now (policy_view policy.now)) }
-    ensures fault { IfErr result (λ e. (e ≡ RunError.Memory) ⊎ ((e ≡ RunError.OutOfSteps)
-        × Asks (PassesBound request.now) request.now (policy_view policy.now))) }
+    ensures fault { IfErr result (MemoryOrSteps
+        (Asks (PassesBound request.now) request.now (policy_view policy.now))) }
 {
     if !sides_match(policy, request) {
         return Ok(false);

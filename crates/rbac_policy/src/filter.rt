@@ -58,14 +58,14 @@ pub(crate) struct FilterRules {
 
 impl FilterRules {
     ghost use Rattle.std.specs.FinMap.{from_entries};
-    ghost use Rattle.rbac_policy.specs.Admitted.{rules_view};
+    ghost use Rattle.rbac_policy.specs.Admitted.{filter_rules_view};
 
     /// The rules of an action and policies, which stand in ascending order of their names, and whose
     /// conditions may take so many steps together.
     pub(crate) fn new(action: Action, policies: Vec<NamedPolicy>, bound: u64) -> FilterRules
         requires ordered { IsTrue (is_sorted name_cmp (named_views policies.items)) }
         requires bounded { bound ≡ bounds_of (named_views policies.items) }
-        ensures { rules_view result ≡ record {
+        ensures { filter_rules_view result ≡ record {
           action = action;
           policies = from_entries (named_views policies.items);
         } }
@@ -87,12 +87,12 @@ pub struct Admitted {
 
 impl Admitted {
     ghost use Rattle.std.specs.FinMap.{keys, len};
-    ghost use Rattle.rbac_policy.specs.Admitted.{rules_view, filter_view, limits_view};
+    ghost use Rattle.rbac_policy.specs.Admitted.{filter_rules_view, filter_view, limits_view};
     ghost use Rattle.rbac_policy.specs.Enforced.{total_bound};
 
     /// The filter of these rules, for requests within the limits.
     pub(crate) fn new(rules: FilterRules, limits: Limits) -> Admitted
-        ensures filter { filter_view result ≡ rules_view rules }
+        ensures filter { filter_view result ≡ filter_rules_view rules }
         ensures limits { limits_view result ≡ limits }
     {
         Admitted { rules, limits }

@@ -25,8 +25,7 @@ use crate::condition::{Condition, read_condition};
 use crate::keys::POLICY_KEYS;
 use crate::numbers::{CHECKED_CONDITION, CONDITION, PERMISSIONS, PRINCIPALS};
 use attributes::Limits;
-use cel_tree::has_payload;
-use proto_wire::{Field, MapEntry, Refusal, payloads_of, read_message};
+use proto_wire::{Field, MapEntry, Refusal, has_payload, payloads_of, read_message};
 use rbac_match::{RULE_DEPTH, Rule, Side, read_rules};
 use std::alloc::Global;
 

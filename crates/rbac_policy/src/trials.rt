@@ -6,7 +6,7 @@ ghost use Rattle.attributes.specs.Limits.{InLimits};
 ghost use Rattle.cel_tree.specs.Checked.{CelChecked};
 ghost use Rattle.rbac_policy.specs.Admission.{IsAdmittedAs};
 ghost use Rattle.rbac_policy.specs.Admitted.{filter_view, limits_view};
-ghost use Rattle.rbac_policy.specs.Condition.{TakesTooLong, is_met};
+ghost use Rattle.rbac_policy.specs.Condition.{MemoryOrSteps, TakesTooLong, is_met};
 ghost use Rattle.rbac_policy.specs.Filter.{Filter};
 ghost use Rattle.rbac_policy.specs.Named.{named_views, policy_view};
 ghost use Rattle.rbac_policy.specs.Trials.{AreTrials, HasReason, Means, TakesSteps, is_match};
@@ -73,11 +73,10 @@ impl Admitted {
             → IsAdmittedAs (limits_view self.now) filter (filter_view self.now)
             → AreTrials (HasReason (Means request.now) (TakesSteps (limits_view self.now) request.now)
             request.now) 0 (entries filter.policies) trials.items) }
-        ensures fault { IfErr result (λ e. (e ≡ RunError.Memory) ⊎ ((e ≡ RunError.OutOfSteps)
-            × ((filter : Filter CelChecked)
+        ensures fault { IfErr result (MemoryOrSteps ((filter : Filter CelChecked)
             → IsAdmittedAs (limits_view self.now) filter (filter_view self.now)
             → SomeAsked (is_met request.now) (TakesTooLong (limits_view self.now) request.now)
-            request.now filter))) }
+            request.now filter)) }
         ensures told { (filter : Filter CelChecked)
             → IsAdmittedAs (limits_view self.now) filter (filter_view self.now)
             → SomeAsked (is_met request.now) (TakesTooLong (limits_view self.now) request.now)
@@ -100,8 +99,8 @@ fn try_policies<'a>(
 ) -> Result<Vec<Trial<'a>>, RunError>
     ensures tried { IfOk result (λ trials.
         AreTrials (HasRunReason request.now) 0 (named_views policies.now) trials.items) }
-    ensures fault { IfErr result (λ e. (e ≡ RunError.Memory) ⊎ ((e ≡ RunError.OutOfSteps)
-        × SomeAsks (PassesBound request.now) request.now (map policy_view policies.now))) }
+    ensures fault { IfErr result (MemoryOrSteps
+        (SomeAsks (PassesBound request.now) request.now (map policy_view policies.now))) }
 {
     let mut trials = Vec::new(alloc);
     for (number, policy) in policies.iter().enumerate() {
@@ -133,8 +132,8 @@ fn add<'a>(trials: &mut Vec<Trial<'a>>, trial: Trial<'a>) -> Result<(), AllocErr
 /// Why the policy matches, or does not.
 fn reason_of(alloc: Global, policy: &NamedPolicy, request: &Request) -> Result<Reason, RunError>
     ensures found { IfOk result (HasRunReason request.now (policy_view policy.now)) }
-    ensures fault { IfErr result (λ e. (e ≡ RunError.Memory) ⊎ ((e ≡ RunError.OutOfSteps)
-        × Asks (PassesBound request.now) request.now (policy_view policy.now))) }
+    ensures fault { IfErr result (MemoryOrSteps
+        (Asks (PassesBound request.now) request.now (policy_view policy.now))) }
 {
     if !any_matches(&policy.permissions, request) {
         return Ok(Reason::NoPermission);

@@ -4,6 +4,7 @@ use Rattle.std.specs.Str.{bytes_eq}
 use Rattle.attributes.proofs.TextOrder.{same_from_test}
 use Rattle.rbacd.specs.Facts.{name_of}
 use Rattle.rbacd.specs.declared.facts.Fact.{Fact}
+use Rattle.attributes.proofs.Names.{find_passes}
 
 -- every fact
 abbrev every_fact : List Fact
@@ -35,15 +36,6 @@ named_own Fact.DirectRemoteIp = refl
 named_own Fact.RemoteIp = refl
 named_own Fact.DestinationIp = refl
 named_own Fact.RequestScheme = refl
-
--- what a search finds passes the test
-find_passes : {X : Type 0} (p : X → Bool) (xs : List X) (x : X) → find p xs ≡ Some x → p x ≡ true
-find_passes p [] x h = let clash : None ≡ Some x = h in cc
-find_passes p (y ∷ ys) x h = elim (p y) as (λ b. p y ≡ b → cond b (Some y) (find p ys) ≡ Some x
-    → p x ≡ true) [
-      | true ↦ λ t k. let same : y ≡ x = cc in rw same at t
-      | false ↦ λ t k. find_passes p ys x k
-    ] refl h
 
 -- what the search finds is exactly the fact of the name
 pub named_exactly : (name : List ℕ) (r : Option Fact) → r ≡ named name

@@ -22,8 +22,8 @@ abbrev pub IsText : Data → List ℕ → Type 0
 IsText d text = d ≡ string text
 
 -- the value is this port
-abbrev pub IsPort : Data → ℕ → Type 0
-IsPort d port = (d ≡ number (unsigned port)) × (port < 2 ^ 16)
+abbrev pub IsPortNumber : Data → ℕ → Type 0
+IsPortNumber d port = (d ≡ number (unsigned port)) × (port < 2 ^ 16)
 
 -- the value is this unsigned integer
 abbrev pub IsNumber : Data → ℕ → Type 0
@@ -51,9 +51,9 @@ IsScheme d scheme = (named : Option (List ℕ)) × Tells IsText d named × (sche
 -- the name of each fact, and what the member of that name, or its absence, says of the facts
 abbrev pub fact_row : Fact → List ℕ × (Option Data → Facts → Type 0)
 fact_row SourceAddress = (codes "source.address", λ d f. Tells IsText d f.source_address)
-fact_row SourcePort = (codes "source.port", λ d f. Tells IsPort d f.source_port)
+fact_row SourcePort = (codes "source.port", λ d f. Tells IsPortNumber d f.source_port)
 fact_row DestinationAddress = (codes "destination.address", λ d f. Tells IsText d f.destination_address)
-fact_row DestinationPort = (codes "destination.port", λ d f. Tells IsPort d f.destination_port)
+fact_row DestinationPort = (codes "destination.port", λ d f. Tells IsPortNumber d f.destination_port)
 fact_row ConnectionMtls = (codes "connection.mtls", λ d f. Tells IsAnswer d f.mtls)
 fact_row ConnectionId = (codes "connection.id", λ d f. Tells IsNumber d f.connection_id)
 fact_row ConnectionRequestedServerName =

@@ -7,7 +7,7 @@ ghost use Rattle.attributes.specs.Limits.{FactsInLimits, largest};
 ghost use Rattle.attributes.specs.declared.address.Ip.{Ip};
 ghost use Rattle.serde_json.specs.Find.{get};
 ghost use Rattle.serde_json.specs.View.{members_view, view};
-ghost use Rattle.rbacd.specs.Facts.{AreFacts, AreNamed, HasFactNames, IsAddress, IsAnswer, IsFactName, IsFactsText, IsNumber, IsPort, IsScheme, IsText, Tells, TellsNone, name_of};
+ghost use Rattle.rbacd.specs.Facts.{AreFacts, AreNamed, HasFactNames, IsAddress, IsAnswer, IsFactName, IsFactsText, IsNumber, IsPortNumber, IsScheme, IsText, Tells, TellsNone, name_of};
 ghost use Rattle.rbacd.specs.declared.facts.Fact.{Fact};
 ghost use Rattle.rbacd.specs.declared.facts.FactsFault.TheVariants.{Bad, Memory};
 
@@ -299,9 +299,9 @@ fn number_at(object: &Value, fact: Fact) -> Result<Option<u64>, FactsFault>
 }
 
 fn port_at(object: &Value, fact: Fact) -> Result<Option<u16>, FactsFault>
-    ensures found { IfOk result (λ port. Tells IsPort (get (name_of fact) (view object.now)) port) }
+    ensures found { IfOk result (λ port. Tells IsPortNumber (get (name_of fact) (view object.now)) port) }
     ensures fault { IfErr result (λ e. (e ≡ Bad)
-        × ((port : Option ℕ) → ¬ Tells IsPort (get (name_of fact) (view object.now)) port)) }
+        × ((port : Option ℕ) → ¬ Tells IsPortNumber (get (name_of fact) (view object.now)) port)) }
 {
     match number_at(object, fact)? {
         None => Ok(None),

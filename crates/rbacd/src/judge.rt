@@ -167,6 +167,7 @@ fn memory_as_finding(answer: io::Result<Finding>) -> io::Result<Finding>
     ensures kept { IfOk answer (λ finding. result ≡ Ok finding) }
     ensures memory { OnErr answer (IfOk result (λ finding. finding ≡ bare Outcome.Memory)) }
     ensures others { IfErr result (λ e. (answer ≡ Err e) × (error_kind e ≢ ErrorKind.OutOfMemory)) }
+    ensures told { IfErr answer (λ e. error_kind e ≢ ErrorKind.OutOfMemory → result ≡ Err e) }
 {
     match answer {
         Ok(finding) => Ok(finding),

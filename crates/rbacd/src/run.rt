@@ -2,12 +2,13 @@
 ghost use Rattle.std.specs.Prelude.{◌≡◌, ◌≢◌, ◌⊎◌, ◌↔◌, ℕ, Err, IfErr, IfOk, IsTrue, List, Ok, Result, Some, map, option_map, string_bytes};
 ghost use Rattle.attributes.specs.Conn.{conn_view};
 ghost use Rattle.std.specs.Io.{StartsWith};
+ghost use Rattle.std.specs.IoError.{error_kind};
 ghost use Rattle.rbacd.specs.Explain.{IsGiven};
 ghost use Rattle.rbacd.specs.Judging.{IsDecision};
 ghost use Rattle.rbacd.specs.Outcome.{line_of};
 ghost use Rattle.rbacd.specs.Output.{Takes};
 ghost use Rattle.rbacd.specs.Run.{ComesTo, HasBadFacts, IsCheckedAs, IsConnOf, IsJudgedAs, IsShown, IsTold, IsUnread, Leaves, LeavesFault, Prints, RunsTo, StopsBy, TellsCause, first_line};
-ghost use Rattle.rbacd.specs.steps.Judged.{bare, report_with};
+ghost use Rattle.rbacd.specs.steps.Judged.{MemoryOrStop, bare, report_with};
 ghost use Rattle.rbacd.specs.declared.outcome.Report.{Report};
 ghost use Rattle.rbacd.specs.declared.run.JobFault.{JobFault};
 
@@ -170,8 +171,8 @@ fn check_file<F: Source>(
     ensures found { IfOk result (λ finding. IsCheckedAs (F.holds files.now) (F.lacks files.now)
         policy.now budget finding.outcome) }
     ensures bare { IfOk result (λ finding. finding ≡ bare finding.outcome) }
-    ensures fault { IfErr result (λ e. (e ≡ JobFault.Memory)
-        ⊎ IsUnread (F.holds files.now) (F.lacks files.now) policy.now e) }
+    ensures fault { IfErr result (MemoryOrStop
+        (IsUnread (F.holds files.now) (F.lacks files.now) policy.now)) }
 {
     let bytes = read_file(alloc, files, policy)?;
     let outcome = check_of(alloc, &bytes, budget);
@@ -195,8 +196,8 @@ fn judge_files<F: Source, R: Read + Drop>(
         (option_map string_bytes finding.name) finding.explanation finding.outcome) }
     ensures given { IfOk result (λ finding.
         IsGiven finding.explanation ↔ (IsTrue explain × IsDecision finding.outcome)) }
-    ensures fault { IfErr result (λ e. (e ≡ JobFault.Memory) ⊎ StopsBy (F.holds files.now)
-        (F.lacks files.now) policy.now (option_map string_bytes facts) budget (R.remaining input) e) }
+    ensures fault { IfErr result (MemoryOrStop (StopsBy (F.holds files.now)
+        (F.lacks files.now) policy.now (option_map string_bytes facts) budget (R.remaining input))) }
 {
     let bytes = read_file(alloc, files, policy)?;
     let conn = conn_of(alloc, facts, files, notes)?;
@@ -218,7 +219,7 @@ fn conn_of<F: Source>(
 ) -> Result<Conn, JobFault>
     ensures found { IfOk result (λ conn. IsConnOf (F.holds files.now) (F.lacks files.now)
         (option_map string_bytes facts) (conn_view conn)) }
-    ensures fault { IfErr result (λ e. (e ≡ JobFault.Memory) ⊎ ((path : List ℕ)
+    ensures fault { IfErr result (MemoryOrStop (λ e. (path : List ℕ)
         × (option_map string_bytes facts ≡ Some path)
         × (IsUnread (F.holds files.now) (F.lacks files.now) path e
         ⊎ HasBadFacts (F.holds files.now) (F.lacks files.now) path e))) }
@@ -238,32 +239,54 @@ fn read_facts_file<F: Source>(
 ) -> Result<Conn, JobFault>
     ensures found { IfOk result (λ conn. IsConnOf (F.holds files.now) (F.lacks files.now)
         (Some path.now) (conn_view conn)) }
-    ensures fault { IfErr result (λ e. (e ≡ JobFault.Memory)
-        ⊎ IsUnread (F.holds files.now) (F.lacks files.now) path.now e
-        ⊎ HasBadFacts (F.holds files.now) (F.lacks files.now) path.now e) }
+    ensures fault { IfErr result (MemoryOrStop (λ e.
+        IsUnread (F.holds files.now) (F.lacks files.now) path.now e
+        ⊎ HasBadFacts (F.holds files.now) (F.lacks files.now) path.now e)) }
 {
     let text = read_file(alloc, files, path)?;
     match read_conn(alloc, &text) {
         Ok(conn) => Ok(conn),
-        Err(FactsFault::Bad) => {
-            notes.look_at_facts(alloc, &text)?;
-            Err(JobFault::Facts)
+        Err(fault) => {
+            if matches!(fault, FactsFault::Bad) {
+                notes.look_at_facts(alloc, &text)?;
+            }
+            Err(stop_by_facts(fault))
         }
-        Err(FactsFault::Memory) => Err(JobFault::Memory),
+    }
+}
+
+/// What stops a job whose facts are not read.
+fn stop_by_facts(fault: FactsFault) -> JobFault
+    ensures bad { fault ≡ FactsFault.Bad → result ≡ JobFault.Facts }
+    ensures memory { fault ≡ FactsFault.Memory → result ≡ JobFault.Memory }
+{
+    match fault {
+        FactsFault::Bad => JobFault::Facts,
+        FactsFault::Memory => JobFault::Memory,
     }
 }
 
 /// The bytes of the file at this path.
 fn read_file<F: Source>(alloc: Global, files: &F, path: &str) -> Result<Vec<u8>, JobFault>
     ensures found { IfOk result (λ v. F.holds files.now path.now v.items) }
-    ensures fault { IfErr result (λ e. (e ≡ JobFault.Memory)
-        ⊎ IsUnread (F.holds files.now) (F.lacks files.now) path.now e) }
+    ensures fault { IfErr result (MemoryOrStop
+        (IsUnread (F.holds files.now) (F.lacks files.now) path.now)) }
 {
     match files.read_file(alloc, path) {
         Ok(bytes) => Ok(bytes),
-        Err(cause) if cause.kind() == ErrorKind::OutOfMemory => Err(JobFault::Memory),
-        Err(cause) => Err(JobFault::File(String::from_str(alloc, path)?, cause)),
+        Err(cause) => Err(stop_by_file(String::from_str(alloc, path)?, cause)),
     }
+}
+
+/// What stops a job for which the file of this name cannot be read, for this cause.
+fn stop_by_file(name: String, cause: io::Error) -> JobFault
+    ensures file { error_kind cause ≢ ErrorKind.OutOfMemory → result ≡ JobFault.File name cause }
+    ensures memory { error_kind cause ≡ ErrorKind.OutOfMemory → result ≡ JobFault.Memory }
+{
+    if cause.kind() == ErrorKind::OutOfMemory {
+        return JobFault::Memory;
+    }
+    JobFault::File(name, cause)
 }
 
 /// Tells why nothing is judged; the status. Where no memory is left for that, it tells so.

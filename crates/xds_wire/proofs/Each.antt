@@ -14,7 +14,7 @@ some_part P (s ∷ slices) zero d within p = inl p
 some_part P (s ∷ slices) (suc i) d within p = inr (some_part P slices i d (omega arith) p)
 
 -- one pair more
-zip_push : {A B : Type 0} (R : A → B → Type 0) (xs : List A) (ys : List B) (x : A) (y : B)
+pub zip_push : {A B : Type 0} (R : A → B → Type 0) (xs : List A) (ys : List B) (x : A) (y : B)
     → AllZip R xs ys → R x y → AllZip R (xs ++ x ∷ []) (ys ++ y ∷ [])
 zip_push R [] [] x y all more = (more, tt)
 zip_push R [] (b ∷ ys) x y all more = absurd all

@@ -1,20 +1,17 @@
 -- Which values stand in groups of written fields: each number's values are those of its own group.
 use Rattle.std.proofs.Common.{◌≡◌, ℕ, ℤ, ◌==◌, false, cond, Option, Some, None, List, [], ◌∷◌, ◌++◌, refl, ap, ap₂, ◌∙◌, append-nil, inl, inr}
 use Rattle.std.specs.Int.{w64, cast_unsigned}
-use Rattle.std.specs.List.{flat_map, filter_map, AllByRecursion}
+use Rattle.std.specs.List.{flat_map, AllByRecursion}
 use Rattle.std.proofs.lemmas.List.Elements.{filter_map-append}
 use Rattle.std.proofs.lemmas.Bool.{cases_Bool}
 use Rattle.proto_wire.specs.Fields.{Payload, Wire, varint, len}
 use Rattle.proto_wire.specs.Shortest.{field_of}
 use Rattle.xds_wire.specs.Written.{string_fields, strings_fields, int32_fields, AreOptional, AreEach}
+use Rattle.proto_wire.proofs.ValueLemmas.{picked as picks}
 
 -- the groups one after the other
 abbrev pub in_row : List (List Wire) → List Wire
 in_row groups = flat_map (λ fs. fs) groups
-
--- what is picked of the payloads of a number's fields
-abbrev pub picks : {B : Type 0} → (Payload → Option B) → ℕ → List Wire → List B
-picks pick k fs = filter_map (λ f. cond (f.number == k) (pick f.payload) None) fs
 
 module _ {B : Type 0} (pick : Payload → Option B) (k : ℕ) where
   -- nothing is picked of these groups

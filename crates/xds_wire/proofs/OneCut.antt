@@ -1,11 +1,11 @@
 -- Bytes are cut in one way at most.
 use Rattle.std.proofs.Common.{◌≡◌, ℕ, ◌+◌, ◌<◌, ◌^◌, List, [], ◌∷◌, ◌++◌, length, take, drop, refl, ap, ap₂, ◌∙◌, sym, arith, append_assoc, length-append}
-use Rattle.std.proofs.lemmas.List.{take_at, drop_at}
 use Rattle.std.proofs.lemmas.Nat.{from_be_bytes-to_be_bytes_4}
 use Rattle.std.specs.Int.{w32, to_be_bytes, from_be_bytes}
 use Rattle.std.specs.List.{AllByRecursion}
 use Rattle.xds_wire.specs.Frames.{head_of, frame_of, frames_of, IsLength, AreAllowed, IsBeginning, nothing, part_of_head, part_of_message, Breaks, compressed, too_long, IsTail, Tail, unfinished, broken, Cut}
 use Rattle.xds_wire.specs.declared.fault.FrameFault.{FrameFault}
+use Rattle.proto_wire.proofs.PayloadLemmas.{fronts_unique as fronts_one}
 
 -- one length, and the same bytes behind it
 heads_one : (m n : ℕ) (a b : List ℕ) → m < 2 ^ 32 → n < 2 ^ 32 → head_of m ++ a ≡ head_of n ++ b
@@ -16,13 +16,6 @@ heads_one m n a b x y whole =
           ∙ from_be_bytes-to_be_bytes_4 n y,
       ap (λ t. drop 5 t) whole,
     )
-
--- one list of each length, and the same bytes behind it
-fronts_one : (m n a b : List ℕ) → length m ≡ length n → m ++ a ≡ n ++ b → (m ≡ n) × (a ≡ b)
-fronts_one m n a b long whole = (
-  sym (take_at m a (length m) refl) ∙ ap (take (length m)) whole ∙ take_at n b (length m) (sym long),
-  sym (drop_at m a (length m) refl) ∙ ap (drop (length m)) whole ∙ drop_at n b (length m) (sym long),
-)
 
 -- one message, and the same bytes behind its frame
 pub frame_one : (max : ℕ) (m n a b : List ℕ) → IsLength max (length m) → IsLength max (length n)

@@ -1,6 +1,6 @@
 -- How an overload is chosen, function by function.
 use Rattle.std.specs.Prelude.{Bool, true, false, ◌&&◌, List, [], ◌∷◌, Option, Some, None, if◌then◌else◌}
-use Rattle.cel_value.specs.Types.{ValueType, bool_type, int_type, uint_type, text_type, bytes_type, list_type, map_type, type_eq, type_of_key}
+use Rattle.cel_value.specs.Types.{ValueType, bool_type, int_type, uint_type, text_type, bytes_type, list_type, map_type, is_ordered, type_eq, type_of_key}
 use Rattle.cel_ops.specs.declared.arithmetic.ArithmeticOp.{ArithmeticOp}
 use Rattle.cel_ops.specs.declared.arithmetic.ArithmeticOp.TheVariants.{Add}
 use Rattle.cel_ops.specs.declared.comparison.CompareOp.{CompareOp}
@@ -18,12 +18,6 @@ abbrev pub is_number : ValueType → Bool
 is_number int_type = true
 is_number uint_type = true
 is_number _ = false
-
--- whether they are compared by size
-abbrev pub is_ordered : ValueType → Bool
-is_ordered (list_type t) = false
-is_ordered (map_type k t) = false
-is_ordered _ = true
 
 -- whether two of them are put one after the other
 abbrev pub is_joined : ValueType → Bool

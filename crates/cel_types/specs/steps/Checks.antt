@@ -1,5 +1,5 @@
 -- What the check of a node comes to, and of nodes one after the other.
-use Rattle.std.specs.Prelude.{◌≡◌, ◌≢◌, ◌⊎◌, ℕ, Bool, false, List, [], ◌∷◌, ◌++◌, Option, Some}
+use Rattle.std.specs.Prelude.{◌≡◌, ◌≢◌, ◌⊎◌, ℕ, ℤ, Bool, false, List, [], ◌∷◌, ◌++◌, Option, Some}
 use Rattle.std.specs.FinMap.{get}
 use Rattle.attributes.specs.declared.attribute.AttrId.{AttrId}
 use Rattle.cel_ops.specs.Attributes.{attribute_type}
@@ -16,6 +16,16 @@ use Rattle.cel_types.specs.TypingFaults.{TypeFault}
 use Rattle.cel_types.specs.View.{typed_of}
 use Rattle.proto_wire.specs.declared.refusal.Refusal.{Refusal}
 use Rattle.proto_wire.specs.declared.refusal.Refusal.TheVariants.{Missing, NoOverload, OutOfRange}
+
+-- the id of the root
+abbrev pub id_of : CelTree → ℤ
+id_of (constant id c) = id
+id_of (ident id n) = id
+id_of (select id o f t) = id
+id_of (call id f t xs) = id
+id_of (list_literal id es) = id
+id_of (map_literal id es) = id
+id_of (comprehension id x acc range init condition step result) = id
 
 -- the entries of an expression agree, but for the type entry of its own node
 abbrev pub InsideAgrees : Maps → Kinds → CelTree → Type 0

@@ -1,5 +1,5 @@
 -- What one head has under a filter that was admitted.
-use Rattle.std.specs.Prelude.{◌≡◌, ⊤, Bool, true, false, ℕ, List, Option, None, IfNone, option_and_then, slice_get}
+use Rattle.std.specs.Prelude.{◌≡◌, ◌⊎◌, ⊤, Bool, true, false, ℕ, List, Option, None, IfNone, option_and_then, slice_get}
 use Rattle.std.specs.FinMap.{keys}
 use Rattle.attributes.specs.Conn.{Facts}
 use Rattle.attributes.specs.Limits.{InLimits, largest}
@@ -20,6 +20,11 @@ use Rattle.rbacd.specs.declared.judge.Finding.{Finding}
 use Rattle.rbacd.specs.declared.outcome.Outcome.{Outcome}
 use Rattle.rbacd.specs.declared.outcome.Outcome.TheVariants as outcomes
 use Rattle.rbacd.specs.declared.outcome.Report.{Report}
+use Rattle.rbacd.specs.declared.run.JobFault.{JobFault}
+
+-- memory ran out, or this stops the job
+abbrev pub MemoryOrStop : (JobFault → Type 0) → JobFault → Type 0
+MemoryOrStop Stop fault = (fault ≡ JobFault.Memory) ⊎ Stop fault
 
 -- the number of the policy that matched, if the outcome has one
 abbrev pub matched_in : Outcome → Option ℕ

@@ -1,14 +1,11 @@
-use Rattle.std.proofs.Common.{◌≡◌, rules, ◌++◌, [], ◌∷◌, length, get_or, refl, sym, ap, ap₂, ◌∙◌, arith}
+use Rattle.std.proofs.Common.{◌≡◌, rules, get_or, refl, ap, ap₂, ◌∙◌, arith}
 use Rattle.std.proofs.lemmas.Result.{MatchResult-weaker}
-use Rattle.std.specs.declared.alloc.Global.{Global}
 use Rattle.cel_value.specs.Types.{type_view}
-use Rattle.cel_types.specs.Elaborated.{no_typed, typed, typed_call, typed_list, typed_map}
-use Rattle.cel_overload.specs.declared.overload.Overload.TheVariants as overloads
+use Rattle.cel_types.specs.Elaborated.{no_typed, typed, typed_list, typed_map}
 use Rattle.cel_types.specs.View.{expr_view, exprs_view, loop_of, parts_view}
 use Rattle.cel_types.specs.declared.typed.TypedExpr as exprs
-use Rattle.stack_machine.specs.Instructions.{And, IfFalse, IfTrue, Jump, LoopNext, LoopStart, LoopTest, Or, Test, instr_view}
+use Rattle.stack_machine.specs.Instructions.{Jump, LoopNext, LoopStart, LoopTest, Test}
 use Rattle.stack_machine.specs.declared.instr.Instr.TheVariants as instrs
-use Rattle.cel_compile.specs.Codes.{list_instruction, map_instruction}
 use Rattle.cel_compile.specs.steps.Emitting.{Grows, GrowsAll, passing_over}
 use Rattle.cel_compile.proofs.Operands.{goes_on, list_grows, map_grows, plain_grows, three_operands, two_operands}
 use Rattle.cel_compile.proofs.Built.{choice_built, junction_built, loop_built}

@@ -1,4 +1,3 @@
-use Rattle.std.proofs.Common.{◌≡◌}
 use Rattle.std.proofs.lemmas.Result.{MatchResult-weaker}
 use Rattle.cel_types.specs.View.{typed_view}
 use Rattle.stack_machine.specs.Instructions.{code_view}

@@ -2,7 +2,7 @@ use Rattle.std.proofs.Common.{List, map, inl}
 use Rattle.proto_wire.specs.Fields.{Wire, field_view}
 use Rattle.proto_wire.specs.Values.{bytes_at}
 use Rattle.cel_tree.specs.Nodes.{loop_field, LoopLacks, LoopWrong}
-use Rattle.cel_tree.specs.Reading.{ValuesFault}
+use Rattle.cel_tree.specs.steps.Values.{ValuesFault}
 use Rattle.cel_tree.proofs.Basics.{empty_text}
 use Rattle.cel_tree.proofs.Readers.{exit_fault}
 use Rattle.cel_tree.proofs.loops.loop_of.Goals as goal

@@ -3,7 +3,7 @@ use Rattle.proto_wire.specs.Fields.{Wire, field_view}
 use Rattle.proto_wire.specs.Values.{payloads}
 use Rattle.proto_wire.specs.declared.refusal.Refusal.{Refusal}
 use Rattle.cel_tree.specs.Message.{tree_depth, most_nodes, checked_field, CheckedLacks, CheckedWrong, in_tree, in_nodes}
-use Rattle.cel_tree.specs.Reading.{ValuesFault}
+use Rattle.cel_tree.specs.steps.Values.{ValuesFault}
 use Rattle.cel_tree.specs.steps.Inside.{TreeFails}
 use Rattle.cel_tree.proofs.Readers.{exit_memory_or}
 use Rattle.cel_tree.proofs.message.checked_of.Goals as goal
@@ -12,7 +12,7 @@ pub returns-in_err-tree-clause-fault : goal.returns-in_err-tree-clause-fault
 returns-in_err-tree-clause-fault c =
     let fs : List Wire = map field_view c.args.fields.now in
     let G : Refusal → Type 0 = ValuesFault CheckedLacks CheckedWrong fs in
-    let there = c.in_ok-require_part.ensures.found in
+    let there = c.in_ok-require_payload.ensures.found in
     exit_memory_or (TreeFails tree_depth most_nodes (payloads checked_field.expr fs)) G
     c.from_residual-in_err-tree.result _ c.from_residual-in_err-tree.ensures.1 c.in_err-tree.ensures.fault
     (λ e bad. elim bad [

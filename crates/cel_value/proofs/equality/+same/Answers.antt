@@ -1,4 +1,4 @@
-use Rattle.std.proofs.Common.{◌≡◌, sym, ap₂, ◌∙◌}
+use Rattle.std.proofs.Common.{sym, ap₂, ◌∙◌}
 use Rattle.cel_value.specs.View.{entries_view, map_view, values_view}
 use Rattle.cel_value.specs.Equality.{entries_eq}
 use Rattle.cel_value.proofs.Same.{longer_differs, longer_entries_differ, entries_eq_symm}

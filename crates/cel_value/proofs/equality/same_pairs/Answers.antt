@@ -1,4 +1,4 @@
-use Rattle.std.proofs.Common.{◌≡◌, sym, ◌∙◌}
+use Rattle.std.proofs.Common.{sym, ◌∙◌}
 use Rattle.cel_value.specs.View.{pairs_view}
 use Rattle.cel_value.proofs.Same.{longer_entries_differ}
 use Rattle.cel_value.proofs.Views.{count_pairs}

@@ -1,4 +1,4 @@
-use Rattle.std.proofs.Common.{sym, ◌∙◌}
+use Rattle.std.proofs.Common.{sym}
 use Rattle.cel_value.proofs.Views.{count_entries}
 use Rattle.cel_value.proofs.map.entry_count.Goals as goal
 

@@ -1,4 +1,4 @@
-use Rattle.std.proofs.Common.{rules, sym, ap, ◌∙◌}
+use Rattle.std.proofs.Common.{rules, sym}
 use Rattle.cel_value.specs.Texts.{text_view}
 use Rattle.cel_value.specs.Values.{text_key}
 use Rattle.cel_value.proofs.MapSearching.{pair_found, pair_absent}

@@ -1,4 +1,4 @@
-use Rattle.std.proofs.Common.{◌≡◌, ◌∷◌, ◌++◌, rules, refl, sym, ap, ◌∙◌, Some, None, take, drop, arith}
+use Rattle.std.proofs.Common.{◌∷◌, ◌++◌, rules, refl, sym, ap, ◌∙◌, take, drop}
 use Rattle.std.proofs.lemmas.Option.{none-some}
 use Rattle.cel_value.specs.Keys.{get, put, IsAscending}
 use Rattle.cel_value.specs.View.{entries_view, key_view, value_view}

@@ -138,7 +138,7 @@ read_rules-loop-field-preserved t c =
     let i = c.loop-field.field-index in
     let within = c.loop-field-test.true in
     let before : List (List ℕ) = payloads c.args.number (map field_view (take i fields)) in
-    elim c.match-payload_of.branch [
+    elim c.match-len_of.branch [
       | read_rules-in-Some+in_ok-rule+in_ok-push w ↦
           let bytes : List ℕ = w.in-Some.payload.now in
           let more = picked_some len_in c.args.number fields i _ bytes within w.in-Some.ensures in

@@ -12,7 +12,7 @@ use Rattle.proto_wire.specs.Messages.{IsMessage, MessageFault}
 use Rattle.proto_wire.proofs.Exits.{exit_memory_or, memory_or_weaker}
 use Rattle.rbac_policy.specs.Keys.{filter_keys, rules_keys, filter_field, rules_field}
 use Rattle.rbac_policy.specs.Admission.{Admits}
-use Rattle.rbac_policy.specs.Admitted.{rules_view}
+use Rattle.rbac_policy.specs.Admitted.{filter_rules_view}
 use Rattle.rbac_policy.specs.Enforced.{Enforces, total_bound}
 use Rattle.rbac_policy.specs.Filter.{Filter}
 use Rattle.rbac_policy.specs.Message.{AreFilterRules}
@@ -88,17 +88,17 @@ returns-clause-found c =
     let parts : parts_view c.deref-3.result.now ≡ payloads filter_field.rules top = ap parts_view c.deref-3.ensures ∙ (rw c.deref-2.ensures at c.in_ok-parts.ensures) in
     let message : IsMessage filter_keys (c.args.bytes.now ∷ []) top = c.in_ok-top.ensures.found in
     let inner : IsMessage rules_keys (payloads filter_field.rules top) fs = rw parts at c.in_ok-fields.ensures.found in
-    both_ok (λ rules. (filter : Filter CelChecked) × AreFilterRules fs filter × Enforces c.args.limits.now filter (rules_view rules))
-    (λ rules. total_bound (rules_view rules) ≤ c.args.budget)
-    (λ rules. (filter : Filter CelChecked) × Admits c.args.bytes.now c.args.limits.now c.args.budget filter (rules_view rules))
+    both_ok (λ rules. (filter : Filter CelChecked) × AreFilterRules fs filter × Enforces c.args.limits.now filter (filter_rules_view rules))
+    (λ rules. total_bound (filter_rules_view rules) ≤ c.args.budget)
+    (λ rules. (filter : Filter CelChecked) × Admits c.args.bytes.now c.args.limits.now c.args.budget filter (filter_rules_view rules))
     c.read_rules.result (rw c.deref-4.ensures at c.read_rules.ensures.found) c.read_rules.ensures.cheap
     (λ rules (filter, are, enforces) cheap. (
       filter,
       record {
         admissible = record {
           message = record { top = top; fs = fs; message = message; there = there; inner = inner; rules = are };
-          cost = total_bound (rules_view rules);
-          costs = enforced_costs c.args.limits.now filter (rules_view rules) enforces;
+          cost = total_bound (filter_rules_view rules);
+          costs = enforced_costs c.args.limits.now filter (filter_rules_view rules) enforces;
           cheap = cheap;
         };
         enforces = enforces;

@@ -8,7 +8,7 @@ use Rattle.proto_wire.specs.Values.{payloads}
 use Rattle.proto_wire.specs.Merge.{parts_view}
 use Rattle.proto_wire.specs.declared.refusal.Refusal.{Refusal}
 use Rattle.proto_wire.proofs.Exits.{exit_memory_or}
-use Rattle.rbac_policy.specs.Admitted.{rules_view}
+use Rattle.rbac_policy.specs.Admitted.{filter_rules_view}
 use Rattle.rbac_policy.specs.Condition.{Program}
 use Rattle.rbac_policy.specs.Enforced.{bounds_of, total_bound}
 use Rattle.rbac_policy.specs.Filter.{Policy}
@@ -110,5 +110,5 @@ returns-clause-cheap c =
     let sum = total_of c.args.limits.now c.in_ok-action.action vs sorted in
     let cost = c.in_ok-policies.ensures.cost in
     let cheap = c.in_ok-policies.ensures.cheap in
-    let total : total_bound (rules_view c.new.result) ≡ bounds_of vs = ap total_bound c.new.ensures ∙ sum in
+    let total : total_bound (filter_rules_view c.new.result) ≡ bounds_of vs = ap total_bound c.new.ensures ∙ sum in
     omega (arith, total, cost, cheap)

@@ -2,11 +2,11 @@
 use Rattle.std.proofs.Common.{ℕ, Option, None, Some}
 use Rattle.std.proofs.lemmas.Result.{err_from_is_err_and}
 use Rattle.serde_json.specs.Data.{Data}
-use Rattle.rbacd.specs.Facts.{IsNumber, IsPort, Tells}
+use Rattle.rbacd.specs.Facts.{IsNumber, IsPortNumber, Tells}
 use Rattle.rbacd.proofs.facts.port_at.Goals as goal
 
 -- a port is a number
-number_of_port : (d : Option Data) (n : Option ℕ) → Tells IsPort d n → Tells IsNumber d n
+number_of_port : (d : Option Data) (n : Option ℕ) → Tells IsPortNumber d n → Tells IsNumber d n
 number_of_port None None told = told
 number_of_port None (Some n) told = told
 number_of_port (Some d) None told = told

@@ -1,6 +1,6 @@
 use Rattle.std.proofs.Common.{◌∙◌, ap}
 use Rattle.cel_value.specs.Masses.{entry_count}
-use Rattle.cel_value.proofs.Views.{seen_entries, seen_texts}
+use Rattle.cel_value.proofs.Views.{seen_entries}
 use Rattle.cel_value.proofs.value.Map.len.Goals as goal
 
 pub returns-in-Entries : goal.returns-in-Entries
