@@ -1,5 +1,5 @@
 -- The object of a facts file with a member of nearly each kind, so that a wrong row of the table or a wrong kind does not check.
-use Rattle.std.proofs.Common.{◌≡◌, true, Some, None, codes, refl, lit<}
+use Rattle.std.proofs.Common.{true, Some, None, codes, refl, lit<}
 use Rattle.attributes.specs.Conn.{Facts}
 use Rattle.attributes.specs.declared.address.Ip.TheVariants.{V4}
 use Rattle.attributes.proofs.StandardFacts.{addresses}
