@@ -29,9 +29,9 @@ attr_view (values.Bool b) = bool b
 attr_view (values.Pairs ps) = text_map (from_sorted ps.now)
 
 -- pairs stand by ascending name, each name once
-abbrev pub IsOrdered : AttrValue → Type 0
-IsOrdered (values.Pairs ps) = IsTrue (is_sorted name_cmp ps.now)
-IsOrdered _ = ⊤
+abbrev pub HasSortedPairs : AttrValue → Type 0
+HasSortedPairs (values.Pairs ps) = IsTrue (is_sorted name_cmp ps.now)
+HasSortedPairs _ = ⊤
 
 -- the target up to its first `#` (35)
 abbrev pub without_fragment : List ℕ → List ℕ

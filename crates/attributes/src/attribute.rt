@@ -1,7 +1,7 @@
 //! The attributes of a request, each a function of its parts.
 ghost use Rattle.std.specs.Prelude.{◌≡◌, ◌↔◌, IfSome, Some, find, option_map};
 ghost use Rattle.std.specs.Str.{bytes_eq};
-ghost use Rattle.attributes.specs.Attributes.{IsOrdered, attr_name, attr_of, attr_view, port_data, text, attr_type};
+ghost use Rattle.attributes.specs.Attributes.{HasSortedPairs, attr_name, attr_of, attr_view, port_data, text, attr_type};
 ghost use Rattle.attributes.specs.declared.attribute.AttrId.{AttrId};
 ghost use Rattle.attributes.specs.Conn.{conn_view};
 ghost use Rattle.attributes.specs.Request.{IsRequest};
@@ -177,7 +177,7 @@ impl Request {
     /// The attribute, or `None` where it is absent.
     pub fn attr(&self, id: AttrId) -> Option<AttrValue<'_>>
         ensures value { option_map attr_view result ≡ attr_of self.now id }
-        ensures ordered { IfSome result IsOrdered }
+        ensures ordered { IfSome result HasSortedPairs }
         ensures sound { IsRequest self.now }
     {
         let conn = self.conn();
@@ -218,14 +218,14 @@ impl Request {
 
 fn text_value(found: Option<&RcStr>) -> Option<AttrValue<'_>>
     ensures value { option_map attr_view result ≡ option_map text (lent_view found.entry) }
-    ensures ordered { IfSome result IsOrdered }
+    ensures ordered { IfSome result HasSortedPairs }
 {
     Some(AttrValue::Text(found?))
 }
 
 fn port_value<'a>(port: Option<u16>) -> Option<AttrValue<'a>>
     ensures value { option_map attr_view result ≡ port_data port }
-    ensures ordered { IfSome result IsOrdered }
+    ensures ordered { IfSome result HasSortedPairs }
 {
     Some(AttrValue::Int(i64::from(port?)))
 }

@@ -16,4 +16,4 @@ pub use conn::Conn;
 pub use headers::Header;
 pub use limits::{Limit, LimitFault, Limits};
 pub use lookup::Headers;
-pub use request::Request;
+pub use request::{Request, request_is_sound};

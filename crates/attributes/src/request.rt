@@ -238,3 +238,10 @@ fn cut(text: &str, mark: char) -> (&str, &str)
         None => (text, ""),
     }
 }
+
+/// What holds of each request: a proof that calls this has it.
+pub fn request_is_sound(request: &Request)
+    ensures { IsRequest request.now }
+{
+    request.conn();
+}

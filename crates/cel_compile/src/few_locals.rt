@@ -1,7 +1,8 @@
 //! Whether an expression's locals have numbers of one byte.
 
 ghost use Rattle.std.specs.Prelude.{◌≡◌, IsTrue, ◌↔◌, OnOk, IfErr};
-ghost use Rattle.cel_types.specs.View.{expr_view, exprs_view, loop_of, parts_view};
+ghost use Rattle.cel_types.specs.View.{expr_view, loop_of};
+ghost use Rattle.cel_types.specs.steps.ExprViews.{exprs_view, parts_view};
 ghost use Rattle.cel_value.specs.Types.{ValueType};
 ghost use Rattle.cel_compile.specs.Slots.{HasFewLocals, HaveFewLocals};
 

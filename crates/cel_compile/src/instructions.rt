@@ -3,7 +3,7 @@
 ghost use Rattle.std.specs.Prelude.{◌≡◌, ◌≢◌, ◌<◌, ◌+◌, ◌^◌, IfOk, length};
 ghost use Rattle.cel_value.specs.Types.{type_view};
 ghost use Rattle.cel_tree.specs.View.{constant_view};
-ghost use Rattle.cel_types.specs.View.{exprs_view};
+ghost use Rattle.cel_types.specs.steps.ExprViews.{exprs_view};
 ghost use Rattle.cel_types.specs.Elaborated.{no_typed};
 ghost use Rattle.stack_machine.specs.Instructions.{instr_view, Const, Field, HasField};
 ghost use Rattle.stack_machine.specs.Instructions as machine;

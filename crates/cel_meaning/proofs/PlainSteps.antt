@@ -12,7 +12,8 @@ use Rattle.cel_ops.specs.Collections.{entry_before, map_literal, written_entries
 use Rattle.cel_ops.specs.steps.Gathering.{some_error}
 use Rattle.cel_ops.specs.Strict.{all_values, gather, gathered_after}
 use Rattle.cel_tree.specs.Tree.{CelTarget, no_target, target}
-use Rattle.cel_tree.specs.View.{LoopParts, tree_entries_view, tree_view, trees_view}
+use Rattle.cel_tree.specs.View.{LoopParts, tree_view}
+use Rattle.cel_tree.specs.steps.TreeViews.{tree_entries_view, trees_view}
 use Rattle.cel_tree.specs.declared.tree.Tree.{Tree}
 use Rattle.cel_tree.specs.declared.tree.TreeEntry.{TreeEntry}
 use Rattle.cel_value.specs.Items.{item_at, joined_items}

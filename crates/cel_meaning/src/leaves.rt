@@ -1,7 +1,7 @@
 //! Constants, names and attributes.
 
 ghost use Rattle.std.specs.Prelude.{◌≡◌, IfOk, false, option_map};
-ghost use Rattle.attributes.specs.Attributes.{IsOrdered, attr_view};
+ghost use Rattle.attributes.specs.Attributes.{HasSortedPairs, attr_view};
 ghost use Rattle.cel_ops.specs.Attributes.{attribute, attribute_value};
 ghost use Rattle.cel_tree.specs.View.{constant_view};
 ghost use Rattle.cel_value.specs.Texts.{points_of, text_view};
@@ -81,7 +81,7 @@ fn read_attribute(request: &Request, id: AttrId) -> Result<Answer, AllocError>
 
 // The value that an attribute is; of headers, their own pairs.
 fn share_value(found: AttrValue<'_>) -> Result<Value, AllocError>
-    requires { IsOrdered found }
+    requires { HasSortedPairs found }
     ensures { IfOk result (λ value. value_view value ≡ attribute_value (attr_view found.entry)) }
 {
     match found {

@@ -1,7 +1,8 @@
 //! Nodes, and the nodes inside them.
 
 ghost use Rattle.std.specs.Prelude.{◌≡◌, [], ◌∷◌, IfOk, Option, Some, map, option_map};
-ghost use Rattle.cel_tree.specs.View.{boxed_view, loop_view, target_of, tree_entries_view, tree_view, trees_view};
+ghost use Rattle.cel_tree.specs.View.{target_of, tree_view};
+ghost use Rattle.cel_tree.specs.steps.TreeViews.{boxed_view, loop_view, tree_entries_view, trees_view};
 ghost use Rattle.cel_value.specs.Texts.{text_view};
 ghost use Rattle.cel_value.specs.Values.{CelAnswer, value};
 ghost use Rattle.cel_value.specs.View.{answer_view, value_view, values_view};

@@ -11,7 +11,8 @@ use Rattle.cel_tree.specs.Tree.{CelTree, constant, ident, select, call, map_lite
 use Rattle.cel_tree.specs.Nodes as nodes
 use Rattle.cel_tree.specs.Nodes.{Parts, Node, constant_node, ident_node, select_node, call_node, map_node, loop_node, children, entry_children, singles, IsNode, NodeFault}
 use Rattle.cel_tree.specs.Trees.{MadeEntries, AreTrees, IsTree, in_node, node_count, trees_count, entries_count}
-use Rattle.cel_tree.specs.View.{constant_view, tree_view, trees_view, tree_entries_view, loop_view, loop_of, boxed_view, target_of, LoopParts}
+use Rattle.cel_tree.specs.View.{constant_view, tree_view, loop_of, target_of, LoopParts}
+use Rattle.cel_tree.specs.steps.TreeViews.{trees_view, tree_entries_view, loop_view, boxed_view}
 use Rattle.cel_tree.specs.steps.EntryViews.{entry_nodes_view}
 use Rattle.cel_tree.specs.steps.Inside.{TreeFails, SomeFails, Inside, IsTarget, target_nodes, EntryTrees, AreEntryTrees, AreLoopTrees, AreTwoTrees}
 use Rattle.cel_tree.specs.declared.literals.EntryNode.{EntryNode}

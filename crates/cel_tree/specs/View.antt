@@ -4,7 +4,6 @@ use Rattle.std.specs.Rc.{rc_slice_items}
 use Rattle.std.specs.FinMap.{FinMap, from_entries}
 use Rattle.std.specs.Ordering.{int_cmp}
 use Rattle.std.specs.declared.alloc.Global.{Global}
-use Rattle.std.specs.declared.boxed.Box.{Box}
 use Rattle.std.specs.declared.rc.RcStr.{RcStr}
 use Rattle.cel_value.specs.Texts.{text_view}
 use Rattle.cel_value.specs.Types.{type_view}
@@ -15,8 +14,6 @@ use Rattle.cel_tree.specs.declared.tree.Constant.{Constant}
 use Rattle.cel_tree.specs.declared.tree.Constant.TheVariants as constants
 use Rattle.cel_tree.specs.declared.tree.Tree.{Tree, fold-Tree}
 use Rattle.cel_tree.specs.declared.tree.Tree.TheOpen.{Tree-F, TreeEntry-F, Comprehension-F}
-use Rattle.cel_tree.specs.declared.tree.TreeEntry.{TreeEntry}
-use Rattle.cel_tree.specs.declared.tree.Comprehension.{Comprehension}
 use Rattle.cel_tree.specs.declared.checked.TypeEntry.{TypeEntry}
 use Rattle.cel_tree.specs.declared.checked.TypeEntry.TheVariants as entries
 use Rattle.cel_tree.specs.declared.checked.Reference.{Reference}
@@ -118,34 +115,6 @@ tree_level (Tree-F.Comprehension id c) = loop_of id c.value
 -- the tree that a `Tree` stands for
 abbrev pub tree_view : Tree → CelTree
 tree_view = fold-Tree CelTree LoopParts EntryParts tree_level loop_level entry_level
-
--- a tree in a box, where it is there
-abbrev pub boxed_view : Option (Box Tree Global) → Option CelTree
-boxed_view t = option_map (λ b. tree_view b.value) t
-
--- trees one after the other
-abbrev pub trees_view : List Tree → CelTrees
-trees_view ts = trees_of (map tree_view ts)
-
--- an entry of a map literal by itself
-abbrev pub entry_view : TreeEntry → EntryParts
-entry_view e = record { id = e.id; key = tree_view e.key; value = tree_view e.value }
-
--- entries of a map literal one after the other
-abbrev pub tree_entries_view : List TreeEntry → CelTreeEntries
-tree_entries_view es = tree_entries_of (map entry_view es)
-
--- the names and parts of a comprehension by itself
-abbrev pub loop_view : Comprehension → LoopParts
-loop_view c = record {
-  iter_var = text_view c.iter_var;
-  accu_var = text_view c.accu_var;
-  iter_range = tree_view c.iter_range;
-  accu_init = tree_view c.accu_init;
-  loop_condition = tree_view c.loop_condition;
-  loop_step = tree_view c.loop_step;
-  result = tree_view c.result;
-}
 
 -- ---- checked expressions
 

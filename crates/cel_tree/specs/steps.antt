@@ -7,3 +7,4 @@ pub mod NodeViews
 pub mod Named
 pub mod Places
 pub mod Values
+pub mod TreeViews

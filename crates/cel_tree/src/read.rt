@@ -7,7 +7,8 @@ ghost use Rattle.proto_wire.specs.declared.refusal.Refusal.TheVariants.{TooLarge
 ghost use Rattle.cel_value.specs.Texts.{text_view};
 ghost use Rattle.cel_tree.specs.Nodes.{select_node, call_node, list_node, map_node, loop_node, children, entry_children, if_there, loop_children, singles};
 ghost use Rattle.cel_tree.specs.Trees.{IsTree, AreTrees, node_count, trees_count};
-ghost use Rattle.cel_tree.specs.View.{tree_view, trees_view, tree_entries_view, loop_view, boxed_view};
+ghost use Rattle.cel_tree.specs.View.{tree_view};
+ghost use Rattle.cel_tree.specs.steps.TreeViews.{trees_view, tree_entries_view, loop_view, boxed_view};
 ghost use Rattle.cel_tree.specs.steps.EntryViews.{entry_nodes_view};
 ghost use Rattle.cel_tree.specs.steps.Inside.{AreEntryTrees, AreLoopTrees, AreTwoTrees, Inside, IsLoopBody, IsTarget, SomeFails, TreeFails, loop_body, target_nodes};
 ghost use Rattle.cel_tree.specs.steps.NodeViews.{loop_node_view, node_view};

@@ -13,7 +13,8 @@ use Rattle.std.specs.declared.boxed.Box.{Box}
 use Rattle.std.specs.declared.vec.Vec.{Vec}
 use Rattle.cel_overload.specs.declared.overload.Overload.{Overload}
 use Rattle.cel_tree.specs.Tree.{call, ident, map_literal}
-use Rattle.cel_tree.specs.View.{boxed_view, loop_of as tree_loop, loop_view, target_of, tree_entries_view, tree_view, trees_view}
+use Rattle.cel_tree.specs.View.{loop_of as tree_loop, target_of, tree_view}
+use Rattle.cel_tree.specs.steps.TreeViews.{boxed_view, loop_view, tree_entries_view, trees_view}
 use Rattle.cel_tree.specs.declared.tree.Comprehension.{Comprehension}
 use Rattle.cel_tree.specs.declared.tree.Tree.{Tree, the_lemmas as tree_lemmas}
 use Rattle.cel_tree.specs.declared.tree.Tree as trees
@@ -26,7 +27,8 @@ use Rattle.cel_value.specs.declared.cel_type.CelType.{CelType}
 use Rattle.cel_types.specs.Elaborated.{kind, kinds, typed_call, typed_list, typed_map}
 use Rattle.cel_types.specs.Names.{local}
 use Rattle.cel_types.specs.Typing.{IsMap, Kinds, TypeGiven, has_target, locals_in, locals_in_each, locals_in_entries, name_type}
-use Rattle.cel_types.specs.View.{expr_view, exprs_view, loop_of, parts_view}
+use Rattle.cel_types.specs.View.{expr_view, loop_of}
+use Rattle.cel_types.specs.steps.ExprViews.{exprs_view, parts_view}
 use Rattle.cel_types.specs.declared.checker.names.Name.{Name}
 use Rattle.cel_types.specs.declared.checker.names.Name.TheVariants as names
 use Rattle.cel_types.specs.declared.checker.scope.Scope.{Scope, Empty, Local, the_lemmas}

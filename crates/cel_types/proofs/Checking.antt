@@ -16,11 +16,13 @@ use Rattle.cel_types.specs.Names.{joined_name, root_of}
 use Rattle.cel_types.specs.Typing.{EachAgrees, EntriesAgree, EntryAgrees, ListRule, MapRule, IsOver, Kinds, Maps, NamesDiffer, PairsAgree, TargetAgrees, TypeAgrees, Types, TypesAll, TypesEach, TypesPairs, TypesTarget, has_target, locals_in, locals_in_each, locals_in_entries}
 use Rattle.cel_types.specs.TypingFaults.{CallsFault, ElementsFault, EntryFault, ItemTypes, KeyTypes, PairFault, PairsFault, SelectFault, SomeFault, SomeTypes, TargetFault, TypeFault}
 use Rattle.cel_types.specs.TypingFaults.{EachTurn, unsupported_kind, another_type, no_element_name, no_gathered_name, one_name, no_elements, no_condition, no_step, in_range, in_init, in_turn as faulty_turn, in_result}
-use Rattle.cel_types.specs.View.{expr_view, exprs_view, typed_of}
+use Rattle.cel_types.specs.View.{expr_view, typed_of}
+use Rattle.cel_types.specs.steps.ExprViews.{exprs_view}
 use Rattle.cel_types.specs.steps.Checks.{AreFound, InsideAgrees, IsAttribute, IsCalled, IsFound, IsNode, IsTarget, IsTurn, NamesFault, TurnFault, id_of}
 use Rattle.cel_types.specs.steps.Kinds.{IsListOf, IsMapOf, NoCall, NoListOf, NoMapOf, field_of, in_turn}
 use Rattle.std.proofs.lemmas.Bool.{and_parts}
-use Rattle.cel_tree.specs.View.{EntryParts, LoopParts, entry_view, loop_of, tree_entries_of, tree_entries_view, tree_view, trees_of, trees_view}
+use Rattle.cel_tree.specs.View.{EntryParts, LoopParts, loop_of, tree_entries_of, tree_view, trees_of}
+use Rattle.cel_tree.specs.steps.TreeViews.{entry_view, tree_entries_view, trees_view}
 use Rattle.cel_types.proofs.OneType.{OneAtMost, one_type, over_one}
 use Rattle.cel_types.proofs.Total.{each_turn, same_type, typed_no_root}
 use Rattle.proto_wire.specs.declared.refusal.Refusal.{Refusal}

@@ -1,12 +1,11 @@
 -- The elaborated expressions that the code's stand for.
-use Rattle.std.specs.Prelude.{List, [], ◌∷◌, map}
+use Rattle.std.specs.Prelude.{List, [], ◌∷◌}
 use Rattle.cel_value.specs.Texts.{text_view}
 use Rattle.cel_value.specs.Types.{type_view}
 use Rattle.cel_tree.specs.View.{constant_view}
 use Rattle.cel_types.specs.Elaborated.{TypedTree, typed_constant, typed_local, typed_attribute, typed_field, typed_has, typed_call, typed_list, typed_map, typed_loop, TypedTrees, no_typed, typed}
 use Rattle.cel_types.specs.declared.typed.TypedExpr.{TypedExpr, fold-TypedExpr}
 use Rattle.cel_types.specs.declared.typed.TypedExpr.TheOpen.{TypedExpr-F, TypedLoop-F}
-use Rattle.cel_types.specs.declared.typed.TypedLoop.{TypedLoop}
 use Rattle.cel_types.specs.declared.typed.Typed.{Typed}
 use Rattle.cel_value.specs.Types.{ValueType}
 
@@ -52,20 +51,6 @@ parts_level p = record {
 -- the expression that a `TypedExpr` stands for
 abbrev pub expr_view : TypedExpr → TypedTree
 expr_view = fold-TypedExpr TypedTree TypedParts expr_level parts_level
-
--- the parts of a comprehension by themselves
-abbrev pub parts_view : TypedLoop → TypedParts
-parts_view p = record {
-  range = expr_view p.range;
-  init = expr_view p.init;
-  condition = expr_view p.condition;
-  step = expr_view p.step;
-  result = expr_view p.result;
-}
-
--- expressions one after the other
-abbrev pub exprs_view : List TypedExpr → TypedTrees
-exprs_view es = typed_of (map expr_view es)
 
 -- the elaborated expression that a `Typed` stands for
 abbrev pub typed_view : Typed → TypedTree

@@ -3,3 +3,4 @@
 pub mod Scopes
 pub mod Kinds
 pub mod Checks
+pub mod ExprViews

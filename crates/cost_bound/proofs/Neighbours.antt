@@ -4,7 +4,8 @@ use Rattle.attributes.specs.Limits.{LimitsValue}
 use Rattle.cel_overload.specs.declared.overload.Overload.{Overload}
 use Rattle.cel_overload.specs.declared.overload.Overload.TheVariants as overloads
 use Rattle.cel_types.specs.Elaborated.{TypedTrees, kinds, typed_call, typed_list}
-use Rattle.cel_types.specs.View.{expr_view, exprs_view}
+use Rattle.cel_types.specs.View.{expr_view}
+use Rattle.cel_types.specs.steps.ExprViews.{exprs_view}
 use Rattle.cel_types.specs.declared.typed.TypedExpr.{TypedExpr}
 use Rattle.cel_value.specs.Types.{ValueType}
 use Rattle.cost_bound.specs.Costs.{call_cost, call_size, cost_of, costs_of, join_all, list_size, size_of, sizes_of, total}

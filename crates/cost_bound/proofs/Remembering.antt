@@ -4,7 +4,8 @@ use Rattle.std.proofs.lemmas.Bool.{cases_lt}
 use Rattle.std.proofs.lemmas.List.{get_or_read}
 use Rattle.attributes.specs.Limits.{LimitsValue}
 use Rattle.cel_types.specs.Elaborated.{TypedTree, typed_constant, typed_local, typed_attribute, typed_field, typed_has, typed_call, typed_list, typed_map, typed_loop, TypedTrees, no_typed, typed}
-use Rattle.cel_types.specs.View.{TypedParts, expr_view, exprs_view, loop_of}
+use Rattle.cel_types.specs.View.{TypedParts, expr_view, loop_of}
+use Rattle.cel_types.specs.steps.ExprViews.{exprs_view}
 use Rattle.cel_types.specs.declared.typed.TypedExpr.{TypedExpr}
 use Rattle.cel_value.specs.Types.{ValueType}
 use Rattle.cost_bound.specs.Costs.{cost_of, size_of}

@@ -3,7 +3,8 @@ use Rattle.std.proofs.Common.{◌≡◌, ℕ, suc, ◌+◌, ◌-◌, ◌<◌, �
 use Rattle.std.proofs.lemmas.List.{drop_more}
 use Rattle.attributes.specs.Limits.{LimitsValue}
 use Rattle.cel_types.specs.Elaborated.{TypedTrees, no_typed, typed}
-use Rattle.cel_types.specs.View.{TypedParts, expr_view, exprs_view, loop_of}
+use Rattle.cel_types.specs.View.{TypedParts, expr_view, loop_of}
+use Rattle.cel_types.specs.steps.ExprViews.{exprs_view}
 use Rattle.cel_types.specs.declared.typed.TypedExpr.{TypedExpr}
 use Rattle.cel_value.specs.Types.{ValueType}
 use Rattle.std.specs.Prelude.{Result, IfErr, IsErrAnd}

@@ -3,7 +3,8 @@
 ghost use Rattle.std.specs.Prelude.{◌≡◌, ◌≢◌, ◌+◌, ◌-◌, ◌*◌, List, [], ◌∷◌, IfErr, IfOk};
 ghost use Rattle.cel_overload.specs.declared.overload.Overload.TheVariants as overloads;
 ghost use Rattle.cel_types.specs.Elaborated.{kind, kinds};
-ghost use Rattle.cel_types.specs.View.{expr_view, exprs_view};
+ghost use Rattle.cel_types.specs.View.{expr_view};
+ghost use Rattle.cel_types.specs.steps.ExprViews.{exprs_view};
 ghost use Rattle.cel_value.specs.Texts.{text_view};
 ghost use Rattle.cel_value.specs.Types.{ValueType, type_view};
 ghost use Rattle.cost_bound.specs.Costs.{charge_at, counted_cost, field_cost, map_cost};

@@ -2,7 +2,8 @@
 
 ghost use Rattle.std.specs.Prelude.{◌≡◌, ◌<◌, ◌+◌, ℕ, List, IfSome, IsTrue, get_or, if◌then◌else◌, length};
 ghost use Rattle.cel_types.specs.Elaborated.{kinds};
-ghost use Rattle.cel_types.specs.View.{expr_view, exprs_view};
+ghost use Rattle.cel_types.specs.View.{expr_view};
+ghost use Rattle.cel_types.specs.steps.ExprViews.{exprs_view};
 ghost use Rattle.cel_types.specs.declared.typed.TypedExpr.{TypedExpr};
 ghost use Rattle.cel_value.specs.Types.{type_view};
 ghost use Rattle.cel_tree.specs.View.{constant_view};

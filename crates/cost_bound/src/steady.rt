@@ -1,7 +1,8 @@
 //! Which expressions measure the same in each turn of a loop around them.
 
 ghost use Rattle.std.specs.Prelude.{◌≡◌, ℕ, IsTrue};
-ghost use Rattle.cel_types.specs.View.{expr_view, exprs_view, loop_of, parts_view};
+ghost use Rattle.cel_types.specs.View.{expr_view, loop_of};
+ghost use Rattle.cel_types.specs.steps.ExprViews.{exprs_view, parts_view};
 ghost use Rattle.cel_value.specs.Types.{ValueType};
 ghost use Rattle.cost_bound.specs.steps.Memos.{EachNamesOnly, IsSettled, NamesOnly};
 ghost use Rattle.cost_bound.specs.steps.Numbers.{capped};

@@ -10,4 +10,4 @@ mod part;
 mod read;
 
 pub use fault::{HeadFault, HeadPart};
-pub use read::{Ask, HEAD_ROOM, read_head};
+pub use read::{Ask, read_head};

@@ -13,7 +13,7 @@ use memchr::memchr_iter;
 use std::alloc::{AllocError, Global};
 
 /// A head has at most so many bytes.
-pub const HEAD_ROOM: usize = 65_536;
+const HEAD_ROOM: usize = 65_536;
 
 /// What a head asks.
 #[derive(Debug, Drop)]

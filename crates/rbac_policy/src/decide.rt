@@ -2,7 +2,6 @@
 
 ghost use Rattle.std.specs.Prelude.{◌≡◌, ◌≢◌, ◌⊎◌, Err, IfErr, IfOk, IsOk, map};
 ghost use Rattle.attributes.specs.Limits.{InLimits};
-ghost use Rattle.attributes.specs.Request.{IsRequest};
 ghost use Rattle.cel_tree.specs.Checked.{CelChecked};
 ghost use Rattle.rbac_policy.specs.Admission.{IsAdmittedAs};
 ghost use Rattle.rbac_policy.specs.Admitted.{filter_view, limits_view};
@@ -14,7 +13,7 @@ ghost use Rattle.rbac_policy.specs.steps.Runs.{AnyProgram, Asks, HaveNoCondition
 
 use crate::filter::{Admitted, Verdict};
 use crate::policy::NamedPolicy;
-use attributes::Request;
+use attributes::{Request, request_is_sound};
 use rbac_match::any_matches;
 use stack_machine::RunError;
 use std::alloc::Global;
@@ -97,11 +96,4 @@ fn sides_match(policy: &NamedPolicy, request: &Request) -> bool
     ensures { result ≡ sides_match request.now (policy_view policy.now) }
 {
     any_matches(&policy.permissions, request) && any_matches(&policy.principals, request)
-}
-
-/// What holds of each request.
-pub(crate) fn request_is_sound(request: &Request)
-    ensures { IsRequest request.now }
-{
-    request.conn();
 }

@@ -14,10 +14,9 @@ ghost use Rattle.rbac_policy.specs.Verdict.{SomeAsked};
 ghost use Rattle.rbac_policy.specs.steps.Runs.{Asks, PassesBound, SomeAsks};
 ghost use Rattle.rbac_policy.specs.steps.Trials.{HasRunReason};
 
-use crate::decide::request_is_sound;
 use crate::filter::Admitted;
 use crate::policy::NamedPolicy;
-use attributes::Request;
+use attributes::{Request, request_is_sound};
 use cel_value::CelError;
 use rbac_match::any_matches;
 use stack_machine::RunError;

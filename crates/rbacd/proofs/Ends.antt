@@ -5,7 +5,7 @@ use Rattle.std.specs.declared.io.Error.{Error as IoError}
 use Rattle.rbacd.proofs.JudgeLemmas.{less_found}
 use Rattle.rbacd.specs.Explain.{IsGiven}
 use Rattle.rbacd.specs.Judging.{IsDecision}
-use Rattle.rbacd.specs.Outcome.{IsPrintedFor, less_told}
+use Rattle.rbacd.specs.steps.Printed.{IsPrintedFor, less_told}
 use Rattle.rbacd.specs.Run.{ComesTo, Finds, IsStoppedBy, Leaves, LeavesFault, PrintsReport, RunsTo, StopsBy}
 use Rattle.rbacd.specs.Words.{is_explained, is_json}
 use Rattle.rbacd.specs.steps.Judged.{bare, report_with}

@@ -15,7 +15,7 @@ use Rattle.rbac_policy.specs.Condition.{Program}
 use Rattle.rbac_policy.specs.Filter.{Filter}
 use Rattle.rbacd.specs.Explain.{Explains, IsGiven}
 use Rattle.rbacd.specs.Judging.{InputFault, IsAllOf, IsDecided, IsDecision, IsOutcomeOf}
-use Rattle.rbacd.specs.Outcome.{less_told}
+use Rattle.rbacd.specs.steps.Printed.{less_told}
 use Rattle.rbacd.specs.steps.Judged.{IsAnswerTo, IsExplanationOf, IsNameOf, IsOutcomeOfAsk, IsOutcomeUnder, bare}
 use Rattle.rbacd.specs.steps.Reading.{IsFound}
 use Rattle.rbacd.specs.declared.explain.Explanation.{Explanation}

@@ -1,15 +1,12 @@
 -- What is printed of an outcome, and its exit status.
-use Rattle.std.specs.Prelude.{◌≡◌, ◌⊎◌, ℕ, List, [], ◌∷◌, ◌++◌, if◌then◌else◌, Option, Some, None, codes, option_map, string_bytes}
+use Rattle.std.specs.Prelude.{ℕ, List, [], ◌∷◌, ◌++◌, if◌then◌else◌, Option, Some, None, codes, option_map, string_bytes}
 use Rattle.std.specs.Fmt.{decimal}
 use Rattle.http_front.specs.Head.{fault_text}
 use Rattle.proto_wire.specs.Refusal as refusal
 use Rattle.proto_wire.specs.declared.refusal.Refusal.{Refusal}
 use Rattle.serde_json.specs.Written.{compact_text}
-use Rattle.stack_machine.specs.declared.error.RunError.TheVariants as errors
 use Rattle.rbacd.specs.Explain.{told_in, with_trials}
 use Rattle.rbacd.specs.Json.{json_of}
-use Rattle.rbacd.specs.declared.explain.Explanation.{Explanation}
-use Rattle.rbacd.specs.declared.explain.Explanation.TheVariants as explanations
 use Rattle.rbacd.specs.declared.outcome.Outcome.{Outcome}
 use Rattle.rbacd.specs.declared.outcome.Outcome.TheVariants as outcomes
 use Rattle.rbacd.specs.declared.outcome.Report.{Report}
@@ -42,28 +39,6 @@ printed_of report =
     then compact_text (json_of (option_map string_bytes report.name) (told_in report.explanation) report.outcome)
     ++ 10 ∷ []
     else with_trials (line_of report.outcome) (told_in report.explanation)
-
--- the report of want of memory, printed in the same way
-abbrev pub without_memory : Report → Report
-without_memory report = record report {
-  outcome = outcomes.Memory;
-  explanation = explanations.Absent;
-}
-
--- an explanation for which no memory is left: the trials are not told
-abbrev pub less_told : Explanation → Explanation
-less_told (explanations.Trials trials) = explanations.Untold errors.Memory
-less_told explanation = explanation
-
--- the report without its trials
-abbrev pub unexplained : Report → Report
-unexplained report = record report { explanation = less_told report.explanation }
-
--- what is printed for a report: all of it; where no memory is left for its trials, none of them; or
--- want of memory
-abbrev pub IsPrintedFor : Report → Report → Type 0
-IsPrintedFor report printed =
-    (printed ≡ report) ⊎ (printed ≡ unexplained report) ⊎ (printed ≡ without_memory report)
 
 -- the exit status
 abbrev pub status_of : Outcome → ℕ

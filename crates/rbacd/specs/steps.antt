@@ -2,3 +2,4 @@
 -- does.
 pub mod Reading
 pub mod Judged
+pub mod Printed

@@ -2,7 +2,7 @@
 ghost use Rattle.std.specs.Prelude.{◌≡◌, ◌∷◌, ◌++◌, [], codes, IfOk, OnOk, map, string_bytes};
 ghost use Rattle.std.specs.Fmt.{decimal};
 ghost use Rattle.std.specs.List.{flat_map};
-ghost use Rattle.rbacd.specs.Outcome.{less_told};
+ghost use Rattle.rbacd.specs.steps.Printed.{less_told};
 ghost use Rattle.rbacd.specs.Explain.{escaped, is_hidden, own_trial_view, quoted, reason_text, trial_line, trial_view, untold_text};
 
 use rbac_policy::{Reason, Trial};

@@ -11,7 +11,8 @@ ghost use Rattle.rbacd.specs.Judging.{IsAllOf, IsCheckOf, IsDecision, IsOutcomeO
 ghost use Rattle.rbac_policy.specs.Admitted.{filter_view, limits_view};
 ghost use Rattle.rbac_policy.specs.Admission.{Admissible};
 ghost use Rattle.rbac_policy.specs.Verdict.{IsUnconditional};
-ghost use Rattle.rbacd.specs.Outcome.{IsPrintedFor, printed_of, without_memory};
+ghost use Rattle.rbacd.specs.Outcome.{printed_of};
+ghost use Rattle.rbacd.specs.steps.Printed.{IsPrintedFor, without_memory};
 ghost use Rattle.rbacd.specs.declared.outcome.Report.{Report};
 ghost use Rattle.rbacd.specs.Output.{BreaksOff};
 ghost use Rattle.rbacd.specs.steps.Judged.{IsAnswerTo, IsExplanationOf, IsNameOf, IsOutcomeOfAsk, IsOutcomeUnder, bare, report_with};

@@ -2,7 +2,8 @@
 ghost use Rattle.std.specs.Prelude.{◌≡◌, ◌↔◌, IfOk, IsTrue, string_bytes, true};
 ghost use Rattle.rbacd.specs.Explain.{told_in, with_trials};
 ghost use Rattle.rbacd.specs.Judging.{IsDecision};
-ghost use Rattle.rbacd.specs.Outcome.{line_of, printed_of, status_of, unexplained, without_memory};
+ghost use Rattle.rbacd.specs.Outcome.{line_of, printed_of, status_of};
+ghost use Rattle.rbacd.specs.steps.Printed.{unexplained, without_memory};
 ghost use Rattle.rbacd.specs.steps.Judged.{matched_in};
 
 use crate::explain::{Explanation, push_lines};

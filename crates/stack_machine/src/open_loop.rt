@@ -10,7 +10,7 @@ ghost use Rattle.stack_machine.specs.steps.Loops.{loop_view, range_view};
 
 use crate::held::Held;
 use attributes::Header;
-use cel_value::{Map, Value};
+use cel_value::{Map, Value, item_count};
 use std::alloc::AllocError;
 use std::rc::Rc;
 
@@ -47,12 +47,6 @@ impl<'a> Range<'a> {
             Range::Names(headers) => Ok(get_name(headers, index)),
         }
     }
-}
-
-fn item_count(items: &[Value]) -> usize
-    ensures { result ≡ item_count (values_view items.now) }
-{
-    items.len()
 }
 
 fn name_count(headers: &[Header]) -> usize

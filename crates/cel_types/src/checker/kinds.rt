@@ -7,7 +7,8 @@ ghost use Rattle.cel_value.specs.declared.cel_type.KeyType.{KeyType};
 ghost use Rattle.cel_value.specs.declared.cel_type.KeyType.TheVariants as keys;
 ghost use Rattle.cel_types.specs.Elaborated.{kind, kinds};
 ghost use Rattle.cel_types.specs.Typing.{IsList, IsMap, IsOver, constant_type};
-ghost use Rattle.cel_types.specs.View.{expr_view, exprs_view};
+ghost use Rattle.cel_types.specs.View.{expr_view};
+ghost use Rattle.cel_types.specs.steps.ExprViews.{exprs_view};
 ghost use Rattle.cel_types.specs.steps.Kinds.{elements_type, in_turn};
 ghost use Rattle.proto_wire.specs.declared.refusal.Refusal.TheVariants.{BadTypeEntry, NoOverload};
 

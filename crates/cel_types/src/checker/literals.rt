@@ -5,7 +5,7 @@ ghost use Rattle.cel_tree.specs.View.{type_entry_view};
 ghost use Rattle.cel_value.specs.Types.{type_view};
 ghost use Rattle.cel_types.specs.Elaborated.{kinds};
 ghost use Rattle.cel_types.specs.Typing.{IsList, IsMap, TypeGiven};
-ghost use Rattle.cel_types.specs.View.{exprs_view};
+ghost use Rattle.cel_types.specs.steps.ExprViews.{exprs_view};
 ghost use Rattle.cel_types.specs.steps.Kinds.{IsListOf, IsMapOf, NoListOf, NoMapOf, NotTold};
 ghost use Rattle.proto_wire.specs.Refusal.{MemoryOr};
 

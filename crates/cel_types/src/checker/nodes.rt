@@ -2,13 +2,15 @@
 
 ghost use Rattle.std.specs.Prelude.{◌≡◌, ◌≤◌, ◌+◌, IfErr, IfOk, length, map};
 ghost use Rattle.cel_tree.specs.Tree.{list_literal, map_literal, select};
-ghost use Rattle.cel_tree.specs.View.{boxed_view, checked_view, loop_of, loop_view, target_of, tree_entries_view, tree_view, trees_view};
+ghost use Rattle.cel_tree.specs.View.{checked_view, loop_of, target_of, tree_view};
+ghost use Rattle.cel_tree.specs.steps.TreeViews.{boxed_view, loop_view, tree_entries_view, trees_view};
 ghost use Rattle.cel_value.specs.Texts.{text_view};
 ghost use Rattle.cel_value.specs.Types.{type_view};
 ghost use Rattle.cel_types.specs.Elaborated.{ElaboratesPairs};
 ghost use Rattle.cel_types.specs.Typing.{PairsAgree, locals_in, locals_in_each, locals_in_entries, locals_in_target, maps_of, most_locals};
 ghost use Rattle.cel_types.specs.TypingFaults.{PairFault, SomeFault, TargetFault, TypeFault};
-ghost use Rattle.cel_types.specs.View.{expr_view, exprs_view};
+ghost use Rattle.cel_types.specs.View.{expr_view};
+ghost use Rattle.cel_types.specs.steps.ExprViews.{exprs_view};
 ghost use Rattle.cel_types.specs.steps.Checks.{AreFound, IsFound, IsNode, IsTarget, IsTurn, TurnFault, id_of};
 ghost use Rattle.cel_types.specs.steps.Scopes.{locals_in_loop, scope_view};
 ghost use Rattle.proto_wire.specs.Refusal.{MemoryOr};

@@ -2,7 +2,8 @@ use Rattle.std.proofs.Common.{◌≡◌, rules, get_or, refl, ap, ap₂, ◌∙�
 use Rattle.std.proofs.lemmas.Result.{MatchResult-weaker}
 use Rattle.cel_value.specs.Types.{type_view}
 use Rattle.cel_types.specs.Elaborated.{no_typed, typed, typed_list, typed_map}
-use Rattle.cel_types.specs.View.{expr_view, exprs_view, loop_of, parts_view}
+use Rattle.cel_types.specs.View.{expr_view, loop_of}
+use Rattle.cel_types.specs.steps.ExprViews.{exprs_view, parts_view}
 use Rattle.cel_types.specs.declared.typed.TypedExpr as exprs
 use Rattle.stack_machine.specs.Instructions.{Jump, LoopNext, LoopStart, LoopTest, Test}
 use Rattle.stack_machine.specs.declared.instr.Instr.TheVariants as instrs

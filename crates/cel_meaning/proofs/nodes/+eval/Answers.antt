@@ -2,7 +2,8 @@ use Rattle.std.proofs.Common.{◌+◌, ◌∷◌, map, drop, sym, ap, ◌∙◌}
 use Rattle.std.proofs.lemmas.Result.{MatchResult-weaker}
 use Rattle.cel_ops.specs.Collections as collections
 use Rattle.std.specs.Option.{option_and_then}
-use Rattle.cel_tree.specs.View.{boxed_view, loop_view, target_of, trees_view}
+use Rattle.cel_tree.specs.View.{target_of}
+use Rattle.cel_tree.specs.steps.TreeViews.{boxed_view, loop_view, trees_view}
 use Rattle.cel_value.specs.Texts.{text_view}
 use Rattle.cel_value.specs.View.{answer_view, values_view}
 use Rattle.cel_types.specs.Meaning.{call_answer, eval, eval_each}

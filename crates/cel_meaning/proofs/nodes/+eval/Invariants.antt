@@ -1,5 +1,5 @@
 use Rattle.std.proofs.Common.{◌≡◌, drop, map}
-use Rattle.cel_tree.specs.View.{loop_view, tree_entries_view, trees_view}
+use Rattle.cel_tree.specs.steps.TreeViews.{loop_view, tree_entries_view, trees_view}
 use Rattle.cel_types.specs.Meaning.{eval_each, eval_entries}
 use Rattle.cel_meaning.specs.steps.Plain.{behind, locals_view, turns}
 use Rattle.cel_value.specs.View.{answer_view, values_view}

@@ -10,7 +10,8 @@ use Rattle.proto_wire.specs.Refusal.{MemoryOr}
 use Rattle.cel_value.specs.Texts.{text_view}
 use Rattle.cel_tree.specs.Nodes.{Parts, NodeFault, call_node, entry_children, loop_children, singles}
 use Rattle.cel_tree.specs.Trees.{IsTree, node_count, trees_count, entries_count}
-use Rattle.cel_tree.specs.View.{tree_view, trees_view, tree_entries_view}
+use Rattle.cel_tree.specs.View.{tree_view}
+use Rattle.cel_tree.specs.steps.TreeViews.{trees_view, tree_entries_view}
 use Rattle.cel_tree.specs.steps.EntryViews.{entry_nodes_view}
 use Rattle.cel_tree.specs.steps.Inside.{AreTwoTrees, Inside, IsLoopBody, TreeFails, SomeFails, loop_body}
 use Rattle.cel_tree.specs.steps.NodeViews.{node_view, loop_node_view}

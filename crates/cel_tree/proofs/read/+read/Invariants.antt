@@ -2,7 +2,7 @@ use Rattle.std.proofs.Common.{◌≡◌, ◌+◌, ◌*◌, take}
 use Rattle.proto_wire.specs.Merge.{parts_view}
 use Rattle.cel_tree.specs.Nodes.{singles}
 use Rattle.cel_tree.specs.Trees.{IsTree, AreTrees, trees_count}
-use Rattle.cel_tree.specs.View.{trees_view, tree_entries_view}
+use Rattle.cel_tree.specs.steps.TreeViews.{trees_view, tree_entries_view}
 use Rattle.cel_tree.specs.steps.EntryViews.{entry_nodes_view}
 use Rattle.cel_tree.specs.steps.Inside.{AreEntryTrees}
 use Rattle.cel_tree.proofs.read.+read.Given as goal

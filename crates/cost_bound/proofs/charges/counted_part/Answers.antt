@@ -1,7 +1,7 @@
 use Rattle.std.proofs.Common.{◌≡◌, ◌≤◌, length, refl, arith}
 use Rattle.cel_overload.specs.declared.overload.Overload.TheVariants as overloads
 use Rattle.cel_types.specs.Elaborated.{kinds}
-use Rattle.cel_types.specs.View.{exprs_view}
+use Rattle.cel_types.specs.steps.ExprViews.{exprs_view}
 use Rattle.cost_bound.specs.Costs.{charge_at}
 use Rattle.cost_bound.specs.steps.SizeView.{sizes_view}
 use Rattle.cost_bound.proofs.Counting.{as_many_kinds, no_count_kinds}

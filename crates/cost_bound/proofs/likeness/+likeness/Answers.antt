@@ -3,7 +3,8 @@ use Rattle.std.proofs.lemmas.Grind.{common_steps}
 use Rattle.std.proofs.lemmas.Option.{IfSome_then}
 use Rattle.cel_types.specs.Elaborated.{typed_call}
 use Rattle.cost_bound.specs.steps.Measuring.{MeasureAlike}
-use Rattle.cel_types.specs.View.{expr_view, exprs_view}
+use Rattle.cel_types.specs.View.{expr_view}
+use Rattle.cel_types.specs.steps.ExprViews.{exprs_view}
 use Rattle.cel_value.specs.Types.{type_view}
 use Rattle.cost_bound.proofs.ExprViews.{view_call, view_list}
 use Rattle.cost_bound.proofs.Neighbours.{call_alike, list_alike}

@@ -1,5 +1,5 @@
 use Rattle.std.proofs.Common.{◌≡◌, drop}
-use Rattle.cel_types.specs.View.{exprs_view}
+use Rattle.cel_types.specs.steps.ExprViews.{exprs_view}
 use Rattle.cost_bound.specs.steps.Measuring.{EachAlike}
 use Rattle.cost_bound.proofs.likeness.+likeness.Given as goal
 

@@ -2,7 +2,8 @@ use Rattle.std.proofs.Common.{◌≡◌, false, true, length, ◌∷◌, ◌+◌
 use Rattle.std.proofs.lemmas.Grind.{common_steps}
 use Rattle.std.proofs.lemmas.Result.{IfOk-weaker}
 use Rattle.cel_types.specs.Elaborated.{kinds}
-use Rattle.cel_types.specs.View.{expr_view, exprs_view, loop_of, parts_view}
+use Rattle.cel_types.specs.View.{expr_view, loop_of}
+use Rattle.cel_types.specs.steps.ExprViews.{exprs_view, parts_view}
 use Rattle.cel_types.specs.declared.typed.TypedExpr.{the_lemmas}
 use Rattle.cel_value.specs.Types.{bool_type, type_view}
 use Rattle.cost_bound.specs.Costs.{charge_at, cost_of, size_of, sizes_of}

@@ -1,5 +1,6 @@
 use Rattle.std.proofs.Common.{◌≡◌, ℕ, ◌+◌, ◌<◌, ◌≤◌, List, ◌++◌, drop, get_or, length}
-use Rattle.cel_types.specs.View.{expr_view, exprs_view, parts_view}
+use Rattle.cel_types.specs.View.{expr_view}
+use Rattle.cel_types.specs.steps.ExprViews.{exprs_view, parts_view}
 use Rattle.cel_types.specs.declared.typed.TypedExpr.{TypedExpr}
 use Rattle.cost_bound.specs.Costs.{cost_of, costs_of, grown, join_all, sizes_of, total, turns_cost}
 use Rattle.cost_bound.specs.Sizes.{Size}

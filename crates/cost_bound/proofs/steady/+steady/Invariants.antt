@@ -1,5 +1,5 @@
 use Rattle.std.proofs.Common.{◌≡◌, ℕ, drop}
-use Rattle.cel_types.specs.View.{exprs_view}
+use Rattle.cel_types.specs.steps.ExprViews.{exprs_view}
 use Rattle.cost_bound.specs.steps.Memos.{EachNamesOnly, IsSettled}
 use Rattle.cost_bound.specs.steps.Numbers.{capped}
 use Rattle.cost_bound.proofs.steady.+steady.Given as goal

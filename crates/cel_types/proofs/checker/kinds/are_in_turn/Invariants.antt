@@ -1,7 +1,7 @@
 use Rattle.std.proofs.Common.{◌≡◌, drop}
 use Rattle.cel_value.specs.Types.{type_view}
 use Rattle.cel_types.specs.Elaborated.{kinds}
-use Rattle.cel_types.specs.View.{exprs_view}
+use Rattle.cel_types.specs.steps.ExprViews.{exprs_view}
 use Rattle.cel_types.specs.steps.Kinds.{in_turn}
 use Rattle.cel_types.proofs.checker.kinds.are_in_turn.Given as goal
 

@@ -3,11 +3,13 @@ use Rattle.std.proofs.lemmas.Grind.{common_steps}
 use Rattle.cel_tree.specs.declared.tree.Tree.{the_lemmas}
 use Rattle.std.proofs.lemmas.Result.{MatchResult-weaker}
 use Rattle.cel_tree.proofs.Readers.{exit_fault, exit_memory_or, last_memory_or}
-use Rattle.cel_tree.specs.View.{boxed_view, checked_view, loop_view, target_of, tree_entries_view, tree_view, trees_view}
+use Rattle.cel_tree.specs.View.{checked_view, target_of, tree_view}
+use Rattle.cel_tree.specs.steps.TreeViews.{boxed_view, loop_view, tree_entries_view, trees_view}
 use Rattle.cel_value.specs.Texts.{text_view}
 use Rattle.cel_value.specs.Types.{type_view}
 use Rattle.cel_types.specs.Typing.{maps_of}
-use Rattle.cel_types.specs.View.{expr_view, exprs_view}
+use Rattle.cel_types.specs.View.{expr_view}
+use Rattle.cel_types.specs.steps.ExprViews.{exprs_view}
 use Rattle.cel_types.specs.steps.Kinds.{elements_type}
 use Rattle.cel_types.specs.steps.Scopes.{scope_view}
 use Rattle.cel_types.proofs.CheckSteps.{target_some, tree_call, tree_comprehension, tree_ident, tree_map, view_list, view_loop, view_map}

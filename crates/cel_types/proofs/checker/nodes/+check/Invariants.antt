@@ -1,8 +1,10 @@
 use Rattle.std.proofs.Common.{map, take}
-use Rattle.cel_tree.specs.View.{checked_view, tree_entries_view, trees_view}
+use Rattle.cel_tree.specs.View.{checked_view}
+use Rattle.cel_tree.specs.steps.TreeViews.{tree_entries_view, trees_view}
 use Rattle.cel_types.specs.Elaborated.{ElaboratesPairs}
 use Rattle.cel_types.specs.Typing.{PairsAgree, maps_of}
-use Rattle.cel_types.specs.View.{expr_view, exprs_view}
+use Rattle.cel_types.specs.View.{expr_view}
+use Rattle.cel_types.specs.steps.ExprViews.{exprs_view}
 use Rattle.cel_types.specs.steps.Checks.{AreFound}
 use Rattle.cel_types.specs.steps.Scopes.{scope_view}
 use Rattle.cel_types.proofs.checker.nodes.+check.Given as goal

@@ -1,0 +1,20 @@
+-- Parts of a comprehension and expressions by themselves, as the code has them.
+use Rattle.std.specs.Prelude.{List, map}
+use Rattle.cel_types.specs.Elaborated.{TypedTrees}
+use Rattle.cel_types.specs.View.{TypedParts, expr_view, typed_of}
+use Rattle.cel_types.specs.declared.typed.TypedExpr.{TypedExpr}
+use Rattle.cel_types.specs.declared.typed.TypedLoop.{TypedLoop}
+
+-- the parts of a comprehension by themselves
+abbrev pub parts_view : TypedLoop → TypedParts
+parts_view p = record {
+  range = expr_view p.range;
+  init = expr_view p.init;
+  condition = expr_view p.condition;
+  step = expr_view p.step;
+  result = expr_view p.result;
+}
+
+-- expressions one after the other
+abbrev pub exprs_view : List TypedExpr → TypedTrees
+exprs_view es = typed_of (map expr_view es)

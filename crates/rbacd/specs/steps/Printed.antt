@@ -1,0 +1,29 @@
+-- What is printed of a report where memory runs out.
+use Rattle.std.specs.Prelude.{◌≡◌, ◌⊎◌}
+use Rattle.stack_machine.specs.declared.error.RunError.TheVariants as errors
+use Rattle.rbacd.specs.declared.explain.Explanation.{Explanation}
+use Rattle.rbacd.specs.declared.explain.Explanation.TheVariants as explanations
+use Rattle.rbacd.specs.declared.outcome.Outcome.TheVariants as outcomes
+use Rattle.rbacd.specs.declared.outcome.Report.{Report}
+
+-- the report of want of memory, printed in the same way
+abbrev pub without_memory : Report → Report
+without_memory report = record report {
+  outcome = outcomes.Memory;
+  explanation = explanations.Absent;
+}
+
+-- an explanation for which no memory is left: the trials are not told
+abbrev pub less_told : Explanation → Explanation
+less_told (explanations.Trials trials) = explanations.Untold errors.Memory
+less_told explanation = explanation
+
+-- the report without its trials
+abbrev pub unexplained : Report → Report
+unexplained report = record report { explanation = less_told report.explanation }
+
+-- what is printed for a report: all of it; where no memory is left for its trials, none of them; or
+-- want of memory
+abbrev pub IsPrintedFor : Report → Report → Type 0
+IsPrintedFor report printed =
+    (printed ≡ report) ⊎ (printed ≡ unexplained report) ⊎ (printed ≡ without_memory report)
