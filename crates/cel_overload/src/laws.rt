@@ -23,7 +23,7 @@ pub fn overload_total()
         ⊎ ((e : OverloadFault) × CallFault name target ts e) }
 {}
 
-/// Never both.
+/// No call is an overload and has a fault.
 pub fn overload_disjoint()
     ensures { (name : List ℕ) (target : Bool) (ts : List ValueType) (o : Overload) (r : ValueType)
         (e : OverloadFault) → IsCall name target ts o r → CallFault name target ts e → ⊥ }

@@ -13,17 +13,17 @@ pub fn checked_total()
     ensures { (parts : List (List ℕ)) → ((c : CelChecked) × IsChecked parts c) ⊎ ((e : Refusal) × CheckedFault parts e) }
 {}
 
-/// They are never both.
+/// No payloads are the message of a checked expression and have a fault.
 pub fn checked_disjoint()
     ensures { (parts : List (List ℕ)) (c : CelChecked) (e : Refusal) → IsChecked parts c → CheckedFault parts e → ⊥ }
 {}
 
-/// They are the message of one checked expression at most.
+/// Payloads are the message of one checked expression at most.
 pub fn checked_unique()
     ensures { (parts : List (List ℕ)) (c d : CelChecked) → IsChecked parts c → IsChecked parts d → c ≡ d }
 {}
 
-/// Each constant of its tree has the type of its kind.
+/// Each constant of a checked expression that was read has the type of its kind.
 pub fn constants_have_types()
     ensures { (parts : List (List ℕ)) (c : CelChecked) → IsChecked parts c → HasGoodConstants c.tree }
 {}

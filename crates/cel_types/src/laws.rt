@@ -32,12 +32,12 @@ pub fn typing_total()
     ensures { (c : CelChecked) → ((t : ValueType) × IsTyped c t) ⊎ ((e : Refusal) × CheckFault c e) }
 {}
 
-/// One that has a type has no fault.
+/// A checked expression that has a type has no fault.
 pub fn typing_disjoint()
     ensures { (c : CelChecked) (t : ValueType) (e : Refusal) → IsTyped c t → CheckFault c e → ⊥ }
 {}
 
-/// One that has a type has an elaboration of that type.
+/// A checked expression that has a type has an elaboration of that type.
 pub fn typed_is_elaborated()
     ensures { (c : CelChecked) (t : ValueType) → IsTyped c t
         → (e : TypedTree) × IsElaborated c e × (kind e ≡ t) }

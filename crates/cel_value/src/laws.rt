@@ -58,7 +58,7 @@ pub fn put_is_there()
         → get (put k v es) q ≡ (if key_eq k q then Some v else get es q) }
 {}
 
-/// Its keys rise where they did.
+/// Keys that ascend still do where an entry is put among them.
 pub fn put_keeps_order()
     ensures { (k : CelKey) (v : CelValue) (es : CelEntries) → get es k ≡ None
         → IsAscending es → IsAscending (put k v es) }

@@ -31,7 +31,8 @@ pub fn reached_parts_are_well_typed()
         → (ks : List ValueType) × IsWellTyped ks part × HaveTypes ls ks }
 {}
 
-/// Its locals are within their sizes, and it comes to an answer within its size at these.
+/// The locals of each part that evaluation reaches are within their sizes, and the part comes to an answer
+/// within its size at these.
 pub fn reached_parts_are_within_their_size()
     ensures { (e : TypedTree) (r : RequestValue) (l : LimitsValue) (part : TypedTree)
         (ls : List CelAnswer) (sizes : List Size)
@@ -40,7 +41,7 @@ pub fn reached_parts_are_within_their_size()
         × Within a (size_of part l sizes)) }
 {}
 
-/// Its cost at these sizes is part of the cost of the whole.
+/// The cost of each part that evaluation reaches, at these sizes, is part of the cost of the whole.
 pub fn reached_parts_are_paid_for()
     ensures { (e : TypedTree) (r : RequestValue) (l : LimitsValue) (part : TypedTree)
         (ls : List CelAnswer) (sizes : List Size)

@@ -50,7 +50,7 @@ const RESPONSE_NONCE: u32 = 5;
 const ERROR_DETAIL: u32 = 6;
 
 /// Reads a DiscoveryRequest; fields that it does not name are skipped. `BadWire` where the bytes, or those of a message in
-/// them, are no list of whole fields; `BadText` where a string is no UTF-8.
+/// them, are no list of whole fields; `BadText` where a string is no UTF-8; or `Memory`.
 pub fn read_request<'a>(alloc: Global, bytes: &'a [u8]) -> Result<DiscoveryRequest<'a>, Refusal>
     ensures found { IfOk result (λ request. IsRequest bytes.now (request_view request)) }
     ensures fault { IfErr result (MemoryOr (RequestFault bytes.now)) }
