@@ -119,6 +119,8 @@ pub record AreMessages : Type 0 where
   -- field 6 is the packed numbers 3, 270 and 86942
   pub packed : Fields (50 ∷ 6 ∷ 3 ∷ 142 ∷ 2 ∷ 158 ∷ 167 ∷ 5 ∷ [])
       (field 6 (len (3 ∷ 142 ∷ 2 ∷ 158 ∷ 167 ∷ 5 ∷ [])) ∷ [])
+  pub packed_first : SpellsVarint (3 ∷ []) 3
+  pub packed_second : SpellsVarint (142 ∷ 2 ∷ []) 270
   pub packed_last : SpellsVarint (158 ∷ 167 ∷ 5 ∷ []) 86942
   -- field 1 is an int64 of -1
   pub negative : Fields (8 ∷ minus_one) (field 1 (varint 18446744073709551615) ∷ [])
@@ -158,6 +160,14 @@ messages = record {
   inside = one_len 3 (8 ∷ 150 ∷ 1 ∷ []) (omega arith) (omega arith) (omega arith);
   packed =
       one_len 6 (3 ∷ 142 ∷ 2 ∷ 158 ∷ 167 ∷ 5 ∷ []) (omega arith) (omega arith) (omega arith);
+  packed_first = one_byte 3 (omega arith);
+  packed_second =
+      record {
+        groups = (omega arith, omega arith);
+        short = omega arith;
+        value = refl;
+        fits = omega arith;
+      };
   packed_last =
       record {
         groups = (omega arith, (omega arith, omega arith));
