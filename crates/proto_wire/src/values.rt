@@ -161,7 +161,7 @@ fn varint_of(field: &Field<'_>, number: u32) -> Option<u64>
     }
 }
 
-/// The payload of a LEN field of this number.
+/// The payload of the field, where it is a LEN field of this number; `None` else.
 pub fn len_of<'a>(field: &Field<'a>, number: u32) -> Option<&'a [u8]>
     ensures { let bytes = len_in (payload_view field.now.payload) in
         let found = cond (field.now.number == number) bytes None in

@@ -28,8 +28,8 @@ const NAME: u32 = 1;
 const TYPED_CONFIG: u32 = 2;
 
 /// Reads a TypedExtensionConfig; fields that it does not name are skipped. `BadWire` where the bytes, or those of
-/// `typed_config`, are no list of whole fields; `BadText` where a string is no UTF-8; or `Memory`. The configuration's value is not
-/// looked into.
+/// `typed_config`, are no list of whole fields; `BadText` where a string is no UTF-8; or `Memory`. The configuration's
+/// value is not looked into.
 pub fn read_extension<'a>(
     alloc: Global,
     bytes: &'a [u8],

@@ -38,7 +38,8 @@ const TYPE_URL: u32 = 4;
 const NONCE: u32 = 5;
 
 /// Reads a DiscoveryResponse; fields that it does not name are skipped. `BadWire` where the bytes, or those of a resource,
-/// are no list of whole fields; `BadText` where a string is no UTF-8; or `Memory`. A resource's value is not looked into.
+/// are no list of whole fields; `BadText` where a string is no UTF-8; or `Memory`. A resource's value is not looked
+/// into.
 pub fn read_response<'a>(alloc: Global, bytes: &'a [u8]) -> Result<DiscoveryResponse<'a>, Refusal>
     ensures found { IfOk result (λ response. IsResponse bytes.now (response_view response)) }
     ensures fault { IfErr result (MemoryOr (ResponseFault bytes.now)) }
