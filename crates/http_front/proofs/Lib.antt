@@ -4,6 +4,13 @@ pub mod FieldNames
 pub mod Texts
 pub mod HeadTexts
 pub mod Rooms
+pub mod Resuming
+pub mod Agreeing
+pub mod Bodies
+pub mod Elements
+pub mod ScanLemmas
+pub mod Turning
+pub mod Answering
 pub mod Spans
 pub mod Held
 pub mod Framings

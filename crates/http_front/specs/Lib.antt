@@ -1,4 +1,9 @@
 pub mod Head
 pub mod Rules
 pub mod Asks
+pub mod Bodies
+pub mod Closing
+pub mod Heads
+pub mod Front
+pub mod Answer
 pub mod steps

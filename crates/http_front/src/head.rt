@@ -1,19 +1,23 @@
 //! A request head where it lies in the bytes that it was read from.
-ghost use Rattle.std.specs.Prelude.{◌≡◌, ◌≤◌, ◌↔◌, ◌==◌, Any, IfNone, IfOk, IfSome, IsTrue, count_by, length};
+ghost use Rattle.std.specs.Prelude.{◌≡◌, ◌≤◌, ◌<◌, ◌^◌, ◌↔◌, ◌==◌, All, Any, IfNone, IfOk, IfSome, IsTrue, count_by, length};
 ghost use Rattle.std.specs.Bool.{OnFalse, OnTrue};
 ghost use Rattle.attributes.specs.Conn.{conn_view};
 ghost use Rattle.httparse.specs.Ascii.{line_feed};
 ghost use Rattle.http_front.specs.declared.fault.HeadFault.{HeadFault};
 ghost use Rattle.http_front.specs.steps.Parsed.{AreTexts, IsParsed};
 ghost use Rattle.http_front.specs.Asks.{request_of_head};
+ghost use Rattle.http_front.specs.Bodies.{body_of};
+ghost use Rattle.http_front.specs.Closing.{closes};
 ghost use Rattle.http_front.specs.Head.{head_room};
-ghost use Rattle.http_front.specs.Rules.{IsBadText, IsOriginForm, RuleFault};
+ghost use Rattle.http_front.specs.Rules.{IsBadLength, IsBadText, IsOriginForm, RuleFault, lines_of};
 
+use crate::body::body_length;
+use crate::closing::list_close;
 use crate::fault::{HeadFault, HeadPart};
 use crate::fields::{copy_text, lower_lines};
 use crate::framing::framing_of;
 use crate::part::part_of;
-use attributes::{Conn, Request};
+use attributes::{Conn, Limit, Limits, Request};
 use httparse::spans::{HeaderSpan, parse_request};
 use httparse::{Error, Status};
 use std::alloc::{AllocError, Global};
@@ -125,6 +129,29 @@ impl<'a> Head<'a> {
         let target = copy_text(alloc, self.target)?;
         let lines = lower_lines(alloc, self.bytes, self.fields)?;
         Request::new(alloc, method, target, self.is_http11, lines, conn)
+    }
+
+    /// Whether it has more fields than any request within the limits, which is told before a request is made.
+    pub(crate) fn exceeds(&self, limits: &Limits) -> bool
+        ensures { OnTrue result (limits.now.fields < length self.now.fields) }
+    {
+        self.fields.len() > limits.get(Limit::Fields)
+    }
+
+    /// How many bytes of a body follow the head.
+    pub(crate) fn body(&self) -> u64
+        requires { All (λ l. ¬ (IsBadLength l)) (lines_of self.now) }
+        ensures value { result ≡ body_of self.now }
+        ensures small { result < 10 ^ 18 }
+    {
+        body_length(self.bytes, self.fields)
+    }
+
+    /// Whether the connection closes behind it.
+    pub(crate) fn closes(&self) -> bool
+        ensures { result ≡ closes self.now }
+    {
+        !self.is_http11 || list_close(self.bytes, self.fields)
     }
 }
 

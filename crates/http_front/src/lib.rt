@@ -1,13 +1,24 @@
-//! Reads the heads of HTTP/1 requests, and says what each asks.
+//! Reads the heads of HTTP/1 requests, says what each asks, and writes answers.
 #![tactic(auto)]
 
+mod answer;
+mod ask;
+mod body;
+mod closing;
 mod fault;
 mod fields;
 mod framing;
+mod front;
 mod head;
 pub mod laws;
+mod line;
 mod part;
 mod read;
+mod scan;
+mod turn;
 
+pub use answer::{Case, Reply};
+pub use ask::Ask;
 pub use fault::{HeadFault, HeadPart};
-pub use read::{Ask, read_head};
+pub use front::Front;
+pub use read::{HeadAsk, read_head};

@@ -2,7 +2,7 @@
 ghost use Rattle.std.specs.Prelude.{◌≡◌, ◌==◌, IfNone, IfOk, count_by};
 ghost use Rattle.attributes.specs.Conn.{conn_view};
 ghost use Rattle.httparse.specs.Ascii.{line_feed};
-ghost use Rattle.http_front.specs.Asks.{Asks, HasFault, IfFault, IfJudge, IsUnfinished};
+ghost use Rattle.http_front.specs.Asks.{HasFault, HeadAsks, IfFault, IfJudge, IsUnfinished};
 ghost use Rattle.http_front.specs.steps.Asks.{IsAskOf};
 
 use crate::fault::HeadFault;
@@ -13,11 +13,11 @@ use memchr::memchr_iter;
 use std::alloc::{AllocError, Global};
 
 /// A head has at most so many bytes.
-const HEAD_ROOM: usize = 65_536;
+pub(crate) const HEAD_ROOM: usize = 65_536;
 
 /// What a head asks.
 #[derive(Debug, Drop)]
-pub enum Ask {
+pub enum HeadAsk {
     /// That this request is judged.
     Judge(Request),
     /// Nothing, since it has this fault.
@@ -32,9 +32,9 @@ pub fn read_head(
     bytes: &[u8],
     limits: &Limits,
     conn: Conn,
-) -> Result<Option<Ask>, AllocError>
+) -> Result<Option<HeadAsk>, AllocError>
     ensures judged { IfOk result (λ found.
-        IfJudge found (Asks bytes.now limits.now (conn_view conn))) }
+        IfJudge found (HeadAsks bytes.now limits.now (conn_view conn))) }
     ensures fault { IfOk result (λ found.
         IfFault found (HasFault bytes.now limits.now (conn_view conn))) }
     ensures unfinished { IfOk result (λ found. IfNone found (IsUnfinished bytes.now)) }
@@ -43,10 +43,10 @@ pub fn read_head(
     let mut fields = vec![in alloc; EMPTY_HEADER_SPAN; line_feeds(room)]?;
     match parse(room, &mut fields) {
         Parsed::Whole(head, _) => Ok(Some(ask_of(alloc, &head, limits, conn)?)),
-        Parsed::Hopeless(part) => Ok(Some(Ask::Fault(HeadFault::Malformed(part)))),
+        Parsed::Hopeless(part) => Ok(Some(HeadAsk::Fault(HeadFault::Malformed(part)))),
         Parsed::Unfinished => {
             if bytes.len() > HEAD_ROOM {
-                Ok(Some(Ask::Fault(HeadFault::TooLong)))
+                Ok(Some(HeadAsk::Fault(HeadFault::TooLong)))
             } else {
                 Ok(None)
             }
@@ -55,23 +55,31 @@ pub fn read_head(
 }
 
 /// How many line feeds the bytes have: more than any head in them has fields.
-fn line_feeds(bytes: &[u8]) -> usize
+pub(crate) fn line_feeds(bytes: &[u8]) -> usize
     ensures { result ≡ count_by (λ b. b == line_feed) bytes.now }
 {
     memchr_iter(b'\n', bytes).count()
 }
 
 /// What a whole head asks.
-fn ask_of(alloc: Global, head: &Head<'_>, limits: &Limits, conn: Conn) -> Result<Ask, AllocError>
+pub(crate) fn ask_of(
+    alloc: Global,
+    head: &Head<'_>,
+    limits: &Limits,
+    conn: Conn,
+) -> Result<HeadAsk, AllocError>
     ensures { IfOk result (IsAskOf limits.now (conn_view conn) head.now) }
 {
     if let Some(fault) = head.fault() {
-        return Ok(Ask::Fault(fault));
+        return Ok(HeadAsk::Fault(fault));
+    }
+    if head.exceeds(limits) {
+        return Ok(HeadAsk::Fault(HeadFault::OutsideLimits));
     }
     let request = head.to_request(alloc, conn)?;
     if limits.fits(&request) {
-        Ok(Ask::Judge(request))
+        Ok(HeadAsk::Judge(request))
     } else {
-        Ok(Ask::Fault(HeadFault::OutsideLimits))
+        Ok(HeadAsk::Fault(HeadFault::OutsideLimits))
     }
 }

@@ -1,0 +1,12 @@
+-- A row of the table of answers, as the code has it.
+use Rattle.http_front.specs.declared.answer.Row.{Row}
+use Rattle.http_front.specs.Answer.{RowValue}
+
+abbrev pub row_view : Row → RowValue
+row_view row = record {
+  status = row.status;
+  phrase = row.phrase.now;
+  verdict = row.verdict.now;
+  tells_matches = row.tells_matches;
+  body = row.body.now;
+}

@@ -1,0 +1,245 @@
+//! The front of a connection.
+ghost use Rattle.std.specs.Prelude.{◌≡◌, ◌≤◌, ◌++◌, IfOk, Ok, OnErr, OnOk, drop, true, false, vec_len};
+ghost use Rattle.std.specs.Bool.{OnTrue};
+ghost use Rattle.attributes.specs.Conn.{conn_view};
+ghost use Rattle.http_front.specs.Answer.{answer_of, reply_view};
+ghost use Rattle.http_front.specs.Front.{HasNoAsk, TakesNext, fed_front, keeping, new_front};
+ghost use Rattle.http_front.specs.Heads.{closed, is_closed};
+ghost use Rattle.http_front.specs.steps.Turns.{IsNextTurn, passing};
+
+use crate::answer::Reply;
+use crate::ask::Ask;
+use crate::read::HEAD_ROOM;
+use crate::scan::Scan;
+use crate::turn::{Turn, turn_of};
+use attributes::{Conn, Limits};
+use std::alloc::{AllocError, Global};
+use std::marker::Model;
+
+/// Hands out what the heads of a connection ask, however its bytes come (RFC 9112). Bytes that were
+/// handed out are not kept, and those of a body are not where its head was taken before.
+#[derive(Drop)]
+pub struct Front {
+    limits: Limits,
+    conn: Conn,
+    bytes: Vec<u8>,
+    // where the bytes begin that are not handed out yet
+    at: usize,
+    // how many bytes of a body are still to be passed over
+    skip: u64,
+    is_closed: bool,
+    // whether a head was looked for and has not come whole: from then on the bytes are scanned, and it is looked for again
+    // where the scan stops
+    is_tried: bool,
+    // the scan of the first bytes that are not handed out, and how many they are
+    scan: Scan,
+    seen: usize,
+}
+
+impl Model for Front {
+    ghost use Rattle.std.specs.Prelude.{◌≤◌, drop, vec_len};
+    ghost use Rattle.attributes.specs.Conn.{conn_view};
+    ghost use Rattle.http_front.specs.Front.{FrontValue};
+    ghost use Rattle.http_front.specs.steps.Turns.{front_of, kept_of};
+    ghost use Rattle.http_front.specs.steps.Scans.{AreSeen};
+
+    ghost Value = { FrontValue };
+
+    ghost view = { λ f. front_of f.limits (conn_view f.conn) (kept_of f.is_closed f.skip f.at f.bytes.items) };
+
+    ghost invariant = { λ f. (f.at ≤ vec_len f.bytes) × AreSeen f.scan f.seen (drop f.at f.bytes.items) };
+}
+
+impl Front {
+    /// The front of a connection of which these facts are known, and of which nothing has come. A
+    /// request outside the limits is a fault.
+    pub fn new(alloc: Global, limits: Limits, conn: Conn) -> Front
+        ensures { result ≡ new_front limits (conn_view conn) }
+    {
+        Front {
+            limits,
+            conn,
+            bytes: Vec::new(alloc),
+            at: 0,
+            skip: 0,
+            is_closed: false,
+            is_tried: false,
+            scan: Scan::Blank,
+            seen: 0,
+        }
+    }
+
+    /// Another front in the same state.
+    pub fn copy(&self) -> Result<Front, AllocError>
+        ensures { IfOk result (λ copy. copy ≡ self.now) }
+    {
+        Ok(Front {
+            limits: self.limits,
+            conn: self.conn.copy()?,
+            bytes: Vec::from_slice(*self.bytes.allocator(), &self.bytes[self.at..])?,
+            at: 0,
+            skip: self.skip,
+            is_closed: self.is_closed,
+            is_tried: self.is_tried,
+            scan: self.scan,
+            seen: self.seen,
+        })
+    }
+
+    /// Takes further bytes.
+    pub fn feed(&mut self, bytes: &[u8]) -> Result<(), AllocError>
+        ensures found { OnOk result (self.new ≡ fed_front self.old bytes.now) }
+        ensures fault { OnErr result (self.new ≡ self.old) }
+    {
+        if self.is_closed {
+            return Ok(());
+        }
+        let passed = self.skip.min(bytes.len() as u64);
+        append(&mut self.bytes, &mut self.at, &bytes[passed as usize..])?;
+        self.skip -= passed;
+        Ok(())
+    }
+
+    /// Takes further bytes where it is sure that there is no ask then, and says whether it did.
+    pub fn keeps(&mut self, bytes: &[u8]) -> Result<bool, AllocError>
+        ensures kept { result ≡ Ok true → (self.new ≡ fed_front self.old bytes.now) × HasNoAsk self.new }
+        ensures left { result ≡ Ok false → self.new ≡ self.old }
+        ensures fault { OnErr result (self.new ≡ self.old) }
+    {
+        if self.is_closed {
+            return Ok(true);
+        }
+        if self.skip > bytes.len() as u64 {
+            self.skip -= bytes.len() as u64;
+            return Ok(true);
+        }
+        if self.skip > 0 || !self.is_tried {
+            return Ok(false);
+        }
+        let before = self.bytes.len();
+        self.bytes.extend_from_slice(bytes)?;
+        let rest = &self.bytes[self.at..];
+        let scan = self.scan.go_on(rest, self.seen);
+        let seen = rest.len();
+        if seen <= HEAD_ROOM && scan.is_open() {
+            self.scan = scan;
+            self.seen = seen;
+            return Ok(true);
+        }
+        self.bytes.truncate(before);
+        Ok(false)
+    }
+
+    /// The next ask, in order, where there is one.
+    pub fn next(&mut self) -> Result<Option<Ask>, AllocError>
+        ensures found { IfOk result (λ answer. TakesNext self.old answer self.new) }
+        ensures fault { OnErr result (self.new ≡ self.old) }
+    {
+        if self.goes_on() {
+            return Ok(None);
+        }
+        match self.turn()? {
+            Turn::Rest => {
+                self.is_tried = self.skip == 0;
+                Ok(None)
+            }
+            Turn::Close(ask) => {
+                self.close();
+                Ok(Some(ask))
+            }
+            Turn::Pass(request, count) => {
+                self.pass(count);
+                Ok(Some(Ask::Judge(request, false)))
+            }
+        }
+    }
+
+    /// Whether the connection closes behind what was taken.
+    pub fn is_closed(&self) -> bool
+        ensures { result ≡ is_closed self.now.kept }
+    {
+        self.is_closed
+    }
+
+    /// The bytes of an answer.
+    pub fn answer(alloc: Global, reply: &Reply) -> Result<Vec<u8>, AllocError>
+        ensures { IfOk result (λ bytes. bytes.items ≡ answer_of (reply_view reply.now)) }
+    {
+        reply.bytes(alloc)
+    }
+
+    // Scans the bytes that were not scanned, where a head was looked for, and says whether there is no ask yet; where it is
+    // not sure, it says no.
+    fn goes_on(&mut self) -> bool
+        ensures same { self.new ≡ self.old }
+        ensures rest { OnTrue result (HasNoAsk self.old) }
+    {
+        if !self.is_tried {
+            return false;
+        }
+        let rest = &self.bytes[self.at..];
+        self.scan = self.scan.go_on(rest, self.seen);
+        self.seen = rest.len();
+        if self.seen > HEAD_ROOM {
+            return false;
+        }
+        self.scan.is_open()
+    }
+
+    // The first ask, and how the bytes go on behind it.
+    fn turn(&self) -> Result<Turn, AllocError>
+        ensures { IfOk result (IsNextTurn self.now.limits self.now.facts self.now.kept) }
+    {
+        if self.is_closed || self.skip > 0 {
+            return Ok(Turn::Rest);
+        }
+        turn_of(
+            *self.bytes.allocator(),
+            &self.limits,
+            &self.conn,
+            &self.bytes[self.at..],
+        )
+    }
+
+    // Nothing follows an ask that closes.
+    fn close(&mut self)
+        ensures { self.new ≡ keeping self.old closed }
+    {
+        self.is_closed = true;
+        self.bytes = Vec::new(*self.bytes.allocator());
+        self.at = 0;
+        self.scan = Scan::Blank;
+        self.seen = 0;
+    }
+
+    // Passes over a head and its body.
+    fn pass(&mut self, count: u64)
+        ensures { self.new ≡ keeping self.old (passing count self.old.kept) }
+    {
+        let here = count.min((self.bytes.len() - self.at) as u64);
+        self.at += here as usize;
+        self.skip = count - here;
+        self.is_tried = false;
+        self.scan = Scan::Blank;
+        self.seen = 0;
+    }
+}
+
+// Appends bytes to those from a place on. Those before it are given up where they are many.
+fn append(bytes: &mut Vec<u8>, at: &mut usize, more: &[u8]) -> Result<(), AllocError>
+    requires { at.old ≤ vec_len bytes.old }
+    ensures within { at.new ≤ vec_len bytes.new }
+    ensures found { OnOk result (drop at.new bytes.new.items ≡ drop at.old bytes.old.items ++ more.now) }
+    ensures fault { OnErr result ((at.new ≡ at.old) × (bytes.new.items ≡ bytes.old.items)) }
+{
+    if *at <= bytes.len() / 2 {
+        return bytes.extend_from_slice(more);
+    }
+    let rest = &bytes[*at..];
+    let mut both = Vec::with_capacity(*bytes.allocator(), rest.len().saturating_add(more.len()))?;
+    both.extend_from_slice(rest)?;
+    both.extend_from_slice(more)?;
+    *bytes = both;
+    *at = 0;
+    Ok(())
+}

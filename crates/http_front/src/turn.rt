@@ -1,0 +1,136 @@
+//! The first ask of some bytes.
+ghost use Rattle.std.specs.Prelude.{◌≡◌, ◌≤◌, IfOk, length};
+ghost use Rattle.attributes.specs.Conn.{conn_view};
+ghost use Rattle.http_front.specs.Head.{head_room};
+ghost use Rattle.http_front.specs.steps.Turns.{IsTurn, IsTurnOf, IsTurnOfFirst};
+
+use crate::ask::Ask;
+use crate::fault::HeadFault;
+use crate::head::{Head, Parsed, parse};
+use crate::read::{HEAD_ROOM, HeadAsk, ask_of, line_feeds};
+use attributes::{Conn, Limits, Request};
+use httparse::spans::EMPTY_HEADER_SPAN;
+use memchr::memchr_iter;
+use std::alloc::{AllocError, Global};
+
+/// What the first ask of some bytes is, and how they go on behind it.
+#[derive(Debug, Drop)]
+pub(crate) enum Turn {
+    /// There is no ask yet.
+    Rest,
+    /// This ask, and the connection closes.
+    Close(Ask),
+    /// That this request is judged; and how many bytes its head has, and the body behind it.
+    Pass(Request, u64),
+}
+
+/// Where there are more bytes than these, the end of the first head is sought before it is parsed, so that the bytes behind
+/// it cost nothing.
+const FEW: usize = 1_024;
+
+/// The first ask of the bytes.
+pub(crate) fn turn_of(
+    alloc: Global,
+    limits: &Limits,
+    conn: &Conn,
+    bytes: &[u8],
+) -> Result<Turn, AllocError>
+    ensures { IfOk result (IsTurn limits.now (conn_view conn.now) bytes.now) }
+{
+    if bytes.len() > FEW {
+        match turn_of_first(alloc, limits, conn, bytes, likely_end(bytes))? {
+            Turn::Rest => (),
+            turn => return Ok(turn),
+        }
+    }
+    turn_of_room(alloc, limits, conn, bytes)
+}
+
+// The same by all the bytes that a head may have.
+fn turn_of_room(
+    alloc: Global,
+    limits: &Limits,
+    conn: &Conn,
+    bytes: &[u8],
+) -> Result<Turn, AllocError>
+    ensures { IfOk result (IsTurn limits.now (conn_view conn.now) bytes.now) }
+{
+    match turn_of_first(alloc, limits, conn, bytes, bytes.len().min(HEAD_ROOM))? {
+        Turn::Rest => {
+            if bytes.len() > HEAD_ROOM {
+                Ok(Turn::Close(Ask::Fault(HeadFault::TooLong)))
+            } else {
+                Ok(Turn::Rest)
+            }
+        }
+        turn => Ok(turn),
+    }
+}
+
+// The first ask of the bytes, if so many of them tell it.
+fn turn_of_first(
+    alloc: Global,
+    limits: &Limits,
+    conn: &Conn,
+    bytes: &[u8],
+    count: usize,
+) -> Result<Turn, AllocError>
+    requires { (count ≤ length bytes.now) × (count ≤ head_room) }
+    ensures { IfOk result (IsTurnOfFirst limits.now (conn_view conn.now) count bytes.now) }
+{
+    let first = &bytes[..count];
+    let mut fields = vec![in alloc; EMPTY_HEADER_SPAN; line_feeds(first)]?;
+    match parse(first, &mut fields) {
+        Parsed::Whole(head, rest) => turn_of_head(alloc, limits, conn, &head, count - rest.len()),
+        Parsed::Hopeless(part) => Ok(Turn::Close(Ask::Fault(HeadFault::Malformed(part)))),
+        Parsed::Unfinished => Ok(Turn::Rest),
+    }
+}
+
+// What a whole head of this size asks.
+fn turn_of_head(
+    alloc: Global,
+    limits: &Limits,
+    conn: &Conn,
+    head: &Head<'_>,
+    size: usize,
+) -> Result<Turn, AllocError>
+    requires { size ≤ 65536 }
+    ensures { IfOk result (IsTurnOf limits.now (conn_view conn.now) head.now size) }
+{
+    match ask_of(alloc, head, limits, conn.copy()?)? {
+        HeadAsk::Fault(fault) => Ok(Turn::Close(Ask::Fault(fault))),
+        HeadAsk::Judge(request) => {
+            if head.closes() {
+                return Ok(Turn::Close(Ask::Judge(request, true)));
+            }
+            Ok(Turn::Pass(request, size as u64 + head.body()))
+        }
+    }
+}
+
+// How many bytes the first head has, if it has an end within its room; no contract speaks of that.
+fn likely_end(bytes: &[u8]) -> usize
+    ensures { (result ≤ length bytes.now) × (result ≤ head_room) }
+{
+    let room = bytes.len().min(HEAD_ROOM);
+    head_end(&bytes[..room]).min(room)
+}
+
+// Behind which byte the first empty line ends that stands behind a line.
+fn head_end(bytes: &[u8]) -> usize {
+    let begin = bytes
+        .iter()
+        .position(|&byte| byte != b'\r' && byte != b'\n')
+        .unwrap_or(0);
+    let line = bytes.get(begin..).unwrap_or(&[]);
+    for feed in memchr_iter(b'\n', line) {
+        let next = usize::saturating_add(feed, 1);
+        match line.get(next..) {
+            Some([b'\n', ..]) => return begin.saturating_add(next).saturating_add(1),
+            Some([b'\r', b'\n', ..]) => return begin.saturating_add(next).saturating_add(2),
+            _ => (),
+        }
+    }
+    bytes.len()
+}
