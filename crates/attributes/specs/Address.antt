@@ -9,12 +9,12 @@ use Rattle.std.specs.declared.net.ipv6_addr.Ipv6Addr.{Ipv6Addr}
 use Rattle.attributes.specs.declared.address.Ip.{Ip}
 use Rattle.attributes.specs.declared.address.Ip.TheVariants.{V4, V6}
 
--- a dot (46) stands in the text
+-- the text has a dot (46)
 abbrev pub has_dot : List ℕ → Bool
 has_dot text = list_any (λ b. b == 46) text
 
--- the text spells the address: four decimal numbers with dots, or eight groups with colons, the
--- last two of which are not four numbers with dots
+-- the text spells the address: four decimal numbers with dots, or eight groups with colons. The
+-- last two groups are never four numbers with dots
 abbrev pub IsIpText : List ℕ → Ip → Type 0
 IsIpText text (V4 n) = (a : Ipv4Addr) × IsIpv4Text text a × (n ≡ ipv4_bits a)
 IsIpText text (V6 n) =

@@ -28,7 +28,7 @@ attr_view (values.Uint n) = uint n
 attr_view (values.Bool b) = bool b
 attr_view (values.Pairs ps) = text_map (from_sorted ps.now)
 
--- pairs stand by ascending name, each name once
+-- pairs are by ascending name, each name once
 abbrev pub HasSortedPairs : AttrValue → Type 0
 HasSortedPairs (values.Pairs ps) = IsTrue (is_sorted name_cmp ps.now)
 HasSortedPairs _ = ⊤
@@ -37,11 +37,11 @@ HasSortedPairs _ = ⊤
 abbrev pub without_fragment : List ℕ → List ℕ
 without_fragment target = before_first (λ b. b == 35) target
 
--- of that, what stands before the first `?` (63), or all of it
+-- of that, what is before the first `?` (63), or the whole
 abbrev pub url_path_of : List ℕ → List ℕ
 url_path_of target = before_first (λ b. b == 63) (without_fragment target)
 
--- and what stands after the first `?`, or nothing
+-- and what is after the first `?`, or nothing
 abbrev pub query_of : List ℕ → List ℕ
 query_of target = after_first (λ b. b == 63) (without_fragment target)
 

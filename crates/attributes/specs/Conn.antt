@@ -24,8 +24,8 @@ texts_of f =
 abbrev pub IsPort : Option ℕ → Type 0
 IsPort port = IfSome port (λ n. n < 2 ^ 16)
 
--- what holds of the facts of each connection: texts are UTF-8, a port has 16 bits, the number of
--- the connection has 64, and an address has as many as its family
+-- what holds of the facts of each connection: texts are UTF-8, a port has 16 bits, the connection's
+-- number 64. An address has as many as its family
 pub record AreFacts (f : Facts) : Type 0 where
   pub texts : AllByRecursion (λ text. IfSome text IsUtf8) (texts_of f)
   pub source_port : IsPort f.source_port

@@ -17,7 +17,7 @@ use Rattle.std.specs.declared.string.String.{String}
 abbrev pub Entry : Type 0
 Entry = List ℕ × List ℕ
 
--- a field line as it is handed in
+-- a field line as it is given
 abbrev pub line_view : String Global × String Global → Entry
 line_view line = (string_bytes line.0, string_bytes line.1)
 
@@ -49,11 +49,11 @@ values_of name es = map (λ e. e.1) (filter (λ e. bytes_eq e.0 name) es)
 abbrev pub with_commas : List (List ℕ) → List ℕ
 with_commas values = join_with_byte 44 values
 
--- the headers of entries: each name that stands there, with all its values as one
+-- the headers of entries: each name among them, with all its values as one
 unfoldable pub headers_of : List Entry → HeaderMap
 headers_of es = from_entries (map (λ e. (e.0, with_commas (values_of e.0 es))) es)
 
--- the name under which a field line stands: the Host field's is `:authority`
+-- the name of a field line's header: the Host field's is `:authority`
 abbrev pub header_name : List ℕ → List ℕ
 header_name name = if bytes_eq name (codes "host") then codes ":authority" else name
 

@@ -6,8 +6,9 @@ use Rattle.std.specs.Prelude.{slice_set}
 use Rattle.cel_types.specs.Elaborated.{TypedTree, TypedTrees, no_typed, typed, typed_call, typed_loop}
 use Rattle.cel_value.specs.Types.{ValueType}
 use Rattle.cel_overload.specs.declared.overload.Overload.{Overload}
+use Rattle.cel_ops.specs.declared.operation.Operation.TheVariants as operations
 use Rattle.cel_overload.specs.declared.overload.Overload.TheVariants as overloads
-use Rattle.stack_machine.specs.Instructions.{Instruction, code_view, instr_view, And, Or, IfFalse, IfTrue, Jump, LoopNext, LoopStart, LoopTest, Store, Test}
+use Rattle.stack_machine.specs.Instructions.{Instruction, code_view, instr_view, Operate, IfFalse, IfTrue, Jump, LoopNext, LoopStart, LoopTest, Store, Test}
 use Rattle.stack_machine.specs.declared.instr.Instr.{Instr}
 use Rattle.cel_compile.specs.Codes.{code_of, codes_of, extent, instruction_of}
 use Rattle.cel_compile.specs.Slots.{HasFewLocals, HaveFewLocals}
@@ -96,14 +97,14 @@ both_built d a b i0 i1 i2 i3 i4 i5 x y z fork end jump j ga f e2 gb e4 is ends e
 
 -- either of them
 pub junction_built : (d : ℕ) (a b : TypedTree) (i0 i1 i2 i3 i4 i5 : List Instr) (x y z : Instr) (fork end : ℕ) (t : ValueType) (o : Overload)
-    → (o ≡ overloads.LogicalAnd) ⊎ (o ≡ overloads.LogicalOr)
+    → (o ≡ (overloads.Operate operations.And)) ⊎ (o ≡ (overloads.Operate operations.Or))
     → Grows i0 i1 d a → fork ≡ length i1 → i2 ≡ i1 ++ x ∷ [] → Grows i2 i3 d b → i4 ≡ i3 ++ y ∷ [] → instr_view y ≡ instruction_of o → end ≡ length i4
     → i5 ≡ slice_set i4 fork z → (end < 2 ^ 16 → instr_view z ≡ passing_over o end)
     → Grows i0 i5 d (typed_call t o (typed a (typed b no_typed)))
 junction_built d a b i0 i1 i2 i3 i4 i5 x y z fork end t o which ga f e2 gb e4 is ends e5 jumps =
     elim which [
-      | inl e ↦ rw e (both_built d a b i0 i1 i2 i3 i4 i5 x y z fork end IfFalse And ga f e2 gb e4 (is ∙ ap instruction_of e) ends e5 (λ short. jumps short ∙ ap (λ v. passing_over v end) e))
-      | inr e ↦ rw e (both_built d a b i0 i1 i2 i3 i4 i5 x y z fork end IfTrue Or ga f e2 gb e4 (is ∙ ap instruction_of e) ends e5 (λ short. jumps short ∙ ap (λ v. passing_over v end) e))
+      | inl e ↦ rw e (both_built d a b i0 i1 i2 i3 i4 i5 x y z fork end IfFalse (Operate operations.And) ga f e2 gb e4 (is ∙ ap instruction_of e) ends e5 (λ short. jumps short ∙ ap (λ v. passing_over v end) e))
+      | inr e ↦ rw e (both_built d a b i0 i1 i2 i3 i4 i5 x y z fork end IfTrue (Operate operations.Or) ga f e2 gb e4 (is ∙ ap instruction_of e) ends e5 (λ short. jumps short ∙ ap (λ v. passing_over v end) e))
     ]
 
 -- `?:`

@@ -4,21 +4,16 @@ use Rattle.std.proofs.lemmas.Grind.{reverse_onto}
 use Rattle.std.proofs.lemmas.List.{length-reverse, reverse-reverse}
 use Rattle.std.proofs.Math.Seq.{take-append_seam, drop-append_seam}
 use Rattle.std.proofs.lemmas.Bool.Decides.{nat_tests}
-use Rattle.cel_value.specs.Values.{CelAnswer, CelValues}
+use Rattle.cel_value.specs.Values.{CelAnswer}
 use Rattle.attributes.specs.Request.{RequestValue}
-use Rattle.cel_ops.specs.Arithmetic.{arithmetic, opposite}
-use Rattle.cel_ops.specs.Logic.{conjunction, disjunction, logical_not, not_strictly_false}
-use Rattle.cel_ops.specs.Comparison.{comparison}
-use Rattle.cel_ops.specs.Parts.{text_test, joined}
-use Rattle.cel_ops.specs.Collections.{size, list_index, map_index, in_map, in_list}
-use Rattle.cel_ops.specs.declared.texts.TextTest.TheVariants as tests
-use Rattle.cel_overload.specs.Answers.{on_one, on_two, overload_answer}
-use Rattle.cel_overload.specs.steps.Charges.{overload_charge}
+use Rattle.cel_ops.specs.Operations.{Work, takes_one, takes_two, work}
+use Rattle.cel_overload.specs.Answers.{operands_answer, on_one, on_two, overload_answer}
+use Rattle.cel_overload.specs.steps.Charges.{operands_charge, charge_of_one, charge_of_two, overload_charge}
 use Rattle.cel_overload.specs.declared.overload.Overload.{Overload}
 use Rattle.cel_overload.specs.declared.overload.Overload.TheVariants as overloads
-use Rattle.stack_machine.specs.Instructions.{Instruction}
-use Rattle.stack_machine.specs.Charges.{charge_on}
-use Rattle.stack_machine.specs.Machine.{State, act, goes, stuck, gives, unary, binary, literal}
+use Rattle.stack_machine.specs.Instructions.{Instruction, Operate}
+use Rattle.stack_machine.specs.Charges.{charge_on, work_charge}
+use Rattle.stack_machine.specs.Machine.{OpenLoop, State, act, goes, stuck, gives, unary, binary, literal, operate}
 use Rattle.cel_compile.specs.Codes.{instruction_of}
 use Rattle.cel_compile.proofs.Answering.{on_one_some, on_two_some}
 use Rattle.cel_compile.proofs.Goes.{Locals, state}
@@ -37,7 +32,7 @@ pushed_reversed (a ∷ xs) st = pushed_reversed xs (a ∷ st) ∙ turned
 
 -- the instruction makes this answer of these, for this charge
 pub record Makes (i : Instruction) (xs : List CelAnswer) (r : CelAnswer) (charge : ℕ) : Type 0 where
-  pub does : (request : RequestValue) (p : ℕ) (st : List CelAnswer) (f : Locals) (lo : List CelValues)
+  pub does : (request : RequestValue) (p : ℕ) (st : List CelAnswer) (f : Locals) (lo : List OpenLoop)
       → act i request (state p (pushed_all xs st) f lo) ≡ goes (state (p + 1) (r ∷ st) f lo)
   pub costs : (st : List CelAnswer) → charge_on i (pushed_all xs st) ≡ charge
 
@@ -65,30 +60,24 @@ makes_two i charge f acts costs xs r e =
       costs = costs x.0 x.1;
     }
 
+-- an operation makes its answer
+work_makes : (i : Instruction) (w : Work) → ((request : RequestValue) (s : State) → act i request s ≡ operate w s)
+    → ((st : List CelAnswer) → charge_on i st ≡ work_charge w st)
+    → (xs : List CelAnswer) (r : CelAnswer) → operands_answer w xs ≡ Some r → Makes i xs r (operands_charge w xs)
+work_makes i (takes_one answer charge) acts costs xs r e =
+    makes_one i (charge_of_one charge) answer acts (λ a st. costs (a ∷ st)) xs r e
+work_makes i (takes_two answer charge) acts costs xs r e =
+    makes_two i (charge_of_two charge) answer acts (λ a b st. costs (b ∷ a ∷ st)) xs r e
+
 -- the overload's instruction works on its operands' answers
 abbrev pub IsStrict : Overload → Type 0
 IsStrict overloads.Conditional = ⊥
-IsStrict o = Unit {0}
+IsStrict (overloads.Operate op) = Unit {0}
 
 pub call_makes : (o : Overload) (xs : List CelAnswer) (r : CelAnswer) → IsStrict o → overload_answer o xs ≡ Some r
     → Makes (instruction_of o) xs r (overload_charge o xs)
-call_makes overloads.LogicalAnd xs r s e = makes_two _ (overload_charge overloads.LogicalAnd) conjunction (λ q z. refl) (λ a b st. refl) xs r e
-call_makes overloads.LogicalOr xs r s e = makes_two _ (overload_charge overloads.LogicalOr) disjunction (λ q z. refl) (λ a b st. refl) xs r e
-call_makes overloads.LogicalNot xs r s e = makes_one _ (overload_charge overloads.LogicalNot) logical_not (λ q z. refl) (λ a st. refl) xs r e
-call_makes overloads.NotStrictlyFalse xs r s e = makes_one _ (overload_charge overloads.NotStrictlyFalse) not_strictly_false (λ q z. refl) (λ a st. refl) xs r e
 call_makes overloads.Conditional xs r s e = absurd s
-call_makes (overloads.Compare op) xs r s e = makes_two _ (overload_charge (overloads.Compare op)) (comparison op) (λ q z. refl) (λ a b st. refl) xs r e
-call_makes (overloads.Arithmetic op) xs r s e = makes_two _ (overload_charge (overloads.Arithmetic op)) (arithmetic op) (λ q z. refl) (λ a b st. refl) xs r e
-call_makes overloads.Concat xs r s e = makes_two _ (overload_charge overloads.Concat) joined (λ q z. refl) (λ a b st. refl) xs r e
-call_makes overloads.Negate xs r s e = makes_one _ (overload_charge overloads.Negate) opposite (λ q z. refl) (λ a st. refl) xs r e
-call_makes overloads.IndexList xs r s e = makes_two _ (overload_charge overloads.IndexList) list_index (λ q z. refl) (λ a b st. refl) xs r e
-call_makes overloads.IndexMap xs r s e = makes_two _ (overload_charge overloads.IndexMap) map_index (λ q z. refl) (λ a b st. refl) xs r e
-call_makes overloads.InList xs r s e = makes_two _ (overload_charge overloads.InList) in_list (λ q z. refl) (λ a b st. refl) xs r e
-call_makes overloads.InMap xs r s e = makes_two _ (overload_charge overloads.InMap) in_map (λ q z. refl) (λ a b st. refl) xs r e
-call_makes overloads.Size xs r s e = makes_one _ (overload_charge overloads.Size) size (λ q z. refl) (λ a st. refl) xs r e
-call_makes (overloads.TestText tests.Contains) xs r s e = makes_two _ (overload_charge (overloads.TestText tests.Contains)) (text_test tests.Contains) (λ q z. refl) (λ a b st. refl) xs r e
-call_makes (overloads.TestText tests.StartsWith) xs r s e = makes_two _ (overload_charge (overloads.TestText tests.StartsWith)) (text_test tests.StartsWith) (λ q z. refl) (λ a b st. refl) xs r e
-call_makes (overloads.TestText tests.EndsWith) xs r s e = makes_two _ (overload_charge (overloads.TestText tests.EndsWith)) (text_test tests.EndsWith) (λ q z. refl) (λ a b st. refl) xs r e
+call_makes (overloads.Operate op) xs r s e = work_makes (Operate op) (work op) (λ q z. refl) (λ st. refl) xs r e
 
 -- ---- literals
 
@@ -122,7 +111,7 @@ literal_makes i f charge n acts costs xs r many e = record {
     left : (st : List CelAnswer) → drop n (pushed_all xs st) ≡ st
     left st = subst (λ k. drop k (pushed_all xs st) ≡ st) many (below xs st)
 
-    does : (p : ℕ) (st : List CelAnswer) (g : Locals) (lo : List CelValues)
+    does : (p : ℕ) (st : List CelAnswer) (g : Locals) (lo : List OpenLoop)
         → literal f n (state p (pushed_all xs st) g lo) ≡ goes (state (p + 1) (r ∷ st) g lo)
     does p st g lo =
         let s = state p (pushed_all xs st) g lo in

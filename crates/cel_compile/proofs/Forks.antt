@@ -3,10 +3,11 @@ use Rattle.std.proofs.Common.{◌≡◌, ℕ, suc, ◌+◌, ◌<◌, ◌≤◌, 
 use Rattle.std.specs.Option.{option_and_then}
 use Rattle.cel_value.specs.Types.{ValueType, bool_type}
 use Rattle.stack_machine.specs.Instructions.{Instruction, IfFalse, IfTrue, Jump, LoopNext, LoopStart, LoopTest, Store, Test}
+use Rattle.stack_machine.specs.Locals.{with_local}
 use Rattle.stack_machine.specs.Slots.{Slot, failing, of, is_a, loop_slot}
 use Rattle.stack_machine.specs.Shapes.{Serves, Shape, ways}
 use Rattle.stack_machine.specs.Typable.{Table}
-use Rattle.cel_compile.proofs.Leading.{known_again, known_still, shape, to}
+use Rattle.cel_compile.proofs.Leading.{known_again, known_still, locals_of, shape, to}
 use Rattle.cel_compile.proofs.Settling.{Flows, Settled, Stands, first_settles, good_at, known, lead, one_more, plain, second_settles, served, serves_same, serves_trans, slots_refl, then_flows}
 use Rattle.cel_compile.proofs.Tables.{turned}
 
@@ -40,9 +41,16 @@ module _ (ks : List ValueType) (slots loops : List Slot) (m : ℕ) (t : ValueTyp
 
 pub loop_starts : (ks : List ValueType) (slots loops : List Slot) (m q : ℕ) (t element : ValueType) → loop_slot (of t) ≡ Some (of element)
     → ways (LoopStart q) m (shape (of t ∷ slots) ks loops)
-    ≡ Some (to (m + 1) (shape slots ks (of element ∷ loops)) ∷ to q (shape (failing ∷ slots) ks loops) ∷ [])
+    ≡ Some (to (m + 1) (shape slots ks (of t ∷ loops)) ∷ to q (shape (failing ∷ slots) ks loops) ∷ [])
 loop_starts ks slots loops m q t element over =
-    ap (option_and_then (λ each. Some (to (m + 1) (shape slots ks (each ∷ loops)) ∷ to q (shape (failing ∷ slots) ks loops) ∷ []))) over
+    ap (option_and_then (λ each. Some (to (m + 1) (shape slots ks (of t ∷ loops)) ∷ to q (shape (failing ∷ slots) ks loops) ∷ []))) over
+
+pub loop_goes_on : (ks : List ValueType) (slots loops : List Slot) (m after : ℕ) (t element : ValueType) → loop_slot (of t) ≡ Some (of element)
+    → ways (LoopNext (length ks) after) m (shape slots ks (of t ∷ loops))
+    ≡ Some (to (m + 1) (shape slots (element ∷ ks) (of t ∷ loops)) ∷ to after (shape slots ks loops) ∷ [])
+loop_goes_on ks slots loops m after t element over =
+    ap (option_and_then (λ each. Some ((record { target = m + 1; shape = record { slots = slots; locals = with_local (locals_of ks) (length ks) each; loops = of t ∷ loops } })
+    ∷ to after (shape slots ks loops) ∷ []))) over
 
 -- ---- shapes that say less
 
@@ -137,14 +145,14 @@ module _ (code : List Instruction) (table : Table) where
       pub kept : slice_get code l ≡ Some (Store (length ks))
       pub again : slice_get code (l + 1) ≡ Some (Jump (n + 1))
       pub of_range : table m ≡ shape (of range ∷ slots) ks loops
-      pub in_init : table (m + 1) ≡ shape slots ks (of element ∷ loops)
-      pub of_init : table n ≡ shape (of gathered ∷ slots) ks (of element ∷ loops)
-      pub in_turn : table (n + 1) ≡ shape slots (gathered ∷ ks) (of element ∷ loops)
-      pub in_condition : table (n + 1 + 1) ≡ shape slots (element ∷ gathered ∷ ks) (of element ∷ loops)
-      pub of_condition : table k ≡ shape (of condition ∷ slots) (element ∷ gathered ∷ ks) (of element ∷ loops)
-      pub in_step : table (k + 1) ≡ shape slots (element ∷ gathered ∷ ks) (of element ∷ loops)
-      pub of_step : table l ≡ shape (of step ∷ slots) (element ∷ gathered ∷ ks) (of element ∷ loops)
-      pub in_back : table (l + 1) ≡ turned element gathered step slots ks (of element ∷ loops)
+      pub in_init : table (m + 1) ≡ shape slots ks (of range ∷ loops)
+      pub of_init : table n ≡ shape (of gathered ∷ slots) ks (of range ∷ loops)
+      pub in_turn : table (n + 1) ≡ shape slots (gathered ∷ ks) (of range ∷ loops)
+      pub in_condition : table (n + 1 + 1) ≡ shape slots (element ∷ gathered ∷ ks) (of range ∷ loops)
+      pub of_condition : table k ≡ shape (of condition ∷ slots) (element ∷ gathered ∷ ks) (of range ∷ loops)
+      pub in_step : table (k + 1) ≡ shape slots (element ∷ gathered ∷ ks) (of range ∷ loops)
+      pub of_step : table l ≡ shape (of step ∷ slots) (element ∷ gathered ∷ ks) (of range ∷ loops)
+      pub in_back : table (l + 1) ≡ turned element gathered step slots ks (of range ∷ loops)
       pub in_result : table (l + 1 + 1) ≡ shape slots (gathered ∷ ks) loops
       pub over : loop_slot (of range) ≡ Some (of element)
       pub condition_is : condition ≡ bool_type
@@ -156,11 +164,11 @@ module _ (code : List Instruction) (table : Table) where
       pub inside : q ≤ length code
       pub serves : Serves (shape (of result ∷ slots) ks loops) (table q)
       pub range_flows : Flows code table p m (shape (of range ∷ slots) ks loops)
-      pub init_flows : S (m + 1) (table (m + 1)) → Flows code table (m + 1) n (shape (of gathered ∷ slots) ks (of element ∷ loops))
+      pub init_flows : S (m + 1) (table (m + 1)) → Flows code table (m + 1) n (shape (of gathered ∷ slots) ks (of range ∷ loops))
       pub condition_flows : S (n + 1 + 1) (table (n + 1 + 1))
-          → Flows code table (n + 1 + 1) k (shape (of condition ∷ slots) (element ∷ gathered ∷ ks) (of element ∷ loops))
+          → Flows code table (n + 1 + 1) k (shape (of condition ∷ slots) (element ∷ gathered ∷ ks) (of range ∷ loops))
       pub step_flows : S (k + 1) (table (k + 1))
-          → Flows code table (k + 1) l (shape (of step ∷ slots) (element ∷ gathered ∷ ks) (of element ∷ loops))
+          → Flows code table (k + 1) l (shape (of step ∷ slots) (element ∷ gathered ∷ ks) (of range ∷ loops))
       pub result_flows : S (l + 1 + 1) (table (l + 1 + 1))
           → Flows code table (l + 1 + 1) q (shape (of result ∷ slots) (gathered ∷ ks) loops)
 
@@ -168,7 +176,7 @@ module _ (code : List Instruction) (table : Table) where
         → Turns range gathered condition step result element p m n k l q
         → Flows code table p q (shape (of result ∷ slots) ks loops)
     loop_flow range gathered condition step result element p m n k l q x =
-        let over = of element ∷ loops in
+        let over = of range ∷ loops in
         let outer = gathered ∷ ks in
         let inner = element ∷ outer in
         let after = l + 1 + 1 in
@@ -198,9 +206,9 @@ module _ (code : List Instruction) (table : Table) where
         let i2 : Stands code table n (Store (length ks)) s3 (to (n + 1) s4 ∷ []) =
         record { at = x.first; is = x.of_init; found = refl } in
         let i3 : Stands code table (n + 1) (LoopNext (suc (length ks)) after) s4 (to (n + 1 + 1) s5 ∷ to after s9 ∷ []) =
-        record { at = x.turns; is = x.in_turn; found = refl } in
+        record { at = x.turns; is = x.in_turn; found = loop_goes_on outer slots loops (n + 1) after range element x.over } in
         let i4 : Stands code table k (LoopTest after q) s6 (to (k + 1) s5 ∷ to after s9' ∷ to q f' ∷ []) =
-        record { at = x.tested; is = x.of_condition; found = loop_tests inner slots loops k condition x.condition_is (of element) after q } in
+        record { at = x.tested; is = x.of_condition; found = loop_tests inner slots loops k condition x.condition_is (of range) after q } in
         let i5 : Stands code table l (Store (length ks)) s7 (to (l + 1) s8 ∷ []) =
         record { at = x.kept; is = x.of_step; found = refl } in
         let i6 : Stands code table (l + 1) (Jump (n + 1)) s8 (to (n + 1) s8 ∷ []) =

@@ -5,6 +5,7 @@ use Rattle.std.proofs.lemmas.Option.{slice_get_within}
 use Rattle.attributes.specs.Request.{IsRequest, RequestValue}
 use Rattle.cel_value.specs.Types.{ValueType, bool_type, map_type}
 use Rattle.cel_value.specs.declared.cel_type.KeyType.TheVariants as keys
+use Rattle.cel_ops.specs.declared.operation.Operation.TheVariants as operations
 use Rattle.cel_overload.specs.declared.overload.Overload.TheVariants as overloads
 use Rattle.cel_tree.specs.Checked.{CelChecked}
 use Rattle.cel_tree.specs.GoodConstants.{HasGoodConstants}
@@ -12,7 +13,7 @@ use Rattle.cel_types.specs.Elaborated.{IsElaborated, TypedTree, typed_constant, 
 use Rattle.cel_types.specs.Typing.{IsOver, maps_of}
 use Rattle.cel_types.specs.WellTyped.{AreWellTyped, IsWellTyped}
 use Rattle.cel_types.proofs.WellTypedElaborations.{elaborated_typed}
-use Rattle.stack_machine.specs.Instructions.{Instruction, Attr, And, Const, Field, HasField, IfFalse, IfTrue, Load, Or}
+use Rattle.stack_machine.specs.Instructions.{Instruction, Attr, Const, Field, HasField, IfFalse, IfTrue, Load, Operate}
 use Rattle.stack_machine.specs.Machine.{NeverStuck}
 use Rattle.stack_machine.specs.Shapes.{Serves, leaves, ways}
 use Rattle.stack_machine.specs.Slots.{Slot, field_slot, has_field_slot, of}
@@ -93,9 +94,9 @@ module _ (code : List Instruction) (table : Table) where
         begins on p d m po ks slots loops (front table _ _ p m q agrees (omega arith))
     begins (typed_has t on name) p d q (m, po, h, e) ks slots loops agrees =
         begins on p d m po ks slots loops (front table _ _ p m q agrees (omega arith))
-    begins (typed_call t overloads.LogicalAnd (typed a (typed b no_typed))) p d q (m, n, pa, h1, pb, h2, e) ks slots loops agrees =
+    begins (typed_call t (overloads.Operate operations.And) (typed a (typed b no_typed))) p d q (m, n, pa, h1, pb, h2, e) ks slots loops agrees =
         begins a p d m pa ks slots loops (both_tables a b p d m n q pa pb e ks slots loops agrees).0
-    begins (typed_call t overloads.LogicalOr (typed a (typed b no_typed))) p d q (m, n, pa, h1, pb, h2, e) ks slots loops agrees =
+    begins (typed_call t (overloads.Operate operations.Or) (typed a (typed b no_typed))) p d q (m, n, pa, h1, pb, h2, e) ks slots loops agrees =
         begins a p d m pa ks slots loops (both_tables a b p d m n q pa pb e ks slots loops agrees).0
     begins (typed_call t overloads.Conditional (typed c (typed a (typed b no_typed)))) p d q (m, n, pc, h1, pa, h2, pb) ks slots loops agrees =
         let la = longer code a (m + 1) d n pa in
@@ -161,29 +162,29 @@ module _ (code : List Instruction) (table : Table) where
         let first = flows on p m ks slots loops g.0 po (front table _ _ p m q agrees (omega (arith, e))) (omega (arith, e, le)) settled (serves_same s (table m) (sym is)) in
         then_flows code table p m q s r first is
         (λ there. plain code table m q (HasField name) s r (record { at = h; is = is; found = has_leaves ks slots loops m (kind on) g.1.0 t name g.1.1 g.2 }) e le serves there)
-    flows (typed_call t overloads.LogicalAnd (typed a (typed b no_typed))) p q ks slots loops g (m, n, pa, h1, pb, h2, e) agrees le settled serves =
+    flows (typed_call t (overloads.Operate operations.And) (typed a (typed b no_typed))) p q ks slots loops g (m, n, pa, h1, pb, h2, e) agrees le settled serves =
         let takes : kind a ∷ kind b ∷ [] ≡ bool_type ∷ bool_type ∷ [] = g.1.0 in
         let is_a : kind a ≡ bool_type = cc (takes) in
         let lb = longer code b (m + 1) (length ks) n pb in
         let left = of (kind a) ∷ slots in
         let (in_a, at_m, in_b, at_n) = both_tables a b p (length ks) m n q pa pb e ks slots loops agrees in
-        let made : ways And n (shape (of (kind b) ∷ left) ks loops) ≡ Some (to (n + 1) (shape (of t ∷ slots) ks loops) ∷ []) =
-        call_leaves n slots ks loops overloads.LogicalAnd (kind a ∷ kind b ∷ []) t tt g.1 in
-        both_flow code table ks slots loops (IfFalse q) And (kind a) (kind b) t p m n q
+        let made : ways (Operate operations.And) n (shape (of (kind b) ∷ left) ks loops) ≡ Some (to (n + 1) (shape (of t ∷ slots) ks loops) ∷ []) =
+        call_leaves n slots ks loops (overloads.Operate operations.And) (kind a ∷ kind b ∷ []) t tt g.1 in
+        both_flow code table ks slots loops (IfFalse q) (Operate operations.And) (kind a) (kind b) t p m n q
         (record { at = h1; is = at_m; found = if_false ks slots loops m (kind a) is_a q })
         (record { at = h2; is = at_n; found = made })
         e (omega (arith, lb)) le (is_a ∙ sym g.1.1) (begins b (m + 1) (length ks) n pb ks left loops in_b) serves
         (flows a p m ks slots loops g.0.0 pa in_a (omega (arith, lb, e, le)) settled (serves_same _ (table m) (sym at_m)))
         (λ there. flows b (m + 1) n ks left loops g.0.1.0 pb in_b (omega (arith, e, le)) there (serves_same _ (table n) (sym at_n)))
-    flows (typed_call t overloads.LogicalOr (typed a (typed b no_typed))) p q ks slots loops g (m, n, pa, h1, pb, h2, e) agrees le settled serves =
+    flows (typed_call t (overloads.Operate operations.Or) (typed a (typed b no_typed))) p q ks slots loops g (m, n, pa, h1, pb, h2, e) agrees le settled serves =
         let takes : kind a ∷ kind b ∷ [] ≡ bool_type ∷ bool_type ∷ [] = g.1.0 in
         let is_a : kind a ≡ bool_type = cc (takes) in
         let lb = longer code b (m + 1) (length ks) n pb in
         let left = of (kind a) ∷ slots in
         let (in_a, at_m, in_b, at_n) = both_tables a b p (length ks) m n q pa pb e ks slots loops agrees in
-        let made : ways Or n (shape (of (kind b) ∷ left) ks loops) ≡ Some (to (n + 1) (shape (of t ∷ slots) ks loops) ∷ []) =
-        call_leaves n slots ks loops overloads.LogicalOr (kind a ∷ kind b ∷ []) t tt g.1 in
-        both_flow code table ks slots loops (IfTrue q) Or (kind a) (kind b) t p m n q
+        let made : ways (Operate operations.Or) n (shape (of (kind b) ∷ left) ks loops) ≡ Some (to (n + 1) (shape (of t ∷ slots) ks loops) ∷ []) =
+        call_leaves n slots ks loops (overloads.Operate operations.Or) (kind a ∷ kind b ∷ []) t tt g.1 in
+        both_flow code table ks slots loops (IfTrue q) (Operate operations.Or) (kind a) (kind b) t p m n q
         (record { at = h1; is = at_m; found = if_true ks slots loops m (kind a) is_a q })
         (record { at = h2; is = at_n; found = made })
         e (omega (arith, lb)) le (is_a ∙ sym g.1.1) (begins b (m + 1) (length ks) n pb ks left loops in_b) serves
@@ -236,7 +237,7 @@ module _ (code : List Instruction) (table : Table) where
         let element_is : g.2.0 ≡ element = walked_is (kind range) g.2.0 g.2.1 in
         let outer = kind init ∷ ks in
         let inner = element ∷ outer in
-        let over = of element ∷ loops in
+        let over = of (kind range) ∷ loops in
         let typed_condition : IsWellTyped inner condition = subst (λ z. IsWellTyped (z ∷ outer) condition) element_is g.2.2 in
         let typed_step : IsWellTyped inner step = subst (λ z. IsWellTyped (z ∷ outer) step) element_is g.2.4 in
         let lr = longer code range p d m pr in

@@ -1,13 +1,13 @@
 -- Runs between points of a code, whatever is kept below on the stack.
 use Rattle.std.proofs.Common.{◌≡◌, ℕ, ◌+◌, ◌<◌, ◌≤◌, Bool, true, false, cond, nat_eq, List, [], ◌∷◌, length, Option, Some, refl, sym, ap, ◌∙◌, subst, arith, slice_get, ne_eqb, eq-eqb}
 use Rattle.std.proofs.lemmas.Bool.Decides.{nat_tests}
-use Rattle.cel_value.specs.Values.{CelAnswer, CelValues}
+use Rattle.cel_value.specs.Values.{CelAnswer, CelValue}
 use Rattle.attributes.specs.Request.{RequestValue}
 use Rattle.cel_types.specs.TypedMeaning.{local_at}
 use Rattle.stack_machine.specs.Instructions.{Instruction, Store}
 use Rattle.stack_machine.specs.Charges.{charge_on}
 use Rattle.stack_machine.specs.Locals.{with_local}
-use Rattle.stack_machine.specs.Machine.{State, Step, Reaches, more, act, goes}
+use Rattle.stack_machine.specs.Machine.{OpenLoop, State, Step, Reaches, more, act, goes}
 
 -- what the machine's locals are
 abbrev pub Locals : Type 0
@@ -45,14 +45,18 @@ held (b ∷ ls) f outside a h e = by_test (nat_eq outside (length ls)) refl e
 
 -- ---- points
 
+-- a loop over a value that has begun so many turns
+abbrev pub turned : CelValue → ℕ → OpenLoop
+turned v n = record { range = v; turns = n }
+
 -- where a run stands: the position, the stack, the locals in scope, the innermost first, and the open loops
 pub data Point : Type 0 where
-  at : ℕ → List CelAnswer → List CelAnswer → List CelValues → Point
+  at : ℕ → List CelAnswer → List CelAnswer → List OpenLoop → Point
 
 abbrev pub HoldsAt : Point → Locals → Type 0
 HoldsAt (at p st ls lo) f = Holds ls f
 
-abbrev pub state : ℕ → List CelAnswer → Locals → List CelValues → State
+abbrev pub state : ℕ → List CelAnswer → Locals → List OpenLoop → State
 state p st f lo = record { position = p; stack = st; locals = f; loops = lo }
 
 abbrev pub state_at : Point → Locals → State
@@ -113,7 +117,7 @@ module _ (code : List Instruction) (request : RequestValue) where
   stay P = forget P P (λ f h. (h, refl))
 
   -- in one step
-  pub one : (i : Instruction) (p : ℕ) (st ls : List CelAnswer) (lo : List CelValues) (Q : Point) → slice_get code p ≡ Some i
+  pub one : (i : Instruction) (p : ℕ) (st ls : List CelAnswer) (lo : List OpenLoop) (Q : Point) → slice_get code p ≡ Some i
       → ((f : Locals) → Holds ls f → (g : Locals) × HoldsAt Q g × (act i request (state p st f lo) ≡ goes (state_at Q g)))
       → Goes (charge_on i st) (at p st ls lo) Q
   one i p st ls lo Q e does = record {
@@ -129,13 +133,13 @@ module _ (code : List Instruction) (request : RequestValue) where
   }
 
   -- in one step that leaves the locals alone
-  pub plain : (i : Instruction) (p : ℕ) (st ls : List CelAnswer) (lo : List CelValues) (q : ℕ) (st' : List CelAnswer) (lo' : List CelValues) → slice_get code p ≡ Some i
+  pub plain : (i : Instruction) (p : ℕ) (st ls : List CelAnswer) (lo : List OpenLoop) (q : ℕ) (st' : List CelAnswer) (lo' : List OpenLoop) → slice_get code p ≡ Some i
       → ((f : Locals) → act i request (state p st f lo) ≡ goes (state q st' f lo'))
       → Goes (charge_on i st) (at p st ls lo) (at q st' ls lo')
   plain i p st ls lo q st' lo' e does = one i p st ls lo (at q st' ls lo') e (λ f h. (f, h, does f))
 
   -- the top becomes the next local
-  pub stores : (p : ℕ) (st ls : List CelAnswer) (lo : List CelValues) (a : CelAnswer) → slice_get code p ≡ Some (Store (length ls))
+  pub stores : (p : ℕ) (st ls : List CelAnswer) (lo : List OpenLoop) (a : CelAnswer) → slice_get code p ≡ Some (Store (length ls))
       → Goes 1 (at p (a ∷ st) ls lo) (at (p + 1) st (a ∷ ls) lo)
   stores p st ls lo a e =
       one (Store (length ls)) p (a ∷ st) ls lo (at (p + 1) st (a ∷ ls) lo) e

@@ -13,9 +13,9 @@ use Rattle.cel_ops.specs.Arithmetic.{is_int64}
 use Rattle.cel_ops.specs.Typed.{IsJoined, IsSized}
 use Rattle.cel_ops.specs.declared.comparison.CompareOp.{CompareOp}
 use Rattle.cel_ops.specs.declared.comparison.CompareOp.TheVariants as comparisons
-use Rattle.cel_ops.specs.declared.texts.TextTest.TheVariants as tests
 use Rattle.cel_overload.specs.Overloads.{IsCompared, IsNumber, Takes}
 use Rattle.cel_overload.specs.declared.overload.Overload.{Overload}
+use Rattle.cel_ops.specs.declared.operation.Operation.TheVariants as operations
 use Rattle.cel_overload.specs.declared.overload.Overload.TheVariants as overloads
 use Rattle.cel_types.specs.Elaborated.{TypedTrees, kinds, no_typed, typed}
 use Rattle.cel_types.specs.TypedMeaning.{local_at}
@@ -189,27 +189,25 @@ module _ (m : ℕ) (slots : List Slot) (ks : List ValueType) (loops : List Slot)
       ∙ ap (λ o. leaves o m (shape (of b ∷ of a ∷ slots) ks loops) slots) e
 
   pub call_leaves : (o : Overload) (ts : List ValueType) (t : ValueType) → IsStrict o → Takes o ts t → Leaves (instruction_of o) ts t
-  call_leaves overloads.LogicalAnd ts t s (are, is) = rw is (two _ bool_type bool_type bool_type ts are refl)
-  call_leaves overloads.LogicalOr ts t s (are, is) = rw is (two _ bool_type bool_type bool_type ts are refl)
-  call_leaves overloads.LogicalNot ts t s (are, is) = rw is (one _ bool_type bool_type ts are refl)
-  call_leaves overloads.NotStrictlyFalse ts t s (are, is) = rw is (one _ bool_type bool_type ts are refl)
+  call_leaves (overloads.Operate operations.And) ts t s (are, is) = rw is (two _ bool_type bool_type bool_type ts are refl)
+  call_leaves (overloads.Operate operations.Or) ts t s (are, is) = rw is (two _ bool_type bool_type bool_type ts are refl)
+  call_leaves (overloads.Operate operations.Not) ts t s (are, is) = rw is (one _ bool_type bool_type ts are refl)
+  call_leaves (overloads.Operate operations.NotStrictlyFalse) ts t s (are, is) = rw is (one _ bool_type bool_type ts are refl)
   call_leaves overloads.Conditional ts t s h = absurd s
-  call_leaves (overloads.Compare op) ts t s (a, may, are, is) = rw is (two (compare_slot op) a a bool_type ts are (compare_known op a may))
-  call_leaves (overloads.Arithmetic op) ts t s (number, are) = two arithmetic_slot t t t ts are (number_known t number)
-  call_leaves overloads.Concat ts t s (joins, are) = two concat_slot t t t ts are (concat_known t joins)
-  call_leaves overloads.Negate ts t s (are, is) = rw is (one _ int_type int_type ts are refl)
-  call_leaves overloads.IndexList ts t s are = two _ (list_type t) int_type t ts are refl
-  call_leaves overloads.IndexMap ts t s (k, are) =
+  call_leaves (overloads.Operate (operations.Compare op)) ts t s (a, may, are, is) = rw is (two (compare_slot op) a a bool_type ts are (compare_known op a may))
+  call_leaves (overloads.Operate (operations.Arithmetic op)) ts t s (number, are) = two arithmetic_slot t t t ts are (number_known t number)
+  call_leaves (overloads.Operate operations.Concat) ts t s (joins, are) = two concat_slot t t t ts are (concat_known t joins)
+  call_leaves (overloads.Operate operations.Negate) ts t s (are, is) = rw is (one _ int_type int_type ts are refl)
+  call_leaves (overloads.Operate operations.ListIndex) ts t s are = two _ (list_type t) int_type t ts are refl
+  call_leaves (overloads.Operate operations.MapIndex) ts t s (k, are) =
       two map_index_slot (map_type k t) (type_of_key k) t ts are (ap (λ b. of_type_if b t) (type_self (type_of_key k)))
-  call_leaves overloads.InList ts t s (a, are, is) =
+  call_leaves (overloads.Operate operations.InList) ts t s (a, are, is) =
       rw is (two in_list_slot a (list_type a) bool_type ts are (ap (λ b. of_type_if b bool_type) (type_self a)))
-  call_leaves overloads.InMap ts t s (k, a, are, is) =
+  call_leaves (overloads.Operate operations.InMap) ts t s (k, a, are, is) =
       rw is (two in_map_slot (type_of_key k) (map_type k a) bool_type ts are (ap (λ b. of_type_if b bool_type) (type_self (type_of_key k))))
-  call_leaves overloads.Size ts t s (a, sizes, are, is) =
+  call_leaves (overloads.Operate operations.Size) ts t s (a, sizes, are, is) =
       rw is (one size_slot a int_type ts are (ap (λ b. of_type_if b int_type) (sized a sizes)))
-  call_leaves (overloads.TestText tests.Contains) ts t s (are, is) = rw is (two _ text_type text_type bool_type ts are refl)
-  call_leaves (overloads.TestText tests.StartsWith) ts t s (are, is) = rw is (two _ text_type text_type bool_type ts are refl)
-  call_leaves (overloads.TestText tests.EndsWith) ts t s (are, is) = rw is (two _ text_type text_type bool_type ts are refl)
+  call_leaves (overloads.Operate (operations.TestText test)) ts t s (are, is) = rw is (two _ text_type text_type bool_type ts are refl)
 
 -- ---- literals
 

@@ -1,13 +1,14 @@
 -- The run of each kind of node from those of its parts.
 use Rattle.std.proofs.Common.{◌≡◌, ℕ, ◌+◌, ◌≤◌, true, false, List, [], ◌∷◌, Some, refl, arith, slice_get, max}
-use Rattle.cel_value.specs.Values.{CelAnswer, CelValues, bool, value, fails}
+use Rattle.cel_value.specs.Values.{CelAnswer, bool, value, fails}
 use Rattle.attributes.specs.Request.{RequestValue}
 use Rattle.cel_ops.specs.Logic.{conjunction, disjunction}
 use Rattle.cel_overload.specs.Answers.{conditional}
+use Rattle.cel_ops.specs.declared.operation.Operation.TheVariants as operations
 use Rattle.cel_overload.specs.declared.overload.Overload.TheVariants as overloads
-use Rattle.stack_machine.specs.Instructions.{Instruction, And, Or, Jump, IfFalse, IfTrue, Test}
+use Rattle.stack_machine.specs.Instructions.{Instruction, Operate, Jump, IfFalse, IfTrue, Test}
 use Rattle.stack_machine.specs.Charges.{charge_on}
-use Rattle.stack_machine.specs.Machine.{act, goes}
+use Rattle.stack_machine.specs.Machine.{OpenLoop, act, goes}
 use Rattle.cel_compile.proofs.Goes.{Locals, state, at, Goes, then_goes, at_most, plain}
 use Rattle.cel_compile.proofs.Calls.{Makes, pushed_all, call_makes}
 
@@ -21,7 +22,7 @@ true_stays (value (bool x)) r e = cc
 true_stays (fails d) r e = cc
 true_stays (value v) r e = absurd cc
 
-module _ (code : List Instruction) (request : RequestValue) (ls : List CelAnswer) (lo : List CelValues) where
+module _ (code : List Instruction) (request : RequestValue) (ls : List CelAnswer) (lo : List OpenLoop) where
   -- an instruction that makes an answer of the topmost ones
   pub makes_goes : (i : Instruction) (p m : ℕ) (xs st : List CelAnswer) (r : CelAnswer) (c charge e : ℕ)
       → slice_get code m ≡ Some i → Makes i xs r charge → c + charge ≤ e
@@ -47,7 +48,7 @@ module _ (code : List Instruction) (request : RequestValue) (ls : List CelAnswer
       makes_goes j p n (a ∷ b ∷ []) st r (ca + 1 + cb) 1 (ca + 1 + cb + 1) h2 makes (omega arith) g1
 
   pub and_goes : (p m n q : ℕ) (st : List CelAnswer) (ca cb : ℕ) (a b r : CelAnswer)
-      → slice_get code m ≡ Some (IfFalse q) → slice_get code n ≡ Some And → q ≡ n + 1 → conjunction a b ≡ Some r
+      → slice_get code m ≡ Some (IfFalse q) → slice_get code n ≡ Some (Operate operations.And) → q ≡ n + 1 → conjunction a b ≡ Some r
       → Goes code request ca (at p st ls lo) (at m (a ∷ st) ls lo)
       → Goes code request cb (at (m + 1) (a ∷ st) ls lo) (at n (b ∷ a ∷ st) ls lo)
       → Goes code request (ca + 1 + cb + 1) (at p st ls lo) (at q (r ∷ st) ls lo)
@@ -59,13 +60,13 @@ module _ (code : List Instruction) (request : RequestValue) (ls : List CelAnswer
       rw same (at_most code request (omega arith) (then_goes code request ga g))
   and_goes p m n q st ca cb (value (bool true)) b r h1 h2 e is ga gb =
       let a = value (bool true) in
-      rw e (both_goes (IfFalse q) And p m n st ca cb a b r h1 h2 (call_makes overloads.LogicalAnd (a ∷ b ∷ []) r tt is) refl (λ f. refl) ga gb)
+      rw e (both_goes (IfFalse q) (Operate operations.And) p m n st ca cb a b r h1 h2 (call_makes (overloads.Operate operations.And) (a ∷ b ∷ []) r tt is) refl (λ f. refl) ga gb)
   and_goes p m n q st ca cb (fails d) b r h1 h2 e is ga gb =
-      rw e (both_goes (IfFalse q) And p m n st ca cb (fails d) b r h1 h2 (call_makes overloads.LogicalAnd (fails d ∷ b ∷ []) r tt is) refl (λ f. refl) ga gb)
+      rw e (both_goes (IfFalse q) (Operate operations.And) p m n st ca cb (fails d) b r h1 h2 (call_makes (overloads.Operate operations.And) (fails d ∷ b ∷ []) r tt is) refl (λ f. refl) ga gb)
   and_goes p m n q st ca cb (value v) b r h1 h2 e is ga gb = absurd cc
 
   pub or_goes : (p m n q : ℕ) (st : List CelAnswer) (ca cb : ℕ) (a b r : CelAnswer)
-      → slice_get code m ≡ Some (IfTrue q) → slice_get code n ≡ Some Or → q ≡ n + 1 → disjunction a b ≡ Some r
+      → slice_get code m ≡ Some (IfTrue q) → slice_get code n ≡ Some (Operate operations.Or) → q ≡ n + 1 → disjunction a b ≡ Some r
       → Goes code request ca (at p st ls lo) (at m (a ∷ st) ls lo)
       → Goes code request cb (at (m + 1) (a ∷ st) ls lo) (at n (b ∷ a ∷ st) ls lo)
       → Goes code request (ca + 1 + cb + 1) (at p st ls lo) (at q (r ∷ st) ls lo)
@@ -77,9 +78,9 @@ module _ (code : List Instruction) (request : RequestValue) (ls : List CelAnswer
       rw same (at_most code request (omega arith) (then_goes code request ga g))
   or_goes p m n q st ca cb (value (bool false)) b r h1 h2 e is ga gb =
       let a = value (bool false) in
-      rw e (both_goes (IfTrue q) Or p m n st ca cb a b r h1 h2 (call_makes overloads.LogicalOr (a ∷ b ∷ []) r tt is) refl (λ f. refl) ga gb)
+      rw e (both_goes (IfTrue q) (Operate operations.Or) p m n st ca cb a b r h1 h2 (call_makes (overloads.Operate operations.Or) (a ∷ b ∷ []) r tt is) refl (λ f. refl) ga gb)
   or_goes p m n q st ca cb (fails d) b r h1 h2 e is ga gb =
-      rw e (both_goes (IfTrue q) Or p m n st ca cb (fails d) b r h1 h2 (call_makes overloads.LogicalOr (fails d ∷ b ∷ []) r tt is) refl (λ f. refl) ga gb)
+      rw e (both_goes (IfTrue q) (Operate operations.Or) p m n st ca cb (fails d) b r h1 h2 (call_makes (overloads.Operate operations.Or) (fails d ∷ b ∷ []) r tt is) refl (λ f. refl) ga gb)
   or_goes p m n q st ca cb (value v) b r h1 h2 e is ga gb = absurd cc
 
   pub choice_goes : (p m n q : ℕ) (st : List CelAnswer) (ck ca cb : ℕ) (c a b r : CelAnswer)

@@ -4,6 +4,7 @@ use Rattle.std.specs.Prelude.{IsTrue}
 use Rattle.std.proofs.lemmas.List.{drop_all, drop_more}
 use Rattle.cel_value.specs.Types.{ValueType}
 use Rattle.cel_overload.specs.declared.overload.Overload.{Overload}
+use Rattle.cel_ops.specs.declared.operation.Operation.TheVariants as operations
 use Rattle.cel_overload.specs.declared.overload.Overload.TheVariants as overloads
 use Rattle.cel_types.specs.Elaborated.{TypedTree, typed_constant, typed_local, typed_attribute, typed_field, typed_has, typed_call, typed_list, typed_map, typed_loop, no_typed, typed}
 use Rattle.cel_types.specs.View.{expr_view}
@@ -44,8 +45,8 @@ some_extent (typed_local t outside) = omega arith
 some_extent (typed_attribute t a) = omega arith
 some_extent (typed_field t on name) = omega arith
 some_extent (typed_has t on name) = omega arith
-some_extent (typed_call t overloads.LogicalAnd (typed a (typed b no_typed))) = omega arith
-some_extent (typed_call t overloads.LogicalOr (typed a (typed b no_typed))) = omega arith
+some_extent (typed_call t (overloads.Operate operations.And) (typed a (typed b no_typed))) = omega arith
+some_extent (typed_call t (overloads.Operate operations.Or) (typed a (typed b no_typed))) = omega arith
 some_extent (typed_call t overloads.Conditional (typed c (typed a (typed b no_typed)))) = omega arith
 some_extent (typed_call t o operands) = let some : 1 ≤ extents operands + 1 = omega arith in some
 some_extent (typed_list t elements) = omega arith
@@ -75,11 +76,11 @@ three_operands (x ∷ y ∷ z ∷ []) a b c d e f least less ea eb ec = rw (ea, 
 three_operands (x ∷ y ∷ z ∷ w ∷ xs) a b c d e f least less ea eb ec = absurd (omega arith)
 
 pub plain_grows : (bj bc : Bool) (d : ℕ) (t : ValueType) (o : Overload) (xs : List TypedExpr) (i0 i1 i2 : List Instr) (i : Instr)
-    → (IsTrue bj ↔ (((o ≡ overloads.LogicalAnd) ⊎ (o ≡ overloads.LogicalOr)) × (length xs ≡ 2))) → bj ≡ false
+    → (IsTrue bj ↔ (((o ≡ (overloads.Operate operations.And)) ⊎ (o ≡ (overloads.Operate operations.Or))) × (length xs ≡ 2))) → bj ≡ false
     → (IsTrue bc ↔ ((o ≡ overloads.Conditional) × (length xs ≡ 3))) → bc ≡ false
     → GrowsAll i0 i1 d (exprs_view xs) → i2 ≡ i1 ++ i ∷ [] → instr_view i ≡ instruction_of o → Grows i0 i2 d (typed_call t o (exprs_view xs))
-plain_grows bj bc d t overloads.LogicalAnd (x ∷ y ∷ []) i0 i1 i2 i hj nj hc nc g e is = let h : bj ≡ true = hj.1 (inl refl, refl) in absurd cc
-plain_grows bj bc d t overloads.LogicalOr (x ∷ y ∷ []) i0 i1 i2 i hj nj hc nc g e is = let h : bj ≡ true = hj.1 (inr refl, refl) in absurd cc
+plain_grows bj bc d t (overloads.Operate operations.And) (x ∷ y ∷ []) i0 i1 i2 i hj nj hc nc g e is = let h : bj ≡ true = hj.1 (inl refl, refl) in absurd cc
+plain_grows bj bc d t (overloads.Operate operations.Or) (x ∷ y ∷ []) i0 i1 i2 i hj nj hc nc g e is = let h : bj ≡ true = hj.1 (inr refl, refl) in absurd cc
 plain_grows bj bc d t overloads.Conditional (x ∷ y ∷ z ∷ []) i0 i1 i2 i hj nj hc nc g e is = let h : bc ≡ true = hc.1 (refl, refl) in absurd cc
 plain_grows bj bc d t o xs i0 i1 i2 i hj nj hc nc g e is =
     closed i0 i1 i2 i (extents (exprs_view xs)) (HaveFewLocals d (exprs_view xs)) (codes_of (length i0) d (exprs_view xs)) (instruction_of o) g e (λ short. is)

@@ -2,9 +2,10 @@
 use Rattle.std.proofs.Common.{◌≡◌, ℕ, suc, ◌+◌, ◌<◌, List, [], ◌∷◌, ◌++◌, length, Some, refl, sym, ap, ◌∙◌, subst, arith, append_assoc, length-append, slice_get}
 use Rattle.std.proofs.Math.Seq.{get_or-append_seam}
 use Rattle.std.proofs.lemmas.Option.{slice_get-get_or}
+use Rattle.cel_ops.specs.declared.operation.Operation.TheVariants as operations
 use Rattle.cel_overload.specs.declared.overload.Overload.TheVariants as overloads
 use Rattle.cel_types.specs.Elaborated.{TypedTree, typed_constant, typed_local, typed_attribute, typed_field, typed_has, typed_call, typed_list, typed_map, typed_loop, TypedTrees, no_typed, typed}
-use Rattle.stack_machine.specs.Instructions.{Instruction, Const, Attr, Load, Store, And, Or, Field, HasField, Jump, IfFalse, IfTrue, Test, LoopStart, LoopNext, LoopTest}
+use Rattle.stack_machine.specs.Instructions.{Instruction, Const, Attr, Load, Store, Operate, Field, HasField, Jump, IfFalse, IfTrue, Test, LoopStart, LoopNext, LoopTest}
 use Rattle.cel_compile.specs.Codes.{instruction_of, list_instruction, map_instruction, extent, extents, code_of, codes_of}
 
 -- the instructions stand in the code at this position
@@ -23,12 +24,12 @@ abbrev mutual
       (m : ℕ) × Placed code p d on m × (slice_get code m ≡ Some (Field name)) × (q ≡ m + 1)
   Placed code p d (typed_has t on name) q =
       (m : ℕ) × Placed code p d on m × (slice_get code m ≡ Some (HasField name)) × (q ≡ m + 1)
-  Placed code p d (typed_call t overloads.LogicalAnd (typed a (typed b no_typed))) q = (m n : ℕ)
+  Placed code p d (typed_call t (overloads.Operate operations.And) (typed a (typed b no_typed))) q = (m n : ℕ)
       × Placed code p d a m × (slice_get code m ≡ Some (IfFalse q))
-      × Placed code (m + 1) d b n × (slice_get code n ≡ Some And) × (q ≡ n + 1)
-  Placed code p d (typed_call t overloads.LogicalOr (typed a (typed b no_typed))) q = (m n : ℕ)
+      × Placed code (m + 1) d b n × (slice_get code n ≡ Some (Operate operations.And)) × (q ≡ n + 1)
+  Placed code p d (typed_call t (overloads.Operate operations.Or) (typed a (typed b no_typed))) q = (m n : ℕ)
       × Placed code p d a m × (slice_get code m ≡ Some (IfTrue q))
-      × Placed code (m + 1) d b n × (slice_get code n ≡ Some Or) × (q ≡ n + 1)
+      × Placed code (m + 1) d b n × (slice_get code n ≡ Some (Operate operations.Or)) × (q ≡ n + 1)
   Placed code p d (typed_call t overloads.Conditional (typed c (typed a (typed b no_typed)))) q =
       (m n : ℕ) × Placed code p d c m × (slice_get code m ≡ Some (Test (n + 1) q))
       × Placed code (m + 1) d a n × (slice_get code n ≡ Some (Jump q))
@@ -83,9 +84,9 @@ mutual
   extent_is (typed_attribute t a) p d = refl
   extent_is (typed_field t on name) p d = simp (length-append, extent_is on) (omega arith)
   extent_is (typed_has t on name) p d = simp (length-append, extent_is on) (omega arith)
-  extent_is (typed_call t overloads.LogicalAnd (typed a (typed b no_typed))) p d =
+  extent_is (typed_call t (overloads.Operate operations.And) (typed a (typed b no_typed))) p d =
       simp (length-append, extent_is a, extent_is b) (omega arith)
-  extent_is (typed_call t overloads.LogicalOr (typed a (typed b no_typed))) p d =
+  extent_is (typed_call t (overloads.Operate operations.Or) (typed a (typed b no_typed))) p d =
       simp (length-append, extent_is a, extent_is b) (omega arith)
   extent_is (typed_call t overloads.Conditional (typed c (typed a (typed b no_typed)))) p d =
       simp (length-append, extent_is c, extent_is a, extent_is b) (omega arith)
@@ -118,7 +119,7 @@ module _ (code : List Instruction) where
         (p + extent on, placed on p d (p + extent on) refl (has_front code p _ _ h), (behind on p d _ h).0, omega arith)
     placed (typed_has t on name) p d q e h =
         (p + extent on, placed on p d (p + extent on) refl (has_front code p _ _ h), (behind on p d _ h).0, omega arith)
-    placed (typed_call t overloads.LogicalAnd (typed a (typed b no_typed))) p d q e h =
+    placed (typed_call t (overloads.Operate operations.And) (typed a (typed b no_typed))) p d q e h =
         let m = p + extent a in
         let n = m + 1 + extent b in
         let h1 = behind a p d _ h in
@@ -132,7 +133,7 @@ module _ (code : List Instruction) where
           h2.0,
           sym e1,
         )
-    placed (typed_call t overloads.LogicalOr (typed a (typed b no_typed))) p d q e h =
+    placed (typed_call t (overloads.Operate operations.Or) (typed a (typed b no_typed))) p d q e h =
         let m = p + extent a in
         let n = m + 1 + extent b in
         let h1 = behind a p d _ h in

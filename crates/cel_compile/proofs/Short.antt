@@ -3,6 +3,7 @@ use Rattle.std.proofs.Common.{◌≡◌, ℕ, ◌+◌, ◌*◌, ◌<◌, ◌≤�
 use Rattle.std.proofs.Math.Nat.{le-max_left, le-max_right}
 use Rattle.cel_value.specs.Types.{ValueType}
 use Rattle.cel_overload.specs.declared.overload.Overload.{Overload}
+use Rattle.cel_ops.specs.declared.operation.Operation.TheVariants as operations
 use Rattle.cel_overload.specs.declared.overload.Overload.TheVariants as overloads
 use Rattle.cel_tree.specs.Checked.{CelChecked}
 use Rattle.cel_tree.specs.Message.{IsChecked}
@@ -21,8 +22,8 @@ use Rattle.cel_compile.proofs.Placing.{extent_is}
 
 -- a call has one instruction beside its operands', or two where it has as many operands
 call_extent : (t : ValueType) (o : Overload) (es : TypedTrees) → extent (typed_call t o es) < extents es + count es + 2
-call_extent t overloads.LogicalAnd (typed a (typed b no_typed)) = omega arith
-call_extent t overloads.LogicalOr (typed a (typed b no_typed)) = omega arith
+call_extent t (overloads.Operate operations.And) (typed a (typed b no_typed)) = omega arith
+call_extent t (overloads.Operate operations.Or) (typed a (typed b no_typed)) = omega arith
 call_extent t overloads.Conditional (typed c (typed a (typed b no_typed))) = omega arith
 call_extent t o es =
     let one : extent (typed_call t o es) ≡ extents es + 1 = refl in omega (arith, one)

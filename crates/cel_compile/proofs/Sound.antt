@@ -15,6 +15,7 @@ use Rattle.cel_ops.specs.Logic.{conjunction, disjunction}
 use Rattle.cel_ops.specs.Typed.{ElementsHaveType}
 use Rattle.cel_overload.specs.Answers.{HaveTypes, conditional, on_two, overload_answer}
 use Rattle.cel_overload.specs.steps.Charges.{overload_charge}
+use Rattle.cel_ops.specs.declared.operation.Operation.TheVariants as operations
 use Rattle.cel_overload.specs.declared.overload.Overload.TheVariants as overloads
 use Rattle.cel_types.specs.Elaborated.{TypedTree, typed_constant, typed_local, typed_attribute, typed_field, typed_has, typed_call, typed_list, typed_map, typed_loop, TypedTrees, no_typed, typed, kind, kinds}
 use Rattle.cel_types.specs.Meaning.{before, fold, over}
@@ -24,13 +25,13 @@ use Rattle.cel_types.proofs.WellTypedAnswers.{answer_typed, answers_typed, walke
 use Rattle.cost_bound.specs.Costs.{charge_at, cost_of, costs_of, element_size, grown, map_cost, size_of, sizes_of, total, turns_cost}
 use Rattle.cost_bound.specs.Sizes.{AllWithin, Fits, Size, Within, most_of}
 use Rattle.stack_machine.specs.Instructions.{Instruction, Const, Attr, Load, Store, EmptyList, EmptyMap, Field, HasField, LoopStart, MakeList, MakeMap}
-use Rattle.stack_machine.specs.Machine.{gives, opened}
+use Rattle.stack_machine.specs.Machine.{OpenLoop, gives, opened}
 use Rattle.cel_compile.specs.Codes.{count, instruction_of, list_instruction, map_instruction, pairs}
 use Rattle.cel_compile.proofs.Answering.{before_some, then_some}
 use Rattle.cel_compile.proofs.Bounds.{Bounds}
 use Rattle.cel_compile.proofs.Calls.{Makes, call_makes, literal_makes, pushed_all}
-use Rattle.cel_compile.proofs.Goes.{Goes, at, at_most, held, one, plain, state, stay, stores, then_goes}
-use Rattle.cel_compile.proofs.Loop.{Parts, loop_goes}
+use Rattle.cel_compile.proofs.Goes.{Goes, at, at_most, held, one, plain, state, stay, stores, then_goes, turned}
+use Rattle.cel_compile.proofs.Loop.{Parts, left_all, loop_goes}
 use Rattle.cel_compile.proofs.Nodes.{and_goes, choice_goes, makes_goes, or_goes}
 use Rattle.cel_compile.proofs.Placing.{Placed, PlacedAll}
 
@@ -129,7 +130,7 @@ elements_typed o vs t e h = subst (λ x. ElementsHaveType x t) e h
 
 -- ---- a loop whole, from its range, its init and its turns
 
-module _ (code : List Instruction) (request : RequestValue) (st ls : List CelAnswer) (lo : List CelValues) where
+module _ (code : List Instruction) (request : RequestValue) (st ls : List CelAnswer) (lo : List OpenLoop) where
   range_fails : (p m q c e : ℕ) (d : CelError) → slice_get code m ≡ Some (LoopStart q) → c + 1 ≤ e
       → Goes code request c (at p st ls lo) (at m (fails d ∷ st) ls lo)
       → Goes code request e (at p st ls lo) (at q (fails d ∷ st) ls lo)
@@ -142,26 +143,26 @@ module _ (code : List Instruction) (request : RequestValue) (st ls : List CelAns
       → slice_get code m ≡ Some (LoopStart q) → slice_get code n ≡ Some (Store (length ls))
       → elements_of v ≡ Some vs → loop_charge (value v) ≤ 1 + most → cr + (1 + most) + ci + 1 + cl ≤ e
       → Goes code request cr (at p st ls lo) (at m (value v ∷ st) ls lo)
-      → Goes code request ci (at (m + 1) st ls (vs ∷ lo)) (at n (a ∷ st) ls (vs ∷ lo))
-      → Goes code request cl (at (n + 1) st (a ∷ ls) (vs ∷ lo)) (at q (r ∷ st) ls lo)
+      → Goes code request ci (at (m + 1) st ls (turned v 0 ∷ lo)) (at n (a ∷ st) ls (turned v 0 ∷ lo))
+      → Goes code request cl (at (n + 1) st (a ∷ ls) (turned v 0 ∷ lo)) (at q (r ∷ st) ls lo)
       → Goes code request e (at p st ls lo) (at q (r ∷ st) ls lo)
   range_walks p m n q cr ci cl most e v vs a r h1 h2 is charged le gr gi gl =
-      let g : Goes code request (loop_charge (value v)) (at m (value v ∷ st) ls lo) (at (m + 1) st ls (vs ∷ lo)) =
-      plain code request (LoopStart q) m (value v ∷ st) ls lo (m + 1) st (vs ∷ lo) h1 (λ f. ap (λ o. opened o (state m (value v ∷ st) f lo) st) is) in
-      let g' : Goes code request (1 + most) (at m (value v ∷ st) ls lo) (at (m + 1) st ls (vs ∷ lo)) = at_most code request charged g in
-      let kept = stores code request n st ls (vs ∷ lo) a h2 in
+      let g : Goes code request (loop_charge (value v)) (at m (value v ∷ st) ls lo) (at (m + 1) st ls (turned v 0 ∷ lo)) =
+      plain code request (LoopStart q) m (value v ∷ st) ls lo (m + 1) st (turned v 0 ∷ lo) h1 (λ f. ap (λ o. opened o v (state m (value v ∷ st) f lo) st) is) in
+      let g' : Goes code request (1 + most) (at m (value v ∷ st) ls lo) (at (m + 1) st ls (turned v 0 ∷ lo)) = at_most code request charged g in
+      let kept = stores code request n st ls (turned v 0 ∷ lo) a h2 in
       at_most code request le (then_goes code request (then_goes code request (then_goes code request (then_goes code request gr g') gi) kept) gl)
 
 -- a loop whole, by what its range comes to
-loop_runs : (code : List Instruction) (request : RequestValue) (limits : LimitsValue) (st ls : List CelAnswer) (lo : List CelValues) (range init : TypedTree)
+loop_runs : (code : List Instruction) (request : RequestValue) (limits : LimitsValue) (st ls : List CelAnswer) (lo : List OpenLoop) (range init : TypedTree)
     (p m n q : ℕ) (sizes : List Size) (r : CelAnswer) (go : CelValues → Option CelAnswer) (cr ci cl e : ℕ)
     → slice_get code m ≡ Some (LoopStart q) → slice_get code n ≡ Some (Store (length ls))
     → Ranges (typed_answer range request ls) go r
     → ((a : CelAnswer) → typed_answer range request ls ≡ Some a → Goes code request cr (at p st ls lo) (at m (a ∷ st) ls lo))
     → ((v : CelValue) (vs : CelValues) → typed_answer range request ls ≡ Some (value v) → elements_of v ≡ Some vs → go vs ≡ Some r
-    → (a : CelAnswer) × Goes code request ci (at (m + 1) st ls (vs ∷ lo)) (at n (a ∷ st) ls (vs ∷ lo))
+    → (a : CelAnswer) × Goes code request ci (at (m + 1) st ls (turned v 0 ∷ lo)) (at n (a ∷ st) ls (turned v 0 ∷ lo))
     × (length_of v ≤ most_of (size_of range limits sizes))
-    × Goes code request cl (at (n + 1) st (a ∷ ls) (vs ∷ lo)) (at q (r ∷ st) ls lo))
+    × Goes code request cl (at (n + 1) st (a ∷ ls) (turned v 0 ∷ lo)) (at q (r ∷ st) ls lo))
     → cr + (1 + most_of (size_of range limits sizes)) + ci + 1 + cl ≤ e
     → Goes code request e (at p st ls lo) (at q (r ∷ st) ls lo)
 loop_runs code request limits st ls lo range init p m n q sizes r go cr ci cl e h1 h2 (failed d is same) gr rest le =
@@ -200,7 +201,7 @@ module _ (code : List Instruction) (request : RequestValue) (limits : LimitsValu
       (bounds.answer e ks ls sizes x.0 g.0 h x.2, answers_within es ks ls x.1 sizes g.1 h x.3)
 
   mutual
-    pub runs : (e : TypedTree) (p q : ℕ) (st ls : List CelAnswer) (lo : List CelValues) (sizes : List Size) (ks : List ValueType) (r : CelAnswer)
+    pub runs : (e : TypedTree) (p q : ℕ) (st ls : List CelAnswer) (lo : List OpenLoop) (sizes : List Size) (ks : List ValueType) (r : CelAnswer)
         → HaveTypes ls ks → AllWithin ls sizes → IsWellTyped ks e → Placed code p (length ls) e q → typed_answer e request ls ≡ Some r
         → Goes code request (cost_of e limits sizes) (at p st ls lo) (at q (r ∷ st) ls lo)
     runs (typed_constant t v) p q st ls lo sizes ks r ht hw g (h, e) is =
@@ -225,14 +226,14 @@ module _ (code : List Instruction) (request : RequestValue) (limits : LimitsValu
         rw e (makes_goes code request ls lo (HasField name) p m (x.0 ∷ []) st r (cost_of on limits sizes) _ _ h
         (record { does = λ q' p' st' f lo'. ap (λ o. gives o (state p' (x.0 ∷ st') f lo') st') x.2; costs = λ st'. refl })
         (omega (arith, charged)) (runs on p m st ls lo sizes ks x.0 ht hw g.0 po x.1))
-    runs (typed_call t overloads.LogicalAnd (typed a (typed b no_typed))) p q st ls lo sizes ks r ht hw g (m, n, pa, h1, pb, h2, e) is =
-        let all = then_some (overload_answer overloads.LogicalAnd) (typed_answers (typed a (typed b no_typed)) request ls) r is in
+    runs (typed_call t (overloads.Operate operations.And) (typed a (typed b no_typed))) p q st ls lo sizes ks r ht hw g (m, n, pa, h1, pb, h2, e) is =
+        let all = then_some (overload_answer (overloads.Operate operations.And)) (typed_answers (typed a (typed b no_typed)) request ls) r is in
         let x = two_some (typed_answer a request ls) (typed_answer b request ls) all.0 all.1 in
         let made : conjunction x.0 x.1 ≡ Some r = subst (λ z. on_two conjunction z ≡ Some r) x.4 all.2 in
         and_goes code request ls lo p m n q st (cost_of a limits sizes) (cost_of b limits sizes) x.0 x.1 r h1 h2 e made
         (runs a p m st ls lo sizes ks x.0 ht hw g.0.0 pa x.2) (runs b (m + 1) n (x.0 ∷ st) ls lo sizes ks x.1 ht hw g.0.1.0 pb x.3)
-    runs (typed_call t overloads.LogicalOr (typed a (typed b no_typed))) p q st ls lo sizes ks r ht hw g (m, n, pa, h1, pb, h2, e) is =
-        let all = then_some (overload_answer overloads.LogicalOr) (typed_answers (typed a (typed b no_typed)) request ls) r is in
+    runs (typed_call t (overloads.Operate operations.Or) (typed a (typed b no_typed))) p q st ls lo sizes ks r ht hw g (m, n, pa, h1, pb, h2, e) is =
+        let all = then_some (overload_answer (overloads.Operate operations.Or)) (typed_answers (typed a (typed b no_typed)) request ls) r is in
         let x = two_some (typed_answer a request ls) (typed_answer b request ls) all.0 all.1 in
         let made : disjunction x.0 x.1 ≡ Some r = subst (λ z. on_two disjunction z ≡ Some r) x.4 all.2 in
         or_goes code request ls lo p m n q st (cost_of a limits sizes) (cost_of b limits sizes) x.0 x.1 r h1 h2 e made
@@ -281,14 +282,14 @@ module _ (code : List Instruction) (request : RequestValue) (limits : LimitsValu
         let element = g.2.0 in
         let IsElement : CelValue → Type 0 = λ v. HasType v element × Fits v item_size in
         let IsGathered : CelAnswer → Size → Type 0 = λ a s. AnswerHasType a (kind init) × Within a s in
-        let parts : Parts code request ls lo st n k l q C S R cc cs cr next IsElement IsGathered = record {
+        let parts : (over : CelValue) → Parts code request ls lo st over n k l q C S R cc cs cr next IsElement IsGathered = λ over. record {
           starts = h3;
           tested = h4;
           kept = h5;
           again = h6;
-          condition = λ v a s vs c hv ha e. runs condition (n + 1 + 1) k st (value v ∷ a ∷ ls) (vs ∷ lo) (item_size ∷ s ∷ sizes) (element ∷ kind init ∷ ks) c
+          condition = λ v a s i c hv ha e. runs condition (n + 1 + 1) k st (value v ∷ a ∷ ls) (turned over i ∷ lo) (item_size ∷ s ∷ sizes) (element ∷ kind init ∷ ks) c
               (hv.0, (ha.0, ht)) (hv.1, (ha.1, hw)) g.2.2 pc e;
-          body = λ v a s vs b hv ha e. runs step (k + 1) l st (value v ∷ a ∷ ls) (vs ∷ lo) (item_size ∷ s ∷ sizes) (element ∷ kind init ∷ ks) b
+          body = λ v a s i b hv ha e. runs step (k + 1) l st (value v ∷ a ∷ ls) (turned over i ∷ lo) (item_size ∷ s ∷ sizes) (element ∷ kind init ∷ ks) b
               (hv.0, (ha.0, ht)) (hv.1, (ha.1, hw)) g.2.4 ps e;
           gathers = λ v a s b hv ha e. (
             subst (λ z. AnswerHasType b z) g.2.5 (answer_has_type step (element ∷ kind init ∷ ks) (value v ∷ a ∷ ls) b (hv.0, (ha.0, ht)) g.2.4 e),
@@ -310,9 +311,9 @@ module _ (code : List Instruction) (request : RequestValue) (limits : LimitsValu
         let fit = bounds.answer range ks ls sizes (value v) g.0 hw e in
         let range_typed = answer_has_type range ks ls (value v) ht g.0 e in (
           x.0,
-          runs init (m + 1) n st ls (vs ∷ lo) sizes ks x.0 ht hw g.1 pi x.1,
+          runs init (m + 1) n st ls (turned v 0 ∷ lo) sizes ks x.0 ht hw g.1 pi x.1,
           bounds.long v over_size fit,
-          loop_goes code request ls lo st n k l q C S R cc cs cr next IsElement IsGathered parts vs most x.0 from r
+          loop_goes code request ls lo st v n k l q C S R cc cs cr next IsElement IsGathered (parts v) vs 0 most x.0 from r (left_all v vs is_elements)
               (answer_has_type init ks ls x.0 ht g.1 x.1, bounds.answer init ks ls sizes x.0 g.1 hw x.1)
               (both_each element item_size vs (elements_typed (elements_of v) vs element is_elements (walked_typed (kind range) element g.2.1 v range_typed))
               (bounds.elements v vs over_size fit is_elements))
@@ -320,7 +321,7 @@ module _ (code : List Instruction) (request : RequestValue) (limits : LimitsValu
         ))
         (omega arith)
 
-    pub runs_all : (es : TypedTrees) (p q : ℕ) (st ls : List CelAnswer) (lo : List CelValues) (sizes : List Size) (ks : List ValueType) (xs : List CelAnswer)
+    pub runs_all : (es : TypedTrees) (p q : ℕ) (st ls : List CelAnswer) (lo : List OpenLoop) (sizes : List Size) (ks : List ValueType) (xs : List CelAnswer)
         → HaveTypes ls ks → AllWithin ls sizes → AreWellTyped ks es → PlacedAll code p (length ls) es q → typed_answers es request ls ≡ Some xs
         → Goes code request (total (costs_of es limits sizes)) (at p st ls lo) (at q (pushed_all xs st) ls lo)
     runs_all no_typed p q st ls lo sizes ks xs ht hw g e is =

@@ -1,6 +1,7 @@
 -- The table of an expression's code: what is known at each of its positions, by the expression's types.
 use Rattle.std.proofs.Common.{ℕ, suc, ◌+◌, ◌<◌, ◌≤◌, List, ◌∷◌, length, arith}
 use Rattle.cel_value.specs.Types.{ValueType}
+use Rattle.cel_ops.specs.declared.operation.Operation.TheVariants as operations
 use Rattle.cel_overload.specs.declared.overload.Overload.TheVariants as overloads
 use Rattle.cel_types.specs.Elaborated.{TypedTree, typed_constant, typed_local, typed_attribute, typed_field, typed_has, typed_call, typed_list, typed_map, typed_loop, TypedTrees, no_typed, typed, kind, kinds}
 use Rattle.stack_machine.specs.Instructions.{Instruction}
@@ -36,11 +37,11 @@ module _ (code : List Instruction) where
         cut x.0 (table_of on p d x.0 x.1 ks slots loops) (last (shape (of (kind on) ∷ slots) ks loops))
     table_of (typed_has t on name) p d q x ks slots loops =
         cut x.0 (table_of on p d x.0 x.1 ks slots loops) (last (shape (of (kind on) ∷ slots) ks loops))
-    table_of (typed_call t overloads.LogicalAnd (typed a (typed b no_typed))) p d q x ks slots loops =
+    table_of (typed_call t (overloads.Operate operations.And) (typed a (typed b no_typed))) p d q x ks slots loops =
         let left = of (kind a) ∷ slots in
         cut x.0 (table_of a p d x.0 x.2 ks slots loops) (spot x.0 (shape left ks loops)
         (cut x.1 (table_of b (x.0 + 1) d x.1 x.4 ks left loops) (last (shape (of (kind b) ∷ left) ks loops))))
-    table_of (typed_call t overloads.LogicalOr (typed a (typed b no_typed))) p d q x ks slots loops =
+    table_of (typed_call t (overloads.Operate operations.Or) (typed a (typed b no_typed))) p d q x ks slots loops =
         let left = of (kind a) ∷ slots in
         cut x.0 (table_of a p d x.0 x.2 ks slots loops) (spot x.0 (shape left ks loops)
         (cut x.1 (table_of b (x.0 + 1) d x.1 x.4 ks left loops) (last (shape (of (kind b) ∷ left) ks loops))))
@@ -58,7 +59,7 @@ module _ (code : List Instruction) where
         let element = walked (kind range) in
         let outer = kind init ∷ ks in
         let inner = element ∷ outer in
-        let over = of element ∷ loops in
+        let over = of (kind range) ∷ loops in
         cut m (table_of range p d m pr ks slots loops) (spot m (shape (of (kind range) ∷ slots) ks loops)
         (cut n (table_of init (m + 1) d n pi ks slots over) (spot n (shape (of (kind init) ∷ slots) ks over)
         (spot (n + 1) (shape slots outer over)
@@ -81,11 +82,11 @@ module _ (code : List Instruction) where
     longer (typed_attribute t a) p d q x = let end = x.1 in omega (arith, end)
     longer (typed_field t on name) p d q (m, po, h, e) = let lt = longer on p d m po in omega (arith, lt, e)
     longer (typed_has t on name) p d q (m, po, h, e) = let lt = longer on p d m po in omega (arith, lt, e)
-    longer (typed_call t overloads.LogicalAnd (typed a (typed b no_typed))) p d q (m, n, pa, h1, pb, h2, e) =
+    longer (typed_call t (overloads.Operate operations.And) (typed a (typed b no_typed))) p d q (m, n, pa, h1, pb, h2, e) =
         let la = longer a p d m pa in
         let lb = longer b (m + 1) d n pb in
         omega (arith, la, lb, e)
-    longer (typed_call t overloads.LogicalOr (typed a (typed b no_typed))) p d q (m, n, pa, h1, pb, h2, e) =
+    longer (typed_call t (overloads.Operate operations.Or) (typed a (typed b no_typed))) p d q (m, n, pa, h1, pb, h2, e) =
         let la = longer a p d m pa in
         let lb = longer b (m + 1) d n pb in
         omega (arith, la, lb, e)

@@ -4,32 +4,17 @@
 use Rattle.std.specs.Prelude.{ℕ, ◌+◌, List, [], ◌∷◌, ◌++◌}
 use Rattle.cel_value.specs.Types.{ValueType, list_type, map_type}
 use Rattle.cel_value.specs.declared.cel_type.KeyType.TheVariants as keys
-use Rattle.cel_ops.specs.declared.texts.TextTest.TheVariants as tests
 use Rattle.cel_overload.specs.declared.overload.Overload.{Overload}
+use Rattle.cel_ops.specs.declared.operation.Operation.TheVariants as operations
 use Rattle.cel_overload.specs.declared.overload.Overload.TheVariants as overloads
 use Rattle.cel_types.specs.Elaborated.{TypedTree, typed_constant, typed_local, typed_attribute, typed_field, typed_has, typed_call, typed_list, typed_map, typed_loop, TypedTrees, no_typed, typed}
-use Rattle.stack_machine.specs.Instructions.{Instruction, Const, Attr, Load, Store, Arith, Negate, Not, Nsf, And, Or, Compare, Contains, StartsWith, EndsWith, Concat, Size, ListIndex, MapIndex, InMap, Field, HasField, InList, MakeList, EmptyList, MakeMap, EmptyMap, Jump, IfFalse, IfTrue, Test, LoopStart, LoopNext, LoopTest}
+use Rattle.stack_machine.specs.Instructions.{Instruction, Const, Attr, Load, Store, Operate, Field, HasField, MakeList, EmptyList, MakeMap, EmptyMap, Jump, IfFalse, IfTrue, Test, LoopStart, LoopNext, LoopTest}
 
 -- the instruction of a call that works on its operands' answers; what stands for a conditional is met by no
 -- well typed expression, since a conditional has three operands and jumps
 abbrev pub instruction_of : Overload → Instruction
-instruction_of overloads.LogicalAnd = And
-instruction_of overloads.LogicalOr = Or
-instruction_of overloads.LogicalNot = Not
-instruction_of overloads.NotStrictlyFalse = Nsf
-instruction_of overloads.Conditional = Nsf
-instruction_of (overloads.Compare op) = Compare op
-instruction_of (overloads.Arithmetic op) = Arith op
-instruction_of overloads.Concat = Concat
-instruction_of overloads.Negate = Negate
-instruction_of overloads.IndexList = ListIndex
-instruction_of overloads.IndexMap = MapIndex
-instruction_of overloads.InList = InList
-instruction_of overloads.InMap = InMap
-instruction_of overloads.Size = Size
-instruction_of (overloads.TestText tests.Contains) = Contains
-instruction_of (overloads.TestText tests.StartsWith) = StartsWith
-instruction_of (overloads.TestText tests.EndsWith) = EndsWith
+instruction_of overloads.Conditional = Operate operations.Not
+instruction_of (overloads.Operate op) = Operate op
 
 -- how many expressions there are
 abbrev pub count : TypedTrees → ℕ
@@ -64,9 +49,9 @@ abbrev mutual
   extent (typed_attribute t a) = 1
   extent (typed_field t on name) = extent on + 1
   extent (typed_has t on name) = extent on + 1
-  extent (typed_call t overloads.LogicalAnd (typed a (typed b no_typed))) =
+  extent (typed_call t (overloads.Operate operations.And) (typed a (typed b no_typed))) =
       extent a + 1 + extent b + 1
-  extent (typed_call t overloads.LogicalOr (typed a (typed b no_typed))) =
+  extent (typed_call t (overloads.Operate operations.Or) (typed a (typed b no_typed))) =
       extent a + 1 + extent b + 1
   extent (typed_call t overloads.Conditional (typed c (typed a (typed b no_typed)))) =
       extent c + 1 + extent a + 1 + extent b
@@ -91,12 +76,12 @@ abbrev mutual
   code_of p d (typed_attribute t a) = Attr a ∷ []
   code_of p d (typed_field t on name) = code_of p d on ++ Field name ∷ []
   code_of p d (typed_has t on name) = code_of p d on ++ HasField name ∷ []
-  code_of p d (typed_call t overloads.LogicalAnd (typed a (typed b no_typed))) =
+  code_of p d (typed_call t (overloads.Operate operations.And) (typed a (typed b no_typed))) =
       code_of p d a ++ IfFalse (p + extent a + 1 + extent b + 1)
-      ∷ (code_of (p + extent a + 1) d b ++ And ∷ [])
-  code_of p d (typed_call t overloads.LogicalOr (typed a (typed b no_typed))) =
+      ∷ (code_of (p + extent a + 1) d b ++ Operate operations.And ∷ [])
+  code_of p d (typed_call t (overloads.Operate operations.Or) (typed a (typed b no_typed))) =
       code_of p d a ++ IfTrue (p + extent a + 1 + extent b + 1)
-      ∷ (code_of (p + extent a + 1) d b ++ Or ∷ [])
+      ∷ (code_of (p + extent a + 1) d b ++ Operate operations.Or ∷ [])
   code_of p d (typed_call t overloads.Conditional (typed c (typed a (typed b no_typed)))) =
       let other = p + extent c + 1 + extent a + 1 in
       let end = other + extent b in

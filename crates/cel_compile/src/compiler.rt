@@ -8,6 +8,7 @@ ghost use Rattle.cel_tree.specs.Checked.{CelChecked};
 ghost use Rattle.cel_tree.specs.GoodConstants.{HasGoodConstants};
 ghost use Rattle.cel_tree.specs.Message.{IsChecked};
 ghost use Rattle.cel_types.specs.Elaborated.{IsElaborated, kind, typed_call};
+ghost use Rattle.cel_ops.specs.declared.operation.Operation.TheVariants as operations;
 ghost use Rattle.cel_overload.specs.declared.overload.Overload.TheVariants as Overload;
 ghost use Rattle.cel_types.specs.View.{expr_view, loop_of, typed_view};
 ghost use Rattle.cel_types.specs.steps.ExprViews.{exprs_view, parts_view};
@@ -26,6 +27,7 @@ use crate::instructions::{
     call_instr, constant_instr, field_instr, has_field_instr, list_instr, map_instr, next_local,
     passing_over, target,
 };
+use cel_ops::Operation;
 use cel_overload::Overload;
 use cel_types::{Typed, TypedExpr, TypedLoop};
 use proto_wire::Refusal;
@@ -187,22 +189,17 @@ fn emit_call(
 }
 
 fn is_junction(overload: Overload, count: usize) -> bool
-    ensures { IsTrue result ↔ (((overload ≡ Overload.LogicalAnd) ⊎ (overload ≡ Overload.LogicalOr)) × (count ≡ 2)) }
+    ensures { IsTrue result ↔ (((overload ≡ Overload.Operate operations.And)
+        ⊎ (overload ≡ Overload.Operate operations.Or)) × (count ≡ 2)) }
 {
-    match overload {
-        Overload::LogicalAnd => count == 2,
-        Overload::LogicalOr => count == 2,
-        _ => false,
-    }
+    (overload == Overload::Operate(Operation::And) || overload == Overload::Operate(Operation::Or))
+        && count == 2
 }
 
 fn is_choice(overload: Overload, count: usize) -> bool
     ensures { IsTrue result ↔ ((overload ≡ Overload.Conditional) × (count ≡ 3)) }
 {
-    match overload {
-        Overload::Conditional => count == 3,
-        _ => false,
-    }
+    overload == Overload::Conditional && count == 3
 }
 
 // `&&` or `||`: the right side is passed over where the left one decides.
@@ -214,7 +211,7 @@ fn emit_junction(
     operands: &[TypedExpr<'_>],
 ) -> Result<(), AllocError>
     requires two { length operands.now ≡ 2 }
-    requires junction { (overload ≡ Overload.LogicalAnd) ⊎ (overload ≡ Overload.LogicalOr) }
+    requires junction { (overload ≡ Overload.Operate operations.And) ⊎ (overload ≡ Overload.Operate operations.Or) }
     ensures grows { OnOk result ((t : ValueType) → Grows code.old.items code.new.items depth
         (typed_call t overload (exprs_view operands.now))) }
 {

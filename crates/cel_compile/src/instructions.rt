@@ -11,7 +11,7 @@ ghost use Rattle.cel_value.specs.Texts.{text_view};
 ghost use Rattle.cel_compile.specs.Codes.{instruction_of, list_instruction, map_instruction};
 ghost use Rattle.cel_compile.specs.steps.Emitting.{passing_over};
 
-use cel_ops::TextTest;
+use cel_ops::Operation;
 use cel_overload::Overload;
 use cel_tree::Constant;
 use cel_types::TypedExpr;
@@ -76,10 +76,10 @@ pub(crate) fn has_field_instr(name: &RcStr) -> Result<Instr, AllocError>
 pub(crate) fn passing_over(overload: Overload, end: u16) -> Instr
     ensures { instr_view result ≡ passing_over overload end }
 {
-    match overload {
-        Overload::LogicalOr => Instr::IfTrue(end),
-        _ => Instr::IfFalse(end),
+    if overload == Overload::Operate(Operation::Or) {
+        return Instr::IfTrue(end);
     }
+    Instr::IfFalse(end)
 }
 
 /// The instruction of a call that works on its operands' answers.
@@ -87,23 +87,8 @@ pub(crate) fn call_instr(overload: Overload) -> Instr
     ensures { instr_view result ≡ instruction_of overload }
 {
     match overload {
-        Overload::LogicalAnd => Instr::And,
-        Overload::LogicalOr => Instr::Or,
-        Overload::LogicalNot => Instr::Not,
-        Overload::NotStrictlyFalse => Instr::Nsf,
-        Overload::Conditional => Instr::Nsf,
-        Overload::Compare(op) => Instr::Compare(op),
-        Overload::Arithmetic(op) => Instr::Arith(op),
-        Overload::Concat => Instr::Concat,
-        Overload::Negate => Instr::Negate,
-        Overload::IndexList => Instr::ListIndex,
-        Overload::IndexMap => Instr::MapIndex,
-        Overload::InList => Instr::InList,
-        Overload::InMap => Instr::InMap,
-        Overload::Size => Instr::Size,
-        Overload::TestText(TextTest::Contains) => Instr::Contains,
-        Overload::TestText(TextTest::StartsWith) => Instr::StartsWith,
-        Overload::TestText(TextTest::EndsWith) => Instr::EndsWith,
+        Overload::Conditional => Instr::Operate(Operation::Not),
+        Overload::Operate(op) => Instr::Operate(op),
     }
 }
 

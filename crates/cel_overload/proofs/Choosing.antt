@@ -15,6 +15,7 @@ use Rattle.cel_overload.specs.steps.Choosing.{are_both, are_compared, calculated
 use Rattle.cel_overload.specs.declared.function.Function.{Function}
 use Rattle.cel_overload.specs.declared.function.Function.TheVariants as functions
 use Rattle.cel_overload.specs.declared.overload.Overload.{Overload}
+use Rattle.cel_ops.specs.declared.operation.Operation.TheVariants as operations
 use Rattle.cel_overload.specs.declared.overload.Overload.TheVariants as overloads
 
 same : (s t : ValueType) → type_eq s t ≡ true → s ≡ t
@@ -43,7 +44,7 @@ compared compares.Greater t h = rw (ordered t h) (itself t)
 compared compares.GreaterOrEqual t h = rw (ordered t h) (itself t)
 
 calculates : (op : ArithmeticOp) (t : ValueType) → IsNumber t
-    → choose_arithmetic op t t ≡ Some (overloads.Arithmetic op, t)
+    → choose_arithmetic op t t ≡ Some (overloads.Operate (operations.Arithmetic op), t)
 calculates ops.Add int_type h = refl
 calculates ops.Subtract int_type h = refl
 calculates ops.Multiply int_type h = refl
@@ -57,7 +58,7 @@ calculates ops.Remainder uint_type h = refl
 calculates op _ h = absurd h
 
 joins : (t : ValueType) → IsJoined t
-    → choose_arithmetic ops.Add t t ≡ Some (overloads.Concat, t)
+    → choose_arithmetic ops.Add t t ≡ Some ((overloads.Operate operations.Concat), t)
 joins text_type h = refl
 joins bytes_type h = refl
 joins (list_type t) h = rw (itself t) refl
@@ -72,21 +73,21 @@ sizes _ h = absurd h
 
 chosen_on : (o : Overload) (ts : List ValueType) (r : ValueType) → Takes o ts r
     → choose_on (function_of o) ts ≡ Some (o, r)
-chosen_on overloads.LogicalAnd ts r h = rw (h.0, h.1) refl
-chosen_on overloads.LogicalOr ts r h = rw (h.0, h.1) refl
-chosen_on overloads.LogicalNot ts r h = rw (h.0, h.1) refl
-chosen_on overloads.NotStrictlyFalse ts r h = rw (h.0, h.1) refl
+chosen_on (overloads.Operate operations.And) ts r h = rw (h.0, h.1) refl
+chosen_on (overloads.Operate operations.Or) ts r h = rw (h.0, h.1) refl
+chosen_on (overloads.Operate operations.Not) ts r h = rw (h.0, h.1) refl
+chosen_on (overloads.Operate operations.NotStrictlyFalse) ts r h = rw (h.0, h.1) refl
 chosen_on overloads.Conditional ts r h = rw h (rw (itself r) refl)
-chosen_on (overloads.Compare op) ts r h = rw (h.2, h.3) (rw (compared op h.0 h.1) refl)
-chosen_on (overloads.Arithmetic op) ts r h = rw (h.1) (calculates op r h.0)
-chosen_on overloads.Concat ts r h = rw (h.1) (joins r h.0)
-chosen_on overloads.Negate ts r h = rw (h.0, h.1) refl
-chosen_on overloads.IndexList ts r h = rw h refl
-chosen_on overloads.IndexMap ts r h = rw (h.1) (rw (itself (type_of_key h.0)) refl)
-chosen_on overloads.InList ts r h = rw (h.1, h.2) (rw (itself h.0) refl)
-chosen_on overloads.InMap ts r h = rw (h.2, h.3) (rw (itself (type_of_key h.0)) refl)
-chosen_on overloads.Size ts r h = rw (h.2, h.3) (rw (sizes h.0 h.1) refl)
-chosen_on (overloads.TestText test) ts r h = rw (h.0, h.1) refl
+chosen_on (overloads.Operate (operations.Compare op)) ts r h = rw (h.2, h.3) (rw (compared op h.0 h.1) refl)
+chosen_on (overloads.Operate (operations.Arithmetic op)) ts r h = rw (h.1) (calculates op r h.0)
+chosen_on (overloads.Operate operations.Concat) ts r h = rw (h.1) (joins r h.0)
+chosen_on (overloads.Operate operations.Negate) ts r h = rw (h.0, h.1) refl
+chosen_on (overloads.Operate operations.ListIndex) ts r h = rw h refl
+chosen_on (overloads.Operate operations.MapIndex) ts r h = rw (h.1) (rw (itself (type_of_key h.0)) refl)
+chosen_on (overloads.Operate operations.InList) ts r h = rw (h.1, h.2) (rw (itself h.0) refl)
+chosen_on (overloads.Operate operations.InMap) ts r h = rw (h.2, h.3) (rw (itself (type_of_key h.0)) refl)
+chosen_on (overloads.Operate operations.Size) ts r h = rw (h.2, h.3) (rw (sizes h.0 h.1) refl)
+chosen_on (overloads.Operate (operations.TestText test)) ts r h = rw (h.0, h.1) refl
 
 pub chosen : (f : Function) (target : Bool) (ts : List ValueType) (o : Overload) (r : ValueType)
     → IsOverload f target ts o r → choose f target ts ≡ Some (o, r)
@@ -173,7 +174,7 @@ calculated_fits : (op : ArithmeticOp) (s t : ValueType) (o : Overload) (r : Valu
     → calculated op s t ≡ Some (o, r) → Fits (functions.Arithmetic op) (s ∷ t ∷ []) o r
 calculated_fits op s t o r e =
     chosen_when (Fits (functions.Arithmetic op) (s ∷ t ∷ [])) (is_number s && type_eq s t)
-    (overloads.Arithmetic op) s o r e (λ h.
+    (overloads.Operate (operations.Arithmetic op)) s o r e (λ h.
     let parts = and_parts (is_number s) (type_eq s t) h in
     (refl, (is_number_fact s parts.0, twice s t (same s t parts.1))))
 
@@ -182,10 +183,10 @@ arithmetic_fits : (op : ArithmeticOp) (s t : ValueType) (o : Overload) (r : Valu
 arithmetic_fits ops.Add s t o r e = at (is_joined s) refl e
   where
     at : (b : Bool) → is_joined s ≡ b
-        → cond b (when (type_eq s t) overloads.Concat s) (calculated ops.Add s t) ≡ Some (o, r)
+        → cond b (when (type_eq s t) (overloads.Operate operations.Concat) s) (calculated ops.Add s t) ≡ Some (o, r)
         → Fits (functions.Arithmetic ops.Add) (s ∷ t ∷ []) o r
     at true j e = chosen_when (Fits (functions.Arithmetic ops.Add) (s ∷ t ∷ [])) (type_eq s t)
-        overloads.Concat s o r e (λ h. (refl, (is_joined_fact s j, twice s t (same s t h))))
+        (overloads.Operate operations.Concat) s o r e (λ h. (refl, (is_joined_fact s j, twice s t (same s t h))))
     at false j e = calculated_fits ops.Add s t o r e
 arithmetic_fits ops.Subtract s t o r e = calculated_fits ops.Subtract s t o r e
 arithmetic_fits ops.Multiply s t o r e = calculated_fits ops.Multiply s t o r e
@@ -195,17 +196,17 @@ arithmetic_fits ops.Remainder s t o r e = calculated_fits ops.Remainder s t o r 
 unary_fits : (f : Function) (s : ValueType) (o : Overload) (r : ValueType)
     → choose_unary f s ≡ Some (o, r) → Fits f (s ∷ []) o r
 unary_fits functions.Not s o r e =
-    chosen_when (Fits functions.Not (s ∷ [])) (type_eq s bool_type) overloads.LogicalNot bool_type
+    chosen_when (Fits functions.Not (s ∷ [])) (type_eq s bool_type) (overloads.Operate operations.Not) bool_type
     o r e (λ h. (refl, (rw (same s bool_type h) refl, refl)))
 unary_fits functions.NotStrictlyFalse s o r e =
     chosen_when (Fits functions.NotStrictlyFalse (s ∷ [])) (type_eq s bool_type)
-    overloads.NotStrictlyFalse bool_type
+    (overloads.Operate operations.NotStrictlyFalse) bool_type
     o r e (λ h. (refl, (rw (same s bool_type h) refl, refl)))
 unary_fits functions.Negate s o r e =
-    chosen_when (Fits functions.Negate (s ∷ [])) (type_eq s int_type) overloads.Negate int_type
+    chosen_when (Fits functions.Negate (s ∷ [])) (type_eq s int_type) (overloads.Operate operations.Negate) int_type
     o r e (λ h. (refl, (rw (same s int_type h) refl, refl)))
 unary_fits functions.Size s o r e =
-    chosen_when (Fits functions.Size (s ∷ [])) (is_sized s) overloads.Size int_type
+    chosen_when (Fits functions.Size (s ∷ [])) (is_sized s) (overloads.Operate operations.Size) int_type
     o r e (λ h. (refl, (s, is_sized_fact s h, refl, refl)))
 unary_fits _ s o r e = absurd (none-some (o, r) e)
 
@@ -213,40 +214,40 @@ index_fits : (s t : ValueType) (o : Overload) (r : ValueType)
     → choose_binary functions.Index s t ≡ Some (o, r) → Fits functions.Index (s ∷ t ∷ []) o r
 index_fits (list_type s) t o r e =
     chosen_when (Fits functions.Index (list_type s ∷ t ∷ [])) (type_eq t int_type)
-    overloads.IndexList s o r e (λ h. (refl, rw (same t int_type h) refl))
+    (overloads.Operate operations.ListIndex) s o r e (λ h. (refl, rw (same t int_type h) refl))
 index_fits (map_type k s) t o r e =
     chosen_when (Fits functions.Index (map_type k s ∷ t ∷ [])) (type_eq t (type_of_key k))
-    overloads.IndexMap s o r e (λ h. (refl, (k, rw (same t (type_of_key k) h) refl)))
+    (overloads.Operate operations.MapIndex) s o r e (λ h. (refl, (k, rw (same t (type_of_key k) h) refl)))
 index_fits _ t o r e = absurd (none-some (o, r) e)
 
 in_fits : (s t : ValueType) (o : Overload) (r : ValueType)
     → choose_binary functions.In s t ≡ Some (o, r) → Fits functions.In (s ∷ t ∷ []) o r
 in_fits s (list_type t) o r e =
     chosen_when (Fits functions.In (s ∷ list_type t ∷ [])) (type_eq s t)
-    overloads.InList bool_type o r e (λ h. (refl, (t, rw (same s t h) refl, refl)))
+    (overloads.Operate operations.InList) bool_type o r e (λ h. (refl, (t, rw (same s t h) refl, refl)))
 in_fits s (map_type k t) o r e =
     chosen_when (Fits functions.In (s ∷ map_type k t ∷ [])) (type_eq s (type_of_key k))
-    overloads.InMap bool_type o r e (λ h. (refl, (k, t, rw (same s (type_of_key k) h) refl, refl)))
+    (overloads.Operate operations.InMap) bool_type o r e (λ h. (refl, (k, t, rw (same s (type_of_key k) h) refl, refl)))
 in_fits s _ o r e = absurd (none-some (o, r) e)
 
 binary_fits : (f : Function) (s t : ValueType) (o : Overload) (r : ValueType)
     → choose_binary f s t ≡ Some (o, r) → Fits f (s ∷ t ∷ []) o r
 binary_fits functions.And s t o r e =
     chosen_when (Fits functions.And (s ∷ t ∷ [])) (are_both s t bool_type)
-    overloads.LogicalAnd bool_type o r e (λ h. (refl, (pair s t bool_type h, refl)))
+    (overloads.Operate operations.And) bool_type o r e (λ h. (refl, (pair s t bool_type h, refl)))
 binary_fits functions.Or s t o r e =
     chosen_when (Fits functions.Or (s ∷ t ∷ [])) (are_both s t bool_type)
-    overloads.LogicalOr bool_type o r e (λ h. (refl, (pair s t bool_type h, refl)))
+    (overloads.Operate operations.Or) bool_type o r e (λ h. (refl, (pair s t bool_type h, refl)))
 binary_fits (functions.Compare op) s t o r e =
     chosen_when (Fits (functions.Compare op) (s ∷ t ∷ [])) (are_compared op s t)
-    (overloads.Compare op) bool_type o r e (λ h.
+    (overloads.Operate (operations.Compare op)) bool_type o r e (λ h.
     let parts = are_compared_fact op s t h in (refl, (s, parts.0, twice s t parts.1, refl)))
 binary_fits (functions.Arithmetic op) s t o r e = arithmetic_fits op s t o r e
 binary_fits functions.Index s t o r e = index_fits s t o r e
 binary_fits functions.In s t o r e = in_fits s t o r e
 binary_fits (functions.TestText test) s t o r e =
     chosen_when (Fits (functions.TestText test) (s ∷ t ∷ [])) (are_both s t text_type)
-    (overloads.TestText test) bool_type o r e (λ h. (refl, (pair s t text_type h, refl)))
+    (overloads.Operate (operations.TestText test)) bool_type o r e (λ h. (refl, (pair s t text_type h, refl)))
 binary_fits _ s t o r e = absurd (none-some (o, r) e)
 
 ternary_fits : (f : Function) (s t u : ValueType) (o : Overload) (r : ValueType)

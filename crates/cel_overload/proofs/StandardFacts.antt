@@ -14,6 +14,7 @@ use Rattle.cel_overload.specs.steps.Charges.{overload_charge}
 use Rattle.cel_overload.specs.Functions.{function_named}
 use Rattle.cel_overload.specs.Overloads.{CallFault, IsCall}
 use Rattle.cel_overload.specs.declared.function.Function.TheVariants as functions
+use Rattle.cel_ops.specs.declared.operation.Operation.TheVariants as operations
 use Rattle.cel_overload.specs.declared.overload.Overload.TheVariants as overloads
 use Rattle.cel_overload.specs.declared.overload.OverloadFault.TheVariants.{UnknownName, NoOverload}
 use Rattle.cel_overload.proofs.OneOverload.{unchosen}
@@ -37,14 +38,14 @@ no_matches = refl
 
 -- `1 + 1`, `"a" + "b"` and `[1] + [2]`
 
-add_ints : IsCall (codes "_+_") false (int_type ∷ int_type ∷ []) (overloads.Arithmetic Add) int_type
+add_ints : IsCall (codes "_+_") false (int_type ∷ int_type ∷ []) (overloads.Operate (operations.Arithmetic Add)) int_type
 add_ints = (
   functions.Arithmetic Add,
   refl,
   record { function = refl; shape = refl; operands = (tt, refl) },
 )
 
-add_texts : IsCall (codes "_+_") false (text_type ∷ text_type ∷ []) overloads.Concat text_type
+add_texts : IsCall (codes "_+_") false (text_type ∷ text_type ∷ []) (overloads.Operate operations.Concat) text_type
 add_texts = (
   functions.Arithmetic Add,
   refl,
@@ -52,7 +53,7 @@ add_texts = (
 )
 
 add_lists : IsCall (codes "_+_") false (list_type int_type ∷ list_type int_type ∷ [])
-    overloads.Concat (list_type int_type)
+    (overloads.Operate operations.Concat) (list_type int_type)
 add_lists = (
   functions.Arithmetic Add,
   refl,
@@ -78,7 +79,7 @@ int_is_no_uint = (
 -- lists are equal or not, and have no order
 
 equal_lists : IsCall (codes "_==_") false (list_type int_type ∷ list_type int_type ∷ [])
-    (overloads.Compare Equal) bool_type
+    (overloads.Operate (operations.Compare Equal)) bool_type
 equal_lists = (
   functions.Compare Equal,
   refl,
@@ -95,14 +96,14 @@ lists_without_order = (
 
 -- `size("a")` and `"a".size()` are one overload; an operator takes no target, `startsWith` needs one
 
-size_of_text : IsCall (codes "size") false (text_type ∷ []) overloads.Size int_type
+size_of_text : IsCall (codes "size") false (text_type ∷ []) (overloads.Operate operations.Size) int_type
 size_of_text = (
   functions.Size,
   refl,
   record { function = refl; shape = refl; operands = (text_type, tt, refl, refl) },
 )
 
-size_on_text : IsCall (codes "size") true (text_type ∷ []) overloads.Size int_type
+size_on_text : IsCall (codes "size") true (text_type ∷ []) (overloads.Operate operations.Size) int_type
 size_on_text = (
   functions.Size,
   refl,
@@ -126,7 +127,7 @@ starts_without_target = (
 -- a key has the map's type of keys
 
 index_by_text : IsCall (codes "_[_]") false (map_type keys.Text int_type ∷ text_type ∷ [])
-    overloads.IndexMap int_type
+    (overloads.Operate operations.MapIndex) int_type
 index_by_text = (
   functions.Index,
   refl,
@@ -172,7 +173,7 @@ sum : function_answer (functions.Arithmetic Add) (value (int (pos 3))
     ∷ value (int (negsuc 4)) ∷ []) ≡ Some (value (int (negsuc 1)))
 sum = refl
 
-difference : overload_answer (overloads.Arithmetic Subtract) (value (int (pos 3))
+difference : overload_answer (overloads.Operate (operations.Arithmetic Subtract)) (value (int (pos 3))
     ∷ value (int (pos 5)) ∷ []) ≡ Some (value (int (negsuc 1)))
 difference = refl
 
@@ -205,16 +206,16 @@ one_operand = refl
 
 -- ---- charges: 1 and both masses, 1 and both lengths, 1
 
-compared : overload_charge (overloads.Compare Equal) (value (text (codes "GET"))
+compared : overload_charge (overloads.Operate (operations.Compare Equal)) (value (text (codes "GET"))
     ∷ value (text (codes "GET")) ∷ []) ≡ 9
 unfolding lib.Utf8.encode
 compared = refl
 
-joined : overload_charge overloads.Concat (value (text (codes "GET"))
+joined : overload_charge (overloads.Operate operations.Concat) (value (text (codes "GET"))
     ∷ value (text (codes "GET")) ∷ []) ≡ 7
 unfolding lib.Utf8.encode
 joined = refl
 
-added : overload_charge (overloads.Arithmetic Add) (value (int (pos 1)) ∷ value (int (pos 1)) ∷ [])
+added : overload_charge (overloads.Operate (operations.Arithmetic Add)) (value (int (pos 1)) ∷ value (int (pos 1)) ∷ [])
     ≡ 1
 added = refl

@@ -26,6 +26,7 @@ use Rattle.cel_ops.proofs.Typing.{one, two, entry_typed, in_map_typed, index_typ
 use Rattle.cel_overload.specs.Answers.{HaveTypes, conditional, on_one, on_two, overload_answer}
 use Rattle.cel_overload.specs.Overloads.{IsCompared, IsNumber, Takes}
 use Rattle.cel_overload.specs.declared.overload.Overload.{Overload}
+use Rattle.cel_ops.specs.declared.operation.Operation.TheVariants as operations
 use Rattle.cel_overload.specs.declared.overload.Overload.TheVariants as overloads
 use Rattle.cel_ops.proofs.Numbers.{int64_fits as int64}
 
@@ -273,46 +274,46 @@ of_types answers ts us e h = rw (← e) h
 pub overload_typed_fact : (o : Overload) (ts : List ValueType) (r : ValueType)
     (answers : List CelAnswer) → Takes o ts r → HaveTypes answers ts
     → Answers (overload_answer o answers) r
-overload_typed_fact overloads.LogicalAnd ts r answers k h = rw (k.1)
+overload_typed_fact (overloads.Operate operations.And) ts r answers k h = rw (k.1)
     (on_two_typed conjunction bool_type bool_type bool_type conjunction_typed answers
     (of_types answers ts _ k.0 h))
-overload_typed_fact overloads.LogicalOr ts r answers k h = rw (k.1)
+overload_typed_fact (overloads.Operate operations.Or) ts r answers k h = rw (k.1)
     (on_two_typed disjunction bool_type bool_type bool_type disjunction_typed answers
     (of_types answers ts _ k.0 h))
-overload_typed_fact overloads.LogicalNot ts r answers k h = rw (k.1)
+overload_typed_fact (overloads.Operate operations.Not) ts r answers k h = rw (k.1)
     (on_one_typed logical_not bool_type bool_type not_typed answers (of_types answers ts _ k.0 h))
-overload_typed_fact overloads.NotStrictlyFalse ts r answers k h = rw (k.1)
+overload_typed_fact (overloads.Operate operations.NotStrictlyFalse) ts r answers k h = rw (k.1)
     (on_one_typed not_strictly_false bool_type bool_type nsf_typed answers
     (of_types answers ts _ k.0 h))
 overload_typed_fact overloads.Conditional ts r answers k h =
     on_three_typed r answers (of_types answers ts _ k h)
-overload_typed_fact (overloads.Compare op) ts r answers k h = rw (k.3)
+overload_typed_fact (overloads.Operate (operations.Compare op)) ts r answers k h = rw (k.3)
     (on_two_typed (comparison op) k.0 k.0 bool_type (comparison_typed op k.0 k.1) answers
     (of_types answers ts _ k.2 h))
-overload_typed_fact (overloads.Arithmetic op) ts r answers k h =
+overload_typed_fact (overloads.Operate (operations.Arithmetic op)) ts r answers k h =
     on_two_typed (arithmetic op) r r r (arithmetic_typed op r k.0) answers
     (of_types answers ts _ k.1 h)
-overload_typed_fact overloads.Concat ts r answers k h =
+overload_typed_fact (overloads.Operate operations.Concat) ts r answers k h =
     on_two_typed (strict_two joined_of) r r r (two joined_of r r r (joined_typed r k.0)) answers
     (of_types answers ts _ k.1 h)
-overload_typed_fact overloads.Negate ts r answers k h = rw (k.1)
+overload_typed_fact (overloads.Operate operations.Negate) ts r answers k h = rw (k.1)
     (on_one_typed opposite int_type int_type opposite_typed answers (of_types answers ts _ k.0 h))
-overload_typed_fact overloads.IndexList ts r answers k h =
+overload_typed_fact (overloads.Operate operations.ListIndex) ts r answers k h =
     on_two_typed (strict_two item_of) (list_type r) int_type r
     (two item_of (list_type r) int_type r (index_typed r)) answers (of_types answers ts _ k h)
-overload_typed_fact overloads.IndexMap ts r answers k h =
+overload_typed_fact (overloads.Operate operations.MapIndex) ts r answers k h =
     on_two_typed (strict_two entry_of) (map_type k.0 r) (type_of_key k.0) r
     (two entry_of (map_type k.0 r) (type_of_key k.0) r (entry_typed k.0 r)) answers
     (of_types answers ts _ k.1 h)
-overload_typed_fact overloads.InList ts r answers k h = rw (k.2)
+overload_typed_fact (overloads.Operate operations.InList) ts r answers k h = rw (k.2)
     (on_two_typed in_list k.0 (list_type k.0) bool_type (in_list_typed k.0) answers
     (of_types answers ts _ k.1 h))
-overload_typed_fact overloads.InMap ts r answers k h = rw (k.3)
+overload_typed_fact (overloads.Operate operations.InMap) ts r answers k h = rw (k.3)
     (on_two_typed (strict_two in_map_of) (type_of_key k.0) (map_type k.0 k.1) bool_type
     (two in_map_of (type_of_key k.0) (map_type k.0 k.1) bool_type (in_map_typed k.0 k.1)) answers
     (of_types answers ts _ k.2 h))
-overload_typed_fact overloads.Size ts r answers k h = rw (k.3)
+overload_typed_fact (overloads.Operate operations.Size) ts r answers k h = rw (k.3)
     (on_one_typed size k.0 int_type (size_typed k.0 k.1) answers (of_types answers ts _ k.2 h))
-overload_typed_fact (overloads.TestText test) ts r answers k h = rw (k.1)
+overload_typed_fact (overloads.Operate (operations.TestText test)) ts r answers k h = rw (k.1)
     (on_two_typed (text_test test) text_type text_type bool_type (text_test_typed test) answers
     (of_types answers ts _ k.0 h))

@@ -7,8 +7,9 @@ use Rattle.cel_ops.specs.Strict.{strict_two}
 use Rattle.cel_ops.specs.Arithmetic.{arithmetic, arithmetic_of, opposite}
 use Rattle.cel_ops.specs.Logic.{conjunction, disjunction, logical_not, not_strictly_false}
 use Rattle.cel_ops.specs.Comparison.{comparison}
-use Rattle.cel_ops.specs.Parts.{joined, joined_of, text_test}
-use Rattle.cel_ops.specs.Collections.{entry_of, in_list, in_list_of, in_map, in_map_of, item_of, list_index, map_index, size}
+use Rattle.cel_ops.specs.Parts.{joined_of, text_test}
+use Rattle.cel_ops.specs.Collections.{entry_of, in_list_of, in_map_of, item_of, size}
+use Rattle.cel_ops.specs.Operations.{Work, takes_one, takes_two, work}
 use Rattle.cel_ops.specs.declared.arithmetic.ArithmeticOp.TheVariants.{Add}
 use Rattle.cel_overload.specs.declared.function.Function.{Function}
 use Rattle.cel_overload.specs.declared.function.Function.TheVariants as functions
@@ -32,23 +33,15 @@ conditional (value (bool false) ∷ a ∷ b ∷ []) = Some b
 conditional (fails e ∷ a ∷ b ∷ []) = Some (fails e)
 conditional _ = None
 
+-- what an operation answers
+abbrev pub operands_answer : Work → List CelAnswer → Option CelAnswer
+operands_answer (takes_one answer charge) = on_one answer
+operands_answer (takes_two answer charge) = on_two answer
+
 -- what an overload answers
 abbrev pub overload_answer : Overload → List CelAnswer → Option CelAnswer
-overload_answer overloads.LogicalAnd = on_two conjunction
-overload_answer overloads.LogicalOr = on_two disjunction
-overload_answer overloads.LogicalNot = on_one logical_not
-overload_answer overloads.NotStrictlyFalse = on_one not_strictly_false
 overload_answer overloads.Conditional = conditional
-overload_answer (overloads.Compare op) = on_two (comparison op)
-overload_answer (overloads.Arithmetic op) = on_two (arithmetic op)
-overload_answer overloads.Concat = on_two joined
-overload_answer overloads.Negate = on_one opposite
-overload_answer overloads.IndexList = on_two list_index
-overload_answer overloads.IndexMap = on_two map_index
-overload_answer overloads.InList = on_two in_list
-overload_answer overloads.InMap = on_two in_map
-overload_answer overloads.Size = on_one size
-overload_answer (overloads.TestText test) = on_two (text_test test)
+overload_answer (overloads.Operate op) = operands_answer (work op)
 
 -- ---- by the kinds of values, without types
 

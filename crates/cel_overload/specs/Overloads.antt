@@ -10,27 +10,33 @@ use Rattle.cel_overload.specs.Functions.{function_named, may_take}
 use Rattle.cel_overload.specs.declared.function.Function.{Function}
 use Rattle.cel_overload.specs.declared.function.Function.TheVariants as functions
 use Rattle.cel_overload.specs.declared.overload.Overload.{Overload}
+use Rattle.cel_ops.specs.declared.operation.Operation.{Operation}
+use Rattle.cel_ops.specs.declared.operation.Operation.TheVariants as operations
 use Rattle.cel_overload.specs.declared.overload.Overload.TheVariants as overloads
 use Rattle.cel_overload.specs.declared.overload.OverloadFault.{OverloadFault}
 use Rattle.cel_overload.specs.declared.overload.OverloadFault.TheVariants.{UnknownName, NoOverload}
 
+-- the function that an operation is of
+abbrev pub operation_function : Operation → Function
+operation_function operations.And = functions.And
+operation_function operations.Or = functions.Or
+operation_function operations.Not = functions.Not
+operation_function operations.NotStrictlyFalse = functions.NotStrictlyFalse
+operation_function (operations.Compare op) = functions.Compare op
+operation_function (operations.Arithmetic op) = functions.Arithmetic op
+operation_function operations.Concat = functions.Arithmetic Add
+operation_function operations.Negate = functions.Negate
+operation_function operations.ListIndex = functions.Index
+operation_function operations.MapIndex = functions.Index
+operation_function operations.InList = functions.In
+operation_function operations.InMap = functions.In
+operation_function operations.Size = functions.Size
+operation_function (operations.TestText test) = functions.TestText test
+
 -- the function that an overload is of
 abbrev pub function_of : Overload → Function
-function_of overloads.LogicalAnd = functions.And
-function_of overloads.LogicalOr = functions.Or
-function_of overloads.LogicalNot = functions.Not
-function_of overloads.NotStrictlyFalse = functions.NotStrictlyFalse
 function_of overloads.Conditional = functions.Conditional
-function_of (overloads.Compare op) = functions.Compare op
-function_of (overloads.Arithmetic op) = functions.Arithmetic op
-function_of overloads.Concat = functions.Arithmetic Add
-function_of overloads.Negate = functions.Negate
-function_of overloads.IndexList = functions.Index
-function_of overloads.IndexMap = functions.Index
-function_of overloads.InList = functions.In
-function_of overloads.InMap = functions.In
-function_of overloads.Size = functions.Size
-function_of (overloads.TestText test) = functions.TestText test
+function_of (overloads.Operate op) = operation_function op
 
 -- int and uint are calculated with
 abbrev pub IsNumber : ValueType → Type 0
@@ -44,25 +50,29 @@ IsCompared Equal t = Unit {0}
 IsCompared NotEqual t = Unit {0}
 IsCompared _ t = IsOrdered t
 
--- the overload takes operands of these types, a target first, to a result of this type
-abbrev pub Takes : Overload → List ValueType → ValueType → Type 0
-Takes overloads.LogicalAnd ts r = (ts ≡ bool_type ∷ bool_type ∷ []) × (r ≡ bool_type)
-Takes overloads.LogicalOr ts r = (ts ≡ bool_type ∷ bool_type ∷ []) × (r ≡ bool_type)
-Takes overloads.LogicalNot ts r = (ts ≡ bool_type ∷ []) × (r ≡ bool_type)
-Takes overloads.NotStrictlyFalse ts r = (ts ≡ bool_type ∷ []) × (r ≡ bool_type)
-Takes overloads.Conditional ts r = ts ≡ bool_type ∷ r ∷ r ∷ []
-Takes (overloads.Compare op) ts r =
+-- the operation takes operands of these types, a target first, to a result of this type
+abbrev pub Operates : Operation → List ValueType → ValueType → Type 0
+Operates operations.And ts r = (ts ≡ bool_type ∷ bool_type ∷ []) × (r ≡ bool_type)
+Operates operations.Or ts r = (ts ≡ bool_type ∷ bool_type ∷ []) × (r ≡ bool_type)
+Operates operations.Not ts r = (ts ≡ bool_type ∷ []) × (r ≡ bool_type)
+Operates operations.NotStrictlyFalse ts r = (ts ≡ bool_type ∷ []) × (r ≡ bool_type)
+Operates (operations.Compare op) ts r =
     (t : ValueType) × IsCompared op t × (ts ≡ t ∷ t ∷ []) × (r ≡ bool_type)
-Takes (overloads.Arithmetic op) ts r = IsNumber r × (ts ≡ r ∷ r ∷ [])
-Takes overloads.Concat ts r = IsJoined r × (ts ≡ r ∷ r ∷ [])
-Takes overloads.Negate ts r = (ts ≡ int_type ∷ []) × (r ≡ int_type)
-Takes overloads.IndexList ts r = ts ≡ list_type r ∷ int_type ∷ []
-Takes overloads.IndexMap ts r = (k : KeyType) × (ts ≡ map_type k r ∷ type_of_key k ∷ [])
-Takes overloads.InList ts r = (t : ValueType) × (ts ≡ t ∷ list_type t ∷ []) × (r ≡ bool_type)
-Takes overloads.InMap ts r =
+Operates (operations.Arithmetic op) ts r = IsNumber r × (ts ≡ r ∷ r ∷ [])
+Operates operations.Concat ts r = IsJoined r × (ts ≡ r ∷ r ∷ [])
+Operates operations.Negate ts r = (ts ≡ int_type ∷ []) × (r ≡ int_type)
+Operates operations.ListIndex ts r = ts ≡ list_type r ∷ int_type ∷ []
+Operates operations.MapIndex ts r = (k : KeyType) × (ts ≡ map_type k r ∷ type_of_key k ∷ [])
+Operates operations.InList ts r = (t : ValueType) × (ts ≡ t ∷ list_type t ∷ []) × (r ≡ bool_type)
+Operates operations.InMap ts r =
     (k : KeyType) × (t : ValueType) × (ts ≡ type_of_key k ∷ map_type k t ∷ []) × (r ≡ bool_type)
-Takes overloads.Size ts r = (t : ValueType) × IsSized t × (ts ≡ t ∷ []) × (r ≡ int_type)
-Takes (overloads.TestText test) ts r = (ts ≡ text_type ∷ text_type ∷ []) × (r ≡ bool_type)
+Operates operations.Size ts r = (t : ValueType) × IsSized t × (ts ≡ t ∷ []) × (r ≡ int_type)
+Operates (operations.TestText test) ts r = (ts ≡ text_type ∷ text_type ∷ []) × (r ≡ bool_type)
+
+-- the overload does
+abbrev pub Takes : Overload → List ValueType → ValueType → Type 0
+Takes overloads.Conditional ts r = ts ≡ bool_type ∷ r ∷ r ∷ []
+Takes (overloads.Operate op) ts r = Operates op ts r
 
 -- a call of the function on operands of these types, with a target or without, is this overload
 -- and has a result of this type

@@ -5,33 +5,23 @@ ghost use Rattle.cel_value.specs.Texts.{points_of};
 ghost use Rattle.cel_value.specs.Types.{key_type_eq, type_eq, type_of_key, type_view};
 ghost use Rattle.cel_overload.specs.Overloads.{CallFault, IsCall};
 ghost use Rattle.cel_overload.specs.View.{result_view, types_of};
+ghost use Rattle.cel_overload.specs.declared.overload.Overload.TheVariants.{Operate};
 ghost use Rattle.cel_overload.specs.steps.View.{found_view};
 ghost use Rattle.cel_overload.specs.steps.Choosing.{are_both, choose, choose_arithmetic, choose_binary, choose_comparison, choose_in, choose_index, choose_ternary, choose_unary, when};
 
 use crate::function::{Function, function_named, may_take};
 use crate::kinds::{has_key_type, is_joined, is_number, is_sized};
-use cel_ops::{ArithmeticOp, CompareOp, TextTest};
+use cel_ops::{ArithmeticOp, CompareOp, Operation};
 use cel_value::CelType;
 
-/// What a call does. An operation that serves several types is one overload: `Arithmetic` stands for
-/// `add_int64` and `add_uint64`, `Concat` for `add_string`, `add_bytes` and `add_list`.
+/// What a call does.
 #[derive(Clone, Copy, PartialEq, Eq, Debug)]
 pub enum Overload {
-    LogicalAnd,
-    LogicalOr,
-    LogicalNot,
-    NotStrictlyFalse,
+    /// One of its last two operands, as the first one decides.
     Conditional,
-    Compare(CompareOp),
-    Arithmetic(ArithmeticOp),
-    Concat,
-    Negate,
-    IndexList,
-    IndexMap,
-    InList,
-    InMap,
-    Size,
-    TestText(TextTest),
+    /// An operation. One that serves several types is one overload: `Arithmetic` stands for
+    /// `add_int64` and `add_uint64`, `Concat` for `add_string`, `add_bytes` and `add_list`.
+    Operate(Operation),
 }
 
 /// The type of a call's result.
@@ -108,22 +98,25 @@ fn when<'a>(fits: bool, overload: Overload, kind: ResultType<'a>) -> Option<Foun
     }
 }
 
+// An operation, where its operands fit.
+fn operate<'a>(fits: bool, op: Operation, kind: ResultType<'a>) -> Option<Found<'a>>
+    ensures { option_map found_view result ≡ when fits (Operate op) (result_view kind.entry) }
+{
+    when(fits, Overload::Operate(op), kind)
+}
+
 fn choose_unary<'a>(function: Function, operand: &'a CelType) -> Option<Found<'a>>
     ensures { option_map found_view result ≡ choose_unary function (type_view operand.now) }
 {
     match function {
-        Function::Not => when(
+        Function::Not => operate(*operand == CelType::Bool, Operation::Not, ResultType::Bool),
+        Function::NotStrictlyFalse => operate(
             *operand == CelType::Bool,
-            Overload::LogicalNot,
+            Operation::NotStrictlyFalse,
             ResultType::Bool,
         ),
-        Function::NotStrictlyFalse => when(
-            *operand == CelType::Bool,
-            Overload::NotStrictlyFalse,
-            ResultType::Bool,
-        ),
-        Function::Negate => when(*operand == CelType::Int, Overload::Negate, ResultType::Int),
-        Function::Size => when(is_sized(operand), Overload::Size, ResultType::Int),
+        Function::Negate => operate(*operand == CelType::Int, Operation::Negate, ResultType::Int),
+        Function::Size => operate(is_sized(operand), Operation::Size, ResultType::Int),
         _ => None,
     }
 }
@@ -132,23 +125,23 @@ fn choose_binary<'a>(function: Function, left: &'a CelType, right: &'a CelType) 
     ensures { option_map found_view result ≡ choose_binary function (type_view left.now) (type_view right.now) }
 {
     match function {
-        Function::And => when(
+        Function::And => operate(
             are_both(left, right, &CelType::Bool),
-            Overload::LogicalAnd,
+            Operation::And,
             ResultType::Bool,
         ),
-        Function::Or => when(
+        Function::Or => operate(
             are_both(left, right, &CelType::Bool),
-            Overload::LogicalOr,
+            Operation::Or,
             ResultType::Bool,
         ),
         Function::Compare(op) => choose_comparison(op, left, right),
         Function::Arithmetic(op) => choose_arithmetic(op, left, right),
         Function::Index => choose_index(left, right),
         Function::In => choose_in(left, right),
-        Function::TestText(test) => when(
+        Function::TestText(test) => operate(
             are_both(left, right, &CelType::Text),
-            Overload::TestText(test),
+            Operation::TestText(test),
             ResultType::Bool,
         ),
         _ => None,
@@ -163,7 +156,7 @@ fn choose_comparison<'a>(op: CompareOp, left: &'a CelType, right: &'a CelType) -
         CompareOp::Equal | CompareOp::NotEqual => *left == *right,
         _ => left.is_ordered() && *left == *right,
     };
-    when(fits, Overload::Compare(op), ResultType::Bool)
+    operate(fits, Operation::Compare(op), ResultType::Bool)
 }
 
 // Numbers are calculated; `_+_` joins texts, bytes and lists besides.
@@ -175,11 +168,11 @@ fn choose_arithmetic<'a>(
     ensures { option_map found_view result ≡ choose_arithmetic op (type_view left.now) (type_view right.now) }
 {
     if op == ArithmeticOp::Add && is_joined(left) {
-        return when(*left == *right, Overload::Concat, ResultType::Same(left));
+        return operate(*left == *right, Operation::Concat, ResultType::Same(left));
     }
-    when(
+    operate(
         is_number(left) && *left == *right,
-        Overload::Arithmetic(op),
+        Operation::Arithmetic(op),
         ResultType::Same(left),
     )
 }
@@ -188,14 +181,14 @@ fn choose_index<'a>(left: &'a CelType, right: &'a CelType) -> Option<Found<'a>>
     ensures { option_map found_view result ≡ choose_index (type_view left.now) (type_view right.now) }
 {
     match left {
-        CelType::List(items) => when(
+        CelType::List(items) => operate(
             *right == CelType::Int,
-            Overload::IndexList,
+            Operation::ListIndex,
             ResultType::Same(items),
         ),
-        CelType::Map(keys, values) => when(
+        CelType::Map(keys, values) => operate(
             has_key_type(right, *keys),
-            Overload::IndexMap,
+            Operation::MapIndex,
             ResultType::Same(values),
         ),
         CelType::Bool | CelType::Int | CelType::Uint | CelType::Text | CelType::Bytes => None,
@@ -206,8 +199,12 @@ fn choose_in<'a>(left: &'a CelType, right: &'a CelType) -> Option<Found<'a>>
     ensures { option_map found_view result ≡ choose_in (type_view left.now) (type_view right.now) }
 {
     match right {
-        CelType::List(items) => when(*left == **items, Overload::InList, ResultType::Bool),
-        CelType::Map(keys, _) => when(has_key_type(left, *keys), Overload::InMap, ResultType::Bool),
+        CelType::List(items) => operate(*left == **items, Operation::InList, ResultType::Bool),
+        CelType::Map(keys, _) => operate(
+            has_key_type(left, *keys),
+            Operation::InMap,
+            ResultType::Bool,
+        ),
         CelType::Bool | CelType::Int | CelType::Uint | CelType::Text | CelType::Bytes => None,
     }
 }

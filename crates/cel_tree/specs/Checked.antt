@@ -7,8 +7,8 @@ use Rattle.cel_value.specs.Types.{ValueType}
 use Rattle.cel_value.specs.Values.{CelValue}
 use Rattle.cel_tree.specs.Tree.{CelTree}
 
--- what an entry of the type map says of its node: a type; `dyn`, and so nothing; or a kind of type
--- that is not supported, in whole or somewhere inside
+-- what an entry of the type map says of its node: a type, or `dyn`, which says nothing. Or a type
+-- that is unsupported, in whole or somewhere inside
 pub data CelTypeEntry : Type 0 where
   of_type : ValueType → CelTypeEntry
   dyn_type : CelTypeEntry

@@ -1,4 +1,4 @@
--- Messages of single nodes, with the messages of the expressions inside as they stand:
+-- Messages of single nodes, with the messages of the expressions inside unread:
 -- `google/api/expr/v1alpha1/syntax.proto`, Expr and the messages inside it.
 use Rattle.std.specs.Prelude.{◌≡◌, ◌≢◌, ◌⊎◌, ℕ, ℤ, Bool, true, false, List, [], ◌∷◌, ◌++◌, map, Option, Some, None, Contains}
 use Rattle.std.specs.Map.{keys_of}
@@ -18,7 +18,7 @@ use Rattle.cel_tree.specs.Reading.{Reads, ReadFault, LacksNothing, OneofSays, Ne
 use Rattle.cel_tree.specs.declared.node.NodeKind.{NodeKind}
 use Rattle.cel_tree.specs.declared.node.NodeKind.TheVariants as kinds
 
--- the parts of a message that may stand in several payloads
+-- the parts of a message that may be in several payloads
 abbrev pub Parts : Type 0
 Parts = List (List ℕ)
 
@@ -159,7 +159,7 @@ abbrev pub ListSays : List Wire → Node → Type 0
 ListSays fs node = (has_field list_field.optional_indices fs ≡ false)
     × (node ≡ list_node (payloads list_field.elements fs))
 
--- indices of optional elements stand there
+-- indices of optional elements are present
 abbrev pub ListWrong : List Wire → Refusal → Type 0
 ListWrong fs e = (has_field list_field.optional_indices fs ≡ true) × (e ≡ Unsupported)
 
@@ -357,8 +357,7 @@ MemberFails kind n run e = KindFault kind (payloads n run) e
 abbrev pub NodeSays : List Wire → ℤ × Node → Type 0
 NodeSays fs x = (x.0 ≡ int64_at node_field.id fs) × OneofSays node_kinds Never MemberSays fs x.1
 
--- the parts merge to an Expr with this id and of this kind, whatever stands in the expressions
--- inside
+-- the parts merge to an Expr with this id and of this kind, whatever the expressions inside hold
 abbrev pub IsNode : Parts → ℤ → Node → Type 0
 IsNode parts id node = Reads node_keys NodeSays parts (id, node)
 
@@ -367,7 +366,7 @@ abbrev pub NodeFault : Parts → Refusal → Type 0
 NodeFault = ReadFault node_keys (LacksMember node_kinds)
     (OneofFault node_kinds IsUnsupported MemberFails)
 
--- ---- the expressions that stand in a node's message, also where other things are wrong with it
+-- ---- the expressions inside a node's message, even if other things are wrong with it
 
 -- in the fields of an Entry
 abbrev pub InEntry : List Wire → Parts → Type 0
@@ -390,6 +389,6 @@ InKind kinds.Comprehension fs child =
     ⊎ IsPart loop_field.loop_condition fs child ⊎ IsPart loop_field.loop_step fs child
     ⊎ IsPart loop_field.result fs child
 
--- the child is an expression that stands in an Expr
+-- the child is an expression inside an Expr
 abbrev pub IsChild : Parts → Parts → Type 0
 IsChild = StandsIn node_kinds InKind

@@ -30,7 +30,7 @@ pub data ReadFault (keys : List Key) (Lacks : List Wire → Type 0)
 abbrev pub LacksNothing : List Wire → Type 0
 LacksNothing fs = ⊥
 
--- ---- oneofs, by a table of their members; none stands for a member that is not supported
+-- ---- oneofs, by a table of their members; none means that a member is not supported
 
 -- the run of the last member says it; without a member, or where the last one is not supported,
 -- this is said
@@ -59,7 +59,7 @@ OneofFault table Refused Fails fs e = MatchOption (last_number (keys_of table) f
     (λ n. MatchOption (member_in table n) (Refused e)
     (λ m. Fails m n (member_run (keys_of table) fs) e))
 
--- ---- messages inside, whatever else is wrong with the one that they stand in
+-- ---- messages inside, whatever else is wrong with the one around them
 
 -- the fields of this number are one message, which is there
 abbrev pub IsPart : ℕ → List Wire → List (List ℕ) → Type 0
@@ -70,8 +70,8 @@ abbrev pub IsElement : ℕ → List Wire → List (List ℕ) → Type 0
 IsElement n fs child =
     (payload : List ℕ) × Contains (payloads n fs) payload × (child ≡ payload ∷ [])
 
--- the parts are whole fields, and so is the message of the member that counts, in which the child
--- stands
+-- the parts are whole fields, and so is the message of the member that counts, which holds the
+-- child
 pub record StandsIn {M : Type 0} (table : List (Key × Option M))
     (Inside : M → List Wire → List (List ℕ) → Type 0) (parts child : List (List ℕ)) : Type 0 where
   pub fields : List Wire

@@ -4,8 +4,8 @@ use Rattle.std.specs.Prelude.{ℕ, ℤ, Bool, List}
 use Rattle.cel_value.specs.Values.{CelValue}
 
 mutual
-  -- an expression: each node has its id first; a name is a list of code points, and a constant is
-  -- a bool, an int, a uint, a text or bytes
+  -- an expression: each node has its id first. A name is a list of code points, and a constant is a
+  -- bool, an int, a uint, a text or bytes
   pub data CelTree : Type 0 where
     constant : ℤ → CelValue → CelTree
     ident : ℤ → (name : List ℕ) → CelTree
@@ -21,12 +21,12 @@ mutual
     no_target : CelTarget
     target : CelTree → CelTarget
 
-  -- expressions one after the other
+  -- expressions in order
   pub data CelTrees : Type 0 where
     no_trees : CelTrees
     tree : CelTree → CelTrees → CelTrees
 
-  -- entries of a map literal one after the other: an id, a key and a value
+  -- entries of a map literal in order: an id, a key and a value
   pub data CelTreeEntries : Type 0 where
     no_tree_entries : CelTreeEntries
     tree_entry : ℤ → (key value : CelTree) → CelTreeEntries → CelTreeEntries

@@ -52,8 +52,8 @@ abbrev pub IsTree : ℕ → Parts → CelTree → Type 0
 IsTree zero parts t = ⊥
 IsTree (suc depth) parts t = IsLevel (IsTree depth) parts t
 
--- a fault of the node's own message, or of an expression that stands in it, each of which may be
--- there beside the other
+-- a fault of the node's own message, or of an expression inside it; either may occur beside the
+-- other
 pub data TreeLevelFault (Below : Parts → Refusal → Type 0) (parts : Parts) (e : Refusal) : Type 0
   where
     in_node : NodeFault parts e → TreeLevelFault Below parts e
@@ -102,8 +102,8 @@ AllHave Has [] n = n ≡ 0
 AllHave Has (child ∷ children) n =
     (one others : ℕ) × Has child one × AllHave Has children others × (n ≡ one + others)
 
--- the parts have so many nodes, at least: an expression is one, whatever it holds, and where its
--- own message reads, those inside count too, down to a depth
+-- the parts have at least so many nodes. An expression is one, whatever it holds; if its own
+-- message reads, those inside count too, down to a depth
 abbrev pub HasNodes : ℕ → Parts → ℕ → Type 0
 HasNodes zero parts n = n ≤ 1
 HasNodes (suc depth) parts n = (n ≤ 1)

@@ -117,8 +117,8 @@ TypeFails kinds.List n run e =
 TypeFails kinds.Map n run e = ReadFault map_type_keys LacksNothing MapTypeWrong (payloads n run) e
 TypeFails _ n run e = ⊥
 
--- a Type without a member is of a kind that is not supported, and so is one with another member;
--- what that holds is not looked into
+-- a Type without a member is unsupported, and so is one with another member, whose content is not
+-- read
 abbrev pub IsOfOtherKind : TypeNode → Type 0
 IsOfOtherKind node = node ≡ plain unsupported_type
 
@@ -130,7 +130,7 @@ IsTypeNode = Reads type_keys (OneofSays type_kinds IsOfOtherKind TypeSays)
 abbrev pub TypeNodeFault : List (List ℕ) → Refusal → Type 0
 TypeNodeFault = ReadFault type_keys LacksNothing (OneofFault type_kinds Never TypeFails)
 
--- ---- the types that stand in its message, also where other things are wrong with it
+-- ---- the types inside its message, even if other things are wrong with it
 
 -- in the fields of a member's message
 abbrev pub InTypeKind : TypeKind → List Wire → List (List ℕ) → Type 0
@@ -139,11 +139,11 @@ InTypeKind kinds.Map fs inner =
     IsPart map_type_field.key_type fs inner ⊎ IsPart map_type_field.value_type fs inner
 InTypeKind _ fs inner = ⊥
 
--- the inner one is a type that stands in a Type
+-- the inner one is a type inside a Type
 abbrev pub IsInner : List (List ℕ) → List (List ℕ) → Type 0
 IsInner = StandsIn type_kinds InTypeKind
 
--- ---- all levels; `Below` stands for the types one level down
+-- ---- all levels; `Below` is the types one level down
 
 -- the types inside make this entry
 abbrev pub Holds : (List (List ℕ) → CelTypeEntry → Type 0) → TypeNode → CelTypeEntry → Type 0
@@ -159,8 +159,7 @@ IsTypeEntry zero parts entry = ⊥
 IsTypeEntry (suc depth) parts entry =
     (node : TypeNode) × IsTypeNode parts node × Holds (IsTypeEntry depth) node entry
 
--- a fault of its own message, or of a type that stands in it, each of which may be there beside the
--- other
+-- a fault of its own message, or of a type inside it; either may occur beside the other
 pub data TypeLevelFault (Below : List (List ℕ) → Refusal → Type 0) (parts : List (List ℕ))
     (e : Refusal) : Type 0 where
   in_type : TypeNodeFault parts e → TypeLevelFault Below parts e

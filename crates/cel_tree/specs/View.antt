@@ -1,4 +1,4 @@
--- The trees, entries and constants that the code's stand for.
+-- The trees, entries and constants that the code's mean.
 use Rattle.std.specs.Prelude.{ℕ, ℤ, List, [], ◌∷◌, Option, Some, None, map, option_map}
 use Rattle.std.specs.Rc.{rc_slice_items}
 use Rattle.std.specs.FinMap.{FinMap, from_entries}
@@ -23,7 +23,7 @@ use Rattle.cel_tree.specs.declared.checked.Checked.{Checked}
 
 -- ---- constants and entries
 
--- the value that a constant stands for
+-- the value that a constant means
 abbrev pub constant_view : Constant → CelValue
 constant_view (constants.Bool b) = bool b
 constant_view (constants.Int i) = int i
@@ -67,12 +67,12 @@ pub record LoopParts : Type 0 where
   pub loop_step : CelTree
   pub result : CelTree
 
--- trees one after the other
+-- trees in order
 abbrev pub trees_of : List CelTree → CelTrees
 trees_of [] = no_trees
 trees_of (t ∷ ts) = tree t (trees_of ts)
 
--- entries one after the other
+-- entries in order
 abbrev pub tree_entries_of : List EntryParts → CelTreeEntries
 tree_entries_of [] = no_tree_entries
 tree_entries_of (e ∷ es) = tree_entry e.id e.key e.value (tree_entries_of es)
@@ -112,7 +112,7 @@ tree_level (Tree-F.List id es) = list_literal id (trees_of es.items)
 tree_level (Tree-F.Map id es) = map_literal id (tree_entries_of es.items)
 tree_level (Tree-F.Comprehension id c) = loop_of id c.value
 
--- the tree that a `Tree` stands for
+-- the tree that a `Tree` means
 abbrev pub tree_view : Tree → CelTree
 tree_view = fold-Tree CelTree LoopParts EntryParts tree_level loop_level entry_level
 
@@ -126,7 +126,7 @@ types_view m = from_entries (map (λ e. (e.0, type_entry_view e.1)) m.entries)
 abbrev pub references_view : ReferenceMap → FinMap int_cmp CelReference
 references_view m = from_entries (map (λ e. (e.0, reference_view e.1)) m.entries)
 
--- the checked expression that a `Checked` stands for
+-- the checked expression that a `Checked` means
 abbrev pub checked_view : Checked → CelChecked
 checked_view c = record {
   tree = tree_view c.tree;

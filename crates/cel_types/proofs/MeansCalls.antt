@@ -13,6 +13,7 @@ use Rattle.cel_overload.specs.Answers.{HaveTypes, addition_of, function_answer, 
 use Rattle.cel_overload.specs.Overloads.{IsNumber, IsOverload, Takes, function_of}
 use Rattle.cel_overload.specs.declared.function.Function.{Function}
 use Rattle.cel_overload.specs.declared.overload.Overload.{Overload}
+use Rattle.cel_ops.specs.declared.operation.Operation.TheVariants as operations
 use Rattle.cel_overload.specs.declared.overload.Overload.TheVariants as overloads
 
 -- what is the same of values of two types is the same of operands of those types
@@ -72,32 +73,32 @@ in_map_same k t v _ g h = absurd h
 answer_same : (o : Overload) (ts : List ValueType) (r : ValueType) (answers : List CelAnswer)
     → Takes o ts r → HaveTypes answers ts
     → function_answer (function_of o) answers ≡ overload_answer o answers
-answer_same overloads.LogicalAnd ts r answers k h = refl
-answer_same overloads.LogicalOr ts r answers k h = refl
-answer_same overloads.LogicalNot ts r answers k h = refl
-answer_same overloads.NotStrictlyFalse ts r answers k h = refl
+answer_same (overloads.Operate operations.And) ts r answers k h = refl
+answer_same (overloads.Operate operations.Or) ts r answers k h = refl
+answer_same (overloads.Operate operations.Not) ts r answers k h = refl
+answer_same (overloads.Operate operations.NotStrictlyFalse) ts r answers k h = refl
 answer_same overloads.Conditional ts r answers k h = refl
-answer_same (overloads.Compare op) ts r answers k h = refl
-answer_same (overloads.Arithmetic ArithmeticOp.Add) ts r answers k h =
+answer_same (overloads.Operate (operations.Compare op)) ts r answers k h = refl
+answer_same (overloads.Operate (operations.Arithmetic ArithmeticOp.Add)) ts r answers k h =
     two_same addition_of (arithmetic_of ArithmeticOp.Add) r r (sum_same r k.0) ts k.1 answers h
-answer_same (overloads.Arithmetic ArithmeticOp.Subtract) ts r answers k h = refl
-answer_same (overloads.Arithmetic ArithmeticOp.Multiply) ts r answers k h = refl
-answer_same (overloads.Arithmetic ArithmeticOp.Divide) ts r answers k h = refl
-answer_same (overloads.Arithmetic ArithmeticOp.Remainder) ts r answers k h = refl
-answer_same overloads.Concat ts r answers k h =
+answer_same (overloads.Operate (operations.Arithmetic ArithmeticOp.Subtract)) ts r answers k h = refl
+answer_same (overloads.Operate (operations.Arithmetic ArithmeticOp.Multiply)) ts r answers k h = refl
+answer_same (overloads.Operate (operations.Arithmetic ArithmeticOp.Divide)) ts r answers k h = refl
+answer_same (overloads.Operate (operations.Arithmetic ArithmeticOp.Remainder)) ts r answers k h = refl
+answer_same (overloads.Operate operations.Concat) ts r answers k h =
     two_same addition_of joined_of r r (joined_same r k.0) ts k.1 answers h
-answer_same overloads.Negate ts r answers k h = refl
-answer_same overloads.IndexList ts r answers k h =
+answer_same (overloads.Operate operations.Negate) ts r answers k h = refl
+answer_same (overloads.Operate operations.ListIndex) ts r answers k h =
     two_same index_of item_of (list_type r) int_type (item_same r) ts k answers h
-answer_same overloads.IndexMap ts r answers k h =
+answer_same (overloads.Operate operations.MapIndex) ts r answers k h =
     two_same index_of entry_of (map_type k.0 r) (type_of_key k.0) (entry_same k.0 r) ts k.1 answers h
-answer_same overloads.InList ts r answers k h =
+answer_same (overloads.Operate operations.InList) ts r answers k h =
     two_same in_of in_list_of k.0 (list_type k.0) (in_list_same k.0) ts k.1 answers h
-answer_same overloads.InMap ts r answers k h =
+answer_same (overloads.Operate operations.InMap) ts r answers k h =
     two_same in_of in_map_of (type_of_key k.0) (map_type k.0 k.1) (in_map_same k.0 k.1) ts k.2
     answers h
-answer_same overloads.Size ts r answers k h = refl
-answer_same (overloads.TestText test) ts r answers k h = refl
+answer_same (overloads.Operate operations.Size) ts r answers k h = refl
+answer_same (overloads.Operate (operations.TestText test)) ts r answers k h = refl
 
 pub call_same : (f : Function) (target : Bool) (ts : List ValueType) (o : Overload)
     (r : ValueType) (answers : List CelAnswer) → IsOverload f target ts o r

@@ -13,6 +13,7 @@ use Rattle.cel_value.specs.declared.cel_type.KeyType.TheVariants as keys
 use Rattle.cel_ops.specs.declared.comparison.CompareOp.TheVariants.{Equal}
 use Rattle.cel_ops.specs.declared.arithmetic.ArithmeticOp.TheVariants.{Add}
 use Rattle.cel_overload.specs.declared.function.Function.TheVariants as functions
+use Rattle.cel_ops.specs.declared.operation.Operation.TheVariants as operations
 use Rattle.cel_overload.specs.declared.overload.Overload.TheVariants as overloads
 use Rattle.cel_tree.specs.Checked.{CelChecked, CelReference, CelTypeEntry, of_type, dyn_type, unsupported_type}
 use Rattle.cel_tree.specs.Tree.{CelTree, constant, ident, select, call, comprehension, list_literal, map_literal, no_target, no_tree_entries, tree_entry, CelTrees, no_trees, tree}
@@ -61,7 +62,7 @@ is_bool : (m : Maps) → Types m [] method_is_get bool_type
 is_bool m = (
   text_type ∷ text_type ∷ [],
   (refl, (refl, tt)),
-  overloads.Compare Equal,
+  overloads.Operate (operations.Compare Equal),
   (
     functions.Compare Equal,
     refl,
@@ -398,7 +399,7 @@ loop_is_bool = record {
   step = (
     int_type ∷ int_type ∷ [],
     (refl, (refl, tt)),
-    overloads.Compare Equal,
+    overloads.Operate (operations.Compare Equal),
     (
       functions.Compare Equal,
       refl,
@@ -428,7 +429,7 @@ range_of_an_int = inl (no_elements int_type refl (λ t h. h) refl)
 -- ---- elaborations: the attribute, the overload, and locals by how many are outside
 
 method_elaborated : Elaborates (with_types []) [] method_is_get
-    (typed_call bool_type (overloads.Compare Equal)
+    (typed_call bool_type (overloads.Operate (operations.Compare Equal))
     (typed (typed_attribute text_type AttrId.RequestMethod)
     (typed (typed_constant text_type (text (codes "GET"))) no_typed)))
 method_elaborated = (
@@ -452,7 +453,7 @@ loop_elaborated : Elaborates (with_types []) [] (seven_loop (codes "x") (codes "
     (typed_loop bool_type
     (typed_list (list_type int_type) (typed (typed_constant int_type (int (pos 7))) no_typed))
     (typed_constant bool_type (bool true)) (typed_local bool_type 0)
-    (typed_call bool_type (overloads.Compare Equal)
+    (typed_call bool_type (overloads.Operate (operations.Compare Equal))
     (typed (typed_local int_type 1) (typed (typed_constant int_type (int (pos 7))) no_typed)))
     (typed_local bool_type 0))
 loop_elaborated = (
@@ -468,7 +469,7 @@ loop_elaborated = (
     (
       int_type ∷ int_type ∷ [],
       (refl, (refl, tt)),
-      overloads.Compare Equal,
+      overloads.Operate (operations.Compare Equal),
       (
         functions.Compare Equal,
         refl,

@@ -8,7 +8,7 @@ item_at no_items i = None
 item_at (item v vs) zero = Some v
 item_at (item v vs) (suc i) = item_at vs i
 
--- the items of both, one after the other
+-- the items of both, in order
 abbrev pub joined_items : CelValues → CelValues → CelValues
 joined_items no_items ws = ws
 joined_items (item v vs) ws = item v (joined_items vs ws)

@@ -1,5 +1,5 @@
--- Maps as finite functions: the order of keys, look-up, and entries by ascending key.
--- CEL language definition, "Map Values"; that keys stand in this order is this project's choice.
+-- Maps as finite functions: the order of keys, look-up, and entries by ascending key. CEL language
+-- definition, "Map Values"; that keys have this order is this project's choice.
 use Rattle.std.specs.Prelude.{ℕ, ◌≡◌, Bool, true, ◌&&◌, List, [], ◌∷◌, Option, Some, None, if◌then◌else◌}
 use Rattle.std.specs.declared.cmp.Ordering.{Ordering}
 use Rattle.std.specs.declared.cmp.Ordering.TheVariants.{Less, Greater}
@@ -45,7 +45,7 @@ abbrev pub AllAbove : CelKey → CelEntries → Type 0
 AllAbove k no_entries = Unit {0}
 AllAbove k (entry j v es) = (key_cmp k j ≡ Less) × AllAbove k es
 
--- the keys rise, so that no key stands twice: such entries are a finite function
+-- the keys rise, so no key is there twice: such entries are a finite function
 abbrev pub IsAscending : CelEntries → Type 0
 IsAscending no_entries = Unit {0}
 IsAscending (entry k v es) = AllAbove k es × IsAscending es

@@ -21,7 +21,7 @@ length_of (list vs) = item_count vs
 length_of (map_of es) = entry_count es
 length_of _ = 0
 
--- the mass of a key: 1, and of a text its length besides
+-- the mass of a key: 1, and for a text its length as well
 abbrev pub key_mass : CelKey → ℕ
 key_mass (bool_key b) = 1
 key_mass (int_key i) = 1

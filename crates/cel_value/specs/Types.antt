@@ -29,7 +29,7 @@ type_step CelType-F.Bytes = bytes_type
 type_step (CelType-F.List t) = list_type t.value
 type_step (CelType-F.Map k t) = map_type k t.value
 
--- the type that a `CelType` stands for
+-- the type that a `CelType` means
 abbrev pub type_view : CelType → ValueType
 type_view = fold-CelType ValueType type_step
 

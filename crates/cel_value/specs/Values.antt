@@ -20,7 +20,7 @@ mutual
     list : CelValues → CelValue
     map_of : CelEntries → CelValue
 
-  -- values one after the other
+  -- values in order
   pub data CelValues : Type 0 where
     no_items : CelValues
     item : CelValue → CelValues → CelValues
@@ -30,7 +30,7 @@ mutual
     no_entries : CelEntries
     entry : CelKey → CelValue → CelEntries → CelEntries
 
--- what an expression comes to: a value, or why there is none
+-- what an expression evaluates to: a value, or why there is none
 pub data CelAnswer : Type 0 where
   value : CelValue → CelAnswer
   fails : CelError → CelAnswer

@@ -1,4 +1,4 @@
--- The value that a `Value` stands for.
+-- The value that a `Value` means.
 use Rattle.std.specs.Prelude.{List, [], ◌∷◌, map, Result, Ok, Err}
 use Rattle.std.specs.Rc.{rc_slice_items}
 use Rattle.std.specs.declared.rc.RcStr.{RcStr}
@@ -14,26 +14,26 @@ use Rattle.cel_value.specs.declared.value.Map.{Map, fold-Map}
 use Rattle.cel_value.specs.declared.value.Value.{Value, fold-Value}
 use Rattle.cel_value.specs.declared.value.Map.TheOpen.{Value-F, Map-F}
 
--- the key that a `Key` stands for
+-- the key that a `Key` means
 abbrev pub key_view : Key → CelKey
 key_view (keys.Bool b) = bool_key b
 key_view (keys.Int i) = int_key i
 key_view (keys.Uint n) = uint_key n
 key_view (keys.Text t) = text_key (text_view t)
 
--- the key that a lent key stands for
+-- the key that a borrowed key means
 abbrev pub lent_view : LentKey → CelKey
 lent_view (lents.Bool b) = bool_key b
 lent_view (lents.Int i) = int_key i
 lent_view (lents.Uint n) = uint_key n
 lent_view (lents.Text t) = text_key (text_view t.now)
 
--- values of a list, one after the other
+-- values of a list, in order
 abbrev pub items_of : List CelValue → CelValues
 items_of [] = no_items
 items_of (v ∷ vs) = item v (items_of vs)
 
--- keys with values that are already seen, one after the other
+-- keys with values that are already seen, in order
 abbrev pub entries_of : List (Key × CelValue) → CelEntries
 entries_of [] = no_entries
 entries_of (e ∷ es) = entry (key_view e.0) e.1 (entries_of es)
@@ -58,7 +58,7 @@ value_step (Value-F.Bytes bs) = bytes (rc_slice_items bs)
 value_step (Value-F.List vs) = list (items_of vs.value.items)
 value_step (Value-F.Map es) = map_of es
 
--- the value that a `Value` stands for
+-- the value that a `Value` means
 abbrev pub value_view : Value → CelValue
 value_view = fold-Value CelEntries CelValue map_step value_step
 
@@ -70,11 +70,11 @@ values_view vs = items_of (map value_view vs)
 abbrev pub entries_view : List (Key × Value) → CelEntries
 entries_view es = entries_of (map (λ e. (e.0, value_view e.1)) es)
 
--- the entries that a `Map` stands for
+-- the entries that a `Map` means
 abbrev pub map_view : Map → CelEntries
 map_view = fold-Map CelEntries CelValue map_step value_step
 
--- the answer that an `Answer` stands for
+-- the answer that an `Answer` means
 abbrev pub answer_view : Result Value CelError → CelAnswer
 answer_view (Ok v) = value (value_view v)
 answer_view (Err e) = fails e

@@ -2,8 +2,8 @@
 
 ghost use Rattle.std.specs.Prelude.{◌≡◌, ◌<◌, ◌*◌, ◌^◌, Some, [], ◌∷◌, length, IfOk, option_map};
 ghost use Rattle.stack_machine.specs.Instructions.{Jump, instr_view};
-ghost use Rattle.stack_machine.specs.Slots.{list_literal_slot, map_literal_slot};
-ghost use Rattle.stack_machine.specs.Shapes.{binary, branch, leaves, literal, loop_next, loop_start, loop_test, store, test, unary, ways};
+ghost use Rattle.stack_machine.specs.Slots.{list_literal_slot, map_literal_slot, slots_of};
+ghost use Rattle.stack_machine.specs.Shapes.{binary, branch, leaves, literal, loop_next, loop_start, loop_test, operate, store, test, unary, ways};
 ghost use Rattle.code_verifier.specs.steps.Results.{binary_slot, unary_slot};
 ghost use Rattle.code_verifier.specs.steps.ShapeView.{AreWays, Stands, shape_view};
 ghost use Rattle.code_verifier.specs.steps.SlotView.{locals_view, slot_view};
@@ -17,6 +17,7 @@ use crate::results::{
 use crate::shape::{Due, Shape};
 use crate::slot::Slot;
 use crate::stacks::Stacks;
+use cel_ops::Operation;
 use cel_value::CelType;
 use stack_machine::{Instr, Stack};
 use std::alloc::{AllocError, Global};
@@ -49,24 +50,9 @@ pub(crate) fn ways_of(
             leave(alloc, stacks, position, shape, slot, shape.slots)
         }
         Instr::Store(local) => store_ways(alloc, stacks, position, shape, *local),
-        Instr::Arith(_) => binary_ways(alloc, stacks, position, shape, Binary::Arith),
-        Instr::Negate => unary_ways(alloc, stacks, position, shape, Unary::Negate),
-        Instr::Not => unary_ways(alloc, stacks, position, shape, Unary::Not),
-        Instr::Nsf => unary_ways(alloc, stacks, position, shape, Unary::Not),
-        Instr::And => binary_ways(alloc, stacks, position, shape, Binary::Logic),
-        Instr::Or => binary_ways(alloc, stacks, position, shape, Binary::Logic),
-        Instr::Compare(op) => { binary_ways(alloc, stacks, position, shape, Binary::Compare(*op)) }
-        Instr::Contains => binary_ways(alloc, stacks, position, shape, Binary::TestText),
-        Instr::StartsWith => binary_ways(alloc, stacks, position, shape, Binary::TestText),
-        Instr::EndsWith => binary_ways(alloc, stacks, position, shape, Binary::TestText),
-        Instr::Concat => binary_ways(alloc, stacks, position, shape, Binary::Concat),
-        Instr::Size => unary_ways(alloc, stacks, position, shape, Unary::Size),
-        Instr::ListIndex => binary_ways(alloc, stacks, position, shape, Binary::ListIndex),
-        Instr::MapIndex => binary_ways(alloc, stacks, position, shape, Binary::MapIndex),
-        Instr::InMap => binary_ways(alloc, stacks, position, shape, Binary::InMap),
+        Instr::Operate(op) => operate_ways(alloc, stacks, position, shape, *op),
         Instr::Field(_) => unary_ways(alloc, stacks, position, shape, Unary::Field),
         Instr::HasField(_) => unary_ways(alloc, stacks, position, shape, Unary::HasField),
-        Instr::InList => binary_ways(alloc, stacks, position, shape, Binary::InList),
         Instr::MakeList(count) => list_ways(alloc, stacks, position, shape, *count),
         Instr::EmptyList(t) => {
             let slot = Slot::Of(CelType::List(Rc::new(alloc, t.copy()?)?));
@@ -90,6 +76,37 @@ pub(crate) fn ways_of(
         Instr::LoopTest { done, failed } => {
             loop_test_ways(alloc, stacks, position, shape, *done, *failed)
         }
+    }
+}
+
+// The ways on from an operation.
+fn operate_ways(
+    alloc: Global,
+    stacks: &mut Stacks,
+    position: usize,
+    shape: &Shape,
+    op: Operation,
+) -> Result<Option<Stack<Due>>, AllocError>
+    requires room { position < 2 ^ 32 }
+    requires stands { Stands stacks.old shape.now }
+    ensures { IfOk result (λ o. AreWays stacks.old stacks.new o
+        (operate (slots_of op) position (shape_view stacks.old shape.now))) }
+{
+    match op {
+        Operation::Negate => unary_ways(alloc, stacks, position, shape, Unary::Negate),
+        Operation::Not => unary_ways(alloc, stacks, position, shape, Unary::Not),
+        Operation::NotStrictlyFalse => unary_ways(alloc, stacks, position, shape, Unary::Not),
+        Operation::Size => unary_ways(alloc, stacks, position, shape, Unary::Size),
+        Operation::Arithmetic(_) => binary_ways(alloc, stacks, position, shape, Binary::Arith),
+        Operation::And => binary_ways(alloc, stacks, position, shape, Binary::Logic),
+        Operation::Or => binary_ways(alloc, stacks, position, shape, Binary::Logic),
+        Operation::Compare(op) => binary_ways(alloc, stacks, position, shape, Binary::Compare(op)),
+        Operation::TestText(_) => binary_ways(alloc, stacks, position, shape, Binary::TestText),
+        Operation::Concat => binary_ways(alloc, stacks, position, shape, Binary::Concat),
+        Operation::ListIndex => binary_ways(alloc, stacks, position, shape, Binary::ListIndex),
+        Operation::MapIndex => binary_ways(alloc, stacks, position, shape, Binary::MapIndex),
+        Operation::InMap => binary_ways(alloc, stacks, position, shape, Binary::InMap),
+        Operation::InList => binary_ways(alloc, stacks, position, shape, Binary::InList),
     }
 }
 
@@ -355,10 +372,10 @@ fn loop_start_ways(
     let Some((a, rest)) = stacks.top(shape.slots)? else {
         return Ok(None);
     };
-    let Some(each) = loop_slot(&a)? else {
+    let Some(_) = loop_slot(&a)? else {
         return Ok(None);
     };
-    let opened = stacks.push(each, shape.loops)?;
+    let opened = stacks.push(a, shape.loops)?;
     let error = stacks.push(Slot::Failing, rest)?;
     let on = to(position + 1, shape, rest, opened)?;
     let out = to(failed as usize, shape, error, shape.loops)?;
@@ -379,7 +396,10 @@ fn loop_next_ways(
     ensures { IfOk result (λ o. AreWays stacks.old stacks.new o
         (loop_next local done position (shape_view stacks.old shape.now))) }
 {
-    let Some((each, outer)) = stacks.top(shape.loops)? else {
+    let Some((a, outer)) = stacks.top(shape.loops)? else {
+        return Ok(None);
+    };
+    let Some(each) = loop_slot(&a)? else {
         return Ok(None);
     };
     let locals = with_slot(alloc, &shape.locals, local, each)?;

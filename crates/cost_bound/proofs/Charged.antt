@@ -9,6 +9,7 @@ use Rattle.cel_ops.specs.Strict.{Gathered, all_values, first_error, gather, gath
 use Rattle.cel_overload.specs.Answers.{HaveTypes}
 use Rattle.cel_overload.specs.steps.Charges.{charge_of_one, charge_of_two, overload_charge}
 use Rattle.cel_overload.specs.declared.overload.Overload.{Overload}
+use Rattle.cel_ops.specs.declared.operation.Operation.TheVariants as operations
 use Rattle.cel_overload.specs.declared.overload.Overload.TheVariants as overloads
 use Rattle.cost_bound.specs.Costs.{charge_at, counted_cost, field_cost, keys_of, map_cost, masses}
 use Rattle.cost_bound.specs.Sizes.{AllWithin, Fits, Size, Within, mass_of, most_of}
@@ -17,35 +18,35 @@ use Rattle.cost_bound.proofs.Joins.{length_within, mass_within}
 -- each charge is 1 at least
 pub charge_some : (o : Overload) (ts : List ValueType) (sizes : List Size)
     → 1 ≤ charge_at o ts sizes
-charge_some (overloads.Compare op) ts [] = omega arith
-charge_some (overloads.Compare op) ts (s ∷ []) = omega arith
-charge_some (overloads.Compare op) ts (s ∷ t ∷ []) = omega arith
-charge_some (overloads.Compare op) ts (s ∷ t ∷ u ∷ ss) = omega arith
-charge_some (overloads.TestText test) ts [] = omega arith
-charge_some (overloads.TestText test) ts (s ∷ []) = omega arith
-charge_some (overloads.TestText test) ts (s ∷ t ∷ []) = omega arith
-charge_some (overloads.TestText test) ts (s ∷ t ∷ u ∷ ss) = omega arith
-charge_some overloads.Concat ts [] = omega arith
-charge_some overloads.Concat ts (s ∷ []) = omega arith
-charge_some overloads.Concat ts (s ∷ t ∷ []) = omega arith
-charge_some overloads.Concat ts (s ∷ t ∷ u ∷ ss) = omega arith
-charge_some overloads.IndexMap ts [] = omega arith
-charge_some overloads.IndexMap ts (s ∷ []) = omega arith
-charge_some overloads.IndexMap ts (s ∷ t ∷ []) = omega arith
-charge_some overloads.IndexMap ts (s ∷ t ∷ u ∷ ss) = omega arith
-charge_some overloads.InMap ts [] = omega arith
-charge_some overloads.InMap ts (s ∷ []) = omega arith
-charge_some overloads.InMap ts (s ∷ t ∷ []) = omega arith
-charge_some overloads.InMap ts (s ∷ t ∷ u ∷ ss) = omega arith
-charge_some overloads.InList ts [] = omega arith
-charge_some overloads.InList ts (s ∷ []) = omega arith
-charge_some overloads.InList ts (s ∷ t ∷ []) = omega arith
-charge_some overloads.InList ts (s ∷ t ∷ u ∷ ss) = omega arith
-charge_some overloads.Size [] sizes = omega arith
-charge_some overloads.Size (t ∷ []) [] = omega arith
-charge_some overloads.Size (t ∷ []) (s ∷ []) = omega arith
-charge_some overloads.Size (t ∷ []) (s ∷ u ∷ ss) = omega arith
-charge_some overloads.Size (t ∷ k ∷ ts) sizes = omega arith
+charge_some (overloads.Operate (operations.Compare op)) ts [] = omega arith
+charge_some (overloads.Operate (operations.Compare op)) ts (s ∷ []) = omega arith
+charge_some (overloads.Operate (operations.Compare op)) ts (s ∷ t ∷ []) = omega arith
+charge_some (overloads.Operate (operations.Compare op)) ts (s ∷ t ∷ u ∷ ss) = omega arith
+charge_some (overloads.Operate (operations.TestText test)) ts [] = omega arith
+charge_some (overloads.Operate (operations.TestText test)) ts (s ∷ []) = omega arith
+charge_some (overloads.Operate (operations.TestText test)) ts (s ∷ t ∷ []) = omega arith
+charge_some (overloads.Operate (operations.TestText test)) ts (s ∷ t ∷ u ∷ ss) = omega arith
+charge_some (overloads.Operate operations.Concat) ts [] = omega arith
+charge_some (overloads.Operate operations.Concat) ts (s ∷ []) = omega arith
+charge_some (overloads.Operate operations.Concat) ts (s ∷ t ∷ []) = omega arith
+charge_some (overloads.Operate operations.Concat) ts (s ∷ t ∷ u ∷ ss) = omega arith
+charge_some (overloads.Operate operations.MapIndex) ts [] = omega arith
+charge_some (overloads.Operate operations.MapIndex) ts (s ∷ []) = omega arith
+charge_some (overloads.Operate operations.MapIndex) ts (s ∷ t ∷ []) = omega arith
+charge_some (overloads.Operate operations.MapIndex) ts (s ∷ t ∷ u ∷ ss) = omega arith
+charge_some (overloads.Operate operations.InMap) ts [] = omega arith
+charge_some (overloads.Operate operations.InMap) ts (s ∷ []) = omega arith
+charge_some (overloads.Operate operations.InMap) ts (s ∷ t ∷ []) = omega arith
+charge_some (overloads.Operate operations.InMap) ts (s ∷ t ∷ u ∷ ss) = omega arith
+charge_some (overloads.Operate operations.InList) ts [] = omega arith
+charge_some (overloads.Operate operations.InList) ts (s ∷ []) = omega arith
+charge_some (overloads.Operate operations.InList) ts (s ∷ t ∷ []) = omega arith
+charge_some (overloads.Operate operations.InList) ts (s ∷ t ∷ u ∷ ss) = omega arith
+charge_some (overloads.Operate operations.Size) [] sizes = omega arith
+charge_some (overloads.Operate operations.Size) (t ∷ []) [] = omega arith
+charge_some (overloads.Operate operations.Size) (t ∷ []) (s ∷ []) = omega arith
+charge_some (overloads.Operate operations.Size) (t ∷ []) (s ∷ u ∷ ss) = omega arith
+charge_some (overloads.Operate operations.Size) (t ∷ k ∷ ts) sizes = omega arith
 charge_some _ ts sizes = omega arith
 
 -- a charge of two values that is at most a cost is so of two answers
@@ -121,48 +122,60 @@ counted_within (map_of es) t s h g = omega arith
 
 size_charged : (answers : List CelAnswer) (ts : List ValueType) (sizes : List Size)
     → AllWithin answers sizes → HaveTypes answers ts
-    → charge_of_one size_charge answers ≤ charge_at overloads.Size ts sizes
-size_charged [] ts sizes h g = charge_some overloads.Size ts sizes
-size_charged (fails e ∷ []) ts sizes h g = charge_some overloads.Size ts sizes
+    → charge_of_one size_charge answers ≤ charge_at (overloads.Operate operations.Size) ts sizes
+size_charged [] ts sizes h g = charge_some (overloads.Operate operations.Size) ts sizes
+size_charged (fails e ∷ []) ts sizes h g = charge_some (overloads.Operate operations.Size) ts sizes
 size_charged (value v ∷ []) [] sizes h g = absurd g
 size_charged (value v ∷ []) (t ∷ k ∷ ts) sizes h g = absurd g.1
 size_charged (value v ∷ []) (t ∷ []) [] h g = absurd h
 size_charged (value v ∷ []) (t ∷ []) (s ∷ u ∷ ss) h g = absurd h.1
 size_charged (value v ∷ []) (t ∷ []) (s ∷ []) h g =
     let most = counted_within v t s h.0 g.0 in omega (arith, most)
-size_charged (a ∷ b ∷ answers) ts sizes h g = charge_some overloads.Size ts sizes
+size_charged (a ∷ b ∷ answers) ts sizes h g = charge_some (overloads.Operate operations.Size) ts sizes
+
+-- what costs 1 on any operands
+plain_one : (answers : List CelAnswer) → charge_of_one (λ a. 1) answers ≤ 1
+plain_one [] = omega arith
+plain_one (a ∷ []) = omega arith
+plain_one (a ∷ b ∷ answers) = omega arith
+
+plain_two : (answers : List CelAnswer) → charge_of_two (λ a b. 1) answers ≤ 1
+plain_two [] = omega arith
+plain_two (a ∷ []) = omega arith
+plain_two (a ∷ b ∷ []) = omega arith
+plain_two (a ∷ b ∷ c ∷ answers) = omega arith
 
 -- a call's instruction, of operands within sizes and of types
 pub overload_charged : (o : Overload) (answers : List CelAnswer) (ts : List ValueType)
     (sizes : List Size) → AllWithin answers sizes → HaveTypes answers ts
     → overload_charge o answers ≤ charge_at o ts sizes
-overload_charged (overloads.Compare op) answers ts sizes h g =
-    two_charged comparison_charge (charge_at (overloads.Compare op) ts)
-    (charge_some (overloads.Compare op) ts) masses_charged answers sizes h
-overload_charged (overloads.TestText test) answers ts sizes h g =
-    two_charged comparison_charge (charge_at (overloads.TestText test) ts)
-    (charge_some (overloads.TestText test) ts) masses_charged answers sizes h
-overload_charged overloads.Concat answers ts sizes h g =
-    two_charged joined_charge (charge_at overloads.Concat ts)
-    (charge_some overloads.Concat ts) joined_charged answers sizes h
-overload_charged overloads.IndexMap answers ts sizes h g =
-    two_charged map_index_charge (charge_at overloads.IndexMap ts)
-    (charge_some overloads.IndexMap ts) index_charged answers sizes h
-overload_charged overloads.InMap answers ts sizes h g =
-    two_charged in_map_charge (charge_at overloads.InMap ts)
-    (charge_some overloads.InMap ts) in_map_charged answers sizes h
-overload_charged overloads.InList answers ts sizes h g =
-    two_charged in_list_charge (charge_at overloads.InList ts)
-    (charge_some overloads.InList ts) in_list_charged answers sizes h
-overload_charged overloads.Size answers ts sizes h g = size_charged answers ts sizes h g
-overload_charged overloads.LogicalAnd answers ts sizes h g = omega arith
-overload_charged overloads.LogicalOr answers ts sizes h g = omega arith
-overload_charged overloads.LogicalNot answers ts sizes h g = omega arith
-overload_charged overloads.NotStrictlyFalse answers ts sizes h g = omega arith
+overload_charged (overloads.Operate (operations.Compare op)) answers ts sizes h g =
+    two_charged comparison_charge (charge_at (overloads.Operate (operations.Compare op)) ts)
+    (charge_some (overloads.Operate (operations.Compare op)) ts) masses_charged answers sizes h
+overload_charged (overloads.Operate (operations.TestText test)) answers ts sizes h g =
+    two_charged comparison_charge (charge_at (overloads.Operate (operations.TestText test)) ts)
+    (charge_some (overloads.Operate (operations.TestText test)) ts) masses_charged answers sizes h
+overload_charged (overloads.Operate operations.Concat) answers ts sizes h g =
+    two_charged joined_charge (charge_at (overloads.Operate operations.Concat) ts)
+    (charge_some (overloads.Operate operations.Concat) ts) joined_charged answers sizes h
+overload_charged (overloads.Operate operations.MapIndex) answers ts sizes h g =
+    two_charged map_index_charge (charge_at (overloads.Operate operations.MapIndex) ts)
+    (charge_some (overloads.Operate operations.MapIndex) ts) index_charged answers sizes h
+overload_charged (overloads.Operate operations.InMap) answers ts sizes h g =
+    two_charged in_map_charge (charge_at (overloads.Operate operations.InMap) ts)
+    (charge_some (overloads.Operate operations.InMap) ts) in_map_charged answers sizes h
+overload_charged (overloads.Operate operations.InList) answers ts sizes h g =
+    two_charged in_list_charge (charge_at (overloads.Operate operations.InList) ts)
+    (charge_some (overloads.Operate operations.InList) ts) in_list_charged answers sizes h
+overload_charged (overloads.Operate operations.Size) answers ts sizes h g = size_charged answers ts sizes h g
+overload_charged (overloads.Operate operations.And) answers ts sizes h g = plain_two answers
+overload_charged (overloads.Operate operations.Or) answers ts sizes h g = plain_two answers
+overload_charged (overloads.Operate operations.Not) answers ts sizes h g = plain_one answers
+overload_charged (overloads.Operate operations.NotStrictlyFalse) answers ts sizes h g = plain_one answers
 overload_charged overloads.Conditional answers ts sizes h g = omega arith
-overload_charged (overloads.Arithmetic op) answers ts sizes h g = omega arith
-overload_charged overloads.Negate answers ts sizes h g = omega arith
-overload_charged overloads.IndexList answers ts sizes h g = omega arith
+overload_charged (overloads.Operate (operations.Arithmetic op)) answers ts sizes h g = plain_two answers
+overload_charged (overloads.Operate operations.Negate) answers ts sizes h g = plain_one answers
+overload_charged (overloads.Operate operations.ListIndex) answers ts sizes h g = plain_two answers
 
 -- a name in a map
 pub field_charged : (name : List ℕ) (a : CelAnswer) (s : Size) → Within a s

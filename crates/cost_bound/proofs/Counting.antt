@@ -1,5 +1,6 @@
 -- Counting charges for one operand alone.
 use Rattle.std.proofs.Common.{◌≡◌, suc, ◌≤◌, List, [], ◌∷◌, length, refl, ap, arith}
+use Rattle.cel_ops.specs.declared.operation.Operation.TheVariants as operations
 use Rattle.cel_overload.specs.declared.overload.Overload.TheVariants as overloads
 use Rattle.cel_types.specs.Elaborated.{kinds}
 use Rattle.cel_types.specs.steps.ExprViews.{exprs_view}
@@ -14,7 +15,7 @@ as_many_kinds [] = refl
 as_many_kinds (e ∷ es) = ap suc (as_many_kinds es)
 
 pub no_count_kinds : (ts : List ValueType) (ss : List Size) → 2 ≤ length ts
-    → charge_at overloads.Size ts ss ≡ 1
+    → charge_at (overloads.Operate operations.Size) ts ss ≡ 1
 no_count_kinds [] ss h = absurd (omega arith)
 no_count_kinds (t ∷ []) ss h = absurd (omega arith)
 no_count_kinds (t ∷ j ∷ ts) ss h = refl

@@ -7,6 +7,7 @@ use Rattle.cel_value.specs.Types.{AnswerHasType, EachItem, HasType, ValueType}
 use Rattle.cel_value.specs.Values.{CelAnswer, CelValue, CelValues, item, value}
 use Rattle.cel_overload.specs.Answers.{HaveTypes}
 use Rattle.cel_overload.specs.declared.overload.Overload.{Overload}
+use Rattle.cel_ops.specs.declared.operation.Operation.TheVariants as operations
 use Rattle.cel_overload.specs.declared.overload.Overload.TheVariants as overloads
 use Rattle.cel_types.specs.Elaborated.{TypedTree, TypedTrees, kind, kinds, no_typed, typed, typed_attribute, typed_call, typed_constant, typed_field, typed_has, typed_list, typed_local, typed_loop, typed_map}
 use Rattle.cel_types.specs.TypedMeaning.{typed_answer}
@@ -78,14 +79,14 @@ one_paid c (d ∷ ds) (inr one) = let others = one_paid c ds one in omega arith
 -- an operand costs no more than the call
 call_paid : (o : Overload) (ts : List ValueType) (costs : List ℕ) (sizes : List Size) (c : ℕ)
     → IsOne c costs → c ≤ call_cost o ts costs sizes
-call_paid overloads.LogicalAnd ts [] sizes c one = absurd one
-call_paid overloads.LogicalAnd ts (a ∷ []) sizes c one = let all = one_paid c (a ∷ []) one in omega arith
-call_paid overloads.LogicalAnd ts (a ∷ b ∷ []) sizes c one = let all = one_paid c (a ∷ b ∷ []) one in omega arith
-call_paid overloads.LogicalAnd ts (a ∷ b ∷ d ∷ ds) sizes c one = let all = one_paid c (a ∷ b ∷ d ∷ ds) one in omega arith
-call_paid overloads.LogicalOr ts [] sizes c one = absurd one
-call_paid overloads.LogicalOr ts (a ∷ []) sizes c one = let all = one_paid c (a ∷ []) one in omega arith
-call_paid overloads.LogicalOr ts (a ∷ b ∷ []) sizes c one = let all = one_paid c (a ∷ b ∷ []) one in omega arith
-call_paid overloads.LogicalOr ts (a ∷ b ∷ d ∷ ds) sizes c one = let all = one_paid c (a ∷ b ∷ d ∷ ds) one in omega arith
+call_paid (overloads.Operate operations.And) ts [] sizes c one = absurd one
+call_paid (overloads.Operate operations.And) ts (a ∷ []) sizes c one = let all = one_paid c (a ∷ []) one in omega arith
+call_paid (overloads.Operate operations.And) ts (a ∷ b ∷ []) sizes c one = let all = one_paid c (a ∷ b ∷ []) one in omega arith
+call_paid (overloads.Operate operations.And) ts (a ∷ b ∷ d ∷ ds) sizes c one = let all = one_paid c (a ∷ b ∷ d ∷ ds) one in omega arith
+call_paid (overloads.Operate operations.Or) ts [] sizes c one = absurd one
+call_paid (overloads.Operate operations.Or) ts (a ∷ []) sizes c one = let all = one_paid c (a ∷ []) one in omega arith
+call_paid (overloads.Operate operations.Or) ts (a ∷ b ∷ []) sizes c one = let all = one_paid c (a ∷ b ∷ []) one in omega arith
+call_paid (overloads.Operate operations.Or) ts (a ∷ b ∷ d ∷ ds) sizes c one = let all = one_paid c (a ∷ b ∷ d ∷ ds) one in omega arith
 call_paid overloads.Conditional ts [] sizes c one = absurd one
 call_paid overloads.Conditional ts (a ∷ []) sizes c one = let all = one_paid c (a ∷ []) one in omega arith
 call_paid overloads.Conditional ts (a ∷ b ∷ []) sizes c one = let all = one_paid c (a ∷ b ∷ []) one in omega arith
@@ -94,18 +95,18 @@ call_paid overloads.Conditional ts (a ∷ b ∷ d ∷ []) sizes c (inr (inl same
 call_paid overloads.Conditional ts (a ∷ b ∷ d ∷ []) sizes c (inr (inr (inl same))) = omega arith
 call_paid overloads.Conditional ts (a ∷ b ∷ d ∷ []) sizes c (inr (inr (inr other))) = absurd other
 call_paid overloads.Conditional ts (a ∷ b ∷ d ∷ x ∷ ds) sizes c one = let all = one_paid c (a ∷ b ∷ d ∷ x ∷ ds) one in omega arith
-call_paid overloads.LogicalNot ts costs sizes c one = let all = one_paid c costs one in omega arith
-call_paid overloads.NotStrictlyFalse ts costs sizes c one = let all = one_paid c costs one in omega arith
-call_paid (overloads.Compare op) ts costs sizes c one = let all = one_paid c costs one in omega arith
-call_paid (overloads.Arithmetic op) ts costs sizes c one = let all = one_paid c costs one in omega arith
-call_paid overloads.Concat ts costs sizes c one = let all = one_paid c costs one in omega arith
-call_paid overloads.Negate ts costs sizes c one = let all = one_paid c costs one in omega arith
-call_paid overloads.IndexList ts costs sizes c one = let all = one_paid c costs one in omega arith
-call_paid overloads.IndexMap ts costs sizes c one = let all = one_paid c costs one in omega arith
-call_paid overloads.InList ts costs sizes c one = let all = one_paid c costs one in omega arith
-call_paid overloads.InMap ts costs sizes c one = let all = one_paid c costs one in omega arith
-call_paid overloads.Size ts costs sizes c one = let all = one_paid c costs one in omega arith
-call_paid (overloads.TestText test) ts costs sizes c one = let all = one_paid c costs one in omega arith
+call_paid (overloads.Operate operations.Not) ts costs sizes c one = let all = one_paid c costs one in omega arith
+call_paid (overloads.Operate operations.NotStrictlyFalse) ts costs sizes c one = let all = one_paid c costs one in omega arith
+call_paid (overloads.Operate (operations.Compare op)) ts costs sizes c one = let all = one_paid c costs one in omega arith
+call_paid (overloads.Operate (operations.Arithmetic op)) ts costs sizes c one = let all = one_paid c costs one in omega arith
+call_paid (overloads.Operate operations.Concat) ts costs sizes c one = let all = one_paid c costs one in omega arith
+call_paid (overloads.Operate operations.Negate) ts costs sizes c one = let all = one_paid c costs one in omega arith
+call_paid (overloads.Operate operations.ListIndex) ts costs sizes c one = let all = one_paid c costs one in omega arith
+call_paid (overloads.Operate operations.MapIndex) ts costs sizes c one = let all = one_paid c costs one in omega arith
+call_paid (overloads.Operate operations.InList) ts costs sizes c one = let all = one_paid c costs one in omega arith
+call_paid (overloads.Operate operations.InMap) ts costs sizes c one = let all = one_paid c costs one in omega arith
+call_paid (overloads.Operate operations.Size) ts costs sizes c one = let all = one_paid c costs one in omega arith
+call_paid (overloads.Operate (operations.TestText test)) ts costs sizes c one = let all = one_paid c costs one in omega arith
 
 module _ (l : LimitsValue) where
   among_costs : (p : TypedTree) (es : TypedTrees) (sizes : List Size) → IsAmong p es

@@ -10,6 +10,7 @@ use Rattle.attributes.specs.Request.{RequestValue}
 use Rattle.cel_value.specs.Types.{ValueType, bool_type, int_type, list_type, text_type}
 use Rattle.cel_value.specs.Values.{CelAnswer, CelValue, CelValues, bool, fails, int, item, list, no_items, text, value}
 use Rattle.cel_ops.specs.Collections.{elements_of}
+use Rattle.cel_ops.specs.declared.operation.Operation.TheVariants as operations
 use Rattle.cel_overload.specs.declared.overload.Overload.TheVariants as overloads
 use Rattle.cel_types.specs.Elaborated.{TypedTree, no_typed, typed, typed_call, typed_constant, typed_list, typed_local, typed_loop}
 use Rattle.cel_types.specs.Meaning.{fold}
@@ -38,7 +39,7 @@ abbrev gathered : TypedTree
 gathered = typed_local text_type 0
 
 abbrev step : TypedTree
-step = typed_call text_type overloads.Concat (typed gathered (typed gathered no_typed))
+step = typed_call text_type (overloads.Operate operations.Concat) (typed gathered (typed gathered no_typed))
 
 abbrev doubled : TypedTree
 doubled = typed_loop text_type range init condition step gathered

@@ -9,6 +9,7 @@ use Rattle.cel_value.specs.declared.cel_type.KeyType.{KeyType}
 use Rattle.cel_ops.specs.declared.arithmetic.ArithmeticOp.TheVariants.{Add, Divide}
 use Rattle.cel_ops.specs.declared.comparison.CompareOp.TheVariants.{Equal, Greater}
 use Rattle.cel_overload.specs.declared.overload.Overload.{Overload}
+use Rattle.cel_ops.specs.declared.operation.Operation.TheVariants as operations
 use Rattle.cel_overload.specs.declared.overload.Overload.TheVariants as overloads
 use Rattle.cel_types.specs.Elaborated.{TypedTree, TypedTrees, no_typed, typed, typed_attribute, typed_call, typed_constant, typed_has, typed_list, typed_local, typed_loop, typed_map}
 use Rattle.cost_bound.specs.Costs.{cost_of, size_of}
@@ -40,13 +41,13 @@ abbrev test : Overload → List TypedTree → TypedTree
 test o es = typed_call bool_type o (all_of es)
 
 abbrev equals : TypedTree → TypedTree → TypedTree
-equals a b = test (overloads.Compare Equal) (a ∷ b ∷ [])
+equals a b = test (overloads.Operate (operations.Compare Equal)) (a ∷ b ∷ [])
 
 abbrev quotient : TypedTree → TypedTree → TypedTree
-quotient a b = typed_call int_type (overloads.Arithmetic Divide) (all_of (a ∷ b ∷ []))
+quotient a b = typed_call int_type (overloads.Operate (operations.Arithmetic Divide)) (all_of (a ∷ b ∷ []))
 
 abbrev joined : TypedTree → TypedTree → TypedTree
-joined a b = typed_call text_type overloads.Concat (all_of (a ∷ b ∷ []))
+joined a b = typed_call text_type (overloads.Operate operations.Concat) (all_of (a ∷ b ∷ []))
 
 abbrev choice : TypedTree → TypedTree → TypedTree → TypedTree
 choice c a b = typed_call int_type overloads.Conditional (all_of (c ∷ a ∷ b ∷ []))
@@ -71,18 +72,18 @@ element t = typed_local t 1
 
 abbrev all : TypedTree → TypedTree → TypedTree
 all range passes = typed_loop bool_type range (truth true)
-    (test overloads.NotStrictlyFalse (gathered bool_type ∷ []))
-    (test overloads.LogicalAnd (gathered bool_type ∷ passes ∷ [])) (gathered bool_type)
+    (test (overloads.Operate operations.NotStrictlyFalse) (gathered bool_type ∷ []))
+    (test (overloads.Operate operations.And) (gathered bool_type ∷ passes ∷ [])) (gathered bool_type)
 
 abbrev exists : TypedTree → TypedTree → TypedTree
 exists range passes = typed_loop bool_type range (truth false)
-    (test overloads.NotStrictlyFalse
-    (test overloads.LogicalNot (gathered bool_type ∷ []) ∷ []))
-    (test overloads.LogicalOr (gathered bool_type ∷ passes ∷ [])) (gathered bool_type)
+    (test (overloads.Operate operations.NotStrictlyFalse)
+    (test (overloads.Operate operations.Not) (gathered bool_type ∷ []) ∷ []))
+    (test (overloads.Operate operations.Or) (gathered bool_type ∷ passes ∷ [])) (gathered bool_type)
 
 -- ---- calls
 
-true_and_true : costs (test overloads.LogicalAnd (truth true ∷ truth true ∷ [])) ≡ 4
+true_and_true : costs (test (overloads.Operate operations.And) (truth true ∷ truth true ∷ [])) ≡ 4
 true_and_true = refl
 
 -- 1 + 1 + (1 + 33 + 4)
@@ -91,12 +92,12 @@ unfolding lib.Utf8.encode
 method_is_get = refl
 
 -- `9223372036854775807 + 1 == 0`
-sum_is_zero : costs (equals (typed_call int_type (overloads.Arithmetic Add)
+sum_is_zero : costs (equals (typed_call int_type (overloads.Operate (operations.Arithmetic Add))
     (all_of (number (2 ^ 63 - 1) ∷ number 1 ∷ []))) (number 0)) ≡ 7
 sum_is_zero = refl
 
 -- `1 / 0 == 0 || true`
-zero_divisor_or_true : costs (test overloads.LogicalOr
+zero_divisor_or_true : costs (test (overloads.Operate operations.Or)
     (equals (quotient (number 1) (number 0)) (number 0) ∷ truth true ∷ [])) ≡ 10
 zero_divisor_or_true = refl
 
@@ -110,7 +111,7 @@ second_branch : costs (equals
 second_branch = refl
 
 -- `request.headers["x-user"] == "a"`
-missing_header : costs (equals (typed_call text_type overloads.IndexMap
+missing_header : costs (equals (typed_call text_type (overloads.Operate operations.MapIndex)
     (all_of (headers ∷ string (codes "x-user") ∷ []))) (string (codes "a"))) ≡ 4552
 unfolding lib.Utf8.encode
 missing_header = refl
@@ -122,19 +123,19 @@ has_header = refl
 
 -- `size([]) == 0`
 empty_literal : costs (equals
-    (typed_call int_type overloads.Size (all_of (numbers [] ∷ []))) (number 0)) ≡ 6
+    (typed_call int_type (overloads.Operate operations.Size) (all_of (numbers [] ∷ []))) (number 0)) ≡ 6
 empty_literal = refl
 
 -- so many `!` before `true`
 abbrev denied : ℕ → TypedTree
 denied zero = truth true
-denied (suc n) = test overloads.LogicalNot (denied n ∷ [])
+denied (suc n) = test (overloads.Operate operations.Not) (denied n ∷ [])
 
 denied_often : costs (denied 63) ≡ 64
 denied_often = refl
 
 -- `2 in [0, 1]`: 1 + 5 + (1 + 3 + 2 * 1)
-in_list : costs (test overloads.InList (number 2 ∷ numbers (number 0 ∷ number 1 ∷ []) ∷ [])) ≡ 12
+in_list : costs (test (overloads.Operate operations.InList) (number 2 ∷ numbers (number 0 ∷ number 1 ∷ []) ∷ [])) ≡ 12
 in_list = refl
 
 -- `{"a": 1, "bc": 2}`: 4 + (1 + (2 + 3) * 2)
@@ -147,7 +148,7 @@ unfolding lib.Utf8.encode
 map_literal = refl
 
 -- `"a" in {"a": 1, "bc": 2}`
-in_map : costs (test overloads.InMap (string (codes "a") ∷ two_entries ∷ [])) ≡ 21
+in_map : costs (test (overloads.Operate operations.InMap) (string (codes "a") ∷ two_entries ∷ [])) ≡ 21
 unfolding lib.Utf8.encode
 in_map = refl
 
@@ -162,7 +163,7 @@ two_numbers = numbers (number 0 ∷ number 1 ∷ [])
 
 -- `[0, 1].all(x, 1 / x > 1)`: 5 + 3 + 1 + 1 + 2 * (2 + 10 + 4) + 1 + 1
 all_with_zero_divisor : costs (all two_numbers
-    (test (overloads.Compare Greater) (inverse ∷ number 1 ∷ []))) ≡ 44
+    (test (overloads.Operate (operations.Compare Greater)) (inverse ∷ number 1 ∷ []))) ≡ 44
 all_with_zero_divisor = refl
 
 all_equal_to_one : costs (all two_numbers (equals inverse (number 1))) ≡ 44
@@ -184,14 +185,14 @@ all_of_none = refl
 -- `[0, 1].exists_one(x, x == 1)`: 5 + 3 + 1 + 1 + 2 * (1 + 10 + 4) + 1 + 5
 exists_one : costs (typed_loop bool_type two_numbers (number 0) (truth true)
     (choice (equals (element int_type) (number 1))
-    (typed_call int_type (overloads.Arithmetic Add) (all_of (gathered int_type ∷ number 1 ∷ [])))
+    (typed_call int_type (overloads.Operate (operations.Arithmetic Add)) (all_of (gathered int_type ∷ number 1 ∷ [])))
     (gathered int_type)) (equals (gathered int_type) (number 1))) ≡ 46
 exists_one = refl
 
 -- `[0, 1].map(x, x)`: 5 + 3 + 1 + 1 + (1 + 6 + 4) + (1 + 7 + 4) + 1 + 1
 abbrev same_numbers : TypedTree
 same_numbers = typed_loop (list_type int_type) two_numbers (numbers []) (truth true)
-    (typed_call (list_type int_type) overloads.Concat
+    (typed_call (list_type int_type) (overloads.Operate operations.Concat)
     (all_of (gathered (list_type int_type) ∷ numbers (element int_type ∷ []) ∷ [])))
     (gathered (list_type int_type))
 
@@ -203,8 +204,8 @@ map_macro_size = refl
 
 -- `[0, 1].all(x, [0, 1].all(y, true))`: 32 within, and 5 + 3 + 1 + 1 + 2 * (2 + 35 + 4) + 1 + 1
 nested : costs (all two_numbers (typed_loop bool_type two_numbers (truth true)
-    (test overloads.NotStrictlyFalse (typed_local bool_type 2 ∷ []))
-    (test overloads.LogicalAnd (typed_local bool_type 2 ∷ truth true ∷ []))
+    (test (overloads.Operate operations.NotStrictlyFalse) (typed_local bool_type 2 ∷ []))
+    (test (overloads.Operate operations.And) (typed_local bool_type 2 ∷ truth true ∷ []))
     (typed_local bool_type 2))) ≡ 94
 nested = refl
 

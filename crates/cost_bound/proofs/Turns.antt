@@ -1,6 +1,7 @@
 -- Turns, one after the other: once what is gathered grows no more, the others cost the same each.
 use Rattle.std.proofs.Common.{◌≡◌, ℕ, suc, zero, ◌+◌, ◌*◌, ◌-◌, ◌<◌, ◌/◌, ◌%◌, List, [], ◌∷◌, length, refl, sym, ap, ◌∙◌, arith, suc-mul, zero-mul}
 use Rattle.cost_bound.specs.Sizes.{Size, join}
+use Rattle.cel_ops.specs.declared.operation.Operation.TheVariants as operations
 use Rattle.cel_overload.specs.declared.overload.Overload.TheVariants as overloads
 use Rattle.cel_value.specs.Types.{ValueType}
 use Rattle.cost_bound.specs.Costs.{charge_at, grown, turns_cost, keys_of, values_of}
@@ -92,7 +93,7 @@ key_count_fact (k ∷ v ∷ ss) = let more = key_count_fact ss in omega arith
 
 -- counting takes nothing but of one operand
 pub no_count : (ts : List ValueType) (ss : List Size) → (length ss ≡ 1 → ⊥)
-    → charge_at overloads.Size ts ss ≡ 1
+    → charge_at (overloads.Operate operations.Size) ts ss ≡ 1
 no_count [] ss h = refl
 no_count (t ∷ []) [] h = refl
 no_count (t ∷ []) (s ∷ []) h = absurd (h refl)

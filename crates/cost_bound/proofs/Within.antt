@@ -37,6 +37,7 @@ use Rattle.cel_ops.specs.Parts.{joined, joined_of, text_test, text_test_of}
 use Rattle.cel_ops.specs.Strict.{Gathered, all_values, first_error, gather, gathered_after, strict, strict_all, strict_two}
 use Rattle.cel_overload.specs.Answers.{conditional, on_one, on_two, overload_answer}
 use Rattle.cel_overload.specs.declared.overload.Overload.{Overload}
+use Rattle.cel_ops.specs.declared.operation.Operation.TheVariants as operations
 use Rattle.cel_overload.specs.declared.overload.Overload.TheVariants as overloads
 use Rattle.cel_types.specs.WellTyped.{AreWellTyped, IsWellTyped}
 use Rattle.cel_types.specs.Elaborated.{TypedTree, TypedTrees, kind, no_typed, typed, typed_attribute, typed_call, typed_constant, typed_field, typed_has, typed_list, typed_local, typed_loop, typed_map}
@@ -397,43 +398,43 @@ conditional_within (c ∷ answers) (u ∷ sizes) h = choice_within c answers u s
 -- a call's answer is within its size
 pub overload_within : (o : Overload) (answers : List CelAnswer) (sizes : List Size)
     → AllWithin answers sizes → IfWithin (overload_answer o answers) (call_size o sizes)
-overload_within overloads.LogicalAnd given sizes h =
+overload_within (overloads.Operate operations.And) given sizes h =
     scalar_within (on_two conjunction given) Flat (two_operands conjunction conjoined given)
-overload_within overloads.LogicalOr given sizes h =
+overload_within (overloads.Operate operations.Or) given sizes h =
     scalar_within (on_two disjunction given) Flat (two_operands disjunction disjoined given)
-overload_within overloads.LogicalNot given sizes h = scalar_within (on_one logical_not given) Flat
+overload_within (overloads.Operate operations.Not) given sizes h = scalar_within (on_one logical_not given) Flat
     (one_operand logical_not (strict_scalar negation_of negated) given)
-overload_within overloads.NotStrictlyFalse given sizes h =
+overload_within (overloads.Operate operations.NotStrictlyFalse) given sizes h =
     scalar_within (on_one not_strictly_false given) Flat
     (one_operand not_strictly_false unstrict given)
 overload_within overloads.Conditional given sizes h = conditional_within given sizes h
-overload_within (overloads.Compare op) given sizes h =
+overload_within (overloads.Operate (operations.Compare op)) given sizes h =
     scalar_within (on_two (comparison op) given) Flat
     (two_operands (comparison op) (two_scalar (comparison_of op) (compared op)) given)
-overload_within (overloads.Arithmetic op) given sizes h =
+overload_within (overloads.Operate (operations.Arithmetic op)) given sizes h =
     scalar_within (on_two (arithmetic op) given) Flat
     (two_operands (arithmetic op) (two_scalar (arithmetic_of op) (calculated op)) given)
-overload_within overloads.Concat given sizes h =
-    two_within joined (call_size overloads.Concat)
+overload_within (overloads.Operate operations.Concat) given sizes h =
+    two_within joined (call_size (overloads.Operate operations.Concat))
     (λ a b s t ha hb. strict_within joined_of (concat_size s t) s t
     (λ v w hv hw. joined_within v w s t hv hw) a b ha hb) given sizes h
-overload_within overloads.Negate given sizes h = scalar_within (on_one opposite given) Flat
+overload_within (overloads.Operate operations.Negate) given sizes h = scalar_within (on_one opposite given) Flat
     (one_operand opposite (strict_scalar opposite_of opposed) given)
-overload_within overloads.IndexList given sizes h =
-    two_within collections.list_index (call_size overloads.IndexList)
+overload_within (overloads.Operate operations.ListIndex) given sizes h =
+    two_within collections.list_index (call_size (overloads.Operate operations.ListIndex))
     (λ a b s t ha hb. strict_within item_of (value_size s) s t
     (λ v w hv hw. index_within v w s hv) a b ha hb) given sizes h
-overload_within overloads.IndexMap given sizes h =
-    two_within collections.map_index (call_size overloads.IndexMap)
+overload_within (overloads.Operate operations.MapIndex) given sizes h =
+    two_within collections.map_index (call_size (overloads.Operate operations.MapIndex))
     (λ a b s t ha hb. strict_within entry_of (value_size s) s t
     (λ v w hv hw. entry_within v w s hv) a b ha hb) given sizes h
-overload_within overloads.InList given sizes h = scalar_within (on_two in_list given) Flat
+overload_within (overloads.Operate operations.InList) given sizes h = scalar_within (on_two in_list given) Flat
     (two_operands in_list (two_scalar in_list_of listed) given)
-overload_within overloads.InMap given sizes h = scalar_within (on_two in_map given) Flat
+overload_within (overloads.Operate operations.InMap) given sizes h = scalar_within (on_two in_map given) Flat
     (two_operands in_map (two_scalar in_map_of mapped) given)
-overload_within overloads.Size given sizes h = scalar_within (on_one size given) Flat
+overload_within (overloads.Operate operations.Size) given sizes h = scalar_within (on_one size given) Flat
     (one_operand size (strict_scalar collections.size_of sized) given)
-overload_within (overloads.TestText test) given sizes h =
+overload_within (overloads.Operate (operations.TestText test)) given sizes h =
     scalar_within (on_two (text_test test) given) Flat
     (two_operands (text_test test) (two_scalar (text_test_of test) (tested test)) given)
 

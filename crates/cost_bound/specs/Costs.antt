@@ -12,6 +12,7 @@ use Rattle.cel_value.specs.Texts.{utf8_of}
 use Rattle.cel_value.specs.Types.{ValueType, text_type, bytes_type}
 use Rattle.cel_value.specs.Values.{CelValue, text, bytes}
 use Rattle.cel_overload.specs.declared.overload.Overload.{Overload}
+use Rattle.cel_ops.specs.declared.operation.Operation.TheVariants as operations
 use Rattle.cel_overload.specs.declared.overload.Overload.TheVariants as overloads
 use Rattle.cel_types.specs.Elaborated.{TypedTree, typed_constant, typed_local, typed_attribute, typed_field, typed_has, typed_call, typed_list, typed_map, typed_loop, TypedTrees, no_typed, typed, kinds}
 use Rattle.cel_types.specs.TypedMeaning.{local_at}
@@ -73,9 +74,9 @@ concat_size s t = resized (most_of s + most_of t) (join s t)
 -- what a call may answer, by the sizes of its operands
 abbrev pub call_size : Overload → List Size → Size
 call_size overloads.Conditional (c ∷ a ∷ b ∷ []) = join a b
-call_size overloads.Concat (s ∷ t ∷ []) = concat_size s t
-call_size overloads.IndexList (s ∷ t ∷ []) = value_size s
-call_size overloads.IndexMap (s ∷ t ∷ []) = value_size s
+call_size (overloads.Operate operations.Concat) (s ∷ t ∷ []) = concat_size s t
+call_size (overloads.Operate operations.ListIndex) (s ∷ t ∷ []) = value_size s
+call_size (overloads.Operate operations.MapIndex) (s ∷ t ∷ []) = value_size s
 call_size _ _ = Flat
 
 -- all of these joined
@@ -145,19 +146,19 @@ counted_cost _ s = 0
 
 -- the greatest charge of a call's instruction, by the types and sizes of its operands
 abbrev pub charge_at : Overload → List ValueType → List Size → ℕ
-charge_at (overloads.Compare op) ts (s ∷ t ∷ []) = 1 + (mass_of s + mass_of t)
-charge_at (overloads.TestText test) ts (s ∷ t ∷ []) = 1 + (mass_of s + mass_of t)
-charge_at overloads.Concat ts (s ∷ t ∷ []) = 1 + (most_of s + most_of t)
-charge_at overloads.IndexMap ts (m ∷ k ∷ []) = 1 + mass_of k * most_of m
-charge_at overloads.InMap ts (k ∷ m ∷ []) = 1 + mass_of k * most_of m
-charge_at overloads.InList ts (v ∷ s ∷ []) = 1 + (mass_of s + most_of s * mass_of v)
-charge_at overloads.Size (t ∷ []) (s ∷ []) = 1 + counted_cost t s
+charge_at (overloads.Operate (operations.Compare op)) ts (s ∷ t ∷ []) = 1 + (mass_of s + mass_of t)
+charge_at (overloads.Operate (operations.TestText test)) ts (s ∷ t ∷ []) = 1 + (mass_of s + mass_of t)
+charge_at (overloads.Operate operations.Concat) ts (s ∷ t ∷ []) = 1 + (most_of s + most_of t)
+charge_at (overloads.Operate operations.MapIndex) ts (m ∷ k ∷ []) = 1 + mass_of k * most_of m
+charge_at (overloads.Operate operations.InMap) ts (k ∷ m ∷ []) = 1 + mass_of k * most_of m
+charge_at (overloads.Operate operations.InList) ts (v ∷ s ∷ []) = 1 + (mass_of s + most_of s * mass_of v)
+charge_at (overloads.Operate operations.Size) (t ∷ []) (s ∷ []) = 1 + counted_cost t s
 charge_at _ ts sizes = 1
 
 -- what a call costs: its operands, and its instruction or jumps; of a conditional's branches one runs
 abbrev pub call_cost : Overload → List ValueType → (costs : List ℕ) → List Size → ℕ
-call_cost overloads.LogicalAnd ts (a ∷ b ∷ []) sizes = a + 1 + b + 1
-call_cost overloads.LogicalOr ts (a ∷ b ∷ []) sizes = a + 1 + b + 1
+call_cost (overloads.Operate operations.And) ts (a ∷ b ∷ []) sizes = a + 1 + b + 1
+call_cost (overloads.Operate operations.Or) ts (a ∷ b ∷ []) sizes = a + 1 + b + 1
 call_cost overloads.Conditional ts (c ∷ a ∷ b ∷ []) sizes = c + 1 + max a b + 1
 call_cost o ts costs sizes = total costs + charge_at o ts sizes
 

@@ -1,6 +1,7 @@
 //! What instructions charge, and paying for it.
 
 ghost use Rattle.std.specs.Prelude.{◌≡◌, ◌≢◌, ◌+◌, ◌-◌, ◌*◌, List, [], ◌∷◌, IfErr, IfOk};
+ghost use Rattle.cel_ops.specs.declared.operation.Operation.TheVariants as operations;
 ghost use Rattle.cel_overload.specs.declared.overload.Overload.TheVariants as overloads;
 ghost use Rattle.cel_types.specs.Elaborated.{kind, kinds};
 ghost use Rattle.cel_types.specs.View.{expr_view};
@@ -13,6 +14,7 @@ ghost use Rattle.cost_bound.specs.steps.Numbers.{capped};
 ghost use Rattle.cost_bound.specs.steps.SizeView.{size_view, sizes_view};
 
 use crate::size::{ValueSize, product, sum};
+use cel_ops::Operation;
 use cel_overload::Overload;
 use cel_types::TypedExpr;
 use cel_value::{CelType, text_length};
@@ -58,7 +60,7 @@ pub(crate) fn field_part(name: &RcStr, map: &ValueSize) -> u64
 pub(crate) fn call_part(overload: Overload, operands: &[TypedExpr<'_>], sizes: &[ValueSize]) -> u64
     ensures { result ≡ capped (call_part overload (kinds (exprs_view operands.now)) (sizes_view sizes.now)) }
 {
-    if overload == Overload::Size {
+    if overload == Overload::Operate(Operation::Size) {
         return counted_part(operands, sizes);
     }
     match sizes {
@@ -69,7 +71,7 @@ pub(crate) fn call_part(overload: Overload, operands: &[TypedExpr<'_>], sizes: &
 
 // What counting takes, of one operand.
 fn counted_part(operands: &[TypedExpr<'_>], sizes: &[ValueSize]) -> u64
-    ensures { result ≡ capped (charge_at overloads.Size (kinds (exprs_view operands.now))
+    ensures { result ≡ capped (charge_at (overloads.Operate operations.Size) (kinds (exprs_view operands.now))
         (sizes_view sizes.now) - 1) }
 {
     match operands {
@@ -98,19 +100,31 @@ fn counted(operand: &TypedExpr<'_>, size: &ValueSize) -> u64
 
 // What a call of two operands charges by their sizes.
 fn pair_part(overload: Overload, first: &ValueSize, second: &ValueSize) -> u64
-    requires { overload ≢ overloads.Size }
+    requires { overload ≢ overloads.Operate operations.Size }
     ensures { (ts : List ValueType) → result
         ≡ capped (call_part overload ts (size_view first.now ∷ size_view second.now ∷ [])) }
 {
     match overload {
-        Overload::LogicalAnd => 1,
-        Overload::LogicalOr => 1,
-        Overload::Compare(_) => sum(first.mass(), second.mass()),
-        Overload::TestText(_) => sum(first.mass(), second.mass()),
-        Overload::Concat => sum(first.most(), second.most()),
-        Overload::IndexMap => product(second.mass(), first.most()),
-        Overload::InMap => product(first.mass(), second.most()),
-        Overload::InList => sum(second.mass(), product(second.most(), first.mass())),
+        Overload::Conditional => 0,
+        Overload::Operate(op) => operation_part(op, first, second),
+    }
+}
+
+// The same of an operation.
+fn operation_part(op: Operation, first: &ValueSize, second: &ValueSize) -> u64
+    requires { op ≢ operations.Size }
+    ensures { (ts : List ValueType) → result
+        ≡ capped (call_part (overloads.Operate op) ts (size_view first.now ∷ size_view second.now ∷ [])) }
+{
+    match op {
+        Operation::And => 1,
+        Operation::Or => 1,
+        Operation::Compare(_) => sum(first.mass(), second.mass()),
+        Operation::TestText(_) => sum(first.mass(), second.mass()),
+        Operation::Concat => sum(first.most(), second.most()),
+        Operation::MapIndex => product(second.mass(), first.most()),
+        Operation::InMap => product(first.mass(), second.most()),
+        Operation::InList => sum(second.mass(), product(second.most(), first.mass())),
         _ => 0,
     }
 }

@@ -13,6 +13,7 @@ ghost use Rattle.cost_bound.specs.steps.Measuring.{EachAlike, MeasureAlike};
 
 use crate::known::constant_size;
 use crate::size::same;
+use cel_ops::Operation;
 use cel_overload::Overload;
 use cel_tree::Constant;
 use cel_types::TypedExpr;
@@ -157,7 +158,7 @@ fn charge_alike(
     if overload != other {
         return false;
     }
-    if overload != Overload::Size {
+    if overload != Overload::Operate(Operation::Size) {
         return true;
     }
     match (left, right) {

@@ -1,6 +1,7 @@
 //! The sizes of what calls and literals make, by the sizes of their operands.
 
-ghost use Rattle.std.specs.Prelude.{◌≡◌, ◌<◌, ◌+◌, ◌-◌, ◌^◌, List, IfOk, length};
+ghost use Rattle.std.specs.Prelude.{◌≡◌, ◌<◌, ◌+◌, ◌-◌, ◌^◌, List, [], ◌∷◌, IfOk, length};
+ghost use Rattle.cel_overload.specs.declared.overload.Overload.TheVariants.{Operate};
 ghost use Rattle.cel_value.specs.Types.{ValueType, type_view};
 ghost use Rattle.cost_bound.specs.Costs.{call_size, charge_at, concat_size, join_all, keys_of, list_size, map_cost, map_size, masses, values_of};
 ghost use Rattle.cost_bound.specs.Sizes.{Size, most_of};
@@ -9,6 +10,7 @@ ghost use Rattle.cost_bound.specs.steps.SizeView.{size_view, sizes_view};
 
 use crate::known::least;
 use crate::size::{ValueSize, join, many, product, sum, table};
+use cel_ops::Operation;
 use cel_overload::Overload;
 use cel_value::CelType;
 use std::alloc::{AllocError, Global};
@@ -25,15 +27,32 @@ pub(crate) fn call_size(
 {
     match sizes {
         [first, second] => match overload {
-            Overload::Concat => concat_size(alloc, first, second),
-            Overload::IndexList => first.value(),
-            Overload::IndexMap => first.value(),
-            _ => Ok(ValueSize::Flat),
+            Overload::Operate(op) => pair_size(alloc, op, first, second),
+            Overload::Conditional => Ok(ValueSize::Flat),
         },
         [_, first, second] => match overload {
             Overload::Conditional => join(alloc, first, second),
-            _ => Ok(ValueSize::Flat),
+            Overload::Operate(_) => Ok(ValueSize::Flat),
         },
+        _ => Ok(ValueSize::Flat),
+    }
+}
+
+// What an operation on two may answer.
+fn pair_size(
+    alloc: Global,
+    op: Operation,
+    first: &ValueSize,
+    second: &ValueSize,
+) -> Result<ValueSize, AllocError>
+    ensures { IfOk result (λ size. (ts : List ValueType)
+        → charge_at (Operate op) ts (size_view first.now ∷ size_view second.now ∷ []) < 2 ^ 64
+        → size_view size ≡ call_size (Operate op) (size_view first.now ∷ size_view second.now ∷ [])) }
+{
+    match op {
+        Operation::Concat => concat_size(alloc, first, second),
+        Operation::ListIndex => first.value(),
+        Operation::MapIndex => first.value(),
         _ => Ok(ValueSize::Flat),
     }
 }

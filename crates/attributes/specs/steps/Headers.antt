@@ -18,7 +18,7 @@ joined (v ∷ vs) = Some (with_commas (v ∷ vs))
 abbrev pub AreJoined : List Entry → HeaderMap → Type 0
 AreJoined es headers = (name : List ℕ) → get headers name ≡ joined (values_of name es)
 
--- header maps are told apart by their entries
+-- header maps differ if their entries do
 abbrev pub header_map_code : Coded HeaderMap
 header_map_code = code (coded_list coded_ℕ) (coded_list coded_ℕ)
 
@@ -26,14 +26,14 @@ header_map_code = code (coded_list coded_ℕ) (coded_list coded_ℕ)
 abbrev pub AreHeadersOf : List (RcStr Global × RcStr Global) → List Entry → Type 0
 AreHeadersOf headers es = headers_view headers ≡ entries (headers_of es)
 
--- no name is before the one that stands before it
+-- no name is less than the one before it
 abbrev pub AreSorted : List Entry → Type 0
 AreSorted [] = Unit {0}
 AreSorted (e ∷ []) = Unit {0}
 AreSorted (e ∷ d ∷ es) = ¬ (name_cmp d.0 e.0 ≡ Less) × AreSorted (d ∷ es)
 
--- the place of a name: where its entry stands and a value is written over, or where an entry of
--- that name is inserted
+-- the place of a name: that of its entry, whose value is replaced, or that where an entry of the
+-- name is inserted
 abbrev pub IsPlace : List ℕ → List Entry → Result ℕ ℕ → Type 0
 IsPlace name es (Ok i) = (value : List ℕ) × (slice_get es i ≡ Some (name, value))
     × (find name_cmp name es ≡ Some value)

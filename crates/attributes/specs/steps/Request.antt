@@ -14,7 +14,7 @@ use Rattle.attributes.specs.Request.{IsRequest, RequestValue, protocol_of}
 abbrev pub lent_view : Option (Bor (RcStr Global)) → Option (List ℕ)
 lent_view = option_map (λ text. rc_str_bytes text.now)
 
--- the request of these parts; its headers stand by ascending name
+-- the request of these parts; its headers are by ascending name
 abbrev pub of_parts : (method target : List ℕ) → Bool → ℕ → List Entry → Facts → RequestValue
 of_parts method target http11 lines headers facts = record {
   method = method;

@@ -2,6 +2,7 @@
 use Rattle.std.specs.Prelude.{◌≡◌, ℕ, ◌+◌, ◌<◌, ◌^◌, List, ◌++◌, length}
 use Rattle.cel_types.specs.Elaborated.{TypedTree, TypedTrees}
 use Rattle.cel_overload.specs.declared.overload.Overload.{Overload}
+use Rattle.cel_ops.specs.declared.operation.Operation.TheVariants as operations
 use Rattle.cel_overload.specs.declared.overload.Overload.TheVariants as overloads
 use Rattle.stack_machine.specs.Instructions.{Instruction, IfFalse, IfTrue, code_view}
 use Rattle.stack_machine.specs.declared.instr.Instr.{Instr}
@@ -22,5 +23,5 @@ GrowsAll old new d es = (length new ≡ length old + extents es)
 
 -- the jump of `&&` or `||` over its right side
 abbrev pub passing_over : Overload → ℕ → Instruction
-passing_over overloads.LogicalOr end = IfTrue end
+passing_over (overloads.Operate operations.Or) end = IfTrue end
 passing_over _ end = IfFalse end

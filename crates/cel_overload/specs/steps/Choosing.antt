@@ -9,6 +9,7 @@ use Rattle.cel_overload.specs.Functions.{may_take}
 use Rattle.cel_overload.specs.declared.function.Function.{Function}
 use Rattle.cel_overload.specs.declared.function.Function.TheVariants as functions
 use Rattle.cel_overload.specs.declared.overload.Overload.{Overload}
+use Rattle.cel_ops.specs.declared.operation.Operation.TheVariants as operations
 use Rattle.cel_overload.specs.declared.overload.Overload.TheVariants as overloads
 
 -- kinds of types as tests
@@ -48,11 +49,11 @@ when fits o r = if fits then Some (o, r) else None
 
 -- the choice for one operand
 abbrev pub choose_unary : Function → ValueType → Choice
-choose_unary functions.Not a = when (type_eq a bool_type) overloads.LogicalNot bool_type
+choose_unary functions.Not a = when (type_eq a bool_type) (overloads.Operate operations.Not) bool_type
 choose_unary functions.NotStrictlyFalse a =
-    when (type_eq a bool_type) overloads.NotStrictlyFalse bool_type
-choose_unary functions.Negate a = when (type_eq a int_type) overloads.Negate int_type
-choose_unary functions.Size a = when (is_sized a) overloads.Size int_type
+    when (type_eq a bool_type) (overloads.Operate operations.NotStrictlyFalse) bool_type
+choose_unary functions.Negate a = when (type_eq a int_type) (overloads.Operate operations.Negate) int_type
+choose_unary functions.Size a = when (is_sized a) (overloads.Operate operations.Size) int_type
 choose_unary _ a = None
 
 -- whether two types are compared so
@@ -63,40 +64,40 @@ are_compared _ a b = is_ordered a && type_eq a b
 
 -- two operands are compared
 abbrev pub choose_comparison : CompareOp → ValueType → ValueType → Choice
-choose_comparison op a b = when (are_compared op a b) (overloads.Compare op) bool_type
+choose_comparison op a b = when (are_compared op a b) (overloads.Operate (operations.Compare op)) bool_type
 
 -- numbers are calculated
 abbrev pub calculated : ArithmeticOp → ValueType → ValueType → Choice
-calculated op a b = when (is_number a && type_eq a b) (overloads.Arithmetic op) a
+calculated op a b = when (is_number a && type_eq a b) (overloads.Operate (operations.Arithmetic op)) a
 
 -- others are joined
 abbrev pub choose_arithmetic : ArithmeticOp → ValueType → ValueType → Choice
 choose_arithmetic Add a b =
-    if is_joined a then when (type_eq a b) overloads.Concat a else calculated Add a b
+    if is_joined a then when (type_eq a b) (overloads.Operate operations.Concat) a else calculated Add a b
 choose_arithmetic op a b = calculated op a b
 
 -- an element of a list, or the value of a key
 abbrev pub choose_index : ValueType → ValueType → Choice
-choose_index (list_type t) b = when (type_eq b int_type) overloads.IndexList t
-choose_index (map_type k t) b = when (type_eq b (type_of_key k)) overloads.IndexMap t
+choose_index (list_type t) b = when (type_eq b int_type) (overloads.Operate operations.ListIndex) t
+choose_index (map_type k t) b = when (type_eq b (type_of_key k)) (overloads.Operate operations.MapIndex) t
 choose_index _ b = None
 
 -- whether an element stands in a list, or a key in a map
 abbrev pub choose_in : ValueType → ValueType → Choice
-choose_in a (list_type t) = when (type_eq a t) overloads.InList bool_type
-choose_in a (map_type k t) = when (type_eq a (type_of_key k)) overloads.InMap bool_type
+choose_in a (list_type t) = when (type_eq a t) (overloads.Operate operations.InList) bool_type
+choose_in a (map_type k t) = when (type_eq a (type_of_key k)) (overloads.Operate operations.InMap) bool_type
 choose_in a _ = None
 
 -- the choice for two operands
 abbrev pub choose_binary : Function → ValueType → ValueType → Choice
-choose_binary functions.And a b = when (are_both a b bool_type) overloads.LogicalAnd bool_type
-choose_binary functions.Or a b = when (are_both a b bool_type) overloads.LogicalOr bool_type
+choose_binary functions.And a b = when (are_both a b bool_type) (overloads.Operate operations.And) bool_type
+choose_binary functions.Or a b = when (are_both a b bool_type) (overloads.Operate operations.Or) bool_type
 choose_binary (functions.Compare op) a b = choose_comparison op a b
 choose_binary (functions.Arithmetic op) a b = choose_arithmetic op a b
 choose_binary functions.Index a b = choose_index a b
 choose_binary functions.In a b = choose_in a b
 choose_binary (functions.TestText test) a b =
-    when (are_both a b text_type) (overloads.TestText test) bool_type
+    when (are_both a b text_type) (overloads.Operate (operations.TestText test)) bool_type
 choose_binary _ a b = None
 
 -- the choice for three

@@ -1,5 +1,5 @@
--- Trees inside a node, as they are read one after the other: where they read, the nodes that are
--- left and theirs are those that were left before.
+-- Trees inside a node, as they are read in order. If they read, the nodes that are left and theirs
+-- are those that were left before.
 use Rattle.std.specs.Prelude.{◌≡◌, ◌⊎◌, ◌+◌, ℕ, ℤ, List, [], ◌∷◌, Option, Some, None}
 use Rattle.proto_wire.specs.declared.refusal.Refusal.{Refusal}
 use Rattle.cel_tree.specs.Tree.{CelTree, CelTrees, CelTreeEntries, no_tree_entries, tree_entry}

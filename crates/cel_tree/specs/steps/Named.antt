@@ -1,4 +1,4 @@
--- The values of a map from ids to payloads, as they are read one after the other.
+-- The values of a map from ids to payloads, as they are read in order.
 use Rattle.std.specs.Prelude.{◌≡◌, ℕ, ℤ, List, None, MatchOption, IsSomeAnd}
 use Rattle.std.specs.Borrow.{Bor}
 use Rattle.std.specs.FinMap.{FinMap, find, get}

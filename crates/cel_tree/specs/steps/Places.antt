@@ -1,4 +1,4 @@
--- Where an id stands among entries in ascending order of ids.
+-- The place of an id among entries in ascending order of ids.
 use Rattle.std.specs.Prelude.{◌≡◌, ◌≤◌, ℕ, ℤ, Bool, List, [], ◌∷◌, take, drop, length, false}
 use Rattle.std.specs.Ordering.{int_cmp, is_eq, is_lt}
 use Rattle.std.specs.declared.cmp.Ordering.TheVariants.{Less, Greater}
@@ -23,7 +23,7 @@ abbrev pub starts_with : {V : Type 0} → ℤ → List (ℤ × V) → Bool
 starts_with id [] = false
 starts_with id (e ∷ es) = is_eq (int_cmp e.0 id)
 
--- so many entries have smaller ids, and the one behind them, if there is one, has none
+-- so many entries have smaller ids, and the one after them, if there is one, has none
 pub record IsPlace {V : Type 0} (id : ℤ) (es : List (ℤ × V)) (at : ℕ) : Type 0 where
   pub within : at ≤ length es
   pub before : AllBelow id (take at es)

@@ -13,7 +13,7 @@ use Rattle.cel_tree.specs.declared.tree.Comprehension.{Comprehension}
 abbrev pub boxed_view : Option (Box Tree Global) → Option CelTree
 boxed_view t = option_map (λ b. tree_view b.value) t
 
--- trees one after the other
+-- trees in order
 abbrev pub trees_view : List Tree → CelTrees
 trees_view ts = trees_of (map tree_view ts)
 
@@ -21,7 +21,7 @@ trees_view ts = trees_of (map tree_view ts)
 abbrev pub entry_view : TreeEntry → EntryParts
 entry_view e = record { id = e.id; key = tree_view e.key; value = tree_view e.value }
 
--- entries of a map literal one after the other
+-- entries of a map literal in order
 abbrev pub tree_entries_view : List TreeEntry → CelTreeEntries
 tree_entries_view es = tree_entries_of (map entry_view es)
 

@@ -5,6 +5,7 @@ use Rattle.proto_wire.specs.declared.refusal.Refusal.{Refusal}
 use Rattle.proto_wire.specs.declared.refusal.Refusal.TheVariants.{TooCostly}
 use Rattle.attributes.specs.Limits.{LimitsValue}
 use Rattle.cel_overload.specs.declared.overload.Overload.{Overload}
+use Rattle.cel_ops.specs.declared.operation.Operation.TheVariants as operations
 use Rattle.cel_overload.specs.declared.overload.Overload.TheVariants as overloads
 use Rattle.cel_types.specs.Elaborated.{TypedTree, TypedTrees}
 use Rattle.cel_types.specs.View.{TypedParts}
@@ -19,8 +20,8 @@ CostsMore cost left e = (e ≡ TooCostly) × (left < cost)
 -- what an `&&` or `||` of two charges besides its operands, and any other call but a conditional of
 -- three, all less 1
 abbrev pub call_part : Overload → List ValueType → List Size → ℕ
-call_part overloads.LogicalAnd ts (a ∷ b ∷ []) = 1
-call_part overloads.LogicalOr ts (a ∷ b ∷ []) = 1
+call_part (overloads.Operate operations.And) ts (a ∷ b ∷ []) = 1
+call_part (overloads.Operate operations.Or) ts (a ∷ b ∷ []) = 1
 call_part o ts sizes = charge_at o ts sizes - 1
 
 -- what is gathered after one turn, by what was gathered before it

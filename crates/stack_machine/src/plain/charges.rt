@@ -4,51 +4,72 @@ ghost use Rattle.std.specs.Prelude.{◌≡◌, ◌*◌, ◌≤◌, ◌^◌, Matc
 ghost use Rattle.cel_value.specs.Masses.{left_of};
 ghost use Rattle.cel_value.specs.View.{answer_view};
 ghost use Rattle.cel_ops.specs.Charges.{loop_charge};
-ghost use Rattle.stack_machine.specs.Charges.{charge_on, of_one};
-ghost use Rattle.stack_machine.specs.steps.Groups.{binary_instr, unary_instr};
-ghost use Rattle.stack_machine.specs.Instructions.{MakeList, MakeMap, instr_view};
+ghost use Rattle.cel_ops.specs.Operations.{work};
+ghost use Rattle.stack_machine.specs.Charges.{charge_on, of_one, of_two, work_charge};
+ghost use Rattle.stack_machine.specs.steps.Groups.{binary_charge, unary_charge};
+ghost use Rattle.stack_machine.specs.Instructions.{MakeList, MakeMap};
+ghost use Rattle.stack_machine.specs.steps.Lent.{op_view};
 
-use crate::instr::Instr;
-use crate::operations::{Binary, Unary, spend_binary, spend_one, spend_unary};
+use crate::op::Op;
+use crate::operations::{Unary, spend_unary};
 use crate::stack::Stack;
-use cel_ops::{TextTest, spend_list_literal, spend_loop, spend_map_literal};
+use cel_ops::{
+    Operation, spend_list_literal, spend_loop, spend_map_literal, spend_on_two, spend_one,
+};
 use cel_value::Answer;
 
 /// What the instruction costs on the stack, none where that is above 2^64 - 1.
-pub(super) fn charge(instr: &Instr, stack: &Stack<Answer>) -> Option<u64>
+pub(super) fn charge(instr: Op<'_>, stack: &Stack<Answer>) -> Option<u64>
     ensures { MatchOption result
-        (2 ^ 64 ≤ charge_on (instr_view instr.now) (map answer_view stack.now))
-        (λ n. n ≡ charge_on (instr_view instr.now) (map answer_view stack.now)) }
+        (2 ^ 64 ≤ charge_on (op_view instr.entry) (map answer_view stack.now))
+        (λ n. n ≡ charge_on (op_view instr.entry) (map answer_view stack.now)) }
 {
     let left = left_after(instr, stack, u64::MAX)?;
     Some(u64::MAX - left)
 }
 
 // What is left of the fuel.
-fn left_after(instr: &Instr, stack: &Stack<Answer>, fuel: u64) -> Option<u64>
-    ensures { result ≡ left_of fuel (charge_on (instr_view instr.now) (map answer_view stack.now)) }
+fn left_after(instr: Op<'_>, stack: &Stack<Answer>, fuel: u64) -> Option<u64>
+    ensures { result ≡ left_of fuel (charge_on (op_view instr.entry) (map answer_view stack.now)) }
 {
     match instr {
-        Instr::Compare(op) => left_after_two(Binary::Compare(*op), stack, fuel),
-        Instr::Contains => left_after_two(Binary::TestText(TextTest::Contains), stack, fuel),
-        Instr::StartsWith => left_after_two(Binary::TestText(TextTest::StartsWith), stack, fuel),
-        Instr::EndsWith => left_after_two(Binary::TestText(TextTest::EndsWith), stack, fuel),
-        Instr::Concat => left_after_two(Binary::Concat, stack, fuel),
-        Instr::Size => left_after_one(Unary::Size, stack, fuel),
-        Instr::MapIndex => left_after_two(Binary::MapIndex, stack, fuel),
-        Instr::InMap => left_after_two(Binary::InMap, stack, fuel),
-        Instr::Field(name) => left_after_one(Unary::Field(name), stack, fuel),
-        Instr::HasField(name) => left_after_one(Unary::HasField(name), stack, fuel),
-        Instr::InList => left_after_two(Binary::InList, stack, fuel),
-        Instr::MakeList(count) => left_after_list(*count, stack, fuel),
-        Instr::MakeMap(count) => left_after_map(*count, stack, fuel),
-        Instr::LoopStart { .. } => left_after_loop(stack, fuel),
+        Op::Operate(op) => left_after_operation(op, stack, fuel),
+        Op::Field(name) => left_after_one(Unary::Field(name), stack, fuel),
+        Op::HasField(name) => left_after_one(Unary::HasField(name), stack, fuel),
+        Op::MakeList(count) => left_after_list(count, stack, fuel),
+        Op::MakeMap(count) => left_after_map(count, stack, fuel),
+        Op::LoopStart { .. } => left_after_loop(stack, fuel),
         _ => spend_one(fuel),
     }
 }
 
+fn left_after_operation(op: Operation, stack: &Stack<Answer>, fuel: u64) -> Option<u64>
+    ensures { result ≡ left_of fuel (work_charge (work op) (map answer_view stack.now)) }
+{
+    match op {
+        Operation::Negate => left_after_one(Unary::Operate(Operation::Negate), stack, fuel),
+        Operation::Not => left_after_one(Unary::Operate(Operation::Not), stack, fuel),
+        Operation::NotStrictlyFalse => left_after_one(
+            Unary::Operate(Operation::NotStrictlyFalse),
+            stack,
+            fuel,
+        ),
+        Operation::Size => left_after_one(Unary::Operate(Operation::Size), stack, fuel),
+        Operation::Arithmetic(op) => left_after_two(Operation::Arithmetic(op), stack, fuel),
+        Operation::And => left_after_two(Operation::And, stack, fuel),
+        Operation::Or => left_after_two(Operation::Or, stack, fuel),
+        Operation::Compare(op) => left_after_two(Operation::Compare(op), stack, fuel),
+        Operation::TestText(test) => left_after_two(Operation::TestText(test), stack, fuel),
+        Operation::Concat => left_after_two(Operation::Concat, stack, fuel),
+        Operation::ListIndex => left_after_two(Operation::ListIndex, stack, fuel),
+        Operation::MapIndex => left_after_two(Operation::MapIndex, stack, fuel),
+        Operation::InMap => left_after_two(Operation::InMap, stack, fuel),
+        Operation::InList => left_after_two(Operation::InList, stack, fuel),
+    }
+}
+
 fn left_after_one(op: Unary<'_>, stack: &Stack<Answer>, fuel: u64) -> Option<u64>
-    ensures { result ≡ left_of fuel (charge_on (unary_instr op.entry) (map answer_view stack.now)) }
+    ensures { result ≡ left_of fuel (of_one (unary_charge op.entry) (map answer_view stack.now)) }
 {
     match stack.peek(0) {
         Some(operand) => spend_unary(op, operand, fuel),
@@ -56,8 +77,8 @@ fn left_after_one(op: Unary<'_>, stack: &Stack<Answer>, fuel: u64) -> Option<u64
     }
 }
 
-fn left_after_two(op: Binary, stack: &Stack<Answer>, fuel: u64) -> Option<u64>
-    ensures { result ≡ left_of fuel (charge_on (binary_instr op) (map answer_view stack.now)) }
+fn left_after_two(op: Operation, stack: &Stack<Answer>, fuel: u64) -> Option<u64>
+    ensures { result ≡ left_of fuel (of_two (binary_charge op) (map answer_view stack.now)) }
 {
     let Some(right) = stack.peek(0) else {
         return spend_one(fuel);
@@ -65,7 +86,7 @@ fn left_after_two(op: Binary, stack: &Stack<Answer>, fuel: u64) -> Option<u64>
     let Some(left) = stack.peek(1) else {
         return spend_one(fuel);
     };
-    spend_binary(op, left, right, fuel)
+    spend_on_two(op, left, right, fuel)
 }
 
 fn left_after_list(count: u16, stack: &Stack<Answer>, fuel: u64) -> Option<u64>
