@@ -1,5 +1,5 @@
 -- One level of a rule, from its last member and the rules in it.
-use Rattle.std.proofs.Common.{◌≡◌, ℕ, zero, suc, ◌-◌, ◌<◌, List, [], ◌∷◌, ◌++◌, ◌==◌, cond, Option, map, refl, rules, arith, Contains, get_or, length}
+use Rattle.std.proofs.Common.{◌≡◌, ℕ, zero, suc, ◌-◌, ◌<◌, List, [], ◌∷◌, ◌++◌, ◌==◌, cond, Option, map, refl, arith, Contains, get_or, length}
 use Rattle.std.specs.Prelude.{MatchOption, Some, None}
 use Rattle.proto_wire.specs.Fields.{Wire, field_view, payload_view}
 use Rattle.proto_wire.specs.Values.{len_in, payloads}
@@ -10,12 +10,8 @@ use Rattle.proto_wire.specs.declared.refusal.Refusal.{Refusal}
 use Rattle.proto_wire.specs.declared.refusal.Refusal.TheVariants.{Missing, Unsupported}
 use Rattle.rbac_match.specs.Message.{members, rule_keys}
 use Rattle.rbac_match.specs.declared.member.Member.{Member}
-use Rattle.rbac_match.specs.Formula.{Formula, and_of, or_of}
+use Rattle.rbac_match.specs.Formula.{Formula, Formulas, end, formula}
 use Rattle.rbac_match.specs.Rules.{AreRules, MemberSays, IsLevel, IsRule, MemberFault, LevelFault, no_member, in_member, RuleFault}
-use Rattle.std.specs.declared.vec.Vec.{Vec}
-use Rattle.std.specs.declared.alloc.Global.{Global}
-use Rattle.rbac_match.specs.View.{rule_view, rules_view}
-use Rattle.rbac_match.specs.declared.rule.Rule.{Rule, the_lemmas, And, Or}
 use Rattle.rbac_match.specs.declared.rule.Side.{Side}
 use Rattle.rbac_match.proofs.Basics.{contains_first, contains_later}
 
@@ -31,21 +27,17 @@ pub fault_deeper : (side : Side) (depth : ℕ) (parts : List (List ℕ)) (e : Re
 fault_deeper side zero parts e more bad = absurd (omega arith)
 fault_deeper side (suc depth) parts e more bad = let less : suc depth - 1 ≡ depth = omega arith in rw less at bad
 
--- what a rule of all of some rules says, and one of some of them
-pub and_view : (v : Vec Rule Global) → rule_view (And v) ≡ and_of (rules_view v.items)
-and_view v = search (rules, the_lemmas)
-
-pub or_view : (v : Vec Rule Global) → rule_view (Or v) ≡ or_of (rules_view v.items)
-or_view v = search (rules, the_lemmas)
-
 -- one rule more
-pub are_rules_push : (Below : List (List ℕ) → Formula → Type 0) (children : List (List ℕ)) (rules : List Rule) (child : List ℕ) (rule : Rule)
-    → AreRules Below children (rules_view rules) → Below (child ∷ []) (rule_view rule)
-    → AreRules Below (children ++ child ∷ []) (rules_view (rules ++ rule ∷ []))
-are_rules_push Below [] [] child rule are is = (is, tt)
-are_rules_push Below [] (r ∷ rules) child rule are is = absurd are
-are_rules_push Below (c ∷ children) [] child rule are is = absurd are
-are_rules_push Below (c ∷ children) (r ∷ rules) child rule are is = (are.0, are_rules_push Below children rules child rule are.1 is)
+abbrev pub push : Formulas → Formula → Formulas
+push end f = formula f end
+push (formula g fs) f = formula g (push fs f)
+
+pub are_rules_push : (Below : List (List ℕ) → Formula → Type 0) (children : List (List ℕ)) (fs : Formulas) (child : List ℕ) (f : Formula)
+    → AreRules Below children fs → Below (child ∷ []) f → AreRules Below (children ++ child ∷ []) (push fs f)
+are_rules_push Below [] end child f are is = (is, tt)
+are_rules_push Below [] (formula g fs) child f are is = absurd are
+are_rules_push Below (c ∷ children) end child f are is = absurd are
+are_rules_push Below (c ∷ children) (formula g fs) child f are is = (are.0, are_rules_push Below children fs child f are.1 is)
 
 -- the payload of a field of this number is one of them
 pub payload_in : (k : ℕ) (fields : List Field) (i : ℕ) (d : Field) (bytes : List ℕ) → i < length fields

@@ -15,6 +15,10 @@ pub mod PortsMessages
 pub mod LeafMessages
 pub mod RuleMessages
 pub mod Borders
-pub mod Levels
+pub mod Tokens
+pub mod LeafLists
+pub mod NodeLists
 pub mod Loops
+pub mod Adding
+pub mod Levels
 pub mod StandardFacts

@@ -36,11 +36,15 @@ pub record HeaderTest : Type 0 where
 abbrev pub turned : Bool → Bool → Bool
 turned invert answer = if invert then not answer else answer
 
--- whether a value passes, or does not where the matcher inverts; a missing one is empty, where it
--- counts as that, and else never does
+-- the value of a header, found or missing; a missing one is empty, where it counts as that
+abbrev pub value_or_empty : (empty : Bool) → Option (List ℕ) → Option (List ℕ)
+value_or_empty empty found = option_or found (if empty then Some [] else None)
+
+-- whether a value passes, or does not where the matcher inverts; a missing one that does not count
+-- as empty never does
 abbrev pub value_holds : (List ℕ → Bool) → (invert empty : Bool) → Option (List ℕ) → Bool
-value_holds test invert empty found = option_map_or (λ value. turned invert (test value))
-    (option_or found (if empty then Some [] else None)) false
+value_holds test invert empty found =
+    option_map_or (λ value. turned invert (test value)) (value_or_empty empty found) false
 
 -- whether a header, found or missing, is as the specifier asks: that it is there or is not, or what
 -- its value is like

@@ -11,5 +11,6 @@ pub mod Matcher
 pub mod Leaves
 pub mod Formula
 pub mod Rules
+pub mod Tokens
 pub mod View
 pub mod steps

@@ -5,11 +5,9 @@ ghost use Rattle.attributes.specs.Conn.{conn_view, text_view};
 ghost use Rattle.proto_wire.specs.Merge.{parts_view};
 ghost use Rattle.proto_wire.specs.Refusal.{MemoryOr};
 ghost use Rattle.rbac_match.specs.Authenticated.{IsAuthenticated, AuthenticatedFault, peer_name};
-ghost use Rattle.rbac_match.specs.Matcher.{matcher_holds};
-ghost use Rattle.rbac_match.specs.declared.matcher.Matcher.TheVariants.{Authenticated};
 
 use crate::text::{TextMatcher, read_text_matcher};
-use attributes::{Conn, Request};
+use attributes::Conn;
 use proto_wire::{Key, Refusal, keys, payloads_of, read_message};
 use std::alloc::Global;
 
@@ -19,10 +17,10 @@ static AUTHENTICATED: [Key; 1] = keys![Len PRINCIPAL_NAME];
 
 /// Reads an Authenticated, which stands in the parts: the test of the peer's name, or none where
 /// every name will do.
-pub(crate) fn read_authenticated(
+pub(crate) fn read_authenticated<'a>(
     alloc: Global,
-    parts: &[&[u8]],
-) -> Result<Option<TextMatcher>, Refusal>
+    parts: &[&'a [u8]],
+) -> Result<Option<TextMatcher<'a>>, Refusal>
     ensures found { IfOk result (λ name. IsAuthenticated (parts_view parts.now) name) }
     ensures fault { IfErr result (MemoryOr (AuthenticatedFault (parts_view parts.now))) }
 {
@@ -34,26 +32,8 @@ pub(crate) fn read_authenticated(
     Ok(Some(read_text_matcher(alloc, &name)?))
 }
 
-/// Whether the connection is known to be by mutual TLS and its peer's name passes the test, if
-/// there is one. The name is the first that is known of the URI SAN, the DNS SAN and the subject.
-#[inline(never)]
-pub(crate) fn authenticated_matches(name: &Option<TextMatcher>, request: &Request) -> bool
-    ensures { result ≡ matcher_holds (Authenticated name.now) request.now }
-{
-    let conn = request.conn();
-    if conn.mtls != Some(true) {
-        return false;
-    }
-    match name {
-        None => true,
-        Some(matcher) => match peer_name(conn) {
-            Some(name) => matcher.matches(name),
-            None => false,
-        },
-    }
-}
-
-fn peer_name(conn: &Conn) -> Option<&str>
+/// The peer's name: the first that is known of the URI SAN, the DNS SAN and the subject.
+pub(crate) fn peer_name(conn: &Conn) -> Option<&str>
     ensures { option_copied result ≡ peer_name (conn_view conn.now) }
 {
     let name = conn

@@ -1,5 +1,4 @@
-//! What is asked of a message's fields: the run at their end, how many have a number, a bool that must
-//! be true.
+//! What is asked of a message's fields: the run at their end, a bool that must be true.
 
 ghost use Rattle.std.specs.Prelude.{◌≡◌, true, false, map, OnOk, IfErr};
 ghost use Rattle.proto_wire.specs.Fields.{field_view};
@@ -21,11 +20,6 @@ pub fn trailing_run<'a, 'b>(fields: &'b [Field<'a>]) -> &'b [Field<'a>]
         }
     }
     &fields[start..]
-}
-
-/// How many fields have this number, which is room enough for what their payloads hold.
-pub(crate) fn count_of(fields: &[Field<'_>], number: u32) -> usize {
-    fields.iter().filter(|field| field.number == number).count()
 }
 
 /// Refuses a bool that must be true, and is not.

@@ -12,11 +12,13 @@ ghost use Rattle.attributes.specs.Request.{RequestValue, header_of};
 ghost use Rattle.attributes.specs.declared.address.Ip.{Ip};
 ghost use Rattle.proto_wire.specs.declared.refusal.Refusal.{Refusal};
 ghost use Rattle.rbac_match.specs.Cidr.{source_ip};
+ghost use Rattle.rbac_match.specs.Formula.{Formulas};
 ghost use Rattle.rbac_match.specs.Header.{HeaderTest, IsHeader, HeaderFault, specifier_holds};
 ghost use Rattle.rbac_match.specs.Int64Range.{int64_in, is_within, range_holds};
 ghost use Rattle.rbac_match.specs.Matcher.{matcher_holds};
 ghost use Rattle.std.specs.declared.ops.Range.{Range as PortSpan};
 ghost use Rattle.rbac_match.specs.Text.{pattern_holds, TextTest, text_holds};
+ghost use Rattle.rbac_match.specs.Tokens.{decode, tokens};
 ghost use Rattle.rbac_match.specs.declared.cidr.AddressSource.{AddressSource};
 ghost use Rattle.rbac_match.specs.declared.header.Specifier.{Specifier};
 ghost use Rattle.rbac_match.specs.declared.header.Specifier.TheVariants.{Present, Range as Within};
@@ -228,4 +230,9 @@ pub fn a_port_range_is_two_comparisons()
         → IsTrue (matcher_holds (PortRange span) request)
         ↔ ((port : ℕ) × (request.facts.destination_port ≡ Some port)
         × (span.start ≤ port) × (port < span.end)) }
+{}
+
+/// The rules that are read of the tokens of rules are these rules.
+pub fn tokens_are_their_rules()
+    ensures { (rules : Formulas) → decode (tokens rules) ≡ rules }
 {}

@@ -17,12 +17,12 @@ use proto_wire::{Field, Refusal, payloads_of};
 use std::alloc::Global;
 
 /// Reads a test of this kind from the run of its member, which has this number.
-pub(crate) fn read_leaf(
+pub(crate) fn read_leaf<'a>(
     alloc: Global,
     kind: LeafKind,
     number: u32,
-    run: &[Field<'_>],
-) -> Result<Matcher, Refusal>
+    run: &[Field<'a>],
+) -> Result<Matcher<'a>, Refusal>
     ensures found { IfOk result (λ m. IsLeaf kind number (map field_view run.now) m) }
     ensures fault { IfErr result (MemoryOr (LeafFault kind number (map field_view run.now))) }
 {

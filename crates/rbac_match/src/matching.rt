@@ -2,87 +2,93 @@
 
 ghost use Rattle.std.specs.Prelude.{◌≡◌};
 ghost use Rattle.rbac_match.specs.Formula.{holds, all_hold, some_hold};
-ghost use Rattle.rbac_match.specs.Matcher.{matcher_holds};
-ghost use Rattle.rbac_match.specs.View.{rule_view, rules_view};
+ghost use Rattle.rbac_match.specs.Tokens.{first_of, joined_by};
+ghost use Rattle.rbac_match.specs.View.{rules_view};
+ghost use Rattle.rbac_match.specs.steps.Nodes.{formula_in, formulas_in};
 
-use crate::matcher::{Matcher, passes};
-use crate::rule::Rule;
+use crate::leaves::Leaves;
+use crate::list::{Joint, Node, RuleList, Rules, cut};
 use attributes::Request;
 
-/// Whether the rule matches the request. It takes no memory. The rules of an `And` are tested in place: so a
-/// loop over policies makes no call for what most of them ask, leaves that are joined by `and`.
-#[cycle(matching)]
+/// Whether some of these rules of the list matches the request. It takes no memory. Each node is looked at
+/// once at most.
 #[inline(always)]
-fn matches(rule: &Rule, request: &Request) -> bool
-    ensures { result ≡ holds request.now (rule_view rule.now) }
+pub fn any_matches(list: &RuleList, rules: Rules, request: &Request) -> bool
+    ensures { result ≡ some_hold request.now (rules_view list.now rules) }
 {
-    if let Rule::And(rules) = rule {
-        return all_match(rules, request);
-    }
-    matches_inside(rule, request)
+    let (leaves, nodes) = list.parts(rules);
+    some_match(leaves, nodes, request)
 }
 
-/// The same of a rule inside of others: a leaf is tested in place, so that a loop over leaves makes no call
-/// for each.
+/// Whether the rule of a node, with the nodes in it, matches the request. A test is made in place, so that a
+/// loop over tests makes no call for each.
 #[cycle(matching)]
 #[inline(always)]
-fn matches_inside(rule: &Rule, request: &Request) -> bool
-    ensures { result ≡ holds request.now (rule_view rule.now) }
+fn node_matches(leaves: &Leaves, node: &Node, inside: &[Node], request: &Request) -> bool
+    ensures { result ≡ holds request.now (formula_in leaves.now node.now inside.now) }
 {
-    if let Rule::Leaf(matcher) = rule {
-        return passes(matcher, request);
+    match node {
+        Node::Leaf(place) => leaves.passes(*place, request),
+        Node::Any => true,
+        Node::Joined(joint, _) => joined_match(leaves, *joint, inside, request),
     }
-    compound_matches(rule, request)
 }
 
-/// The same, out of line.
+/// The same of a rule that joins others.
 #[cycle(matching)]
 #[inline(never)]
-fn compound_matches(rule: &Rule, request: &Request) -> bool
-    ensures { result ≡ holds request.now (rule_view rule.now) }
+fn joined_match(leaves: &Leaves, joint: Joint, inside: &[Node], request: &Request) -> bool
+    ensures { result ≡ holds request.now (joined_by joint (formulas_in leaves.now inside.now)) }
 {
-    match rule {
-        Rule::And(rules) => all_match(rules, request),
-        Rule::Or(rules) => any_matches(rules, request),
-        Rule::Any => true,
-        Rule::Not(inner) => !matches_inside(inner, request),
-        Rule::Leaf(matcher) => leaf_matches(matcher, request),
+    match joint {
+        Joint::And => all_match(leaves, inside, request),
+        Joint::Or => some_match(leaves, inside, request),
+        Joint::Not => !first_matches(leaves, inside, request),
     }
 }
 
-// A leaf, out of line.
-#[inline(never)]
-fn leaf_matches(matcher: &Matcher, request: &Request) -> bool
-    ensures { result ≡ matcher_holds matcher.now request.now }
+/// Whether the first rule of the nodes matches the request.
+#[cycle(matching)]
+fn first_matches(leaves: &Leaves, nodes: &[Node], request: &Request) -> bool
+    ensures { result ≡ holds request.now (first_of (formulas_in leaves.now nodes.now)) }
 {
-    passes(matcher, request)
+    let Some((node, behind)) = nodes.split_first() else {
+        return true;
+    };
+    let (inside, _) = cut(behind, node.inside());
+    node_matches(leaves, node, inside, request)
 }
 
-/// Whether each of the rules matches the request.
+/// Whether each rule of the nodes matches the request.
 #[cycle(matching)]
 #[inline(always)]
-fn all_match(rules: &[Rule], request: &Request) -> bool
-    ensures { result ≡ all_hold request.now (rules_view rules.now) }
+fn all_match(leaves: &Leaves, nodes: &[Node], request: &Request) -> bool
+    ensures { result ≡ all_hold request.now (formulas_in leaves.now nodes.now) }
 {
-    for rule in rules {
-        if !matches_inside(rule, request) {
+    let mut rest = nodes;
+    while let Some((node, behind)) = rest.split_first() {
+        let (inside, others) = cut(behind, node.inside());
+        if !node_matches(leaves, node, inside, request) {
             return false;
         }
+        rest = others;
     }
     true
 }
 
-/// Whether some of the rules matches the request. It takes no memory. Each rule is handed on to its answer
-/// once, and each of its children once at most, so no rule is looked at twice.
+/// Whether some rule of the nodes matches the request.
 #[cycle(matching)]
 #[inline(always)]
-pub fn any_matches(rules: &[Rule], request: &Request) -> bool
-    ensures { result ≡ some_hold request.now (rules_view rules.now) }
+fn some_match(leaves: &Leaves, nodes: &[Node], request: &Request) -> bool
+    ensures { result ≡ some_hold request.now (formulas_in leaves.now nodes.now) }
 {
-    for rule in rules {
-        if matches(rule, request) {
+    let mut rest = nodes;
+    while let Some((node, behind)) = rest.split_first() {
+        let (inside, others) = cut(behind, node.inside());
+        if node_matches(leaves, node, inside, request) {
             return true;
         }
+        rest = others;
     }
     false
 }

@@ -1,117 +1,148 @@
 //! The reading of rules, down to a depth.
 
-ghost use Rattle.std.specs.Prelude.{Some, IfOk, IfErr, map};
+ghost use Rattle.std.specs.Prelude.{◌++◌, List, Some, IfOk, IfErr, OnOk, map};
 ghost use Rattle.proto_wire.specs.Fields.{field_view};
 ghost use Rattle.proto_wire.specs.Merge.{parts_view};
 ghost use Rattle.proto_wire.specs.Refusal.{MemoryOr};
 ghost use Rattle.proto_wire.specs.Values.{payloads};
 ghost use Rattle.rbac_match.specs.Rules.{IsRule, AreRules, IsSet, MemberSays, RuleFault, SomeRuleFault, SetFault, MemberFault};
-ghost use Rattle.rbac_match.specs.View.{rule_view, rules_view};
+ghost use Rattle.rbac_match.specs.Tokens.{AddsRule, AddsRules, GoesOn, Token};
+ghost use Rattle.rbac_match.specs.View.{rules_view};
 
-use crate::fields::{count_of, require_true, trailing_run};
+use crate::fields::{require_true, trailing_run};
 use crate::keys::{RULES, SET, rule_keys};
 use crate::leaf::read_leaf;
+use crate::list::{Joint, RuleList, Rules};
 use crate::member::{LastMember, Member, last_member};
-use crate::rule::{Rule, Side};
+use crate::rule::Side;
 use proto_wire::{
     Field, Refusal, len_of, payloads_of, read_message, require_level, require_payload,
 };
-use std::alloc::Global;
 
 /// How many levels a permission or a principal may have; a rule that stands in no other is level 1.
 pub const RULE_DEPTH: u32 = 32;
 
-/// Reads a rule of at most `depth` levels, whose message stands in the parts. The depth is looked
-/// at before anything of the rule is read. It is refused as `TooLarge` where it has more levels, as
-/// `BadWire`, `BadText`, `UnknownField`, `Missing`, `OutOfRange` or `Unsupported` by what it says, and
-/// as `Memory`.
+/// Reads a rule of at most `depth` levels, whose message stands in the parts, and adds it to the list.
+/// The depth is looked at before anything of the rule is read. It is refused as `TooLarge` where it has
+/// more levels, as `BadWire`, `BadText`, `UnknownField`, `Missing`, `OutOfRange` or `Unsupported` by what
+/// it says, and as `Memory`. What a refused rule leaves in the list is of no use.
 #[cycle(rule)]
-pub fn read_rule(alloc: Global, side: Side, parts: &[&[u8]], depth: u32) -> Result<Rule, Refusal>
-    ensures found { IfOk result (λ rule. IsRule side depth (parts_view parts.now)
-        (rule_view rule)) }
+pub fn read_rule(
+    list: &mut RuleList,
+    side: Side,
+    parts: &[&[u8]],
+    depth: u32,
+) -> Result<(), Refusal>
+    ensures found { OnOk result (AddsRule (IsRule side depth (parts_view parts.now)) list.old list.new) }
     ensures fault { IfErr result (MemoryOr (RuleFault side depth (parts_view parts.now))) }
 {
     require_level(depth)?;
-    let fields = read_message(alloc, parts, rule_keys(side))?;
+    let fields = read_message(list.alloc(), parts, rule_keys(side))?;
     let last = last_member(side, &fields)?;
     let run = trailing_run(&fields);
-    read_member(alloc, side, last, run, depth - 1)
+    read_member(list, side, last, run, depth - 1)
 }
 
 /// Reads a rule from the run of its last member; the rules in it may have `depth` levels.
 #[cycle(rule)]
 fn read_member(
-    alloc: Global,
+    list: &mut RuleList,
     side: Side,
     last: LastMember,
     run: &[Field<'_>],
     depth: u32,
-) -> Result<Rule, Refusal>
-    ensures found { IfOk result (λ rule.
-        MemberSays (IsRule side depth) last.member last.number (map field_view run.now)
-        (rule_view rule)) }
+) -> Result<(), Refusal>
+    ensures found { OnOk result (AddsRule
+        (MemberSays (IsRule side depth) last.member last.number (map field_view run.now))
+        list.old list.new) }
     ensures fault { IfErr result (MemoryOr
         (MemberFault (RuleFault side depth) (Some last.member) last.number
         (map field_view run.now))) }
 {
+    let place = list.len();
     match last.member {
         Member::And => {
-            let set = payloads_of(alloc, run, last.number)?;
-            Ok(Rule::And(read_set(alloc, side, &set, depth)?))
+            let set = payloads_of(list.alloc(), run, last.number)?;
+            list.add_any()?;
+            read_set(list, side, &set, depth)?;
+            Ok(list.join(place, Joint::And)?)
         }
         Member::Or => {
-            let set = payloads_of(alloc, run, last.number)?;
-            Ok(Rule::Or(read_set(alloc, side, &set, depth)?))
+            let set = payloads_of(list.alloc(), run, last.number)?;
+            list.add_any()?;
+            read_set(list, side, &set, depth)?;
+            Ok(list.join(place, Joint::Or)?)
         }
         Member::Any => {
             require_true(run, last.number)?;
-            Ok(Rule::Any)
+            Ok(list.add_any()?)
         }
         Member::Not => {
-            let parts = payloads_of(alloc, run, last.number)?;
-            let rule = read_rule(alloc, side, &parts, depth)?;
-            Ok(Rule::Not(Box::new(alloc, rule)?))
+            let parts = payloads_of(list.alloc(), run, last.number)?;
+            list.add_any()?;
+            read_rule(list, side, &parts, depth)?;
+            Ok(list.join(place, Joint::Not)?)
         }
-        Member::Leaf(kind) => Ok(Rule::Leaf(read_leaf(alloc, kind, last.number, run)?)),
+        Member::Leaf(kind) => {
+            let test = read_leaf(list.alloc(), kind, last.number, run)?;
+            Ok(list.add_leaf(&test)?)
+        }
     }
 }
 
 /// Reads the rules of a set, whose message stands in the parts.
 #[cycle(rule)]
-fn read_set(alloc: Global, side: Side, parts: &[&[u8]], depth: u32) -> Result<Vec<Rule>, Refusal>
-    ensures found { IfOk result (λ rules. IsSet (IsRule side depth) (parts_view parts.now)
-        (rules_view rules.items)) }
+fn read_set(list: &mut RuleList, side: Side, parts: &[&[u8]], depth: u32) -> Result<(), Refusal>
+    ensures found { OnOk result (AddsRules (IsSet (IsRule side depth) (parts_view parts.now))
+        list.old list.new) }
     ensures fault { IfErr result (MemoryOr (SetFault (RuleFault side depth)
         (parts_view parts.now))) }
 {
-    let fields = read_message(alloc, parts, &SET)?;
+    let fields = read_message(list.alloc(), parts, &SET)?;
     require_payload(&fields, RULES)?;
-    read_rules(alloc, side, &fields, RULES, depth)
+    read_each(list, side, &fields, RULES, depth)
 }
 
-/// Reads the rules of this number among a message's fields, each of at most `depth` levels and in
-/// one payload. Their list is made to size. They are taken whole or refused, for a fault that is
-/// there: `BadWire`, `BadText`, `UnknownField`, `Missing`, `OutOfRange`, `Unsupported`, or `TooLarge`
-/// for a rule past the levels; or for want of memory.
+/// Reads the rules of this number among a message's fields, one behind the other.
 #[cycle(rule)]
-pub fn read_rules(
-    alloc: Global,
+fn read_each(
+    list: &mut RuleList,
     side: Side,
     fields: &[Field<'_>],
     number: u32,
     depth: u32,
-) -> Result<Vec<Rule>, Refusal>
-    ensures found { IfOk result (λ rules. AreRules (IsRule side depth)
-        (payloads number (map field_view fields.now)) (rules_view rules.items)) }
+) -> Result<(), Refusal>
+    ensures found { OnOk result (AddsRules (AreRules (IsRule side depth)
+        (payloads number (map field_view fields.now))) list.old list.new) }
     ensures fault { IfErr result (MemoryOr
         (SomeRuleFault side depth (payloads number (map field_view fields.now)))) }
 {
-    let mut rules = Vec::with_capacity(alloc, count_of(fields, number))?;
     for field in fields {
         if let Some(payload) = len_of(field, number) {
-            let rule = read_rule(alloc, side, &[payload], depth)?;
-            rules.push(rule)?;
+            read_rule(list, side, &[payload], depth)?;
         }
     }
-    Ok(rules)
+    Ok(())
+}
+
+/// Reads the rules of this number among a message's fields, each of at most `depth` levels and in
+/// one payload, and adds them to the list, where they stay however it grows. They are taken whole or
+/// refused, for a fault that is there: `BadWire`, `BadText`, `UnknownField`, `Missing`, `OutOfRange`,
+/// `Unsupported`, or `TooLarge` for a rule past the levels; or for want of memory.
+pub fn read_rules(
+    list: &mut RuleList,
+    side: Side,
+    fields: &[Field<'_>],
+    number: u32,
+    depth: u32,
+) -> Result<Rules, Refusal>
+    ensures found { IfOk result (λ rules. (more : List Token) → AreRules (IsRule side depth)
+        (payloads number (map field_view fields.now)) (rules_view (list.new ++ more) rules)) }
+    ensures kept { OnOk result (GoesOn list.old list.new) }
+    ensures fault { IfErr result (MemoryOr
+        (SomeRuleFault side depth (payloads number (map field_view fields.now)))) }
+{
+    let place = list.len();
+    read_each(list, side, fields, number, depth)?;
+    Ok(list.since(place)?)
 }

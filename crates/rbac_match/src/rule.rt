@@ -1,6 +1,4 @@
-//! What a permission or a principal says of a request.
-
-use crate::matcher::Matcher;
+//! The two kinds of rules.
 
 /// Which of the two kinds of rule a message is: they name other members by the same numbers.
 #[derive(Clone, Copy, PartialEq, Eq, Debug)]
@@ -9,19 +7,4 @@ pub enum Side {
     Permission,
     /// Who wants to do it (`envoy.config.rbac.v3.Principal`).
     Principal,
-}
-
-/// A permission or a principal.
-#[derive(Debug, Drop)]
-pub enum Rule {
-    /// Matches where each of its rules does.
-    And(Vec<Rule>),
-    /// Matches where some of its rules do.
-    Or(Vec<Rule>),
-    /// Matches every request.
-    Any,
-    /// Matches where its rule doesn't.
-    Not(Box<Rule>),
-    /// Matches where the request passes the test.
-    Leaf(Matcher),
 }

@@ -11,26 +11,36 @@ ghost use Rattle.rbac_match.specs.steps.Search.{EndsWithMost, AreBorders, AreAll
 use std::alloc::{AllocError, Global};
 
 /// What the search for the part needs: of its first one, two, three bytes and so on, with how many
-/// bytes of its beginning they end, themselves left out. It takes eight bytes for each of the part.
-pub(crate) fn borders_of(alloc: Global, part: &[u8]) -> Result<Vec<usize>, AllocError>
+/// bytes of its beginning they end, themselves left out. It takes four bytes for each of the part.
+pub(crate) fn borders_of(alloc: Global, part: &[u8]) -> Result<Vec<u32>, AllocError>
     ensures { IfOk result (λ borders. AreAllBorders
         (str_to_ascii_lowercase part.now) borders.items) }
 {
-    let mut borders: Vec<usize> = Vec::with_capacity(alloc, part.len())?;
+    let mut borders: Vec<u32> = Vec::with_capacity(alloc, part.len())?;
     let Some((_, rest)) = part.split_first() else {
         return Ok(borders);
     };
     let mut border = 0;
-    borders.push(border)?;
+    borders.push(0)?;
     for byte in rest {
         border = advance(part, &borders, border, *byte);
-        borders.push(border)?;
+        borders.push(position(border)?)?;
     }
     Ok(borders)
 }
 
+/// The number in four bytes. What would not fit stands behind more bytes than a list has room for.
+pub(crate) fn position(number: usize) -> Result<u32, AllocError>
+    ensures { IfOk result (λ n. n ≡ number) }
+{
+    if number > u32::MAX as usize {
+        return Err(AllocError);
+    }
+    Ok(number as u32)
+}
+
 /// Whether the part, which is not empty and has these borders, stands in the text.
-pub(crate) fn contains_ignore_case(text: &[u8], part: &[u8], borders: &[usize]) -> bool
+pub(crate) fn contains_ignore_case(text: &[u8], part: &[u8], borders: &[u32]) -> bool
     requires some { 0 < length part.now }
     requires borders { AreAllBorders (str_to_ascii_lowercase part.now) borders.now }
     ensures { result ≡ is_substring (str_to_ascii_lowercase part.now)
@@ -48,7 +58,7 @@ pub(crate) fn contains_ignore_case(text: &[u8], part: &[u8], borders: &[usize]) 
 
 /// With how many bytes of the part's beginning some bytes end, behind which this one comes, where
 /// they end with `matched` before it.
-fn advance(part: &[u8], borders: &[usize], matched: usize, byte: u8) -> usize
+fn advance(part: &[u8], borders: &[u32], matched: usize, byte: u8) -> usize
     requires below { matched < length part.now }
     requires known { matched ≤ length borders.now }
     requires borders { AreBorders (str_to_ascii_lowercase part.now) borders.now }
@@ -65,6 +75,6 @@ fn advance(part: &[u8], borders: &[usize], matched: usize, byte: u8) -> usize
         if kept == 0 {
             return 0;
         }
-        kept = borders[kept - 1];
+        kept = borders[kept - 1] as usize;
     }
 }

@@ -1,7 +1,7 @@
 //! Tests of a text (`envoy.type.matcher.v3.StringMatcher`): how they are read, and which texts
 //! pass.
 
-ghost use Rattle.std.specs.Prelude.{◌≡◌, true, Some, None, nat_eq, IfOk, IfErr, MatchOption, map};
+ghost use Rattle.std.specs.Prelude.{◌≡◌, Some, None, nat_eq, IfOk, IfErr, MatchOption, map};
 ghost use Rattle.std.specs.List.{starts_with, ends_with};
 ghost use Rattle.std.specs.Map.{keys_of};
 ghost use Rattle.std.specs.Str.{str_to_ascii_lowercase};
@@ -11,15 +11,14 @@ ghost use Rattle.proto_wire.specs.Refusal.{MemoryOr};
 ghost use Rattle.proto_wire.specs.Values.{bytes_at};
 ghost use Rattle.proto_wire.specs.declared.refusal.Refusal.TheVariants.{Missing};
 ghost use Rattle.proto_wire.specs.Oneof.{last_number, member_in};
-ghost use Rattle.rbac_match.specs.steps.Search.{AreBordersOf};
-ghost use Rattle.rbac_match.specs.Text.{is_substring, text_holds, pattern_holds, string_members, IsFilled, IsSought, IsTextMatcher, SoughtFault, TextFault};
+ghost use Rattle.rbac_match.specs.Text.{is_substring, pattern_holds, string_members, IsSought, IsTextMatcher, SoughtFault, TextFault};
+ghost use Rattle.rbac_match.specs.steps.Leaves.{pattern_of};
 
-use crate::search::{borders_of, contains_ignore_case};
 use memchr::memmem;
 use proto_wire::{
     Field, Key, Refusal, bool_at, bytes_at, keys, last_number, read_message, text_of,
 };
-use std::alloc::{AllocError, Global};
+use std::alloc::Global;
 use std::marker::Model;
 
 /// How a text is compared with the one that is sought.
@@ -35,31 +34,37 @@ pub enum Pattern {
     Contains,
 }
 
-/// A test of a text.
-#[derive(Debug, Drop)]
-pub struct TextMatcher {
-    pattern: Pattern,
-    sought: String,
-    ignore_case: bool,
-    // what the search in any case needs; empty where there is none
-    borders: Vec<usize>,
+/// How a text is compared with the one that is sought, from one of its ends.
+#[derive(Clone, Copy, PartialEq, Eq, Debug)]
+pub(crate) enum Ends {
+    /// The text is the one that is sought.
+    Exact,
+    /// The text begins with it.
+    Prefix,
+    /// The text ends with it.
+    Suffix,
 }
 
-impl Model for TextMatcher {
-    ghost use Rattle.std.specs.String.{string_bytes};
+/// A test of a text, as it stands in a message.
+#[derive(Debug, Drop)]
+pub struct TextMatcher<'a> {
+    pub(crate) pattern: Pattern,
+    pub(crate) sought: &'a str,
+    pub(crate) ignore_case: bool,
+}
+
+impl<'a> Model for TextMatcher<'a> {
     ghost use Rattle.rbac_match.specs.Text.{TextTest, IsFilled};
-    ghost use Rattle.rbac_match.specs.steps.Search.{AreBordersOf};
 
     ghost Value = { TextTest };
 
     ghost view = { λ m. record {
       pattern = m.pattern;
-      sought = string_bytes m.sought;
+      sought = m.sought.now;
       ignore_case = m.ignore_case;
     } };
 
-    ghost invariant = { λ m. IsFilled m.pattern (string_bytes m.sought)
-        × AreBordersOf m.pattern m.ignore_case (string_bytes m.sought) m.borders.items };
+    ghost invariant = { λ m. IsFilled m.pattern m.sought.now };
 }
 
 const EXACT: u32 = 1;
@@ -82,37 +87,17 @@ static STRING_MATCHER: [Key; 6] = keys![
     Varint IGNORE_CASE, Len EXACT, Len PREFIX, Len SUFFIX, Len SAFE_REGEX, Len CONTAINS
 ];
 
-impl TextMatcher {
+impl<'a> TextMatcher<'a> {
     /// The test by this pattern, for a text that may be sought so.
-    pub(crate) fn new(
-        alloc: Global,
-        pattern: Pattern,
-        sought: &str,
-        ignore_case: bool,
-    ) -> Result<TextMatcher, AllocError>
+    pub(crate) fn new(pattern: Pattern, sought: &'a str, ignore_case: bool) -> Self
         requires { IsSought pattern sought.now }
-        ensures { IfOk result (λ m. m
-            ≡ record { pattern = pattern; sought = sought.now; ignore_case = ignore_case }) }
+        ensures { result
+            ≡ record { pattern = pattern; sought = sought.now; ignore_case = ignore_case } }
     {
-        let borders = read_borders(alloc, pattern, ignore_case, sought.as_bytes())?;
-        Ok(TextMatcher {
+        TextMatcher {
             pattern,
-            sought: String::from_str(alloc, sought)?,
+            sought,
             ignore_case,
-            borders,
-        })
-    }
-
-    /// Whether the text passes the test. It takes no memory.
-    #[inline(always)]
-    pub(crate) fn matches(&self, text: &str) -> bool
-        ensures { result ≡ text_holds self.now text.now }
-    {
-        let sought = self.sought.as_bytes();
-        if self.ignore_case {
-            holds_ignore_case(self.pattern, sought, &self.borders, text.as_bytes())
-        } else {
-            holds(self.pattern, sought, text.as_bytes())
         }
     }
 }
@@ -120,14 +105,17 @@ impl TextMatcher {
 /// Reads a StringMatcher, which stands in the parts: `Missing` without a member, `BadText` where
 /// its text is not UTF-8, `OutOfRange` where a prefix, a suffix or a contained text is empty,
 /// `Unsupported` where it is a regular expression.
-pub(crate) fn read_text_matcher(alloc: Global, parts: &[&[u8]]) -> Result<TextMatcher, Refusal>
+pub(crate) fn read_text_matcher<'a>(
+    alloc: Global,
+    parts: &[&'a [u8]],
+) -> Result<TextMatcher<'a>, Refusal>
     ensures found { IfOk result (λ m. IsTextMatcher (parts_view parts.now) m) }
     ensures fault { IfErr result (MemoryOr (TextFault (parts_view parts.now))) }
 {
     let fields = read_message(alloc, parts, &STRING_MATCHER)?;
     let (pattern, sought) = last_pattern(&fields)?;
     let ignore_case = bool_at(&fields, IGNORE_CASE);
-    Ok(TextMatcher::new(alloc, pattern, sought, ignore_case)?)
+    Ok(TextMatcher::new(pattern, sought, ignore_case))
 }
 
 /// The pattern and the text of the last member.
@@ -175,8 +163,9 @@ pub(crate) fn sought_text(pattern: Pattern, bytes: &[u8]) -> Result<&str, Refusa
     text_of(bytes)
 }
 
+/// Whether the text is, begins with, ends with or contains the one that is sought.
 #[inline(always)]
-fn holds(pattern: Pattern, sought: &[u8], text: &[u8]) -> bool
+pub(crate) fn holds(pattern: Pattern, sought: &[u8], text: &[u8]) -> bool
     ensures { result ≡ pattern_holds pattern sought.now text.now }
 {
     match pattern {
@@ -195,34 +184,17 @@ fn contains(text: &[u8], part: &[u8]) -> bool
     memmem::find(text, part).is_some()
 }
 
+/// Whether the text is, begins with or ends with the one that is sought, in any case of letters.
 #[inline(never)]
-fn holds_ignore_case(pattern: Pattern, sought: &[u8], borders: &[usize], text: &[u8]) -> bool
-    requires filled { IsFilled pattern sought.now }
-    requires borders { AreBordersOf pattern true sought.now borders.now }
-    ensures { result ≡ pattern_holds pattern (str_to_ascii_lowercase sought.now)
+pub(crate) fn holds_ignore_case(ends: Ends, sought: &[u8], text: &[u8]) -> bool
+    ensures { result ≡ pattern_holds (pattern_of ends) (str_to_ascii_lowercase sought.now)
         (str_to_ascii_lowercase text.now) }
 {
-    match pattern {
-        Pattern::Exact => text.eq_ignore_ascii_case(sought),
-        Pattern::Prefix => starts_with_ignore_case(text, sought),
-        Pattern::Suffix => ends_with_ignore_case(text, sought),
-        Pattern::Contains => contains_ignore_case(text, sought, borders),
+    match ends {
+        Ends::Exact => text.eq_ignore_ascii_case(sought),
+        Ends::Prefix => starts_with_ignore_case(text, sought),
+        Ends::Suffix => ends_with_ignore_case(text, sought),
     }
-}
-
-/// The borders of a text that is searched for in any case; none are needed otherwise.
-fn read_borders(
-    alloc: Global,
-    pattern: Pattern,
-    ignore_case: bool,
-    sought: &[u8],
-) -> Result<Vec<usize>, AllocError>
-    ensures { IfOk result (λ borders. AreBordersOf pattern ignore_case sought.now borders.items) }
-{
-    if ignore_case && pattern == Pattern::Contains {
-        return borders_of(alloc, sought);
-    }
-    Ok(Vec::new(alloc))
 }
 
 fn starts_with_ignore_case(text: &[u8], start: &[u8]) -> bool

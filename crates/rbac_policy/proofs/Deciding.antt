@@ -14,6 +14,7 @@ use Rattle.proto_wire.specs.Values.{payloads}
 use Rattle.proto_wire.proofs.MapOrder.{above_all, both_first, both_second, found_later}
 use Rattle.rbac_match.specs.Formula.{Formulas, some_hold}
 use Rattle.stack_machine.specs.Machine.{RunsOut}
+use Rattle.rbac_match.specs.Tokens.{Token}
 use Rattle.rbac_policy.specs.Admission.{IsAdmittedAs}
 use Rattle.rbac_policy.specs.Condition.{IsProgramOf, Program, TakesTooLong, is_met}
 use Rattle.rbac_policy.specs.Enforced.{EnforcesPolicy}
@@ -205,9 +206,9 @@ module _ (limits : LimitsValue) (r : RequestValue) (valid : IsRequest r) where
           }) later
 
 -- the policies of named ones
-pub views_are : (items : List NamedPolicy) → map (λ e. e.1) (named_views items) ≡ map policy_view items
-views_are [] = refl
-views_are (p ∷ items) = ap (λ xs. policy_view p ∷ xs) (views_are items)
+pub views_are : (list : List Token) (items : List NamedPolicy) → map (λ e. e.1) (named_views list items) ≡ map (policy_view list) items
+views_are list [] = refl
+views_are list (p ∷ items) = ap (λ xs. (policy_view list) p ∷ xs) (views_are list items)
 
 -- none has a condition where the filter has none
 unconditional : (vs : List (List ℕ × Policy Program)) → T (is_sorted name_cmp vs)
@@ -220,16 +221,16 @@ unconditional (v ∷ vs) sorted each = (
 )
 
 -- what is enforced, by its policies in the order of their names
-module _ (enforced : Filter Program) (items : List NamedPolicy) (ordered : IsTrue (is_sorted name_cmp (named_views items)))
-    (at : enforced.policies ≡ from_entries (named_views items)) where
-  enforced_at : (name : List ℕ) → get enforced.policies name ≡ find name_cmp name (named_views items)
-  enforced_at name = ap (λ m. get m name) at ∙ get-from_entries nat_list_cmp_total (named_views items) name
+module _ (enforced : Filter Program) (list : List Token) (items : List NamedPolicy) (ordered : IsTrue (is_sorted name_cmp (named_views list items)))
+    (at : enforced.policies ≡ from_entries (named_views list items)) where
+  enforced_at : (name : List ℕ) → get enforced.policies name ≡ find name_cmp name (named_views list items)
+  enforced_at name = ap (λ m. get m name) at ∙ get-from_entries nat_list_cmp_total (named_views list items) name
 
-  pub have_none : IsUnconditional enforced → HaveNoConditions (map policy_view items)
+  pub have_none : IsUnconditional enforced → HaveNoConditions (map (policy_view list) items)
   have_none none =
-      let each : (name : List ℕ) (v : Policy Program) → find name_cmp name (named_views items) ≡ Some v → v.condition ≡ None =
+      let each : (name : List ℕ) (v : Policy Program) → find name_cmp name (named_views list items) ≡ Some v → v.condition ≡ None =
       (λ name v found. subst (λ o. IfSome o (λ p. p.condition ≡ None)) (enforced_at name ∙ found) (none name)) in
-      subst HaveNoConditions (views_are items) (unconditional (named_views items) (t_of _ ordered) each)
+      subst HaveNoConditions (views_are list items) (unconditional (named_views list items) (t_of _ ordered) each)
 
   module _ (limits : LimitsValue) (r : RequestValue) (valid : IsRequest r) (filter : Filter CelChecked)
       (admitted : IsAdmittedAs limits filter enforced) where
@@ -244,33 +245,33 @@ module _ (enforced : Filter Program) (items : List NamedPolicy) (ordered : IsTru
     each_stands (Some p) (Some v) (Some parts) is of = (is, good_of parts p of)
 
     -- the filter's policies stand beside what is enforced
-    pub listed : (ps : List (List ℕ × Policy CelChecked)) × Beside (Stands limits r valid) (named_views items) ps
+    pub listed : (ps : List (List ℕ × Policy CelChecked)) × Beside (Stands limits r valid) (named_views list items) ps
         × (filter.policies ≡ from_entries ps)
     listed =
         let is = admitted.2 in
-        beside_map (Stands limits r valid) filter.policies (named_views items) (t_of _ ordered) (λ name.
+        beside_map (Stands limits r valid) filter.policies (named_views list items) (t_of _ ordered) (λ name.
         subst (λ o. MatchOption o (get filter.policies name ≡ None) (λ v. IsSomeAnd (get filter.policies name) (Stands limits r valid v))) (enforced_at name)
         (each_stands (get filter.policies name) (get enforced.policies name) _ (is.enforces.policies name) (is.admissible.message.rules.policies.2 name)))
 
     pub order : T (is_sorted name_cmp listed.0)
-    order = subst T (sorted_beside (Stands limits r valid) (named_views items) listed.0 listed.1) (t_of _ ordered)
+    order = subst T (sorted_beside (Stands limits r valid) (named_views list items) listed.0 listed.1) (t_of _ ordered)
 
     -- the first that matches by its runs is the filter's answer
-    pub found_verdict : (o : Option ℕ) → IsFirst r 0 (map policy_view items) o
+    pub found_verdict : (o : Option ℕ) → IsFirst r 0 (map (policy_view list) items) o
         → IsVerdict (is_met r) r filter (allows enforced.action (is_some o)) o
     found_verdict o first =
-        let by_runs : IsFirst r 0 (map (λ e. e.1) (named_views items)) o = subst (λ xs. IsFirst r 0 xs o) (sym (views_are items)) first in
+        let by_runs : IsFirst r 0 (map (λ e. e.1) (named_views list items)) o = subst (λ xs. IsFirst r 0 xs o) (sym (views_are list items)) first in
         rw admitted.2.enforces.action (verdict (is_met r) r listed.0 order filter listed.2 o
-        (first_is limits r valid 0 (named_views items) listed.0 o listed.1 by_runs))
+        (first_is limits r valid 0 (named_views list items) listed.0 o listed.1 by_runs))
 
-    asking_one : (P : Program → Type 0) → SomeAsks P r (map policy_view items)
+    asking_one : (P : Program → Type 0) → SomeAsks P r (map (policy_view list) items)
         → (c : CelChecked) × AskedIn limits r valid listed.0 c × HasGoodConstants c.tree × ItsProgram limits r valid P c
     asking_one P asks =
-        asks_asked limits r valid P (named_views items) listed.0 order listed.1
-        (subst (λ xs. SomeAsks P r xs) (sym (views_are items)) asks)
+        asks_asked limits r valid P (named_views list items) listed.0 order listed.1
+        (subst (λ xs. SomeAsks P r xs) (sym (views_are list items)) asks)
 
     -- a program that is asked for is of a condition that the verdict asks for
-    pub asking : (P : Program → Type 0) → SomeAsks P r (map policy_view items)
+    pub asking : (P : Program → Type 0) → SomeAsks P r (map (policy_view list) items)
         → SomeAsked (is_met r) (λ c. (program : Program) × IsProgramOf limits c program × P program) r filter
     asking P asks =
         let it = asking_one P asks in
@@ -285,7 +286,7 @@ module _ (enforced : Filter Program) (items : List NamedPolicy) (ordered : IsTru
         )
 
     -- on a request within the limits no run passes its bound
-    pub none_passes : InLimits r limits → SomeAsks (PassesBound r) r (map policy_view items) → ⊥
+    pub none_passes : InLimits r limits → SomeAsks (PassesBound r) r (map (policy_view list) items) → ⊥
     none_passes inside passes =
         let it = asking_one (PassesBound r) passes in
         let (q, of, out) = it.3 in
@@ -293,11 +294,11 @@ module _ (enforced : Filter Program) (items : List NamedPolicy) (ordered : IsTru
 
     -- where a condition that is asked for takes too long, no first one is told
     pub asked_is_told : SomeAsked (is_met r) (TakesTooLong limits r) r filter → (o : Option ℕ)
-        → IsFirst r 0 (map policy_view items) o → ⊥
+        → IsFirst r 0 (map (policy_view list) items) o → ⊥
     asked_is_told (c, (name, has, lesser), long) o first =
         let x = there (λ p. IsTrue (sides_match r p) × (p.condition ≡ Some c)) (get filter.policies name) has in
-        asked_or_first limits r valid c long 0 (named_views items) listed.0 o order listed.1
-        (subst (λ xs. IsFirst r 0 xs o) (sym (views_are items)) first)
+        asked_or_first limits r valid c long 0 (named_views list items) listed.0 o order listed.1
+        (subst (λ xs. IsFirst r 0 xs o) (sym (views_are list items)) first)
         (record {
           name = name;
           policy = x.0;

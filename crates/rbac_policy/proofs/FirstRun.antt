@@ -5,6 +5,7 @@ use Rattle.std.specs.List.{AllByRecursion}
 use Rattle.std.specs.Prelude.{Result, Err}
 use Rattle.stack_machine.specs.declared.error.RunError.{RunError}
 use Rattle.attributes.specs.Request.{RequestValue}
+use Rattle.rbac_match.specs.Tokens.{Token}
 use Rattle.rbac_policy.specs.Condition.{Program}
 use Rattle.rbac_policy.specs.Filter.{Policy}
 use Rattle.rbac_policy.specs.Named.{policy_view}
@@ -41,36 +42,36 @@ module _ (r : RequestValue) where
   none_at (x ∷ ps) qs p none = none_at ps qs p none.1
 
   -- the policies before the present one, that one, and those after it
-  module _ (items : List NamedPolicy) (i : ℕ) (item : NamedPolicy) (within : i < length items) (is : item ≡ get_or items i item) where
+  module _ (list : List Token) (items : List NamedPolicy) (i : ℕ) (item : NamedPolicy) (within : i < length items) (is : item ≡ get_or items i item) where
     more : take (i + 1) items ≡ take i items ++ item ∷ []
     more = take_more items i item within ∙ ap (λ x. take i items ++ x ∷ []) (sym is)
 
-    split : map policy_view items ≡ map policy_view (take i items) ++ policy_view item ∷ map policy_view (drop (i + 1) items)
+    split : map (policy_view list) items ≡ map (policy_view list) (take i items) ++ (policy_view list) item ∷ map (policy_view list) (drop (i + 1) items)
     split =
-        ap (map policy_view) (sym (take-append-drop (i + 1) items) ∙ ap (λ xs. xs ++ drop (i + 1) items) more ∙ append_assoc (take i items) (item ∷ []) (drop (i + 1) items))
-        ∙ map-append policy_view (take i items) (item ∷ drop (i + 1) items)
+        ap (map (policy_view list)) (sym (take-append-drop (i + 1) items) ∙ ap (λ xs. xs ++ drop (i + 1) items) more ∙ append_assoc (take i items) (item ∷ []) (drop (i + 1) items))
+        ∙ map-append (policy_view list) (take i items) (item ∷ drop (i + 1) items)
 
-    pub next_failed : Failed (map policy_view (take i items)) → Tells r (policy_view item) false
-        → Failed (map policy_view (take (i + 1) items))
+    pub next_failed : Failed (map (policy_view list) (take i items)) → Tells r ((policy_view list) item) false
+        → Failed (map (policy_view list) (take (i + 1) items))
     next_failed failed this =
-        rw (ap (map policy_view) more ∙ map-append policy_view (take i items) (item ∷ []))
-        (failed_push (map policy_view (take i items)) (policy_view item) failed this)
+        rw (ap (map (policy_view list)) more ∙ map-append (policy_view list) (take i items) (item ∷ []))
+        (failed_push (map (policy_view list) (take i items)) ((policy_view list) item) failed this)
 
-    pub this_first : Failed (map policy_view (take i items)) → Tells r (policy_view item) true
-        → IsFirst r 0 (map policy_view items) (Some i)
+    pub this_first : Failed (map (policy_view list) (take i items)) → Tells r ((policy_view list) item) true
+        → IsFirst r 0 (map (policy_view list) items) (Some i)
     this_first failed this =
-        let count : length (map policy_view (take i items)) ≡ i = length-map (take i items) policy_view ∙ length-take-le i items (omega (arith, within)) in
-        rw split (subst (λ n. IsFirst r 0 (map policy_view (take i items) ++ policy_view item ∷ map policy_view (drop (i + 1) items)) (Some n))
-        (zero-add _ ∙ count) (one_first (map policy_view (take i items)) (map policy_view (drop (i + 1) items)) (policy_view item) 0 failed this))
+        let count : length (map (policy_view list) (take i items)) ≡ i = length-map (take i items) (policy_view list) ∙ length-take-le i items (omega (arith, within)) in
+        rw split (subst (λ n. IsFirst r 0 (map (policy_view list) (take i items) ++ (policy_view list) item ∷ map (policy_view list) (drop (i + 1) items)) (Some n))
+        (zero-add _ ∙ count) (one_first (map (policy_view list) (take i items)) (map (policy_view list) (drop (i + 1) items)) ((policy_view list) item) 0 failed this))
 
-    pub this_asks : (P : Program → Type 0) → Failed (map policy_view (take i items)) → Asks P r (policy_view item)
-        → SomeAsks P r (map policy_view items)
+    pub this_asks : (P : Program → Type 0) → Failed (map (policy_view list) (take i items)) → Asks P r ((policy_view list) item)
+        → SomeAsks P r (map (policy_view list) items)
     this_asks P failed this =
-        rw split (one_asks P (map policy_view (take i items)) (map policy_view (drop (i + 1) items)) (policy_view item) failed this)
+        rw split (one_asks P (map (policy_view list) (take i items)) (map (policy_view list) (drop (i + 1) items)) ((policy_view list) item) failed this)
 
-    pub this_has_none : HaveNoConditions (map policy_view items) → (policy_view item).condition ≡ None
+    pub this_has_none : HaveNoConditions (map (policy_view list) items) → ((policy_view list) item).condition ≡ None
     this_has_none none =
-        none_at (map policy_view (take i items)) (map policy_view (drop (i + 1) items)) (policy_view item) (rw split at none)
+        none_at (map (policy_view list) (take i items)) (map (policy_view list) (drop (i + 1) items)) ((policy_view list) item) (rw split at none)
 
 -- want of memory is no passing of a bound
 pub memory_is_other : {V : Type 0} (answer : Result V RunError) (x y : RunError) → answer ≡ Err x → x ≡ y

@@ -8,6 +8,7 @@ use Rattle.std.specs.Slice.{IsItemAt}
 use Rattle.std.specs.Cmp.Lexicographic.{nat_list_cmp_total}
 use Rattle.attributes.specs.Headers.{name_cmp}
 use Rattle.proto_wire.proofs.MapOrder.{entries_from_entries}
+use Rattle.rbac_match.specs.Tokens.{Token}
 use Rattle.rbac_policy.specs.Condition.{Program}
 use Rattle.rbac_policy.specs.Filter.{Policy}
 use Rattle.rbac_policy.specs.Named.{named_view, named_views}
@@ -23,19 +24,19 @@ placed policies place (Some policy) at =
     slice_get_read policies (length policies) place policy.now refl at.3.0 at.1
 
 -- the name of what a policy is seen as
-name_of_view : (o : Option NamedPolicy)
-    → option_map (λ (e : List ℕ × Policy Program). e.0) (option_map named_view o)
+name_of_view : (list : List Token) (o : Option NamedPolicy)
+    → option_map (λ (e : List ℕ × Policy Program). e.0) (option_map (named_view list) o)
     ≡ option_map (λ (p : NamedPolicy). string_bytes p.name) o
-name_of_view (Some p) = refl
-name_of_view None = refl
+name_of_view list (Some p) = refl
+name_of_view list None = refl
 
 -- the name of a number is that of the policy there
-pub name_at : (items : List NamedPolicy) (number : ℕ) → IsTrue (is_sorted name_cmp (named_views items))
+pub name_at : (list : List Token) (items : List NamedPolicy) (number : ℕ) → IsTrue (is_sorted name_cmp (named_views list items))
     → option_map (λ (p : NamedPolicy). string_bytes p.name) (slice_get items number)
-    ≡ slice_get (keys (from_entries {R = name_cmp} (named_views items))) number
-name_at items number ordered =
-    let listed = entries_from_entries name_cmp nat_list_cmp_total (named_views items) (t_of _ ordered) in
+    ≡ slice_get (keys (from_entries {R = name_cmp} (named_views list items))) number
+name_at list items number ordered =
+    let listed = entries_from_entries name_cmp nat_list_cmp_total (named_views list items) (t_of _ ordered) in
     sym (ap (λ (es : List (List ℕ × Policy Program)). slice_get (map (λ e. e.0) es) number) listed
-    ∙ slice_get-map (λ (e : List ℕ × Policy Program). e.0) (named_views items) number
-    ∙ ap (option_map (λ (e : List ℕ × Policy Program). e.0)) (slice_get-map named_view items number)
-    ∙ name_of_view (slice_get items number))
+    ∙ slice_get-map (λ (e : List ℕ × Policy Program). e.0) (named_views list items) number
+    ∙ ap (option_map (λ (e : List ℕ × Policy Program). e.0)) (slice_get-map (named_view list) items number)
+    ∙ name_of_view list (slice_get items number))

@@ -25,6 +25,7 @@ use Rattle.cel_tree.specs.Nodes.{IsNode, call_node, constant_node}
 use Rattle.cel_tree.specs.Tree.{CelTree, CelTrees, call, constant, no_target, no_trees, tree}
 use Rattle.cel_tree.specs.Trees.{IsTree, node_count}
 use Rattle.cel_overload.specs.declared.function.Function.TheVariants as functions
+use Rattle.cel_ops.specs.declared.operation.Operation.TheVariants as operations
 use Rattle.cel_overload.specs.declared.overload.Overload.TheVariants as overloads
 use Rattle.cel_types.specs.Elaborated.{IsElaborated, TypedTree, no_typed, typed, typed_call, typed_constant}
 use Rattle.cel_types.specs.Meaning.{eval}
@@ -322,13 +323,13 @@ true_typed = typed_constant bool_type (bool true)
 
 -- the condition, elaborated
 abbrev elaborated : TypedTree
-elaborated = typed_call bool_type overloads.LogicalAnd (typed true_typed (typed true_typed no_typed))
+elaborated = typed_call bool_type (overloads.Operate operations.And) (typed true_typed (typed true_typed no_typed))
 
 has_type : Types (maps_of condition) [] condition.tree bool_type
 has_type = (
   bool_type ∷ bool_type ∷ [],
   (refl, (refl, tt)),
-  overloads.LogicalAnd,
+  overloads.Operate operations.And,
   (functions.And, refl, record { function = refl; shape = refl; operands = (refl, refl) }),
 )
 

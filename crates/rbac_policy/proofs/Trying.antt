@@ -15,6 +15,7 @@ use Rattle.cel_tree.specs.GoodConstants.{HasGoodConstants}
 use Rattle.proto_wire.proofs.MapOrder.{entries_from_entries}
 use Rattle.rbac_match.specs.Formula.{some_hold}
 use Rattle.stack_machine.proofs.Chains.{one_end_lem}
+use Rattle.rbac_match.specs.Tokens.{Token}
 use Rattle.rbac_policy.specs.Condition.{IsProgramOf, Program, came_true}
 use Rattle.rbac_policy.specs.Admission.{IsAdmittedAs}
 use Rattle.rbac_policy.specs.Filter.{Filter, Policy}
@@ -100,16 +101,16 @@ module _ (limits : LimitsValue) (r : RequestValue) (valid : IsRequest r) where
       )
 
 -- and in the filter, whose policies stand beside what is enforced
-module _ (enforced : Filter Program) (items : List NamedPolicy) (ordered : IsTrue (is_sorted name_cmp (named_views items)))
-    (at : enforced.policies ≡ from_entries (named_views items)) (limits : LimitsValue) (r : RequestValue) (valid : IsRequest r)
+module _ (enforced : Filter Program) (list : List Token) (items : List NamedPolicy) (ordered : IsTrue (is_sorted name_cmp (named_views list items)))
+    (at : enforced.policies ≡ from_entries (named_views list items)) (limits : LimitsValue) (r : RequestValue) (valid : IsRequest r)
     (filter : Filter CelChecked) (admitted : IsAdmittedAs limits filter enforced) where
-  pub filter_tried : (trials : List Trial) → AreTrials (HasRunReason r) 0 (named_views items) trials
+  pub filter_tried : (trials : List Trial) → AreTrials (HasRunReason r) 0 (named_views list items) trials
       → AreTrials (HasReason (Means r) (TakesSteps limits r) r) 0 (entries filter.policies) trials
   filter_tried trials are =
-      let found = listed enforced items ordered at limits r valid filter admitted in
+      let found = listed enforced list items ordered at limits r valid filter admitted in
       let same : entries filter.policies ≡ found.0 =
-      ap entries found.2 ∙ entries_from_entries name_cmp nat_list_cmp_total found.0 (order enforced items ordered at limits r valid filter admitted) in
-      rw same (trials_lifted limits r valid 0 (named_views items) found.0 trials found.1 are)
+      ap entries found.2 ∙ entries_from_entries name_cmp nat_list_cmp_total found.0 (order enforced list items ordered at limits r valid filter admitted) in
+      rw same (trials_lifted limits r valid 0 (named_views list items) found.0 trials found.1 are)
 
 -- ---- the loop
 
@@ -178,35 +179,35 @@ module _ (r : RequestValue) where
       (tells_no x.1 u.reason c d, untold_failed (number + 1) es trials rest)
 
   -- the policies before the present one, that one, and those after it
-  module _ (items : List NamedPolicy) (i : ℕ) (item : NamedPolicy) (within : i < length items) (is : item ≡ get_or items i item)
-      (trials : List Trial) (before : Untold 0 (named_views (take i items)) trials) where
+  module _ (list : List Token) (items : List NamedPolicy) (i : ℕ) (item : NamedPolicy) (within : i < length items) (is : item ≡ get_or items i item)
+      (trials : List Trial) (before : Untold 0 (named_views list (take i items)) trials) where
     more : take (i + 1) items ≡ take i items ++ item ∷ []
     more = take_more items i item within ∙ ap (λ x. take i items ++ x ∷ []) (sym is)
 
-    longer : named_views (take (i + 1) items) ≡ named_views (take i items) ++ named_view item ∷ []
-    longer = ap named_views more ∙ map-append named_view (take i items) (item ∷ [])
+    longer : named_views list (take (i + 1) items) ≡ named_views list (take i items) ++ (named_view list) item ∷ []
+    longer = ap (named_views list) more ∙ map-append (named_view list) (take i items) (item ∷ [])
 
-    split : named_views items ≡ named_views (take i items) ++ named_view item ∷ named_views (drop (i + 1) items)
+    split : named_views list items ≡ named_views list (take i items) ++ (named_view list) item ∷ named_views list (drop (i + 1) items)
     split =
-        ap named_views (sym (take-append-drop (i + 1) items) ∙ ap (λ xs. xs ++ drop (i + 1) items) more ∙ append_assoc (take i items) (item ∷ []) (drop (i + 1) items))
-        ∙ map-append named_view (take i items) (item ∷ drop (i + 1) items)
+        ap (named_views list) (sym (take-append-drop (i + 1) items) ∙ ap (λ xs. xs ++ drop (i + 1) items) more ∙ append_assoc (take i items) (item ∷ []) (drop (i + 1) items))
+        ∙ map-append (named_view list) (take i items) (item ∷ drop (i + 1) items)
 
-    count : i ≡ 0 + length (named_views (take i items))
-    count = sym (zero-add _ ∙ length-map (take i items) named_view ∙ length-take-le i items (omega (arith, within)))
+    count : i ≡ 0 + length (named_views list (take i items))
+    count = sym (zero-add _ ∙ length-map (take i items) (named_view list) ∙ length-take-le i items (omega (arith, within)))
 
     module _ (t : Trial) (number : t.number ≡ i) (name : t.name.now ≡ string_bytes item.name)
-        (has : HasRunReason r (policy_view item) t.reason) where
-      pub next_untold : is_match t.reason ≡ false → Untold 0 (named_views (take (i + 1) items)) (trials ++ t ∷ [])
+        (has : HasRunReason r ((policy_view list) item) t.reason) where
+      pub next_untold : is_match t.reason ≡ false → Untold 0 (named_views list (take (i + 1) items)) (trials ++ t ∷ [])
       next_untold other =
-          rw longer (untold_push 0 (named_views (take i items)) trials (named_view item) t before (number ∙ count) name has other)
+          rw longer (untold_push 0 (named_views list (take i items)) trials ((named_view list) item) t before (number ∙ count) name has other)
 
-      pub told_match : is_match t.reason ≡ true → AreTrials (HasRunReason r) 0 (named_views items) (trials ++ t ∷ [])
+      pub told_match : is_match t.reason ≡ true → AreTrials (HasRunReason r) 0 (named_views list items) (trials ++ t ∷ [])
       told_match matches =
-          rw split (untold_match 0 (named_views (take i items)) (named_views (drop (i + 1) items)) trials (named_view item) t before (number ∙ count) name has matches)
+          rw split (untold_match 0 (named_views list (take i items)) (named_views list (drop (i + 1) items)) trials ((named_view list) item) t before (number ∙ count) name has matches)
 
   -- the policies that were tried told that they do not match
-  pub tried_failed : (items : List NamedPolicy) (trials : List Trial) → Untold 0 (named_views items) trials → Failed r (map policy_view items)
-  tried_failed items trials before = subst (Failed r) (views_are items) (untold_failed 0 (named_views items) trials before)
+  pub tried_failed : (list : List Token) (items : List NamedPolicy) (trials : List Trial) → Untold 0 (named_views list items) trials → Failed r (map (policy_view list) items)
+  tried_failed list items trials before = subst (Failed r) (views_are list items) (untold_failed 0 (named_views list items) trials before)
 
   -- a reason to match tells that the policy matches
   tells_yes : (v : Policy Program) (reason : Reason) → HasRunReason r v reason → is_match reason ≡ true → Tells r v true
@@ -236,11 +237,11 @@ module _ (r : RequestValue) where
             (later.0, inr (tells_no e.1 t.reason has other, later.1))
       ] refl next
 
-  pub trials_first : (items : List NamedPolicy) (trials : List Trial) → AreTrials (HasRunReason r) 0 (named_views items) trials
-      → (o : Option ℕ) × IsFirst r 0 (map policy_view items) o
-  trials_first items trials are =
-      let found = first_of 0 (named_views items) trials are in
-      (found.0, subst (λ ps. IsFirst r 0 ps found.0) (views_are items) found.1)
+  pub trials_first : (list : List Token) (items : List NamedPolicy) (trials : List Trial) → AreTrials (HasRunReason r) 0 (named_views list items) trials
+      → (o : Option ℕ) × IsFirst r 0 (map (policy_view list) items) o
+  trials_first list items trials are =
+      let found = first_of 0 (named_views list items) trials are in
+      (found.0, subst (λ ps. IsFirst r 0 ps found.0) (views_are list items) found.1)
 
 -- ---- how there may be no trials
 

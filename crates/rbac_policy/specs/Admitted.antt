@@ -9,8 +9,10 @@ use Rattle.rbac_policy.specs.declared.filter.FilterRules.{FilterRules}
 
 -- the filter that its rules stand for
 abbrev pub filter_rules_view : FilterRules → Filter Program
-filter_rules_view rules =
-    record { action = rules.action; policies = from_entries (named_views rules.policies.items) }
+filter_rules_view rules = record {
+  action = rules.action;
+  policies = from_entries (named_views rules.list rules.policies.items);
+}
 
 -- the filter that an `Admitted` stands for
 abbrev pub filter_view : Admitted → Filter Program

@@ -1,6 +1,7 @@
 -- What the code's policies stand for.
 use Rattle.std.specs.Prelude.{ℕ, List, map, option_map}
 use Rattle.std.specs.String.{string_bytes}
+use Rattle.rbac_match.specs.Tokens.{Token}
 use Rattle.rbac_match.specs.View.{rules_view}
 use Rattle.stack_machine.specs.Instructions.{code_view}
 use Rattle.rbac_policy.specs.Condition.{Program}
@@ -12,18 +13,18 @@ use Rattle.rbac_policy.specs.declared.policy.NamedPolicy.{NamedPolicy}
 abbrev pub program_view : Condition → Program
 program_view c = record { code = code_view c.code; bound = c.bound }
 
--- what a policy asks
-abbrev pub policy_view : NamedPolicy → Policy Program
-policy_view p = record {
-  permissions = rules_view p.permissions.items;
-  principals = rules_view p.principals.items;
+-- what a policy asks, by the list that has its rules
+abbrev pub policy_view : List Token → NamedPolicy → Policy Program
+policy_view list p = record {
+  permissions = rules_view list p.permissions;
+  principals = rules_view list p.principals;
   condition = option_map program_view p.condition;
 }
 
 -- the name of a policy, and what the policy asks
-abbrev pub named_view : NamedPolicy → List ℕ × Policy Program
-named_view p = (string_bytes p.name, policy_view p)
+abbrev pub named_view : List Token → NamedPolicy → List ℕ × Policy Program
+named_view list p = (string_bytes p.name, policy_view list p)
 
 -- the names and policies, in order
-abbrev pub named_views : List NamedPolicy → List (List ℕ × Policy Program)
-named_views ps = map named_view ps
+abbrev pub named_views : List Token → List NamedPolicy → List (List ℕ × Policy Program)
+named_views list ps = map (named_view list) ps

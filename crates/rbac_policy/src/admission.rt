@@ -24,6 +24,7 @@ use crate::numbers::{ACTION, AUDIT_LOGGING_OPTIONS, POLICIES, RULES};
 use crate::policy::read_policies;
 use attributes::Limits;
 use proto_wire::{Field, Refusal, has_payload, payloads_of, read_entries, read_message, uint32_at};
+use rbac_match::RuleList;
 use std::alloc::Global;
 
 /// How many policies a filter may have.
@@ -98,8 +99,10 @@ fn read_rules(
     let entries = payloads_of(alloc, fields, POLICIES)?;
     let named = read_entries(alloc, &entries)?;
     refuse_many(named.len())?;
-    let (policies, bound) = read_policies(alloc, &named, limits, budget)?;
-    Ok(FilterRules::new(action, policies, bound))
+    let mut list = RuleList::new(alloc);
+    let (policies, bound) = read_policies(&mut list, &named, limits, budget)?;
+    list.shrink();
+    Ok(FilterRules::new(action, list, policies, bound))
 }
 
 /// Refuses rules with options of an audit log.

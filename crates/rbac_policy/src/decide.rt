@@ -14,7 +14,7 @@ ghost use Rattle.rbac_policy.specs.steps.Runs.{AnyProgram, Asks, HaveNoCondition
 use crate::filter::{Admitted, Verdict};
 use crate::policy::NamedPolicy;
 use attributes::{Request, request_is_sound};
-use rbac_match::any_matches;
+use rbac_match::{RuleList, any_matches};
 use stack_machine::RunError;
 use std::alloc::Global;
 
@@ -46,28 +46,29 @@ impl Admitted {
             → InLimits request.now (limits_view self.now) → result ≢ Err RunError.OutOfSteps }
     {
         request_is_sound(request);
-        let matched = first_match(self.alloc(), self.named_policies(), request)?;
+        let matched = first_match(self.alloc(), self.list(), self.named_policies(), request)?;
         let allowed = self.action().allows(matched.is_some());
         Ok(Verdict { allowed, matched })
     }
 }
 
-/// The number of the first of the policies that matches the request.
+/// The number of the first of the policies that matches the request. Their rules stand in the list.
 fn first_match(
     alloc: Global,
+    list: &RuleList,
     policies: &[NamedPolicy],
     request: &Request,
 ) -> Result<Option<usize>, RunError>
     ensures found { IfOk result (λ matched.
-        IsFirst request.now 0 (map policy_view policies.now) matched) }
-    ensures always { HaveNoConditions (map policy_view policies.now) → IsOk result }
+        IsFirst request.now 0 (map (policy_view list.now) policies.now) matched) }
+    ensures always { HaveNoConditions (map (policy_view list.now) policies.now) → IsOk result }
     ensures asked { IfErr result (λ _. SomeAsks AnyProgram request.now
-        (map policy_view policies.now)) }
+        (map (policy_view list.now) policies.now)) }
     ensures fault { IfErr result (MemoryOrSteps
-        (SomeAsks (PassesBound request.now) request.now (map policy_view policies.now))) }
+        (SomeAsks (PassesBound request.now) request.now (map (policy_view list.now) policies.now))) }
 {
     for (number, policy) in policies.iter().enumerate() {
-        if policy_matches(alloc, policy, request)? {
+        if policy_matches(alloc, list, policy, request)? {
             return Ok(Some(number));
         }
     }
@@ -75,14 +76,19 @@ fn first_match(
 }
 
 /// Whether the policy matches the request: its sides, and then its condition, if it has one.
-fn policy_matches(alloc: Global, policy: &NamedPolicy, request: &Request) -> Result<bool, RunError>
-    ensures found { IfOk result (Tells request.now (policy_view policy.now)) }
-    ensures always { (policy_view policy.now).condition ≡ None → IsOk result }
-    ensures asked { IfErr result (λ _. Asks AnyProgram request.now (policy_view policy.now)) }
+fn policy_matches(
+    alloc: Global,
+    list: &RuleList,
+    policy: &NamedPolicy,
+    request: &Request,
+) -> Result<bool, RunError>
+    ensures found { IfOk result (Tells request.now (policy_view list.now policy.now)) }
+    ensures always { (policy_view list.now policy.now).condition ≡ None → IsOk result }
+    ensures asked { IfErr result (λ _. Asks AnyProgram request.now (policy_view list.now policy.now)) }
     ensures fault { IfErr result (MemoryOrSteps
-        (Asks (PassesBound request.now) request.now (policy_view policy.now))) }
+        (Asks (PassesBound request.now) request.now (policy_view list.now policy.now))) }
 {
-    if !sides_match(policy, request) {
+    if !sides_match(list, policy, request) {
         return Ok(false);
     }
     match &policy.condition {
@@ -92,8 +98,8 @@ fn policy_matches(alloc: Global, policy: &NamedPolicy, request: &Request) -> Res
 }
 
 /// Whether some permission and some principal of the policy match the request.
-fn sides_match(policy: &NamedPolicy, request: &Request) -> bool
-    ensures { result ≡ sides_match request.now (policy_view policy.now) }
+fn sides_match(list: &RuleList, policy: &NamedPolicy, request: &Request) -> bool
+    ensures { result ≡ sides_match request.now (policy_view list.now policy.now) }
 {
-    any_matches(&policy.permissions, request) && any_matches(&policy.principals, request)
+    any_matches(list, policy.permissions, request) && any_matches(list, policy.principals, request)
 }

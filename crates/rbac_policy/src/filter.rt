@@ -8,6 +8,7 @@ ghost use Rattle.rbac_policy.specs.Named.{named_views};
 
 use crate::policy::NamedPolicy;
 use attributes::Limits;
+use rbac_match::RuleList;
 use std::alloc::Global;
 
 /// What a filter does with a request that some policy matches.
@@ -45,33 +46,40 @@ pub struct Verdict {
     pub matched: Option<usize>,
 }
 
-/// What a filter enforces: its policies stand in ascending order of their names, each name once, and
+/// What a filter enforces: the list of their rules, and its policies, which stand in ascending order of their names, each name once, and
 /// their conditions may take so many steps together.
 #[derive(Debug, Drop)]
 pub(crate) struct FilterRules {
     action: Action,
+    list: RuleList,
     policies: Vec<NamedPolicy>,
     bound: u64,
-    ghost ordered: { IsTrue (is_sorted name_cmp (named_views policies.items)) },
-    ghost bounded: { bound ≡ bounds_of (named_views policies.items) },
+    ghost ordered: { IsTrue (is_sorted name_cmp (named_views list policies.items)) },
+    ghost bounded: { bound ≡ bounds_of (named_views list policies.items) },
 }
 
 impl FilterRules {
     ghost use Rattle.std.specs.FinMap.{from_entries};
     ghost use Rattle.rbac_policy.specs.Admitted.{filter_rules_view};
 
-    /// The rules of an action and policies, which stand in ascending order of their names, and whose
-    /// conditions may take so many steps together.
-    pub(crate) fn new(action: Action, policies: Vec<NamedPolicy>, bound: u64) -> FilterRules
-        requires ordered { IsTrue (is_sorted name_cmp (named_views policies.items)) }
-        requires bounded { bound ≡ bounds_of (named_views policies.items) }
+    /// The rules of an action and policies, whose rules stand in the list: in ascending order of their
+    /// names, and their conditions may take so many steps together.
+    pub(crate) fn new(
+        action: Action,
+        list: RuleList,
+        policies: Vec<NamedPolicy>,
+        bound: u64,
+    ) -> FilterRules
+        requires ordered { IsTrue (is_sorted name_cmp (named_views list policies.items)) }
+        requires bounded { bound ≡ bounds_of (named_views list policies.items) }
         ensures { filter_rules_view result ≡ record {
           action = action;
-          policies = from_entries (named_views policies.items);
+          policies = from_entries (named_views list policies.items);
         } }
     {
         FilterRules {
             action,
+            list,
             policies,
             bound,
         }
@@ -103,6 +111,14 @@ impl Admitted {
         ensures { result ≡ self.now.rules.action }
     {
         self.rules.action
+    }
+
+    /// The list of its policies' rules.
+    #[inline(always)]
+    pub(crate) fn list(&self) -> &RuleList
+        ensures { result.now ≡ self.now.rules.list }
+    {
+        &self.rules.list
     }
 
     /// The policies in ascending order of their names.

@@ -6,7 +6,9 @@ use crate::numbers::{PERMISSIONS, POLICIES, PRINCIPALS, RULES};
 use crate::policy::{read_checked, read_policy};
 use attributes::Limits;
 use proto_wire::{Field, MapEntry, Refusal, payloads_of, read_entries, read_fields, read_parts};
-use rbac_match::{AND, NOT, OR, RULE_DEPTH, RULES as SET_RULES, Side, read_rule, trailing_run};
+use rbac_match::{
+    AND, NOT, OR, RULE_DEPTH, RULES as SET_RULES, RuleList, Side, read_rule, trailing_run,
+};
 use smallvec::SmallVec;
 use std::alloc::Global;
 
@@ -57,7 +59,8 @@ fn place_in_entries(alloc: Global, entries: &[&[u8]], refusal: Refusal) -> Optio
 
 /// Whether this policy has the fault.
 fn is_at_fault(alloc: Global, name: &str, parts: &[&[u8]], refusal: Refusal) -> bool {
-    read_policy(alloc, name, parts, &Limits::largest(), NO_STEPS).err() == Some(refusal)
+    let mut list = RuleList::new(alloc);
+    read_policy(&mut list, name, parts, &Limits::largest(), NO_STEPS).err() == Some(refusal)
 }
 
 /// The field of the filter's rules that has the fault.
@@ -225,5 +228,8 @@ fn index_at_fault(
     depth: u32,
     refusal: Refusal,
 ) -> Option<usize> {
-    rules.iter().position(|rule| read_rule(alloc, side, &[*rule], depth).err() == Some(refusal))
+    rules.iter().position(|rule| {
+        let mut list = RuleList::new(alloc);
+        read_rule(&mut list, side, &[*rule], depth).err() == Some(refusal)
+    })
 }

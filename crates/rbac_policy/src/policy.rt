@@ -1,6 +1,6 @@
 //! Policies, and the reading of their messages.
 
-ghost use Rattle.std.specs.Prelude.{◌≡◌, ◌≢◌, ◌≤◌, ◌+◌, ◌⊎◌, ◌∷◌, [], T, IfOk, IfErr, OnOk, MatchBool, map, option_map};
+ghost use Rattle.std.specs.Prelude.{◌≡◌, ◌≢◌, ◌≤◌, ◌+◌, ◌⊎◌, ◌++◌, ◌∷◌, [], List, T, IfOk, IfErr, OnOk, MatchBool, map, option_map};
 ghost use Rattle.std.specs.FinMap.{is_sorted};
 ghost use Rattle.std.specs.String.{string_bytes};
 ghost use Rattle.attributes.specs.Headers.{name_cmp};
@@ -11,6 +11,7 @@ ghost use Rattle.proto_wire.specs.steps.Maps.{Held};
 ghost use Rattle.proto_wire.specs.Refusal.{MemoryOr};
 ghost use Rattle.proto_wire.specs.Merge.{parts_view};
 ghost use Rattle.rbac_match.specs.Rules.{IsRule, AreRules, SomeRuleFault};
+ghost use Rattle.rbac_match.specs.Tokens.{GoesOn, Token};
 ghost use Rattle.rbac_match.specs.View.{rules_view};
 ghost use Rattle.rbac_policy.specs.Enforced.{bound_of, bounds_of};
 ghost use Rattle.rbac_policy.specs.Keys.{policy_field};
@@ -26,23 +27,23 @@ use crate::keys::POLICY_KEYS;
 use crate::numbers::{CHECKED_CONDITION, CONDITION, PERMISSIONS, PRINCIPALS};
 use attributes::Limits;
 use proto_wire::{Field, MapEntry, Refusal, has_payload, payloads_of, read_message};
-use rbac_match::{RULE_DEPTH, Rule, Side, read_rules};
+use rbac_match::{RULE_DEPTH, RuleList, Rules, Side, read_rules};
 use std::alloc::Global;
 
 /// A policy with its name: it matches where some permission, some principal and the condition do, if
-/// it has one.
+/// it has one. Its rules stand in the filter's list.
 #[derive(Debug, Drop)]
 pub(crate) struct NamedPolicy {
     pub name: String,
-    pub permissions: Vec<Rule>,
-    pub principals: Vec<Rule>,
+    pub permissions: Rules,
+    pub principals: Rules,
     pub condition: Option<Condition>,
 }
 
 impl NamedPolicy {
     /// How many steps its condition may take.
     fn bound(&self) -> u64
-        ensures { result ≡ bound_of (policy_view self.now).condition }
+        ensures { result ≡ bound_of (option_map program_view self.now.condition) }
     {
         match &self.condition {
             None => 0,
@@ -51,27 +52,28 @@ impl NamedPolicy {
     }
 }
 
-/// Reads each policy of the map's entries, which ascend by name, for requests within the limits; their
-/// conditions may take so many steps together. Gives besides how many they take.
+/// Reads each policy of the map's entries, which ascend by name, for requests within the limits, and adds
+/// their rules to the list; their conditions may take so many steps together. Gives besides how many they
+/// take.
 pub(crate) fn read_policies(
-    alloc: Global,
+    list: &mut RuleList,
     named: &[MapEntry<'_, &str>],
     limits: &Limits,
     budget: u64,
 ) -> Result<(Vec<NamedPolicy>, u64), Refusal>
     requires { T (is_sorted name_cmp (names_view named.now)) }
     ensures found { IfOk result (λ r. Held text (IsEnforced limits.now)
-        (names_view named.now) (named_views r.0.items)) }
-    ensures cost { IfOk result (λ r. r.1 ≡ bounds_of (named_views r.0.items)) }
+        (names_view named.now) (named_views list.new r.0.items)) }
+    ensures cost { IfOk result (λ r. r.1 ≡ bounds_of (named_views list.new r.0.items)) }
     ensures cheap { IfOk result (λ r. r.1 ≤ budget) }
     ensures fault { IfErr result (MemoryOr (λ e.
         SomeValueFault text PolicyFault (names_view named.now) e
         ⊎ ConditionsFault (names_view named.now) limits.now budget e)) }
 {
-    let mut policies = Vec::with_capacity(alloc, named.len())?;
+    let mut policies = Vec::with_capacity(list.alloc(), named.len())?;
     let mut spent = 0;
     for entry in named {
-        let policy = read_policy(alloc, entry.0, &entry.1, limits, budget - spent)?;
+        let policy = read_policy(list, entry.0, &entry.1, limits, budget - spent)?;
         spent += policy.bound();
         policies.push(policy)?;
     }
@@ -79,26 +81,29 @@ pub(crate) fn read_policies(
 }
 
 /// Reads the policy that stands in the parts, for requests within the limits, with so many steps
-/// left for its condition.
+/// left for its condition, and adds its rules to the list, where they stay however it grows.
 pub(crate) fn read_policy(
-    alloc: Global,
+    list: &mut RuleList,
     name: &str,
     parts: &[&[u8]],
     limits: &Limits,
     left: u64,
 ) -> Result<NamedPolicy, Refusal>
     ensures named { IfOk result (λ policy. string_bytes policy.name ≡ name.now) }
-    ensures found { IfOk result (λ policy. IsEnforced limits.now (parts_view parts.now)
-        (policy_view policy)) }
-    ensures cheap { IfOk result (λ policy. bound_of (policy_view policy).condition ≤ left) }
+    ensures found { IfOk result (λ policy. (more : List Token) → IsEnforced limits.now
+        (parts_view parts.now) (policy_view (list.new ++ more) policy)) }
+    ensures kept { OnOk result (GoesOn list.old list.new) }
+    ensures cheap { IfOk result (λ policy. bound_of (option_map program_view policy.condition)
+        ≤ left) }
     ensures fault { IfErr result (MemoryOr (λ e. PolicyFault (parts_view parts.now) e
         ⊎ ConditionsFault ((name.now, parts_view parts.now) ∷ []) limits.now left e)) }
 {
+    let alloc = list.alloc();
     let fields = read_message(alloc, parts, &POLICY_KEYS)?;
     refuse_unchecked(&fields)?;
     require_sides(&fields)?;
-    let permissions = read_side(alloc, Side::Permission, &fields, PERMISSIONS)?;
-    let principals = read_side(alloc, Side::Principal, &fields, PRINCIPALS)?;
+    let permissions = read_side(list, Side::Permission, &fields, PERMISSIONS)?;
+    let principals = read_side(list, Side::Principal, &fields, PRINCIPALS)?;
     let condition = read_checked(alloc, &fields, limits, left)?;
     let name = String::from_str(alloc, name)?;
     Ok(NamedPolicy {
@@ -168,16 +173,17 @@ fn require_sides(fields: &[Field<'_>]) -> Result<(), Refusal>
 
 /// Reads the rules of one side of a policy.
 fn read_side(
-    alloc: Global,
+    list: &mut RuleList,
     side: Side,
     fields: &[Field<'_>],
     number: u32,
-) -> Result<Vec<Rule>, Refusal>
-    ensures found { IfOk result (λ rules.
+) -> Result<Rules, Refusal>
+    ensures found { IfOk result (λ rules. (more : List Token) →
         AreRules (IsRule side rule_depth) (payloads number (map field_view fields.now))
-        (rules_view rules.items)) }
+        (rules_view (list.new ++ more) rules)) }
+    ensures kept { OnOk result (GoesOn list.old list.new) }
     ensures fault { IfErr result (MemoryOr
         (SomeRuleFault side rule_depth (payloads number (map field_view fields.now)))) }
 {
-    read_rules(alloc, side, fields, number, RULE_DEPTH)
+    read_rules(list, side, fields, number, RULE_DEPTH)
 }

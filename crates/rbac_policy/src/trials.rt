@@ -18,7 +18,7 @@ use crate::filter::Admitted;
 use crate::policy::NamedPolicy;
 use attributes::{Request, request_is_sound};
 use cel_value::CelError;
-use rbac_match::any_matches;
+use rbac_match::{RuleList, any_matches};
 use stack_machine::RunError;
 use std::alloc::{AllocError, Global};
 
@@ -86,24 +86,25 @@ impl Admitted {
             → InLimits request.now (limits_view self.now) → result ≢ Err RunError.OutOfSteps }
     {
         request_is_sound(request);
-        try_policies(self.alloc(), self.named_policies(), request)
+        try_policies(self.alloc(), self.list(), self.named_policies(), request)
     }
 }
 
 /// The policies up to the first that matches, each with its reason.
 fn try_policies<'a>(
     alloc: Global,
+    list: &RuleList,
     policies: &'a [NamedPolicy],
     request: &Request,
 ) -> Result<Vec<Trial<'a>>, RunError>
     ensures tried { IfOk result (λ trials.
-        AreTrials (HasRunReason request.now) 0 (named_views policies.now) trials.items) }
+        AreTrials (HasRunReason request.now) 0 (named_views list.now policies.now) trials.items) }
     ensures fault { IfErr result (MemoryOrSteps
-        (SomeAsks (PassesBound request.now) request.now (map policy_view policies.now))) }
+        (SomeAsks (PassesBound request.now) request.now (map (policy_view list.now) policies.now))) }
 {
     let mut trials = Vec::new(alloc);
     for (number, policy) in policies.iter().enumerate() {
-        let reason = reason_of(alloc, policy, request)?;
+        let reason = reason_of(alloc, list, policy, request)?;
         let name = policy.name.as_str();
         add(
             &mut trials,
@@ -129,15 +130,20 @@ fn add<'a>(trials: &mut Vec<Trial<'a>>, trial: Trial<'a>) -> Result<(), AllocErr
 }
 
 /// Why the policy matches, or does not.
-fn reason_of(alloc: Global, policy: &NamedPolicy, request: &Request) -> Result<Reason, RunError>
-    ensures found { IfOk result (HasRunReason request.now (policy_view policy.now)) }
+fn reason_of(
+    alloc: Global,
+    list: &RuleList,
+    policy: &NamedPolicy,
+    request: &Request,
+) -> Result<Reason, RunError>
+    ensures found { IfOk result (HasRunReason request.now (policy_view list.now policy.now)) }
     ensures fault { IfErr result (MemoryOrSteps
-        (Asks (PassesBound request.now) request.now (policy_view policy.now))) }
+        (Asks (PassesBound request.now) request.now (policy_view list.now policy.now))) }
 {
-    if !any_matches(&policy.permissions, request) {
+    if !any_matches(list, policy.permissions, request) {
         return Ok(Reason::NoPermission);
     }
-    if !any_matches(&policy.principals, request) {
+    if !any_matches(list, policy.principals, request) {
         return Ok(Reason::NoPrincipal);
     }
     match &policy.condition {

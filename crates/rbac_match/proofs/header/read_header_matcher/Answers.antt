@@ -46,13 +46,13 @@ returns-clause-found c =
     let fs : List Wire = map field_view c.in_ok-fields.fields.items in
     let message : IsMessage header_keys parts fs = c.in_ok-fields.ensures.found in
     let name = rw c.deref-2.ensures at c.in_ok-name.ensures.found in
-    rw (c.in_ok-new.ensures, name.0) (record {
+    rw name.0 (record {
       fields = fs;
       message = message;
       readable = name.1;
       named = name.2;
       lowered = refl;
       asked = rw c.deref.ensures at c.in_ok-specifier.ensures.found;
-      inverted = rw c.deref-3.ensures at c.bool_at-invert.ensures;
-      emptied = rw c.deref-4.ensures at c.bool_at-empty.ensures;
+      inverted = rw c.deref-3.ensures at c.bool_at-invert_match.ensures;
+      emptied = rw c.deref-4.ensures at c.bool_at-treat_missing_header_as_empty.ensures;
     })

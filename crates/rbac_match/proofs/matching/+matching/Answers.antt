@@ -1,25 +1,73 @@
-use Rattle.std.proofs.Common.{◌≡◌, true, false, get_or, sym, ◌∙◌}
-use Rattle.rbac_match.specs.Formula.{holds}
-use Rattle.rbac_match.specs.View.{rule_view}
+use Rattle.std.proofs.Common.{◌≡◌, true, false, sym, ap, ◌∙◌, arith}
+use Rattle.rbac_match.specs.Formula.{Formulas, formula, holds}
+use Rattle.rbac_match.specs.Tokens.{first_of}
+use Rattle.rbac_match.specs.steps.Nodes.{formula_in, formulas_in}
 use Rattle.rbac_match.proofs.Loops.{all_at, some_at}
+use Rattle.rbac_match.proofs.NodeLists.{first_rule}
 use Rattle.rbac_match.proofs.matching.+matching.Goals as goal
 
-pub all_match-returns-then-not-matches_inside : goal.all_match-returns-then-not-matches_inside
-all_match-returns-then-not-matches_inside t c =
-    let here : holds c.args.request.now (rule_view (get_or c.args.rules.now c.loop-rule.rule-index c.rule-item.result)) ≡ false = rw (← c.rule-item.is) (sym c.matches_inside.ensures ∙ c.if-not-matches_inside.true) in
-    all_at c.args.request.now c.args.rules.now c.loop-rule.rule-index c.rule-item.result c.loop-rule-test.true false here c.loop-rule.invariant
+pub all_match-returns-then-not-node_matches : goal.all_match-returns-then-not-node_matches
+all_match-returns-then-not-node_matches t c =
+    let leaves = c.args.leaves.now in
+    let fs : Formulas = formulas_in leaves c.loop-node.rest.now in
+    let gs : Formulas = formulas_in leaves c.cut.result.1.now in
+    let rule : fs ≡ formula (formula_in leaves c.in-Some.node.now c.cut.result.0.now) gs =
+    first_rule leaves c.loop-node.rest.now c.in-Some.behind.now c.cut.result.0.now c.cut.result.1.now c.in-Some.node.now c.inside.result
+    c.in-Some.ensures.cases.0 (c.inside.ensures leaves) c.cut.ensures.first c.cut.ensures.others in
+    all_at c.args.request.now fs gs (formula_in leaves c.in-Some.node.now c.cut.result.0.now) false rule
+    (sym c.if-not-node_matches.true ∙ c.node_matches.ensures) ∙ c.loop-node.invariant.same
 
-pub all_match-loop-rule-preserved : goal.all_match-loop-rule-preserved
-all_match-loop-rule-preserved t c =
-    let here : holds c.args.request.now (rule_view (get_or c.args.rules.now c.loop-rule.rule-index c.rule-item.result)) ≡ true = rw (← c.rule-item.is) (sym c.matches_inside.ensures ∙ c.if-not-matches_inside.false) in
-    all_at c.args.request.now c.args.rules.now c.loop-rule.rule-index c.rule-item.result c.loop-rule-test.true true here c.loop-rule.invariant
+pub all_match-loop-node-preserved : goal.all_match-loop-node-preserved
+all_match-loop-node-preserved t c =
+    let leaves = c.args.leaves.now in
+    let fs : Formulas = formulas_in leaves c.loop-node.rest.now in
+    let gs : Formulas = formulas_in leaves c.cut.result.1.now in
+    let rule : fs ≡ formula (formula_in leaves c.in-Some.node.now c.cut.result.0.now) gs =
+    first_rule leaves c.loop-node.rest.now c.in-Some.behind.now c.cut.result.0.now c.cut.result.1.now c.in-Some.node.now c.inside.result
+    c.in-Some.ensures.cases.0 (c.inside.ensures leaves) c.cut.ensures.first c.cut.ensures.others in
+    let less = c.cut.ensures.fewer.1 in
+    let one = c.in-Some.ensures.cases.1 in
+    let most = c.loop-node.invariant.fewer in
+    record {
+      same = all_at c.args.request.now fs gs (formula_in leaves c.in-Some.node.now c.cut.result.0.now) true rule
+          (sym c.if-not-node_matches.false ∙ c.node_matches.ensures) ∙ c.loop-node.invariant.same;
+      fewer = omega (arith, less, one, most);
+    }
 
-pub any_matches-returns-then-matches : goal.any_matches-returns-then-matches
-any_matches-returns-then-matches t c =
-    let here : holds c.args.request.now (rule_view (get_or c.args.rules.now c.loop-rule.rule-index c.rule-item.result)) ≡ true = rw (← c.rule-item.is) (sym c.matches.ensures ∙ c.if-matches.true) in
-    some_at c.args.request.now c.args.rules.now c.loop-rule.rule-index c.rule-item.result c.loop-rule-test.true true here c.loop-rule.invariant
+pub some_match-returns-then-node_matches : goal.some_match-returns-then-node_matches
+some_match-returns-then-node_matches t c =
+    let leaves = c.args.leaves.now in
+    let fs : Formulas = formulas_in leaves c.loop-node.rest.now in
+    let gs : Formulas = formulas_in leaves c.cut.result.1.now in
+    let rule : fs ≡ formula (formula_in leaves c.in-Some.node.now c.cut.result.0.now) gs =
+    first_rule leaves c.loop-node.rest.now c.in-Some.behind.now c.cut.result.0.now c.cut.result.1.now c.in-Some.node.now c.inside.result
+    c.in-Some.ensures.cases.0 (c.inside.ensures leaves) c.cut.ensures.first c.cut.ensures.others in
+    some_at c.args.request.now fs gs (formula_in leaves c.in-Some.node.now c.cut.result.0.now) true rule
+    (sym c.if-node_matches.true ∙ c.node_matches.ensures) ∙ c.loop-node.invariant.same
 
-pub any_matches-loop-rule-preserved : goal.any_matches-loop-rule-preserved
-any_matches-loop-rule-preserved t c =
-    let here : holds c.args.request.now (rule_view (get_or c.args.rules.now c.loop-rule.rule-index c.rule-item.result)) ≡ false = rw (← c.rule-item.is) (sym c.matches.ensures ∙ c.if-matches.false) in
-    some_at c.args.request.now c.args.rules.now c.loop-rule.rule-index c.rule-item.result c.loop-rule-test.true false here c.loop-rule.invariant
+pub some_match-loop-node-preserved : goal.some_match-loop-node-preserved
+some_match-loop-node-preserved t c =
+    let leaves = c.args.leaves.now in
+    let fs : Formulas = formulas_in leaves c.loop-node.rest.now in
+    let gs : Formulas = formulas_in leaves c.cut.result.1.now in
+    let rule : fs ≡ formula (formula_in leaves c.in-Some.node.now c.cut.result.0.now) gs =
+    first_rule leaves c.loop-node.rest.now c.in-Some.behind.now c.cut.result.0.now c.cut.result.1.now c.in-Some.node.now c.inside.result
+    c.in-Some.ensures.cases.0 (c.inside.ensures leaves) c.cut.ensures.first c.cut.ensures.others in
+    let less = c.cut.ensures.fewer.1 in
+    let one = c.in-Some.ensures.cases.1 in
+    let most = c.loop-node.invariant.fewer in
+    record {
+      same = some_at c.args.request.now fs gs (formula_in leaves c.in-Some.node.now c.cut.result.0.now) false rule
+          (sym c.if-node_matches.false ∙ c.node_matches.ensures) ∙ c.loop-node.invariant.same;
+      fewer = omega (arith, less, one, most);
+    }
+
+pub first_matches-returns : goal.first_matches-returns
+first_matches-returns t c =
+    let leaves = c.args.leaves.now in
+    let fs : Formulas = formulas_in leaves c.args.nodes.now in
+    let gs : Formulas = formulas_in leaves c.cut.result.1.now in
+    let rule : fs ≡ formula (formula_in leaves c.in-Some.node.now c.cut.result.0.now) gs =
+    first_rule leaves c.args.nodes.now c.in-Some.behind.now c.cut.result.0.now c.cut.result.1.now c.in-Some.node.now c.inside.result
+    c.in-Some.ensures.cases.0 (c.inside.ensures leaves) c.cut.ensures.first c.cut.ensures.others in
+    c.node_matches.ensures ∙ ap (λ gs. holds c.args.request.now (first_of gs)) (sym rule)

@@ -2,14 +2,14 @@ use Rattle.std.proofs.Common.{◌+◌, ◌*◌, map, take}
 use Rattle.proto_wire.specs.Fields.{field_view}
 use Rattle.proto_wire.specs.Values.{payloads}
 use Rattle.rbac_match.specs.Rules.{IsRule, AreRules}
-use Rattle.rbac_match.specs.View.{rules_view}
+use Rattle.rbac_match.specs.Tokens.{AddsRules}
 use Rattle.rbac_match.proofs.read.+rule.Given as goal
 
 abbrev pub decreases-read_rule : goal.decreases-read_rule
 decreases-read_rule l = 4 * l.depth
 
-abbrev pub decreases-read_rules : goal.decreases-read_rules
-decreases-read_rules l = 4 * l.depth + 1
+abbrev pub decreases-read_each : goal.decreases-read_each
+decreases-read_each l = 4 * l.depth + 1
 
 abbrev pub decreases-read_set : goal.decreases-read_set
 decreases-read_set l = 4 * l.depth + 2
@@ -17,7 +17,7 @@ decreases-read_set l = 4 * l.depth + 2
 abbrev pub decreases-read_member : goal.decreases-read_member
 decreases-read_member l = 4 * l.depth + 3
 
-abbrev pub invariant-read_rules-loop-field : goal.invariant-read_rules-loop-field
-invariant-read_rules-loop-field l =
-    AreRules (IsRule l.side l.depth) (payloads l.number (map field_view (take l.field-index l.fields)))
-    (rules_view l.rules.items)
+abbrev pub invariant-read_each-loop-field : goal.invariant-read_each-loop-field
+invariant-read_each-loop-field l =
+    AddsRules (AreRules (IsRule l.side l.depth) (payloads l.number (map field_view (take l.field-index l.fields))))
+    l.fn.list l.list

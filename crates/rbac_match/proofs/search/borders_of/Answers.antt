@@ -31,7 +31,7 @@ loop-byte-preserved c =
     let rest : List ℕ = c.in-Some.rest.now in
     let whole : part ≡ first ∷ rest = c.in-Some.ensures.cases.0 in
     let items : c.push-in-loop-byte.new.self.items ≡ c.loop-byte.borders.items ++ c.advance-border.result ∷ [] =
-    c.in_ok-push-2.ensures.items in
+    c.in_ok-push-2.ensures.items ∙ ap (λ n. c.loop-byte.borders.items ++ n ∷ []) c.in_ok-position.ensures in
     let M : List ℕ → Type 0 = λ l. drop 1 (take (i + 1 + 1) (str_to_ascii_lowercase l))
     ≡ drop 1 (take (i + 1) (str_to_ascii_lowercase l)) ++ to_ascii_lowercase (get_or rest i 0) ∷ [] in
     let more = subst M (sym whole) (rest_more first rest i c.loop-byte-test.true) in

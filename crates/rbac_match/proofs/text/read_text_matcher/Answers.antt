@@ -29,5 +29,5 @@ returns-clause-found c =
     let fs : List Wire = map field_view c.in_ok-fields.fields.items in
     let message : IsMessage string_keys parts fs = c.in_ok-fields.ensures.found in
     let found = rw (c.deref.ensures, ← c.in_ok-pattern.pattern-is, ← c.in_ok-pattern.sought-is) at c.in_ok-pattern.ensures.found in
-    rw c.in_ok-new.ensures
+    rw c.new.ensures
     (text_found parts fs message _ found (rw c.deref-2.ensures at c.bool_at-ignore_case.ensures))

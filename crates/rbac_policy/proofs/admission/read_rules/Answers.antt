@@ -74,16 +74,16 @@ read_policies-requires c =
     rw (c.deref-2.ensures.value, c.in_ok-named.ensures.found.2) (entries_sorted (map_of text c.in_ok-named.ensures.found.0))
 
 pub new-requires-clause-ordered : goal.new-requires-clause-ordered
-new-requires-clause-ordered c = held_ordered text (IsEnforced c.args.limits.now) (map_of text c.in_ok-named.ensures.found.0) (named_views c.in_ok-policies.policies.items) (rw (c.deref-2.ensures.value, c.in_ok-named.ensures.found.2) at c.in_ok-policies.ensures.found)
+new-requires-clause-ordered c = rw c.shrink.ensures (held_ordered text (IsEnforced c.args.limits.now) (map_of text c.in_ok-named.ensures.found.0) (named_views c.read_policies.new.list c.in_ok-policies.policies.items) (rw (c.deref-2.ensures.value, c.in_ok-named.ensures.found.2) at c.in_ok-policies.ensures.found))
 
 pub new-requires-clause-bounded : goal.new-requires-clause-bounded
-new-requires-clause-bounded c = c.in_ok-policies.ensures.cost
+new-requires-clause-bounded c = rw c.shrink.ensures c.in_ok-policies.ensures.cost
 
 pub returns-clause-found : goal.returns-clause-found
 returns-clause-found c =
     let parts : parts_view c.deref.result.now ≡ payloads rules_field.policies (map field_view c.args.fields.now) = ap parts_view c.deref.ensures ∙ c.in_ok-entries.ensures in
     let es : List (Entry text) = c.in_ok-named.ensures.found.0 in
-    let vs : List (List ℕ × Policy Program) = named_views c.in_ok-policies.policies.items in
+    let vs : List (List ℕ × Policy Program) = named_views c.read_policies.new.list c.in_ok-policies.policies.items in
     let held : Held text (IsEnforced c.args.limits.now) (entries (map_of text es)) vs = rw (c.deref-2.ensures.value, c.in_ok-named.ensures.found.2) at c.in_ok-policies.ensures.found in
     let split = apart c.args.limits.now (entries (map_of text es)) vs held in
     let size : len (map_of text es) ≡ length c.in_ok-named.named.items = len-entries (map_of text es) ∙ ap length (sym c.in_ok-named.ensures.found.2) ∙ length-map c.in_ok-named.named.items _ in
@@ -97,18 +97,18 @@ returns-clause-found c =
         policies = (es, rw parts at c.in_ok-named.ensures.found.1, values);
         few = (let few : c.len.result ≤ most_policies = c.in_ok-refuse_many.ensures.found in omega (arith, size, same, count, few));
       },
-      rw c.new.ensures (filter_enforced c.args.limits.now c.in_ok-action.action split.0 vs split.2),
+      rw (c.new.ensures, c.shrink.ensures) (filter_enforced c.args.limits.now c.in_ok-action.action split.0 vs split.2),
     )
 
 pub returns-clause-cheap : goal.returns-clause-cheap
 returns-clause-cheap c =
     let es : List (Entry text) = c.in_ok-named.ensures.found.0 in
     let named : FinMap name_cmp (List (List ℕ)) = map_of text es in
-    let vs : List (List ℕ × Policy Program) = named_views c.in_ok-policies.policies.items in
+    let vs : List (List ℕ × Policy Program) = named_views c.read_policies.new.list c.in_ok-policies.policies.items in
     let held : Held text (IsEnforced c.args.limits.now) (entries named) vs = rw (c.deref-2.ensures.value, c.in_ok-named.ensures.found.2) at c.in_ok-policies.ensures.found in
     let sorted : T (is_sorted name_cmp vs) = subst T (sorted_beside (IsEnforced c.args.limits.now) (entries named) vs held) (entries_sorted named) in
     let sum = total_of c.args.limits.now c.in_ok-action.action vs sorted in
     let cost = c.in_ok-policies.ensures.cost in
     let cheap = c.in_ok-policies.ensures.cheap in
-    let total : total_bound (filter_rules_view c.new.result) ≡ bounds_of vs = ap total_bound c.new.ensures ∙ sum in
+    let total : total_bound (filter_rules_view c.new.result) ≡ bounds_of vs = ap total_bound (rw c.shrink.ensures at c.new.ensures) ∙ sum in
     omega (arith, total, cost, cheap)

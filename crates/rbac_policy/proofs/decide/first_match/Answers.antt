@@ -12,12 +12,12 @@ loop-number-init c = tt
 pub returns-in_err-policy_matches-clause-always : goal.returns-in_err-policy_matches-clause-always
 returns-in_err-policy_matches-clause-always c = λ none.
     let clash : false ≡ true = c.in_err-policy_matches.ensures.always
-    (this_has_none c.args.request.now c.args.policies.now c.loop-number.number c.index-policies-number.result c.loop-number-test.true c.index-policies-number.is none) in absurd cc
+    (this_has_none c.args.request.now c.args.list.now c.args.policies.now c.loop-number.number c.index-policies-number.result c.loop-number-test.true c.index-policies-number.is none) in absurd cc
 
 pub returns-in_err-policy_matches-clause-asked : goal.returns-in_err-policy_matches-clause-asked
 returns-in_err-policy_matches-clause-asked c =
     let p = err_from_is_err_and c.from_residual.result c.from_residual.ensures.1 in
-    rw p.1 (this_asks c.args.request.now c.args.policies.now c.loop-number.number c.index-policies-number.result c.loop-number-test.true c.index-policies-number.is
+    rw p.1 (this_asks c.args.request.now c.args.list.now c.args.policies.now c.loop-number.number c.index-policies-number.result c.loop-number-test.true c.index-policies-number.is
     AnyProgram c.loop-number.invariant c.in_err-policy_matches.ensures.asked)
 
 pub returns-in_err-policy_matches-clause-fault : goal.returns-in_err-policy_matches-clause-fault
@@ -25,20 +25,20 @@ returns-in_err-policy_matches-clause-fault c =
     let p = err_from_is_err_and c.from_residual.result c.from_residual.ensures.1 in
     rw (p.1, p.2) (elim c.in_err-policy_matches.ensures.fault [
       | inl memory ↦ inl memory
-      | inr (out, passes) ↦ inr (out, this_asks c.args.request.now c.args.policies.now c.loop-number.number c.index-policies-number.result c.loop-number-test.true c.index-policies-number.is (PassesBound c.args.request.now) c.loop-number.invariant passes)
+      | inr (out, passes) ↦ inr (out, this_asks c.args.request.now c.args.list.now c.args.policies.now c.loop-number.number c.index-policies-number.result c.loop-number-test.true c.index-policies-number.is (PassesBound c.args.request.now) c.loop-number.invariant passes)
     ])
 
 pub returns-then-branch-clause-found : goal.returns-then-branch-clause-found
 returns-then-branch-clause-found c =
-    this_first c.args.request.now c.args.policies.now c.loop-number.number c.index-policies-number.result c.loop-number-test.true c.index-policies-number.is
+    this_first c.args.request.now c.args.list.now c.args.policies.now c.loop-number.number c.index-policies-number.result c.loop-number-test.true c.index-policies-number.is
     c.loop-number.invariant (rw c.if-branch.true at c.in_ok-policy_matches.ensures.found)
 
 pub loop-number-preserved : goal.loop-number-preserved
 loop-number-preserved c =
-    next_failed c.args.request.now c.args.policies.now c.loop-number.number c.index-policies-number.result c.loop-number-test.true c.index-policies-number.is
+    next_failed c.args.request.now c.args.list.now c.args.policies.now c.loop-number.number c.index-policies-number.result c.loop-number-test.true c.index-policies-number.is
     c.loop-number.invariant (rw c.if-branch.false at c.in_ok-policy_matches.ensures.found)
 
 pub returns-clause-found : goal.returns-clause-found
 returns-clause-found c =
-    none_first c.args.request.now (map policy_view c.args.policies.now) 0
-    (subst (λ items. Failed c.args.request.now (map policy_view items)) (take_all c.loop-number.number c.args.policies.now c.loop-number-test.false) c.loop-number.invariant)
+    none_first c.args.request.now (map (policy_view c.args.list.now) c.args.policies.now) 0
+    (subst (λ items. Failed c.args.request.now (map (policy_view c.args.list.now) items)) (take_all c.loop-number.number c.args.policies.now c.loop-number-test.false) c.loop-number.invariant)

@@ -5,4 +5,4 @@ use Rattle.rbac_policy.specs.steps.Runs.{Tells}
 use Rattle.rbac_policy.proofs.decide.first_match.Given as goal
 
 abbrev pub invariant-loop-number : goal.invariant-loop-number
-invariant-loop-number l = AllByRecursion (λ p. Tells l.request p false) (map policy_view (take l.number l.policies))
+invariant-loop-number l = AllByRecursion (λ p. Tells l.request p false) (map (policy_view l.list) (take l.number l.policies))

@@ -1,5 +1,5 @@
-use Rattle.std.proofs.Common.{arith, ◌≡◌, ◌+◌, ◌-◌, ◌⊎◌, ◌++◌, ◌∷◌, [], ℕ, List, Bor, Some, inl, inr, drop, take, refl, sym, ap, subst, ◌∙◌}
-use Rattle.std.proofs.lemmas.List.{drop_more, map-append, map_more, take-append-drop}
+use Rattle.std.proofs.Common.{arith, ◌≡◌, ◌+◌, ◌-◌, ◌⊎◌, ◌++◌, ◌∷◌, [], ℕ, List, Bor, Some, inl, inr, drop, take, option_map, refl, sym, ap, subst, ◌∙◌}
+use Rattle.std.proofs.lemmas.List.{append-nil, drop_more, map-append, map_more, take-append-drop, take_all}
 use Rattle.std.specs.Cmp.Lexicographic.{nat_list_cmp_total}
 use Rattle.std.specs.FinMap.{find}
 use Rattle.smallvec.specs.SmallVec.{SmallVec}
@@ -9,12 +9,13 @@ use Rattle.proto_wire.specs.Maps.{Entry, text, SomeValueFault}
 use Rattle.proto_wire.proofs.Exits.{exit_memory_or}
 use Rattle.proto_wire.proofs.MapOrder.{find_at}
 use Rattle.proto_wire.proofs.MapValues.{held_push}
+use Rattle.proto_wire.specs.steps.Maps.{Held}
+use Rattle.rbac_match.specs.Tokens.{Token}
+use Rattle.rbac_match.proofs.Adding.{stays}
 use Rattle.rbac_policy.specs.declared.policy.NamedPolicy.{NamedPolicy}
-use Rattle.rbac_policy.specs.Condition.{Program}
 use Rattle.rbac_policy.specs.Enforced.{bound_of, bounds_of}
 use Rattle.rbac_policy.specs.Fault.{PolicyFault}
-use Rattle.rbac_policy.specs.Filter.{Policy}
-use Rattle.rbac_policy.specs.Named.{named_views, policy_view}
+use Rattle.rbac_policy.specs.Named.{named_view, named_views, policy_view, program_view}
 use Rattle.rbac_policy.specs.steps.Conditions.{ConditionsFault, IsEnforced}
 use Rattle.rbac_policy.specs.steps.Named.{names_view}
 use Rattle.rbac_policy.proofs.Besides.{name_same}
@@ -26,7 +27,7 @@ abbrev entry_of : Bor (List ℕ) × SmallVec (Bor (List ℕ)) → Entry text
 entry_of e = (e.0.now, parts_view e.1.items)
 
 pub loop-entry-init : goal.loop-entry-init
-loop-entry-init c = rw c.in_ok-policies.ensures.items (refl, refl, omega arith)
+loop-entry-init c = rw c.in_ok-policies.ensures.items ((λ more. refl), (λ list. refl), omega arith)
 
 pub overflow_sub-budget : goal.overflow_sub-budget
 overflow_sub-budget c = c.loop-entry.invariant.2
@@ -53,7 +54,7 @@ returns-in_err-policy-clause-fault c =
     (λ e bad. elim bad [
       | inl own ↦ inl (n.0, n.1, found, own)
       | inr cost ↦ inr (rw split (one_fails c.args.limits.now c.args.budget c.loop-entry.spent e (names_view (take i named)) n (names_view (drop (i + 1) named))
-          (named_views c.loop-entry.policies.items) c.loop-entry.invariant.0 c.loop-entry.invariant.1 cost))
+          (named_views (c.loop-entry.list ++ []) c.loop-entry.policies.items) (c.loop-entry.invariant.0 []) (c.loop-entry.invariant.1 (c.loop-entry.list ++ [])) cost))
     ])
 
 pub loop-entry-preserved : goal.loop-entry-preserved
@@ -63,15 +64,34 @@ loop-entry-preserved c =
     let e = c.entry-item.result in
     let n : Entry text = entry_of e in
     let p : NamedPolicy = c.in_ok-policy.policy in
-    let vs : List (List ℕ × Policy Program) = named_views c.loop-entry.policies.items in
+    let before : List NamedPolicy = c.loop-entry.policies.items in
+    let on = c.in_ok-policy.ensures.kept in
     let seen : names_view (take (i + 1) named) ≡ names_view (take i named) ++ n ∷ [] =
     map_more entry_of named i e c.loop-entry-test.true ∙ ap (λ x. names_view (take i named) ++ entry_of x ∷ []) (sym c.entry-item.is) in
-    let made : named_views c.push.new.self.items ≡ vs ++ (n.0, policy_view p) ∷ [] =
-    ap named_views c.in_ok-push.ensures.items ∙ map-append _ c.loop-entry.policies.items (p ∷ []) ∙ ap (λ x. vs ++ (x, policy_view p) ∷ []) c.in_ok-policy.ensures.named in
-    let held = held_push text (IsEnforced c.args.limits.now) _ _ n (policy_view p) c.loop-entry.invariant.0 (rw c.deref.ensures at c.in_ok-policy.ensures.found) in
+    let made : (list : List Token) → named_views list c.push.new.self.items ≡ named_views list before ++ (n.0, policy_view list p) ∷ [] =
+    λ list. ap (named_views list) c.in_ok-push.ensures.items ∙ map-append (named_view list) before (p ∷ [])
+    ∙ ap (λ x. named_views list before ++ (x, policy_view list p) ∷ []) c.in_ok-policy.ensures.named in
+    let found = rw c.deref.ensures at c.in_ok-policy.ensures.found in
+    let cost : c.bound-spent.result ≡ bound_of (option_map program_view p.condition) = c.bound-spent.ensures in
     let spent = c.loop-entry.invariant.1 in
-    let cost : c.bound-spent.result ≡ bound_of (policy_view p).condition = c.bound-spent.ensures in
-    let sum : bounds_of (vs ++ (n.0, policy_view p) ∷ []) ≡ bounds_of vs + bound_of (policy_view p).condition = bounds_push vs n.0 (policy_view p) in
+    let sum : (list : List Token) → bounds_of (named_views list before ++ (n.0, policy_view list p) ∷ []) ≡ bounds_of (named_views list before) + bound_of (option_map program_view p.condition) =
+    λ list. bounds_push (named_views list before) n.0 (policy_view list p) in
     let cheap = c.in_ok-policy.ensures.cheap in
-    let within = c.loop-entry.invariant.2 in
-    rw (seen, made) (held, omega (arith, spent, cost, sum), omega (arith, spent, cost, cheap, within))
+    let within = c.loop-entry.invariant.2 in (
+      (λ more. rw (seen, made (c.read_policy.new.list ++ more)) (held_push text (IsEnforced c.args.limits.now) _ _ n (policy_view (c.read_policy.new.list ++ more) p)
+          (stays c.loop-entry.list c.read_policy.new.list more
+          (λ list. Held text (IsEnforced c.args.limits.now) (names_view (take i named)) (named_views list before)) on c.loop-entry.invariant.0) (found more))),
+      (λ list. let before_it = spent list in let sum_of = sum list in rw (made list) (omega (arith, before_it, cost, sum_of))),
+      omega (arith, cost, cheap, within),
+    )
+
+pub returns-clause-found : goal.returns-clause-found
+returns-clause-found c =
+    let named = c.args.named.now in
+    let all = take_all c.loop-entry.entry-index named c.loop-entry-test.false in
+    let held : Held text (IsEnforced c.args.limits.now) (names_view named) (named_views (c.loop-entry.list ++ []) c.loop-entry.policies.items) =
+    rw all at (c.loop-entry.invariant.0 []) in
+    rw (append-nil c.loop-entry.list) at held
+
+pub returns-clause-cost : goal.returns-clause-cost
+returns-clause-cost c = c.loop-entry.invariant.1 c.loop-entry.list

@@ -1,6 +1,7 @@
-use Rattle.std.proofs.Common.{◌≡◌, ◌≤◌, take}
+use Rattle.std.proofs.Common.{◌≡◌, ◌≤◌, ◌++◌, List, take}
 use Rattle.proto_wire.specs.Maps.{text}
 use Rattle.proto_wire.specs.steps.Maps.{Held}
+use Rattle.rbac_match.specs.Tokens.{Token}
 use Rattle.rbac_policy.specs.Enforced.{bounds_of}
 use Rattle.rbac_policy.specs.Named.{named_views}
 use Rattle.rbac_policy.specs.steps.Conditions.{IsEnforced}
@@ -8,5 +9,5 @@ use Rattle.rbac_policy.specs.steps.Named.{names_view}
 use Rattle.rbac_policy.proofs.policy.read_policies.Given as goal
 
 abbrev pub invariant-loop-entry : goal.invariant-loop-entry
-invariant-loop-entry l = Held text (IsEnforced l.limits) (names_view (take l.entry-index l.named)) (named_views l.policies.items)
-    × (l.spent ≡ bounds_of (named_views l.policies.items)) × (l.spent ≤ l.budget)
+invariant-loop-entry l = ((more : List Token) → Held text (IsEnforced l.limits) (names_view (take l.entry-index l.named)) (named_views (l.list ++ more) l.policies.items))
+    × ((list : List Token) → l.spent ≡ bounds_of (named_views list l.policies.items)) × (l.spent ≤ l.budget)

@@ -1,4 +1,4 @@
-use Rattle.std.proofs.Common.{ℕ, ◌≢◌, refl, ◌⊎◌, inl, inr, List, [], ◌∷◌, map, option_map}
+use Rattle.std.proofs.Common.{ℕ, ◌≢◌, ◌++◌, refl, ◌⊎◌, inl, inr, List, [], ◌∷◌, map, option_map}
 use Rattle.attributes.specs.Limits.{LimitsValue}
 use Rattle.proto_wire.specs.Fields.{Wire, field_view}
 use Rattle.proto_wire.specs.Values.{payloads}
@@ -6,9 +6,10 @@ use Rattle.proto_wire.specs.Merge.{parts_view}
 use Rattle.proto_wire.specs.Messages.{IsMessage, MessageFault}
 use Rattle.proto_wire.specs.declared.refusal.Refusal.{Refusal}
 use Rattle.proto_wire.proofs.Exits.{exit_memory_or}
-use Rattle.rbac_match.specs.Rules.{SomeRuleFault}
+use Rattle.rbac_match.specs.Rules.{AreRules, IsRule, SomeRuleFault}
 use Rattle.rbac_match.specs.View.{rules_view}
 use Rattle.rbac_match.specs.declared.rule.Side.TheVariants.{Permission, Principal}
+use Rattle.rbac_match.proofs.Adding.{goes_on_more, stays}
 use Rattle.rbac_policy.specs.Keys.{policy_keys, policy_field}
 use Rattle.rbac_policy.specs.Message.{rule_depth}
 use Rattle.rbac_policy.specs.Fault.{PolicyFault, policy_fields, lacks_side, both_conditions, unchecked, in_permission, in_principal}
@@ -76,10 +77,13 @@ pub returns-clause-found : goal.returns-clause-found
 returns-clause-found c =
     let fs : List Wire = map field_view c.in_ok-fields.fields.items in
     let has : HasProgram c.args.limits.now (payloads policy_field.checked_condition fs) (option_map program_view c.in_ok-condition.condition) =
-    rw c.deref-5.ensures at c.in_ok-condition.ensures.found in (
+    rw c.deref-5.ensures at c.in_ok-condition.ensures.found in
+    let first = rw c.deref-3.ensures at c.in_ok-permissions.ensures.found in
+    let second = rw c.deref-4.ensures at c.in_ok-principals.ensures.found in
+    λ more. (
       record {
-        permissions = rules_view c.in_ok-permissions.permissions.items;
-        principals = rules_view c.in_ok-principals.principals.items;
+        permissions = rules_view (c.read_side-2.new.list ++ more) c.in_ok-permissions.permissions;
+        principals = rules_view (c.read_side-2.new.list ++ more) c.in_ok-principals.principals;
         condition = has.0;
       },
       record {
@@ -88,8 +92,13 @@ returns-clause-found c =
         unchecked = rw c.deref.ensures at c.in_ok-refuse_unchecked.ensures.found;
         condition = has.1;
         sides = rw c.deref-2.ensures at c.in_ok-require_sides.ensures.found;
-        permissions = rw c.deref-3.ensures at c.in_ok-permissions.ensures.found;
-        principals = rw c.deref-4.ensures at c.in_ok-principals.ensures.found;
+        permissions = stays c.read_side.new.list c.read_side-2.new.list more
+            (λ list. AreRules (IsRule Permission rule_depth) (payloads policy_field.permissions fs) (rules_view list c.in_ok-permissions.permissions))
+            c.in_ok-principals.ensures.kept first;
+        principals = second more;
       },
       record { permissions = refl; principals = refl; condition = has.2 },
     )
+
+pub returns-clause-kept : goal.returns-clause-kept
+returns-clause-kept c = goes_on_more c.args.list.now c.read_side.new.list c.read_side-2.new.list c.in_ok-permissions.ensures.kept c.in_ok-principals.ensures.kept

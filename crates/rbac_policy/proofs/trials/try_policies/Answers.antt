@@ -12,27 +12,27 @@ use Rattle.rbac_policy.proofs.trials.try_policies.Goals as goal
 pub returns-in_err-reason-clause-fault : goal.returns-in_err-reason-clause-fault
 returns-in_err-reason-clause-fault c =
     let p = err_from_is_err_and c.from_residual.result c.from_residual.ensures.1 in
-    let failed = tried_failed c.args.request.now (take c.loop-number.number c.args.policies.now) c.loop-number.trials.items c.loop-number.invariant in
+    let failed = tried_failed c.args.request.now c.args.list.now (take c.loop-number.number c.args.policies.now) c.loop-number.trials.items c.loop-number.invariant in
     rw (p.1, p.2) (elim c.in_err-reason.ensures.fault [
       | inl memory ↦ inl memory
-      | inr (out, passes) ↦ inr (out, this_asks c.args.request.now c.args.policies.now c.loop-number.number c.index-policies-number.result c.loop-number-test.true c.index-policies-number.is (PassesBound c.args.request.now) failed passes)
+      | inr (out, passes) ↦ inr (out, this_asks c.args.request.now c.args.list.now c.args.policies.now c.loop-number.number c.index-policies-number.result c.loop-number-test.true c.index-policies-number.is (PassesBound c.args.request.now) failed passes)
     ])
 
 pub returns-then-is_match-clause-tried : goal.returns-then-is_match-clause-tried
 returns-then-is_match-clause-tried c =
     let t : Trial = record { number = c.loop-number.number; name = c.as_str-name.result; reason = c.in_ok-reason.reason } in
     let matches : is_match t.reason ≡ true = sym c.is_match.ensures ∙ c.if-is_match.true in
-    rw c.in_ok-add.ensures (told_match c.args.request.now c.args.policies.now c.loop-number.number c.index-policies-number.result c.loop-number-test.true c.index-policies-number.is
+    rw c.in_ok-add.ensures (told_match c.args.request.now c.args.list.now c.args.policies.now c.loop-number.number c.index-policies-number.result c.loop-number-test.true c.index-policies-number.is
     c.loop-number.trials.items c.loop-number.invariant t refl c.as_str-name.ensures.value c.in_ok-reason.ensures.found matches)
 
 pub loop-number-preserved : goal.loop-number-preserved
 loop-number-preserved c =
     let t : Trial = record { number = c.loop-number.number; name = c.as_str-name.result; reason = c.in_ok-reason.reason } in
     let other : is_match t.reason ≡ false = sym c.is_match.ensures ∙ c.if-is_match.false in
-    rw c.in_ok-add.ensures (next_untold c.args.request.now c.args.policies.now c.loop-number.number c.index-policies-number.result c.loop-number-test.true c.index-policies-number.is
+    rw c.in_ok-add.ensures (next_untold c.args.request.now c.args.list.now c.args.policies.now c.loop-number.number c.index-policies-number.result c.loop-number-test.true c.index-policies-number.is
     c.loop-number.trials.items c.loop-number.invariant t refl c.as_str-name.ensures.value c.in_ok-reason.ensures.found other)
 
 pub returns-clause-tried : goal.returns-clause-tried
 returns-clause-tried c =
-    untold_all c.args.request.now 0 (named_views c.args.policies.now) c.loop-number.trials.items
-    (subst (λ items. Untold c.args.request.now 0 (named_views items) c.loop-number.trials.items) (take_all c.loop-number.number c.args.policies.now c.loop-number-test.false) c.loop-number.invariant)
+    untold_all c.args.request.now 0 (named_views c.args.list.now c.args.policies.now) c.loop-number.trials.items
+    (subst (λ items. Untold c.args.request.now 0 (named_views c.args.list.now items) c.loop-number.trials.items) (take_all c.loop-number.number c.args.policies.now c.loop-number-test.false) c.loop-number.invariant)

@@ -7,4 +7,4 @@ use Rattle.rbac_policy.proofs.filter.Admitted.bound.Goals as goal
 pub returns : goal.returns
 returns c =
     let rules = c.args.self.now.rules in
-    rules.bounded ∙ sym (total_of c.args.self.now.limits rules.action (named_views rules.policies.items) (t_of _ rules.ordered))
+    rules.bounded ∙ sym (total_of c.args.self.now.limits rules.action (named_views rules.list rules.policies.items) (t_of _ rules.ordered))

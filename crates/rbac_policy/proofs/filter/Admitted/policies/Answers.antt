@@ -10,7 +10,8 @@ use Rattle.rbac_policy.proofs.filter.Admitted.policies.Goals as goal
 
 pub returns : goal.returns
 returns c =
+    let list = c.args.self.now.rules.list in
     let items = c.args.self.now.rules.policies.items in
-    let held : len (from_entries {R = name_cmp} (named_views items)) ≡ length items =
-    len-entries (from_entries {R = name_cmp} (named_views items)) ∙ ap length (entries_from_entries name_cmp nat_list_cmp_total (named_views items) (t_of _ c.args.self.now.rules.ordered)) ∙ length-map items named_view in
+    let held : len (from_entries {R = name_cmp} (named_views list items)) ≡ length items =
+    len-entries (from_entries {R = name_cmp} (named_views list items)) ∙ ap length (entries_from_entries name_cmp nat_list_cmp_total (named_views list items) (t_of _ c.args.self.now.rules.ordered)) ∙ length-map items (named_view list) in
     c.len.ensures ∙ c.args.self.now.rules.policies.ok.0 ∙ sym held

@@ -6,4 +6,4 @@ pub returns : goal.returns
 returns c =
     let rules = c.args.self.now.rules in
     let named = rw c.deref.ensures.value at c.name_in.ensures in
-    named ∙ name_at rules.policies.items c.args.number rules.ordered
+    named ∙ name_at rules.list rules.policies.items c.args.number rules.ordered

@@ -10,8 +10,9 @@ pub returns-clause-tried : goal.returns-clause-tried
 returns-clause-tried c =
     let rules = c.args.self.now.rules in
     let given : c.named_policies.result.now ≡ rules.policies.items = c.named_policies.ensures in
-    MatchResult-weaker c.try_policies.result (rw given at c.try_policies.ensures.tried)
-    (λ trials are filter admitted. filter_tried (filter_view c.args.self.now) rules.policies.items rules.ordered refl
+    let listed : c.list.result.now ≡ rules.list = c.list.ensures in
+    MatchResult-weaker c.try_policies.result (rw (given, listed) at c.try_policies.ensures.tried)
+    (λ trials are filter admitted. filter_tried (filter_view c.args.self.now) rules.list rules.policies.items rules.ordered refl
     (limits_view c.args.self.now) c.args.request.now c.request_is_sound.ensures filter admitted trials.items are)
     (λ e h. h)
 
@@ -19,13 +20,14 @@ pub returns-clause-fault : goal.returns-clause-fault
 returns-clause-fault c =
     let rules = c.args.self.now.rules in
     let given : c.named_policies.result.now ≡ rules.policies.items = c.named_policies.ensures in
-    MatchResult-weaker c.try_policies.result (rw given at c.try_policies.ensures.fault)
+    let listed : c.list.result.now ≡ rules.list = c.list.ensures in
+    MatchResult-weaker c.try_policies.result (rw (given, listed) at c.try_policies.ensures.fault)
     (λ trials h. h)
     (λ e bad. elim bad [
       | inl memory ↦ inl memory
       | inr (out, passes) ↦ inr (
         out,
-        λ filter admitted. asking (filter_view c.args.self.now) rules.policies.items rules.ordered refl
+        λ filter admitted. asking (filter_view c.args.self.now) rules.list rules.policies.items rules.ordered refl
             (limits_view c.args.self.now) c.args.request.now c.request_is_sound.ensures filter admitted (PassesBound c.args.request.now) passes,
       )
     ])
@@ -34,11 +36,12 @@ pub returns-clause-told : goal.returns-clause-told
 returns-clause-told c =
     let rules = c.args.self.now.rules in
     let given : c.named_policies.result.now ≡ rules.policies.items = c.named_policies.ensures in
+    let listed : c.list.result.now ≡ rules.list = c.list.ensures in
     λ filter admitted asked. only_errors c.try_policies.result
-    (MatchResult-weaker c.try_policies.result (rw given at c.try_policies.ensures.tried)
+    (MatchResult-weaker c.try_policies.result (rw (given, listed) at c.try_policies.ensures.tried)
     (λ trials are.
-    let found = trials_first c.args.request.now rules.policies.items trials.items are in
-    asked_is_told (filter_view c.args.self.now) rules.policies.items rules.ordered refl
+    let found = trials_first c.args.request.now rules.list rules.policies.items trials.items are in
+    asked_is_told (filter_view c.args.self.now) rules.list rules.policies.items rules.ordered refl
     (limits_view c.args.self.now) c.args.request.now c.request_is_sound.ensures filter admitted asked found.0 found.1)
     (λ e h. h))
     (MatchResult-weaker c.try_policies.result c.try_policies.ensures.fault (λ trials h. h)
@@ -51,10 +54,11 @@ pub returns-clause-within : goal.returns-clause-within
 returns-clause-within c =
     let rules = c.args.self.now.rules in
     let given : c.named_policies.result.now ≡ rules.policies.items = c.named_policies.ensures in
+    let listed : c.list.result.now ≡ rules.list = c.list.ensures in
     λ filter admitted inside. never_out c.try_policies.result
-    (MatchResult-weaker c.try_policies.result (rw given at c.try_policies.ensures.fault) (λ trials h. h)
+    (MatchResult-weaker c.try_policies.result (rw (given, listed) at c.try_policies.ensures.fault) (λ trials h. h)
     (λ e bad. elim bad [
       | inl memory ↦ memory
-      | inr (out, passes) ↦ absurd (none_passes (filter_view c.args.self.now) rules.policies.items rules.ordered refl
+      | inr (out, passes) ↦ absurd (none_passes (filter_view c.args.self.now) rules.list rules.policies.items rules.ordered refl
           (limits_view c.args.self.now) c.args.request.now c.request_is_sound.ensures filter admitted inside passes)
     ]))

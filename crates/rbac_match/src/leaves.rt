@@ -1,0 +1,270 @@
+//! The tests at the leaves of a filter's rules, in one list.
+
+ghost use Rattle.std.specs.Prelude.{◌≡◌, ◌++◌, ◌∷◌, [], length, slice_get, IfOk, IfErr, OnOk};
+ghost use Rattle.std.specs.Option.{option_copied};
+ghost use Rattle.attributes.specs.Request.{header_of};
+ghost use Rattle.rbac_match.specs.Header.{value_or_empty};
+ghost use Rattle.rbac_match.specs.Matcher.{matcher_holds};
+ghost use Rattle.rbac_match.specs.declared.matcher.Matcher.TheVariants.{Header as HeaderOf};
+ghost use Rattle.rbac_match.specs.declared.leaves.Leaf.TheVariants.{HeaderText, Named, ServerName, UrlPath};
+ghost use Rattle.rbac_match.specs.steps.Leaves.{GoodLeaf, GoodName, GoodText, Grows, leaf_in, part_of, passes_at};
+
+use crate::authenticated::peer_name;
+use crate::cidr::{AddressSource, address_matches};
+use crate::header::{HeaderMatcher, Specifier};
+use crate::int64_range::Int64Range;
+use crate::matcher::Matcher;
+use crate::pool::{Pool, Span, TextLeaf};
+use crate::ports::{PortRange, port_matches, port_range_matches};
+use crate::search::position;
+use attributes::Request;
+use std::alloc::{AllocError, Global};
+use std::marker::Model;
+
+/// The header that a test looks at: its name in lower case, and what the test does with its answer.
+#[derive(Clone, Copy, Debug)]
+pub(crate) struct NameLeaf {
+    pub(crate) name: Span,
+    pub(crate) invert_match: bool,
+    pub(crate) treat_missing_header_as_empty: bool,
+}
+
+/// A test of one fact of a request; its texts stand in the pool.
+#[derive(Clone, Copy, Debug)]
+pub(crate) enum Leaf {
+    /// That the header is there, or that it is not.
+    Present(NameLeaf, bool),
+    /// That the header's value passes the test of texts.
+    HeaderText(NameLeaf, TextLeaf),
+    /// That the header's value is a decimal number in the range.
+    HeaderRange(NameLeaf, Int64Range),
+    /// That an address of the request is in the range at this place.
+    Address(AddressSource, u32),
+    /// That the request goes to this port.
+    Port(u16),
+    /// That the request goes to one of these ports.
+    PortRange(PortRange),
+    /// Of the requested server name.
+    ServerName(TextLeaf),
+    /// Of the target up to its first `?` or `#`.
+    UrlPath(TextLeaf),
+    /// That the connection is by mutual TLS.
+    Mutual,
+    /// The same, and of its peer's name.
+    Named(TextLeaf),
+}
+
+/// Tests, seen as the list of what they ask.
+#[derive(Debug, Drop)]
+pub(crate) struct Leaves {
+    leaves: Vec<Leaf>,
+    pool: Pool,
+}
+
+impl Model for Leaves {
+    ghost use Rattle.std.specs.Prelude.{List, map};
+    ghost use Rattle.rbac_match.specs.declared.matcher.Matcher.{Matcher};
+    ghost use Rattle.rbac_match.specs.steps.Leaves.{AreGood, leaf_in};
+
+    ghost Value = { List Matcher };
+
+    ghost view = { λ s. map (leaf_in s.pool) s.leaves.items };
+
+    ghost invariant = { λ s. AreGood s.pool s.leaves.items };
+}
+
+impl Leaves {
+    /// No tests.
+    pub(crate) fn new(alloc: Global) -> Self
+        ensures { result ≡ [] }
+    {
+        Leaves {
+            leaves: Vec::new(alloc),
+            pool: Pool::new(alloc),
+        }
+    }
+
+    /// Adds a test behind the others, and gives its place.
+    pub(crate) fn push(&mut self, alloc: Global, test: &Matcher<'_>) -> Result<u32, AllocError>
+        ensures place { IfOk result (λ place. place ≡ length self.old) }
+        ensures pushed { OnOk result (self.new ≡ self.old ++ test.now ∷ []) }
+        ensures kept { IfErr result (λ _. self.new ≡ self.old) }
+    {
+        let place = position(self.leaves.len())?;
+        let leaf = leaf_of(&mut self.pool, alloc, test)?;
+        self.leaves.push(leaf)?;
+        Ok(place)
+    }
+
+    /// Gives back the room in which nothing is kept.
+    pub(crate) fn shrink(&mut self)
+        ensures { self.new ≡ self.old }
+    {
+        self.leaves.shrink_to_fit();
+        self.pool.shrink();
+    }
+
+    /// Whether the request passes the test at this place; where there is none, each does.
+    #[inline(always)]
+    pub(crate) fn passes(&self, place: u32, request: &Request) -> bool
+        ensures { result ≡ passes_at (slice_get self.now place) request.now }
+    {
+        match self.leaves.get(place as usize) {
+            Some(leaf) => leaf_passes(&self.pool, leaf, request),
+            None => true,
+        }
+    }
+}
+
+/// The leaf that is the test, with what it names in the pool.
+fn leaf_of(pool: &mut Pool, alloc: Global, test: &Matcher<'_>) -> Result<Leaf, AllocError>
+    ensures grows { Grows pool.old pool.new }
+    ensures found { IfOk result (λ leaf. GoodLeaf pool.new leaf × (leaf_in pool.new leaf ≡ test.now)) }
+{
+    match test {
+        Matcher::Header(header) => header_leaf(pool, alloc, header),
+        Matcher::Address(source, range) => {
+            let place = position(pool.ranges.len())?;
+            pool.ranges.push(*range)?;
+            Ok(Leaf::Address(*source, place))
+        }
+        Matcher::Port(port) => Ok(Leaf::Port(*port)),
+        Matcher::PortRange(range) => Ok(Leaf::PortRange(*range)),
+        Matcher::ServerName(text) => Ok(Leaf::ServerName(pool.keep_text(alloc, text)?)),
+        Matcher::UrlPath(text) => Ok(Leaf::UrlPath(pool.keep_text(alloc, text)?)),
+        Matcher::Authenticated(None) => Ok(Leaf::Mutual),
+        Matcher::Authenticated(Some(text)) => Ok(Leaf::Named(pool.keep_text(alloc, text)?)),
+    }
+}
+
+/// The leaf that is the test of a header.
+fn header_leaf(pool: &mut Pool, alloc: Global, test: &HeaderMatcher<'_>) -> Result<Leaf, AllocError>
+    ensures grows { Grows pool.old pool.new }
+    ensures found { IfOk result (λ leaf. GoodLeaf pool.new leaf
+        × (leaf_in pool.new leaf ≡ HeaderOf test.now)) }
+{
+    let name = NameLeaf {
+        name: pool.keep_lowered(alloc, test.name)?,
+        invert_match: test.invert_match,
+        treat_missing_header_as_empty: test.treat_missing_header_as_empty,
+    };
+    match &test.specifier {
+        Specifier::Present(wanted) => Ok(Leaf::Present(name, *wanted)),
+        Specifier::Text(text) => Ok(Leaf::HeaderText(name, pool.keep_text(alloc, text)?)),
+        Specifier::Range(range) => Ok(Leaf::HeaderRange(name, *range)),
+    }
+}
+
+/// Whether the request passes. It takes no memory.
+#[inline(always)]
+fn leaf_passes(pool: &Pool, leaf: &Leaf, request: &Request) -> bool
+    requires { GoodLeaf pool.now leaf.now }
+    ensures { result ≡ matcher_holds (leaf_in pool.now leaf.now) request.now }
+{
+    match leaf {
+        Leaf::UrlPath(test) => path_passes(pool, test, request),
+        Leaf::HeaderText(name, test) => header_text_passes(pool, name, test, request),
+        other => other_leaf_passes(pool, other, request),
+    }
+}
+
+/// The same, out of line.
+#[inline(never)]
+fn other_leaf_passes(pool: &Pool, leaf: &Leaf, request: &Request) -> bool
+    requires { GoodLeaf pool.now leaf.now }
+    ensures { result ≡ matcher_holds (leaf_in pool.now leaf.now) request.now }
+{
+    match leaf {
+        Leaf::UrlPath(test) => path_passes(pool, test, request),
+        Leaf::HeaderText(name, test) => header_text_passes(pool, name, test, request),
+        Leaf::Present(name, wanted) => {
+            let found = header_at(pool, name, request).is_some();
+            (found == *wanted) != name.invert_match
+        }
+        Leaf::HeaderRange(name, range) => match value_at(pool, name, request) {
+            Some(value) => range.matches(value) != name.invert_match,
+            None => false,
+        },
+        Leaf::Address(source, place) => {
+            address_matches(*source, &pool.ranges[*place as usize], request)
+        }
+        Leaf::Port(port) => port_matches(*port, request),
+        Leaf::PortRange(range) => port_range_matches(range, request),
+        Leaf::ServerName(test) => server_name_passes(pool, test, request),
+        Leaf::Mutual => request.conn().mtls == Some(true),
+        Leaf::Named(test) => named_passes(pool, test, request),
+    }
+}
+
+/// Whether the target up to its first `?` or `#` passes the test.
+#[inline(always)]
+fn path_passes(pool: &Pool, test: &TextLeaf, request: &Request) -> bool
+    requires { GoodText pool.now test.now }
+    ensures { result ≡ matcher_holds (leaf_in pool.now (UrlPath test.now)) request.now }
+{
+    pool.text_passes(test, request.url_path())
+}
+
+/// Whether the server name that the client asked for passes the test; without one it is the empty
+/// text.
+fn server_name_passes(pool: &Pool, test: &TextLeaf, request: &Request) -> bool
+    requires { GoodText pool.now test.now }
+    ensures { result ≡ matcher_holds (leaf_in pool.now (ServerName test.now)) request.now }
+{
+    match &request.conn().requested_server_name {
+        Some(name) => pool.text_passes(test, name.as_str()),
+        None => pool.text_passes(test, ""),
+    }
+}
+
+/// The value of the header, if it is there.
+#[inline(always)]
+fn header_at<'a>(pool: &Pool, name: &NameLeaf, request: &'a Request) -> Option<&'a str>
+    requires { GoodName pool.now name.now }
+    ensures { option_copied result ≡ header_of request.now (part_of name.now.name pool.now) }
+{
+    let name = pool.part(name.name);
+    request.header(unsafe { str::from_utf8_unchecked(name) })
+}
+
+/// The same; the empty text where a missing header counts as that.
+#[inline(always)]
+fn value_at<'a>(pool: &Pool, name: &NameLeaf, request: &'a Request) -> Option<&'a str>
+    requires { GoodName pool.now name.now }
+    ensures { option_copied result ≡ value_or_empty name.now.treat_missing_header_as_empty
+        (header_of request.now (part_of name.now.name pool.now)) }
+{
+    match header_at(pool, name, request) {
+        Some(value) => Some(value),
+        None if name.treat_missing_header_as_empty => Some(""),
+        None => None,
+    }
+}
+
+/// Whether the header's value passes the test of texts.
+#[inline(never)]
+fn header_text_passes(pool: &Pool, name: &NameLeaf, test: &TextLeaf, request: &Request) -> bool
+    requires name { GoodName pool.now name.now }
+    requires text { GoodText pool.now test.now }
+    ensures { result ≡ matcher_holds (leaf_in pool.now (HeaderText name.now test.now)) request.now }
+{
+    match value_at(pool, name, request) {
+        Some(value) => pool.text_passes(test, value) != name.invert_match,
+        None => false,
+    }
+}
+
+/// Whether the connection is known to be by mutual TLS, and its peer's name passes the test.
+fn named_passes(pool: &Pool, test: &TextLeaf, request: &Request) -> bool
+    requires { GoodText pool.now test.now }
+    ensures { result ≡ matcher_holds (leaf_in pool.now (Named test.now)) request.now }
+{
+    let conn = request.conn();
+    if conn.mtls != Some(true) {
+        return false;
+    }
+    match peer_name(conn) {
+        Some(name) => pool.text_passes(test, name),
+        None => false,
+    }
+}

@@ -1,0 +1,158 @@
+//! The texts of a filter's rules, one behind the other, and what else does not fit a leaf.
+
+ghost use Rattle.std.specs.Prelude.{◌≡◌, ◌≤◌, ◌+◌, length, IfOk};
+ghost use Rattle.std.specs.Str.{IsUtf8, str_to_ascii_lowercase};
+ghost use Rattle.rbac_match.specs.Tokens.{slice_at};
+ghost use Rattle.rbac_match.specs.Text.{is_substring, text_holds};
+ghost use Rattle.rbac_match.specs.steps.Leaves.{GoodText, Grows, IsBorders, IsWithin, part_of, text_in};
+ghost use Rattle.rbac_match.specs.steps.Search.{AreAllBorders};
+
+use crate::search::{borders_of, contains_ignore_case, position};
+use crate::text::{Ends, Pattern, TextMatcher, holds, holds_ignore_case};
+use attributes::Cidr;
+use std::alloc::{AllocError, Global};
+
+/// The texts and the ranges of addresses that leaves name by their places.
+#[derive(Debug, Drop)]
+pub(crate) struct Pool {
+    pub(crate) text: Vec<u8>,
+    // what the searches in any case need
+    pub(crate) borders: Vec<u32>,
+    pub(crate) ranges: Vec<Cidr>,
+}
+
+/// Some bytes of the pool in a row.
+#[derive(Clone, Copy, Debug)]
+pub(crate) struct Span {
+    pub(crate) from: u32,
+    pub(crate) count: u32,
+}
+
+/// A test of a text that stands in the pool.
+#[derive(Clone, Copy, Debug)]
+pub(crate) enum TextLeaf {
+    /// The case of letters counts.
+    Plain(Pattern, Span),
+    /// The case of letters does not count.
+    AnyCase(Ends, Span),
+    /// The text has it in it, in any case of letters; with the place of its borders.
+    Searched(Span, u32),
+}
+
+impl Pool {
+    /// A pool without texts.
+    pub(crate) fn new(alloc: Global) -> Self {
+        Pool {
+            text: Vec::new(alloc),
+            borders: Vec::new(alloc),
+            ranges: Vec::new(alloc),
+        }
+    }
+
+    /// Gives back the room in which nothing is kept.
+    pub(crate) fn shrink(&mut self)
+        ensures { Grows self.old self.new }
+    {
+        self.text.shrink_to_fit();
+        self.borders.shrink_to_fit();
+        self.ranges.shrink_to_fit();
+    }
+
+    /// Keeps the bytes behind all others.
+    pub(crate) fn keep(&mut self, bytes: &[u8]) -> Result<Span, AllocError>
+        ensures grows { Grows self.old self.new }
+        ensures kept { IfOk result (λ span. IsWithin span self.new × (part_of span self.new ≡ bytes.now)) }
+    {
+        let from = position(self.text.len())?;
+        let count = position(bytes.len())?;
+        self.text.extend_from_slice(bytes)?;
+        Ok(Span { from, count })
+    }
+
+    /// Keeps the text with its letters in lower case.
+    pub(crate) fn keep_lowered(&mut self, alloc: Global, text: &str) -> Result<Span, AllocError>
+        ensures grows { Grows self.old self.new }
+        ensures kept { IfOk result (λ span. IsWithin span self.new
+            × (part_of span self.new ≡ str_to_ascii_lowercase text.now)
+            × IsUtf8 (part_of span self.new)) }
+    {
+        let mut lowered = String::from_str(alloc, text)?;
+        lowered.make_ascii_lowercase();
+        self.keep(lowered.as_bytes())
+    }
+
+    /// Keeps the test's text, and its borders where it is searched for in any case.
+    pub(crate) fn keep_text(
+        &mut self,
+        alloc: Global,
+        test: &TextMatcher<'_>,
+    ) -> Result<TextLeaf, AllocError>
+        ensures grows { Grows self.old self.new }
+        ensures kept { IfOk result (λ leaf. GoodText self.new leaf × (text_in self.new leaf ≡ test.now)) }
+    {
+        let span = self.keep(test.sought.as_bytes())?;
+        if !test.ignore_case {
+            return Ok(TextLeaf::Plain(test.pattern, span));
+        }
+        match test.pattern {
+            Pattern::Exact => Ok(TextLeaf::AnyCase(Ends::Exact, span)),
+            Pattern::Prefix => Ok(TextLeaf::AnyCase(Ends::Prefix, span)),
+            Pattern::Suffix => Ok(TextLeaf::AnyCase(Ends::Suffix, span)),
+            Pattern::Contains => {
+                let at = self.keep_borders(alloc, test.sought.as_bytes())?;
+                Ok(TextLeaf::Searched(span, at))
+            }
+        }
+    }
+
+    /// Keeps the borders of a text that is searched for in any case.
+    fn keep_borders(&mut self, alloc: Global, part: &[u8]) -> Result<u32, AllocError>
+        ensures grows { Grows self.old self.new }
+        ensures kept { IfOk result (λ at. (at + length part.now ≤ length self.new.borders.items)
+            × AreAllBorders (str_to_ascii_lowercase part.now)
+            (slice_at at (length part.now) self.new.borders.items)) }
+    {
+        let borders = borders_of(alloc, part)?;
+        let at = position(self.borders.len())?;
+        self.borders.extend_from_slice(&borders)?;
+        Ok(at)
+    }
+
+    /// The bytes of the span.
+    #[inline(always)]
+    pub(crate) fn part(&self, span: Span) -> &[u8]
+        requires { IsWithin span self.now }
+        ensures { result.now ≡ part_of span self.now }
+    {
+        let from = span.from as usize;
+        &self.text[from..from + span.count as usize]
+    }
+
+    /// Whether the text passes. It takes no memory.
+    #[inline(always)]
+    pub(crate) fn text_passes(&self, test: &TextLeaf, text: &str) -> bool
+        requires { GoodText self.now test.now }
+        ensures { result ≡ text_holds (text_in self.now test.now) text.now }
+    {
+        match test {
+            TextLeaf::Plain(pattern, span) => holds(*pattern, self.part(*span), text.as_bytes()),
+            TextLeaf::AnyCase(ends, span) => {
+                holds_ignore_case(*ends, self.part(*span), text.as_bytes())
+            }
+            TextLeaf::Searched(span, at) => self.has_inside(*span, *at, text.as_bytes()),
+        }
+    }
+
+    /// Whether the text has that of the span in it, in any case of letters.
+    #[inline(never)]
+    fn has_inside(&self, span: Span, at: u32, text: &[u8]) -> bool
+        requires within { IsWithin span self.now }
+        requires borders { IsBorders span at self.now }
+        ensures { result ≡ is_substring (str_to_ascii_lowercase (part_of span self.now))
+            (str_to_ascii_lowercase text.now) }
+    {
+        let at = at as usize;
+        let borders = &self.borders[at..at + span.count as usize];
+        contains_ignore_case(text, self.part(span), borders)
+    }
+}
