@@ -21,8 +21,8 @@ module _ (limits : LimitsValue) where
   one_admitted : (f : FilterValue) (xs : List ExtensionMessage) (given : Option AdmittedValue)
       → Gives limits f xs given → WasAdmitted limits f given
   one_admitted f [] given none = rw none tt
-  one_admitted f (x ∷ []) given (bytes, policies, enforced, holds, admits, is) =
-      rw is (refl, bytes, policies, admits)
+  one_admitted f (x ∷ []) given (bytes, a, holds, (policies, enforced, admits, same), is) =
+      rw (is, same) (refl, bytes, policies, admits)
   one_admitted f (x ∷ y ∷ xs) given bad = absurd bad
 
   -- what is given takes its place

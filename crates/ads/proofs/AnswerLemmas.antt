@@ -8,12 +8,12 @@ use Rattle.proto_wire.specs.declared.refusal.Refusal.{Refusal}
 use Rattle.xds_wire.specs.Frames.{frame_of}
 use Rattle.xds_wire.specs.Discovery.{RequestMessage, ResponseMessage, StatusMessage}
 use Rattle.ads.specs.Answer.{AdmittedValue}
-use Rattle.ads.specs.steps.Taking.{admitted_view}
+use Rattle.ads.specs.Views.{admitted_view}
 use Rattle.rbac_policy.specs.declared.filter.Admitted.{Admitted}
 use Rattle.ads.specs.Config.{ConfigValue, FilterValue}
 use Rattle.ads.specs.Answer.{Accepted, Answers, IsAdmitting, nack, no_memory, Refuses, nack_of, request_of, replaced}
 use Rattle.ads.specs.Client.{AreAnswered, accepted_by}
-use Rattle.ads.specs.steps.Taking.{policies_view}
+use Rattle.ads.specs.Views.{policies_view}
 use Rattle.ads.proofs.PlaceLemmas.{replaced_nothing}
 use Rattle.ads.specs.steps.Drafts.{IsAnswered, IsNoResponse}
 

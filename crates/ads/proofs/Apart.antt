@@ -5,12 +5,13 @@ use Rattle.std.specs.List.{AllZip}
 use Rattle.std.proofs.lemmas.Slice.Eq.{bytes_eq-Decides}
 use Rattle.attributes.specs.Limits.{LimitsValue}
 use Rattle.proto_wire.specs.declared.refusal.Refusal.{Refusal}
+use Rattle.rbac_policy.specs.Admission.{Admissible}
 use Rattle.rbac_policy.proofs.Totality.{bytes_disjoint}
 use Rattle.xds_wire.specs.Envelope.{SomeOf}
 use Rattle.xds_wire.specs.Discovery.{AnyMessage, ExtensionMessage, ResponseMessage}
 use Rattle.xds_wire.proofs.DiscoveryLaws.{extension_disjoint, extension_unique}
 use Rattle.ads.specs.Config.{ConfigValue, FilterValue}
-use Rattle.ads.specs.Answer.{Accepted, Accepts, AdmittedValue, ExtensionIsRefused, no_filter, not_admitted, Gives, IsNamed, IsRefusedFor, IsResource, named, Refuses, bad_resource, doubled, refused, ResourceFault, unreadable, nameless, TwoOf}
+use Rattle.ads.specs.Answer.{Accepted, AcceptedOf, Accepts, AcceptsAs, AdmittedValue, ExtensionIsRefused, no_filter, not_admitted, GivesAs, IsEnforcedOf, IsNamed, IsRefusedFor, IsResource, named, Refuses, bad_resource, doubled, refused, ResourceFault, unreadable, nameless, TwoOf}
 
 -- what holds of a pair has no fault of its first part
 zip_apart : {A B : Type 0} (R : A → B → Type 0) (P : A → Type 0) → ((x : A) (y : B) → R x y → P x → ⊥)
@@ -84,46 +85,59 @@ module _ (name : List ℕ) where
 
 -- ---- what a filter is given
 
-gives_one : (limits : LimitsValue) (f : FilterValue) (xs : List ExtensionMessage) (given : Option AdmittedValue)
-    → Gives limits f xs given → 2 ≤ length xs → ⊥
-gives_one limits f [] given gives two = absurd (omega arith)
-gives_one limits f (x ∷ []) given gives two = absurd (omega arith)
-gives_one limits f (x ∷ y ∷ xs) given gives two = gives
-
 -- an extension holds one filter's message
 holds_one : (o : Option AnyMessage) (P Q : AnyMessage → Type 0) (a b : List ℕ)
     → IsSomeAnd o (λ any. P any × (any.value ≡ a)) → IsSomeAnd o (λ any. Q any × (any.value ≡ b)) → a ≡ b
 holds_one None P Q a b x y = absurd x
 holds_one (Some any) P Q a b x y = sym x.1 ∙ y.1
 
-gives_apart : (limits : LimitsValue) (f : FilterValue) (e : Refusal) (xs : List ExtensionMessage)
-    (given : Option AdmittedValue) → Gives limits f xs given
-    → SomeOf (λ x. ExtensionIsRefused limits f x e) xs → ⊥
-gives_apart limits f e [] given gives some = some
-gives_apart limits f e (x ∷ []) given (bytes, policies, enforced, holds, admits, told) (inl (no_filter none is)) =
-    none bytes holds
-gives_apart limits f e (x ∷ []) given (bytes, policies, enforced, holds, admits, told)
-    (inl (not_admitted other also bad)) =
-    let one : other ≡ bytes = holds_one x.typed_config _ _ other bytes also holds in
-    bytes_disjoint limits e bytes f.budget (policies, admits.admissible) (rw one at bad)
-gives_apart limits f e (x ∷ []) given gives (inr some) = some
-gives_apart limits f e (x ∷ y ∷ xs) given gives some = gives
+-- where what is given is admissible
+module _ {P : Type 0} (IsGiven : LimitsValue → FilterValue → List ℕ → P → Type 0)
+    (admissible : (limits : LimitsValue) (f : FilterValue) (bytes : List ℕ) (p : P) → IsGiven limits f bytes p
+    → Admissible bytes limits f.budget) where
+  gives_one : (limits : LimitsValue) (f : FilterValue) (xs : List ExtensionMessage) (given : Option P)
+      → GivesAs IsGiven limits f xs given → 2 ≤ length xs → ⊥
+  gives_one limits f [] given gives two = absurd (omega arith)
+  gives_one limits f (x ∷ []) given gives two = absurd (omega arith)
+  gives_one limits f (x ∷ y ∷ xs) given gives two = gives
 
--- ---- the response
+  gives_apart : (limits : LimitsValue) (f : FilterValue) (e : Refusal) (xs : List ExtensionMessage)
+      (given : Option P) → GivesAs IsGiven limits f xs given
+      → SomeOf (λ x. ExtensionIsRefused limits f x e) xs → ⊥
+  gives_apart limits f e [] given gives some = some
+  gives_apart limits f e (x ∷ []) given (bytes, p, holds, is_given, told) (inl (no_filter none is)) =
+      none bytes holds
+  gives_apart limits f e (x ∷ []) given (bytes, p, holds, is_given, told)
+      (inl (not_admitted other also bad)) =
+      let one : other ≡ bytes = holds_one x.typed_config _ _ other bytes also holds in
+      bytes_disjoint limits e bytes f.budget (admissible limits f bytes p is_given) (rw one at bad)
+  gives_apart limits f e (x ∷ []) given gives (inr some) = some
+  gives_apart limits f e (x ∷ y ∷ xs) given gives some = gives
+
+  -- ---- the response
+
+  pub accepts_apart : (c : ConfigValue) (response : ResponseMessage) (old new : AcceptedOf P) (e : Refusal)
+      → AcceptsAs IsGiven c response old new → Refuses c response e → ⊥
+  accepts_apart c response old new e a (Refuses.wrong_type other told) = other a.type_url
+  accepts_apart c response old new e a (bad_resource some) =
+      zip_apart IsResource (λ any. ResourceFault any e) (resource_apart e) response.resources a.extensions a.reads some
+  accepts_apart c response old new e a (doubled some told) =
+      zip_apart (λ f. GivesAs IsGiven c.limits f (named f.name a.extensions)) (λ f. TwoOf (IsNamed f.name) response.resources)
+      (λ f given gives two. gives_one c.limits f (named f.name a.extensions) given gives
+      (two_named f.name response.resources a.extensions a.reads two))
+      c.filters a.given a.gives some
+  accepts_apart c response old new e a (refused some) =
+      zip_apart (λ f. GivesAs IsGiven c.limits f (named f.name a.extensions))
+      (λ f. SomeOf (IsRefusedFor c.limits f e) response.resources)
+      (λ f given gives bad. gives_apart c.limits f e (named f.name a.extensions) given gives
+      (named_some f.name (λ x. ExtensionIsRefused c.limits f x e) response.resources a.extensions a.reads bad))
+      c.filters a.given a.gives some
+
+-- what is enforced was admissible
+enforced_admissible : (limits : LimitsValue) (f : FilterValue) (bytes : List ℕ) (a : AdmittedValue)
+    → IsEnforcedOf limits f bytes a → Admissible bytes limits f.budget
+enforced_admissible limits f bytes a (policies, enforced, admits, same) = (policies, admits.admissible)
 
 pub answer_apart : (c : ConfigValue) (response : ResponseMessage) (old new : Accepted) (e : Refusal)
     → Accepts c response old new → Refuses c response e → ⊥
-answer_apart c response old new e a (Refuses.wrong_type other told) = other a.type_url
-answer_apart c response old new e a (bad_resource some) =
-    zip_apart IsResource (λ any. ResourceFault any e) (resource_apart e) response.resources a.extensions a.reads some
-answer_apart c response old new e a (doubled some told) =
-    zip_apart (λ f. Gives c.limits f (named f.name a.extensions)) (λ f. TwoOf (IsNamed f.name) response.resources)
-    (λ f given gives two. gives_one c.limits f (named f.name a.extensions) given gives
-    (two_named f.name response.resources a.extensions a.reads two))
-    c.filters a.given a.gives some
-answer_apart c response old new e a (refused some) =
-    zip_apart (λ f. Gives c.limits f (named f.name a.extensions))
-    (λ f. SomeOf (IsRefusedFor c.limits f e) response.resources)
-    (λ f given gives bad. gives_apart c.limits f e (named f.name a.extensions) given gives
-    (named_some f.name (λ x. ExtensionIsRefused c.limits f x e) response.resources a.extensions a.reads bad))
-    c.filters a.given a.gives some
+answer_apart = accepts_apart IsEnforcedOf enforced_admissible

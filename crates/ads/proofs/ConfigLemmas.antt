@@ -10,7 +10,7 @@ use Rattle.indexmap.specs.IndexMap.{insert_entry}
 use Rattle.xds_wire.specs.Envelope.{SomeOf}
 use Rattle.ads.specs.Config.{FilterValue, HasName, Repeats}
 use Rattle.ads.specs.declared.config.Filter.{Filter}
-use Rattle.ads.specs.steps.Views.{filter_view, filters_view, entries_view, entry_view}
+use Rattle.ads.specs.Views.{filter_view, filters_view, entries_view, entry_view}
 
 -- an entry of a new name goes last
 insert_new : (k : String Global) (v : ℕ) (entries : List (String Global × ℕ))

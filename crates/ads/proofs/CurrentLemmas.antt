@@ -8,11 +8,11 @@ use Rattle.std.specs.declared.alloc.Global.{Global}
 use Rattle.std.proofs.lemmas.List.{length-map}
 use Rattle.std.proofs.lemmas.List.Quantifiers.{position-Some}
 use Rattle.indexmap.proofs.MapLemmas.{Missing-position}
-use Rattle.ads.specs.steps.Taking.{admitted_view}
+use Rattle.ads.specs.Views.{admitted_view}
 use Rattle.rbac_policy.specs.declared.filter.Admitted.{Admitted}
 use Rattle.ads.specs.Client.{policies_at}
-use Rattle.ads.specs.steps.Views.{entries_view}
-use Rattle.ads.specs.steps.Taking.{policies_view}
+use Rattle.ads.specs.Views.{entries_view}
+use Rattle.ads.specs.Views.{policies_view}
 
 module _ (name : List ℕ) where
   abbrev is_key : String Global → Bool

@@ -16,9 +16,10 @@ use Rattle.rbac_policy.specs.Admission.{Admits}
 use Rattle.rbac_policy.specs.Admitted.{filter_view, limits_view}
 use Rattle.rbac_policy.specs.declared.filter.Admitted.{Admitted}
 use Rattle.ads.specs.Config.{ConfigValue, FilterValue}
-use Rattle.ads.specs.steps.Views.{filter_of}
+use Rattle.ads.specs.steps.Taking.{filter_of}
 use Rattle.ads.specs.Answer.{Gives, HoldsFilter, HoldsSome, named, IsResource, IsNamed, IsRefusedFor, TwoOf, Refuses, doubled, refused, ExtensionIsRefused, HoldsFilterOf, IsAdmitting, extension_type}
-use Rattle.ads.specs.steps.Taking.{admitted_view, TakeFault, twice, bad, out_of_memory, IsTaken, IsJudged}
+use Rattle.ads.specs.Views.{admitted_view}
+use Rattle.ads.specs.steps.Taking.{TakeFault, twice, bad, out_of_memory, IsTaken, IsJudged}
 use Rattle.ads.specs.declared.judging.Judged.{Judged}
 use Rattle.ads.specs.declared.judging.Judged.TheVariants as judged
 use Rattle.ads.proofs.Lists.{some_or, some_weaker, some_with}
@@ -124,5 +125,5 @@ pub admitted_gives : (limits : LimitsValue) (budget : ℕ) (x : ExtensionMessage
     → IfOk r (λ a. limits_view a ≡ limits)
     → IfOk r (λ a. (name : List ℕ) → Gives limits (filter_of name budget) (x ∷ []) (Some (admitted_view a)))
 admitted_gives limits budget x bytes holds (Ok a) (policies, admits) same =
-    λ name. (bytes, policies, filter_view a, holds, admits, rw same refl)
+    λ name. (bytes, admitted_view a, holds, (policies, filter_view a, admits, rw same refl), refl)
 admitted_gives limits budget x bytes holds (Err e) admits same = tt

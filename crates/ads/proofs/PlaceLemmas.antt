@@ -1,9 +1,9 @@
 -- What is given takes its place from the last to the first.
 use Rattle.std.proofs.Common.{◌≡◌, ℕ, ◌<◌, ◌≤◌, true, false, true≢false, is_some, option_map, Option, Some, None, List, [], ◌∷◌, ◌++◌, length, refl, ap, sym, ◌∙◌, arith, set, length-set}
 use Rattle.std.proofs.lemmas.List.{map-append, map-set, length-append, length-map}
-use Rattle.ads.specs.steps.Taking.{admitted_view}
+use Rattle.ads.specs.Views.{admitted_view}
 use Rattle.rbac_policy.specs.declared.filter.Admitted.{Admitted}
-use Rattle.ads.specs.steps.Taking.{policies_view}
+use Rattle.ads.specs.Views.{policies_view}
 use Rattle.ads.specs.Answer.{AdmittedValue}
 use Rattle.ads.specs.Answer.{replaced}
 

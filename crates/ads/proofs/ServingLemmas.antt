@@ -10,7 +10,8 @@ use Rattle.ads.specs.Control.{ResourceValue, ServedValue, AreServed, IsFirst, Is
 use Rattle.ads.specs.Answer.{extension_type}
 use Rattle.ads.specs.declared.snapshot.Resource.{Resource}
 use Rattle.ads.specs.declared.snapshot.Snapshot.{Snapshot}
-use Rattle.ads.specs.steps.Serving.{any_of, AddsReplies, IsServed, ResponseIsOf, resource_view, snapshot_view, snapshots_view, MessageIsServed, a_request, no_request}
+use Rattle.ads.specs.Views.{resource_view, snapshot_view, snapshots_view}
+use Rattle.ads.specs.steps.Serving.{any_of, AddsReplies, IsServed, ResponseIsOf, MessageIsServed, a_request, no_request}
 use Rattle.ads.proofs.Lists.{zip_push}
 
 -- whether the resource is asked for

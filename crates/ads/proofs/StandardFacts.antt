@@ -23,7 +23,7 @@ use Rattle.rbac_policy.specs.Enforced.{Enforces, EnforcesPolicy}
 use Rattle.rbac_policy.specs.Filter.{Filter, Policy}
 use Rattle.rbac_policy.specs.declared.filter.Action.TheVariants.{Allow}
 use Rattle.rbac_policy.proofs.StandardFacts as rbac
-use Rattle.ads.specs.Answer.{Accepted, Accepts, Answers, IsResource, Refuses, ResourceFault, first_request, nothing_accepted}
+use Rattle.ads.specs.Answer.{Accepted, Accepts, Answers, IsResource, Refuses, ResourceFault, first_request, nothing_accepted, AnswersAs, AdmittedValue}
 use Rattle.ads.specs.Config.{ConfigValue, FilterValue}
 use Rattle.ads.specs.Control.{Advances, ControlValue, IsAck, IsFirst, IsNack, ResourceValue, ServedValue, Serves, nothing_served, recorded, stream_lost}
 use Rattle.ads.proofs.Apart.{answer_apart}
@@ -204,11 +204,15 @@ module _ (limits : LimitsValue) where
   abbrev pub new : Accepted
   new = nothing_accepted (configuration limits)
 
+  -- what the filter `foo` has after the first update
+  abbrev pub foo_admitted : AdmittedValue
+  foo_admitted = record { filter = enforced; limits = limits }
+
   -- what is accepted after the first update: a filter for `foo`, and nothing for `bar`
   abbrev pub after_x : Accepted
   after_x = record {
     version = codes "X";
-    policies = Some (record { filter = enforced; limits = limits }) ∷ None ∷ [];
+    policies = Some foo_admitted ∷ None ∷ [];
     generation = 1;
   }
 
@@ -223,10 +227,10 @@ module _ (limits : LimitsValue) where
   accepts_x : Accepts (configuration limits) update_x new after_x
   accepts_x = record {
     extensions = foo ∷ [];
-    given = Some (record { filter = enforced; limits = limits }) ∷ None ∷ [];
+    given = Some foo_admitted ∷ None ∷ [];
     type_url = refl;
     reads = (is_resource, tt);
-    gives = ((rbac.filter_bytes, rbac.filter, enforced, (refl, refl), is_admitted, refl), (refl, tt));
+    gives = ((rbac.filter_bytes, foo_admitted, (refl, refl), (rbac.filter, enforced, is_admitted, refl), refl), (refl, tt));
     policies = refl;
     version = refl;
     generation = refl;
@@ -234,7 +238,7 @@ module _ (limits : LimitsValue) where
 
   -- ACK: an update that is accepted is answered with its version and its nonce
   pub acknowledged : Answers (configuration limits) update_x new (request (codes "X") None (codes "A") None) after_x
-  acknowledged = Answers.ack accepts_x refl
+  acknowledged = AnswersAs.ack accepts_x refl
 
   refuses_y : Refuses (configuration limits) update_y Refusal.WrongType
   refuses_y = Refuses.bad_resource (inr (inl (ResourceFault.wrong_type (λ e. omega (arith, ap length e)) refl)))
@@ -242,27 +246,27 @@ module _ (limits : LimitsValue) where
   -- NACK: one that is refused is answered with the version accepted before, its own nonce and an error
   pub refused : Answers (configuration limits) update_y after_x (request (codes "X") None (codes "B") wrong_type) after_x
   unfolding digits
-  refused = Answers.nack Refusal.WrongType refuses_y refl refl
+  refused = AnswersAs.nack Refusal.WrongType refuses_y refl refl
 
   -- NACK: where none was accepted before, that version is empty; and nothing of the update is taken
   pub refused_first : Answers (configuration limits) update_y new (request [] None (codes "B") wrong_type) new
   unfolding digits
-  refused_first = Answers.nack Refusal.WrongType refuses_y refl refl
+  refused_first = AnswersAs.nack Refusal.WrongType refuses_y refl refl
 
   -- whatever the error tells, each answer to it has that version, that nonce and an error, and accepts nothing
   pub never_acknowledged : (reply : RequestMessage) (after : Accepted)
       → Answers (configuration limits) update_y after_x reply after
       → (reply.version_info ≡ codes "X") × (reply.response_nonce ≡ codes "B") × (reply.error_detail ≢ None)
       × (after ≡ after_x)
-  never_acknowledged reply after (Answers.ack accepts is) =
+  never_acknowledged reply after (AnswersAs.ack accepts is) =
       absurd (answer_apart (configuration limits) update_y after_x after Refusal.WrongType accepts refuses_y)
-  never_acknowledged reply after (Answers.nack e refuses same is) = (
+  never_acknowledged reply after (AnswersAs.nack e refuses same is) = (
     ap (λ r. r.version_info) is,
     ap (λ r. r.response_nonce) is,
     subst (λ (r : RequestMessage). r.error_detail ≢ None) (sym is) (λ none. cc),
     same,
   )
-  never_acknowledged reply after (Answers.no_memory admitting same is) = (
+  never_acknowledged reply after (AnswersAs.no_memory admitting same is) = (
     ap (λ r. r.version_info) is,
     ap (λ r. r.response_nonce) is,
     subst (λ (r : RequestMessage). r.error_detail ≢ None) (sym is) (λ none. cc),

@@ -11,11 +11,13 @@ use Rattle.attributes.specs.Limits.{LimitsValue}
 use Rattle.proto_wire.specs.declared.refusal.Refusal.{Refusal}
 use Rattle.xds_wire.specs.Discovery.{ExtensionMessage}
 use Rattle.xds_wire.specs.Envelope.{SomeOf}
-use Rattle.ads.specs.steps.Taking.{admitted_view}
+use Rattle.ads.specs.Views.{admitted_view}
 use Rattle.rbac_policy.specs.declared.filter.Admitted.{Admitted}
 use Rattle.ads.specs.Answer.{Gives, named}
-use Rattle.ads.specs.steps.Views.{filter_of, entries_view, entry_view}
-use Rattle.ads.specs.steps.Taking.{TakeFault, policies_view}
+use Rattle.ads.specs.Views.{entries_view, entry_view}
+use Rattle.ads.specs.steps.Taking.{filter_of}
+use Rattle.ads.specs.Views.{policies_view}
+use Rattle.ads.specs.steps.Taking.{TakeFault}
 use Rattle.ads.proofs.Lists.{zip_push, some_middle}
 
 Entry : Type 0

@@ -29,14 +29,19 @@ pub record AdmittedValue : Type 0 where
   pub limits : LimitsValue
 
 -- what was accepted: the last version, empty where there is none, what each filter has, in configured
--- order, and how many responses, which stays at 2^64 - 1
-pub record Accepted : Type 0 where
+-- order, and how many responses, which stays at 2^64 - 1. What a filter has is of type P: its rules as they
+-- are written, or what is enforced of them
+pub record AcceptedOf (P : Type 0) : Type 0 where
   pub version : List ℕ
-  pub policies : List (Option AdmittedValue)
+  pub policies : List (Option P)
   pub generation : ℕ
 
+-- what was accepted, as it is enforced
+abbrev pub Accepted : Type 0
+Accepted = AcceptedOf AdmittedValue
+
 -- nothing was accepted
-abbrev pub nothing_accepted : ConfigValue → Accepted
+abbrev pub nothing_accepted : {P : Type 0} → ConfigValue → AcceptedOf P
 nothing_accepted c = record { version = []; policies = map (λ f. None) c.filters; generation = 0 }
 
 -- the resource is this extension, which has a name
@@ -74,32 +79,12 @@ pub data ExtensionIsRefused (limits : LimitsValue) (f : FilterValue) (extension 
 abbrev pub named : List ℕ → List ExtensionMessage → List ExtensionMessage
 named name extensions = filter (λ extension. bytes_eq extension.name name) extensions
 
--- what the extensions of a filter's name give it: nothing where there is none, and else what is enforced of
--- the filter that the one of them is
-abbrev pub Gives : LimitsValue → FilterValue → List ExtensionMessage → Option AdmittedValue → Type 0
-Gives limits f [] given = given ≡ None
-Gives limits f (extension ∷ []) given = (bytes : List ℕ) × (policies : Filter CelChecked)
-    × (enforced : Filter Program) × HoldsFilter extension bytes × Admits bytes limits f.budget policies enforced
-    × (given ≡ Some (record { filter = enforced; limits = limits }))
-Gives limits f (extension ∷ other ∷ more) given = ⊥
-
 -- what is given takes its place, and where nothing is given the old stays
-abbrev pub replaced : List (Option AdmittedValue) → List (Option AdmittedValue) → List (Option AdmittedValue)
+abbrev pub replaced : {P : Type 0} → List (Option P) → List (Option P) → List (Option P)
 replaced [] given = given
 replaced (old ∷ olds) [] = old ∷ olds
 replaced (old ∷ olds) (Some new ∷ given) = Some new ∷ replaced olds given
 replaced (old ∷ olds) (None ∷ given) = old ∷ replaced olds given
-
--- all of the response is right, and what is accepted after it
-pub record Accepts (c : ConfigValue) (response : ResponseMessage) (old new : Accepted) : Type 0 where
-  pub extensions : List ExtensionMessage
-  pub given : List (Option AdmittedValue)
-  pub type_url : response.type_url ≡ extension_type
-  pub reads : AllZip IsResource response.resources extensions
-  pub gives : AllZip (λ f. Gives c.limits f (named f.name extensions)) c.filters given
-  pub policies : new.policies ≡ replaced old.policies given
-  pub version : new.version ≡ response.version_info
-  pub generation : new.generation ≡ min (old.generation + 1) (2 ^ 64 - 1)
 
 -- the resource is an extension of this name
 abbrev pub IsNamed : List ℕ → AnyMessage → Type 0
@@ -140,7 +125,7 @@ request_of c version node nonce error = record {
 }
 
 -- the first request on a stream
-abbrev pub first_request : ConfigValue → Accepted → RequestMessage
+abbrev pub first_request : {P : Type 0} → ConfigValue → AcceptedOf P → RequestMessage
 first_request c accepted = request_of c accepted.version (Some (node_of c)) [] None
 
 -- the answer to a response that is accepted
@@ -157,7 +142,7 @@ abbrev pub status_of : Refusal → StatusMessage
 status_of e = record { code = code_of e; message = codes "policy refused: " ++ decimal (number_of e) }
 
 -- the answer to a response that is refused
-abbrev pub nack_of : ConfigValue → Accepted → ResponseMessage → Refusal → RequestMessage
+abbrev pub nack_of : {P : Type 0} → ConfigValue → AcceptedOf P → ResponseMessage → Refusal → RequestMessage
 nack_of c accepted response e = request_of c accepted.version None response.nonce (Some (status_of e))
 
 -- the resource is an extension of the filter's name, and holds a filter's message
@@ -173,12 +158,50 @@ pub record IsAdmitting (c : ConfigValue) (response : ResponseMessage) : Type 0 w
   pub reads : AllZip IsResource response.resources extensions
   pub asked : SomeOf (λ f. SomeOf (HoldsFilterOf f) response.resources) c.filters
 
--- the answer to a response, and what is accepted after it. Where memory runs out while a filter is
--- admitted, nothing more is said of the response.
-pub data Answers (c : ConfigValue) (response : ResponseMessage) (old : Accepted) (reply : RequestMessage)
-    (new : Accepted) : Type 0 where
-  ack : Accepts c response old new → reply ≡ ack_of c response → Answers c response old reply new
-  nack : (e : Refusal) → Refuses c response e → new ≡ old → reply ≡ nack_of c old response e
-      → Answers c response old reply new
-  no_memory : IsAdmitting c response → new ≡ old → reply ≡ nack_of c old response Refusal.Memory
-      → Answers c response old reply new
+-- what a response is answered, where these bytes of a filter give it this
+module _ {P : Type 0} (IsGiven : LimitsValue → FilterValue → List ℕ → P → Type 0) where
+  -- what the extensions of a filter's name give it: nothing where there is none, and else what the bytes do
+  -- that the one of them holds
+  abbrev pub GivesAs : LimitsValue → FilterValue → List ExtensionMessage → Option P → Type 0
+  GivesAs limits f [] given = given ≡ None
+  GivesAs limits f (extension ∷ []) given = (bytes : List ℕ) × (policies : P)
+      × HoldsFilter extension bytes × IsGiven limits f bytes policies × (given ≡ Some policies)
+  GivesAs limits f (extension ∷ other ∷ more) given = ⊥
+
+  -- all of the response is right, and what is accepted after it
+  pub record AcceptsAs (c : ConfigValue) (response : ResponseMessage) (old new : AcceptedOf P) : Type 0 where
+    pub extensions : List ExtensionMessage
+    pub given : List (Option P)
+    pub type_url : response.type_url ≡ extension_type
+    pub reads : AllZip IsResource response.resources extensions
+    pub gives : AllZip (λ f. GivesAs c.limits f (named f.name extensions)) c.filters given
+    pub policies : new.policies ≡ replaced old.policies given
+    pub version : new.version ≡ response.version_info
+    pub generation : new.generation ≡ min (old.generation + 1) (2 ^ 64 - 1)
+
+  -- the answer to a response, and what is accepted after it. Where memory runs out while a filter is
+  -- admitted, nothing more is said of the response.
+  pub data AnswersAs (c : ConfigValue) (response : ResponseMessage) (old : AcceptedOf P) (reply : RequestMessage)
+      (new : AcceptedOf P) : Type 0 where
+    ack : AcceptsAs c response old new → reply ≡ ack_of c response → AnswersAs c response old reply new
+    nack : (e : Refusal) → Refuses c response e → new ≡ old → reply ≡ nack_of c old response e
+        → AnswersAs c response old reply new
+    no_memory : IsAdmitting c response → new ≡ old → reply ≡ nack_of c old response Refusal.Memory
+        → AnswersAs c response old reply new
+
+-- the bytes are admitted under the filter's budget, and this is enforced of them
+abbrev pub IsEnforcedOf : LimitsValue → FilterValue → List ℕ → AdmittedValue → Type 0
+IsEnforcedOf limits f bytes a = (policies : Filter CelChecked) × (enforced : Filter Program)
+    × Admits bytes limits f.budget policies enforced × (a ≡ record { filter = enforced; limits = limits })
+
+-- what is given is enforced
+abbrev pub Gives : LimitsValue → FilterValue → List ExtensionMessage → Option AdmittedValue → Type 0
+Gives = GivesAs IsEnforcedOf
+
+-- what is accepted is enforced
+abbrev pub Accepts : ConfigValue → ResponseMessage → Accepted → Accepted → Type 0
+Accepts = AcceptsAs IsEnforcedOf
+
+-- the answer to a response, and what is enforced after it
+abbrev pub Answers : ConfigValue → ResponseMessage → Accepted → RequestMessage → Accepted → Type 0
+Answers = AnswersAs IsEnforcedOf

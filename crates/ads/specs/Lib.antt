@@ -4,4 +4,6 @@ pub mod Client
 pub mod Control
 pub mod Schedules
 pub mod Serve
+pub mod Views
+pub mod Ends
 pub mod steps

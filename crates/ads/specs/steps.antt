@@ -1,5 +1,4 @@
 -- What private clauses and proofs of this crate cite (this project's own).
-pub mod Views
 pub mod Streams
 pub mod Taking
 pub mod Drafts

@@ -3,9 +3,10 @@
 ghost use Rattle.std.specs.Prelude.{◌≡◌, ◌≤◌, ◌+◌, ◌-◌, ◌^◌, min, [], None, List, Option, map, length, vec_len, IfOk};
 ghost use Rattle.std.specs.String.{string_bytes};
 ghost use Rattle.ads.specs.Answer.{AdmittedValue, nothing_accepted, replaced};
-ghost use Rattle.ads.specs.steps.Views.{entries_view};
-ghost use Rattle.ads.specs.steps.Taking.{policies_view};
-ghost use Rattle.ads.specs.steps.Drafts.{state_view, draft_view, Covers};
+ghost use Rattle.ads.specs.Views.{entries_view};
+ghost use Rattle.ads.specs.Views.{policies_view};
+ghost use Rattle.ads.specs.Ends.{state_view};
+ghost use Rattle.ads.specs.steps.Drafts.{draft_view, Covers};
 
 use crate::config::Config;
 use indexmap::IndexMap;

@@ -1,8 +1,9 @@
 //! What a client does: its stream comes up, gives bytes, and is lost.
 
-ghost use Rattle.std.specs.Prelude.{◌≡◌, ℕ, List, None, Some, [], IfOk, IfSome, OnOk, OnErr, MatchOption};
+ghost use Rattle.std.specs.Prelude.{◌≡◌, ℕ, List, None, Some, [], IfOk, IfSome, OnOk, OnErr, MatchOption, is_some};
+ghost use Rattle.std.specs.List.{AllZip};
 ghost use Rattle.rbac_policy.specs.Admitted.{limits_view};
-ghost use Rattle.ads.specs.steps.Taking.{admitted_view};
+ghost use Rattle.ads.specs.Views.{admitted_view, policies_view};
 ghost use Rattle.ads.specs.Answer.{first_request};
 ghost use Rattle.ads.specs.Client.{IsFrameThen};
 
@@ -15,9 +16,8 @@ use rbac_policy::Admitted;
 use std::alloc::{AllocError, Global};
 
 impl Client {
-    ghost use Rattle.ads.specs.Client.{Feeds, WasAdmittedAs, new_client, policies_of, stream_down, stream_up};
-    ghost use Rattle.ads.specs.steps.Drafts.{client_view};
-
+    ghost use Rattle.ads.specs.Client.{Feeds, WasAdmitted, WasAdmittedAs, new_client, policies_of, stream_down, stream_up};
+    ghost use Rattle.ads.specs.Ends.{client_view};
     /// A client that has accepted nothing, and whose stream is down. The one error is want of memory.
     pub fn new(alloc: Global, config: &Config) -> Result<Client, AllocError>
         ensures { IfOk result (λ c. client_view c ≡ new_client config.now) }
@@ -54,6 +54,7 @@ impl Client {
     pub fn feed(&mut self, bytes: &[u8]) -> Result<Fed, AllocError>
         ensures found { IfOk result (λ fed. (versions : List (List ℕ))
             × Feeds (client_view self.old) bytes.now fed.replies.items fed.broken versions (client_view self.new)) }
+        ensures config { (client_view self.new).config ≡ (client_view self.old).config }
         ensures fault { OnErr result (client_view self.new ≡ client_view self.old) }
     {
         let Some(stream) = &mut self.stream else {
@@ -99,6 +100,30 @@ impl Client {
             Some(None) => None,
             None => None,
         }
+    }
+
+    /// What each filter has, in configured order, as it was accepted last; None where nothing was accepted for it. Each was
+    /// admitted for the configuration's limits, under the filter's budget. It takes no memory.
+    pub fn policies(&self) -> &[Option<Admitted>]
+        ensures found { policies_view result.now ≡ (client_view self.now).accepted.policies }
+        ensures admitted { ∥ AllZip (WasAdmitted (client_view self.now).config.limits)
+            (client_view self.now).config.filters (client_view self.now).accepted.policies ∥₁ }
+    {
+        &self.accepted.policies
+    }
+
+    /// Whether a stream is up. It takes no memory.
+    pub fn is_up(&self) -> bool
+        ensures { result ≡ is_some (client_view self.now).stream }
+    {
+        self.stream.is_some()
+    }
+
+    /// The configuration. It takes no memory.
+    pub fn config(&self) -> &Config
+        ensures { result.now ≡ (client_view self.now).config }
+    {
+        &self.config
     }
 
     /// How many responses were accepted; it stays at 2^64 - 1. It takes no memory.

@@ -3,7 +3,7 @@
 ghost use Rattle.std.specs.Prelude.{◌≡◌, length};
 ghost use Rattle.std.specs.List.{AllZip};
 ghost use Rattle.ads.specs.Client.{WasAdmitted};
-ghost use Rattle.ads.specs.steps.Taking.{policies_view};
+ghost use Rattle.ads.specs.Views.{policies_view};
 
 use crate::accepted::State;
 use crate::config::Config;

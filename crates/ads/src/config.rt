@@ -6,7 +6,7 @@ ghost use Rattle.std.specs.String.{string_bytes};
 ghost use Rattle.xds_wire.specs.Envelope.{SomeOf};
 ghost use Rattle.ads.specs.Config.{FilterIsAtFault, IsFilter, IsSound, IsAtFault, Repeats, HasName};
 ghost use Rattle.ads.specs.declared.config.ConfigFault.TheVariants.{NoFilter, TooManyFilters, DoubledName, BadName, BadBudget, Memory};
-ghost use Rattle.ads.specs.steps.Views.{filter_view, filters_view, entries_view};
+ghost use Rattle.ads.specs.Views.{filter_view, filters_view, entries_view};
 
 use attributes::Limits;
 use indexmap::IndexMap;
@@ -76,7 +76,7 @@ pub struct Config {
 impl Model for Config {
     ghost use Rattle.std.specs.String.{string_bytes};
     ghost use Rattle.ads.specs.Config.{ConfigValue, IsSound};
-    ghost use Rattle.ads.specs.steps.Views.{entries_view};
+    ghost use Rattle.ads.specs.Views.{entries_view};
 
     ghost Value = { ConfigValue };
 
@@ -97,8 +97,7 @@ impl Model for Config {
 
 impl Config {
     ghost use Rattle.ads.specs.Config.{IsSound, IsAtFault};
-    ghost use Rattle.ads.specs.steps.Views.{config_of, entries_view};
-
+    ghost use Rattle.ads.specs.Views.{config_of, entries_view};
     /// A configuration of these parts. It is refused for a fault that is there: `NoFilter`, `TooManyFilters`, `BadName`
     /// (of a filter, the node or the cluster), `BadBudget` or `DoubledName`; or for want of memory, by `Memory`. Of several
     /// faults one is answered.

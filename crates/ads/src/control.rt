@@ -20,8 +20,8 @@ pub struct Control {
 
 impl Control {
     ghost use Rattle.ads.specs.Control.{ServesBytes, new_control, stream_lost};
-    ghost use Rattle.ads.specs.steps.Serving.{control_view, snapshots_view};
-
+    ghost use Rattle.ads.specs.Ends.{control_view};
+    ghost use Rattle.ads.specs.Views.{snapshots_view};
     /// A control plane of these snapshots, numbered from 1, of which nothing was asked. It takes no memory.
     pub fn new(alloc: Global, snapshots: Vec<Snapshot>) -> Control
         ensures { control_view result ≡ new_control (snapshots_view snapshots.items) }

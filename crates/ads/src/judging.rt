@@ -8,8 +8,10 @@ ghost use Rattle.proto_wire.specs.declared.refusal.Refusal.TheVariants.{Duplicat
 ghost use Rattle.xds_wire.specs.Envelope.{SomeOf};
 ghost use Rattle.xds_wire.specs.View.{any_view, extension_view, response_view};
 ghost use Rattle.ads.specs.Answer.{IsResource, ResourceFault, HoldsFilter, HoldsSome, ExtensionIsRefused, Gives, named, extension_type};
-ghost use Rattle.ads.specs.steps.Views.{entries_view, filter_of};
-ghost use Rattle.ads.specs.steps.Taking.{IsDoubled, TakeFault, IsTaken, IsJudged, admitted_view};
+ghost use Rattle.ads.specs.Views.{entries_view};
+ghost use Rattle.ads.specs.steps.Taking.{filter_of};
+ghost use Rattle.ads.specs.Views.{admitted_view};
+ghost use Rattle.ads.specs.steps.Taking.{IsDoubled, TakeFault, IsTaken, IsJudged};
 
 use crate::config::Config;
 use attributes::Limits;

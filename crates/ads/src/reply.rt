@@ -5,7 +5,7 @@ ghost use Rattle.std.specs.String.{string_bytes};
 ghost use Rattle.xds_wire.specs.View.{request_view, response_view, status_view, texts_view};
 ghost use Rattle.ads.specs.Config.{names_of};
 ghost use Rattle.ads.specs.Answer.{ack_of, request_of, code_of, status_of, node_of};
-ghost use Rattle.ads.specs.steps.Views.{entries_view};
+ghost use Rattle.ads.specs.Views.{entries_view};
 ghost use Rattle.ads.specs.steps.Drafts.{AddsFrame};
 
 use crate::config::Config;

@@ -3,7 +3,8 @@
 ghost use Rattle.std.specs.Prelude.{◌≡◌, ◌≢◌, ℕ, false, [], List, decimal, IfOk, MatchBool, MatchOption};
 ghost use Rattle.xds_wire.specs.View.{request_view, texts_view};
 ghost use Rattle.ads.specs.Control.{AreServed, Sends, Advances, IsSnapshot, ResourceValue};
-ghost use Rattle.ads.specs.steps.Serving.{snapshot_view, snapshots_view, served_view, IsKind, AddsReplies, IsServed, MessageIsServed};
+ghost use Rattle.ads.specs.Views.{snapshot_view, snapshots_view, served_view};
+ghost use Rattle.ads.specs.steps.Serving.{IsKind, AddsReplies, IsServed, MessageIsServed};
 
 use crate::answer::is_memory;
 use crate::judging::EXTENSION_TYPE;

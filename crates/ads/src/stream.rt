@@ -4,11 +4,12 @@ ghost use Rattle.std.specs.Prelude.{◌≡◌, ◌++◌, ℕ, false, [], List, B
 ghost use Rattle.xds_wire.specs.Frames.{Cut, IsBeginning, Tail};
 ghost use Rattle.xds_wire.specs.Stream as wire;
 ghost use Rattle.ads.specs.Client.{AreAnswered, most_bytes, stream_after};
-ghost use Rattle.ads.specs.steps.Taking.{policies_view};
+ghost use Rattle.ads.specs.Views.{policies_view};
 ghost use Rattle.ads.specs.steps.Streams.{StreamIsBroken};
-ghost use Rattle.ads.specs.steps.Drafts.{Covers, draft_view, state_view};
+ghost use Rattle.ads.specs.Ends.{state_view};
+ghost use Rattle.ads.specs.steps.Drafts.{Covers, draft_view};
 ghost use Rattle.ads.specs.Control.{AreServed};
-ghost use Rattle.ads.specs.steps.Serving.{served_view, snapshots_view};
+ghost use Rattle.ads.specs.Views.{served_view, snapshots_view};
 
 use crate::accepted::{Draft, State};
 use crate::answer::answer_all;

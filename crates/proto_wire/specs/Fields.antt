@@ -29,7 +29,7 @@ wire_type_of (i64 n) = WireType.I64
 wire_type_of (len bytes) = WireType.Len
 wire_type_of (i32 n) = WireType.I32
 
--- the number that stands for a wire type in the low three bits of a tag
+-- the number of a wire type, in the low three bits of a tag
 abbrev pub tag_bits : WireType → ℕ
 tag_bits WireType.Varint = 0
 tag_bits WireType.I64 = 1
@@ -40,8 +40,7 @@ tag_bits WireType.I32 = 5
 abbrev pub IsFieldNumber : ℕ → Type 0
 IsFieldNumber n = (1 ≤ n) × (n ≤ 536870911)
 
--- the bytes of a payload, as they stand behind its tag; an I64 and an I32 have their lowest byte
--- first
+-- the bytes of a payload, as they follow its tag; an I64 and an I32 have their lowest byte first
 abbrev pub SpellsPayload : List ℕ → Payload → Type 0
 SpellsPayload bytes (varint n) = SpellsVarint bytes n
 SpellsPayload bytes (i64 n) = (length bytes ≡ 8) × (n ≡ from_le_bytes w64 bytes)
@@ -64,12 +63,12 @@ pub record StartsField (bytes : List ℕ) (f : Wire) (rest : List ℕ) : Type 0 
   pub spells : SpellsField spelling f
   pub whole : bytes ≡ spelling ++ rest
 
--- the bytes are spellings of the fields, one after the other, and then the rest
+-- the bytes are spellings of the fields, in order, and then the rest
 abbrev pub After : List ℕ → List Wire → List ℕ → Type 0
 After bytes [] rest = bytes ≡ rest
 After bytes (f ∷ fs) rest = (behind : List ℕ) × StartsField bytes f behind × After behind fs rest
 
--- the bytes are spellings of the fields, one after the other
+-- the bytes are spellings of the fields, in order
 abbrev pub Fields : List ℕ → List Wire → Type 0
 Fields bytes fs = After bytes fs []
 

@@ -1,5 +1,5 @@
 -- Maps: Protocol Buffers encoding guide, "Maps". A map is a repeated message with a key 1 and a
--- value 2; an absent part is its default, and the last entry of a key wins. An entry with a fault
+-- value 2. An absent part is its default, and the last entry of a key wins. An entry with a fault
 -- of its own neither replaces another nor is replaced.
 use Rattle.std.specs.Prelude.{◌≡◌, ◌≢◌, ℕ, ℤ, ◌⊎◌, List, [], ◌∷◌, Some, None, map, reverse, Contains, IsSomeAnd, MatchOption, IsUtf8}
 use Rattle.std.specs.Borrow.{Bor}
@@ -100,7 +100,7 @@ Readable kind (part ∷ parts) read =
 
 -- ---- values
 
--- at each key stands the value that the key's payloads merge to, and nothing at other keys
+-- at each key is the value that the key's payloads merge to, and nothing at other keys
 abbrev pub AreValues : (kind : KeyKind) {V : Type 0} → (List (List ℕ) → V → Type 0)
     → FinMap (key_cmp kind) (List (List ℕ)) → FinMap (key_cmp kind) V → Type 0
 AreValues kind IsValue named values = (key : KeyOf kind)
@@ -119,8 +119,8 @@ abbrev pub IsMap : (kind : KeyKind) {V : Type 0} → (List (List ℕ) → V → 
 IsMap kind IsValue parts values = (es : List (Entry kind)) × AreEntries kind parts es
     × AreValues kind IsValue (map_of kind es) values
 
--- a fault of a map: of an entry; of the value of a key; and of the value that an entry with a fault
--- of its own holds, which is no part of the map
+-- a fault of a map: of an entry, or of the value of a key. Also of the value inside an entry that
+-- has a fault of its own, although that is no part of the map
 pub data MapFault (kind : KeyKind) (ValueFault : List (List ℕ) → Refusal → Type 0)
     (parts : List (List ℕ)) (e : Refusal) : Type 0 where
   in_entry : SomeEntryFault kind parts e → MapFault kind ValueFault parts e

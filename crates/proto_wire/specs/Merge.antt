@@ -1,5 +1,5 @@
--- A message that stands in several payloads: Protocol Buffers encoding guide, "Last One Wins"
--- (embedded message fields merge).
+-- A message in several payloads: Protocol Buffers encoding guide, "Last One Wins" (embedded message
+-- fields merge).
 use Rattle.std.specs.Prelude.{◌≡◌, ℕ, ◌⊎◌, List, [], ◌∷◌, ◌++◌, map}
 use Rattle.std.specs.Borrow.{Bor}
 use Rattle.proto_wire.specs.Fields.{Wire, Fields, Broken, IsBroken}
@@ -9,7 +9,7 @@ use Rattle.proto_wire.specs.declared.fault.WireError.{WireError}
 abbrev pub parts_view : List (Bor (List ℕ)) → List (List ℕ)
 parts_view slices = map (λ s. s.now) slices
 
--- the fields of a message that stands in several payloads, put one after the other, each of them
+-- the fields of a message in several payloads: those of each payload in order, each payload being
 -- whole fields by itself
 abbrev pub Merges : List (List ℕ) → List Wire → Type 0
 Merges [] fs = fs ≡ []

@@ -12,7 +12,7 @@ use Rattle.proto_wire.specs.declared.key.Key.{Key}
 abbrev pub PartsFault : List (List ℕ) → Refusal → Type 0
 PartsFault parts e = Breaks parts × (e ≡ BadWire)
 
--- the payloads, put one after the other, are these fields, and each field is known
+-- the payloads, joined in order, are these fields, and each field is known
 abbrev pub IsMessage : List Key → List (List ℕ) → List Wire → Type 0
 IsMessage keys parts fs = Merges parts fs × AllKnown keys fs
 

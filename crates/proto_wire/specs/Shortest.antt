@@ -1,5 +1,5 @@
 -- What writers write: Protocol Buffers encoding guide, "Base 128 Varints" and "Message Structure".
--- Each number stands in its shortest spelling.
+-- Each number has its shortest spelling.
 use Rattle.std.specs.Prelude.{◌≡◌, ℕ, ◌+◌, ◌*◌, ◌<◌, ◌≤◌, List, [], ◌∷◌, ◌++◌, length}
 use Rattle.std.specs.List.{AllByRecursion}
 use Rattle.proto_wire.specs.Varint.{SpellsVarint}
@@ -11,7 +11,7 @@ pub record ShortestVarint (bytes : List ℕ) (n : ℕ) : Type 0 where
   pub spells : SpellsVarint bytes n
   pub shortest : (other : List ℕ) → SpellsVarint other n → length bytes ≤ length other
 
--- the bytes of a payload, behind its tag
+-- the bytes of a payload, after its tag
 abbrev pub ShortestPayload : List ℕ → Payload → Type 0
 ShortestPayload bytes (varint n) = ShortestVarint bytes n
 ShortestPayload bytes (len inner) =
@@ -27,7 +27,7 @@ pub record ShortestField (bytes : List ℕ) (f : Wire) : Type 0 where
   pub shortest_payload : ShortestPayload behind f.payload
   pub whole : bytes ≡ tag ++ behind
 
--- the bytes are the fields, one after the other, each number in its shortest spelling
+-- the bytes are the fields, in order, each number in its shortest spelling
 abbrev pub Shortest : List Wire → List ℕ → Type 0
 Shortest [] bytes = bytes ≡ []
 Shortest (f ∷ fs) bytes =
@@ -37,6 +37,6 @@ Shortest (f ∷ fs) bytes =
 abbrev pub field_of : ℕ → Payload → Wire
 field_of n p = record { number = n; payload = p }
 
--- the field stands behind what was there
+-- the field follows what was there
 abbrev pub Appends : List ℕ → Wire → List ℕ → Type 0
 Appends before f after = (bytes : List ℕ) × Shortest (f ∷ []) bytes × (after ≡ before ++ bytes)

@@ -1,5 +1,4 @@
--- What single steps of the code come to: clauses of private functions cite these, and no promise
--- does.
+-- What single steps of the code do: clauses of private functions cite these, and no promise does.
 pub mod Maps
 pub mod Payload
 pub mod Run

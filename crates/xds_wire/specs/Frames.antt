@@ -14,7 +14,7 @@ head_of n = 0 ∷ to_be_bytes w32 n
 abbrev pub frame_of : List ℕ → List ℕ
 frame_of message = head_of (length message) ++ message
 
--- the frames of the messages, one after the other
+-- the frames of the messages, in order
 abbrev pub frames_of : List (List ℕ) → List ℕ
 frames_of messages = flat_map frame_of messages
 
@@ -40,12 +40,12 @@ pub data Breaks (max : ℕ) (rest : List ℕ) (fault : FrameFault) : Type 0 wher
   too_long : (n : ℕ) (more : List ℕ) → rest ≡ head_of n ++ more → n < 2 ^ 32 → max < n
       → fault ≡ faults.TooLong → Breaks max rest fault
 
--- what stands behind whole frames: a proper beginning of one, or bytes that begin none
+-- what follows whole frames: a proper beginning of one, or bytes that begin none
 pub data Tail : Type 0 where
   unfinished : List ℕ → Tail
   broken : FrameFault → Tail
 
--- the bytes behind whole frames are such a tail
+-- the bytes after whole frames are such a tail
 abbrev pub IsTail : ℕ → List ℕ → Tail → Type 0
 IsTail max rest (unfinished bytes) = (bytes ≡ rest) × IsBeginning max rest
 IsTail max rest (broken fault) = Breaks max rest fault

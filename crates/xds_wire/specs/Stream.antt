@@ -3,7 +3,7 @@ use Rattle.std.specs.Prelude.{◌≡◌, ℕ, Option, Some, None, List, [], ◌�
 use Rattle.xds_wire.specs.Frames.{IsBeginning, Tail, unfinished, broken, Cut, error_of}
 use Rattle.xds_wire.specs.declared.fault.FrameError.{FrameError}
 
--- the limit of a message, the messages that were not handed out yet, and what stands behind them
+-- the limit of a message, the messages that were not taken yet, and what follows them
 pub record Kept : Type 0 where
   pub max : ℕ
   pub messages : List (List ℕ)
@@ -13,12 +13,12 @@ pub record Kept : Type 0 where
 abbrev pub start : ℕ → Kept
 start max = record { max = max; messages = []; tail = unfinished [] }
 
--- what further bytes behind a tail make: the rest and the bytes are cut, and what is broken stays so
+-- what more bytes make of a tail: the rest and the bytes are cut, and what is broken stays so
 abbrev pub Resumes : ℕ → Tail → List ℕ → List (List ℕ) → Tail → Type 0
 Resumes max (unfinished rest) bytes messages tail = Cut (rest ++ bytes) max messages tail
 Resumes max (broken fault) bytes messages tail = (messages ≡ []) × (tail ≡ broken fault)
 
--- bytes are fed: their messages come behind those that are kept
+-- bytes are fed: their messages follow those that are kept
 abbrev pub Feeds : Kept → List ℕ → Kept → Type 0
 Feeds old bytes new =
     (messages : List (List ℕ)) × Resumes old.max old.tail bytes messages new.tail
@@ -40,7 +40,7 @@ abbrev pub IsBrokenBy : Tail → FrameError → Type 0
 IsBrokenBy (unfinished rest) e = ⊥
 IsBrokenBy (broken fault) e = e ≡ error_of fault
 
--- bytes behind a tail complete no frame and break none
+-- bytes after a tail complete no frame and break none
 abbrev pub StaysPartial : ℕ → Tail → List ℕ → Type 0
 StaysPartial max (unfinished rest) bytes = IsBeginning max (rest ++ bytes)
 StaysPartial max (broken fault) bytes = ⊥
@@ -55,7 +55,7 @@ abbrev pub Steps : Kept → Call → Kept → Type 0
 Steps old (fed bytes) new = Feeds old bytes new
 Steps old (taken answer) new = Takes old answer new
 
--- calls one after the other
+-- calls in a row
 abbrev pub Runs : Kept → List Call → Kept → Type 0
 Runs old [] new = new ≡ old
 Runs old (call ∷ calls) new = (next : Kept) × Steps old call next × Runs next calls new
@@ -66,7 +66,7 @@ bytes_fed [] = []
 bytes_fed (fed bytes ∷ calls) = bytes ++ bytes_fed calls
 bytes_fed (taken answer ∷ calls) = bytes_fed calls
 
--- all messages that the calls handed out
+-- all messages that the calls gave
 abbrev pub messages_taken : List Call → List (List ℕ)
 messages_taken [] = []
 messages_taken (fed bytes ∷ calls) = messages_taken calls

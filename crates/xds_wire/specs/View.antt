@@ -1,4 +1,4 @@
--- What the code's messages stand for: their texts and bytes, without where they lie in memory.
+-- What the code's messages mean: their texts and bytes, without their places in memory.
 use Rattle.std.specs.Prelude.{ℕ, List, option_map, map}
 use Rattle.std.specs.Borrow.{Bor}
 use Rattle.xds_wire.specs.Discovery.{AnyMessage, StatusMessage, NodeMessage, RequestMessage, ResponseMessage, ExtensionMessage}
@@ -13,19 +13,19 @@ use Rattle.xds_wire.specs.declared.extension.TypedExtensionConfig.{TypedExtensio
 abbrev pub texts_view : List (Bor (List ℕ)) → List (List ℕ)
 texts_view texts = map (λ text. text.now) texts
 
--- the message that an Any stands for
+-- the message of an Any
 abbrev pub any_view : Any → AnyMessage
 any_view any = record { type_url = any.type_url.now; value = any.value.now }
 
--- the message that a status stands for
+-- the message of a status
 abbrev pub status_view : Status → StatusMessage
 status_view status = record { code = status.code; message = status.message.now }
 
--- the message that a node stands for
+-- the message of a node
 abbrev pub node_view : Node → NodeMessage
 node_view node = record { id = node.id.now; cluster = node.cluster.now }
 
--- the message that a request stands for
+-- the message of a request
 abbrev pub request_view : DiscoveryRequest → RequestMessage
 request_view request = record {
   version_info = request.version_info.now;
@@ -36,7 +36,7 @@ request_view request = record {
   error_detail = option_map status_view request.error_detail;
 }
 
--- the message that a response stands for
+-- the message of a response
 abbrev pub response_view : DiscoveryResponse → ResponseMessage
 response_view response = record {
   version_info = response.version_info.now;
@@ -45,7 +45,7 @@ response_view response = record {
   nonce = response.nonce.now;
 }
 
--- the message that an extension stands for
+-- the message of an extension
 abbrev pub extension_view : TypedExtensionConfig → ExtensionMessage
 extension_view extension = record {
   name = extension.name.now;

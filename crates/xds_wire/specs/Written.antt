@@ -1,4 +1,4 @@
--- What writers write of the discovery messages: Protocol Buffers encoding guide. Fields stand in ascending
+-- What writers write of the discovery messages: Protocol Buffers encoding guide. Fields are in ascending
 -- order of number, each number in its shortest spelling, and defaults are left out.
 use Rattle.std.specs.Prelude.{◌≡◌, ℕ, ℤ, ◌==◌, Option, Some, None, List, [], ◌∷◌, ◌++◌, map, if◌then◌else◌, IsUtf8, IfSome, FitsSigned}
 use Rattle.std.specs.Int.{w32, w64, cast_unsigned}
@@ -34,7 +34,7 @@ AreEach Written k (m ∷ ms) fs =
     (bytes : List ℕ) × (rest : List Wire) × Written m bytes × AreEach Written k ms rest
     × (fs ≡ field_of k (len bytes) ∷ rest)
 
--- the bytes are the fields of these groups, one after the other
+-- the bytes are the fields of these groups, in order
 abbrev pub SpellsGroups : List (List Wire) → List ℕ → Type 0
 SpellsGroups groups bytes = Shortest (flat_map (λ fs. fs) groups) bytes
 
@@ -80,7 +80,7 @@ pub record ExtensionWritten (m : ExtensionMessage) (bytes : List ℕ) : Type 0 w
   pub config_fields : AreOptional AnyWritten extension_typed_config_field m.typed_config typed_config
   pub spells : SpellsGroups (string_fields extension_name_field m.name ∷ typed_config ∷ []) bytes
 
--- a message stands behind what was there
+-- a message follows what was there
 abbrev pub AddsMessage : (List ℕ → Type 0) → List ℕ → List ℕ → Type 0
 AddsMessage Written before after = (bytes : List ℕ) × Written bytes × (after ≡ before ++ bytes)
 

@@ -8,19 +8,8 @@ use Rattle.xds_wire.specs.Written.{RequestWritten}
 use Rattle.rbac_policy.specs.declared.filter.Admitted.{Admitted}
 use Rattle.ads.specs.Config.{ConfigValue}
 use Rattle.ads.specs.Answer.{Accepted, AdmittedValue, Answers, replaced}
-use Rattle.ads.specs.Client.{ClientValue}
-use Rattle.ads.specs.declared.client.Client.{Client}
-use Rattle.ads.specs.steps.Taking.{policies_view}
+use Rattle.ads.specs.Views.{policies_view}
 use Rattle.ads.specs.declared.accepted.Draft.{Draft}
-use Rattle.ads.specs.declared.accepted.State.{State}
-
--- the accepted state that the code keeps
-abbrev pub state_view : State → Accepted
-state_view s = record {
-  version = string_bytes s.version;
-  policies = policies_view s.policies.items;
-  generation = s.generation;
-}
 
 -- the accepted state that the draft makes of these policies
 abbrev pub draft_view : List (Option AdmittedValue) → Draft → Accepted
@@ -50,11 +39,3 @@ abbrev pub IsAnswered : ConfigValue → Accepted → List ℕ → List ℕ → L
 IsAnswered c old message before after new =
     (response : ResponseMessage) × (reply : RequestMessage) × IsResponse message response
     × Answers c response old reply new × AddsFrame reply before after
-
--- what a client is
-abbrev pub client_view : Client → ClientValue
-client_view c = record {
-  config = c.config;
-  stream = c.stream;
-  accepted = state_view c.accepted;
-}

@@ -1,27 +1,10 @@
 -- What the parts of a control stand for, and what the serving of one request does (this project's own).
-use Rattle.std.specs.Prelude.{◌≡◌, ℕ, Bool, List, [], ◌++◌, map}
-use Rattle.std.specs.String.{string_bytes}
+use Rattle.std.specs.Prelude.{◌≡◌, ℕ, Bool, List, [], ◌++◌}
 use Rattle.xds_wire.specs.Discovery.{AnyMessage, RequestMessage, IsRequest}
 use Rattle.xds_wire.specs.Written.{ResponseWritten}
 use Rattle.ads.specs.Answer.{extension_type}
-use Rattle.ads.specs.Control.{ResourceValue, ServedValue, ControlValue, IsFirst, IsAck, IsNack, Serves, IsNoRequest}
-use Rattle.ads.specs.declared.snapshot.Resource.{Resource}
-use Rattle.ads.specs.declared.snapshot.Snapshot.{Snapshot}
-use Rattle.ads.specs.declared.serving.Served.{Served}
+use Rattle.ads.specs.Control.{ResourceValue, ServedValue, IsFirst, IsAck, IsNack, Serves, IsNoRequest}
 use Rattle.ads.specs.declared.serving.Kind.{Kind}
-use Rattle.ads.specs.declared.control.Control.{Control}
-
--- the resource that a `Resource` stands for
-abbrev pub resource_view : Resource → ResourceValue
-resource_view r = record { name = string_bytes r.name; filter = r.filter.items }
-
--- the resources of a snapshot
-abbrev pub snapshot_view : Snapshot → List ResourceValue
-snapshot_view s = map resource_view s.resources.items
-
--- the snapshots in order
-abbrev pub snapshots_view : List Snapshot → List (List ResourceValue)
-snapshots_view snapshots = map snapshot_view snapshots
 
 -- the resource that has these bytes
 abbrev pub any_of : List ℕ → AnyMessage
@@ -35,23 +18,6 @@ ResponseIsOf version nonce resources bytes = ResponseWritten (record {
   type_url = extension_type;
   nonce = nonce;
 }) bytes
-
--- what was served, as a `Served` keeps it
-abbrev pub served_view : Served → ServedValue
-served_view s = record {
-  current = s.current;
-  sent = s.sent;
-  last = s.last;
-  acknowledged = s.acknowledged;
-}
-
--- what a control is
-abbrev pub control_view : Control → ControlValue
-control_view c = record {
-  snapshots = snapshots_view c.snapshots.items;
-  stream = c.stream;
-  served = served_view c.served;
-}
 
 -- what a request is; all others are ignored
 abbrev pub IsKind : ServedValue → RequestMessage → Kind → Type 0

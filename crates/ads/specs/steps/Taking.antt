@@ -1,14 +1,13 @@
 -- What a filter takes of the extensions of a response (this project's own).
-use Rattle.std.specs.Prelude.{◌≡◌, ◌⊎◌, ℕ, Option, List, ◌∷◌, map, option_map}
+use Rattle.std.specs.Prelude.{◌≡◌, ◌⊎◌, ℕ, List, ◌∷◌}
 use Rattle.std.specs.List.{AllZip}
 use Rattle.attributes.specs.Limits.{LimitsValue}
 use Rattle.proto_wire.specs.declared.refusal.Refusal.{Refusal}
 use Rattle.xds_wire.specs.Discovery.{ExtensionMessage, ResponseMessage}
 use Rattle.xds_wire.specs.Envelope.{SomeOf}
-use Rattle.rbac_policy.specs.Admitted.{filter_view, limits_view}
-use Rattle.rbac_policy.specs.declared.filter.Admitted.{Admitted}
 use Rattle.ads.specs.Config.{FilterValue, ConfigValue}
-use Rattle.ads.specs.Answer.{AdmittedValue, HoldsSome, IsAdmitting, named, Gives, ExtensionIsRefused, IsResource, Refuses, extension_type}
+use Rattle.ads.specs.Answer.{HoldsSome, IsAdmitting, named, Gives, ExtensionIsRefused, IsResource, Refuses, extension_type}
+use Rattle.ads.specs.Views.{policies_view}
 use Rattle.ads.specs.declared.judging.Judged.{Judged}
 use Rattle.ads.specs.declared.judging.Judged.TheVariants as judged
 
@@ -21,14 +20,6 @@ pub data TakeFault (limits : LimitsValue) (f : FilterValue) (xs : List Extension
   twice : IsDoubled f.name xs → e ≡ Refusal.DuplicateResource → TakeFault limits f xs e
   out_of_memory : SomeOf HoldsSome (named f.name xs) → e ≡ Refusal.Memory → TakeFault limits f xs e
   bad : SomeOf (λ x. ExtensionIsRefused limits f x e) (named f.name xs) → TakeFault limits f xs e
-
--- what an `Admitted` stands for
-abbrev pub admitted_view : Admitted → AdmittedValue
-admitted_view a = record { filter = filter_view a; limits = limits_view a }
-
--- what filters have
-abbrev pub policies_view : List (Option Admitted) → List (Option AdmittedValue)
-policies_view policies = map (option_map admitted_view) policies
 
 -- what the extensions give, or what refuses them
 abbrev pub IsTaken : LimitsValue → List FilterValue → List ExtensionMessage → Judged → Type 0
@@ -44,3 +35,7 @@ IsJudged c response (judged.Given given) =
     × (extensions : List ExtensionMessage) × AllZip IsResource response.resources extensions
     × AllZip (λ f. Gives c.limits f (named f.name extensions)) c.filters (policies_view given.items)
 IsJudged c response (judged.Refused e) = ((e ≡ Refusal.Memory) × IsAdmitting c response) ⊎ Refuses c response e
+
+-- the filter of this name and budget
+abbrev pub filter_of : List ℕ → ℕ → FilterValue
+filter_of name budget = record { name = name; budget = budget }

@@ -1,8 +1,8 @@
--- The values of a map, one after the other.
+-- The values of a map, in order.
 use Rattle.std.specs.Prelude.{◌≡◌, ℕ, List, [], ◌∷◌}
 use Rattle.proto_wire.specs.Maps.{KeyKind, KeyOf, Entry}
 
--- the values stand at the keys of the payloads, each in its place
+-- the values are at the keys of the payloads, each in its place
 abbrev pub Held : (kind : KeyKind) {V : Type 0} → (List (List ℕ) → V → Type 0)
     → List (Entry kind) → List (KeyOf kind × V) → Type 0
 Held kind IsValue [] values = values ≡ []

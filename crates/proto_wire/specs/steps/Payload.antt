@@ -1,4 +1,4 @@
--- One payload, behind its tag.
+-- One payload, after its tag.
 use Rattle.std.specs.Prelude.{◌≡◌, ℕ, List, ◌++◌}
 use Rattle.proto_wire.specs.Fields.{Payload, wire_type_of, tag_bits, SpellsPayload}
 

@@ -11,7 +11,7 @@ use Rattle.xds_wire.specs.declared.state.State.TheVariants as states
 abbrev pub head_view : Head → List ℕ
 head_view head = take head.count head.bytes
 
--- what the state stands for
+-- what the state means
 abbrev pub tail_view : State → Tail
 tail_view (states.Head head) = unfinished (head_view head)
 tail_view (states.Data kept) = unfinished (head_of kept.length ++ kept.bytes.items)

@@ -1,8 +1,8 @@
--- Fields that are put behind bytes.
+-- Fields that are appended to bytes.
 use Rattle.std.specs.Prelude.{◌≡◌, ℕ, List, ◌++◌}
 use Rattle.proto_wire.specs.Fields.{Wire}
 use Rattle.proto_wire.specs.Shortest.{Shortest}
 
--- the fields stand behind what was there
+-- the fields follow what was there
 abbrev pub Adds : List ℕ → List Wire → List ℕ → Type 0
 Adds before fs after = (bytes : List ℕ) × Shortest fs bytes × (after ≡ before ++ bytes)

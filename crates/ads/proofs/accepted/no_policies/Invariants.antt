@@ -1,7 +1,7 @@
 use Rattle.std.proofs.Common.{◌≡◌, ◌++◌, None, map}
 use Rattle.std.specs.Map.Iter.{deref_pair}
-use Rattle.ads.specs.steps.Views.{entries_view}
-use Rattle.ads.specs.steps.Taking.{policies_view}
+use Rattle.ads.specs.Views.{entries_view}
+use Rattle.ads.specs.Views.{policies_view}
 use Rattle.ads.proofs.accepted.no_policies.Given as goal
 
 abbrev pub invariant-loop-name : goal.invariant-loop-name

@@ -1,5 +1,5 @@
 use Rattle.std.proofs.Common.{◌≡◌, length, sym, ◌∙◌, []}
-use Rattle.ads.specs.steps.Taking.{policies_view}
+use Rattle.ads.specs.Views.{policies_view}
 use Rattle.ads.proofs.PlaceLemmas.{place_none, place_some, replaced_nothing, no_length}
 use Rattle.ads.proofs.accepted.place.Goals as goal
 

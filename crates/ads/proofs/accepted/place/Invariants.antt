@@ -1,6 +1,6 @@
 use Rattle.std.proofs.Common.{◌≡◌, ◌≤◌, length}
 use Rattle.ads.specs.Answer.{replaced}
-use Rattle.ads.specs.steps.Taking.{policies_view}
+use Rattle.ads.specs.Views.{policies_view}
 use Rattle.ads.proofs.accepted.place.Given as goal
 
 abbrev pub invariant-loop-newest : goal.invariant-loop-newest

@@ -1,6 +1,6 @@
 use Rattle.std.proofs.lemmas.Result.{err_from_is_err_and}
 use Rattle.ads.specs.Config.{FilterIsAtFault}
-use Rattle.ads.specs.steps.Views.{filter_view}
+use Rattle.ads.specs.Views.{filter_view}
 use Rattle.ads.proofs.Lists.{some_at}
 use Rattle.ads.proofs.config.check_filters.Goals as goal
 

@@ -1,6 +1,6 @@
 use Rattle.std.proofs.Common.{inl, inr, refl}
 use Rattle.ads.specs.Config.{HasName, Repeats}
-use Rattle.ads.specs.steps.Views.{filters_view}
+use Rattle.ads.specs.Views.{filters_view}
 use Rattle.xds_wire.specs.Envelope.{SomeOf}
 use Rattle.ads.proofs.config.check_names.Goals as goal
 

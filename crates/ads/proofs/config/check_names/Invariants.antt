@@ -1,6 +1,6 @@
 use Rattle.std.proofs.Common.{length}
 use Rattle.ads.specs.Config.{Repeats}
-use Rattle.ads.specs.steps.Views.{filters_view}
+use Rattle.ads.specs.Views.{filters_view}
 use Rattle.ads.proofs.config.check_names.Given as goal
 
 abbrev pub invariant-loop-first : goal.invariant-loop-first

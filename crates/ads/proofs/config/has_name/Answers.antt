@@ -1,7 +1,7 @@
 use Rattle.std.proofs.Common.{◌≡◌, sym, ◌∙◌, true≢false}
 use Rattle.std.proofs.lemmas.Slice.Eq.{bytes_eq-Decides}
 use Rattle.ads.specs.Config.{HasName}
-use Rattle.ads.specs.steps.Views.{filter_view}
+use Rattle.ads.specs.Views.{filter_view}
 use Rattle.ads.proofs.Lists.{some_at, none_more}
 use Rattle.ads.proofs.config.has_name.Goals as goal
 

@@ -1,7 +1,7 @@
 use Rattle.std.proofs.Common.{take}
 use Rattle.xds_wire.specs.Envelope.{SomeOf}
 use Rattle.ads.specs.Config.{HasName}
-use Rattle.ads.specs.steps.Views.{filters_view}
+use Rattle.ads.specs.Views.{filters_view}
 use Rattle.ads.proofs.config.has_name.Given as goal
 
 abbrev pub invariant-loop-filter : goal.invariant-loop-filter

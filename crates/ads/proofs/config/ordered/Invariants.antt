@@ -1,5 +1,5 @@
 use Rattle.std.proofs.Common.{◌≡◌, ◌++◌}
-use Rattle.ads.specs.steps.Views.{filters_view, entries_view}
+use Rattle.ads.specs.Views.{filters_view, entries_view}
 use Rattle.ads.proofs.config.ordered.Given as goal
 
 abbrev pub invariant-loop-filter : goal.invariant-loop-filter

@@ -3,8 +3,8 @@ use Rattle.std.specs.Map.Iter.{deref_pair}
 use Rattle.std.specs.List.{AllZip}
 use Rattle.xds_wire.specs.View.{extension_view}
 use Rattle.ads.specs.Answer.{Gives, named}
-use Rattle.ads.specs.steps.Views.{entries_view}
-use Rattle.ads.specs.steps.Taking.{policies_view}
+use Rattle.ads.specs.Views.{entries_view}
+use Rattle.ads.specs.Views.{policies_view}
 use Rattle.ads.proofs.judging.take_all.Given as goal
 
 abbrev pub invariant-loop-name : goal.invariant-loop-name

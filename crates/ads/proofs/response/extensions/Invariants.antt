@@ -3,7 +3,7 @@ use Rattle.std.specs.List.{AllZip}
 use Rattle.xds_wire.specs.View.{texts_view}
 use Rattle.xds_wire.specs.Written.{ExtensionWritten}
 use Rattle.ads.specs.Control.{asked, extension_of}
-use Rattle.ads.specs.steps.Serving.{resource_view}
+use Rattle.ads.specs.Views.{resource_view}
 use Rattle.ads.proofs.response.extensions.Given as goal
 
 abbrev pub invariant-loop-resource : goal.invariant-loop-resource

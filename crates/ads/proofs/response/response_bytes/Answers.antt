@@ -1,7 +1,7 @@
 use Rattle.std.proofs.Common.{◌∙◌, ℕ, Vec, Global}
 use Rattle.std.proofs.lemmas.Result.{IfOk-weaker}
 use Rattle.xds_wire.specs.View.{texts_view}
-use Rattle.ads.specs.steps.Serving.{snapshot_view}
+use Rattle.ads.specs.Views.{snapshot_view}
 use Rattle.ads.proofs.ServingLemmas.{is_response}
 use Rattle.ads.proofs.response.response_bytes.Goals as goal
 

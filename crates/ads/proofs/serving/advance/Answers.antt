@@ -1,7 +1,7 @@
 use Rattle.std.proofs.lemmas.List.{length-map}
 use Rattle.std.proofs.lemmas.Result.{IfOk-weaker}
 use Rattle.ads.specs.Control.{next}
-use Rattle.ads.specs.steps.Serving.{snapshot_view}
+use Rattle.ads.specs.Views.{snapshot_view}
 use Rattle.ads.proofs.serving.advance.Goals as goal
 
 pub returns : goal.returns

@@ -2,7 +2,7 @@ use Rattle.std.proofs.Common.{◌≡◌, ◌<◌, ◌≤◌, ◌++◌, arith, re
 use Rattle.xds_wire.specs.Frames.{frame_of}
 use Rattle.ads.specs.Client.{most_bytes}
 use Rattle.ads.specs.Control.{too_many, too_long, sent}
-use Rattle.ads.specs.steps.Serving.{snapshot_view}
+use Rattle.ads.specs.Views.{snapshot_view}
 use Rattle.ads.proofs.serving.send.Goals as goal
 
 pub returns-in_default-checked_add : goal.returns-in_default-checked_add

@@ -1,6 +1,6 @@
 use Rattle.std.proofs.Common.{refl, sym, ap, ◌∙◌}
 use Rattle.xds_wire.specs.Stream.{Kept}
-use Rattle.ads.specs.steps.Serving.{served_view, snapshots_view}
+use Rattle.ads.specs.Views.{served_view, snapshots_view}
 use Rattle.ads.proofs.ServingLemmas.{goes_on_from, goes_on_more, goes_on_end, goes_on_stop}
 use Rattle.ads.proofs.serving.serve_all.Goals as goal
 

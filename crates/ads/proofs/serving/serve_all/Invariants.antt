@@ -1,5 +1,5 @@
 use Rattle.std.proofs.Common.{◌≡◌, length}
-use Rattle.ads.specs.steps.Serving.{served_view, snapshots_view}
+use Rattle.ads.specs.Views.{served_view, snapshots_view}
 use Rattle.ads.proofs.ServingLemmas.{GoesOn}
 use Rattle.ads.proofs.serving.serve_all.Given as goal
 

@@ -2,7 +2,7 @@ use Rattle.std.proofs.Common.{refl, sym, ap, [], append-nil}
 use Rattle.std.proofs.lemmas.Result.{IfOk-weaker}
 use Rattle.xds_wire.specs.View.{request_view, texts_view}
 use Rattle.ads.specs.Control.{ignored}
-use Rattle.ads.specs.steps.Serving.{served_view, snapshots_view}
+use Rattle.ads.specs.Views.{served_view, snapshots_view}
 use Rattle.ads.proofs.ServingLemmas.{first_served, ack_served, nack_served}
 use Rattle.ads.proofs.serving.serve_request.Goals as goal
 

@@ -1,7 +1,8 @@
 use Rattle.std.proofs.Common.{List, Option}
 use Rattle.ads.specs.Answer.{AdmittedValue}
-use Rattle.ads.specs.steps.Taking.{policies_view}
-use Rattle.ads.specs.steps.Drafts.{state_view, draft_view}
+use Rattle.ads.specs.Views.{policies_view}
+use Rattle.ads.specs.Ends.{state_view}
+use Rattle.ads.specs.steps.Drafts.{draft_view}
 use Rattle.ads.proofs.AnswerLemmas.{from_answers}
 use Rattle.ads.proofs.StreamLemmas.{fed_cut}
 use Rattle.ads.proofs.stream.answered.Goals as goal

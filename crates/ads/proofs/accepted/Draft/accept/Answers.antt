@@ -1,7 +1,7 @@
 use Rattle.std.proofs.Common.{◌≡◌, [], refl, ap, sym, ◌∙◌, eqb-true}
 use Rattle.std.specs.Prelude.{vec_len}
 use Rattle.ads.specs.Answer.{replaced}
-use Rattle.ads.specs.steps.Taking.{policies_view}
+use Rattle.ads.specs.Views.{policies_view}
 use Rattle.ads.proofs.PlaceLemmas.{replaced_nothing, replaced_twice, no_length}
 use Rattle.ads.proofs.accepted.Draft.accept.Goals as goal
 

@@ -1,5 +1,5 @@
 use Rattle.std.specs.String.{string_bytes}
-use Rattle.ads.specs.steps.Taking.{policies_view}
+use Rattle.ads.specs.Views.{policies_view}
 use Rattle.ads.proofs.AnswerLemmas.{same_draft}
 use Rattle.ads.proofs.accepted.Draft.new.Goals as goal
 

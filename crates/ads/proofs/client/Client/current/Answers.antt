@@ -1,7 +1,7 @@
 use Rattle.std.proofs.Common.{◌≡◌, length, sym, ◌∙◌, ap, Some, None, option_map, get_or}
 use Rattle.std.proofs.lemmas.List.{length-map}
-use Rattle.ads.specs.steps.Taking.{admitted_view, policies_view}
-use Rattle.ads.specs.steps.Views.{entry_view}
+use Rattle.ads.specs.Views.{admitted_view, policies_view}
+use Rattle.ads.specs.Views.{entry_view}
 use Rattle.ads.proofs.AdmittedLemmas.{merely_found, merely_limits}
 use Rattle.ads.proofs.CurrentLemmas.{found_at, not_found}
 use Rattle.ads.proofs.client.Client.current.Goals as goal

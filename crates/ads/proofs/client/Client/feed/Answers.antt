@@ -1,7 +1,8 @@
 use Rattle.std.proofs.Common.{Some, [], ap, refl}
 use Rattle.ads.specs.Answer.{Accepted}
-use Rattle.ads.specs.steps.Drafts.{client_view, draft_view, state_view}
-use Rattle.ads.specs.steps.Taking.{policies_view}
+use Rattle.ads.specs.Ends.{client_view, state_view}
+use Rattle.ads.specs.steps.Drafts.{draft_view}
+use Rattle.ads.specs.Views.{policies_view}
 use Rattle.ads.proofs.AdmittedLemmas.{merely_all}
 use Rattle.ads.proofs.AnswerLemmas.{told_no, told_yes}
 use Rattle.ads.proofs.StreamLemmas.{fed_stream, none_of, part_answered}

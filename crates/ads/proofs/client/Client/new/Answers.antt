@@ -1,6 +1,6 @@
 use Rattle.std.proofs.Common.{ap}
 use Rattle.ads.specs.Answer.{Accepted}
-use Rattle.ads.specs.steps.Taking.{policies_view}
+use Rattle.ads.specs.Views.{policies_view}
 use Rattle.ads.proofs.AdmittedLemmas.{merely_none}
 use Rattle.ads.proofs.client.Client.new.Goals as goal
 

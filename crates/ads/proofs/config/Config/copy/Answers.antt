@@ -1,5 +1,5 @@
 use Rattle.std.proofs.Common.{◌≡◌}
-use Rattle.ads.specs.steps.Views.{entries_view}
+use Rattle.ads.specs.Views.{entries_view}
 use Rattle.ads.proofs.ConfigLemmas.{clones_view}
 use Rattle.ads.proofs.config.Config.copy.Goals as goal
 

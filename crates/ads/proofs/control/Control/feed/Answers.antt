@@ -1,5 +1,5 @@
 use Rattle.std.proofs.Common.{Some, [], ap, refl}
-use Rattle.ads.specs.steps.Serving.{control_view}
+use Rattle.ads.specs.Ends.{control_view}
 use Rattle.ads.proofs.AnswerLemmas.{told_yes}
 use Rattle.ads.proofs.StreamLemmas.{part_served}
 use Rattle.ads.proofs.control.Control.feed.Goals as goal

@@ -1,0 +1,11 @@
+pub mod Places
+pub mod Parts
+pub mod Standing
+pub mod Chains
+pub mod Heard
+pub mod Walk
+pub mod Runs
+pub mod Exactly
+pub mod Safely
+pub mod Acknowledged
+pub mod Whole

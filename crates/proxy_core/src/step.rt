@@ -1,0 +1,232 @@
+//! What a proxy does with an event.
+
+ghost use Rattle.std.specs.Prelude.{◌≡◌, ◌<◌, [], None, Some, false, true, IfOk, IfSome, OnErr, MatchBool, MatchOption};
+ghost use Rattle.attributes.specs.Conn.{conn_view};
+ghost use Rattle.ads.specs.Ends.{client_view};
+ghost use Rattle.http_front.specs.Front.{HasNoAsk, fed_front};
+ghost use Rattle.proxy_core.specs.Events.{ads_output, ads_up, event_view, http_output, no_output, output_view};
+ghost use Rattle.proxy_core.specs.Proxies.{proxy_view};
+ghost use Rattle.proxy_core.specs.Step.{OpensAt, StepsBy, TakesAds, TakesHttp, front_at, new_proxy, with_conn};
+ghost use Rattle.proxy_core.specs.steps.Fronts.{IsOpenFor, KeepsAt};
+
+use crate::event::{Event, Output};
+use crate::hearing::heard;
+use crate::proxy::Proxy;
+use ads::{Client, Config};
+use attributes::Conn;
+use http_front::Front;
+use std::alloc::{AllocError, Global};
+
+/// How many connections there may be.
+const PLACES: u64 = 8;
+
+impl Output {
+    /// Nothing.
+    fn none(alloc: Global) -> Output
+        ensures { output_view result ≡ no_output }
+    {
+        Output {
+            ads: Vec::new(alloc),
+            ads_close: false,
+            http: Vec::new(alloc),
+            http_close: false,
+        }
+    }
+
+    /// Something on the update stream alone.
+    fn on_ads(alloc: Global, ads: Vec<u8>, ads_close: bool) -> Output
+        ensures { output_view result ≡ ads_output ads.items ads_close }
+    {
+        Output {
+            ads,
+            ads_close,
+            http: Vec::new(alloc),
+            http_close: false,
+        }
+    }
+
+    /// Something on the event's connection alone.
+    fn on_http(alloc: Global, http: Vec<u8>, http_close: bool) -> Output
+        ensures { output_view result ≡ http_output http.items http_close }
+    {
+        Output {
+            ads: Vec::new(alloc),
+            ads_close: false,
+            http,
+            http_close,
+        }
+    }
+}
+
+impl Proxy {
+    /// A proxy of this configuration, to which nothing has happened.
+    pub fn new(alloc: Global, config: Config) -> Result<Proxy, AllocError>
+        ensures { IfOk result (λ p. proxy_view p ≡ new_proxy config) }
+    {
+        let client = Client::new(alloc, &config)?;
+        Ok(Proxy {
+            alloc,
+            client,
+            conns: [None, None, None, None, None, None, None, None],
+        })
+    }
+
+    /// The client of the update stream: what it accepted, and how many responses.
+    pub fn client(&self) -> &Client
+        ensures { client_view result.now ≡ (proxy_view self.now).client }
+    {
+        &self.client
+    }
+
+    /// What the event does, and what is to be sent. Bytes and closes of what is not open do nothing. A request that is
+    /// completed is judged by what was accepted in earlier events. After an error all is as before
+    /// the call.
+    pub fn step(&mut self, event: Event<'_>) -> Result<Output, AllocError>
+        ensures found { IfOk result (λ out.
+            StepsBy (proxy_view self.old) (event_view event.entry) (output_view out) (proxy_view self.new)) }
+        ensures fault { OnErr result (proxy_view self.new ≡ proxy_view self.old) }
+    {
+        match event {
+            Event::AdsUp => self.ads_up(),
+            Event::AdsBytes(bytes) => self.ads_bytes(bytes),
+            Event::AdsLost => {
+                self.client.lost();
+                Ok(Output::none(self.alloc))
+            }
+            Event::HttpOpen(k, conn) => self.http_open(k, conn),
+            Event::HttpBytes(k, bytes) => self.http_bytes(k, bytes),
+            Event::HttpClosed(k) => {
+                self.put(k, None);
+                Ok(Output::none(self.alloc))
+            }
+        }
+    }
+
+    /// The update stream comes up.
+    fn ads_up(&mut self) -> Result<Output, AllocError>
+        ensures found { IfOk result (λ out.
+            StepsBy (proxy_view self.old) ads_up (output_view out) (proxy_view self.new)) }
+        ensures fault { OnErr result (proxy_view self.new ≡ proxy_view self.old) }
+    {
+        let ads = self.client.connected()?;
+        Ok(Output::on_ads(self.alloc, ads, false))
+    }
+
+    /// The update stream gives bytes.
+    fn ads_bytes(&mut self, bytes: &[u8]) -> Result<Output, AllocError>
+        ensures found { IfOk result (λ out. TakesAds (client_view self.old.client).stream (proxy_view self.old) bytes.now
+            (output_view out) (proxy_view self.new)) }
+        ensures fault { OnErr result (proxy_view self.new ≡ proxy_view self.old) }
+    {
+        if !self.client.is_up() {
+            return Ok(Output::none(self.alloc));
+        }
+        let fed = self.client.feed(bytes)?;
+        Ok(Output::on_ads(self.alloc, fed.replies, fed.broken))
+    }
+
+    /// A connection opens.
+    fn http_open(&mut self, k: u64, conn: &Conn) -> Result<Output, AllocError>
+        ensures found { IfOk result (λ out.
+            OpensAt (proxy_view self.old) k (conn_view conn.now) (output_view out) (proxy_view self.new)) }
+        ensures fault { OnErr result (proxy_view self.new ≡ proxy_view self.old) }
+    {
+        if k >= PLACES {
+            return Ok(Output::none(self.alloc));
+        }
+        let limits = *self.client.config().limits();
+        if !limits.fits_conn(conn) {
+            self.put(k, None);
+            return Ok(Output::on_http(self.alloc, Vec::new(self.alloc), true));
+        }
+        let front = Front::new(self.alloc, limits, conn.copy()?);
+        self.put(k, Some(front));
+        Ok(Output::none(self.alloc))
+    }
+
+    /// A connection gives bytes.
+    fn http_bytes(&mut self, k: u64, bytes: &[u8]) -> Result<Output, AllocError>
+        ensures found { IfOk result (λ out. TakesHttp (front_at (proxy_view self.old) k) (proxy_view self.old) k bytes.now
+            (output_view out) (proxy_view self.new)) }
+        ensures fault { OnErr result (proxy_view self.new ≡ proxy_view self.old) }
+    {
+        if self.keeps(k, bytes)? {
+            return Ok(Output::none(self.alloc));
+        }
+        let Some(front) = self.front(k) else {
+            return Ok(Output::none(self.alloc));
+        };
+        let (front, http) = heard(self.alloc, &self.client, front, bytes)?;
+        let http_close = front.is_closed();
+        if http_close {
+            self.put(k, None);
+        } else {
+            self.put(k, Some(front));
+        }
+        Ok(Output::on_http(self.alloc, http, http_close))
+    }
+
+    /// Takes the bytes where they complete no ask of a connection that is open, and tells whether it does. Where it does
+    /// not, and after an error, all is as before the call.
+    fn keeps(&mut self, k: u64, bytes: &[u8]) -> Result<bool, AllocError>
+        ensures kept { IfOk result (λ kept. MatchBool kept
+            (KeepsAt (proxy_view self.old) k bytes.now (proxy_view self.new))
+            (proxy_view self.new ≡ proxy_view self.old)) }
+        ensures fault { OnErr result (proxy_view self.new ≡ proxy_view self.old) }
+    {
+        let Some(mut front) = self.take(k) else {
+            return Ok(false);
+        };
+        let kept = kept_by(&mut front, bytes);
+        self.put(k, Some(front));
+        kept
+    }
+
+    /// Takes the front of the connection in a place out of it.
+    fn take(&mut self, k: u64) -> Option<Front>
+        ensures taken { result ≡ front_at (proxy_view self.old) k }
+        ensures fits { IsOpenFor (client_view self.old.client).config.limits result }
+        ensures left { proxy_view self.new ≡ with_conn (proxy_view self.old) k None }
+        ensures client { self.new.client ≡ self.old.client }
+    {
+        if k < PLACES {
+            return self.conns[k as usize].take();
+        }
+        None
+    }
+
+    /// The front of the connection in a place, if one is open there.
+    fn front(&self, k: u64) -> Option<&Front>
+        ensures found { let found = front_at (proxy_view self.now) k in
+            MatchOption result (found ≡ None) (λ f. found ≡ Some f.now) }
+        ensures fits { IfSome result (λ f. IsOpenFor (client_view self.now.client).config.limits (Some f.now)) }
+    {
+        match self.conns.get(k as usize) {
+            Some(Some(front)) => Some(front),
+            Some(None) => None,
+            None => None,
+        }
+    }
+
+    /// Puts a front in its place; there are eight.
+    fn put(&mut self, k: u64, front: Option<Front>)
+        requires { IsOpenFor (client_view self.old.client).config.limits front }
+        ensures put { proxy_view self.new ≡ with_conn (proxy_view self.old) k front }
+        ensures client { self.new.client ≡ self.old.client }
+    {
+        if k < PLACES {
+            self.conns[k as usize] = front;
+        }
+    }
+}
+
+/// Gives a front the bytes where they complete no ask, and tells whether it does. Where it does not, and after an error, all
+/// is as before the call.
+fn kept_by(front: &mut Front, bytes: &[u8]) -> Result<bool, AllocError>
+    ensures kept { IfOk result (λ kept. MatchBool kept
+        (HasNoAsk (fed_front front.old bytes.now) × (front.new ≡ fed_front front.old bytes.now))
+        (front.new ≡ front.old)) }
+    ensures fault { OnErr result (front.new ≡ front.old) }
+{
+    front.keeps(bytes)
+}
