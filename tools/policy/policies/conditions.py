@@ -8,20 +8,25 @@ from typing import List, NamedTuple, Optional
 import yaml
 
 from .cel.attributes import spellings
+from .cel.check import UNSUPPORTED, Fault
 from .cel.infer import types_of_empty
 from .cel.mistake import TextMistake
 from .cel.parse import parse
 from .cel.printing import text_of
-from .cel.tree import ListLiteral, Node, in_order
-from .cel.typetext import type_text
-from .faults import unknown_names
+from .cel.tree import Const, Node, in_order
+from .conditions_typing import typing_of
+from .findings import Finding
 from .messages import CHECKED_EXPR, EXPR, Message, descriptor
 from .places import spread
 from .scalars import is_bool, is_text
-from .trees import NoTree, message_tree, tree_message, type_message
+from .trees import NoTree, message_tree, node_paths, tree_message, type_message
 from .writer import PLAIN, Writer
 
 TEXT_KEY, IDS_KEY, DOTTED_KEY = "text", "ids", "dotted"
+ODD_CONSTANTS = {
+    "double": "the profile has no doubles: write a whole number",
+    "null": "the profile has no null: ask for a key with `in` or `has`",
+}
 
 
 def type_entries(tree: Node) -> list:
@@ -34,26 +39,28 @@ def encode_text(encoding, kind, pairs: dict, path: tuple, depth: int) -> Message
     """The `CheckedExpr` or `Expr` of a condition given as text."""
     _, node = pairs.pop(TEXT_KEY)
     if not is_text(node):
-        raise encoding.mistake(node, "a text of CEL is wanted here; put it in quotes")
+        raise encoding.mistake(node, "a text of CEL is expected here; put it in quotes")
     dotted = _take_dotted(encoding, pairs)
     ids = _take_ids(encoding, pairs)
     tree = _parse(encoding, node, dotted)
     _give_ids(encoding, tree, ids)
     for name in ("expr",) if kind.full_name == CHECKED_EXPR else list(pairs):
         if name in pairs:
-            raise encoding.mistake(pairs[name][0], f"`{name}` cannot stand beside `{TEXT_KEY}`")
+            raise encoding.mistake(pairs[name][0], f"`{name}` cannot be used together with `{TEXT_KEY}`")
     if kind.full_name == EXPR:
         encoding.marks[path] = node
         return tree_message(tree)
     encoding.marks[path + ("expr",)] = node
     encoding.texts.add(path + ("expr",))
-    for place, words in unknown_names(tree):
-        _note(encoding, node, place, f"{words} (9 UnknownName)")
     message = encoding.fields(kind, pairs, path, depth)
     message.values["expr"] = tree_message(tree)
     if "type_map" not in message.values:
         message.values["type_map"] = type_entries(tree)
-        _note_untold(encoding, tree, node)
+    faults = [fault for fault in typing_of(message, tree).faults if fault.number != UNSUPPORTED]
+    faults += _odd_constants(tree)
+    paths = dict(node_paths(tree, path + ("expr",))) if faults else {}
+    for fault in faults:
+        _tell(encoding, node, fault, paths[fault.node])
     return message
 
 
@@ -62,7 +69,7 @@ def _take_dotted(encoding, pairs: dict) -> bool:
         return encoding.dotted
     _, node = pairs.pop(DOTTED_KEY)
     if not is_bool(node):
-        raise encoding.mistake(node, "true or false is wanted")
+        raise encoding.mistake(node, "true or false is expected")
     return node.value == "true"
 
 
@@ -84,32 +91,25 @@ def _give_ids(encoding, tree: Node, node: Optional[yaml.Node]) -> None:
         return
     nodes = list(in_order(tree))
     if not isinstance(node, yaml.SequenceNode) or len(node.value) != len(nodes):
-        raise encoding.mistake(node, f"a list of {len(nodes)} numbers is wanted here, one for each node of the tree")
+        raise encoding.mistake(node, f"a list of {len(nodes)} numbers is expected here, one for each node of the tree")
     field = descriptor(EXPR).fields_by_name["id"]
     for part, scalar in zip(nodes, node.value):
         if not isinstance(scalar, yaml.ScalarNode):
-            raise encoding.mistake(scalar, "a number is wanted here")
+            raise encoding.mistake(scalar, "a number is expected here")
         part.id = encoding.scalar(field, scalar)
 
 
-def _note(encoding, node: yaml.ScalarNode, place: int, words: str) -> None:
-    """Notes something at a place of a condition's text."""
-    index = spread(encoding.source, node)[place]
-    encoding.notes.append(encoding.source.tell(encoding.source.place_of(index), f"note: {words}"))
+def _tell(encoding, node: yaml.ScalarNode, fault: Fault, path: tuple) -> None:
+    """Keeps a fault with its place in the condition's text."""
+    index = spread(encoding.source, node)[fault.node.place]
+    place = encoding.source.place_of(index)
+    encoding.findings.append(Finding(fault.number, fault.words, place, path))
 
 
-def _note_untold(encoding, tree: Node, node: yaml.ScalarNode) -> None:
-    """Notes the empty literals whose type nothing tells."""
-    found = types_of_empty(tree)
-    told = {literal.id: type_text(kind) for literal, kind in found.items() if kind is not None}
-    for literal, kind in found.items():
-        if kind is not None:
-            continue
-        what, guess = ("list", "list(int)") if isinstance(literal, ListLiteral) else ("map", "map(string, int)")
-        entries = {**told, literal.id: guess}
-        shown = ", ".join(f'{number}: "{entries[number]}"' for number in sorted(entries))
-        words = f"nothing tells the type of this empty {what} (14 NeedsType); `type_map: {{{shown}}}` would tell one"
-        _note(encoding, node, literal.place, words)
+def _odd_constants(tree: Node) -> List[Fault]:
+    """The literals of kinds that the engine does not have."""
+    odd = [part for part in in_order(tree) if isinstance(part, Const) and part.kind in ODD_CONSTANTS]
+    return [Fault(part, UNSUPPORTED, ODD_CONSTANTS[part.kind]) for part in odd]
 
 
 class TextForm(NamedTuple):

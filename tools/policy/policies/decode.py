@@ -46,7 +46,7 @@ def decode(data: bytes) -> str:
     remarks = remarks_of(notes(message))
     pairs = _Decoding(writer).pairs(message, remarks)
     if writer is ONEOFS_LAST:
-        words = "members of oneofs stand behind the other fields of a message, as Go's encoder puts them"
+        words = "members of oneofs come after the other fields of a message, as Go's encoder puts them"
         pairs.insert(0, Pair(f'"{ORDER_KEY}"', LAST, [words]))
     return "\n".join(comment_lines(remarks.own) + lines_of(pairs)) + "\n"
 
@@ -67,7 +67,7 @@ def _wire(message: Message) -> List[Pair]:
         return []
     words = f"byte {message.start}: the bytes as they came"
     if message.values:
-        words += ", since the plain spelling of what stands beside them is another"
+        words += ", since the plain spelling of the fields beside them differs"
     return [Pair(f'"{WIRE_KEY}"', _hex(message.wire), [words])]
 
 

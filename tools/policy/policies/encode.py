@@ -5,9 +5,12 @@ from typing import Dict, List, Optional, Set, Tuple
 import yaml
 from google.protobuf.descriptor import Descriptor, FieldDescriptor
 
-from . import conditions, profile
+from . import bounds, conditions, profile
 from .cel.typetext import read_type
-from .faults import UNKNOWN_NAME
+from .faults import UNSUPPORTED
+from .findings import Finding
+from .forms.nodes import camel
+from .instead import instead, shape
 from .messages import (
     ANY,
     CHECKED_EXPR,
@@ -17,15 +20,17 @@ from .messages import (
     TYPE,
     WRAPPER,
     Message,
+    Part,
     descriptor,
-    is_map,
     is_message,
     is_null,
-    is_repeated,
     label,
+    name_of,
+    parts_by_name,
     reserved_names,
 )
-from .places import Mistake, Source, start_of
+from .output import Progress
+from .places import Mistake, Place, Source, start_of
 from .reader import DEEPEST, read
 from .scalars import Unfit, is_absent, is_text, read_key, read_scalar
 from .trees import type_message
@@ -41,8 +46,8 @@ ROOT = ()
 class Encoding:
     """One file on its way to a message.
 
-    `marks` keeps the node of each part by its path, `texts` the paths of the trees that texts give, and `notes` what to
-    tell beside the bytes.
+    `marks` keeps the node of each part by its path, `texts` the paths of the trees that texts give, and `findings` what
+    the engine refuses or skips.
     """
 
     def __init__(self, source: Source, dotted: bool = False):
@@ -51,19 +56,26 @@ class Encoding:
         self.writer = PLAIN
         self.marks: Dict[tuple, yaml.Node] = {}
         self.texts: Set[tuple] = set()
-        self.notes: List[str] = []
+        self.findings: List[Finding] = []
+        self.mistakes: List[Mistake] = []
 
     def mistake(self, node, message: str) -> Mistake:
         """The mistake at the start of a node."""
         return self.source.mistake(start_of(node), message)
 
-    def filter(self) -> Message:
-        """The message of the whole file."""
+    def filter_of(self, node: Optional[yaml.Node]) -> Message:
+        """The message of a filter's node; raises Mistake with all mistakes in it."""
         kind = descriptor(FILTER)
-        node = self.source.compose()
         if node is None or is_absent(node):
             return Message(kind)
-        return self.message(kind, self._without_order(node), ROOT, 1)
+        try:
+            message = self.message(kind, self._without_order(node), ROOT, 1)
+        except Mistake as mistake:
+            self.mistakes.append(mistake)
+        if self.mistakes:
+            self.mistakes[0].rest = self.mistakes[1:]
+            raise self.mistakes[0]
+        return message
 
     def _without_order(self, node: yaml.Node) -> yaml.Node:
         """The file's mapping without the key that says in what order the fields of a message are written."""
@@ -74,53 +86,67 @@ class Encoding:
             if not isinstance(key, yaml.ScalarNode) or key.value != ORDER_KEY:
                 rest.append((key, value))
             elif not is_text(value) or value.value != LAST:
-                raise self.mistake(value, f"`{LAST}` is wanted here: members of oneofs stand behind the other fields")
+                raise self.mistake(value, f"`{LAST}` is expected here: members of oneofs come after the other fields")
             else:
                 self.writer = ONEOFS_LAST
         return yaml.MappingNode(node.tag, rest, node.start_mark, node.end_mark)
 
-    def note_profile(self, data: bytes) -> None:
-        """Notes what the engine refuses or skips of the bytes, at the parts of the file that say it."""
-        for note in profile.notes(read(descriptor(FILTER), data, self.writer)):
-            path = note.path
-            if path in self.texts and note.number == UNKNOWN_NAME:
-                continue
-            while path not in self.marks and path:
-                path = path[:-1]
-            place = start_of(self.marks[path]) if path in self.marks else (0, 0)
-            told = self.source.tell(place, f"note: {note.told()}")
-            if told not in self.notes:
-                self.notes.append(told)
+    def find_faults(self, message: Message, budget: int) -> None:
+        """Finds what the engine refuses or skips of a message, at the parts of the file that say it."""
+        told = {(found.path, found.number, found.words) for found in self.findings}
+        for note in profile.notes(message):
+            key = (note.path, note.number, note.words)
+            if key not in told and not self._is_told_constant(note.path, note.number):
+                told.add(key)
+                self.findings.append(Finding(note.number, note.words, self.place_of(note.path), note.path))
+        self.findings += [self._placed(found) for found in bounds.too_costly(message, budget)]
+
+    def _is_told_constant(self, path: tuple, number: int) -> bool:
+        """Whether a part is a literal of a condition's text, which is told at its place in the text."""
+        inside = any(path[:length] in self.texts for length in range(len(path)))
+        return inside and number == UNSUPPORTED and path[-1] in ("null_value", "double_value")
+
+    def _placed(self, found: Finding) -> Finding:
+        return found._replace(place=self.place_of(found.path))
+
+    def place_of(self, path: tuple) -> Place:
+        """The place of the part of the file that says a part of the filter, or what it stands in."""
+        while path not in self.marks and path:
+            path = path[:-1]
+        return start_of(self.marks[path]) if path in self.marks else (0, 0)
 
     def message(self, kind: Descriptor, node: yaml.Node, path: tuple, depth: int) -> Message:
         """The message of a node, `depth` levels down."""
         self.marks[path] = node
         if isinstance(node, yaml.ScalarNode):
             return self._short_form(kind, node)
-        pairs = self.pairs(node, f"the fields of {label(kind)}")
+        pairs = self.pairs(node, kind)
         if WIRE_KEY in pairs:
             return self._with_wire(kind, node, pairs, path, depth)
-        if kind.full_name == WRAPPER:
-            raise self.mistake(node, "a number is wanted here")
+        name = name_of(kind)
+        if name == WRAPPER:
+            raise self.mistake(node, "a number is expected here")
         if depth > DEEPEST:
             raise self.mistake(node, f"this is nested more than {DEEPEST} messages deep")
-        if kind.full_name == ANY:
+        if name == ANY:
             return self._any(kind, node, pairs, path, depth)
         self._check_type(kind, pairs)
-        if kind.full_name in (EXPR, CHECKED_EXPR) and conditions.TEXT_KEY in pairs:
+        if name in (EXPR, CHECKED_EXPR) and conditions.TEXT_KEY in pairs:
             return conditions.encode_text(self, kind, pairs, path, depth)
         return self.fields(kind, pairs, path, depth)
 
-    def pairs(self, node: yaml.Node, wanted: str) -> Dict[str, tuple]:
+    def pairs(self, node: yaml.Node, kind: Descriptor, entries_of: str = "") -> Dict[str, tuple]:
         """The keys of a mapping, each with its key's node and its value's node."""
         if not isinstance(node, yaml.MappingNode) or node.tag != "tag:yaml.org,2002:map":
-            raise self.mistake(node, f"{wanted} are wanted here, as `name: value`")
+            if entries_of:
+                raise self.mistake(node, f"the entries of {entries_of} are expected here, as `name: value`")
+            raise self.mistake(node, f"the fields of {label(kind)} are expected here, {shape(label(kind))}")
         pairs = {}
         for key, value in node.value:
             if not isinstance(key, yaml.ScalarNode):
-                raise self.mistake(key, "a name is wanted here")
+                raise self.mistake(key, "a name is expected here")
             if key.value in pairs:
-                raise self.mistake(key, f"`{key.value}` stands here twice")
+                raise self.mistake(key, f"`{key.value}` is here twice")
             pairs[key.value] = key, value
         return pairs
 
@@ -128,61 +154,93 @@ class Encoding:
         """The message whose fields stand as pairs."""
         message = Message(kind)
         for name, (key, node) in pairs.items():
-            field = self._field(kind, name, key)
-            if field.name in message.values:
-                raise self.mistake(key, f"`{field.name}` stands here twice")
-            if is_absent(node) and not is_null(field):
-                continue
-            other = field.containing_oneof and message.which(field.containing_oneof.name)
-            if other:
-                raise self.mistake(key, f"`{name}` cannot stand beside `{other}`: {label(kind)} has one of them")
-            message.values[field.name] = self._value(field, node, path + (field.name,), depth)
+            try:
+                field = self._field(kind, name, key)
+                if field.name in message.values:
+                    raise self.mistake(key, f"`{field.name}` is here twice")
+                if is_absent(node) and not field.is_null:
+                    continue
+                other = field.oneof and message.values and message.which(field.oneof)
+                if other:
+                    raise self.mistake(
+                        key, f"`{name}` cannot be used together with `{other}`: {label(kind)} has one of them"
+                    )
+                message.values[field.name] = self._value(field, node, path + (field.name,), depth)
+            except Mistake as mistake:
+                self.mistakes.append(mistake)
         return message
 
-    def _field(self, kind: Descriptor, name: str, key: yaml.Node) -> FieldDescriptor:
+    def _field(self, kind: Descriptor, name: str, key: yaml.Node) -> Part:
         """The field of a name in snake_case or camelCase."""
-        for field in kind.fields:
-            if name in (field.name, field.json_name):
-                return field
-        if name in reserved_names(kind) or name in map(_camel, reserved_names(kind)):
-            raise self.mistake(key, f"the engine does not know `{name}` of {label(kind)} and would refuse the filter")
+        part = parts_by_name(kind).get(name)
+        if part is not None:
+            return part
+        for reserved in reserved_names(kind):
+            if name in (reserved, camel(reserved)):
+                told = (
+                    f"the engine does not know `{name}` of {label(kind)} and would refuse the filter{instead(reserved)}"
+                )
+                raise self.mistake(key, told)
         names = [field.name for field in kind.fields]
         near = difflib.get_close_matches(name, names, 1)
         hint = f"; do you mean `{near[0]}`?" if near else f"; it has {', '.join(names)}" if names else ""
         raise self.mistake(key, f"{label(kind)} has no field `{name}`{hint}")
 
-    def _value(self, field: FieldDescriptor, node: yaml.Node, path: tuple, depth: int):
+    def _value(self, field: Part, node: yaml.Node, path: tuple, depth: int):
         self.marks[path] = node
-        if is_map(field):
-            return self._map(field, node, path, depth)
-        if not is_repeated(field):
-            return self._one(field, node, path, depth)
+        if field.is_map:
+            return self._map(field.field, node, path, depth)
+        if not field.is_repeated:
+            return self._one(field.field, node, path, depth)
         if not isinstance(node, yaml.SequenceNode):
-            raise self.mistake(node, f"a list is wanted here, since `{field.name}` may hold several")
-        return [self._one(field, part, path + (index,), depth) for index, part in enumerate(node.value)]
+            raise self.mistake(node, f"a list is expected here, since `{field.name}` may hold several")
+        parts: list = []
+        for index, part in enumerate(node.value):
+            try:
+                parts.append(self._one(field.field, part, path + (index,), depth))
+            except Mistake as mistake:
+                self.mistakes.append(mistake)
+        return parts
 
     def _map(self, field: FieldDescriptor, node: yaml.Node, path: tuple, depth: int) -> list:
         key_field, value_field = (field.message_type.fields_by_number[number] for number in (1, 2))
-        entries = {}
-        for key, value in self.pairs(node, f"the entries of {field.name}").values():
+        entries: dict = {}
+        pairs = self.pairs(node, field.message_type, field.name).values()
+        progress = Progress("encoding policy", len(pairs) if field.name == "policies" else 0)
+        for key, value in pairs:
+            progress.step()
             try:
                 name = read_key(key_field, key)
             except Unfit as why:
                 raise self.mistake(key, str(why)) from None
             if name in entries:
-                raise self.mistake(key, f"`{key.value}` stands here twice")
-            entries[name] = self._one(value_field, value, path + (name,), depth + 1)
+                raise self.mistake(key, f"`{key.value}` is here twice")
+            try:
+                self._check_indent(value_field, key, value)
+                entries[name] = self._one(value_field, value, path + (name,), depth + 1)
+            except Mistake as mistake:
+                self.mistakes.append(mistake)
         return list(entries.items())
+
+    def _check_indent(self, field: FieldDescriptor, key: yaml.Node, value: yaml.Node) -> None:
+        """Tells an entry whose name is a field of the entries themselves: it is indented too little."""
+        kind = field.message_type
+        if kind is None or isinstance(value, yaml.MappingNode):
+            return
+        if key.value in parts_by_name(kind):
+            raise self.mistake(key, f"`{key.value}` is a field of {label(kind)}: indent it below the entry it is of")
+        if is_absent(value):
+            raise self.mistake(key, f"`{key.value}` is empty: indent below it what belongs to it, {shape(label(kind))}")
 
     def _one(self, field: FieldDescriptor, node: yaml.Node, path: tuple, depth: int):
         """The value of a field that holds one, or one of several."""
         if is_absent(node) and not is_null(field):
-            raise self.mistake(node, "a value is wanted here")
+            raise self.mistake(node, "a value is expected here")
         if is_message(field):
             return self.message(field.message_type, node, path, depth + 1)
         self.marks[path] = node
         if not isinstance(node, yaml.ScalarNode):
-            raise self.mistake(node, f"one value of `{field.name}` is wanted here")
+            raise self.mistake(node, f"one value of `{field.name}` is expected here")
         return self.scalar(field, node)
 
     def scalar(self, field: FieldDescriptor, node: yaml.ScalarNode):
@@ -201,9 +259,9 @@ class Encoding:
         if kind.full_name == TYPE and is_text(node):
             spelt = read_type(node.value)
             if spelt is None:
-                raise self.mistake(node, "a type is wanted, such as `int`, `list(string)` or `map(string, bool)`")
+                raise self.mistake(node, "a type is expected, such as `int`, `list(string)` or `map(string, bool)`")
             return type_message(spelt)
-        raise self.mistake(node, f"the fields of {label(kind)} are wanted here, as `name: value`")
+        raise self.mistake(node, f"the fields of {label(kind)} are expected here, {shape(label(kind))}")
 
     def _check_type(self, kind: Descriptor, pairs: Dict[str, tuple]) -> None:
         """Takes `@type` off the pairs, which has to name the message itself."""
@@ -219,16 +277,26 @@ class Encoding:
             message = Message(kind)
             message.values = {"type_url": self._type_url(pairs.pop(TYPE_KEY)[1]), "value": self._hex(wire)}
             for other, _ in pairs.values():
-                raise self.mistake(other, f"nothing stands beside `{TYPE_KEY}` and `{WIRE_KEY}`")
+                raise self.mistake(other, f"no other field goes with `{TYPE_KEY}` and `{WIRE_KEY}`")
             return message
-        message = read(kind, self._hex(wire), self.writer)
+        message, before = read(kind, self._hex(wire), self.writer), len(self.mistakes)
         if pairs:
-            rest = yaml.MappingNode(node.tag, list(pairs.values()), node.start_mark, node.end_mark)
-            said = self.message(kind, rest, path, depth)
-            if self._spelling(said) != self._spelling(message):
-                raise self.mistake(key, "these bytes do not say what stands beside them: leave out one or the other")
+            said = self._beside_wire(kind, node, pairs, path, depth)
+            if len(self.mistakes) == before and self._spelling(said) != self._spelling(message):
+                raise self.mistake(
+                    key, "these bytes do not say what the fields beside them say: leave out one or the other"
+                )
         message.wire = message.raw
         return message
+
+    def _beside_wire(
+        self, kind: Descriptor, node: yaml.Node, pairs: Dict[str, tuple], path: tuple, depth: int
+    ) -> Message:
+        """The message that the fields beside bytes say."""
+        if kind.full_name == WRAPPER:
+            return self.fields(kind, pairs, path, depth)
+        rest = yaml.MappingNode(node.tag, list(pairs.values()), node.start_mark, node.end_mark)
+        return self.message(kind, rest, path, depth)
 
     def _spelling(self, message: Message) -> bytes:
         """What the values of a message are in bytes, whatever bytes of its own it has."""
@@ -240,11 +308,11 @@ class Encoding:
                 return bytes.fromhex("".join(node.value.split()))
             except ValueError:
                 pass
-        raise self.mistake(node, 'bytes are wanted here, as pairs of hexadecimal digits: "0a 02"')
+        raise self.mistake(node, 'bytes are expected here, as pairs of hexadecimal digits: "0a 02"')
 
     def _type_url(self, node: yaml.Node) -> str:
         if not is_text(node):
-            raise self.mistake(node, "the name of a type is wanted here")
+            raise self.mistake(node, "the name of a type is expected here")
         return node.value
 
     def _any(self, kind: Descriptor, node: yaml.Node, pairs: Dict[str, tuple], path: tuple, depth: int) -> Message:
@@ -253,7 +321,7 @@ class Encoding:
         if not pairs:
             return message
         if TYPE_KEY not in pairs:
-            raise self.mistake(node, "`@type` is wanted here, to tell what the fields are")
+            raise self.mistake(node, "`@type` is expected here, to tell what the fields are")
         _, name = pairs.pop(TYPE_KEY)
         url = self._type_url(name)
         held = held_type(url)
@@ -271,15 +339,9 @@ def held_type(url: str) -> Optional[Descriptor]:
         return None
 
 
-def _camel(name: str) -> str:
-    head, *rest = name.split("_")
-    return head + "".join(word.capitalize() for word in rest)
-
-
-def encode(source: Source, dotted: bool = False) -> Tuple[bytes, List[str]]:
-    """The bytes of a file's filter, and notes on what the engine will refuse or skip of it; raises Mistake."""
+def encode(source: Source, dotted: bool = False, budget: int = bounds.BUDGET) -> Tuple[bytes, List[Finding]]:
+    """The bytes of a file's filter, and what the engine will refuse or skip of it; raises Mistake."""
     encoding = Encoding(source, dotted)
-    message = encoding.filter()
-    data = encoding.writer.write(message)
-    encoding.note_profile(data)
-    return data, encoding.notes
+    message = encoding.filter_of(source.compose())
+    encoding.find_faults(message, budget)
+    return encoding.writer.write(message), encoding.findings

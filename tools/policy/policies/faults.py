@@ -1,9 +1,8 @@
 """The faults that the engine finds in single messages of a filter, with its numbers for them."""
 import ipaddress
-from typing import Callable, Dict, Iterator, Optional, Tuple
+from typing import Callable, Dict, Iterator, Optional, Tuple, Union
 
-from .cel.attributes import TYPES, Scope, attribute_name, parts_of
-from .cel.tree import ROOTS, Call, Ident, Node, Select
+from .conditions_typing import typing_of
 from .messages import (
     CHECKED_EXPR,
     CONSTANT,
@@ -17,27 +16,24 @@ from .messages import (
     RULES,
     TYPE,
     Message,
+    name_of,
 )
 from .reader import BAD_TEXT
-from .trees import NoTree, message_tree, message_type
+from .trees import NoTree, message_tree, node_paths
 
-MISSING, OUT_OF_RANGE, UNSUPPORTED, BOTH_CONDITIONS, TOO_LARGE, UNKNOWN_NAME = 4, 5, 6, 7, 8, 9
+MISSING, OUT_OF_RANGE, UNSUPPORTED, BOTH_CONDITIONS, TOO_LARGE = 4, 5, 6, 7, 8
 MOST_POLICIES = 256
 # What the engine does not take yet.
 NOT_YET_CONDITION = True
 NOT_YET_SECOND_VARIABLE = True
-FUNCTIONS = frozenset(
-    "_&&_ _||_ !_ @not_strictly_false __not_strictly_false__ _?_:_ _==_ _!=_ _<_ _<=_ _>_ _>=_ _+_ _-_ _*_ _/_ _%_ -_ "
-    "_[_] @in _in_ in size contains startsWith endsWith".split()
-)
-# A field (or none, for the whole message), the offset of its bytes, the refusal's number, and words.
-Finding = Tuple[Optional[str], int, int, str]
+# A field (with the key of its entry, or none for the whole message), the offset of its bytes, the number, words.
+Finding = Tuple[Union[None, str, tuple], int, int, str]
 Check = Callable[[Message], Iterator[Finding]]
 
 
 def faults(message: Message) -> Iterator[Finding]:
     """The faults of a message's own values."""
-    return CHECKS.get(message.kind.full_name, _nothing)(message)
+    return CHECKS.get(name_of(message.kind), _nothing)(message)
 
 
 def _nothing(message: Message) -> Iterator[Finding]:
@@ -51,7 +47,7 @@ def _filter(message: Message) -> Iterator[Finding]:
 
 def _rules(message: Message) -> Iterator[Finding]:
     if not 0 <= message.scalar("action") <= 2:
-        yield "action", message.places["action"], OUT_OF_RANGE, "there is no such action"
+        yield "action", message.place_of("action"), OUT_OF_RANGE, "there is no such action"
     if len(message.get("policies") or []) > MOST_POLICIES:
         yield None, message.start, TOO_LARGE, f"more than {MOST_POLICIES} policies"
 
@@ -63,9 +59,10 @@ def _policy(message: Message) -> Iterator[Finding]:
     if message.get("condition") is None:
         return
     if message.get("checked_condition") is not None:
-        yield "condition", message.places["condition"], BOTH_CONDITIONS, "both conditions are there"
+        yield "condition", message.place_of("condition"), BOTH_CONDITIONS, "both conditions are there"
     elif NOT_YET_CONDITION:
-        yield "condition", message.places["condition"], UNSUPPORTED, "the engine takes a checked_condition alone so far"
+        words = "the engine takes a checked_condition alone so far: write `checked_condition: {expr: ..}` with the tree"
+        yield "condition", message.place_of("condition"), UNSUPPORTED, words
 
 
 def _set(field: str) -> Check:
@@ -86,13 +83,13 @@ def _rule(oneof: str) -> Check:
         if member is None:
             yield None, message.start, MISSING, "a rule without a member"
         elif member == "any" and not message.get("any"):
-            yield member, message.places[member], OUT_OF_RANGE, "`any` is true or is not there"
+            yield member, message.place_of(member), OUT_OF_RANGE, "`any` is true or is not there"
         elif member == "destination_port" and message.get(member) > 65535:
-            yield member, message.places[member], OUT_OF_RANGE, "a port is at most 65535"
+            yield member, message.place_of(member), OUT_OF_RANGE, "a port is at most 65535"
         elif member == "destination_port_range" and message.get(member).is_whole:
             ports = message.get(member)
             if not 0 <= ports.scalar("start") < ports.scalar("end") <= 65536:
-                yield member, message.places[member], OUT_OF_RANGE, "ports from 0 to 65536, the start below the end"
+                yield member, message.place_of(member), OUT_OF_RANGE, "ports from 0 to 65536, the start below the end"
 
     return check
 
@@ -102,7 +99,7 @@ def _matcher(message: Message) -> Iterator[Finding]:
     if member is None:
         yield None, message.start, MISSING, "a matcher without a text"
     elif member in ("prefix", "suffix", "contains") and message.get(member) == "":
-        yield member, message.places[member], OUT_OF_RANGE, f"an empty {member}"
+        yield member, message.place_of(member), OUT_OF_RANGE, f"an empty {member}"
 
 
 def _path(message: Message) -> Iterator[Finding]:
@@ -115,7 +112,7 @@ def _header(message: Message) -> Iterator[Finding]:
         yield None, message.start, MISSING, "a header without a name"
     for member in ("prefix_match", "suffix_match", "contains_match"):
         if message.get(member) == "":
-            yield member, message.places[member], OUT_OF_RANGE, f"an empty {member}"
+            yield member, message.place_of(member), OUT_OF_RANGE, f"an empty {member}"
 
 
 def _cidr(message: Message) -> Iterator[Finding]:
@@ -127,7 +124,7 @@ def _cidr(message: Message) -> Iterator[Finding]:
         place = message.places.get("address_prefix", message.start)
         yield None, place, OUT_OF_RANGE, "this text is no address"
     elif length is not None and length.is_whole and length.scalar("value") > bits:
-        yield "prefix_len", message.places["prefix_len"], OUT_OF_RANGE, f"an address of {bits} bits"
+        yield "prefix_len", message.place_of("prefix_len"), OUT_OF_RANGE, f"an address of {bits} bits"
 
 
 def _address_bits(text: str) -> Optional[int]:
@@ -148,34 +145,14 @@ def _checked(message: Message) -> Iterator[Finding]:
         tree = message_tree(message.get("expr"))
     except NoTree:
         return
-    for place, words in unknown_names(tree):
-        yield "expr", place, UNKNOWN_NAME, words
-    used = set(_used_ids(tree, frozenset()))
-    for (key, kind), place in zip(message.get("type_map") or [], message.places.get("type_map", [])):
-        if key in used and kind.which("type_kind") != "dyn" and _is_unsupported(kind):
-            yield "type_map", place, UNSUPPORTED, f"the engine does not support the type of node {key}"
-
-
-def _used_ids(node: Node, scope: Scope) -> Iterator[int]:
-    """The ids of a tree's nodes whose types the engine looks at: not of the roots' names, nor of entries."""
-    if not (isinstance(node, Ident) and node.name in ROOTS and node.name not in scope):
-        yield node.id
-    for part, inner in parts_of(node, scope):
-        yield from _used_ids(part, inner)
-
-
-def _is_unsupported(kind: Message) -> bool:
-    """Whether a type that can be read is, anywhere inside, of a kind that the engine does not have."""
-    known = message_type(kind)
-    return _holds_unsupported(known) if known is not None else kind.is_whole and not kind.faults
-
-
-def _holds_unsupported(kind: tuple) -> bool:
-    if kind[0] in ("dyn", "double"):
-        return True
-    if kind[0] == "map" and kind[1][0] not in ("bool", "int", "uint", "string"):
-        return True
-    return any(map(_holds_unsupported, kind[1:]))
+    places = dict(zip([key for key, _ in message.get("type_map") or []], message.places.get("type_map", [])))
+    faults_found = typing_of(message, tree).faults
+    paths = dict(node_paths(tree, ("expr",))) if faults_found else {}
+    for fault in faults_found:
+        if fault.number == UNSUPPORTED:
+            yield ("type_map", fault.entry), places.get(fault.entry, message.start), fault.number, fault.words
+        else:
+            yield paths[fault.node], fault.node.place, fault.number, fault.words
 
 
 def _expr(message: Message) -> Iterator[Finding]:
@@ -195,14 +172,14 @@ def _select(message: Message) -> Iterator[Finding]:
 
 def _struct(message: Message) -> Iterator[Finding]:
     if message.scalar("message_name"):
-        yield "message_name", message.places["message_name"], UNSUPPORTED, "the engine does not make messages"
+        yield "message_name", message.place_of("message_name"), UNSUPPORTED, "the engine does not make messages"
 
 
 def _entry(message: Message) -> Iterator[Finding]:
     if message.which("key_kind") is None or message.get("value") is None:
         yield None, message.start, MISSING, "an entry without a key or a value"
     if message.scalar("optional_entry"):
-        place = message.places["optional_entry"]
+        place = message.place_of("optional_entry")
         yield "optional_entry", place, UNSUPPORTED, "the engine does not support optional entries"
 
 
@@ -212,20 +189,20 @@ def _loop(message: Message) -> Iterator[Finding]:
         if message.get(name) in (None, ""):
             yield None, message.start, MISSING, f"a loop without {name}"
     if message.scalar("iter_var") and message.scalar("iter_var") == message.scalar("accu_var"):
-        yield "accu_var", message.places["accu_var"], OUT_OF_RANGE, "the loop's two names are the same"
+        yield "accu_var", message.place_of("accu_var"), OUT_OF_RANGE, "the loop's two names are the same"
     if message.scalar("iter_var2") and NOT_YET_SECOND_VARIABLE:
-        yield "iter_var2", message.places["iter_var2"], UNSUPPORTED, "the engine takes loops of one variable so far"
+        yield "iter_var2", message.place_of("iter_var2"), UNSUPPORTED, "the engine takes loops of one variable so far"
 
 
 def _type(message: Message) -> Iterator[Finding]:
     member = message.which("type_kind")
     part = message.get(member) if member else None
     if member == "primitive" and not 1 <= part <= 6:
-        yield member, message.places[member], OUT_OF_RANGE, "there is no such type"
+        yield member, message.place_of(member), OUT_OF_RANGE, "there is no such type"
     elif member in ("list_type", "map_type") and part.is_whole:
         for name in {"list_type": ["elem_type"], "map_type": ["key_type", "value_type"]}[member]:
             if part.get(name) is None:
-                yield member, message.places[member], OUT_OF_RANGE, f"a type without {name}"
+                yield member, message.place_of(member), OUT_OF_RANGE, f"a type without {name}"
 
 
 CHECKS: Dict[str, Check] = {
@@ -249,22 +226,3 @@ CHECKS: Dict[str, Check] = {
     EXPR + ".Comprehension": _loop,
     TYPE: _type,
 }
-
-
-def unknown_names(node: Node, scope: Scope = frozenset()) -> Iterator[Tuple[int, str]]:
-    """The places of a tree where the engine does not know a name, where loops bind those of the scope."""
-    attribute = attribute_name(node, scope)
-    if attribute is not None:
-        if attribute not in TYPES:
-            yield node.place, f"the engine has no attribute {attribute}"
-        return
-    if isinstance(node, Ident) and node.name not in scope:
-        yield node.place, f"the engine has no variable {node.name}"
-    if isinstance(node, Select) and isinstance(node.operand, Ident) and node.operand.name in ROOTS:
-        if node.operand.name not in scope:
-            yield node.place, "the engine tests no attribute itself for being there"
-            return
-    if isinstance(node, Call) and node.function not in FUNCTIONS:
-        yield node.place, f"the engine has no function {node.function}"
-    for part, inner in parts_of(node, scope):
-        yield from unknown_names(part, inner)

@@ -2,10 +2,12 @@
 import pathlib
 import subprocess
 from functools import lru_cache
-from typing import Dict, Iterator, List, Optional, Tuple
+from typing import Dict, Iterator, List, NamedTuple, Optional, Tuple
 
 from google.protobuf import descriptor_pb2, descriptor_pool
 from google.protobuf.descriptor import Descriptor, FieldDescriptor
+
+from .wire import WIRE_TYPES
 
 PROTO = pathlib.Path(__file__).parent.parent / "proto"
 FILES = (
@@ -56,6 +58,64 @@ def _collect_reserved(prefix: str, messages, reserved: Dict[str, frozenset]) -> 
 def descriptor(name: str) -> Descriptor:
     """The message of a full name; KeyError where there is none."""
     return _files()[0].FindMessageTypeByName(name)
+
+
+@lru_cache(maxsize=None)
+def _members(kind: Descriptor, oneof: str) -> frozenset:
+    """The names of a oneof's members."""
+    return frozenset(field.name for field in kind.oneofs_by_name[oneof].fields)
+
+
+class Part(NamedTuple):
+    """What a field is, kept since descriptors are slow to ask."""
+
+    field: FieldDescriptor
+    name: str
+    number: int
+    is_map: bool
+    is_repeated: bool
+    is_message: bool
+    is_null: bool
+    oneof: Optional[str]
+    message_type: Optional[Descriptor]
+    wire_type: int
+
+
+@lru_cache(maxsize=None)
+def parts_by_name(kind: Descriptor) -> Dict[str, Part]:
+    """The fields of a message by each of their names, in snake_case and camelCase."""
+    found = {}
+    for part in parts_by_number(kind).values():
+        found[part.name] = found[part.field.json_name] = part
+    return found
+
+
+@lru_cache(maxsize=None)
+def parts_by_number(kind: Descriptor) -> Dict[int, Part]:
+    """The fields of a message by their numbers."""
+    return {field.number: _part(field) for field in kind.fields}
+
+
+def _part(field: FieldDescriptor) -> Part:
+    oneof = field.containing_oneof
+    return Part(
+        field,
+        field.name,
+        field.number,
+        is_map(field),
+        is_repeated(field),
+        is_message(field),
+        is_null(field),
+        oneof.name if oneof else None,
+        field.message_type,
+        WIRE_TYPES[field.type],
+    )
+
+
+@lru_cache(maxsize=None)
+def name_of(kind: Descriptor) -> str:
+    """The full name of a message."""
+    return kind.full_name
 
 
 def reserved_names(message: Descriptor) -> frozenset:
@@ -114,6 +174,8 @@ class Message:
     fields.
     """
 
+    __slots__ = ("kind", "values", "wire", "start", "places", "faults", "raw", "is_whole")
+
     def __init__(self, kind: Descriptor, start: int = 0):
         self.kind = kind
         self.values: Dict[str, object] = {}
@@ -133,6 +195,10 @@ class Message:
         value = self.values.get(name)
         return default_of(self.kind.fields_by_name[name]) if value is None else value
 
+    def place_of(self, name: str) -> int:
+        """The offset of a field's last occurrence; that of the message where it was not read from bytes."""
+        return self.places.get(name, self.start)
+
     def parts(self) -> Iterator["Message"]:
         """The messages that stand in this one."""
         for value in self.values.values():
@@ -143,7 +209,5 @@ class Message:
 
     def which(self, oneof: str) -> Optional[str]:
         """The name of a oneof's member that is there."""
-        for field in self.kind.oneofs_by_name[oneof].fields:
-            if field.name in self.values:
-                return field.name
-        return None
+        members = _members(self.kind, oneof)
+        return next((name for name in self.values if name in members), None)

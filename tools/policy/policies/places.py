@@ -3,13 +3,17 @@
 A place is a line and a column, both counted from 0; people see them counted from 1.
 """
 import re
-from typing import List, Optional, Tuple
+from functools import cached_property
+from typing import Dict, List, Optional, Tuple
 
 import yaml
 
 Place = Tuple[int, int]
 LINE_END = re.compile("\r\n|[\n\r\x85\u2028\u2029]")
+# A character beyond U+FFFF as JSON escapes it, which YAML does not take; an even number of backslashes stands before.
+SURROGATES = re.compile(r"(?<!\\)((?:\\\\)*)\\u([dD][89abAB][0-9a-fA-F]{2})\\u([dD][c-fC-F][0-9a-fA-F]{2})")
 DEEPEST = 2000
+GREATEST_EXPANSION = 100_000
 PROPERTIES = re.compile(r"(?:[&!]\S*\s+)*")
 SHORT_ESCAPES = {
     "0": "\0",
@@ -29,8 +33,37 @@ SHORT_ESCAPES = {
 LONG_ESCAPES = {"x": 2, "u": 4, "U": 8}
 
 
+class Loader(yaml.CSafeLoader):
+    """The safe loader, which asks what a plain scalar is once for each of its texts."""
+
+    known: Dict[str, str] = {}
+
+    def resolve(self, kind, value, implicit):
+        """The tag of a node without one."""
+        if kind is not yaml.ScalarNode or not implicit[0]:
+            return super().resolve(kind, value, implicit)
+        if value not in self.known:
+            self.known[value] = super().resolve(kind, value, implicit)
+        return self.known[value]
+
+    def descend_resolver(self, node, index):
+        """Nothing: no tag here depends on the path."""
+
+    def ascend_resolver(self):
+        """Nothing: no tag here depends on the path."""
+
+
 class Mistake(Exception):
-    """A mistake of a file; its text names file, line and column and shows the line with a caret."""
+    """A mistake of a file; its text names file, line and column and shows the line with a caret.
+
+    `place` and `words` are its parts, where it stands at a place; `rest` are further mistakes of the same file.
+    """
+
+    def __init__(self, text: str, place: Optional[Place] = None, words: str = ""):
+        super().__init__(text)
+        self.place = place
+        self.words = words or text
+        self.rest: List[Mistake] = []
 
 
 class Source:
@@ -42,14 +75,21 @@ class Source:
             self.text = data.decode()
         except UnicodeDecodeError as fault:
             self.text = data.decode(errors="replace")
-            self._find_lines()
             before = data[: fault.start].decode()
             raise self.mistake(self.place_of(len(before)), "this is not UTF-8") from None
-        self._find_lines()
 
-    def _find_lines(self) -> None:
-        self.starts = [0] + [match.end() for match in LINE_END.finditer(self.text)]
-        self.lines = LINE_END.split(self.text)
+        if self.text.lstrip()[:1] in ("{", "["):
+            self.text = SURROGATES.sub(_joined, self.text)
+
+    @cached_property
+    def starts(self) -> List[int]:
+        """The index of each line's first character."""
+        return [0] + [match.end() for match in LINE_END.finditer(self.text)]
+
+    @cached_property
+    def lines(self) -> List[str]:
+        """The lines without their ends."""
+        return LINE_END.split(self.text)
 
     def place_of(self, index: int) -> Place:
         """The place of the character with that index."""
@@ -77,13 +117,21 @@ class Source:
 
     def mistake(self, place: Place, message: str) -> Mistake:
         """The mistake at a place."""
-        return Mistake(self.tell(place, message))
+        return Mistake(self.tell(place, message), place, message)
 
     def compose(self) -> Optional[yaml.Node]:
         """The file's one document, or None where it has none."""
+        documents = self.documents()
+        if len(documents) > 1:
+            raise self.mistake(start_of(documents[1]), "a file holds one document")
+        return documents[0] if documents else None
+
+    def documents(self) -> List[yaml.Node]:
+        """The file's documents."""
         try:
-            self._measure_depth()
-            documents = list(yaml.compose_all(self.text, Loader=yaml.CSafeLoader))
+            if may_be_deep(self.text):
+                self._measure_depth()
+            documents = list(yaml.compose_all(self.text, Loader=Loader))
         except yaml.MarkedYAMLError as fault:
             mark = fault.problem_mark or fault.context_mark
             words = " ".join(part for part in (fault.context, fault.problem) if part)
@@ -91,9 +139,18 @@ class Source:
         except yaml.reader.ReaderError as fault:
             place = self.place_of(min(fault.position or 0, len(self.text)))
             raise self.mistake(place, f"this is no YAML: {fault.reason}") from None
-        if len(documents) > 1:
-            raise self.mistake(start_of(documents[1]), "a file holds one document")
-        return documents[0] if documents else None
+        if "*" in self.text:
+            for document in documents:
+                self._bound_expansion(document)
+        return documents
+
+    def _bound_expansion(self, document: yaml.Node) -> None:
+        """Tells a document whose aliases make much more of it than is written, before anything walks it."""
+        written: Dict[int, int] = {}
+        expanded = _expand(document, written)
+        if expanded - len(written) > GREATEST_EXPANSION:
+            told = f"the aliases here expand to more than {GREATEST_EXPANSION} parts: write them out, or leave some out"
+            raise self.mistake(start_of(document), told)
 
     def _measure_depth(self) -> None:
         """Tells a file nested too deep, before anything goes down into it."""
@@ -107,8 +164,43 @@ class Source:
                 raise self.mistake(start_of(event), f"this is nested more than {DEEPEST} levels deep")
 
 
+def _joined(pair: re.Match) -> str:
+    """Two escapes of JSON as the one of YAML for the same character."""
+    high, low = int(pair[2], 16), int(pair[3], 16)
+    return f"{pair[1]}\\U{0x10000 + (high - 0xD800) * 0x400 + low - 0xDC00:08x}"
+
+
+def may_be_deep(text: str) -> bool:
+    """Whether a text could be nested deeper than 2,000 levels: brackets nest, and so do columns, at most twice each."""
+    if text.count("[") + text.count("{") > DEEPEST // 2:
+        return True
+    longest = max(map(len, text.splitlines()), default=0)
+    return longest > DEEPEST // 4 and any(_levels(line) > DEEPEST // 4 for line in text.splitlines())
+
+
+def _levels(line: str) -> int:
+    """At most how many block collections are open on a line."""
+    return len(line) - len(line.lstrip()) + line.count("- ") + line.count("? ") + line.count(": ") + 1
+
+
+def _expand(node: yaml.Node, written: Dict[int, int]) -> int:
+    """How many nodes a node is with its aliases written out; `written` keeps that of each node."""
+    if id(node) in written:
+        return written[id(node)]
+    written[id(node)] = 1
+    parts = []
+    if isinstance(node, yaml.SequenceNode):
+        parts = node.value
+    elif isinstance(node, yaml.MappingNode):
+        parts = [part for pair in node.value for part in pair]
+    written[id(node)] = 1 + sum(_expand(part, written) for part in parts)
+    return written[id(node)]
+
+
 def start_of(node) -> Place:
-    """The place where a node or an event begins."""
+    """The place where a node or an event begins; the first one where there is none."""
+    if node is None:
+        return 0, 0
     return node.start_mark.line, node.start_mark.column
 
 

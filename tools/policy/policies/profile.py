@@ -1,11 +1,12 @@
 """What of a filter the engine refuses or skips, as far as reading alone tells it.
 
-These are the faults of the messages themselves, with the engine's numbers, and names that it does not know. Types are
-the engine's own part: what it refuses with 10 to 15 is not found here.
+These are the faults of the messages themselves and of the types of conditions, with the engine's numbers.
 """
-from typing import Iterator, NamedTuple
+from typing import Dict, List, NamedTuple
 
-from .faults import MISSING, TOO_LARGE, UNSUPPORTED, faults
+from .faults import CHECKS, MISSING, TOO_LARGE, UNSUPPORTED, faults
+from .findings import NAMES
+from .instead import instead
 from .messages import (
     CHECKED_EXPR,
     CONSTANT,
@@ -19,23 +20,12 @@ from .messages import (
     RULES,
     TYPE,
     Message,
-    is_map,
-    is_message,
-    is_repeated,
+    Part,
+    name_of,
+    parts_by_name,
 )
 from .reader import BAD_TEXT, BAD_WIRE, UNKNOWN_FIELD
 
-NAMES = {
-    1: "BadWire",
-    2: "BadText",
-    3: "UnknownField",
-    4: "Missing",
-    5: "OutOfRange",
-    6: "Unsupported",
-    7: "BothConditions",
-    8: "TooLarge",
-    9: "UnknownName",
-}
 SKIPPED = 0
 UNSUPPORTED_FIELDS = {
     RULES: ("audit_logging_options",),
@@ -51,6 +41,9 @@ SKIPPED_FIELDS = {
     FILTER: ("shadow_rules", "shadow_rules_stat_prefix"),
     CHECKED_EXPR: ("source_info", "expr_version"),
 }
+SPECIAL = frozenset(
+    field for fields in (UNSUPPORTED_FIELDS, SKIPPED_FIELDS) for names in fields.values() for field in names
+)
 MOST_NODES = 2048
 DEEPEST = {PERMISSION: ("rules", 32), PRINCIPAL: ("rules", 32), EXPR: ("nodes", 64), TYPE: ("types", 64)}
 
@@ -72,9 +65,16 @@ class Note(NamedTuple):
         return f"byte {self.place}: {self.told()}"
 
 
-def notes(message: Message, path: tuple = ()) -> Iterator[Note]:
+def _steps(field) -> tuple:
+    """The steps of a path that a finding's field is."""
+    return () if field is None else field if isinstance(field, tuple) else (field,)
+
+
+def notes(message: Message, path: tuple = ()) -> List[Note]:
     """All remarks on a filter."""
-    yield from _Walk().message(message, path, 0)
+    walk = _Walk()
+    walk.message(message, path, 0)
+    return walk.found
 
 
 class _Walk:
@@ -82,60 +82,79 @@ class _Walk:
 
     def __init__(self):
         self.nodes = 0
+        self.found: List[Note] = []
 
-    def message(self, message: Message, path: tuple, depth: int) -> Iterator[Note]:
+    def tell(self, path: tuple, place: int, number: int, words: str) -> None:
+        """Keeps a remark."""
+        self.found.append(Note(path, place, number, words))
+
+    def message(self, message: Message, path: tuple, depth: int) -> None:
         """The remarks on a message, `depth` rules, nodes or types of its own kind deep."""
         for place, number, words in message.faults:
-            yield Note(path, place, number, words)
+            self.tell(path, place, number, words)
         if not message.is_whole:
             return
-        name = message.kind.full_name
-        fields_are_known = all(number not in (BAD_WIRE, BAD_TEXT, UNKNOWN_FIELD) for _, number, _ in message.faults)
-        for field, place, number, words in faults(message):
-            if number != MISSING or fields_are_known:
-                yield Note(path if field is None else path + (field,), place, number, words)
+        name = name_of(message.kind)
+        if name in CHECKS:
+            self._check(message, path)
         if name == EXPR:
             self.nodes += 1
             if self.nodes == MOST_NODES + 1:
-                yield Note(path, message.start, TOO_LARGE, f"the condition has more than {MOST_NODES} nodes")
-        for field in message.kind.fields:
-            if field.name in message.values:
-                yield from self._field(message, field, path + (field.name,), depth)
+                self.tell(path, message.start, TOO_LARGE, f"the condition has more than {MOST_NODES} nodes")
+        known = parts_by_name(message.kind)
+        for field in message.values if len(message.values) < 2 else _in_order(message, known):
+            part = known[field]
+            if part.is_message or field in SPECIAL:
+                self._field(message, name, part, path + (field,), depth)
 
-    def _field(self, message: Message, field, path: tuple, depth: int) -> Iterator[Note]:
-        name = message.kind.full_name
-        place = message.places[field.name]
+    def _check(self, message: Message, path: tuple) -> None:
+        """The faults of the message's own values."""
+        fields_are_known = all(number not in (BAD_WIRE, BAD_TEXT, UNKNOWN_FIELD) for _, number, _ in message.faults)
+        for field, place, number, words in faults(message):
+            if number != MISSING or fields_are_known:
+                self.tell(path + _steps(field), place, number, words)
+
+    def _field(self, message: Message, name: str, field: Part, path: tuple, depth: int) -> None:
+        value, place = message.values[field.name], message.places.get(field.name, message.start)
         if field.name in UNSUPPORTED_FIELDS.get(name, ()):
             first = place[0] if isinstance(place, list) and place else place
-            yield Note(path, first or message.start, UNSUPPORTED, f"the engine does not support {field.name}")
+            if value != []:
+                words = f"the engine does not support {field.name}{instead(field.name)}"
+                self.tell(path, first or message.start, UNSUPPORTED, words)
         elif field.name in SKIPPED_FIELDS.get(name, ()):
-            if name == FILTER:
-                yield Note(path, place, SKIPPED, f"the engine skips {field.name}")
-        elif is_message(field) and not (name == TYPE and field.name not in ("list_type", "map_type")):
-            yield from self._parts(message.values[field.name], field, place, path, depth)
+            if name == FILTER and value != "":
+                self.tell(path, place, SKIPPED, f"the engine skips {field.name}")
+        elif field.is_message and not (name == TYPE and field.name not in ("list_type", "map_type")):
+            self._parts(value, field, place, path, depth)
 
-    def _parts(self, value, field, place, path: tuple, depth: int) -> Iterator[Note]:
-        if is_map(field):
-            for (key, part), where in zip(value, place):
+    def _parts(self, value, field: Part, place, path: tuple, depth: int) -> None:
+        places = place if isinstance(place, list) else [place] * len(value) if isinstance(value, list) else []
+        if field.is_map:
+            for (key, part), where in zip(value, places):
                 if isinstance(part, Message):
-                    yield from self._part(part, where, path + (key,), depth)
-        elif is_repeated(field):
-            for index, (part, where) in enumerate(zip(value, place)):
-                yield from self._part(part, where, path + (index,), depth)
+                    self._part(part, where, path + (key,), depth)
+        elif field.is_repeated:
+            for index, (part, where) in enumerate(zip(value, places)):
+                self._part(part, where, path + (index,), depth)
         else:
-            yield from self._part(value, place, path, depth)
+            self._part(value, place, path, depth)
 
-    def _part(self, part: Message, place: int, path: tuple, depth: int) -> Iterator[Note]:
+    def _part(self, part: Message, place: int, path: tuple, depth: int) -> None:
         """The remarks on a message in a message; the depth of rules, nodes and types counts on."""
-        name = part.kind.full_name
+        name = name_of(part.kind)
         if name in DEEPEST:
             what, most = DEEPEST[name]
             if name == EXPR and path[-1] in ("expr", "condition"):
                 self.nodes, depth = 0, 0
             if depth == most:
-                yield Note(path, place, TOO_LARGE, f"{what} are nested more than {most} deep")
+                self.tell(path, place, TOO_LARGE, f"{what} are nested more than {most} deep")
                 return
             depth += 1
         elif name in (POLICY, CHECKED_EXPR):
             depth = 0
-        yield from self.message(part, path, depth)
+        self.message(part, path, depth)
+
+
+def _in_order(message: Message, known: Dict[str, Part]) -> List[str]:
+    """The names of a message's fields by ascending number."""
+    return sorted(message.values, key=lambda field: known[field].number)

@@ -3,12 +3,12 @@
 Of a scalar the last occurrence counts, occurrences of a message merge, and of a oneof the last member counts with its
 trailing run. What the plain spelling of the values would not give back keeps its bytes (`Message.wire`).
 """
-from typing import List, Tuple
+from typing import Dict, List, Optional, Tuple
 
-from google.protobuf.descriptor import Descriptor, FieldDescriptor
+from google.protobuf.descriptor import Descriptor
 
-from .messages import Message, is_map, is_message, is_repeated, label
-from .wire import LENGTH, WIRE_TYPES, Broken, Field, read_fields, read_varints, scalar_of
+from .messages import Message, Part, label, parts_by_number
+from .wire import LENGTH, Broken, Field, read_fields, read_varints, scalar_of
 from .writer import PLAIN, Writer
 
 BAD_WIRE, BAD_TEXT, UNKNOWN_FIELD, TOO_LARGE = 1, 2, 3, 8
@@ -16,10 +16,11 @@ DEEPEST = 300
 Pieces = List[Tuple[int, bytes]]
 
 
-def read(kind: Descriptor, data: bytes, writer: Writer = PLAIN) -> Message:
-    """The message of some bytes; it keeps those of each part that the writer would not give back."""
+def read(kind: Descriptor, data: bytes, writer: Optional[Writer] = PLAIN) -> Message:
+    """The message of some bytes; it keeps those of each part that the writer, if there is one, would not give back."""
     message = _read(kind, [(0, data)], 1)
-    _keep_bytes(message, writer)
+    if writer is not None:
+        _keep_bytes(message, writer)
     return message
 
 
@@ -52,68 +53,44 @@ def _unread(message: Message, place: int, number: int, why: str) -> Message:
 
 
 def _fill(message: Message, fields: List[Field], depth: int) -> None:
-    """Sorts the fields by number and takes each number's value."""
-    known = {}
+    """Sorts the fields by number and takes each number's value; a member of a oneof drops those of other members."""
+    kinds = parts_by_number(message.kind)
+    known: Dict[int, List[Field]] = {}
+    members: Dict[str, int] = {}
     for field in fields:
-        kind = message.kind.fields_by_number.get(field.number)
+        kind = kinds.get(field.number)
         if kind is None or not _fits(kind, field):
             message.faults.append((field.place, UNKNOWN_FIELD, _unknown(message.kind, kind, field)))
-        else:
-            known.setdefault(kind.name, []).append(field)
-    for name in _replaced(message.kind, fields, known):
-        del known[name]
-    for oneof in message.kind.oneofs:
-        for member in oneof.fields:
-            if member.name in known:
-                known[member.name] = _trailing_run(known[member.name], oneof, fields)
-    for kind in sorted(message.kind.fields, key=lambda kind: kind.number):
-        if kind.name in known:
-            _take(message, kind, known[kind.name], depth)
+            continue
+        if kind.oneof is not None:
+            before = members.get(kind.oneof, kind.number)
+            if before != kind.number:
+                del known[before]
+            members[kind.oneof] = kind.number
+        known.setdefault(field.number, []).append(field)
+    for number in sorted(known) if len(known) > 1 else known:
+        _take(message, kinds[number], known[number], depth)
 
 
-def _fits(kind: FieldDescriptor, field: Field) -> bool:
-    expected = WIRE_TYPES[kind.type]
-    return field.wire_type == expected or (is_repeated(kind) and expected == 0 and field.wire_type == LENGTH)
+def _fits(kind: Part, field: Field) -> bool:
+    if field.wire_type == kind.wire_type:
+        return True
+    return kind.is_repeated and kind.wire_type == 0 and field.wire_type == LENGTH
 
 
-def _unknown(message: Descriptor, kind, field: Field) -> str:
+def _unknown(message: Descriptor, kind: Optional[Part], field: Field) -> str:
     if kind is None:
         return f"{label(message)} has no field {field.number}"
     return f"field {field.number} ({kind.name}) is not of wire type {field.wire_type}"
 
 
-def _members(oneof, fields: List[Field]) -> List[Field]:
-    numbers = {member.number: member for member in oneof.fields}
-    return [field for field in fields if field.number in numbers and _fits(numbers[field.number], field)]
-
-
-def _replaced(kind: Descriptor, fields: List[Field], known: dict) -> List[str]:
-    """The members of oneofs that a later member replaces."""
-    replaced = []
-    for oneof in kind.oneofs:
-        members = _members(oneof, fields)
-        last = members[-1].number if members else None
-        replaced += [member.name for member in oneof.fields if member.number != last and member.name in known]
-    return replaced
-
-
-def _trailing_run(occurrences: List[Field], oneof, fields: List[Field]) -> List[Field]:
-    """The occurrences of the last member behind the last one of another member."""
-    run = []
-    for field in reversed(_members(oneof, fields)):
-        if field.number != occurrences[-1].number:
-            break
-        run.append(field)
-    return run[::-1]
-
-
-def _take(message: Message, kind: FieldDescriptor, fields: List[Field], depth: int) -> None:
+def _take(message: Message, kind: Part, fields: List[Field], depth: int) -> None:
     """Puts the value of all occurrences of one field into the message."""
-    if is_map(kind):
+    if kind.is_map:
         _take_map(message, kind, fields, depth)
-    elif is_repeated(kind):
+    elif kind.is_repeated:
         _take_list(message, kind, fields, depth)
-    elif is_message(kind):
+    elif kind.is_message:
         pieces = [(field.start, field.payload) for field in fields]
         message.values[kind.name] = _read(kind.message_type, pieces, depth + 1)
         message.places[kind.name] = fields[-1].place
@@ -121,24 +98,24 @@ def _take(message: Message, kind: FieldDescriptor, fields: List[Field], depth: i
         _take_scalar(message, kind, fields[-1])
 
 
-def _take_scalar(message: Message, kind: FieldDescriptor, field: Field) -> None:
+def _take_scalar(message: Message, kind: Part, field: Field) -> None:
     try:
-        message.values[kind.name] = scalar_of(kind.type, field.payload)
+        message.values[kind.name] = scalar_of(kind.field.type, field.payload)
         message.places[kind.name] = field.place
     except UnicodeDecodeError:
         message.faults.append((field.place, BAD_TEXT, f"{kind.name} is a text that is not UTF-8"))
 
 
-def _take_list(message: Message, kind: FieldDescriptor, fields: List[Field], depth: int) -> None:
+def _take_list(message: Message, kind: Part, fields: List[Field], depth: int) -> None:
     values, places = [], []
     for field in fields:
         try:
-            if is_message(kind):
+            if kind.is_message:
                 more = [_read(kind.message_type, [(field.start, field.payload)], depth + 1)]
-            elif WIRE_TYPES[kind.type] != LENGTH and field.wire_type == LENGTH:
-                more = [scalar_of(kind.type, number) for number in read_varints(field.payload)]
+            elif kind.wire_type != LENGTH and field.wire_type == LENGTH:
+                more = [scalar_of(kind.field.type, number) for number in read_varints(field.payload)]
             else:
-                more = [scalar_of(kind.type, field.payload)]
+                more = [scalar_of(kind.field.type, field.payload)]
         except UnicodeDecodeError:
             message.faults.append((field.place, BAD_TEXT, f"{kind.name} has a text that is not UTF-8"))
             continue
@@ -151,9 +128,10 @@ def _take_list(message: Message, kind: FieldDescriptor, fields: List[Field], dep
     message.places[kind.name] = places
 
 
-def _take_map(message: Message, kind: FieldDescriptor, fields: List[Field], depth: int) -> None:
+def _take_map(message: Message, kind: Part, fields: List[Field], depth: int) -> None:
     """The last entry of a key counts, and stands where the key stood first; an entry with a fault is left out."""
     pairs, places = {}, {}
+    value_type = kind.message_type.fields_by_name["value"].message_type
     for field in fields:
         entry = _read(kind.message_type, [(field.start, field.payload)], depth + 1)
         if entry.faults:
@@ -161,8 +139,8 @@ def _take_map(message: Message, kind: FieldDescriptor, fields: List[Field], dept
             continue
         key = entry.scalar("key")
         value = entry.get("value")
-        if value is None and is_message(kind.message_type.fields_by_name["value"]):
-            value = _read(kind.message_type.fields_by_name["value"].message_type, [(field.start, b"")], depth + 2)
+        if value is None and value_type is not None:
+            value = _read(value_type, [(field.start, b"")], depth + 2)
         pairs[key] = entry.scalar("value") if value is None else value
         places[key] = field.place
     message.values[kind.name] = list(pairs.items())

@@ -56,7 +56,7 @@ def read_scalar(field: FieldDescriptor, node: yaml.ScalarNode):
         raise Unfit(f"the tag {node.tag} has no meaning here")
     if field.type == FieldDescriptor.TYPE_STRING:
         if not is_text(node):
-            raise Unfit(f'a text is wanted; in quotes this is one: "{node.value}"')
+            raise Unfit(f'a text is expected; in quotes this is one: "{node.value}"')
         return node.value
     if field.type == FieldDescriptor.TYPE_BYTES:
         return _read_bytes(node)
@@ -74,19 +74,19 @@ def read_key(field: FieldDescriptor, node: yaml.ScalarNode):
     if field.type != FieldDescriptor.TYPE_STRING:
         return _read_int(field.type, node.value)
     if is_absent(node):
-        raise Unfit('a name is wanted; the empty one is ""')
+        raise Unfit('a name is expected; the empty one is ""')
     return node.value
 
 
 def _read_bool(node: yaml.ScalarNode) -> bool:
     if is_bool(node):
         return node.value == "true"
-    raise Unfit("true or false is wanted")
+    raise Unfit("true or false is expected")
 
 
 def _read_int(kind: int, text: str) -> int:
     low, high = RANGES[kind]
-    wanted = f"a whole number from {low} to {high} is wanted"
+    wanted = f"a whole number from {low} to {high} is expected"
     if not NUMBER.match(text):
         raise Unfit(wanted)
     number = Decimal(text)
@@ -102,7 +102,7 @@ def _read_enum(field: FieldDescriptor, node: yaml.ScalarNode):
     if is_null(field) and is_absent(node):
         return 0
     if not NUMBER.match(node.value):
-        raise Unfit("one of these is wanted: " + ", ".join(field.enum_type.values_by_name))
+        raise Unfit("one of these is expected: " + ", ".join(field.enum_type.values_by_name))
     return _read_int(field.type, node.value)
 
 
@@ -110,19 +110,19 @@ def _read_double(node: yaml.ScalarNode) -> float:
     if node.value in DOUBLES:
         return DOUBLES[node.value]
     if not NUMBER.match(node.value) or math.isinf(float(node.value)):
-        raise Unfit("a number is wanted")
+        raise Unfit("a number is expected")
     return float(node.value)
 
 
 def _read_bytes(node: yaml.ScalarNode) -> bytes:
     text = node.value
     if not is_text(node) or not BASE64.match(text):
-        raise Unfit("bytes are wanted, as a text in base64")
+        raise Unfit("bytes are expected, as a text in base64")
     text = text.rstrip("=").translate(str.maketrans("-_", "+/"))
     try:
         return base64.b64decode(text + "=" * (-len(text) % 4), validate=True)
     except binascii.Error:
-        raise Unfit("bytes are wanted, as a text in base64") from None
+        raise Unfit("bytes are expected, as a text in base64") from None
 
 
 def scalar_text(field: FieldDescriptor, value) -> str:

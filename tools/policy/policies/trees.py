@@ -1,5 +1,5 @@
 """Trees of CEL and types to their messages, and back."""
-from typing import Optional
+from typing import Iterator, Optional, Tuple
 
 from .cel.tree import Call, Comprehension, Const, Entry, Ident, ListLiteral, Node, Select, StructLiteral
 from .messages import EXPR, TYPE, Message, descriptor
@@ -126,6 +126,35 @@ READERS = {
     "struct_expr": _struct,
     "comprehension_expr": _loop,
 }
+
+
+def node_paths(node: Node, path: tuple = ()) -> Iterator[Tuple[Node, tuple]]:
+    """The nodes of a tree, each with the steps from the tree's message to its own."""
+    yield node, path
+    for part, steps in _parts_of(node):
+        yield from node_paths(part, path + steps)
+
+
+def _parts_of(node: Node) -> Iterator[Tuple[Node, tuple]]:
+    """The nodes in a node, each with the steps to it."""
+    if isinstance(node, Select):
+        yield node.operand, ("select_expr", "operand")
+    elif isinstance(node, Call):
+        if node.target is not None:
+            yield node.target, ("call_expr", "target")
+        for index, part in enumerate(node.args):
+            yield part, ("call_expr", "args", index)
+    elif isinstance(node, ListLiteral):
+        for index, part in enumerate(node.elements):
+            yield part, ("list_expr", "elements", index)
+    elif isinstance(node, StructLiteral):
+        for index, entry in enumerate(node.entries):
+            if isinstance(entry.key, Node):
+                yield entry.key, ("struct_expr", "entries", index, "map_key")
+            yield entry.value, ("struct_expr", "entries", index, "value")
+    elif isinstance(node, Comprehension):
+        for name in LOOP_PARTS:
+            yield getattr(node, name), ("comprehension_expr", name)
 
 
 def type_message(kind: tuple) -> Message:

@@ -1,6 +1,7 @@
 """The wire format of Protocol Buffers: fields of a payload, and scalars as bytes."""
 import math
 import struct
+from functools import lru_cache
 from typing import List, NamedTuple, Union
 
 from google.protobuf.descriptor import FieldDescriptor
@@ -19,6 +20,7 @@ WIRE_TYPES = {
     FieldDescriptor.TYPE_MESSAGE: LENGTH,
 }
 GREATEST_NUMBER = 2**29 - 1
+SHORT = [bytes([value]) for value in range(128)]
 
 
 class Broken(Exception):
@@ -66,7 +68,7 @@ def _payload_bounds(data: bytes, at: int, wire_type: int, offset: int):
     if length is None:
         raise Broken(offset + at, f"{wire_type} is no type of a field")
     if start + length > len(data):
-        raise Broken(offset + start, f"{length} bytes should stand here, and there are {len(data) - start}")
+        raise Broken(offset + start, f"{length} bytes are expected here, and there are {len(data) - start}")
     return start, start + length
 
 
@@ -118,6 +120,8 @@ def _signed(value: int, bits: int) -> int:
 
 def varint(value: int) -> bytes:
     """A number from 0 to 2^64 - 1 in as few bytes as it takes."""
+    if value < 128:
+        return SHORT[value]
     out = bytearray()
     while value >= 128:
         out.append(value % 128 + 128)
@@ -137,6 +141,7 @@ def scalar_payload(kind: int, value) -> bytes:
     return varint(int(value) % 2**64)
 
 
+@lru_cache(maxsize=None)
 def tag(number: int, wire_type: int) -> bytes:
     """The tag of a field."""
     return varint(number * 8 + wire_type)

@@ -1,10 +1,12 @@
 """Filters in a discovery response with its frame, as the update stream brings them."""
-from typing import List, Tuple
+from typing import List, Optional, Tuple
 
 from .messages import ANY, EXTENSION, FILTER, PREFIX, RESPONSE, Message, descriptor
 from .writer import PLAIN
 
 GREATEST_MESSAGE = 1_048_576
+MOST_FILTERS = 8
+LONGEST_NAME = 256
 
 
 def _message(kind: str, values: dict) -> Message:
@@ -31,3 +33,19 @@ def response(filters: List[Tuple[str, bytes]], version: str, nonce: str) -> byte
 def frame(message: bytes) -> bytes:
     """A message of fewer than 2^32 bytes behind its five bytes: no compression, and the length."""
     return bytes([0]) + len(message).to_bytes(4, "big") + message
+
+
+def name_fault(names: List[str]) -> Optional[str]:
+    """What is wrong with the names of filters, or None."""
+    for name in names:
+        if not name:
+            return "a filter's name is empty: --name takes 1 to 256 bytes"
+        if len(name.encode(errors="surrogateescape")) > LONGEST_NAME:
+            return f"the filter's name {name[:32]}.. is longer than {LONGEST_NAME} bytes"
+        if any(0xD800 <= ord(character) <= 0xDFFF for character in name):
+            return "a filter's name is not UTF-8"
+        if names.count(name) > 1:
+            return f"the name {name} is given twice: the engine refuses such a response (16 DuplicateResource)"
+    if len(names) > MOST_FILTERS:
+        return f"{len(names)} filters; the engine takes at most {MOST_FILTERS}"
+    return None

@@ -2,11 +2,11 @@
 
 Go's encoder puts the members of oneofs behind the other fields; a writer can do so too.
 """
-from typing import Callable
+from typing import Callable, Dict
 
-from google.protobuf.descriptor import FieldDescriptor
+from google.protobuf.descriptor import Descriptor, FieldDescriptor
 
-from .messages import Message, default_of, has_presence, is_map, is_message, is_repeated
+from .messages import Message, Part, default_of, parts_by_name
 from .wire import LENGTH, WIRE_TYPES, field_of, scalar_payload, tag
 
 
@@ -15,6 +15,7 @@ class Writer:
 
     def __init__(self, oneofs_last: bool = False):
         self.oneofs_last = oneofs_last
+        self.orders: Dict[Descriptor, Dict[str, tuple]] = {}
 
     def write(self, message: Message) -> bytes:
         """The bytes of a message: its own where it has some, else the plain spelling of its values."""
@@ -22,31 +23,43 @@ class Writer:
 
     def spell(self, message: Message, write_part: Callable[[Message], bytes]) -> bytes:
         """The plain spelling of a message's values, where `write_part` gives the bytes of the messages in it."""
-        out = []
-        for field in sorted(message.kind.fields, key=self._place):
-            if field.name in message.values:
-                out.append(_write_field(field, message.values[field.name], write_part))
-        return b"".join(out)
+        order = self.orders.get(message.kind)
+        if order is None:
+            order = self.orders[message.kind] = self._order(message.kind)
+        names = message.values
+        if len(names) > 1:
+            names = sorted(names, key=order.__getitem__)
+        return b"".join(_write_field(order[name][2], message.values[name], write_part) for name in names)
 
-    def _place(self, field: FieldDescriptor):
-        return self.oneofs_last and field.containing_oneof is not None, field.number
+    def _order(self, kind: Descriptor) -> Dict[str, tuple]:
+        """The place of each field by its name, and the field."""
+        order = {}
+        for field in kind.fields:
+            is_last = self.oneofs_last and field.containing_oneof is not None
+            order[field.name] = (is_last, field.number, parts_by_name(kind)[field.name])
+        return order
 
 
 PLAIN = Writer()
 ONEOFS_LAST = Writer(oneofs_last=True)
 
 
-def _write_field(field: FieldDescriptor, value, write_part) -> bytes:
-    if is_map(field):
-        return b"".join(field_of(field.number, _entry(field, pair, write_part)) for pair in value)
-    if is_repeated(field) and _is_packed(field):
+def _write_field(part: Part, value, write_part) -> bytes:
+    field = part.field
+    if part.is_map:
+        return b"".join(field_of(part.number, _entry(field, pair, write_part)) for pair in value)
+    if part.is_repeated and part.is_message:
+        return b"".join(field_of(part.number, write_part(one)) for one in value)
+    if part.is_message:
+        return field_of(part.number, write_part(value))
+    if part.is_repeated and _is_packed(field):
         packed = b"".join(scalar_payload(field.type, one) for one in value)
         return field_of(field.number, packed) if value else b""
-    if is_repeated(field):
-        return b"".join(_write_one(field, one, write_part) for one in value)
-    if not is_message(field) and not has_presence(field) and _is_default(field, value):
+    if part.is_repeated:
+        return b"".join(_write_scalar(field, one) for one in value)
+    if part.oneof is None and _is_default(field, value):
         return b""
-    return _write_one(field, value, write_part)
+    return _write_scalar(field, value)
 
 
 def _is_packed(field: FieldDescriptor) -> bool:
@@ -59,13 +72,12 @@ def _is_default(field: FieldDescriptor, value) -> bool:
     return value == default_of(field)
 
 
-def _write_one(field: FieldDescriptor, value, write_part) -> bytes:
-    if is_message(field):
-        return field_of(field.number, write_part(value))
+def _write_scalar(field: FieldDescriptor, value) -> bytes:
     return tag(field.number, WIRE_TYPES[field.type]) + scalar_payload(field.type, value)
 
 
 def _entry(field: FieldDescriptor, pair: tuple, write_part) -> bytes:
     """An entry of a map: the key and the value, both always there."""
     key, value = (field.message_type.fields_by_number[number] for number in (1, 2))
-    return _write_one(key, pair[0], write_part) + _write_one(value, pair[1], write_part)
+    held = field_of(2, write_part(pair[1])) if value.message_type is not None else _write_scalar(value, pair[1])
+    return _write_scalar(key, pair[0]) + held

@@ -11,7 +11,25 @@ from google.protobuf.descriptor import FieldDescriptor
 
 from policies import messages
 
-WORDS = ["", "a", "GET", "/api/", "x-user", "é", "a b", "yes", "12", "null", "1e3", "# no", "- x", "a: b", '"q"', "\n", "~"]
+WORDS = [
+    "",
+    "a",
+    "GET",
+    "/api/",
+    "x-user",
+    "é",
+    "a b",
+    "yes",
+    "12",
+    "null",
+    "1e3",
+    "# no",
+    "- x",
+    "a: b",
+    '"q"',
+    "\n",
+    "~",
+]
 ADDRESSES = [("10.0.0.0", 32), ("255.0.0.1", 32), ("::", 128), ("2001:db8::", 128), ("1:2:3:4:5:6:7::", 128)]
 UNSUPPORTED = {
     "metadata",
@@ -177,7 +195,9 @@ class Maker:
     def _scalar(self, field):
         if field.type == FieldDescriptor.TYPE_STRING:
             if field.name == "type_url":
-                return self.random.choice(["type.googleapis.com/" + messages.EXTENSION, "x", "type.googleapis.com/no.T"])
+                return self.random.choice(
+                    ["type.googleapis.com/" + messages.EXTENSION, "x", "type.googleapis.com/no.T"]
+                )
             return self.word()
         if field.type == FieldDescriptor.TYPE_BYTES:
             return self.random.choice([b"", b"\x00", b"\xff\xfe", b"abc", bytes(range(256))])

@@ -62,7 +62,9 @@ class TreeMaker:
         elif choice == 9:
             self._struct(made.struct_expr, depth)
         elif choice == 10:
-            made.select_expr.field = self.random.choice(["a", "headers", "x_y", "in", "a-b"] if self.odd else ["a", "b"])
+            made.select_expr.field = self.random.choice(
+                ["a", "headers", "x_y", "in", "a-b"] if self.odd else ["a", "b"]
+            )
             made.select_expr.test_only = self.random.random() < 0.5
             self.tree(made.select_expr.operand, depth + 1)
         else:

@@ -1,5 +1,7 @@
 """What several tests share."""
+import os
 import pathlib
+import sys
 
 from policies import messages
 from policies.encode import encode
@@ -9,6 +11,10 @@ from policies.trees import message_tree
 
 HERE = pathlib.Path(__file__).resolve().parent
 TOP = HERE.parent.parent.parent
+# The engine: the program of RBACD, or the proved one where it is built (`bin/rbacd` builds it).
+ENGINE = pathlib.Path(os.environ.get("RBACD") or TOP / "crates" / "rbacd" / "out" / "rbacd")
+NO_ENGINE = f"the engine is not built: {ENGINE} is not there"
+sys.setrecursionlimit(20_000)
 POLICY = """rules:
   policies:
     p:
@@ -60,3 +66,14 @@ def field(number, payload):
         digits.append(length % 128 + 128)
         length //= 128
     return bytes([number * 8 + 2, *digits, length]) + payload
+
+
+def told(text: str, budget: int = 1_000_000) -> list:
+    """What is told of a filter's YAML: the first line of each finding, in the order of the file."""
+    source = Source("filter.yaml", text.encode())
+    return sorted(source.tell(one.place, one.told()).split("\n")[0] for one in encode(source, budget=budget)[1])
+
+
+def numbers(text: str) -> set:
+    """The refusals' numbers that are found in a filter's YAML."""
+    return {one.number for one in encode(Source("filter.yaml", text.encode()))[1] if one.number}

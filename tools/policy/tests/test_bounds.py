@@ -1,22 +1,21 @@
 """The bounds of the worked cases and rows, and why the others are refused, as `rbacd check` prints them.
 
-The program is the proved one where it is built (`bin/rbacd` builds it), and else, or where UNPROVED is set, the sources as
-`rt try` compiles them, without a proof. Each bound is worked out by hand from the charges of the instructions and the sizes of what they work on, with
+The program is that of RBACD, or the proved one where it is built (`bin/rbacd` builds it); where UNPROVED is set, the
+sources as `rt try` compiles them, without a proof. Each bound is worked out by hand from the charges of the instructions and the sizes of what they work on, with
 the greatest limits.
 """
-import functools
 import os
 import pathlib
 import re
-import shutil
 import subprocess
 import tempfile
 import unittest
 
 import cases
-from support import TOP, condition, encoded
+from support import ENGINE, NO_ENGINE, TOP, condition, encoded
 
-PROGRAM = TOP / "crates" / "rbacd" / "out" / "rbacd"
+CRATE = TOP / "crates" / "rbacd"
+UNPROVED = bool(os.environ.get("UNPROVED"))
 
 # The bound of each condition that is admitted.
 BOUNDS = {
@@ -107,7 +106,10 @@ def wanted():
     for budget, line in ((80, "admitted: policies 2 bound 80"), (79, "refused: 15 TooCostly")):
         yield f"two conditions, budget {budget}", encoded(TWO), line, ("--budget", str(budget))
     for budget, line in ((40, "admitted: policies 1 bound 40"), (39, "refused: 15 TooCostly")):
-        yield f"a method, budget {budget}", encoded(condition('request.method == "GET"')), line, ("--budget", str(budget))
+        yield f"a method, budget {budget}", encoded(condition('request.method == "GET"')), line, (
+            "--budget",
+            str(budget),
+        )
 
 
 def by_program(rows):
@@ -116,7 +118,7 @@ def by_program(rows):
         with tempfile.NamedTemporaryFile() as file:
             file.write(data)
             file.flush()
-            ran = subprocess.run([PROGRAM, "check", "--policy", file.name, *words], capture_output=True, text=True)
+            ran = subprocess.run([ENGINE, "check", "--policy", file.name, *words], capture_output=True, text=True)
         yield ran.stdout.strip()
 
 
@@ -128,20 +130,13 @@ def by_sources(rows):
             if words:
                 (pathlib.Path(folder) / f"{number:03d}.args").write_text("\n".join(words) + "\n")
         command = ["rt", "try", "--cases", folder, "--", "check", "--policy", "{}"]
-        ran = subprocess.run(command, cwd=PROGRAM.parent.parent, capture_output=True, text=True)
+        ran = subprocess.run(command, cwd=CRATE, capture_output=True, text=True)
     printed = dict(re.findall(r"^== (\d+)\n(.*)$", ran.stdout, re.MULTILINE))
     for number in range(len(rows)):
         yield printed.get(f"{number:03d}", "nothing: " + ran.stderr[-400:]).strip()
 
 
-@functools.cache
-def has_check():
-    """Whether the sources have the command, or whether there is nothing to run them with."""
-    words = (PROGRAM.parent.parent / "src" / "words.rt").read_text()
-    return '"check"' in words and (PROGRAM.exists() or shutil.which("rt") is not None)
-
-
-@unittest.skipUnless(has_check(), "`rbacd check` is not there, or neither the program nor `rt`")
+@unittest.skipUnless(ENGINE.exists() or UNPROVED, NO_ENGINE)
 class Bounds(unittest.TestCase):
     """What `rbacd check` prints."""
 
@@ -149,7 +144,7 @@ class Bounds(unittest.TestCase):
 
     def test_all(self):
         rows = list(wanted())
-        answer = by_program if PROGRAM.exists() and not os.environ.get("UNPROVED") else by_sources
+        answer = by_sources if UNPROVED else by_program
         for (name, _, line, _), printed in zip(rows, answer(rows), strict=True):
             with self.subTest(name):
                 self.assertEqual(printed, line)

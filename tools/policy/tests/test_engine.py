@@ -8,13 +8,17 @@ import subprocess
 import tempfile
 import unittest
 
+from policies import engine, reading
+from policies.bounds import GREATEST_BUDGET
+from policies.conditions_typing import bounds_of
 from policies.decode import decode
+from policies.forms.envoy import Form
+from policies.places import Source
 from random_filters import Maker
-from support import TOP, encoded
+from support import ENGINE, NO_ENGINE, condition, encoded
+from test_cel_go import Maker as TextMaker
 from test_profile import REFUSED
 from test_round_trip import alter
-
-ENGINE = TOP / "crates" / "rbacd" / "out" / "rbacd"
 
 
 class WithoutConditions(Maker):
@@ -24,7 +28,7 @@ class WithoutConditions(Maker):
         checked.Clear()
 
 
-@unittest.skipUnless(ENGINE.exists(), "the engine is not built")
+@unittest.skipUnless(ENGINE.exists(), NO_ENGINE)
 class Engine(unittest.TestCase):
     """Runs of `rbacd judge`."""
 
@@ -39,13 +43,10 @@ class Engine(unittest.TestCase):
         return int(refused[1]) if refused else None
 
     def check(self, data):
-        """One filter; conditions may be refused as unsupported, and for what typing and costs find."""
+        """One filter: the engine's answer is one of the faults told, or there is none."""
         text = decode(data)
-        told = {int(number) for number in re.findall(r"# byte \d+: .* \((\d) [A-Za-z]+\)$", text, re.MULTILINE)}
-        answer = self.answer(data)
-        if "condition:" in text and answer in (6, *range(10, 16)):
-            return
-        self.assertIn(answer, told or {None}, text)
+        told = {int(number) for number in re.findall(r"# byte \d+: .* \((\d+) [A-Za-z]+\)$", text, re.MULTILINE)}
+        self.assertIn(self.answer(data), told or {None}, text)
 
     def test_table(self):
         for text, _ in REFUSED:
@@ -53,9 +54,32 @@ class Engine(unittest.TestCase):
                 self.check(encoded(text))
 
     def test_random(self):
-        maker, change = WithoutConditions(7, profile=True), random.Random(7)
-        for _ in range(300):
+        self.check_random(WithoutConditions(7, profile=True), 150)
+
+    def test_random_conditions(self):
+        self.check_random(Maker(8, profile=True), 250)
+
+    def check_random(self, maker, count):
+        """Random filters, each as it is made and with a byte changed."""
+        change = random.Random(7)
+        for _ in range(count):
             data = bytearray(maker.filter_bytes())
             self.check(bytes(data))
             alter(data, change)
             self.check(bytes(data))
+
+    def test_bounds(self):
+        """Random conditions: the tool's bound is the engine's, or both refuse for the same reason."""
+        maker = TextMaker(11)
+        texts = [maker.text("bool") for _ in range(150)]
+        sources = [Source("filter.yaml", condition(text).encode()) for text in texts]
+        made = [reading.encoded(one, Form("", one.compose()), GREATEST_BUDGET, False) for one in sources]
+        with engine.Engine(ENGINE) as asked:
+            answers = asked.admissions([one.data for one in made], GREATEST_BUDGET)
+        for text, one, answer in zip(texts, made, answers, strict=True):
+            with self.subTest(text):
+                found = {finding.number for finding in one.findings if finding.number}
+                if answer.number:
+                    self.assertIn(answer.number, found)
+                else:
+                    self.assertEqual((found, bounds_of(one.message)[0].steps), (set(), answer.bound))

@@ -62,9 +62,22 @@ TABLE = {
 }
 ENUMS = {
     ("envoy.config.rbac.v3.RBAC", "Action"): "ALLOW DENY LOG",
-    ("google.api.expr.v1alpha1.Type", "PrimitiveType"): "PRIMITIVE_TYPE_UNSPECIFIED BOOL INT64 UINT64 DOUBLE STRING BYTES",
+    (
+        "google.api.expr.v1alpha1.Type",
+        "PrimitiveType",
+    ): "PRIMITIVE_TYPE_UNSPECIFIED BOOL INT64 UINT64 DOUBLE STRING BYTES",
 }
-KINDS = {1: "double", 3: "int64", 4: "uint64", 5: "int32", 8: "bool", 9: "string", 12: "bytes", 13: "uint32", 14: "enum"}
+KINDS = {
+    1: "double",
+    3: "int64",
+    4: "uint64",
+    5: "int32",
+    8: "bool",
+    9: "string",
+    12: "bytes",
+    13: "uint32",
+    14: "enum",
+}
 
 
 def described(field):

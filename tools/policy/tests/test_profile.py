@@ -5,14 +5,11 @@ import unittest
 import cases
 from cases import principal, rule
 from policies.decode import decode
-from policies.encode import encode
-from policies.places import Source
-from support import POLICY, condition, encoded, tree_condition
+from support import POLICY, condition, encoded, numbers, told, tree_condition
 
 ONE = cases.ONE
 ANY = "0a 02 18 01 12 02 18 01"
 CONDITION = POLICY + "      checked_condition: "
-
 
 
 def many_policies(count):
@@ -85,7 +82,7 @@ REFUSED = [
     (CONDITION + "{expr: {}}", [4]),
     (CONDITION + "{expr: {const_expr: {}}}", [4]),
     (condition("null == 1.5"), [6, 6]),
-    (condition("A{b: 1} == {}", "type_map: {4: 'map(int, int)'}"), [6, 6]),
+    (condition("A{b: 1} == {}", "type_map: {5: 'map(int, int)'}"), [6, 6]),
     (tree_condition("{list_expr: {optional_indices: [0]}}"), [6]),
     (tree_condition("{select_expr: {field: a}}"), [4]),
     (tree_condition("{struct_expr: {entries: [{}]}}"), [4]),
@@ -94,7 +91,6 @@ REFUSED = [
     (tree_condition(cases.LOOPS["same_names"]), [5]),
     (tree_condition(cases.LOOPS["no_accumulator"]), [4]),
     (tree_condition(cases.LOOPS["second_variable"]), [6]),
-    (tree_condition(cases.LOOPS["doubling_accumulator"]), []),
     (condition('request.color == "x"'), [9]),
     (condition("request"), [9]),
     (condition("x"), [9]),
@@ -106,8 +102,8 @@ REFUSED = [
     (condition("request.color == 'a'", "dotted: true"), [9]),
     (condition("[1].all(x, [2].exists(y, x < y)) && y"), [9]),
     (condition("size([]) == 0", "type_map: {2: list(dyn)}"), [6]),
-    (condition("size([]) == 0", "type_map: {2: dyn}"), []),
-    (condition("size([]) == 0", "type_map: {9: list(dyn)}"), []),
+    (condition("size([]) == 0", "type_map: {2: dyn}"), [14]),
+    (condition("size([]) == 0", "type_map: {9: list(dyn)}"), [14]),
     (condition("request.path == ''", "type_map: {1: list(dyn)}"), []),
     (condition("request.path == ''", "type_map: {2: list(dyn)}"), [6]),
     (condition("true", "type_map: {5: {primitive: 7}}"), [5]),
@@ -121,7 +117,7 @@ REFUSED = [
     (condition(cases.nested(63)), []),
     (condition(cases.nested(64)), [8]),
     (condition("[" + ", ".join(["1"] * 2046) + "] == x"), [8, 9]),
-    (condition("size([" + ", ".join(["1"] * 2046) + "])"), []),
+    (condition("size([" + ", ".join(["1"] * 2046) + "])"), [13]),
     ("rules: {}\nshadow_rules: {policies: {p: {}}}\nshadow_rules_stat_prefix: x", []),
     (many_policies(256), []),
     (many_policies(257), [8]),
@@ -135,7 +131,7 @@ TOLD = {
     "0a": ["byte 1: a number is cut short here (1 BadWire)"],
     "0a 00 00": ["byte 2: 0 is no number of a field (1 BadWire)"],
     "0a 00 0b": ["byte 3: 3 is no type of a field (1 BadWire)"],
-    "0a 02 08": ["byte 2: 2 bytes should stand here, and there are 1 (1 BadWire)"],
+    "0a 02 08": ["byte 2: 2 bytes are expected here, and there are 1 (1 BadWire)"],
     "0a 0b 08 80 80 80 80 80 80 80 80 80 02": ["byte 3: a number here is longer than 64 bits (1 BadWire)"],
     "0a 0f 12 0d 0a 01 ff 12 08 0a 02 18 01 12 02 18 01": ["byte 4: key is a text that is not UTF-8 (2 BadText)"],
 }
@@ -147,7 +143,7 @@ class Comments(unittest.TestCase):
     def test_numbers(self):
         for text, wanted in REFUSED:
             with self.subTest(text[-100:]):
-                found = re.findall(r"# byte \d+: .* \((\d) [A-Za-z]+\)$", decode(encoded(text)), re.MULTILINE)
+                found = re.findall(r"# byte \d+: .* \((\d+) [A-Za-z]+\)$", decode(encoded(text)), re.MULTILINE)
                 self.assertEqual(sorted(map(int, found)), wanted)
 
     def test_words(self):
@@ -181,21 +177,20 @@ class Notes(unittest.TestCase):
         text = POLICY.replace("- any: true", "- metadata: {}", 1) + (
             "      checked_condition:\n        text: |\n          request.path.matches('a') &&\n          x\nshadow_rules: {}\n"
         )
-        data, notes = encode(Source("filter.yaml", text.encode()))
-        self.assertTrue(data)
+        self.assertTrue(encoded(text))
         self.assertEqual(
-            sorted(note.split("\n")[0] for note in notes),
+            told(text),
             [
-                "filter.yaml:10:24: note: the engine has no function matches (9 UnknownName)",
-                "filter.yaml:11:11: note: the engine has no variable x (9 UnknownName)",
+                "filter.yaml:10:24: the engine has no function matches: there are no regular expressions: write `==`, "
+                "`startsWith`, `endsWith`, `contains` or `in` (9 UnknownName)",
+                "filter.yaml:11:11: the engine has no variable x (9 UnknownName)",
                 "filter.yaml:12:15: note: the engine skips shadow_rules",
-                "filter.yaml:5:19: note: the engine does not support metadata (6 Unsupported)",
+                "filter.yaml:5:19: the engine does not support metadata: the engine has no metadata of other filters: let the "
+                "proxy put it into a header, and match the header (6 Unsupported)",
             ],
         )
 
     def test_same_numbers(self):
         for text, wanted in REFUSED:
             with self.subTest(text[-100:]):
-                _, notes = encode(Source("filter.yaml", text.encode()))
-                found = {int(number) for note in notes for number in re.findall(r" \((\d) [A-Za-z]+\)\n", note)}
-                self.assertEqual(found, set(wanted))
+                self.assertEqual(numbers(text), set(wanted))

@@ -7,7 +7,7 @@ import unittest
 
 import cases
 from policies import requirements
-from support import POLICY, TOP, condition
+from support import POLICY, TOP, condition, encoded
 
 PROGRAM = TOP / "tools" / "policy" / "policy"
 TESTS = TOP / "tools" / "policy" / "test"
@@ -71,11 +71,39 @@ class Program(unittest.TestCase):
         self.assertEqual((status, out), (1, b""))
         self.assertTrue(errors.startswith("standard input:1:1: "), errors)
 
+    def test_refused(self):
+        """Nothing is written of a filter that the engine would refuse, unless that is asked for."""
+        file = self.file("f.yaml", condition("size([]) == 0"))
+        status, out, errors = self.run_it("encode", file)
+        self.assertEqual((status, out), (1, b""))
+        self.assertIn("f.yaml:9:21: nothing tells the type of this empty list", errors)
+        status, out, errors = self.run_it("encode", file, "--even-if-refused")
+        self.assertEqual((status, out), (0, encoded(condition("size([]) == 0"))))
+        self.assertEqual(self.run_it("encode", file, "--output", "f.bin")[:2], (1, b""))
+        self.assertFalse((self.room / "f.bin").exists())
+
     def test_note(self):
-        status, out, errors = self.run_it("encode", self.file("f.yaml", condition("size([]) == 0")))
-        self.assertEqual(status, 0)
-        self.assertTrue(out)
-        self.assertIn("f.yaml:9:21: note: nothing tells the type of this empty list", errors)
+        status, out, errors = self.run_it("encode", self.file("f.yaml", "rules: {}\nshadow_rules: {}\n"))
+        self.assertEqual((status, out), (0, bytes.fromhex("0a 00 12 00")))
+        self.assertIn("f.yaml:2:15: note: the engine skips shadow_rules", errors)
+
+    def test_costly(self):
+        text = condition('request.method == "GET"')
+        status, out, errors = self.run_it("encode", "--budget", "39", self.file("f.yaml", text))
+        self.assertEqual((status, out), (1, b""))
+        self.assertIn(
+            'f.yaml:9:15: the condition of policy "p" may take 40 steps; the budget is 39 (--budget 40 would admit it) '
+            "(15 TooCostly)",
+            errors,
+        )
+        self.assertEqual(self.run_it("encode", "--budget", "40", "f.yaml")[0], 0)
+
+    def test_all_mistakes_are_told(self):
+        text = "rules: {policies: {p: {permissions: [{an: true}, {any: 1}]}, q: {principles: []}}}"
+        status, out, errors = self.run_it("encode", self.file("f.yaml", text))
+        self.assertEqual((status, out), (1, b""))
+        for column, words in [(39, "has no field `an`"), (56, "true or false"), (66, "do you mean `principals`?")]:
+            self.assertRegex(errors, rf"f.yaml:1:{column}: .*{words}")
 
     def test_command_line(self):
         self.file("f.bin", b"")

@@ -2,7 +2,10 @@
 import random
 import unittest
 
+from policies.bounds import GREATEST_BUDGET
 from policies.decode import decode
+from policies.places import Source
+from policies.reading import contents
 from random_filters import Maker
 from support import encoded, field
 
@@ -30,6 +33,14 @@ class RoundTrip(unittest.TestCase):
             trees += text.count("the tree below is that of no text")
         self.assertGreater(texts, 1000)
         self.assertLess(trees * 4, texts)
+
+    def test_by_file(self):
+        """A filter of the profile that a file holds is what the file says, whatever is read otherwise elsewhere."""
+        maker = Maker(31, profile=True)
+        for _ in range(300):
+            data = maker.filter_bytes()
+            held = contents(Source("filter.yaml", decode(data).encode()), GREATEST_BUDGET)
+            self.assertEqual([one.data for one in held.filters], [data])
 
     def test_any_members(self):
         """600 filters with any members and values."""

@@ -4,9 +4,7 @@ import unittest
 from policies.cel.infer import types_of_empty
 from policies.cel.parse import parse
 from policies.cel.typetext import read_type, type_text
-from policies.encode import encode
-from policies.places import Source
-from support import condition, encoded
+from support import condition, encoded, told
 
 # A text, and the types of its empty literals in the order of their ids; None where nothing tells one.
 TOLD = [
@@ -80,16 +78,26 @@ class Types(unittest.TestCase):
 
     def test_no_entry(self):
         """What nothing tells gets no entry, and a note with the place."""
-        data, notes = encode(Source("filter.yaml", condition("size([]) == 0").encode()))
-        plain, none = encode(Source("filter.yaml", condition("size([]) == 0", "type_map: {}").encode()))
-        self.assertEqual((data, none), (plain, []))
-        self.assertEqual(len(notes), 1)
-        self.assertTrue(notes[0].startswith("filter.yaml:9:21: note: nothing tells the type"), notes[0])
-        self.assertIn('`type_map: {2: "list(int)"}`', notes[0])
+        data, plain = encoded(condition("size([]) == 0")), encoded(condition("size([]) == 0", "type_map: {}"))
+        self.assertEqual(data, plain)
+        [line] = told(condition("size([]) == 0"))
+        self.assertTrue(line.startswith("filter.yaml:9:21: nothing tells the type"), line)
+        self.assertIn('`type_map: {2: "list(int)"}`', line)
 
     def test_type_texts(self):
         for text in ["bool", "list(int)", "map(string, list(map(uint, bytes)))", "dyn", "list(dyn)"]:
             self.assertEqual(type_text(read_type(text)), text)
-        for text in ["", "integer", "list", "list()", "list(int", "list(int))", "map(int)", "int int", "Int", "list[a]"]:
+        for text in [
+            "",
+            "integer",
+            "list",
+            "list()",
+            "list(int",
+            "list(int))",
+            "map(int)",
+            "int int",
+            "Int",
+            "list[a]",
+        ]:
             self.assertIsNone(read_type(text), text)
         self.assertIsNone(read_type("list(" * 2000 + "int" + ")" * 2000))

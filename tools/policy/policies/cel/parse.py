@@ -1,5 +1,8 @@
 """Texts of CEL to trees: the grammar, then the forms that it leaves open, macros and chains of `&&` and `||`."""
+import os
 import pathlib
+import re
+import sys
 from functools import lru_cache
 from typing import List, Optional
 
@@ -15,14 +18,19 @@ RESERVED = frozenset(
     "as break const continue else for function if import let loop package namespace return var void while".split()
 )
 DEEPEST = 250
+WORDS_FOR_SIGNS = {"and": "&&", "or": "||", "not": "!", "is": "==", "eq": "==", "ne": "!=", "xor": "!="}
 QUOTES = frozenset("\"'")
 NEGATIVE = "NEGATIVE_"
+# By it some readers end a comment and others do not.
+LONE_RETURN = re.compile(r"\r(?!\n)")
 
 
 @lru_cache(maxsize=None)
 def _grammar() -> lark.Lark:
     text = (pathlib.Path(__file__).parent / "grammar.lark").read_text(encoding="utf-8")
-    return lark.Lark(text, parser="lalr", lexer="basic", maybe_placeholders=False)
+    folder = sys.pycache_prefix
+    cache = os.path.join(folder, "grammar") if folder and os.access(folder, os.W_OK) else False
+    return lark.Lark(text, parser="lalr", lexer="basic", maybe_placeholders=False, cache=cache)
 
 
 def parse(text: str, dotted: bool = False) -> Node:
@@ -37,13 +45,17 @@ def parse(text: str, dotted: bool = False) -> Node:
 
 
 def _syntax(text: str) -> lark.Tree:
+    lone = LONE_RETURN.search(text)
+    if lone is not None:
+        words = "there is a lone carriage return here: end the line with a line feed, or write `\\r` in a text"
+        raise TextMistake(lone.start(), words)
     try:
         return _grammar().parse(text).children[0]
     except lark.exceptions.UnexpectedCharacters as fault:
         raise _character_fault(text, fault.pos_in_stream) from None
     except lark.exceptions.UnexpectedToken as fault:
         if fault.token.type == "$END":
-            raise TextMistake(len(text.rstrip()), "the text ends here, and something is still wanted") from None
+            raise TextMistake(len(text.rstrip()), "the text ends here, and more is expected") from None
         raise _token_fault(text, fault.token) from None
 
 
@@ -63,7 +75,10 @@ def _token_fault(text: str, token: lark.Token) -> TextMistake:
     """The mistake where a word stands that cannot."""
     if token[0] in QUOTES and _starts_triple(text, token.start_pos):
         return TextMistake(token.start_pos - 2, "these quotes are not closed")
-    return TextMistake(token.start_pos, f"`{_short(token)}` cannot stand here")
+    sign = WORDS_FOR_SIGNS.get(str(token).lower())
+    if sign is not None:
+        return TextMistake(token.start_pos, f"`{token}` is no operator: write `{sign}`")
+    return TextMistake(token.start_pos, f"`{_short(token)}` is not expected here")
 
 
 def _starts_triple(text: str, place: int) -> bool:
@@ -131,7 +146,7 @@ class _Builder:
     def _message(self, parts: list, depth: int) -> Node:
         name = _dotted_name(parts[0])
         if name is None:
-            raise TextMistake(parts[1].start_pos, "`{` cannot stand here")
+            raise TextMistake(parts[1].start_pos, "`{` is not expected here")
         entries = []
         for form in parts[1:]:
             if isinstance(form, lark.Tree):
@@ -160,7 +175,7 @@ class _Builder:
     def _not_signed(self, parts: list, depth: int) -> Node:
         sign, form = parts[-2], parts[-1]
         if _leftmost_number(form) is None:
-            raise TextMistake(sign.start_pos, "`-` cannot stand behind `!`")
+            raise TextMistake(sign.start_pos, "`-` cannot follow `!`")
         return _odd("!_", parts[:-2], self._signed(form, depth))
 
     def _negate(self, parts: list, depth: int) -> Node:

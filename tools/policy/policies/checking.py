@@ -1,0 +1,125 @@
+"""Checks of files: what the tool finds in each filter and what the engine answers, as one report a filter."""
+import re
+from typing import List, NamedTuple, Optional, Tuple
+
+from . import engine, lint, profile
+from .bounds import GREATEST_BUDGET, too_costly
+from .conditions_typing import Bound, bounds_of
+from .decode import decode
+from .encode import Encoding
+from .files import BYTES, is_binary, kind_of, name_of, read_file, text_of_policy
+from .findings import Finding, are_refused
+from .forms.binary import filters_in
+from .messages import FILTER, Message, descriptor
+from .places import Mistake, Source
+from .placing import engine_place, place_in_file
+from .reader import read
+from .reading import Encoded, contents
+
+
+class Report(NamedTuple):
+    """What is said of one filter: its file and name, its findings, its bounds, and the engine's answer or none."""
+
+    file: str
+    name: str
+    source: Optional[Source]
+    findings: List[Finding]
+    mistakes: List[Mistake]
+    bounds: List[Bound]
+    admission: Optional[engine.Admission] = None
+    message: Optional[Message] = None
+    encoding: Optional[Encoding] = None
+
+    def is_admitted(self) -> bool:
+        """Whether the filter is admitted; the engine decides where it was asked."""
+        if self.mistakes:
+            return False
+        return not are_refused(self.findings) if self.admission is None else self.admission.number == 0
+
+    def label(self) -> str:
+        """The file, and the filter's name where it has one."""
+        return f"{self.file}: {self.name}" if self.name else self.file
+
+
+def check_files(names: List[str], budget: int, asked: Optional[engine.Engine]) -> List[Report]:
+    """The reports on files, in order; raises OSError and NoEngine."""
+    found: List[Tuple[Report, Optional[bytes]]] = []
+    for name in names:
+        try:
+            found += _reports(name, budget)
+        except Mistake as mistake:
+            found.append((Report(name_of(name), "", None, [], [mistake], []), None))
+    if asked is None:
+        return [report for report, _ in found]
+    answers = iter(asked.admissions([data for _, data in found if data is not None], budget))
+    return [report if data is None else _answered(report, next(answers)) for report, data in found]
+
+
+def _reports(name: str, budget: int) -> List[Tuple[Report, Optional[bytes]]]:
+    data = read_file(name)
+    if kind_of(data) == BYTES and is_binary(data):
+        return [_bytes_report(name_of(name), one, bytes_, budget) for one, bytes_ in filters_in(data)]
+    source = Source(name_of(name), text_of_policy(name, data))
+    held = contents(source, budget)
+    reports = [_report(source, one, [] if index else held.findings) for index, one in enumerate(held.filters)]
+    if held.mistakes or not reports:
+        about = [] if reports else held.findings
+        reports.append((Report(source.name, "", source, about, held.mistakes, []), None))
+    return reports
+
+
+def _report(source: Source, one: Encoded, about_file: List[Finding]) -> Tuple[Report, bytes]:
+    findings = about_file + one.findings + lint.notes(one.message, one.encoding)
+    bounds = bounds_of(one.message)
+    return Report(source.name, one.name, source, findings, [], bounds, None, one.message, one.encoding), one.data
+
+
+def _bytes_report(file: str, name: str, data: bytes, budget: int) -> Tuple[Report, bytes]:
+    """The report on a filter in bytes; a condition's fault is told with the condition's text."""
+    message = read(descriptor(FILTER), data, None)
+    found = [
+        Finding(note.number, f"byte {note.place}: {note.words}", None, note.path) for note in profile.notes(message)
+    ]
+    if any("expr" in one.path for one in found):
+        lines = _lines_of_texts(file, data)
+        found = [_with_line(one, lines) for one in found]
+    found += too_costly(message, budget) + lint.notes(message, None)
+    return Report(file, name, None, found, [], bounds_of(message), None, message), data
+
+
+def _lines_of_texts(file: str, data: bytes) -> dict:
+    """For each finding in a condition its line in the YAML that `decode` makes of the bytes."""
+    try:
+        source = Source(file, decode(data).encode())
+        held = contents(source, GREATEST_BUDGET).filters
+    except Mistake:
+        return {}
+    findings = held[0].findings if held and held[0].data == data else []
+    return {_key(one): source.tell(one.place, "").split("\n", 1)[1] for one in findings if one.place}
+
+
+def _key(finding: Finding) -> tuple:
+    """What tells that two findings are the same, whether their words begin with an offset or not."""
+    return finding.path, finding.number, re.sub(r"^byte \d+: ", "", finding.words)
+
+
+def _with_line(one: Finding, texts: dict) -> Finding:
+    """A finding of a condition with the line of its text."""
+    line = texts.get(_key(one)) if "expr" in one.path else None
+    return one if line is None else one._replace(words=f"{one.words}\n{line}")
+
+
+def _answered(report: Report, answer: engine.Admission) -> Report:
+    """The report with the engine's answer; a refusal that the tool did not find is told at the engine's place."""
+    findings = report.findings
+    if answer.number and not any(one.number == answer.number for one in findings):
+        told = engine_place(answer.causes)
+        place = place_in_file(told, report.message, report.encoding)
+        words = "the engine refuses this" + "".join(f": {cause.strip()}" for cause in answer.causes[:1])
+        findings = [*findings, Finding(answer.number, words, place, told.path)]
+    return report._replace(findings=findings, admission=answer)
+
+
+def message_of(data: bytes) -> Message:
+    """The message of a filter's bytes."""
+    return read(descriptor(FILTER), data, None)

@@ -1,0 +1,53 @@
+"""What several commands share: statuses, numbers on the command line, and how findings are told."""
+import argparse
+from typing import Iterable, List
+
+from .. import output
+from ..bounds import BUDGET, GREATEST_BUDGET
+from ..findings import Finding
+from ..places import Mistake, Source
+
+DONE, MISTAKEN, UNUSABLE = 0, 1, 2
+MOST_TOLD = 50
+
+
+def budget(text: str) -> int:
+    """A budget as the engine takes it."""
+    if not text.isascii() or not text.isdigit() or not 1 <= int(text) <= GREATEST_BUDGET:
+        raise argparse.ArgumentTypeError(f"a number from 1 to {GREATEST_BUDGET} is expected, not {text}")
+    return int(text)
+
+
+def add_budget(parser: argparse.ArgumentParser) -> None:
+    """Gives a command the option for the budget."""
+    words = f"what the conditions of a filter may cost together, in steps (default {BUDGET})"
+    parser.add_argument("--budget", type=budget, default=BUDGET, metavar="N", help=words)
+
+
+def add_output(parser: argparse.ArgumentParser) -> None:
+    """Gives a command the option for the file it writes."""
+    words = "write this file, whole or not at all, instead of standard output"
+    parser.add_argument("-o", "--output", default="-", metavar="FILE", help=words)
+
+
+def in_order(findings: Iterable[Finding]) -> List[Finding]:
+    """Findings in the order of the file."""
+    return sorted(findings, key=lambda finding: finding.place or (0, 0))
+
+
+def tell_findings(source: Source, findings: Iterable[Finding]) -> None:
+    """Tells findings at their places, the first fifty of them."""
+    ordered = in_order(findings)
+    for finding in ordered[:MOST_TOLD]:
+        output.tell(source.tell(finding.place or (0, 0), finding.told()))
+    if len(ordered) > MOST_TOLD:
+        output.tell(f"{source.name}: {len(ordered) - MOST_TOLD} more of these are not shown")
+
+
+def tell_mistake(mistake: Mistake) -> None:
+    """Tells a mistake and the others of its file, the first fifty of them."""
+    mistakes = [mistake, *mistake.rest]
+    for one in mistakes[:MOST_TOLD]:
+        output.tell(str(one))
+    if len(mistakes) > MOST_TOLD:
+        output.tell(f"{len(mistakes) - MOST_TOLD} more mistakes are not shown")

@@ -1,0 +1,82 @@
+"""The types and the costs of conditions that stand in messages."""
+from typing import Dict, List, NamedTuple, Optional
+
+from .cel.check import NO_KIND, References, TypeEntries, Typing, check
+from .cel.cost import TooMuch, cost
+from .cel.tree import Node
+from .messages import Message
+from .trees import NoTree, message_tree, message_type
+
+
+def entries_of(checked: Message) -> TypeEntries:
+    """The entries of a checked condition's type map that can be read, by id."""
+    entries = {}
+    for number, kind in checked.get("type_map") or []:
+        known = message_type(kind)
+        if kind.which("type_kind") == "dyn":
+            entries[number] = ("dyn",)
+        elif is_unsupported(kind):
+            entries[number] = NO_KIND
+        elif known is not None:
+            entries[number] = known
+    return entries
+
+
+def is_unsupported(kind: Message) -> bool:
+    """Whether a type that can be read is, anywhere inside, of a kind that the engine does not have."""
+    known = message_type(kind)
+    return _holds_unsupported(known) if known is not None else kind.is_whole and not kind.faults
+
+
+def _holds_unsupported(kind: tuple) -> bool:
+    if kind[0] in ("dyn", "double"):
+        return True
+    if kind[0] == "map" and kind[1][0] not in ("bool", "int", "uint", "string"):
+        return True
+    return any(map(_holds_unsupported, kind[1:]))
+
+
+def references_of(checked: Message) -> References:
+    """The names of a checked condition's references, by id, each with whether it holds a value."""
+    entries = checked.get("reference_map") or []
+    return {number: (part.scalar("name"), part.get("value") is not None) for number, part in entries}
+
+
+def typing_of(checked: Message, tree: Node) -> Typing:
+    """The types of a checked condition's tree, and its faults."""
+    return check(tree, entries_of(checked), references_of(checked))
+
+
+class Bound(NamedTuple):
+    """How many steps the condition of a policy may take: None where that is above the greatest budget."""
+
+    policy: str
+    steps: Optional[int]
+    has_condition: bool
+
+
+def bounds_of(message: Message) -> List[Bound]:
+    """The bounds of a filter's conditions that have a type, by ascending name of their policies."""
+    rules = message.get("rules")
+    policies: Dict[str, Message] = dict(rules.get("policies") or []) if rules is not None and rules.is_whole else {}
+    bounds = []
+    for name in sorted(policies, key=str.encode):
+        checked = policies[name].get("checked_condition")
+        if checked is None:
+            bounds.append(Bound(name, 0, False))
+            continue
+        try:
+            tree = message_tree(checked.get("expr"))
+        except NoTree:
+            continue
+        typing = typing_of(checked, tree)
+        if typing.is_whole:
+            bounds.append(Bound(name, _steps(tree, typing), True))
+    return bounds
+
+
+def _steps(tree: Node, typing: Typing) -> Optional[int]:
+    try:
+        return cost(tree, typing.types)
+    except TooMuch:
+        return None

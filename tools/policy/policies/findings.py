@@ -1,0 +1,61 @@
+"""What is found in a filter: faults for which the engine refuses it, and notes, each with its place."""
+from typing import List, NamedTuple, Optional
+
+from .places import Place
+
+NOTE = 0
+NAMES = {
+    1: "BadWire",
+    2: "BadText",
+    3: "UnknownField",
+    4: "Missing",
+    5: "OutOfRange",
+    6: "Unsupported",
+    7: "BothConditions",
+    8: "TooLarge",
+    9: "UnknownName",
+    10: "NoOverload",
+    11: "BadTypeEntry",
+    12: "BadReference",
+    13: "NotBool",
+    14: "NeedsType",
+    15: "TooCostly",
+    16: "DuplicateResource",
+    17: "WrongType",
+    18: "CodeRefused",
+    19: "Memory",
+}
+
+
+class Finding(NamedTuple):
+    """A refusal's number (0 for a note), words, the place in the file, and the path of the part in the filter."""
+
+    number: int
+    words: str
+    place: Optional[Place]
+    path: tuple = ()
+
+    def told(self) -> str:
+        """The words, with the refusal's number and name or as a note."""
+        return f"{self.words} ({self.number} {NAMES[self.number]})" if self.number else f"note: {self.words}"
+
+
+def are_refused(findings: List[Finding]) -> bool:
+    """Whether the engine refuses a filter in which this was found."""
+    return any(finding.number != NOTE for finding in findings)
+
+
+def part_name(path: tuple) -> str:
+    """What people call a part of a filter: `policy "p": permissions[0].and_rules.rules[2]`."""
+    if path[:2] == ("rules", "policies") and len(path) > 2:
+        name = str(path[2]).replace("\\", "\\\\").replace('"', '\\"')
+        rest = _dotted(path[3:])
+        return f'policy "{name}"' + (f": {rest}" if rest else "")
+    return _dotted(path)
+
+
+def _dotted(path: tuple) -> str:
+    text = ""
+    for step in path:
+        text += f"[{step}]" if isinstance(step, int) else f".{step}" if text else str(step)
+    return text

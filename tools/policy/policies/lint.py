@@ -1,0 +1,140 @@
+"""Notes on filters that are admitted and may not mean what their writer meant."""
+from typing import Dict, Iterator, List, Optional, Tuple
+
+from .cel.attributes import attribute_name, parts_of
+from .cel.literals import literal_text
+from .cel.tree import Call, Const, Node, Select
+from .findings import NOTE, Finding
+from .messages import Message
+from .placing import node_places
+from .trees import NoTree, message_tree
+from .writer import PLAIN
+
+CIDR = "envoy.config.core.v3.CidrRange"
+DENY = 1
+HEADERS = "request.headers"
+MEMBERSHIP = ("@in", "_in_", "in")
+# A node of a condition, and words.
+Remark = Tuple[Node, str]
+
+
+def notes(message: Message, encoding) -> List[Finding]:
+    """The notes on a filter; `encoding` knows the places of a text's parts, and is None for bytes."""
+    rules = message.get("rules")
+    if rules is None or not rules.is_whole:
+        return []
+    found = list(_without_length(rules, ("rules",)))
+    policies = dict(rules.get("policies") or [])
+    found += _never_first(policies)
+    found = [one if encoding is None else one._replace(place=encoding.place_of(one.path)) for one in found]
+    for name, policy in policies.items():
+        path = ("rules", "policies", name, "checked_condition", "expr")
+        found += _of_condition(policy.get("checked_condition"), rules.scalar("action") == DENY, path, encoding)
+    return found
+
+
+def _without_length(message: Message, path: tuple) -> Iterator[Finding]:
+    """Ranges of addresses without a length, which hold every address of their family."""
+    if message.kind.full_name == CIDR and message.is_whole and message.get("prefix_len") is None:
+        address = message.scalar("address_prefix")
+        family, bits = ("IPv6", 128) if ":" in address else ("IPv4", 32)
+        words = f"without prefix_len every {family} address matches; for {address} alone write `prefix_len: {bits}`"
+        yield Finding(NOTE, words, None, path)
+    for name, value in message.values.items():
+        for step, part in _parts(value):
+            if isinstance(part, Message) and name not in ("checked_condition", "condition"):
+                yield from _without_length(part, path + (name,) + step)
+
+
+def _parts(value) -> Iterator[Tuple[tuple, object]]:
+    if not isinstance(value, list):
+        yield (), value
+        return
+    for index, part in enumerate(value):
+        yield ((part[0],), part[1]) if isinstance(part, tuple) else ((index,), part)
+
+
+def _never_first(policies: Dict[str, Message]) -> List[Finding]:
+    """Policies that an earlier one always goes before."""
+    found: List[Finding] = []
+    seen: Dict[tuple, str] = {}
+    everything = None
+    for name in sorted(policies, key=str.encode):
+        policy = policies[name]
+        rules = (_raw(policy, "permissions"), _raw(policy, "principals"))
+        earlier = everything or seen.get(rules)
+        if earlier is not None:
+            what = "every request" if earlier == everything else "whatever it matches"
+            words = f'policy "{name}" is never the first to match: "{earlier}" comes before it and matches {what}'
+            found.append(Finding(NOTE, words, None, ("rules", "policies", name)))
+        elif policy.get("checked_condition") is None and policy.get("condition") is None:
+            seen[rules] = name
+            if _matches_all(policy, "permissions") and _matches_all(policy, "principals"):
+                everything = name
+    return found
+
+
+def _raw(policy: Message, field: str) -> tuple:
+    return tuple(PLAIN.write(rule) for rule in policy.get(field) or [])
+
+
+def _matches_all(policy: Message, field: str) -> bool:
+    return any(rule.get("any") for rule in policy.get(field) or [])
+
+
+def _of_condition(checked: Optional[Message], is_deny: bool, path: tuple, encoding) -> List[Finding]:
+    if checked is None:
+        return []
+    try:
+        tree = message_tree(checked.get("expr"))
+    except NoTree:
+        return []
+    remarks = list(_upper_case(tree)) + (list(_missing_headers(tree)) if is_deny else [])
+    places = node_places(tree, path, encoding) if remarks else {}
+    return [Finding(NOTE, words, places.get(node), path) for node, words in remarks]
+
+
+def _walk(node: Node, scope: frozenset = frozenset()) -> Iterator[Tuple[Node, frozenset]]:
+    yield node, scope
+    for part, inner in parts_of(node, scope):
+        yield from _walk(part, inner)
+
+
+def _header_key(node: Node, scope: frozenset) -> Optional[Tuple[str, str]]:
+    """The name of a header that a node reads or asks for, and how: index, select, has or in."""
+    if isinstance(node, Select) and attribute_name(node.operand, scope) == HEADERS:
+        return node.field, "has" if node.test_only else "select"
+    if not isinstance(node, Call) or len(node.args) != 2:
+        return None
+    container, key, way = node.args[0], node.args[1], "index"
+    if node.function in MEMBERSHIP:
+        container, key, way = key, container, "in"
+    elif node.function != "_[_]":
+        return None
+    if attribute_name(container, scope) != HEADERS or not isinstance(key, Const) or key.kind != "string":
+        return None
+    return key.value, way
+
+
+def _upper_case(tree: Node) -> Iterator[Remark]:
+    """Names of headers that none has, since all are in lower case."""
+    for node, scope in _walk(tree):
+        key = _header_key(node, scope)
+        if key is not None and key[0] != key[0].lower():
+            name, lower = (literal_text("string", text) for text in (key[0], key[0].lower()))
+            yield node, f"header names are in lower case here, so {name} is never there: write {lower}"
+
+
+def _missing_headers(tree: Node) -> Iterator[Remark]:
+    """Headers that a condition of DENY reads and that may be missing: the error lets the request through."""
+    keys = [(node, _header_key(node, scope)) for node, scope in _walk(tree)]
+    asked = {key[0] for _, key in keys if key is not None and key[1] in ("has", "in")}
+    for node, key in keys:
+        if key is not None and key[1] in ("index", "select") and key[0] not in asked and not key[0].startswith(":"):
+            asked.add(key[0])
+            name = literal_text("string", key[0].lower())
+            yield node, (
+                f"a request without the header {key[0]} makes this an error, which is no match, and DENY lets it "
+                f"through; to deny it too write `!({name} in request.headers) || ..`, to let it through "
+                f"`{name} in request.headers && ..`"
+            )

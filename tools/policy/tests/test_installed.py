@@ -1,0 +1,140 @@
+"""What `policy generate` writes, and the tool installed into a prefix."""
+import json
+import os
+import re
+import shutil
+import subprocess
+import unittest
+
+import yaml
+
+from policies import manual
+from policies.program import parser_of_words
+from policies.schema import schema
+from support import ENGINE, HERE, TOP, condition, encoded
+from test_outputs import Room
+
+TOOL = TOP / "tools" / "policy"
+# Filters that the schema takes, and those that it does not.
+TAKEN = [TOP / "examples" / "condition.yaml", TOOL / "examples" / "service.yaml", HERE / "kinds" / "regex.yaml"]
+NOT_TAKEN = [
+    "rulez: {}",
+    "rules: {policies: {p: {permissions: [{any: true}]}}}",
+    "rules: {policies: {p: {permissions: [{any: false}], principals: [{any: true}]}}}",
+    "rules: {policies: {p: {permissions: [{destination_port: 65536}], principals: [{any: true}]}}}",
+    "rules: {policies: {p: {permissions: [{any: true, destination_port: 1}], principals: [{any: true}]}}}",
+    "rules: {policies: {p: {permissions: [{metadata: {}}], principals: [{any: true}]}}}",
+    "rules: {policies: {p: {permissions: [{header: {exact_match: a}}], principals: [{any: true}]}}}",
+    "rules: {policies: {p: {permissions: [{url_path: {path: {prefix: ''}}}], principals: [{any: true}]}}}",
+    "rules: {action: MAYBE}",
+]
+
+
+class Schema:
+    """The part of JSON Schema that ours uses."""
+
+    def __init__(self, whole):
+        self.whole = whole
+
+    def fits(self, value, part):
+        """Whether a value fits a part of the schema."""
+        if "$ref" in part:
+            return self.fits(value, self.whole["definitions"][part["$ref"].rsplit("/", 1)[1]])
+        tests = [self.has_type(value, part), "const" not in part or value is part["const"]]
+        tests.append("enum" not in part or value in part["enum"])
+        tests += [self.fits(value, one) for one in part.get("allOf", [])]
+        tests.append("anyOf" not in part or any(self.fits(value, one) for one in part["anyOf"]))
+        tests.append("oneOf" not in part or sum(self.fits(value, one) for one in part["oneOf"]) == 1)
+        if isinstance(value, dict):
+            tests += self.of_mapping(value, part)
+        if isinstance(value, list):
+            tests += [len(value) >= part.get("minItems", 0)] + [self.fits(one, part.get("items", {})) for one in value]
+        if isinstance(value, str):
+            tests += [len(value) >= part.get("minLength", 0), re.search(part.get("pattern", ""), value) is not None]
+        if isinstance(value, int):
+            tests.append(part.get("minimum", value) <= value <= part.get("maximum", value))
+        return all(tests)
+
+    def has_type(self, value, part):
+        """Whether a value is of the type that a part names."""
+        kinds = {"object": dict, "array": list, "string": str, "boolean": bool, "integer": int}
+        return "type" not in part or isinstance(value, kinds[part["type"]])
+
+    def of_mapping(self, value, part):
+        """The tests of a mapping's members."""
+        known, more = part.get("properties", {}), part.get("additionalProperties", True)
+        yield all(name in value for name in part.get("required", []))
+        yield len(value) <= part.get("maxProperties", len(value))
+        for name, inner in value.items():
+            if name in known:
+                yield self.fits(inner, known[name])
+            else:
+                yield more if isinstance(more, bool) else self.fits(inner, more)
+
+
+class Generated(Room):
+    """The schema, the manual page and the completions."""
+
+    def test_schema(self):
+        whole = json.loads(self.run_it("generate", "schema")[1])
+        self.assertEqual(whole, schema())
+        for path in TAKEN:
+            with self.subTest(path.name):
+                self.assertTrue(Schema(whole).fits(yaml.safe_load(path.read_text()), whole))
+        for text in NOT_TAKEN:
+            with self.subTest(text):
+                self.assertFalse(Schema(whole).fits(yaml.safe_load(text), whole))
+        self.assertTrue(Schema(whole).fits(yaml.safe_load(condition("true", "type_map: {2: list(int)}")), whole))
+
+    def test_manual(self):
+        status, page, _ = self.run_it("generate", "man")
+        self.assertEqual(status, 0)
+        parser = parser_of_words()
+        for name, command in manual.commands_of(parser).items():
+            self.assertIn(f".SS policy {name}", page.decode())
+            for action in manual.options_of(command):
+                for option in action.option_strings:
+                    self.assertIn("\\fB" + option.replace("-", "\\-") + "\\fR", page.decode())
+        if shutil.which("man"):
+            ran = subprocess.run(["man", "--warnings", "-l", "-"], input=page, capture_output=True)
+            self.assertEqual((ran.returncode, ran.stderr), (0, b""))
+
+    def test_bash(self):
+        (self.room / "c").write_bytes(self.run_it("generate", "bash")[1])
+        self.file("x.yaml", "")
+        for words, wanted in [
+            (["ch"], "check"),
+            (["check", "--bud"], "--budget"),
+            (["check", "x."], "x.yaml"),
+            (["te"], "test"),
+        ]:
+            line = " ".join(f'"{word}"' for word in ["policy", *words])
+            script = f'source ./c; COMP_WORDS=({line}); COMP_CWORD={len(words)}; _policy; echo "${{COMPREPLY[*]}}"'
+            ran = subprocess.run(["bash", "-c", script], capture_output=True, text=True, cwd=self.room)
+            self.assertEqual(ran.stdout.strip(), wanted, ran.stderr)
+
+    @unittest.skipUnless(shutil.which("zsh"), "zsh is not here")
+    def test_zsh(self):
+        (self.room / "_policy").write_bytes(self.run_it("generate", "zsh")[1])
+        self.assertEqual(subprocess.run(["zsh", "-n", "_policy"], cwd=self.room).returncode, 0)
+
+    def test_installed(self):
+        words = [str(ENGINE)] if ENGINE.exists() else []
+        ran = subprocess.run([TOOL / "install", self.room / "usr", *words], capture_output=True, text=True)
+        self.assertEqual(ran.returncode, 0, ran.stderr)
+        program, settings = self.room / "usr" / "bin" / "policy", {
+            key: value for key, value in os.environ.items() if key != "RBACD"
+        }
+        self.file("f.yaml", condition('request.method == "GET"'))
+        ran = subprocess.run([program, "encode", "f.yaml"], capture_output=True, cwd=self.room, env=settings)
+        self.assertEqual(ran.stdout, encoded(condition('request.method == "GET"')))
+        if words:
+            ran = subprocess.run(
+                [program, "check", "f.yaml"], capture_output=True, text=True, cwd=self.room, env=settings
+            )
+            self.assertEqual(ran.stdout.splitlines()[0], "f.yaml: admitted: policies 1 bound 40 of 1000000")
+        self.assertTrue((self.room / "usr/share/man/man1/policy.1").exists())
+        ran = subprocess.run([TOOL / "install", "--remove", self.room / "usr"], capture_output=True, text=True)
+        left = [path for path in (self.room / "usr").rglob("*") if not path.is_dir()]
+        self.assertEqual((ran.returncode, left), (0, []))
+        self.assertEqual(subprocess.run([TOOL / "install"], capture_output=True).returncode, 2)

@@ -1,0 +1,118 @@
+"""Files as people have them, after Envoy's and Istio's documentation: admitted, or one message that tells what to change."""
+import unittest
+
+from policies.checking import check_files
+from policies.commands.check import as_text
+from policies.engine import Engine
+from policies.forms.binary import filters_in
+from policies.wrap import frame, response
+from support import ENGINE, HERE, POLICY, encoded
+
+KINDS = HERE / "kinds"
+# What each admitted file's filters are called, and words that are told of it.
+ADMITTED = {
+    "envoy_rules.yaml": ([""], ["1:1: note: these are the rules of a filter"]),
+    "filter_entry.yaml": (["envoy.filters.http.rbac"], []),
+    "filter_list.yaml": (["envoy.filters.http.rbac"], []),
+    "bootstrap.yaml": (
+        ["envoy.filters.http.rbac", "envoy.filters.http.rbac#2"],
+        ["10:11: note: the network filter is left out", "26:21: note: the filter of RBACPerRoute"],
+    ),
+    "per_route.yaml": ([""], ["the engine knows no routes"]),
+    "extension.yaml": (["edge"], []),
+    "config_dump.json": (
+        ["envoy.filters.http.rbac"],
+        ['26:147: note: this regular expression is read as contains "/ns/foo/"', "note: rules_stat_prefix is left out"],
+    ),
+    "response.yaml": (["one", "two"], []),
+    "regex.yaml": (
+        [""],
+        [
+            '5:63: note: this regular expression is read as prefix "/api/", or prefix "/v1/", or prefix "/v2/"',
+            '6:56: note: this regular expression is read as exact "a", or prefix "b"',
+            'prefix "spiffe://" and suffix "/sa/admin" but not "spiffe://sa/admin"',
+        ],
+    ),
+    "source_ip.yaml": ([""], ["5:21: note: source_ip is read as direct_remote_ip"]),
+    "condition_tree.yaml": ([""], ["7:7: note: this condition is read as a checked_condition"]),
+    "condition_text.yaml": ([""], []),
+    "shadow.yaml": ([""], ["2:15: note: the engine skips shadow_rules"]),
+    "typed_struct.yaml": (["envoy.filters.http.rbac"], []),
+    "envoy_filter.yaml": (["envoy.filters.http.rbac"], []),
+    "istio_allow.yaml": (["istio-allow"], ["5:3: note: selector is left out"]),
+    "istio_deny.yaml": (["istio-deny"], []),
+    "istio_nothing.yaml": (["istio-allow"], ["without rules: no request passes by it"]),
+    "istio_everything.yaml": (["istio-allow"], []),
+    "istio_blocks.yaml": (["istio-allow"], []),
+    "istio_whens.yaml": (["istio-allow"], []),
+    "istio_several.yaml": (["istio-deny-foo", "istio-allow-foo", "istio-allow-foo-app.other"], []),
+    "istio_audit.yaml": (["istio-log"], ["AUDIT is read as LOG"]),
+    "istio_list.yaml": (["istio-allow"], []),
+}
+# The one message of each file that is not admitted.
+TOLD = {
+    "per_route_off.yaml": "3:5: RBACPerRoute without `rbac` turns the filter off for a route",
+    "regex_beyond.yaml": "5:55: this regular expression is more than alternatives of texts: only `.` may be repeated",
+    "metadata.yaml": "7:11: the engine does not support metadata: the engine has no metadata of other filters: let the proxy put it",
+    "sourced_metadata.yaml": "6:9: the engine does not know `sourced_metadata` of Principal and would refuse the filter: ",
+    "filter_state.yaml": "6:23: the engine does not support filter_state: the engine has no filter state: let the proxy",
+    "matcher_tree.yaml": "2:1: the engine does not know `matcher` of the HTTP RBAC filter and would refuse the filter: matchers",
+    "uri_template.yaml": "5:9: the engine does not know `uri_template` of Permission and would refuse the filter: write `url_path`",
+    "audit.yaml": "5:5: the engine does not support audit_logging_options: the engine writes no audit log: leave it out",
+    "network.yaml": "1:1: no HTTP RBAC filter",
+    "version_2.yaml": "3:3: this is of the API's version 2",
+    "istio_tokens.yaml": "7:16: requestPrincipals: the engine reads no tokens; let the proxy put the claim into a header",
+    "istio_claims.yaml": "7:12: the condition request.auth.claims[groups]: the engine reads no tokens",
+    "istio_custom.yaml": "5:11: CUSTOM asks a provider outside the proxy",
+    "istio_namespace_star.yaml": "7:29: a namespace with `*` asks for two texts in a row",
+    "istio_template.yaml": "7:27: path templates are not in the profile: write a prefix",
+}
+
+
+def engine_or_none():
+    """The engine where it is built."""
+    return Engine(ENGINE) if ENGINE.exists() else None
+
+
+class Kinds(unittest.TestCase):
+    """One file of each kind."""
+
+    maxDiff = None
+
+    def reports(self, name):
+        """The reports on a file, and their lines."""
+        asked = engine_or_none()
+        reports = check_files([str(KINDS / name)], 1_000_000, asked)
+        if asked is not None:
+            asked.room.cleanup()
+        return reports, [line for report in reports for line in as_text(report, 1_000_000)]
+
+    def test_admitted(self):
+        for name, (filters, words) in ADMITTED.items():
+            with self.subTest(name):
+                reports, lines = self.reports(name)
+                self.assertTrue(all(report.is_admitted() for report in reports), "\n".join(lines))
+                self.assertEqual([report.name for report in reports], filters)
+                for one in words:
+                    self.assertTrue(any(one in line for line in lines), (one, lines))
+
+    def test_told(self):
+        for name, wanted in TOLD.items():
+            with self.subTest(name):
+                reports, lines = self.reports(name)
+                self.assertFalse(all(report.is_admitted() for report in reports), lines)
+                told = [line for line in lines if f"{name}:" in line and " note: " not in line]
+                self.assertTrue(told[0].startswith(f"{KINDS / name}:{wanted}"), told)
+                self.assertEqual(len(told), 2, told)
+
+    def test_each_file_is_here(self):
+        self.assertEqual({path.name for path in KINDS.iterdir()}, set(ADMITTED) | set(TOLD))
+
+    def test_bytes(self):
+        data = encoded(POLICY)
+        self.assertEqual(filters_in(data), [("", data)])
+        whole = response([("a", data), ("b", encoded("rules: {}"))], "1", "n")
+        for around in (whole, frame(whole)):
+            self.assertEqual(filters_in(around), [("a", data), ("b", b"\x0a\x00")])
+        for noise in (b"\x00\x01", b"\x0a", b"\xff" * 9):
+            self.assertEqual(filters_in(noise), [("", noise)])

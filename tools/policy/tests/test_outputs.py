@@ -1,0 +1,145 @@
+"""What is written where an output fails, and what is told of files that are not what is expected."""
+import base64
+import gzip
+import pathlib
+import subprocess
+import tempfile
+import time
+import unittest
+
+from support import POLICY, TOP, condition, encoded
+
+PROGRAM = TOP / "tools" / "policy" / "policy"
+CONDITION = TOP / "examples" / "condition.bin"
+
+
+class Room(unittest.TestCase):
+    """A folder of its own to run the tool in."""
+
+    def setUp(self):
+        room = tempfile.TemporaryDirectory()
+        self.addCleanup(room.cleanup)
+        self.room = pathlib.Path(room.name)
+
+    def file(self, name, data):
+        """A file in the room."""
+        (self.room / name).write_bytes(data if isinstance(data, bytes) else data.encode())
+        return name
+
+    def run_it(self, *words):
+        """One run: its status, output and errors."""
+        ran = subprocess.run([PROGRAM, *words], capture_output=True, cwd=self.room)
+        return ran.returncode, ran.stdout, ran.stderr.decode()
+
+    def shell(self, text):
+        """The status and the errors of a line of bash; `$P` is the tool."""
+        ran = subprocess.run(["bash", "-c", f"P={PROGRAM}; {text}"], capture_output=True, cwd=self.room)
+        return ran.returncode, ran.stderr.decode()
+
+
+class Outputs(Room):
+    """Outputs that fail."""
+
+    def test_failing(self):
+        for text, status, words in [
+            ("$P decode %s | true; exit ${PIPESTATUS[0]}", None, ""),
+            ("$P decode %s >&-", 2, "policy: cannot write: standard output is closed\n"),
+            ("$P decode %s > /dev/full", 2, "policy: cannot write: No space left on device\n"),
+            ("$P decode %s --output /none/x", 2, "policy: cannot write /none/x: No such file or directory\n"),
+            ("$P --help > /dev/full", 2, ""),
+            ("$P --help | true; exit ${PIPESTATUS[0]}", None, ""),
+            ("$P decode nothing 2>&-", 2, ""),
+        ]:
+            with self.subTest(text):
+                found, errors = self.shell(text.replace("%s", str(CONDITION)))
+                self.assertEqual(errors, words)
+                self.assertIn(found, (0, 2) if status is None else (status,))
+
+    def test_to_a_file(self):
+        self.file("x.bin", b"old")
+        self.assertEqual(self.run_it("encode", self.file("bad.yaml", "rules: {x: 1}"), "-o", "x.bin")[:2], (1, b""))
+        self.assertEqual((self.room / "x.bin").read_bytes(), b"old")
+        self.assertEqual(self.run_it("encode", self.file("good.yaml", POLICY), "-o", "x.bin"), (0, b"", ""))
+        self.assertEqual((self.room / "x.bin").read_bytes(), encoded(POLICY))
+        self.assertEqual(sorted(path.name for path in self.room.iterdir()), ["bad.yaml", "good.yaml", "x.bin"])
+
+
+class Inputs(Room):
+    """Files that are something else."""
+
+    def test_something_else(self):
+        data = encoded(condition("true"))
+        self.file("f.bin", data)
+        for name, content, decoded, encoded_words in [
+            ("empty", b"", "this file is empty", "this file is empty"),
+            (
+                "f.yaml",
+                POLICY,
+                "this is YAML, and a filter's bytes are expected; `policy encode f.yaml` makes them",
+                None,
+            ),
+            ("f.json", '{"rules": {}}', "this is JSON, and a filter's bytes are expected", None),
+            ("f.gz", gzip.compress(b"rules: {}"), "compressed by gzip", "compressed by gzip"),
+            ("f.64", base64.b64encode(data), "`base64 -d f.64`", "base64"),
+            ("f.hex", data.hex(" "), "`xxd -r -p f.hex`", "hexadecimal digits"),
+            ("f.16", POLICY.encode("utf-16"), "text in UTF-16", "text in UTF-16"),
+            ("g.bin", data, None, "`policy decode g.bin` shows them as YAML"),
+        ]:
+            self.file(name, content)
+            for command, words in (("decode", decoded), ("encode", encoded_words)):
+                if words is not None:
+                    with self.subTest(name, command=command):
+                        status, out, errors = self.run_it(command, name)
+                        self.assertEqual((status, out), (1, b""))
+                        self.assertIn(f"{name}: ", errors)
+                        self.assertIn(words, errors)
+
+    def test_json_escapes(self):
+        text = '{"rules": {"policies": {"a\\/\\ud83d\\ude00\\\\ud83d": {"permissions": [{"any": true}], "principals": [{"any": true}]}}}}'
+        status, out, errors = self.run_it("encode", self.file("f.json", text.replace(" ", "\t")))
+        self.assertEqual((status, errors), (0, ""))
+        self.assertIn("a/\U0001f600\\ud83d".encode(), out)
+
+    def test_greatest(self):
+        self.file("great.yaml", b"#" + b"x" * (16 * 1024 * 1024))
+        for command in ("encode", "decode"):
+            status, _, errors = self.run_it(command, "great.yaml")
+            self.assertEqual((status, "at most 16 MiB" in errors), (1, True))
+
+    def test_wrap(self):
+        data = encoded(POLICY)
+        self.file("f.bin", data)
+        self.file("f.yaml", POLICY)
+        self.file("noise", b"\xff\xfe\x00\x01" * 20)
+        self.file("refused.bin", encoded("rules: {action: 7}"))
+        self.file("empty", b"")
+        for words, status, told in [
+            (["--name", "f", "f.bin"], 0, ""),
+            (["--name", "f", "f.yaml"], 1, "this is YAML"),
+            (["--name", "f", "noise"], 1, "noise: byte"),
+            (["--name", "f", "empty"], 1, "this file is empty"),
+            (["--name", "f", "refused.bin"], 1, "there is no such action (5 OutOfRange)"),
+            (["--even-if-refused", "--name", "f", "refused.bin"], 0, ""),
+            (["--name", "f", "--name", "f", "f.bin", "f.bin"], 2, "the name f is given twice"),
+            (["--name", "", "f.bin"], 2, "a filter's name is empty"),
+            (["--name", "x" * 257, "f.bin"], 2, "longer than 256 bytes"),
+            ([word for number in range(9) for word in ("--name", str(number))] + ["f.bin"] * 9, 2, "at most 8"),
+        ]:
+            with self.subTest(words):
+                found, out, errors = self.run_it("wrap", "--version", "1", *words)
+                self.assertEqual((found, bool(out)), (status, status == 0), errors)
+                self.assertIn(told, errors)
+
+    def test_alias_bomb(self):
+        lines = ["a: &a [x, x, x, x, x, x, x, x, x, x]"]
+        for before, name in zip("abcdefgh", "bcdefghi"):
+            lines.append(f"{name}: &{name} [" + ", ".join([f"*{before}"] * 10) + "]")
+        started = time.process_time()
+        status, out, errors = self.run_it("encode", self.file("bomb.yaml", "\n".join(lines)))
+        self.assertEqual((status, out), (1, b""))
+        self.assertIn("bomb.yaml:1:1: the aliases here expand to more than 100000 parts", errors)
+        self.assertLess(time.process_time() - started, 10)
+
+    def test_aliases(self):
+        text = "rules: {policies: {a: &a {permissions: [{any: true}], principals: [{any: true}]}, b: *a}}"
+        self.assertEqual(self.run_it("encode", self.file("f.yaml", text))[0], 0)
