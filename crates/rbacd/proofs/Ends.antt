@@ -2,13 +2,16 @@
 use Rattle.std.proofs.Common.{◌≡◌, ◌≢◌, ◌⊎◌, ◌↔◌, ℕ, List, Option, Result, Ok, Err, IfErr, IfOk, IsTrue, false, ap, inl, inr, refl, option_map, string_bytes}
 use Rattle.std.proofs.lemmas.Bool.{false≢true}
 use Rattle.std.specs.declared.io.Error.{Error as IoError}
+use Rattle.clap.specs.Words.{kind_of}
+use Rattle.clap.specs.declared.error.Error.{Error}
+use Rattle.clap.specs.declared.error.kind.ErrorKind.TheVariants as kinds
 use Rattle.rbacd.proofs.JudgeLemmas.{less_found}
 use Rattle.rbacd.specs.Explain.{IsGiven}
 use Rattle.rbacd.specs.Judging.{IsDecision}
 use Rattle.rbacd.specs.steps.Printed.{IsPrintedFor, less_told}
-use Rattle.rbacd.specs.Run.{ComesTo, Finds, IsStoppedBy, Leaves, LeavesFault, PrintsReport, RunsTo, StopsBy}
-use Rattle.rbacd.specs.Words.{is_explained, is_json}
-use Rattle.rbacd.specs.steps.Judged.{bare, report_with}
+use Rattle.rbacd.specs.Run.{ComesTo, EndsConfig, EndsReplay, EndsReport, Finds, IsStoppedBy, LacksConfig, LeavesFault, PrintsReport, Ran, StopsBy}
+use Rattle.rbacd.specs.Words.{AreMistaken, is_explained, is_json}
+use Rattle.rbacd.specs.steps.Judged.{MemoryOrStop, bare, report_with}
 use Rattle.rbacd.specs.declared.explain.Explanation.{Explanation}
 use Rattle.rbacd.specs.declared.explain.Explanation.TheVariants as explanations
 use Rattle.rbacd.specs.declared.judge.Finding.{Finding}
@@ -18,7 +21,7 @@ use Rattle.rbacd.specs.declared.outcome.Report.{Report}
 use Rattle.rbacd.specs.declared.run.JobFault.{JobFault}
 use Rattle.rbacd.specs.declared.run.JobFault.TheVariants as faults
 use Rattle.rbacd.specs.declared.words.Job.{Job}
-use Rattle.rbacd.specs.declared.words.Job.TheVariants.{Check, Judge}
+use Rattle.rbacd.specs.declared.words.Job.TheVariants.{Check, CheckConfig, Judge, Replay}
 
 -- nothing is given of what is no verdict
 nothing_given : {A : Type 0} → ⊥ ↔ (A × ⊥)
@@ -42,6 +45,8 @@ module _ (holds : List ℕ → List ℕ → Type 0) (lacks : (List ℕ × IoErro
   -- want of memory stops no job: it is an outcome
   never_by_memory : (job : Job) → ¬ (IsStoppedBy holds lacks input job faults.Memory)
   never_by_memory (Check policy budget json) unread = unread
+  never_by_memory (CheckConfig config) never = never
+  never_by_memory (Replay config) never = never
   never_by_memory (Judge policy facts budget json explain) stops = elim stops [
     | StopsBy.no_policy unread ↦ unread
     | StopsBy.no_facts policy path read named unread ↦ unread
@@ -69,6 +74,8 @@ module _ (holds : List ℕ → List ℕ → Type 0) (lacks : (List ℕ × IoErro
       → Finds holds lacks input job name explanation outcome
       → Finds holds lacks input job name (less_told explanation) outcome
   finds_less (Check policy budget json) name explanation outcome finds = finds
+  finds_less (CheckConfig config) name explanation outcome finds = finds
+  finds_less (Replay config) name explanation outcome finds = finds
   finds_less (Judge policy facts budget json explain) name explanation outcome finds = record {
     policy = finds.policy;
     facts = finds.facts;
@@ -93,30 +100,53 @@ module _ (holds : List ℕ → List ℕ → Type 0) (lacks : (List ℕ × IoErro
   )
   comes_as job report printed (json, given, finds) (inr (inr none)) = rw none (json, nothing_given, inl refl)
 
-  module _ (words : List (List ℕ)) where
-    -- the run comes to what is printed of its report
-    runs_as : (report printed : Report) → RunsTo holds lacks words input (Ok report)
-        → IsPrintedFor report printed → RunsTo holds lacks words input (Ok printed)
-    runs_as report printed runs same = elim runs [
-      | RunsTo.job job is comes ↦ RunsTo.job job is (comes_as job report printed comes same)
-      | RunsTo.mistaken other ↦ absurd other
-      | RunsTo.memory differ ↦ cc
-    ]
+  module _ (out out_new errors errors_new : Option (List ℕ)) (status : ℕ) (job : Job) where
+    -- it is the report that was printed
+    pub end_of_printed : (report printed : Report)
+        → ComesTo holds lacks input job (Ok report) → IsPrintedFor report printed
+        → PrintsReport out out_new errors errors_new status printed
+        → EndsReport holds lacks input out out_new errors errors_new status job
+    end_of_printed report printed comes same left =
+        EndsReport.ended (Ok printed) (comes_as job report printed comes same) left
 
-    module _ (out out_new errors errors_new : Option (List ℕ)) (status : ℕ) where
-      -- it is the report that was printed
-      pub end_of_printed : (report printed : Report)
-          → RunsTo holds lacks words input (Ok report) → IsPrintedFor report printed
-          → PrintsReport out out_new errors errors_new status printed
-          → (found : Result Report JobFault) × RunsTo holds lacks words input found
-          × Leaves out out_new errors errors_new status found
-      end_of_printed report printed runs same left = (Ok printed, runs_as report printed runs same, left)
+    -- and the fault that was told, or want of memory
+    pub end_of_told : (fault told : JobFault) → ComesTo holds lacks input job (Err fault)
+        → (told ≡ fault) ⊎ (told ≡ faults.Memory)
+        → LeavesFault out out_new errors errors_new status told
+        → EndsReport holds lacks input out out_new errors errors_new status job
+    end_of_told fault told comes (inl same) left = EndsReport.ended (Err fault) comes (rw same at left)
+    end_of_told fault told comes (inr none) left = EndsReport.memory (rw none at left)
 
-      -- and the fault that was told, or want of memory
-      pub end_of_told : (fault told : JobFault) → RunsTo holds lacks words input (Err fault)
-          → (told ≡ fault) ⊎ (told ≡ faults.Memory)
-          → LeavesFault out out_new errors errors_new status told
-          → (found : Result Report JobFault) × RunsTo holds lacks words input found
-          × Leaves out out_new errors errors_new status found
-      end_of_told fault told runs (inl same) left = (Err fault, runs, rw same at left)
-      end_of_told fault told runs (inr none) left = (Err faults.Memory, RunsTo.memory refl, rw none at left)
+module _ (holds : List ℕ → List ℕ → Type 0) (lacks : (List ℕ × IoError) → Type 0)
+    (out out_new errors errors_new : Option (List ℕ)) (status : ℕ) where
+  -- where there is no configuration, that is told, or want of memory
+  pub end_of_config : (path : List ℕ) (fault told : JobFault) → MemoryOrStop (LacksConfig holds lacks path) fault
+      → (told ≡ fault) ⊎ (told ≡ faults.Memory) → LeavesFault out out_new errors errors_new status told
+      → EndsConfig holds lacks out out_new errors errors_new status path
+  end_of_config path fault told (inl none) (inl same) left = EndsConfig.memory (rw (same, none) at left)
+  end_of_config path fault told (inr lacking) (inl same) left = EndsConfig.lacking fault lacking (rw same at left)
+  end_of_config path fault told stops (inr none) left = EndsConfig.memory (rw none at left)
+
+  -- and where a replay needs it
+  pub end_of_replay : (path : List ℕ) (input : Option (List ℕ)) (fault told : JobFault)
+      → MemoryOrStop (LacksConfig holds lacks path) fault
+      → (told ≡ fault) ⊎ (told ≡ faults.Memory) → LeavesFault out out_new errors errors_new status told
+      → EndsReplay holds lacks out out_new errors errors_new status path input
+  end_of_replay path input fault told (inl none) (inl same) left = EndsReplay.memory (rw (same, none) at left)
+  end_of_replay path input fault told (inr lacking) (inl same) left = EndsReplay.lacking fault lacking (rw same at left)
+  end_of_replay path input fault told stops (inr none) left = EndsReplay.memory (rw none at left)
+
+  -- where the words name no job, that is told, or want of memory
+  pub end_of_words : (input : Option (List ℕ)) (words : List (List ℕ)) (error : Error) (fault told : JobFault)
+      → (kind_of error ≡ kinds.OutOfMemory → fault ≡ faults.Memory)
+      → (fault ≡ faults.Memory) ⊎ (fault ≡ faults.Words error)
+      → (kind_of error ≡ kinds.OutOfMemory) ⊎ AreMistaken words (kind_of error)
+      → (told ≡ fault) ⊎ (told ≡ faults.Memory) → LeavesFault out out_new errors errors_new status told
+      → Ran holds lacks input out out_new errors errors_new status words
+  end_of_words input words error fault told memory either mistaken (inr none) left = Ran.memory (rw none at left)
+  end_of_words input words error fault told memory (inl none) mistaken (inl same) left =
+      Ran.memory (rw (same, none) at left)
+  end_of_words input words error fault told memory (inr is) (inl none) (inl same) left =
+      Ran.memory (rw (same, memory none) at left)
+  end_of_words input words error fault told memory (inr is) (inr mistaken) (inl same) left =
+      Ran.mistaken error mistaken (rw (same, is) at left)

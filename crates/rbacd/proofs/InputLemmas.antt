@@ -4,15 +4,15 @@ use Rattle.std.specs.Io.KnownBytes.{Consumes, IsAtEnd}
 use Rattle.attributes.specs.Conn.{Facts}
 use Rattle.attributes.specs.Limits.{LimitsValue}
 use Rattle.http_front.specs.Asks.{IsUnfinished}
-use Rattle.http_front.specs.declared.read.Ask.{Ask}
-use Rattle.http_front.specs.declared.read.Ask.TheVariants.{Judge, Fault}
+use Rattle.http_front.specs.declared.read.HeadAsk.{HeadAsk}
+use Rattle.http_front.specs.declared.read.HeadAsk.TheVariants.{Judge, Fault}
 use Rattle.http_front.proofs.Rooms.{asks_append, has_fault_append}
 use Rattle.rbacd.specs.Judging.{IsAllOf}
 use Rattle.rbacd.specs.steps.Reading.{IsFound}
 
 module _ (limits : LimitsValue) (facts : Facts) where
   -- bytes behind the front change nothing of what it asks
-  found_more : (front rest : List ℕ) (ask : Ask) → IsFound limits facts front (Some ask)
+  found_more : (front rest : List ℕ) (ask : HeadAsk) → IsFound limits facts front (Some ask)
       → IsFound limits facts (front ++ rest) (Some ask)
   found_more front rest (Judge r) is = record {
     judged = asks_append front rest limits facts r is.judged;
@@ -26,7 +26,7 @@ module _ (limits : LimitsValue) (facts : Facts) where
   }
 
   -- so what was taken of an input decides for all of it
-  pub found_of_taken : (known left : Option (List ℕ)) (front : List ℕ) (ask : Ask)
+  pub found_of_taken : (known left : Option (List ℕ)) (front : List ℕ) (ask : HeadAsk)
       → Consumes known left front → IsFound limits facts front (Some ask)
       → (bytes : List ℕ) × IsAllOf known bytes × IsFound limits facts bytes (Some ask)
   found_of_taken None left front ask taken is = (front, tt, is)

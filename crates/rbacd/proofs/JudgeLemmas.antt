@@ -6,10 +6,9 @@ use Rattle.attributes.specs.Conn.{Facts}
 use Rattle.attributes.specs.Limits.{InLimits, largest}
 use Rattle.attributes.specs.Request.{RequestValue}
 use Rattle.cel_tree.specs.Checked.{CelChecked}
-use Rattle.http_front.specs.Asks.{AskFault, Asks, IfJudge}
-use Rattle.http_front.specs.declared.fault.HeadFault.TheVariants.{OutsideLimits}
-use Rattle.http_front.specs.declared.read.Ask.{Ask}
-use Rattle.http_front.specs.declared.read.Ask.TheVariants.{Judge, Fault}
+use Rattle.http_front.specs.Asks.{HeadAsks, IfJudge}
+use Rattle.http_front.specs.declared.read.HeadAsk.{HeadAsk}
+use Rattle.http_front.specs.declared.read.HeadAsk.TheVariants.{Judge, Fault}
 use Rattle.rbac_policy.specs.Admission.{Admits}
 use Rattle.rbac_policy.specs.Condition.{Program}
 use Rattle.rbac_policy.specs.Filter.{Filter}
@@ -78,16 +77,15 @@ module _ (policy : List ℕ) (budget : ℕ) (facts : Facts) (bytes : List ℕ) w
       (λ r filter explains. less_explains r filter explanation explains) found
 
   -- a request that is asked for is not outside the limits
-  within_limits : (r : RequestValue) → Asks bytes largest facts r → ¬ (¬ (InLimits r largest))
+  within_limits : (r : RequestValue) → HeadAsks bytes largest facts r → ¬ (¬ (InLimits r largest))
   within_limits r asks outside =
-      asks.no_fault OutsideLimits
-      (AskFault.outside (λ within. outside (rw asks.request within)) refl)
+      outside asks.in_limits
 
   module _ (enforced : Filter Program) (filter : Filter CelChecked) (name : Option (List ℕ))
       (admits : Admits policy largest budget filter enforced) where
     -- what a request is answered, and why, is an outcome of the bytes that ask for it
     answer_found : (r : RequestValue) (outcome : Outcome) (explanation : Explanation)
-        → Asks bytes largest facts r → IsAnswerTo enforced r outcome
+        → HeadAsks bytes largest facts r → IsAnswerTo enforced r outcome
         → IsExplanationOf enforced r explanation → IsNameOf enforced outcome name
         → IsOutcomeOf policy budget facts bytes name explanation outcome
     answer_found r (outcomes.Allowed matched) explanation asks answer explains named = record {
@@ -118,7 +116,7 @@ module _ (policy : List ℕ) (budget : ℕ) (facts : Facts) (bytes : List ℕ) w
     answer_found r (outcomes.Admitted policies bound) explanation asks answer explains named = absurd answer
 
 -- what was found of the bytes, under the admitted filter
-pub under_found : (enforced : Filter Program) (facts : Facts) (bytes : List ℕ) (found : Option Ask)
+pub under_found : (enforced : Filter Program) (facts : Facts) (bytes : List ℕ) (found : Option HeadAsk)
     (outcome : Outcome) (explanation : Explanation) → IsFound largest facts bytes found
     → IsOutcomeOfAsk enforced found outcome
     → IfJudge found (λ r. IsExplanationOf enforced r explanation)

@@ -6,3 +6,6 @@ mod JudgeLemmas
 mod FactLemmas
 mod StandardFacts
 mod JsonLemmas
+mod ConfigurationLemmas
+mod ReplayLemmas
+mod PumpLemmas

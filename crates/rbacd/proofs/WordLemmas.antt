@@ -1,5 +1,5 @@
 -- From what a parse says of a subcommand to the job that it names.
-use Rattle.std.proofs.Common.{◌≡◌, ◌∙◌, ◌↔◌, List, Bool, true, false, IsTrue, Option, Some, None, ap, arith, codes, get_or, refl, sym}
+use Rattle.std.proofs.Common.{◌≡◌, ◌∙◌, ◌↔◌, ℕ, List, Bool, true, false, IsTrue, Option, Some, None, String, Global, ap, codes, refl, sym}
 use Rattle.std.specs.Prelude.{IfNone, option_map}
 use Rattle.std.proofs.lemmas.Bool.{false≢true}
 use Rattle.std.specs.Str.{bytes_eq}
@@ -8,12 +8,38 @@ use Rattle.clap.specs.Words.{Row, Text, subcommand_name_of, subcommand_rows_of}
 use Rattle.clap.specs.declared.parser.matches.ArgMatches.{ArgMatches}
 use Rattle.clap.specs.declared.parser.matches.ArgMatches.TheViews.{out-ArgMatches}
 use Rattle.rbacd.specs.declared.words.Job.{Job}
-use Rattle.rbacd.specs.declared.words.Job.TheVariants.{Check, Judge}
+use Rattle.rbacd.specs.declared.words.Job.TheVariants.{Check, CheckConfig, Judge, Replay}
 use Rattle.rbacd.specs.Words.{IsJobOfRows, NamesNoJob, subcommand_name}
 
--- the subcommands have different names
-pub names_differ : codes "check" ≡ codes "judge" → ⊥
-names_differ e = let first : 99 ≡ 106 = ap (λ l. get_or l 0 0) e in omega (arith, first)
+-- texts that a test tells apart differ
+pub apart : (a b : Text) → bytes_eq a b ≡ false → a ≡ b → ⊥
+apart a b differ same = false≢true (sym differ ∙ ap (λ t. bytes_eq t b) same ∙ test_same b)
+
+-- what holds of each job of a subcommand
+module _ (P : Job → Type 0) where
+  pub of_check : ((policy : String Global) (budget : ℕ) (json : Bool) → P (Check policy budget json)) → (job : Job) → subcommand_name job ≡ codes "check" → P job
+  of_check f (Check policy budget json) same = f policy budget json
+  of_check f (Judge policy facts budget json explain) same = absurd (apart (codes "judge") (codes "check") refl same)
+  of_check f (CheckConfig config) same = absurd (apart (codes "check-config") (codes "check") refl same)
+  of_check f (Replay config) same = absurd (apart (codes "replay") (codes "check") refl same)
+
+  pub of_judge : ((policy : String Global) (facts : Option (String Global)) (budget : ℕ) (json explain : Bool) → P (Judge policy facts budget json explain)) → (job : Job) → subcommand_name job ≡ codes "judge" → P job
+  of_judge f (Check policy budget json) same = absurd (apart (codes "check") (codes "judge") refl same)
+  of_judge f (Judge policy facts budget json explain) same = f policy facts budget json explain
+  of_judge f (CheckConfig config) same = absurd (apart (codes "check-config") (codes "judge") refl same)
+  of_judge f (Replay config) same = absurd (apart (codes "replay") (codes "judge") refl same)
+
+  pub of_check_config : ((config : String Global) → P (CheckConfig config)) → (job : Job) → subcommand_name job ≡ codes "check-config" → P job
+  of_check_config f (Check policy budget json) same = absurd (apart (codes "check") (codes "check-config") refl same)
+  of_check_config f (Judge policy facts budget json explain) same = absurd (apart (codes "judge") (codes "check-config") refl same)
+  of_check_config f (CheckConfig config) same = f config
+  of_check_config f (Replay config) same = absurd (apart (codes "replay") (codes "check-config") refl same)
+
+  pub of_replay : ((config : String Global) → P (Replay config)) → (job : Job) → subcommand_name job ≡ codes "replay" → P job
+  of_replay f (Check policy budget json) same = absurd (apart (codes "check") (codes "replay") refl same)
+  of_replay f (Judge policy facts budget json explain) same = absurd (apart (codes "judge") (codes "replay") refl same)
+  of_replay f (CheckConfig config) same = absurd (apart (codes "check-config") (codes "replay") refl same)
+  of_replay f (Replay config) same = f config
 
 -- two maps in turn
 maps_in_turn : {X Y Z : Type 0} (g : Y → Z) (f : X → Y) (o : Option X)
@@ -42,13 +68,19 @@ names_no_job m name rows None met found none = λ other held.
     let named : subcommand_name other ≡ name = cc in
     none other named (rw same at held.2)
 
--- where neither subcommand was met, none is named
+-- where no subcommand was met, none is named
 pub no_subcommand : (m : ArgMatches) → (subcommand_name_of m ≡ Some (codes "check") → false ≡ true)
-    → (subcommand_name_of m ≡ Some (codes "judge") → false ≡ true) → NamesNoJob (subcommand_rows_of m)
-no_subcommand m check judge (Check policy budget json) held =
+    → (subcommand_name_of m ≡ Some (codes "judge") → false ≡ true)
+    → (subcommand_name_of m ≡ Some (codes "check-config") → false ≡ true)
+    → (subcommand_name_of m ≡ Some (codes "replay") → false ≡ true) → NamesNoJob (subcommand_rows_of m)
+no_subcommand m check judge check_config replay (Check policy budget json) held =
     false≢true (check (name_of_rows m (codes "check") held.0 held.1))
-no_subcommand m check judge (Judge policy facts budget json explain) held =
+no_subcommand m check judge check_config replay (Judge policy facts budget json explain) held =
     false≢true (judge (name_of_rows m (codes "judge") held.0 held.1))
+no_subcommand m check judge check_config replay (CheckConfig config) held =
+    false≢true (check_config (name_of_rows m (codes "check-config") held.0 held.1))
+no_subcommand m check judge check_config replay (Replay config) held =
+    false≢true (replay (name_of_rows m (codes "replay") held.0 held.1))
 
 -- a flag was given where its value is `true`
 pub flag_given : (found : Option Text) (text : Text) (given : Bool) → found ≡ Some text

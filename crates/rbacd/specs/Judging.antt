@@ -7,7 +7,7 @@ use Rattle.attributes.specs.Request.{RequestValue}
 use Rattle.cel_tree.specs.Checked.{CelChecked}
 use Rattle.http_front.specs.declared.fault.HeadFault.{HeadFault}
 use Rattle.http_front.specs.declared.fault.HeadFault.TheVariants.{Unfinished}
-use Rattle.http_front.specs.Asks.{Asks, HasFault, IsUnfinished}
+use Rattle.http_front.specs.Asks.{HasFault, HeadAsks, IsUnfinished}
 use Rattle.proto_wire.specs.Refusal.{MemoryOr}
 use Rattle.proto_wire.specs.declared.refusal.Refusal.{Refusal}
 use Rattle.rbac_policy.specs.Admission.{Admissible, Admits, Fault}
@@ -38,7 +38,7 @@ pub record IsDecided (policy : List ℕ) (budget : ℕ) (facts : Facts) (bytes :
   pub enforced : Filter Program
   pub admitted : Admits policy largest budget filter enforced
   pub request : RequestValue
-  pub asks : Asks bytes largest facts request
+  pub asks : HeadAsks bytes largest facts request
   pub verdict : IsVerdict (is_met request) request filter allowed matched
   pub named : name ≡ option_and_then (slice_get (keys enforced.policies)) matched
   pub explained : Explains request filter explanation

@@ -4,6 +4,11 @@ pub mod Json
 pub mod Outcome
 pub mod Judging
 pub mod Facts
+pub mod Members
+pub mod Configuration
+pub mod Lines
+pub mod Replays
+pub mod Pumps
 pub mod Output
 pub mod Run
 pub mod steps

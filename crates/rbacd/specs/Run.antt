@@ -13,7 +13,14 @@ use Rattle.clap.specs.declared.error.kind.ErrorKind.{ErrorKind}
 use Rattle.clap.specs.declared.error.kind.ErrorKind.TheVariants as kinds
 use Rattle.rbac_policy.specs.Admission.{Admissible}
 use Rattle.rbacd.specs.Explain.{IsGiven, untold_text}
+use Rattle.ads.specs.Config.{ConfigValue}
+use Rattle.clap.specs.declared.error.Error.{Error}
+use Rattle.rbacd.specs.Configuration.{IsConfigText}
+use Rattle.std.specs.Fmt.{decimal}
 use Rattle.rbacd.specs.Facts.{IsFactsText, TellsNone}
+use Rattle.rbacd.specs.Replays.{IsReplayed, IsStopped}
+use Rattle.rbacd.specs.declared.replay.ReplayFault.{ReplayFault}
+use Rattle.rbacd.specs.declared.replay.ReplayFault.TheVariants as replay_faults
 use Rattle.rbacd.specs.Judging.{IsAllOf, IsCheckOf, IsDecision, IsOutcomeOf, plain_facts}
 use Rattle.rbacd.specs.Outcome.{line_of, printed_of, status_of}
 use Rattle.rbacd.specs.Output.{BreaksOff, Takes}
@@ -21,7 +28,7 @@ use Rattle.rbacd.specs.Words.{AreMistaken, IsJobOf, is_explained, is_json}
 use Rattle.rbacd.specs.declared.explain.Explanation.{Explanation}
 use Rattle.rbacd.specs.declared.explain.Explanation.TheVariants as explanations
 use Rattle.rbacd.specs.declared.words.Job.{Job}
-use Rattle.rbacd.specs.declared.words.Job.TheVariants.{Check, Judge}
+use Rattle.rbacd.specs.declared.words.Job.TheVariants.{Check, CheckConfig, Judge, Replay}
 use Rattle.rbacd.specs.declared.outcome.Outcome.{Outcome}
 use Rattle.rbacd.specs.declared.outcome.Outcome.TheVariants as outcomes
 use Rattle.rbacd.specs.declared.outcome.Report.{Report}
@@ -39,10 +46,7 @@ module _ (holds : Text → Text → Type 0) (lacks : (Text × IoError) → Type 
   -- the fault says that the file at this path cannot be read, and for which cause
   abbrev pub IsUnread : Text → JobFault → Type 0
   IsUnread path (faults.File name cause) = (string_bytes name ≡ path) × lacks (path, cause)
-  IsUnread path (faults.Words error) = ⊥
-  IsUnread path faults.Facts = ⊥
-  IsUnread path (faults.Input cause) = ⊥
-  IsUnread path faults.Memory = ⊥
+  IsUnread path _ = ⊥
 
   -- the file that the path names holds no facts
   abbrev pub HasBadFacts : Text → JobFault → Type 0
@@ -52,10 +56,16 @@ module _ (holds : Text → Text → Type 0) (lacks : (Text × IoError) → Type 
   -- the fault says that the input cannot be read, and not for want of memory
   abbrev pub IsInputFault : JobFault → Type 0
   IsInputFault (faults.Input cause) = error_kind cause ≢ IoKind.OutOfMemory
-  IsInputFault (faults.Words error) = ⊥
-  IsInputFault (faults.File name cause) = ⊥
-  IsInputFault faults.Facts = ⊥
-  IsInputFault faults.Memory = ⊥
+  IsInputFault _ = ⊥
+
+  -- the file that the path names is this configuration
+  abbrev pub IsConfigOf : Text → ConfigValue → Type 0
+  IsConfigOf path c = (text : Text) × holds path text × IsConfigText text c
+
+  -- the file that the path names cannot be read, or is no configuration
+  abbrev pub LacksConfig : Text → JobFault → Type 0
+  LacksConfig path fault = IsUnread path fault
+      ⊎ ((text : Text) × holds path text × ((c : ConfigValue) → ¬ IsConfigText text c) × (fault ≡ faults.Config))
 
   -- the outcome is that of the policy file at this path
   pub record IsCheckedAs (policy_path : Text) (budget : ℕ) (outcome : Outcome) : Type 0 where
@@ -94,12 +104,14 @@ module _ (holds : Text → Text → Type 0) (lacks : (Text × IoError) → Type 
       IsCheckedAs (string_bytes policy) budget outcome
   Finds input (Judge policy facts budget json explain) name explanation outcome =
       IsJudgedAs (string_bytes policy) (option_map string_bytes facts) budget input name explanation outcome
+  Finds input _ name explanation outcome = ⊥
 
   -- the job with this input is stopped by this fault
   abbrev pub IsStoppedBy : Option Text → Job → JobFault → Type 0
   IsStoppedBy input (Check policy budget json) fault = IsUnread (string_bytes policy) fault
   IsStoppedBy input (Judge policy facts budget json explain) fault =
       StopsBy (string_bytes policy) (option_map string_bytes facts) budget input fault
+  IsStoppedBy input _ fault = ⊥
 
   -- the job with this input comes to this. An explanation is given exactly where the job asks for one
   -- and there is a verdict to explain
@@ -110,28 +122,12 @@ module _ (holds : Text → Text → Type 0) (lacks : (Text × IoError) → Type 
       ⊎ Finds input job (option_map string_bytes report.name) report.explanation report.outcome)
   ComesTo input job (Err fault) = IsStoppedBy input job fault
 
-  -- what the job that the words name comes to, or why they name none
-  module _ (words : List Text) (input : Option Text) where
-    -- the fault is the mistake that the words hold
-    abbrev pub IsMistake : Result Report JobFault → Type 0
-    IsMistake (Ok report) = ⊥
-    IsMistake (Err (faults.Words error)) = AreMistaken words (kind_of error)
-    IsMistake (Err (faults.File name cause)) = ⊥
-    IsMistake (Err faults.Facts) = ⊥
-    IsMistake (Err (faults.Input cause)) = ⊥
-    IsMistake (Err faults.Memory) = ⊥
-
-    -- the words name a job that comes to this, or they are mistaken
-    pub data RunsTo (found : Result Report JobFault) : Type 0 where
-      job : (job : Job) → IsJobOf words job → ComesTo input job found → RunsTo found
-      mistaken : IsMistake found → RunsTo found
-      memory : found ≡ Err faults.Memory → RunsTo found
-
 -- the line of a fault, as far as it has one
 abbrev pub first_line : JobFault → Text
 first_line (faults.Words error) = []
 first_line (faults.File path cause) = codes "cannot read " ++ string_bytes path ++ 10 ∷ []
 first_line faults.Facts = codes "bad facts" ++ 10 ∷ []
+first_line faults.Config = codes "bad config" ++ 10 ∷ []
 first_line (faults.Input cause) = codes "cannot read standard input" ++ 10 ∷ []
 first_line faults.Memory = []
 
@@ -175,6 +171,7 @@ module _ (out out_new errors errors_new : Option Text) (status : ℕ) where
   LeavesFault (faults.Words error) = TellsWords (kind_of error)
   LeavesFault (faults.File path cause) = Tells 2 (first_line (faults.File path cause))
   LeavesFault faults.Facts = Tells 6 (first_line faults.Facts)
+  LeavesFault faults.Config = Tells 6 (first_line faults.Config)
   LeavesFault (faults.Input cause) = Tells 2 (first_line (faults.Input cause))
   LeavesFault faults.Memory = Prints 5 (line_of outcomes.Memory)
 
@@ -188,3 +185,70 @@ module _ (out out_new errors errors_new : Option Text) (status : ℕ) where
   abbrev pub Leaves : Result Report JobFault → Type 0
   Leaves (Ok report) = PrintsReport report
   Leaves (Err fault) = LeavesFault fault
+
+-- the line of a line that is no event
+abbrev pub bad_line : ℕ → Text
+bad_line number = codes "bad line " ++ (decimal number ++ (10 ∷ []))
+
+-- it is told, or memory ran out for that
+abbrev pub TellsLine : Option Text → Option Text → ℕ → ℕ → Type 0
+TellsLine errors errors_new status number = ((status ≡ 5) × (errors_new ≡ errors))
+    ⊎ ((status ≡ 6) × ((told : Text) × StartsWith told (bad_line number) × Takes errors errors_new told))
+
+-- what is told of a replay that ended before its input did. Its answers so far stand on standard output
+abbrev pub LeavesReplay : Option Text → Option Text → ℕ → ReplayFault → Type 0
+LeavesReplay errors errors_new status (replay_faults.Line number cause) = TellsLine errors errors_new status number
+LeavesReplay errors errors_new status (replay_faults.Input cause) = (status ≡ 5) ⊎ (status ≡ 2)
+LeavesReplay errors errors_new status (replay_faults.Output cause) = status ≡ 2
+LeavesReplay errors errors_new status replay_faults.Memory = (status ≡ 5) × (errors_new ≡ errors)
+
+-- a source of files, an input, and what a run leaves
+module _ (holds : Text → Text → Type 0) (lacks : (Text × IoError) → Type 0) (input : Option Text)
+    (out out_new errors errors_new : Option Text) (status : ℕ) where
+  -- the job comes to this, and it is told; or memory ran out
+  pub data EndsReport (job : Job) : Type 0 where
+    ended : (found : Result Report JobFault) → ComesTo holds lacks input job found
+        → Leaves out out_new errors errors_new status found → EndsReport job
+    memory : LeavesFault out out_new errors errors_new status faults.Memory → EndsReport job
+
+-- the file at this path is a configuration, and it is told what it means; or it is not, and that is told
+module _ (holds : Text → Text → Type 0) (lacks : (Text × IoError) → Type 0)
+    (out out_new errors errors_new : Option Text) (status : ℕ) (path : Text) where
+  pub data EndsConfig : Type 0 where
+    meant : (c : ConfigValue) (text : Text) → IsConfigOf holds lacks path c
+        → Prints out out_new errors errors_new status 0 text → EndsConfig
+    lacking : (fault : JobFault) → LacksConfig holds lacks path fault
+        → LeavesFault out out_new errors errors_new status fault → EndsConfig
+    memory : LeavesFault out out_new errors errors_new status faults.Memory → EndsConfig
+
+  -- the file at this path is a configuration, with which the input is replayed, up to its end or to what stops that
+  module _ (input : Option Text) where
+    pub data EndsReplay : Type 0 where
+      whole : (c : ConfigValue) (input_new : Option Text) → IsConfigOf holds lacks path c
+          → IsReplayed c input out input_new out_new → status ≡ 0 → errors_new ≡ errors → EndsReplay
+      stopped : (c : ConfigValue) (input_new : Option Text) (fault : ReplayFault) → IsConfigOf holds lacks path c
+          → (fault ≡ replay_faults.Memory) ⊎ IsStopped c input out fault input_new out_new
+          → LeavesReplay errors errors_new status fault → EndsReplay
+      lacking : (fault : JobFault) → LacksConfig holds lacks path fault
+          → LeavesFault out out_new errors errors_new status fault → EndsReplay
+      memory : LeavesFault out out_new errors errors_new status faults.Memory → EndsReplay
+
+module _ (holds : Text → Text → Type 0) (lacks : (Text × IoError) → Type 0) (input : Option Text)
+    (out out_new errors errors_new : Option Text) (status : ℕ) where
+  -- how the job ends
+  abbrev pub EndsJob : Job → Type 0
+  EndsJob (Check policy budget json) =
+      EndsReport holds lacks input out out_new errors errors_new status (Check policy budget json)
+  EndsJob (Judge policy facts budget json explain) =
+      EndsReport holds lacks input out out_new errors errors_new status (Judge policy facts budget json explain)
+  EndsJob (CheckConfig config) =
+      EndsConfig holds lacks out out_new errors errors_new status (string_bytes config)
+  EndsJob (Replay config) =
+      EndsReplay holds lacks out out_new errors errors_new status (string_bytes config) input
+
+  -- the words name a job that ends so, or they are mistaken, or memory ran out before that was known
+  pub data Ran (words : List Text) : Type 0 where
+    job : (job : Job) → IsJobOf words job → EndsJob job → Ran words
+    mistaken : (error : Error) → AreMistaken words (kind_of error)
+        → LeavesFault out out_new errors errors_new status (faults.Words error) → Ran words
+    memory : LeavesFault out out_new errors errors_new status faults.Memory → Ran words

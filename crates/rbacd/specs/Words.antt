@@ -8,7 +8,7 @@ use Rattle.clap.specs.declared.builder.value_parser.ValueParser.TheVariants as p
 use Rattle.clap.specs.declared.error.kind.ErrorKind.{ErrorKind}
 use Rattle.clap.specs.declared.error.kind.ErrorKind.TheVariants.{ValueValidation}
 use Rattle.rbacd.specs.declared.words.Job.{Job}
-use Rattle.rbacd.specs.declared.words.Job.TheVariants.{Check, Judge}
+use Rattle.rbacd.specs.declared.words.Job.TheVariants.{Check, CheckConfig, Judge, Replay}
 
 -- `--policy FILE`, which has to be there
 abbrev pub policy_rule : Rule
@@ -48,6 +48,14 @@ explain_rule = record (new_rule (codes "explain")) {
   action = Some SetTrue;
 }
 
+-- `--config FILE`, which has to be there
+abbrev pub config_rule : Rule
+config_rule = record (new_rule (codes "config")) {
+  long = Some (codes "config");
+  value_names = 1;
+  required = true;
+}
+
 -- `check --policy FILE [--budget N] [--json]`
 abbrev pub check_app : App
 check_app = with_rule (with_rule (with_rule (new_app (codes "check")) policy_rule) budget_rule) json_rule
@@ -57,15 +65,26 @@ abbrev pub judge_app : App
 judge_app = with_rule (with_rule (with_rule (with_rule (with_rule (new_app (codes "judge")) policy_rule)
     facts_rule) budget_rule) json_rule) explain_rule
 
--- the program, which has a version, and needs a subcommand; without words it shows its help
+-- `check-config --config FILE`
+abbrev pub check_config_app : App
+check_config_app = with_rule (new_app (codes "check-config")) config_rule
+
+-- `replay --config FILE`
+abbrev pub replay_app : App
+replay_app = with_rule (new_app (codes "replay")) config_rule
+
+-- the program without its subcommands, of which it needs one; it has a version, and without words it shows its help
+abbrev pub bare_app : App
+bare_app = on_top (λ s. record s {
+  has_version = true;
+  subcommand_required = true;
+  arg_required_else_help = true;
+}) (new_app (codes "rbacd"))
+
+-- the program
 abbrev pub rbacd_app : App
-rbacd_app =
-    let top = on_top (λ s. record s {
-      has_version = true;
-      subcommand_required = true;
-      arg_required_else_help = true;
-    }) (new_app (codes "rbacd")) in
-    with_subcommand (with_subcommand top check_app.top) judge_app.top
+rbacd_app = with_subcommand (with_subcommand (with_subcommand (with_subcommand bare_app check_app.top) judge_app.top)
+    check_config_app.top) replay_app.top
 
 -- the value of `--budget` is that number, and it is allowed
 pub record IsBudgetOf (rows : List Row) (budget : ℕ) : Type 0 where
@@ -88,21 +107,33 @@ IsJobOfRows rows (Judge policy facts budget json explain) =
     × (first_of (codes "facts") rows ≡ option_map string_bytes facts)
     × IsBudgetOf rows budget × HasFlag (codes "json") rows json
     × HasFlag (codes "explain") rows explain
+IsJobOfRows rows (CheckConfig config) = first_of (codes "config") rows ≡ Some (string_bytes config)
+IsJobOfRows rows (Replay config) = first_of (codes "config") rows ≡ Some (string_bytes config)
 
 -- the job's subcommand
 abbrev pub subcommand_name : Job → Text
 subcommand_name (Check policy budget json) = codes "check"
 subcommand_name (Judge policy facts budget json explain) = codes "judge"
+subcommand_name (CheckConfig config) = codes "check-config"
+subcommand_name (Replay config) = codes "replay"
+
+-- the job comes to a report, which is printed
+abbrev pub IsReported : Job → Type 0
+IsReported (Check policy budget json) = ⊤
+IsReported (Judge policy facts budget json explain) = ⊤
+IsReported _ = ⊥
 
 -- whether what the job finds is printed as JSON
 abbrev pub is_json : Job → Bool
 is_json (Check policy budget json) = json
 is_json (Judge policy facts budget json explain) = json
+is_json _ = false
 
 -- whether it is told which policies were tried
 abbrev pub is_explained : Job → Bool
 is_explained (Check policy budget json) = false
 is_explained (Judge policy facts budget json explain) = explain
+is_explained _ = false
 
 -- the subcommand that was met, with its matches, names that job
 abbrev pub IsJobOfNamed : Option (Text × List Row) → Job → Type 0

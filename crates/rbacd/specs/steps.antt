@@ -3,3 +3,5 @@
 pub mod Reading
 pub mod Judged
 pub mod Printed
+pub mod Replaying
+pub mod Pumping

@@ -356,8 +356,13 @@ pub(crate) fn cause_of_bad_facts(alloc: Global, text: &[u8]) -> Result<String, A
         Ok(value) => value,
         Err(error) => return format!(in alloc; "it is no JSON text: {error}"),
     };
+    cause_of_bad_value(alloc, &value)
+}
+
+/// Why a value tells of no connection.
+pub(crate) fn cause_of_bad_value(alloc: Global, value: &Value) -> Result<String, AllocError> {
     match value.as_object() {
-        Some(members) => cause_of_bad_members(alloc, &value, members),
+        Some(members) => cause_of_bad_members(alloc, value, members),
         None => String::from_str(alloc, "it is no JSON object"),
     }
 }

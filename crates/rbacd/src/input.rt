@@ -7,7 +7,7 @@ ghost use Rattle.rbacd.specs.Judging.{IsAllOf};
 ghost use Rattle.rbacd.specs.steps.Reading.{Grows, IsFound, IsJustEnough};
 
 use attributes::{Conn, Limits};
-use http_front::{Ask, read_head};
+use http_front::{HeadAsk, read_head};
 use std::alloc::Global;
 use std::io::{self, ErrorKind, Read};
 
@@ -22,7 +22,7 @@ pub(crate) fn read_ask<R: Read>(
     limits: &Limits,
     conn: &Conn,
     input: &mut R,
-) -> io::Result<Option<Ask>>
+) -> io::Result<Option<HeadAsk>>
     ensures found { IfOk result (λ found. (bytes : List ℕ) × IsAllOf (R.remaining input.old) bytes
         × IsFound limits.now (conn_view conn.now) bytes found) }
     ensures no_more { OnOk result ((read : List ℕ)
@@ -54,7 +54,7 @@ fn read_chunk<R: Read>(input: &mut R, bytes: &mut Vec<u8>) -> io::Result<usize>
 }
 
 /// One read, which is tried again where a signal interrupts it.
-fn read_some<R: Read>(input: &mut R, room: &mut [u8]) -> io::Result<usize>
+pub(crate) fn read_some<R: Read>(input: &mut R, room: &mut [u8]) -> io::Result<usize>
     ensures bound { ReadsAtMost result room.new }
     ensures bytes { ReadConsumes (R.remaining input.old) (R.remaining input.new) result room.new }
 {

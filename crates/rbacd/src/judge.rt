@@ -22,7 +22,7 @@ use crate::input::read_ask;
 use crate::outcome::{Outcome, Report};
 use crate::output::write_whole;
 use attributes::{Conn, Limits, Request};
-use http_front::{Ask, HeadFault};
+use http_front::{HeadAsk, HeadFault};
 use rbac_policy::{Admitted, admit};
 use stack_machine::RunError;
 use std::alloc::{AllocError, Global};
@@ -233,13 +233,13 @@ fn name_at(alloc: Global, admitted: &Admitted, number: usize) -> Result<Option<S
 }
 
 /// The outcome of what a head asks, or of none.
-fn outcome_of_ask(admitted: &Admitted, found: &Option<Ask>) -> Outcome
+fn outcome_of_ask(admitted: &Admitted, found: &Option<HeadAsk>) -> Outcome
     requires { limits_view admitted.now ≡ largest }
     ensures { IsOutcomeOfAsk (filter_view admitted.now) found.now result }
 {
     match found {
-        Some(Ask::Judge(request)) => decided(admitted, request),
-        Some(Ask::Fault(fault)) => Outcome::Fault(*fault),
+        Some(HeadAsk::Judge(request)) => decided(admitted, request),
+        Some(HeadAsk::Fault(fault)) => Outcome::Fault(*fault),
         None => Outcome::Fault(HeadFault::Unfinished),
     }
 }
@@ -266,7 +266,7 @@ fn decided(admitted: &Admitted, request: &Request) -> Outcome
 fn explanation_of_ask(
     alloc: Global,
     admitted: &Admitted,
-    found: &Option<Ask>,
+    found: &Option<HeadAsk>,
     outcome: Outcome,
     explain: bool,
 ) -> Explanation
@@ -277,7 +277,7 @@ fn explanation_of_ask(
     ensures given { IsGiven result ↔ (IsTrue explain × IsDecision outcome) }
 {
     match found {
-        Some(Ask::Judge(request)) if explain && outcome.is_decision() => {
+        Some(HeadAsk::Judge(request)) if explain && outcome.is_decision() => {
             explained(alloc, admitted, request)
         }
         _ => Explanation::Absent,

@@ -8,16 +8,24 @@ use std::io::{ErrorKind, Write};
 use std::process::ExitCode;
 use std::{env, io};
 
+mod commands;
+pub mod configuration;
 mod explain;
 pub mod facts;
 mod files;
 mod input;
 mod json;
 pub mod judge;
+pub mod lines;
+mod members;
 mod notes;
 pub mod outcome;
 mod output;
+pub mod pumps;
+pub mod replay;
 pub mod run;
+mod settings;
+mod telling;
 pub mod words;
 
 /// The words of the command line, the program's own name first.

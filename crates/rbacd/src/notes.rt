@@ -2,8 +2,10 @@
 //! fault, and a guess at what the file is.
 //!
 //! Nothing here bears on the outcome or the status, but that memory may run out here too; no contract speaks of the texts.
+
 use crate::facts::cause_of_bad_facts;
 use crate::outcome::Outcome;
+use crate::telling::cause_of_bad_config;
 use http_front::{HeadFault, HeadPart};
 use proto_wire::{Payload, Reader, Refusal};
 use rbac_policy::place_of;
@@ -19,6 +21,8 @@ pub(crate) struct Notes {
     pub(crate) place: Option<String>,
     /// Why the facts file tells of no connection.
     pub(crate) facts: String,
+    /// Why the configuration file is no configuration.
+    pub(crate) config: String,
 }
 
 impl Notes {
@@ -28,12 +32,19 @@ impl Notes {
             policy: None,
             place: None,
             facts: String::new(alloc),
+            config: String::new(alloc),
         }
     }
 
     /// Notes why this text of facts tells of no connection.
     pub(crate) fn look_at_facts(&mut self, alloc: Global, text: &[u8]) -> Result<(), AllocError> {
         self.facts = cause_of_bad_facts(alloc, text)?;
+        Ok(())
+    }
+
+    /// Notes why this text is no configuration.
+    pub(crate) fn look_at_config(&mut self, alloc: Global, text: &[u8]) -> Result<(), AllocError> {
+        self.config = cause_of_bad_config(alloc, text)?;
         Ok(())
     }
 

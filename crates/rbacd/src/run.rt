@@ -1,5 +1,5 @@
 //! The whole job of the program, from its words to its status.
-ghost use Rattle.std.specs.Prelude.{◌≡◌, ◌≢◌, ◌⊎◌, ◌↔◌, ℕ, Err, IfErr, IfOk, IsTrue, List, Ok, Result, Some, map, option_map, string_bytes};
+ghost use Rattle.std.specs.Prelude.{◌≡◌, ◌≢◌, ◌⊎◌, ◌↔◌, ℕ, Err, IfErr, IfOk, IsTrue, List, Ok, Some, map, option_map, string_bytes};
 ghost use Rattle.attributes.specs.Conn.{conn_view};
 ghost use Rattle.std.specs.Io.{StartsWith};
 ghost use Rattle.std.specs.IoError.{error_kind};
@@ -7,9 +7,10 @@ ghost use Rattle.rbacd.specs.Explain.{IsGiven};
 ghost use Rattle.rbacd.specs.Judging.{IsDecision};
 ghost use Rattle.rbacd.specs.Outcome.{line_of};
 ghost use Rattle.rbacd.specs.Output.{Takes};
-ghost use Rattle.rbacd.specs.Run.{ComesTo, HasBadFacts, IsCheckedAs, IsConnOf, IsJudgedAs, IsShown, IsTold, IsUnread, Leaves, LeavesFault, Prints, RunsTo, StopsBy, TellsCause, first_line};
+ghost use Rattle.clap.specs.Words.{kind_of};
+ghost use Rattle.rbacd.specs.Run.{ComesTo, EndsJob, EndsReport, HasBadFacts, IsCheckedAs, IsConnOf, IsJudgedAs, IsShown, IsTold, IsUnread, LeavesFault, Prints, Ran, StopsBy, TellsCause, first_line};
+ghost use Rattle.rbacd.specs.Words.{IsReported};
 ghost use Rattle.rbacd.specs.steps.Judged.{MemoryOrStop, bare, report_with};
-ghost use Rattle.rbacd.specs.declared.outcome.Report.{Report};
 ghost use Rattle.rbacd.specs.declared.run.JobFault.{JobFault};
 
 use crate::explain::{Explanation, untold_text};
@@ -19,13 +20,14 @@ use crate::judge::{Finding, check_of, finding_of, plain_conn, print_report};
 use crate::notes::{Notes, meaning_of, rule_of};
 use crate::outcome::{Outcome, Report};
 use crate::output::write_whole;
+use crate::settings::{check_config, replay_config};
 use crate::words::{Job, read_words};
 use attributes::Conn;
 use clap::error::ErrorKind as WordsKind;
 use proto_wire::Refusal;
 use std::alloc::{AllocError, Global};
 use std::convert::AsStr;
-use std::io::{self, ErrorKind, Read, Write};
+use std::io::{self, BufRead, ErrorKind, Read, Write};
 
 /// The status of words that name no job, and of a file or an output that fails.
 pub(crate) const MISTAKE: u8 = 2;
@@ -33,7 +35,7 @@ pub(crate) const MISTAKE: u8 = 2;
 /// The status of a file whose JSON text is not as it has to be.
 pub(crate) const BAD_JSON: u8 = 6;
 
-/// Why nothing is judged.
+/// Why nothing is found.
 #[derive(Drop)]
 pub enum JobFault {
     /// The words name no job: they ask for help, or hold a mistake.
@@ -42,6 +44,8 @@ pub enum JobFault {
     File(String, io::Error),
     /// The facts file tells of no connection.
     Facts,
+    /// The configuration file is no configuration.
+    Config,
     /// The input cannot be read, for this cause.
     Input(io::Error),
     /// Memory ran out.
@@ -59,10 +63,9 @@ impl From<AllocError> for JobFault {
     }
 }
 
-/// Runs the job that the words name, the program's own name first: reads the policy file, and to judge
-/// the facts file, if one is named, then the head from `input`. Prints what it finds, and answers the
-/// status.
-pub fn run<S: AsStr, F: Source, R: Read + Drop, W: Write, E: Write>(
+/// Runs the job that the words name, the program's own name first: reads the files that they name, and the input where the
+/// job has one. Prints what it finds, and answers the status.
+pub fn run<S: AsStr, F: Source, R: BufRead + Drop, W: Write, E: Write>(
     alloc: Global,
     words: &[S],
     files: &F,
@@ -70,13 +73,96 @@ pub fn run<S: AsStr, F: Source, R: Read + Drop, W: Write, E: Write>(
     out: &mut W,
     errors: &mut E,
 ) -> u8
-    ensures { (found : Result Report JobFault)
-        × RunsTo (F.holds files.now) (F.lacks files.now) (map S.text words.now) (R.remaining input)
-        found × Leaves (W.contents out.old) (W.contents out.new) (E.contents errors.old)
-        (E.contents errors.new) result found }
+    ensures { Ran (F.holds files.now) (F.lacks files.now) (R.remaining input)
+        (W.contents out.old) (W.contents out.new) (E.contents errors.old) (E.contents errors.new) result
+        (map S.text words.now) }
+{
+    match read_words(alloc, words) {
+        Ok(job) => run_named(alloc, job, files, input, out, errors),
+        Err(error) => end_by(alloc, &words_fault(error), &Notes::new(alloc), out, errors),
+    }
+}
+
+/// Why no job is run whose words have this fault.
+fn words_fault(error: clap::Error) -> JobFault
+    ensures memory { kind_of error ≡ WordsKind.OutOfMemory → result ≡ JobFault.Memory }
+    ensures words { (result ≡ JobFault.Memory) ⊎ (result ≡ JobFault.Words error) }
+{
+    if error.kind() == WordsKind::OutOfMemory {
+        return JobFault::Memory;
+    }
+    JobFault::Words(error)
+}
+
+/// Runs the job.
+fn run_named<F: Source, R: BufRead + Drop, W: Write, E: Write>(
+    alloc: Global,
+    job: Job,
+    files: &F,
+    input: R,
+    out: &mut W,
+    errors: &mut E,
+) -> u8
+    ensures { EndsJob (F.holds files.now) (F.lacks files.now) (R.remaining input)
+        (W.contents out.old) (W.contents out.new) (E.contents errors.old) (E.contents errors.new) result job }
+{
+    match job {
+        Job::CheckConfig { config } => check_config(alloc, config.as_str(), files, out, errors),
+        Job::Replay { config } => replay_config(alloc, config.as_str(), files, input, out, errors),
+        Job::Check {
+            policy,
+            budget,
+            json,
+        } => run_reported(
+            alloc,
+            Job::Check {
+                policy,
+                budget,
+                json,
+            },
+            files,
+            input,
+            out,
+            errors,
+        ),
+        Job::Judge {
+            policy,
+            facts,
+            budget,
+            json,
+            explain,
+        } => run_reported(
+            alloc,
+            Job::Judge {
+                policy,
+                facts,
+                budget,
+                json,
+                explain,
+            },
+            files,
+            input,
+            out,
+            errors,
+        ),
+    }
+}
+
+/// Runs a job that comes to a report, and prints that.
+fn run_reported<F: Source, R: Read + Drop, W: Write, E: Write>(
+    alloc: Global,
+    job: Job,
+    files: &F,
+    input: R,
+    out: &mut W,
+    errors: &mut E,
+) -> u8
+    requires { IsReported job }
+    ensures { EndsReport (F.holds files.now) (F.lacks files.now) (R.remaining input)
+        (W.contents out.old) (W.contents out.new) (E.contents errors.old) (E.contents errors.new) result job }
 {
     let mut notes = Notes::new(alloc);
-    match run_words(alloc, words, files, input, &mut notes) {
+    match run_job(alloc, job, files, input, &mut notes) {
         Ok(report) => match print_report(alloc, report, out) {
             Ok(printed) => {
                 tell_below(&printed, &notes, errors);
@@ -88,24 +174,6 @@ pub fn run<S: AsStr, F: Source, R: Read + Drop, W: Write, E: Write>(
     }
 }
 
-/// What the job of the words comes to.
-fn run_words<S: AsStr, F: Source, R: Read + Drop>(
-    alloc: Global,
-    words: &[S],
-    files: &F,
-    input: R,
-    notes: &mut Notes,
-) -> Result<Report, JobFault>
-    ensures { RunsTo (F.holds files.now) (F.lacks files.now) (map S.text words.now)
-        (R.remaining input) result }
-{
-    match read_words(alloc, words) {
-        Ok(job) => run_job(alloc, job, files, input, notes),
-        Err(error) if error.kind() == WordsKind::OutOfMemory => Err(JobFault::Memory),
-        Err(error) => Err(JobFault::Words(error)),
-    }
-}
-
 /// What the job comes to.
 fn run_job<F: Source, R: Read + Drop>(
     alloc: Global,
@@ -114,6 +182,7 @@ fn run_job<F: Source, R: Read + Drop>(
     input: R,
     notes: &mut Notes,
 ) -> Result<Report, JobFault>
+    requires { IsReported job }
     ensures { ComesTo (F.holds files.now) (F.lacks files.now) (R.remaining input) job result }
 {
     match job {
@@ -144,6 +213,7 @@ fn run_job<F: Source, R: Read + Drop>(
             ),
             json,
         ),
+        Job::CheckConfig { .. } | Job::Replay { .. } => unreachable!(),
     }
 }
 
@@ -267,7 +337,11 @@ fn stop_by_facts(fault: FactsFault) -> JobFault
 }
 
 /// The bytes of the file at this path.
-fn read_file<F: Source>(alloc: Global, files: &F, path: &str) -> Result<Vec<u8>, JobFault>
+pub(crate) fn read_file<F: Source>(
+    alloc: Global,
+    files: &F,
+    path: &str,
+) -> Result<Vec<u8>, JobFault>
     ensures found { IfOk result (λ v. F.holds files.now path.now v.items) }
     ensures fault { IfErr result (MemoryOrStop
         (IsUnread (F.holds files.now) (F.lacks files.now) path.now)) }
@@ -290,7 +364,7 @@ fn stop_by_file(name: String, cause: io::Error) -> JobFault
 }
 
 /// Tells why nothing is judged; the status. Where no memory is left for that, it tells so.
-fn end_by<W: Write, E: Write>(
+pub(crate) fn end_by<W: Write, E: Write>(
     alloc: Global,
     fault: &JobFault,
     notes: &Notes,
@@ -307,7 +381,7 @@ fn end_by<W: Write, E: Write>(
     match fault {
         JobFault::Memory => end_by_memory(out, errors),
         JobFault::Words(error) if is_shown(error.kind()) => show(text.as_bytes(), 0, out, errors),
-        JobFault::Facts => tell(text.as_bytes(), BAD_JSON, errors),
+        JobFault::Facts | JobFault::Config => tell(text.as_bytes(), BAD_JSON, errors),
         JobFault::Words(_) | JobFault::File(..) | JobFault::Input(_) => {
             tell(text.as_bytes(), MISTAKE, errors)
         }
@@ -339,6 +413,10 @@ fn text_of(alloc: Global, fault: &JobFault, notes: &Notes) -> Result<String, All
             let line = String::from_str(alloc, "bad facts\n")?;
             with_cause(alloc, line, notes.facts.as_str())
         }
+        JobFault::Config => {
+            let line = String::from_str(alloc, "bad config\n")?;
+            with_cause(alloc, line, notes.config.as_str())
+        }
         JobFault::Input(cause) => {
             let cause = cause.to_string(alloc)?;
             let line = String::from_str(alloc, "cannot read standard input\n")?;
@@ -349,7 +427,7 @@ fn text_of(alloc: Global, fault: &JobFault, notes: &Notes) -> Result<String, All
 }
 
 /// The text with a line below it that says why.
-fn with_cause(alloc: Global, line: String, cause: &str) -> Result<String, AllocError>
+pub(crate) fn with_cause(alloc: Global, line: String, cause: &str) -> Result<String, AllocError>
     ensures { IfOk result (λ text. StartsWith (string_bytes text) (string_bytes line)) }
 {
     let mut text = line;
@@ -359,7 +437,7 @@ fn with_cause(alloc: Global, line: String, cause: &str) -> Result<String, AllocE
 }
 
 /// Ends where memory ran out.
-fn end_by_memory<W: Write, E: Write>(out: &mut W, errors: &mut E) -> u8
+pub(crate) fn end_by_memory<W: Write, E: Write>(out: &mut W, errors: &mut E) -> u8
     ensures { Prints (W.contents out.old) (W.contents out.new) (E.contents errors.old)
         (E.contents errors.new) result 5 (line_of Outcome.Memory) }
 {
@@ -367,7 +445,7 @@ fn end_by_memory<W: Write, E: Write>(out: &mut W, errors: &mut E) -> u8
 }
 
 /// Ends with this status and this text on standard output.
-fn show<W: Write, E: Write>(text: &[u8], status: u8, out: &mut W, errors: &mut E) -> u8
+pub(crate) fn show<W: Write, E: Write>(text: &[u8], status: u8, out: &mut W, errors: &mut E) -> u8
     ensures { Prints (W.contents out.old) (W.contents out.new) (E.contents errors.old)
         (E.contents errors.new) result status text.now }
 {
@@ -378,7 +456,7 @@ fn show<W: Write, E: Write>(text: &[u8], status: u8, out: &mut W, errors: &mut E
 }
 
 /// Ends with this status and this text on standard error. The status stays where that fails.
-fn tell<E: Write>(text: &[u8], status: u8, errors: &mut E) -> u8
+pub(crate) fn tell<E: Write>(text: &[u8], status: u8, errors: &mut E) -> u8
     ensures status { result ≡ status }
     ensures told { Takes (E.contents errors.old) (E.contents errors.new) text.now }
 {
@@ -434,7 +512,7 @@ fn tell_refusal<E: Write>(refusal: Refusal, notes: &Notes, errors: &mut E) {
 }
 
 /// Ends where standard output fails. One whose reader went away is not spoken of.
-fn tell_output<E: Write>(cause: io::Error, errors: &mut E) -> u8
+pub(crate) fn tell_output<E: Write>(cause: io::Error, errors: &mut E) -> u8
     ensures { result ≡ 2 }
 {
     if cause.kind() != ErrorKind::BrokenPipe {

@@ -7,7 +7,7 @@ use Rattle.attributes.specs.Request.{RequestValue}
 use Rattle.cel_tree.specs.Checked.{CelChecked}
 use Rattle.http_front.specs.Asks.{IfFault, IfJudge}
 use Rattle.http_front.specs.declared.fault.HeadFault.TheVariants.{Unfinished}
-use Rattle.http_front.specs.declared.read.Ask.{Ask}
+use Rattle.http_front.specs.declared.read.HeadAsk.{HeadAsk}
 use Rattle.rbac_policy.specs.Admission.{Admits, IsAdmittedAs}
 use Rattle.rbac_policy.specs.Condition.{Program, is_met}
 use Rattle.rbac_policy.specs.Filter.{Filter}
@@ -62,7 +62,7 @@ IsAnswerTo enforced request outcomes.Memory = ⊤
 IsAnswerTo enforced request _ = ⊥
 
 -- the outcome is the answer to what was found
-pub record IsOutcomeOfAsk (enforced : Filter Program) (found : Option Ask) (outcome : Outcome)
+pub record IsOutcomeOfAsk (enforced : Filter Program) (found : Option HeadAsk) (outcome : Outcome)
     : Type 0 where
   pub judged : IfJudge found (λ request. IsAnswerTo enforced request outcome)
   pub fault : IfFault found (λ fault. outcome ≡ outcomes.Fault fault)

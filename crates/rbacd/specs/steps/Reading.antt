@@ -3,13 +3,13 @@ use Rattle.std.specs.Prelude.{◌≡◌, ◌≢◌, ◌≤◌, ◌++◌, ℕ, Li
 use Rattle.std.specs.Io.KnownBytes.{Consumes, IsAtEnd}
 use Rattle.attributes.specs.Conn.{Facts}
 use Rattle.attributes.specs.Limits.{LimitsValue}
-use Rattle.http_front.specs.Asks.{Asks, HasFault, IfFault, IfJudge, IsUnfinished}
-use Rattle.http_front.specs.declared.read.Ask.{Ask}
+use Rattle.http_front.specs.Asks.{HasFault, HeadAsks, IfFault, IfJudge, IsUnfinished}
+use Rattle.http_front.specs.declared.read.HeadAsk.{HeadAsk}
 
 -- what is found is what the head asks that the bytes begin with, or that they end before it does
-pub record IsFound (limits : LimitsValue) (facts : Facts) (bytes : List ℕ) (found : Option Ask)
+pub record IsFound (limits : LimitsValue) (facts : Facts) (bytes : List ℕ) (found : Option HeadAsk)
     : Type 0 where
-  pub judged : IfJudge found (Asks bytes limits facts)
+  pub judged : IfJudge found (HeadAsks bytes limits facts)
   pub fault : IfFault found (HasFault bytes limits facts)
   pub none : IfNone found (IsUnfinished bytes)
 

@@ -1,20 +1,12 @@
-use Rattle.std.proofs.Common.{inl, inr}
-use Rattle.rbacd.proofs.Ends.{end_of_printed, end_of_told}
+use Rattle.rbacd.specs.Run.{Ran}
+use Rattle.rbacd.proofs.Ends.{end_of_words}
 use Rattle.rbacd.proofs.run.run.Goals as goal
 
-pub returns-in-Ok-print_report : goal.returns-in-Ok-print_report
-returns-in-Ok-print_report g c =
-    let printed = c.in-Ok-print_report.ensures in
-    end_of_printed _ _ _ _ _ _ _ _ _ c.in-Ok.report c.in-Ok-print_report.printed
-    c.in-Ok.ensures printed.same (inl (c.status.ensures, printed.text, c.tell_below.ensures))
-
 pub returns-in-Ok : goal.returns-in-Ok
-returns-in-Ok g c =
-    let (printed, same, part) = c.in-Err-print_report.ensures.part in
-    end_of_printed _ _ _ _ _ _ _ _ _ c.in-Ok.report printed
-    c.in-Ok.ensures same (inr (c.tell_output.ensures, part))
+returns-in-Ok g c = Ran.job c.in-Ok.job c.in-Ok.ensures.job c.run_named.ensures
 
-pub returns : goal.returns
-returns g c =
+pub returns-in-Err : goal.returns-in-Err
+returns-in-Err g c =
     let (told, same, left) = c.end_by.ensures in
-    end_of_told _ _ _ _ _ _ _ _ _ c.in-Err.fault told c.in-Err.ensures same left
+    let fault = c.words_fault.ensures in
+    end_of_words _ _ _ _ _ _ _ _ _ c.in-Err.error c.words_fault.result told fault.memory fault.words c.in-Err.ensures.mistaken same left

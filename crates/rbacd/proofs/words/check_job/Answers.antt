@@ -1,8 +1,8 @@
 use Rattle.std.proofs.Common.{◌∙◌, sym, codes, refl, Some, ap}
-use Rattle.clap.specs.Words.{found_of}
+use Rattle.clap.specs.Words.{found_of, rows_of}
 use Rattle.clap.proofs.WalkLemmas.{first_value-rows}
-use Rattle.rbacd.proofs.WordLemmas.{names_differ}
-use Rattle.rbacd.specs.declared.words.Job.TheVariants.{Check, Judge}
+use Rattle.rbacd.proofs.WordLemmas.{of_check}
+use Rattle.rbacd.specs.Words.{IsJobOfRows}
 use Rattle.rbacd.proofs.words.check_job.Goals as goal
 
 pub returns-clause-job : goal.returns-clause-job
@@ -17,12 +17,10 @@ returns-clause-job c = (
 )
 
 pub returns-in_default-clause-none : goal.returns-in_default-clause-none
-returns-in_default-clause-none c (Check policy budget json) named held =
+returns-in_default-clause-none c = of_check (λ job. ¬ (IsJobOfRows (rows_of (found_of c.args.matches.now)) job)) (λ policy budget json held.
     let first = first_value-rows (found_of c.args.matches.now) (codes "policy") ∙ held.0 in
-    let none = c.in_default.ensures in cc
-returns-in_default-clause-none c (Judge policy facts budget json explain) named held = names_differ (sym named)
+    let none = c.in_default.ensures in cc)
 
 pub returns-in_default-budget_of-clause-none : goal.returns-in_default-budget_of-clause-none
-returns-in_default-budget_of-clause-none c (Check policy budget json) named held =
-    c.in_default-budget_of.ensures.none budget held.1
-returns-in_default-budget_of-clause-none c (Judge policy facts budget json explain) named held = names_differ (sym named)
+returns-in_default-budget_of-clause-none c = of_check (λ job. ¬ (IsJobOfRows (rows_of (found_of c.args.matches.now)) job)) (λ policy budget json held.
+    c.in_default-budget_of.ensures.none budget held.1)

@@ -17,6 +17,22 @@ returns-in-Some-subcommand_matches-clause-none c =
     (λ job none. names_no_job c.args.matches.now (codes "judge") _ job (met.0 refl) c.in-Some-subcommand_matches.ensures.rows none)
     c.judge_job.ensures.none
 
+pub returns-in-Some-subcommand_matches-2-clause-none : goal.returns-in-Some-subcommand_matches-2-clause-none
+returns-in-Some-subcommand_matches-2-clause-none c =
+    let met = c.in-Some-subcommand_matches-2.ensures.found in
+    IfOk-weaker c.check_config_job.result _ _
+    (λ job none. names_no_job c.args.matches.now (codes "check-config") _ job (met.0 refl) c.in-Some-subcommand_matches-2.ensures.rows none)
+    c.check_config_job.ensures.none
+
+pub returns-in-Some-subcommand_matches-3-clause-none : goal.returns-in-Some-subcommand_matches-3-clause-none
+returns-in-Some-subcommand_matches-3-clause-none c =
+    let met = c.in-Some-subcommand_matches-3.ensures.found in
+    IfOk-weaker c.replay_job.result _ _
+    (λ job none. names_no_job c.args.matches.now (codes "replay") _ job (met.0 refl) c.in-Some-subcommand_matches-3.ensures.rows none)
+    c.replay_job.ensures.none
+
 pub returns-in-None-clause-none : goal.returns-in-None-clause-none
 returns-in-None-clause-none c =
-    no_subcommand c.args.matches.now (λ met. c.in_default.ensures.found.1 met) (λ met. c.in-None.ensures.found.1 met)
+    no_subcommand c.args.matches.now (λ met. c.in_default.ensures.found.1 met)
+    (λ met. c.in_default-subcommand_matches.ensures.found.1 met)
+    (λ met. c.in_default-subcommand_matches-2.ensures.found.1 met) (λ met. c.in-None.ensures.found.1 met)

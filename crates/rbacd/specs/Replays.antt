@@ -1,0 +1,88 @@
+-- A replay: which events the lines of an input tell, and what is printed of each.
+use Rattle.std.specs.Prelude.{◌≡◌, ◌≢◌, ◌++◌, ◌+◌, ℕ, List, [], ◌∷◌, IfSome, Option, Some, IsUtf8, codes, length}
+use Rattle.std.specs.Io.BufRead.{drop_through, take_through}
+use Rattle.std.specs.Io.KnownBytes.{Appends}
+use Rattle.std.specs.IoError.{error_kind}
+use Rattle.std.specs.List.{AllZip}
+use Rattle.std.specs.declared.io.ErrorKind.{ErrorKind as IoKind}
+use Rattle.ads.specs.Config.{ConfigValue}
+use Rattle.proxy_core.specs.Events.{EventValue, OutputValue}
+use Rattle.proxy_core.specs.Step.{CallDoes, CallsDo, EventCall, ProxyValue, answered, new_proxy, no_memory}
+use Rattle.rbacd.specs.Lines.{IsLine, words_of}
+use Rattle.rbacd.specs.Output.{BreaksOff}
+use Rattle.rbacd.specs.declared.replay.ReplayFault.{ReplayFault}
+use Rattle.rbacd.specs.declared.replay.ReplayFault.TheVariants as faults
+
+-- the event that a call was given
+abbrev pub event_of : EventCall → EventValue
+event_of (answered event out) = event
+event_of (no_memory event) = event
+
+-- the line that tells its answer
+abbrev pub answer_line : EventCall → List ℕ
+answer_line (answered event out) = words_of out ++ (10 ∷ [])
+answer_line (no_memory event) = codes "memory" ++ (10 ∷ [])
+
+-- the lines that tell the answers of calls
+abbrev pub printed_of : List EventCall → List ℕ
+printed_of [] = []
+printed_of (call ∷ calls) = answer_line call ++ printed_of calls
+
+-- the bytes are a text, and tell this event
+abbrev pub IsLineText : List ℕ → EventValue → Type 0
+IsLineText bytes event = IsUtf8 bytes × IsLine bytes event
+
+-- the bytes begin with these lines, each up to and with its line feed; what is left behind them
+abbrev pub AreLines : List ℕ → List (List ℕ) → List ℕ → Type 0
+AreLines bytes [] left = left ≡ bytes
+AreLines bytes (line ∷ lines) left =
+    (bytes ≢ []) × (line ≡ take_through 10 bytes) × AreLines (drop_through 10 bytes) lines left
+
+-- a proxy of this configuration is given the event of each line, one after the other, and is then this
+pub record Replays (config : ConfigValue) (lines : List (List ℕ)) (calls : List EventCall) (after : ProxyValue)
+    : Type 0 where
+  pub told : AllZip (λ line call. IsLineText line (event_of call)) lines calls
+  pub done : CallsDo (new_proxy config) calls after
+
+-- one more line is read of an input, where its bytes are known
+abbrev pub ReadsLine : Option (List ℕ) → List ℕ → Option (List ℕ) → Type 0
+ReadsLine input line input_new = IfSome input (λ bytes.
+    (bytes ≢ []) × (line ≡ take_through 10 bytes) × (input_new ≡ Some (drop_through 10 bytes)))
+
+-- a configuration, an input, and an output whose bytes were `out`
+module _ (config : ConfigValue) (input : Option (List ℕ)) (out : Option (List ℕ)) where
+  -- these lines were read, and their answers were printed
+  pub record Replayed (lines : List (List ℕ)) (calls : List EventCall) (after : ProxyValue)
+      (input_new out_new : Option (List ℕ)) : Type 0 where
+    pub replays : Replays config lines calls after
+    pub read : IfSome input (λ bytes. (left : List ℕ) × (input_new ≡ Some left) × AreLines bytes lines left)
+    pub printed : Appends out out_new (printed_of calls)
+
+  -- each line was read and answered, and the input is at its end
+  pub record IsReplayed (input_new out_new : Option (List ℕ)) : Type 0 where
+    pub lines : List (List ℕ)
+    pub calls : List EventCall
+    pub after : ProxyValue
+    pub replayed : Replayed lines calls after input_new out_new
+    pub end : IfSome input (λ bytes. input_new ≡ Some [])
+
+  -- what stops a replay behind lines that were answered
+  abbrev pub StopsBy : ReplayFault → List (List ℕ) → Option (List ℕ) → Option (List ℕ) → Option (List ℕ)
+      → Option (List ℕ) → Type 0
+  StopsBy (faults.Line number cause) lines input_old input_new out_old out_new = (number ≡ length lines + 1) × (out_new ≡ out_old)
+      × ((line : List ℕ) × ReadsLine input_old line input_new × ((event : EventValue) → ¬ IsLineText line event))
+  StopsBy (faults.Input cause) lines input_old input_new out_old out_new =
+      (error_kind cause ≢ IoKind.OutOfMemory) × (out_new ≡ out_old)
+  StopsBy (faults.Output cause) lines input_old input_new out_old out_new =
+      (call : EventCall) × BreaksOff out_old out_new (answer_line call)
+  StopsBy faults.Memory lines input_old input_new out_old out_new = out_new ≡ out_old
+
+  -- some lines were read and answered, and then this stopped the replay
+  pub record IsStopped (fault : ReplayFault) (input_new out_new : Option (List ℕ)) : Type 0 where
+    pub lines : List (List ℕ)
+    pub calls : List EventCall
+    pub after : ProxyValue
+    pub input_then : Option (List ℕ)
+    pub out_then : Option (List ℕ)
+    pub replayed : Replayed lines calls after input_then out_then
+    pub stops : StopsBy fault lines input_then input_new out_then out_new

@@ -1,0 +1,337 @@
+//! The lines of a replay: an event as a JSON object, and an output in four words.
+ghost use Rattle.std.specs.Prelude.{◌≡◌, ◌≢◌, ◌⊎◌, ◌↔◌, ℕ, List, Some, IfOk, IfErr, OnErr, OnOk, find, string_bytes};
+ghost use Rattle.std.specs.Str.{bytes_eq};
+ghost use Rattle.attributes.specs.Conn.{Facts, conn_view};
+ghost use Rattle.hex.specs.declared.error.FromHexError.TheVariants.{OutOfMemory};
+ghost use Rattle.proxy_core.specs.Events.{EventValue, event_view, output_view};
+ghost use Rattle.serde_json.specs.View.{view};
+ghost use Rattle.rbacd.specs.Members.{HasOnly};
+ghost use Rattle.rbacd.specs.Lines.{HasFacts, HasHex, HasParts, IsEvent, IsLine, bytes_word, end_word, kind_of, line_view, name_of, names_of, words_of};
+ghost use Rattle.rbacd.specs.declared.lines.LineFault.TheVariants.{BadLine, Memory};
+
+use crate::facts::{FactsFault, cause_of_bad_value, conn_of};
+use crate::members::{Misfit, number_at, require_names, str_at};
+use attributes::Conn;
+use hex::FromHexError;
+use proxy_core::{Event, Output};
+use serde_json::Value;
+use std::alloc::{AllocError, Global};
+use std::error::Error;
+use std::fmt;
+
+/// Why a line is not read.
+#[derive(Clone, Copy, Debug)]
+pub enum LineFault {
+    /// The line is no JSON object that is an event.
+    BadLine,
+    /// Memory ran out.
+    Memory,
+}
+
+impl fmt::Display for LineFault {
+    ghost use Rattle.rbacd.specs.Lines.{fault_text};
+    ghost use Rattle.std.specs.Prelude.{Some};
+
+    ghost output = { λ fault. Some (fault_text fault) };
+
+    fn fmt<W: fmt::Write>(&self, f: &mut fmt::Formatter<W>) -> fmt::Result {
+        f.write_str(match self {
+            LineFault::BadLine => "bad line",
+            LineFault::Memory => "memory",
+        })
+    }
+}
+
+impl Error for LineFault {}
+
+impl From<AllocError> for LineFault {
+    ghost use Rattle.std.specs.Prelude.{◌≡◌};
+    ghost use Rattle.rbacd.specs.declared.lines.LineFault.TheVariants.{Memory};
+
+    ghost from_gives = { λ _ e. e ≡ Memory };
+
+    fn from(_refused: AllocError) -> LineFault {
+        LineFault::Memory
+    }
+}
+
+impl From<Misfit> for LineFault {
+    ghost use Rattle.std.specs.Prelude.{◌≡◌};
+    ghost use Rattle.rbacd.specs.declared.lines.LineFault.TheVariants.{BadLine};
+
+    ghost from_gives = { λ _ e. e ≡ BadLine };
+
+    fn from(_misfit: Misfit) -> LineFault {
+        LineFault::BadLine
+    }
+}
+
+impl From<serde_json::Error> for LineFault {
+    ghost use Rattle.std.specs.Prelude.{◌≡◌, ◌⊎◌};
+    ghost use Rattle.serde_json.specs.Errors.{IsMemory};
+    ghost use Rattle.rbacd.specs.declared.lines.LineFault.TheVariants.{BadLine, Memory};
+
+    ghost from_gives = { λ error e. ((e ≡ Memory) × IsMemory error) ⊎ ((e ≡ BadLine) × ¬ IsMemory error) };
+
+    fn from(error: serde_json::Error) -> LineFault {
+        if error.is_memory() {
+            LineFault::Memory
+        } else {
+            LineFault::BadLine
+        }
+    }
+}
+
+/// What happens in an event.
+#[derive(Clone, Copy)]
+pub(crate) enum EventKind {
+    /// The update stream comes up.
+    AdsUp,
+    /// The update stream gives bytes.
+    AdsBytes,
+    /// The update stream is lost.
+    AdsLost,
+    /// A connection opens.
+    HttpOpen,
+    /// A connection gives bytes.
+    HttpBytes,
+    /// A connection is closed.
+    HttpClosed,
+}
+
+// Every kind.
+const KINDS: [EventKind; 6] = [
+    EventKind::AdsUp,
+    EventKind::AdsBytes,
+    EventKind::AdsLost,
+    EventKind::HttpOpen,
+    EventKind::HttpBytes,
+    EventKind::HttpClosed,
+];
+
+impl EventKind {
+    // The name by which a line tells it.
+    fn name(self) -> &'static str
+        ensures { result.now ≡ name_of self }
+    {
+        match self {
+            EventKind::AdsUp => "ads_up",
+            EventKind::AdsBytes => "ads_bytes",
+            EventKind::AdsLost => "ads_lost",
+            EventKind::HttpOpen => "http_open",
+            EventKind::HttpBytes => "http_bytes",
+            EventKind::HttpClosed => "http_closed",
+        }
+    }
+
+    // The kind of this name, if there is one.
+    fn named(name: &str) -> Option<EventKind>
+        ensures { (kind : EventKind) → (result ≡ Some kind) ↔ (name.now ≡ name_of kind) }
+    {
+        kind_named(&KINDS, name)
+    }
+}
+
+// The first of these that has the name.
+fn kind_named(kinds: &[EventKind], name: &str) -> Option<EventKind>
+    ensures { result ≡ find (λ kind. bytes_eq (name_of kind) name.now) kinds.now }
+{
+    kinds.iter().copied().find(|kind| kind.name() == name)
+}
+
+/// An event, with the bytes and the facts that a line told.
+#[derive(Drop)]
+pub enum LineEvent {
+    /// The update stream comes up.
+    AdsUp,
+    /// The update stream gives these bytes.
+    AdsBytes(Vec<u8>),
+    /// The update stream is lost.
+    AdsLost,
+    /// A connection of this number opens, with these facts.
+    HttpOpen(u64, Conn),
+    /// The connection of this number gives these bytes.
+    HttpBytes(u64, Vec<u8>),
+    /// The connection of this number is closed.
+    HttpClosed(u64),
+}
+
+impl LineEvent {
+    /// The event, which borrows the bytes and the facts.
+    pub fn event(&self) -> Event<'_>
+        ensures { event_view result ≡ line_view self.now }
+    {
+        match self {
+            LineEvent::AdsUp => Event::AdsUp,
+            LineEvent::AdsBytes(bytes) => Event::AdsBytes(bytes),
+            LineEvent::AdsLost => Event::AdsLost,
+            LineEvent::HttpOpen(k, conn) => Event::HttpOpen(*k, conn),
+            LineEvent::HttpBytes(k, bytes) => Event::HttpBytes(*k, bytes),
+            LineEvent::HttpClosed(k) => Event::HttpClosed(*k),
+        }
+    }
+}
+
+/// The event that a JSON text is (RFC 8259): an object whose `event` is `ads_up`, `ads_bytes`, `ads_lost`, `http_open`,
+/// `http_bytes` or `http_closed`. Bytes are hexadecimal pairs in `hex`, the number of a connection is `k`, below 2^64, and
+/// its facts are an object as in `read_facts`. Each of these has to be there, and nothing else may. Of two members of one
+/// name the last counts. `BadLine` where the text is no event, `Memory` where memory ran out.
+pub fn line_event(alloc: Global, line: &str) -> Result<LineEvent, LineFault>
+    ensures found { IfOk result (λ event. IsLine line.now (line_view event)) }
+    ensures fault { IfErr result (λ e. e ≡ BadLine → (event : EventValue) → ¬ IsLine line.now event) }
+{
+    let value = Value::from_str(alloc, line)?;
+    event_at(alloc, &value)
+}
+
+// The event that a JSON value is.
+fn event_at(alloc: Global, value: &Value) -> Result<LineEvent, LineFault>
+    ensures found { IfOk result (λ event. IsEvent (view value.now) (line_view event)) }
+    ensures fault { IfErr result (λ e. e ≡ BadLine → (event : EventValue) → ¬ IsEvent (view value.now) event) }
+{
+    let name = str_at(value, "event")?;
+    let Some(kind) = EventKind::named(name) else {
+        return Err(LineFault::BadLine);
+    };
+    require_members(value, kind)?;
+    parts_at(alloc, value, kind)
+}
+
+// That an event of this kind has no members of other names.
+fn require_members(value: &Value, kind: EventKind) -> Result<(), Misfit>
+    ensures found { OnOk result (HasOnly (names_of kind) (view value.now)) }
+    ensures fault { OnErr result (¬ HasOnly (names_of kind) (view value.now)) }
+{
+    match kind {
+        EventKind::AdsUp | EventKind::AdsLost => require_names(value, &["event"]),
+        EventKind::AdsBytes => require_names(value, &["event", "hex"]),
+        EventKind::HttpOpen => require_names(value, &["event", "k", "facts"]),
+        EventKind::HttpBytes => require_names(value, &["event", "k", "hex"]),
+        EventKind::HttpClosed => require_names(value, &["event", "k"]),
+    }
+}
+
+// The event of this kind that the other members of a value tell.
+fn parts_at(alloc: Global, value: &Value, kind: EventKind) -> Result<LineEvent, LineFault>
+    ensures kind { IfOk result (λ event. kind_of (line_view event) ≡ kind) }
+    ensures found { IfOk result (λ event. HasParts (view value.now) (line_view event)) }
+    ensures fault { IfErr result (λ e. e ≡ BadLine → (event : EventValue) → kind_of event ≡ kind
+        → ¬ HasParts (view value.now) event) }
+{
+    match kind {
+        EventKind::AdsUp => Ok(LineEvent::AdsUp),
+        EventKind::AdsBytes => Ok(LineEvent::AdsBytes(hex_at(alloc, value)?)),
+        EventKind::AdsLost => Ok(LineEvent::AdsLost),
+        EventKind::HttpOpen => {
+            let k = number_at(value, "k")?;
+            let conn = facts_at(alloc, value)?;
+            Ok(LineEvent::HttpOpen(k, conn))
+        }
+        EventKind::HttpBytes => {
+            let k = number_at(value, "k")?;
+            let bytes = hex_at(alloc, value)?;
+            Ok(LineEvent::HttpBytes(k, bytes))
+        }
+        EventKind::HttpClosed => Ok(LineEvent::HttpClosed(number_at(value, "k")?)),
+    }
+}
+
+// The bytes that the member `hex` spells.
+fn hex_at(alloc: Global, object: &Value) -> Result<Vec<u8>, LineFault>
+    ensures found { IfOk result (λ bytes. HasHex (view object.now) bytes.items) }
+    ensures fault { IfErr result (λ e. e ≡ BadLine → (bytes : List ℕ) → ¬ HasHex (view object.now) bytes) }
+{
+    let text = str_at(object, "hex")?;
+    match hex::decode(alloc, text.as_bytes()) {
+        Ok(bytes) => Ok(bytes),
+        Err(error) => Err(hex_fault(error)),
+    }
+}
+
+// Why a line is not read whose bytes have this fault.
+fn hex_fault(error: FromHexError) -> LineFault
+    ensures { result ≡ BadLine → error ≢ OutOfMemory }
+{
+    match error {
+        FromHexError::OutOfMemory => LineFault::Memory,
+        FromHexError::InvalidHexCharacter { .. }
+        | FromHexError::OddLength
+        | FromHexError::InvalidStringLength => LineFault::BadLine,
+    }
+}
+
+// The facts that the member `facts` tells.
+fn facts_at(alloc: Global, object: &Value) -> Result<Conn, LineFault>
+    ensures found { IfOk result (λ conn. HasFacts (view object.now) (conn_view conn)) }
+    ensures fault { IfErr result (λ e. e ≡ BadLine → (facts : Facts) → ¬ HasFacts (view object.now) facts) }
+{
+    let Some(value) = object.get("facts") else {
+        return Err(LineFault::BadLine);
+    };
+    match conn_of(alloc, value) {
+        Ok(conn) => Ok(conn),
+        Err(FactsFault::Memory) => Err(LineFault::Memory),
+        Err(FactsFault::Bad) => Err(LineFault::BadLine),
+    }
+}
+
+/// An output in four words, with a space between each two: the bytes for the update stream as hexadecimal pairs, or `-`;
+/// `close` or `open`, whether that stream is closed; and the same of the event's connection.
+pub fn line_text(alloc: Global, output: &Output) -> Result<String, AllocError>
+    ensures { IfOk result (λ text. string_bytes text ≡ words_of (output_view output.now)) }
+{
+    let ads = bytes_text(alloc, &output.ads)?;
+    let ads_end = end_text(output.ads_close);
+    let http = bytes_text(alloc, &output.http)?;
+    let http_end = end_text(output.http_close);
+    format!(in alloc; "{ads} {ads_end} {http} {http_end}")
+}
+
+// Bytes as a word.
+fn bytes_text(alloc: Global, bytes: &[u8]) -> Result<String, AllocError>
+    ensures { IfOk result (λ text. string_bytes text ≡ bytes_word bytes.now) }
+{
+    if bytes.is_empty() {
+        return String::from_str(alloc, "-");
+    }
+    hex::encode(alloc, bytes)
+}
+
+// Whether something is closed, as a word.
+fn end_text(closes: bool) -> &'static str
+    ensures { result.now ≡ end_word closes }
+{
+    if closes { "close" } else { "open" }
+}
+
+/// Why a line is no event, in words for its writer.
+pub(crate) fn cause_of_bad_line(alloc: Global, line: &[u8]) -> Result<String, AllocError> {
+    let value = match Value::from_slice(alloc, line) {
+        Ok(value) => value,
+        Err(error) => return format!(in alloc; "it is no JSON text: {error}"),
+    };
+    let Ok(name) = str_at(&value, "event") else {
+        return String::from_str(alloc, "it is no JSON object with a text \"event\"");
+    };
+    let Some(kind) = EventKind::named(name) else {
+        return format!(in alloc; "no event is named {name:?}");
+    };
+    cause_of_bad_parts(alloc, &value, kind)
+}
+
+// Why the members of a value are not those of this kind of event.
+fn cause_of_bad_parts(alloc: Global, value: &Value, kind: EventKind) -> Result<String, AllocError> {
+    let name = kind.name();
+    if require_members(value, kind).is_err() {
+        return format!(in alloc; "it has a member that {name} does not have");
+    }
+    if value.get("k").is_some() && number_at(value, "k").is_err() {
+        return String::from_str(alloc, "the value of k is not a whole number below 2^64");
+    }
+    match value.get("facts") {
+        Some(facts) => cause_of_bad_value(alloc, facts),
+        None => format!(in alloc;
+            "{name} lacks a member, or its hex is no text of hexadecimal pairs"
+        ),
+    }
+}
