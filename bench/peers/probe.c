@@ -7,9 +7,11 @@
 //   probe judge FILTER HEAD [ROUNDS]      admission and head once, the decision so often
 //   probe stream STREAM [ROUNDS [PIECE]]  frames and discovery responses, in pieces of so many bytes
 //   probe feed STREAM [ROUNDS [PIECE]]    the same, fed to a client
+//   probe front BYTES [ROUNDS [PIECE]]    a connection's bytes, in pieces of so many
 //   probe expression EXPRESSION [ROUNDS [PART]]
 //                                         a condition from its bytes to its tree (PART 1), its type (2), its bound (3), its code (4)
 //                                         or until its code is verified (5)
+//   probe pack COUNT [ROUNDS [DIFFERENT]]  a code of so many constants, all of them different or so many
 //   probe bound EXPRESSION [ROUNDS [BUDGET]]
 //                                         the bound of an expression that was read and checked once
 // `kept` is what stands when a filter was admitted (work `keep`), `peak` the most that ever stood; both count the blocks as
@@ -29,7 +31,9 @@ uint64_t engine_decide(const char *filter, size_t filter_length, const char *hea
                        uint64_t rounds);
 uint64_t engine_stream(const char *stream, size_t length, size_t piece, uint64_t rounds);
 uint64_t engine_feed(const char *stream, size_t length, size_t piece, uint64_t rounds);
+uint64_t engine_front(const char *bytes, size_t length, size_t piece, uint64_t rounds);
 uint64_t engine_expression(const char *bytes, size_t length, uint64_t part, uint64_t budget, uint64_t rounds);
+uint64_t engine_pack(uint64_t count, uint64_t different, uint64_t rounds);
 uint64_t engine_bound(const char *bytes, size_t length, uint64_t budget, uint64_t rounds);
 
 void *__real_malloc(size_t size);
@@ -103,15 +107,17 @@ static long faults(void) {
 
 int main(int count, char **words) {
   if (count < 3) {
-    fprintf(stderr, "usage: probe admit|together|keep|head|stream|feed|expression|bound FILE "
+    fprintf(stderr, "usage: probe admit|together|keep|head|stream|feed|front|expression|bound FILE "
                     "[ROUNDS [COUNT, PIECE, PART or BUDGET]] | "
-                    "probe judge FILTER HEAD [ROUNDS]\n");
+                    "probe judge FILTER HEAD [ROUNDS] | probe pack COUNT [ROUNDS [DIFFERENT]]\n");
     return 2;
   }
   const char *work = words[1];
-  struct bytes input = contents_of(words[2]);
+  int packs = !strcmp(work, "pack");
+  struct bytes input = packs ? (struct bytes){0, 0} : contents_of(words[2]);
   uint64_t rounds = count > 3 ? strtoull(words[3], 0, 10) : 1, answer = 0;
   long before = faults();
+  if (packs) answer = engine_pack(strtoull(words[2], 0, 10), strtoull(words[count > 4 ? 4 : 2], 0, 10), rounds);
   if (!strcmp(work, "admit")) answer = engine_admit(input.start, input.length, rounds);
   if (!strcmp(work, "together"))
     answer = engine_admit_together(input.start, input.length, count > 4 ? strtoull(words[4], 0, 10) : 8, rounds);
@@ -121,6 +127,8 @@ int main(int count, char **words) {
     answer = engine_stream(input.start, input.length, count > 4 ? strtoull(words[4], 0, 10) : 16384, rounds);
   if (!strcmp(work, "feed"))
     answer = engine_feed(input.start, input.length, count > 4 ? strtoull(words[4], 0, 10) : 16384, rounds);
+  if (!strcmp(work, "front"))
+    answer = engine_front(input.start, input.length, count > 4 ? strtoull(words[4], 0, 10) : 16384, rounds);
   if (!strcmp(work, "expression"))
     answer = engine_expression(input.start, input.length, count > 4 ? strtoull(words[4], 0, 10) : VERIFIED, BUDGET, rounds);
   if (!strcmp(work, "bound"))
