@@ -4,6 +4,7 @@ pub mod FieldNames
 pub mod Texts
 pub mod HeadTexts
 pub mod Rooms
+pub mod Requests
 pub mod Resuming
 pub mod Agreeing
 pub mod Bodies
