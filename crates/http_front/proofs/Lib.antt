@@ -7,6 +7,7 @@ pub mod Rooms
 pub mod Requests
 pub mod Resuming
 pub mod Agreeing
+pub mod InTurn
 pub mod Bodies
 pub mod Elements
 pub mod ScanLemmas
