@@ -4,8 +4,10 @@ pub mod FieldNames
 pub mod Texts
 pub mod HeadTexts
 pub mod Rooms
+pub mod Requests
 pub mod Resuming
 pub mod Agreeing
+pub mod InTurn
 pub mod Bodies
 pub mod Elements
 pub mod ScanLemmas

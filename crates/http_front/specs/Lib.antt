@@ -4,6 +4,7 @@ pub mod Asks
 pub mod Bodies
 pub mod Closing
 pub mod Heads
+pub mod InTurn
 pub mod Front
 pub mod Answer
 pub mod steps

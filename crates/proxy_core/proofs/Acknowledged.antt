@@ -1,16 +1,17 @@
--- The rules of each filter were acknowledged in an earlier output.
-use Rattle.std.proofs.Common.{◌≡◌, inl, inr, ℕ, Bool, true, false, Option, Some, None, List, [], ◌∷◌, ◌++◌, map, refl, sym, ap, subst, ◌∙◌, append_assoc, bytes_eq, if◌then◌else◌}
-use Rattle.std.specs.Prelude.{IfSome}
+-- The rules of each filter are those that were acknowledged last.
+use Rattle.std.proofs.Common.{◌≡◌, ◌⊎◌, inl, inr, ℕ, ◌≤◌, Bool, true, false, Option, Some, None, List, [], ◌∷◌, ◌++◌, length, map, refl, sym, ap, subst, ◌∙◌, append_assoc, append-nil, arith, bytes_eq, if◌then◌else◌}
 use Rattle.std.specs.List.{AllByRecursion, AllZip}
 use Rattle.std.proofs.lemmas.Slice.Eq.{bytes_eq-Decides}
-use Rattle.xds_wire.specs.Discovery.{AnyMessage, ExtensionMessage, ResponseMessage}
+use Rattle.proto_wire.specs.declared.refusal.Refusal.{Refusal}
+use Rattle.xds_wire.specs.Discovery.{AnyMessage, ExtensionMessage, RequestMessage}
 use Rattle.xds_wire.specs.Envelope.{SomeOf}
 use Rattle.xds_wire.specs.Frames.{frame_of}
+use Rattle.xds_wire.proofs.DiscoveryLaws.{extension_unique}
 use Rattle.ads.specs.Config.{ConfigValue, FilterValue}
-use Rattle.ads.specs.Answer.{AnswersAs, GivesAs, IsResource, ack, nack, no_memory, ack_of, named, replaced}
-use Rattle.proxy_core.specs.Acknowledging.{AcknowledgesRules, HoldsRules, IsSentIn, WasAcknowledged}
+use Rattle.ads.specs.Answer.{AnswersAs, GivesAs, IsNamed, IsResource, ack, nack, no_memory, ack_of, nack_of, named, replaced, status_of}
+use Rattle.proxy_core.specs.Acknowledging.{GaveLast, GaveRules, HasLast, HoldsRules, IsAckFor, IsSentIn, LastOf}
 use Rattle.proxy_core.specs.Events.{EventValue, ads_up, ads_bytes, ads_lost, http_open, http_bytes, http_closed}
-use Rattle.proxy_core.specs.Run.{Acknowledged, AreExchanges, AreRules, AreSent, Connection, Exchange, GivesStream, Happens, IsHistory, Moment, Rules, UpdateStream, acknowledged_after, acknowledged_in, connection_in, stream_in}
+use Rattle.proxy_core.specs.Run.{Acknowledged, AreExchanges, AreRules, AreSent, Exchange, GivesStream, Happens, IsHistory, Moment, Rules, UpdateStream, acknowledged_after, acknowledged_in, connection_in, stream_in}
 use Rattle.proxy_core.proofs.Exactly.{AllGoOn, all_go_on, connection_of}
 
 -- ---- what was put out
@@ -64,105 +65,170 @@ named_is name (any ∷ anys) (y ∷ xs) x more (one, all) is =
         )
     by false same found behind = let later = behind found in (inr later.0, later.1)
 
-module _ (c : ConfigValue) (Was : FilterValue → Rules → Type 0) where
-  -- this was so of the rules of a filter, if it has some
-  abbrev Each : FilterValue → Option Rules → Type 0
-  Each f filter = IfSome filter (Was f)
+-- a resource of a name has an extension of it
+some_named : (name : List ℕ) (anys : List AnyMessage) (xs : List ExtensionMessage) → AllZip IsResource anys xs
+    → SomeOf (IsNamed name) anys → 1 ≤ length (named name xs)
+some_named name [] xs all some = absurd some
+some_named name (any ∷ anys) [] all some = absurd all
+some_named name (any ∷ anys) (x ∷ xs) (is, all) (inl (also, is', same)) =
+    let one : also ≡ x = extension_unique any.value also x is'.reads is.reads in
+    let this : x.name ≡ name = subst (λ (y : ExtensionMessage). y.name ≡ name) one same in
+    rw ((bytes_eq-Decides x.name name).1 this) (omega arith)
+some_named name (any ∷ anys) (x ∷ xs) (is, all) (inr some) =
+    by (bytes_eq x.name name) (some_named name anys xs all some)
+  where
+    by : (b : Bool) → 1 ≤ length (named name xs) → 1 ≤ length (if b then x ∷ named name xs else named name xs)
+    by true more = omega arith
+    by false more = more
 
-  one_given : (response : ResponseMessage) (xs : List ExtensionMessage) → AllZip IsResource response.resources xs
-      → ((f : FilterValue) (rules : Rules) → HoldsRules c f response rules → Was f rules)
-      → (f : FilterValue) (ys : List ExtensionMessage) (given : Option Rules) → named f.name xs ≡ ys
-      → GivesAs AreRules c.limits f ys given → Each f given
-  one_given response xs all so f [] given is none = rw none tt
-  one_given response xs all so f (y ∷ []) given is (bytes, rules, holds, are, told) =
-      let found = named_is f.name response.resources xs y [] all is in
-      rw told (so f rules (y, bytes, found.0, found.1, holds, are))
-  one_given response xs all so f (y ∷ z ∷ ys) given is bad = absurd bad
+-- ---- the last of some
 
-  all_given : (response : ResponseMessage) (xs : List ExtensionMessage) → AllZip IsResource response.resources xs
-      → ((f : FilterValue) (rules : Rules) → HoldsRules c f response rules → Was f rules)
-      → (fs : List FilterValue) (old given : List (Option Rules)) → AllZip Each fs old
-      → AllZip (λ f. GivesAs AreRules c.limits f (named f.name xs)) fs given → AllZip Each fs (replaced old given)
-  all_given response xs all so [] [] [] was gives = tt
-  all_given response xs all so [] [] (g ∷ given) was bad = absurd bad
-  all_given response xs all so [] (o ∷ old) given bad gives = absurd bad
-  all_given response xs all so (f ∷ fs) [] given bad gives = absurd bad
-  all_given response xs all so (f ∷ fs) (o ∷ old) [] was bad = absurd bad
-  all_given response xs all so (f ∷ fs) (o ∷ old) (None ∷ given) (was, others) (one, more) =
-      (was, all_given response xs all so fs old given others more)
-  all_given response xs all so (f ∷ fs) (o ∷ old) (Some g ∷ given) (was, others) (one, more) = (
-    one_given response xs all so f (named f.name xs) (Some g) refl one,
-    all_given response xs all so fs old given others more,
-  )
+module _ {A : Type 0} (IsSo Holds : A → Type 0) where
+  none_more : (xs : List A) (x : A) → (SomeOf IsSo xs → ⊥) → (IsSo x → ⊥) → SomeOf IsSo (xs ++ x ∷ []) → ⊥
+  none_more [] x none not (inl is) = not is
+  none_more [] x none not (inr bad) = bad
+  none_more (y ∷ ys) x none not (inl is) = none (inl is)
+  none_more (y ∷ ys) x none not (inr some) = none_more ys x (λ s. none (inr s)) not some
 
-  one_answered : (old : Acknowledged) (x : Exchange) → AnswersAs AreRules c x.response old x.reply x.after
-      → ((f : FilterValue) (rules : Rules) → x.reply ≡ ack_of c x.response → HoldsRules c f x.response rules → Was f rules)
-      → AllZip Each c.filters old.policies → AllZip Each c.filters x.after.policies
-  one_answered old x (ack accepts told) so was = rw accepts.policies
-      (all_given x.response accepts.extensions accepts.reads (λ f rules holds. so f rules told holds) c.filters
-      old.policies accepts.given was accepts.gives)
-  one_answered old x (nack e refuses same told) so was = rw same was
-  one_answered old x (no_memory admitting same told) so was = rw same was
+  last_stays : (xs : List A) (x : A) → (IsSo x → ⊥) → LastOf IsSo Holds xs → LastOf IsSo Holds (xs ++ x ∷ [])
+  last_stays [] x not last = absurd last
+  last_stays (y ∷ ys) x not (inl later) = inl (last_stays ys x not later)
+  last_stays (y ∷ ys) x not (inr (none, holds)) = inr (none_more ys x none not, holds)
 
-  all_answered : (exchanges : List Exchange) (messages : List (List ℕ)) (old : Acknowledged)
-      → AreExchanges c old messages exchanges
-      → AllByRecursion (λ x. (f : FilterValue) (rules : Rules) → x.reply ≡ ack_of c x.response
-      → HoldsRules c f x.response rules → Was f rules) exchanges
-      → AllZip Each c.filters old.policies → AllZip Each c.filters (acknowledged_after old exchanges).policies
-  all_answered [] messages old all so was = was
-  all_answered (x ∷ exchanges) [] old all so was = absurd cc
-  all_answered (x ∷ exchanges) (m ∷ messages) old (reads, answers, all) (one, so) was =
-      all_answered exchanges messages x.after all so (one_answered old x answers one was)
+  last_here : (xs : List A) (x : A) → Holds x → LastOf IsSo Holds (xs ++ x ∷ [])
+  last_here [] x holds = inr ((λ none. none), holds)
+  last_here (y ∷ ys) x holds = inl (last_here ys x holds)
+
+-- ---- what filters have
+
+module _ (c : ConfigValue) (past : List Moment) (sent : List ℕ) where
+  -- what a filter has behind the past and the first exchanges of a moment
+  abbrev InForce : List Exchange → FilterValue → Option Rules → Type 0
+  InForce xs f None = (SomeOf (IsAckFor c f) xs → ⊥) × HasLast c past f None
+  InForce xs f (Some rules) = LastOf (IsAckFor c f) (GaveRules c f rules sent) xs
+      ⊎ ((SomeOf (IsAckFor c f) xs → ⊥) × GaveLast c past f rules)
+
+  begins : (fs : List FilterValue) (filters : List (Option Rules)) → AllZip (HasLast c past) fs filters
+      → AllZip (InForce []) fs filters
+  begins [] [] all = tt
+  begins [] (o ∷ filters) bad = absurd bad
+  begins (f ∷ fs) [] bad = absurd bad
+  begins (f ∷ fs) (None ∷ filters) (one, all) = (((λ none. none), one), begins fs filters all)
+  begins (f ∷ fs) (Some rules ∷ filters) (one, all) = (inr ((λ none. none), one), begins fs filters all)
+
+  module _ (xs : List Exchange) (x : Exchange) where
+    stays : (f : FilterValue) (filter : Option Rules) → (IsAckFor c f x → ⊥) → InForce xs f filter
+        → InForce (xs ++ x ∷ []) f filter
+    stays f None not (none, never) = (none_more (IsAckFor c f) (IsAckFor c f) xs x none not, never)
+    stays f (Some rules) not (inl last) = inl (last_stays (IsAckFor c f) (GaveRules c f rules sent) xs x not last)
+    stays f (Some rules) not (inr (none, was)) = inr (none_more (IsAckFor c f) (IsAckFor c f) xs x none not, was)
+
+    all_stay : (fs : List FilterValue) (filters : List (Option Rules)) → ((f : FilterValue) → IsAckFor c f x → ⊥)
+        → AllZip (InForce xs) fs filters → AllZip (InForce (xs ++ x ∷ [])) fs filters
+    all_stay [] [] not all = tt
+    all_stay [] (o ∷ filters) not bad = absurd bad
+    all_stay (f ∷ fs) [] not bad = absurd bad
+    all_stay (f ∷ fs) (o ∷ filters) not (one, all) = (stays f o (not f) one, all_stay fs filters not all)
+
+    module _ (extensions : List ExtensionMessage) (reads : AllZip IsResource x.response.resources extensions)
+        (told : x.reply ≡ ack_of c x.response) (put : IsSentIn sent x.reply) where
+      not_named : (f : FilterValue) (ys : List ExtensionMessage) → named f.name extensions ≡ ys
+          → GivesAs AreRules c.limits f ys None → IsAckFor c f x → ⊥
+      not_named f [] is none (answered, some) =
+          let one : 1 ≤ length (named f.name extensions) = some_named f.name x.response.resources extensions reads some in
+          let empty : length (named f.name extensions) ≡ 0 = ap length is in
+          omega arith
+      not_named f (y ∷ []) is (bytes, rules, holds, are, made) some = let clash : None ≡ Some rules = made in absurd cc
+      not_named f (y ∷ z ∷ ys) is bad some = bad
+
+      given : (f : FilterValue) (rules : Rules) (ys : List ExtensionMessage) → named f.name extensions ≡ ys
+          → GivesAs AreRules c.limits f ys (Some rules) → HoldsRules c f x.response rules
+      given f rules [] is none = absurd cc
+      given f rules (y ∷ []) is (bytes, others, holds, are, made) =
+          let found = named_is f.name x.response.resources extensions y [] reads is in
+          let same : others ≡ rules = cc in
+          (y, bytes, found.0, found.1, holds, subst (λ r. AreRules c.limits f bytes r) same are)
+      given f rules (y ∷ z ∷ ys) is bad = absurd bad
+
+      all_given : (fs : List FilterValue) (old news : List (Option Rules)) → AllZip (InForce xs) fs old
+          → AllZip (λ f. GivesAs AreRules c.limits f (named f.name extensions)) fs news
+          → AllZip (InForce (xs ++ x ∷ [])) fs (replaced old news)
+      all_given [] [] [] was gives = tt
+      all_given [] [] (g ∷ news) was bad = absurd bad
+      all_given [] (o ∷ old) news bad gives = absurd bad
+      all_given (f ∷ fs) [] news bad gives = absurd bad
+      all_given (f ∷ fs) (o ∷ old) [] was bad = absurd bad
+      all_given (f ∷ fs) (o ∷ old) (None ∷ news) (was, others) (one, more) = (
+        stays f o (not_named f (named f.name extensions) refl one) was,
+        all_given fs old news others more,
+      )
+      all_given (f ∷ fs) (o ∷ old) (Some rules ∷ news) (was, others) (one, more) = (
+        inl (last_here (IsAckFor c f) (GaveRules c f rules sent) xs x
+            (told, given f rules (named f.name extensions) refl one, put)),
+        all_given fs old news others more,
+      )
+
+    refused_not : (old : Acknowledged) (e : Refusal) (f : FilterValue) → x.reply ≡ nack_of c old x.response e
+        → IsAckFor c f x → ⊥
+    refused_not old e f refused (told, some) =
+        let clash : Some (status_of e) ≡ None =
+        sym (ap (λ (m : RequestMessage). m.error_detail) refused) ∙ ap (λ (m : RequestMessage). m.error_detail) told in
+        absurd cc
+
+    unchanged : (old : Acknowledged) → x.after ≡ old → AllZip (InForce (xs ++ x ∷ [])) c.filters old.policies
+        → AllZip (InForce (xs ++ x ∷ [])) c.filters x.after.policies
+    unchanged old same all =
+        subst (λ (a : Acknowledged). AllZip (InForce (xs ++ x ∷ [])) c.filters a.policies) (sym same) all
+
+    one_answered : (old : Acknowledged) → AnswersAs AreRules c x.response old x.reply x.after → IsSentIn sent x.reply
+        → AllZip (InForce xs) c.filters old.policies → AllZip (InForce (xs ++ x ∷ [])) c.filters x.after.policies
+    one_answered old (ack accepts told) put was =
+        subst (λ (filters : List (Option Rules)). AllZip (InForce (xs ++ x ∷ [])) c.filters filters)
+        (sym accepts.policies)
+        (all_given accepts.extensions accepts.reads told put c.filters old.policies accepts.given was accepts.gives)
+    one_answered old (nack e refuses same told) put was = unchanged old same
+        (all_stay c.filters old.policies (λ f. refused_not old e f told) was)
+    one_answered old (no_memory admitting same told) put was = unchanged old same
+        (all_stay c.filters old.policies (λ f. refused_not old Refusal.Memory f told) was)
+
+  all_answered : (todo done : List Exchange) (messages : List (List ℕ)) (old : Acknowledged)
+      → AreExchanges c old messages todo → AreSentIn sent todo → AllZip (InForce done) c.filters old.policies
+      → AllZip (InForce (done ++ todo)) c.filters (acknowledged_after old todo).policies
+  all_answered [] done messages old all put was = rw (append-nil done) was
+  all_answered (x ∷ todo) done [] old all put was = absurd cc
+  all_answered (x ∷ todo) done (m ∷ messages) old (reads, answers, all) (one, others) was =
+      rw (append_assoc done (x ∷ []) todo) at
+      (all_answered todo (done ++ x ∷ []) messages x.after all others (one_answered done x old answers one was))
 
 -- ---- the past
 
-none_yet : (c : ConfigValue) (fs : List FilterValue)
-    → AllZip (λ f filter. IfSome filter (WasAcknowledged c [] f)) fs (map (λ f. None) fs)
+none_yet : (c : ConfigValue) (fs : List FilterValue) → AllZip (HasLast c []) fs (map (λ f. None) fs)
 none_yet c [] = tt
-none_yet c (f ∷ fs) = (tt, none_yet c fs)
+none_yet c (f ∷ fs) = ((λ none. none), none_yet c fs)
 
-longer : (c : ConfigValue) (past : List Moment) (m : Moment) (fs : List FilterValue) (filters : List (Option Rules))
-    → AllZip (λ f filter. IfSome filter (WasAcknowledged c past f)) fs filters
-    → AllZip (λ f filter. IfSome filter (WasAcknowledged c (m ∷ past) f)) fs filters
-longer c past m [] [] all = tt
-longer c past m [] (o ∷ filters) bad = absurd bad
-longer c past m (f ∷ fs) [] bad = absurd bad
-longer c past m (f ∷ fs) (None ∷ filters) (one, all) = (tt, longer c past m fs filters all)
-longer c past m (f ∷ fs) (Some rules ∷ filters) (one, all) = (inr one, longer c past m fs filters all)
-
--- each exchange of a moment is one of them
-each_is_one : (c : ConfigValue) (sent : List ℕ) (exchanges : List Exchange) → AreSentIn sent exchanges
-    → AllByRecursion (λ x. (f : FilterValue) (rules : Rules) → x.reply ≡ ack_of c x.response
-    → HoldsRules c f x.response rules → SomeOf (AcknowledgesRules c f rules sent) exchanges) exchanges
-each_is_one c sent [] all = tt
-each_is_one c sent (x ∷ exchanges) (one, all) =
-    ((λ f rules told holds. inl (told, holds, one)), behind exchanges (each_is_one c sent exchanges all))
-  where
-    behind : (xs : List Exchange)
-        → AllByRecursion (λ y. (f : FilterValue) (rules : Rules) → y.reply ≡ ack_of c y.response
-        → HoldsRules c f y.response rules → SomeOf (AcknowledgesRules c f rules sent) exchanges) xs
-        → AllByRecursion (λ y. (f : FilterValue) (rules : Rules) → y.reply ≡ ack_of c y.response
-        → HoldsRules c f y.response rules → SomeOf (AcknowledgesRules c f rules sent) (x ∷ exchanges)) xs
-    behind [] each = tt
-    behind (y ∷ xs) (first, each) = ((λ f rules told holds. inr (first f rules told holds)), behind xs each)
-
-in_moment : (c : ConfigValue) (past : List Moment) (m : Moment) (exchanges : List Exchange)
-    → AllByRecursion (λ x. (f : FilterValue) (rules : Rules) → x.reply ≡ ack_of c x.response
-    → HoldsRules c f x.response rules → SomeOf (AcknowledgesRules c f rules m.output.ads) m.exchanges) exchanges
-    → AllByRecursion (λ x. (f : FilterValue) (rules : Rules) → x.reply ≡ ack_of c x.response
-    → HoldsRules c f x.response rules → WasAcknowledged c (m ∷ past) f rules) exchanges
-in_moment c past m [] each = tt
-in_moment c past m (x ∷ exchanges) (one, each) =
-    ((λ f rules told holds. inl (one f rules told holds)), in_moment c past m exchanges each)
+ends : (c : ConfigValue) (past : List Moment) (m : Moment) (fs : List FilterValue) (filters : List (Option Rules))
+    → AllZip (InForce c past m.output.ads m.exchanges) fs filters → AllZip (HasLast c (m ∷ past)) fs filters
+ends c past m [] [] all = tt
+ends c past m [] (o ∷ filters) bad = absurd bad
+ends c past m (f ∷ fs) [] bad = absurd bad
+ends c past m (f ∷ fs) (None ∷ filters) ((none, never), all) = (
+  (λ some. elim some [
+    | inl here ↦ none here
+    | inr before ↦ never before
+  ]),
+  ends c past m fs filters all,
+)
+ends c past m (f ∷ fs) (Some rules ∷ filters) (one, all) = (one, ends c past m fs filters all)
 
 go_back : (c : ConfigValue) (past : List Moment) → IsHistory c past → AllGoOn c past
-    → AllZip (λ f filter. IfSome filter (WasAcknowledged c past f)) c.filters (acknowledged_in c past).policies
+    → AllZip (HasLast c past) c.filters (acknowledged_in c past).policies
 go_back c [] is all = none_yet c c.filters
 go_back c (m ∷ past) (happens, is) ((messages, are), all) =
-    all_answered c (WasAcknowledged c (m ∷ past)) m.exchanges messages (acknowledged_in c past) are
-    (in_moment c past m m.exchanges (each_is_one c m.output.ads m.exchanges (moment_sent m.event c past m happens)))
-    (longer c past m c.filters (acknowledged_in c past).policies (go_back c past is all))
+    ends c past m c.filters (acknowledged_in c (m ∷ past)).policies
+    (all_answered c past m.output.ads m.exchanges [] messages (acknowledged_in c past) are
+    (moment_sent m.event c past m happens)
+    (begins c past m.output.ads c.filters (acknowledged_in c past).policies (go_back c past is all)))
 
-pub were_acknowledged : (c : ConfigValue) (past : List Moment) → IsHistory c past
-    → AllZip (λ f filter. IfSome filter (WasAcknowledged c past f)) c.filters (acknowledged_in c past).policies
-were_acknowledged c past is = go_back c past is (all_go_on c past is).1
+pub have_last : (c : ConfigValue) (past : List Moment) → IsHistory c past
+    → AllZip (HasLast c past) c.filters (acknowledged_in c past).policies
+have_last c past is = go_back c past is (all_go_on c past is).1

@@ -1,8 +1,8 @@
 -- Filters are tried one after the other; and what is enforced decides as what was written.
-use Rattle.std.proofs.Common.{◌≡◌, ◌⊎◌, inl, inr, ℕ, zero, suc, ◌+◌, ◌<◌, ◌≤◌, Bool, true, false, true≢false, Option, Some, None, List, [], ◌∷◌, ◌++◌, length, map, take, drop, get_or, option_map, refl, sym, ap, subst, ◌∙◌, arith, append_assoc, append-nil, if◌then◌else◌}
-use Rattle.std.specs.Prelude.{MatchBool, codes, bytes_eq, is_some as has_some}
+use Rattle.std.proofs.Common.{◌≡◌, inl, inr, ℕ, zero, suc, ◌+◌, ◌<◌, ◌≤◌, Bool, true, false, true≢false, Option, Some, None, List, [], ◌∷◌, ◌++◌, length, map, drop, get_or, option_map, refl, sym, ap, subst, ◌∙◌, arith, append_assoc, append-nil, if◌then◌else◌}
+use Rattle.std.specs.Prelude.{MatchBool, is_some as has_some}
 use Rattle.std.specs.List.{AllByRecursion, AllZip}
-use Rattle.std.proofs.lemmas.List.{drop_all, map-append}
+use Rattle.std.proofs.lemmas.List.{drop_all}
 use Rattle.std.proofs.Math.Logic.{∥∥₁_elim, ∥∥₁_prop}
 use Rattle.std.proofs.Props.{props}
 use Rattle.std.proofs.lemmas.Grind.{merely}
@@ -11,9 +11,7 @@ use Rattle.attributes.specs.Request.{RequestValue}
 use Rattle.xds_wire.specs.Envelope.{SomeOf}
 use Rattle.cel_tree.specs.Checked.{CelChecked}
 use Rattle.rbac_policy.specs.Admission.{IsAdmittedAs}
-use Rattle.rbac_policy.specs.Condition.{is_met}
 use Rattle.rbac_policy.specs.Filter.{Filter}
-use Rattle.rbac_policy.specs.Verdict.{SomeAsked}
 use Rattle.rbac_policy.specs.declared.filter.Admitted.{Admitted}
 use Rattle.ads.specs.Answer.{Accepted, AdmittedValue}
 use Rattle.ads.specs.Client.{WasAdmitted}
@@ -27,9 +25,7 @@ use Rattle.http_front.specs.declared.ask.Ask.TheVariants.{Judge, Fault}
 use Rattle.proxy_core.specs.Chain.{AreRepliesTo, Chain, ChainAsks, IsReplyTo, IsUnready, Judges, unready, decided, out_of_memory, VerdictValue}
 use Rattle.proxy_core.specs.Run.{Acknowledged, AskCondition, DecideByMeaning, Rules}
 use Rattle.proxy_core.specs.Step.{AreEnforced, AsksAsWritten, DecidesAsWritten}
-use Rattle.proxy_core.specs.steps.Deciding.{CanDecide, IsTried}
-use Rattle.proxy_core.specs.declared.chain.Tried.{Tried}
-use Rattle.proxy_core.specs.declared.chain.Tried.TheVariants as tried
+use Rattle.proxy_core.specs.steps.Deciding.{CanDecide}
 use Rattle.proxy_core.proofs.Standing.{IsEnforced, StandsFor}
 
 -- ---- filters in their order

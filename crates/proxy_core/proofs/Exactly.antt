@@ -1,5 +1,5 @@
 -- In a history responses are acknowledged exactly where they are admissible.
-use Rattle.std.proofs.Common.{◌≡◌, ℕ, Bool, true, false, Option, Some, None, List, [], ◌∷◌, ◌++◌, option_map, refl, sym, ap, subst, ◌∙◌, if◌then◌else◌}
+use Rattle.std.proofs.Common.{◌≡◌, ℕ, Bool, true, false, Option, Some, None, List, [], ◌∷◌, option_map, sym, ap, subst, ◌∙◌, if◌then◌else◌}
 use Rattle.proto_wire.specs.declared.refusal.Refusal.{Refusal}
 use Rattle.attributes.specs.Limits.{LimitsValue}
 use Rattle.xds_wire.specs.Discovery.{ResponseMessage}
@@ -102,10 +102,10 @@ written_apart = accepts_apart AreRules rules_admissible
 one_exactly : (c : ConfigValue) (old : Acknowledged) (x : Exchange)
     → AnswersAs AreRules c x.response old x.reply x.after → IsAnsweredExactly c old x
 one_exactly c old x (ack accepts told) =
-    acknowledged told (old, x.after, accepts) (λ e refuses. written_apart c x.response old x.after e accepts refuses)
+    acknowledged told accepts (λ e refuses. written_apart c x.response old x.after e accepts refuses)
 one_exactly c old x (nack e refuses same told) =
     refused e told refuses (λ (before, after, accepts). written_apart c x.response before after e accepts refuses) same
-one_exactly c old x (no_memory admitting same told) = out_of_memory told same
+one_exactly c old x (no_memory admitting same told) = out_of_memory told admitting same
 
 exchanges_exactly : (c : ConfigValue) (old : Acknowledged) (messages : List (List ℕ)) (exchanges : List Exchange)
     → AreExchanges c old messages exchanges → EachOf (IsAnsweredExactly c) old exchanges

@@ -1,5 +1,5 @@
 -- Asks are taken from a front one after the other, and answered.
-use Rattle.std.proofs.Common.{◌≡◌, ◌<◌, ℕ, Option, Some, None, List, [], ◌∷◌, ◌++◌, refl, sym, ap, subst, ◌∙◌, append_assoc, append-nil}
+use Rattle.std.proofs.Common.{◌≡◌, ◌<◌, ℕ, Some, None, List, [], ◌∷◌, ◌++◌, refl, ap, ◌∙◌, append_assoc, append-nil}
 use Rattle.attributes.specs.Limits.{LimitsValue}
 use Rattle.ads.specs.Answer.{Accepted}
 use Rattle.http_front.specs.Answer.{ReplyValue, answer_of}

@@ -7,5 +7,6 @@ pub mod Walk
 pub mod Runs
 pub mod Exactly
 pub mod Safely
+pub mod Asked
 pub mod Acknowledged
 pub mod Whole

@@ -4,14 +4,13 @@ use Rattle.std.specs.Prelude.{is_none}
 use Rattle.std.proofs.lemmas.Bool.{eqb-true, eq-eqb, lt-ltb, le-ltb}
 use Rattle.std.proofs.lemmas.Grind.{reverse_onto}
 use Rattle.attributes.specs.Conn.{Facts}
-use Rattle.attributes.specs.Limits.{LimitsValue}
 use Rattle.xds_wire.specs.Frames.{Cut, Tail, unfinished, broken, nothing}
 use Rattle.xds_wire.proofs.StreamLemmas.{cut_resumes}
 use Rattle.ads.specs.Config.{ConfigValue}
-use Rattle.ads.specs.Answer.{Accepted, first_request}
+use Rattle.ads.specs.Answer.{first_request}
 use Rattle.ads.specs.Client.{AreAnswered, ClientValue, FeedsBy, IsFrameThen, most_bytes, stream_after, stream_down, stream_up}
-use Rattle.http_front.specs.Front.{FrontValue, fed_front, keeping, new_front}
-use Rattle.http_front.specs.Heads.{Heads, TakesAll, fed, is_closed, reading}
+use Rattle.http_front.specs.Front.{FrontValue, new_front}
+use Rattle.http_front.specs.Heads.{Heads, TakesAll, is_closed, reading}
 use Rattle.http_front.specs.declared.ask.Ask.{Ask}
 use Rattle.http_front.proofs.Resuming.{takes_resume}
 use Rattle.proxy_core.specs.Events.{EventValue, ads_up, ads_bytes, ads_lost, http_open, http_bytes, http_closed, OutputValue, no_output, ads_output, http_output}
@@ -21,7 +20,7 @@ use Rattle.proxy_core.specs.Run.{Acknowledged, AreExchanges, Connection, Exchang
 use Rattle.proxy_core.proofs.Chains.{replies_stand}
 use Rattle.proxy_core.proofs.Places.{none_there, past_none, set_same, set_none, set_other, within}
 use Rattle.proxy_core.proofs.Standing.{StandsFor, none_stands}
-use Rattle.proxy_core.proofs.Walk.{Left, Walked, all_read, one_faulty, after_append, exchanges_append, goes_on, walked}
+use Rattle.proxy_core.proofs.Walk.{Left, all_read, one_faulty, after_append, exchanges_append, goes_on, walked}
 
 -- ---- what is known of a proxy behind its past
 
@@ -244,10 +243,10 @@ added_closed c past old k known = record {
 
 added_opens : (c : ConfigValue) (past : List Moment) (old : ProxyValue) (k : ℕ) (facts : Facts) (out : OutputValue)
     (new : ProxyValue) → Known c past old → OpensAt old k facts out new → Added c past (http_open k facts) out new
-added_opens c past old k facts out new known (opened in' fits is made) = rw (is, made) (record {
+added_opens c past old k facts out new known (opened in' sound fits is made) = rw (is, made) (record {
   exchanges = [];
   asks = [];
-  happens = (no_output, run.fits in' (rw known.config at fits) refl, (refl, refl, refl));
+  happens = (no_output, run.fits in' sound (rw known.config at fits) refl, (refl, refl, refl));
   known = put c past old (http_open k facts) no_output [] k (Some (new_front old.client.config.limits facts)) known refl
       (λ j. refl)
       (rw (

@@ -1,6 +1,6 @@
 -- The conditions of rules that were acknowledged run well.
-use Rattle.std.proofs.Common.{◌≡◌, ℕ, Option, Some, None, List, [], ◌∷◌, map, refl, sym, ap, subst, ◌∙◌}
-use Rattle.std.specs.Prelude.{IfSome, IsSomeAnd, MatchOption}
+use Rattle.std.proofs.Common.{◌≡◌, ℕ, Option, Some, None, List, [], ◌∷◌, map, subst}
+use Rattle.std.specs.Prelude.{IsSomeAnd, MatchOption}
 use Rattle.std.specs.FinMap.{get}
 use Rattle.std.specs.List.{AllByRecursion, AllZip}
 use Rattle.attributes.specs.Limits.{InLimits, LimitsValue}
@@ -15,12 +15,16 @@ use Rattle.cel_types.proofs.WellTypedElaborations.{elaborated_typed}
 use Rattle.cel_compile.proofs.Forwards.{code_never_stuck}
 use Rattle.cel_compile.proofs.Meaning.{code_means}
 use Rattle.rbac_policy.specs.Condition.{IsProgramOf, Program}
+use Rattle.rbac_policy.specs.Costs.{FilterCosts}
+use Rattle.rbac_policy.specs.Enforced.{EnforcesPolicy}
 use Rattle.rbac_policy.specs.Filter.{Policy}
 use Rattle.rbac_policy.specs.Keys.{policy_field}
 use Rattle.rbac_policy.specs.Message.{IsCondition, IsPolicy}
+use Rattle.rbac_policy.proofs.Enforcing.{enforced_there}
+use Rattle.rbac_policy.proofs.Programs.{program_unique}
 use Rattle.ads.specs.Config.{ConfigValue, FilterValue}
-use Rattle.ads.specs.Answer.{AcceptedOf, AnswersAs, GivesAs, ack, nack, no_memory, named, replaced}
-use Rattle.proxy_core.specs.Headline.{EachMoment, RunWell, RunsWell}
+use Rattle.ads.specs.Answer.{AnswersAs, GivesAs, ack, nack, no_memory, named, replaced}
+use Rattle.proxy_core.specs.Headline.{AtEachTime, RunWell, RunsWell}
 use Rattle.proxy_core.specs.Run.{Acknowledged, AreExchanges, AreRules, Exchange, Moment, Rules, acknowledged_after, acknowledged_in}
 use Rattle.proxy_core.proofs.Exactly.{AllGoOn}
 
@@ -53,11 +57,40 @@ runs_well limits condition program r good of valid inside =
       within = rw of.bound run.bounded;
     }
 
+-- a condition of rules that cost something has a program
+program_there : (limits : LimitsValue) (rules : Rules) (cost : ℕ) → FilterCosts limits rules cost → (name : List ℕ)
+    (condition : CelChecked) → IsSomeAnd (get rules.policies name) (λ policy. policy.condition ≡ Some condition)
+    → (program : Program) × IsProgramOf limits condition program
+program_there limits rules cost costs name condition has =
+    let it = enforced_there limits rules cost costs in
+    of_policy (get rules.policies name) (get it.0.policies name) (it.1.policies name) has
+  where
+    of_condition : (x : Option CelChecked) (y : Option Program)
+        → MatchOption x (y ≡ None) (λ c. IsSomeAnd y (IsProgramOf limits c)) → x ≡ Some condition
+        → (program : Program) × IsProgramOf limits condition program
+    of_condition None y of is = absurd cc
+    of_condition (Some d) None of is = absurd of
+    of_condition (Some d) (Some q) of is =
+        let same : d ≡ condition = cc in (q, subst (λ x. IsProgramOf limits x q) same of)
+
+    of_policy : (o : Option (Policy CelChecked)) (q : Option (Policy Program))
+        → MatchOption o (q ≡ None) (λ policy. IsSomeAnd q (EnforcesPolicy limits policy))
+        → IsSomeAnd o (λ policy. policy.condition ≡ Some condition)
+        → (program : Program) × IsProgramOf limits condition program
+    of_policy None q of has = absurd has
+    of_policy (Some p) None of has = absurd of
+    of_policy (Some p) (Some e) of has = of_condition p.condition e.condition of.condition has
+
 rules_well : (limits : LimitsValue) (f : FilterValue) (bytes : List ℕ) (rules : Rules) → AreRules limits f bytes rules
     → RunWell limits (Some rules)
-rules_well limits f bytes rules is name condition program r has of valid inside =
-    runs_well limits condition program r
-    (good_of condition (get rules.policies name) _ (is.message.rules.policies.2 name) has) of valid inside
+rules_well limits f bytes rules is name condition has =
+    let it = program_there limits rules is.cost is.costs name condition has in
+    let good = good_of condition (get rules.policies name) _ (is.message.rules.policies.2 name) has in record {
+      program = it.0;
+      its = it.1;
+      only = λ other of. program_unique limits condition other it.0 of it.1;
+      well = λ r within. runs_well limits condition it.0 r good it.1 within.0 within.1;
+    }
 
 -- ---- whatever is answered
 
@@ -108,6 +141,6 @@ go_well c (m ∷ past) ((messages, are), all) =
     exchanges_well c m.exchanges messages (acknowledged_in c past) are (go_well c past all)
 
 pub well : (c : ConfigValue) (past : List Moment) → AllGoOn c past
-    → EachMoment (λ before m. AllByRecursion (RunWell c.limits) (acknowledged_in c before).policies) past
-well c [] all = tt
-well c (m ∷ past) (one, all) = (go_well c past all, well c past all)
+    → AtEachTime (λ until. AllByRecursion (RunWell c.limits) (acknowledged_in c until).policies) past
+well c [] all = go_well c [] all
+well c (m ∷ past) (one, all) = (go_well c (m ∷ past) (one, all), well c past all)

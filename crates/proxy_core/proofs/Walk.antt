@@ -1,5 +1,5 @@
 -- The messages of an update stream, answered one after the other.
-use Rattle.std.proofs.Common.{◌≡◌, inl, inr, ℕ, Bool, true, false, true≢false, Option, Some, None, List, [], ◌∷◌, ◌++◌, refl, sym, ap, ◌∙◌}
+use Rattle.std.proofs.Common.{◌≡◌, inl, inr, ℕ, Bool, true, false, true≢false, List, [], ◌∷◌, ◌++◌, refl, sym, ap}
 use Rattle.std.specs.Prelude.{is_none}
 use Rattle.proto_wire.specs.declared.refusal.Refusal.{Refusal}
 use Rattle.xds_wire.specs.Discovery.{ResponseFault}

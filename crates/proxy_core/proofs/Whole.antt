@@ -1,5 +1,5 @@
 -- The headline.
-use Rattle.std.proofs.Common.{◌≡◌, ℕ, Option, Some, None, List, [], ◌∷◌, refl, sym, ap, ◌∙◌}
+use Rattle.std.proofs.Common.{◌≡◌, ℕ, Option, Some, None, List, [], ◌∷◌, refl, ap, ◌∙◌}
 use Rattle.attributes.specs.Conn.{Facts}
 use Rattle.attributes.specs.Limits.{LimitsValue}
 use Rattle.ads.specs.Config.{ConfigValue}
@@ -8,6 +8,7 @@ use Rattle.proxy_core.specs.Events.{EventValue, ads_up, ads_bytes, ads_lost, htt
 use Rattle.proxy_core.specs.Headline.{EachMoment, Headline}
 use Rattle.proxy_core.specs.Run.{AskCondition, Connection, DecideByMeaning, GivesConnection, GivesStream, Happens, IsHistory, Moment, Opens, fits, unfit, nowhere, UpdateStream, acknowledged_in, connection_in, stream_in}
 use Rattle.proxy_core.specs.Step.{CallsDo, EventCall, ProxyValue, events_of, new_proxy, outputs_of}
+use Rattle.proxy_core.proofs.Asked.{asked}
 use Rattle.proxy_core.proofs.Exactly.{all_go_on, exactly}
 use Rattle.proxy_core.proofs.Runs.{runs}
 use Rattle.proxy_core.proofs.Safely.{well}
@@ -22,7 +23,7 @@ quiet c past m none silent = rw (none, silent) refl
 
 opened : (limits : LimitsValue) (k : ℕ) (facts : Facts) (output : OutputValue) → Opens limits k facts output
     → output.http ≡ []
-opened limits k facts output (fits in' within is) = ap (λ (o : OutputValue). o.http) is
+opened limits k facts output (fits in' sound within is) = ap (λ (o : OutputValue). o.http) is
 opened limits k facts output (unfit in' out is) = ap (λ (o : OutputValue). o.http) is
 opened limits k facts output (nowhere far is) = ap (λ (o : OutputValue). o.http) is
 
@@ -62,5 +63,6 @@ headline c calls end all =
       of_outputs = f.of_outputs;
       exactly = exactly c f.history f.happened;
       answered = answered c f.history f.happened;
+      asked = asked c f.history f.happened;
       well = well c f.history (all_go_on c f.history f.happened).1;
     }

@@ -1,9 +1,9 @@
--- That rules were acknowledged: xDS REST and gRPC protocol, "ACK and NACK".
-use Rattle.std.specs.Prelude.{◌≡◌, ℕ, List, ◌++◌}
+-- Which rules were acknowledged last: xDS REST and gRPC protocol, "ACK and NACK".
+use Rattle.std.specs.Prelude.{◌≡◌, ◌⊎◌, ℕ, Option, Some, None, List, [], ◌∷◌, ◌++◌}
 use Rattle.xds_wire.specs.Discovery.{ExtensionMessage, RequestMessage, ResponseMessage}
 use Rattle.xds_wire.specs.Envelope.{SomeOf}
 use Rattle.ads.specs.Config.{ConfigValue, FilterValue}
-use Rattle.ads.specs.Answer.{HoldsFilter, IsResource, ack_of}
+use Rattle.ads.specs.Answer.{HoldsFilter, IsNamed, IsResource, ack_of}
 use Rattle.ads.specs.Client.{IsFrameThen}
 use Rattle.proxy_core.specs.Run.{AreRules, Exchange, Moment, Rules}
 
@@ -17,12 +17,27 @@ HoldsRules c f response rules = (extension : ExtensionMessage) × (bytes : List 
 abbrev pub IsSentIn : List ℕ → RequestMessage → Type 0
 IsSentIn bytes request = (before from after : List ℕ) × (bytes ≡ before ++ from) × IsFrameThen request from after
 
--- the response that gives the filter these rules is answered by ACK, and that is put out
-abbrev pub AcknowledgesRules : ConfigValue → FilterValue → Rules → List ℕ → Exchange → Type 0
-AcknowledgesRules c f rules sent x =
+-- the response was acknowledged, and has a resource of the filter's name
+abbrev pub IsAckFor : ConfigValue → FilterValue → Exchange → Type 0
+IsAckFor c f x = (x.reply ≡ ack_of c x.response) × SomeOf (IsNamed f.name) x.response.resources
+
+-- the response was acknowledged, which was put out, and gave the filter these rules
+abbrev pub GaveRules : ConfigValue → FilterValue → Rules → List ℕ → Exchange → Type 0
+GaveRules c f rules sent x =
     (x.reply ≡ ack_of c x.response) × HoldsRules c f x.response rules × IsSentIn sent x.reply
 
--- it is so at some moment of the past
-abbrev pub WasAcknowledged : ConfigValue → List Moment → FilterValue → Rules → Type 0
-WasAcknowledged c past f rules =
-    SomeOf (λ m. SomeOf (AcknowledgesRules c f rules m.output.ads) m.exchanges) past
+-- some elements are so, and this holds of the last of them
+abbrev pub LastOf : {A : Type 0} → (IsSo Holds : A → Type 0) → List A → Type 0
+LastOf IsSo Holds [] = ⊥
+LastOf IsSo Holds (x ∷ xs) = LastOf IsSo Holds xs ⊎ ((SomeOf IsSo xs → ⊥) × Holds x)
+
+-- the last response of the past that was acknowledged and has a resource of the filter's name gave it these rules
+abbrev pub GaveLast : ConfigValue → List Moment → FilterValue → Rules → Type 0
+GaveLast c [] f rules = ⊥
+GaveLast c (m ∷ past) f rules = LastOf (IsAckFor c f) (GaveRules c f rules m.output.ads) m.exchanges
+    ⊎ ((SomeOf (IsAckFor c f) m.exchanges → ⊥) × GaveLast c past f rules)
+
+-- the filter has the rules that it was given last, or none, where no response of the past was such a one
+abbrev pub HasLast : ConfigValue → List Moment → FilterValue → Option Rules → Type 0
+HasLast c past f None = SomeOf (λ m. SomeOf (IsAckFor c f) m.exchanges) past → ⊥
+HasLast c past f (Some rules) = GaveLast c past f rules

@@ -15,7 +15,9 @@ use Rattle.xds_wire.specs.Discovery.{ResponseMessage}
 use Rattle.rbac_policy.specs.Condition.{IsProgramOf, Program}
 use Rattle.stack_machine.specs.Machine.{Ends, NeverStuck}
 use Rattle.ads.specs.Config.{ConfigValue}
-use Rattle.ads.specs.Answer.{AcceptsAs, Refuses, ack_of, nack_of}
+use Rattle.ads.specs.Answer.{AcceptsAs, IsAdmitting, Refuses, ack_of, nack_of}
+use Rattle.http_front.specs.declared.ask.Ask.{Ask}
+use Rattle.http_front.specs.declared.ask.Ask.TheVariants.{Judge, Fault}
 use Rattle.proxy_core.specs.Events.{EventValue, OutputValue}
 use Rattle.proxy_core.specs.Chain.{AreRepliesTo}
 use Rattle.proxy_core.specs.Run.{Acknowledged, AreRules, AskCondition, DecideByMeaning, Exchange, IsHistory, Moment, Rules, acknowledged_in, events_in, outputs_in}
@@ -26,14 +28,15 @@ IsAdmissible c response = (old new : Acknowledged) × AcceptsAs AreRules c respo
 
 -- the response is acknowledged exactly where it is admissible
 pub data IsAnsweredExactly (c : ConfigValue) (old : Acknowledged) (x : Exchange) : Type 0 where
-  -- it is acknowledged: it is admissible, and nothing is wrong with it
-  acknowledged : x.reply ≡ ack_of c x.response → IsAdmissible c x.response
+  -- it is acknowledged: it is admissible, its rules take the place of the old ones, and nothing is wrong with it
+  acknowledged : x.reply ≡ ack_of c x.response → AcceptsAs AreRules c x.response old x.after
       → ((e : Refusal) → Refuses c x.response e → ⊥) → IsAnsweredExactly c old x
-  -- it is refused: the fault that is named is there, and it is not admissible
+  -- it is refused, and changes nothing: the fault that is named is there, and it is not admissible
   refused : (e : Refusal) → x.reply ≡ nack_of c old x.response e → Refuses c x.response e
       → (IsAdmissible c x.response → ⊥) → x.after ≡ old → IsAnsweredExactly c old x
-  -- memory ran out while it was judged: it is refused by code 8
-  out_of_memory : x.reply ≡ nack_of c old x.response Refusal.Memory → x.after ≡ old → IsAnsweredExactly c old x
+  -- memory ran out while a filter of it was admitted: it is refused by code 8, and changes nothing
+  out_of_memory : x.reply ≡ nack_of c old x.response Refusal.Memory → IsAdmitting c x.response → x.after ≡ old
+      → IsAnsweredExactly c old x
 
 -- this holds of each exchange, and of what was acknowledged before it
 abbrev pub EachOf : (Acknowledged → Exchange → Type 0) → Acknowledged → List Exchange → Type 0
@@ -45,6 +48,20 @@ abbrev pub EachMoment : (List Moment → Moment → Type 0) → List Moment → 
 EachMoment P [] = Unit {0}
 EachMoment P (m ∷ past) = P past m × EachMoment P past
 
+-- this holds of a history up to each time: before each of its events, and after the last
+abbrev pub AtEachTime : (List Moment → Type 0) → List Moment → Type 0
+AtEachTime P [] = P []
+AtEachTime P (m ∷ past) = P (m ∷ past) × AtEachTime P past
+
+-- a request is one within the limits: its texts are UTF-8, and its numbers in their ranges
+abbrev pub IsWithin : LimitsValue → RequestValue → Type 0
+IsWithin limits r = IsRequest r × InLimits r limits
+
+-- if a request is asked, it is one within the limits
+abbrev pub AsksWithin : LimitsValue → Ask → Type 0
+AsksWithin limits (Judge r closes) = IsWithin limits r
+AsksWithin limits (Fault fault) = Unit {0}
+
 -- the run of a condition's program is never stuck (it lacks no operand, meets no wrong kind and does not leave its code), and
 -- it ends with what the condition means, in at most as many steps as it was admitted with
 pub record RunsWell (condition : CelChecked) (program : Program) (r : RequestValue) : Type 0 where
@@ -55,11 +72,17 @@ pub record RunsWell (condition : CelChecked) (program : Program) (r : RequestVal
   pub ends : Ends program.code r answer steps
   pub within : steps ≤ program.bound
 
--- the program of each condition of the rules runs well on each request within the limits
+-- the condition has one program, which runs well on each request within the limits
+pub record RunsWithin (limits : LimitsValue) (condition : CelChecked) : Type 0 where
+  pub program : Program
+  pub its : IsProgramOf limits condition program
+  pub only : (other : Program) → IsProgramOf limits condition other → other ≡ program
+  pub well : (r : RequestValue) → IsWithin limits r → RunsWell condition program r
+
+-- each condition of the rules does so
 abbrev pub RunWell : LimitsValue → Option Rules → Type 0
-RunWell limits filter = IfSome filter (λ rules. (name : List ℕ) (condition : CelChecked) (program : Program)
-    (r : RequestValue) → IsSomeAnd (get rules.policies name) (λ policy. policy.condition ≡ Some condition)
-    → IsProgramOf limits condition program → IsRequest r → InLimits r limits → RunsWell condition program r)
+RunWell limits filter = IfSome filter (λ rules. (name : List ℕ) (condition : CelChecked)
+    → IsSomeAnd (get rules.policies name) (λ policy. policy.condition ≡ Some condition) → RunsWithin limits condition)
 
 -- the headline, of all events and their outputs
 pub record Headline (c : ConfigValue) (events : List EventValue) (outputs : List OutputValue) : Type 0 where
@@ -74,5 +97,7 @@ pub record Headline (c : ConfigValue) (events : List EventValue) (outputs : List
   -- counting as no match; and all else that heads ask, by its fault
   pub answered : EachMoment (λ past m.
       AreRepliesTo DecideByMeaning AskCondition (acknowledged_in c past) m.asks m.output.http) history
-  -- no run of such a condition is stuck or exceeds its admitted steps
-  pub well : EachMoment (λ past m. AllByRecursion (RunWell c.limits) (acknowledged_in c past).policies) history
+  -- each request that is asked is one within the limits
+  pub asked : EachMoment (λ past m. AllByRecursion (AsksWithin c.limits) m.asks) history
+  -- and on such requests no run of a condition that was acknowledged is stuck or exceeds its admitted steps
+  pub well : AtEachTime (λ past. AllByRecursion (RunWell c.limits) (acknowledged_in c past).policies) history

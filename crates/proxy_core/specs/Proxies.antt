@@ -1,7 +1,5 @@
 -- What a proxy stands for (this project's own).
-use Rattle.std.specs.Prelude.{Option, List}
 use Rattle.ads.specs.Ends.{client_view}
-use Rattle.http_front.specs.Front.{FrontValue}
 use Rattle.proxy_core.specs.Step.{ProxyValue}
 use Rattle.proxy_core.specs.declared.proxy.Proxy.{Proxy}
 

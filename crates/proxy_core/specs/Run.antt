@@ -2,7 +2,7 @@
 -- protocol, "ACK and NACK") or its connection (RFC 9112, section 9) began; no state of the code is in it. The latest event
 -- is first.
 use Rattle.std.specs.Prelude.{◌≡◌, ℕ, ◌==◌, ◌<◌, ◌≤◌, nat_lt, not, Bool, true, false, ◌&&◌, Option, Some, None, List, [], ◌∷◌, ◌++◌, map, option_map, reverse, if◌then◌else◌}
-use Rattle.attributes.specs.Conn.{Facts}
+use Rattle.attributes.specs.Conn.{AreFacts, Facts}
 use Rattle.attributes.specs.Limits.{LimitsValue, FactsInLimits}
 use Rattle.attributes.specs.Request.{RequestValue}
 use Rattle.proto_wire.specs.declared.refusal.Refusal.{Refusal}
@@ -190,9 +190,9 @@ GivesConnection c past m bytes (Some s) = (answers : List ℕ) × (is_done : Boo
     × AreRepliesTo DecideByMeaning AskCondition (acknowledged_in c past) m.asks answers
     × (m.output ≡ http_output answers is_done) × (m.exchanges ≡ [])
 
--- a connection opens: where its facts are outside the limits it is closed
+-- a connection opens: where its facts, texts of UTF-8 and numbers in their ranges, are outside the limits it is closed
 pub data Opens (limits : LimitsValue) (k : ℕ) (facts : Facts) (output : OutputValue) : Type 0 where
-  fits : k < places → FactsInLimits facts limits → output ≡ no_output → Opens limits k facts output
+  fits : k < places → AreFacts facts → FactsInLimits facts limits → output ≡ no_output → Opens limits k facts output
   unfit : k < places → (FactsInLimits facts limits → ⊥) → output ≡ http_output [] true
       → Opens limits k facts output
   nowhere : places ≤ k → output ≡ no_output → Opens limits k facts output

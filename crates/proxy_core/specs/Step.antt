@@ -1,7 +1,7 @@
 -- What one event does to a proxy, by what the proxy keeps (this project's own).
 use Rattle.std.specs.Prelude.{◌≡◌, ℕ, ◌<◌, ◌≤◌, Bool, true, false, Option, Some, None, List, [], ◌∷◌, slice_get, set, if◌then◌else◌}
-use Rattle.attributes.specs.Conn.{Facts}
-use Rattle.attributes.specs.Limits.{FactsInLimits, InLimits}
+use Rattle.attributes.specs.Conn.{AreFacts, Facts}
+use Rattle.attributes.specs.Limits.{FactsInLimits}
 use Rattle.attributes.specs.Request.{RequestValue}
 use Rattle.cel_tree.specs.Checked.{CelChecked}
 use Rattle.rbac_policy.specs.Admission.{IsAdmittedAs}
@@ -12,7 +12,7 @@ use Rattle.ads.specs.Config.{ConfigValue}
 use Rattle.ads.specs.Answer.{Accepted, AdmittedValue, first_request}
 use Rattle.ads.specs.Client.{ClientValue, Feeds, IsFrameThen, new_client, stream_down, stream_up}
 use Rattle.http_front.specs.Front.{FrontValue, HasNoAsk, fed_front, keeping, new_front}
-use Rattle.http_front.specs.Heads.{Kept, TakesAll, is_closed}
+use Rattle.http_front.specs.Heads.{TakesAll, is_closed}
 use Rattle.http_front.specs.declared.ask.Ask.{Ask}
 use Rattle.proxy_core.specs.Chain.{AreRepliesTo, VerdictValue}
 use Rattle.proxy_core.specs.Events.{EventValue, ads_up, ads_bytes, ads_lost, http_open, http_bytes, http_closed, OutputValue, no_output, ads_output, http_output}
@@ -75,7 +75,7 @@ TakesAds (Some rest) old bytes out new = (replies : List ℕ) × (is_broken : Bo
 
 -- a connection opens
 pub data OpensAt (old : ProxyValue) (k : ℕ) (facts : Facts) (out : OutputValue) (new : ProxyValue) : Type 0 where
-  opened : k < places → FactsInLimits facts old.client.config.limits → out ≡ no_output
+  opened : k < places → AreFacts facts → FactsInLimits facts old.client.config.limits → out ≡ no_output
       → new ≡ with_conn old k (Some (new_front old.client.config.limits facts)) → OpensAt old k facts out new
   unfit : k < places → (FactsInLimits facts old.client.config.limits → ⊥) → out ≡ http_output [] true
       → new ≡ with_conn old k None → OpensAt old k facts out new

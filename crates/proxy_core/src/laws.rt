@@ -1,10 +1,10 @@
 //! Laws of whole runs.
 
-ghost use Rattle.std.specs.Prelude.{IfSome, List};
+ghost use Rattle.std.specs.Prelude.{List};
 ghost use Rattle.std.specs.List.{AllZip};
 ghost use Rattle.ads.specs.Config.{ConfigValue};
 ghost use Rattle.proxy_core.specs.Step.{CallsDo, EventCall, ProxyValue, events_of, new_proxy, outputs_of};
-ghost use Rattle.proxy_core.specs.Acknowledging.{WasAcknowledged};
+ghost use Rattle.proxy_core.specs.Acknowledging.{HasLast};
 ghost use Rattle.proxy_core.specs.Headline.{Headline};
 ghost use Rattle.proxy_core.specs.Run.{IsHistory, Moment, acknowledged_in};
 
@@ -15,9 +15,9 @@ pub fn events()
         → Headline c (events_of calls) (outputs_of calls) }
 {}
 
-/// In a history the rules of each filter, whose meaning decides, were acknowledged: an earlier output has the ACK of a response
-/// that gave the filter these rules.
-pub fn acknowledged_filters_decide_by_meaning()
+/// In a history each filter has the rules that were acknowledged last: the last response that was acknowledged and has a
+/// resource of the filter's name gave it these, and its ACK was put out. A filter that has none was given none.
+pub fn filters_have_what_was_acknowledged_last()
     ensures { (c : ConfigValue) (past : List Moment) → IsHistory c past
-        → AllZip (λ f filter. IfSome filter (WasAcknowledged c past f)) c.filters (acknowledged_in c past).policies }
+        → AllZip (HasLast c past) c.filters (acknowledged_in c past).policies }
 {}

@@ -1,4 +1,4 @@
-use Rattle.std.proofs.Common.{◌≡◌, length, None, refl, sym, ◌∙◌, arith, rules}
+use Rattle.std.proofs.Common.{◌≡◌, length, None, ◌∙◌, arith, rules}
 use Rattle.ads.specs.Ends.{client_view}
 use Rattle.proxy_core.proofs.Parts.{open_set, open_taken, taken_past, taken_within}
 use Rattle.proxy_core.proofs.proxy.Proxy.take.Goals as goal
