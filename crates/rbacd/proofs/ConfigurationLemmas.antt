@@ -5,7 +5,7 @@ use Rattle.ads.proofs.Lists.{zip_more}
 use Rattle.ads.specs.Config.{ConfigValue, FilterIsAtFault, FilterValue, IsAtFault, IsFilter, IsSound}
 use Rattle.ads.specs.declared.config.ConfigFault.{ConfigFault}
 use Rattle.ads.specs.declared.config.Filter.{Filter}
-use Rattle.ads.specs.steps.Views.{filter_view, filters_view}
+use Rattle.ads.specs.Views.{filter_view, filters_view}
 use Rattle.attributes.specs.Limits.{AreLimits, LimitsValue, declared, largest, limit_of, name_of}
 use Rattle.attributes.specs.declared.limits.Limit.{Limit}
 use Rattle.serde_json.specs.Data.{Data, Items, array, string}

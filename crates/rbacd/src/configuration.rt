@@ -2,7 +2,7 @@
 ghost use Rattle.std.specs.Prelude.{◌≡◌, ◌≢◌, ℕ, List, Some, IfOk, IfErr, OnErr, codes};
 ghost use Rattle.std.specs.List.{AllZip};
 ghost use Rattle.ads.specs.Config.{ConfigValue, FilterValue, IsSound};
-ghost use Rattle.ads.specs.steps.Views.{config_of, filter_view, filters_view};
+ghost use Rattle.ads.specs.Views.{config_of, filter_view, filters_view};
 ghost use Rattle.attributes.specs.Limits.{AreLimits, LimitsValue, declared, largest, limit_of};
 ghost use Rattle.serde_json.specs.Data.{Items, array};
 ghost use Rattle.serde_json.specs.Find.{get};

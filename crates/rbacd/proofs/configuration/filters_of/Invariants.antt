@@ -1,7 +1,7 @@
 -- The values so far are the filters so far.
 use Rattle.std.proofs.Common.{take}
 use Rattle.std.specs.List.{AllZip}
-use Rattle.ads.specs.steps.Views.{filters_view}
+use Rattle.ads.specs.Views.{filters_view}
 use Rattle.serde_json.specs.View.{items_view}
 use Rattle.rbacd.specs.Configuration.{IsFilterObject}
 use Rattle.rbacd.specs.Members.{values}
