@@ -149,7 +149,7 @@ impl Fact {
     }
 
     // The fact of this name, if there is one.
-    fn named(name: &str) -> Option<Fact>
+    pub(crate) fn named(name: &str) -> Option<Fact>
         ensures { (fact : Fact) → (result ≡ Some fact) ↔ (name.now ≡ name_of fact) }
     {
         find_named(&FACTS, name)
@@ -269,7 +269,7 @@ fn text_at(alloc: Global, object: &Value, fact: Fact) -> Result<Option<RcStr>, F
     }
 }
 
-fn str_at(object: &Value, fact: Fact) -> Result<Option<&str>, FactsFault>
+pub(crate) fn str_at(object: &Value, fact: Fact) -> Result<Option<&str>, FactsFault>
     ensures found { IfOk result
         (λ text. Tells IsText (get (name_of fact) (view object.now)) (option_map (λ t. t.now) text)) }
     ensures fault { IfErr result (λ e. (e ≡ Bad)
@@ -284,7 +284,7 @@ fn str_at(object: &Value, fact: Fact) -> Result<Option<&str>, FactsFault>
     }
 }
 
-fn number_at(object: &Value, fact: Fact) -> Result<Option<u64>, FactsFault>
+pub(crate) fn number_at(object: &Value, fact: Fact) -> Result<Option<u64>, FactsFault>
     ensures found { IfOk result (λ n. Tells IsNumber (get (name_of fact) (view object.now)) n) }
     ensures fault { IfErr result (λ e. (e ≡ Bad)
         × ((n : Option ℕ) → ¬ Tells IsNumber (get (name_of fact) (view object.now)) n)) }
@@ -298,7 +298,7 @@ fn number_at(object: &Value, fact: Fact) -> Result<Option<u64>, FactsFault>
     }
 }
 
-fn port_at(object: &Value, fact: Fact) -> Result<Option<u16>, FactsFault>
+pub(crate) fn port_at(object: &Value, fact: Fact) -> Result<Option<u16>, FactsFault>
     ensures found { IfOk result (λ port. Tells IsPortNumber (get (name_of fact) (view object.now)) port) }
     ensures fault { IfErr result (λ e. (e ≡ Bad)
         × ((port : Option ℕ) → ¬ Tells IsPortNumber (get (name_of fact) (view object.now)) port)) }
@@ -310,7 +310,7 @@ fn port_at(object: &Value, fact: Fact) -> Result<Option<u16>, FactsFault>
     }
 }
 
-fn answer_at(object: &Value, fact: Fact) -> Result<Option<bool>, FactsFault>
+pub(crate) fn answer_at(object: &Value, fact: Fact) -> Result<Option<bool>, FactsFault>
     ensures found { IfOk result (λ b. Tells IsAnswer (get (name_of fact) (view object.now)) b) }
     ensures fault { IfErr result (λ e. (e ≡ Bad)
         × ((b : Option Bool) → ¬ Tells IsAnswer (get (name_of fact) (view object.now)) b)) }
@@ -324,7 +324,7 @@ fn answer_at(object: &Value, fact: Fact) -> Result<Option<bool>, FactsFault>
     }
 }
 
-fn address_at(object: &Value, fact: Fact) -> Result<Option<Ip>, FactsFault>
+pub(crate) fn address_at(object: &Value, fact: Fact) -> Result<Option<Ip>, FactsFault>
     ensures found { IfOk result (λ ip. Tells IsAddress (get (name_of fact) (view object.now)) ip) }
     ensures fault { IfErr result (λ e. (e ≡ Bad)
         × ((ip : Option Ip) → ¬ Tells IsAddress (get (name_of fact) (view object.now)) ip)) }
@@ -348,57 +348,4 @@ fn scheme_at(alloc: Global, object: &Value, fact: Fact) -> Result<RcStr, FactsFa
         Some(scheme) => Ok(scheme),
         None => Ok(RcStr::from_str(alloc, "http")?),
     }
-}
-
-/// Why a text tells of no connection, in words for its writer.
-pub(crate) fn cause_of_bad_facts(alloc: Global, text: &[u8]) -> Result<String, AllocError> {
-    let value = match Value::from_slice(alloc, text) {
-        Ok(value) => value,
-        Err(error) => return format!(in alloc; "it is no JSON text: {error}"),
-    };
-    cause_of_bad_value(alloc, &value)
-}
-
-/// Why a value tells of no connection.
-pub(crate) fn cause_of_bad_value(alloc: Global, value: &Value) -> Result<String, AllocError> {
-    match value.as_object() {
-        Some(members) => cause_of_bad_members(alloc, value, members),
-        None => String::from_str(alloc, "it is no JSON object"),
-    }
-}
-
-// The first member that is no fact, or is not of its kind.
-fn cause_of_bad_members(
-    alloc: Global,
-    object: &Value,
-    members: &Map<String, Value>,
-) -> Result<String, AllocError> {
-    for name in members.keys() {
-        let name = name.as_str();
-        let Some(fact) = Fact::named(name) else {
-            return format!(in alloc; "no fact is named {name:?}");
-        };
-        if let Some(kind) = kind_that_lacks(object, fact) {
-            return format!(in alloc; "the value of {name} is not {kind}");
-        }
-    }
-    String::from_str(alloc, "a text is longer than 1024 bytes")
-}
-
-// What the value of a fact has to be, if it is not.
-fn kind_that_lacks(object: &Value, fact: Fact) -> Option<&'static str> {
-    let (is_right, kind) = match fact {
-        Fact::SourcePort | Fact::DestinationPort => (
-            port_at(object, fact).is_ok(),
-            "a whole number from 0 to 65535",
-        ),
-        Fact::ConnectionId => (number_at(object, fact).is_ok(), "a whole number below 2^64"),
-        Fact::ConnectionMtls => (answer_at(object, fact).is_ok(), "true or false"),
-        Fact::DirectRemoteIp | Fact::RemoteIp | Fact::DestinationIp => (
-            address_at(object, fact).is_ok(),
-            "a text that spells an IP address",
-        ),
-        _ => (str_at(object, fact).is_ok(), "a text"),
-    };
-    if is_right { None } else { Some(kind) }
 }

@@ -1,13 +1,14 @@
 //! Reading the head that an input begins with, and no more than that.
-ghost use Rattle.std.specs.Prelude.{List, ℕ, IfOk, OnOk};
+ghost use Rattle.std.specs.Prelude.{◌≡◌, List, [], ℕ, IfOk, OnOk};
 ghost use Rattle.std.specs.Io.{ReadsAtMost};
 ghost use Rattle.std.specs.Io.KnownBytes.{Consumes, ReadConsumes};
 ghost use Rattle.attributes.specs.Conn.{conn_view};
+ghost use Rattle.http_front.specs.Heads.{reading};
 ghost use Rattle.rbacd.specs.Judging.{IsAllOf};
-ghost use Rattle.rbacd.specs.steps.Reading.{Grows, IsFound, IsJustEnough};
+ghost use Rattle.rbacd.specs.steps.Reading.{Feeds, IsFound, IsJustEnough, head_ask};
 
 use attributes::{Conn, Limits};
-use http_front::{HeadAsk, read_head};
+use http_front::{Ask, Front, HeadAsk};
 use std::alloc::Global;
 use std::io::{self, ErrorKind, Read};
 
@@ -20,20 +21,31 @@ const CHUNK: usize = 4_096;
 pub(crate) fn read_ask<R: Read>(
     alloc: Global,
     limits: &Limits,
-    conn: &Conn,
+    conn: Conn,
     input: &mut R,
 ) -> io::Result<Option<HeadAsk>>
     ensures found { IfOk result (λ found. (bytes : List ℕ) × IsAllOf (R.remaining input.old) bytes
-        × IsFound limits.now (conn_view conn.now) bytes found) }
+        × IsFound limits.now (conn_view conn) bytes found) }
     ensures no_more { OnOk result ((read : List ℕ)
         × Consumes (R.remaining input.old) (R.remaining input.new) read × IsJustEnough read) }
 {
-    let mut bytes = Vec::new(alloc);
+    let mut front = Front::new(alloc, *limits, conn);
+    first_ask(&mut front, input)
+}
+
+/// What the head asks that the input begins with, to a front that has nothing yet, as in `read_ask`.
+fn first_ask<R: Read>(front: &mut Front, input: &mut R) -> io::Result<Option<HeadAsk>>
+    requires { front.old.kept ≡ reading 0 [] }
+    ensures found { IfOk result (λ found. (bytes : List ℕ) × IsAllOf (R.remaining input.old) bytes
+        × IsFound front.old.limits front.old.facts bytes found) }
+    ensures no_more { OnOk result ((read : List ℕ)
+        × Consumes (R.remaining input.old) (R.remaining input.new) read × IsJustEnough read) }
+{
     for _ in 0..u64::MAX {
-        match read_head(alloc, &bytes, limits, conn.copy()?)? {
-            Some(ask) => return Ok(Some(ask)),
+        match front.next()? {
+            Some(ask) => return Ok(Some(head_ask(ask))),
             None => {
-                if read_chunk(input, &mut bytes)? == 0 {
+                if read_chunk(input, front)? == 0 {
                     return Ok(None);
                 }
             }
@@ -42,14 +54,24 @@ pub(crate) fn read_ask<R: Read>(
     Err(io::Error::from(ErrorKind::TimedOut))
 }
 
-/// Appends what one read gives; how many bytes. At the end of the input there are none.
-fn read_chunk<R: Read>(input: &mut R, bytes: &mut Vec<u8>) -> io::Result<usize>
-    ensures { IfOk result (Grows bytes.old.items bytes.new.items (R.remaining input.old)
+/// What the head asks, without whether its connection closes.
+fn head_ask(ask: Ask) -> HeadAsk
+    ensures { result ≡ head_ask ask }
+{
+    match ask {
+        Ask::Judge(request, _) => HeadAsk::Judge(request),
+        Ask::Fault(fault) => HeadAsk::Fault(fault),
+    }
+}
+
+/// Feeds the front what one read gives; how many bytes. At the end of the input there are none.
+fn read_chunk<R: Read>(input: &mut R, front: &mut Front) -> io::Result<usize>
+    ensures { IfOk result (Feeds front.old front.new (R.remaining input.old)
         (R.remaining input.new)) }
 {
     let mut room = [0u8; CHUNK];
     let count = read_some(input, &mut room)?;
-    bytes.extend_from_slice(&room[..count])?;
+    front.feed(&room[..count])?;
     Ok(count)
 }
 

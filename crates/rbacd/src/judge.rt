@@ -195,7 +195,7 @@ fn head_finding<R: Read + Drop>(
         IsGiven finding.explanation ↔ (IsTrue explain × IsDecision finding.outcome)) }
 {
     let mut input = input;
-    let found = read_ask(alloc, admitted.limits(), &conn, &mut input)?;
+    let found = read_ask(alloc, admitted.limits(), conn, &mut input)?;
     let outcome = outcome_of_ask(admitted, &found);
     let name = name_of(alloc, admitted, outcome)?;
     let explanation = explanation_of_ask(alloc, admitted, &found, outcome, explain);

@@ -9,7 +9,8 @@ ghost use Rattle.rbacd.specs.Members.{HasOnly};
 ghost use Rattle.rbacd.specs.Lines.{HasFacts, HasHex, HasParts, IsEvent, IsLine, bytes_word, end_word, kind_of, line_view, name_of, names_of, words_of};
 ghost use Rattle.rbacd.specs.declared.lines.LineFault.TheVariants.{BadLine, Memory};
 
-use crate::facts::{FactsFault, cause_of_bad_value, conn_of};
+use crate::bad_facts::cause_of_bad_value;
+use crate::facts::{FactsFault, conn_of};
 use crate::members::{Misfit, number_at, require_names, str_at};
 use attributes::Conn;
 use hex::FromHexError;
@@ -328,10 +329,10 @@ fn cause_of_bad_parts(alloc: Global, value: &Value, kind: EventKind) -> Result<S
     if value.get("k").is_some() && number_at(value, "k").is_err() {
         return String::from_str(alloc, "the value of k is not a whole number below 2^64");
     }
-    match value.get("facts") {
-        Some(facts) => cause_of_bad_value(alloc, facts),
-        None => format!(in alloc;
-            "{name} lacks a member, or its hex is no text of hexadecimal pairs"
-        ),
+    if let Some(facts) = value.get("facts") {
+        if let Some(cause) = cause_of_bad_value(alloc, facts)? {
+            return Ok(cause);
+        }
     }
+    format!(in alloc; "{name} lacks a member, or its hex is no text of hexadecimal pairs")
 }

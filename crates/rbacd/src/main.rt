@@ -8,6 +8,7 @@ use std::io::{ErrorKind, Write};
 use std::process::ExitCode;
 use std::{env, io};
 
+mod bad_facts;
 mod commands;
 pub mod configuration;
 mod explain;

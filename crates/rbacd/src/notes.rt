@@ -3,7 +3,7 @@
 //!
 //! Nothing here bears on the outcome or the status, but that memory may run out here too; no contract speaks of the texts.
 
-use crate::facts::cause_of_bad_facts;
+use crate::bad_facts::cause_of_bad_facts;
 use crate::outcome::Outcome;
 use crate::telling::cause_of_bad_config;
 use http_front::{HeadFault, HeadPart};
@@ -84,8 +84,10 @@ pub(crate) enum Likeness {
 impl fmt::Display for Likeness {
     fn fmt<W: fmt::Write>(&self, f: &mut fmt::Formatter<W>) -> fmt::Result {
         f.write_str(match self {
-            Likeness::Json => "JSON",
-            Likeness::Yaml => "YAML or other text",
+            Likeness::Json => "JSON, which `tools/policy/policy encode` turns into bytes",
+            Likeness::Yaml => {
+                "YAML or other text, which `tools/policy/policy encode` turns into bytes"
+            }
             Likeness::Hex => "hexadecimal text",
             Likeness::Base64 => "base64 text",
             Likeness::Gzip => "a gzip file",
