@@ -8,6 +8,11 @@
 //   probe stream STREAM [ROUNDS [PIECE]]  frames and discovery responses, in pieces of so many bytes
 //   probe feed STREAM [ROUNDS [PIECE]]    the same, fed to a client
 //   probe front BYTES [ROUNDS [PIECE]]    a connection's bytes, in pieces of so many
+//   probe step STREAM HEAD [ROUNDS [PIECE [CONNECTIONS]]]
+//                                         a proxy that took the stream: the head comes on so many connections, so often
+//   probe step_alone ..                   the same by fronts, the filter and the answer alone
+//   probe update STREAM [ROUNDS [PIECE]]  a proxy: the stream comes so often
+//   probe update_alone ..                 the same by the client alone
 //   probe expression EXPRESSION [ROUNDS [PART]]
 //                                         a condition from its bytes to its tree (PART 1), its type (2), its bound (3), its code (4)
 //                                         or until its code is verified (5)
@@ -32,6 +37,12 @@ uint64_t engine_decide(const char *filter, size_t filter_length, const char *hea
 uint64_t engine_stream(const char *stream, size_t length, size_t piece, uint64_t rounds);
 uint64_t engine_feed(const char *stream, size_t length, size_t piece, uint64_t rounds);
 uint64_t engine_front(const char *bytes, size_t length, size_t piece, uint64_t rounds);
+uint64_t engine_step(const char *stream, size_t stream_length, const char *head, size_t head_length, uint64_t conns,
+                     size_t piece, uint64_t rounds);
+uint64_t engine_step_alone(const char *stream, size_t stream_length, const char *head, size_t head_length, uint64_t conns,
+                           size_t piece, uint64_t rounds);
+uint64_t engine_update(const char *stream, size_t length, size_t piece, uint64_t rounds);
+uint64_t engine_update_alone(const char *stream, size_t length, size_t piece, uint64_t rounds);
 uint64_t engine_expression(const char *bytes, size_t length, uint64_t part, uint64_t budget, uint64_t rounds);
 uint64_t engine_pack(uint64_t count, uint64_t different, uint64_t rounds);
 uint64_t engine_bound(const char *bytes, size_t length, uint64_t budget, uint64_t rounds);
@@ -107,8 +118,9 @@ static long faults(void) {
 
 int main(int count, char **words) {
   if (count < 3) {
-    fprintf(stderr, "usage: probe admit|together|keep|head|stream|feed|front|expression|bound FILE "
+    fprintf(stderr, "usage: probe admit|together|keep|head|stream|feed|front|update|update_alone|expression|bound FILE "
                     "[ROUNDS [COUNT, PIECE, PART or BUDGET]] | "
+                    "probe step|step_alone STREAM HEAD [ROUNDS [PIECE [CONNECTIONS]]] | "
                     "probe judge FILTER HEAD [ROUNDS] | probe pack COUNT [ROUNDS [DIFFERENT]]\n");
     return 2;
   }
@@ -133,6 +145,15 @@ int main(int count, char **words) {
     answer = engine_expression(input.start, input.length, count > 4 ? strtoull(words[4], 0, 10) : VERIFIED, BUDGET, rounds);
   if (!strcmp(work, "bound"))
     answer = engine_bound(input.start, input.length, count > 4 ? strtoull(words[4], 0, 10) : BUDGET, rounds);
+  if (!strncmp(work, "update", 6))
+    answer = (strcmp(work, "update") ? engine_update_alone : engine_update)(
+        input.start, input.length, count > 4 ? strtoull(words[4], 0, 10) : 16384, rounds);
+  if (!strncmp(work, "step", 4) && count > 3) {
+    struct bytes head = contents_of(words[3]);
+    answer = (strcmp(work, "step") ? engine_step_alone : engine_step)(
+        input.start, input.length, head.start, head.length, count > 6 ? strtoull(words[6], 0, 10) : 1,
+        count > 5 ? strtoull(words[5], 0, 10) : 16384, count > 4 ? strtoull(words[4], 0, 10) : 1);
+  }
   if (!strcmp(work, "judge") && count > 3) {
     struct bytes head = contents_of(words[3]);
     answer = engine_decide(input.start, input.length, head.start, head.length, 1, count > 4 ? strtoull(words[4], 0, 10) : 1);
