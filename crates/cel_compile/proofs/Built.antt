@@ -1,302 +1,268 @@
--- Code that is written piece by piece is an expression's code; jumps are written last.
-use Rattle.std.proofs.Common.{◌≡◌, ℕ, ◌+◌, ◌<◌, ◌≤◌, ◌^◌, ◌⊎◌, inl, inr, List, [], ◌∷◌, ◌++◌, length, refl, sym, ap, ◌∙◌, arith, append_assoc, length-append}
-use Rattle.std.proofs.Math.Seq.{set-append_seam}
-use Rattle.std.proofs.lemmas.List.{map-append, map-set, length-map, length-set}
-use Rattle.std.specs.Prelude.{slice_set}
+-- Code that is written piece by piece is an expression's code, and there is room for each piece.
+use Rattle.std.proofs.Common.{◌≡◌, ℕ, ◌+◌, ◌-◌, ◌<◌, ◌≤◌, ◌^◌, ◌⊎◌, inl, inr, List, [], ◌∷◌, ◌++◌, length, refl, sym, ap, ◌∙◌, subst, arith, append_assoc, append-nil, length-append}
+use Rattle.std.proofs.lemmas.List.{length-map}
 use Rattle.cel_types.specs.Elaborated.{TypedTree, TypedTrees, no_typed, typed, typed_call, typed_loop}
 use Rattle.cel_value.specs.Types.{ValueType}
 use Rattle.cel_overload.specs.declared.overload.Overload.{Overload}
 use Rattle.cel_ops.specs.declared.operation.Operation.TheVariants as operations
 use Rattle.cel_overload.specs.declared.overload.Overload.TheVariants as overloads
-use Rattle.stack_machine.specs.Instructions.{Instruction, code_view, instr_view, Operate, IfFalse, IfTrue, Jump, LoopNext, LoopStart, LoopTest, Store, Test}
+use Rattle.stack_machine.specs.Instructions.{Instruction, code_view, instr_view, Operate, IfFalse, IfTrue, Jump, Test}
 use Rattle.stack_machine.specs.declared.instr.Instr.{Instr}
+use Rattle.cel_compile.specs.declared.lengths.Lengths.{Lengths}
 use Rattle.cel_compile.specs.Codes.{code_of, codes_of, extent, instruction_of}
-use Rattle.cel_compile.specs.Slots.{HasFewLocals, HaveFewLocals}
-use Rattle.cel_compile.specs.steps.Emitting.{Grows, GrowsAll, passing_over}
-use Rattle.cel_compile.proofs.Placing.{extent_is}
+use Rattle.cel_compile.specs.Slots.{HasFewLocals}
+use Rattle.cel_compile.specs.steps.Emitting.{Grows, GrowsAll, HasRoom, Writes, passing_over}
+use Rattle.cel_compile.specs.steps.Lengths.{EndsWith, lengths_are, lengths_of}
+
+many : (is : List Instr) → length (code_view is) ≡ length is
+many is = length-map is instr_view
 
 -- one more instruction
-pub one_longer : (i0 i1 : List Instr) (x : Instr) → i1 ≡ i0 ++ x ∷ [] → length i1 ≡ length i0 + 1
-one_longer i0 i1 x e = ap length e ∙ length-append i0 (x ∷ [])
+pub one : {i0 i1 : List Instr} {l : List Lengths} (i : Instr) (j : Instruction) → code_view i1 ≡ code_view i0 ++ instr_view i ∷ []
+    → instr_view i ≡ j → Writes i0 i1 l l 1 (j ∷ []) []
+one {i0} {i1} {l} i j put is = record {
+  longer = omega (arith, many i0, many i1, ap length put, length-append (code_view i0) (instr_view i ∷ []));
+  code = put ∙ ap (λ x. code_view i0 ++ x ∷ []) is;
+  takes = λ rest e. e ∙ append-nil rest;
+}
 
-seen : (i0 i1 : List Instr) (x : Instr) → i1 ≡ i0 ++ x ∷ [] → code_view i1 ≡ code_view i0 ++ instr_view x ∷ []
-seen i0 i1 x e = ap code_view e ∙ map-append instr_view i0 (x ∷ [])
+-- the lengths of a jump are taken
+pub taken : (i : List Instr) (l0 l1 : List Lengths) (x : Lengths) → ((rest : List Lengths) → l0 ≡ rest ++ x ∷ [] → l1 ≡ rest)
+    → Writes i i l0 l1 0 [] (x ∷ [])
+taken i l0 l1 x h = record {
+  longer = omega arith;
+  code = sym (append-nil (code_view i));
+  takes = h;
+}
 
-many : (is : List Instr) → length is ≡ length (code_view is)
-many is = sym (length-map is instr_view)
+-- nothing
+pub nothing : (i : List Instr) (l : List Lengths) → Writes i i l l 0 [] []
+nothing i l = record {
+  longer = omega arith;
+  code = sym (append-nil (code_view i));
+  takes = λ rest e. e ∙ append-nil rest;
+}
 
--- one instruction gives way to another
-patched : (is js : List Instr) (place : ℕ) (i : Instr) → js ≡ slice_set is place i
-    → (before after : List Instruction) (x : Instruction) → code_view is ≡ before ++ x ∷ after → place ≡ length before
-    → code_view js ≡ before ++ instr_view i ∷ after
-patched is js place i set before after x e at =
-    ap code_view set ∙ map-set instr_view is place i ∙ ap (λ l. slice_set l place (instr_view i)) e
-    ∙ ap (λ n. slice_set (before ++ x ∷ after) n (instr_view i)) at ∙ set-append_seam before x after (instr_view i)
+-- one thing after another
+pub then : {i0 i1 i2 : List Instr} {l0 l1 l2 : List Lengths} {m n : ℕ} {v w : List Instruction} {ks ls : List Lengths}
+    → Writes i0 i1 l0 l1 m v ks → Writes i1 i2 l1 l2 n w ls → Writes i0 i2 l0 l2 (m + n) (v ++ w) (ls ++ ks)
+then {i0} {i1} {i2} {l0} {l1} {l2} {m} {n} {v} {w} {ks} {ls} a b = record {
+  longer = let x = a.longer in let y = b.longer in omega (arith, x, y);
+  code = b.code ∙ ap (λ l. l ++ w) a.code ∙ append_assoc (code_view i0) v w;
+  takes = λ rest e. b.takes rest (a.takes (rest ++ ls) (e ∙ sym (append_assoc rest ls ks)));
+}
 
--- an expression of one instruction
-pub one_built : (d : ℕ) (i0 i1 : List Instr) (i : Instr) (F : Type 0) (j : Instruction) → i1 ≡ i0 ++ i ∷ [] → instr_view i ≡ j
-    → (length i1 ≡ length i0 + 1) × (F → length i1 < 2 ^ 16 → code_view i1 ≡ code_view i0 ++ j ∷ [])
-one_built d i0 i1 i F j e is = (one_longer i0 i1 i e, λ few short. seen i0 i1 i e ∙ ap (λ x. code_view i0 ++ x ∷ []) is)
+-- the same in other words
+pub in_words : {i0 i1 : List Instr} {l0 l1 : List Lengths} {m n : ℕ} {v w : List Instruction} {ks ls : List Lengths}
+    → m ≡ n → v ≡ w → ls ≡ ks → Writes i0 i1 l0 l1 m v ks → Writes i0 i1 l0 l1 n w ls
+in_words {i0} {i1} {l0} {l1} {m} {n} {v} {w} {ks} {ls} em ev el a = record {
+  longer = a.longer ∙ ap (λ k. length i0 + k) em;
+  code = a.code ∙ ap (λ k. code_view i0 ++ k) ev;
+  takes = λ rest e. a.takes rest (e ∙ ap (λ k. rest ++ k) el);
+}
 
--- an instruction behind other code
-pub closed : (i0 i1 i2 : List Instr) (i : Instr) (n : ℕ) (F : Type 0) (w : List Instruction) (j : Instruction)
-    → (length i1 ≡ length i0 + n) × (F → length i1 < 2 ^ 16 → code_view i1 ≡ code_view i0 ++ w) → i2 ≡ i1 ++ i ∷ [] → (length i2 < 2 ^ 16 → instr_view i ≡ j)
-    → (length i2 ≡ length i0 + (n + 1)) × (F → length i2 < 2 ^ 16 → code_view i2 ≡ code_view i0 ++ (w ++ j ∷ []))
-closed i0 i1 i2 i n F w j g e is =
-    let l1 = g.0 in
-    let l2 = one_longer i1 i2 i e in (
-      omega arith,
-      λ few short. seen i1 i2 i e ∙ ap (λ x. code_view i1 ++ x ∷ []) (is short)
-          ∙ ap (λ l. l ++ j ∷ []) (g.1 few (omega arith)) ∙ append_assoc (code_view i0) w (j ∷ []),
-    )
+-- one expression after others
+pub first_built : {i0 i1 i2 : List Instr} {l0 l1 l2 : List Lengths} (d : ℕ) (e : TypedTree) (es : TypedTrees)
+    → Grows i0 i1 l0 l1 d e → GrowsAll i1 i2 l1 l2 d es → GrowsAll i0 i2 l0 l2 d (typed e es)
+first_built {i0} {i1} {i2} {l0} {l1} {l2} d e es g gs =
+    in_words refl (ap (λ n. code_of (length i0) d e ++ codes_of n d es) g.longer) refl (then g gs)
 
--- one expression behind others
-pub first_built : (d : ℕ) (e : TypedTree) (es : TypedTrees) (i0 i1 i2 : List Instr) → Grows i0 i1 d e → GrowsAll i1 i2 d es → GrowsAll i0 i2 d (typed e es)
-first_built d e es i0 i1 i2 g gs =
-    let l1 = g.0 in
-    let l2 = gs.0 in (
-      omega arith,
-      λ few short.
-          gs.1 few.1 short ∙ ap (λ l. l ++ codes_of (length i1) d es) (g.1 few.0 (omega arith))
-          ∙ append_assoc (code_view i0) (code_of (length i0) d e) (codes_of (length i1) d es)
-          ∙ ap (λ n. code_view i0 ++ (code_of (length i0) d e ++ codes_of n d es)) l1,
-    )
+-- ---- lengths that are left
 
--- `&&` and `||`
-pub both_built : (d : ℕ) (a b : TypedTree) (i0 i1 i2 i3 i4 i5 : List Instr) (x y z : Instr) (fork end : ℕ) (jump : ℕ → Instruction) (j : Instruction)
-    → Grows i0 i1 d a → fork ≡ length i1 → i2 ≡ i1 ++ x ∷ [] → Grows i2 i3 d b → i4 ≡ i3 ++ y ∷ [] → instr_view y ≡ j → end ≡ length i4
-    → i5 ≡ slice_set i4 fork z → (end < 2 ^ 16 → instr_view z ≡ jump end)
-    → (length i5 ≡ length i0 + (extent a + 1 + extent b + 1)) × (HaveFewLocals d (typed a (typed b no_typed)) → length i5 < 2 ^ 16
-    → code_view i5 ≡ code_view i0 ++ (code_of (length i0) d a ++ jump (length i0 + extent a + 1 + extent b + 1)
-    ∷ (code_of (length i0 + extent a + 1) d b ++ j ∷ [])))
-both_built d a b i0 i1 i2 i3 i4 i5 x y z fork end jump j ga f e2 gb e4 is ends e5 jumps =
-    let l1 = ga.0 in
-    let l2 = one_longer i1 i2 x e2 in
-    let l3 = gb.0 in
-    let l4 = one_longer i3 i4 y e4 in
-    let l5 : length i5 ≡ length i4 = ap length e5 ∙ length-set i4 fork z in
-    let p = length i0 in (
-      omega arith,
-      λ few short.
-          let m2 : length i2 ≡ p + extent a + 1 = omega arith in
-          let m4 : end ≡ p + extent a + 1 + extent b + 1 = omega arith in
-          let A = code_of p d a in
-          let B = code_of (length i2) d b in
-          let s1 : code_view i1 ≡ code_view i0 ++ A = ga.1 few.0 (omega arith) in
-          let s2 = seen i1 i2 x e2 in
-          let s3 : code_view i3 ≡ code_view i2 ++ B = gb.1 few.1.0 (omega arith) in
-          let s4 : code_view i4 ≡ code_view i3 ++ j ∷ [] = seen i3 i4 y e4 ∙ ap (λ v. code_view i3 ++ v ∷ []) is in
-          let all : code_view i4 ≡ ((code_view i1 ++ instr_view x ∷ []) ++ B) ++ j ∷ [] = cc in
-          let flat : ((code_view i1 ++ instr_view x ∷ []) ++ B) ++ j ∷ [] ≡ code_view i1 ++ instr_view x ∷ (B ++ j ∷ []) = simp append_assoc in
-          patched i4 i5 fork z e5 (code_view i1) (B ++ j ∷ []) (instr_view x) (all ∙ flat) (f ∙ many i1)
-          ∙ ap (λ v. code_view i1 ++ v ∷ (B ++ j ∷ [])) (jumps (omega arith))
-          ∙ ap (λ l. l ++ jump end ∷ (B ++ j ∷ [])) s1 ∙ append_assoc (code_view i0) A (jump end ∷ (B ++ j ∷ []))
-          ∙ ap (λ n. code_view i0 ++ (A ++ jump n ∷ (B ++ j ∷ []))) m4
-          ∙ ap (λ n. code_view i0 ++ (A ++ jump (p + extent a + 1 + extent b + 1) ∷ (code_of n d b ++ j ∷ []))) m2,
-    )
+-- after those that were taken
+pub left : {i0 i1 : List Instr} {l0 l1 : List Lengths} {n : ℕ} {w : List Instruction} {ks ls : List Lengths}
+    → Writes i0 i1 l0 l1 n w ks → EndsWith l0 (ls ++ ks) → EndsWith l1 ls
+left {i0} {i1} {l0} {l1} {n} {w} {ks} {ls} a (rest, e) =
+    (rest, a.takes (rest ++ ls) (e ∙ sym (append_assoc rest ls ks)))
 
--- either of them
-pub junction_built : (d : ℕ) (a b : TypedTree) (i0 i1 i2 i3 i4 i5 : List Instr) (x y z : Instr) (fork end : ℕ) (t : ValueType) (o : Overload)
+-- those that are taken next
+pub next : (l ls ks : List Lengths) → EndsWith l (ls ++ ks) → EndsWith l ks
+next l ls ks (rest, e) = (rest ++ ls, e ∙ sym (append_assoc rest ls ks))
+
+-- what taking the lengths of a jump asks for
+pub takes_of : (l ls : List Lengths) (n w k : ℕ) → EndsWith l (ls ++ lengths_are w k ∷ []) → k ≤ w → n + w < 2 ^ 16
+    → (rest : List Lengths) × (whole last : ℕ) × (l ≡ rest ++ lengths_are whole last ∷ []) × (last ≤ whole) × (n + whole < 2 ^ 16)
+takes_of l ls n w k ends small fits =
+    let last = next l ls (lengths_are w k ∷ []) ends in (last.0, w, k, last.1, small, fits)
+
+-- ---- `&&` and `||`
+
+-- the room that they need
+pub record JunctionRoom (d : ℕ) (a b : TypedTree) (i : List Instr) (l : List Lengths) : Type 0 where
+  pub ends : EndsWith l ((lengths_of b ++ lengths_of a) ++ lengths_are (extent a + 1 + extent b + 1) (extent b) ∷ [])
+  pub first : HasFewLocals d a
+  pub second : HasFewLocals d b
+  pub fits : length i + (extent a + 1 + extent b + 1) < 2 ^ 16
+
+pub junction_room : (d : ℕ) (a b : TypedTree) (t : ValueType) (o : Overload) (i : List Instr) (l : List Lengths)
     → (o ≡ (overloads.Operate operations.And)) ⊎ (o ≡ (overloads.Operate operations.Or))
-    → Grows i0 i1 d a → fork ≡ length i1 → i2 ≡ i1 ++ x ∷ [] → Grows i2 i3 d b → i4 ≡ i3 ++ y ∷ [] → instr_view y ≡ instruction_of o → end ≡ length i4
-    → i5 ≡ slice_set i4 fork z → (end < 2 ^ 16 → instr_view z ≡ passing_over o end)
-    → Grows i0 i5 d (typed_call t o (typed a (typed b no_typed)))
-junction_built d a b i0 i1 i2 i3 i4 i5 x y z fork end t o which ga f e2 gb e4 is ends e5 jumps =
-    elim which [
-      | inl e ↦ rw e (both_built d a b i0 i1 i2 i3 i4 i5 x y z fork end IfFalse (Operate operations.And) ga f e2 gb e4 (is ∙ ap instruction_of e) ends e5 (λ short. jumps short ∙ ap (λ v. passing_over v end) e))
-      | inr e ↦ rw e (both_built d a b i0 i1 i2 i3 i4 i5 x y z fork end IfTrue (Operate operations.Or) ga f e2 gb e4 (is ∙ ap instruction_of e) ends e5 (λ short. jumps short ∙ ap (λ v. passing_over v end) e))
-    ]
+    → HasRoom i l d (typed_call t o (typed a (typed b no_typed))) → JunctionRoom d a b i l
+junction_room d a b t o i l which room = elim which [
+  | inl e ↦ let r = subst (λ v. HasRoom i l d (typed_call t v (typed a (typed b no_typed)))) e room in record { ends = r.0; first = r.1.0; second = r.1.1.0; fits = r.2 }
+  | inr e ↦ let r = subst (λ v. HasRoom i l d (typed_call t v (typed a (typed b no_typed)))) e room in record { ends = r.0; first = r.1.0; second = r.1.1.0; fits = r.2 }
+]
 
--- `?:`
-pub choice_built : (d : ℕ) (c a b : TypedTree) (i0 i1 i2 i3 i4 i5 i6 i7 : List Instr) (x y u v : Instr) (fork leave other end : ℕ) (t : ValueType)
-    → Grows i0 i1 d c → fork ≡ length i1 → i2 ≡ i1 ++ x ∷ [] → Grows i2 i3 d a → leave ≡ length i3 → i4 ≡ i3 ++ y ∷ [] → other ≡ length i4
-    → Grows i4 i5 d b → end ≡ length i5 → i6 ≡ slice_set i5 leave u → (end < 2 ^ 16 → instr_view u ≡ Jump end)
-    → i7 ≡ slice_set i6 fork v → (end < 2 ^ 16 → other < 2 ^ 16 → instr_view v ≡ Test other end)
-    → Grows i0 i7 d (typed_call t overloads.Conditional (typed c (typed a (typed b no_typed))))
-choice_built d c a b i0 i1 i2 i3 i4 i5 i6 i7 x y u v fork leave other end t gc f e2 ga lv e4 ot gb ends e6 jumps e7 tests =
-    let l1 = gc.0 in
-    let l2 = one_longer i1 i2 x e2 in
-    let l3 = ga.0 in
-    let l4 = one_longer i3 i4 y e4 in
-    let l5 = gb.0 in
-    let l6 : length i6 ≡ length i5 = ap length e6 ∙ length-set i5 leave u in
-    let l7 : length i7 ≡ length i6 = ap length e7 ∙ length-set i6 fork v in
-    let p = length i0 in (
-      omega arith,
-      λ few short.
-          let m2 : length i2 ≡ p + extent c + 1 = omega arith in
-          let m4 : length i4 ≡ p + extent c + 1 + extent a + 1 = omega arith in
-          let mo : other ≡ p + extent c + 1 + extent a + 1 = omega arith in
-          let me : end ≡ p + extent c + 1 + extent a + 1 + extent b = omega arith in
-          let C = code_of p d c in
-          let A = code_of (length i2) d a in
-          let B = code_of (length i4) d b in
-          let s1 : code_view i1 ≡ code_view i0 ++ C = gc.1 few.0 (omega arith) in
-          let s2 = seen i1 i2 x e2 in
-          let s3 : code_view i3 ≡ code_view i2 ++ A = ga.1 few.1.0 (omega arith) in
-          let s4 = seen i3 i4 y e4 in
-          let s5 : code_view i5 ≡ code_view i4 ++ B = gb.1 few.1.1.0 (omega arith) in
-          let vx = instr_view x in
-          let vy = instr_view y in
-          let all : code_view i5 ≡ (((code_view i1 ++ vx ∷ []) ++ A) ++ vy ∷ []) ++ B = cc in
-          let flat : (((code_view i1 ++ vx ∷ []) ++ A) ++ vy ∷ []) ++ B ≡ (code_view i1 ++ vx ∷ A) ++ vy ∷ B = simp append_assoc in
-          let n1 : leave ≡ length (code_view i1 ++ vx ∷ A) =
-          omega (arith, length-append (code_view i1) (vx ∷ A), many i1, extent_is a (length i2) d) in
-          let d1 = patched i5 i6 leave u e6 (code_view i1 ++ vx ∷ A) B vy (all ∙ flat) n1 ∙ ap (λ z. (code_view i1 ++ vx ∷ A) ++ z ∷ B) (jumps (omega arith)) in
-          let again : (code_view i1 ++ vx ∷ A) ++ Jump end ∷ B ≡ code_view i1 ++ vx ∷ (A ++ Jump end ∷ B) = append_assoc (code_view i1) (vx ∷ A) (Jump end ∷ B) in
-          let d2 = patched i6 i7 fork v e7 (code_view i1) (A ++ Jump end ∷ B) vx (d1 ∙ again) (f ∙ many i1)
-          ∙ ap (λ z. code_view i1 ++ z ∷ (A ++ Jump end ∷ B)) (tests (omega arith) (omega arith)) in
-          let shape : code_of p d (typed_call t overloads.Conditional (typed c (typed a (typed b no_typed))))
-          ≡ C ++ Test (p + extent c + 1 + extent a + 1) (p + extent c + 1 + extent a + 1 + extent b)
-          ∷ (code_of (p + extent c + 1) d a ++ Jump (p + extent c + 1 + extent a + 1 + extent b) ∷ code_of (p + extent c + 1 + extent a + 1) d b) = refl in
-          let assoc = append_assoc (code_view i0) C (Test other end ∷ (A ++ Jump end ∷ B)) in
-          let last : code_view i1 ++ Test other end ∷ (A ++ Jump end ∷ B) ≡ code_view i0 ++ code_of p d (typed_call t overloads.Conditional (typed c (typed a (typed b no_typed)))) = cc in
-          d2 ∙ last,
-    )
+module _ {d : ℕ} {a b : TypedTree} {i0 : List Instr} {l0 l1 : List Lengths} (room : JunctionRoom d a b i0 l0)
+    (take : (rest : List Lengths) → l0 ≡ rest ++ lengths_are (extent a + 1 + extent b + 1) (extent b) ∷ [] → l1 ≡ rest) where
+  pub junction_first : HasRoom i0 l1 d a
+  junction_first =
+      let fits = room.fits in
+      (next l1 (lengths_of b) (lengths_of a) (left (taken i0 l0 l1 _ take) room.ends), room.first, omega (arith, fits))
 
--- what was written of a comprehension, in order: i0 to i14 are the code before and behind each call
-pub record Written (d : ℕ) (range init condition step result : TypedTree) (i0 i14 : List Instr) : Type 0 where
-  pub i1 : List Instr
-  pub i2 : List Instr
-  pub i3 : List Instr
-  pub i4 : List Instr
-  pub i5 : List Instr
-  pub i6 : List Instr
-  pub i7 : List Instr
-  pub i8 : List Instr
-  pub i9 : List Instr
-  pub i10 : List Instr
-  pub i11 : List Instr
-  pub i12 : List Instr
-  pub i13 : List Instr
-  pub start : ℕ
-  pub turn : ℕ
-  pub tested : ℕ
-  pub after : ℕ
-  pub end : ℕ
-  pub d1 : ℕ
-  pub d2 : ℕ
-  pub x1 : Instr
-  pub x2 : Instr
-  pub x3 : Instr
-  pub s1 : Instr
-  pub s2 : Instr
-  pub back : Instr
-  pub z1 : Instr
-  pub z2 : Instr
-  pub z3 : Instr
-  pub d1_is : d + 2 ≤ 255 → d1 ≡ d + 1
-  pub d2_is : d + 2 ≤ 255 → d2 ≡ d + 2
-  pub g1 : Grows i0 i1 d range
-  pub start_is : start ≡ length i1
-  pub e2 : i2 ≡ i1 ++ x1 ∷ []
-  pub g3 : Grows i2 i3 d init
-  pub e4 : i4 ≡ i3 ++ s1 ∷ []
-  pub s1_is : instr_view s1 ≡ Store d
-  pub turn_is : turn ≡ length i4
-  pub e5 : i5 ≡ i4 ++ x2 ∷ []
-  pub g6 : Grows i5 i6 d2 condition
-  pub tested_is : tested ≡ length i6
-  pub e7 : i7 ≡ i6 ++ x3 ∷ []
-  pub g8 : Grows i7 i8 d2 step
-  pub e9 : i9 ≡ i8 ++ s2 ∷ []
-  pub s2_is : instr_view s2 ≡ Store d
-  pub e10 : i10 ≡ i9 ++ back ∷ []
-  pub back_is : turn < 2 ^ 16 → instr_view back ≡ Jump turn
-  pub after_is : after ≡ length i10
-  pub g11 : Grows i10 i11 d1 result
-  pub end_is : end ≡ length i11
-  pub e12 : i12 ≡ slice_set i11 start z1
-  pub z1_is : end < 2 ^ 16 → instr_view z1 ≡ LoopStart end
-  pub e13 : i13 ≡ slice_set i12 turn z2
-  pub z2_is : after < 2 ^ 16 → instr_view z2 ≡ LoopNext d1 after
-  pub e14 : i14 ≡ slice_set i13 tested z3
-  pub z3_is : after < 2 ^ 16 → end < 2 ^ 16 → instr_view z3 ≡ LoopTest after end
+  module _ {i1 : List Instr} {l2 : List Lengths} (ga : Grows i0 i1 l1 l2 d a) where
+    pub junction_put : length i1 < 65535
+    junction_put = let fits = room.fits in let longer = ga.longer in omega (arith, fits, longer)
 
-pub loop_built : (d : ℕ) (t : ValueType) (range init condition step result : TypedTree) (i0 i14 : List Instr)
-    → Written d range init condition step result i0 i14 → Grows i0 i14 d (typed_loop t range init condition step result)
-loop_built d t range init condition step result i0 i14 w =
-    let p = length i0 in
-    let l1 = w.g1.0 in
-    let l2 = one_longer w.i1 w.i2 w.x1 w.e2 in
-    let l3 = w.g3.0 in
-    let l4 = one_longer w.i3 w.i4 w.s1 w.e4 in
-    let l5 = one_longer w.i4 w.i5 w.x2 w.e5 in
-    let l6 = w.g6.0 in
-    let l7 = one_longer w.i6 w.i7 w.x3 w.e7 in
-    let l8 = w.g8.0 in
-    let l9 = one_longer w.i8 w.i9 w.s2 w.e9 in
-    let l10 = one_longer w.i9 w.i10 w.back w.e10 in
-    let l11 = w.g11.0 in
-    let l12 : length w.i12 ≡ length w.i11 = ap length w.e12 ∙ length-set w.i11 w.start w.z1 in
-    let l13 : length w.i13 ≡ length w.i12 = ap length w.e13 ∙ length-set w.i12 w.turn w.z2 in
-    let l14 : length i14 ≡ length w.i13 = ap length w.e14 ∙ length-set w.i13 w.tested w.z3 in
-    let start = w.start_is in
-    let turn = w.turn_is in
-    let tested = w.tested_is in
-    let after = w.after_is in
-    let end = w.end_is in (
-      omega arith,
-      λ few short.
-          let outer_is = w.d1_is few.0 in
-          let inner_is = w.d2_is few.0 in
-          let again = p + extent range + 1 + extent init + 1 in
-          let behind = again + 1 + extent condition + 1 + extent step + 1 + 1 in
-          let m2 : length w.i2 ≡ p + extent range + 1 = omega arith in
-          let m4 : w.turn ≡ again = omega arith in
-          let m5 : length w.i5 ≡ again + 1 = omega arith in
-          let m7 : length w.i7 ≡ again + 1 + extent condition + 1 = omega arith in
-          let m10 : length w.i10 ≡ behind = omega arith in
-          let ma : w.after ≡ behind = omega arith in
-          let me : w.end ≡ behind + extent result = omega arith in
-          let A = code_of p d range in
-          let I = code_of (length w.i2) d init in
-          let C = code_of (length w.i5) w.d2 condition in
-          let S = code_of (length w.i7) w.d2 step in
-          let Q = code_of (length w.i10) w.d1 result in
-          let few_c : HasFewLocals w.d2 condition = rw inner_is (few.3) in
-          let few_s : HasFewLocals w.d2 step = rw inner_is (few.4) in
-          let few_r : HasFewLocals w.d1 result = rw outer_is (few.5) in
-          let v1 : code_view w.i1 ≡ code_view i0 ++ A = w.g1.1 few.1 (omega arith) in
-          let v2 = seen w.i1 w.i2 w.x1 w.e2 in
-          let v3 : code_view w.i3 ≡ code_view w.i2 ++ I = w.g3.1 few.2 (omega arith) in
-          let v4 : code_view w.i4 ≡ code_view w.i3 ++ Store d ∷ [] = seen w.i3 w.i4 w.s1 w.e4 ∙ ap (λ v. code_view w.i3 ++ v ∷ []) w.s1_is in
-          let v5 = seen w.i4 w.i5 w.x2 w.e5 in
-          let v6 : code_view w.i6 ≡ code_view w.i5 ++ C = w.g6.1 few_c (omega arith) in
-          let v7 = seen w.i6 w.i7 w.x3 w.e7 in
-          let v8 : code_view w.i8 ≡ code_view w.i7 ++ S = w.g8.1 few_s (omega arith) in
-          let v9 : code_view w.i9 ≡ code_view w.i8 ++ Store d ∷ [] = seen w.i8 w.i9 w.s2 w.e9 ∙ ap (λ v. code_view w.i8 ++ v ∷ []) w.s2_is in
-          let v10 : code_view w.i10 ≡ code_view w.i9 ++ Jump w.turn ∷ [] = seen w.i9 w.i10 w.back w.e10 ∙ ap (λ v. code_view w.i9 ++ v ∷ []) (w.back_is (omega arith)) in
-          let v11 : code_view w.i11 ≡ code_view w.i10 ++ Q = w.g11.1 few_r (omega arith) in
-          let y1 = instr_view w.x1 in
-          let y2 = instr_view w.x2 in
-          let y3 = instr_view w.x3 in
-          let st = Store d in
-          let lt = LoopTest w.after w.end in
-          let ln = LoopNext w.d1 w.after in
-          let ls = LoopStart w.end in
-          let T = S ++ st ∷ (Jump w.turn ∷ Q) in
-          let all : code_view w.i11 ≡ (((((((((code_view w.i1 ++ y1 ∷ []) ++ I) ++ st ∷ []) ++ y2 ∷ []) ++ C) ++ y3 ∷ []) ++ S) ++ st ∷ []) ++ Jump w.turn ∷ []) ++ Q = cc in
-          let flat : (((((((((code_view w.i1 ++ y1 ∷ []) ++ I) ++ st ∷ []) ++ y2 ∷ []) ++ C) ++ y3 ∷ []) ++ S) ++ st ∷ []) ++ Jump w.turn ∷ []) ++ Q
-          ≡ code_view w.i1 ++ y1 ∷ (I ++ st ∷ (y2 ∷ (C ++ y3 ∷ T))) = simp append_assoc in
-          let p1 = patched w.i11 w.i12 w.start w.z1 w.e12 (code_view w.i1) (I ++ st ∷ (y2 ∷ (C ++ y3 ∷ T))) y1 (all ∙ flat) (start ∙ many w.i1)
-          ∙ ap (λ v. code_view w.i1 ++ v ∷ (I ++ st ∷ (y2 ∷ (C ++ y3 ∷ T)))) (w.z1_is (omega arith)) in
-          let before2 = code_view w.i1 ++ ls ∷ (I ++ st ∷ []) in
-          let flat2 : code_view w.i1 ++ ls ∷ (I ++ st ∷ (y2 ∷ (C ++ y3 ∷ T))) ≡ (code_view w.i1 ++ ls ∷ (I ++ st ∷ [])) ++ y2 ∷ (C ++ y3 ∷ T) = simp append_assoc in
-          let n2 : w.turn ≡ length before2 = omega (arith, many w.i1, length-append (code_view w.i1) (ls ∷ (I ++ st ∷ [])), length-append I (st ∷ []), extent_is init (length w.i2) d) in
-          let p2 = patched w.i12 w.i13 w.turn w.z2 w.e13 before2 (C ++ y3 ∷ T) y2 (p1 ∙ flat2) n2
-          ∙ ap (λ v. before2 ++ v ∷ (C ++ y3 ∷ T)) (w.z2_is (omega arith)) in
-          let before3 = before2 ++ ln ∷ C in
-          let n3 : w.tested ≡ length before3 = omega (arith, many w.i1, length-append before2 (ln ∷ C), length-append (code_view w.i1) (ls ∷ (I ++ st ∷ [])), length-append I (st ∷ []), extent_is init (length w.i2) d, extent_is condition (length w.i5) w.d2) in
-          let p3 = patched w.i13 i14 w.tested w.z3 w.e14 before3 T y3 (p2 ∙ sym (append_assoc before2 (ln ∷ C) (y3 ∷ T))) n3
-          ∙ ap (λ v. before3 ++ v ∷ T) (w.z3_is (omega arith) (omega arith)) in
-          let flat3 : ((code_view w.i1 ++ ls ∷ (I ++ st ∷ [])) ++ ln ∷ C) ++ lt ∷ T ≡ code_view w.i1 ++ ls ∷ (I ++ st ∷ (ln ∷ (C ++ lt ∷ T))) = simp append_assoc in
-          let assoc = append_assoc (code_view i0) A (ls ∷ (I ++ st ∷ (ln ∷ (C ++ lt ∷ T)))) in
-          let shape : code_of p d (typed_loop t range init condition step result) ≡ A ++ LoopStart (behind + extent result)
-          ∷ (code_of (p + extent range + 1) d init ++ Store d ∷ (LoopNext (d + 1) behind
-          ∷ (code_of (again + 1) (d + 2) condition ++ LoopTest behind (behind + extent result)
-          ∷ (code_of (again + 1 + extent condition + 1) (d + 2) step ++ Store d ∷ (Jump again
-          ∷ code_of behind (d + 1) result))))) = refl in
-          let last : code_view w.i1 ++ ls ∷ (I ++ st ∷ (ln ∷ (C ++ lt ∷ T))) ≡ code_view i0 ++ code_of p d (typed_loop t range init condition step result) = cc in
-          p3 ∙ flat3 ∙ last,
-    )
+    module _ (i2 : List Instr) (x : Instr) (put : code_view i2 ≡ code_view i1 ++ instr_view x ∷ []) where
+      pub junction_second : HasRoom i2 l2 d b
+      junction_second =
+          let fits = room.fits in
+          let longer = ga.longer in
+          let step = one {i0 = i1} {i1 = i2} {l = l2} x (instr_view x) put refl in
+          let more = step.longer in
+          (left ga (left (taken i0 l0 l1 _ take) room.ends), room.second, omega (arith, fits, longer, more))
+
+      module _ {i3 : List Instr} {l3 : List Lengths} (gb : Grows i2 i3 l2 l3 d b) where
+        pub junction_last : length i3 < 65535
+        junction_last =
+            let fits = room.fits in
+            let longer = ga.longer in
+            let step = one {i0 = i1} {i1 = i2} {l = l2} x (instr_view x) put refl in
+            let more = step.longer in
+            let most = gb.longer in
+            omega (arith, fits, longer, more, most)
+
+        both_built : {i4 : List Instr} (y : Instr) (end : ℕ) (jump : ℕ → Instruction) (j : Instruction) → end ≡ length i0 + (extent a + 1 + extent b + 1)
+            → instr_view x ≡ jump end → code_view i4 ≡ code_view i3 ++ instr_view y ∷ [] → instr_view y ≡ j
+            → Writes i0 i4 l0 l3 (extent a + 1 + extent b + 1) (code_of (length i0) d a ++ jump (length i0 + extent a + 1 + extent b + 1)
+            ∷ (code_of (length i0 + extent a + 1) d b ++ j ∷ [])) ((lengths_of b ++ lengths_of a) ++ lengths_are (extent a + 1 + extent b + 1) (extent b) ∷ [])
+        both_built {i4} y end jump j ends jumps last is =
+            let p = length i0 in
+            let start = then (taken i0 l0 l1 _ take) ga in
+            let fork = then start (one {i0 = i1} {i1 = i2} {l = l2} x (jump end) put jumps) in
+            let whole = then (then fork gb) (one {i0 = i3} {i1 = i4} {l = l3} y j last is) in
+            let longer = fork.longer in
+            let m2 : length i2 ≡ p + extent a + 1 = omega (arith, longer) in
+            let me : end ≡ p + extent a + 1 + extent b + 1 = omega (arith, ends) in
+            let A = code_of p d a in
+            let B = code_of (length i2) d b in
+            let flat : ((A ++ jump end ∷ []) ++ B) ++ j ∷ [] ≡ A ++ jump end ∷ (B ++ j ∷ []) = simp append_assoc in
+            in_words (omega arith)
+            (flat ∙ ap (λ n. A ++ jump n ∷ (B ++ j ∷ [])) me ∙ ap (λ n. A ++ jump (p + extent a + 1 + extent b + 1) ∷ (code_of n d b ++ j ∷ [])) m2)
+            (append_assoc (lengths_of b) (lengths_of a) _) whole
+
+        pub junction_built : {i4 : List Instr} (y : Instr) (end : ℕ) (t : ValueType) (o : Overload)
+            → (o ≡ (overloads.Operate operations.And)) ⊎ (o ≡ (overloads.Operate operations.Or)) → end ≡ length i0 + (extent a + 1 + extent b + 1)
+            → instr_view x ≡ passing_over o end → code_view i4 ≡ code_view i3 ++ instr_view y ∷ [] → instr_view y ≡ instruction_of o
+            → Grows i0 i4 l0 l3 d (typed_call t o (typed a (typed b no_typed)))
+        junction_built y end t o which ends jumps last is = elim which [
+          | inl e ↦ rw e (both_built y end IfFalse (Operate operations.And) ends (jumps ∙ ap (λ v. passing_over v end) e) last (is ∙ ap instruction_of e))
+          | inr e ↦ rw e (both_built y end IfTrue (Operate operations.Or) ends (jumps ∙ ap (λ v. passing_over v end) e) last (is ∙ ap instruction_of e))
+        ]
+
+-- ---- `?:`
+
+-- the room that it needs
+pub record ChoiceRoom (d : ℕ) (c a b : TypedTree) (i : List Instr) (l : List Lengths) : Type 0 where
+  pub ends : EndsWith l (((lengths_of b ++ lengths_of a) ++ lengths_of c) ++ lengths_are (extent c + 1 + extent a + 1 + extent b) (extent b) ∷ [])
+  pub first : HasFewLocals d c
+  pub second : HasFewLocals d a
+  pub third : HasFewLocals d b
+  pub fits : length i + (extent c + 1 + extent a + 1 + extent b) < 2 ^ 16
+
+pub choice_room : (d : ℕ) (c a b : TypedTree) (t : ValueType) (i : List Instr) (l : List Lengths)
+    → HasRoom i l d (typed_call t overloads.Conditional (typed c (typed a (typed b no_typed)))) → ChoiceRoom d c a b i l
+choice_room d c a b t i l room = record { ends = room.0; first = room.1.0; second = room.1.1.0; third = room.1.1.1.0; fits = room.2 }
+
+module _ {d : ℕ} {c a b : TypedTree} {i0 : List Instr} {l0 l1 : List Lengths} (room : ChoiceRoom d c a b i0 l0)
+    (take : (rest : List Lengths) → l0 ≡ rest ++ lengths_are (extent c + 1 + extent a + 1 + extent b) (extent b) ∷ [] → l1 ≡ rest) where
+  pub choice_first : HasRoom i0 l1 d c
+  choice_first =
+      let fits = room.fits in
+      (next l1 (lengths_of b ++ lengths_of a) (lengths_of c) (left (taken i0 l0 l1 _ take) room.ends), room.first, omega (arith, fits))
+
+  module _ {i1 : List Instr} {l2 : List Lengths} (gc : Grows i0 i1 l1 l2 d c) where
+    pub choice_test : length i1 < 65535
+    choice_test = let fits = room.fits in let longer = gc.longer in omega (arith, fits, longer)
+
+    module _ (i2 : List Instr) (x : Instr) (put : code_view i2 ≡ code_view i1 ++ instr_view x ∷ []) where
+      tested : Writes i1 i2 l2 l2 1 (instr_view x ∷ []) []
+      tested = one x (instr_view x) put refl
+
+      pub choice_second : HasRoom i2 l2 d a
+      choice_second =
+          let fits = room.fits in
+          let longer = gc.longer in
+          let more = tested.longer in
+          (next l2 (lengths_of b) (lengths_of a) (left gc (left (taken i0 l0 l1 _ take) room.ends)), room.second, omega (arith, fits, longer, more))
+
+      module _ {i3 : List Instr} {l3 : List Lengths} (ga : Grows i2 i3 l2 l3 d a) where
+        pub choice_jump : length i3 < 65535
+        choice_jump =
+            let fits = room.fits in
+            let longer = gc.longer in
+            let more = tested.longer in
+            let most = ga.longer in
+            omega (arith, fits, longer, more, most)
+
+        module _ (i4 : List Instr) (y : Instr) (jumped : code_view i4 ≡ code_view i3 ++ instr_view y ∷ []) where
+          pub choice_third : HasRoom i4 l3 d b
+          choice_third =
+              let fits = room.fits in
+              let longer = gc.longer in
+              let more = tested.longer in
+              let most = ga.longer in
+              let step = one {i0 = i3} {i1 = i4} {l = l3} y (instr_view y) jumped refl in
+              let all = step.longer in
+              (left ga (left gc (left (taken i0 l0 l1 _ take) room.ends)), room.third, omega (arith, fits, longer, more, most, all))
+
+          pub choice_built : {i5 : List Instr} {l4 : List Lengths} → Grows i4 i5 l3 l4 d b → (other end : ℕ) (t : ValueType) → end ≡ length i0 + (extent c + 1 + extent a + 1 + extent b)
+              → other ≡ length i0 + (extent c + 1 + extent a + 1 + extent b) - extent b
+              → instr_view x ≡ Test other end → instr_view y ≡ Jump end
+              → Grows i0 i5 l0 l4 d (typed_call t overloads.Conditional (typed c (typed a (typed b no_typed))))
+          choice_built {i5} {l4} gb other end t ends others tests jumps =
+              let p = length i0 in
+              let start = then (taken i0 l0 l1 _ take) gc in
+              let fork = then start (one {i0 = i1} {i1 = i2} {l = l2} x (Test other end) put tests) in
+              let chosen = then (then fork ga) (one {i0 = i3} {i1 = i4} {l = l3} y (Jump end) jumped jumps) in
+              let whole = then chosen gb in
+              let longer = fork.longer in
+              let most = chosen.longer in
+              let m2 : length i2 ≡ p + extent c + 1 = omega (arith, longer) in
+              let m4 : length i4 ≡ p + extent c + 1 + extent a + 1 = omega (arith, most) in
+              let mo : other ≡ p + extent c + 1 + extent a + 1 = omega (arith, others) in
+              let me : end ≡ p + extent c + 1 + extent a + 1 + extent b = omega (arith, ends) in
+              let C = code_of p d c in
+              let A = code_of (length i2) d a in
+              let B = code_of (length i4) d b in
+              let flat : (((C ++ Test other end ∷ []) ++ A) ++ Jump end ∷ []) ++ B ≡ C ++ Test other end ∷ (A ++ Jump end ∷ B) = simp append_assoc in
+              let shape : C ++ Test other end ∷ (A ++ Jump end ∷ B) ≡ code_of p d (typed_call t overloads.Conditional (typed c (typed a (typed b no_typed)))) =
+              rw (m2, m4, mo, me) refl in
+              in_words (omega arith) (flat ∙ shape) (simp append_assoc) whole
+
+-- ---- comprehensions
+
+-- the room that one needs
+pub record LoopRoom (d : ℕ) (range init condition step result : TypedTree) (i : List Instr) (l : List Lengths) : Type 0 where
+  pub ends : EndsWith l (((((lengths_of result ++ lengths_of step) ++ lengths_of condition) ++ lengths_of init) ++ lengths_of range)
+      ++ lengths_are (extent range + 1 + extent init + 1 + 1 + extent condition + 1 + extent step + 1 + 1 + extent result) (extent result) ∷ [])
+  pub locals : d + 2 ≤ 255
+  pub few_range : HasFewLocals d range
+  pub few_init : HasFewLocals d init
+  pub few_condition : HasFewLocals (d + 2) condition
+  pub few_step : HasFewLocals (d + 2) step
+  pub few_result : HasFewLocals (d + 1) result
+  pub fits : length i + (extent range + 1 + extent init + 1 + 1 + extent condition + 1 + extent step + 1 + 1 + extent result) < 2 ^ 16
+
+pub loop_room : (d : ℕ) (t : ValueType) (range init condition step result : TypedTree) (i : List Instr) (l : List Lengths)
+    → HasRoom i l d (typed_loop t range init condition step result) → LoopRoom d range init condition step result i l
+loop_room d t range init condition step result i l room = record {
+  ends = room.0;
+  locals = room.1.0;
+  few_range = room.1.1;
+  few_init = room.1.2;
+  few_condition = room.1.3;
+  few_step = room.1.4;
+  few_result = room.1.5;
+  fits = room.2;
+}

@@ -8,6 +8,8 @@ pub mod Bounds
 pub mod Sound
 pub mod Whole
 pub mod Built
+pub mod BuiltLoops
+pub mod Measured
 pub mod Operands
 pub mod Meaning
 pub mod Short

@@ -1,21 +1,22 @@
 -- Lists of the code's expressions, as the definitions see them.
-use Rattle.std.proofs.Common.{◌≡◌, ℕ, ◌+◌, ◌/◌, ◌<◌, ◌≤◌, ◌^◌, ◌↔◌, ◌⊎◌, inl, inr, Bool, true, false, List, [], ◌∷◌, ◌++◌, length, drop, get_or, refl, sym, ap, ◌∙◌, subst, arith, append-nil, length-append}
+use Rattle.std.proofs.Common.{◌≡◌, ℕ, ◌+◌, ◌/◌, ◌<◌, ◌≤◌, ◌^◌, ◌↔◌, ◌⊎◌, inl, inr, Bool, true, false, List, [], ◌∷◌, ◌++◌, length, drop, get_or, refl, sym, ap, ◌∙◌, subst, arith}
 use Rattle.std.specs.Prelude.{IsTrue}
 use Rattle.std.proofs.lemmas.List.{drop_all, drop_more}
 use Rattle.cel_value.specs.Types.{ValueType}
 use Rattle.cel_overload.specs.declared.overload.Overload.{Overload}
 use Rattle.cel_ops.specs.declared.operation.Operation.TheVariants as operations
 use Rattle.cel_overload.specs.declared.overload.Overload.TheVariants as overloads
-use Rattle.cel_types.specs.Elaborated.{TypedTree, typed_constant, typed_local, typed_attribute, typed_field, typed_has, typed_call, typed_list, typed_map, typed_loop, no_typed, typed}
+use Rattle.cel_types.specs.Elaborated.{TypedTree, TypedTrees, typed_constant, typed_local, typed_attribute, typed_field, typed_has, typed_call, typed_list, typed_map, typed_loop, no_typed, typed}
 use Rattle.cel_types.specs.View.{expr_view}
 use Rattle.cel_types.specs.steps.ExprViews.{exprs_view}
 use Rattle.cel_types.specs.declared.typed.TypedExpr.{TypedExpr}
 use Rattle.stack_machine.specs.Instructions.{code_view, instr_view, MakeList, MakeMap}
 use Rattle.stack_machine.specs.declared.instr.Instr.{Instr}
-use Rattle.cel_compile.specs.Codes.{count, extent, extents, instruction_of, list_instruction, map_instruction, pairs, codes_of}
+use Rattle.cel_compile.specs.Codes.{count, extent, extents, instruction_of, list_instruction, map_instruction, pairs}
 use Rattle.cel_compile.specs.Slots.{HasFewLocals, HaveFewLocals}
-use Rattle.cel_compile.specs.steps.Emitting.{Grows, GrowsAll}
-use Rattle.cel_compile.proofs.Built.{closed, first_built}
+use Rattle.cel_compile.specs.declared.lengths.Lengths.{Lengths}
+use Rattle.cel_compile.specs.steps.Emitting.{Grows, GrowsAll, HasRoom, HaveRoom}
+use Rattle.cel_compile.proofs.Built.{first_built, left, next, nothing, one, then}
 use Rattle.cel_compile.proofs.Sound.{some_list, some_map}
 
 -- ---- numbers of expressions
@@ -75,51 +76,78 @@ three_operands (x ∷ y ∷ []) a b c d e f least less ea eb ec = absurd (omega 
 three_operands (x ∷ y ∷ z ∷ []) a b c d e f least less ea eb ec = rw (ea, eb, ec) refl
 three_operands (x ∷ y ∷ z ∷ w ∷ xs) a b c d e f least less ea eb ec = absurd (omega arith)
 
-pub plain_grows : (bj bc : Bool) (d : ℕ) (t : ValueType) (o : Overload) (xs : List TypedExpr) (i0 i1 i2 : List Instr) (i : Instr)
-    → (IsTrue bj ↔ (((o ≡ (overloads.Operate operations.And)) ⊎ (o ≡ (overloads.Operate operations.Or))) × (length xs ≡ 2))) → bj ≡ false
-    → (IsTrue bc ↔ ((o ≡ overloads.Conditional) × (length xs ≡ 3))) → bc ≡ false
-    → GrowsAll i0 i1 d (exprs_view xs) → i2 ≡ i1 ++ i ∷ [] → instr_view i ≡ instruction_of o → Grows i0 i2 d (typed_call t o (exprs_view xs))
-plain_grows bj bc d t (overloads.Operate operations.And) (x ∷ y ∷ []) i0 i1 i2 i hj nj hc nc g e is = let h : bj ≡ true = hj.1 (inl refl, refl) in absurd cc
-plain_grows bj bc d t (overloads.Operate operations.Or) (x ∷ y ∷ []) i0 i1 i2 i hj nj hc nc g e is = let h : bj ≡ true = hj.1 (inr refl, refl) in absurd cc
-plain_grows bj bc d t overloads.Conditional (x ∷ y ∷ z ∷ []) i0 i1 i2 i hj nj hc nc g e is = let h : bc ≡ true = hc.1 (refl, refl) in absurd cc
-plain_grows bj bc d t o xs i0 i1 i2 i hj nj hc nc g e is =
-    closed i0 i1 i2 i (extents (exprs_view xs)) (HaveFewLocals d (exprs_view xs)) (codes_of (length i0) d (exprs_view xs)) (instruction_of o) g e (λ short. is)
+-- the room of a call that does not jump
+pub record PlainRoom (d : ℕ) (es : TypedTrees) (i : List Instr) (l : List Lengths) : Type 0 where
+  pub operands : HaveRoom i l d es
+  pub fits : length i + (extents es + 1) < 2 ^ 16
+
+module _ (bj bc : Bool) (d : ℕ) (t : ValueType) (i0 : List Instr) (l0 : List Lengths) where
+  pub plain_room : (o : Overload) (xs : List TypedExpr)
+      → (IsTrue bj ↔ (((o ≡ (overloads.Operate operations.And)) ⊎ (o ≡ (overloads.Operate operations.Or))) × (length xs ≡ 2))) → bj ≡ false
+      → (IsTrue bc ↔ ((o ≡ overloads.Conditional) × (length xs ≡ 3))) → bc ≡ false
+      → HasRoom i0 l0 d (typed_call t o (exprs_view xs)) → PlainRoom d (exprs_view xs) i0 l0
+  plain_room (overloads.Operate operations.And) (x ∷ y ∷ []) hj nj hc nc room = let h : bj ≡ true = hj.1 (inl refl, refl) in absurd cc
+  plain_room (overloads.Operate operations.Or) (x ∷ y ∷ []) hj nj hc nc room = let h : bj ≡ true = hj.1 (inr refl, refl) in absurd cc
+  plain_room overloads.Conditional (x ∷ y ∷ z ∷ []) hj nj hc nc room = let h : bc ≡ true = hc.1 (refl, refl) in absurd cc
+  plain_room o xs hj nj hc nc room =
+      let fits : length i0 + (extents (exprs_view xs) + 1) < 2 ^ 16 = room.2 in
+      record { operands = (room.0, room.1, omega (arith, fits)); fits = fits }
+
+  pub plain_grows : (o : Overload) (xs : List TypedExpr) (i1 i2 : List Instr) (l1 : List Lengths) (i : Instr)
+      → (IsTrue bj ↔ (((o ≡ (overloads.Operate operations.And)) ⊎ (o ≡ (overloads.Operate operations.Or))) × (length xs ≡ 2))) → bj ≡ false
+      → (IsTrue bc ↔ ((o ≡ overloads.Conditional) × (length xs ≡ 3))) → bc ≡ false
+      → GrowsAll i0 i1 l0 l1 d (exprs_view xs) → code_view i2 ≡ code_view i1 ++ instr_view i ∷ [] → instr_view i ≡ instruction_of o
+      → Grows i0 i2 l0 l1 d (typed_call t o (exprs_view xs))
+  plain_grows (overloads.Operate operations.And) (x ∷ y ∷ []) i1 i2 l1 i hj nj hc nc g put is = let h : bj ≡ true = hj.1 (inl refl, refl) in absurd cc
+  plain_grows (overloads.Operate operations.Or) (x ∷ y ∷ []) i1 i2 l1 i hj nj hc nc g put is = let h : bj ≡ true = hj.1 (inr refl, refl) in absurd cc
+  plain_grows overloads.Conditional (x ∷ y ∷ z ∷ []) i1 i2 l1 i hj nj hc nc g put is = let h : bc ≡ true = hc.1 (refl, refl) in absurd cc
+  plain_grows o xs i1 i2 l1 i hj nj hc nc g put is = then g (one i (instruction_of o) put is)
+
+pub plain_put : {d : ℕ} {es : TypedTrees} {i0 i1 : List Instr} {l0 l1 : List Lengths} → PlainRoom d es i0 l0 → GrowsAll i0 i1 l0 l1 d es → length i1 < 65535
+plain_put room g = let fits = room.fits in let longer = g.longer in omega (arith, fits, longer)
 
 -- ---- literals
 
-pub list_grows : (d : ℕ) (t : ValueType) (tree : TypedTree) (xs : List TypedExpr) (i0 i1 i2 : List Instr) (i : Instr) → tree ≡ typed_list t (exprs_view xs)
-    → GrowsAll i0 i1 d (exprs_view xs) → i2 ≡ i1 ++ i ∷ [] → (length xs < 2 ^ 16 → instr_view i ≡ list_instruction t (exprs_view xs)) → Grows i0 i2 d tree
-list_grows d t tree xs i0 i1 i2 i seen g e is =
-    let few = few_expressions xs in
-    let longer = ap length e ∙ length-append i1 (i ∷ []) in
-    let long = g.0 in
-    rw seen (closed i0 i1 i2 i (extents (exprs_view xs)) (HaveFewLocals d (exprs_view xs)) (codes_of (length i0) d (exprs_view xs)) (list_instruction t (exprs_view xs)) g e
-    (λ short. is (omega (arith, few, longer, long))))
+pub list_room : (d : ℕ) (t : ValueType) (es : TypedTrees) (i : List Instr) (l : List Lengths) → HasRoom i l d (typed_list t es) → PlainRoom d es i l
+list_room d t es i l room = let fits = room.2 in record { operands = (room.0, room.1, omega (arith, fits)); fits = fits }
 
-pub map_grows : (d : ℕ) (t : ValueType) (tree : TypedTree) (xs : List TypedExpr) (i0 i1 i2 : List Instr) (i : Instr) → tree ≡ typed_map t (exprs_view xs)
-    → GrowsAll i0 i1 d (exprs_view xs) → i2 ≡ i1 ++ i ∷ [] → (length xs < 2 ^ 16 → instr_view i ≡ map_instruction t (exprs_view xs)) → Grows i0 i2 d tree
-map_grows d t tree xs i0 i1 i2 i seen g e is =
-    let few = few_expressions xs in
-    let longer = ap length e ∙ length-append i1 (i ∷ []) in
-    let long = g.0 in
-    rw seen (closed i0 i1 i2 i (extents (exprs_view xs)) (HaveFewLocals d (exprs_view xs)) (codes_of (length i0) d (exprs_view xs)) (map_instruction t (exprs_view xs)) g e
-    (λ short. is (omega (arith, few, longer, long))))
+pub map_room : (d : ℕ) (t : ValueType) (es : TypedTrees) (i : List Instr) (l : List Lengths) → HasRoom i l d (typed_map t es) → PlainRoom d es i l
+map_room d t es i l room = let fits = room.2 in record { operands = (room.0, room.1, omega (arith, fits)); fits = fits }
 
--- ---- expressions one after the other
+pub few_elements : {d : ℕ} {i : List Instr} {l : List Lengths} (xs : List TypedExpr) → PlainRoom d (exprs_view xs) i l → length xs < 2 ^ 16
+few_elements xs room = let fits = room.fits in let few = few_expressions xs in omega (arith, fits, few)
 
--- what is left to emit is emitted
-abbrev pub GoesOn : (old now : List Instr) → ℕ → (left whole : List TypedExpr) → Type 0
-GoesOn old now d left whole = (end : List Instr) → GrowsAll now end d (exprs_view left) → GrowsAll old end d (exprs_view whole)
+-- ---- expressions in order
 
-pub goes_on : (d : ℕ) (xs : List TypedExpr) (k : ℕ) (x : TypedExpr) (old now next : List Instr) → k < length xs
-    → Grows now next d (expr_view (get_or xs k x)) → GoesOn old now d (drop k xs) xs → GoesOn old next d (drop (k + 1) xs) xs
-goes_on d xs k x old now next within here so_far end rest =
-    so_far end (subst (λ l. GrowsAll now end d (exprs_view l)) (sym (drop_more xs k x within))
-    (first_built d (expr_view (get_or xs k x)) (exprs_view (drop (k + 1) xs)) now next end here rest))
+-- what is left to emit has room, and then all are emitted
+abbrev pub GoesOn : (old now : List Instr) → (before after : List Lengths) → ℕ → (left whole : List TypedExpr) → Type 0
+GoesOn old now before after d left whole = HaveRoom now after d (exprs_view left)
+    × ((end : List Instr) (last : List Lengths) → GrowsAll now end after last d (exprs_view left) → GrowsAll old end before last d (exprs_view whole))
 
-pub all_emitted : (d : ℕ) (xs : List TypedExpr) (k : ℕ) (old now : List Instr) → length xs ≤ k → GoesOn old now d (drop k xs) xs → GrowsAll old now d (exprs_view xs)
-all_emitted d xs k old now past so_far =
-    so_far now (subst (λ l. GrowsAll now now d (exprs_view l)) (sym (drop_all k xs past)) (omega arith, λ few short. sym (append-nil (code_view now))))
+pub begins_on : (d : ℕ) (xs : List TypedExpr) (i : List Instr) (l : List Lengths) → HaveRoom i l d (exprs_view xs) → GoesOn i i l l d xs xs
+begins_on d xs i l room = (room, λ end last g. g)
+
+module _ (d : ℕ) (xs : List TypedExpr) (k : ℕ) (x : TypedExpr) (old now : List Instr) (l0 l1 : List Lengths) (within : k < length xs)
+    (so_far : GoesOn old now l0 l1 d (drop k xs) xs) where
+  room : HaveRoom now l1 d (typed (expr_view (get_or xs k x)) (exprs_view (drop (k + 1) xs)))
+  room = subst (λ l. HaveRoom now l1 d (exprs_view l)) (drop_more xs k x within) so_far.0
+
+  pub next_room : HasRoom now l1 d (expr_view (get_or xs k x))
+  next_room = let fits = room.2 in (next l1 _ _ room.0, room.1.0, omega (arith, fits))
+
+  pub goes_on : (after : List Instr) (l2 : List Lengths) → Grows now after l1 l2 d (expr_view (get_or xs k x)) → GoesOn old after l0 l2 d (drop (k + 1) xs) xs
+  goes_on after l2 here =
+      let fits = room.2 in
+      let longer = here.longer in (
+        (left here room.0, room.1.1, omega (arith, fits, longer)),
+        λ end last rest. so_far.1 end last (subst (λ l. GrowsAll now end l1 last d (exprs_view l)) (sym (drop_more xs k x within))
+            (first_built d (expr_view (get_or xs k x)) (exprs_view (drop (k + 1) xs)) here rest)),
+      )
+
+pub all_emitted : (d : ℕ) (xs : List TypedExpr) (k : ℕ) (old now : List Instr) (l0 l1 : List Lengths) → length xs ≤ k → GoesOn old now l0 l1 d (drop k xs) xs
+    → GrowsAll old now l0 l1 d (exprs_view xs)
+all_emitted d xs k old now l0 l1 past so_far =
+    so_far.1 now l1 (subst (λ l. GrowsAll now now l1 l1 d (exprs_view l)) (sym (drop_all k xs past)) (nothing now l1))
 
 -- ---- locals
 

@@ -1,2 +1,3 @@
 -- Definitions that clauses of private functions cite.
+pub mod Lengths
 pub mod Emitting

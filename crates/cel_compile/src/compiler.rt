@@ -1,6 +1,6 @@
 //! From elaborated expressions to code.
 
-ghost use Rattle.std.specs.Prelude.{◌≡◌, ◌↔◌, IsTrue, ◌<◌, ◌^◌, ◌⊎◌, ℕ, List, [], ◌∷◌, ◌++◌, length, slice_set, IfErr, IfOk, OnOk};
+ghost use Rattle.std.specs.Prelude.{◌≡◌, ◌↔◌, IsTrue, ◌<◌, ◌^◌, ◌⊎◌, ℕ, List, [], ◌∷◌, ◌++◌, length, IfErr, IfOk, OnOk};
 ghost use Rattle.attributes.specs.Limits.{InLimits, LimitsValue};
 ghost use Rattle.attributes.specs.Request.{IsRequest, RequestValue};
 ghost use Rattle.cel_value.specs.Types.{ValueType};
@@ -14,20 +14,20 @@ ghost use Rattle.cel_types.specs.View.{expr_view, loop_of, typed_view};
 ghost use Rattle.cel_types.specs.steps.ExprViews.{exprs_view, parts_view};
 ghost use Rattle.cel_types.specs.WellTyped.{IsWellTyped};
 ghost use Rattle.proto_wire.specs.Refusal.{MemoryOr};
-ghost use Rattle.stack_machine.specs.Instructions.{code_view};
+ghost use Rattle.stack_machine.specs.Instructions.{code_view, instr_view};
 ghost use Rattle.stack_machine.specs.Machine.{NeverStuck};
 ghost use Rattle.stack_machine.specs.Typable.{Forward};
 ghost use Rattle.cel_compile.specs.Codes.{code_of, extent};
 ghost use Rattle.cel_compile.specs.Slots.{HasFewLocals};
 ghost use Rattle.cel_compile.specs.Sound.{IsSound, RunsToMeaning};
-ghost use Rattle.cel_compile.specs.steps.Emitting.{Grows, GrowsAll};
+ghost use Rattle.cel_compile.specs.steps.Emitting.{Grows, GrowsAll, HasRoom, HaveRoom};
 
 use crate::few_locals::require_few_locals;
 use crate::instructions::{
-    call_instr, constant_instr, field_instr, has_field_instr, list_instr, map_instr, next_local,
-    passing_over, target,
+    call_instr, constant_instr, field_instr, has_field_instr, is_choice, is_junction, list_instr,
+    map_instr, passing_over,
 };
-use cel_ops::Operation;
+use crate::lengths::{Lengths, measure, take_targets};
 use cel_overload::Overload;
 use cel_types::{Typed, TypedExpr, TypedLoop};
 use proto_wire::Refusal;
@@ -69,28 +69,15 @@ fn compile_whole(alloc: Global, typed: &Typed<'_>) -> Result<Code, Refusal>
         × ((65535 < extent (typed_view typed.now)) ⊎ (HasFewLocals 0 (typed_view typed.now) → ⊥)))) }
 {
     require_few_locals(&typed.root)?;
-    let mut instrs = Vec::new(alloc);
-    emit(&mut instrs, 0, &typed.root)?;
-    finish(instrs)
-}
-
-// The instructions as code, if they are not too many.
-fn finish(instrs: Vec<Instr>) -> Result<Code, Refusal>
-    ensures found { IfOk result (λ code. code_view code ≡ code_view instrs.items) }
-    ensures short { IfOk result (λ code. length instrs.items < 2 ^ 16) }
-    ensures fault { IfErr result (MemoryOr (λ e. (e ≡ Refusal.TooLarge)
-        × (65535 < length instrs.items))) }
-{
-    require_short(instrs.len())?;
-    match Code::new(instrs) {
-        Ok(code) => Ok(code),
-        Err(CodeFault::TooMany) => Err(Refusal::TooLarge),
-        Err(CodeFault::Memory) => Err(Refusal::Memory),
-    }
+    let mut lengths = Vec::new(alloc);
+    require_short(measure(&mut lengths, &typed.root)?)?;
+    let mut code = Code::empty(alloc);
+    emit(&mut code, &mut lengths, 0, &typed.root)?;
+    Ok(code)
 }
 
 // Refuses more instructions than code may have.
-fn require_short(count: usize) -> Result<(), Refusal>
+fn require_short(count: u32) -> Result<(), Refusal>
     ensures found { OnOk result (count < 2 ^ 16) }
     ensures fault { IfErr result (λ e. (e ≡ Refusal.TooLarge) × (65535 < count)) }
 {
@@ -100,66 +87,76 @@ fn require_short(count: usize) -> Result<(), Refusal>
     Ok(())
 }
 
-// One more instruction.
-fn put(code: &mut Vec<Instr>, instr: Instr) -> Result<(), AllocError>
-    ensures found { OnOk result (code.new.items ≡ code.old.items ++ instr ∷ []) }
+// One more instruction, for which there is room.
+fn put(code: &mut Code, instr: Instr) -> Result<(), AllocError>
+    requires { length code.old < 65535 }
+    ensures found { OnOk result (code_view code.new ≡ code_view code.old ++ instr_view instr ∷ []) }
 {
-    code.push(instr)?;
-    Ok(())
-}
-
-// Another instruction in the place of one.
-fn patch(code: &mut Vec<Instr>, at: usize, instr: Instr)
-    requires { at < length code.old.items }
-    ensures found { code.new.items ≡ slice_set code.old.items at instr }
-{
-    code[at] = instr;
+    match code.push(instr) {
+        Ok(()) => Ok(()),
+        Err(CodeFault::Memory) => Err(AllocError),
+        Err(CodeFault::TooMany) => unreachable!(),
+    }
 }
 
 // The instructions of an expression with so many locals in scope; what is below is not looked at.
-// A jump is written once its target is known.
+// The lengths of its jumps are taken.
 #[cycle(emit)]
-fn emit(code: &mut Vec<Instr>, depth: u8, expr: &TypedExpr<'_>) -> Result<(), AllocError>
-    ensures grows { OnOk result (Grows code.old.items code.new.items depth (expr_view expr.now)) }
+fn emit(
+    code: &mut Code,
+    lengths: &mut Vec<Lengths>,
+    depth: u8,
+    expr: &TypedExpr<'_>,
+) -> Result<(), AllocError>
+    requires room { HasRoom code.old lengths.old.items depth (expr_view expr.now) }
+    ensures grows { OnOk result
+        (Grows code.old code.new lengths.old.items lengths.new.items depth (expr_view expr.now)) }
 {
     match expr {
         TypedExpr::Constant { value, .. } => put(code, constant_instr(value)?),
         TypedExpr::Local { outside, .. } => put(code, Instr::Load(*outside)),
         TypedExpr::Attribute { id, .. } => put(code, Instr::Attr(*id)),
         TypedExpr::Field { map, name, .. } => {
-            emit(code, depth, map)?;
+            emit(code, lengths, depth, map)?;
             put(code, field_instr(name)?)
         }
         TypedExpr::HasField { map, name, .. } => {
-            emit(code, depth, map)?;
+            emit(code, lengths, depth, map)?;
             put(code, has_field_instr(name)?)
         }
         TypedExpr::Call {
             overload,
             operands,
             ..
-        } => emit_call(code, depth, *overload, operands),
+        } => emit_call(code, lengths, depth, *overload, operands),
         TypedExpr::List { cel_type, elements } => {
-            emit_all(code, depth, elements)?;
+            emit_all(code, lengths, depth, elements)?;
             let instr = list_instr(cel_type, elements)?;
             put(code, instr)
         }
         TypedExpr::Map { cel_type, pairs } => {
-            emit_all(code, depth, pairs)?;
+            emit_all(code, lengths, depth, pairs)?;
             let instr = map_instr(cel_type, pairs)?;
             put(code, instr)
         }
-        TypedExpr::Loop { parts, .. } => emit_loop(code, depth, parts),
+        TypedExpr::Loop { parts, .. } => emit_loop(code, lengths, depth, parts),
     }
 }
 
 // The same of expressions one after the other.
 #[cycle(emit)]
-fn emit_all(code: &mut Vec<Instr>, depth: u8, exprs: &[TypedExpr<'_>]) -> Result<(), AllocError>
-    ensures grows { OnOk result (GrowsAll code.old.items code.new.items depth (exprs_view exprs.now)) }
+fn emit_all(
+    code: &mut Code,
+    lengths: &mut Vec<Lengths>,
+    depth: u8,
+    exprs: &[TypedExpr<'_>],
+) -> Result<(), AllocError>
+    requires room { HaveRoom code.old lengths.old.items depth (exprs_view exprs.now) }
+    ensures grows { OnOk result
+        (GrowsAll code.old code.new lengths.old.items lengths.new.items depth (exprs_view exprs.now)) }
 {
     for expr in exprs {
-        emit(code, depth, expr)?;
+        emit(code, lengths, depth, expr)?;
     }
     Ok(())
 }
@@ -167,125 +164,122 @@ fn emit_all(code: &mut Vec<Instr>, depth: u8, exprs: &[TypedExpr<'_>]) -> Result
 // A call.
 #[cycle(emit)]
 fn emit_call(
-    code: &mut Vec<Instr>,
+    code: &mut Code,
+    lengths: &mut Vec<Lengths>,
     depth: u8,
     overload: Overload,
     operands: &[TypedExpr<'_>],
 ) -> Result<(), AllocError>
-    ensures grows { OnOk result ((t : ValueType) → Grows code.old.items code.new.items depth
+    requires room { (t : ValueType) × HasRoom code.old lengths.old.items depth
+        (typed_call t overload (exprs_view operands.now)) }
+    ensures grows { OnOk result ((t : ValueType)
+        → Grows code.old code.new lengths.old.items lengths.new.items depth
         (typed_call t overload (exprs_view operands.now))) }
 {
     if is_junction(overload, operands.len()) {
-        emit_junction(code, depth, overload, operands)?;
+        emit_junction(code, lengths, depth, overload, operands)?;
         return Ok(());
     }
     if is_choice(overload, operands.len()) {
-        emit_choice(code, depth, operands)?;
+        emit_choice(code, lengths, depth, operands)?;
         return Ok(());
     }
-    emit_all(code, depth, operands)?;
+    emit_all(code, lengths, depth, operands)?;
     put(code, call_instr(overload))?;
     Ok(())
-}
-
-fn is_junction(overload: Overload, count: usize) -> bool
-    ensures { IsTrue result ↔ (((overload ≡ Overload.Operate operations.And)
-        ⊎ (overload ≡ Overload.Operate operations.Or)) × (count ≡ 2)) }
-{
-    (overload == Overload::Operate(Operation::And) || overload == Overload::Operate(Operation::Or))
-        && count == 2
-}
-
-fn is_choice(overload: Overload, count: usize) -> bool
-    ensures { IsTrue result ↔ ((overload ≡ Overload.Conditional) × (count ≡ 3)) }
-{
-    overload == Overload::Conditional && count == 3
 }
 
 // `&&` or `||`: the right side is passed over where the left one decides.
 #[cycle(emit)]
 fn emit_junction(
-    code: &mut Vec<Instr>,
+    code: &mut Code,
+    lengths: &mut Vec<Lengths>,
     depth: u8,
     overload: Overload,
     operands: &[TypedExpr<'_>],
 ) -> Result<(), AllocError>
     requires two { length operands.now ≡ 2 }
     requires junction { (overload ≡ Overload.Operate operations.And) ⊎ (overload ≡ Overload.Operate operations.Or) }
-    ensures grows { OnOk result ((t : ValueType) → Grows code.old.items code.new.items depth
+    requires room { (t : ValueType) × HasRoom code.old lengths.old.items depth
+        (typed_call t overload (exprs_view operands.now)) }
+    ensures grows { OnOk result ((t : ValueType)
+        → Grows code.old code.new lengths.old.items lengths.new.items depth
         (typed_call t overload (exprs_view operands.now))) }
 {
-    emit(code, depth, &operands[0])?;
-    let fork = code.len();
-    put(code, passing_over(overload, 0))?;
-    emit(code, depth, &operands[1])?;
+    let left = &operands[0];
+    let right = &operands[1];
+    let targets = take_targets(lengths, code.len());
+    emit(code, lengths, depth, left)?;
+    put(code, passing_over(overload, targets.end))?;
+    emit(code, lengths, depth, right)?;
     put(code, call_instr(overload))?;
-    let end = code.len();
-    patch(code, fork, passing_over(overload, target(end)));
     Ok(())
 }
 
 // `?:`: one of the branches runs, or none where the condition fails.
 #[cycle(emit)]
 fn emit_choice(
-    code: &mut Vec<Instr>,
+    code: &mut Code,
+    lengths: &mut Vec<Lengths>,
     depth: u8,
     operands: &[TypedExpr<'_>],
 ) -> Result<(), AllocError>
-    requires { length operands.now ≡ 3 }
-    ensures grows { OnOk result ((t : ValueType) → Grows code.old.items code.new.items depth
+    requires three { length operands.now ≡ 3 }
+    requires room { (t : ValueType) × HasRoom code.old lengths.old.items depth
+        (typed_call t Overload.Conditional (exprs_view operands.now)) }
+    ensures grows { OnOk result ((t : ValueType)
+        → Grows code.old code.new lengths.old.items lengths.new.items depth
         (typed_call t Overload.Conditional (exprs_view operands.now))) }
 {
-    emit(code, depth, &operands[0])?;
-    let fork = code.len();
-    put(code, Instr::Jump(0))?;
-    emit(code, depth, &operands[1])?;
-    let leave = code.len();
-    put(code, Instr::Jump(0))?;
-    let other = code.len();
-    emit(code, depth, &operands[2])?;
-    let end = code.len();
-    let failed = target(end);
-    patch(code, leave, Instr::Jump(failed));
-    let otherwise = target(other);
-    patch(code, fork, Instr::Test { otherwise, failed });
+    let tested = &operands[0];
+    let chosen = &operands[1];
+    let other = &operands[2];
+    let targets = take_targets(lengths, code.len());
+    let otherwise = targets.last;
+    let failed = targets.end;
+    emit(code, lengths, depth, tested)?;
+    put(code, Instr::Test { otherwise, failed })?;
+    emit(code, lengths, depth, chosen)?;
+    put(code, Instr::Jump(failed))?;
+    emit(code, lengths, depth, other)?;
     Ok(())
 }
 
 // A comprehension.
 #[cycle(emit)]
-fn emit_loop(code: &mut Vec<Instr>, depth: u8, parts: &TypedLoop<'_>) -> Result<(), AllocError>
-    ensures grows { OnOk result ((t : ValueType) → Grows code.old.items code.new.items depth
+fn emit_loop(
+    code: &mut Code,
+    lengths: &mut Vec<Lengths>,
+    depth: u8,
+    parts: &TypedLoop<'_>,
+) -> Result<(), AllocError>
+    requires room { (t : ValueType) × HasRoom code.old lengths.old.items depth
+        (loop_of t (parts_view parts.now)) }
+    ensures grows { OnOk result ((t : ValueType)
+        → Grows code.old code.new lengths.old.items lengths.new.items depth
         (loop_of t (parts_view parts.now))) }
 {
-    let gathered = next_local(depth);
-    let element = next_local(gathered);
-    emit(code, depth, &parts.range)?;
-    let start = code.len();
-    put(code, Instr::Jump(0))?;
-    emit(code, depth, &parts.init)?;
+    let targets = take_targets(lengths, code.len());
+    let done = targets.last;
+    let end = targets.end;
+    emit(code, lengths, depth, &parts.range)?;
+    put(code, Instr::LoopStart { failed: end })?;
+    emit(code, lengths, depth, &parts.init)?;
     put(code, Instr::Store(depth))?;
-    let turn = code.len();
-    put(code, Instr::Jump(0))?;
-    emit(code, element, &parts.condition)?;
-    let tested = code.len();
-    put(code, Instr::Jump(0))?;
-    emit(code, element, &parts.step)?;
-    put(code, Instr::Store(depth))?;
-    put(code, Instr::Jump(target(turn)))?;
-    let after = code.len();
-    emit(code, gathered, &parts.result)?;
-    let end = target(code.len());
-    let done = target(after);
-    patch(code, start, Instr::LoopStart { failed: end });
-    patch(
+    let turn = code.len() as u16;
+    let element = depth + 1;
+    put(
         code,
-        turn,
         Instr::LoopNext {
-            local: gathered,
+            local: element,
             done,
         },
-    );
-    patch(code, tested, Instr::LoopTest { done, failed: end });
+    )?;
+    emit(code, lengths, depth + 2, &parts.condition)?;
+    put(code, Instr::LoopTest { done, failed: end })?;
+    emit(code, lengths, depth + 2, &parts.step)?;
+    put(code, Instr::Store(depth))?;
+    put(code, Instr::Jump(turn))?;
+    emit(code, lengths, depth + 1, &parts.result)?;
     Ok(())
 }

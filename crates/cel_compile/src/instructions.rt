@@ -1,6 +1,8 @@
 //! Single instructions of elaborated expressions.
 
-ghost use Rattle.std.specs.Prelude.{◌≡◌, ◌≢◌, ◌<◌, ◌+◌, ◌^◌, IfOk, length};
+ghost use Rattle.std.specs.Prelude.{◌≡◌, ◌≢◌, ◌<◌, ◌↔◌, ◌⊎◌, ◌^◌, IfOk, IsTrue, length};
+ghost use Rattle.cel_ops.specs.declared.operation.Operation.TheVariants as operations;
+ghost use Rattle.cel_overload.specs.declared.overload.Overload.TheVariants as Overload;
 ghost use Rattle.cel_value.specs.Types.{type_view};
 ghost use Rattle.cel_tree.specs.View.{constant_view};
 ghost use Rattle.cel_types.specs.steps.ExprViews.{exprs_view};
@@ -20,22 +22,20 @@ use stack_machine::{Constant as MachineConstant, Instr};
 use std::alloc::AllocError;
 use std::rc::RcStr;
 
-/// A position as a target; one that is too far stands in code that is refused as a whole.
-pub(crate) fn target(position: usize) -> u16
-    ensures { position < 2 ^ 16 → result ≡ position }
+/// Whether a call is `&&` or `||` of two operands, which jumps.
+pub(crate) fn is_junction(overload: Overload, count: usize) -> bool
+    ensures { IsTrue result ↔ (((overload ≡ Overload.Operate operations.And)
+        ⊎ (overload ≡ Overload.Operate operations.Or)) × (count ≡ 2)) }
 {
-    if position < 65_536 {
-        position as u16
-    } else {
-        0
-    }
+    (overload == Overload::Operate(Operation::And) || overload == Overload::Operate(Operation::Or))
+        && count == 2
 }
 
-/// The next local's number; where there is none, the expression has too many.
-pub(crate) fn next_local(depth: u8) -> u8
-    ensures { depth < 255 → result ≡ depth + 1 }
+/// Whether a call is `?:`, which jumps.
+pub(crate) fn is_choice(overload: Overload, count: usize) -> bool
+    ensures { IsTrue result ↔ ((overload ≡ Overload.Conditional) × (count ≡ 3)) }
 {
-    if depth < 255 { depth + 1 } else { depth }
+    overload == Overload::Conditional && count == 3
 }
 
 /// The push of a constant, which shares the tree's text or bytes.
@@ -97,13 +97,14 @@ pub(crate) fn list_instr(
     cel_type: &CelType,
     elements: &[TypedExpr<'_>],
 ) -> Result<Instr, AllocError>
-    ensures { IfOk result (λ i. length elements.now < 2 ^ 16
-        → instr_view i ≡ list_instruction (type_view cel_type.now) (exprs_view elements.now)) }
+    requires { length elements.now < 2 ^ 16 }
+    ensures { IfOk result (λ i.
+        instr_view i ≡ list_instruction (type_view cel_type.now) (exprs_view elements.now)) }
 {
     if elements.is_empty() {
         return empty_list(cel_type);
     }
-    Ok(Instr::MakeList(target(elements.len())))
+    Ok(Instr::MakeList(elements.len() as u16))
 }
 
 fn empty_list(cel_type: &CelType) -> Result<Instr, AllocError>
@@ -122,13 +123,14 @@ fn empty_list(cel_type: &CelType) -> Result<Instr, AllocError>
 
 /// The instruction of a map literal.
 pub(crate) fn map_instr(cel_type: &CelType, pairs: &[TypedExpr<'_>]) -> Result<Instr, AllocError>
-    ensures { IfOk result (λ i. length pairs.now < 2 ^ 16
-        → instr_view i ≡ map_instruction (type_view cel_type.now) (exprs_view pairs.now)) }
+    requires { length pairs.now < 2 ^ 16 }
+    ensures { IfOk result (λ i.
+        instr_view i ≡ map_instruction (type_view cel_type.now) (exprs_view pairs.now)) }
 {
     if pairs.is_empty() {
         return empty_map(cel_type);
     }
-    Ok(Instr::MakeMap(target(pairs.len() / 2)))
+    Ok(Instr::MakeMap((pairs.len() / 2) as u16))
 }
 
 fn empty_map(cel_type: &CelType) -> Result<Instr, AllocError>

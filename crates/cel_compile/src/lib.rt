@@ -5,5 +5,6 @@ mod compiler;
 mod few_locals;
 mod instructions;
 pub mod laws;
+mod lengths;
 
 pub use compiler::compile;

@@ -4,6 +4,6 @@ use Rattle.cel_compile.proofs.Operands.{made_map}
 use Rattle.cel_compile.proofs.instructions.map_instr.Goals as goal
 
 pub returns : goal.returns
-returns c = λ short.
+returns c =
     let some : 0 < length c.args.pairs.now = grind (arith, common_steps) in
-    made_map _ c.args.pairs.now c.target.result some (c.target.ensures (omega (arith, short)))
+    made_map _ c.args.pairs.now _ some (omega (arith, c.requires))
