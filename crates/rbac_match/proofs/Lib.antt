@@ -21,4 +21,5 @@ pub mod NodeLists
 pub mod Loops
 pub mod Adding
 pub mod Levels
+mod NeedLemmas
 pub mod StandardFacts

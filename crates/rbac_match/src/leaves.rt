@@ -1,10 +1,12 @@
 //! The tests at the leaves of a filter's rules, in one list.
 
-ghost use Rattle.std.specs.Prelude.{◌≡◌, ◌++◌, ◌∷◌, [], length, slice_get, IfOk, IfErr, OnOk};
+ghost use Rattle.std.specs.Prelude.{◌≡◌, ◌++◌, ◌∷◌, [], length, slice_get, true, unwrap_or, IfOk, IfErr, IfSome, OnOk};
 ghost use Rattle.std.specs.Option.{option_copied};
-ghost use Rattle.attributes.specs.Request.{header_of};
+ghost use Rattle.attributes.specs.Attributes.{url_path_of};
+ghost use Rattle.attributes.specs.Request.{RequestValue, header_of};
 ghost use Rattle.rbac_match.specs.Header.{value_or_empty};
 ghost use Rattle.rbac_match.specs.Matcher.{matcher_holds};
+ghost use Rattle.rbac_match.specs.Needs.{Begins};
 ghost use Rattle.rbac_match.specs.declared.matcher.Matcher.TheVariants.{Header as HeaderOf};
 ghost use Rattle.rbac_match.specs.declared.leaves.Leaf.TheVariants.{HeaderText, Named, ServerName, UrlPath};
 ghost use Rattle.rbac_match.specs.steps.Leaves.{GoodLeaf, GoodName, GoodText, Grows, leaf_in, part_of, passes_at};
@@ -113,6 +115,75 @@ impl Leaves {
             Some(leaf) => leaf_passes(&self.pool, leaf, request),
             None => true,
         }
+    }
+
+    /// How the path of each request begins that passes the test at this place.
+    pub(crate) fn path_start(&self, place: u32) -> &[u8]
+        ensures { (r : RequestValue) → passes_at (slice_get self.now place) r ≡ true
+            → Begins result.now (url_path_of r.target) }
+    {
+        match self.leaves.get(place as usize) {
+            Some(leaf) => leaf_start(&self.pool, leaf),
+            None => &[],
+        }
+    }
+
+    /// The header that the test at this place looks at, and its value in each request that passes, where
+    /// there is only one.
+    pub(crate) fn header_value(&self, place: u32) -> Option<(&str, &[u8])>
+        ensures { IfSome result (λ need. (r : RequestValue)
+            → passes_at (slice_get self.now place) r ≡ true
+            → unwrap_or (header_of r need.0.now) [] ≡ need.1.now) }
+    {
+        match self.leaves.get(place as usize) {
+            Some(leaf) => leaf_value(&self.pool, leaf),
+            None => None,
+        }
+    }
+}
+
+/// How the path of each request begins that passes the leaf.
+fn leaf_start<'a>(pool: &'a Pool, leaf: &Leaf) -> &'a [u8]
+    requires { GoodLeaf pool.now leaf.now }
+    ensures { (r : RequestValue) → matcher_holds (leaf_in pool.now leaf.now) r ≡ true
+        → Begins result.now (url_path_of r.target) }
+{
+    match leaf {
+        Leaf::UrlPath(test) => pool.text_start(test),
+        _ => &[],
+    }
+}
+
+/// The header that the leaf looks at, and its value in each request that passes, where there is only one.
+fn leaf_value<'a>(pool: &'a Pool, leaf: &Leaf) -> Option<(&'a str, &'a [u8])>
+    requires { GoodLeaf pool.now leaf.now }
+    ensures { IfSome result (λ need. (r : RequestValue)
+        → matcher_holds (leaf_in pool.now leaf.now) r ≡ true
+        → unwrap_or (header_of r need.0.now) [] ≡ need.1.now) }
+{
+    match leaf {
+        Leaf::HeaderText(name, test) => text_value(pool, name, test),
+        _ => None,
+    }
+}
+
+/// The same of a test of the header's text.
+fn text_value<'a>(pool: &'a Pool, name: &NameLeaf, test: &TextLeaf) -> Option<(&'a str, &'a [u8])>
+    requires name { GoodName pool.now name.now }
+    requires text { GoodText pool.now test.now }
+    ensures { IfSome result (λ need. (r : RequestValue)
+        → matcher_holds (leaf_in pool.now (HeaderText name.now test.now)) r ≡ true
+        → unwrap_or (header_of r need.0.now) [] ≡ need.1.now) }
+{
+    if name.invert_match {
+        return None;
+    }
+    match pool.whole_text(test) {
+        Some(whole) => {
+            let name = pool.part(name.name);
+            Some((unsafe { str::from_utf8_unchecked(name) }, whole))
+        }
+        None => None,
     }
 }
 

@@ -1,9 +1,10 @@
 //! The texts of a filter's rules, one behind the other, and what else does not fit a leaf.
 
-ghost use Rattle.std.specs.Prelude.{◌≡◌, ◌≤◌, ◌+◌, length, IfOk};
+ghost use Rattle.std.specs.Prelude.{◌≡◌, ◌≤◌, ◌+◌, ℕ, true, List, length, IfOk, IfSome};
 ghost use Rattle.std.specs.Str.{IsUtf8, str_to_ascii_lowercase};
+ghost use Rattle.rbac_match.specs.Needs.{Begins};
 ghost use Rattle.rbac_match.specs.Tokens.{slice_at};
-ghost use Rattle.rbac_match.specs.Text.{is_substring, text_holds};
+ghost use Rattle.rbac_match.specs.Text.{is_substring, pattern_holds, text_holds};
 ghost use Rattle.rbac_match.specs.steps.Leaves.{GoodText, Grows, IsBorders, IsWithin, part_of, text_in};
 ghost use Rattle.rbac_match.specs.steps.Search.{AreAllBorders};
 
@@ -126,6 +127,43 @@ impl Pool {
     {
         let from = span.from as usize;
         &self.text[from..from + span.count as usize]
+    }
+
+    /// How each text begins that passes.
+    pub(crate) fn text_start(&self, test: &TextLeaf) -> &[u8]
+        requires { GoodText self.now test.now }
+        ensures { (bytes : List ℕ) → text_holds (text_in self.now test.now) bytes ≡ true
+            → Begins result.now bytes }
+    {
+        match test {
+            TextLeaf::Plain(pattern, span) => self.plain_start(*pattern, *span),
+            _ => &[],
+        }
+    }
+
+    /// The same, by how the text is compared with that of the span.
+    fn plain_start(&self, pattern: Pattern, span: Span) -> &[u8]
+        requires { IsWithin span self.now }
+        ensures { (bytes : List ℕ) → pattern_holds pattern (part_of span self.now) bytes ≡ true
+            → Begins result.now bytes }
+    {
+        match pattern {
+            Pattern::Exact => self.part(span),
+            Pattern::Prefix => self.part(span),
+            _ => &[],
+        }
+    }
+
+    /// The one text that passes, where there is only one.
+    pub(crate) fn whole_text(&self, test: &TextLeaf) -> Option<&[u8]>
+        requires { GoodText self.now test.now }
+        ensures { IfSome result (λ whole. (bytes : List ℕ)
+            → text_holds (text_in self.now test.now) bytes ≡ true → bytes ≡ whole.now) }
+    {
+        match test {
+            TextLeaf::Plain(Pattern::Exact, span) => Some(self.part(*span)),
+            _ => None,
+        }
     }
 
     /// Whether the text passes. It takes no memory.

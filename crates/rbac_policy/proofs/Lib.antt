@@ -11,4 +11,5 @@ pub mod Uniqueness
 pub mod OneVerdict
 pub mod StandardFacts
 pub mod StandardConditionFacts
+mod SieveLemmas
 mod PolicyNames

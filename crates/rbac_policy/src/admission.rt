@@ -22,6 +22,7 @@ use crate::filter::{Action, Admitted, FilterRules};
 use crate::keys::{FILTER_KEYS, RULES_KEYS};
 use crate::numbers::{ACTION, AUDIT_LOGGING_OPTIONS, POLICIES, RULES};
 use crate::policy::read_policies;
+use crate::sieve::Sieve;
 use attributes::Limits;
 use proto_wire::{Field, Refusal, has_payload, payloads_of, read_entries, read_message, uint32_at};
 use rbac_match::RuleList;
@@ -102,7 +103,8 @@ fn read_rules(
     let mut list = RuleList::new(alloc);
     let (policies, bound) = read_policies(&mut list, &named, limits, budget)?;
     list.shrink();
-    Ok(FilterRules::new(action, list, policies, bound))
+    let sieve = Sieve::of(alloc, &list, &policies)?;
+    Ok(FilterRules::new(action, list, policies, sieve, bound))
 }
 
 /// Refuses rules with options of an audit log.

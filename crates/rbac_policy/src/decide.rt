@@ -1,18 +1,21 @@
 //! Decisions of an admitted filter.
 
-ghost use Rattle.std.specs.Prelude.{◌≡◌, ◌≢◌, ◌⊎◌, Err, IfErr, IfOk, IsOk, map};
+ghost use Rattle.std.specs.Prelude.{◌≡◌, ◌≢◌, ◌⊎◌, true, List, Err, IfErr, IfOk, IfSome, IsOk, map};
 ghost use Rattle.attributes.specs.Limits.{InLimits};
+ghost use Rattle.attributes.specs.Request.{RequestValue};
 ghost use Rattle.cel_tree.specs.Checked.{CelChecked};
 ghost use Rattle.rbac_policy.specs.Admission.{IsAdmittedAs};
 ghost use Rattle.rbac_policy.specs.Admitted.{filter_view, limits_view};
-ghost use Rattle.rbac_policy.specs.Condition.{MemoryOrSteps, TakesTooLong, is_met};
-ghost use Rattle.rbac_policy.specs.Filter.{Filter};
+ghost use Rattle.rbac_policy.specs.Condition.{MemoryOrSteps, Program, TakesTooLong, is_met};
+ghost use Rattle.rbac_policy.specs.Filter.{Filter, Policy};
 ghost use Rattle.rbac_policy.specs.Named.{policy_view};
 ghost use Rattle.rbac_policy.specs.Verdict.{IsUnconditional, IsVerdict, SomeAsked, sides_match};
 ghost use Rattle.rbac_policy.specs.steps.Runs.{AnyProgram, Asks, HaveNoConditions, IsFirst, PassesBound, SomeAsks, Tells};
+ghost use Rattle.rbac_policy.specs.steps.Sieve.{IsRuledOut, IsSieve, Sieves};
 
 use crate::filter::{Admitted, Verdict};
 use crate::policy::NamedPolicy;
+use crate::sieve::{Probe, Sieve};
 use attributes::{Request, request_is_sound};
 use rbac_match::{RuleList, any_matches};
 use stack_machine::RunError;
@@ -46,19 +49,54 @@ impl Admitted {
             → InLimits request.now (limits_view self.now) → result ≢ Err RunError.OutOfSteps }
     {
         request_is_sound(request);
-        let matched = first_match(self.alloc(), self.list(), self.named_policies(), request)?;
+        let matched = first_match(
+            self.alloc(),
+            self.list(),
+            self.sieve(),
+            self.named_policies(),
+            request,
+        )?;
         let allowed = self.action().allows(matched.is_some());
         Ok(Verdict { allowed, matched })
     }
 }
 
-/// The number of the first of the policies that matches the request. Their rules stand in the list.
+/// The number of the first of the policies that matches the request. Their rules are in the list, and the
+/// sieve is theirs.
 fn first_match(
     alloc: Global,
     list: &RuleList,
+    sieve: &Sieve,
     policies: &[NamedPolicy],
     request: &Request,
 ) -> Result<Option<usize>, RunError>
+    requires { IsSieve sieve.now (map (policy_view list.now) policies.now) }
+    ensures found { IfOk result (λ matched.
+        IsFirst request.now 0 (map (policy_view list.now) policies.now) matched) }
+    ensures always { HaveNoConditions (map (policy_view list.now) policies.now) → IsOk result }
+    ensures asked { IfErr result (λ _. SomeAsks AnyProgram request.now
+        (map (policy_view list.now) policies.now)) }
+    ensures fault { IfErr result (MemoryOrSteps
+        (SomeAsks (PassesBound request.now) request.now (map (policy_view list.now) policies.now))) }
+{
+    if sieve.is_empty() {
+        return first_left(alloc, list, None, policies, request);
+    }
+    let probe = sieve.probe(request);
+    first_left(alloc, list, Some(&probe), policies, request)
+}
+
+/// The same, among the policies that the probe leaves, if there is one.
+#[inline(always)]
+fn first_left(
+    alloc: Global,
+    list: &RuleList,
+    probe: Option<&Probe<'_>>,
+    policies: &[NamedPolicy],
+    request: &Request,
+) -> Result<Option<usize>, RunError>
+    requires { IfSome probe (λ seen.
+        Sieves seen.now request.now (map (policy_view list.now) policies.now)) }
     ensures found { IfOk result (λ matched.
         IsFirst request.now 0 (map (policy_view list.now) policies.now) matched) }
     ensures always { HaveNoConditions (map (policy_view list.now) policies.now) → IsOk result }
@@ -68,6 +106,9 @@ fn first_match(
         (SomeAsks (PassesBound request.now) request.now (map (policy_view list.now) policies.now))) }
 {
     for (number, policy) in policies.iter().enumerate() {
+        if is_ruled_out(probe, number) {
+            continue;
+        }
         if policy_matches(alloc, list, policy, request)? {
             return Ok(Some(number));
         }
@@ -75,7 +116,20 @@ fn first_match(
     Ok(None)
 }
 
+/// Whether the policy of this number does not match, by the probe.
+#[inline(always)]
+fn is_ruled_out(probe: Option<&Probe<'_>>, number: usize) -> bool
+    ensures { (r : RequestValue) (ps : List (Policy Program))
+        → IfSome probe.entry (λ seen. Sieves seen.now r ps) → result ≡ true → IsRuledOut number r ps }
+{
+    match probe {
+        Some(probe) => probe.rules_out(number),
+        None => false,
+    }
+}
+
 /// Whether the policy matches the request: its sides, and then its condition, if it has one.
+#[inline(always)]
 fn policy_matches(
     alloc: Global,
     list: &RuleList,
@@ -98,6 +152,7 @@ fn policy_matches(
 }
 
 /// Whether some permission and some principal of the policy match the request.
+#[inline(always)]
 fn sides_match(list: &RuleList, policy: &NamedPolicy, request: &Request) -> bool
     ensures { result ≡ sides_match request.now (policy_view list.now policy.now) }
 {

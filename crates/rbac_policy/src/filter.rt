@@ -1,12 +1,14 @@
 //! An admitted filter, and what it answers.
 
-ghost use Rattle.std.specs.Prelude.{◌≡◌, IsTrue, option_map, slice_get, string_bytes};
+ghost use Rattle.std.specs.Prelude.{◌≡◌, IsTrue, map, option_map, slice_get, string_bytes};
 ghost use Rattle.std.specs.FinMap.{is_sorted};
 ghost use Rattle.attributes.specs.Headers.{name_cmp};
 ghost use Rattle.rbac_policy.specs.Enforced.{bounds_of};
-ghost use Rattle.rbac_policy.specs.Named.{named_views};
+ghost use Rattle.rbac_policy.specs.Named.{named_views, policy_view};
+ghost use Rattle.rbac_policy.specs.steps.Sieve.{IsSieve};
 
 use crate::policy::NamedPolicy;
+use crate::sieve::Sieve;
 use attributes::Limits;
 use rbac_match::RuleList;
 use std::alloc::Global;
@@ -46,32 +48,36 @@ pub struct Verdict {
     pub matched: Option<usize>,
 }
 
-/// What a filter enforces: the list of their rules, and its policies, which stand in ascending order of their names, each name once, and
-/// their conditions may take so many steps together.
+/// What a filter enforces: the list of all rules, and its policies in ascending order of their names, each
+/// name once. The sieve is theirs, and their conditions may take so many steps together.
 #[derive(Debug, Drop)]
 pub(crate) struct FilterRules {
     action: Action,
     list: RuleList,
     policies: Vec<NamedPolicy>,
+    sieve: Sieve,
     bound: u64,
     ghost ordered: { IsTrue (is_sorted name_cmp (named_views list policies.items)) },
     ghost bounded: { bound ≡ bounds_of (named_views list policies.items) },
+    ghost sieved: { IsSieve sieve (map (policy_view list) policies.items) },
 }
 
 impl FilterRules {
     ghost use Rattle.std.specs.FinMap.{from_entries};
     ghost use Rattle.rbac_policy.specs.Admitted.{filter_rules_view};
 
-    /// The rules of an action and policies, whose rules stand in the list: in ascending order of their
-    /// names, and their conditions may take so many steps together.
+    /// The rules of an action and policies, whose rules are in the list. They are in ascending order of their
+    /// names, with their sieve, and their conditions may take so many steps together.
     pub(crate) fn new(
         action: Action,
         list: RuleList,
         policies: Vec<NamedPolicy>,
+        sieve: Sieve,
         bound: u64,
     ) -> FilterRules
         requires ordered { IsTrue (is_sorted name_cmp (named_views list policies.items)) }
         requires bounded { bound ≡ bounds_of (named_views list policies.items) }
+        requires sieved { IsSieve sieve (map (policy_view list) policies.items) }
         ensures { filter_rules_view result ≡ record {
           action = action;
           policies = from_entries (named_views list policies.items);
@@ -81,6 +87,7 @@ impl FilterRules {
             action,
             list,
             policies,
+            sieve,
             bound,
         }
     }
@@ -126,6 +133,14 @@ impl Admitted {
         ensures { result.now ≡ self.now.rules.policies.items }
     {
         &self.rules.policies
+    }
+
+    /// The sieve of its policies.
+    #[inline(always)]
+    pub(crate) fn sieve(&self) -> &Sieve
+        ensures { result.now ≡ self.now.rules.sieve }
+    {
+        &self.rules.sieve
     }
 
     /// The allocator of its policies, from which runs of conditions take their memory.

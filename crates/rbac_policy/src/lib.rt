@@ -10,6 +10,7 @@ pub mod laws;
 mod numbers;
 mod place;
 mod policy;
+mod sieve;
 mod trials;
 
 pub use admission::admit;

@@ -79,6 +79,9 @@ new-requires-clause-ordered c = rw c.shrink.ensures (held_ordered text (IsEnforc
 pub new-requires-clause-bounded : goal.new-requires-clause-bounded
 new-requires-clause-bounded c = rw c.shrink.ensures c.in_ok-policies.ensures.cost
 
+pub new-requires-clause-sieved : goal.new-requires-clause-sieved
+new-requires-clause-sieved c = rw c.deref-3.ensures.value at c.in_ok-sieve.ensures
+
 pub returns-clause-found : goal.returns-clause-found
 returns-clause-found c =
     let parts : parts_view c.deref.result.now ≡ payloads rules_field.policies (map field_view c.args.fields.now) = ap parts_view c.deref.ensures ∙ c.in_ok-entries.ensures in

@@ -8,6 +8,9 @@ use Rattle.rbac_policy.proofs.Deciding.{asked_is_told, asking, found_verdict, ha
 use Rattle.rbac_policy.proofs.FirstRun.{memory_is_other}
 use Rattle.rbac_policy.proofs.filter.Admitted.decide.Goals as goal
 
+pub first_match-requires : goal.first_match-requires
+first_match-requires c = rw (c.sieve.ensures, c.list.ensures, c.named_policies.ensures) c.args.self.now.rules.sieved
+
 pub returns-clause-found : goal.returns-clause-found
 returns-clause-found c =
     let rules = c.args.self.now.rules in

@@ -4,7 +4,8 @@ use Rattle.std.proofs.lemmas.Result.{err_from_is_err_and}
 use Rattle.rbac_policy.specs.Named.{policy_view}
 use Rattle.rbac_policy.specs.steps.Runs.{AnyProgram, PassesBound}
 use Rattle.rbac_policy.proofs.FirstRun.{Failed, next_failed, none_first, this_first, this_asks, this_has_none}
-use Rattle.rbac_policy.proofs.decide.first_match.Goals as goal
+use Rattle.rbac_policy.proofs.SieveLemmas.{ruled_tells}
+use Rattle.rbac_policy.proofs.decide.first_left.Goals as goal
 
 pub loop-number-init : goal.loop-number-init
 loop-number-init c = tt
@@ -42,3 +43,14 @@ pub returns-clause-found : goal.returns-clause-found
 returns-clause-found c =
     none_first c.args.request.now (map (policy_view c.args.list.now) c.args.policies.now) 0
     (subst (λ items. Failed c.args.request.now (map (policy_view c.args.list.now) items)) (take_all c.loop-number.number c.args.policies.now c.loop-number-test.false) c.loop-number.invariant)
+
+pub loop-number-preserved-then-is_ruled_out : goal.loop-number-preserved-then-is_ruled_out
+loop-number-preserved-then-is_ruled_out c =
+    let r = c.args.request.now in
+    let list = c.args.list.now in
+    let items = c.args.policies.now in
+    let i = c.loop-number.number in
+    let item = c.index-policies-number.result in
+    next_failed r list items i item c.loop-number-test.true c.index-policies-number.is c.loop-number.invariant
+    (ruled_tells r list items i item c.loop-number-test.true c.index-policies-number.is
+    (c.is_ruled_out.ensures r (map (policy_view list) items) c.requires c.if-is_ruled_out.true))

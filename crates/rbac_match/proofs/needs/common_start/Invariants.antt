@@ -1,0 +1,18 @@
+use Rattle.std.proofs.Common.{◌≡◌, ◌≤◌, ◌⊎◌, true, length}
+use Rattle.attributes.specs.Attributes.{url_path_of}
+use Rattle.attributes.specs.Request.{RequestValue}
+use Rattle.rbac_match.specs.Formula.{some_hold}
+use Rattle.rbac_match.specs.Needs.{Begins}
+use Rattle.rbac_match.specs.steps.Nodes.{formulas_in}
+use Rattle.rbac_match.proofs.needs.common_start.Given as goal
+
+abbrev pub invariant-loop-node : goal.invariant-loop-node
+invariant-loop-node l = record {
+  start : Begins l.common l.start;
+  rules : (r : RequestValue) → some_hold r (formulas_in l.leaves l.nodes) ≡ true
+      → Begins l.common (url_path_of r.target) ⊎ (some_hold r (formulas_in l.leaves l.rest) ≡ true);
+  fewer : length l.rest ≤ length l.nodes;
+}
+
+abbrev pub decreases-loop-node : goal.decreases-loop-node
+decreases-loop-node l = length l.rest

@@ -1,0 +1,170 @@
+//! What each request has that rules match: how its path begins, and what a header of it is.
+
+ghost use Rattle.std.specs.Prelude.{◌≡◌, ◌≤◌, true, IfSome, List, [], length, take, unwrap_or};
+ghost use Rattle.attributes.specs.Attributes.{url_path_of};
+ghost use Rattle.attributes.specs.Request.{RequestValue, header_of};
+ghost use Rattle.rbac_match.specs.Formula.{all_hold, holds, some_hold};
+ghost use Rattle.rbac_match.specs.Needs.{Begins, NeedsStart, NeedsValue};
+ghost use Rattle.rbac_match.specs.View.{rules_view};
+ghost use Rattle.rbac_match.specs.declared.list.Node.{Node};
+ghost use Rattle.rbac_match.specs.steps.Nodes.{formula_in, formulas_in};
+
+use crate::leaves::Leaves;
+use crate::list::{Joint, Node, RuleList, Rules, cut};
+
+/// How the path of each request begins that some of these rules match: by the longest start that the rules
+/// have in common. A rule has one where it is a test of the path, or all of several rules of which one is.
+pub fn path_start(list: &RuleList, rules: Rules) -> &[u8]
+    ensures { NeedsStart (rules_view list.now rules) result.now }
+{
+    let (leaves, nodes) = list.parts(rules);
+    let Some((node, behind)) = nodes.split_first() else {
+        return &[];
+    };
+    let (inside, others) = cut(behind, node.inside());
+    let start = rule_start(leaves, node, inside);
+    common_start(leaves, start, others)
+}
+
+/// What a header is in each request that these rules match: its name, and its value, where a missing one
+/// counts as empty. It is known of one rule that is a test of the header, or all of several rules of which
+/// one is.
+pub fn header_value(list: &RuleList, rules: Rules) -> Option<(&str, &[u8])>
+    ensures { IfSome result (λ need. NeedsValue (rules_view list.now rules) need.0.now need.1.now) }
+{
+    let (leaves, nodes) = list.parts(rules);
+    let Some((node, behind)) = nodes.split_first() else {
+        return None;
+    };
+    let (inside, others) = cut(behind, node.inside());
+    if !others.is_empty() {
+        return None;
+    }
+    rule_value(leaves, node, inside)
+}
+
+/// How the path of each request begins that the rule of a node, with the nodes in it, matches.
+fn rule_start<'a>(leaves: &'a Leaves, node: &Node, inside: &[Node]) -> &'a [u8]
+    ensures { (r : RequestValue) → holds r (formula_in leaves.now node.now inside.now) ≡ true
+        → Begins result.now (url_path_of r.target) }
+{
+    match node {
+        Node::Joined(Joint::And, _) => joined_start(leaves, inside),
+        _ => test_start(leaves, node),
+    }
+}
+
+/// The same of a rule that is a test.
+fn test_start<'a>(leaves: &'a Leaves, node: &Node) -> &'a [u8]
+    ensures { (inside : List Node) (r : RequestValue)
+        → holds r (formula_in leaves.now node.now inside) ≡ true
+        → Begins result.now (url_path_of r.target) }
+{
+    match node {
+        Node::Leaf(place) => leaves.path_start(*place),
+        _ => &[],
+    }
+}
+
+/// How the path of each request begins that all rules of the nodes match: by the first test of the path
+/// among them.
+fn joined_start<'a>(leaves: &'a Leaves, nodes: &[Node]) -> &'a [u8]
+    ensures { (r : RequestValue) → all_hold r (formulas_in leaves.now nodes.now) ≡ true
+        → Begins result.now (url_path_of r.target) }
+{
+    let mut rest = nodes;
+    while let Some((node, behind)) = rest.split_first() {
+        let start = test_start(leaves, node);
+        if !start.is_empty() {
+            return start;
+        }
+        let (_, others) = cut(behind, node.inside());
+        rest = others;
+    }
+    &[]
+}
+
+/// What begins the start, and the path of each request that some rule of the nodes matches.
+fn common_start<'a>(leaves: &'a Leaves, start: &'a [u8], nodes: &[Node]) -> &'a [u8]
+    ensures start { Begins result.now start.now }
+    ensures rules { (r : RequestValue) → some_hold r (formulas_in leaves.now nodes.now) ≡ true
+        → Begins result.now (url_path_of r.target) }
+{
+    let mut common = start;
+    let mut rest = nodes;
+    while let Some((node, behind)) = rest.split_first() {
+        let (inside, others) = cut(behind, node.inside());
+        common = shared(common, rule_start(leaves, node, inside));
+        rest = others;
+    }
+    common
+}
+
+/// The longest start that two texts have in common.
+fn shared<'a>(one: &'a [u8], other: &[u8]) -> &'a [u8]
+    ensures one { Begins result.now one.now }
+    ensures other { Begins result.now other.now }
+{
+    let count = same_count(one, other);
+    &one[..count]
+}
+
+/// Of how many bytes it is.
+fn same_count(one: &[u8], other: &[u8]) -> usize
+    ensures { (result ≤ length one.now) × (take result one.now ≡ take result other.now) }
+{
+    for (count, byte) in one.iter().enumerate() {
+        match other.get(count) {
+            Some(same) => {
+                if *same != *byte {
+                    return count;
+                }
+            }
+            None => return count,
+        }
+    }
+    one.len()
+}
+
+/// What a header is in each request that the rule of a node, with the nodes in it, matches.
+fn rule_value<'a>(leaves: &'a Leaves, node: &Node, inside: &[Node]) -> Option<(&'a str, &'a [u8])>
+    ensures { IfSome result (λ need. (r : RequestValue)
+        → holds r (formula_in leaves.now node.now inside.now) ≡ true
+        → unwrap_or (header_of r need.0.now) [] ≡ need.1.now) }
+{
+    match node {
+        Node::Joined(Joint::And, _) => joined_value(leaves, inside),
+        _ => test_value(leaves, node),
+    }
+}
+
+/// The same of a rule that is a test.
+fn test_value<'a>(leaves: &'a Leaves, node: &Node) -> Option<(&'a str, &'a [u8])>
+    ensures { IfSome result (λ need. (inside : List Node) (r : RequestValue)
+        → holds r (formula_in leaves.now node.now inside) ≡ true
+        → unwrap_or (header_of r need.0.now) [] ≡ need.1.now) }
+{
+    match node {
+        Node::Leaf(place) => leaves.header_value(*place),
+        _ => None,
+    }
+}
+
+/// What a header is in each request that all rules of the nodes match: by the first test among them that
+/// tells it.
+fn joined_value<'a>(leaves: &'a Leaves, nodes: &[Node]) -> Option<(&'a str, &'a [u8])>
+    ensures { IfSome result (λ need. (r : RequestValue)
+        → all_hold r (formulas_in leaves.now nodes.now) ≡ true
+        → unwrap_or (header_of r need.0.now) [] ≡ need.1.now) }
+{
+    let mut rest = nodes;
+    while let Some((node, behind)) = rest.split_first() {
+        let need = test_value(leaves, node);
+        if need.is_some() {
+            return need;
+        }
+        let (_, others) = cut(behind, node.inside());
+        rest = others;
+    }
+    None
+}

@@ -1,0 +1,289 @@
+//! A sieve of policies: by what it has, a decision passes over policies that do not match the request, and
+//! looks at no rule of theirs.
+
+ghost use Rattle.std.specs.Prelude.{◌≡◌, ◌≢◌, ◌≤◌, ◌⊎◌, ◌+◌, true, ℕ, List, IfOk, IfSome, map, take, get_or, length, string_bytes};
+ghost use Rattle.attributes.specs.Request.{RequestValue};
+ghost use Rattle.rbac_match.specs.Formula.{some_hold};
+ghost use Rattle.rbac_match.specs.View.{rules_view};
+ghost use Rattle.rbac_policy.specs.Condition.{Program};
+ghost use Rattle.rbac_policy.specs.Filter.{Policy};
+ghost use Rattle.rbac_policy.specs.Named.{policy_view};
+ghost use Rattle.rbac_policy.specs.steps.Sieve.{AreNeeded, IsNeeded, IsProbe, IsRuledOut, IsSieve, Meets, Sieves, mix, number_from, start_number, value_number, value_of};
+
+use crate::policy::NamedPolicy;
+use attributes::Request;
+use rbac_match::{RuleList, Rules, header_value, path_start};
+use std::alloc::{AllocError, Global};
+
+/// How many bytes of a path's start are looked at.
+const MOST: usize = 64;
+
+/// How many of the last bytes of a header's value are looked at.
+const LAST: usize = 24;
+
+/// With fewer policies there is no sieve.
+const FEWEST: usize = 8;
+
+/// What each request has that a policy matches. Its path's start of so many bytes has this number, and so has
+/// a header's value; 0 where no value is needed.
+#[derive(Clone, Copy, Debug)]
+pub(crate) struct Need {
+    count: usize,
+    start: u64,
+    value: u64,
+}
+
+/// What the policies of a filter need, in order; nothing where a sieve would save little. Starts have at most
+/// so many bytes, and values are those of the header of this name.
+#[derive(Debug, Drop)]
+pub(crate) struct Sieve {
+    most: usize,
+    name: String,
+    needs: Vec<Need>,
+}
+
+/// The numbers of a request, and what the policies need.
+#[derive(Drop)]
+pub(crate) struct Probe<'a> {
+    needs: &'a [Need],
+    starts: [u64; 65],
+    value: u64,
+}
+
+impl Sieve {
+    /// The sieve of policies, whose rules are in the list.
+    pub(crate) fn of(
+        alloc: Global,
+        list: &RuleList,
+        policies: &[NamedPolicy],
+    ) -> Result<Sieve, AllocError>
+        ensures { IfOk result (λ sieve. IsSieve sieve (map (policy_view list.now) policies.now)) }
+    {
+        let most = most_count(list, policies);
+        let name = String::from_str(alloc, header_name(list, policies))?;
+        if policies.len() < FEWEST {
+            return Ok(Sieve {
+                most,
+                name,
+                needs: Vec::new(alloc),
+            });
+        }
+        let needs = needs_of(alloc, list, policies, most, name.as_str())?;
+        if are_few(&needs) {
+            return Ok(Sieve {
+                most,
+                name,
+                needs: Vec::new(alloc),
+            });
+        }
+        Ok(Sieve { most, name, needs })
+    }
+
+    /// Whether it has nothing.
+    #[inline(always)]
+    pub(crate) fn is_empty(&self) -> bool {
+        self.needs.is_empty()
+    }
+
+    /// What it looks at of the request.
+    pub(crate) fn probe(&self, request: &Request) -> Probe<'_>
+        ensures { (ps : List (Policy Program)) → IsSieve self.now ps → Sieves result request.now ps }
+    {
+        Probe {
+            needs: &self.needs,
+            starts: starts_of(request.url_path().as_bytes(), self.most),
+            value: value_seen(request, self.name.as_str()),
+        }
+    }
+}
+
+impl<'a> Probe<'a> {
+    /// Whether the policy of this number does not match.
+    #[inline(always)]
+    pub(crate) fn rules_out(&self, number: usize) -> bool
+        ensures { (r : RequestValue) (ps : List (Policy Program)) → Sieves self.now r ps
+            → result ≡ true → IsRuledOut number r ps }
+    {
+        match self.needs.get(number) {
+            Some(need) => !self.meets(need),
+            None => false,
+        }
+    }
+
+    /// Whether the request may have what is needed.
+    #[inline(always)]
+    fn meets(&self, need: &Need) -> bool
+        ensures { (most : ℕ) (name : List ℕ) (r : RequestValue)
+            → IsProbe most name self.now.starts self.now.value r → Meets most name need.now r
+            → result ≡ true }
+    {
+        match self.starts.get(need.count) {
+            Some(start) => *start == need.start && self.has_value(need.value),
+            None => true,
+        }
+    }
+
+    /// Whether the header's value may be what is needed.
+    #[inline(always)]
+    fn has_value(&self, value: u64) -> bool
+        ensures { (value ≡ 0) ⊎ (self.now.value ≡ value) → result ≡ true }
+    {
+        value == 0 || value == self.value
+    }
+}
+
+/// The greatest number of bytes that a start of theirs has.
+fn most_count(list: &RuleList, policies: &[NamedPolicy]) -> usize {
+    let mut most = 0;
+    for policy in policies {
+        let count = path_start(list, policy.permissions).len();
+        if count > most {
+            most = count;
+        }
+    }
+    lesser(most, MOST)
+}
+
+/// The lesser of two numbers.
+fn lesser(one: usize, other: usize) -> usize
+    ensures { (result ≤ one) × (result ≤ other) }
+{
+    if one < other {
+        return one;
+    }
+    other
+}
+
+/// The first header of which a policy needs the value.
+fn header_name<'a>(list: &'a RuleList, policies: &[NamedPolicy]) -> &'a str {
+    for policy in policies {
+        if let Some((name, _)) = header_value(list, policy.principals) {
+            return name;
+        }
+    }
+    ""
+}
+
+/// What each of the policies needs.
+fn needs_of(
+    alloc: Global,
+    list: &RuleList,
+    policies: &[NamedPolicy],
+    most: usize,
+    name: &str,
+) -> Result<Vec<Need>, AllocError>
+    ensures { IfOk result (λ needs.
+        AreNeeded most name.now (map (policy_view list.now) policies.now) needs.items) }
+{
+    let mut needs = Vec::with_capacity(alloc, policies.len())?;
+    for policy in policies {
+        needs.push(need_of(list, policy, most, name))?;
+    }
+    Ok(needs)
+}
+
+/// Whether fewer than half of them can tell requests apart: each path has at least the start `/`.
+fn are_few(needs: &[Need]) -> bool {
+    let mut count: usize = 0;
+    for need in needs {
+        if need.count > 1 || need.value != 0 {
+            count = count.saturating_add(1);
+        }
+    }
+    count < needs.len() / 2
+}
+
+/// What the policy needs.
+fn need_of(list: &RuleList, policy: &NamedPolicy, most: usize, name: &str) -> Need
+    ensures { IsNeeded most name.now (policy_view list.now policy.now) result }
+{
+    let start = path_start(list, policy.permissions);
+    let count = lesser(start.len(), most);
+    Need {
+        count,
+        start: number_from(1, &start[..count]),
+        value: value_needed(list, policy.principals, name),
+    }
+}
+
+/// The number of the header's value in each request that these rules match; 0 where none is known.
+fn value_needed(list: &RuleList, rules: Rules, name: &str) -> u64
+    ensures { (r : RequestValue) → some_hold r (rules_view list.now rules) ≡ true
+        → result ≢ 0 → value_number (value_of r name.now) ≡ result }
+{
+    match header_value(list, rules) {
+        Some((own, value)) => {
+            if own == name {
+                return number_of_value(value);
+            }
+            0
+        }
+        None => 0,
+    }
+}
+
+/// The numbers of a path's starts, by their lengths, up to so many bytes.
+fn starts_of(path: &[u8], most: usize) -> [u64; 65]
+    ensures { (count : ℕ) → count ≤ most → count ≤ 64
+        → get_or result count 0 ≡ start_number (take count path.now) }
+{
+    let mut starts = [1; 65];
+    let mut number = 1;
+    for count in 0..MOST {
+        if count >= most {
+            return starts;
+        }
+        number = next_number(number, path, count);
+        starts[count + 1] = number;
+    }
+    starts
+}
+
+/// The number of a start with one byte more, if there is one.
+#[inline(always)]
+fn next_number(number: u64, path: &[u8], count: usize) -> u64
+    requires { number ≡ start_number (take count path.now) }
+    ensures { result ≡ start_number (take (count + 1) path.now) }
+{
+    match path.get(count) {
+        Some(byte) => mix(number, *byte),
+        None => number,
+    }
+}
+
+/// The number of the value of the request's header of this name.
+fn value_seen(request: &Request, name: &str) -> u64
+    ensures { result ≡ value_number (value_of request.now name.now) }
+{
+    match request.header(name) {
+        Some(value) => number_of_value(value.as_bytes()),
+        None => number_of_value(&[]),
+    }
+}
+
+/// The number of a header's value.
+fn number_of_value(value: &[u8]) -> u64
+    ensures { result ≡ value_number value.now }
+{
+    let from = value.len().saturating_sub(LAST);
+    number_from(value.len() as u64, &value[from..])
+}
+
+/// A number for bytes, from one for what is before them.
+fn number_from(before: u64, bytes: &[u8]) -> u64
+    ensures { result ≡ number_from before bytes.now }
+{
+    let mut number = before;
+    for byte in bytes {
+        number = mix(number, *byte);
+    }
+    number
+}
+
+/// A number for a number and a byte after it.
+#[inline(always)]
+fn mix(number: u64, byte: u8) -> u64
+    ensures { result ≡ mix number byte }
+{
+    number.wrapping_mul(257).wrapping_add(byte as u64)
+}
