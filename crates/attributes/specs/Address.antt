@@ -14,18 +14,18 @@ abbrev pub has_dot : List ℕ → Bool
 has_dot text = list_any (λ b. b == 46) text
 
 -- the text spells the address: four decimal numbers with dots, or eight groups with colons. The
--- last two groups are never four numbers with dots
+-- last two groups are not written as four numbers with dots
 abbrev pub IsIpText : List ℕ → Ip → Type 0
 IsIpText text (V4 n) = (a : Ipv4Addr) × IsIpv4Text text a × (n ≡ ipv4_bits a)
 IsIpText text (V6 n) =
     (a : Ipv6Addr) × IsIpv6Text text a × (has_dot text ≡ false) × (n ≡ ipv6_bits a)
 
--- the bits of an address of the family
+-- the number of bits of an address, by its family
 abbrev pub width_of : Ip → ℕ
 width_of (V4 n) = 32
 width_of (V6 n) = 128
 
--- the number of an address has no more bits than its family
+-- the address is below 2^32 or 2^128, by its family
 abbrev pub IsAddress : Ip → Type 0
 IsAddress (V4 n) = n < 2 ^ 32
 IsAddress (V6 n) = n < 2 ^ 128

@@ -20,7 +20,8 @@ pub data AttrData : Type 0 where
   bool : Bool → AttrData
   text_map : HeaderMap → AttrData
 
--- the value without where it lies in memory; of pairs, the map that they are where they ascend
+-- the value that an attribute's value in the code means, without its place in memory. Pairs mean a
+-- map, if their names ascend
 abbrev pub attr_view : AttrValue → AttrData
 attr_view (values.Text t) = text (rc_str_bytes t.now)
 attr_view (values.Int n) = int n
@@ -28,20 +29,20 @@ attr_view (values.Uint n) = uint n
 attr_view (values.Bool b) = bool b
 attr_view (values.Pairs ps) = text_map (from_sorted ps.now)
 
--- pairs are by ascending name, each name once
+-- the names of pairs ascend, so each name is there once
 abbrev pub HasSortedPairs : AttrValue → Type 0
 HasSortedPairs (values.Pairs ps) = IsTrue (is_sorted name_cmp ps.now)
 HasSortedPairs _ = ⊤
 
--- the target up to its first `#` (35)
+-- the target before its first `#` (35); the whole target if it has none
 abbrev pub without_fragment : List ℕ → List ℕ
 without_fragment target = before_first (λ b. b == 35) target
 
--- of that, what is before the first `?` (63), or the whole
+-- the target without its fragment, before the first `?` (63); all of that if it has none
 abbrev pub url_path_of : List ℕ → List ℕ
 url_path_of target = before_first (λ b. b == 63) (without_fragment target)
 
--- and what is after the first `?`, or nothing
+-- the target without its fragment, after the first `?`; empty if it has none
 abbrev pub query_of : List ℕ → List ℕ
 query_of target = after_first (λ b. b == 63) (without_fragment target)
 
@@ -53,7 +54,8 @@ header_data r name = option_map text (header_of r name)
 abbrev pub port_data : Option ℕ → Option AttrData
 port_data port = option_map (λ n. int (pos n)) port
 
--- the name of each attribute, and its value as a function of the request; none where it is absent
+-- each attribute's name, and its value as a function of the request: none if the request does not
+-- have it
 abbrev pub attribute : AttrId → List ℕ × (RequestValue → Option AttrData)
 attribute RequestPath = (codes "request.path", λ r. Some (text r.target))
 attribute RequestUrlPath = (codes "request.url_path", λ r. Some (text (url_path_of r.target)))
@@ -99,7 +101,7 @@ attr_type ConnectionMtls = AttrType.Bool
 attr_type ConnectionId = AttrType.Uint
 attr_type _ = AttrType.Text
 
--- the value is one of the type: a text is UTF-8, and a number has 64 bits
+-- the value has the type: a text is UTF-8, and a number fits 64 bits
 abbrev pub HasAttrType : AttrType → AttrData → Type 0
 HasAttrType AttrType.Text (text bytes) = IsUtf8 bytes
 HasAttrType AttrType.Int (int n) = FitsSigned w64 n

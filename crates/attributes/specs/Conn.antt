@@ -1,5 +1,5 @@
--- What is known of a connection: the connection attributes of Envoy, "Attributes", and the
--- addresses for CIDR ranges.
+-- The facts of a connection: the connection attributes of Envoy, "Attributes", and the addresses
+-- for CIDR ranges.
 use Rattle.std.specs.Prelude.{ℕ, ◌^◌, ◌<◌, Option, Some, None, List, [], ◌∷◌, IfSome, option_map}
 use Rattle.std.specs.List.{AllByRecursion}
 use Rattle.std.specs.Str.{IsUtf8}
@@ -24,8 +24,8 @@ texts_of f =
 abbrev pub IsPort : Option ℕ → Type 0
 IsPort port = IfSome port (λ n. n < 2 ^ 16)
 
--- what holds of the facts of each connection: texts are UTF-8, a port has 16 bits, the connection's
--- number 64. An address has as many as its family
+-- the facts of every connection satisfy this: texts are UTF-8, ports fit 16 bits, and the
+-- connection's number fits 64 bits. Each address is in the range of its family
 pub record AreFacts (f : Facts) : Type 0 where
   pub texts : AllByRecursion (λ text. IfSome text IsUtf8) (texts_of f)
   pub source_port : IsPort f.source_port
@@ -35,7 +35,7 @@ pub record AreFacts (f : Facts) : Type 0 where
   pub remote_ip : IfSome f.remote_ip IsAddress
   pub destination_ip : IfSome f.destination_ip IsAddress
 
--- a text that may be absent
+-- the bytes of an optional text
 abbrev pub text_view : Option (RcStr Global) → Option (List ℕ)
 text_view = option_map rc_str_bytes
 
@@ -59,7 +59,7 @@ conn_view c = record {
   scheme = rc_str_bytes c.scheme;
 }
 
--- no fact is known but the scheme
+-- the facts of a connection of which only the scheme is known
 abbrev pub only_scheme : List ℕ → Facts
 only_scheme scheme = record {
   source_address = None;

@@ -17,7 +17,7 @@ use Rattle.std.specs.declared.string.String.{String}
 abbrev pub Entry : Type 0
 Entry = List ℕ × List ℕ
 
--- a field line as it is given
+-- a field line of the code, as bytes
 abbrev pub line_view : String Global × String Global → Entry
 line_view line = (string_bytes line.0, string_bytes line.1)
 
@@ -25,11 +25,11 @@ line_view line = (string_bytes line.0, string_bytes line.1)
 abbrev pub lines_view : List (String Global × String Global) → List Entry
 lines_view lines = map line_view lines
 
--- a header as it is kept
+-- a header of the code, as bytes
 abbrev pub header_view : RcStr Global × RcStr Global → Entry
 header_view header = (rc_str_bytes header.0, rc_str_bytes header.1)
 
--- headers in the order in which they are kept
+-- headers of the code, in order, as bytes
 abbrev pub headers_view : List (RcStr Global × RcStr Global) → List Entry
 headers_view headers = map header_view headers
 
@@ -45,23 +45,23 @@ HeaderMap = FinMap name_cmp (List ℕ)
 abbrev pub values_of : List ℕ → List Entry → List (List ℕ)
 values_of name es = map (λ e. e.1) (filter (λ e. bytes_eq e.0 name) es)
 
--- several values as one, with a comma (44) between each two
+-- several values joined, with a comma (44) between each two
 abbrev pub with_commas : List (List ℕ) → List ℕ
 with_commas values = join_with_byte 44 values
 
--- the headers of entries: each name among them, with all its values as one
+-- the headers of entries: each name once, with all its values joined
 unfoldable pub headers_of : List Entry → HeaderMap
 headers_of es = from_entries (map (λ e. (e.0, with_commas (values_of e.0 es))) es)
 
--- the name of a field line's header: the Host field's is `:authority`
+-- the name of a field line's header: `:authority` for the Host field, otherwise the line's name
 abbrev pub header_name : List ℕ → List ℕ
 header_name name = if bytes_eq name (codes "host") then codes ":authority" else name
 
--- a field line as an entry
+-- a field line as an entry, under its header's name
 abbrev pub line_entry : Entry → Entry
 line_entry line = (header_name line.0, line.1)
 
--- all entries before they are joined: the field lines in order of arrival, and the pseudo-headers
+-- all entries before values are joined: the field lines in order of arrival, and the pseudo-headers
 abbrev pub all_entries : (method target scheme : List ℕ) → List Entry → List Entry
 all_entries method target scheme lines = map line_entry lines
     ++ ((codes ":method", method) ∷ (codes ":path", target) ∷ (codes ":scheme", scheme) ∷ [])

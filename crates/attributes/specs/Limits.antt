@@ -1,4 +1,4 @@
--- The limits of a request, and what is within them.
+-- The limits of a request, and which requests are within them.
 use Rattle.std.specs.Prelude.{ℕ, ◌+◌, ◌≤◌, ◌==◌, nat_lt, List, [], ◌∷◌, Option, Some, None, All, IfSome, if◌then◌else◌, codes, decimal, filter_map, length, slice_get, ◌++◌}
 use Rattle.std.specs.FinMap.{entries}
 use Rattle.std.specs.List.{AllByRecursion}
@@ -47,7 +47,7 @@ limit_row Limit.Text = (codes "text", λ l. l.text)
 abbrev pub name_of : Limit → List ℕ
 name_of limit = (limit_row limit).0
 
--- one of the six
+-- the limit of this kind
 abbrev pub limit_of : Limit → LimitsValue → ℕ
 limit_of limit l = (limit_row limit).1 l
 
@@ -75,7 +75,7 @@ fault_text (Above limit) =
 abbrev pub AreLimits : LimitsValue → Type 0
 AreLimits l = (limit : Limit) → (1 ≤ limit_of limit l) × (limit_of limit l ≤ limit_of limit largest)
 
--- the text, if it is there, has at most so many bytes
+-- the text, if there is one, has at most so many bytes
 abbrev pub IsWithin : ℕ → Option (List ℕ) → Type 0
 IsWithin most text = IfSome text (λ bytes. length bytes ≤ most)
 
@@ -87,7 +87,7 @@ FactsInLimits f l = AllByRecursion (IsWithin l.text) (texts_of f)
 abbrev pub EntryInLimits : LimitsValue → Entry → Type 0
 EntryInLimits l e = (length e.0 ≤ l.name) × (length e.1 ≤ l.value)
 
--- every count, name and text is within the limits; the three pseudo-headers count as fields
+-- every count, name and text is within its limit; the three pseudo-headers count as fields
 pub record InLimits (r : RequestValue) (l : LimitsValue) : Type 0 where
   pub count : r.lines + 3 ≤ l.fields
   pub headers : All (EntryInLimits l) (entries r.headers)

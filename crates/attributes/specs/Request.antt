@@ -24,8 +24,8 @@ IsTextEntry e = IsUtf8 e.0 × IsUtf8 e.1
 abbrev pub AreTextHeaders : HeaderMap → Type 0
 AreTextHeaders headers = All IsTextEntry (entries headers)
 
--- what holds of each request: texts are UTF-8, numbers are in their ranges, and headers are no more
--- than the lines and the three pseudo-headers
+-- every request satisfies this: texts are UTF-8, and numbers are in their ranges. There are at most
+-- three headers more than field lines
 pub record IsRequest (r : RequestValue) : Type 0 where
   pub method : IsUtf8 r.method
   pub target : IsUtf8 r.target
@@ -34,7 +34,7 @@ pub record IsRequest (r : RequestValue) : Type 0 where
   pub few : len r.headers ≤ r.lines + 3
   pub facts : AreFacts r.facts
 
--- the value of a header; a name is in lower case, and the Host field's is `:authority`
+-- the value of the header of this name in lower case; the Host field is `:authority`
 abbrev pub header_of : RequestValue → List ℕ → Option (List ℕ)
 header_of r name = get r.headers name
 
@@ -42,7 +42,7 @@ header_of r name = get r.headers name
 abbrev pub protocol_of : Bool → List ℕ
 protocol_of http11 = if http11 then codes "HTTP/1.1" else codes "HTTP/1.0"
 
--- the request of a head and of the facts of its connection
+-- the request of a head on a connection with these facts
 abbrev pub request_of : (method target : List ℕ) → Bool → List Entry → Facts → RequestValue
 request_of method target http11 lines facts = record {
   method = method;

@@ -1,3 +1,3 @@
--- Definitions that clauses of private functions cite.
+-- Definitions that only clauses of private functions cite.
 pub mod Headers
 pub mod Request

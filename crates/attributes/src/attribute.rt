@@ -1,4 +1,4 @@
-//! The attributes of a request, each a function of its parts.
+//! The attributes of a request; each is a function of the request's parts.
 ghost use Rattle.std.specs.Prelude.{◌≡◌, ◌↔◌, IfSome, Some, find, option_map};
 ghost use Rattle.std.specs.Str.{bytes_eq};
 ghost use Rattle.attributes.specs.Attributes.{HasSortedPairs, attr_name, attr_of, attr_view, port_data, text, attr_type};
@@ -11,7 +11,7 @@ use crate::lookup::Headers;
 use crate::request::Request;
 use std::rc::RcStr;
 
-/// An attribute, by its name with a dot: `RequestUrlPath` is `request.url_path`.
+/// An attribute: `RequestUrlPath` is the one named `request.url_path`.
 #[derive(Clone, Copy, Debug, PartialEq, Eq)]
 pub enum AttrId {
     /// The whole target.
@@ -34,7 +34,7 @@ pub enum AttrId {
     RequestId,
     /// `HTTP/1.1` or `HTTP/1.0`.
     RequestProtocol,
-    /// What stands between the target's first `?` and the first `#`.
+    /// The target between its first `?` and the first `#` after it.
     RequestQuery,
     /// The address that the connection comes from.
     SourceAddress,
@@ -65,28 +65,28 @@ pub enum AttrId {
 pub enum AttrType {
     /// A text.
     Text,
-    /// A number with a sign, of 64 bits.
+    /// A signed number of 64 bits.
     Int,
-    /// A number without a sign, of 64 bits.
+    /// An unsigned number of 64 bits.
     Uint,
-    /// Yes or no.
+    /// A bool.
     Bool,
     /// A map from texts to texts.
     TextMap,
 }
 
-/// The value of an attribute, lent by the request: who keeps it clones the handle.
+/// The value of an attribute, lent by the request. To keep a text or the pairs, clone the handle.
 #[derive(Clone, Copy, Debug)]
 pub enum AttrValue<'a> {
     /// A text.
     Text(&'a RcStr),
-    /// A number with a sign: a port.
+    /// A signed number: a port.
     Int(i64),
-    /// A number without a sign: the connection's.
+    /// An unsigned number: that of the connection.
     Uint(u64),
-    /// Yes or no.
+    /// A bool.
     Bool(bool),
-    /// Texts with texts, by ascending name.
+    /// Names with their values, by ascending name.
     Pairs(&'a Headers),
 }
 
@@ -116,7 +116,7 @@ const ATTRIBUTES: [AttrId; 22] = [
     AttrId::ConnectionUriSanPeerCertificate,
 ];
 
-/// The attribute of this name, as `request.url_path`; `None` where no attribute has it.
+/// The attribute of this name, such as `request.url_path`; `None` if no attribute has the name.
 pub fn attr_named(name: &str) -> Option<AttrId>
     ensures { (id : AttrId) → (result ≡ Some id) ↔ (name.now ≡ attr_name id) }
 {
@@ -159,7 +159,7 @@ fn attr_name(id: AttrId) -> &'static str
     }
 }
 
-/// The type of the attribute's values: where it is there, its value has that type
+/// The type of the attribute's values: a request that has the attribute has a value of that type
 /// (`laws::attributes_have_their_types`).
 pub fn attr_type(id: AttrId) -> AttrType
     ensures { result ≡ attr_type id }
@@ -174,7 +174,7 @@ pub fn attr_type(id: AttrId) -> AttrType
 }
 
 impl Request {
-    /// The attribute, or `None` where it is absent.
+    /// The attribute's value; `None` if the request does not have the attribute.
     pub fn attr(&self, id: AttrId) -> Option<AttrValue<'_>>
         ensures value { option_map attr_view result ≡ attr_of self.now id }
         ensures ordered { IfSome result HasSortedPairs }

@@ -1,4 +1,4 @@
-//! The headers of a request: its lines sorted by name, those of one name joined, and the
+//! The headers of a request: its field lines sorted by name, the values of one name joined, and the
 //! pseudo-headers.
 ghost use Rattle.std.specs.Prelude.{◌≡◌, ℕ, List, ◌++◌, ◌∷◌, [], IfOk, IsTrue, OnOk, length, map, option_copied};
 ghost use Rattle.std.specs.FinMap.{find, is_sorted};
@@ -13,7 +13,7 @@ use std::alloc::{AllocError, Global};
 use std::mem;
 use std::rc::RcStr;
 
-/// A header: a name in lower case, with the values of all lines of that name.
+/// A header: a name in lower case, and the values of all lines of that name, joined.
 pub type Header = (RcStr, RcStr);
 
 // A field line: a name in lower case and a value.
@@ -49,7 +49,7 @@ fn join_lines(alloc: Global, lines: Vec<Line>) -> Result<Vec<Header>, AllocError
     join_sorted(alloc, lines)
 }
 
-// Puts the lines under their names in the headers.
+// Gives each line the name of its header.
 fn name_lines(alloc: Global, lines: &mut [Line]) -> Result<(), AllocError>
     ensures { OnOk result (lines_view lines.new ≡ map line_entry (lines_view lines.old)) }
 {
@@ -59,7 +59,7 @@ fn name_lines(alloc: Global, lines: &mut [Line]) -> Result<(), AllocError>
     Ok(())
 }
 
-// The Host field stands as `:authority`.
+// Gives the line the name of its header: the Host field is renamed to `:authority`.
 fn name_line(alloc: Global, line: &mut Line) -> Result<(), AllocError>
     ensures { OnOk result (line_view line.new ≡ line_entry (line_view line.old)) }
 {
@@ -78,7 +78,7 @@ fn sort_by_name(lines: &mut Vec<Line>) -> Result<(), AllocError>
     lines.sort_by(|a, b| a.0.as_str().cmp(b.0.as_str()))
 }
 
-// Joins neighbours of one name: the value of the first grows by those of the others.
+// Joins neighbours of one name: appends their values to the first one's.
 fn join_sorted(alloc: Global, lines: Vec<Line>) -> Result<Vec<Header>, AllocError>
     requires { AreSorted (lines_view lines.items) }
     ensures { IfOk result (λ headers. AreHeadersOf headers.items (lines_view lines.items)) }
@@ -106,7 +106,7 @@ fn share_line(line: Line) -> Result<Header, AllocError>
     Ok((RcStr::from_string(name)?, RcStr::from_string(value)?))
 }
 
-// Adds a further value of the same name.
+// Appends a further value of the same name.
 fn add_value(value: &mut String, more: &str) -> Result<(), AllocError>
     ensures { OnOk result (string_bytes value.new ≡ string_bytes value.old ++ 44 ∷ more.now) }
 {
@@ -114,7 +114,7 @@ fn add_value(value: &mut String, more: &str) -> Result<(), AllocError>
     value.push_str(more)
 }
 
-// One more entry, behind those that the headers are of.
+// Adds one more entry to the headers.
 fn add_header(
     alloc: Global,
     headers: &mut Vec<Header>,
@@ -145,7 +145,7 @@ fn join_values(alloc: Global, value: &str, more: &str) -> Result<RcStr, AllocErr
     RcStr::from_string(joined)
 }
 
-// Where the name stands, or else where it would.
+// The place of the name; if it is absent, the place where it would be inserted.
 fn find_place(headers: &[Header], name: &str) -> Result<usize, usize>
     ensures bound { IsSearchInRange result (length headers.now) }
     ensures place { IsTrue (is_sorted name_cmp (headers_view headers.now))

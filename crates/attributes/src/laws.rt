@@ -1,4 +1,4 @@
-//! Laws of the definitions: functions without parameters, whose contracts are the laws.
+//! Laws of the definitions. Each is a function without parameters whose contract is the law.
 ghost use Rattle.std.specs.Prelude.{◌≡◌, ◌≢◌, ◌↔◌, ℕ, IfSome, List, [], Some, None};
 ghost use Rattle.std.specs.FinMap.{get};
 ghost use Rattle.attributes.specs.Attributes.{HasAttrType, attr_name, attr_of, attr_type};
@@ -7,13 +7,13 @@ ghost use Rattle.attributes.specs.Limits.{AreLimits, LimitsValue, first_fault};
 ghost use Rattle.attributes.specs.Request.{IsRequest, RequestValue};
 ghost use Rattle.attributes.specs.declared.attribute.AttrId.{AttrId};
 
-/// Where an attribute of a request is there, its value has the attribute's type.
+/// If a request has an attribute, its value has the attribute's type.
 pub fn attributes_have_their_types()
     ensures { (r : RequestValue) (id : AttrId) → IsRequest r
         → IfSome (attr_of r id) (HasAttrType (attr_type id)) }
 {}
 
-/// Declared limits have no fault exactly where none is 0 or above the greatest.
+/// Declared limits have no fault exactly if none is 0 or above the greatest.
 pub fn limits_without_fault()
     ensures { (l : LimitsValue) → (first_fault l ≡ None) ↔ AreLimits l }
 {}

@@ -1,4 +1,4 @@
-//! The limits that a request has to keep, and the test whether it does.
+//! The limits of a request, and the test whether a request is within them.
 ghost use Rattle.std.specs.Prelude.{◌≡◌, ◌+◌, ◌≤◌, ◌↔◌, IfOk, IsTrue, All, length};
 ghost use Rattle.std.specs.FinMap.{entries};
 ghost use Rattle.std.specs.Result.{result_err};
@@ -45,7 +45,7 @@ pub enum Limit {
 }
 
 impl Limit {
-    /// The greatest number that may be declared for it.
+    /// The greatest value that may be declared for it.
     pub(crate) fn largest(self) -> usize
         ensures { result ≡ limit_of self largest }
     {
@@ -74,7 +74,7 @@ impl Limit {
     }
 }
 
-/// What is wrong with declared limits.
+/// A fault of declared limits.
 #[derive(Clone, Copy, Debug, PartialEq, Eq)]
 pub enum LimitFault {
     /// This limit is 0.
@@ -106,7 +106,7 @@ impl fmt::Display for LimitFault {
 
 impl Error for LimitFault {}
 
-/// Declared limits, none of them 0 or above the greatest.
+/// Declared limits; none is 0 or above the greatest.
 #[derive(Clone, Copy, Debug)]
 pub struct Limits {
     fields: usize,
@@ -138,9 +138,9 @@ impl Model for Limits {
 }
 
 impl Limits {
-    /// Limits as declared: on the number of fields, and in bytes of a name, a value, a method, a
-    /// target and any other text. Where one is 0 or above the greatest that may be declared, the
-    /// first of these faults in that order.
+    /// Limits as declared: the number of fields, and the bytes of a name, a value, a method, a
+    /// target and any other text. If some limit is 0 or above the greatest that may be declared,
+    /// gives the first such fault in that order.
     pub fn new(
         fields: usize,
         name: usize,
@@ -224,14 +224,14 @@ impl Limits {
             && conn.scheme.len() <= self.text
     }
 
-    // The field lines and the three pseudo-headers.
+    // Whether the field lines and the three pseudo-headers are within their limit.
     fn fits_count(&self, lines: usize) -> bool
         ensures { IsTrue result ↔ (lines + 3 ≤ self.now.fields) }
     {
         self.fields >= 3 && lines <= self.fields - 3
     }
 
-    // The method, the target and the protocol's version, as `HTTP/1.1`.
+    // Whether the method, the target and the version, such as `HTTP/1.1`, are within their limits.
     fn fits_head(&self, request: &Request) -> bool
         ensures { IsTrue result ↔ ((length request.now.method ≤ self.now.method)
             × (length request.now.target ≤ self.now.target)
@@ -242,7 +242,7 @@ impl Limits {
             && request.protocol_text().len() <= self.text
     }
 
-    // Each header's name and value.
+    // Whether each header's name and value are within their limits.
     fn fits_headers(&self, request: &Request) -> bool
         ensures { IsTrue result ↔ All (EntryInLimits self.now) (entries request.now.headers) }
     {

@@ -1,4 +1,4 @@
-//! Headers by ascending name, and how one is found by its name.
+//! Headers by ascending name, and the search for a name.
 ghost use Rattle.std.specs.Prelude.{◌≡◌, ◌<◌, ◌≤◌, All, IfOk, IfSome, IsTrue, None, Some, length};
 ghost use Rattle.std.specs.FinMap.{find, is_sorted};
 ghost use Rattle.std.specs.Rc.{rc_str_bytes};
@@ -16,7 +16,7 @@ use std::rc::{Rc, RcStr};
 #[derive(Debug, Drop)]
 pub struct Headers {
     pairs: Rc<Vec<Header>>,
-    // the start of each name, which says where to look first; no contract speaks of it
+    // the first bytes of each name, a hint for the search; no contract mentions it
     starts: Vec<u64>,
 }
 
@@ -44,7 +44,7 @@ impl Headers {
         })
     }
 
-    /// The names with their values: who keeps them clones the handle.
+    /// The names with their values. To keep them, clone the handle.
     pub fn pairs(&self) -> &Rc<Vec<Header>>
         ensures { headers_view result.now.value.items ≡ self.now }
     {
@@ -73,7 +73,7 @@ impl Headers {
     }
 }
 
-// The value of the header at this place, if it has this name.
+// The value of the header at this place, if the header has this name.
 fn value_at<'a>(headers: &'a [Header], place: usize, name: &str) -> Option<&'a RcStr>
     requires { IsTrue (is_sorted name_cmp (headers_view headers.now)) }
     ensures { IfSome result (λ value.
@@ -86,7 +86,7 @@ fn value_at<'a>(headers: &'a [Header], place: usize, name: &str) -> Option<&'a R
     None
 }
 
-// Whether the name would stand at this place, where it is not there.
+// Whether the name is absent, and would be inserted at this place.
 fn is_gap(headers: &[Header], place: usize, name: &str) -> bool
     requires { IsTrue (is_sorted name_cmp (headers_view headers.now)) }
     ensures { IsTrue result → find name_cmp name.now (headers_view headers.now) ≡ None }
@@ -100,7 +100,7 @@ fn is_gap(headers: &[Header], place: usize, name: &str) -> bool
     all_behind(headers, place, name)
 }
 
-// Whether the names before this place come before the name: the last of them does.
+// Whether the names before this place are less than the name; tests only the last of them.
 fn all_before(headers: &[Header], place: usize, name: &str) -> bool
     requires sorted { IsTrue (is_sorted name_cmp (headers_view headers.now)) }
     requires fits { place ≤ length headers.now }
@@ -112,7 +112,7 @@ fn all_before(headers: &[Header], place: usize, name: &str) -> bool
     headers[place - 1].0.as_str().cmp(name).is_lt()
 }
 
-// Whether the names from this place on come after the name: the first of them does.
+// Whether the names from this place on are greater than the name; tests only the first of them.
 fn all_behind(headers: &[Header], place: usize, name: &str) -> bool
     requires sorted { IsTrue (is_sorted name_cmp (headers_view headers.now)) }
     requires fits { place ≤ length headers.now }
@@ -124,7 +124,7 @@ fn all_behind(headers: &[Header], place: usize, name: &str) -> bool
     headers[place].0.as_str().cmp(name).is_gt()
 }
 
-// The start of each header's name.
+// The start of each header's name, as `start_of` gives it.
 fn starts_of(alloc: Global, headers: &[Header]) -> Result<Vec<u64>, AllocError> {
     let mut starts = Vec::with_capacity(alloc, headers.len())?;
     for (name, _) in headers {
@@ -133,8 +133,8 @@ fn starts_of(alloc: Global, headers: &[Header]) -> Result<Vec<u64>, AllocError> 
     Ok(starts)
 }
 
-// The first eight bytes of a name as a number that ascends as names do, with zeros where the name
-// is shorter.
+// The first eight bytes of a name as a number, which ascends as names do. A shorter name is filled
+// with zeros.
 #[inline(always)]
 fn start_of(name: &str) -> u64 {
     let bytes = name.as_bytes();
@@ -144,7 +144,7 @@ fn start_of(name: &str) -> u64 {
     }
 }
 
-// The same of fewer than eight bytes.
+// The same for fewer than eight bytes.
 #[inline(always)]
 fn short_start(bytes: &[u8]) -> u64
     requires { length bytes.now < 8 }

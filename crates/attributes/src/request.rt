@@ -1,4 +1,4 @@
-//! A request as values, and what its limits and its policies read of it.
+//! A request as values: its parts, its headers and the facts of its connection.
 ghost use Rattle.std.specs.Prelude.{◌≡◌, ◌<◌, ◌==◌, IfOk, IsTrue, length};
 ghost use Rattle.std.specs.FinMap.{entries, is_sorted};
 ghost use Rattle.std.specs.List.{after_first, before_first};
@@ -19,7 +19,7 @@ use std::marker::Model;
 use std::rc::RcStr;
 
 /// A request: its method, target, version and headers, and the facts of its connection. Its texts
-/// are shared with those that keep them.
+/// are shared.
 #[derive(Debug, Drop)]
 pub struct Request {
     method: RcStr,
@@ -57,11 +57,11 @@ impl Model for Request {
 }
 
 impl Request {
-    /// A request of HTTP/1.1, or else of HTTP/1.0, with these field lines in order of arrival, each
-    /// a name in lower case and a value. The values of one name are joined with `,` (RFC 9110
-    /// section 5.3), the Host field stands as `:authority`, and `:method`, `:path` and `:scheme`
-    /// besides. Names are given without a colon and Host at most once: no name stands in the way of
-    /// a pseudo-header then.
+    /// A request with these field lines in order of arrival, each a name in lower case and a value.
+    /// It is of HTTP/1.1 or, if not, of HTTP/1.0. The values of one name are joined with `,` (RFC
+    /// 9110 section 5.3). The Host field becomes `:authority`, and `:method`, `:path` and `:scheme`
+    /// are added. The caller gives names without a colon, and at most one Host; then no line is
+    /// joined to a pseudo-header.
     pub fn new(
         alloc: Global,
         method: String,
@@ -120,7 +120,7 @@ impl Request {
         self.http11
     }
 
-    /// The number of field lines, before those of one name were joined.
+    /// The number of field lines, before values of one name are joined.
     pub fn line_count(&self) -> usize
         ensures { result ≡ self.now.lines }
     {
@@ -135,7 +135,7 @@ impl Request {
         &self.headers
     }
 
-    /// The value of the header of this name in lower case; the Host field's name is `:authority`.
+    /// The value of the header of this name in lower case; the Host field is `:authority`.
     pub fn header(&self, name: &str) -> Option<&str>
         ensures { option_copied result ≡ header_of self.now name.now }
     {
@@ -190,7 +190,7 @@ impl Request {
     }
 }
 
-// The target before its first `#` and the first `?`, and what stands between the two.
+// The target before its first `#` and the first `?`, and the part between the two.
 fn cut_target(target: &str) -> (&str, &str)
     ensures path { result.0.now ≡ url_path_of target.now }
     ensures query { result.1.now ≡ query_of target.now }
@@ -198,7 +198,7 @@ fn cut_target(target: &str) -> (&str, &str)
     cut(before(target, '#'), '?')
 }
 
-// The path of this target as a text of its own; the target's where that is all.
+// The path of the target; shares the target's text if both are the same.
 fn share_path(alloc: Global, target: &RcStr, path: &str) -> Result<RcStr, AllocError>
     requires { path.now ≡ url_path_of (rc_str_bytes target.now) }
     ensures { IfOk result (λ text. rc_str_bytes text ≡ url_path_of (rc_str_bytes target.now)) }
@@ -216,7 +216,7 @@ fn protocol_text(http11: bool) -> &'static str
     if http11 { "HTTP/1.1" } else { "HTTP/1.0" }
 }
 
-// The text before the first such character, or all of it.
+// The text before the first such character; the whole text if there is none.
 fn before(text: &str, mark: char) -> &str
     requires { mark < 128 }
     ensures value { result.now ≡ before_first (λ b. b == mark) text.now }
@@ -227,7 +227,8 @@ fn before(text: &str, mark: char) -> &str
     }
 }
 
-// The text before the first such character, or all of it, and the text after, or the empty one.
+// The text before the first such character, and the text after it. If there is none, the whole text
+// and the empty one.
 fn cut(text: &str, mark: char) -> (&str, &str)
     requires { mark < 128 }
     ensures front { result.0.now ≡ before_first (λ b. b == mark) text.now }
@@ -239,7 +240,7 @@ fn cut(text: &str, mark: char) -> (&str, &str)
     }
 }
 
-/// What holds of each request: a proof that calls this has it.
+/// Every request satisfies `IsRequest`. A proof that needs this calls the function.
 pub fn request_is_sound(request: &Request)
     ensures { IsRequest request.now }
 {

@@ -1,2 +1,2 @@
--- Definitions that clauses of private functions cite.
+-- Definitions that only clauses of private functions cite.
 pub mod Plain

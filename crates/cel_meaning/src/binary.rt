@@ -1,4 +1,4 @@
-//! Operations on two operands, where they have kinds that go together.
+//! Operations on two operands; `None` if their kinds do not fit.
 
 ghost use Rattle.std.specs.Prelude.{◌≡◌, IfOk, is_some, option_map};
 ghost use Rattle.cel_ops.specs.Arithmetic.{arithmetic, arithmetic_of};
@@ -111,7 +111,7 @@ pub(super) fn calculate(op: ArithmeticOp, left: &Answer, right: &Answer) -> Opti
     }
 }
 
-/// `+`: a sum of numbers, or texts, bytes or lists one after the other.
+/// `+`: the sum of two numbers, or two texts, bytes or lists joined.
 pub(super) fn add(
     alloc: Global,
     left: &Answer,
@@ -175,7 +175,7 @@ pub(super) fn index(left: &Answer, right: &Answer) -> Result<Option<Answer>, All
     }
 }
 
-/// `in` of a list, or of a map's keys.
+/// `in`: whether a list has the value, or a map has the key.
 pub(super) fn is_in(left: &Answer, right: &Answer) -> Option<Answer>
     ensures { option_map answer_view result ≡ strict_two in_of (answer_view left.now) (answer_view right.now) }
 {
@@ -195,7 +195,7 @@ pub(super) fn is_in(left: &Answer, right: &Answer) -> Option<Answer>
     }
 }
 
-// Whether the map is one, and the value may be a key.
+// Whether the map's keys ascend, and the value is of a key's kind.
 fn may_hold(map: &Map, key: &Value) -> bool
     ensures { (f : CelEntries → CelKey → CelAnswer)
         → result ≡ is_some (at_key f (map_view map.now) (key_of_value (value_view key.now))) }

@@ -1,4 +1,4 @@
-//! Calls by their functions' names.
+//! Calls, by their functions' names.
 
 ghost use Rattle.std.specs.Prelude.{◌≡◌, [], ◌∷◌, IfOk, Some, map, option_map};
 ghost use Rattle.cel_ops.specs.declared.arithmetic.ArithmeticOp.{ArithmeticOp};
@@ -15,7 +15,7 @@ use cel_overload::{Function, function_named};
 use cel_value::{Answer, Value, copy_answer};
 use std::alloc::{AllocError, Global};
 
-/// What a call comes to on these operands, its target first.
+/// The answer of a call on these operands, its target first.
 pub(super) fn call(
     alloc: Global,
     name: &str,

@@ -1,4 +1,4 @@
-//! What comprehensions range over.
+//! The elements of comprehensions' ranges.
 
 ghost use Rattle.std.specs.Prelude.{◌≡◌, ◌≢◌, IfOk, None, Some, option_map};
 ghost use Rattle.cel_ops.specs.Collections.{elements_of};

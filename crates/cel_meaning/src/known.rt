@@ -1,4 +1,4 @@
-//! What is known of locals: their names and what they come to, the innermost first.
+//! The locals in scope: their names and answers, the innermost first.
 
 ghost use Rattle.std.specs.Prelude.{◌≡◌, ◌∷◌, IfOk, option_map};
 ghost use Rattle.std.specs.Str.{bytes_eq};
@@ -14,7 +14,7 @@ use cel_value::{Answer, copy_answer};
 use std::alloc::{AllocError, Global};
 use std::rc::RcStr;
 
-/// These with one local more.
+/// The locals with one more, the innermost.
 pub(super) fn with_local(
     alloc: Global,
     known: &[(RcStr, Answer)],
@@ -32,7 +32,7 @@ pub(super) fn with_local(
     Ok(locals)
 }
 
-/// What the innermost local of a name comes to.
+/// The answer of the innermost local of a name.
 pub(super) fn find<'k>(known: &'k [(RcStr, Answer)], name: &RcStr) -> Option<&'k Answer>
     ensures { option_map (λ a. answer_view a.now) result ≡ local (text_view name.now) (locals_view known.now) }
 {
@@ -50,7 +50,7 @@ fn same_names(left: &RcStr, right: &RcStr) -> bool
     left == right
 }
 
-/// The root that an expression is, where it is nothing but a root that no local hides.
+/// The root that an expression is; none if it is anything but a root that no local hides.
 pub(super) fn bare_root<'t>(tree: &'t Tree, known: &[(RcStr, Answer)]) -> Option<&'t RcStr>
     ensures { option_map (λ name. text_view name.now) result ≡ root_of (tree_view tree.now) (locals_view known.now) }
 {

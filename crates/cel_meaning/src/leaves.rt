@@ -31,7 +31,7 @@ pub(super) fn constant_value(constant: &Constant) -> Result<Value, AllocError>
     }
 }
 
-/// What a name comes to: the innermost local of that name, or the attribute.
+/// The answer of a name: of the innermost local of that name, or of the attribute.
 pub(super) fn name_answer(
     name: &RcStr,
     request: &Request,
@@ -46,7 +46,7 @@ pub(super) fn name_answer(
     }
 }
 
-/// The attribute of a root's field.
+/// The answer of a root's attribute.
 pub(super) fn field_answer(
     alloc: Global,
     root: &RcStr,
@@ -79,7 +79,7 @@ fn read_attribute(request: &Request, id: AttrId) -> Result<Answer, AllocError>
     }
 }
 
-// The value that an attribute is; of headers, their own pairs.
+// The attribute as a value that shares its text or pairs.
 fn share_value(found: AttrValue<'_>) -> Result<Value, AllocError>
     requires { HasSortedPairs found }
     ensures { IfOk result (λ value. value_view value ≡ attribute_value (attr_view found.entry)) }

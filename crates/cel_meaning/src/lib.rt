@@ -1,5 +1,5 @@
-//! What expressions mean, computed: a plain and slow evaluator. It goes by the tree and by names, as meaning is defined, and
-//! no crate stands on it: tests compare what code comes to with it.
+//! The meaning of expressions, computed: a plain and slow evaluator. It follows the definition of meaning: it walks the
+//! tree and looks names up. No crate uses it; tests compare the machine's results with it.
 #![tactic(auto)]
 
 ghost use Rattle.std.specs.Prelude.{◌≡◌, [], IfOk, option_map};
@@ -22,8 +22,8 @@ use cel_value::Answer;
 use nodes::eval;
 use std::alloc::{AllocError, Global};
 
-/// What an expression comes to, of a request; `None` where a value has a wrong kind or a name is not
-/// known, which an expression that has a type does not meet.
+/// The answer of an expression for a request. `None` if a value is of a wrong kind or a name is not known; neither
+/// occurs in an expression that has a type.
 pub fn evaluate_plainly(
     alloc: Global,
     tree: &Tree,

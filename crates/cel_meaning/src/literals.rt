@@ -1,4 +1,4 @@
-//! Literals of lists and maps, where keys have kinds of keys.
+//! Literals of lists and maps; `None` if a key is not of a key's kind.
 
 ghost use Rattle.std.specs.Prelude.{◌≡◌, IfOk, is_some, map, option_map};
 ghost use Rattle.cel_ops.specs.Collections.{list_literal, map_literal};
@@ -9,7 +9,7 @@ ghost use Rattle.cel_meaning.specs.steps.Plain.{are_pairs, is_key};
 use cel_value::Answer;
 use std::alloc::{AllocError, Global};
 
-/// A list literal of what its elements come to.
+/// A list literal of these elements' answers.
 pub(super) fn list_of(alloc: Global, operands: Vec<Answer>) -> Result<Option<Answer>, AllocError>
     ensures { IfOk result (λ found.
         option_map answer_view found ≡ list_literal (map answer_view operands.items)) }
@@ -17,7 +17,7 @@ pub(super) fn list_of(alloc: Global, operands: Vec<Answer>) -> Result<Option<Ans
     Ok(Some(cel_ops::make_list(alloc, operands)?))
 }
 
-/// A map literal of what its keys and values come to.
+/// A map literal of the answers of its keys and values, in turn.
 pub(super) fn map_of(alloc: Global, operands: Vec<Answer>) -> Result<Option<Answer>, AllocError>
     ensures { IfOk result (λ found.
         option_map answer_view found ≡ map_literal (map answer_view operands.items)) }
@@ -28,7 +28,7 @@ pub(super) fn map_of(alloc: Global, operands: Vec<Answer>) -> Result<Option<Answ
     Ok(Some(cel_ops::make_map(alloc, operands)?))
 }
 
-// Whether a map literal of these has an answer.
+// Whether a map literal of these operands has an answer.
 fn make_map(operands: &[Answer]) -> bool
     ensures { result ≡ is_some (map_literal (map answer_view operands.now)) }
 {
@@ -49,7 +49,7 @@ fn has_error(operands: &[Answer]) -> bool
     false
 }
 
-// Whether they are keys and values in turn.
+// Whether the operands are pairs, each with a key first.
 fn are_pairs(operands: &[Answer]) -> bool
     ensures { result ≡ are_pairs (map answer_view operands.now) }
 {

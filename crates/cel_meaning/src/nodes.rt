@@ -22,7 +22,7 @@ use cel_value::{Answer, CelError, Value};
 use std::alloc::{AllocError, Global};
 use std::rc::RcStr;
 
-/// What an expression comes to.
+/// The answer of an expression.
 #[cycle(eval)]
 pub(super) fn eval(
     alloc: Global,
@@ -68,7 +68,7 @@ pub(super) fn eval(
     }
 }
 
-/// A Select: the attribute of a bare root's field, or what its operand holds.
+/// A Select: a root's attribute, or a test or value of a map at a name.
 #[cycle(eval)]
 fn eval_select(
     alloc: Global,
@@ -99,7 +99,7 @@ fn eval_select(
     }
 }
 
-/// The target of a call, where it has one.
+/// The target of a call, if there is one.
 #[cycle(eval)]
 fn eval_target(
     alloc: Global,
@@ -123,7 +123,7 @@ fn eval_target(
     }
 }
 
-/// Expressions one after the other, put behind those before.
+/// Expressions in order; appends their answers.
 #[cycle(eval)]
 fn eval_each(
     alloc: Global,
@@ -146,7 +146,7 @@ fn eval_each(
     Ok(Some(answers))
 }
 
-/// Keys and values in turn.
+/// Keys and values, in turn.
 #[cycle(eval)]
 fn eval_entries(
     alloc: Global,
@@ -171,7 +171,7 @@ fn eval_entries(
     Ok(Some(answers))
 }
 
-/// A comprehension: what it ranges over, what it begins with, and then its turns.
+/// A comprehension: its range, its initial value, and then its turns and its result.
 #[cycle(eval)]
 fn eval_loop(
     alloc: Global,
@@ -196,7 +196,7 @@ fn eval_loop(
     }
 }
 
-/// The turns of a comprehension over these elements, from what is gathered so far.
+/// The turns of a comprehension over these elements, from this accumulator, and then its result.
 #[cycle(eval)]
 fn eval_turns(
     alloc: Global,
@@ -222,7 +222,7 @@ fn eval_turns(
     eval_result(alloc, parts, request, known, &gathered)
 }
 
-/// The result of what is gathered at last.
+/// The result of the last accumulator.
 #[cycle(eval)]
 fn eval_result(
     alloc: Global,
@@ -239,8 +239,8 @@ fn eval_result(
     eval(alloc, &parts.result, request, &inner)
 }
 
-/// A turn with this element, of what is gathered so far: what is gathered then, if the walk goes on, or the error that is
-/// the whole answer; nothing where a value has a wrong kind or a name is not known.
+/// One turn with this element and this accumulator: the next accumulator, nothing if the loop ends, or the error that
+/// is the loop's answer. `None` if a value is of a wrong kind or a name is not known.
 #[cycle(eval)]
 fn eval_turn(
     alloc: Global,

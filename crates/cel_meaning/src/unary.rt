@@ -1,4 +1,4 @@
-//! Operations on one operand, where it has the kind that they take.
+//! Operations on one operand; `None` if its kind does not fit.
 
 ghost use Rattle.std.specs.Prelude.{◌≡◌, IfOk, option_map};
 ghost use Rattle.cel_ops.specs.Arithmetic.{opposite};

@@ -1,5 +1,5 @@
--- What operations answer to their operands, and what they are charged: one table (CEL language definition, "List of
--- Standard Definitions"; this project's measure).
+-- The answers and charges of operations: one table (CEL language definition, "List of Standard Definitions"; this
+-- project's measure).
 use Rattle.std.specs.Prelude.{ℕ, Option, None}
 use Rattle.cel_value.specs.Values.{CelAnswer}
 use Rattle.cel_ops.specs.Arithmetic.{arithmetic, opposite}
@@ -11,14 +11,14 @@ use Rattle.cel_ops.specs.Charges.{comparison_charge, joined_charge, size_charge,
 use Rattle.cel_ops.specs.declared.operation.Operation.{Operation}
 use Rattle.cel_ops.specs.declared.operation.Operation.TheVariants as operations
 
--- an answer and a charge, by one operand or by two; no answer where an operand is of a wrong kind
+-- the answer and the charge of an operation on one operand or on two; no answer if an operand is of a wrong kind
 pub data Work : Type 0 where
   takes_one : (answer : CelAnswer → Option CelAnswer) → (charge : CelAnswer → ℕ) → Work
   takes_two : (answer : CelAnswer → CelAnswer → Option CelAnswer) → (charge : CelAnswer → CelAnswer → ℕ) → Work
 
 -- ---- the table of operations
 
--- what an operation answers and is charged
+-- the answer and the charge of each operation
 abbrev pub work : Operation → Work
 work (operations.Arithmetic op) = takes_two (arithmetic op) (λ a b. 1)
 work operations.Negate = takes_one opposite (λ a. 1)
@@ -35,7 +35,7 @@ work operations.MapIndex = takes_two map_index map_index_charge
 work operations.InMap = takes_two in_map in_map_charge
 work operations.InList = takes_two in_list in_list_charge
 
--- ---- with so many operands
+-- ---- answers and charges by the number of operands
 
 -- the answer to one operand
 abbrev pub one_answer : Work → CelAnswer → Option CelAnswer

@@ -16,7 +16,7 @@ use crate::texts::{TextTest, join, test_text};
 use cel_value::Answer;
 use std::alloc::{AllocError, Global};
 
-/// An operation; all are strict but `NotStrictlyFalse`, `And` and `Or`.
+/// An operation. All are strict except `NotStrictlyFalse`, `And` and `Or`.
 #[derive(Clone, Copy, PartialEq, Eq, Debug)]
 pub enum Operation {
     /// Two ints or two uints: a number of their kind.
@@ -25,7 +25,7 @@ pub enum Operation {
     Negate,
     /// A bool: the other one.
     Not,
-    /// A bool: whether it is not false; an error is not false (`@not_strictly_false`).
+    /// A bool: whether it is not false; true for an error (`@not_strictly_false`).
     NotStrictlyFalse,
     /// Two bools: their conjunction; false on either side makes it false.
     And,
@@ -49,7 +49,7 @@ pub enum Operation {
     InList,
 }
 
-/// What an operation on one operand answers.
+/// The answer of an operation on one operand.
 #[inline(always)]
 pub fn answer_one(op: Operation, operand: &Answer) -> Answer
     requires { one_answer (work op) (answer_view operand.now) ≢ None }
@@ -73,7 +73,7 @@ pub fn answer_one(op: Operation, operand: &Answer) -> Answer
     }
 }
 
-/// What an operation on two operands answers.
+/// The answer of an operation on two operands.
 #[inline(always)]
 pub fn answer_two(
     alloc: Global,
@@ -103,7 +103,7 @@ pub fn answer_two(
     }
 }
 
-/// What is left after a step that costs 1.
+/// The fuel left after a step that costs 1.
 #[inline(always)]
 pub fn spend_one(fuel: u64) -> Option<u64>
     ensures { result ≡ left_of fuel 1 }
@@ -111,7 +111,7 @@ pub fn spend_one(fuel: u64) -> Option<u64>
     fuel.checked_sub(1)
 }
 
-/// What is left after an operation on one operand.
+/// The fuel left after an operation on one operand.
 #[inline(always)]
 pub fn spend_on_one(op: Operation, operand: &Answer, fuel: u64) -> Option<u64>
     ensures { result ≡ left_of fuel (one_charge (work op) (answer_view operand.now)) }
@@ -134,7 +134,7 @@ pub fn spend_on_one(op: Operation, operand: &Answer, fuel: u64) -> Option<u64>
     }
 }
 
-/// What is left after an operation on two operands.
+/// The fuel left after an operation on two operands.
 #[inline(always)]
 pub fn spend_on_two(op: Operation, left: &Answer, right: &Answer, fuel: u64) -> Option<u64>
     ensures { result ≡ left_of fuel

@@ -1,5 +1,5 @@
--- What calls answer: CEL language definition, "List of Standard Definitions"; the
--- operations are those of `cel_ops`. None stands for operands of a wrong kind or number.
+-- The answers of calls: CEL language definition, "List of Standard Definitions"; the operations are
+-- those of `cel_ops`. None means that operands are of a wrong kind or number.
 use Rattle.std.specs.Prelude.{true, false, List, [], ◌∷◌, Option, Some, None}
 use Rattle.cel_value.specs.Values.{CelValue, bool, text, bytes, list, map_of, CelAnswer, value, fails}
 use Rattle.cel_value.specs.Types.{ValueType, AnswerHasType}
@@ -16,7 +16,7 @@ use Rattle.cel_overload.specs.declared.function.Function.TheVariants as function
 use Rattle.cel_overload.specs.declared.overload.Overload.{Overload}
 use Rattle.cel_overload.specs.declared.overload.Overload.TheVariants as overloads
 
--- the answer to one, two or three operands
+-- the answer to one operand
 abbrev pub on_one : (CelAnswer → Option CelAnswer) → List CelAnswer → Option CelAnswer
 on_one f (a ∷ []) = f a
 on_one f _ = None
@@ -33,38 +33,38 @@ conditional (value (bool false) ∷ a ∷ b ∷ []) = Some b
 conditional (fails e ∷ a ∷ b ∷ []) = Some (fails e)
 conditional _ = None
 
--- what an operation answers
+-- the answer of an operation
 abbrev pub operands_answer : Work → List CelAnswer → Option CelAnswer
 operands_answer (takes_one answer charge) = on_one answer
 operands_answer (takes_two answer charge) = on_two answer
 
--- what an overload answers
+-- the answer of an overload
 abbrev pub overload_answer : Overload → List CelAnswer → Option CelAnswer
 overload_answer overloads.Conditional = conditional
 overload_answer (overloads.Operate op) = operands_answer (work op)
 
--- ---- by the kinds of values, without types
+-- ---- answers by the kinds of values, without types
 
--- `+`: the sum of two numbers, or two texts, bytes or lists one after the other
+-- `+`: the sum of two numbers, or two texts, bytes or lists joined
 abbrev pub addition_of : CelValue → CelValue → Option CelAnswer
 addition_of (text a) w = joined_of (text a) w
 addition_of (bytes a) w = joined_of (bytes a) w
 addition_of (list a) w = joined_of (list a) w
 addition_of v w = arithmetic_of Add v w
 
--- `_[_]`: the item of a list, or the value of a map
+-- `_[_]`: the item of a list, or the value of a map at a key
 abbrev pub index_of : CelValue → CelValue → Option CelAnswer
 index_of (list vs) w = item_of (list vs) w
 index_of (map_of es) w = entry_of (map_of es) w
 index_of _ w = None
 
--- `in`: of a list, or of a map's keys
+-- `in`: whether a list has the value, or a map has the key
 abbrev pub in_of : CelValue → CelValue → Option CelAnswer
 in_of v (list vs) = in_list_of v (list vs)
 in_of v (map_of es) = in_map_of v (map_of es)
 in_of v _ = None
 
--- what a function answers
+-- the answer of a function
 abbrev pub function_answer : Function → List CelAnswer → Option CelAnswer
 function_answer functions.And = on_two conjunction
 function_answer functions.Or = on_two disjunction

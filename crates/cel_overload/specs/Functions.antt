@@ -38,18 +38,18 @@ names =
     ∷ (codes "endsWith", functions.TestText EndsWith)
     ∷ []
 
--- the function at a name in a list
+-- the function of the first entry with this name
 abbrev pub function_at : List ℕ → List (List ℕ × Function) → Option Function
 function_at name [] = None
 function_at name (entry ∷ entries) =
     if bytes_eq entry.0 name then Some entry.1 else function_at name entries
 
--- the function of a name, none where no function has it
+-- the function of a name; none if no function has it
 abbrev pub function_named : List ℕ → Option Function
 function_named name = function_at name names
 
--- whether a function may be called so: operators take no target, `size` may take its operand as
--- one, and tests of texts take the text
+-- whether a function can be called with a target, or without one. Operators take no target, `size`
+-- may take its operand as target, and tests of texts require one
 abbrev pub may_take : Function → (target : Bool) → Bool
 may_take functions.Size target = true
 may_take (functions.TestText test) target = target

@@ -16,7 +16,7 @@ use Rattle.cel_overload.specs.declared.overload.Overload.TheVariants as overload
 use Rattle.cel_overload.specs.declared.overload.OverloadFault.{OverloadFault}
 use Rattle.cel_overload.specs.declared.overload.OverloadFault.TheVariants.{UnknownName, NoOverload}
 
--- the function that an operation is of
+-- the function to which an operation belongs
 abbrev pub operation_function : Operation → Function
 operation_function operations.And = functions.And
 operation_function operations.Or = functions.Or
@@ -33,24 +33,24 @@ operation_function operations.InMap = functions.In
 operation_function operations.Size = functions.Size
 operation_function (operations.TestText test) = functions.TestText test
 
--- the function that an overload is of
+-- the function to which an overload belongs
 abbrev pub function_of : Overload → Function
 function_of overloads.Conditional = functions.Conditional
 function_of (overloads.Operate op) = operation_function op
 
--- int and uint are calculated with
+-- the type has arithmetic: int and uint
 abbrev pub IsNumber : ValueType → Type 0
 IsNumber int_type = Unit {0}
 IsNumber uint_type = Unit {0}
 IsNumber _ = ⊥
 
--- values of any one type are equal or not; for an order the type has to have one
+-- values of the type can be compared so: equality is for all types, an order for ordered ones
 abbrev pub IsCompared : CompareOp → ValueType → Type 0
 IsCompared Equal t = Unit {0}
 IsCompared NotEqual t = Unit {0}
 IsCompared _ t = IsOrdered t
 
--- the operation takes operands of these types, a target first, to a result of this type
+-- the operation takes operands of these types, a target first, and gives a result of this type
 abbrev pub Operates : Operation → List ValueType → ValueType → Type 0
 Operates operations.And ts r = (ts ≡ bool_type ∷ bool_type ∷ []) × (r ≡ bool_type)
 Operates operations.Or ts r = (ts ≡ bool_type ∷ bool_type ∷ []) × (r ≡ bool_type)
@@ -69,24 +69,24 @@ Operates operations.InMap ts r =
 Operates operations.Size ts r = (t : ValueType) × IsSized t × (ts ≡ t ∷ []) × (r ≡ int_type)
 Operates (operations.TestText test) ts r = (ts ≡ text_type ∷ text_type ∷ []) × (r ≡ bool_type)
 
--- the overload does
+-- the overload takes operands of these types, and gives a result of this type
 abbrev pub Takes : Overload → List ValueType → ValueType → Type 0
 Takes overloads.Conditional ts r = ts ≡ bool_type ∷ r ∷ r ∷ []
 Takes (overloads.Operate op) ts r = Operates op ts r
 
--- a call of the function on operands of these types, with a target or without, is this overload
--- and has a result of this type
+-- a call of the function on operands of these types, with or without a target, is this overload,
+-- with a result of this type
 pub record IsOverload (f : Function) (target : Bool) (ts : List ValueType) (o : Overload) (r : ValueType) : Type 0 where
   pub function : function_of o ≡ f
   pub shape : may_take f target ≡ true
   pub operands : Takes o ts r
 
--- the same of the function with this name
+-- the same for a call by the function's name
 abbrev pub IsCall : List ℕ → Bool → List ValueType → Overload → ValueType → Type 0
 IsCall name target ts o r =
     (f : Function) × (function_named name ≡ Some f) × IsOverload f target ts o r
 
--- why a call is no overload's
+-- why a call has no overload
 abbrev pub CallFault : List ℕ → Bool → List ValueType → OverloadFault → Type 0
 CallFault name target ts UnknownName = function_named name ≡ None
 CallFault name target ts NoOverload = (f : Function) × (function_named name ≡ Some f)

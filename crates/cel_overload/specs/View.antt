@@ -1,4 +1,4 @@
--- What the code finds and lends, without where it lies in memory.
+-- Types that the code finds or lends, without their places in memory.
 use Rattle.std.specs.Prelude.{List, map}
 use denote.Ref.{Bor}
 use Rattle.cel_value.specs.Types.{ValueType, bool_type, int_type, type_view}

@@ -16,7 +16,7 @@ pub enum Function {
     Or,
     /// `!_`.
     Not,
-    /// `@not_strictly_false`, by which macros go on past an error.
+    /// `@not_strictly_false`: macros use it to continue past an error.
     NotStrictlyFalse,
     /// `_?_:_`.
     Conditional,
@@ -66,7 +66,7 @@ const FUNCTIONS: [(&'static str, Function); 26] = [
     ("endsWith", Function::TestText(TextTest::EndsWith)),
 ];
 
-/// The function of a name; `None` where no function has it.
+/// The function of a name; `None` if no function has it.
 pub fn function_named(name: &str) -> Option<Function>
     ensures { result ≡ function_named (points_of name.now) }
 {
@@ -85,7 +85,7 @@ fn find_function(entries: &[(&'static str, Function)], name: &str) -> Option<Fun
     None
 }
 
-/// Whether a function may be called so: on a target, or without one.
+/// Whether a function can be called with a target, or without one.
 pub(crate) fn may_take(function: Function, has_target: bool) -> bool
     ensures { result ≡ may_take function has_target }
 {

@@ -1,4 +1,4 @@
-//! Kinds of types that overloads ask for.
+//! Tests of the types that overloads require.
 
 ghost use Rattle.std.specs.Prelude.{◌≡◌};
 ghost use Rattle.cel_value.specs.Types.{type_eq, type_of_key, type_view};
@@ -6,7 +6,7 @@ ghost use Rattle.cel_overload.specs.steps.Choosing.{is_joined, is_number, is_siz
 
 use cel_value::{CelType, KeyType};
 
-// Whether values of the type are calculated with: int and uint.
+// Whether the type has arithmetic: int and uint.
 pub(crate) fn is_number(kind: &CelType) -> bool
     ensures { result ≡ is_number (type_view kind.now) }
 {
@@ -17,7 +17,7 @@ pub(crate) fn is_number(kind: &CelType) -> bool
     }
 }
 
-// Whether values of the type are joined.
+// Whether values of the type can be joined.
 pub(crate) fn is_joined(kind: &CelType) -> bool
     ensures { result ≡ is_joined (type_view kind.now) }
 {
@@ -37,7 +37,7 @@ pub(crate) fn is_sized(kind: &CelType) -> bool
     }
 }
 
-// Whether the type is that of keys.
+// Whether the type is that of these keys.
 pub(crate) fn has_key_type(kind: &CelType, keys: KeyType) -> bool
     ensures { result ≡ type_eq (type_view kind.now) (type_of_key keys) }
 {

@@ -1,4 +1,4 @@
-//! Functions and overloads of CEL: the table by which calls are typed, evaluated and charged.
+//! Functions and overloads of CEL: one table for the types, answers and charges of calls.
 #![tactic(auto)]
 
 mod function;

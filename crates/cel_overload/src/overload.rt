@@ -17,10 +17,10 @@ use cel_value::CelType;
 /// What a call does.
 #[derive(Clone, Copy, PartialEq, Eq, Debug)]
 pub enum Overload {
-    /// One of its last two operands, as the first one decides.
+    /// The second or the third operand, as the first one decides.
     Conditional,
-    /// An operation. One that serves several types is one overload: `Arithmetic` stands for
-    /// `add_int64` and `add_uint64`, `Concat` for `add_string`, `add_bytes` and `add_list`.
+    /// An operation. Several overloads of CEL may be one here: `Arithmetic` is `add_int64` and
+    /// `add_uint64`, `Concat` is `add_string`, `add_bytes` and `add_list`.
     Operate(Operation),
 }
 
@@ -29,7 +29,7 @@ pub enum Overload {
 pub enum ResultType<'a> {
     Bool,
     Int,
-    /// A type that an operand has, or holds.
+    /// The type of an operand, or of a part of it.
     Same(&'a CelType),
 }
 
@@ -49,8 +49,8 @@ pub enum OverloadFault {
     NoOverload,
 }
 
-/// The overload of a call, by its function's name, whether it has a target, and its operands' types, a
-/// target first. `UnknownName` where no function has the name, else `NoOverload` where it takes no such
+/// The overload of a call: by its function's name, whether it has a target, and its operands' types, a
+/// target first. `UnknownName` if no function has the name. `NoOverload` if the function takes no such
 /// target or operands.
 pub fn find_overload<'a>(
     name: &str,
@@ -84,7 +84,7 @@ fn choose<'a>(function: Function, has_target: bool, operands: &[&'a CelType]) ->
     }
 }
 
-// An overload, where its operands fit.
+// An overload, if its operands fit.
 fn when<'a>(fits: bool, overload: Overload, kind: ResultType<'a>) -> Option<Found<'a>>
     ensures { option_map found_view result ≡ when fits overload (result_view kind.entry) }
 {
@@ -98,7 +98,7 @@ fn when<'a>(fits: bool, overload: Overload, kind: ResultType<'a>) -> Option<Foun
     }
 }
 
-// An operation, where its operands fit.
+// An operation, if its operands fit.
 fn operate<'a>(fits: bool, op: Operation, kind: ResultType<'a>) -> Option<Found<'a>>
     ensures { option_map found_view result ≡ when fits (Operate op) (result_view kind.entry) }
 {
@@ -148,7 +148,7 @@ fn choose_binary<'a>(function: Function, left: &'a CelType, right: &'a CelType) 
     }
 }
 
-// Equality is of all types, order of those that have one.
+// Equality is for all types, an order for the types that have one.
 fn choose_comparison<'a>(op: CompareOp, left: &'a CelType, right: &'a CelType) -> Option<Found<'a>>
     ensures { option_map found_view result ≡ choose_comparison op (type_view left.now) (type_view right.now) }
 {
@@ -159,7 +159,7 @@ fn choose_comparison<'a>(op: CompareOp, left: &'a CelType, right: &'a CelType) -
     operate(fits, Operation::Compare(op), ResultType::Bool)
 }
 
-// Numbers are calculated; `_+_` joins texts, bytes and lists besides.
+// Numbers have arithmetic; `_+_` also joins texts, bytes and lists.
 fn choose_arithmetic<'a>(
     op: ArithmeticOp,
     left: &'a CelType,

@@ -7,20 +7,20 @@ use Rattle.cel_value.specs.Types.{ValueType}
 use Rattle.cel_value.specs.Values.{CelValue}
 use Rattle.cel_tree.specs.Tree.{CelTree}
 
--- what an entry of the type map says of its node: a type, or `dyn`, which says nothing. Or a type
--- that is unsupported, in whole or somewhere inside
+-- an entry of the type map: the type of its node, `dyn`, which states no type, or a type of which
+-- some part is unsupported
 pub data CelTypeEntry : Type 0 where
   of_type : ValueType → CelTypeEntry
   dyn_type : CelTypeEntry
   unsupported_type : CelTypeEntry
 
--- what an entry of the reference map says of its node: the name that is meant, and its value where
--- it is a constant
+-- an entry of the reference map: the name that its node refers to, and a value if the name is that
+-- of a constant
 pub record CelReference : Type 0 where
   pub name : List ℕ
   pub value : Option CelValue
 
--- a tree, and what its maps say of nodes by their ids
+-- a tree, and the entries of its maps by the ids of nodes
 pub record CelChecked : Type 0 where
   pub tree : CelTree
   pub types : FinMap int_cmp CelTypeEntry

@@ -36,7 +36,7 @@ constants = (varint_key constant_field.null_value, None)
 abbrev pub constant_keys : List Key
 constant_keys = keys_of constants
 
--- the run of the member, which has this number, says the value
+-- the run of the member, which has this number, means the value
 abbrev pub ConstantSays : ConstantKind → ℕ → List Wire → CelValue → Type 0
 ConstantSays kinds.Bool n run v = v ≡ bool (bool_at n run)
 ConstantSays kinds.Int n run v = v ≡ int (int64_at n run)
@@ -45,7 +45,7 @@ ConstantSays kinds.Text n run v =
     IsUtf8 (bytes_at n run) × (v ≡ text (points_of (bytes_at n run)))
 ConstantSays kinds.Bytes n run v = v ≡ bytes (bytes_at n run)
 
--- what is wrong with the run of the member: a text is no UTF-8
+-- a fault of the member's run: a text is not UTF-8
 abbrev pub ConstantFails : ConstantKind → ℕ → List Wire → Refusal → Type 0
 ConstantFails kinds.Text n run e = Utf8Fault (bytes_at n run) e
 ConstantFails _ n run e = ⊥
@@ -54,7 +54,7 @@ ConstantFails _ n run e = ⊥
 abbrev pub IsConstant : List (List ℕ) → CelValue → Type 0
 IsConstant = Reads constant_keys (OneofSays constants Never ConstantSays)
 
--- what is wrong with a Constant
+-- a fault of a Constant
 abbrev pub ConstantFault : List (List ℕ) → Refusal → Type 0
 ConstantFault =
     ReadFault constant_keys (LacksMember constants)

@@ -14,7 +14,7 @@ IsGoodConstant (bytes bs) = HasType (bytes bs) bytes_type
 IsGoodConstant _ = ⊥
 
 abbrev mutual
-  -- so does each constant in the tree
+  -- each constant in the tree has the type of its kind
   pub HasGoodConstants : CelTree → Type 0
   HasGoodConstants (constant id v) = IsGoodConstant v
   HasGoodConstants (ident id name) = Unit {0}
@@ -26,17 +26,17 @@ abbrev mutual
       HasGoodConstants range × HasGoodConstants init × HasGoodConstants condition
       × HasGoodConstants step × HasGoodConstants result
 
-  -- a call's target, if there is one, has good constants
+  -- the constants of a call's target, if there is one, have the types of their kinds
   pub TargetIsGood : CelTarget → Type 0
   TargetIsGood no_target = Unit {0}
   TargetIsGood (target on) = HasGoodConstants on
 
-  -- each of these expressions has
+  -- the constants of each expression have the types of their kinds
   pub AreGood : CelTrees → Type 0
   AreGood no_trees = Unit {0}
   AreGood (tree t ts) = HasGoodConstants t × AreGood ts
 
-  -- each key and each value of these entries has
+  -- the constants of each key and value have the types of their kinds
   pub EntriesAreGood : CelTreeEntries → Type 0
   EntriesAreGood no_tree_entries = Unit {0}
   EntriesAreGood (tree_entry id key value es) =

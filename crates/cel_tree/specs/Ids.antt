@@ -19,23 +19,23 @@ abbrev mutual
   HasIds (comprehension id x acc range init condition step result) =
       IsInt64 id × HasIds range × HasIds init × HasIds condition × HasIds step × HasIds result
 
-  -- those of a call's target are, if there is one
+  -- each id in a call's target, if there is one, is an int64
   pub TargetHasIds : CelTarget → Type 0
   TargetHasIds no_target = Unit {0}
   TargetHasIds (target on) = HasIds on
 
-  -- those of each of these expressions are
+  -- each id in these expressions is an int64
   pub AllHaveIds : CelTrees → Type 0
   AllHaveIds no_trees = Unit {0}
   AllHaveIds (tree t ts) = HasIds t × AllHaveIds ts
 
-  -- those of these entries, of their keys and of their values are
+  -- each id of these entries, and each id in their keys and values, is an int64
   pub EntriesHaveIds : CelTreeEntries → Type 0
   EntriesHaveIds no_tree_entries = Unit {0}
   EntriesHaveIds (tree_entry id key value es) =
       IsInt64 id × HasIds key × HasIds value × EntriesHaveIds es
 
--- so is each id at which a map says something
+-- each id of the map is an int64
 abbrev pub MapHasIds : {V : Type 0} → FinMap int_cmp V → Type 0
 MapHasIds {V} m = (id : ℤ) (v : V) → get m id ≡ Some v → IsInt64 id
 

@@ -21,7 +21,7 @@ most_nodes = 2048
 abbrev pub tree_depth : ℕ
 tree_depth = 64
 
--- the fields of a CheckedExpr; source_info and expr_version are passed over, whatever they hold
+-- the fields of a CheckedExpr; the payloads of source_info and expr_version are not read
 abbrev pub checked_field : record { reference_map : ℕ; type_map : ℕ; expr : ℕ; source_info : ℕ; expr_version : ℕ }
 checked_field = record { reference_map = 2; type_map = 3; expr = 4; source_info = 5; expr_version = 6 }
 
@@ -31,7 +31,7 @@ checked_keys = len_key checked_field.reference_map ∷ len_key checked_field.typ
     ∷ len_key checked_field.expr ∷ len_key checked_field.source_info
     ∷ len_key checked_field.expr_version ∷ []
 
--- the fields say the checked expression
+-- the fields mean the checked expression
 pub record CheckedSays (fs : List Wire) (c : CelChecked) : Type 0 where
   pub there : payloads checked_field.expr fs ≢ []
   pub tree : IsTree tree_depth (payloads checked_field.expr fs) c.tree
@@ -39,11 +39,11 @@ pub record CheckedSays (fs : List Wire) (c : CelChecked) : Type 0 where
   pub types : IsMap int64 (IsTypeEntry tree_depth) (payloads checked_field.type_map fs) c.types
   pub refs : IsMap int64 IsReference (payloads checked_field.reference_map fs) c.refs
 
--- no expression is there
+-- there is no expression
 abbrev pub CheckedLacks : List Wire → Type 0
 CheckedLacks fs = payloads checked_field.expr fs ≡ []
 
--- what is wrong with the maps and the expression
+-- a fault of a map or of the expression
 pub data CheckedWrong (fs : List Wire) (e : Refusal) : Type 0 where
   in_tree : payloads checked_field.expr fs ≢ []
       → TreeFault tree_depth (payloads checked_field.expr fs) e → CheckedWrong fs e
@@ -58,6 +58,6 @@ pub data CheckedWrong (fs : List Wire) (e : Refusal) : Type 0 where
 abbrev pub IsChecked : List (List ℕ) → CelChecked → Type 0
 IsChecked = Reads checked_keys CheckedSays
 
--- what is wrong with them
+-- a fault of the message of a checked expression
 abbrev pub CheckedFault : List (List ℕ) → Refusal → Type 0
 CheckedFault = ReadFault checked_keys CheckedLacks CheckedWrong

@@ -1,4 +1,4 @@
--- Messages of single nodes, with the messages of the expressions inside unread:
+-- Messages of single nodes; the messages of the expressions inside are not read:
 -- `google/api/expr/v1alpha1/syntax.proto`, Expr and the messages inside it.
 use Rattle.std.specs.Prelude.{◌≡◌, ◌≢◌, ◌⊎◌, ℕ, ℤ, Bool, true, false, List, [], ◌∷◌, ◌++◌, map, Option, Some, None, Contains}
 use Rattle.std.specs.Map.{keys_of}
@@ -18,11 +18,11 @@ use Rattle.cel_tree.specs.Reading.{Reads, ReadFault, LacksNothing, OneofSays, Ne
 use Rattle.cel_tree.specs.declared.node.NodeKind.{NodeKind}
 use Rattle.cel_tree.specs.declared.node.NodeKind.TheVariants as kinds
 
--- the parts of a message that may be in several payloads
+-- the payloads of a message, which may have several
 abbrev pub Parts : Type 0
 Parts = List (List ℕ)
 
--- ---- what a node is, without its id
+-- ---- the contents of a node, without its id
 
 -- an entry of a map literal: its id, and the parts of its key and of its value
 pub record EntryNode : Type 0 where
@@ -40,7 +40,7 @@ pub record LoopNode : Type 0 where
   pub loop_step : Parts
   pub result : Parts
 
--- a node; a call without a target has no parts of one
+-- a node; a call without a target has no parts of it
 pub data Node : Type 0 where
   constant_node : CelValue → Node
   ident_node : (name : List ℕ) → Node
@@ -54,7 +54,7 @@ pub data Node : Type 0 where
 abbrev pub singles : List (List ℕ) → List Parts
 singles payloads = map (λ p. p ∷ []) payloads
 
--- a message where it is there
+-- the message with these parts; none if there are no parts
 abbrev pub if_there : Parts → List Parts
 if_there [] = []
 if_there (part ∷ parts) = (part ∷ parts) ∷ []
@@ -88,12 +88,12 @@ ident_field = record { name = 1 }
 abbrev pub ident_keys : List Key
 ident_keys = len_key ident_field.name ∷ []
 
--- the fields say the node
+-- the fields mean the node
 abbrev pub IdentSays : List Wire → Node → Type 0
 IdentSays fs node = IsUtf8 (bytes_at ident_field.name fs)
     × (node ≡ ident_node (points_of (bytes_at ident_field.name fs)))
 
--- the name is no UTF-8
+-- the name is not UTF-8
 abbrev pub IdentWrong : List Wire → Refusal → Type 0
 IdentWrong fs e = Utf8Fault (bytes_at ident_field.name fs) e
 
@@ -108,18 +108,18 @@ abbrev pub select_keys : List Key
 select_keys = len_key select_field.operand ∷ len_key select_field.field
     ∷ varint_key select_field.test_only ∷ []
 
--- the fields say the node
+-- the fields mean the node
 abbrev pub SelectSays : List Wire → Node → Type 0
 SelectSays fs node = IsUtf8 (bytes_at select_field.field fs)
     × (payloads select_field.operand fs ≢ [])
     × (node ≡ select_node (payloads select_field.operand fs)
     (points_of (bytes_at select_field.field fs)) (bool_at select_field.test_only fs))
 
--- that the operand lacks counts only where the field's name reads
+-- the operand is absent; this is a fault only if the field's name is UTF-8
 abbrev pub SelectLacks : List Wire → Type 0
 SelectLacks fs = IsUtf8 (bytes_at select_field.field fs) × (payloads select_field.operand fs ≡ [])
 
--- the name of the field is no UTF-8
+-- the name of the field is not UTF-8
 abbrev pub SelectWrong : List Wire → Refusal → Type 0
 SelectWrong fs e = Utf8Fault (bytes_at select_field.field fs) e
 
@@ -133,19 +133,19 @@ call_field = record { target = 1; function = 2; args = 3 }
 abbrev pub call_keys : List Key
 call_keys = len_key call_field.target ∷ len_key call_field.function ∷ len_key call_field.args ∷ []
 
--- the fields say the node
+-- the fields mean the node
 abbrev pub CallSays : List Wire → Node → Type 0
 CallSays fs node = IsUtf8 (bytes_at call_field.function fs)
     × (node ≡ call_node (points_of (bytes_at call_field.function fs))
     (payloads call_field.target fs) (payloads call_field.args fs))
 
--- the name of the function is no UTF-8
+-- the name of the function is not UTF-8
 abbrev pub CallWrong : List Wire → Refusal → Type 0
 CallWrong fs e = Utf8Fault (bytes_at call_field.function fs) e
 
 -- ---- CreateList
 
--- the fields of a CreateList; optional_indices are not supported, packed or one by one
+-- the fields of a CreateList; optional_indices, packed or not, are not supported
 abbrev pub list_field : record { elements : ℕ; optional_indices : ℕ }
 list_field = record { elements = 1; optional_indices = 2 }
 
@@ -154,12 +154,12 @@ abbrev pub list_keys : List Key
 list_keys = len_key list_field.elements ∷ len_key list_field.optional_indices
     ∷ varint_key list_field.optional_indices ∷ []
 
--- the fields say the node
+-- the fields mean the node
 abbrev pub ListSays : List Wire → Node → Type 0
 ListSays fs node = (has_field list_field.optional_indices fs ≡ false)
     × (node ≡ list_node (payloads list_field.elements fs))
 
--- indices of optional elements are present
+-- there are optional_indices
 abbrev pub ListWrong : List Wire → Refusal → Type 0
 ListWrong fs e = (has_field list_field.optional_indices fs ≡ true) × (e ≡ Unsupported)
 
@@ -179,7 +179,7 @@ entry_keys = varint_key entry_field.id ∷ len_key entry_field.field_key
     ∷ len_key entry_field.map_key ∷ len_key entry_field.value
     ∷ varint_key entry_field.optional_entry ∷ []
 
--- the fields say the entry
+-- the fields mean the entry
 pub record EntrySays (fs : List Wire) (entry : EntryNode) : Type 0 where
   pub plain : bool_at entry_field.optional_entry fs ≡ false
   pub keyed : last_number key_members fs ≡ Some entry_field.map_key
@@ -188,11 +188,11 @@ pub record EntrySays (fs : List Wire) (entry : EntryNode) : Type 0 where
   pub key : entry.key ≡ payloads entry_field.map_key (member_run key_members fs)
   pub value : entry.value ≡ payloads entry_field.value fs
 
--- no key or no value is there
+-- the key or the value is absent
 abbrev pub EntryLacks : List Wire → Type 0
 EntryLacks fs = (last_number key_members fs ≡ None) ⊎ (payloads entry_field.value fs ≡ [])
 
--- the entry is optional, or its key is that of a message
+-- the entry is optional, or has a field_key
 pub data EntryWrong (fs : List Wire) (e : Refusal) : Type 0 where
   optional : bool_at entry_field.optional_entry fs ≡ true → e ≡ Unsupported → EntryWrong fs e
   key_of_message : (n : ℕ) → last_number key_members fs ≡ Some n → n ≢ entry_field.map_key
@@ -202,11 +202,11 @@ pub data EntryWrong (fs : List Wire) (e : Refusal) : Type 0 where
 abbrev pub IsEntry : List ℕ → EntryNode → Type 0
 IsEntry payload entry = Reads entry_keys EntrySays (payload ∷ []) entry
 
--- what is wrong with the payload of an entry
+-- a fault of an entry's payload
 abbrev pub EntryFault : List ℕ → Refusal → Type 0
 EntryFault payload e = ReadFault entry_keys EntryLacks EntryWrong (payload ∷ []) e
 
--- each payload is an entry, in order
+-- the payloads are these entries, in order
 abbrev pub AreEntries : List (List ℕ) → List EntryNode → Type 0
 AreEntries [] [] = Unit {0}
 AreEntries [] (entry ∷ entries) = ⊥
@@ -224,13 +224,13 @@ struct_field = record { message_name = 1; entries = 2 }
 abbrev pub struct_keys : List Key
 struct_keys = len_key struct_field.message_name ∷ len_key struct_field.entries ∷ []
 
--- the fields say the node
+-- the fields mean the node
 abbrev pub StructSays : List Wire → Node → Type 0
 StructSays fs node = (bytes_at struct_field.message_name fs ≡ [])
     × (entries : List EntryNode) × AreEntries (payloads struct_field.entries fs) entries
     × (node ≡ map_node entries)
 
--- it has the name of a message, or an entry is wrong
+-- a fault of the fields: a message_name that is not empty, or a fault of an entry
 pub data StructWrong (fs : List Wire) (e : Refusal) : Type 0 where
   bad_name : Utf8Fault (bytes_at struct_field.message_name fs) e → StructWrong fs e
   of_message : bytes_at struct_field.message_name fs ≢ [] → e ≡ Unsupported → StructWrong fs e
@@ -250,13 +250,13 @@ loop_keys = len_key loop_field.iter_var ∷ len_key loop_field.iter_range
     ∷ len_key loop_field.loop_condition ∷ len_key loop_field.loop_step
     ∷ len_key loop_field.result ∷ len_key loop_field.iter_var2 ∷ []
 
--- the names are texts, and there is one name of an element
+-- the names are UTF-8, and iter_var2 is empty
 pub record NamesRead (fs : List Wire) : Type 0 where
   pub iter_var : IsUtf8 (bytes_at loop_field.iter_var fs)
   pub accu_var : IsUtf8 (bytes_at loop_field.accu_var fs)
   pub one : bytes_at loop_field.iter_var2 fs ≡ []
 
--- each part is there
+-- each part is present
 pub record PartsThere (fs : List Wire) : Type 0 where
   pub iter_range : payloads loop_field.iter_range fs ≢ []
   pub accu_init : payloads loop_field.accu_init fs ≢ []
@@ -264,7 +264,7 @@ pub record PartsThere (fs : List Wire) : Type 0 where
   pub loop_step : payloads loop_field.loop_step fs ≢ []
   pub result : payloads loop_field.result fs ≢ []
 
--- the names and parts of the fields
+-- the names and parts in the fields
 abbrev pub loop_at : List Wire → LoopNode
 loop_at fs = record {
   iter_var = points_of (bytes_at loop_field.iter_var fs);
@@ -276,11 +276,11 @@ loop_at fs = record {
   result = payloads loop_field.result fs;
 }
 
--- the fields say the node
+-- the fields mean the node
 abbrev pub LoopSays : List Wire → Node → Type 0
 LoopSays fs node = NamesRead fs × PartsThere fs × (node ≡ loop_node (loop_at fs))
 
--- some part is not there
+-- some part is absent
 pub data LacksPart (fs : List Wire) : Type 0 where
   no_range : payloads loop_field.iter_range fs ≡ [] → LacksPart fs
   no_init : payloads loop_field.accu_init fs ≡ [] → LacksPart fs
@@ -288,12 +288,12 @@ pub data LacksPart (fs : List Wire) : Type 0 where
   no_step : payloads loop_field.loop_step fs ≡ [] → LacksPart fs
   no_result : payloads loop_field.result fs ≡ [] → LacksPart fs
 
--- that it lacks counts only where the names are texts, also beside a second name of the element
+-- some part is absent; this is a fault only if all names are UTF-8, even with an iter_var2
 abbrev pub LoopLacks : List Wire → Type 0
 LoopLacks fs = IsUtf8 (bytes_at loop_field.iter_var fs) × IsUtf8 (bytes_at loop_field.accu_var fs)
     × IsUtf8 (bytes_at loop_field.iter_var2 fs) × LacksPart fs
 
--- a name is no UTF-8, or there is a second name of the element
+-- a name is not UTF-8, or iter_var2 is not empty
 pub data LoopWrong (fs : List Wire) (e : Refusal) : Type 0 where
   bad_iter_var : Utf8Fault (bytes_at loop_field.iter_var fs) e → LoopWrong fs e
   bad_accu_var : Utf8Fault (bytes_at loop_field.accu_var fs) e → LoopWrong fs e
@@ -316,7 +316,7 @@ node_kinds = (len_key node_field.const_expr, Some kinds.Constant)
     ∷ (len_key node_field.struct_expr, Some kinds.Struct)
     ∷ (len_key node_field.comprehension_expr, Some kinds.Comprehension) ∷ []
 
--- their fields
+-- the keys of the oneof's members
 abbrev pub kind_keys : List Key
 kind_keys = keys_of node_kinds
 
@@ -324,7 +324,7 @@ kind_keys = keys_of node_kinds
 abbrev pub node_keys : List Key
 node_keys = varint_key node_field.id ∷ kind_keys
 
--- the payloads of the member's run merge to a message that says the node
+-- the parts merge to a message of this kind, which means the node
 abbrev pub KindSays : NodeKind → Parts → Node → Type 0
 KindSays kinds.Constant parts node =
     (v : CelValue) × IsConstant parts v × (node ≡ constant_node v)
@@ -335,7 +335,7 @@ KindSays kinds.List parts node = Reads list_keys ListSays parts node
 KindSays kinds.Struct parts node = Reads struct_keys StructSays parts node
 KindSays kinds.Comprehension parts node = Reads loop_keys LoopSays parts node
 
--- what is wrong with that message
+-- a fault of the message of this kind
 abbrev pub KindFault : NodeKind → Parts → Refusal → Type 0
 KindFault kinds.Constant parts e = ConstantFault parts e
 KindFault kinds.Ident parts e = ReadFault ident_keys LacksNothing IdentWrong parts e
@@ -345,36 +345,36 @@ KindFault kinds.List parts e = ReadFault list_keys LacksNothing ListWrong parts 
 KindFault kinds.Struct parts e = ReadFault struct_keys LacksNothing StructWrong parts e
 KindFault kinds.Comprehension parts e = ReadFault loop_keys LoopLacks LoopWrong parts e
 
--- the run of the member says the node
+-- the run of the member means the node
 abbrev pub MemberSays : NodeKind → ℕ → List Wire → Node → Type 0
 MemberSays kind n run node = KindSays kind (payloads n run) node
 
--- what is wrong with the run of the member
+-- a fault of the member's run
 abbrev pub MemberFails : NodeKind → ℕ → List Wire → Refusal → Type 0
 MemberFails kind n run e = KindFault kind (payloads n run) e
 
--- the fields say the id and the node
+-- the fields mean the id and the node
 abbrev pub NodeSays : List Wire → ℤ × Node → Type 0
 NodeSays fs x = (x.0 ≡ int64_at node_field.id fs) × OneofSays node_kinds Never MemberSays fs x.1
 
--- the parts merge to an Expr with this id and of this kind, whatever the expressions inside hold
+-- the parts merge to an Expr with this id and node; the expressions inside may be anything
 abbrev pub IsNode : Parts → ℤ → Node → Type 0
 IsNode parts id node = Reads node_keys NodeSays parts (id, node)
 
--- what is wrong with its own message
+-- a fault of an Expr's own message
 abbrev pub NodeFault : Parts → Refusal → Type 0
 NodeFault = ReadFault node_keys (LacksMember node_kinds)
     (OneofFault node_kinds IsUnsupported MemberFails)
 
--- ---- the expressions inside a node's message, even if other things are wrong with it
+-- ---- the expressions inside a node's message, even if the message has other faults
 
--- in the fields of an Entry
+-- the child is the key or the value in an Entry's fields
 abbrev pub InEntry : List Wire → Parts → Type 0
 InEntry fs child = ((last_number key_members fs ≡ Some entry_field.map_key)
     × (child ≡ payloads entry_field.map_key (member_run key_members fs)))
     ⊎ IsPart entry_field.value fs child
 
--- in the fields of a member's message
+-- the child is an expression in the fields of a member's message
 abbrev pub InKind : NodeKind → List Wire → Parts → Type 0
 InKind kinds.Constant fs child = ⊥
 InKind kinds.Ident fs child = ⊥

@@ -1,5 +1,5 @@
--- Messages that say something by their fields, and what is wrong with them: Protocol Buffers
--- encoding guide, "Message Structure", "Last One Wins" and "Oneofs".
+-- Messages by the meaning of their fields, and their faults: Protocol Buffers encoding guide,
+-- "Message Structure", "Last One Wins" and "Oneofs".
 use Rattle.std.specs.Prelude.{◌≡◌, ◌≢◌, ℕ, List, [], ◌∷◌, Option, Some, None, MatchOption, Contains}
 use Rattle.std.specs.Map.{keys_of}
 use Rattle.proto_wire.specs.Fields.{Wire}
@@ -13,12 +13,12 @@ use Rattle.proto_wire.specs.declared.refusal.Refusal.TheVariants.{Missing, Unsup
 
 -- ---- messages
 
--- the parts merge to a message of known fields, which say this
+-- the parts merge to a message of known fields, which mean this
 abbrev pub Reads : {T : Type 0} → List Key → (List Wire → T → Type 0) → List (List ℕ) → T → Type 0
 Reads keys Says parts x = (fs : List Wire) × IsMessage keys parts fs × Says fs x
 
--- what is wrong with a message: its fields; that something lacks, where its fields are known; or a
--- value
+-- a fault of a message: of its fields, or of a value. Also that a required field is absent, if all
+-- fields are known
 pub data ReadFault (keys : List Key) (Lacks : List Wire → Type 0)
     (Wrong : List Wire → Refusal → Type 0) (parts : List (List ℕ)) (e : Refusal) : Type 0 where
   in_fields : MessageFault keys parts e → ReadFault keys Lacks Wrong parts e
@@ -26,21 +26,21 @@ pub data ReadFault (keys : List Key) (Lacks : List Wire → Type 0)
       → ReadFault keys Lacks Wrong parts e
   in_values : (fs : List Wire) → Merges parts fs → Wrong fs e → ReadFault keys Lacks Wrong parts e
 
--- nothing has to be there
+-- no field is required
 abbrev pub LacksNothing : List Wire → Type 0
 LacksNothing fs = ⊥
 
--- ---- oneofs, by a table of their members; none means that a member is not supported
+-- ---- oneofs, by a table of their members; none in the table means that a member is not supported
 
--- the run of the last member says it; without a member, or where the last one is not supported,
--- this is said
+-- the meaning of a oneof: that of the last member's run; without a member, or if the last one is
+-- not supported, the default `Without`
 abbrev pub OneofSays : {M T : Type 0} → List (Key × Option M) → (T → Type 0)
     → (M → ℕ → List Wire → T → Type 0) → List Wire → T → Type 0
 OneofSays table Without Says fs x = MatchOption (last_number (keys_of table) fs) (Without x)
     (λ n. MatchOption (member_in table n) (Without x)
     (λ m. Says m n (member_run (keys_of table) fs) x))
 
--- nothing is said, or no fault is there
+-- no meaning, or no fault
 abbrev pub Never : {T : Type 0} → T → Type 0
 Never x = ⊥
 
@@ -48,30 +48,30 @@ Never x = ⊥
 abbrev pub LacksMember : {M : Type 0} → List (Key × Option M) → List Wire → Type 0
 LacksMember table fs = last_number (keys_of table) fs ≡ None
 
--- the fault of a member that is not supported
+-- the fault of an unsupported member
 abbrev pub IsUnsupported : Refusal → Type 0
 IsUnsupported e = e ≡ Unsupported
 
--- the run of the last member has this fault; where that one is not supported, it is this
+-- a fault of a oneof: that of the last member's run, or, if the last member is not supported,
+-- `Refused`
 abbrev pub OneofFault : {M : Type 0} → List (Key × Option M) → (Refusal → Type 0)
     → (M → ℕ → List Wire → Refusal → Type 0) → List Wire → Refusal → Type 0
 OneofFault table Refused Fails fs e = MatchOption (last_number (keys_of table) fs) ⊥
     (λ n. MatchOption (member_in table n) (Refused e)
     (λ m. Fails m n (member_run (keys_of table) fs) e))
 
--- ---- messages inside, whatever else is wrong with the one around them
+-- ---- messages inside, even if the message around them has faults
 
--- the fields of this number are one message, which is there
+-- the message of this number, with all its payloads; there is at least one
 abbrev pub IsPart : ℕ → List Wire → List (List ℕ) → Type 0
 IsPart n fs child = (payloads n fs ≢ []) × (child ≡ payloads n fs)
 
--- each field of this number is a message, and this is one of them
+-- one of the messages of this number, each of one payload
 abbrev pub IsElement : ℕ → List Wire → List (List ℕ) → Type 0
 IsElement n fs child =
     (payload : List ℕ) × Contains (payloads n fs) payload × (child ≡ payload ∷ [])
 
--- the parts are whole fields, and so is the message of the member that counts, which holds the
--- child
+-- the parts are whole fields, and so is the message of their last member, which contains the child
 pub record StandsIn {M : Type 0} (table : List (Key × Option M))
     (Inside : M → List Wire → List (List ℕ) → Type 0) (parts child : List (List ℕ)) : Type 0 where
   pub fields : List Wire

@@ -13,7 +13,7 @@ use Rattle.cel_tree.specs.Checked.{CelReference}
 use Rattle.cel_tree.specs.Constants.{IsConstant, ConstantFault}
 use Rattle.cel_tree.specs.Reading.{Reads, ReadFault, LacksNothing}
 
--- the fields of a Reference; the value is that of a constant
+-- the fields of a Reference; its value is a constant
 abbrev pub reference_field : record { name : ℕ; overload_id : ℕ; value : ℕ }
 reference_field = record { name = 1; overload_id = 3; value = 4 }
 
@@ -22,24 +22,24 @@ abbrev pub reference_keys : List Key
 reference_keys = len_key reference_field.name ∷ len_key reference_field.overload_id
     ∷ len_key reference_field.value ∷ []
 
--- the constant that the payloads merge to, and none where there is no payload
+-- the constant that the payloads merge to; none if there are no payloads
 abbrev pub IsValue : List (List ℕ) → Option CelValue → Type 0
 IsValue [] value = value ≡ None
 IsValue (part ∷ parts) value = (v : CelValue) × IsConstant (part ∷ parts) v × (value ≡ Some v)
 
--- what is wrong with the value
+-- a fault of the value
 abbrev pub ValueFault : List (List ℕ) → Refusal → Type 0
 ValueFault [] e = ⊥
 ValueFault (part ∷ parts) e = ConstantFault (part ∷ parts) e
 
--- the fields say the reference; the overloads' ids are texts, and not kept
+-- the fields mean the reference; the ids of overloads have to be UTF-8, and are not kept
 pub record ReferenceSays (fs : List Wire) (r : CelReference) : Type 0 where
   pub readable : IsUtf8 (bytes_at reference_field.name fs)
   pub ids : AllByRecursion IsUtf8 (payloads reference_field.overload_id fs)
   pub named : r.name ≡ points_of (bytes_at reference_field.name fs)
   pub valued : IsValue (payloads reference_field.value fs) r.value
 
--- what is wrong with a value among them
+-- a fault of a field's value
 pub data ReferenceWrong (fs : List Wire) (e : Refusal) : Type 0 where
   bad_name : Utf8Fault (bytes_at reference_field.name fs) e → ReferenceWrong fs e
   bad_id : (id : List ℕ) → Contains (payloads reference_field.overload_id fs) id → Utf8Fault id e
@@ -50,6 +50,6 @@ pub data ReferenceWrong (fs : List Wire) (e : Refusal) : Type 0 where
 abbrev pub IsReference : List (List ℕ) → CelReference → Type 0
 IsReference = Reads reference_keys ReferenceSays
 
--- what is wrong with a Reference
+-- a fault of a Reference
 abbrev pub ReferenceFault : List (List ℕ) → Refusal → Type 0
 ReferenceFault = ReadFault reference_keys LacksNothing ReferenceWrong

@@ -4,8 +4,8 @@ use Rattle.std.specs.Prelude.{ℕ, ℤ, Bool, List}
 use Rattle.cel_value.specs.Values.{CelValue}
 
 mutual
-  -- an expression: each node has its id first. A name is a list of code points, and a constant is a
-  -- bool, an int, a uint, a text or bytes
+  -- an expression; the id of each node is first. A name is a list of code points, and a constant is
+  -- a bool, an int, a uint, a text or bytes
   pub data CelTree : Type 0 where
     constant : ℤ → CelValue → CelTree
     ident : ℤ → (name : List ℕ) → CelTree
@@ -16,7 +16,7 @@ mutual
     comprehension : ℤ → (iter_var accu_var : List ℕ)
         → (iter_range accu_init loop_condition loop_step result : CelTree) → CelTree
 
-  -- the target of a call, where it has one
+  -- the optional target of a call
   pub data CelTarget : Type 0 where
     no_target : CelTarget
     target : CelTree → CelTarget

@@ -14,19 +14,20 @@ use Rattle.cel_tree.specs.Reading.{Reads, ReadFault, LacksNothing, OneofSays, Ne
 use Rattle.cel_tree.specs.declared.type_node.TypeKind.{TypeKind}
 use Rattle.cel_tree.specs.declared.type_node.TypeKind.TheVariants as kinds
 
--- ---- what types are made of
+-- ---- list and map types
 
--- a list of items of this type; of an entry that is no type, a list is not supported
+-- a list of items of this type; unsupported if the entry is not a type
 abbrev pub list_entry : CelTypeEntry → CelTypeEntry
 list_entry (of_type t) = of_type (list_type t)
 list_entry _ = unsupported_type
 
--- a map with keys of this type, and values of that one
+-- a map with keys and values of these types; unsupported if no key has the first type
 abbrev pub map_with : Option KeyType → ValueType → CelTypeEntry
 map_with (Some k) t = of_type (map_type k t)
 map_with None t = unsupported_type
 
--- a map with keys and values as the two entries say
+-- a map with keys and values of the two entries; unsupported if one is not a type, or no key has
+-- the first
 abbrev pub map_entry : CelTypeEntry → CelTypeEntry → CelTypeEntry
 map_entry (of_type k) (of_type t) = map_with (key_type_of k) t
 map_entry _ _ = unsupported_type
@@ -40,9 +41,9 @@ primitives = (1, of_type bool_type) ∷ (2, of_type int_type) ∷ (3, of_type ui
 abbrev pub primitive_of : ℕ → Option CelTypeEntry
 primitive_of n = lookup (λ k. k == n) primitives
 
--- ---- one message, with the messages of the types inside it
+-- ---- one message; the messages of the types inside are not read
 
--- a type that is read, or a list or a map with the parts of the types inside it
+-- a type without types inside, or a list or a map with the parts of the types inside
 pub data TypeNode : Type 0 where
   plain : CelTypeEntry → TypeNode
   list_of : (elem : List (List ℕ)) → TypeNode
@@ -81,27 +82,27 @@ map_type_field = record { key_type = 1; value_type = 2 }
 abbrev pub map_type_keys : List Key
 map_type_keys = len_key map_type_field.key_type ∷ len_key map_type_field.value_type ∷ []
 
--- the fields of a ListType, which has its part
+-- the fields of a ListType mean the list
 abbrev pub ListTypeSays : List Wire → TypeNode → Type 0
 ListTypeSays fs node = (payloads list_type_field.elem_type fs ≢ [])
     × (node ≡ list_of (payloads list_type_field.elem_type fs))
 
--- a ListType lacks its part
+-- a ListType lacks its elem_type
 abbrev pub ListTypeWrong : List Wire → Refusal → Type 0
 ListTypeWrong fs e = (payloads list_type_field.elem_type fs ≡ []) × (e ≡ OutOfRange)
 
--- the fields of a MapType, which has its parts
+-- the fields of a MapType mean the map
 abbrev pub MapTypeSays : List Wire → TypeNode → Type 0
 MapTypeSays fs node = (payloads map_type_field.key_type fs ≢ [])
     × (payloads map_type_field.value_type fs ≢ [])
     × (node ≡ map_of (payloads map_type_field.key_type fs) (payloads map_type_field.value_type fs))
 
--- a MapType lacks a part
+-- a MapType lacks its key_type or its value_type
 abbrev pub MapTypeWrong : List Wire → Refusal → Type 0
 MapTypeWrong fs e = ((payloads map_type_field.key_type fs ≡ [])
     ⊎ (payloads map_type_field.value_type fs ≡ [])) × (e ≡ OutOfRange)
 
--- the run of the member, which has this number, says the type
+-- the run of the member, which has this number, means the type
 abbrev pub TypeSays : TypeKind → ℕ → List Wire → TypeNode → Type 0
 TypeSays kinds.Dyn n run node = node ≡ plain dyn_type
 TypeSays kinds.Primitive n run node =
@@ -109,7 +110,7 @@ TypeSays kinds.Primitive n run node =
 TypeSays kinds.List n run node = Reads list_type_keys ListTypeSays (payloads n run) node
 TypeSays kinds.Map n run node = Reads map_type_keys MapTypeSays (payloads n run) node
 
--- what is wrong with the run of the member
+-- a fault of the member's run
 abbrev pub TypeFails : TypeKind → ℕ → List Wire → Refusal → Type 0
 TypeFails kinds.Primitive n run e = (primitive_of (uint32_at n run) ≡ None) × (e ≡ OutOfRange)
 TypeFails kinds.List n run e =
@@ -117,22 +118,22 @@ TypeFails kinds.List n run e =
 TypeFails kinds.Map n run e = ReadFault map_type_keys LacksNothing MapTypeWrong (payloads n run) e
 TypeFails _ n run e = ⊥
 
--- a Type without a member is unsupported, and so is one with another member, whose content is not
+-- the unsupported type: of a Type without a member, or with another member, whose payload is not
 -- read
 abbrev pub IsOfOtherKind : TypeNode → Type 0
 IsOfOtherKind node = node ≡ plain unsupported_type
 
--- the parts merge to a Type
+-- the parts merge to a Type; the types inside may be anything
 abbrev pub IsTypeNode : List (List ℕ) → TypeNode → Type 0
 IsTypeNode = Reads type_keys (OneofSays type_kinds IsOfOtherKind TypeSays)
 
--- what is wrong with its own message
+-- a fault of a Type's own message
 abbrev pub TypeNodeFault : List (List ℕ) → Refusal → Type 0
 TypeNodeFault = ReadFault type_keys LacksNothing (OneofFault type_kinds Never TypeFails)
 
--- ---- the types inside its message, even if other things are wrong with it
+-- ---- the types inside a Type's message, even if the message has other faults
 
--- in the fields of a member's message
+-- the inner type is in the fields of a member's message
 abbrev pub InTypeKind : TypeKind → List Wire → List (List ℕ) → Type 0
 InTypeKind kinds.List fs inner = IsPart list_type_field.elem_type fs inner
 InTypeKind kinds.Map fs inner =
@@ -145,7 +146,7 @@ IsInner = StandsIn type_kinds InTypeKind
 
 -- ---- all levels; `Below` is the types one level down
 
--- the types inside make this entry
+-- the type, whose types inside are in `Below`, is this entry
 abbrev pub Holds : (List (List ℕ) → CelTypeEntry → Type 0) → TypeNode → CelTypeEntry → Type 0
 Holds Below (plain own) entry = entry ≡ own
 Holds Below (list_of elem) entry =
@@ -153,21 +154,21 @@ Holds Below (list_of elem) entry =
 Holds Below (map_of key value) entry =
     (k v : CelTypeEntry) × Below key k × Below value v × (entry ≡ map_entry k v)
 
--- the parts merge to a Type of at most `depth` levels, which says this
+-- the parts merge to a Type of at most `depth` levels, which means this entry
 abbrev pub IsTypeEntry : ℕ → List (List ℕ) → CelTypeEntry → Type 0
 IsTypeEntry zero parts entry = ⊥
 IsTypeEntry (suc depth) parts entry =
     (node : TypeNode) × IsTypeNode parts node × Holds (IsTypeEntry depth) node entry
 
--- a fault of its own message, or of a type inside it; either may occur beside the other
+-- a fault of a Type's own message, or of a type inside; several faults are possible at once
 pub data TypeLevelFault (Below : List (List ℕ) → Refusal → Type 0) (parts : List (List ℕ))
     (e : Refusal) : Type 0 where
   in_type : TypeNodeFault parts e → TypeLevelFault Below parts e
   in_inner : (inner : List (List ℕ)) → IsInner parts inner → Below inner e
       → TypeLevelFault Below parts e
 
--- what is wrong with a Type that may have `depth` levels: past them any is one too deep, whatever
--- it holds
+-- a fault of a Type that may have `depth` levels; below the last level any type is too deep,
+-- whatever its bytes are
 abbrev pub TypeEntryFault : ℕ → List (List ℕ) → Refusal → Type 0
 TypeEntryFault zero parts e = e ≡ TooLarge
 TypeEntryFault (suc depth) parts e = TypeLevelFault (TypeEntryFault depth) parts e

@@ -1,4 +1,4 @@
--- The trees, entries and constants that the code's mean.
+-- The trees, entries and constants that values of the code mean.
 use Rattle.std.specs.Prelude.{ℕ, ℤ, List, [], ◌∷◌, Option, Some, None, map, option_map}
 use Rattle.std.specs.Rc.{rc_slice_items}
 use Rattle.std.specs.FinMap.{FinMap, from_entries}
@@ -31,18 +31,18 @@ constant_view (constants.Uint n) = uint n
 constant_view (constants.Text t) = text (text_view t)
 constant_view (constants.Bytes bs) = bytes (rc_slice_items bs)
 
--- what a type entry says
+-- the entry that a `TypeEntry` means
 abbrev pub type_entry_view : TypeEntry → CelTypeEntry
 type_entry_view (entries.Type t) = of_type (type_view t)
 type_entry_view entries.Dyn = dyn_type
 type_entry_view entries.Unsupported = unsupported_type
 
--- a name that is kept where it is not empty
+-- a name; an empty one is not kept
 abbrev pub name_view : Option (RcStr Global) → List ℕ
 name_view None = []
 name_view (Some name) = text_view name
 
--- what a reference entry says
+-- the entry that a `Reference` means
 abbrev pub reference_view : Reference → CelReference
 reference_view r = record {
   name = name_view r.name;
@@ -77,7 +77,7 @@ abbrev pub tree_entries_of : List EntryParts → CelTreeEntries
 tree_entries_of [] = no_tree_entries
 tree_entries_of (e ∷ es) = tree_entry e.id e.key e.value (tree_entries_of es)
 
--- a target that may be there
+-- an optional target
 abbrev pub target_of : Option CelTree → CelTarget
 target_of None = no_target
 target_of (Some t) = target t
@@ -86,7 +86,7 @@ target_of (Some t) = target t
 abbrev pub loop_of : ℤ → LoopParts → CelTree
 loop_of id p = comprehension id p.iter_var p.accu_var p.iter_range p.accu_init p.loop_condition p.loop_step p.result
 
--- one level of a comprehension, with each tree inside already seen
+-- one level of a comprehension, whose inner trees are already translated
 abbrev pub loop_level : Comprehension-F CelTree LoopParts EntryParts → LoopParts
 loop_level c = record {
   iter_var = text_view c.iter_var;
@@ -98,11 +98,11 @@ loop_level c = record {
   result = c.result;
 }
 
--- one level of an entry, likewise
+-- one level of an entry, whose inner trees are already translated
 abbrev pub entry_level : TreeEntry-F CelTree LoopParts EntryParts → EntryParts
 entry_level e = record { id = e.id; key = e.key; value = e.value }
 
--- one level of a tree, likewise
+-- one level of a tree, whose inner trees are already translated
 abbrev pub tree_level : Tree-F CelTree LoopParts EntryParts → CelTree
 tree_level (Tree-F.Constant id c) = constant id (constant_view c)
 tree_level (Tree-F.Ident id n) = ident id (text_view n)
@@ -118,11 +118,11 @@ tree_view = fold-Tree CelTree LoopParts EntryParts tree_level loop_level entry_l
 
 -- ---- checked expressions
 
--- what a type map says of nodes, by their ids
+-- the entries that a `TypeMap` means, by the ids of nodes
 abbrev pub types_view : TypeMap → FinMap int_cmp CelTypeEntry
 types_view m = from_entries (map (λ e. (e.0, type_entry_view e.1)) m.entries)
 
--- what a reference map says of nodes, by their ids
+-- the entries that a `ReferenceMap` means, by the ids of nodes
 abbrev pub references_view : ReferenceMap → FinMap int_cmp CelReference
 references_view m = from_entries (map (λ e. (e.0, reference_view e.1)) m.entries)
 

@@ -1,4 +1,4 @@
--- What single steps of the code do: clauses of private functions cite these, and no promise does.
+-- What single steps of the code do. Only clauses of private functions cite these definitions.
 pub mod EntryViews
 pub mod InnerTypes
 pub mod Inside

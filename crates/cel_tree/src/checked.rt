@@ -1,4 +1,4 @@
-//! Checked expressions: a tree, and what is said of its nodes by their ids.
+//! Checked expressions: a tree, and the entries of its maps by the ids of nodes.
 
 ghost use Rattle.std.specs.Prelude.{◌≡◌, MatchResult, option_map};
 ghost use Rattle.std.specs.FinMap.{empty, get, insert};
@@ -10,33 +10,33 @@ use cel_value::CelType;
 use std::alloc::{AllocError, Global};
 use std::rc::RcStr;
 
-/// What an entry of the type map says of its node.
+/// An entry of the type map.
 #[derive(Drop)]
 pub enum TypeEntry {
-    /// It has this type.
+    /// The node has this type.
     Type(CelType),
-    /// Nothing: any type (`dyn`).
+    /// The entry states no type (`dyn`).
     Dyn,
-    /// It has a kind of type that is not supported, in whole or somewhere inside.
+    /// The node has a type of which some part is not supported.
     Unsupported,
 }
 
-/// What an entry of the reference map says of its node.
+/// An entry of the reference map.
 #[derive(Drop)]
 pub struct Reference {
-    /// The name that is meant; none where it is empty.
+    /// The name that the node refers to; none if it is empty.
     pub name: Option<RcStr>,
-    /// The value, where the name is that of a constant.
+    /// The value, if the name is that of a constant.
     pub value: Option<Constant>,
 }
 
-/// What a type map says of nodes, by their ids.
+/// The entries of a type map, by the ids of nodes.
 #[derive(Drop)]
 pub struct TypeMap {
     entries: IdMap<TypeEntry>,
 }
 
-/// What a reference map says of nodes, by their ids.
+/// The entries of a reference map, by the ids of nodes.
 #[derive(Drop)]
 pub struct ReferenceMap {
     entries: IdMap<Reference>,
@@ -60,7 +60,8 @@ impl TypeMap {
         }
     }
 
-    /// Puts an entry at an id, in the place of another; want of memory leaves all as it was.
+    /// Puts an entry at an id, and replaces an earlier one. If memory runs out, the map stays as it
+    /// was.
     pub fn insert(&mut self, id: i64, entry: TypeEntry) -> Result<(), AllocError>
         ensures { MatchResult result
             (λ done. types_view self.new ≡ insert (types_view self.old) id (type_entry_view entry))
@@ -70,7 +71,7 @@ impl TypeMap {
         Ok(())
     }
 
-    /// What the map says of the node of this id.
+    /// The entry of the node with this id.
     pub fn get(&self, id: i64) -> Option<&TypeEntry>
         ensures { option_map (λ entry. type_entry_view entry.now) result ≡ get (types_view self.now) id }
     {
@@ -88,7 +89,8 @@ impl ReferenceMap {
         }
     }
 
-    /// Puts an entry at an id, in the place of another; want of memory leaves all as it was.
+    /// Puts an entry at an id, and replaces an earlier one. If memory runs out, the map stays as it
+    /// was.
     pub fn insert(&mut self, id: i64, entry: Reference) -> Result<(), AllocError>
         ensures { MatchResult result
             (λ done. references_view self.new ≡ insert (references_view self.old) id (reference_view entry))
@@ -98,7 +100,7 @@ impl ReferenceMap {
         Ok(())
     }
 
-    /// What the map says of the node of this id.
+    /// The entry of the node with this id.
     pub fn get(&self, id: i64) -> Option<&Reference>
         ensures { option_map (λ entry. reference_view entry.now) result ≡ get (references_view self.now) id }
     {

@@ -1,4 +1,4 @@
-//! Constants, and how their message is read.
+//! Reads constants.
 
 ghost use Rattle.std.specs.Prelude.{◌≡◌, Some, None, IfOk, IfErr, MatchOption, map};
 ghost use Rattle.proto_wire.specs.Fields.{field_view};
@@ -39,7 +39,7 @@ static CONSTANT: [Key; 7] = keys![
     Len STRING_VALUE, Len BYTES_VALUE
 ];
 
-/// A member of a Constant's oneof that is supported.
+/// A supported member of a Constant's oneof.
 #[derive(Clone, Copy, PartialEq, Eq, Debug)]
 pub(crate) enum ConstantKind {
     Bool,
@@ -49,14 +49,14 @@ pub(crate) enum ConstantKind {
     Bytes,
 }
 
-/// The member of a Constant that counts.
+/// The last member of a Constant, which determines its value.
 #[derive(Clone, Copy, Debug)]
 struct LastConstant {
     kind: ConstantKind,
     number: u32,
 }
 
-/// Reads a Constant, whose message stands in the parts.
+/// Reads a Constant from its parts.
 pub(crate) fn read_constant(alloc: Global, parts: &[&[u8]]) -> Result<Constant, Refusal>
     ensures found { IfOk result (λ constant. IsConstant (parts_view parts.now) (constant_view constant)) }
     ensures fault { IfErr result (MemoryOr (ConstantFault (parts_view parts.now))) }
@@ -65,7 +65,7 @@ pub(crate) fn read_constant(alloc: Global, parts: &[&[u8]]) -> Result<Constant, 
     constant_of(alloc, &fields)
 }
 
-/// The constant that the fields say.
+/// The constant that the fields mean.
 fn constant_of(alloc: Global, fields: &[Field<'_>]) -> Result<Constant, Refusal>
     ensures found { IfOk result (λ constant.
         OneofSays constants Never ConstantSays (map field_view fields.now) (constant_view constant)) }
@@ -77,7 +77,7 @@ fn constant_of(alloc: Global, fields: &[Field<'_>]) -> Result<Constant, Refusal>
     constant_in(alloc, last, &run)
 }
 
-/// The last member of a Constant's fields: `Missing` without one, `Unsupported` where it is one that is not supported.
+/// The last member of a Constant's fields: `Missing` if there is none, `Unsupported` if it is not supported.
 fn last_constant(fields: &[Field<'_>]) -> Result<LastConstant, Refusal>
     ensures found { IfOk result (λ last.
         (last_number constant_keys (map field_view fields.now) ≡ Some last.number)
@@ -94,7 +94,7 @@ fn last_constant(fields: &[Field<'_>]) -> Result<LastConstant, Refusal>
     }
 }
 
-/// The member of this number; `None` for one that is not supported.
+/// The member of this number; `None` if it is not supported.
 fn constant_at(number: u32) -> Option<ConstantKind>
     ensures { result ≡ member_in constants number }
 {
@@ -108,7 +108,7 @@ fn constant_at(number: u32) -> Option<ConstantKind>
     }
 }
 
-/// The constant that the run of the last member says.
+/// The constant that the last member's run means.
 fn constant_in(alloc: Global, last: LastConstant, run: &[Field<'_>]) -> Result<Constant, Refusal>
     ensures found { IfOk result (λ constant.
         ConstantSays last.kind last.number (map field_view run.now) (constant_view constant)) }

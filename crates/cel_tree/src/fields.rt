@@ -1,4 +1,4 @@
-//! What is asked of a message's fields: names to keep, and payloads by their numbers.
+//! Reads names and payloads from a message's fields.
 
 ghost use Rattle.std.specs.Prelude.{◌≡◌, map, IfOk, IfErr};
 ghost use Rattle.std.specs.Str.{IsUtf8};
@@ -14,7 +14,7 @@ use proto_wire::{Field, Key, Payloads, Refusal, member_run, payloads_of, text_at
 use std::alloc::{AllocError, Global};
 use std::rc::RcStr;
 
-/// The number that is lent.
+/// The number itself.
 pub(crate) fn number_of(number: &i64) -> i64
     ensures value { result ≡ number.now }
     ensures ranged { IsInt64 result }
@@ -22,7 +22,7 @@ pub(crate) fn number_of(number: &i64) -> i64
     *number
 }
 
-/// The text of this number, to keep.
+/// A copy of the text of this number.
 #[inline(always)]
 pub(crate) fn name_at(alloc: Global, fields: &[Field<'_>], number: u32) -> Result<RcStr, Refusal>
     ensures found { let bytes = bytes_at number (map field_view fields.now) in
@@ -33,7 +33,7 @@ pub(crate) fn name_at(alloc: Global, fields: &[Field<'_>], number: u32) -> Resul
     Ok(RcStr::from_str(alloc, text)?)
 }
 
-/// Of a oneof, whose members have these keys, the payloads of this number in the run of the last member.
+/// The payloads of this number in the run of a oneof's last member; the oneof's members have these keys.
 #[inline(always)]
 pub(crate) fn run_payloads<'a>(
     alloc: Global,

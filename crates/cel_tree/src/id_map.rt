@@ -10,7 +10,7 @@ use std::alloc::{AllocError, Global};
 use std::cmp::Ordering;
 use std::marker::Model;
 
-/// A map from ids. An entry whose id is greater than all others is put behind them.
+/// A map from ids. An entry is appended if its id is greater than all others.
 #[derive(Drop)]
 pub(crate) struct IdMap<V> {
     entries: Vec<(i64, V)>,
@@ -38,7 +38,8 @@ impl<V: Drop> IdMap<V> {
         }
     }
 
-    /// Puts a value at an id, in the place of another; want of memory leaves all as it was.
+    /// Puts a value at an id, and replaces an earlier one. If memory runs out, the map stays as it
+    /// was.
     pub(crate) fn insert(&mut self, id: i64, value: V) -> Result<(), AllocError>
         ensures { MatchResult result (λ done. self.new ≡ put int_cmp id value self.old)
             (λ e. self.new ≡ self.old) }
@@ -60,7 +61,7 @@ impl<V: Drop> IdMap<V> {
     }
 }
 
-// How many entries have a smaller id.
+// The number of entries with smaller ids.
 fn place_of<V>(entries: &[(i64, V)], id: i64) -> usize
     requires { T (is_sorted int_cmp entries.now) }
     ensures { IsPlace id entries.now result }
@@ -75,7 +76,7 @@ fn place_of<V>(entries: &[(i64, V)], id: i64) -> usize
     at
 }
 
-// Whether the entry at a place has an id.
+// Whether the entry at a place has this id.
 fn stands_at<V>(entries: &[(i64, V)], at: usize, id: i64) -> bool
     ensures within { IsTrue result → at < length entries.now }
     ensures first { result ≡ starts_with id (drop at entries.now) }
@@ -83,7 +84,7 @@ fn stands_at<V>(entries: &[(i64, V)], at: usize, id: i64) -> bool
     at < entries.len() && entries[at].0.cmp(&id).is_eq()
 }
 
-// The value of the entry with an id, by halving.
+// The value at an id, found by binary search.
 fn find_in<V>(entries: &[(i64, V)], id: i64) -> Option<&V>
     requires { T (is_sorted int_cmp entries.now) }
     ensures { option_copied result ≡ find int_cmp id entries.now }

@@ -1,5 +1,5 @@
-//! Laws over the definitions: bytes are the message of one checked expression at most, and a message or a fault, never
-//! both; its tree's constants have the types of their kinds, and its ids are int64.
+//! Laws of the definitions. Bytes are the message of at most one checked expression, or have a fault, and never both.
+//! The constants of its tree have the types of their kinds, and its ids are int64.
 
 ghost use Rattle.std.specs.Prelude.{◌≡◌, ◌⊎◌, ℕ, List};
 ghost use Rattle.proto_wire.specs.declared.refusal.Refusal.{Refusal};
@@ -13,12 +13,12 @@ pub fn checked_total()
     ensures { (parts : List (List ℕ)) → ((c : CelChecked) × IsChecked parts c) ⊎ ((e : Refusal) × CheckedFault parts e) }
 {}
 
-/// No payloads are the message of a checked expression and have a fault.
+/// No payloads are both the message of a checked expression and at fault.
 pub fn checked_disjoint()
     ensures { (parts : List (List ℕ)) (c : CelChecked) (e : Refusal) → IsChecked parts c → CheckedFault parts e → ⊥ }
 {}
 
-/// Payloads are the message of one checked expression at most.
+/// Payloads are the message of at most one checked expression.
 pub fn checked_unique()
     ensures { (parts : List (List ℕ)) (c d : CelChecked) → IsChecked parts c → IsChecked parts d → c ≡ d }
 {}
@@ -28,7 +28,7 @@ pub fn constants_have_types()
     ensures { (parts : List (List ℕ)) (c : CelChecked) → IsChecked parts c → HasGoodConstants c.tree }
 {}
 
-/// The id of each of its nodes, and each id of its maps, is from -2^63 to 2^63 - 1.
+/// The id of each node, and each id of the maps, is from -2^63 to 2^63 - 1.
 pub fn ids_are_int64()
     ensures { (parts : List (List ℕ)) (c : CelChecked) → IsChecked parts c → IdsAreInt64 c }
 {}

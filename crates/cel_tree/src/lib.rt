@@ -1,4 +1,4 @@
-//! Trees of CEL: what they are, and how their messages are read.
+//! Trees of CEL, and how their messages are read.
 #![tactic(auto)]
 
 mod checked;

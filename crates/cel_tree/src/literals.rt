@@ -52,7 +52,7 @@ static ENTRY: [Key; 5] =
 /// The members of the oneof of an Entry.
 static ENTRY_KEY: [Key; 2] = keys![Len FIELD_KEY, Len MAP_KEY];
 
-/// An entry whose own message is read, with the parts of its key and of its value.
+/// An entry whose own message is read; its key and its value are unread parts.
 #[derive(Drop)]
 pub(crate) struct EntryNode<'a> {
     pub id: i64,
@@ -60,7 +60,7 @@ pub(crate) struct EntryNode<'a> {
     pub value: Payloads<'a>,
 }
 
-/// Reads a CreateList, whose message stands in the parts.
+/// Reads a CreateList from its parts.
 pub(crate) fn read_list<'a>(alloc: Global, parts: &[&'a [u8]]) -> Result<Node<'a>, Refusal>
     ensures found { IfOk result (λ node. Reads list_keys ListSays (parts_view parts.now) (node_view node)) }
     ensures fault { IfErr result (MemoryOr (ReadFault list_keys LacksNothing ListWrong (parts_view parts.now))) }
@@ -69,7 +69,7 @@ pub(crate) fn read_list<'a>(alloc: Global, parts: &[&'a [u8]]) -> Result<Node<'a
     list_of(alloc, &fields)
 }
 
-/// The node that the fields of a CreateList say.
+/// The node that the fields of a CreateList mean.
 fn list_of<'a>(alloc: Global, fields: &[Field<'a>]) -> Result<Node<'a>, Refusal>
     ensures found { IfOk result (λ node. ListSays (map field_view fields.now) (node_view node)) }
     ensures fault { IfErr result (MemoryOr (ValuesFault LacksNothing ListWrong (map field_view fields.now))) }
@@ -78,7 +78,7 @@ fn list_of<'a>(alloc: Global, fields: &[Field<'a>]) -> Result<Node<'a>, Refusal>
     Ok(Node::List(payloads_of(alloc, fields, ELEMENTS)?))
 }
 
-/// Refuses a list that says which of its elements are optional.
+/// Refuses a list with optional_indices.
 fn refuse_optional_elements(fields: &[Field<'_>]) -> Result<(), Refusal>
     ensures found { OnOk result (has_field list_field.optional_indices (map field_view fields.now) ≡ false) }
     ensures fault { IfErr result (λ e.
@@ -90,7 +90,7 @@ fn refuse_optional_elements(fields: &[Field<'_>]) -> Result<(), Refusal>
     Ok(())
 }
 
-/// Reads a CreateStruct, whose message stands in the parts.
+/// Reads a CreateStruct from its parts.
 pub(crate) fn read_struct<'a>(alloc: Global, parts: &[&'a [u8]]) -> Result<Node<'a>, Refusal>
     ensures found { IfOk result (λ node. Reads struct_keys StructSays (parts_view parts.now) (node_view node)) }
     ensures fault { IfErr result (MemoryOr (ReadFault struct_keys LacksNothing StructWrong (parts_view parts.now))) }
@@ -99,7 +99,7 @@ pub(crate) fn read_struct<'a>(alloc: Global, parts: &[&'a [u8]]) -> Result<Node<
     struct_of(alloc, &fields)
 }
 
-/// The node that the fields of a CreateStruct say.
+/// The node that the fields of a CreateStruct mean.
 fn struct_of<'a>(alloc: Global, fields: &[Field<'a>]) -> Result<Node<'a>, Refusal>
     ensures found { IfOk result (λ node. StructSays (map field_view fields.now) (node_view node)) }
     ensures fault { IfErr result (MemoryOr (ValuesFault LacksNothing StructWrong (map field_view fields.now))) }
@@ -108,7 +108,7 @@ fn struct_of<'a>(alloc: Global, fields: &[Field<'a>]) -> Result<Node<'a>, Refusa
     Ok(Node::Map(entries_of(alloc, fields)?))
 }
 
-/// The entries that the fields of a CreateStruct say.
+/// The entries that the fields of a CreateStruct mean.
 fn entries_of<'a>(alloc: Global, fields: &[Field<'a>]) -> Result<Vec<EntryNode<'a>>, Refusal>
     ensures found { IfOk result (λ entries.
         AreEntries (payloads struct_field.entries (map field_view fields.now)) (entry_nodes_view entries.items)) }
@@ -119,7 +119,7 @@ fn entries_of<'a>(alloc: Global, fields: &[Field<'a>]) -> Result<Vec<EntryNode<'
     read_entries(alloc, &payloads)
 }
 
-/// Refuses the construction of a message, which has a name.
+/// Refuses a message_name, which would construct a message.
 fn refuse_message(fields: &[Field<'_>]) -> Result<(), Refusal>
     ensures found { OnOk result (bytes_at struct_field.message_name (map field_view fields.now) ≡ []) }
     ensures fault { IfErr result (λ e.
@@ -131,7 +131,7 @@ fn refuse_message(fields: &[Field<'_>]) -> Result<(), Refusal>
     Err(Refusal::Unsupported)
 }
 
-/// Reads the entries of a map literal, of which each has one payload.
+/// Reads the entries of a map literal, one from each payload.
 fn read_entries<'a>(alloc: Global, payloads: &[&'a [u8]]) -> Result<Vec<EntryNode<'a>>, Refusal>
     ensures found { IfOk result (λ entries. AreEntries (parts_view payloads.now) (entry_nodes_view entries.items)) }
     ensures fault { IfErr result (MemoryOr (λ e.
@@ -145,7 +145,7 @@ fn read_entries<'a>(alloc: Global, payloads: &[&'a [u8]]) -> Result<Vec<EntryNod
     Ok(entries)
 }
 
-/// Reads an Entry, whose message is the payload.
+/// Reads an Entry from its payload.
 fn read_entry<'a>(alloc: Global, payload: &'a [u8]) -> Result<EntryNode<'a>, Refusal>
     ensures found { IfOk result (λ entry. IsEntry payload.now (entry_node_view entry)) }
     ensures fault { IfErr result (MemoryOr (EntryFault payload.now)) }
@@ -154,7 +154,7 @@ fn read_entry<'a>(alloc: Global, payload: &'a [u8]) -> Result<EntryNode<'a>, Ref
     entry_of(alloc, &fields)
 }
 
-/// The entry that the fields say.
+/// The entry that the fields mean.
 fn entry_of<'a>(alloc: Global, fields: &[Field<'a>]) -> Result<EntryNode<'a>, Refusal>
     ensures found { IfOk result (λ entry. EntrySays (map field_view fields.now) (entry_node_view entry)) }
     ensures fault { IfErr result (MemoryOr (ValuesFault EntryLacks EntryWrong (map field_view fields.now))) }
@@ -180,7 +180,7 @@ fn refuse_optional_entry(fields: &[Field<'_>]) -> Result<(), Refusal>
     Ok(())
 }
 
-/// Refuses an entry without a key, and one whose key is that of a message.
+/// Refuses an entry without a key, or with a field_key.
 fn require_map_key(fields: &[Field<'_>]) -> Result<(), Refusal>
     ensures found { OnOk result (last_number key_members (map field_view fields.now) ≡ Some entry_field.map_key) }
     ensures fault { IfErr result (λ e. MatchOption (last_number key_members (map field_view fields.now))

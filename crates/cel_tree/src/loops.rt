@@ -41,7 +41,7 @@ static COMPREHENSION: [Key; 8] = keys![
     Len RESULT, Len ITER_VAR2
 ];
 
-/// A comprehension whose own message is read, with the parts of the expressions inside it.
+/// A comprehension whose own message is read; the expressions inside are unread parts.
 #[derive(Drop)]
 pub(crate) struct LoopNode<'a> {
     pub iter_var: RcStr,
@@ -53,7 +53,7 @@ pub(crate) struct LoopNode<'a> {
     pub result: Payloads<'a>,
 }
 
-/// Reads a Comprehension, whose message stands in the parts.
+/// Reads a Comprehension from its parts.
 pub(crate) fn read_loop<'a>(alloc: Global, parts: &[&'a [u8]]) -> Result<Node<'a>, Refusal>
     ensures found { IfOk result (λ node. Reads loop_keys LoopSays (parts_view parts.now) (node_view node)) }
     ensures fault { IfErr result (MemoryOr (ReadFault loop_keys LoopLacks LoopWrong (parts_view parts.now))) }
@@ -62,7 +62,7 @@ pub(crate) fn read_loop<'a>(alloc: Global, parts: &[&'a [u8]]) -> Result<Node<'a
     loop_of(alloc, &fields)
 }
 
-/// The node that the fields of a Comprehension say.
+/// The node that the fields of a Comprehension mean.
 fn loop_of<'a>(alloc: Global, fields: &[Field<'a>]) -> Result<Node<'a>, Refusal>
     ensures found { IfOk result (λ node. LoopSays (map field_view fields.now) (node_view node)) }
     ensures fault { IfErr result (MemoryOr (ValuesFault LoopLacks LoopWrong (map field_view fields.now))) }
@@ -100,7 +100,7 @@ fn body_of<'a>(
     Ok((loop_condition, loop_step, result))
 }
 
-/// Refuses names that are no texts, and a second name of the element.
+/// Refuses names that are not UTF-8, and an iter_var2.
 fn require_names(fields: &[Field<'_>]) -> Result<(), Refusal>
     ensures found { OnOk result (NamesRead (map field_view fields.now)) }
     ensures fault { IfErr result (LoopWrong (map field_view fields.now)) }
@@ -110,7 +110,7 @@ fn require_names(fields: &[Field<'_>]) -> Result<(), Refusal>
     refuse_second_name(fields)
 }
 
-/// Refuses a comprehension with two names of the element.
+/// Refuses a comprehension with an iter_var2, a second name of the element.
 fn refuse_second_name(fields: &[Field<'_>]) -> Result<(), Refusal>
     ensures found { OnOk result (bytes_at loop_field.iter_var2 (map field_view fields.now) ≡ []) }
     ensures fault { IfErr result (λ e.
@@ -122,7 +122,7 @@ fn refuse_second_name(fields: &[Field<'_>]) -> Result<(), Refusal>
     Err(Refusal::Unsupported)
 }
 
-/// Refuses a comprehension without one of its parts.
+/// Refuses a comprehension that lacks a part.
 fn require_parts(fields: &[Field<'_>]) -> Result<(), Refusal>
     ensures found { OnOk result (PartsThere (map field_view fields.now)) }
     ensures fault { IfErr result (λ e. LacksPart (map field_view fields.now) × (e ≡ Missing)) }

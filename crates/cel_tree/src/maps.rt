@@ -1,4 +1,4 @@
-//! The reading of type maps and of reference maps.
+//! Reads type maps and reference maps.
 
 ghost use Rattle.std.specs.Prelude.{IfOk, IfErr, T, map};
 ghost use Rattle.std.specs.FinMap.{is_sorted};
@@ -20,7 +20,7 @@ use crate::type_entry::read_type;
 use proto_wire::{Field, MapEntry, Refusal, payloads_of, read_entries};
 use std::alloc::Global;
 
-/// How many levels a tree or a type may have; one that stands in no other is level 1.
+/// How many levels a tree or a type may have; the outermost is level 1.
 pub(crate) const TREE_DEPTH: u32 = 64;
 
 pub(crate) const REFERENCE_MAP: u32 = 2;

@@ -1,4 +1,4 @@
-//! The reading of a checked expression (`google.api.expr.v1alpha1.CheckedExpr`).
+//! Reads checked expressions (`google.api.expr.v1alpha1.CheckedExpr`).
 
 ghost use Rattle.std.specs.Prelude.{◌≤◌, [], ◌∷◌, IfOk, IfErr, map};
 ghost use Rattle.proto_wire.specs.Fields.{field_view};
@@ -35,9 +35,8 @@ static CHECKED: [Key; 5] = keys![
     Len REFERENCE_MAP, Len TYPE_MAP, Len EXPR, Len SOURCE_INFO, Len EXPR_VERSION
 ];
 
-/// Reads the message of a checked expression: its tree, and both maps. It is taken whole or refused, for a fault that is
-/// there: `BadWire`, `BadText`, `UnknownField`, `Missing`, `OutOfRange`, `Unsupported` or `TooLarge`; or for want of
-/// memory.
+/// Reads the message of a checked expression: its tree, and both maps. Refuses a message with a fault: `BadWire`,
+/// `BadText`, `UnknownField`, `Missing`, `OutOfRange`, `Unsupported` or `TooLarge`; or `Memory`.
 pub fn read_checked(alloc: Global, bytes: &[u8]) -> Result<Checked, Refusal>
     ensures found { IfOk result (λ c. IsChecked (bytes.now ∷ []) (checked_view c)) }
     ensures fault { IfErr result (MemoryOr (CheckedFault (bytes.now ∷ []))) }
@@ -45,7 +44,7 @@ pub fn read_checked(alloc: Global, bytes: &[u8]) -> Result<Checked, Refusal>
     read_checked_parts(alloc, &[bytes])
 }
 
-/// The same of a message that stands in several payloads, each of them whole fields by itself.
+/// The same for a message in several payloads, each of which has to be a list of whole fields.
 pub fn read_checked_parts(alloc: Global, parts: &[&[u8]]) -> Result<Checked, Refusal>
     ensures found { IfOk result (λ c. IsChecked (parts_view parts.now) (checked_view c)) }
     ensures fault { IfErr result (MemoryOr (CheckedFault (parts_view parts.now))) }
@@ -54,7 +53,7 @@ pub fn read_checked_parts(alloc: Global, parts: &[&[u8]]) -> Result<Checked, Ref
     checked_of(alloc, &fields)
 }
 
-/// The checked expression that the fields say.
+/// The checked expression that the fields mean.
 fn checked_of(alloc: Global, fields: &[Field<'_>]) -> Result<Checked, Refusal>
     ensures found { IfOk result (λ c. CheckedSays (map field_view fields.now) (checked_view c)) }
     ensures fault { IfErr result (MemoryOr (ValuesFault CheckedLacks CheckedWrong (map field_view fields.now))) }

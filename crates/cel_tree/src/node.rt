@@ -49,7 +49,7 @@ static KINDS: [Key; 7] = keys![
     Len COMPREHENSION_EXPR
 ];
 
-/// What a member of an Expr's oneof is.
+/// A member of an Expr's oneof.
 #[derive(Clone, Copy, PartialEq, Eq, Debug)]
 pub(crate) enum NodeKind {
     /// `const_expr`
@@ -68,7 +68,7 @@ pub(crate) enum NodeKind {
     Comprehension,
 }
 
-/// A node whose own message is read, with the parts of the expressions inside it.
+/// A node whose own message is read; the expressions inside are unread parts.
 #[derive(Drop)]
 pub(crate) enum Node<'a> {
     Constant(Constant),
@@ -78,7 +78,7 @@ pub(crate) enum Node<'a> {
         field: RcStr,
         test_only: bool,
     },
-    /// A call without a target has no parts of one.
+    /// A call without a target has no parts of it.
     Call {
         function: RcStr,
         target: Payloads<'a>,
@@ -89,14 +89,14 @@ pub(crate) enum Node<'a> {
     Comprehension(LoopNode<'a>),
 }
 
-/// The member of an Expr that counts.
+/// The last member of an Expr, which determines its node.
 #[derive(Clone, Copy, Debug)]
 struct LastKind {
     kind: NodeKind,
     number: u32,
 }
 
-/// Reads an Expr, whose message stands in the parts, without the expressions inside it: its id and its node.
+/// Reads an Expr from its parts: its id and its node. Does not read the expressions inside.
 pub(crate) fn read_node<'a>(alloc: Global, parts: &[&'a [u8]]) -> Result<(i64, Node<'a>), Refusal>
     ensures found { IfOk result (λ n. IsNode (parts_view parts.now) n.0 (node_view n.1)) }
     ensures ranged { IfOk result (λ n. IsInt64 n.0) }
@@ -106,7 +106,7 @@ pub(crate) fn read_node<'a>(alloc: Global, parts: &[&'a [u8]]) -> Result<(i64, N
     node_of(alloc, &fields)
 }
 
-/// The id and the node that the fields say.
+/// The id and the node that the fields mean.
 fn node_of<'a>(alloc: Global, fields: &[Field<'a>]) -> Result<(i64, Node<'a>), Refusal>
     ensures found { IfOk result (λ n. NodeSays (map field_view fields.now) (numbered_view n)) }
     ensures ranged { IfOk result (λ n. IsInt64 n.0) }
@@ -118,7 +118,7 @@ fn node_of<'a>(alloc: Global, fields: &[Field<'a>]) -> Result<(i64, Node<'a>), R
     Ok((int64_at(fields, ID), node))
 }
 
-/// The node that the last member of an Expr's fields says.
+/// The node that the last member of an Expr's fields means.
 fn last_node<'a>(alloc: Global, fields: &[Field<'a>], last: LastKind) -> Result<Node<'a>, Refusal>
     ensures found { IfOk result (λ node. MemberSays last.kind last.number
         (member_run kind_keys (map field_view fields.now)) (node_view node)) }
@@ -129,7 +129,7 @@ fn last_node<'a>(alloc: Global, fields: &[Field<'a>], last: LastKind) -> Result<
     read_kind(alloc, last.kind, &parts)
 }
 
-/// The last member of an Expr's fields: `Missing` without one.
+/// The last member of an Expr's fields: `Missing` if there is none.
 fn last_kind(fields: &[Field<'_>]) -> Result<LastKind, Refusal>
     ensures found { IfOk result (λ last.
         (last_number kind_keys (map field_view fields.now) ≡ Some last.number)
@@ -162,7 +162,7 @@ fn kind_at(number: u32) -> Option<NodeKind>
     }
 }
 
-/// Reads the message of a member of this kind, which stands in the parts.
+/// Reads the message of a member of this kind from its parts.
 fn read_kind<'a>(alloc: Global, kind: NodeKind, parts: &[&'a [u8]]) -> Result<Node<'a>, Refusal>
     ensures found { IfOk result (λ node. KindSays kind (parts_view parts.now) (node_view node)) }
     ensures fault { IfErr result (MemoryOr (KindFault kind (parts_view parts.now))) }

@@ -40,7 +40,7 @@ static SELECT: [Key; 3] = keys![Len OPERAND, Len FIELD, Varint TEST_ONLY];
 
 static CALL: [Key; 3] = keys![Len TARGET, Len FUNCTION, Len ARGS];
 
-/// Reads an Ident, whose message stands in the parts.
+/// Reads an Ident from its parts.
 pub(crate) fn read_ident<'a>(alloc: Global, parts: &[&'a [u8]]) -> Result<Node<'a>, Refusal>
     ensures found { IfOk result (λ node. Reads ident_keys IdentSays (parts_view parts.now) (node_view node)) }
     ensures fault { IfErr result (MemoryOr (ReadFault ident_keys LacksNothing IdentWrong (parts_view parts.now))) }
@@ -49,7 +49,7 @@ pub(crate) fn read_ident<'a>(alloc: Global, parts: &[&'a [u8]]) -> Result<Node<'
     ident_of(alloc, &fields)
 }
 
-/// The node that the fields of an Ident say.
+/// The node that the fields of an Ident mean.
 fn ident_of<'a>(alloc: Global, fields: &[Field<'a>]) -> Result<Node<'a>, Refusal>
     ensures found { IfOk result (λ node. IdentSays (map field_view fields.now) (node_view node)) }
     ensures fault { IfErr result (MemoryOr (ValuesFault LacksNothing IdentWrong (map field_view fields.now))) }
@@ -57,7 +57,7 @@ fn ident_of<'a>(alloc: Global, fields: &[Field<'a>]) -> Result<Node<'a>, Refusal
     Ok(Node::Ident(name_at(alloc, fields, NAME)?))
 }
 
-/// Reads a Select, whose message stands in the parts.
+/// Reads a Select from its parts.
 pub(crate) fn read_select<'a>(alloc: Global, parts: &[&'a [u8]]) -> Result<Node<'a>, Refusal>
     ensures found { IfOk result (λ node. Reads select_keys SelectSays (parts_view parts.now) (node_view node)) }
     ensures fault { IfErr result (MemoryOr (ReadFault select_keys SelectLacks SelectWrong (parts_view parts.now))) }
@@ -66,7 +66,7 @@ pub(crate) fn read_select<'a>(alloc: Global, parts: &[&'a [u8]]) -> Result<Node<
     select_of(alloc, &fields)
 }
 
-/// The node that the fields of a Select say.
+/// The node that the fields of a Select mean.
 fn select_of<'a>(alloc: Global, fields: &[Field<'a>]) -> Result<Node<'a>, Refusal>
     ensures found { IfOk result (λ node. SelectSays (map field_view fields.now) (node_view node)) }
     ensures fault { IfErr result (MemoryOr (ValuesFault SelectLacks SelectWrong (map field_view fields.now))) }
@@ -83,7 +83,7 @@ fn select_of<'a>(alloc: Global, fields: &[Field<'a>]) -> Result<Node<'a>, Refusa
     })
 }
 
-/// Reads a Call, whose message stands in the parts.
+/// Reads a Call from its parts.
 pub(crate) fn read_call<'a>(alloc: Global, parts: &[&'a [u8]]) -> Result<Node<'a>, Refusal>
     ensures found { IfOk result (λ node. Reads call_keys CallSays (parts_view parts.now) (node_view node)) }
     ensures fault { IfErr result (MemoryOr (ReadFault call_keys LacksNothing CallWrong (parts_view parts.now))) }
@@ -92,7 +92,7 @@ pub(crate) fn read_call<'a>(alloc: Global, parts: &[&'a [u8]]) -> Result<Node<'a
     call_of(alloc, &fields)
 }
 
-/// The node that the fields of a Call say.
+/// The node that the fields of a Call mean.
 fn call_of<'a>(alloc: Global, fields: &[Field<'a>]) -> Result<Node<'a>, Refusal>
     ensures found { IfOk result (λ node. CallSays (map field_view fields.now) (node_view node)) }
     ensures fault { IfErr result (MemoryOr (ValuesFault LacksNothing CallWrong (map field_view fields.now))) }

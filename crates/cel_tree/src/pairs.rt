@@ -1,8 +1,8 @@
-//! Two values, of which the second may be refused.
+//! Pairs two values, of which the second may be a refusal.
 
 ghost use Rattle.std.specs.Prelude.{◌≡◌, IfOk, IfErr, Ok, Err};
 
-/// Both values, where the second is there. The first is dropped here where it is not, so that no caller has to.
+/// Both values, if the second is one. Otherwise drops the first here, so that callers need no code for it.
 #[inline(always)]
 pub(crate) fn both<T: Drop, U, E>(first: T, second: Result<U, E>) -> Result<(T, U), E>
     ensures found { IfOk result (λ pair. (pair.0 ≡ first) × (second ≡ Ok pair.1)) }

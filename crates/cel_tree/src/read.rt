@@ -1,4 +1,4 @@
-//! The reading of trees, down to a depth and to a number of nodes.
+//! Reads trees, within limits of levels and nodes.
 
 ghost use Rattle.std.specs.Prelude.{◌≡◌, ◌+◌, ◌++◌, [], ◌∷◌, IfOk, IfErr, OnOk};
 ghost use Rattle.proto_wire.specs.Merge.{parts_view};
@@ -23,8 +23,8 @@ use proto_wire::{Payloads, Refusal, require_level};
 use std::alloc::{AllocError, Global};
 use std::rc::RcStr;
 
-/// Reads a tree of at most `depth` levels and `left` nodes, whose message stands in the parts. Depth and number are
-/// looked at before anything of a node is read.
+/// Reads a tree of at most `depth` levels and `left` nodes from its parts. Tests both limits before it reads
+/// anything of a node.
 #[cycle(read)]
 pub(crate) fn read_tree(
     alloc: Global,
@@ -73,7 +73,7 @@ fn read_inside(
     }
 }
 
-/// The Select of this id and field, once its operand is read.
+/// The Select of this id and field; reads its operand.
 #[cycle(read)]
 #[inline(always)]
 fn select_tree(
@@ -99,7 +99,7 @@ fn select_tree(
     })
 }
 
-/// The Call of this id and function, once its target and arguments are read.
+/// The Call of this id and function; reads its target and its arguments.
 #[cycle(read)]
 #[inline(always)]
 fn call_tree(
@@ -126,7 +126,7 @@ fn call_tree(
     })
 }
 
-/// The list of this id, once its elements are read.
+/// The list literal of this id; reads its elements.
 #[cycle(read)]
 #[inline(always)]
 fn list_tree(
@@ -143,7 +143,7 @@ fn list_tree(
     Ok(Tree::List { id, elements })
 }
 
-/// The map of this id, once its entries are read.
+/// The map literal of this id; reads its entries.
 #[cycle(read)]
 #[inline(always)]
 fn map_tree(
@@ -160,7 +160,7 @@ fn map_tree(
     Ok(Tree::Map { id, entries })
 }
 
-/// The comprehension of this id, once its trees are read. What this function does itself is to drop the node.
+/// The comprehension of this id; reads its trees. This function only adds that it drops the node.
 #[cycle(read)]
 #[inline(always)]
 fn loop_tree(
@@ -176,7 +176,7 @@ fn loop_tree(
     lent_loop_tree(alloc, id, &node, depth, left)
 }
 
-/// The same of a node that is lent.
+/// The same for a borrowed node.
 #[cycle(read)]
 #[inline(always)]
 fn lent_loop_tree(
@@ -194,7 +194,7 @@ fn lent_loop_tree(
     Ok(Tree::Comprehension { id, parts })
 }
 
-/// Reads the target of a call; none where there is no part of it.
+/// Reads the target of a call; none if it has no parts.
 #[cycle(read)]
 fn read_target(
     alloc: Global,
@@ -213,7 +213,7 @@ fn read_target(
     Ok(Some(Box::new(alloc, target)?))
 }
 
-/// Reads trees, of which each has one payload.
+/// Reads trees, one from each payload.
 #[cycle(read)]
 fn read_trees(
     alloc: Global,
@@ -301,7 +301,7 @@ fn read_loop_body(
     both(two, read_tree(alloc, &node.result, depth, left))
 }
 
-/// Reads two trees, one after the other.
+/// Reads two trees, in order.
 #[cycle(read)]
 #[inline(always)]
 fn read_two(
@@ -330,7 +330,7 @@ fn names_of(node: &LoopNode<'_>) -> Result<(RcStr, RcStr), AllocError>
     Ok((iter_var, accu_var))
 }
 
-/// Takes one of the nodes that are left; refuses where none is.
+/// Takes one of the nodes that are left; refuses if there is none.
 fn take_node(left: &mut u32) -> Result<(), Refusal>
     ensures found { OnOk result (left.new + 1 ≡ left.old) }
     ensures fault { IfErr result (λ e. (left.old ≡ 0) × (e ≡ TooLarge)) }

@@ -1,4 +1,4 @@
-//! References, and how their message is read.
+//! Reads references.
 
 ghost use Rattle.std.specs.Prelude.{◌≡◌, ℕ, List, Some, IfOk, IfErr, OnOk, Contains, map, option_map};
 ghost use Rattle.std.specs.List.{AllByRecursion};
@@ -28,7 +28,7 @@ const VALUE: u32 = 4;
 
 static REFERENCE: [Key; 3] = keys![Len NAME, Len OVERLOAD_ID, Len VALUE];
 
-/// Reads a Reference, whose message stands in the parts.
+/// Reads a Reference from its parts.
 pub(crate) fn read_reference(alloc: Global, parts: &[&[u8]]) -> Result<Reference, Refusal>
     ensures found { IfOk result (λ reference. IsReference (parts_view parts.now) (reference_view reference)) }
     ensures fault { IfErr result (MemoryOr (ReferenceFault (parts_view parts.now))) }
@@ -37,7 +37,7 @@ pub(crate) fn read_reference(alloc: Global, parts: &[&[u8]]) -> Result<Reference
     reference_of(alloc, &fields)
 }
 
-/// The reference that the fields say. The ids of overloads are read, and not kept.
+/// The reference that the fields mean. The ids of overloads are read, and not kept.
 fn reference_of(alloc: Global, fields: &[Field<'_>]) -> Result<Reference, Refusal>
     ensures found { IfOk result (λ reference. ReferenceSays (map field_view fields.now) (reference_view reference)) }
     ensures fault { IfErr result (MemoryOr (ValuesFault LacksNothing ReferenceWrong (map field_view fields.now))) }
@@ -49,7 +49,7 @@ fn reference_of(alloc: Global, fields: &[Field<'_>]) -> Result<Reference, Refusa
     Ok(Reference { name, value })
 }
 
-/// Refuses ids of overloads of which some is no text.
+/// Refuses ids of overloads if one is not UTF-8.
 fn require_ids(alloc: Global, fields: &[Field<'_>]) -> Result<(), Refusal>
     ensures found { OnOk result (AllByRecursion IsUtf8 (payloads reference_field.overload_id (map field_view fields.now))) }
     ensures fault { IfErr result (MemoryOr (λ e. (text : List ℕ)
@@ -59,7 +59,7 @@ fn require_ids(alloc: Global, fields: &[Field<'_>]) -> Result<(), Refusal>
     require_texts(&ids)
 }
 
-/// The value that the fields say; none where they say none.
+/// The value that the fields mean; none if there is no field of it.
 fn value_of(alloc: Global, fields: &[Field<'_>]) -> Result<Option<Constant>, Refusal>
     ensures found { IfOk result (λ value.
         IsValue (payloads reference_field.value (map field_view fields.now)) (option_map constant_view value)) }
@@ -69,7 +69,7 @@ fn value_of(alloc: Global, fields: &[Field<'_>]) -> Result<Option<Constant>, Ref
     read_value(alloc, &parts)
 }
 
-/// A name to keep; none where it is empty, as those of functions are.
+/// A copy of a name; none if it is empty, as the names of functions are.
 fn kept_name(alloc: Global, name: &str) -> Result<Option<RcStr>, AllocError>
     ensures { IfOk result (λ kept. name_view kept ≡ points_of name.now) }
 {
@@ -79,7 +79,7 @@ fn kept_name(alloc: Global, name: &str) -> Result<Option<RcStr>, AllocError>
     Ok(Some(RcStr::from_str(alloc, name)?))
 }
 
-/// Refuses payloads of which some is no text.
+/// Refuses payloads if one is not UTF-8.
 fn require_texts(payloads: &[&[u8]]) -> Result<(), Refusal>
     ensures found { OnOk result (AllByRecursion IsUtf8 (parts_view payloads.now)) }
     ensures fault { IfErr result (λ e. (text : List ℕ) × Contains (parts_view payloads.now) text × Utf8Fault text e) }
@@ -90,7 +90,7 @@ fn require_texts(payloads: &[&[u8]]) -> Result<(), Refusal>
     Ok(())
 }
 
-/// Reads a constant, whose message stands in the parts; none where there is no part.
+/// Reads a constant from its parts; none if there are no parts.
 fn read_value(alloc: Global, parts: &[&[u8]]) -> Result<Option<Constant>, Refusal>
     ensures found { IfOk result (λ value. IsValue (parts_view parts.now) (option_map constant_view value)) }
     ensures fault { IfErr result (MemoryOr (ValueFault (parts_view parts.now))) }

@@ -2,7 +2,7 @@
 
 use std::rc::{RcSlice, RcStr};
 
-/// A value that stands in a tree.
+/// A constant in a tree.
 #[derive(Drop)]
 pub enum Constant {
     Bool(bool),
@@ -25,7 +25,7 @@ pub enum Tree {
         id: i64,
         name: RcStr,
     },
-    /// A field of what the operand is, or, in a test, whether it is there.
+    /// The operand's value at a field's name, or, in a test, whether there is one.
     Select {
         id: i64,
         operand: Box<Tree>,
@@ -61,22 +61,22 @@ pub struct TreeEntry {
     pub value: Tree,
 }
 
-/// The parts of a comprehension: a fold of a list, or of a map's keys.
+/// A comprehension: a fold over the items of a list, or over the keys of a map.
 #[derive(Drop)]
 #[cycle(tree)]
 pub struct Comprehension {
-    /// The name of the element in the condition and in the step.
+    /// The name of the element, in the condition and in the step.
     pub iter_var: RcStr,
-    /// The name of what is gathered, in the condition, in the step and in the result.
+    /// The name of the accumulator, in the condition, in the step and in the result.
     pub accu_var: RcStr,
-    /// What is walked.
+    /// The list or map whose elements are folded.
     pub iter_range: Tree,
-    /// What is gathered at first.
+    /// The accumulator's initial value.
     pub accu_init: Tree,
-    /// Whether an element is taken; where it is false, the walk ends.
+    /// Evaluated for each element, before the step; if it is false, the fold ends.
     pub loop_condition: Tree,
-    /// What is gathered once an element is taken.
+    /// The accumulator's value after an element.
     pub loop_step: Tree,
-    /// What the comprehension comes to.
+    /// The value of the comprehension.
     pub result: Tree,
 }

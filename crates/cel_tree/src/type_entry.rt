@@ -1,4 +1,4 @@
-//! The reading of types, down to a depth.
+//! Reads types, within a limit of levels.
 
 ghost use Rattle.std.specs.Prelude.{◌≡◌, ◌⊎◌, IfOk, IfErr};
 ghost use Rattle.proto_wire.specs.Merge.{parts_view};
@@ -16,8 +16,7 @@ use proto_wire::{Payloads, Refusal, require_level};
 use std::alloc::{AllocError, Global};
 use std::rc::Rc;
 
-/// Reads a Type of at most `depth` levels, whose message stands in the parts. The depth is looked at before anything of
-/// the type is read.
+/// Reads a Type of at most `depth` levels from its parts. Tests the limit before it reads anything of the type.
 #[cycle(type_entry)]
 pub(crate) fn read_type(alloc: Global, parts: &[&[u8]], depth: u32) -> Result<TypeEntry, Refusal>
     ensures found { IfOk result (λ entry. IsTypeEntry depth (parts_view parts.now) (type_entry_view entry)) }
@@ -28,7 +27,7 @@ pub(crate) fn read_type(alloc: Global, parts: &[&[u8]], depth: u32) -> Result<Ty
     read_inner(alloc, node, depth - 1)
 }
 
-/// Reads the types inside, which may have `depth` levels, and puts them together.
+/// Reads the types inside, which may have `depth` levels, and makes the whole type.
 #[cycle(type_entry)]
 fn read_inner(alloc: Global, node: TypeNode<'_>, depth: u32) -> Result<TypeEntry, Refusal>
     ensures found { IfOk result (λ entry.

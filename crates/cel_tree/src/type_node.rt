@@ -60,7 +60,7 @@ static LIST: [Key; 1] = keys![Len ELEM];
 
 static MAP: [Key; 2] = keys![Len KEY, Len VALUE];
 
-/// What a member of a Type's oneof is.
+/// A supported member of a Type's oneof.
 #[derive(Clone, Copy, PartialEq, Eq, Debug)]
 pub(crate) enum TypeKind {
     /// `dyn`
@@ -73,10 +73,10 @@ pub(crate) enum TypeKind {
     Map,
 }
 
-/// A type whose own message is read, with the parts of the types inside it.
+/// A type whose own message is read; the types inside are unread parts.
 #[derive(Drop)]
 pub(crate) enum TypeNode<'a> {
-    /// There is none inside it.
+    /// No type is inside.
     Plain(TypeEntry),
     List {
         elem: Payloads<'a>,
@@ -87,14 +87,14 @@ pub(crate) enum TypeNode<'a> {
     },
 }
 
-/// The member of a Type that counts.
+/// The last member of a Type, which determines the type.
 #[derive(Clone, Copy, Debug)]
 struct LastKind {
     kind: TypeKind,
     number: u32,
 }
 
-/// Reads a Type, whose message stands in the parts, without the types inside it.
+/// Reads a Type from its parts. Does not read the types inside.
 pub(crate) fn read_type_node<'a>(alloc: Global, parts: &[&'a [u8]]) -> Result<TypeNode<'a>, Refusal>
     ensures found { IfOk result (λ node. IsTypeNode (parts_view parts.now) (type_node_view node)) }
     ensures fault { IfErr result (MemoryOr (TypeNodeFault (parts_view parts.now))) }
@@ -103,7 +103,7 @@ pub(crate) fn read_type_node<'a>(alloc: Global, parts: &[&'a [u8]]) -> Result<Ty
     type_of(alloc, &fields)
 }
 
-/// The type that the fields say.
+/// The type that the fields mean.
 fn type_of<'a>(alloc: Global, fields: &[Field<'a>]) -> Result<TypeNode<'a>, Refusal>
     ensures found { IfOk result (λ node.
         OneofSays type_kinds IsOfOtherKind TypeSays (map field_view fields.now) (type_node_view node)) }
@@ -117,7 +117,7 @@ fn type_of<'a>(alloc: Global, fields: &[Field<'a>]) -> Result<TypeNode<'a>, Refu
     type_in(alloc, last, &run)
 }
 
-/// The last member of a Type's fields; `None` without one, and where it is of a kind that is not supported.
+/// The last member of a Type's fields; `None` if there is none, or if it is not supported.
 fn last_kind(fields: &[Field<'_>]) -> Option<LastKind>
     ensures { MatchOption result
         (MatchOption (last_number type_keys (map field_view fields.now)) (Unit {0}) (λ n. member_in type_kinds n ≡ None))
@@ -129,7 +129,7 @@ fn last_kind(fields: &[Field<'_>]) -> Option<LastKind>
     Some(LastKind { kind, number })
 }
 
-/// The member of this number; `None` for one of a kind that is not supported.
+/// The member of this number; `None` if it is not supported.
 fn kind_at(number: u32) -> Option<TypeKind>
     ensures { result ≡ member_in type_kinds number }
 {
@@ -142,7 +142,7 @@ fn kind_at(number: u32) -> Option<TypeKind>
     }
 }
 
-/// The type that the run of the last member says.
+/// The type that the last member's run means.
 fn type_in<'a>(alloc: Global, last: LastKind, run: &[Field<'a>]) -> Result<TypeNode<'a>, Refusal>
     ensures found { IfOk result (λ node.
         TypeSays last.kind last.number (map field_view run.now) (type_node_view node)) }
@@ -178,7 +178,7 @@ fn primitive(number: u32) -> Result<TypeEntry, Refusal>
     }
 }
 
-/// Reads a ListType, whose message stands in the parts.
+/// Reads a ListType from its parts.
 fn read_list_type<'a>(alloc: Global, parts: &[&'a [u8]]) -> Result<TypeNode<'a>, Refusal>
     ensures found { IfOk result (λ node. Reads list_type_keys ListTypeSays (parts_view parts.now) (type_node_view node)) }
     ensures fault { IfErr result (MemoryOr (ReadFault list_type_keys LacksNothing ListTypeWrong (parts_view parts.now))) }
@@ -187,7 +187,7 @@ fn read_list_type<'a>(alloc: Global, parts: &[&'a [u8]]) -> Result<TypeNode<'a>,
     list_type_of(alloc, &fields)
 }
 
-/// The list type that the fields say.
+/// The list type that the fields mean.
 fn list_type_of<'a>(alloc: Global, fields: &[Field<'a>]) -> Result<TypeNode<'a>, Refusal>
     ensures found { IfOk result (λ node. ListTypeSays (map field_view fields.now) (type_node_view node)) }
     ensures fault { IfErr result (MemoryOr (ValuesFault LacksNothing ListTypeWrong (map field_view fields.now))) }
@@ -197,7 +197,7 @@ fn list_type_of<'a>(alloc: Global, fields: &[Field<'a>]) -> Result<TypeNode<'a>,
     Ok(TypeNode::List { elem })
 }
 
-/// Reads a MapType, whose message stands in the parts.
+/// Reads a MapType from its parts.
 fn read_map_type<'a>(alloc: Global, parts: &[&'a [u8]]) -> Result<TypeNode<'a>, Refusal>
     ensures found { IfOk result (λ node. Reads map_type_keys MapTypeSays (parts_view parts.now) (type_node_view node)) }
     ensures fault { IfErr result (MemoryOr (ReadFault map_type_keys LacksNothing MapTypeWrong (parts_view parts.now))) }
@@ -206,7 +206,7 @@ fn read_map_type<'a>(alloc: Global, parts: &[&'a [u8]]) -> Result<TypeNode<'a>, 
     map_type_of(alloc, &fields)
 }
 
-/// The map type that the fields say.
+/// The map type that the fields mean.
 fn map_type_of<'a>(alloc: Global, fields: &[Field<'a>]) -> Result<TypeNode<'a>, Refusal>
     ensures found { IfOk result (λ node. MapTypeSays (map field_view fields.now) (type_node_view node)) }
     ensures fault { IfErr result (MemoryOr (ValuesFault LacksNothing MapTypeWrong (map field_view fields.now))) }
@@ -217,7 +217,7 @@ fn map_type_of<'a>(alloc: Global, fields: &[Field<'a>]) -> Result<TypeNode<'a>, 
     Ok(TypeNode::Map { key, value })
 }
 
-/// Refuses a list or a map type without a part that it must have.
+/// Refuses a list or map type that lacks a required part.
 fn require_type(fields: &[Field<'_>], number: u32) -> Result<(), Refusal>
     ensures found { OnOk result (payloads number (map field_view fields.now) ≢ []) }
     ensures fault { IfErr result (λ e. (payloads number (map field_view fields.now) ≡ []) × (e ≡ OutOfRange)) }

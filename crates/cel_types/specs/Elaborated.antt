@@ -1,5 +1,5 @@
--- Elaborated expressions: the type of each node, which local or attribute a name is, and which
--- overload a call is. What compiles or measures an expression looks nothing up again.
+-- Elaborated expressions: each node has its type, each name is a local or an attribute, and each
+-- call is an overload. Compiling and measuring look up no name and no type again.
 use Rattle.std.specs.Prelude.{◌≡◌, ℕ, true, false, List, [], ◌∷◌, length, Option, Some, None, if◌then◌else◌}
 use Rattle.std.specs.Str.{bytes_eq}
 use Rattle.attributes.specs.declared.attribute.AttrId.{AttrId}
@@ -14,22 +14,22 @@ use Rattle.cel_types.specs.Names.{Scope, joined_name, root_of}
 use Rattle.cel_types.specs.Typing.{IsOver, IsTyped, Kinds, Maps, Types, has_target, maps_of}
 
 mutual
-  -- an expression; each node has its type first
+  -- an expression; the type of each node is first
   pub data TypedTree : Type 0 where
     typed_constant : ValueType → CelValue → TypedTree
-    -- a local, by how many are outside of it
+    -- a local, by the number of locals outside of it
     typed_local : ValueType → (outside : ℕ) → TypedTree
     typed_attribute : ValueType → AttrId → TypedTree
-    -- `m.name`, and whether a map has the name
+    -- the value of a map at a name, and whether the map has the name
     typed_field : ValueType → (map : TypedTree) → (name : List ℕ) → TypedTree
     typed_has : ValueType → (map : TypedTree) → (name : List ℕ) → TypedTree
     typed_call : ValueType → Overload → (operands : TypedTrees) → TypedTree
     typed_list : ValueType → (elements : TypedTrees) → TypedTree
-    -- keys and values in turn
+    -- a map literal: keys and values in turn
     typed_map : ValueType → (pairs : TypedTrees) → TypedTree
     typed_loop : ValueType → (range init condition step result : TypedTree) → TypedTree
 
-  -- expressions one after the other
+  -- expressions in order
   pub data TypedTrees : Type 0 where
     no_typed : TypedTrees
     typed : TypedTree → TypedTrees → TypedTrees
@@ -51,14 +51,14 @@ abbrev pub kinds : TypedTrees → List ValueType
 kinds no_typed = []
 kinds (typed e es) = kind e ∷ kinds es
 
--- how many locals are outside of the innermost of a name
+-- the number of locals outside of the innermost local of a name
 abbrev pub slot : {A : Type 0} → List ℕ → Scope A → Option ℕ
 slot name [] = None
 slot name (l ∷ ls) = if bytes_eq l.0 name then Some (length ls) else slot name ls
 
 abbrev mutual
-  -- with these locals the expression has the elaborated one's type, and its names, calls and parts
-  -- are what that says
+  -- with these locals, the elaborated expression has a type of the expression, and elaborates its
+  -- names, calls and parts
   pub Elaborates : Maps → Kinds → CelTree → TypedTree → Type 0
   Elaborates m ks (constant id v) (typed_constant t w) =
       Types m ks (constant id v) t × (v ≡ w)
@@ -92,26 +92,27 @@ abbrev mutual
       × Elaborates m ((acc, gathered) ∷ ks) result e
   Elaborates m ks _ _ = ⊥
 
-  -- a target and what follows it
+  -- the target, if there is one, is elaborated by the first expression, and `Others` holds of the
+  -- rest
   pub ElaboratesTarget : Maps → Kinds → CelTarget → (TypedTrees → Type 0) → TypedTrees → Type 0
   ElaboratesTarget m ks no_target Others es = Others es
   ElaboratesTarget m ks (target on) Others no_typed = ⊥
   ElaboratesTarget m ks (target on) Others (typed e es) = Elaborates m ks on e × Others es
 
-  -- expressions one after the other
+  -- the expressions are elaborated in order
   pub ElaboratesEach : Maps → Kinds → CelTrees → TypedTrees → Type 0
   ElaboratesEach m ks no_trees no_typed = Unit {0}
   ElaboratesEach m ks (tree t ts) (typed e es) = Elaborates m ks t e × ElaboratesEach m ks ts es
   ElaboratesEach m ks _ _ = ⊥
 
-  -- keys and values in turn
+  -- keys and values are elaborated in turn
   pub ElaboratesPairs : Maps → Kinds → CelTreeEntries → TypedTrees → Type 0
   ElaboratesPairs m ks no_tree_entries no_typed = Unit {0}
   ElaboratesPairs m ks (tree_entry id key value es) (typed k (typed v others)) =
       Elaborates m ks key k × Elaborates m ks value v × ElaboratesPairs m ks es others
   ElaboratesPairs m ks _ _ = ⊥
 
--- the checked expression is typed, and this is its elaboration
+-- the checked expression has a type, and this is its elaboration
 pub record IsElaborated (c : CelChecked) (e : TypedTree) : Type 0 where
   pub typed : IsTyped c (kind e)
   pub elaborates : Elaborates (maps_of c) [] c.tree e

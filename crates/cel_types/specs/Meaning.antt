@@ -1,7 +1,7 @@
--- What an expression means: CEL language definition, "Evaluation", "Logical Operators", "Field
--- Selection" and "Macros" (a macro is a comprehension); the order of errors is this project's choice.
--- None stands for a value of a wrong kind or for a name that is not known, which a typed expression
--- does not meet.
+-- The meaning of an expression: CEL language definition, "Evaluation", "Logical Operators", "Field
+-- Selection" and "Macros" (a macro is a comprehension). The order of errors is this project's choice.
+-- None means that a value is of a wrong kind or a name is not known; neither occurs in an expression
+-- that has a type.
 use Rattle.std.specs.Prelude.{ℕ, Bool, true, false, List, [], ◌∷◌, Option, Some, None, option_map}
 use Rattle.std.specs.Option.{option_and_then}
 use Rattle.attributes.specs.Request.{RequestValue}
@@ -15,20 +15,21 @@ use Rattle.cel_ops.specs.Attributes.{attribute}
 use Rattle.cel_types.specs.Attributes.{attribute_named}
 use Rattle.cel_types.specs.Names.{Scope, joined_name, local, root_of}
 
--- what is known of locals: what they come to
+-- the answers of the locals in scope
 abbrev pub Locals : Type 0
 Locals = Scope CelAnswer
 
--- the attribute of a name
+-- the answer of the attribute with this name
 abbrev pub attribute_answer : RequestValue → List ℕ → Option CelAnswer
 attribute_answer request name = option_map (attribute request) (attribute_named name)
 
--- an Ident: the innermost local of its name, or the attribute
+-- the answer of an Ident: of the innermost local of its name, or of the attribute
 abbrev pub name_answer : RequestValue → List ℕ → Option CelAnswer → Option CelAnswer
 name_answer request name (Some a) = Some a
 name_answer request name None = attribute_answer request name
 
--- a Select: the attribute of a bare root's field; or `m.f`, which is `m["f"]`; or `has(m.f)`
+-- the answer of a Select: of a root's attribute, of `m.f`, which is `m["f"]`, or of `has(m.f)`. A
+-- test of an attribute has no answer
 abbrev pub select_answer : RequestValue → Option (List ℕ) → Option CelAnswer → List ℕ → Bool
     → Option CelAnswer
 select_answer request (Some root) operand name false =
@@ -37,12 +38,12 @@ select_answer request (Some root) operand name true = None
 select_answer request None operand name false = option_and_then (field name) operand
 select_answer request None operand name true = option_and_then (has_field name) operand
 
--- a call: what its function answers to its operands, the target first
+-- the answer of a call: of its function on its operands, the target first
 abbrev pub call_answer : List ℕ → Option (List CelAnswer) → Option CelAnswer
 call_answer name operands = option_and_then
     (λ f. option_and_then (function_answer f) operands) (function_named name)
 
--- an answer before others
+-- an answer, and then others
 abbrev pub before : Option CelAnswer → Option (List CelAnswer) → Option (List CelAnswer)
 before None others = None
 before (Some a) None = None
@@ -50,8 +51,8 @@ before (Some a) (Some others) = Some (a ∷ others)
 
 -- ---- comprehensions
 
--- a turn, by what its condition comes to: true goes on from what the step comes to, error or not;
--- false ends the loop; an error is the whole answer
+-- one turn, by its condition. If true, the loop continues with the step's answer, which may be an
+-- error; if false, it ends. If the condition is an error, that is the loop's answer
 abbrev pub turn : (condition step : Option CelAnswer) → (next : CelAnswer → Option CelAnswer)
     → (ended : Option CelAnswer) → Option CelAnswer
 turn (Some (value (bool true))) (Some a) next ended = next a
@@ -59,7 +60,7 @@ turn (Some (value (bool false))) step next ended = ended
 turn (Some (fails e)) step next ended = Some (fails e)
 turn _ _ next ended = None
 
--- the elements in turn, from what is gathered so far, and the result of what was gathered at last
+-- the turns over these elements, from this accumulator, and then the result of the last accumulator
 abbrev pub fold : (condition step : CelValue → CelAnswer → Option CelAnswer)
     → (result : CelAnswer → Option CelAnswer) → CelValues → CelAnswer → Option CelAnswer
 fold condition step result no_items gathered = result gathered
@@ -67,7 +68,8 @@ fold condition step result (item v vs) gathered =
     turn (condition v gathered) (step v gathered) (fold condition step result vs)
     (result gathered)
 
--- a range: its items, or a map's keys in ascending order; its error is the whole answer
+-- a loop over a range: over the items of a list, or the keys of a map in ascending order. If the
+-- range is an error, that is the loop's answer
 abbrev pub over : Option CelAnswer → (CelValues → Option CelAnswer) → Option CelAnswer
 over None go = None
 over (Some (fails e)) go = Some (fails e)
@@ -76,7 +78,7 @@ over (Some (value v)) go = option_and_then go (elements_of v)
 -- ---- one equation for each kind of node
 
 abbrev mutual
-  -- what an expression comes to, of a request and of the locals in scope
+  -- the answer of an expression, for a request and the locals in scope
   pub eval : CelTree → RequestValue → Locals → Option CelAnswer
   eval (constant id v) request ls = Some (value v)
   eval (ident id name) request ls = name_answer request name (local name ls)
@@ -95,18 +97,18 @@ abbrev mutual
       (λ a. eval result request ((acc, a) ∷ ls)) elements)
       (eval init request ls))
 
-  -- the operands of a call, the target first
+  -- the answers of a call's operands, the target first
   pub eval_target : CelTarget → RequestValue → Locals → Option (List CelAnswer)
       → Option (List CelAnswer)
   eval_target no_target request ls args = args
   eval_target (target on) request ls args = before (eval on request ls) args
 
-  -- expressions from left to right
+  -- the answers of expressions, from left to right
   pub eval_each : CelTrees → RequestValue → Locals → Option (List CelAnswer)
   eval_each no_trees request ls = Some []
   eval_each (tree t ts) request ls = before (eval t request ls) (eval_each ts request ls)
 
-  -- keys and values in turn
+  -- the answers of keys and values, in turn
   pub eval_entries : CelTreeEntries → RequestValue → Locals → Option (List CelAnswer)
   eval_entries no_tree_entries request ls = Some []
   eval_entries (tree_entry id key v es) request ls =

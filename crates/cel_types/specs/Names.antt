@@ -4,25 +4,25 @@ use Rattle.std.specs.Prelude.{ℕ, Bool, false, ◌||◌, List, [], ◌∷◌, �
 use Rattle.std.specs.Str.{bytes_eq}
 use Rattle.cel_tree.specs.Tree.{CelTree, ident}
 
--- names with what is known of them, the innermost first
+-- names with their locals' types or answers, the innermost first
 abbrev pub Scope : Type 0 → Type 0
 Scope A = List (List ℕ × A)
 
--- what is known of the innermost local of a name
+-- the type or the answer of the innermost local of a name
 abbrev pub local : {A : Type 0} → List ℕ → Scope A → Option A
 local name [] = None
 local name (l ∷ ls) = if bytes_eq l.0 name then Some l.1 else local name ls
 
--- the root of attributes' names
+-- whether attributes' names begin with this root
 abbrev pub is_root : List ℕ → Bool
 is_root name = bytes_eq name (codes "request") || bytes_eq name (codes "source")
     || bytes_eq name (codes "destination") || bytes_eq name (codes "connection")
 
--- a root that no local hides
+-- whether the name is a root, and no local hides it
 abbrev pub bare_root : {A : Type 0} → List ℕ → Scope A → Bool
 bare_root name ls = if is_some (local name ls) then false else is_root name
 
--- the root that an expression names, where it is nothing but such a root
+-- the root that an expression is; none if it is anything but a root that no local hides
 abbrev pub root_of : {A : Type 0} → CelTree → Scope A → Option (List ℕ)
 root_of (ident id name) ls = if bare_root name ls then Some name else None
 root_of _ ls = None

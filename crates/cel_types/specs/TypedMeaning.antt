@@ -1,5 +1,5 @@
--- What an elaborated expression comes to: its meaning, with numbers of locals, attributes and overloads
--- in place of names. None stands for a value of a wrong kind or a local that is not there.
+-- The meaning of an elaborated expression: locals by number, attributes and overloads instead of names.
+-- None means that a value is of a wrong kind, or a local is not in scope.
 use Rattle.std.specs.Prelude.{ℕ, List, [], ◌∷◌, length, nat_eq, Option, Some, None, if◌then◌else◌}
 use Rattle.std.specs.Option.{option_and_then}
 use Rattle.attributes.specs.Request.{RequestValue}
@@ -11,14 +11,14 @@ use Rattle.cel_overload.specs.Answers.{overload_answer}
 use Rattle.cel_types.specs.Elaborated.{TypedTree, typed_constant, typed_local, typed_attribute, typed_field, typed_has, typed_call, typed_list, typed_map, typed_loop, TypedTrees, no_typed, typed}
 use Rattle.cel_types.specs.Meaning.{before, fold, over}
 
--- what is known of the local that has so many outside of it; the innermost stands first
+-- the type or the answer of the local with so many outside of it; the innermost local is first
 abbrev pub local_at : {A : Type 0} → (outside : ℕ) → List A → Option A
 local_at outside [] = None
 local_at outside (a ∷ others) =
     if nat_eq outside (length others) then Some a else local_at outside others
 
 abbrev mutual
-  -- what an expression comes to, of a request and of what the locals in scope come to
+  -- the answer of an expression, for a request and the answers of the locals in scope
   pub typed_answer : TypedTree → RequestValue → List CelAnswer → Option CelAnswer
   typed_answer (typed_constant t v) request ls = Some (value v)
   typed_answer (typed_local t outside) request ls = local_at outside ls
@@ -40,7 +40,7 @@ abbrev mutual
       (λ a. typed_answer result request (a ∷ ls)) elements)
       (typed_answer init request ls))
 
-  -- expressions from left to right
+  -- the answers of expressions, from left to right
   pub typed_answers : TypedTrees → RequestValue → List CelAnswer → Option (List CelAnswer)
   typed_answers no_typed request ls = Some []
   typed_answers (typed e es) request ls =

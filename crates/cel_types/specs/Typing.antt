@@ -1,7 +1,7 @@
 -- Which expressions have a type: CEL language definition, "Type Checking" and "Name Resolution", and
--- `google/api/expr/v1alpha1/checked.proto`, CheckedExpr: types are found by rules from the tree, and
--- the entries of the message's maps are then compared with what is found; they tell the types of empty
--- literals alone.
+-- `google/api/expr/v1alpha1/checked.proto`, CheckedExpr. Rules find types from the tree. Entries of
+-- the message's maps have to agree with them; only the type of an empty literal is taken from its
+-- entry.
 use Rattle.std.specs.Prelude.{◌≡◌, ◌≢◌, ◌≤◌, ◌+◌, ℕ, Bool, true, false, max, List, [], ◌∷◌, Option, Some, None, option_map}
 use Rattle.std.specs.FinMap.{FinMap, get}
 use Rattle.std.specs.Ordering.{int_cmp}
@@ -17,41 +17,41 @@ use Rattle.cel_ops.specs.Attributes.{attribute_type}
 use Rattle.cel_types.specs.Attributes.{attribute_named}
 use Rattle.cel_types.specs.Names.{Scope, joined_name, local, root_of}
 
--- how many locals may be in scope, shadowed ones too
+-- how many locals may be in scope, shadowed ones included
 abbrev pub most_locals : ℕ
 most_locals = 64
 
--- what is known of locals: their types
+-- the types of the locals in scope
 abbrev pub Kinds : Type 0
 Kinds = Scope ValueType
 
--- what a message says of nodes by their ids
+-- the maps of a message, by the ids of nodes
 pub record Maps : Type 0 where
   pub types : FinMap int_cmp CelTypeEntry
   pub refs : FinMap int_cmp CelReference
 
--- ---- entries
+-- ---- entries of the maps
 
--- a type entry says the type, or says nothing
+-- the type entry is absent, is `dyn`, or gives the type
 abbrev pub TypeAgrees : Option CelTypeEntry → ValueType → Type 0
 TypeAgrees None t = Unit {0}
 TypeAgrees (Some dyn_type) t = Unit {0}
 TypeAgrees (Some unsupported_type) t = ⊥
 TypeAgrees (Some (of_type s)) t = s ≡ t
 
--- a type entry says the type
+-- the type entry gives the type
 abbrev pub TypeGiven : Option CelTypeEntry → ValueType → Type 0
 TypeGiven (Some (of_type s)) t = s ≡ t
 TypeGiven _ t = ⊥
 
--- a reference entry names the variable and holds no value
+-- the reference entry is absent, or names the variable and has no value
 abbrev pub RefAgrees : Option CelReference → List ℕ → Type 0
 RefAgrees None name = Unit {0}
 RefAgrees (Some r) name = (r.name ≡ name) × (r.value ≡ None)
 
--- ---- one rule for each kind of node, over what is known of its parts
+-- ---- one rule for each kind of node; the types of its parts are given
 
--- a constant has the type of its kind
+-- the type of a constant, by its kind
 abbrev pub constant_type : CelValue → Option ValueType
 constant_type (bool b) = Some bool_type
 constant_type (int i) = Some int_type
@@ -60,22 +60,21 @@ constant_type (text cs) = Some text_type
 constant_type (bytes bs) = Some bytes_type
 constant_type _ = None
 
--- an Ident is the innermost local of its name, or the attribute
+-- the type of a name: that of its innermost local, or of the attribute
 abbrev pub name_type : List ℕ → Option ValueType → Option ValueType
 name_type name (Some t) = Some t
 name_type name None = option_map attribute_type (attribute_named name)
 
--- an Ident has the type of its name
+-- the type of an Ident is that of its name
 abbrev pub IdentRule : Kinds → List ℕ → ValueType → Type 0
 IdentRule ks name t = name_type name (local name ks) ≡ Some t
 
--- a Select is the attribute of a bare root's field, or a map's value at a name, or whether the map
--- has the name
+-- the type of a Select of a map whose values have type `t`: bool for a test
 abbrev pub field_type : (test_only : Bool) → ValueType → ValueType
 field_type true t = bool_type
 field_type false t = t
 
--- a Select has the type of the attribute, or of what its operand holds
+-- the type of a Select is that of a root's attribute, or depends on its operand, a map from texts
 abbrev pub SelectRule : Option (List ℕ) → (Operand : ValueType → Type 0) → List ℕ → Bool
     → ValueType → Type 0
 SelectRule (Some root) Operand field true t = ⊥
@@ -84,55 +83,56 @@ SelectRule (Some root) Operand field false t =
 SelectRule None Operand field test_only t = (s : ValueType)
     × Operand (map_type keys.Text s) × (t ≡ field_type test_only s)
 
--- a call is an overload of its function that takes its operands, the target first
+-- whether the call has a target
 abbrev pub has_target : CelTarget → Bool
 has_target no_target = false
 has_target (target on) = true
 
--- a call has the type that an overload of its function gives
+-- the type of a call is the result's type of an overload that takes the operands, the target first
 abbrev pub CallRule : List ℕ → Bool → (Operands : List ValueType → Type 0) → ValueType → Type 0
 CallRule name on Operands t =
     (ts : List ValueType) × Operands ts × (o : Overload) × IsCall name on ts o t
 
--- the elements of a list literal have one type; an empty one has its entry's, a list type
+-- the type is a list type
 abbrev pub IsList : ValueType → Type 0
 IsList (list_type t) = Unit {0}
 IsList _ = ⊥
 
--- a list literal is a list of what its elements are, or of what its entry says
+-- the type of a list literal is a list of its elements' one type; if it is empty, the list type of its
+-- entry
 abbrev pub ListRule : Option CelTypeEntry → CelTrees → (Elements : ValueType → Type 0)
     → ValueType → Type 0
 ListRule entry no_trees Elements t = TypeGiven entry t × IsList t
 ListRule entry (tree first others) Elements t =
     (s : ValueType) × Elements s × (t ≡ list_type s)
 
--- the keys of a map literal have one type, and its values too; an empty one has its entry's, a map
--- type
+-- the type is a map type
 abbrev pub IsMap : ValueType → Type 0
 IsMap (map_type k t) = Unit {0}
 IsMap _ = ⊥
 
--- a map literal likewise, of its keys and values
+-- the type of a map literal is a map of the one type of its keys and the one type of its values. If it
+-- is empty, it is the map type of its entry
 abbrev pub MapRule : Option CelTypeEntry → CelTreeEntries
     → (Pairs : ValueType → ValueType → Type 0) → ValueType → Type 0
 MapRule entry no_tree_entries Pairs t = TypeGiven entry t × IsMap t
 MapRule entry (tree_entry id key value others) Pairs t = (k : KeyType) × (s : ValueType)
     × Pairs (type_of_key k) s × (t ≡ map_type k s)
 
--- the elements of a range: the items of a list, or the keys of a map
+-- the type of a range's elements: of the items of a list, or of the keys of a map
 abbrev pub IsOver : ValueType → ValueType → Type 0
 IsOver (list_type s) element = element ≡ s
 IsOver (map_type k s) element = element ≡ type_of_key k
 IsOver _ element = ⊥
 
--- the names of a comprehension are given and differ
+-- the names of a comprehension are not empty, and differ
 pub record NamesDiffer (x acc : List ℕ) : Type 0 where
   pub element : x ≢ []
   pub gathered : acc ≢ []
   pub differ : x ≢ acc
 
--- a comprehension over the elements of its range: the condition is a bool, and each step keeps the
--- type of what is gathered
+-- a comprehension over the elements of its range: its condition is a bool, and its step has the
+-- accumulator's type
 pub record LoopRule (x acc : List ℕ) (Range Init : ValueType → Type 0)
     (Condition Step : ValueType → ValueType → ValueType → Type 0)
     (Result : ValueType → ValueType → Type 0) (t : ValueType) : Type 0 where
@@ -150,7 +150,7 @@ pub record LoopRule (x acc : List ℕ) (Range Init : ValueType → Type 0)
 -- ---- expressions
 
 abbrev mutual
-  -- with these locals the expression has the type, by its node's rule
+  -- with these locals, the expression has the type, by the rule of its node
   pub Types : Maps → Kinds → CelTree → ValueType → Type 0
   Types m ks (constant id v) t = constant_type v ≡ Some t
   Types m ks (ident id name) t = IdentRule ks name t
@@ -168,7 +168,7 @@ abbrev mutual
       (λ s a. Types m ((x, s) ∷ (acc, a) ∷ ks) step)
       (λ a. Types m ((acc, a) ∷ ks) result) t
 
-  -- the types of a target and of what follows it
+  -- the first type is that of the target, if there is one, and `Others` holds of the rest
   pub TypesTarget : Maps → Kinds → CelTarget → (List ValueType → Type 0) → List ValueType → Type 0
   TypesTarget m ks no_target Others ts = Others ts
   TypesTarget m ks (target on) Others [] = ⊥
@@ -181,12 +181,12 @@ abbrev mutual
   TypesEach m ks (tree a others) [] = ⊥
   TypesEach m ks (tree a others) (t ∷ ts) = Types m ks a t × TypesEach m ks others ts
 
-  -- each expression has the one type
+  -- all expressions have this type
   pub TypesAll : Maps → Kinds → CelTrees → ValueType → Type 0
   TypesAll m ks no_trees t = Unit {0}
   TypesAll m ks (tree a others) t = Types m ks a t × TypesAll m ks others t
 
-  -- each key and each value has its one type
+  -- all keys have the first type, and all values the second
   pub TypesPairs : Maps → Kinds → CelTreeEntries → ValueType → ValueType → Type 0
   TypesPairs m ks no_tree_entries s t = Unit {0}
   TypesPairs m ks (tree_entry id key value others) s t =
@@ -194,23 +194,23 @@ abbrev mutual
 
 -- ---- entries of expressions
 
--- a node's type entry agrees with the type that the node has
+-- the type entry agrees with each type that the node has
 abbrev pub EntryAgrees : Option CelTypeEntry → (Has : ValueType → Type 0) → Type 0
 EntryAgrees entry Has = (t : ValueType) → Has t → TypeAgrees entry t
 
--- where a node is a variable, its reference entry agrees
+-- the reference entry agrees with the name, if the node has a type
 abbrev pub NameAgrees : Option CelReference → List ℕ → (Has : ValueType → Type 0) → Type 0
 NameAgrees ref name Has = (t : ValueType) → Has t → RefAgrees ref name
 
--- of a Select of a bare root the reference entry agrees, of another the operand's entries
+-- for a root's attribute the reference entry agrees; for any other Select, the operand's entries do
 abbrev pub SelectAgrees : Option CelReference → Option (List ℕ) → List ℕ
     → (Has : ValueType → Type 0) → (Operand : Type 0) → Type 0
 SelectAgrees ref (Some root) field Has Operand = NameAgrees ref (joined_name root field) Has
 SelectAgrees ref None field Has Operand = Operand
 
 abbrev mutual
-  -- with these locals the entries of the expression's node and of all nodes inside agree; those of a
-  -- bare root under a Select are not used
+  -- with these locals, the entries of the expression's node and of all nodes inside agree. Entries of
+  -- a root under a Select are not used
   pub EntriesAgree : Maps → Kinds → CelTree → Type 0
   EntriesAgree m ks (constant id v) =
       EntryAgrees (get m.types id) (Types m ks (constant id v))
@@ -241,7 +241,7 @@ abbrev mutual
       × ((gathered : ValueType) → Types m ks init gathered
       → EntriesAgree m ((acc, gathered) ∷ ks) result)
 
-  -- the entries of a target agree
+  -- the entries in a call's target, if there is one, agree
   pub TargetAgrees : Maps → Kinds → CelTarget → Type 0
   TargetAgrees m ks no_target = Unit {0}
   TargetAgrees m ks (target on) = EntriesAgree m ks on
@@ -264,8 +264,8 @@ abbrev pub greatest : (a b c d e : ℕ) → ℕ
 greatest a b c d e = max a (max b (max c (max d e)))
 
 abbrev mutual
-  -- how many locals some node of the expression has in scope, of those that the expression itself
-  -- brings in: in a comprehension's condition and step two, in its result one
+  -- the greatest number of the expression's own locals that a node inside has in scope. A
+  -- comprehension adds two for its condition and step, and one for its result
   pub locals_in : CelTree → ℕ
   locals_in (constant id v) = 0
   locals_in (ident id name) = 0
@@ -277,17 +277,17 @@ abbrev mutual
       greatest (locals_in range) (locals_in init) (2 + locals_in condition) (2 + locals_in step)
       (1 + locals_in result)
 
-  -- the same of a call's target, if there is one
+  -- the same for a call's target, if there is one
   pub locals_in_target : CelTarget → ℕ
   locals_in_target no_target = 0
   locals_in_target (target on) = locals_in on
 
-  -- the most of any of these expressions
+  -- the greatest such number of these expressions
   pub locals_in_each : CelTrees → ℕ
   locals_in_each no_trees = 0
   locals_in_each (tree t ts) = max (locals_in t) (locals_in_each ts)
 
-  -- the most of any key or value of these entries
+  -- the greatest such number of these keys and values
   pub locals_in_entries : CelTreeEntries → ℕ
   locals_in_entries no_tree_entries = 0
   locals_in_entries (tree_entry id key value es) =

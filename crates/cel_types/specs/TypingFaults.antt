@@ -1,7 +1,7 @@
--- What is wrong with a checked expression, by the numbers of refusals: rule by rule as in Typing, and
--- entry by entry. Of several faults each is there. A fault that compares types is there where the parts
--- that it compares have types by their rules, whatever their entries say; and one that a local's type
--- may decide, where no type is found for the local, if it is there with each type.
+-- The faults of a checked expression, each with its refusal: rule by rule as in Typing, and entry by
+-- entry. An expression may have several faults. If a fault compares types, the parts have these types
+-- by their rules; their entries do not matter. If a local has no type, a fault that depends on it
+-- counts only if every type of the local leads to it.
 use Rattle.std.specs.Prelude.{◌≡◌, ◌≢◌, ◌⊎◌, ◌<◌, ℕ, Bool, true, false, List, [], ◌∷◌, Option, Some, None, option_map}
 use Rattle.std.specs.FinMap.{get}
 use Rattle.proto_wire.specs.declared.refusal.Refusal.{Refusal}
@@ -22,7 +22,7 @@ use Rattle.cel_types.specs.Typing.{IsList, IsMap, IsOver, Kinds, Maps, RefAgrees
 
 -- ---- entries
 
--- a type entry is of a kind that is not supported, or says another type than the node has
+-- a type entry is of an unsupported kind, or gives another type than the node's
 pub data EntryFault (entry : Option CelTypeEntry) (Has : ValueType → Type 0) (e : Refusal) : Type 0
   where
     unsupported_kind : entry ≡ Some unsupported_type → e ≡ Unsupported → EntryFault entry Has e
@@ -33,13 +33,13 @@ pub data EntryFault (entry : Option CelTypeEntry) (Has : ValueType → Type 0) (
 abbrev pub RefDiffers : Option CelReference → List ℕ → Type 0
 RefDiffers ref name = RefAgrees ref name → ⊥
 
--- no entry says what an empty literal is
+-- the type entry of an empty literal is absent, or `dyn`
 abbrev pub SaysNothing : Option CelTypeEntry → Type 0
 SaysNothing None = Unit {0}
 SaysNothing (Some dyn_type) = Unit {0}
 SaysNothing (Some _) = ⊥
 
--- an empty literal of some kind has no type by its entry
+-- a fault of an empty literal's entry: it gives no type, or a type of another kind
 pub data EmptyFault (entry : Option CelTypeEntry) (IsKind : ValueType → Type 0) (e : Refusal) : Type 0
   where
     untold : SaysNothing entry → e ≡ NeedsType → EmptyFault entry IsKind e
@@ -48,19 +48,19 @@ pub data EmptyFault (entry : Option CelTypeEntry) (IsKind : ValueType → Type 0
 
 -- ---- nodes
 
--- a constant is of a kind that is not supported
+-- the constant is of an unsupported kind
 abbrev pub ConstantFault : CelValue → Refusal → Type 0
 ConstantFault v e = (constant_type v ≡ None) × (e ≡ Unsupported)
 
--- an Ident is neither a local nor an attribute, or its reference entry differs
+-- a fault of an Ident: it is neither a local nor an attribute, or its reference entry differs
 pub data IdentFault (ref : Option CelReference) (ks : Kinds) (name : List ℕ) (e : Refusal) : Type 0
   where
     unknown : name_type name (local name ks) ≡ None → e ≡ UnknownName → IdentFault ref ks name e
     other_reference : (t : ValueType) → name_type name (local name ks) ≡ Some t
         → RefDiffers ref name → e ≡ BadReference → IdentFault ref ks name e
 
--- a Select of a bare root is no attribute, or asks whether it is there, or its reference entry
--- differs; another Select is of what is no map with names
+-- a fault of a Select. If its operand is a root: there is no such attribute, it is a test, or the
+-- reference entry differs. Otherwise: the operand is not a map from texts, or has a fault itself
 pub data SelectFault (ref : Option CelReference) (root : Option (List ℕ))
     (Operand : ValueType → Type 0) (InOperand : Refusal → Type 0) (field : List ℕ)
     (test_only : Bool) (e : Refusal) : Type 0 where
@@ -78,7 +78,8 @@ pub data SelectFault (ref : Option CelReference) (root : Option (List ℕ))
   in_operand : root ≡ None → InOperand e
       → SelectFault ref root Operand InOperand field test_only e
 
--- a call's function is not known, or has no overload for the operands
+-- a fault of a call: its function is not known, no overload takes the operands, or an operand has a
+-- fault
 pub data CallsFault (name : List ℕ) (on : Bool) (Operands : List ValueType → Type 0)
     (InOperands : Refusal → Type 0) (e : Refusal) : Type 0 where
   unknown : function_named name ≡ None → e ≡ UnknownName
@@ -87,14 +88,15 @@ pub data CallsFault (name : List ℕ) (on : Bool) (Operands : List ValueType →
       → e ≡ NoOverload → CallsFault name on Operands InOperands e
   in_operand : InOperands e → CallsFault name on Operands InOperands e
 
--- two elements of a list literal have different types, whatever the others are
+-- a fault of a list literal's elements: two have different types, or one has a fault
 pub data ElementsFault (HasElement : ValueType → Type 0) (InElements : Refusal → Type 0)
     (e : Refusal) : Type 0 where
   two_types : (s t : ValueType) → HasElement s → HasElement t → s ≢ t → e ≡ NoOverload
       → ElementsFault HasElement InElements e
   in_element : InElements e → ElementsFault HasElement InElements e
 
--- two keys of a map literal have different types, or two values; or a key's is no type of keys
+-- a fault of a map literal's entries: two keys or two values have different types. Or a key's type is
+-- not a type of keys, or a part has a fault
 pub data PairsFault (HasKey HasValue : ValueType → Type 0) (InEntries : Refusal → Type 0)
     (e : Refusal) : Type 0 where
   two_key_types : (s t : ValueType) → HasKey s → HasKey t → s ≢ t → e ≡ NoOverload
@@ -105,7 +107,7 @@ pub data PairsFault (HasKey HasValue : ValueType → Type 0) (InEntries : Refusa
       → e ≡ NoOverload → PairsFault HasKey HasValue InEntries e
   in_entry : InEntries e → PairsFault HasKey HasValue InEntries e
 
--- the types that a local may have: the one that is found for it, or any where none is found
+-- the types that a local may have: the one that is found; if none is found, any type
 abbrev pub MayBe : (Found : ValueType → Type 0) → ValueType → Type 0
 MayBe Found t = (s : ValueType) → Found s → s ≡ t
 
@@ -113,13 +115,14 @@ MayBe Found t = (s : ValueType) → Found s → s ≡ t
 abbrev pub ElementOf : (Range : ValueType → Type 0) → ValueType → Type 0
 ElementOf Range t = (s : ValueType) × Range s × IsOver s t
 
--- it is so in a turn, whichever types the element and what is gathered may have
+-- this holds in a turn for all types that the element and the accumulator may have
 abbrev pub EachTurn : (Range Init : ValueType → Type 0) → (ValueType → ValueType → Type 0) → Type 0
 EachTurn Range Init IsSo = (element gathered : ValueType) → MayBe (ElementOf Range) element
     → MayBe Init gathered → IsSo element gathered
 
--- a comprehension lacks a name, or has one twice; or its range has no elements; or its condition is
--- no bool, or its step of another type than what is gathered
+-- a fault of a comprehension: a name is empty, or both names are the same, or the range has no
+-- elements. Or the condition is not a bool, the step is not of the accumulator's type, or a part has a
+-- fault
 pub data LoopFault (x acc : List ℕ) (Range Init : ValueType → Type 0)
     (Condition Step : ValueType → ValueType → ValueType → Type 0)
     (InRange InInit : Refusal → Type 0) (InTurn : ValueType → ValueType → Refusal → Type 0)
@@ -148,36 +151,36 @@ pub data LoopFault (x acc : List ℕ) (Range Init : ValueType → Type 0)
 
 -- ---- expressions
 
--- what is wrong with a list literal, empty or not
+-- a fault of a list literal, empty or not
 abbrev pub ListFault : Option CelTypeEntry → CelTrees → (HasElement : ValueType → Type 0)
     → (Refusal → Type 0) → Refusal → Type 0
 ListFault entry no_trees HasElement InElements e = EmptyFault entry IsList e
 ListFault entry (tree t ts) HasElement InElements e = ElementsFault HasElement InElements e
 
--- what is wrong with a map literal, empty or not
+-- a fault of a map literal, empty or not
 abbrev pub MapsFault : Option CelTypeEntry → CelTreeEntries
     → (HasKey HasValue : ValueType → Type 0) → (Refusal → Type 0) → Refusal → Type 0
 MapsFault entry no_tree_entries HasKey HasValue InEntries e = EmptyFault entry IsMap e
 MapsFault entry (tree_entry id key value es) HasKey HasValue InEntries e =
     PairsFault HasKey HasValue InEntries e
 
--- some of the expressions has the type
+-- some expression has the type
 abbrev pub SomeTypes : Maps → Kinds → CelTrees → ValueType → Type 0
 SomeTypes m ks no_trees t = ⊥
 SomeTypes m ks (tree a others) t = Types m ks a t ⊎ SomeTypes m ks others t
 
--- some of the keys has the type
+-- some key has the type
 abbrev pub KeyTypes : Maps → Kinds → CelTreeEntries → ValueType → Type 0
 KeyTypes m ks no_tree_entries t = ⊥
 KeyTypes m ks (tree_entry id key value es) t = Types m ks key t ⊎ KeyTypes m ks es t
 
--- some of the values has the type
+-- some value has the type
 abbrev pub ItemTypes : Maps → Kinds → CelTreeEntries → ValueType → Type 0
 ItemTypes m ks no_tree_entries t = ⊥
 ItemTypes m ks (tree_entry id key value es) t = Types m ks value t ⊎ ItemTypes m ks es t
 
 abbrev mutual
-  -- a fault of the node, of its entry, or of an expression inside
+  -- a fault of the node, of its type entry, or of an expression inside
   pub TypeFault : Maps → Kinds → CelTree → Refusal → Type 0
   TypeFault m ks (constant id v) e =
       ConstantFault v e ⊎ EntryFault (get m.types id) (Types m ks (constant id v)) e
@@ -210,12 +213,12 @@ abbrev mutual
       ⊎ EntryFault (get m.types id)
       (Types m ks (comprehension id x acc range init condition step result)) e
 
-  -- a fault of a target
+  -- a fault of a call's target, if there is one
   pub TargetFault : Maps → Kinds → CelTarget → Refusal → Type 0
   TargetFault m ks no_target e = ⊥
   TargetFault m ks (target on) e = TypeFault m ks on e
 
-  -- a fault of some of the expressions
+  -- a fault of some expression
   pub SomeFault : Maps → Kinds → CelTrees → Refusal → Type 0
   SomeFault m ks no_trees e = ⊥
   SomeFault m ks (tree t ts) e = TypeFault m ks t e ⊎ SomeFault m ks ts e
@@ -226,8 +229,7 @@ abbrev mutual
   PairFault m ks (tree_entry id key value es) e =
       TypeFault m ks key e ⊎ (TypeFault m ks value e ⊎ PairFault m ks es e)
 
--- what is wrong with a checked expression: a node has too many locals in scope, or the expression
--- has no type
+-- a fault of a checked expression: a node has too many locals in scope, or the expression has no type
 pub data CheckFault (c : CelChecked) (e : Refusal) : Type 0 where
   too_many_locals : most_locals < locals_in c.tree → e ≡ TooLarge → CheckFault c e
   untyped : TypeFault (maps_of c) [] c.tree e → CheckFault c e

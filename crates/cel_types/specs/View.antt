@@ -1,4 +1,4 @@
--- The elaborated expressions that the code's stand for.
+-- The elaborated expressions that values of the code mean.
 use Rattle.std.specs.Prelude.{List, [], ◌∷◌}
 use Rattle.cel_value.specs.Texts.{text_view}
 use Rattle.cel_value.specs.Types.{type_view}
@@ -17,7 +17,7 @@ pub record TypedParts : Type 0 where
   pub step : TypedTree
   pub result : TypedTree
 
--- expressions one after the other
+-- expressions in order
 abbrev pub typed_of : List TypedTree → TypedTrees
 typed_of [] = no_typed
 typed_of (e ∷ es) = typed e (typed_of es)
@@ -26,7 +26,7 @@ typed_of (e ∷ es) = typed e (typed_of es)
 abbrev pub loop_of : ValueType → TypedParts → TypedTree
 loop_of t p = typed_loop t p.range p.init p.condition p.step p.result
 
--- one level of an expression, with each expression inside already seen
+-- one level of an expression, whose inner expressions are already translated
 abbrev pub expr_level : TypedExpr-F TypedTree TypedParts → TypedTree
 expr_level (TypedExpr-F.Constant t c) = typed_constant (type_view t) (constant_view c.now)
 expr_level (TypedExpr-F.Local t outside) = typed_local (type_view t) outside
@@ -38,7 +38,7 @@ expr_level (TypedExpr-F.List t es) = typed_list (type_view t) (typed_of es.items
 expr_level (TypedExpr-F.Map t es) = typed_map (type_view t) (typed_of es.items)
 expr_level (TypedExpr-F.Loop t p) = loop_of (type_view t) p.value
 
--- one level of a comprehension's parts, likewise
+-- one level of a comprehension's parts, whose expressions are already translated
 abbrev pub parts_level : TypedLoop-F TypedTree TypedParts → TypedParts
 parts_level p = record {
   range = p.range;
@@ -48,10 +48,10 @@ parts_level p = record {
   result = p.result;
 }
 
--- the expression that a `TypedExpr` stands for
+-- the expression that a `TypedExpr` means
 abbrev pub expr_view : TypedExpr → TypedTree
 expr_view = fold-TypedExpr TypedTree TypedParts expr_level parts_level
 
--- the elaborated expression that a `Typed` stands for
+-- the elaborated expression that a `Typed` means
 abbrev pub typed_view : Typed → TypedTree
 typed_view t = expr_view t.root

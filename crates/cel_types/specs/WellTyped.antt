@@ -1,4 +1,4 @@
--- Which elaborated expressions have the types that they say: CEL language definition, "Type Checking".
+-- Elaborated expressions whose types are right: CEL language definition, "Type Checking".
 use Rattle.std.specs.Prelude.{◌≡◌, List, [], ◌∷◌, Some}
 use Rattle.cel_value.specs.Types.{HasType, ValueType, bool_type, list_type, map_type, type_of_key}
 use Rattle.cel_value.specs.declared.cel_type.KeyType.{KeyType}
@@ -9,19 +9,19 @@ use Rattle.cel_types.specs.Elaborated.{TypedTree, typed_constant, typed_local, t
 use Rattle.cel_types.specs.TypedMeaning.{local_at}
 use Rattle.cel_types.specs.Typing.{IsOver, constant_type}
 
--- each of the types is this one
+-- all of the types are this one
 abbrev pub AreAll : ValueType → List ValueType → Type 0
 AreAll t [] = Unit {0}
 AreAll t (s ∷ ss) = (s ≡ t) × AreAll t ss
 
--- keys and values in turn: each key is of the one type, and each value of the other
+-- the types of keys and values in turn: each key has the first type, and each value the second
 abbrev pub AreKeyed : KeyType → ValueType → List ValueType → Type 0
 AreKeyed k t [] = Unit {0}
 AreKeyed k t (s ∷ []) = ⊥
 AreKeyed k t (j ∷ s ∷ ss) = (j ≡ type_of_key k) × (s ≡ t) × AreKeyed k t ss
 
 abbrev mutual
-  -- with locals of these types, the innermost first, each node's type is the one that its rule gives
+  -- with locals of these types, the innermost first, each node has the type that its rule gives
   pub IsWellTyped : List ValueType → TypedTree → Type 0
   IsWellTyped ks (typed_constant t v) = (constant_type v ≡ Some t) × HasType v t
   IsWellTyped ks (typed_local t outside) = local_at outside ks ≡ Some t
@@ -43,7 +43,7 @@ abbrev mutual
       × IsWellTyped (element ∷ kind init ∷ ks) step × (kind step ≡ kind init))
       × IsWellTyped (kind init ∷ ks) result × (t ≡ kind result)
 
-  -- the same of each of the expressions
+  -- each of the expressions is well typed
   pub AreWellTyped : List ValueType → TypedTrees → Type 0
   AreWellTyped ks no_typed = Unit {0}
   AreWellTyped ks (typed e es) = IsWellTyped ks e × AreWellTyped ks es

@@ -1,4 +1,4 @@
-//! Which type an expression has (CEL language definition, "Type Checking" and "Name Resolution").
+//! Finds the types of expressions (CEL language definition, "Type Checking" and "Name Resolution").
 
 ghost use Rattle.std.specs.Prelude.{◌≡◌, IfErr, IfOk};
 ghost use Rattle.cel_tree.specs.View.{checked_view};
@@ -26,11 +26,11 @@ use proto_wire::Refusal;
 use scope::Scope;
 use std::alloc::Global;
 
-/// Finds the type of a checked expression, and of each of its nodes which local, attribute or overload
-/// it is. Types are found by rules from the tree; entries of the type map and of the reference map are
-/// compared with what is found, and give no type but that of an empty literal. A refusal names a fault
-/// that is there: `Missing`, `OutOfRange`, `Unsupported`, `TooLarge`, `UnknownName`, `NoOverload`,
-/// `BadTypeEntry`, `BadReference` or `NeedsType`; or it is want of memory.
+/// Finds the type of each node of a checked expression, and the local, attribute or overload that the
+/// node is. Rules find types from the tree. Entries of the type map and of the reference map are
+/// compared with them. Only the type of an empty literal is taken from its entry. Refuses an
+/// expression with a fault: `Missing`, `OutOfRange`, `Unsupported`, `TooLarge`, `UnknownName`,
+/// `NoOverload`, `BadTypeEntry`, `BadReference` or `NeedsType`; or `Memory`.
 pub fn check<'a>(alloc: Global, checked: &'a Checked) -> Result<Typed<'a>, Refusal>
     ensures found { IfOk result (λ typed. IsElaborated (checked_view checked.now) (typed_view typed)) }
     ensures fault { IfErr result (MemoryOr (CheckFault (checked_view checked.now))) }

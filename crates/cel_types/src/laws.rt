@@ -17,12 +17,12 @@ ghost use Rattle.cel_types.specs.TypedMeaning.{typed_answer};
 ghost use Rattle.cel_types.specs.WellTyped.{IsWellTyped};
 ghost use Rattle.proto_wire.specs.declared.refusal.Refusal.{Refusal};
 
-/// Each attribute is found under its name, and no other is.
+/// An attribute is found by its name, and by no other.
 pub fn attribute_is_named()
     ensures { (name : List ℕ) (id : AttrId) → (attribute_named name ≡ Some id) ↔ (name ≡ attr_name id) }
 {}
 
-/// A checked expression has one type at most.
+/// A checked expression has at most one type.
 pub fn typing_unique()
     ensures { (c : CelChecked) (s t : ValueType) → IsTyped c s → IsTyped c t → s ≡ t }
 {}
@@ -32,7 +32,7 @@ pub fn typing_total()
     ensures { (c : CelChecked) → ((t : ValueType) × IsTyped c t) ⊎ ((e : Refusal) × CheckFault c e) }
 {}
 
-/// A checked expression that has a type has no fault.
+/// A checked expression never has both a type and a fault.
 pub fn typing_disjoint()
     ensures { (c : CelChecked) (t : ValueType) (e : Refusal) → IsTyped c t → CheckFault c e → ⊥ }
 {}
@@ -43,24 +43,24 @@ pub fn typed_is_elaborated()
         → (e : TypedTree) × IsElaborated c e × (kind e ≡ t) }
 {}
 
-/// A checked expression has one elaboration at most.
+/// A checked expression has at most one elaboration.
 pub fn elaboration_unique()
     ensures { (c : CelChecked) (e f : TypedTree) → IsElaborated c e → IsElaborated c f → e ≡ f }
 {}
 
-/// The elaboration of an expression whose constants have the types of their kinds is well typed.
+/// If the constants of an expression have the types of their kinds, its elaboration is well typed.
 pub fn elaboration_is_well_typed()
     ensures { (c : CelChecked) (e : TypedTree) → HasGoodConstants c.tree → IsElaborated c e
         → IsWellTyped [] e }
 {}
 
-/// One that is well typed has an answer of its type for each request.
+/// A well typed expression has an answer of its type for each request.
 pub fn typed_answers_have_their_type()
     ensures { (e : TypedTree) (r : RequestValue) → IsWellTyped [] e → IsRequest r
         → (a : CelAnswer) × (typed_answer e r [] ≡ Some a) × AnswerHasType a (kind e) }
 {}
 
-/// An elaboration means what its expression means.
+/// An elaboration has the same answers as its expression.
 pub fn elaboration_means_the_same()
     ensures { (c : CelChecked) (e : TypedTree) (r : RequestValue) → HasGoodConstants c.tree
         → IsElaborated c e → IsRequest r → eval c.tree r [] ≡ typed_answer e r [] }

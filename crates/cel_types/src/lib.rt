@@ -1,4 +1,4 @@
-//! What expressions of CEL mean, and which have a type.
+//! The meaning and the types of CEL expressions.
 #![tactic(auto)]
 
 mod checker;

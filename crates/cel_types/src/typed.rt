@@ -1,4 +1,4 @@
-//! Expressions with what checking found about them.
+//! Expressions with the results of checking.
 
 use attributes::AttrId;
 use cel_overload::Overload;
@@ -6,8 +6,8 @@ use cel_tree::Constant;
 use cel_value::CelType;
 use std::rc::RcStr;
 
-/// An expression of a tree that was checked: each node with its type, which local or attribute a name
-/// is, and which overload a call is. Constants and names are the tree's own.
+/// A checked expression. Each node has its type; each name is a local or an attribute, and each call
+/// is an overload. Constants and names are lent by the tree.
 #[derive(Drop)]
 #[cycle(typed)]
 pub enum TypedExpr<'a> {
@@ -15,7 +15,7 @@ pub enum TypedExpr<'a> {
         cel_type: CelType,
         value: &'a Constant,
     },
-    /// A local, by how many are outside of it.
+    /// A local, by the number of locals outside of it.
     Local {
         cel_type: CelType,
         outside: u8,
@@ -36,7 +36,7 @@ pub enum TypedExpr<'a> {
         map: Box<TypedExpr<'a>>,
         name: &'a RcStr,
     },
-    /// A call; its target, where it has one, is the first operand.
+    /// A call; its target, if it has one, is the first operand.
     Call {
         cel_type: CelType,
         overload: Overload,
@@ -57,8 +57,8 @@ pub enum TypedExpr<'a> {
     },
 }
 
-/// The parts of a comprehension. What is gathered is the next local of its scope, and the element the
-/// one after that.
+/// The parts of a comprehension. In its scope, the accumulator is the next local, and the element is
+/// the one after that.
 #[derive(Drop)]
 #[cycle(typed)]
 pub struct TypedLoop<'a> {
@@ -69,7 +69,7 @@ pub struct TypedLoop<'a> {
     pub result: TypedExpr<'a>,
 }
 
-/// A checked expression whole.
+/// A whole checked expression.
 #[derive(Drop)]
 pub struct Typed<'a> {
     pub root: TypedExpr<'a>,

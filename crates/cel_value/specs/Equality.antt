@@ -25,13 +25,13 @@ abbrev mutual
   value_eq (map_of a) (map_of b) = entries_eq a b
   value_eq _ _ = false
 
-  -- whether there are as many, each the same as the one at its place
+  -- whether both have as many values, each the same as the one at its place
   pub values_eq : CelValues → CelValues → Bool
   values_eq no_items no_items = true
   values_eq (item v vs) (item w ws) = value_eq v w && values_eq vs ws
   values_eq _ _ = false
 
-  -- the same of entries
+  -- whether both have as many entries, each the same as the one at its place
   pub entries_eq : CelEntries → CelEntries → Bool
   entries_eq no_entries no_entries = true
   entries_eq (entry j v es) (entry k w fs) = key_eq j k && value_eq v w && entries_eq es fs

@@ -1,5 +1,5 @@
 -- Maps as finite functions: the order of keys, look-up, and entries by ascending key. CEL language
--- definition, "Map Values"; that keys have this order is this project's choice.
+-- definition, "Map Values". The order of keys is this project's choice.
 use Rattle.std.specs.Prelude.{ℕ, ◌≡◌, Bool, true, ◌&&◌, List, [], ◌∷◌, Option, Some, None, if◌then◌else◌}
 use Rattle.std.specs.declared.cmp.Ordering.{Ordering}
 use Rattle.std.specs.declared.cmp.Ordering.TheVariants.{Less, Greater}
@@ -8,7 +8,8 @@ use Rattle.std.specs.Cmp.Lexicographic.{slice_cmp}
 use Rattle.cel_value.specs.Values.{CelKey, bool_key, int_key, uint_key, text_key, CelValue, bool, int, uint, text, CelEntries, no_entries, entry}
 use Rattle.cel_value.specs.Equality.{key_eq}
 
--- the order of keys: bools, ints, uints, texts; false before true, texts by code point
+-- the order of keys: bools, ints, uints, texts; false before true, numbers by value, texts by code
+-- point
 abbrev pub key_cmp : CelKey → CelKey → Ordering
 key_cmp (bool_key a) (bool_key b) = bool_cmp a b
 key_cmp (bool_key a) (int_key b) = Less
@@ -27,7 +28,7 @@ key_cmp (text_key a) (int_key b) = Greater
 key_cmp (text_key a) (uint_key b) = Greater
 key_cmp (text_key a) (text_key b) = slice_cmp nat_cmp a b
 
--- a value as a key, none where it is bytes, a list or a map
+-- a value as a key; none if it is bytes, a list or a map
 abbrev pub key_of_value : CelValue → Option CelKey
 key_of_value (bool b) = Some (bool_key b)
 key_of_value (int i) = Some (int_key i)
@@ -35,7 +36,7 @@ key_of_value (uint n) = Some (uint_key n)
 key_of_value (text cs) = Some (text_key cs)
 key_of_value _ = None
 
--- the value at a key, none where the map does not have it
+-- the value at a key; none if the map does not have the key
 abbrev pub get : CelEntries → CelKey → Option CelValue
 get no_entries q = None
 get (entry k v es) q = if key_eq k q then Some v else get es q
@@ -45,24 +46,24 @@ abbrev pub AllAbove : CelKey → CelEntries → Type 0
 AllAbove k no_entries = Unit {0}
 AllAbove k (entry j v es) = (key_cmp k j ≡ Less) × AllAbove k es
 
--- the keys rise, so no key is there twice: such entries are a finite function
+-- the keys ascend, so no key is repeated: such entries are a finite function
 abbrev pub IsAscending : CelEntries → Type 0
 IsAscending no_entries = Unit {0}
 IsAscending (entry k v es) = AllAbove k es × IsAscending es
 
--- the same as a test: each key is below the next
+-- whether the keys ascend, as a test: each key is below the next
 abbrev pub is_ascending : CelEntries → Bool
 is_ascending no_entries = true
 is_ascending (entry k v no_entries) = true
 is_ascending (entry k v (entry j w es)) = is_lt (key_cmp k j) && is_ascending (entry j w es)
 
--- an entry at its place among ascending ones
+-- ascending entries with a new one added at its place
 abbrev pub put : CelKey → CelValue → CelEntries → CelEntries
 put k v no_entries = entry k v no_entries
 put k v (entry j w es) =
     if is_lt (key_cmp k j) then entry k v (entry j w es) else entry j w (put k v es)
 
--- each text is below the next by its bytes, as the headers of a request are sorted
+-- each text is below the next by its bytes: the order of a request's headers
 abbrev pub AreRising : List (List ℕ) → Type 0
 AreRising [] = Unit {0}
 AreRising (a ∷ []) = Unit {0}

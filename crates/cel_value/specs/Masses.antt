@@ -1,4 +1,4 @@
--- Lengths and masses of values, by which their handling is charged (this project's measure).
+-- Lengths and masses of values; charges depend on them (this project's measure).
 use Rattle.std.specs.Prelude.{ℕ, ◌+◌, ◌-◌, length, Option, Some, None, if◌then◌else◌, nat_le}
 use Rattle.cel_value.specs.Values.{CelKey, bool_key, int_key, uint_key, text_key, CelValue, bool, int, uint, text, bytes, list, map_of, CelValues, no_items, item, CelEntries, no_entries, entry}
 use Rattle.cel_value.specs.Texts.{utf8_of}
@@ -13,7 +13,8 @@ abbrev pub entry_count : CelEntries → ℕ
 entry_count no_entries = 0
 entry_count (entry k v es) = 1 + entry_count es
 
--- the length: a text's is its number of UTF-8 bytes; a bool, int or uint has 0
+-- the length: the UTF-8 bytes of a text, or the number of bytes, items or entries; 0 for a bool,
+-- int or uint
 abbrev pub length_of : CelValue → ℕ
 length_of (text cs) = length (utf8_of cs)
 length_of (bytes bs) = length bs
@@ -21,7 +22,7 @@ length_of (list vs) = item_count vs
 length_of (map_of es) = entry_count es
 length_of _ = 0
 
--- the mass of a key: 1, and for a text its length as well
+-- the mass of a key: 1, plus the length of a text
 abbrev pub key_mass : CelKey → ℕ
 key_mass (bool_key b) = 1
 key_mass (int_key i) = 1
@@ -29,7 +30,7 @@ key_mass (uint_key n) = 1
 key_mass (text_key cs) = 1 + length (utf8_of cs)
 
 abbrev mutual
-  -- the mass of a value: 1, the length of a text or bytes, and the masses of what it holds
+  -- the mass of a value: 1, plus the length of a text or bytes, plus the masses of its parts
   pub mass : CelValue → ℕ
   mass (bool b) = 1
   mass (int i) = 1
@@ -39,16 +40,16 @@ abbrev mutual
   mass (list vs) = 1 + items_mass vs
   mass (map_of es) = 1 + entries_mass es
 
-  -- the masses of all items together
+  -- the sum of the masses of all items
   pub items_mass : CelValues → ℕ
   items_mass no_items = 0
   items_mass (item v vs) = mass v + items_mass vs
 
-  -- the masses of all keys and values together
+  -- the sum of the masses of all keys and values
   pub entries_mass : CelEntries → ℕ
   entries_mass no_entries = 0
   entries_mass (entry k v es) = key_mass k + mass v + entries_mass es
 
--- what is left of n once m is taken from it, if it is enough
+-- n less m; none if m is greater than n
 abbrev pub left_of : ℕ → ℕ → Option ℕ
 left_of n m = if nat_le m n then Some (n - m) else None

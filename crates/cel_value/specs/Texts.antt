@@ -10,7 +10,7 @@ use Rattle.std.specs.declared.alloc.Global.{Global}
 abbrev pub points_of : List ℕ → List ℕ
 points_of bs = chars bs
 
--- the UTF-8 bytes of code points; of scalars, `points_of` gives them back
+-- the UTF-8 bytes of code points; if these are scalars, `points_of` gives them back
 abbrev pub utf8_of : List ℕ → List ℕ
 utf8_of cs = encode_utf8_all cs
 

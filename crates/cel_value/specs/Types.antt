@@ -59,7 +59,7 @@ type_of_key keys.Int = int_type
 type_of_key keys.Uint = uint_type
 type_of_key keys.Text = text_type
 
--- the type of keys that a type is, none where no key has it
+-- the type of keys that this type is; none if no key has the type
 abbrev pub key_type_of : ValueType → Option KeyType
 key_type_of bool_type = Some keys.Bool
 key_type_of int_type = Some keys.Int
@@ -89,12 +89,12 @@ KeyHasType (uint_key n) keys.Uint = IsUint64 n
 KeyHasType (text_key cs) keys.Text = AreScalars cs
 KeyHasType _ _ = ⊥
 
--- each item is as said
+-- each item has this property
 abbrev pub EachItem : (CelValue → Type 0) → CelValues → Type 0
 EachItem P no_items = Unit {0}
 EachItem P (item v vs) = P v × EachItem P vs
 
--- each key and each value is as said
+-- each key has the first property, and each value the second
 abbrev pub EachEntry : (CelKey → Type 0) → (CelValue → Type 0) → CelEntries → Type 0
 EachEntry K P no_entries = Unit {0}
 EachEntry K P (entry k v es) = K k × P v × EachEntry K P es

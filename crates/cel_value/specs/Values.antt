@@ -30,7 +30,7 @@ mutual
     no_entries : CelEntries
     entry : CelKey → CelValue → CelEntries → CelEntries
 
--- what an expression evaluates to: a value, or why there is none
+-- the result of an expression: a value, or an error
 pub data CelAnswer : Type 0 where
   value : CelValue → CelAnswer
   fails : CelError → CelAnswer

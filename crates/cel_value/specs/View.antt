@@ -21,34 +21,34 @@ key_view (keys.Int i) = int_key i
 key_view (keys.Uint n) = uint_key n
 key_view (keys.Text t) = text_key (text_view t)
 
--- the key that a borrowed key means
+-- the key that a lent key means
 abbrev pub lent_view : LentKey → CelKey
 lent_view (lents.Bool b) = bool_key b
 lent_view (lents.Int i) = int_key i
 lent_view (lents.Uint n) = uint_key n
 lent_view (lents.Text t) = text_key (text_view t.now)
 
--- values of a list, in order
+-- a list of values, as items
 abbrev pub items_of : List CelValue → CelValues
 items_of [] = no_items
 items_of (v ∷ vs) = item v (items_of vs)
 
--- keys with values that are already seen, in order
+-- a list of keys with values, as entries
 abbrev pub entries_of : List (Key × CelValue) → CelEntries
 entries_of [] = no_entries
 entries_of (e ∷ es) = entry (key_view e.0) e.1 (entries_of es)
 
--- texts with texts: a map from text to text
+-- pairs of texts, as a map from text to text
 abbrev pub pairs_view : List (RcStr Global × RcStr Global) → CelEntries
 pairs_view [] = no_entries
 pairs_view (p ∷ ps) = entry (text_key (text_view p.0)) (text (text_view p.1)) (pairs_view ps)
 
--- one level of a map, with each value inside already seen
+-- one level of a map, whose values are already translated
 abbrev pub map_step : Map-F CelEntries CelValue → CelEntries
 map_step (Map-F.Entries es) = entries_of es.value.items
 map_step (Map-F.Texts ps) = pairs_view ps.value.items
 
--- one level of a value, with each value inside already seen
+-- one level of a value, whose inner values are already translated
 abbrev pub value_step : Value-F CelEntries CelValue → CelValue
 value_step (Value-F.Bool b) = bool b
 value_step (Value-F.Int i) = int i
@@ -62,11 +62,11 @@ value_step (Value-F.Map es) = map_of es
 abbrev pub value_view : Value → CelValue
 value_view = fold-Value CelEntries CelValue map_step value_step
 
--- the same of each of a list
+-- the values that `Value`s mean, in order
 abbrev pub values_view : List Value → CelValues
 values_view vs = items_of (map value_view vs)
 
--- the same of entries
+-- the entries that keys with `Value`s mean, in order
 abbrev pub entries_view : List (Key × Value) → CelEntries
 entries_view es = entries_of (map (λ e. (e.0, value_view e.1)) es)
 

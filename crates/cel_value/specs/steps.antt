@@ -1,2 +1,2 @@
--- Facts that the language asks of a type with `==`: no promise cites them.
+-- Facts that the language requires of a type with `==`. No public contract cites them.
 pub mod EqualityLaws

@@ -47,7 +47,7 @@ impl CelType {
         }
     }
 
-    /// The type as that of a map's keys; `None` where no key has it.
+    /// The type of keys that this type is; `None` if no key has it.
     pub fn key_type(&self) -> Option<KeyType>
         ensures { result ≡ key_type_of (type_view self.now) }
     {

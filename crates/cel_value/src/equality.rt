@@ -12,7 +12,7 @@ ghost use Rattle.cel_value.specs.View.{entries_view, key_view, map_view, pairs_v
 use crate::value::{Key, Map, Value};
 use std::rc::RcStr;
 
-/// Whether the texts have the same code points: they are compared by their bytes.
+/// Whether the texts have the same code points; compares their bytes.
 pub fn same_texts(left: &RcStr, right: &RcStr) -> bool
     ensures { result ≡ pointwise nat_eq (text_view left.now) (text_view right.now) }
 {
@@ -49,7 +49,7 @@ fn same_values(left: &Value, right: &Value) -> bool
     }
 }
 
-// Whether there are as many, each the same as the one at its place.
+// Whether both have as many items, each the same as the one at its place.
 #[cycle(same)]
 fn same_items(left: &[Value], right: &[Value]) -> bool
     ensures { result ≡ values_eq (values_view left.now) (values_view right.now) }

@@ -15,11 +15,11 @@ pub enum CelError {
     ZeroDivisor,
     /// A map does not have the key.
     NoKey,
-    /// A list is not as long as the index.
+    /// The list has no item at the index.
     Index,
     /// The request does not have the attribute.
     MissingAttribute,
-    /// A map literal has a key twice.
+    /// A map literal repeats a key.
     RepeatedKey,
 }
 

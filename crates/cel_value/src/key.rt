@@ -1,4 +1,4 @@
-//! Keys of maps: the order by which a map is walked, and keys that are lent.
+//! Keys of maps: their order, and keys that are lent for a look-up.
 
 ghost use Rattle.std.specs.Prelude.{◌≡◌, option_map};
 ghost use Rattle.cel_value.specs.Keys.{key_cmp, key_of_value};
@@ -13,7 +13,7 @@ use crate::value::{Key, Value};
 use std::cmp::Ordering;
 use std::rc::RcStr;
 
-/// A key that is lent, to look for.
+/// A lent key, for a look-up.
 #[derive(Clone, Copy)]
 pub enum LentKey<'a> {
     Bool(bool),
@@ -37,7 +37,7 @@ impl Key {
 }
 
 impl Value {
-    /// The value as a key, none where it is bytes, a list or a map.
+    /// The value as a lent key; none if it is bytes, a list or a map.
     pub fn as_key(&self) -> Option<LentKey<'_>>
         ensures { option_map lent_view result ≡ key_of_value (value_view self.now) }
     {
@@ -50,7 +50,7 @@ impl Value {
         }
     }
 
-    /// The value as a key of its own, none where it is bytes, a list or a map.
+    /// The value as a key; none if it is bytes, a list or a map.
     pub fn into_key(self) -> Option<Key>
         ensures { option_map key_view result ≡ key_of_value (value_view self) }
     {
@@ -64,7 +64,7 @@ impl Value {
     }
 }
 
-/// How the keys stand: bools, ints, uints, texts; false before true, texts by code point.
+/// The order of the keys: bools, ints, uints, texts; false before true, texts by code point.
 pub(crate) fn compare_keys(left: LentKey<'_>, right: LentKey<'_>) -> Ordering
     ensures { result ≡ key_cmp (lent_view left.entry) (lent_view right.entry) }
 {
@@ -82,7 +82,7 @@ pub(crate) fn compare_keys(left: LentKey<'_>, right: LentKey<'_>) -> Ordering
     }
 }
 
-/// How the texts stand by code point: they are compared by their bytes.
+/// The order of the texts by code point; compares their bytes.
 pub fn compare_texts(left: &RcStr, right: &RcStr) -> Ordering
     ensures { result ≡ slice_cmp nat_cmp (text_view left.now) (text_view right.now) }
 {

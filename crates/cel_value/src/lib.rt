@@ -1,4 +1,4 @@
-//! Values and types of CEL: what they stand for, their order and equality, their lengths and masses.
+//! Values and types of CEL: their meaning, order, equality, lengths and masses.
 #![tactic(auto)]
 
 mod cel_type;

@@ -1,4 +1,4 @@
-//! Maps: look-up, walking, and how they are made entry by entry.
+//! Maps: look-up, access by index, and insertion.
 
 ghost use Rattle.std.specs.Prelude.{◌≡◌, ◌≢◌, IfOk, IsTrue, MatchBool, None, OnErr, option_map, is_some};
 ghost use Rattle.cel_value.specs.Items.{item_at, keys_of};
@@ -24,7 +24,7 @@ impl Map {
         }
     }
 
-    /// Whether each key is below the next, as `get` and `contains_key` need it.
+    /// Whether each key is below the next, which `get` and `contains_key` require.
     pub fn rises(&self) -> bool
         ensures { result ≡ is_ascending (map_view self.now) }
     {
@@ -63,7 +63,7 @@ impl Map {
         }
     }
 
-    /// The key at an index by ascending order, as a value; none past the end.
+    /// The key at an index in ascending order, as a value; none past the end.
     pub fn key_at(&self, index: usize) -> Result<Option<Value>, AllocError>
         ensures { IfOk result (λ found.
             option_map value_view found ≡ item_at (keys_of (map_view self.now)) index) }
@@ -131,7 +131,7 @@ fn find_text<'a>(pairs: &'a [(RcStr, RcStr)], key: LentKey<'_>) -> Option<&'a Rc
     }
 }
 
-/// The text that stands with this one, found by binary search.
+/// The text that is paired with this name, found by binary search.
 pub(crate) fn find_pair<'a>(pairs: &'a [(RcStr, RcStr)], name: &RcStr) -> Option<&'a RcStr>
     requires { IsAscending (pairs_view pairs.now) }
     ensures { option_map (λ t. text (text_view t.now)) result
@@ -163,7 +163,8 @@ fn pair_key(pairs: &[(RcStr, RcStr)], index: usize) -> Result<Option<Value>, All
     Ok(Some(Value::Text(pairs[index].0.clone()?)))
 }
 
-/// Puts an entry at its place if its key is new; answers whether it is.
+/// Inserts an entry at its place if its key is new; true if it is. If memory runs out, the entries
+/// stay as they were.
 pub fn insert_entry(
     entries: &mut Vec<(Key, Value)>,
     key: Key,

@@ -1,4 +1,4 @@
-//! Lengths and masses of values, by which their handling is charged.
+//! Lengths and masses of values; charges depend on them.
 
 ghost use Rattle.std.specs.Prelude.{◌≡◌, ◌+◌, length};
 ghost use Rattle.cel_value.specs.Masses.{entries_mass, item_count, items_mass, key_mass, left_of, length_of, mass};
@@ -8,7 +8,7 @@ ghost use Rattle.cel_value.specs.View.{entries_view, key_view, map_view, pairs_v
 use crate::value::{Key, Map, Value};
 use std::rc::RcStr;
 
-/// How many UTF-8 bytes a text has.
+/// The number of a text's UTF-8 bytes.
 #[inline(always)]
 pub fn text_length(text: &RcStr) -> u64
     ensures { result ≡ length (utf8_of (text_view text.now)) }
@@ -16,8 +16,8 @@ pub fn text_length(text: &RcStr) -> u64
     text.len() as u64
 }
 
-/// The length of a value: a text's UTF-8 bytes, or how many items or entries there are; a bool, int or
-/// uint has 0.
+/// The length of a value: a text's UTF-8 bytes, or the number of bytes, items or entries; 0 for a
+/// bool, int or uint.
 pub fn length(value: &Value) -> u64
     ensures { result ≡ length_of (value_view value.now) }
 {
@@ -37,14 +37,14 @@ pub fn item_count(items: &[Value]) -> usize
     items.len()
 }
 
-// What is left of a number once the mass of a text is taken from it, if it is enough.
+// The number less the mass of a text; none if it is too small.
 fn spend_text(text: &RcStr, left: u64) -> Option<u64>
     ensures { result ≡ left_of left (1 + length (utf8_of (text_view text.now))) }
 {
     left.checked_sub(1)?.checked_sub(text.len() as u64)
 }
 
-/// What is left of a number once the key's mass is taken from it, if it is enough.
+/// The number less the key's mass; none if it is too small.
 pub(crate) fn spend_key(key: &Key, left: u64) -> Option<u64>
     ensures { result ≡ left_of left (key_mass (key_view key.now)) }
 {
@@ -56,7 +56,7 @@ pub(crate) fn spend_key(key: &Key, left: u64) -> Option<u64>
     }
 }
 
-/// What is left of a number once the value's mass is taken from it, if it is enough.
+/// The number less the value's mass; none if it is too small.
 #[cycle(spend)]
 pub fn spend(value: &Value, left: u64) -> Option<u64>
     ensures { result ≡ left_of left (mass (value_view value.now)) }
@@ -72,7 +72,7 @@ pub fn spend(value: &Value, left: u64) -> Option<u64>
     }
 }
 
-// The same of all items together.
+// The number less the masses of all items; none if it is too small.
 #[cycle(spend)]
 fn spend_items(items: &[Value], left: u64) -> Option<u64>
     ensures { result ≡ left_of left (items_mass (values_view items.now)) }
@@ -84,7 +84,7 @@ fn spend_items(items: &[Value], left: u64) -> Option<u64>
     Some(rest)
 }
 
-// The same of all keys and values of a map together.
+// The number less the masses of all keys and values of a map; none if it is too small.
 #[cycle(spend)]
 fn spend_map(map: &Map, left: u64) -> Option<u64>
     ensures { result ≡ left_of left (entries_mass (map_view map.now)) }

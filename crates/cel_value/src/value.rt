@@ -17,7 +17,8 @@ pub enum Key {
     Text(RcStr),
 }
 
-/// A value (CEL language definition, "Values"); its parts are shared, so that a copy copies no item.
+/// A value (CEL language definition, "Values"). Its parts are shared: a copy of a list or map copies
+/// no item.
 #[derive(Drop)]
 #[cycle(value)]
 pub enum Value {
@@ -36,11 +37,11 @@ pub enum Value {
 pub enum Map {
     /// Keys with values.
     Entries(Rc<Vec<(Key, Value)>>),
-    /// Texts with texts, as the headers of a request are.
+    /// Pairs of texts, such as the headers of a request.
     Texts(Rc<Vec<(RcStr, RcStr)>>),
 }
 
-/// What an expression comes to: a value, or why there is none.
+/// The result of an expression: a value, or an error.
 pub type Answer = Result<Value, CelError>;
 
 impl Key {

@@ -1,4 +1,4 @@
-//! The ways on from an instruction, with the shapes that are due where they end.
+//! The ways from instructions: their targets, and the shapes that arrive there.
 
 ghost use Rattle.std.specs.Prelude.{◌≡◌, ◌<◌, ◌*◌, ◌^◌, Some, [], ◌∷◌, length, IfOk, option_map};
 ghost use Rattle.stack_machine.specs.Instructions.{Jump, instr_view};
@@ -23,7 +23,7 @@ use stack_machine::{Instr, Stack};
 use std::alloc::{AllocError, Global};
 use std::rc::Rc;
 
-/// The ways on from an instruction at a position; none where it does not find what it needs.
+/// The ways from an instruction at a position; none if an operand is missing or of a wrong kind.
 pub(crate) fn ways_of(
     alloc: Global,
     stacks: &mut Stacks,
@@ -79,7 +79,7 @@ pub(crate) fn ways_of(
     }
 }
 
-// The ways on from an operation.
+// The ways from an operation.
 fn operate_ways(
     alloc: Global,
     stacks: &mut Stacks,
@@ -154,7 +154,7 @@ fn three(alloc: Global, first: Due, second: Due, third: Due) -> Result<Stack<Due
 
 // ---- groups of instructions
 
-// To the next position with this slot on top, if there is one.
+// The way to the next position with this slot on top; none without a slot.
 fn leave(
     alloc: Global,
     stacks: &mut Stacks,

@@ -1,9 +1,9 @@
 -- The size and the cost of an elaborated expression, from the limits of requests and the sizes of the
--- locals in scope (this project's measure): the charges of its instructions at the sizes of their
--- operands, in whole numbers without limit. One equation for each kind of node. Both are worked out from
--- the leaves up: a size says how large the value may be, a cost how many steps it may take. A loop's body
--- counts once for each element that its range has room for, each time at the size that what is gathered
--- may have reached by then. Both are asked of well typed expressions alone.
+-- locals in scope (this project's measure). A size bounds the value, a cost bounds the number of steps.
+-- Costs are sums of the instructions' charges at the sizes of their operands, in whole numbers without
+-- limit. There is one equation for each kind of node. A loop's body counts once for each element that its
+-- range has room for, each time at the size that the accumulator may have reached. Both are meant for
+-- well typed expressions only.
 use Rattle.std.specs.Prelude.{ℕ, zero, suc, ◌+◌, ◌*◌, max, List, [], ◌∷◌, length, Option, Some, None}
 use Rattle.attributes.specs.Limits.{LimitsValue}
 use Rattle.attributes.specs.declared.attribute.AttrId.{AttrId}
@@ -20,13 +20,13 @@ use Rattle.cost_bound.specs.Sizes.{Size, Flat, Text, Many, Table, join, least, m
 
 -- ---- sizes
 
--- a constant is as large as it is; none is a list or a map
+-- the size of a constant: exactly its length, or Flat; no constant is a list or a map
 abbrev pub constant_size : CelValue → Size
 constant_size (text cs) = Text (length_of (text cs))
 constant_size (bytes bs) = Text (length_of (bytes bs))
 constant_size _ = Flat
 
--- an attribute is as large as the limits let it be
+-- the size of an attribute: the greatest within the limits
 abbrev pub attribute_size : LimitsValue → AttrId → Size
 attribute_size l AttrId.RequestHeaders = Table l.fields (Text l.name) (Text l.value)
 attribute_size l AttrId.SourcePort = Flat
@@ -43,35 +43,35 @@ attribute_size l AttrId.RequestUseragent = Text l.value
 attribute_size l AttrId.RequestId = Text l.value
 attribute_size l _ = Text l.text
 
--- the size that is known, or the least
+-- the size of a local; Flat if it is not in scope
 abbrev pub known : Option Size → Size
 known None = Flat
 known (Some s) = s
 
--- what a loop's element may be: an item, or a key
+-- the size of a loop's elements: of the range's items or keys
 abbrev pub element_size : Size → Size
 element_size (Many n e) = e
 element_size (Table n k v) = k
 element_size _ = Flat
 
--- what an index or a Select may give: an item, or a map's value
+-- the size of the answer of an index or a Select: of an item, or of a map's value
 abbrev pub value_size : Size → Size
 value_size (Many n e) = e
 value_size (Table n k v) = v
 value_size _ = Flat
 
--- the same with another number of bytes, items or entries
+-- a size with another number of bytes, items or entries
 abbrev pub resized : ℕ → Size → Size
 resized n Flat = Flat
 resized n (Text m) = Text n
 resized n (Many m e) = Many n e
 resized n (Table m k v) = Table n k v
 
--- one after the other: both lengths together
+-- the size of two texts, bytes or lists joined: both lengths are added
 abbrev pub concat_size : Size → Size → Size
 concat_size s t = resized (most_of s + most_of t) (join s t)
 
--- what a call may answer, by the sizes of its operands
+-- the size of a call's answer, by the sizes of its operands
 abbrev pub call_size : Overload → List Size → Size
 call_size overloads.Conditional (c ∷ a ∷ b ∷ []) = join a b
 call_size (overloads.Operate operations.Concat) (s ∷ t ∷ []) = concat_size s t
@@ -79,40 +79,42 @@ call_size (overloads.Operate operations.ListIndex) (s ∷ t ∷ []) = value_size
 call_size (overloads.Operate operations.MapIndex) (s ∷ t ∷ []) = value_size s
 call_size _ _ = Flat
 
--- all of these joined
+-- all these sizes joined
 abbrev pub join_all : List Size → Size
 join_all [] = Flat
 join_all (s ∷ ss) = join s (join_all ss)
 
--- of keys and values in turn, the keys
+-- the keys' sizes, among those of keys and values in turn
 abbrev pub keys_of : List Size → List Size
 keys_of [] = []
 keys_of (k ∷ []) = k ∷ []
 keys_of (k ∷ v ∷ ss) = k ∷ keys_of ss
 
--- of keys and values in turn, the values
+-- the values' sizes, among those of keys and values in turn
 abbrev pub values_of : List Size → List Size
 values_of [] = []
 values_of (k ∷ []) = []
 values_of (k ∷ v ∷ ss) = v ∷ values_of ss
 
--- a list literal has as many items as it is written with; an empty one has the least size of its type
+-- the size of a list literal: its number of items, and their sizes joined. If it is empty, the least of
+-- its type
 abbrev pub list_size : ValueType → List Size → Size
 list_size t [] = least t
 list_size t (s ∷ ss) = Many (length (s ∷ ss)) (join_all (s ∷ ss))
 
--- a map literal likewise
+-- the size of a map literal: its number of entries, and the sizes of keys and of values joined. If it is
+-- empty, the least of its type
 abbrev pub map_size : ValueType → List Size → Size
 map_size t [] = least t
 map_size t (s ∷ ss) = Table (length (keys_of (s ∷ ss))) (join_all (keys_of (s ∷ ss))) (join_all (values_of (s ∷ ss)))
 
--- what is gathered after so many turns: each turn joins what it was with what the step makes of it
+-- the accumulator's size after so many turns; each turn joins the size before it and the step's
 abbrev pub grown : (next : Size → Size) → ℕ → Size → Size
 grown next zero s = s
 grown next (suc n) s = grown next n (join s (next s))
 
 abbrev mutual
-  -- how large what an expression comes to may be
+  -- the size of an expression's answer
   pub size_of : TypedTree → LimitsValue → List Size → Size
   size_of (typed_constant t v) l sizes = constant_size v
   size_of (typed_local t outside) l sizes = known (local_at outside sizes)
@@ -133,12 +135,12 @@ abbrev mutual
 
 -- ---- costs
 
--- all of them together
+-- the sum of costs
 abbrev pub total : List ℕ → ℕ
 total [] = 0
 total (n ∷ ns) = n + total ns
 
--- what counting takes: the length of a text or of bytes
+-- the length of a text or bytes, which `size` counts; 0 for other types
 abbrev pub counted_cost : ValueType → Size → ℕ
 counted_cost text_type s = most_of s
 counted_cost bytes_type s = most_of s
@@ -155,33 +157,35 @@ charge_at (overloads.Operate operations.InList) ts (v ∷ s ∷ []) = 1 + (mass_
 charge_at (overloads.Operate operations.Size) (t ∷ []) (s ∷ []) = 1 + counted_cost t s
 charge_at _ ts sizes = 1
 
--- what a call costs: its operands, and its instruction or jumps; of a conditional's branches one runs
+-- the cost of a call: its operands, and its instruction or jumps; of a conditional's branches the greater
+-- cost counts
 abbrev pub call_cost : Overload → List ValueType → (costs : List ℕ) → List Size → ℕ
 call_cost (overloads.Operate operations.And) ts (a ∷ b ∷ []) sizes = a + 1 + b + 1
 call_cost (overloads.Operate operations.Or) ts (a ∷ b ∷ []) sizes = a + 1 + b + 1
 call_cost overloads.Conditional ts (c ∷ a ∷ b ∷ []) sizes = c + 1 + max a b + 1
 call_cost o ts costs sizes = total costs + charge_at o ts sizes
 
--- a name in a map of a size
+-- the charge of a look-up of a name in a map of this size
 abbrev pub field_cost : List ℕ → Size → ℕ
 field_cost name s = 1 + (1 + length (utf8_of name)) * most_of s
 
--- the masses of all of these together
+-- the sum of the masses
 abbrev pub masses : List Size → ℕ
 masses [] = 0
 masses (s ∷ ss) = mass_of s + masses ss
 
--- a map literal: the masses of its keys together, times how many entries it has
+-- the charge of a map literal's instruction: 1, and the sum of its keys' masses times its number of
+-- entries
 abbrev pub map_cost : List Size → ℕ
 map_cost sizes = 1 + masses (keys_of sizes) * length (keys_of sizes)
 
--- so many turns, each by what is gathered before it
+-- the cost of so many turns, each at the accumulator's size before it
 abbrev pub turns_cost : (next : Size → Size) → (turn : Size → ℕ) → ℕ → Size → ℕ
 turns_cost next turn zero s = 0
 turns_cost next turn (suc n) s = turn s + turns_cost next turn n (join s (next s))
 
 abbrev mutual
-  -- how many steps an expression takes at most
+  -- the number of steps that an expression takes at most
   pub cost_of : TypedTree → LimitsValue → List Size → ℕ
   cost_of (typed_constant t v) l sizes = 1
   cost_of (typed_local t outside) l sizes = 1

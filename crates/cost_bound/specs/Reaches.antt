@@ -1,8 +1,8 @@
--- Which parts of an expression its evaluation reaches, with what the locals in scope come to there and
--- with the sizes that these locals are measured by: CEL language definition, "Evaluation" and "Macros"
--- (a macro is a comprehension). Parts that evaluation may pass over count as well: each operand and
--- branch whatever the others come to, an initial value, a loop's step, later turns and result whatever
--- its condition came to. What holds of all these holds of those that it looks at.
+-- The parts of an expression that its evaluation reaches: CEL language definition, "Evaluation" and
+-- "Macros" (a macro is a comprehension). Each has the answers of the locals in scope there, and the
+-- sizes by which these locals are measured. Parts that evaluation may skip are included: all operands
+-- and branches, and an initial value. A loop's step, later turns and result are included whatever its
+-- condition is. What is true of all these parts is true of those that are evaluated.
 use Rattle.std.specs.Prelude.{ℕ, suc, ◌≡◌, ◌⊎◌, List, [], ◌∷◌, Some}
 use Rattle.attributes.specs.Limits.{LimitsValue}
 use Rattle.attributes.specs.Request.{RequestValue}
@@ -19,7 +19,7 @@ abbrev pub IsAmong : TypedTree → TypedTrees → Type 0
 IsAmong e no_typed = ⊥
 IsAmong e (typed d es) = (e ≡ d) ⊎ IsAmong e es
 
--- the parts of an expression that have its locals and no others
+-- the parts of an expression that have the same locals in scope
 abbrev pub parts : TypedTree → TypedTrees
 parts (typed_constant t v) = no_typed
 parts (typed_local t outside) = no_typed
@@ -31,27 +31,28 @@ parts (typed_list t elements) = elements
 parts (typed_map t pairs) = pairs
 parts (typed_loop t range init condition step result) = typed range (typed init no_typed)
 
--- so many turns of a loop leave these of its elements and have gathered this
+-- after so many turns of a loop, these elements are left, and this is the accumulator
 pub data Gathers (range init step : TypedTree) (r : RequestValue) (ls : List CelAnswer)
     : (turns : ℕ) → (left : CelValues) → (gathered : CelAnswer) → Type 0 where
-  -- before the first: all elements of the range, and the initial value
+  -- before the first turn: all elements of the range, and the initial value
   none : (v : CelValue) (elements : CelValues) (a : CelAnswer)
       → typed_answer range r ls ≡ Some (value v) → elements_of v ≡ Some elements
       → typed_answer init r ls ≡ Some a → Gathers range init step r ls 0 elements a
-  -- one more, whatever its condition came to: the next element is gone, and the step's answer gathered
+  -- one more turn, whatever its condition is: it takes the next element, and the step's answer is the
+  -- accumulator
   more : (k : ℕ) (v : CelValue) (left : CelValues) (a b : CelAnswer)
       → Gathers range init step r ls k (item v left) a
       → typed_answer step r (value v ∷ a ∷ ls) ≡ Some b
       → Gathers range init step r ls (suc k) left b
 
--- the size by which what so many turns have gathered is measured
+-- the size by which the accumulator is measured after so many turns
 abbrev pub gathered_size : (range init step : TypedTree) → LimitsValue → List Size → (turns : ℕ) → Size
 gathered_size range init step l sizes k =
     grown (λ s. size_of step l (element_size (size_of range l sizes) ∷ s ∷ sizes)) k
     (size_of init l sizes)
 
--- from an expression outside of which are no locals, evaluation comes to this part, with locals that
--- come to these answers and are measured by these sizes, the innermost first
+-- the evaluation of an expression, which has no locals outside, reaches this part. The locals in scope
+-- there have these answers, and are measured by these sizes, the innermost first
 pub data Reaches (e : TypedTree) (r : RequestValue) (l : LimitsValue)
     : (part : TypedTree) → (locals : List CelAnswer) → (sizes : List Size) → Type 0 where
   -- the expression itself
@@ -59,7 +60,7 @@ pub data Reaches (e : TypedTree) (r : RequestValue) (l : LimitsValue)
   -- a part with the same locals
   inside : (d p : TypedTree) (ls : List CelAnswer) (sizes : List Size) → Reaches e r l d ls sizes
       → IsAmong p (parts d) → Reaches e r l p ls sizes
-  -- a turn's condition and step, with the element and with what the turns before it gathered
+  -- the condition and the step of a turn, with the element, and with the accumulator before the turn
   turn : (t : ValueType) (range init condition step result p : TypedTree) (ls : List CelAnswer)
       (sizes : List Size) (k : ℕ) (v : CelValue) (left : CelValues) (a : CelAnswer)
       → Reaches e r l (typed_loop t range init condition step result) ls sizes
@@ -67,8 +68,8 @@ pub data Reaches (e : TypedTree) (r : RequestValue) (l : LimitsValue)
       → IsAmong p (typed condition (typed step no_typed))
       → Reaches e r l p (value v ∷ a ∷ ls)
       (element_size (size_of range l sizes) ∷ gathered_size range init step l sizes k ∷ sizes)
-  -- the result, after any turn, with what is gathered then; it is measured as after all turns that the
-  -- range has room for, also where the loop ends before
+  -- the result, after any number of turns, with the accumulator then. Even if the loop ends early, the
+  -- accumulator is measured as after all turns that the range has room for
   ended : (t : ValueType) (range init condition step result : TypedTree) (ls : List CelAnswer)
       (sizes : List Size) (k : ℕ) (left : CelValues) (a : CelAnswer)
       → Reaches e r l (typed_loop t range init condition step result) ls sizes

@@ -1,6 +1,6 @@
--- Sizes: upper bounds of what a value holds, part by part (this project's measure). A greater kind of
--- size has room for what a smaller one has room for, in the order Flat, Text, Many, Table; expressions
--- that have a type never bring two kinds together.
+-- Sizes: upper bounds of a value, part by part (this project's measure). In the order Flat, Text,
+-- Many, Table, each kind of size has room for what the kinds before it have room for. Expressions that
+-- have a type never join two kinds.
 use Rattle.std.specs.Prelude.{ℕ, ◌+◌, ◌*◌, ◌≤◌, max, List, [], ◌∷◌, length}
 use Rattle.cel_value.specs.Masses.{entry_count, item_count}
 use Rattle.cel_value.specs.Texts.{utf8_of}
@@ -9,29 +9,30 @@ use Rattle.cel_value.specs.declared.cel_type.KeyType.{KeyType}
 use Rattle.cel_value.specs.declared.cel_type.KeyType.TheVariants as keys
 use Rattle.cel_value.specs.Values.{CelAnswer, CelEntries, CelKey, CelValue, CelValues, bool, bytes, entry, fails, int, item, list, map_of, no_entries, no_items, text, uint, value, bool_key, int_key, uint_key, text_key}
 
--- the size of a bool, int or uint; of a text or bytes of so many bytes at most; of a list of so many
--- items at most, each within a size; of a map of so many entries at most, keys and values likewise
+-- a size: of a bool, int or uint, or of a text or bytes with a greatest length. Of a list, with a
+-- greatest number of items and their size. Of a map, with a greatest number of entries and the sizes
+-- of keys and values
 pub data Size : Type 0 where
   Flat : Size
   Text : (most : ℕ) → Size
   Many : (most : ℕ) → (items : Size) → Size
   Table : (most : ℕ) → (keys values : Size) → Size
 
--- how many bytes, items or entries there may be
+-- the greatest number of bytes, items or entries
 abbrev pub most_of : Size → ℕ
 most_of Flat = 0
 most_of (Text n) = n
 most_of (Many n e) = n
 most_of (Table n k v) = n
 
--- the mass of the greatest value of a size
+-- the mass of the greatest value within a size
 abbrev pub mass_of : Size → ℕ
 mass_of Flat = 1
 mass_of (Text n) = 1 + n
 mass_of (Many n e) = 1 + n * mass_of e
 mass_of (Table n k v) = 1 + n * (mass_of k + mass_of v)
 
--- room for what two sizes have room for: the greater of each part
+-- the join of two sizes, which has room for the values of both: the greater of each part
 abbrev pub join : Size → Size → Size
 join Flat t = t
 join (Text n) Flat = Text n
@@ -64,7 +65,7 @@ least bytes_type = Text 0
 least (list_type t) = Many 0 (least t)
 least (map_type k t) = Table 0 (least_key k) (least t)
 
--- a text or bytes of this length are within a size
+-- a size has room for a text or bytes of this length
 abbrev pub HasRoom : ℕ → Size → Type 0
 HasRoom l Flat = ⊥
 HasRoom l (Text n) = l ≤ n
@@ -105,7 +106,7 @@ abbrev mutual
   EntriesFit no_entries k v = Unit {0}
   EntriesFit (entry j w es) k v = KeyFits j k × Fits w v × EntriesFit es k v
 
--- an answer is within a size; an error is within every one
+-- the answer is within the size; an error is within every size
 abbrev pub Within : CelAnswer → Size → Type 0
 Within (value v) s = Fits v s
 Within (fails e) s = Unit {0}

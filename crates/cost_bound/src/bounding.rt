@@ -21,9 +21,10 @@ use cel_types::Typed;
 use proto_wire::Refusal;
 use std::alloc::Global;
 
-/// How many steps the expression takes at most, of each request within the limits: its cost, where
-/// that is within the budget. What it comes to is within its size then, and so is what each part comes
-/// to, wherever evaluation reaches it. Otherwise it is refused, as `TooCostly` or for want of memory.
+/// The number of steps that the expression takes at most, for each request within the limits. This is
+/// its cost, if that is within the budget; otherwise `TooCostly`, or `Memory`. On success, the answer
+/// of a well typed expression is within its size, and so is the answer of each part that evaluation
+/// reaches.
 pub fn bound(alloc: Global, typed: &Typed<'_>, limits: &Limits, budget: u64) -> Result<u64, Refusal>
     ensures found { IfOk result (λ n.
         (n ≡ cost_of (typed_view typed.now) limits.now []) × (n ≤ budget)) }

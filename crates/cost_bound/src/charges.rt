@@ -1,4 +1,4 @@
-//! What instructions charge, and paying for it.
+//! The charges of instructions, and their payment from a budget.
 
 ghost use Rattle.std.specs.Prelude.{◌≡◌, ◌≢◌, ◌+◌, ◌-◌, ◌*◌, List, [], ◌∷◌, IfErr, IfOk};
 ghost use Rattle.cel_ops.specs.declared.operation.Operation.TheVariants as operations;
@@ -21,8 +21,8 @@ use cel_value::{CelType, text_length};
 use proto_wire::Refusal;
 use std::rc::RcStr;
 
-/// What is left of the budget once 1 and a part are paid. A part that is capped is more than any
-/// budget has besides the 1.
+/// The budget less 1 and less a part; `TooCostly` if it is too small. A capped part is 2^64 - 1: no
+/// budget pays for it and for the 1.
 pub(crate) fn pay(left: u64, part: u64) -> Result<u64, Refusal>
     ensures found { IfOk result (λ rest. left ≡ 1 + part + rest) }
     ensures fault { IfErr result (CostsMore (1 + part) left) }
@@ -33,7 +33,7 @@ pub(crate) fn pay(left: u64, part: u64) -> Result<u64, Refusal>
     Err(Refusal::TooCostly)
 }
 
-/// What is left of the budget once so many turns are paid, each of the same cost.
+/// The budget less so many turns of this cost; `TooCostly` if it is too small.
 pub(crate) fn pay_turns(left: u64, turns: u64, cost: u64) -> Result<u64, Refusal>
     ensures found { IfOk result (λ rest. left ≡ turns * cost + rest) }
     ensures fault { IfErr result (CostsMore (turns * cost) left) }
@@ -49,14 +49,14 @@ pub(crate) fn pay_turns(left: u64, turns: u64, cost: u64) -> Result<u64, Refusal
     }
 }
 
-/// What a name's search in a map of a size charges, less 1.
+/// The charge of a look-up of a name in a map of this size, less 1.
 pub(crate) fn field_part(name: &RcStr, map: &ValueSize) -> u64
     ensures { result ≡ capped (field_cost (text_view name.now) (size_view map.now) - 1) }
 {
     product(sum(1, text_length(name)), map.most())
 }
 
-/// What a call charges besides its operands, less 1. A conditional of three operands is not asked.
+/// The charge of a call without its operands, less 1. Not for a conditional of three operands.
 pub(crate) fn call_part(overload: Overload, operands: &[TypedExpr<'_>], sizes: &[ValueSize]) -> u64
     ensures { result ≡ capped (call_part overload (kinds (exprs_view operands.now)) (sizes_view sizes.now)) }
 {
@@ -69,7 +69,7 @@ pub(crate) fn call_part(overload: Overload, operands: &[TypedExpr<'_>], sizes: &
     }
 }
 
-// What counting takes, of one operand.
+// The charge of `size`, less 1.
 fn counted_part(operands: &[TypedExpr<'_>], sizes: &[ValueSize]) -> u64
     ensures { result ≡ capped (charge_at (overloads.Operate operations.Size) (kinds (exprs_view operands.now))
         (sizes_view sizes.now) - 1) }
@@ -83,7 +83,7 @@ fn counted_part(operands: &[TypedExpr<'_>], sizes: &[ValueSize]) -> u64
     }
 }
 
-// What counting takes: the length of a text or of bytes.
+// The length of a text or bytes, which `size` counts; 0 for other types.
 fn counted(operand: &TypedExpr<'_>, size: &ValueSize) -> u64
     ensures { result ≡ capped (counted_cost (kind (expr_view operand.now)) (size_view size.now)) }
 {
@@ -98,7 +98,7 @@ fn counted(operand: &TypedExpr<'_>, size: &ValueSize) -> u64
     }
 }
 
-// What a call of two operands charges by their sizes.
+// The charge of a call of two operands, less 1, by their sizes.
 fn pair_part(overload: Overload, first: &ValueSize, second: &ValueSize) -> u64
     requires { overload ≢ overloads.Operate operations.Size }
     ensures { (ts : List ValueType) → result
@@ -110,7 +110,7 @@ fn pair_part(overload: Overload, first: &ValueSize, second: &ValueSize) -> u64
     }
 }
 
-// The same of an operation.
+// The charge of an operation on two operands, less 1, by their sizes.
 fn operation_part(op: Operation, first: &ValueSize, second: &ValueSize) -> u64
     requires { op ≢ operations.Size }
     ensures { (ts : List ValueType) → result

@@ -1,4 +1,5 @@
-//! The sizes of what is known before an expression runs: constants, attributes, types.
+//! The sizes that are known before an expression runs: of constants, of attributes, and the least
+//! of types.
 
 ghost use Rattle.std.specs.Prelude.{◌≡◌, IfOk};
 ghost use Rattle.attributes.specs.Limits.{limit_of};
@@ -15,7 +16,7 @@ use cel_tree::Constant;
 use cel_value::{CelType, KeyType, text_length};
 use std::alloc::{AllocError, Global};
 
-/// A constant is as large as it is.
+/// The size of a constant: exactly its length, or flat.
 pub(crate) fn constant_size(constant: &Constant) -> ValueSize
     ensures { size_view result ≡ constant_size (constant_view constant.now) }
 {
@@ -32,7 +33,7 @@ fn limit_of(limits: &Limits, limit: Limit) -> ValueSize
     ValueSize::Text(limits.get(limit) as u64)
 }
 
-/// An attribute is as large as the limits let it be.
+/// The size of an attribute: the greatest within the limits.
 pub(crate) fn attribute_size(
     alloc: Global,
     limits: &Limits,

@@ -13,8 +13,8 @@ ghost use Rattle.cost_bound.specs.Costs.{cost_of, size_of};
 ghost use Rattle.cost_bound.specs.Reaches.{Reaches};
 ghost use Rattle.cost_bound.specs.Sizes.{AllWithin, Size, Within};
 
-/// What a well typed expression comes to is within its size, of each request within the limits and
-/// with locals of their types within their sizes.
+/// The answer of a well typed expression is within its size. This holds for each request within the
+/// limits, and for locals of their types within their sizes.
 pub fn results_are_within_their_size()
     ensures { (e : TypedTree) (r : RequestValue) (l : LimitsValue) (ks : List ValueType)
         (ls : List CelAnswer) (sizes : List Size) (a : CelAnswer)
@@ -22,8 +22,7 @@ pub fn results_are_within_their_size()
         → typed_answer e r ls ≡ Some a → Within a (size_of e l sizes) }
 {}
 
-/// Each part that evaluation reaches, with the locals that it has there, is well typed in types of
-/// these locals.
+/// Each part that evaluation reaches is well typed, for some types that its locals have there.
 pub fn reached_parts_are_well_typed()
     ensures { (e : TypedTree) (r : RequestValue) (l : LimitsValue) (part : TypedTree)
         (ls : List CelAnswer) (sizes : List Size)
@@ -31,8 +30,8 @@ pub fn reached_parts_are_well_typed()
         → (ks : List ValueType) × IsWellTyped ks part × HaveTypes ls ks }
 {}
 
-/// The locals of each part that evaluation reaches are within their sizes, and the part comes to an answer
-/// within its size at these.
+/// The locals of each part that evaluation reaches are within their sizes. With these locals, the part has
+/// an answer, within its size.
 pub fn reached_parts_are_within_their_size()
     ensures { (e : TypedTree) (r : RequestValue) (l : LimitsValue) (part : TypedTree)
         (ls : List CelAnswer) (sizes : List Size)
@@ -41,7 +40,7 @@ pub fn reached_parts_are_within_their_size()
         × Within a (size_of part l sizes)) }
 {}
 
-/// The cost of each part that evaluation reaches, at these sizes, is part of the cost of the whole.
+/// The cost of each part that evaluation reaches, at these sizes, is at most the cost of the whole.
 pub fn reached_parts_are_paid_for()
     ensures { (e : TypedTree) (r : RequestValue) (l : LimitsValue) (part : TypedTree)
         (ls : List CelAnswer) (sizes : List Size)

@@ -1,4 +1,4 @@
-//! How many steps a condition takes at most.
+//! Bounds the steps that a condition takes.
 #![tactic(auto)]
 
 mod bounding;

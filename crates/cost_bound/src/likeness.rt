@@ -1,4 +1,4 @@
-//! Which expressions measure alike, whatever the limits and the sizes of the locals are.
+//! Which expressions have the same size and cost, for all limits and all sizes of the locals.
 
 ghost use Rattle.std.specs.Prelude.{◌≡◌, ◌<◌, ◌+◌, ℕ, List, IfSome, IsTrue, get_or, if◌then◌else◌, length};
 ghost use Rattle.cel_types.specs.Elaborated.{kinds};
@@ -19,18 +19,19 @@ use cel_tree::Constant;
 use cel_types::TypedExpr;
 use cel_value::{CelType, text_length};
 
-// How many parts of an expression are looked at: half of those that a checked expression may have. Two
-// that differ late are compared for nothing; two that measure alike spare one of them.
+// How many parts of an expression are compared: half of those that a checked expression may have. If two
+// expressions differ late, the comparison gains nothing. If they measure alike, only one is measured.
 const MOST_PARTS: u64 = 1_024;
 
-/// Whether two expressions measure alike. It looks at so many parts alone, and may say no of larger ones.
+/// Whether two expressions measure alike. Compares only so many parts, and may say no for larger
+/// expressions.
 pub(crate) fn measure_alike(left: &TypedExpr<'_>, right: &TypedExpr<'_>) -> bool
     ensures { IsTrue result → MeasureAlike (expr_view left.now) (expr_view right.now) }
 {
     compare(left, right, MOST_PARTS).is_some()
 }
 
-/// Whether the expression at a place measures as the one behind it.
+/// Whether the expression at a place measures like the next one.
 pub(crate) fn is_repeated(exprs: &[TypedExpr<'_>], place: usize) -> bool
     requires { place < length exprs.now }
     ensures { (d : TypedExpr) → IsTrue result → (place + 1 < length exprs.now)
@@ -39,7 +40,7 @@ pub(crate) fn is_repeated(exprs: &[TypedExpr<'_>], place: usize) -> bool
     place + 1 < exprs.len() && measure_alike(&exprs[place], &exprs[place + 1])
 }
 
-// How many parts more may be looked at, where they measure alike.
+// How many more parts may be compared; none if the expressions differ, or have too many parts.
 #[cycle(likeness)]
 fn compare(left: &TypedExpr<'_>, right: &TypedExpr<'_>, parts: u64) -> Option<u64>
     ensures { IfSome result (λ rest. MeasureAlike (expr_view left.now) (expr_view right.now)) }
@@ -113,7 +114,7 @@ fn compare(left: &TypedExpr<'_>, right: &TypedExpr<'_>, parts: u64) -> Option<u6
     }
 }
 
-// The same of expressions one after the other.
+// The same for expressions, in order.
 #[cycle(likeness)]
 fn compare_each(left: &[TypedExpr<'_>], right: &[TypedExpr<'_>], parts: u64) -> Option<u64>
     ensures { IfSome result (λ rest. EachAlike (exprs_view left.now) (exprs_view right.now)) }
@@ -130,7 +131,7 @@ fn compare_each(left: &[TypedExpr<'_>], right: &[TypedExpr<'_>], parts: u64) -> 
     Some(rest)
 }
 
-// Whether two constants have one size.
+// Whether two constants have the same size.
 fn are_as_large(value: &Constant, other: &Constant) -> bool
     ensures { IsTrue result → constant_size (constant_view value.now) ≡ constant_size (constant_view other.now) }
 {
@@ -142,8 +143,8 @@ fn are_as_large(value: &Constant, other: &Constant) -> bool
     }
 }
 
-// Whether two calls do the same, and charge alike where their operands' sizes are the same. Counting
-// alone asks for types.
+// Whether two calls have the same overload, and the same charge for operands of the same sizes. Only
+// `size` depends on types.
 fn charge_alike(
     overload: Overload,
     other: Overload,
@@ -167,7 +168,7 @@ fn charge_alike(
     }
 }
 
-// Whether counting takes as long as the value is.
+// Whether the charge of `size` grows with the value's length.
 fn is_counted(cel_type: &CelType) -> bool
     ensures { (s : Size) → counted_cost (type_view cel_type.now) s ≡ (if result then most_of s else 0) }
 {

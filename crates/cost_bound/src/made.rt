@@ -1,4 +1,4 @@
-//! The sizes of what calls and literals make, by the sizes of their operands.
+//! The sizes of the answers of calls and literals, by the sizes of their operands.
 
 ghost use Rattle.std.specs.Prelude.{◌≡◌, ◌<◌, ◌+◌, ◌-◌, ◌^◌, List, [], ◌∷◌, IfOk, length};
 ghost use Rattle.cel_overload.specs.declared.overload.Overload.TheVariants.{Operate};
@@ -15,7 +15,7 @@ use cel_overload::Overload;
 use cel_value::CelType;
 use std::alloc::{AllocError, Global};
 
-/// What a call may answer. Its charge has been paid, so lengths that it adds up are within 64 bits.
+/// The size of a call's answer. Its charge has been paid, so the sum of two lengths fits 64 bits.
 pub(crate) fn call_size(
     alloc: Global,
     overload: Overload,
@@ -38,7 +38,7 @@ pub(crate) fn call_size(
     }
 }
 
-// What an operation on two may answer.
+// The size of the answer of an operation on two operands.
 fn pair_size(
     alloc: Global,
     op: Operation,
@@ -57,7 +57,7 @@ fn pair_size(
     }
 }
 
-// One after the other: both lengths together.
+// The size of two texts, bytes or lists joined: both lengths are added.
 fn concat_size(
     alloc: Global,
     first: &ValueSize,
@@ -71,7 +71,8 @@ fn concat_size(
     Ok(joined.resized(sum(first.most(), second.most())))
 }
 
-/// A list literal has as many items as it is written with.
+/// The size of a list literal of so many items, whose sizes are joined; if it is empty, the least
+/// of its type.
 pub(crate) fn list_size(
     alloc: Global,
     cel_type: &CelType,
@@ -88,7 +89,8 @@ pub(crate) fn list_size(
     many(alloc, count, joined)
 }
 
-/// A map literal likewise; keys and values stand in turn.
+/// The size of a map literal, by the sizes of its keys and values in turn; if it is empty, the
+/// least of its type.
 pub(crate) fn map_size(
     alloc: Global,
     cel_type: &CelType,
@@ -104,15 +106,15 @@ pub(crate) fn map_size(
     table(alloc, key_count(sizes), joined.keys, joined.values)
 }
 
-// What every other size joins to.
+// The sizes of keys joined, and those of values.
 #[derive(Drop)]
 struct Joined {
     keys: ValueSize,
     values: ValueSize,
 }
 
-// Keys and values joined, each by themselves. From the last to the first: what was a key is a value
-// of what stands before it.
+// Joins the sizes of keys, and those of values, which are in turn. Goes from the last to the first:
+// with each size, keys and values change roles.
 fn join_turns(alloc: Global, sizes: &[ValueSize]) -> Result<Joined, AllocError>
     ensures { IfOk result (λ joined.
         (size_view joined.keys ≡ join_all (keys_of (sizes_view sizes.now)))
@@ -137,14 +139,15 @@ fn key_count(sizes: &[ValueSize]) -> u64
     count / 2 + count % 2
 }
 
-/// What a map literal charges besides its parts, less 1: its keys' masses, times their number.
+/// The charge of a map literal's instruction, less 1: the sum of its keys' masses times their
+/// number.
 pub(crate) fn map_part(sizes: &[ValueSize]) -> u64
     ensures { result ≡ capped (map_cost (sizes_view sizes.now) - 1) }
 {
     product(key_mass(sizes), key_count(sizes))
 }
 
-// From the last to the first, as sizes are joined.
+// The sum of the keys' masses; goes from the last to the first, as `join_turns` does.
 fn key_mass(sizes: &[ValueSize]) -> u64
     ensures { result ≡ capped (masses (keys_of (sizes_view sizes.now))) }
 {

@@ -1,4 +1,4 @@
-//! Measuring expressions: how large what they come to may be, and what they cost.
+//! Measures expressions: the size of the answer, and the cost.
 
 ghost use Rattle.std.specs.Prelude.{◌≡◌, ◌+◌, ◌*◌, ◌↔◌, ◌∷◌, ℕ, IfErr, IfOk, IsTrue, length};
 ghost use Rattle.proto_wire.specs.Refusal.{MemoryOr};
@@ -33,14 +33,14 @@ use proto_wire::Refusal;
 use std::alloc::Global;
 use std::rc::RcStr;
 
-// What expressions one after the other come to, and what is left once all are paid.
+// The sizes of expressions, in order, and the budget left after all.
 #[derive(Drop)]
 struct MeasuredEach {
     sizes: Vec<ValueSize>,
     left: u64,
 }
 
-/// Measures an expression, with the sizes of the locals in scope and with what is known of it.
+/// Measures an expression, given the sizes of the locals in scope, and its memo.
 #[cycle(measure)]
 pub(crate) fn measure(
     alloc: Global,
@@ -123,7 +123,7 @@ pub(crate) fn measure(
     }
 }
 
-// A name looked up in a map: the map's size.
+// A look-up of a name in a map; gives the map's size.
 #[cycle(measure)]
 fn measure_field(
     alloc: Global,
@@ -154,7 +154,7 @@ fn measure_field(
     })
 }
 
-// Expressions one after the other, with what is known of each.
+// Expressions in order, with their memos.
 #[cycle(measure)]
 fn measure_each(
     alloc: Global,
@@ -184,8 +184,8 @@ fn measure_each(
     Ok(MeasuredEach { sizes, left: rest })
 }
 
-// The items of a list literal: their sizes joined. From the last to the first; those that measure as
-// the one behind them are not measured again.
+// The items of a list literal, with their sizes joined. Goes from the last to the first; an item that
+// measures like the next one is not measured again.
 #[cycle(measure)]
 fn measure_list(
     alloc: Global,
@@ -228,7 +228,7 @@ fn measure_list(
     })
 }
 
-// One item more, before the others. Where it measures as the first of these, that is known.
+// One more item, before the others. If it measures like the first of these, its size and cost are known.
 #[cycle(measure)]
 fn measure_item(
     alloc: Global,
@@ -267,7 +267,7 @@ fn measure_item(
     })
 }
 
-// A call; of a conditional's branches one runs.
+// A call; of a conditional's branches the greater cost counts.
 #[cycle(measure)]
 fn measure_call(
     alloc: Global,
@@ -295,14 +295,14 @@ fn measure_call(
     measure_operands(alloc, operands, limits, scope, memo, overload, left)
 }
 
-// Whether of a call's operands one alone of the last two is asked for.
+// Whether the call is a conditional, which evaluates only one of its last two operands.
 fn is_choice(overload: Overload, operands: &[TypedExpr<'_>]) -> bool
     ensures { IsTrue result ↔ ((overload ≡ Conditional) × (length operands.now ≡ 3)) }
 {
     overload == Overload::Conditional && operands.len() == 3
 }
 
-// A call of which each operand is asked for.
+// A call of which each operand is evaluated.
 #[cycle(measure)]
 fn measure_operands(
     alloc: Global,
@@ -334,7 +334,7 @@ fn measure_operands(
     })
 }
 
-// The same of two operands; their sizes take no memory.
+// A call of two operands; needs no memory for their sizes.
 #[cycle(measure)]
 fn measure_pair(
     alloc: Global,
@@ -416,9 +416,9 @@ fn measure_conditional(
     }
 }
 
-// A comprehension: the range, the turns over its elements, and the result. Before the turns it is
-// remembered what they all measure alike. That is paid in the first turn at the latest; where there is
-// none, nothing is left for it.
+// A comprehension: the range, the turns over its elements, and the result. Before the turns, it
+// remembers what all turns measure alike. This takes no more time than the first turn's own measuring;
+// if there is no turn, it has no budget.
 #[cycle(measure)]
 fn measure_loop(
     alloc: Global,
@@ -484,7 +484,7 @@ fn measure_loop(
     measure(alloc, &parts.result, limits, &inner, part(memo, 4), closed)
 }
 
-// So many turns, one after the other, until what is gathered grows no more: then the others cost as
+// So many turns, in order, until the accumulator's size stays the same: then each of the others costs as
 // much as the last one.
 #[cycle(measure)]
 fn measure_turns(
@@ -538,7 +538,7 @@ fn measure_turns(
     })
 }
 
-// One turn, and what is gathered after it.
+// One turn, and the accumulator's size after it.
 #[cycle(measure)]
 fn measure_turn(
     alloc: Global,
@@ -584,11 +584,12 @@ fn measure_turn(
     })
 }
 
-// What a loop with so many locals outside of it remembers of an expression inside of it: the size and
-// the cost of each loop there that names no local which a turn changes. These have any sizes in the
-// scope. Measured is what the first turn measures as well, in the same order, so it takes no more time.
-// No budget there is greater than here. A loop that costs more is no fault yet, since a turn may want of
-// memory before; but where the turn comes to it, it is refused at once. Nothing more is remembered then.
+// The memo of an expression inside a loop with `around` locals outside. It has the size and the cost of
+// each inner loop that names no local which a turn changes. Such changed locals may have any sizes in
+// the scope. The first turn would measure the same inner loops, in the same order and with no greater
+// budget, so this takes no more time. An inner loop above the budget is not refused here, since a turn
+// may run out of memory before it. But its memo refuses it as soon as a turn reaches it. Nothing more is
+// remembered after that.
 #[cycle(measure)]
 fn remember(
     alloc: Global,
@@ -662,8 +663,8 @@ fn remember(
     }
 }
 
-// The same of expressions one after the other. Of a choice's last two parts each has the budget that
-// the first one leaves.
+// The same for expressions, in order. For a choice, each of the last two parts has the budget that the
+// first part leaves.
 #[cycle(measure)]
 fn remember_each(
     alloc: Global,
@@ -699,7 +700,7 @@ fn remember_each(
     })
 }
 
-// The same of a loop that a turn changes. Its condition and its step are measured in a turn only where
+// The same for a loop with locals that a turn changes. Its condition and its step have a budget only if
 // its range has an item.
 #[cycle(measure)]
 fn remember_loop(

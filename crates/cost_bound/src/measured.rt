@@ -1,4 +1,4 @@
-//! What expressions measure, and what is known of that beforehand.
+//! The results of measuring expressions, and their use as memos.
 
 ghost use Rattle.std.specs.Prelude.{◌≡◌, ◌+◌, ℕ, IfErr, IfOk, IfSome};
 ghost use Rattle.proto_wire.specs.Refusal.{MemoryOr};
@@ -12,15 +12,15 @@ use crate::memo::Memo;
 use crate::size::ValueSize;
 use proto_wire::Refusal;
 
-/// The size of what an expression comes to, and what is left of the budget once it is paid.
+/// The size of an expression's answer, and the budget left after its cost.
 #[derive(Drop)]
 pub(crate) struct Measured {
     pub(crate) size: ValueSize,
     pub(crate) left: u64,
 }
 
-/// What the items of a list from one on come to, joined; what that one costs; and what is left once all
-/// are paid.
+/// The items of a list literal from one of them on: their sizes joined, the cost of that one, and the
+/// budget left after all.
 #[derive(Drop)]
 pub(crate) struct MeasuredItems {
     pub(crate) size: ValueSize,
@@ -28,7 +28,8 @@ pub(crate) struct MeasuredItems {
     pub(crate) left: u64,
 }
 
-/// What is known of an expression, where that is all of it. It is paid whole.
+/// The result of an expression, if its memo has the size and the cost; pays the cost. Otherwise
+/// nothing. `TooCostly` if the memo shows that the cost exceeds the budget.
 pub(crate) fn recall(memo: Option<&Memo>, left: u64) -> Result<Option<Measured>, Refusal>
     ensures found { IfOk result (λ o. IfSome o (λ m. (size : Size) (cost : ℕ)
         → Says (known_view memo.entry) size cost

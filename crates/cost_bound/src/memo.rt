@@ -1,4 +1,4 @@
-//! What is known of an expression and of its parts before it is measured.
+//! Memos: what is known of an expression and of its parts before it is measured.
 
 ghost use Rattle.std.specs.Prelude.{◌≡◌, ◌<◌, ◌≤◌, ◌+◌, ℕ, IfOk, IsTrue, length};
 ghost use Rattle.cost_bound.specs.Sizes.{Size};
@@ -7,20 +7,20 @@ ghost use Rattle.cost_bound.specs.steps.Memos.{Says, known_view, memo_at, memo_v
 use crate::size::ValueSize;
 use std::alloc::AllocError;
 
-/// What is known of an expression. Measuring a loop remembers so what no turn changes.
+/// A memo of an expression. Measuring a loop remembers in it what no turn changes.
 #[derive(Drop)]
 pub(crate) enum Memo {
-    /// Nothing.
+    /// Nothing is known.
     Unknown,
-    /// What it measures.
+    /// The size and the cost.
     Known { size: ValueSize, cost: u64 },
-    /// That it costs more than so much.
+    /// The cost exceeds this number.
     Costly { than: u64 },
-    /// What is known of its parts, each at its place. Of those behind the last nothing is known.
+    /// The memos of its parts, each at its place. Nothing is known of parts after the last one.
     Parts(Vec<Memo>),
 }
 
-/// What is known of the part at a place.
+/// The memo of the part at a place.
 pub(crate) fn part<'s>(memo: Option<&'s Memo>, place: usize) -> Option<&'s Memo>
     ensures { known_view result ≡ part_at place (known_view memo.entry) }
 {
@@ -47,7 +47,7 @@ fn part_of(memo: &Memo, place: usize) -> Option<&Memo>
 }
 
 impl Memo {
-    /// The memo of an expression by those of its parts.
+    /// The memo of an expression, made of its parts' memos.
     pub(crate) fn of_parts(parts: Vec<Memo>) -> Memo
         ensures at { (i : ℕ) → part_at i (memo_view result) ≡ memo_at i (memos_view parts.items) }
         ensures silent { (size : Size) (cost : ℕ) → Says (memo_view result) size cost }
@@ -59,7 +59,8 @@ impl Memo {
     }
 }
 
-/// The memos of parts with one more, of the part at a place behind them. Nothing known takes no room.
+/// Adds the memo of the part at a place, which is after those of the parts before. A memo that knows
+/// nothing takes no room.
 pub(crate) fn with_part(parts: Vec<Memo>, place: usize, memo: Memo) -> Result<Vec<Memo>, AllocError>
     requires { length parts.items ≤ place }
     ensures short { IfOk result (λ all. length all.items ≤ place + 1) }
@@ -75,7 +76,7 @@ pub(crate) fn with_part(parts: Vec<Memo>, place: usize, memo: Memo) -> Result<Ve
     Ok(all)
 }
 
-// The memos of parts up to a place; of those behind nothing is known.
+// Fills the memos up to a place with unknown ones.
 fn padded(parts: Vec<Memo>, place: usize) -> Result<Vec<Memo>, AllocError>
     requires { length parts.items ≤ place }
     ensures full { IfOk result (λ all. length all.items ≡ place) }
@@ -89,7 +90,7 @@ fn padded(parts: Vec<Memo>, place: usize) -> Result<Vec<Memo>, AllocError>
     Ok(all)
 }
 
-// Whether nothing is known.
+// Whether the memo knows nothing.
 fn is_unknown(memo: &Memo) -> bool
     ensures { IsTrue result → memo_view memo.now ≡ nothing_known }
 {

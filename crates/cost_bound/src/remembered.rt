@@ -1,4 +1,4 @@
-//! What a loop remembers of the expressions inside of it.
+//! What a loop remembers of the expressions inside.
 
 ghost use Rattle.std.specs.Prelude.{◌≡◌, ◌+◌, ℕ, IfErr, IfOk};
 ghost use Rattle.proto_wire.specs.Refusal.{MemoryOr};
@@ -12,15 +12,14 @@ use crate::measured::Measured;
 use crate::memo::Memo;
 use proto_wire::Refusal;
 
-/// What a loop remembers of an expression inside of it, and what is left of its budget.
+/// The memo of an expression inside a loop, and the budget left.
 #[derive(Drop)]
 pub(crate) struct Remembered {
     pub(crate) memo: Memo,
     pub(crate) left: u64,
 }
 
-/// What is remembered of a loop that was measured: its size and its cost, or that it costs more than
-/// there was.
+/// The memo of a measured loop: its size and its cost, or that its cost exceeds the budget.
 pub(crate) fn keep_measured(
     measured: Result<Measured, Refusal>,
     left: u64,
@@ -48,7 +47,7 @@ pub(crate) fn keep_measured(
     }
 }
 
-/// All that is left, or nothing.
+/// The whole budget if it is wanted, otherwise 0.
 pub(crate) fn budget_for(wanted: bool, left: u64) -> u64 {
     if wanted {
         return left;
@@ -56,7 +55,7 @@ pub(crate) fn budget_for(wanted: bool, left: u64) -> u64 {
     0
 }
 
-/// What is left for the part at a place: of a choice's last part what was left for the one before.
+/// The budget for the part at a place. The last part of a choice has the same as the part before it.
 pub(crate) fn budget_at(choice: bool, place: usize, before: u64, rest: u64) -> u64 {
     if choice && place == 2 {
         return before;

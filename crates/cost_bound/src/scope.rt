@@ -10,21 +10,21 @@ ghost use Rattle.cost_bound.specs.steps.SizeView.{size_view};
 use crate::size::ValueSize;
 use std::alloc::AllocError;
 
-/// The sizes of the locals in scope, the innermost first. A scope borrows those outside of it.
+/// The sizes of the locals in scope, the innermost first. A scope borrows the scope outside of it.
 #[derive(Clone, Copy)]
 #[cycle(scope)]
 pub(crate) enum Scope<'s> {
     Empty,
     Local {
         size: &'s ValueSize,
-        /// How many locals are outside of it.
+        /// The number of locals outside of it.
         outside: u64,
         outer: &'s Scope<'s>,
     },
 }
 
 impl<'s> Scope<'s> {
-    /// The scope with one local more.
+    /// The scope with one more local.
     pub(crate) fn with(&'s self, size: &'s ValueSize) -> Scope<'s>
         requires { IsCounted (locals_view self.now) }
         ensures counted { IsCounted (locals_view result) }
@@ -37,7 +37,7 @@ impl<'s> Scope<'s> {
         }
     }
 
-    /// How many there are, or the greatest number where that is less.
+    /// The number of locals in scope, but at most 2^64 - 1.
     pub(crate) fn count(&self) -> u64
         requires { IsCounted (locals_view self.now) }
         ensures { result ≡ capped (length (locals_view self.now)) }
@@ -48,7 +48,7 @@ impl<'s> Scope<'s> {
         }
     }
 
-    /// The size of the local that has so many others outside of it.
+    /// The size of the local with so many others outside of it.
     pub(crate) fn find(&self, wanted: u8) -> Result<ValueSize, AllocError>
         requires { IsCounted (locals_view self.now) }
         ensures { IfOk result (λ size. size_view size ≡ known (local_at wanted (scope_view self.now))) }

@@ -1,4 +1,4 @@
-//! Sizes: how large what an expression comes to may be.
+//! Sizes: upper bounds of an expression's answer.
 
 ghost use Rattle.std.specs.Prelude.{◌≡◌, ◌+◌, ◌*◌, ◌↔◌, ℕ, IfOk, IsTrue};
 ghost use Rattle.cost_bound.specs.Costs.{element_size, resized, value_size};
@@ -9,16 +9,17 @@ ghost use Rattle.cost_bound.specs.steps.SizeView.{size_view};
 use std::alloc::{AllocError, Global};
 use std::rc::Rc;
 
-/// How many bytes, items or entries there are at most, and how large they are; its parts are shared.
+/// A size: the greatest number of bytes, items or entries, and the sizes of items, or of keys and
+/// values. Its parts are shared.
 #[derive(Drop)]
 pub(crate) enum ValueSize {
     /// A bool, int or uint.
     Flat,
     /// A text, or bytes.
     Text(u64),
-    /// A list of so many items.
+    /// A list of at most so many items.
     Many(u64, Rc<ValueSize>),
-    /// A map of so many entries: its keys and its values.
+    /// A map of at most so many entries: the sizes of its keys and of its values.
     Table(u64, Rc<ValueSize>, Rc<ValueSize>),
 }
 
@@ -37,7 +38,7 @@ impl ValueSize {
         }
     }
 
-    /// How many bytes, items or entries there may be.
+    /// The greatest number of bytes, items or entries.
     pub(crate) fn most(&self) -> u64
         ensures most { result ≡ most_of (size_view self.now) }
         ensures capped { result ≡ capped (most_of (size_view self.now)) }
@@ -50,7 +51,7 @@ impl ValueSize {
         }
     }
 
-    /// The mass of the greatest value of this size, or the greatest number where that is less.
+    /// The mass of the greatest value within this size, but at most 2^64 - 1.
     pub(crate) fn mass(&self) -> u64
         ensures { result ≡ capped (mass_of (size_view self.now)) }
     {
@@ -64,7 +65,7 @@ impl ValueSize {
         }
     }
 
-    /// What a loop's element may be: an item, or a key.
+    /// The size of a loop's elements: of the range's items or keys.
     pub(crate) fn element(&self) -> Result<ValueSize, AllocError>
         ensures { IfOk result (λ size. size_view size ≡ element_size (size_view self.now)) }
     {
@@ -75,7 +76,7 @@ impl ValueSize {
         }
     }
 
-    /// What an index or a Select may give: an item, or a map's value.
+    /// The size of the answer of an index or a Select: of an item, or of a map's value.
     pub(crate) fn value(&self) -> Result<ValueSize, AllocError>
         ensures { IfOk result (λ size. size_view size ≡ value_size (size_view self.now)) }
     {
@@ -86,7 +87,7 @@ impl ValueSize {
         }
     }
 
-    /// The same with another number of bytes, items or entries.
+    /// The size with another number of bytes, items or entries.
     pub(crate) fn resized(self, most: u64) -> ValueSize
         ensures { size_view result ≡ resized most (size_view self) }
     {
@@ -99,22 +100,22 @@ impl ValueSize {
     }
 }
 
-/// Both together, or the greatest number where that is less.
+/// The sum, but at most 2^64 - 1.
 pub(crate) fn sum(left: u64, right: u64) -> u64
     ensures { (m n : ℕ) → left ≡ capped m → right ≡ capped n → result ≡ capped (m + n) }
 {
     left.saturating_add(right)
 }
 
-/// The one times the other, or the greatest number where that is less.
+/// The product, but at most 2^64 - 1.
 pub(crate) fn product(left: u64, right: u64) -> u64
     ensures { (m n : ℕ) → left ≡ capped m → right ≡ capped n → result ≡ capped (m * n) }
 {
     left.saturating_mul(right)
 }
 
-/// Room for what two sizes have room for: the greater of each part. Where one size has room for both,
-/// it is answered as it is, with the parts that it shares.
+/// The join of two sizes, which has room for the values of both: the greater of each part. If one
+/// size has room for both, the result is a copy of it, which shares its parts.
 #[cycle(join)]
 pub(crate) fn join(
     alloc: Global,
@@ -132,7 +133,7 @@ pub(crate) fn join(
     join_parts(alloc, left, right)
 }
 
-// Whether a size has room for all that another has room for. It may say no of sizes of two kinds.
+// Whether a size has room for all that another has room for. May say no for sizes of two kinds.
 fn covers(size: &ValueSize, other: &ValueSize) -> bool
     ensures before { IsTrue result → join (size_view size.now) (size_view other.now) ≡ size_view size.now }
     ensures behind { IsTrue result → join (size_view other.now) (size_view size.now) ≡ size_view size.now }
@@ -148,7 +149,7 @@ fn covers(size: &ValueSize, other: &ValueSize) -> bool
     }
 }
 
-// The same, part by part.
+// Joins two sizes part by part.
 #[cycle(join)]
 fn join_parts(alloc: Global, left: &ValueSize, right: &ValueSize) -> Result<ValueSize, AllocError>
     ensures { IfOk result (λ size. size_view size ≡ join (size_view left.now) (size_view right.now)) }
@@ -190,7 +191,7 @@ fn join_parts(alloc: Global, left: &ValueSize, right: &ValueSize) -> Result<Valu
     }
 }
 
-// The size of maps of these keys and values, where memory was there for both.
+// The size of maps of these keys and values, if memory sufficed for both.
 fn table_of(
     alloc: Global,
     most: u64,
@@ -217,14 +218,14 @@ fn join_text(most: u64, right: &ValueSize) -> Result<ValueSize, AllocError>
     }
 }
 
-/// The size of lists of at most so many items, each of a size.
+/// The size of lists of at most so many items, of this size each.
 pub(crate) fn many(alloc: Global, most: u64, items: ValueSize) -> Result<ValueSize, AllocError>
     ensures { IfOk result (λ size. size_view size ≡ Many most (size_view items)) }
 {
     Ok(ValueSize::Many(most, Rc::new(alloc, items)?))
 }
 
-/// The size of maps of at most so many entries, keys and values of a size each.
+/// The size of maps of at most so many entries, with keys and values of these sizes.
 pub(crate) fn table(
     alloc: Global,
     most: u64,

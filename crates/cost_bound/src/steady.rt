@@ -9,8 +9,9 @@ ghost use Rattle.cost_bound.specs.steps.Numbers.{capped};
 
 use cel_types::{TypedExpr, TypedLoop};
 
-/// Whether an expression in a scope of so many locals names none that a turn changes, of a loop around
-/// it with so many locals outside: neither what the loop gathers, nor a local of another loop between.
+/// Whether an expression names no local that a turn of a loop around it changes. The expression is in a
+/// scope of `depth` locals, and the loop has `around` locals outside. A turn changes the loop's
+/// accumulator, and the locals of other loops between.
 #[cycle(steady)]
 pub(crate) fn is_steady(expr: &TypedExpr<'_>, around: u64, depth: u64) -> bool
     ensures { (k d : ℕ) → around ≡ capped k → depth ≡ capped d → IsTrue result
@@ -29,7 +30,7 @@ pub(crate) fn is_steady(expr: &TypedExpr<'_>, around: u64, depth: u64) -> bool
     }
 }
 
-// The same of a loop's parts.
+// The same for a loop's parts.
 #[cycle(steady)]
 fn is_steady_loop(parts: &TypedLoop<'_>, around: u64, depth: u64) -> bool
     ensures { (t : ValueType) (k d : ℕ) → around ≡ capped k → depth ≡ capped d → IsTrue result
@@ -42,7 +43,7 @@ fn is_steady_loop(parts: &TypedLoop<'_>, around: u64, depth: u64) -> bool
         && is_steady(&parts.result, around, depth)
 }
 
-// The same of expressions one after the other.
+// The same for expressions, in order.
 #[cycle(steady)]
 fn are_steady(exprs: &[TypedExpr<'_>], around: u64, depth: u64) -> bool
     ensures { (k d : ℕ) → around ≡ capped k → depth ≡ capped d → IsTrue result
@@ -56,8 +57,8 @@ fn are_steady(exprs: &[TypedExpr<'_>], around: u64, depth: u64) -> bool
     true
 }
 
-// Whether no turn changes a local: it is outside of the loop, or its element, or one of the expression's
-// own.
+// Whether no turn changes a local: it is outside of the loop, it is the loop's element, or it is the
+// expression's own.
 fn is_settled(outside: u8, around: u64, depth: u64) -> bool
     ensures { (k d : ℕ) → around ≡ capped k → depth ≡ capped d → IsTrue result
         → IsSettled k d outside }
@@ -69,7 +70,7 @@ fn is_settled(outside: u8, around: u64, depth: u64) -> bool
     local - around == 1 || depth <= local
 }
 
-/// Whether a range has an item whatever the sizes of the locals are.
+/// Whether a range has an item for all sizes of the locals.
 pub(crate) fn has_items(range: &TypedExpr<'_>) -> bool {
     match range {
         TypedExpr::List { elements, .. } => !elements.is_empty(),

@@ -1,4 +1,4 @@
--- How long the body behind a head is (RFC 9112, section 6.3).
+-- The length of the body after a head (RFC 9112, section 6.3).
 use Rattle.std.specs.Prelude.{ℕ, List, [], ◌∷◌, codes, if◌then◌else◌}
 use Rattle.std.specs.Str.{bytes_eq}
 use Rattle.std.specs.Str.Parse.{digits_value}
@@ -6,7 +6,7 @@ use Rattle.attributes.specs.Headers.{Entry}
 use Rattle.http_front.specs.Head.{HeadValue}
 use Rattle.http_front.specs.Rules.{lines_of}
 
--- the number of the first Content-Length, or 0 where there is none
+-- the number of the first Content-Length; 0 if there is none
 abbrev pub body_of_lines : List Entry → ℕ
 body_of_lines [] = 0
 body_of_lines (l ∷ lines) =

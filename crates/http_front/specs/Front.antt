@@ -1,4 +1,4 @@
--- A front: what it keeps of a connection, and what calls on it do.
+-- A front: what it keeps of a connection, and the effects of calls on it.
 use Rattle.std.specs.Prelude.{◌≡◌, ℕ, Option, Some, None, List, [], ◌∷◌, ◌++◌}
 use Rattle.attributes.specs.Conn.{Facts}
 use Rattle.attributes.specs.Limits.{LimitsValue}
@@ -11,39 +11,39 @@ pub record FrontValue : Type 0 where
   pub facts : Facts
   pub kept : Kept
 
--- nothing has come
+-- a front that has received no bytes
 abbrev pub new_front : LimitsValue → Facts → FrontValue
 new_front limits facts = record { limits = limits; facts = facts; kept = reading 0 [] }
 
--- the front with something else kept
+-- the front, with this kept instead
 abbrev pub keeping : FrontValue → Kept → FrontValue
 keeping front kept = record front { kept = kept }
 
--- further bytes come
+-- the front after further bytes
 abbrev pub fed_front : FrontValue → List ℕ → FrontValue
 fed_front front bytes = keeping front (fed front.kept bytes)
 
--- there is no ask yet
+-- the front has no next ask yet
 abbrev pub HasNoAsk : FrontValue → Type 0
 HasNoAsk front = IsAtRest front.limits front.facts front.kept
 
--- the next ask is taken, or there is none yet
+-- the next ask is taken; or there is none yet, and nothing changes
 abbrev pub TakesNext : FrontValue → Option Ask → FrontValue → Type 0
 TakesNext old (Some ask) new =
     Takes old.limits old.facts old.kept ask new.kept × (new ≡ keeping old new.kept)
 TakesNext old None new = HasNoAsk old × (new ≡ old)
 
--- a call: these bytes were fed, or this was the next ask
+-- a call: it feeds these bytes, or takes the next ask, with this result
 pub data Call : Type 0 where
   feeds : List ℕ → Call
   takes : Option Ask → Call
 
--- what the call does
+-- the call changes the front like this
 abbrev pub Steps : FrontValue → Call → FrontValue → Type 0
 Steps old (feeds bytes) new = new ≡ fed_front old bytes
 Steps old (takes answer) new = TakesNext old answer new
 
--- calls one after the other
+-- calls, in order
 abbrev pub Runs : FrontValue → List Call → FrontValue → Type 0
 Runs old [] new = new ≡ old
 Runs old (call ∷ calls) new = (next : FrontValue) × Steps old call next × Runs next calls new

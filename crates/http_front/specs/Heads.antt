@@ -1,4 +1,4 @@
--- What the bytes of a connection ask: heads, each with its body behind it (RFC 9112, sections 2, 6.3 and 9.6).
+-- The asks in the bytes of a connection, which are heads, each with its body (RFC 9112, sections 2, 6.3 and 9.6).
 use Rattle.std.specs.Prelude.{◌≡◌, ℕ, ◌+◌, ◌-◌, ◌<◌, ◌⊎◌, ⊤, Bool, true, false, List, [], ◌∷◌, ◌++◌, length, drop, if◌then◌else◌}
 use Rattle.attributes.specs.Conn.{Facts}
 use Rattle.attributes.specs.Limits.{LimitsValue}
@@ -12,26 +12,26 @@ use Rattle.http_front.specs.Bodies.{body_of}
 use Rattle.http_front.specs.Closing.{closes}
 use Rattle.http_front.specs.Head.{HeadValue}
 
--- how many bytes of a body are still to be passed over, and the bytes that are not handed out yet; or
--- nothing, where the connection closes
+-- what is kept: the number of a body's bytes still to be skipped, and the bytes that were not taken yet. Nothing,
+-- if the connection closes
 pub data Kept : Type 0 where
   reading : ℕ → List ℕ → Kept
   closed : Kept
 
--- further bytes come: those of a body are passed over
+-- what is kept after further bytes; bytes of a body are skipped
 abbrev pub fed : Kept → List ℕ → Kept
 fed (reading skip rest) bytes = reading (skip - length bytes) (rest ++ drop skip bytes)
 fed closed bytes = closed
 
--- what is behind the first n bytes, of which the last may still have to come
+-- what is kept after the first `n` bytes are skipped; some of them may be still to come
 abbrev pub passed : ℕ → List ℕ → Kept
 passed n bytes = reading (n - length bytes) (drop n bytes)
 
--- what is behind the head, which these bytes follow
+-- what is kept after the head, if these bytes follow it
 abbrev pub behind : HeadValue → List ℕ → Kept
 behind h rest = if closes h then closed else passed (body_of h) rest
 
--- the first ask of what is kept, and what is kept behind it; nothing follows a fault
+-- the first ask of what is kept, and what is kept after it; nothing follows a fault
 abbrev pub Takes : LimitsValue → Facts → Kept → Ask → Kept → Type 0
 Takes limits facts (reading skip bytes) (Judge r close) new =
     (skip ≡ 0) × (asks : HeadAsks bytes limits facts r) × (close ≡ closes asks.head)
@@ -40,50 +40,51 @@ Takes limits facts (reading skip bytes) (Fault fault) new =
     (skip ≡ 0) × HasFault bytes limits facts fault × (new ≡ closed)
 Takes limits facts closed ask new = ⊥
 
--- the first asks, in order, and what is kept behind them
+-- the first asks, in order, and what is kept after them
 abbrev pub TakesAll : LimitsValue → Facts → Kept → List Ask → Kept → Type 0
 TakesAll limits facts old [] new = new ≡ old
 TakesAll limits facts old (ask ∷ asks) new =
     (next : Kept) × Takes limits facts old ask next × TakesAll limits facts next asks new
 
--- there is no ask yet: a body has not come whole, or its head has not; nor is one once the connection closes
+-- there is no next ask yet: a body or a head is incomplete. Once the connection closes, there is none at all
 abbrev pub IsAtRest : LimitsValue → Facts → Kept → Type 0
 IsAtRest limits facts (reading skip bytes) = (0 < skip) ⊎ IsUnfinished bytes
 IsAtRest limits facts closed = ⊤
 
--- the connection closes behind what was taken
+-- the connection closes after the asks that were taken
 abbrev pub is_closed : Kept → Bool
 is_closed (reading skip bytes) = false
 is_closed closed = true
 
--- all bytes of a connection ask this, in order, and the last ask closes it or does not
+-- these are all asks of a connection's bytes, in order, and whether the connection closes after the last
 abbrev pub Heads : LimitsValue → Facts → List ℕ → List Ask → Bool → Type 0
 Heads limits facts bytes asks is_done =
     (end : Kept) × TakesAll limits facts (reading 0 bytes) asks end × IsAtRest limits facts end
     × (is_done ≡ is_closed end)
 
--- what is kept has this size, which each ask makes less
+-- a size of what is kept, which each ask decreases
 abbrev pub size_of_kept : Kept → ℕ
 size_of_kept (reading skip bytes) = 1 + length bytes
 size_of_kept closed = 0
 
--- the fault of bytes of which no head can come
+-- the fault of bytes that can become no head
 abbrev pub IsMalformed : HeadFault → Type 0
 IsMalformed fault = (part : HeadPart) × (fault ≡ Malformed part)
 
--- the same request, or a fault each: of several faults it is left open which is named
+-- both ask for the same request, or both are faults; if there are several faults, either may be named
 abbrev pub AgreesWith : Ask → Ask → Type 0
 AgreesWith (Judge r close) (Judge q shut) = (r ≡ q) × (close ≡ shut)
 AgreesWith (Fault fault) (Fault other) = ⊤
 AgreesWith ask other = ⊥
 
--- the last ask, if there is one, is the fault of bytes of which no head can come
+-- there is no ask, or only the fault of bytes that can become no head
 abbrev pub IsLateFault : List Ask → Type 0
 IsLateFault [] = ⊤
 IsLateFault (Fault fault ∷ []) = IsMalformed fault
 IsLateFault asks = ⊥
 
--- the same asks; one list may end with a fault of bytes that end inside a target, which the other still waits for
+-- the asks agree in order. One list may have one more: the fault of bytes that end inside a target, for whose end
+-- the other still waits
 abbrev pub AgreeWith : List Ask → List Ask → Type 0
 AgreeWith [] others = IsLateFault others
 AgreeWith (ask ∷ asks) [] = IsLateFault (ask ∷ asks)

@@ -1,5 +1,5 @@
--- What the bytes of a connection ask, told by its heads in turn: each head, its body and the bytes after it (RFC 9112, sections
--- 2, 6.3 and 9.6). A law says that this is `Heads`.
+-- The asks in the bytes of a connection, head by head (RFC 9112, sections 2, 6.3 and 9.6). A law says that this is
+-- `Heads`.
 use Rattle.std.specs.Prelude.{◌≡◌, ℕ, ◌<◌, ◌⊎◌, Bool, true, false, List, [], ◌∷◌, ◌++◌, length, MatchBool}
 use Rattle.attributes.specs.Conn.{Facts}
 use Rattle.attributes.specs.Limits.{LimitsValue}
@@ -10,9 +10,9 @@ use Rattle.http_front.specs.Asks.{HasFault, HeadAsks, IsUnfinished}
 use Rattle.http_front.specs.Bodies.{body_of}
 use Rattle.http_front.specs.Closing.{closes}
 
--- the bytes ask this, in order, and the last ask closes the connection or does not: they begin with a head that asks, whose
--- body and further asks follow, or a part of its body, or nothing that counts, as it closes; or they have a fault; or no head
--- has come whole
+-- these are the asks of the bytes, in order, and whether the connection closes after the last. The bytes begin with a
+-- head that asks. If the connection closes, that is all; otherwise its body and further asks follow, or only a part of
+-- its body. Or the bytes have a fault, or no head is complete
 abbrev pub AskInTurn : LimitsValue → Facts → List ℕ → List Ask → Bool → Type 0
 AskInTurn limits facts bytes [] is_done = IsUnfinished bytes × (is_done ≡ false)
 AskInTurn limits facts bytes (Fault fault ∷ asks) is_done =
@@ -24,6 +24,6 @@ AskInTurn limits facts bytes (Judge r close ∷ asks) is_done =
     × AskInTurn limits facts rest asks is_done)
     ⊎ ((length first.rest < body_of first.head) × (asks ≡ []) × (is_done ≡ false)))
 
--- the last of the bytes end inside a target
+-- the bytes end inside a target
 abbrev pub EndInTarget : List ℕ → Type 0
 EndInTarget bytes = (front back : List ℕ) × (bytes ≡ front ++ back) × EndsInTarget back

@@ -1,5 +1,5 @@
--- What single steps of the code come to: clauses of private functions cite these, and no promise
--- does.
+-- The results of single steps of the code. Only clauses of private functions cite these
+-- definitions.
 pub mod Asks
 pub mod Elements
 pub mod Parsed

@@ -1,4 +1,4 @@
-//! The bytes of an answer.
+//! Writes answers.
 ghost use Rattle.std.specs.Prelude.{◌≡◌, ◌++◌, [], IfOk, OnOk, codes, decimal, if◌then◌else◌};
 ghost use Rattle.std.specs.String.{string_bytes};
 ghost use Rattle.httparse.specs.Ascii.{crlf_bytes};
@@ -8,18 +8,18 @@ ghost use Rattle.http_front.specs.steps.Rows.{row_view};
 use crate::fault::HeadFault;
 use std::alloc::{AllocError, Global};
 
-/// What is answered.
+/// The case of an answer; it determines status and body.
 #[derive(Clone, Copy, Debug, PartialEq, Eq)]
 pub enum Case {
-    /// The request is let through.
+    /// The request is allowed.
     Allow,
-    /// The request is refused.
+    /// The request is denied.
     Deny,
-    /// A condition ran out of its steps, and the request is refused.
+    /// A condition ran out of steps, so the request is denied.
     Steps,
     /// Some filter has no policy yet.
     Unready,
-    /// Memory ran out in a decision.
+    /// A decision ran out of memory.
     Memory,
     /// The head has this fault.
     Fault(HeadFault),
@@ -28,15 +28,15 @@ pub enum Case {
 /// An answer.
 #[derive(Debug, Drop)]
 pub struct Reply {
-    /// What is answered.
+    /// The case.
     pub case: Case,
     /// For each filter that was tried, in order, the number of the policy that matched.
     pub matches: Vec<Option<usize>>,
     /// The generation of the policies.
     pub generation: u64,
-    /// Whether the connection closes behind the answer.
+    /// Whether the connection closes after the answer.
     pub closes: bool,
-    /// Whether the request's method is HEAD, whose answer has no body (RFC 9110, section 9.3.2).
+    /// Whether the method is HEAD: then the answer has no body (RFC 9110, section 9.3.2).
     pub is_head: bool,
 }
 
@@ -46,7 +46,7 @@ struct Row {
     status: u16,
     phrase: &'static str,
     verdict: &'static str,
-    // whether the matches are told
+    // whether the answer shows the matches
     tells_matches: bool,
     body: &'static str,
 }
@@ -54,7 +54,7 @@ struct Row {
 const DENIED: &str = "RBAC: access denied";
 
 impl Case {
-    // The row of the case.
+    // The row of this case.
     fn row(self) -> Row
         ensures { row_view result ≡ row_of self }
     {
@@ -69,7 +69,7 @@ impl Case {
     }
 }
 
-// The row of a fault.
+// The row of a fault with this status.
 fn fault_row(status: u16) -> Row
     ensures { row_view result ≡ fault_row status }
 {
@@ -111,7 +111,7 @@ impl Row {
         }
     }
 
-    // The bytes of an answer of this row.
+    // The bytes of an answer with this row.
     fn answer(&self, alloc: Global, reply: &Reply) -> Result<Vec<u8>, AllocError>
         ensures { IfOk result (λ bytes.
             bytes.items ≡ answer_by (row_view self.now) (reply_view reply.now)) }
@@ -123,7 +123,7 @@ impl Row {
         Ok(text.into_bytes())
     }
 
-    // The status line, and the fields that each answer has.
+    // The status line, and the fields that every answer has.
     fn lines(&self, alloc: Global, reply: &Reply) -> Result<String, AllocError>
         ensures { IfOk result (λ text. string_bytes text
             ≡ lines_of_row (row_view self.now) reply.now.matches.items reply.now.generation) }
@@ -155,7 +155,7 @@ impl Row {
 }
 
 impl Reply {
-    /// Its bytes.
+    /// The bytes of the answer.
     pub(crate) fn bytes(&self, alloc: Global) -> Result<Vec<u8>, AllocError>
         ensures { IfOk result (λ bytes. bytes.items ≡ answer_of (reply_view self.now)) }
     {
@@ -164,7 +164,7 @@ impl Reply {
     }
 }
 
-// Appends a field line; the name has its colon and a space.
+// Appends a field line; `name` ends with a colon and a space.
 fn push_line(text: &mut String, name: &str, value: &str) -> Result<(), AllocError>
     ensures { OnOk result (string_bytes text.new
         ≡ string_bytes text.old ++ name.now ++ value.now ++ crlf_bytes) }
@@ -175,7 +175,7 @@ fn push_line(text: &mut String, name: &str, value: &str) -> Result<(), AllocErro
     Ok(())
 }
 
-// The field that tells that the connection closes, if it does.
+// The field for a connection that closes; empty if it does not.
 fn closing_text(closes: bool) -> &'static str
     ensures { result.now ≡ (if closes then closing_field else []) }
 {
@@ -185,7 +185,7 @@ fn closing_text(closes: bool) -> &'static str
     ""
 }
 
-// The part of the body that is sent.
+// The body, or nothing if the method was HEAD.
 fn sent_body(body: &'static str, is_head: bool) -> &'static str
     ensures { result.now ≡ (if is_head then [] else body.now) }
 {
@@ -195,7 +195,7 @@ fn sent_body(body: &'static str, is_head: bool) -> &'static str
     body
 }
 
-// The numbers of the matches, where the row tells them.
+// The numbers of the matches, if the row shows them; otherwise a dash.
 fn matches_text(alloc: Global, row: &Row, matches: &[Option<usize>]) -> Result<String, AllocError>
     ensures { IfOk result (λ text.
         string_bytes text ≡ matches_text (row_view row.now) matches.now) }
@@ -206,7 +206,7 @@ fn matches_text(alloc: Global, row: &Row, matches: &[Option<usize>]) -> Result<S
     match_list(alloc, matches)
 }
 
-// The numbers of all matches, with commas between.
+// The numbers of all matches, or dashes, with commas between.
 fn match_list(alloc: Global, matches: &[Option<usize>]) -> Result<String, AllocError>
     ensures { IfOk result (λ text. string_bytes text ≡ match_list matches.now) }
 {

@@ -1,12 +1,12 @@
-//! What the heads of a connection ask.
+//! Asks: the requests or faults in the bytes of a connection.
 use crate::fault::HeadFault;
 use attributes::Request;
 
-/// What a head asks, or bytes that can become none.
+/// The request that a head asks for, or the fault of a head or of bytes that can become no head.
 #[derive(Debug, Drop)]
 pub enum Ask {
-    /// That this request is judged; and whether the connection closes behind the answer.
+    /// The request is to be judged. True if the connection closes after the answer.
     Judge(Request, bool),
-    /// Nothing, since it has this fault. The connection closes.
+    /// There is this fault, and the connection closes.
     Fault(HeadFault),
 }

@@ -1,4 +1,4 @@
-//! Whether the connection closes behind a request (RFC 9112, section 9.6).
+//! Whether the connection closes after a request (RFC 9112, section 9.6).
 ghost use Rattle.std.specs.Prelude.{◌≡◌, All, length, map, reverse};
 ghost use Rattle.std.specs.Iterator.{YieldsFirstRef, item_count};
 ghost use Rattle.std.specs.List.{list_any};
@@ -24,7 +24,7 @@ pub(crate) fn list_close(bytes: &[u8], fields: &[HeaderSpan]) -> bool
     false
 }
 
-/// Whether this is a Connection field that lists it.
+/// Whether this is a Connection field that lists `close`.
 fn is_closing(name: &[u8], value: &[u8]) -> bool
     ensures { result ≡ lists_close (lowered (name.now, value.now)) }
 {

@@ -16,22 +16,22 @@ use attributes::{Conn, Limits};
 use std::alloc::{AllocError, Global};
 use std::marker::Model;
 
-/// Hands out what the heads of a connection ask, however its bytes come (RFC 9112). Bytes that were
-/// handed out are not kept, and those of a body are not where its head was taken before.
+/// Gives the asks in the bytes of a connection, in whatever pieces these arrive (RFC 9112). It does not keep bytes
+/// whose ask was given. It does not keep bytes of a body that arrive after the ask of its head was taken.
 #[derive(Drop)]
 pub struct Front {
     limits: Limits,
     conn: Conn,
     bytes: Vec<u8>,
-    // where the bytes begin that are not handed out yet
+    // where the bytes begin whose ask was not given yet
     at: usize,
-    // how many bytes of a body are still to be passed over
+    // how many bytes of a body are still to be skipped
     skip: u64,
     is_closed: bool,
-    // whether a head was looked for and has not come whole: from then on the bytes are scanned, and it is looked for again
-    // where the scan stops
+    // whether a head was looked for and is incomplete. Then further bytes are scanned, and the head is parsed again
+    // only if the scan stops
     is_tried: bool,
-    // the scan of the first bytes that are not handed out, and how many they are
+    // the scan of the first bytes whose ask was not given, and their number
     scan: Scan,
     seen: usize,
 }
@@ -51,8 +51,7 @@ impl Model for Front {
 }
 
 impl Front {
-    /// The front of a connection of which these facts are known, and of which nothing has come. A
-    /// request outside the limits is a fault.
+    /// The front of a connection with these facts, without bytes yet. A request outside the limits is a fault.
     pub fn new(alloc: Global, limits: Limits, conn: Conn) -> Front
         ensures { result ≡ new_front limits (conn_view conn) }
     {
@@ -69,7 +68,7 @@ impl Front {
         }
     }
 
-    /// Another front in the same state.
+    /// A copy of the front.
     pub fn copy(&self) -> Result<Front, AllocError>
         ensures { IfOk result (λ copy. copy ≡ self.now) }
     {
@@ -100,7 +99,8 @@ impl Front {
         Ok(())
     }
 
-    /// Takes further bytes where it is sure that there is no ask then, and says whether it did.
+    /// Takes further bytes if it is certain that there is no ask after them, and says whether it did. Then the bytes
+    /// need not be fed.
     pub fn keeps(&mut self, bytes: &[u8]) -> Result<bool, AllocError>
         ensures kept { result ≡ Ok true → (self.new ≡ fed_front self.old bytes.now) × HasNoAsk self.new }
         ensures left { result ≡ Ok false → self.new ≡ self.old }
@@ -130,7 +130,7 @@ impl Front {
         Ok(false)
     }
 
-    /// The next ask, in order, where there is one.
+    /// The next ask, in order, if there is one.
     pub fn next(&mut self) -> Result<Option<Ask>, AllocError>
         ensures found { IfOk result (λ answer. TakesNext self.old answer self.new) }
         ensures fault { OnErr result (self.new ≡ self.old) }
@@ -154,7 +154,7 @@ impl Front {
         }
     }
 
-    /// Whether the connection closes behind what was taken.
+    /// Whether the connection closes after the asks that were taken.
     pub fn is_closed(&self) -> bool
         ensures { result ≡ is_closed self.now.kept }
     {
@@ -168,8 +168,7 @@ impl Front {
         reply.bytes(alloc)
     }
 
-    // Scans the bytes that were not scanned, where a head was looked for, and says whether there is no ask yet; where it is
-    // not sure, it says no.
+    // If a head was looked for, scans the bytes that were not scanned. True if it is certain that there is no ask yet.
     fn goes_on(&mut self) -> bool
         ensures same { self.new ≡ self.old }
         ensures rest { OnTrue result (HasNoAsk self.old) }
@@ -186,7 +185,7 @@ impl Front {
         self.scan.is_open()
     }
 
-    // The first ask, and how the bytes go on behind it.
+    // The first ask, and how the bytes continue after it.
     fn turn(&self) -> Result<Turn, AllocError>
         ensures { IfOk result (IsNextTurn self.now.limits self.now.facts self.now.kept) }
     {
@@ -201,7 +200,7 @@ impl Front {
         )
     }
 
-    // Nothing follows an ask that closes.
+    // Forgets all bytes: nothing follows an ask that closes the connection.
     fn close(&mut self)
         ensures { self.new ≡ keeping self.old closed }
     {
@@ -212,7 +211,7 @@ impl Front {
         self.seen = 0;
     }
 
-    // Passes over a head and its body.
+    // Skips a head and its body.
     fn pass(&mut self, count: u64)
         ensures { self.new ≡ keeping self.old (passing count self.old.kept) }
     {
@@ -225,7 +224,7 @@ impl Front {
     }
 }
 
-// Appends bytes to those from a place on. Those before it are given up where they are many.
+// Appends bytes to those from a place on. Drops those before it if they are more than half.
 fn append(bytes: &mut Vec<u8>, at: &mut usize, more: &[u8]) -> Result<(), AllocError>
     requires { at.old ≤ vec_len bytes.old }
     ensures within { at.new ≤ vec_len bytes.new }

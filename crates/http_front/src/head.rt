@@ -1,4 +1,4 @@
-//! A request head where it lies in the bytes that it was read from.
+//! A request head, borrowed from the bytes that it was read from.
 ghost use Rattle.std.specs.Prelude.{◌≡◌, ◌≤◌, ◌<◌, ◌^◌, ◌↔◌, ◌==◌, All, Any, IfNone, IfOk, IfSome, IsTrue, count_by, length};
 ghost use Rattle.std.specs.Bool.{OnFalse, OnTrue};
 ghost use Rattle.attributes.specs.Conn.{conn_view};
@@ -27,12 +27,12 @@ use std::str;
 /// A whole head as it was sent.
 #[derive(Drop)]
 pub(crate) struct Head<'a> {
-    // from the head's first byte to its last
+    // all bytes of the head
     bytes: &'a [u8],
     method: &'a [u8],
     target: &'a [u8],
     is_http11: bool,
-    // where in the bytes the fields are
+    // the spans of the fields in the bytes
     fields: &'a [HeaderSpan],
 }
 
@@ -60,18 +60,19 @@ impl<'a> Model for Head<'a> {
     }) };
 }
 
-/// What stands at the front of some bytes.
+/// What some bytes begin with.
 #[derive(Drop)]
 pub(crate) enum Parsed<'a> {
-    /// A whole head, and the bytes behind it.
+    /// A whole head, and the bytes after it.
     Whole(Head<'a>, &'a [u8]),
-    /// The bytes end before their head does.
+    /// The bytes end inside the head.
     Unfinished,
-    /// No head can come of the bytes; the parser stopped in this part.
+    /// The bytes can become no head; the parser stopped in this part.
     Hopeless(HeadPart),
 }
 
-/// Reads the head that the bytes begin with; `fields` has room for as many as they have line feeds.
+/// Reads the head that the bytes begin with. `fields` has room for as many fields as the bytes have line
+/// feeds.
 pub(crate) fn parse<'a>(bytes: &'a [u8], fields: &'a mut [HeaderSpan]) -> Parsed<'a>
     requires few { length bytes.now ≤ head_room }
     requires room { length fields.old ≡ count_by (λ b. b == line_feed) bytes.now }
@@ -96,7 +97,7 @@ pub(crate) fn parse<'a>(bytes: &'a [u8], fields: &'a mut [HeaderSpan]) -> Parsed
 }
 
 impl<'a> Head<'a> {
-    /// The fault that answers the head, if it breaks a rule.
+    /// The fault of the head, if it breaks a rule.
     pub(crate) fn fault(&self) -> Option<HeadFault>
         ensures sound { IfNone result ((fault : HeadFault) → ¬ (RuleFault self.now fault)) }
         ensures texts { IfNone result (AreTexts self.now) }
@@ -111,7 +112,7 @@ impl<'a> Head<'a> {
         framing_of(self.bytes, self.fields).fault(self.is_http11)
     }
 
-    /// Whether each value is UTF-8: all the other bytes of a head are.
+    /// Whether each value is UTF-8; all other bytes of a head are in any case.
     fn is_text(&self) -> bool
         ensures texts { OnTrue result (AreTexts self.now) }
         ensures others { OnFalse result (Any IsBadText self.now.fields) }
@@ -119,7 +120,7 @@ impl<'a> Head<'a> {
         str::from_utf8(self.bytes).is_ok()
     }
 
-    /// The request that the head makes on this connection.
+    /// The request of the head, on this connection.
     #[inline(always)]
     pub(crate) fn to_request(&self, alloc: Global, conn: Conn) -> Result<Request, AllocError>
         requires { AreTexts self.now }
@@ -131,7 +132,8 @@ impl<'a> Head<'a> {
         Request::new(alloc, method, target, self.is_http11, lines, conn)
     }
 
-    /// Whether it has more fields than any request within the limits, which is told before a request is made.
+    /// Whether the head has more fields than any request within the limits. This is tested before a request
+    /// is made.
     pub(crate) fn exceeds(&self, limits: &Limits) -> bool
         ensures { OnTrue result (limits.now.fields < length self.now.fields) }
     {
@@ -147,7 +149,7 @@ impl<'a> Head<'a> {
         body_length(self.bytes, self.fields)
     }
 
-    /// Whether the connection closes behind it.
+    /// Whether the connection closes after the head.
     pub(crate) fn closes(&self) -> bool
         ensures { result ≡ closes self.now }
     {

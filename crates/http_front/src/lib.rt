@@ -1,4 +1,4 @@
-//! Reads the heads of HTTP/1 requests, says what each asks, and writes answers.
+//! Reads the heads of HTTP/1 requests, gives their requests or faults, and writes answers.
 #![tactic(auto)]
 
 mod answer;

@@ -1,33 +1,33 @@
-//! How far the bytes of a head have come behind its target.
+//! How far the bytes of a head were scanned after its target.
 ghost use Rattle.std.specs.Prelude.{◌≡◌, ◌<◌, ℕ, List, ◌∷◌};
 ghost use Rattle.std.specs.Bool.{OnTrue};
 ghost use Rattle.http_front.specs.steps.Scans.{Ends, EndsLine, EndsName, EndsValue, EndsVersion, GoesOn};
 
 use httparse::{is_header_name_token, is_header_value_token};
 
-/// Where the bytes stop.
+/// Where the scanned bytes end.
 #[derive(Clone, Copy, Debug)]
 pub(crate) enum LineScan {
-    /// Behind so many bytes of the version, at most 8.
+    /// After so many bytes of the version, at most 8.
     Version(u8),
-    /// In the end of the request line or of a field line.
+    /// After the CR at the end of the request line or of a field line.
     LineEnd,
-    /// Where a line may begin.
+    /// At the beginning of a line.
     Line,
     /// In the name of a field.
     Name,
-    /// In its value.
+    /// In the value of a field.
     Value,
-    /// In the end of the head.
+    /// After the CR of the empty line that ends the head.
     HeadEnd,
-    /// Behind a head, or behind bytes that are not looked into.
+    /// After a head, or after bytes that are not examined.
     Stop,
 }
 
 const VERSION: [u8; 7] = *b"HTTP/1.";
 
 impl LineScan {
-    /// Whether no head has ended, and one can.
+    /// Whether no head has ended, and one still can.
     pub(crate) fn is_open(self) -> bool
         ensures { OnTrue result (GoesOn self) }
     {
@@ -37,7 +37,7 @@ impl LineScan {
         }
     }
 
-    /// Goes on with one more byte.
+    /// Takes one more byte.
     pub(crate) fn step(self, byte: u8) -> LineScan
         ensures { (more : List ℕ) → Ends result more → Ends self (byte ∷ more) }
     {

@@ -1,4 +1,4 @@
-//! What the head at the front of some bytes asks.
+//! Reads what one head asks.
 ghost use Rattle.std.specs.Prelude.{◌≡◌, ◌==◌, IfNone, IfOk, count_by};
 ghost use Rattle.attributes.specs.Conn.{conn_view};
 ghost use Rattle.httparse.specs.Ascii.{line_feed};
@@ -12,21 +12,21 @@ use httparse::spans::EMPTY_HEADER_SPAN;
 use memchr::memchr_iter;
 use std::alloc::{AllocError, Global};
 
-/// A head has at most so many bytes.
+/// The greatest length of a head in bytes.
 pub(crate) const HEAD_ROOM: usize = 65_536;
 
-/// What a head asks.
+/// The request that a head asks for, or its fault.
 #[derive(Debug, Drop)]
 pub enum HeadAsk {
-    /// That this request is judged.
+    /// The request is to be judged.
     Judge(Request),
-    /// Nothing, since it has this fault.
+    /// There is this fault.
     Fault(HeadFault),
 }
 
-/// Reads what the head at the front of the bytes asks, on a connection of which `conn` is known.
-/// What follows the head is not looked at, and of several faults one that is there is answered.
-/// There is no answer yet where the head goes on behind the bytes and has room there.
+/// Reads what the head at the front of the bytes asks, on the connection `conn`. Ignores the bytes
+/// after the head. If there are several faults, gives one of them. `None` if the head is
+/// incomplete, and has not passed its greatest length.
 pub fn read_head(
     alloc: Global,
     bytes: &[u8],
@@ -54,14 +54,14 @@ pub fn read_head(
     }
 }
 
-/// How many line feeds the bytes have: more than any head in them has fields.
+/// The number of line feeds in the bytes; any head in them has fewer fields.
 pub(crate) fn line_feeds(bytes: &[u8]) -> usize
     ensures { result ≡ count_by (λ b. b == line_feed) bytes.now }
 {
     memchr_iter(b'\n', bytes).count()
 }
 
-/// What a whole head asks.
+/// The request or the fault of a whole head.
 pub(crate) fn ask_of(
     alloc: Global,
     head: &Head<'_>,

@@ -1,5 +1,5 @@
-//! How far the bytes of a head have come. It says no more than that a head goes on behind them, so that a head that comes
-//! in many pieces is parsed only where it may be whole.
+//! How far the bytes of a head were scanned. A scan only states whether a head can still continue after them. So a head
+//! that arrives in many pieces is parsed only when it may be whole.
 ghost use Rattle.std.specs.Prelude.{◌≡◌, ◌+◌, ◌<◌, ◌≤◌, ◌^◌, ℕ, List, [], ◌∷◌, ◌++◌, IsUtf8, drop, length, take};
 ghost use Rattle.std.specs.Bool.{OnTrue};
 ghost use Rattle.httparse.specs.Grammar.{HasNoRequest, MayBecomeRequest};
@@ -10,23 +10,23 @@ use crate::line::LineScan;
 use httparse::{is_method_token, is_uri_token};
 use std::str;
 
-/// Where the bytes of a head stop.
+/// Where the scanned bytes end.
 #[derive(Clone, Copy, Debug)]
 pub(crate) enum Scan {
-    /// Behind empty lines, of which there may be none.
+    /// After empty lines, or at the beginning.
     Blank,
-    /// In the end of an empty line.
+    /// After the CR of an empty line.
     BlankEnd,
     /// In the method.
     Method,
-    /// In the target, which begins at this place.
+    /// In the target, which begins at this index.
     Target(usize),
-    /// Behind the target.
+    /// After the target.
     Behind(LineScan),
 }
 
 impl Scan {
-    /// Goes on behind the first bytes.
+    /// Scans the bytes from `from` on; those before it are already scanned.
     pub(crate) fn go_on(self, bytes: &[u8], from: usize) -> Scan
         requires { (from ≤ length bytes.now) × IsSeen self (take from bytes.now) }
         ensures { IsSeen result bytes.now }
@@ -38,7 +38,7 @@ impl Scan {
         scan
     }
 
-    /// Whether it is sure that a head goes on behind the bytes that were scanned.
+    /// Whether it is certain that a head can continue after the bytes that were scanned.
     pub(crate) fn is_open(self) -> bool
         ensures { (bytes : List ℕ) → IsSeen self bytes
             → OnTrue result (HasNoRequest bytes × MayBecomeRequest bytes) }
@@ -49,7 +49,7 @@ impl Scan {
         }
     }
 
-    /// Goes on with the byte at this place.
+    /// Takes the byte at this index.
     fn step(self, bytes: &[u8], at: usize) -> Scan
         requires { (at < length bytes.now) × IsSeen self (take at bytes.now) }
         ensures { IsSeen result (take (at + 1) bytes.now) }
@@ -65,7 +65,7 @@ impl Scan {
     }
 }
 
-// Bytes that are not looked into.
+// The scan of bytes that are not examined.
 fn stop() -> Scan
     ensures { (bytes : List ℕ) → IsSeen result bytes }
 {
@@ -121,7 +121,7 @@ fn in_target(target: &[u8], byte: u8, start: usize) -> Scan
     stop()
 }
 
-// Whether a target may end here: the test for UTF-8 waits for its end.
+// Whether a target may end here. It is tested for UTF-8 only at its end.
 fn is_whole_target(target: &[u8]) -> bool
     ensures { OnTrue result ((0 < length target.now) × IsUtf8 target.now) }
 {

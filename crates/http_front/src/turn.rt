@@ -13,19 +13,19 @@ use httparse::spans::EMPTY_HEADER_SPAN;
 use memchr::memchr_iter;
 use std::alloc::{AllocError, Global};
 
-/// What the first ask of some bytes is, and how they go on behind it.
+/// The first ask of some bytes, and how they continue after it.
 #[derive(Debug, Drop)]
 pub(crate) enum Turn {
     /// There is no ask yet.
     Rest,
     /// This ask, and the connection closes.
     Close(Ask),
-    /// That this request is judged; and how many bytes its head has, and the body behind it.
+    /// This request is to be judged. The number is the length of its head and its body.
     Pass(Request, u64),
 }
 
-/// Where there are more bytes than these, the end of the first head is sought before it is parsed, so that the bytes behind
-/// it cost nothing.
+/// If there are more bytes than this, the end of the first head is sought before it is parsed. Then the bytes after the
+/// head cost nothing.
 const FEW: usize = 1_024;
 
 /// The first ask of the bytes.
@@ -46,7 +46,7 @@ pub(crate) fn turn_of(
     turn_of_room(alloc, limits, conn, bytes)
 }
 
-// The same by all the bytes that a head may have.
+// The first ask of the bytes, by as many of them as a head may have.
 fn turn_of_room(
     alloc: Global,
     limits: &Limits,
@@ -67,7 +67,7 @@ fn turn_of_room(
     }
 }
 
-// The first ask of the bytes, if so many of them tell it.
+// The first ask of the bytes, if the first `count` of them suffice for it.
 fn turn_of_first(
     alloc: Global,
     limits: &Limits,
@@ -87,7 +87,7 @@ fn turn_of_first(
     }
 }
 
-// What a whole head of this size asks.
+// The ask of a whole head of this size.
 fn turn_of_head(
     alloc: Global,
     limits: &Limits,
@@ -109,7 +109,7 @@ fn turn_of_head(
     }
 }
 
-// How many bytes the first head has, if it has an end within its room; no contract speaks of that.
+// How many bytes the first head has, if its end is within the greatest length. No contract depends on it.
 fn likely_end(bytes: &[u8]) -> usize
     ensures { (result ≤ length bytes.now) × (result ≤ head_room) }
 {
@@ -117,7 +117,7 @@ fn likely_end(bytes: &[u8]) -> usize
     head_end(&bytes[..room]).min(room)
 }
 
-// Behind which byte the first empty line ends that stands behind a line.
+// The index after the first empty line that follows a line which is not empty.
 fn head_end(bytes: &[u8]) -> usize {
     let begin = bytes
         .iter()

@@ -57,7 +57,7 @@ pub record SpellsField (bytes : List ℕ) (f : Wire) : Type 0 where
   pub spells_payload : SpellsPayload behind f.payload
   pub whole : bytes ≡ tag ++ behind
 
--- the bytes begin with a spelling of the field, and then comes the rest
+-- the bytes are a spelling of the field, and then the rest
 pub record StartsField (bytes : List ℕ) (f : Wire) (rest : List ℕ) : Type 0 where
   pub spelling : List ℕ
   pub spells : SpellsField spelling f
@@ -72,7 +72,7 @@ After bytes (f ∷ fs) rest = (behind : List ℕ) × StartsField bytes f behind 
 abbrev pub Fields : List ℕ → List Wire → Type 0
 Fields bytes fs = After bytes fs []
 
--- no payload of the wire type begins the bytes, or the wire type is none
+-- the bytes begin with no payload of the wire type, or no such wire type exists
 pub data FailsPayload (wire_type : ℕ) (bytes : List ℕ) (e : WireError) : Type 0 where
   unknown : wire_type ≢ 0 → wire_type ≢ 1 → wire_type ≢ 2 → wire_type ≢ 5 → e ≡ BadWireType
       → FailsPayload wire_type bytes e
@@ -83,7 +83,7 @@ pub data FailsPayload (wire_type : ℕ) (bytes : List ℕ) (e : WireError) : Typ
       → e ≡ Truncated → FailsPayload wire_type bytes e
   short_i32 : wire_type ≡ 5 → length bytes < 4 → e ≡ Truncated → FailsPayload wire_type bytes e
 
--- no field begins the bytes, and the fault is the first of: no tag, a bad number, a bad wire type,
+-- the bytes begin with no field; the fault is the first of: no tag, a bad number, a bad wire type,
 -- no payload
 pub data FailsField (bytes : List ℕ) (e : WireError) : Type 0 where
   no_tag : FailsVarint bytes e → FailsField bytes e
@@ -92,24 +92,24 @@ pub data FailsField (bytes : List ℕ) (e : WireError) : Type 0 where
   bad_payload : (n : ℕ) (rest : List ℕ) → StartsVarint bytes n rest → IsFieldNumber (n / 8)
       → FailsPayload (n % 8) rest e → FailsField bytes e
 
--- the bytes are the fields' spellings, and then a rest, not empty, that begins no field
+-- the bytes are spellings of the fields, and then a rest that is not empty and begins with no field
 pub record Broken (bytes : List ℕ) (fs : List Wire) (e : WireError) : Type 0 where
   pub rest : List ℕ
   pub after : After bytes fs rest
   pub more : rest ≢ []
   pub fails : FailsField rest e
 
--- the bytes are no list of whole fields
+-- the bytes are not a list of whole fields
 abbrev pub IsBroken : List ℕ → Type 0
 IsBroken bytes = (fs : List Wire) × (e : WireError) × Broken bytes fs e
 
--- what the code's payload holds, without where it lies in memory
+-- the value of the code's payload, without its place in memory
 abbrev pub payload_view : coded.Payload → Payload
 payload_view (payloads.Varint n) = varint n
 payload_view (payloads.I64 n) = i64 n
 payload_view (payloads.Len bytes) = len bytes.now
 payload_view (payloads.I32 n) = i32 n
 
--- the code's field, without where it lies in memory
+-- the number and the payload of the code's field, without its place in memory
 abbrev pub field_view : Field → Wire
 field_view f = record { number = f.number; payload = payload_view f.payload }

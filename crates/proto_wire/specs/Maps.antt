@@ -25,12 +25,12 @@ pub data KeyKind : Type 0 where
   text : KeyKind
   int64 : KeyKind
 
--- the keys of a kind: texts as their bytes, and whole numbers
+-- the keys of a kind: a text is its bytes, an int64 is a whole number
 abbrev pub KeyOf : KeyKind → Type 0
 KeyOf text = List ℕ
 KeyOf int64 = ℤ
 
--- their order: byte by byte, and by size
+-- the order of keys: texts byte by byte, numbers by value
 abbrev pub key_cmp : (kind : KeyKind) → KeyOf kind → KeyOf kind → Ordering
 key_cmp text = slice_cmp nat_cmp
 key_cmp int64 = int_cmp
@@ -48,12 +48,12 @@ abbrev pub entry_keys : KeyKind → List Key
 entry_keys text = len_key key_field ∷ len_key value_field ∷ []
 entry_keys int64 = varint_key key_field ∷ len_key value_field ∷ []
 
--- the key of an entry with these fields: the last one, or the empty text or 0
+-- the key of an entry with these fields: the last key field; without one, the empty text or 0
 abbrev pub key_at : (kind : KeyKind) → List Wire → KeyOf kind
 key_at text fs = bytes_at key_field fs
 key_at int64 fs = int64_at key_field fs
 
--- the key reads: a text is UTF-8, and each number is one
+-- the key can be read: a text has to be UTF-8, an int64 always reads
 abbrev pub KeyReads : KeyKind → List Wire → Type 0
 KeyReads text fs = IsUtf8 (bytes_at key_field fs)
 KeyReads int64 fs = Unit {0}
@@ -70,7 +70,7 @@ IsEntry kind bytes entry =
     (fs : List Wire) × IsMessage (entry_keys kind) (bytes ∷ []) fs × KeyReads kind fs
     × (entry ≡ (key_at kind fs, payloads value_field fs))
 
--- each payload is an entry, in order
+-- the payloads are these entries, in order
 abbrev pub AreEntries : (kind : KeyKind) → List (List ℕ) → List (Entry kind) → Type 0
 AreEntries kind parts es = AllZip (IsEntry kind) parts es
 
@@ -100,7 +100,7 @@ Readable kind (part ∷ parts) read =
 
 -- ---- values
 
--- at each key is the value that the key's payloads merge to, and nothing at other keys
+-- the values by key: at each key, the value that the key's payloads merge to; at other keys, none
 abbrev pub AreValues : (kind : KeyKind) {V : Type 0} → (List (List ℕ) → V → Type 0)
     → FinMap (key_cmp kind) (List (List ℕ)) → FinMap (key_cmp kind) V → Type 0
 AreValues kind IsValue named values = (key : KeyOf kind)
@@ -119,8 +119,8 @@ abbrev pub IsMap : (kind : KeyKind) {V : Type 0} → (List (List ℕ) → V → 
 IsMap kind IsValue parts values = (es : List (Entry kind)) × AreEntries kind parts es
     × AreValues kind IsValue (map_of kind es) values
 
--- a fault of a map: of an entry, or of the value of a key. Also of the value inside an entry that
--- has a fault of its own, although that is no part of the map
+-- a fault of a map: of an entry, or of the value at a key. If an entry has a fault of its own, the
+-- map omits it, but a fault of its value counts too
 pub data MapFault (kind : KeyKind) (ValueFault : List (List ℕ) → Refusal → Type 0)
     (parts : List (List ℕ)) (e : Refusal) : Type 0 where
   in_entry : SomeEntryFault kind parts e → MapFault kind ValueFault parts e
@@ -133,7 +133,7 @@ pub data MapFault (kind : KeyKind) (ValueFault : List (List ℕ) → Refusal →
 
 -- ---- the code's maps
 
--- the keys and payloads of a map from keys to payloads, in order
+-- the entries of the code's map in order: each key with its payloads
 abbrev pub entries_view : {K : Type 0} (kind : KeyKind) → (K → KeyOf kind)
     → List (K × SmallVec (Bor (List ℕ))) → List (Entry kind)
 entries_view kind key_view es = map (λ e. (key_view e.0, parts_view e.1.items)) es

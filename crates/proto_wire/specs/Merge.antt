@@ -9,19 +9,19 @@ use Rattle.proto_wire.specs.declared.fault.WireError.{WireError}
 abbrev pub parts_view : List (Bor (List ℕ)) → List (List ℕ)
 parts_view slices = map (λ s. s.now) slices
 
--- the fields of a message in several payloads: those of each payload in order, each payload being
--- whole fields by itself
+-- the fields of a message in several payloads: those of each payload in order; each payload is a
+-- list of whole fields
 abbrev pub Merges : List (List ℕ) → List Wire → Type 0
 Merges [] fs = fs ≡ []
 Merges (part ∷ parts) fs =
     (own others : List Wire) × Fields part own × Merges parts others × (fs ≡ own ++ others)
 
--- some payload of the message is no list of whole fields
+-- some payload of the message is not a list of whole fields
 abbrev pub Breaks : List (List ℕ) → Type 0
 Breaks [] = ⊥
 Breaks (part ∷ parts) = IsBroken part ⊎ Breaks parts
 
--- the first payload begins with no field, and so breaks before anything is kept
+-- the first payload begins with no field, so its fault is found before any field is kept
 abbrev pub FirstBreaks : List (List ℕ) → Type 0
 FirstBreaks [] = ⊥
 FirstBreaks (part ∷ parts) = (e : WireError) × Broken part [] e

@@ -8,7 +8,7 @@ use Rattle.proto_wire.specs.declared.refusal.Refusal.{Refusal}
 use Rattle.proto_wire.specs.declared.refusal.Refusal.TheVariants.{BadWire, UnknownField}
 use Rattle.proto_wire.specs.declared.key.Key.{Key}
 
--- some payload is no list of whole fields
+-- some payload is not a list of whole fields
 abbrev pub PartsFault : List (List ℕ) → Refusal → Type 0
 PartsFault parts e = Breaks parts × (e ≡ BadWire)
 
@@ -16,14 +16,14 @@ PartsFault parts e = Breaks parts × (e ≡ BadWire)
 abbrev pub IsMessage : List Key → List (List ℕ) → List Wire → Type 0
 IsMessage keys parts fs = Merges parts fs × AllKnown keys fs
 
--- some payload that is whole fields by itself has a field that is not known, whatever the others
--- are
+-- some payload is a list of whole fields of which one is not known; the other payloads do not
+-- matter
 abbrev pub HasUnknown : List Key → List (List ℕ) → Type 0
 HasUnknown keys [] = ⊥
 HasUnknown keys (part ∷ parts) =
     ((fs : List Wire) × Fields part fs × SomeUnknown keys fs) ⊎ HasUnknown keys parts
 
--- some payload is no list of whole fields, or some field is not known
+-- some payload is not a list of whole fields, or some field is not known
 pub data MessageFault (keys : List Key) (parts : List (List ℕ)) (e : Refusal) : Type 0 where
   not_whole : Breaks parts → e ≡ BadWire → MessageFault keys parts e
   not_known : HasUnknown keys parts → e ≡ UnknownField → MessageFault keys parts e

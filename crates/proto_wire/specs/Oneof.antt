@@ -8,7 +8,7 @@ use Rattle.proto_wire.specs.Keys.{is_known}
 use Rattle.proto_wire.specs.Values.{last_of}
 use Rattle.proto_wire.specs.declared.key.Key.{Key}
 
--- the last field that has one of the keys: of a oneof the last member
+-- the last field that has one of the keys: the last member of a oneof
 abbrev pub last_member : List Key → List Wire → Option Wire
 last_member keys fs = last_of (filter (is_known keys) fs)
 
@@ -16,16 +16,17 @@ last_member keys fs = last_of (filter (is_known keys) fs)
 abbrev pub last_number : List Key → List Wire → Option ℕ
 last_number keys fs = option_map (λ f. f.number) (last_member keys fs)
 
--- what the member of this number is, by a table of the members; none where it is not supported
+-- the member of this number in a table; none if the number has no row, or its member is not
+-- supported
 abbrev pub member_in : {M : Type 0} → List (Key × Option M) → ℕ → Option M
 member_in table n = option_and_then (λ m. m) (lookup (λ key. key.number == n) table)
 
--- the longest end of a list whose fields all have one number: of a oneof, the occurrences of its
--- last member that merge
+-- the longest suffix of a list whose fields all have one number
 abbrev pub trailing_run : List Wire → List Wire
 trailing_run [] = []
 trailing_run (f ∷ fs) = cond (list_all (λ g. g.number == f.number) fs) (f ∷ fs) (trailing_run fs)
 
--- the run of the last member among the fields that have a member's key
+-- the trailing run of the fields that have a member's key: the occurrences of a oneof's last
+-- member, which merge
 abbrev pub member_run : List Key → List Wire → List Wire
 member_run keys fs = trailing_run (filter (is_known keys) fs)

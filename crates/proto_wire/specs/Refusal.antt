@@ -1,4 +1,4 @@
--- The refusals: their numbers, names and texts, and what a growth of memory adds to a fault.
+-- Refusals: their numbers, names and texts, and the faults of code that allocates.
 use Rattle.std.specs.Prelude.{◌≡◌, ◌⊎◌, ℕ, List, ◌++◌, codes}
 use Rattle.std.specs.Fmt.{decimal}
 use Rattle.proto_wire.specs.declared.refusal.Refusal.{Refusal}
@@ -37,6 +37,6 @@ name_of refusal = (number_and_name refusal).1
 abbrev pub text_of : Refusal → List ℕ
 text_of refusal = decimal (number_of refusal) ++ codes " " ++ name_of refusal
 
--- memory ran out, or there is this fault
+-- out of memory, or this fault
 abbrev pub MemoryOr : (Refusal → Type 0) → Refusal → Type 0
 MemoryOr F e = (e ≡ Refusal.Memory) ⊎ F e

@@ -5,7 +5,7 @@ use Rattle.std.specs.List.{AllByRecursion}
 use Rattle.proto_wire.specs.Varint.{SpellsVarint}
 use Rattle.proto_wire.specs.Fields.{Payload, varint, len, Wire, wire_type_of, tag_bits, IsFieldNumber, SpellsPayload}
 
--- the bytes spell the number, and nothing shorter does
+-- the bytes spell the number, and no shorter bytes spell it
 pub record ShortestVarint (bytes : List ℕ) (n : ℕ) : Type 0 where
   pub are_bytes : AllByRecursion (λ b. b < 256) bytes
   pub spells : SpellsVarint bytes n
@@ -37,6 +37,6 @@ Shortest (f ∷ fs) bytes =
 abbrev pub field_of : ℕ → Payload → Wire
 field_of n p = record { number = n; payload = p }
 
--- the field follows what was there
+-- the new bytes are the old ones and then the field in its shortest spelling
 abbrev pub Appends : List ℕ → Wire → List ℕ → Type 0
 Appends before f after = (bytes : List ℕ) × Shortest (f ∷ []) bytes × (after ≡ before ++ bytes)

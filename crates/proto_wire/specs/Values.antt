@@ -1,5 +1,5 @@
--- How a message's values come from its fields: Protocol Buffers encoding guide, "Base 128 Varints",
--- "Signed Integers", "Last One Wins" and "Repeated Elements".
+-- The values of a message's fields: Protocol Buffers encoding guide, "Base 128 Varints", "Signed
+-- Integers", "Last One Wins" and "Repeated Elements".
 use Rattle.std.specs.Prelude.{◌≡◌, ℕ, ℤ, ◌==◌, ◌%◌, ◌^◌, Bool, not, cond, Option, Some, None, List, [], ◌∷◌, unwrap_or}
 use Rattle.std.specs.Int.{cast_signed, w32, w64}
 use Rattle.std.specs.List.{filter_map, last_or, list_any}
@@ -9,12 +9,12 @@ use Rattle.proto_wire.specs.Keys.{len_key, varint_key, is_known}
 use Rattle.proto_wire.specs.declared.refusal.Refusal.{Refusal}
 use Rattle.proto_wire.specs.declared.refusal.Refusal.TheVariants.{BadText}
 
--- the number, where the payload is a varint
+-- the number of a VARINT payload; none for any other payload
 abbrev pub varint_in : Payload → Option ℕ
 varint_in (varint n) = Some n
 varint_in _ = None
 
--- the bytes, where the payload is length-delimited
+-- the bytes of a LEN payload; none for any other payload
 abbrev pub len_in : Payload → Option (List ℕ)
 len_in (len bytes) = Some bytes
 len_in _ = None
@@ -27,23 +27,23 @@ varints k fs = filter_map (λ f. cond (f.number == k) (varint_in f.payload) None
 abbrev pub payloads : ℕ → List Wire → List (List ℕ)
 payloads k fs = filter_map (λ f. cond (f.number == k) (len_in f.payload) None) fs
 
--- the last of a list: of a singular scalar the last occurrence counts
+-- the last element of a list: if a singular scalar occurs several times, the last occurrence counts
 abbrev pub last_of : {A : Type 0} → List A → Option A
 last_of xs = last_or None xs
 
--- whether a LEN or VARINT field of this number is there
+-- whether the fields have a LEN or VARINT field of this number
 abbrev pub has_field : ℕ → List Wire → Bool
 has_field k fs = list_any (is_known (len_key k ∷ varint_key k ∷ [])) fs
 
--- the last LEN payload of this number, and empty where there is none
+-- the last LEN payload of this number; empty if there is none
 abbrev pub bytes_at : ℕ → List Wire → List ℕ
 bytes_at k fs = unwrap_or (last_of (payloads k fs)) []
 
--- the bytes are no text
+-- the bytes are not UTF-8
 abbrev pub Utf8Fault : List ℕ → Refusal → Type 0
 Utf8Fault bytes e = ¬ IsUtf8 bytes × (e ≡ BadText)
 
--- the last varint of this number, and 0 where there is none
+-- the last varint of this number; 0 if there is none
 abbrev pub varint_at : ℕ → List Wire → ℕ
 varint_at k fs = unwrap_or (last_of (varints k fs)) 0
 

@@ -1,5 +1,5 @@
--- Varints: Protocol Buffers encoding guide, "Base 128 Varints". At most ten bytes, and 64 bits; a
--- longer spelling than needed is one too.
+-- Varints: Protocol Buffers encoding guide, "Base 128 Varints". A varint has at most ten bytes and
+-- 64 bits; it may be longer than needed.
 use Rattle.std.specs.Prelude.{◌≡◌, ℕ, ◌+◌, ◌*◌, ◌%◌, ◌^◌, ◌<◌, ◌≤◌, List, [], ◌∷◌, ◌++◌, length, take, slice_index}
 use Rattle.std.specs.List.{AllByRecursion}
 use Rattle.proto_wire.specs.declared.fault.WireError.{WireError}
@@ -23,13 +23,13 @@ pub record SpellsVarint (bytes : List ℕ) (n : ℕ) : Type 0 where
   pub value : n ≡ value_of bytes
   pub fits : n < 2 ^ 64
 
--- the bytes begin with a spelling of the number, and then comes the rest
+-- the bytes are a spelling of the number, and then the rest
 pub record StartsVarint (bytes : List ℕ) (n : ℕ) (rest : List ℕ) : Type 0 where
   pub spelling : List ℕ
   pub spells : SpellsVarint spelling n
   pub whole : bytes ≡ spelling ++ rest
 
--- no varint begins the bytes: they end inside it, or the tenth byte is above 1
+-- the bytes begin with no varint: they end inside one, or the tenth byte is above 1
 pub data FailsVarint (bytes : List ℕ) (e : WireError) : Type 0 where
   unfinished : length bytes < 10 → AllByRecursion (λ b. 128 ≤ b) bytes → e ≡ Truncated
       → FailsVarint bytes e

@@ -1,4 +1,4 @@
-//! Why bytes are no list of fields.
+//! Why bytes are not a list of fields.
 
 /// The first fault of the bytes (Protocol Buffers encoding guide, "Message Structure").
 #[derive(Clone, Copy, PartialEq, Eq, Debug, thiserror::Error)]

@@ -30,7 +30,7 @@ pub enum Payload<'a> {
 }
 
 impl<'a> Payload<'a> {
-    /// The wire type by which the payload is spelt.
+    /// The payload's wire type.
     pub(crate) fn wire_type(&self) -> WireType
         ensures { result ≡ wire_type_of (payload_view self.now) }
     {
@@ -43,14 +43,14 @@ impl<'a> Payload<'a> {
     }
 }
 
-/// What lies in the unused places of a list.
+/// The value in the unused places of a list.
 impl<'a> Default for Payload<'a> {
     fn default() -> Payload<'a> {
         Payload::Varint(0)
     }
 }
 
-/// A field, as it stands in a message.
+/// A field of a message.
 #[derive(Clone, Copy, PartialEq, Eq, Debug)]
 pub struct Field<'a> {
     /// The field's number, 1 to 2^29 - 1.
@@ -59,7 +59,7 @@ pub struct Field<'a> {
     pub payload: Payload<'a>,
 }
 
-/// What lies in the unused places of a list: no field has the number 0.
+/// The value in the unused places of a list; no field has the number 0.
 impl<'a> Default for Field<'a> {
     fn default() -> Field<'a> {
         Field {

@@ -7,7 +7,7 @@ ghost use Rattle.proto_wire.specs.Keys.{has_key, is_known};
 
 use crate::field::{Field, WireType};
 
-/// What tells one field of a message from another: its number and its wire type.
+/// What distinguishes one field of a message from another: its number and its wire type.
 #[derive(Clone, Copy, PartialEq, Eq, Debug)]
 pub struct Key {
     pub number: u32,

@@ -1,5 +1,5 @@
-//! Laws of the definitions: bytes are one list of fields, or broken at one place, and never both;
-//! the same of a message in several payloads, and of the entries of a map. Fields have one shortest
+//! Laws of the definitions. Bytes are either one list of fields, or broken at one place. The same
+//! is true of a message in several payloads, and of the entries of a map. Fields have one shortest
 //! spelling, which reads back.
 
 ghost use Rattle.std.specs.Prelude.{◌≡◌, ◌⊎◌, ℕ, List};
@@ -32,7 +32,7 @@ pub fn fields_disjoint()
         → Fields bytes fs → Broken bytes gs e → ⊥ }
 {}
 
-/// Broken bytes have one fault, behind one list of fields.
+/// Broken bytes have one fault, after one list of fields.
 pub fn broken_unique()
     ensures { (bytes : List ℕ) (fs gs : List Wire) (e d : WireError)
         → Broken bytes fs e → Broken bytes gs d → (fs ≡ gs) × (e ≡ d) }
@@ -54,7 +54,7 @@ pub fn merges_disjoint()
     ensures { (parts : List (List ℕ)) (fs : List Wire) → Merges parts fs → Breaks parts → ⊥ }
 {}
 
-/// The fields of merged payloads are those of the payloads put one after the other.
+/// The fields of several payloads are those of their concatenation.
 pub fn merges_joined()
     ensures { (parts : List (List ℕ)) (fs : List Wire)
         → Merges parts fs → Fields (concat parts) fs }

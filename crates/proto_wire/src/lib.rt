@@ -1,4 +1,4 @@
-//! Protocol Buffers messages as lists of fields: their bytes, and how fields make a value.
+//! Protocol Buffers messages as lists of fields, and the values of fields.
 #![tactic(auto)]
 
 mod fault;

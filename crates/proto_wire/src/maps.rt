@@ -1,5 +1,4 @@
-//! Maps, which stand in a message as repeated entries with a key 1 and a value 2 (Protocol Buffers
-//! encoding guide, "Maps").
+//! Maps: repeated entries, each with a key 1 and a value 2 (Protocol Buffers encoding guide, "Maps").
 
 ghost use Rattle.std.specs.Prelude.{◌≡◌, [], ◌∷◌, List, T, true, Err, IfOk, IfErr, OnOk, MatchBool, MatchResult, map};
 ghost use Rattle.std.specs.FinMap.{entries, is_sorted};
@@ -29,12 +28,12 @@ static TEXT_ENTRY: [Key; 2] = keys![Len KEY, Len VALUE];
 
 static INT64_ENTRY: [Key; 2] = keys![Varint KEY, Len VALUE];
 
-/// What keys of a map stand for. They compare as that does.
+/// The meaning of a map's keys. Keys compare as their meanings do.
 pub trait KeyOrder: Ord {
-    /// Which kind of keys it is.
+    /// The kind of the keys.
     ghost kind: { KeyKind };
 
-    /// The key that a value of the code stands for.
+    /// The key that a value of the code means.
     ghost key_view: { Self → KeyOf kind };
 
     ghost in_order: { (a b : Self) → Self.cmp a b ≡ key_cmp kind (key_view a) (key_view b) };
@@ -68,8 +67,8 @@ pub trait MapKey<'a>: KeyOrder + Drop + Sized {
     fn entry_keys() -> &'static [Key]
         ensures { result.now ≡ entry_keys Self.kind };
 
-    /// The key of an entry with these fields, or its default: `BadText` where a string is no UTF-8.
-    /// It takes no memory.
+    /// The key of an entry with these fields, or its default; `BadText` if a string is not UTF-8. It
+    /// takes no memory.
     fn read_key(fields: &[Field<'a>]) -> Result<Self, Refusal>
         ensures found { let fs = map field_view fields.now in
             IfOk result (λ key. KeyReads Self.kind fs × (Self.key_view key ≡ key_at Self.kind fs)) }
@@ -109,9 +108,10 @@ impl<'a> MapKey<'a> for i64 {
 /// An entry of a map: its key, and the payloads of its value.
 pub type MapEntry<'a, K> = (K, Payloads<'a>);
 
-/// Reads the entries of a map, of which each has a payload, as the payloads of the values in
-/// ascending order of keys: of the entries with one key the last counts. `BadWire` where an entry
-/// breaks, `UnknownField` where it has another field, `BadText` where its key is no UTF-8, or `Memory`.
+/// Reads the entries of a map, one from each payload. Gives each key once, in ascending order, with the
+/// payloads of its last entry's value. `BadWire` if an entry is not a list of whole fields,
+/// `UnknownField` if it has a field that is neither key nor value. `BadText` if its key is not UTF-8,
+/// or `Memory`.
 pub fn read_entries<'a, K: MapKey<'a>>(
     alloc: Global,
     payloads: &[&'a [u8]],
@@ -151,7 +151,7 @@ fn read_each<'a, K: MapKey<'a>>(
     Ok(entries)
 }
 
-/// Reads an entry, which has a payload of its own.
+/// Reads one entry from its payload.
 fn read_entry<'a, K: MapKey<'a>>(
     alloc: Global,
     payload: &'a [u8],
@@ -167,7 +167,7 @@ fn read_entry<'a, K: MapKey<'a>>(
     Ok((key, parts))
 }
 
-/// Whether the keys ascend, as most writers of maps have them. If so, no two are the same.
+/// Whether the keys ascend, as most writers of maps write them. If they do, no key is repeated.
 fn is_ascending<'a, K: MapKey<'a>>(entries: &[MapEntry<'a, K>]) -> bool
     ensures { MatchBool result
         (T (is_sorted (key_cmp K.kind) (entries_view K.kind K.key_view entries.now))) (Unit {0}) }
@@ -182,7 +182,7 @@ fn is_ascending<'a, K: MapKey<'a>>(entries: &[MapEntry<'a, K>]) -> bool
     true
 }
 
-/// Of the entries with one key the last, in ascending order of keys.
+/// The last entry of each key, in ascending order of keys.
 fn last_of_each<'a, K: MapKey<'a>>(
     alloc: Global,
     all: Vec<MapEntry<'a, K>>,
@@ -197,7 +197,7 @@ fn last_of_each<'a, K: MapKey<'a>>(
     list_of(alloc, last)
 }
 
-/// Puts an entry in the place of another with its key.
+/// Puts an entry into the map, and replaces an earlier one with the same key.
 fn put_entry<'a, K: MapKey<'a>>(
     map: &mut BTreeMap<K, Payloads<'a>>,
     entry: MapEntry<'a, K>,

@@ -14,11 +14,11 @@ use crate::refusal::Refusal;
 use smallvec::SmallVec;
 use std::alloc::Global;
 
-/// The fields of a message, which has few: so many lie in the list itself, and more on the heap.
+/// The fields of a message. Up to three are in the list itself; more are on the heap.
 pub type MessageFields<'a> = SmallVec<Field<'a>, 3>;
 
-/// The fields of a message, in order: `BadWire` where the bytes break, and `Memory` only once a
-/// field was there to keep.
+/// The fields of a message, in order. `BadWire` if the bytes are not a list of whole fields, or
+/// `Memory`, which occurs only after a first whole field.
 pub fn read_fields<'a>(alloc: Global, bytes: &'a [u8]) -> Result<MessageFields<'a>, Refusal>
     ensures found { IfOk result (λ v. Fields bytes.now (map field_view v.items)) }
     ensures fault { IfErr result (MemoryOr (λ e. IsBroken bytes.now × (e ≡ Refusal.BadWire))) }
@@ -31,8 +31,8 @@ pub fn read_fields<'a>(alloc: Global, bytes: &'a [u8]) -> Result<MessageFields<'
     Ok(fields)
 }
 
-/// The fields of a message that stands in several payloads, each of them whole fields by itself:
-/// those of the payloads put one after the other. `BadWire` where a payload breaks, or `Memory`.
+/// The fields of a message in several payloads, in order; each payload has to be a list of whole
+/// fields. `BadWire` if one is not, or `Memory`.
 pub fn read_parts<'a>(alloc: Global, parts: &[&'a [u8]]) -> Result<MessageFields<'a>, Refusal>
     ensures found { IfOk result (λ v. Merges (parts_view parts.now) (map field_view v.items)) }
     ensures fault { IfErr result (MemoryOr (PartsFault (parts_view parts.now))) }
@@ -47,8 +47,8 @@ pub fn read_parts<'a>(alloc: Global, parts: &[&'a [u8]]) -> Result<MessageFields
     Ok(fields)
 }
 
-/// The fields of a message that stands in several payloads, each of them whole fields by itself:
-/// `BadWire` where a payload breaks, `UnknownField` where some field has none of the keys, or `Memory`.
+/// The fields of a message in several payloads, each of which has to be a list of whole fields.
+/// `BadWire` if one is not, `UnknownField` if some field has none of the keys, or `Memory`.
 pub fn read_message<'a>(
     alloc: Global,
     parts: &[&'a [u8]],
@@ -66,7 +66,7 @@ pub fn read_message<'a>(
     Ok(fields)
 }
 
-/// Refuses fields of which some has none of the keys: `UnknownField`. It takes no memory.
+/// Refuses fields if some has none of the keys: `UnknownField`. It takes no memory.
 pub(crate) fn require_known(fields: &[Field<'_>], keys: &[Key]) -> Result<(), Refusal>
     ensures found { OnOk result (AllKnown keys.now (map field_view fields.now)) }
     ensures fault { IfErr result (λ e.
@@ -78,7 +78,7 @@ pub(crate) fn require_known(fields: &[Field<'_>], keys: &[Key]) -> Result<(), Re
     Ok(())
 }
 
-/// Refuses a message in others where no level is left: `TooLarge`. It takes no memory.
+/// Refuses a nested message if no level is left: `TooLarge`. It takes no memory.
 pub fn require_level(depth: u32) -> Result<(), Refusal>
     ensures found { OnOk result (0 < depth) }
     ensures fault { IfErr result (λ e. (depth ≡ 0) × (e ≡ Refusal.TooLarge)) }
@@ -89,7 +89,7 @@ pub fn require_level(depth: u32) -> Result<(), Refusal>
     Ok(())
 }
 
-/// Puts the fields of a payload behind those that are there.
+/// Appends the fields of a payload.
 fn append_fields<'a>(bytes: &'a [u8], fields: &mut MessageFields<'a>) -> Result<(), Refusal>
     ensures found { OnOk result ((fs : List Wire) × Fields bytes.now fs
         × (map field_view fields.new.items ≡ map field_view fields.old.items ++ fs)) }

@@ -11,10 +11,10 @@ use crate::key::{Key, is_known};
 use smallvec::SmallVec;
 use std::alloc::{AllocError, Global};
 
-/// The occurrences of a member, of which there is nearly always one.
+/// The occurrences of a member; nearly always one.
 pub type MemberRun<'a> = SmallVec<Field<'a>, 1>;
 
-/// Of a oneof of scalars the last member: the last field that has a member's key. It takes no
+/// The last member of a oneof of scalars: the last field that has a member's key. It takes no
 /// memory.
 pub fn last_member<'a>(fields: &[Field<'a>], keys: &[Key]) -> Option<Field<'a>>
     ensures { option_map field_view result ≡ last_member keys.now (map field_view fields.now) }
@@ -28,14 +28,14 @@ pub fn last_member<'a>(fields: &[Field<'a>], keys: &[Key]) -> Option<Field<'a>>
     last
 }
 
-/// Of a oneof the number of its last member. It takes no memory.
+/// The number of a oneof's last member. It takes no memory.
 pub fn last_number(fields: &[Field<'_>], keys: &[Key]) -> Option<u32>
     ensures { result ≡ last_number keys.now (map field_view fields.now) }
 {
     last_member(fields, keys).map(|field| field.number)
 }
 
-/// Of a oneof the occurrences of its last member that merge: the last run of fields of one number,
+/// The occurrences of a oneof's last member, which merge: the last run of fields of one number,
 /// among those that have a member's key.
 pub fn member_run<'a>(
     alloc: Global,
@@ -54,7 +54,7 @@ pub fn member_run<'a>(
     Ok(run)
 }
 
-/// Puts a member's field behind the run where that has its number, and else begins a run with it.
+/// Adds a member's field to the run if it has the run's number; otherwise begins a new run with it.
 fn push_member<'a>(run: &mut MemberRun<'a>, field: Field<'a>) -> Result<(), AllocError>
     ensures { OnOk result (map field_view run.new.items
         ≡ run_with (map field_view run.old.items) (field_view field.entry)) }

@@ -1,4 +1,4 @@
-//! The fields of a message, read one after the other.
+//! Reads the fields of a message in order.
 
 ghost use Rattle.std.specs.Prelude.{◌≡◌, ◌≢◌, ◌↔◌, List, [], Ok, None, Err, IfOk, IfErr, IfSome, IsOkAnd, IsSomeAnd, ℕ};
 ghost use Rattle.proto_wire.specs.Fields.{Wire, StartsField, FailsField, field_view};
@@ -28,8 +28,9 @@ impl<'a> Reader<'a> {
         Reader { rest: bytes }
     }
 
-    /// The next field, and `None` exactly at the end, where the reader stays. Each of the errors of
-    /// `WireError` may come; after one the reader stands where it stood, so it comes again.
+    /// The next field; `None` exactly at the end, and the reader stays there. Any error of
+    /// `WireError` is possible. After an error the reader has not moved, so the next call gives the
+    /// same error.
     pub fn next(&mut self) -> Result<Option<Field<'a>>, WireError>
         ensures field { IfOk result (λ found.
             IfSome found (λ f. StartsField self.old (field_view f) self.new)) }

@@ -12,29 +12,29 @@ use std::fmt;
 /// Why a message is refused; each reason has a number, and the first is 1.
 #[derive(Clone, Copy, PartialEq, Eq, Debug)]
 pub enum Refusal {
-    /// The bytes are no list of whole fields.
+    /// The bytes are not a list of whole fields.
     BadWire = 1,
     /// A text is not UTF-8.
     BadText,
     /// A field is not known, or not of its wire type.
     UnknownField,
-    /// A field that must be there is not.
+    /// A required field is absent.
     Missing,
     /// A number is outside its range.
     OutOfRange,
-    /// A field is known, and not supported.
+    /// A field is known but not supported.
     Unsupported,
     /// A policy has two conditions.
     BothConditions,
-    /// A limit of size or depth is passed.
+    /// A size or depth is above its limit.
     TooLarge,
     /// A name is not declared.
     UnknownName,
     /// No overload takes the arguments.
     NoOverload,
-    /// An entry of the type map does not hold.
+    /// An entry of the type map gives a type that its node does not have.
     BadTypeEntry,
-    /// An entry of the reference map does not hold.
+    /// An entry of the reference map names another variable than its node, or holds a value.
     BadReference,
     /// A condition is not of type bool.
     NotBool,
@@ -42,13 +42,13 @@ pub enum Refusal {
     NeedsType,
     /// A condition costs too much.
     TooCostly,
-    /// A resource stands twice in a response.
+    /// A response has two resources of one name.
     DuplicateResource,
     /// A resource is of another type.
     WrongType,
     /// Code did not pass its verifier.
     CodeRefused,
-    /// Memory ran out.
+    /// Out of memory.
     Memory = 19,
 }
 

@@ -1,5 +1,5 @@
-//! The values among a message's fields: the varints and the LEN payloads of a number, and the
-//! scalars that the last of them are.
+//! The values of a message's fields: varints and LEN payloads by number, and singular scalars, which
+//! are the last of them.
 
 ghost use Rattle.std.specs.Prelude.{◌≡◌, ◌≢◌, ◌==◌, cond, [], ◌∷◌, map, Some, None, IfOk, IfErr, MatchBool, MatchOption, OnOk, IsUtf8};
 ghost use Rattle.proto_wire.specs.Fields.{payload_view, field_view};
@@ -12,10 +12,10 @@ use crate::refusal::Refusal;
 use smallvec::SmallVec;
 use std::alloc::{AllocError, Global};
 
-/// Payloads of one number, of which there is nearly always one.
+/// Payloads of one number; nearly always one.
 pub type Payloads<'a> = SmallVec<&'a [u8], 1>;
 
-/// The value of a singular scalar: that of the last VARINT field of this number.
+/// The value of a singular scalar: the last VARINT field of this number.
 pub fn last_varint(fields: &[Field<'_>], number: u32) -> Option<u64>
     ensures { result ≡ last_of (varints number (map field_view fields.now)) }
 {
@@ -28,7 +28,7 @@ pub fn last_varint(fields: &[Field<'_>], number: u32) -> Option<u64>
     last
 }
 
-/// The value of a singular string or bytes: that of the last LEN field of this number.
+/// The value of a singular string or bytes field: the last LEN field of this number.
 pub fn last_len<'a>(fields: &[Field<'a>], number: u32) -> Option<&'a [u8]>
     ensures { let last = last_of (payloads number (map field_view fields.now)) in
         MatchOption result (last ≡ None) (λ bytes. last ≡ Some bytes.now) }
@@ -59,7 +59,7 @@ pub fn payloads_of<'a>(
     Ok(parts)
 }
 
-/// Whether a LEN field of this number is there.
+/// Whether there is a LEN field of this number.
 pub fn has_payload(fields: &[Field<'_>], number: u32) -> bool
     ensures { MatchBool result (payloads number (map field_view fields.now) ≢ [])
         (payloads number (map field_view fields.now) ≡ []) }
@@ -67,8 +67,7 @@ pub fn has_payload(fields: &[Field<'_>], number: u32) -> bool
     last_len(fields, number).is_some()
 }
 
-/// Refuses a message that must be there, and stands in no LEN field of this number: `Missing`. It takes
-/// no memory.
+/// Refuses fields without the required LEN field of this number: `Missing`. It takes no memory.
 pub fn require_payload(fields: &[Field<'_>], number: u32) -> Result<(), Refusal>
     ensures found { OnOk result (payloads number (map field_view fields.now) ≢ []) }
     ensures fault { IfErr result (λ e. (payloads number (map field_view fields.now) ≡ [])
@@ -80,14 +79,14 @@ pub fn require_payload(fields: &[Field<'_>], number: u32) -> Result<(), Refusal>
     Err(Refusal::Missing)
 }
 
-/// Whether a LEN or VARINT field of this number is there.
+/// Whether there is a LEN or VARINT field of this number.
 pub fn has_field(fields: &[Field<'_>], number: u32) -> bool
     ensures { result ≡ has_field number (map field_view fields.now) }
 {
     fields.iter().any(|field| is_field(field, number))
 }
 
-/// The last LEN payload of this number, and empty where there is none.
+/// The last LEN payload of this number; empty if there is none.
 pub fn bytes_at<'a>(fields: &[Field<'a>], number: u32) -> &'a [u8]
     ensures { result.now ≡ bytes_at number (map field_view fields.now) }
 {
@@ -97,7 +96,7 @@ pub fn bytes_at<'a>(fields: &[Field<'a>], number: u32) -> &'a [u8]
     }
 }
 
-/// The text that the bytes are: `BadText` where they are no UTF-8. It takes no memory.
+/// The bytes as text; `BadText` if they are not UTF-8. It takes no memory.
 pub fn text_of(bytes: &[u8]) -> Result<&str, Refusal>
     ensures found { IfOk result (λ text. (text.now ≡ bytes.now) × IsUtf8 bytes.now) }
     ensures fault { IfErr result (Utf8Fault bytes.now) }
@@ -108,8 +107,8 @@ pub fn text_of(bytes: &[u8]) -> Result<&str, Refusal>
     }
 }
 
-/// The string of this number: the last one, and empty where there is none; `BadText` where that is
-/// no UTF-8. It takes no memory.
+/// The last string of this number; empty if there is none. `BadText` if it is not UTF-8. It takes no
+/// memory.
 pub fn text_at<'a>(fields: &[Field<'a>], number: u32) -> Result<&'a str, Refusal>
     ensures found { let bytes = bytes_at number (map field_view fields.now) in
         IfOk result (λ text. (text.now ≡ bytes) × IsUtf8 bytes) }
@@ -118,7 +117,7 @@ pub fn text_at<'a>(fields: &[Field<'a>], number: u32) -> Result<&'a str, Refusal
     text_of(bytes_at(fields, number))
 }
 
-/// The bool of this number: true for every value but 0, and false where there is none.
+/// The bool of this number: true for every value but 0; false if there is none.
 pub fn bool_at(fields: &[Field<'_>], number: u32) -> bool
     ensures { result ≡ bool_at number (map field_view fields.now) }
 {
@@ -128,23 +127,21 @@ pub fn bool_at(fields: &[Field<'_>], number: u32) -> bool
     }
 }
 
-/// The uint32 of this number, or an enum: the low 32 bits of the last one, and 0 where there is
-/// none.
+/// The uint32 or enum of this number: the low 32 bits of the last one; 0 if there is none.
 pub fn uint32_at(fields: &[Field<'_>], number: u32) -> u32
     ensures { result ≡ uint32_at number (map field_view fields.now) }
 {
     (last_varint(fields, number).unwrap_or(0) % 0x1_0000_0000) as u32
 }
 
-/// The int32 of this number: the low 32 bits of the last one in two's complement, and 0 where there
-/// is none.
+/// The int32 of this number: the low 32 bits of the last one, in two's complement; 0 if there is none.
 pub fn int32_at(fields: &[Field<'_>], number: u32) -> i32
     ensures { result ≡ int32_at number (map field_view fields.now) }
 {
     uint32_at(fields, number).cast_signed()
 }
 
-/// The int64 of this number: the last one in two's complement, and 0 where there is none.
+/// The int64 of this number: the last one, in two's complement; 0 if there is none.
 pub fn int64_at(fields: &[Field<'_>], number: u32) -> i64
     ensures { result ≡ int64_at number (map field_view fields.now) }
 {
@@ -161,7 +158,7 @@ fn varint_of(field: &Field<'_>, number: u32) -> Option<u64>
     }
 }
 
-/// The payload of the field, where it is a LEN field of this number; `None` else.
+/// The payload, if this is a LEN field of the number; otherwise `None`.
 pub fn len_of<'a>(field: &Field<'a>, number: u32) -> Option<&'a [u8]>
     ensures { let bytes = len_in (payload_view field.now.payload) in
         let found = cond (field.now.number == number) bytes None in

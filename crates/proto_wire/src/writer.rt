@@ -1,4 +1,4 @@
-//! The writing of fields, each number in its shortest spelling.
+//! Writes fields, each number in its shortest spelling.
 
 ghost use Rattle.std.specs.Prelude.{◌≡◌, ◌+◌, ◌*◌, List, ℕ, take, OnOk, OnErr};
 ghost use Rattle.proto_wire.specs.Fields.{IsFieldNumber, varint, len};
@@ -14,8 +14,8 @@ const VARINT: u64 = 0;
 /// The number of LEN.
 const LEN: u64 = 2;
 
-/// Puts fields behind the bytes of a vector. Each call writes the whole field, or leaves the bytes
-/// as they were where memory runs out. Field numbers are 1 to 2^29 - 1.
+/// Appends fields to a vector of bytes. Each call writes the whole field; if memory runs out, it
+/// leaves the bytes as they were. Field numbers are 1 to 2^29 - 1.
 #[derive(Debug, Drop)]
 pub struct Writer {
     bytes: Vec<u8>,
@@ -28,7 +28,7 @@ impl Model for Writer {
 }
 
 impl Writer {
-    /// A writer behind these bytes.
+    /// A writer that appends to these bytes.
     pub fn new(bytes: Vec<u8>) -> Writer
         ensures { result ≡ bytes.items }
     {
@@ -75,7 +75,7 @@ impl Writer {
         self.keep_whole(start, written)
     }
 
-    /// Writes a LEN field that is a message, which these are the bytes of.
+    /// Writes a LEN field whose payload is a message with these bytes.
     pub fn message(&mut self, number: u32, message: &[u8]) -> Result<(), AllocError>
         requires { IsFieldNumber number }
         ensures written { OnOk result (Appends self.old
@@ -85,7 +85,7 @@ impl Writer {
         self.bytes(number, message)
     }
 
-    /// Drops what a call that failed has put behind the first `start` bytes.
+    /// If a call failed, drops what it wrote after the first `start` bytes.
     fn keep_whole(
         &mut self,
         start: usize,
@@ -123,7 +123,7 @@ fn append_len_field(out: &mut Vec<u8>, number: u32, bytes: &[u8]) -> Result<(), 
     out.extend_from_slice(bytes)
 }
 
-/// Puts the number behind the bytes, seven bits a byte, the lowest first.
+/// Appends the number, seven bits to a byte, the lowest first.
 fn append_varint(out: &mut Vec<u8>, value: u64) -> Result<(), AllocError>
     ensures written { OnOk result (AppendsVarint out.old.items value out.new.items) }
     ensures kept { Keeps out.old.items out.new.items }

@@ -9,7 +9,7 @@ use Rattle.xds_wire.specs.Envelope.{IsEnvelope, EnvelopeFault, IsString, StringF
 
 -- ---- google.protobuf.Any
 
--- a message of any type: what its type is, and its bytes
+-- a message of any type: the name of its type, and its bytes
 pub record AnyMessage : Type 0 where
   pub type_url : List ℕ
   pub value : List ℕ
@@ -35,13 +35,13 @@ pub data AnyFieldsFault (fs : List Wire) (e : Refusal) : Type 0 where
 abbrev pub IsAny : List (List ℕ) → AnyMessage → Type 0
 IsAny = IsEnvelope AreAnyFields
 
--- they merge to no Any, for this fault
+-- the payloads have this fault as an Any
 abbrev pub AnyFault : List (List ℕ) → Refusal → Type 0
 AnyFault = EnvelopeFault AnyFieldsFault
 
 -- ---- google.rpc.Status
 
--- an error: its code, and a text
+-- an error: its code and a text
 pub record StatusMessage : Type 0 where
   pub code : ℤ
   pub message : List ℕ
@@ -67,13 +67,13 @@ pub data StatusFieldsFault (fs : List Wire) (e : Refusal) : Type 0 where
 abbrev pub IsStatus : List (List ℕ) → StatusMessage → Type 0
 IsStatus = IsEnvelope AreStatusFields
 
--- they merge to no status, for this fault
+-- the payloads have this fault as a status
 abbrev pub StatusFault : List (List ℕ) → Refusal → Type 0
 StatusFault = EnvelopeFault StatusFieldsFault
 
 -- ---- envoy.config.core.v3.Node
 
--- who asks
+-- the client
 pub record NodeMessage : Type 0 where
   pub id : List ℕ
   pub cluster : List ℕ
@@ -100,13 +100,13 @@ pub data NodeFieldsFault (fs : List Wire) (e : Refusal) : Type 0 where
 abbrev pub IsNode : List (List ℕ) → NodeMessage → Type 0
 IsNode = IsEnvelope AreNodeFields
 
--- they merge to no node, for this fault
+-- the payloads have this fault as a node
 abbrev pub NodeFault : List (List ℕ) → Refusal → Type 0
 NodeFault = EnvelopeFault NodeFieldsFault
 
 -- ---- envoy.service.discovery.v3.DiscoveryRequest
 
--- what a client asks for, and its answer to the last response
+-- the resources that a client asks for, and its answer to the last response
 pub record RequestMessage : Type 0 where
   pub version_info : List ℕ
   pub node : Option NodeMessage
@@ -161,13 +161,13 @@ pub data RequestFieldsFault (fs : List Wire) (e : Refusal) : Type 0 where
 abbrev pub IsRequest : List ℕ → RequestMessage → Type 0
 IsRequest bytes m = IsEnvelope AreRequestFields (bytes ∷ []) m
 
--- the bytes are no request, for this fault
+-- the bytes have this fault as a request
 abbrev pub RequestFault : List ℕ → Refusal → Type 0
 RequestFault bytes e = EnvelopeFault RequestFieldsFault (bytes ∷ []) e
 
 -- ---- envoy.service.discovery.v3.DiscoveryResponse
 
--- resources of one type, their version, and a nonce by which they are answered
+-- resources of one type, their version, and the nonce that a client names in its answer
 pub record ResponseMessage : Type 0 where
   pub version_info : List ℕ
   pub resources : List AnyMessage
@@ -208,13 +208,13 @@ pub data ResponseFieldsFault (fs : List Wire) (e : Refusal) : Type 0 where
 abbrev pub IsResponse : List ℕ → ResponseMessage → Type 0
 IsResponse bytes m = IsEnvelope AreResponseFields (bytes ∷ []) m
 
--- the bytes are no response, for this fault
+-- the bytes have this fault as a response
 abbrev pub ResponseFault : List ℕ → Refusal → Type 0
 ResponseFault bytes e = EnvelopeFault ResponseFieldsFault (bytes ∷ []) e
 
 -- ---- envoy.config.core.v3.TypedExtensionConfig
 
--- a named resource, and its configuration
+-- a named resource and its configuration
 pub record ExtensionMessage : Type 0 where
   pub name : List ℕ
   pub typed_config : Option AnyMessage
@@ -241,6 +241,6 @@ pub data ExtensionFieldsFault (fs : List Wire) (e : Refusal) : Type 0 where
 abbrev pub IsExtension : List ℕ → ExtensionMessage → Type 0
 IsExtension bytes m = IsEnvelope AreExtensionFields (bytes ∷ []) m
 
--- the bytes are no extension, for this fault
+-- the bytes have this fault as an extension
 abbrev pub ExtensionFault : List ℕ → Refusal → Type 0
 ExtensionFault bytes e = EnvelopeFault ExtensionFieldsFault (bytes ∷ []) e

@@ -8,26 +8,26 @@ use Rattle.proto_wire.specs.Messages.{PartsFault}
 use Rattle.proto_wire.specs.Values.{payloads, bytes_at, Utf8Fault}
 use Rattle.proto_wire.specs.declared.refusal.Refusal.{Refusal}
 
--- the payloads merge to fields that make the message, by the message's table
+-- the payloads merge to fields, which make this message by its table
 abbrev pub IsEnvelope : {M : Type 0} → (List Wire → M → Type 0) → List (List ℕ) → M → Type 0
 IsEnvelope Table parts m = (fs : List Wire) × Merges parts fs × Table fs m
 
--- some payload is no list of whole fields, or the fields have a fault
+-- some payload is not a list of whole fields, or the fields have a fault
 pub data EnvelopeFault (F : List Wire → Refusal → Type 0) (parts : List (List ℕ)) (e : Refusal) : Type 0
   where
     not_whole : PartsFault parts e → EnvelopeFault F parts e
     in_fields : (fs : List Wire) → Merges parts fs → F fs e → EnvelopeFault F parts e
 
--- one of the elements
+-- some element has this property
 abbrev pub SomeOf : {A : Type 0} → (A → Type 0) → List A → Type 0
 SomeOf P [] = ⊥
 SomeOf P (x ∷ xs) = P x ⊎ SomeOf P xs
 
--- the string of this number: the last one, and empty where there is none
+-- the last string of this number; empty if there is none
 abbrev pub IsString : ℕ → List Wire → List ℕ → Type 0
 IsString k fs text = (text ≡ bytes_at k fs) × IsUtf8 text
 
--- that string is no UTF-8
+-- that string is not UTF-8
 abbrev pub StringFault : ℕ → List Wire → Refusal → Type 0
 StringFault k fs e = Utf8Fault (bytes_at k fs) e
 
@@ -35,16 +35,16 @@ StringFault k fs e = Utf8Fault (bytes_at k fs) e
 abbrev pub AreStrings : ℕ → List Wire → List (List ℕ) → Type 0
 AreStrings k fs texts = (texts ≡ payloads k fs) × AllByRecursion IsUtf8 texts
 
--- one of those strings is no UTF-8
+-- one of those strings is not UTF-8
 abbrev pub StringsFault : ℕ → List Wire → Refusal → Type 0
 StringsFault k fs e = SomeOf (λ bytes. Utf8Fault bytes e) (payloads k fs)
 
--- the message of this number, where its field is there: all its payloads merge
+-- the optional message of this number: none without a field; otherwise all payloads merge
 abbrev pub IsMerged : {M : Type 0} → (List (List ℕ) → M → Type 0) → ℕ → List Wire → Option M → Type 0
 IsMerged Is k fs None = payloads k fs ≡ []
 IsMerged Is k fs (Some m) = (payloads k fs ≢ []) × Is (payloads k fs) m
 
--- its field is there, and the payloads have a fault
+-- there is a field of this number, and its payloads have a fault
 abbrev pub MergedFault : (List (List ℕ) → Refusal → Type 0) → ℕ → List Wire → Refusal → Type 0
 MergedFault F k fs e = (payloads k fs ≢ []) × F (payloads k fs) e
 

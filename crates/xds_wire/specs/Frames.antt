@@ -22,30 +22,32 @@ frames_of messages = flat_map frame_of messages
 abbrev pub IsLength : ℕ → ℕ → Type 0
 IsLength max n = (n < 2 ^ 32) × (n ≤ max)
 
--- the messages may all be in frames
+-- each message has an allowed length
 abbrev pub AreAllowed : ℕ → List (List ℕ) → Type 0
 AreAllowed max messages = AllByRecursion (λ message. IsLength max (length message)) messages
 
--- a proper beginning of a frame: less than a head, or a head and less than its message
+-- the bytes are a proper beginning of a frame: less than a head, or a head and less than its
+-- message
 pub data IsBeginning (max : ℕ) (rest : List ℕ) : Type 0 where
   nothing : rest ≡ [] → IsBeginning max rest
   part_of_head : (size : List ℕ) → rest ≡ 0 ∷ size → length size < 4 → IsBeginning max rest
   part_of_message : (n : ℕ) (part : List ℕ) → IsLength max n → rest ≡ head_of n ++ part
       → length part < n → IsBeginning max rest
 
--- no frame begins the bytes: compressed by their first byte, or too long by their fifth
+-- the bytes begin with no frame: the first byte says compressed, or the first five name a length
+-- above the limit
 pub data Breaks (max : ℕ) (rest : List ℕ) (fault : FrameFault) : Type 0 where
   compressed : (flag : ℕ) (more : List ℕ) → rest ≡ flag ∷ more → flag ≢ 0
       → fault ≡ faults.Compressed → Breaks max rest fault
   too_long : (n : ℕ) (more : List ℕ) → rest ≡ head_of n ++ more → n < 2 ^ 32 → max < n
       → fault ≡ faults.TooLong → Breaks max rest fault
 
--- what follows whole frames: a proper beginning of one, or bytes that begin none
+-- the bytes after whole frames: a proper beginning of a frame, or a fault
 pub data Tail : Type 0 where
   unfinished : List ℕ → Tail
   broken : FrameFault → Tail
 
--- the bytes after whole frames are such a tail
+-- the tail describes the bytes after whole frames
 abbrev pub IsTail : ℕ → List ℕ → Tail → Type 0
 IsTail max rest (unfinished bytes) = (bytes ≡ rest) × IsBeginning max rest
 IsTail max rest (broken fault) = Breaks max rest fault
@@ -57,7 +59,7 @@ pub record Cut (bytes : List ℕ) (max : ℕ) (messages : List (List ℕ)) (tail
   pub allowed : AreAllowed max messages
   pub ends : IsTail max rest tail
 
--- the error that a call answers for a fault
+-- the error that a call gives for a fault
 abbrev pub error_of : FrameFault → FrameError
 error_of FrameFault.Compressed = FrameError.Compressed
 error_of FrameFault.TooLong = FrameError.TooLong

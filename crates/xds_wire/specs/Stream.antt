@@ -3,7 +3,7 @@ use Rattle.std.specs.Prelude.{◌≡◌, ℕ, Option, Some, None, List, [], ◌�
 use Rattle.xds_wire.specs.Frames.{IsBeginning, Tail, unfinished, broken, Cut, error_of}
 use Rattle.xds_wire.specs.declared.fault.FrameError.{FrameError}
 
--- the limit of a message, the messages that were not taken yet, and what follows them
+-- the limit of a message's length, the messages that were not taken yet, and the bytes after them
 pub record Kept : Type 0 where
   pub max : ℕ
   pub messages : List (List ℕ)
@@ -13,49 +13,49 @@ pub record Kept : Type 0 where
 abbrev pub start : ℕ → Kept
 start max = record { max = max; messages = []; tail = unfinished [] }
 
--- what more bytes make of a tail: the rest and the bytes are cut, and what is broken stays so
+-- more bytes after a tail: they are cut together with the rest; a broken tail stays broken
 abbrev pub Resumes : ℕ → Tail → List ℕ → List (List ℕ) → Tail → Type 0
 Resumes max (unfinished rest) bytes messages tail = Cut (rest ++ bytes) max messages tail
 Resumes max (broken fault) bytes messages tail = (messages ≡ []) × (tail ≡ broken fault)
 
--- bytes are fed: their messages follow those that are kept
+-- a call feeds bytes: their messages are added after the kept ones
 abbrev pub Feeds : Kept → List ℕ → Kept → Type 0
 Feeds old bytes new =
     (messages : List (List ℕ)) × Resumes old.max old.tail bytes messages new.tail
     × (new ≡ record { max = old.max; messages = old.messages ++ messages; tail = new.tail })
 
--- the next message is asked for: it is the first of those that are kept
+-- a call asks for the next message: it gets the first kept one, if there is any
 abbrev pub Takes : Kept → Option (List ℕ) → Kept → Type 0
 Takes old (Some message) new =
     old ≡ record { max = new.max; messages = message ∷ new.messages; tail = new.tail }
 Takes old None new = (old.messages ≡ []) × (new ≡ old)
 
--- the bytes are not broken
+-- the tail is not broken
 abbrev pub IsUnfinished : Tail → Type 0
 IsUnfinished (unfinished rest) = Unit {0}
 IsUnfinished (broken fault) = ⊥
 
--- the bytes are broken, and this is the error of it
+-- the tail is broken, with this error
 abbrev pub IsBrokenBy : Tail → FrameError → Type 0
 IsBrokenBy (unfinished rest) e = ⊥
 IsBrokenBy (broken fault) e = e ≡ error_of fault
 
--- bytes after a tail complete no frame and break none
+-- with these bytes after the tail, no frame is complete and none is broken
 abbrev pub StaysPartial : ℕ → Tail → List ℕ → Type 0
 StaysPartial max (unfinished rest) bytes = IsBeginning max (rest ++ bytes)
 StaysPartial max (broken fault) bytes = ⊥
 
--- a call on a reader: bytes that were fed and taken, or what the next message was
+-- a call on a reader: it feeds bytes, or asks for the next message, with this answer
 pub data Call : Type 0 where
   fed : List ℕ → Call
   taken : Option (List ℕ) → Call
 
--- what the call does
+-- the call changes what is kept like this
 abbrev pub Steps : Kept → Call → Kept → Type 0
 Steps old (fed bytes) new = Feeds old bytes new
 Steps old (taken answer) new = Takes old answer new
 
--- calls in a row
+-- calls in order
 abbrev pub Runs : Kept → List Call → Kept → Type 0
 Runs old [] new = new ≡ old
 Runs old (call ∷ calls) new = (next : Kept) × Steps old call next × Runs next calls new

@@ -1,4 +1,4 @@
--- What the code's messages mean: their texts and bytes, without their places in memory.
+-- The messages that values of the code mean, without their places in memory.
 use Rattle.std.specs.Prelude.{ℕ, List, option_map, map}
 use Rattle.std.specs.Borrow.{Bor}
 use Rattle.xds_wire.specs.Discovery.{AnyMessage, StatusMessage, NodeMessage, RequestMessage, ResponseMessage, ExtensionMessage}

@@ -7,21 +7,21 @@ use Rattle.proto_wire.specs.Fields.{Wire, varint, len}
 use Rattle.proto_wire.specs.Shortest.{Shortest, field_of}
 use Rattle.xds_wire.specs.Discovery.{AnyMessage, StatusMessage, NodeMessage, RequestMessage, ResponseMessage, ExtensionMessage, any_type_url_field, any_value_field, status_code_field, status_message_field, node_id_field, node_cluster_field, request_version_info_field, request_node_field, request_resource_names_field, request_type_url_field, request_response_nonce_field, request_error_detail_field, response_version_info_field, response_resources_field, response_type_url_field, response_nonce_field, extension_name_field, extension_typed_config_field}
 
--- the field of a string or of bytes; the empty one is the default
+-- the field of a string or of bytes; none for the empty one, which is the default
 abbrev pub string_fields : ℕ → List ℕ → List Wire
 string_fields k [] = []
 string_fields k (b ∷ bytes) = field_of k (len (b ∷ bytes)) ∷ []
 
--- the fields of repeated strings, also of empty ones
+-- the fields of repeated strings; an empty string has one too
 abbrev pub strings_fields : ℕ → List (List ℕ) → List Wire
 strings_fields k texts = map (λ text. field_of k (len text)) texts
 
--- the field of an int32, in 64 bits of two's complement; 0 is the default
+-- the field of an int32, in 64 bits of two's complement; none for 0, which is the default
 abbrev pub int32_fields : ℕ → ℤ → List Wire
 int32_fields k n =
     if cast_unsigned w64 n == 0 then [] else field_of k (varint (cast_unsigned w64 n)) ∷ []
 
--- the field of a message, where there is one, also of one without bytes
+-- the field of an optional message; a message without bytes has one too
 abbrev pub AreOptional : {M : Type 0} → (M → List ℕ → Type 0) → ℕ → Option M → List Wire → Type 0
 AreOptional Written k None fs = fs ≡ []
 AreOptional Written k (Some m) fs =
@@ -38,22 +38,22 @@ AreEach Written k (m ∷ ms) fs =
 abbrev pub SpellsGroups : List (List Wire) → List ℕ → Type 0
 SpellsGroups groups bytes = Shortest (flat_map (λ fs. fs) groups) bytes
 
--- the bytes are what is written of an Any
+-- the bytes that are written for an Any
 abbrev pub AnyWritten : AnyMessage → List ℕ → Type 0
 AnyWritten m bytes = SpellsGroups
     (string_fields any_type_url_field m.type_url ∷ string_fields any_value_field m.value ∷ []) bytes
 
--- of a status
+-- the bytes that are written for a status
 abbrev pub StatusWritten : StatusMessage → List ℕ → Type 0
 StatusWritten m bytes = SpellsGroups
     (int32_fields status_code_field m.code ∷ string_fields status_message_field m.message ∷ []) bytes
 
--- of a node
+-- the bytes that are written for a node
 abbrev pub NodeWritten : NodeMessage → List ℕ → Type 0
 NodeWritten m bytes = SpellsGroups
     (string_fields node_id_field m.id ∷ string_fields node_cluster_field m.cluster ∷ []) bytes
 
--- of a request
+-- the bytes that are written for a request
 pub record RequestWritten (m : RequestMessage) (bytes : List ℕ) : Type 0 where
   pub node : List Wire
   pub error_detail : List Wire
@@ -65,7 +65,7 @@ pub record RequestWritten (m : RequestMessage) (bytes : List ℕ) : Type 0 where
       ∷ string_fields request_type_url_field m.type_url
       ∷ string_fields request_response_nonce_field m.response_nonce ∷ error_detail ∷ []) bytes
 
--- of a response
+-- the bytes that are written for a response
 pub record ResponseWritten (m : ResponseMessage) (bytes : List ℕ) : Type 0 where
   pub resources : List Wire
   pub resource_fields : AreEach AnyWritten response_resources_field m.resources resources
@@ -74,31 +74,31 @@ pub record ResponseWritten (m : ResponseMessage) (bytes : List ℕ) : Type 0 whe
       ∷ string_fields response_type_url_field m.type_url
       ∷ string_fields response_nonce_field m.nonce ∷ []) bytes
 
--- of an extension
+-- the bytes that are written for an extension
 pub record ExtensionWritten (m : ExtensionMessage) (bytes : List ℕ) : Type 0 where
   pub typed_config : List Wire
   pub config_fields : AreOptional AnyWritten extension_typed_config_field m.typed_config typed_config
   pub spells : SpellsGroups (string_fields extension_name_field m.name ∷ typed_config ∷ []) bytes
 
--- a message follows what was there
+-- the new bytes are the old ones and then a message
 abbrev pub AddsMessage : (List ℕ → Type 0) → List ℕ → List ℕ → Type 0
 AddsMessage Written before after = (bytes : List ℕ) × Written bytes × (after ≡ before ++ bytes)
 
--- ---- which messages may be written so that the same is read: strings are UTF-8, and a code is an int32
+-- ---- messages that read back as they are written: strings are UTF-8, and a code is an int32
 
--- an Any that may be written
+-- an Any that reads back
 abbrev pub IsSoundAny : AnyMessage → Type 0
 IsSoundAny m = IsUtf8 m.type_url
 
--- a status
+-- a status that reads back
 abbrev pub IsSoundStatus : StatusMessage → Type 0
 IsSoundStatus m = FitsSigned w32 m.code × IsUtf8 m.message
 
--- a node
+-- a node that reads back
 abbrev pub IsSoundNode : NodeMessage → Type 0
 IsSoundNode m = IsUtf8 m.id × IsUtf8 m.cluster
 
--- a request
+-- a request that reads back
 pub record IsSoundRequest (m : RequestMessage) : Type 0 where
   pub version_info : IsUtf8 m.version_info
   pub node : IfSome m.node IsSoundNode
@@ -107,14 +107,14 @@ pub record IsSoundRequest (m : RequestMessage) : Type 0 where
   pub response_nonce : IsUtf8 m.response_nonce
   pub error_detail : IfSome m.error_detail IsSoundStatus
 
--- a response
+-- a response that reads back
 pub record IsSoundResponse (m : ResponseMessage) : Type 0 where
   pub version_info : IsUtf8 m.version_info
   pub resources : AllByRecursion IsSoundAny m.resources
   pub type_url : IsUtf8 m.type_url
   pub nonce : IsUtf8 m.nonce
 
--- an extension
+-- an extension that reads back
 pub record IsSoundExtension (m : ExtensionMessage) : Type 0 where
   pub name : IsUtf8 m.name
   pub typed_config : IfSome m.typed_config IsSoundAny

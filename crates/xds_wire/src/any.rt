@@ -20,7 +20,7 @@ use std::alloc::{AllocError, Global};
 /// A message of any type.
 #[derive(Clone, Copy, Debug)]
 pub struct Any<'a> {
-    /// What type the message is of.
+    /// The name of the message's type.
     pub type_url: &'a str,
     /// The message's bytes.
     pub value: &'a [u8],
@@ -52,7 +52,7 @@ fn any_of<'a>(fields: &[Field<'a>]) -> Result<Any<'a>, Refusal>
     })
 }
 
-/// The message of this number, where its field is there.
+/// The optional message of this number; all its payloads merge.
 pub(crate) fn merged_any<'a>(
     alloc: Global,
     fields: &[Field<'a>],
@@ -83,7 +83,7 @@ pub(crate) fn repeated_any<'a>(
     read_each(alloc, &parts)
 }
 
-// Each payload as a message of its own.
+// Each payload as a message.
 fn read_each<'a>(alloc: Global, parts: &[&'a [u8]]) -> Result<Vec<Any<'a>>, Refusal>
     ensures found { IfOk result (λ v.
         AllZip (λ part m. IsAny (part ∷ []) m) (parts_view parts.now) (map any_view v.items)) }
@@ -106,7 +106,7 @@ fn any_bytes(alloc: Global, any: &Any<'_>) -> Result<Vec<u8>, AllocError>
     Ok(writer.into_bytes())
 }
 
-/// Writes the message, where there is one.
+/// Writes the optional message.
 pub(crate) fn put_any(
     alloc: Global,
     writer: &mut Writer,

@@ -1,4 +1,4 @@
-//! The cutting of one frame off the bytes of a stream.
+//! Cuts one frame off the bytes of a stream.
 
 ghost use Rattle.std.specs.Prelude.{◌<◌, ◌++◌};
 ghost use Rattle.xds_wire.specs.steps.Pieces.{head_view, IsPiece};
@@ -6,20 +6,21 @@ ghost use Rattle.xds_wire.specs.steps.Pieces.{head_view, IsPiece};
 use crate::fault::FrameFault;
 use crate::head::{HEAD, Head};
 
-/// What bytes begin with.
+/// What the bytes begin with.
 #[derive(Clone, Copy, Debug)]
 pub(crate) enum Piece<'a> {
-    /// They are less than a head.
+    /// The bytes are less than a head.
     Head(Head),
-    /// They are a head that names this length, and less bytes of its message.
+    /// The bytes are a head that names this length, and a part of its message.
     Part(usize, &'a [u8]),
-    /// They are a frame of this message, and the bytes behind it.
+    /// The bytes are a frame of this message, and then others.
     Whole(&'a [u8], &'a [u8]),
-    /// No frame begins them.
+    /// The bytes begin with no frame.
     Broken(FrameFault),
 }
 
-/// Cuts off the frame that begins with the head's bytes and goes on with the others. It takes no memory.
+/// Cuts off one frame. The frame begins with the head's bytes and continues with the others. It takes no
+/// memory.
 pub(crate) fn cut_frame<'a>(head: Head, bytes: &'a [u8], max: usize) -> Piece<'a>
     requires { head.count < HEAD }
     ensures { IsPiece max (head_view head ++ bytes.now) result }

@@ -17,7 +17,7 @@ use std::alloc::{AllocError, Global};
 pub struct TypedExtensionConfig<'a> {
     /// The resource's name.
     pub name: &'a str,
-    /// The configuration, of the type that it names.
+    /// The configuration; it names its own type.
     pub typed_config: Option<Any<'a>>,
 }
 
@@ -27,9 +27,8 @@ const NAME: u32 = 1;
 /// The number of `typed_config` in a TypedExtensionConfig.
 const TYPED_CONFIG: u32 = 2;
 
-/// Reads a TypedExtensionConfig; fields that it does not name are skipped. `BadWire` where the bytes, or those of
-/// `typed_config`, are no list of whole fields; `BadText` where a string is no UTF-8; or `Memory`. The configuration's
-/// value is not looked into.
+/// Reads a TypedExtensionConfig and skips unknown fields. `BadWire` if the bytes, or those of `typed_config`, are not a
+/// list of whole fields; `BadText` if a string is not UTF-8; or `Memory`. It does not read the configuration's value.
 pub fn read_extension<'a>(
     alloc: Global,
     bytes: &'a [u8],
@@ -44,7 +43,8 @@ pub fn read_extension<'a>(
     })
 }
 
-/// Appends a TypedExtensionConfig, in the shortest spelling and with defaults left out. Where memory runs out, the bytes stay as they were.
+/// Appends a TypedExtensionConfig in its shortest spelling, without defaults. If memory runs out, the bytes stay as
+/// they were.
 pub fn write_extension(
     extension: &TypedExtensionConfig<'_>,
     out: &mut Vec<u8>,

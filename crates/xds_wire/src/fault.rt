@@ -1,6 +1,6 @@
 //! Why a stream of frames gives no further message.
 
-/// Why no frame begins the bytes (gRPC over HTTP2, "Length-Prefixed-Message").
+/// Why bytes begin with no frame (gRPC over HTTP2, "Length-Prefixed-Message").
 #[derive(Clone, Copy, PartialEq, Eq, Debug)]
 pub enum FrameFault {
     /// The first byte says that the message is compressed.
@@ -9,7 +9,7 @@ pub enum FrameFault {
     TooLong,
 }
 
-/// Why bytes were not taken, or are not followed by others.
+/// Why a call takes no bytes, or why no further message can follow.
 #[derive(Clone, Copy, PartialEq, Eq, Debug, thiserror::Error)]
 pub enum FrameError {
     /// A frame's first byte says that its message is compressed.
@@ -18,7 +18,7 @@ pub enum FrameError {
     /// A frame's message is longer than the limit.
     #[error("a message is too long")]
     TooLong,
-    /// Memory ran out.
+    /// Out of memory.
     #[error("memory ran out")]
     Memory,
 }

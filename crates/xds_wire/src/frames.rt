@@ -13,9 +13,9 @@ use std::alloc::{AllocError, Global};
 use std::collections::VecDeque;
 use std::marker::Model;
 
-/// Cuts a stream of frames into messages (gRPC over HTTP2, "Length-Prefixed-Message"), however its bytes come. What it
-/// keeps grows with the bytes that came, and not with the length that a head names: a message that has not come whole takes
-/// less than eight times the room of what came of it.
+/// Cuts a stream of frames into messages (gRPC over HTTP2, "Length-Prefixed-Message"). Its bytes may arrive in any
+/// pieces. The memory in use grows with the bytes that arrived, not with the length that a head names. An incomplete
+/// message takes less than eight times the bytes of it that arrived.
 #[derive(Debug, Drop)]
 pub struct Frames {
     max: usize,
@@ -40,7 +40,7 @@ impl Model for Frames {
 }
 
 impl Frames {
-    /// A stream of which nothing has come, with messages of at most `max` bytes. It takes no memory.
+    /// A stream without bytes yet, whose messages have at most `max` bytes. It takes no memory.
     pub fn new(alloc: Global, max: usize) -> Frames
         ensures { result ≡ start max }
     {
@@ -51,9 +51,9 @@ impl Frames {
         }
     }
 
-    /// Takes further bytes of the stream: their messages come behind those that are there. `Compressed` is known at a
-    /// frame's first byte and `TooLong` at its fifth; the messages before it stay, and every later call answers it
-    /// again. After `Memory` all is as before the call.
+    /// Takes further bytes of the stream; their messages follow the earlier ones. `Compressed` is known at a frame's
+    /// first byte and `TooLong` at its fifth. The messages before such a frame stay, and every later call gives the
+    /// same error. After `Memory` all is as before the call.
     pub fn feed(&mut self, bytes: &[u8]) -> Result<(), FrameError>
         ensures found { OnOk result
             (Feeds self.old bytes.now self.new × IsUnfinished self.new.tail) }
@@ -71,7 +71,7 @@ impl Frames {
         }
     }
 
-    /// Whether these bytes complete no frame and break none: then `feed` gives no message of them. It takes no memory.
+    /// Whether these bytes complete no frame and break none: then `feed` gets no message from them. It takes no memory.
     pub fn stays_partial(&self, bytes: &[u8]) -> bool
         ensures { MatchBool result (StaysPartial self.now.max self.now.tail bytes.now)
             (StaysPartial self.now.max self.now.tail bytes.now → ⊥) }
@@ -79,14 +79,14 @@ impl Frames {
         stays_partial(&self.state, bytes, self.max)
     }
 
-    /// The next message, in order, where one has come whole. It takes no memory.
+    /// The next complete message, in order, if there is one. It takes no memory.
     pub fn next(&mut self) -> Option<Message>
         ensures { Takes self.old result self.new }
     {
         self.messages.pop_front()
     }
 
-    /// A second stream that keeps the same.
+    /// A second stream with the same state.
     pub fn copy(&self) -> Result<Frames, AllocError>
         ensures { IfOk result (λ copy. copy ≡ self.now) }
     {
@@ -113,7 +113,7 @@ pub fn write_frame(message: &[u8], out: &mut Vec<u8>) -> Result<(), AllocError>
     Ok(())
 }
 
-// The same messages once more.
+// A copy of the messages.
 fn copy_messages(messages: &VecDeque<Message>) -> Result<VecDeque<Message>, AllocError>
     ensures { IfOk result (λ copies. copies.items ≡ messages.now.items) }
 {

@@ -3,20 +3,20 @@
 ghost use Rattle.std.specs.Prelude.{◌≡◌, ◌≤◌, ◌<◌, ◌++◌, [], min, ◌+◌, length};
 ghost use Rattle.xds_wire.specs.steps.Pieces.{head_view};
 
-/// How many bytes a head has: a flag, and four of length.
+/// The number of bytes of a head: a flag, and four of length.
 pub(crate) const HEAD: usize = 5;
 
-/// The bytes of a head that have come.
+/// The bytes of a head that have arrived.
 #[derive(Clone, Copy, Debug)]
 pub(crate) struct Head {
-    /// The bytes, and zeros in place of those that lack.
+    /// The bytes; zeros for those that have not arrived.
     pub(crate) bytes: [u8; HEAD],
-    /// How many have come.
+    /// How many have arrived.
     pub(crate) count: usize,
 }
 
 impl Head {
-    /// A head of which nothing has come.
+    /// A head without bytes yet.
     pub(crate) fn empty() -> Head
         ensures nothing { head_view result ≡ [] }
         ensures count { result.count ≡ 0 }
@@ -27,7 +27,8 @@ impl Head {
         }
     }
 
-    /// The head with as many of the bytes behind its own as it lacks, and the bytes behind those.
+    /// Completes the head with the first of the bytes, as far as they reach. Also gives the bytes
+    /// that are left.
     pub(crate) fn fill<'a>(self, bytes: &'a [u8]) -> (Head, &'a [u8])
         requires { self.count ≤ HEAD }
         ensures same { head_view result.0 ++ result.1.now ≡ head_view self ++ bytes.now }

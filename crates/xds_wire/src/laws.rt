@@ -1,5 +1,5 @@
-//! Laws of frames: bytes are cut in one way, and calls cut all the bytes that they are fed, wherever those are cut
-//! into pieces. Laws of discovery messages: bytes are one message at most, or have a fault, and never both.
+//! Laws of frames: bytes are cut in one way, and calls cut all the bytes that they are fed, in whatever pieces these
+//! arrive. Laws of discovery messages: bytes are at most one message, or have a fault, and never both.
 
 ghost use Rattle.std.specs.Prelude.{◌≡◌, ◌≢◌, ◌⊎◌, ◌↔◌, ℕ, ◌<◌, ◌^◌, All, None, [], List, ◌++◌, length};
 ghost use Rattle.std.specs.List.{AllByRecursion};
@@ -10,32 +10,31 @@ ghost use Rattle.xds_wire.specs.Written.{RequestWritten, IsSoundRequest, Respons
 
 use proto_wire::Refusal;
 
-/// However calls feed bytes and ask for messages, what they handed out and what is kept is what all the bytes are cut
-/// to.
+/// In any sequence of calls, the messages taken and those kept are exactly what all the fed bytes are cut to.
 pub fn cuts()
     ensures { (max : ℕ) (calls : List Call) (kept : Kept) → Runs (start max) calls kept
         → Cut (bytes_fed calls) max (messages_taken calls ++ kept.messages) kept.tail }
 {}
 
-/// What was cut goes on where more bytes come.
+/// If more bytes arrive, cutting continues from the tail.
 pub fn cut_resumes()
     ensures { (bytes more : List ℕ) (max : ℕ) (ms ns : List (List ℕ)) (t u : Tail)
         → Cut bytes max ms t → Resumes max t more ns u → Cut (bytes ++ more) max (ms ++ ns) u }
 {}
 
-/// Bytes are cut in one way at most.
+/// Bytes are cut in at most one way.
 pub fn cut_unique()
     ensures { (bytes : List ℕ) (max : ℕ) (ms ns : List (List ℕ)) (t u : Tail)
         → Cut bytes max ms t → Cut bytes max ns u → (ms ≡ ns) × (t ≡ u) }
 {}
 
-/// Bytes are always cut.
+/// All bytes can be cut.
 pub fn cut_total()
     ensures { (bytes : List ℕ) (max : ℕ) → All (λ b. b < 256) bytes
         → (ms : List (List ℕ)) × (t : Tail) × Cut bytes max ms t }
 {}
 
-/// Calls that fed the same bytes have the same messages, handed out or kept, and the same tail.
+/// Sequences of calls that fed the same bytes have the same messages, taken or kept, and the same tail.
 pub fn cuts_unique()
     ensures { (max : ℕ) (calls others : List Call) (kept also : Kept)
         → Runs (start max) calls kept → Runs (start max) others also
@@ -50,7 +49,7 @@ pub fn frames_are_cut()
         → Cut (frames_of messages) max messages (unfinished []) }
 {}
 
-/// A part of frames, from the first byte on, is cut to the first messages, and is not broken.
+/// A prefix of frames is cut to the first messages, and is not broken.
 pub fn part_of_frames_is_cut()
     ensures { (max : ℕ) (messages : List (List ℕ)) (bytes more : List ℕ)
         → AreAllowed max messages → bytes ++ more ≡ frames_of messages
@@ -58,8 +57,8 @@ pub fn part_of_frames_is_cut()
         × (messages ≡ first ++ others) × Cut bytes max first (unfinished rest) }
 {}
 
-/// Bytes that begin frames, of any length that a frame can name, are cut to the first of their messages, also where a
-/// longer one then breaks them; what is left begins the frames of the others.
+/// Bytes that begin the frames of some messages, each of fewer than 2^32 bytes, are cut to the first of these
+/// messages. A later message may be above the limit. The bytes that are left begin the frames of the other messages.
 pub fn beginning_of_frames_is_cut()
     ensures { (bytes more : List ℕ) (max : ℕ) (messages ms : List (List ℕ)) (t : Tail)
         → AllByRecursion (λ message. length message < 2 ^ 32) messages → bytes ++ more ≡ frames_of messages
@@ -67,7 +66,7 @@ pub fn beginning_of_frames_is_cut()
         × (messages ≡ ms ++ others) × (cut.rest ++ more ≡ frames_of others) }
 {}
 
-/// A rest is a proper beginning of a frame: further bytes make it one.
+/// For each proper beginning of a frame there are further bytes that complete the frame.
 pub fn a_rest_begins_a_frame()
     ensures { (max : ℕ) (rest : List ℕ) → All (λ b. b < 256) rest → IsBeginning max rest
         → (message more : List ℕ) × (more ≢ []) × (rest ++ more ≡ frame_of message) }
@@ -124,7 +123,7 @@ pub fn extension_unique()
     ensures { (bytes : List ℕ) (m n : ExtensionMessage) → IsExtension bytes m → IsExtension bytes n → m ≡ n }
 {}
 
-/// What is written of a request reads back.
+/// What is written for a request reads back, if its strings are UTF-8 and its error's code is an int32.
 pub fn request_reads_back()
     ensures { (m : RequestMessage) (bytes : List ℕ) → IsSoundRequest m → RequestWritten m bytes
         → IsRequest bytes m }
@@ -135,14 +134,15 @@ pub fn request_written_unique()
     ensures { (m : RequestMessage) (a b : List ℕ) → RequestWritten m a → RequestWritten m b → a ≡ b }
 {}
 
-/// What reads of a written request has its version, names, type and nonce, and an error where it has one.
+/// A request that is read from written bytes has the same version, names, type and nonce, and an error if the written
+/// one has one.
 pub fn request_is_as_written()
     ensures { (m n : RequestMessage) (bytes : List ℕ) → RequestWritten m bytes → IsRequest bytes n
         → (n.version_info ≡ m.version_info) × (n.resource_names ≡ m.resource_names) × (n.type_url ≡ m.type_url)
         × (n.response_nonce ≡ m.response_nonce) × ((n.error_detail ≡ None) ↔ (m.error_detail ≡ None)) }
 {}
 
-/// What is written of a response reads back.
+/// What is written for a response reads back, if its strings are UTF-8.
 pub fn response_reads_back()
     ensures { (m : ResponseMessage) (bytes : List ℕ) → IsSoundResponse m → ResponseWritten m bytes
         → IsResponse bytes m }
@@ -153,13 +153,13 @@ pub fn response_written_unique()
     ensures { (m : ResponseMessage) (a b : List ℕ) → ResponseWritten m a → ResponseWritten m b → a ≡ b }
 {}
 
-/// What reads of a written response has its version, type and nonce.
+/// A response that is read from written bytes has the same version, type and nonce.
 pub fn response_is_as_written()
     ensures { (m n : ResponseMessage) (bytes : List ℕ) → ResponseWritten m bytes → IsResponse bytes n
         → (n.version_info ≡ m.version_info) × (n.type_url ≡ m.type_url) × (n.nonce ≡ m.nonce) }
 {}
 
-/// What is written of an extension reads back.
+/// What is written for an extension reads back, if its strings are UTF-8.
 pub fn extension_reads_back()
     ensures { (m : ExtensionMessage) (bytes : List ℕ) → IsSoundExtension m → ExtensionWritten m bytes
         → IsExtension bytes m }

@@ -1,4 +1,4 @@
-//! What the update stream carries: messages in frames, and the discovery messages.
+//! The contents of the update stream: messages in frames, and the discovery messages.
 #![tactic(auto)]
 
 mod any;

@@ -34,14 +34,14 @@ impl Message {
         self.bytes.as_slice()
     }
 
-    /// Gives the message's bytes back. It takes no memory.
+    /// Gives the message's bytes as a vector. It takes no memory.
     pub fn into_vec(self) -> Vec<u8>
         ensures { result.items ≡ self }
     {
         self.bytes
     }
 
-    /// A second message of the same bytes.
+    /// A copy of the message.
     pub fn copy(&self) -> Result<Message, AllocError>
         ensures { IfOk result (λ copy. copy ≡ self.now) }
     {

@@ -1,4 +1,4 @@
-//! Who asks (`envoy.config.core.v3.Node`).
+//! The client of a stream (`envoy.config.core.v3.Node`).
 
 ghost use Rattle.std.specs.Prelude.{◌≡◌, List, map, IfOk, IfErr, OnOk, OnErr};
 ghost use Rattle.std.specs.Option.{option_map};
@@ -15,12 +15,12 @@ use crate::writing::put_text;
 use proto_wire::{Field, Refusal, Writer, payloads_of, read_parts, text_at};
 use std::alloc::{AllocError, Global};
 
-/// Who asks.
+/// The client of a stream.
 #[derive(Clone, Copy, PartialEq, Eq, Debug)]
 pub struct Node<'a> {
-    /// The node's own name.
+    /// The client's own name.
     pub id: &'a str,
-    /// The name of the cluster that it belongs to.
+    /// The name of the cluster that the client belongs to.
     pub cluster: &'a str,
 }
 
@@ -50,7 +50,7 @@ fn node_of<'a>(fields: &[Field<'a>]) -> Result<Node<'a>, Refusal>
     })
 }
 
-/// The message of this number, where its field is there.
+/// The optional message of this number; all its payloads merge.
 pub(crate) fn merged_node<'a>(
     alloc: Global,
     fields: &[Field<'a>],
@@ -77,7 +77,7 @@ fn node_bytes(alloc: Global, node: &Node<'_>) -> Result<Vec<u8>, AllocError>
     Ok(writer.into_bytes())
 }
 
-/// Writes the message, where there is one.
+/// Writes the optional message.
 pub(crate) fn put_node(
     alloc: Global,
     writer: &mut Writer,

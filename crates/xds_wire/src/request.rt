@@ -1,4 +1,4 @@
-//! What a client asks for (`envoy.service.discovery.v3.DiscoveryRequest`).
+//! The requests of a client (`envoy.service.discovery.v3.DiscoveryRequest`).
 
 ghost use Rattle.std.specs.Prelude.{◌≡◌, IfOk, IfErr, OnOk, OnErr};
 ghost use Rattle.proto_wire.specs.Refusal.{MemoryOr};
@@ -14,20 +14,20 @@ use crate::writing::{put_back, put_text, put_texts, take_writer};
 use proto_wire::{Refusal, Writer, read_parts, text_at};
 use std::alloc::{AllocError, Global};
 
-/// What a client asks for, and its answer to the last response.
+/// The resources that a client asks for, and its answer to the last response.
 #[derive(Debug, Drop)]
 pub struct DiscoveryRequest<'a> {
-    /// The version that the client accepted last; empty where there is none.
+    /// The version that the client accepted last; empty if there is none.
     pub version_info: &'a str,
-    /// Who asks.
+    /// The client.
     pub node: Option<Node<'a>>,
     /// The names of the resources.
     pub resource_names: Vec<&'a str>,
     /// The resources' type.
     pub type_url: &'a str,
-    /// The nonce of the response that this answers; empty where it answers none.
+    /// The nonce of the response that this answers; empty if it answers none.
     pub response_nonce: &'a str,
-    /// Why that response is refused, where it is.
+    /// Why that response is refused, if it is.
     pub error_detail: Option<Status<'a>>,
 }
 
@@ -49,8 +49,8 @@ const RESPONSE_NONCE: u32 = 5;
 /// The number of `error_detail` in a DiscoveryRequest.
 const ERROR_DETAIL: u32 = 6;
 
-/// Reads a DiscoveryRequest; fields that it does not name are skipped. `BadWire` where the bytes, or those of a message in
-/// them, are no list of whole fields; `BadText` where a string is no UTF-8; or `Memory`.
+/// Reads a DiscoveryRequest and skips unknown fields. `BadWire` if the bytes, or those of a message in them, are not a
+/// list of whole fields. `BadText` if a string is not UTF-8; or `Memory`.
 pub fn read_request<'a>(alloc: Global, bytes: &'a [u8]) -> Result<DiscoveryRequest<'a>, Refusal>
     ensures found { IfOk result (λ request. IsRequest bytes.now (request_view request)) }
     ensures fault { IfErr result (MemoryOr (RequestFault bytes.now)) }
@@ -66,7 +66,8 @@ pub fn read_request<'a>(alloc: Global, bytes: &'a [u8]) -> Result<DiscoveryReque
     })
 }
 
-/// Appends a DiscoveryRequest, in the shortest spelling and with defaults left out. Where memory runs out, the bytes stay as they were.
+/// Appends a DiscoveryRequest in its shortest spelling, without defaults. If memory runs out, the bytes stay as they
+/// were.
 pub fn write_request(request: &DiscoveryRequest<'_>, out: &mut Vec<u8>) -> Result<(), AllocError>
     ensures found { OnOk result
         (AddsMessage (RequestWritten (request_view request.now)) out.old.items out.new.items) }

@@ -1,4 +1,4 @@
-//! Resources that a server sends (`envoy.service.discovery.v3.DiscoveryResponse`).
+//! The responses of a server (`envoy.service.discovery.v3.DiscoveryResponse`).
 
 ghost use Rattle.std.specs.Prelude.{◌≡◌, IfOk, IfErr, OnOk, OnErr};
 ghost use Rattle.proto_wire.specs.Refusal.{MemoryOr};
@@ -12,7 +12,7 @@ use crate::writing::{put_back, put_text, take_writer};
 use proto_wire::{Refusal, Writer, read_parts, text_at};
 use std::alloc::{AllocError, Global};
 
-/// Resources of one type, their version, and the nonce by which a client answers them.
+/// Resources of one type, their version, and the nonce that a client names in its answer.
 #[derive(Debug, Drop)]
 pub struct DiscoveryResponse<'a> {
     /// The resources' version.
@@ -21,7 +21,7 @@ pub struct DiscoveryResponse<'a> {
     pub resources: Vec<Any<'a>>,
     /// The resources' type.
     pub type_url: &'a str,
-    /// What a client names in its answer.
+    /// The nonce that a client names in its answer.
     pub nonce: &'a str,
 }
 
@@ -37,9 +37,8 @@ const TYPE_URL: u32 = 4;
 /// The number of `nonce` in a DiscoveryResponse.
 const NONCE: u32 = 5;
 
-/// Reads a DiscoveryResponse; fields that it does not name are skipped. `BadWire` where the bytes, or those of a resource,
-/// are no list of whole fields; `BadText` where a string is no UTF-8; or `Memory`. A resource's value is not looked
-/// into.
+/// Reads a DiscoveryResponse and skips unknown fields. `BadWire` if the bytes, or those of a resource, are not a list
+/// of whole fields; `BadText` if a string is not UTF-8; or `Memory`. It does not read a resource's value.
 pub fn read_response<'a>(alloc: Global, bytes: &'a [u8]) -> Result<DiscoveryResponse<'a>, Refusal>
     ensures found { IfOk result (λ response. IsResponse bytes.now (response_view response)) }
     ensures fault { IfErr result (MemoryOr (ResponseFault bytes.now)) }
@@ -53,7 +52,8 @@ pub fn read_response<'a>(alloc: Global, bytes: &'a [u8]) -> Result<DiscoveryResp
     })
 }
 
-/// Appends a DiscoveryResponse, in the shortest spelling and with defaults left out. Where memory runs out, the bytes stay as they were.
+/// Appends a DiscoveryResponse in its shortest spelling, without defaults. If memory runs out, the bytes stay as they
+/// were.
 pub fn write_response(response: &DiscoveryResponse<'_>, out: &mut Vec<u8>) -> Result<(), AllocError>
     ensures found { OnOk result
         (AddsMessage (ResponseWritten (response_view response.now)) out.old.items out.new.items) }

@@ -1,4 +1,4 @@
-//! What is kept of the bytes behind whole frames, and how it goes on when further bytes come.
+//! The state of a stream after its whole frames, and how further bytes change it.
 
 ghost use Rattle.std.specs.Prelude.{◌≡◌, ◌++◌, ◌+◌, ◌*◌, ◌<◌, ◌≤◌, ℕ, List, length, vec_len, IfOk, OnOk, OnErr, MatchBool};
 ghost use Rattle.xds_wire.specs.Frames.{head_of, IsLength, Cut};
@@ -13,18 +13,18 @@ use std::alloc::{AllocError, Global};
 use std::collections::VecDeque;
 use std::mem;
 
-/// What is kept of the bytes behind whole frames.
+/// The bytes that are kept after whole frames.
 #[derive(Debug, Drop)]
 pub(crate) enum State {
     /// Less than a head.
     Head(Head),
     /// A head, and less than its message.
     Data(Data),
-    /// No frame begins them.
+    /// The bytes begin with no frame.
     Broken(FrameFault),
 }
 
-/// A head, as the length that it names, and the first bytes of its message.
+/// The length that a head names, and the first bytes of its message.
 #[derive(Debug, Drop)]
 pub(crate) struct Data {
     /// The message's length, at least 1.
@@ -34,7 +34,7 @@ pub(crate) struct Data {
 }
 
 impl Data {
-    /// A head that names this length, and the part of its message.
+    /// A head that names this length, and a part of its message.
     fn begin(alloc: Global, length: usize, part: &[u8]) -> Result<Data, AllocError>
         ensures length { IfOk result (λ kept. kept.length ≡ length) }
         ensures bytes { IfOk result (λ kept. kept.bytes.items ≡ part.now) }
@@ -44,7 +44,7 @@ impl Data {
         Ok(Data { length, bytes })
     }
 
-    /// Appends bytes, no more than the message lacks.
+    /// Appends bytes, at most as many as the message lacks.
     fn append(&mut self, bytes: &[u8]) -> Result<(), AllocError>
         requires { vec_len self.old.bytes + length bytes.now ≤ self.old.length }
         ensures length { self.new.length ≡ self.old.length }
@@ -58,7 +58,7 @@ impl Data {
         self.bytes.extend_from_slice(bytes)
     }
 
-    /// The same once more.
+    /// A copy of the data.
     fn copy(&self) -> Result<Data, AllocError>
         ensures length { IfOk result (λ copy. copy.length ≡ self.now.length) }
         ensures bytes { IfOk result (λ copy. copy.bytes.items ≡ self.now.bytes.items) }
@@ -67,11 +67,12 @@ impl Data {
     }
 }
 
-/// Room is taken for fewer than so many times the bytes that came.
+/// The memory for an incomplete message is less than this many times the bytes that arrived.
 const MOST_TIMES: usize = 8;
 
-/// For how many bytes of a message of this length room is taken where so many are there: for all of them once more than an
-/// eighth is there, so that these are not copied again, and else for those alone.
+/// The capacity for a message of this length of which so many bytes have arrived. It is the whole length once more than
+/// an eighth has arrived, so that these bytes are not copied again. Before, it is the number of bytes that have
+/// arrived.
 fn room(length: usize, count: usize) -> usize
     ensures whole { length < 8 * count → result ≡ length }
     ensures part { 8 * count ≤ length → result ≡ count }
@@ -82,7 +83,7 @@ fn room(length: usize, count: usize) -> usize
     count
 }
 
-/// A state that stands for the same.
+/// A copy of the state.
 pub(crate) fn copy_state(state: &State) -> Result<State, AllocError>
     ensures same { IfOk result (λ copy. tail_view copy ≡ tail_view state.now) }
     ensures sound { (max : ℕ) → IsState max state.now → IfOk result (λ copy. IsState max copy) }
@@ -94,7 +95,7 @@ pub(crate) fn copy_state(state: &State) -> Result<State, AllocError>
     }
 }
 
-/// Whether the bytes behind what is kept complete no frame and break none. It takes no memory.
+/// Whether these bytes, after those that are kept, complete no frame and break none. It takes no memory.
 pub(crate) fn stays_partial(state: &State, bytes: &[u8], max: usize) -> bool
     requires { IsState max state.now }
     ensures { MatchBool result (StaysPartial max (tail_view state.now) bytes.now)
@@ -112,8 +113,8 @@ pub(crate) fn stays_partial(state: &State, bytes: &[u8], max: usize) -> bool
     }
 }
 
-/// Puts the messages of the bytes behind what is kept into the queue, and what stands behind them into the state. Where
-/// memory runs out, the state stays and the queue's own messages are its first.
+/// Cuts the bytes, after those that are kept. Adds their messages to the queue, and puts the rest into the state. If
+/// memory runs out, the state stays, and the queue begins with its earlier messages.
 pub(crate) fn resume(
     messages: &mut VecDeque<Message>,
     state: &mut State,
@@ -145,8 +146,8 @@ pub(crate) fn resume(
     Ok(())
 }
 
-// Ends the message that is kept with the first of the bytes, and cuts the others as frames. Where memory runs out, the
-// message stays as it is kept.
+// Completes the kept message with the first of the bytes, and cuts the others as frames. If memory runs out, the kept
+// message stays as it was.
 fn finish(
     messages: &mut VecDeque<Message>,
     kept: &mut Data,
@@ -175,8 +176,8 @@ fn finish(
     Ok(state)
 }
 
-// Puts the messages of the frames into the queue, and gives what stands behind them. The first frame begins with the
-// head's bytes.
+// Adds the messages of the frames to the queue, and gives the state after them. The first frame begins with the head's
+// bytes.
 fn cut_frames(
     messages: &mut VecDeque<Message>,
     head: Head,

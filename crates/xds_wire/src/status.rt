@@ -15,10 +15,10 @@ use crate::writing::put_text;
 use proto_wire::{Field, Refusal, Writer, int32_at, payloads_of, read_parts, text_at};
 use std::alloc::{AllocError, Global};
 
-/// An error, or none, as an answer tells it.
+/// An error that an answer reports, or none.
 #[derive(Clone, Copy, PartialEq, Eq, Debug)]
 pub struct Status<'a> {
-    /// Which kind of error (`google.rpc.Code`).
+    /// The kind of the error (`google.rpc.Code`).
     pub code: i32,
     /// What is wrong.
     pub message: &'a str,
@@ -51,7 +51,7 @@ fn status_of<'a>(fields: &[Field<'a>]) -> Result<Status<'a>, Refusal>
     })
 }
 
-/// The message of this number, where its field is there.
+/// The optional message of this number; all its payloads merge.
 pub(crate) fn merged_status<'a>(
     alloc: Global,
     fields: &[Field<'a>],
@@ -78,7 +78,7 @@ fn status_bytes(alloc: Global, status: &Status<'_>) -> Result<Vec<u8>, AllocErro
     Ok(writer.into_bytes())
 }
 
-/// Writes the message, where there is one.
+/// Writes the optional message.
 pub(crate) fn put_status(
     alloc: Global,
     writer: &mut Writer,

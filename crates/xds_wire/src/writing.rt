@@ -1,4 +1,4 @@
-//! The writing of fields behind bytes, and of bytes that stay as they were where memory runs out.
+//! Appends fields to bytes; if memory runs out, the bytes stay as they were.
 
 ghost use Rattle.std.specs.Prelude.{◌≡◌, take, OnOk, OnErr};
 ghost use Rattle.proto_wire.specs.Fields.{IsFieldNumber};
@@ -32,7 +32,7 @@ pub(crate) fn put_text(writer: &mut Writer, number: u32, text: &str) -> Result<(
     put_bytes(writer, number, text.as_bytes())
 }
 
-/// Writes each of the strings.
+/// Writes each of the strings, also an empty one.
 pub(crate) fn put_texts(writer: &mut Writer, number: u32, texts: &[&str]) -> Result<(), AllocError>
     requires { IsFieldNumber number }
     ensures found { OnOk result
@@ -45,7 +45,7 @@ pub(crate) fn put_texts(writer: &mut Writer, number: u32, texts: &[&str]) -> Res
     Ok(())
 }
 
-/// Takes the bytes of a vector to write behind them.
+/// Takes the vector's bytes into a writer, which appends to them.
 pub(crate) fn take_writer(out: &mut Vec<u8>) -> Writer
     ensures { result ≡ out.old.items }
 {
@@ -53,7 +53,7 @@ pub(crate) fn take_writer(out: &mut Vec<u8>) -> Writer
     Writer::new(mem::replace(out, empty))
 }
 
-/// Puts the bytes back, and drops what stands behind the first `start` of them where not all could be written.
+/// Puts the bytes back. If not all could be written, drops those after the first `start`.
 pub(crate) fn put_back(
     out: &mut Vec<u8>,
     writer: Writer,

@@ -1,4 +1,4 @@
--- What a request keeps beside its parts, and lends.
+-- Texts that a request keeps in addition to its parts, and texts that it lends.
 use Rattle.std.specs.Prelude.{◌≡◌, ℕ, Bool, List, Option, option_map}
 use Rattle.std.specs.FinMap.{entries, from_sorted}
 use Rattle.std.specs.Rc.{rc_str_bytes}
@@ -10,11 +10,11 @@ use Rattle.attributes.specs.Conn.{Facts}
 use Rattle.attributes.specs.Headers.{Entry}
 use Rattle.attributes.specs.Request.{IsRequest, RequestValue, protocol_of}
 
--- a text that is lent, if there is one
+-- the bytes of an optional text that is lent
 abbrev pub lent_view : Option (Bor (RcStr Global)) → Option (List ℕ)
 lent_view = option_map (λ text. rc_str_bytes text.now)
 
--- the request of these parts; its headers are by ascending name
+-- the request with these parts; its headers are sorted by name
 abbrev pub of_parts : (method target : List ℕ) → Bool → ℕ → List Entry → Facts → RequestValue
 of_parts method target http11 lines headers facts = record {
   method = method;
@@ -25,7 +25,7 @@ of_parts method target http11 lines headers facts = record {
   facts = facts;
 }
 
--- the headers of the request in order, and the texts that are made of its parts
+-- the kept headers are those of the request, in order, and the kept texts are made of its parts
 pub record AreKept (r : RequestValue) (kept : List Entry)
     (path_text query_text protocol_text : List ℕ) : Type 0 where
   pub request : IsRequest r

@@ -1,4 +1,4 @@
--- What calls are charged, by overloads: the machine has these charges by instructions.
+-- The charges of calls by overload; the machine has these charges by instruction.
 use Rattle.std.specs.Prelude.{ℕ, List, [], ◌∷◌}
 use Rattle.cel_value.specs.Values.{CelAnswer}
 use Rattle.cel_ops.specs.Operations.{Work, takes_one, takes_two, work}
@@ -15,12 +15,12 @@ abbrev pub charge_of_two : (CelAnswer → CelAnswer → ℕ) → List CelAnswer 
 charge_of_two charge (a ∷ b ∷ []) = charge a b
 charge_of_two charge _ = 1
 
--- what an operation is charged
+-- the charge of an operation
 abbrev pub operands_charge : Work → List CelAnswer → ℕ
 operands_charge (takes_one answer charge) = charge_of_one charge
 operands_charge (takes_two answer charge) = charge_of_two charge
 
--- what an overload is charged; a conditional's jumps are charged where they stand
+-- the charge of an overload: 1 for a conditional, whose jumps are charged as instructions
 abbrev pub overload_charge : Overload → List CelAnswer → ℕ
 overload_charge overloads.Conditional = λ answers. 1
 overload_charge (overloads.Operate op) = operands_charge (work op)

@@ -1,4 +1,4 @@
--- What the code finds, without where it lies in memory.
+-- Overloads and names that the code finds, without their places in memory.
 use Rattle.std.specs.Prelude.{ℕ, List, map}
 use denote.Ref.{Bor}
 use Rattle.cel_value.specs.Types.{ValueType}

@@ -1,4 +1,4 @@
--- The entries of map literals that the code's mean.
+-- The entries of map literals that values of the code mean.
 use Rattle.std.specs.Prelude.{List, map}
 use Rattle.proto_wire.specs.Merge.{parts_view}
 use Rattle.cel_tree.specs.Nodes as nodes

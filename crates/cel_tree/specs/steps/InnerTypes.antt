@@ -1,4 +1,4 @@
--- Faults of the types inside a type, as they are read in order.
+-- Faults of the types inside a type; the code reads these in order.
 use Rattle.std.specs.Prelude.{◌⊎◌, List, ℕ}
 use Rattle.proto_wire.specs.declared.refusal.Refusal.{Refusal}
 use Rattle.cel_tree.specs.TypeEntries.{TypeNode, plain, list_of, map_of}

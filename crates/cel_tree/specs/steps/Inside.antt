@@ -1,5 +1,5 @@
--- Trees inside a node, as they are read in order. If they read, the nodes that are left and theirs
--- are those that were left before.
+-- Trees inside a node; the code reads these in order. If they read, the number of nodes left before
+-- is theirs plus the number left after.
 use Rattle.std.specs.Prelude.{◌≡◌, ◌⊎◌, ◌+◌, ℕ, ℤ, List, [], ◌∷◌, Option, Some, None}
 use Rattle.proto_wire.specs.declared.refusal.Refusal.{Refusal}
 use Rattle.cel_tree.specs.Tree.{CelTree, CelTrees, CelTreeEntries, no_tree_entries, tree_entry}
@@ -11,32 +11,33 @@ use Rattle.cel_tree.specs.View.{LoopParts}
 abbrev pub TreeFails : ℕ → ℕ → Parts → Refusal → Type 0
 TreeFails depth left parts e = TreeFault depth parts e ⊎ NodesFault depth left parts e
 
--- so does the first of the trees that does not read
+-- the first of the trees that does not read has a fault, or more nodes than are left
 abbrev pub SomeFails : ℕ → ℕ → List Parts → Refusal → Type 0
 SomeFails depth left [] e = ⊥
 SomeFails depth left (child ∷ children) e = TreeFails depth left child e
     ⊎ ((t : CelTree) × (rest : ℕ) × IsTree depth child t × (rest + node_count t ≡ left)
     × SomeFails depth rest children e)
 
--- the node with its trees inside is this tree
+-- the node with its trees inside is this tree; `left` and `rest` are the numbers of nodes left
+-- before and after
 abbrev pub Inside : ℕ → ℤ → Node → CelTree → ℕ → ℕ → Type 0
 Inside depth id node t rest left = (ts : CelTrees) × AreTrees (IsTree depth) (children node) ts
     × Makes id node ts t × (rest + trees_count ts ≡ left)
 
--- two messages are trees
+-- two messages are these trees; `left` and `rest` are the numbers of nodes left before and after
 pub record AreTwoTrees (depth : ℕ) (a b : Parts) (t u : CelTree) (rest : ℕ) (left : ℕ)
     : Type 0 where
   pub first : IsTree depth a t
   pub second : IsTree depth b u
   pub count : rest + (node_count t + node_count u) ≡ left
 
--- the target of a call is this tree, or is not there
+-- the target of a call is this tree; none without parts
 abbrev pub IsTarget : ℕ → Parts → Option CelTree → Type 0
 IsTarget depth [] None = Unit {0}
 IsTarget depth (part ∷ parts) (Some t) = IsTree depth (part ∷ parts) t
 IsTarget depth _ _ = ⊥
 
--- how many nodes the target of a call has
+-- how many nodes the optional target of a call has
 abbrev pub target_nodes : Option CelTree → ℕ
 target_nodes None = 0
 target_nodes (Some t) = node_count t
@@ -48,12 +49,14 @@ EntryTrees depth (e ∷ es) (tree_entry id key value others) = (id ≡ e.id)
     × IsTree depth e.key key × IsTree depth e.value value × EntryTrees depth es others
 EntryTrees depth _ _ = ⊥
 
--- the same, and so many nodes are counted with them
+-- the keys and values of entries are trees; `left` and `rest` are the numbers of nodes left before
+-- and after
 abbrev pub AreEntryTrees : ℕ → List EntryNode → CelTreeEntries → ℕ → ℕ → Type 0
 AreEntryTrees depth es entries rest left =
     EntryTrees depth es entries × (rest + entries_count entries ≡ left)
 
--- the parts of a comprehension are trees
+-- the expressions of a comprehension are these trees; `left` and `rest` are the numbers of nodes
+-- left before and after
 pub record AreLoopTrees (depth : ℕ) (node : LoopNode) (parts : LoopParts) (rest : ℕ) (left : ℕ)
     : Type 0 where
   pub iter_var : parts.iter_var ≡ node.iter_var
@@ -71,7 +74,8 @@ pub record AreLoopTrees (depth : ℕ) (node : LoopNode) (parts : LoopParts) (res
 abbrev pub loop_body : LoopNode → List Parts
 loop_body node = node.loop_condition ∷ node.loop_step ∷ node.result ∷ []
 
--- they are these trees
+-- the condition, the step and the result are these trees; `left` and `rest` are the numbers of
+-- nodes left before and after
 pub record IsLoopBody (depth : ℕ) (node : LoopNode) (t u v : CelTree) (rest : ℕ) (left : ℕ)
     : Type 0 where
   pub condition : IsTree depth node.loop_condition t

@@ -1,4 +1,4 @@
--- The messages of single types and nodes that the code's mean.
+-- The messages of single types and nodes that values of the code mean.
 use Rattle.std.specs.Prelude.{ℤ}
 use Rattle.proto_wire.specs.Merge.{parts_view}
 use Rattle.cel_value.specs.Texts.{text_view}

@@ -23,7 +23,7 @@ abbrev pub starts_with : {V : Type 0} → ℤ → List (ℤ × V) → Bool
 starts_with id [] = false
 starts_with id (e ∷ es) = is_eq (int_cmp e.0 id)
 
--- so many entries have smaller ids, and the one after them, if there is one, has none
+-- so many entries have smaller ids; the next one, if there is one, does not
 pub record IsPlace {V : Type 0} (id : ℤ) (es : List (ℤ × V)) (at : ℕ) : Type 0 where
   pub within : at ≤ length es
   pub before : AllBelow id (take at es)

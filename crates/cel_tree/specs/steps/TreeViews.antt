@@ -1,4 +1,4 @@
--- Trees, entries and comprehensions by themselves, as the code has them.
+-- The meaning of lists, of optional trees, and of parts of trees in the code.
 use Rattle.std.specs.Prelude.{List, Option, map, option_map}
 use Rattle.std.specs.declared.alloc.Global.{Global}
 use Rattle.std.specs.declared.boxed.Box.{Box}
@@ -9,7 +9,7 @@ use Rattle.cel_tree.specs.declared.tree.Tree.{Tree}
 use Rattle.cel_tree.specs.declared.tree.TreeEntry.{TreeEntry}
 use Rattle.cel_tree.specs.declared.tree.Comprehension.{Comprehension}
 
--- a tree in a box, where it is there
+-- an optional tree in a box
 abbrev pub boxed_view : Option (Box Tree Global) → Option CelTree
 boxed_view t = option_map (λ b. tree_view b.value) t
 
@@ -17,7 +17,7 @@ boxed_view t = option_map (λ b. tree_view b.value) t
 abbrev pub trees_view : List Tree → CelTrees
 trees_view ts = trees_of (map tree_view ts)
 
--- an entry of a map literal by itself
+-- an entry of a map literal
 abbrev pub entry_view : TreeEntry → EntryParts
 entry_view e = record { id = e.id; key = tree_view e.key; value = tree_view e.value }
 
@@ -25,7 +25,7 @@ entry_view e = record { id = e.id; key = tree_view e.key; value = tree_view e.va
 abbrev pub tree_entries_view : List TreeEntry → CelTreeEntries
 tree_entries_view es = tree_entries_of (map entry_view es)
 
--- the names and parts of a comprehension by itself
+-- the names and parts of a comprehension
 abbrev pub loop_view : Comprehension → LoopParts
 loop_view c = record {
   iter_var = text_view c.iter_var;

@@ -1,4 +1,4 @@
--- What the check of a node comes to, and of nodes one after the other.
+-- The results and faults of checking nodes.
 use Rattle.std.specs.Prelude.{◌≡◌, ◌≢◌, ◌⊎◌, ℕ, ℤ, Bool, false, List, [], ◌∷◌, ◌++◌, Option, Some}
 use Rattle.std.specs.FinMap.{get}
 use Rattle.attributes.specs.declared.attribute.AttrId.{AttrId}
@@ -27,7 +27,7 @@ id_of (list_literal id es) = id
 id_of (map_literal id es) = id
 id_of (comprehension id x acc range init condition step result) = id
 
--- the entries of an expression agree, but for the type entry of its own node
+-- all entries of an expression agree; the type entry of its own node is left out
 abbrev pub InsideAgrees : Maps → Kinds → CelTree → Type 0
 InsideAgrees m ks (constant id v) = Unit {0}
 InsideAgrees m ks (ident id name) = RefAgrees (get m.refs id) name
@@ -46,11 +46,12 @@ InsideAgrees m ks (comprehension id x acc range init condition step result) =
     × ((gathered : ValueType) → Types m ks init gathered
     → EntriesAgree m ((acc, gathered) ∷ ks) result)
 
--- the expression is elaborated so, and its entries agree
+-- this is the expression's elaboration, and its entries agree
 abbrev pub IsFound : Maps → Kinds → CelTree → TypedTree → Type 0
 IsFound m ks t e = Elaborates m ks t e × EntriesAgree m ks t
 
--- the same but for its own type entry
+-- this is the expression's elaboration, and its entries agree; the type entry of its own node is
+-- left out
 abbrev pub IsNode : Maps → Kinds → CelTree → TypedTree → Type 0
 IsNode m ks t e = Elaborates m ks t e × InsideAgrees m ks t
 
@@ -60,12 +61,13 @@ IsAttribute ref name test_only e = (test_only ≡ false) × (id : AttrId)
     × (attribute_named name ≡ Some id) × (e ≡ typed_attribute (attribute_type id) id)
     × RefAgrees ref name
 
--- behind those before, the expressions are elaborated so
+-- after the expressions `before`, the list has the elaborations of these expressions, whose entries
+-- agree
 abbrev pub AreFound : Maps → Kinds → CelTrees → List TypedTree → List TypedTree → Type 0
 AreFound m ks ts before es = (others : List TypedTree) × (es ≡ before ++ others)
     × ElaboratesEach m ks ts (typed_of others) × EachAgrees m ks ts
 
--- a call's target is elaborated so, where there is one
+-- the list is the elaboration of the call's target, if there is one, and its entries agree
 abbrev pub IsTarget : Maps → Kinds → CelTarget → List TypedTree → Type 0
 IsTarget m ks no_target es = es ≡ []
 IsTarget m ks (target on) es = (e : TypedTree) × (es ≡ e ∷ []) × IsFound m ks on e
@@ -80,14 +82,13 @@ abbrev pub NamesFault : List ℕ → List ℕ → Refusal → Type 0
 NamesFault x acc e = ((x ≡ []) × (e ≡ Missing)) ⊎ (((acc ≡ []) × (e ≡ Missing))
     ⊎ ((x ≡ acc) × (e ≡ OutOfRange)))
 
--- the condition and the step of a comprehension are elaborated so, and keep the type of what is
--- gathered
+-- these are the elaborations of the condition, a bool, and of the step, of the accumulator's type
 abbrev pub IsTurn : Maps → Kinds → (condition step : CelTree) → (gathered : ValueType)
     → TypedTree → TypedTree → Type 0
 IsTurn m ks condition step gathered c s = IsFound m ks condition c × (kind c ≡ bool_type)
     × IsFound m ks step s × (kind s ≡ gathered)
 
--- one of them has a fault, or is of another type
+-- the condition or the step has a fault, or is of a wrong type
 abbrev pub TurnFault : Maps → Kinds → (condition step : CelTree) → (gathered : ValueType) → Refusal
     → Type 0
 TurnFault m ks condition step gathered e =

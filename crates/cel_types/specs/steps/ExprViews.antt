@@ -1,11 +1,11 @@
--- Parts of a comprehension and expressions by themselves, as the code has them.
+-- The meaning of lists of expressions, and of a comprehension's parts, in the code.
 use Rattle.std.specs.Prelude.{List, map}
 use Rattle.cel_types.specs.Elaborated.{TypedTrees}
 use Rattle.cel_types.specs.View.{TypedParts, expr_view, typed_of}
 use Rattle.cel_types.specs.declared.typed.TypedExpr.{TypedExpr}
 use Rattle.cel_types.specs.declared.typed.TypedLoop.{TypedLoop}
 
--- the parts of a comprehension by themselves
+-- the parts of a comprehension
 abbrev pub parts_view : TypedLoop → TypedParts
 parts_view p = record {
   range = expr_view p.range;
@@ -15,6 +15,6 @@ parts_view p = record {
   result = expr_view p.result;
 }
 
--- expressions one after the other
+-- expressions in order
 abbrev pub exprs_view : List TypedExpr → TypedTrees
 exprs_view es = typed_of (map expr_view es)

@@ -14,22 +14,22 @@ use Rattle.cel_types.specs.declared.checker.kinds.Elements.TheVariants as elemen
 use Rattle.proto_wire.specs.declared.refusal.Refusal.{Refusal}
 use Rattle.proto_wire.specs.declared.refusal.Refusal.TheVariants.{NeedsType, NoOverload, Unsupported, UnknownName}
 
--- the types are these two in turn
+-- the types are the first and the second in turn
 abbrev pub in_turn : ValueType → ValueType → List ValueType → Bool
 in_turn s t [] = true
 in_turn s t (u ∷ us) = type_eq u s && in_turn t s us
 
--- the type of the elements
+-- the type of a range's elements
 abbrev pub elements_type : Elements → ValueType
 elements_type (elements.Items t) = type_view t.now
 elements_type (elements.Keys k) = type_of_key k
 
--- an entry gives no type
+-- the entry gives no type, or an unsupported one
 abbrev pub NotGiven : Option CelTypeEntry → Refusal → Type 0
 NotGiven entry e = (SaysNothing entry × (e ≡ NeedsType))
     ⊎ ((entry ≡ Some unsupported_type) × (e ≡ Unsupported))
 
--- an empty literal has no type
+-- the entry of an empty literal has a fault, or gives an unsupported type
 abbrev pub NotTold : Option CelTypeEntry → (ValueType → Type 0) → Refusal → Type 0
 NotTold entry IsKind e = EmptyFault entry IsKind e
     ⊎ ((entry ≡ Some unsupported_type) × (e ≡ Unsupported))
@@ -39,32 +39,32 @@ abbrev pub IsListOf : Option CelTypeEntry → List ValueType → ValueType → T
 IsListOf entry [] t = TypeGiven entry t × IsList t
 IsListOf entry (s ∷ ss) t = (in_turn s s ss ≡ true) × (t ≡ list_type s)
 
--- it has none
+-- the fault of a list literal with elements of these types
 abbrev pub NoListOf : Option CelTypeEntry → List ValueType → Refusal → Type 0
 NoListOf entry [] e = NotTold entry IsList e
 NoListOf entry (s ∷ ss) e = (in_turn s s ss ≡ false) × (e ≡ NoOverload)
 
--- a map literal with keys and values of these types has the type; each key has a value, so there is
--- never one alone
+-- a map literal with keys and values of these types, in turn, has the type. One type alone does not
+-- occur, since each key has a value
 abbrev pub IsMapOf : Option CelTypeEntry → List ValueType → ValueType → Type 0
 IsMapOf entry [] t = TypeGiven entry t × IsMap t
 IsMapOf entry (r ∷ []) t = TypeGiven entry t × IsMap t
 IsMapOf entry (r ∷ s ∷ ss) t = (in_turn r s ss ≡ true) × (k : KeyType) × (r ≡ type_of_key k)
     × (t ≡ map_type k s)
 
--- it has none
+-- the fault of a map literal with keys and values of these types, in turn
 abbrev pub NoMapOf : Option CelTypeEntry → List ValueType → Refusal → Type 0
 NoMapOf entry [] e = NotTold entry IsMap e
 NoMapOf entry (r ∷ []) e = NotTold entry IsMap e
 NoMapOf entry (r ∷ s ∷ ss) e =
     ((in_turn r s ss ≡ false) ⊎ ((k : KeyType) → r ≢ type_of_key k)) × (e ≡ NoOverload)
 
--- a call on operands of these types has no overload
+-- the fault of a call on operands of these types
 abbrev pub NoCall : List ℕ → Bool → List ValueType → Refusal → Type 0
 NoCall name on ts e = ((function_named name ≡ None) × (e ≡ UnknownName))
     ⊎ (CallFault name on ts calls.NoOverload × (e ≡ NoOverload))
 
--- a map's value at a name, or whether it is there
+-- a map's value at a name, or, in a test, whether the map has the name
 abbrev pub field_of : Bool → ValueType → TypedTree → List ℕ → TypedTree
 field_of true t on name = typed_has bool_type on name
 field_of false t on name = typed_field t on name

@@ -1,4 +1,4 @@
--- The scopes and names that the code's stand for.
+-- The scopes and names that values of the code mean.
 use Rattle.std.specs.Prelude.{◌≡◌, ◌+◌, ℕ, List, [], ◌∷◌, Some, None}
 use Rattle.cel_ops.specs.Attributes.{attribute_type}
 use Rattle.cel_value.specs.Texts.{text_view}
@@ -14,7 +14,7 @@ use Rattle.cel_types.specs.declared.checker.scope.FoundLocal.{FoundLocal}
 use Rattle.cel_types.specs.declared.checker.scope.Scope.{Scope, fold-Scope}
 use Rattle.cel_types.specs.declared.checker.scope.Scope.TheOpen.{Scope-F}
 
--- one level of a scope, with the outer one already seen
+-- one level of a scope, whose outer level is already translated
 abbrev pub scope_level : Scope-F Kinds → Kinds
 scope_level Scope-F.Empty = []
 scope_level (Scope-F.Local name t outer) = (text_view name.now, type_view t.now) ∷ outer.now
@@ -27,11 +27,11 @@ scope_view = fold-Scope Kinds scope_level
 abbrev pub found_type : FoundLocal → ValueType
 found_type f = type_view f.cel_type.now
 
--- how many locals are outside of it
+-- how many locals are outside of a local that was found
 abbrev pub found_slot : FoundLocal → ℕ
 found_slot f = f.outside
 
--- the name is this local, or this attribute
+-- the name is this local or this attribute
 abbrev pub IsName : List ℕ → Kinds → Name → Type 0
 IsName name ks (names.Local f) =
     (local name ks ≡ Some (found_type f)) × (slot name ks ≡ Some f.outside)
@@ -43,7 +43,7 @@ abbrev pub name_view : Name → TypedTree
 name_view (names.Local f) = typed_local (found_type f) f.outside
 name_view (names.Attribute id) = typed_attribute (attribute_type id) id
 
--- how many locals a comprehension brings in
+-- the greatest number of a comprehension's own locals that a node inside has in scope
 abbrev pub locals_in_loop : LoopParts → ℕ
 locals_in_loop p = greatest (locals_in p.iter_range) (locals_in p.accu_init)
     (2 + locals_in p.loop_condition) (2 + locals_in p.loop_step) (1 + locals_in p.result)

@@ -1,4 +1,4 @@
-//! Which overload a call is.
+//! Finds the overloads of calls.
 
 ghost use Rattle.std.specs.Prelude.{◌≡◌, IfErr, IfOk};
 ghost use Rattle.cel_overload.specs.Overloads.{IsCall};
@@ -56,8 +56,8 @@ fn call_type(
     Ok((found.overload, cel_type))
 }
 
-/// The overload of a call on these operands. No overload has more than three, and no list is made of
-/// the types of so few.
+/// The overload of a call on these operands. One to three operands need no list of their types, and
+/// no overload takes more.
 fn found_overload<'t>(
     alloc: Global,
     name: &str,
@@ -94,7 +94,7 @@ fn types_of<'t>(alloc: Global, exprs: &'t [TypedExpr<'_>]) -> Result<Vec<&'t Cel
     Ok(types)
 }
 
-/// The overload of a call; refuses a name that no function has, and operands that it does not take.
+/// The overload of a call. Refuses a name that no function has, and operands that no overload takes.
 fn overload_of<'t>(
     name: &str,
     has_target: bool,

@@ -1,4 +1,4 @@
-//! What the type map and the reference map say of a node.
+//! Compares entries of the type map and of the reference map with a node.
 
 ghost use Rattle.std.specs.Prelude.{◌≡◌, ◌↔◌, IfErr, IfOk, IsTrue, OnOk, Some, option_map};
 ghost use Rattle.std.specs.Str.{bytes_eq};
@@ -15,7 +15,7 @@ use cel_value::CelType;
 use proto_wire::Refusal;
 use std::rc::RcStr;
 
-/// Refuses a type entry that does not agree with the type of its node.
+/// Refuses a type entry that disagrees with the node's type.
 pub(super) fn require_type(entry: Option<&TypeEntry>, found: &CelType) -> Result<(), Refusal>
     ensures found { OnOk result (TypeAgrees (option_map (λ e. type_entry_view e.now) entry.entry)
         (type_view found.now)) }
@@ -44,7 +44,7 @@ fn require_said(entry: &TypeEntry, found: &CelType) -> Result<(), Refusal>
     }
 }
 
-/// Refuses a reference entry of a variable that names another, or holds a value.
+/// Refuses a variable's reference entry if it has another name, or a value.
 pub(super) fn require_reference(entry: Option<&Reference>, name: &str) -> Result<(), Refusal>
     ensures found { OnOk result (RefAgrees (option_map (λ r. reference_view r.now) entry.entry)
         (points_of name.now)) }
@@ -71,7 +71,7 @@ fn agrees(reference: &Reference, name: &str) -> bool
     }
 }
 
-/// Whether a kept name is this one.
+/// Whether the kept name is this one.
 fn is_name(kept: &Option<RcStr>, name: &str) -> bool
     ensures { result ≡ bytes_eq (name_view kept.now) (points_of name.now) }
 {
@@ -81,7 +81,7 @@ fn is_name(kept: &Option<RcStr>, name: &str) -> bool
     }
 }
 
-/// The type that its entry gives an empty literal.
+/// The type in the entry of an empty literal; refuses an entry that gives none.
 pub(super) fn type_given(entry: Option<&TypeEntry>) -> Result<&CelType, Refusal>
     ensures found { IfOk result (λ t. TypeGiven (option_map (λ e. type_entry_view e.now) entry.entry)
         (type_view t.now)) }

@@ -1,4 +1,4 @@
-//! Types of expressions that were checked.
+//! Types of checked expressions, and what node rules require of them.
 
 ghost use Rattle.std.specs.Prelude.{◌≡◌, ◌≢◌, IfErr, IfOk, OnOk, Some, false, true};
 ghost use Rattle.cel_tree.specs.View.{constant_view};
@@ -37,7 +37,7 @@ impl<'a> TypedExpr<'a> {
     }
 }
 
-/// The elements of what a comprehension walks.
+/// The elements of a comprehension's range.
 #[derive(Clone, Copy)]
 pub(super) enum Elements<'t> {
     /// The items of a list.
@@ -71,7 +71,7 @@ pub(super) fn type_of_key(key: KeyType) -> CelType
     }
 }
 
-/// Refuses another type than bool.
+/// Refuses a type other than bool.
 pub(super) fn require_bool(found: &CelType) -> Result<(), Refusal>
     ensures found { OnOk result (type_view found.now ≡ bool_type) }
     ensures fault { IfErr result (λ e. (type_view found.now ≢ bool_type) × (e ≡ NoOverload)) }
@@ -82,7 +82,7 @@ pub(super) fn require_bool(found: &CelType) -> Result<(), Refusal>
     Err(Refusal::NoOverload)
 }
 
-/// Refuses another type than the one wanted.
+/// Refuses a type other than the wanted one.
 pub(super) fn require_same(found: &CelType, wanted: &CelType) -> Result<(), Refusal>
     ensures found { OnOk result (type_view found.now ≡ type_view wanted.now) }
     ensures fault { IfErr result (λ e. (type_view found.now ≢ type_view wanted.now) × (e ≡ NoOverload)) }
@@ -93,7 +93,7 @@ pub(super) fn require_same(found: &CelType, wanted: &CelType) -> Result<(), Refu
     Err(Refusal::NoOverload)
 }
 
-/// The type of the values of a map from names; refuses what is no such map.
+/// The type of the values of a map from texts; refuses any other type.
 pub(super) fn require_names(found: &CelType) -> Result<&CelType, Refusal>
     ensures found { IfOk result (λ t. type_view found.now ≡ map_type keys.Text (type_view t.now)) }
     ensures fault { IfErr result (λ e. ((t : ValueType) → type_view found.now ≢ map_type keys.Text t)
@@ -113,7 +113,7 @@ pub(super) fn require_names(found: &CelType) -> Result<&CelType, Refusal>
     }
 }
 
-/// The elements of a range; refuses what has none.
+/// The elements of a range; refuses a type without elements.
 pub(super) fn elements_of(range: &CelType) -> Result<Elements<'_>, Refusal>
     ensures found { IfOk result (λ s. IsOver (type_view range.now) (elements_type s)) }
     ensures fault { IfErr result (λ e. ((t : ValueType) → IsOver (type_view range.now) t → ⊥)
@@ -136,7 +136,7 @@ pub(super) fn element_type(elements: Elements<'_>) -> Result<CelType, AllocError
     }
 }
 
-/// The type of keys that a type is; refuses what is none.
+/// The type of keys that this type is; refuses any other.
 pub(super) fn require_key(found: &CelType) -> Result<KeyType, Refusal>
     ensures found { IfOk result (λ k. type_view found.now ≡ type_of_key k) }
     ensures fault { IfErr result (λ e. ((k : KeyType) → type_view found.now ≢ type_of_key k)
@@ -151,7 +151,7 @@ pub(super) fn require_key(found: &CelType) -> Result<KeyType, Refusal>
     }
 }
 
-/// Refuses a type entry of an empty list that is no list's.
+/// Refuses a type that is not a list; it is the type entry of an empty list.
 pub(super) fn require_list(given: &CelType) -> Result<(), Refusal>
     ensures found { OnOk result (IsList (type_view given.now)) }
     ensures fault { IfErr result (λ e. (IsList (type_view given.now) → ⊥) × (e ≡ BadTypeEntry)) }
@@ -167,7 +167,7 @@ pub(super) fn require_list(given: &CelType) -> Result<(), Refusal>
     }
 }
 
-/// Refuses a type entry of an empty map that is no map's.
+/// Refuses a type that is not a map; it is the type entry of an empty map.
 pub(super) fn require_map(given: &CelType) -> Result<(), Refusal>
     ensures found { OnOk result (IsMap (type_view given.now)) }
     ensures fault { IfErr result (λ e. (IsMap (type_view given.now) → ⊥) × (e ≡ BadTypeEntry)) }
@@ -183,7 +183,7 @@ pub(super) fn require_map(given: &CelType) -> Result<(), Refusal>
     }
 }
 
-/// Refuses expressions of other types than these two in turn.
+/// Refuses expressions whose types are not these two in turn.
 pub(super) fn require_in_turn(
     exprs: &[TypedExpr<'_>],
     first: &CelType,

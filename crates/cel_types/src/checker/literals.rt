@@ -18,7 +18,7 @@ use proto_wire::Refusal;
 use std::alloc::Global;
 use std::rc::Rc;
 
-/// The type of a list literal with these elements; an empty one has that of its entry.
+/// The type of a list literal with these elements; if it is empty, the type of its entry.
 pub(super) fn list_type(
     alloc: Global,
     entry: Option<&TypeEntry>,
@@ -39,7 +39,7 @@ pub(super) fn list_type(
     }
 }
 
-/// The type of an empty list: that of its entry, a list.
+/// The type of an empty list: its entry's, which has to be a list.
 fn empty_list(entry: Option<&TypeEntry>) -> Result<&CelType, Refusal>
     ensures found { IfOk result (λ t. TypeGiven (option_map (λ e. type_entry_view e.now) entry.entry)
         (type_view t.now) × IsList (type_view t.now)) }
@@ -50,7 +50,8 @@ fn empty_list(entry: Option<&TypeEntry>) -> Result<&CelType, Refusal>
     Ok(given)
 }
 
-/// The type of a map literal with these keys and values in turn; an empty one has that of its entry.
+/// The type of a map literal with these keys and values in turn; if it is empty, the type of its
+/// entry.
 pub(super) fn map_type(
     alloc: Global,
     entry: Option<&TypeEntry>,
@@ -71,7 +72,7 @@ pub(super) fn map_type(
     }
 }
 
-/// The type of an empty map: that of its entry, a map.
+/// The type of an empty map: its entry's, which has to be a map.
 fn empty_map(entry: Option<&TypeEntry>) -> Result<&CelType, Refusal>
     ensures found { IfOk result (λ t. TypeGiven (option_map (λ e. type_entry_view e.now) entry.entry)
         (type_view t.now) × IsMap (type_view t.now)) }

@@ -1,4 +1,4 @@
-//! How many locals are in scope.
+//! Limits the number of locals in scope.
 
 ghost use Rattle.std.specs.Prelude.{◌≡◌, ◌<◌, ◌≤◌, IfErr, OnOk, nat_lt, suc};
 ghost use Rattle.cel_tree.specs.View.{target_of, tree_view};
@@ -12,7 +12,7 @@ use proto_wire::Refusal;
 
 const MOST_LOCALS: u8 = 64;
 
-/// Refuses an expression with a node that has too many locals in scope.
+/// Refuses an expression if one of its nodes has too many locals in scope.
 pub(super) fn require_few_locals(tree: &Tree) -> Result<(), Refusal>
     ensures found { OnOk result (locals_in (tree_view tree.now) ≤ most_locals) }
     ensures fault { IfErr result (λ e. (most_locals < locals_in (tree_view tree.now)) × (e ≡ TooLarge)) }
@@ -23,7 +23,7 @@ pub(super) fn require_few_locals(tree: &Tree) -> Result<(), Refusal>
     Err(Refusal::TooLarge)
 }
 
-/// Whether the expression brings in no more than so many.
+/// Whether no node has more than so many of the expression's own locals in scope.
 #[cycle(locals)]
 fn has_few(tree: &Tree, most: u8) -> bool
     ensures { result ≡ nat_lt (locals_in (tree_view tree.now)) (suc most) }
@@ -76,7 +76,7 @@ fn entries_have_few(entries: &[TreeEntry], most: u8) -> bool
     true
 }
 
-/// Its condition and step have two locals more, its result one.
+/// The same for a comprehension: its condition and step have two more locals, its result one.
 #[cycle(locals)]
 fn loop_has_few(parts: &Comprehension, most: u8) -> bool
     ensures { result ≡ nat_lt (locals_in_loop (loop_view parts.now)) (suc most) }

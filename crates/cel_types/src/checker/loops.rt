@@ -1,4 +1,4 @@
-//! The names of comprehensions.
+//! Checks the names of comprehensions.
 
 ghost use Rattle.std.specs.Prelude.{◌≡◌, ◌↔◌, [], IfErr, IsTrue, OnOk};
 ghost use Rattle.cel_value.specs.Texts.{text_view};
@@ -9,7 +9,7 @@ use crate::checker::scope::same_names;
 use proto_wire::Refusal;
 use std::rc::RcStr;
 
-/// Refuses names of a comprehension of which one is empty, or which are the same.
+/// Refuses names of a comprehension if one is empty, or both are the same.
 pub(super) fn require_names_differ(element: &RcStr, gathered: &RcStr) -> Result<(), Refusal>
     ensures found { OnOk result (NamesDiffer (text_view element.now) (text_view gathered.now)) }
     ensures fault { IfErr result (NamesFault (text_view element.now) (text_view gathered.now)) }

@@ -1,4 +1,4 @@
-//! Which local or attribute a name is.
+//! Finds the local or attribute of a name.
 
 ghost use Rattle.std.specs.Prelude.{◌≡◌, ◌≤◌, ◌⊎◌, IfErr, IfOk, None, Some, false, length, option_map, true};
 ghost use Rattle.std.specs.String.{string_bytes};
@@ -23,7 +23,7 @@ use proto_wire::Refusal;
 use std::alloc::{AllocError, Global};
 use std::rc::{Rc, RcStr};
 
-/// What a name is.
+/// The meaning of a name.
 #[derive(Clone, Copy)]
 pub(super) enum Name<'s> {
     Local(FoundLocal<'s>),
@@ -47,7 +47,7 @@ pub(super) fn resolve<'s>(scope: &Scope<'s>, name: &RcStr) -> Result<Name<'s>, R
     }
 }
 
-/// The attribute of a root's field; it is not asked for being there.
+/// The attribute of a root's field; refuses a test of it.
 pub(super) fn resolve_field(name: &str, test_only: bool) -> Result<AttrId, Refusal>
     ensures found { IfOk result (λ id. (test_only ≡ false) × (attribute_named (points_of name.now) ≡ Some id)) }
     ensures fault { IfErr result (λ e. ((attribute_named (points_of name.now) ≡ None) ⊎ (test_only ≡ true))
@@ -69,7 +69,7 @@ pub fn attribute_named(name: &str) -> Option<AttrId>
     attr_named(name)
 }
 
-/// The expression that a name is.
+/// The expression for a name.
 pub(super) fn name_expr<'a>(alloc: Global, name: Name<'_>) -> Result<TypedExpr<'a>, AllocError>
     ensures { IfOk result (λ e. expr_view e ≡ name_view name.entry) }
 {
@@ -82,7 +82,7 @@ pub(super) fn name_expr<'a>(alloc: Global, name: Name<'_>) -> Result<TypedExpr<'
     }
 }
 
-/// The expression that an attribute is.
+/// The expression for an attribute.
 pub(super) fn attribute_expr<'a>(alloc: Global, id: AttrId) -> Result<TypedExpr<'a>, AllocError>
     ensures { IfOk result (λ e. expr_view e ≡ typed_attribute (attribute_type id) id) }
 {
@@ -102,7 +102,7 @@ fn attribute_type(alloc: Global, id: AttrId) -> Result<CelType, AllocError>
     }
 }
 
-/// The root that an expression is, where it is nothing but a root that no local hides.
+/// The root that an expression is; none if it is anything but a root that no local hides.
 pub(super) fn bare_root<'t>(tree: &'t Tree, scope: &Scope<'_>) -> Option<&'t RcStr>
     requires { length (scope_view scope.now) ≤ most_locals }
     ensures { option_map (λ name. text_view name.now) result ≡ root_of (tree_view tree.now) (scope_view scope.now) }
@@ -126,7 +126,7 @@ fn is_bare_root(name: &RcStr, scope: &Scope<'_>) -> bool
     is_root(name.as_str())
 }
 
-/// Whether the name is a root of attributes' names.
+/// Whether attributes' names begin with this root.
 pub fn is_root(name: &str) -> bool
     ensures { result ≡ is_root (points_of name.now) }
 {

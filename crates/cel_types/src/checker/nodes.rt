@@ -1,4 +1,4 @@
-//! The check of nodes, and of the nodes inside them.
+//! Checks nodes, and the nodes inside them.
 
 ghost use Rattle.std.specs.Prelude.{◌≡◌, ◌≤◌, ◌+◌, IfErr, IfOk, length, map};
 ghost use Rattle.cel_tree.specs.Tree.{list_literal, map_literal, select};
@@ -30,7 +30,7 @@ use proto_wire::Refusal;
 use std::alloc::Global;
 use std::rc::RcStr;
 
-/// Checks an expression: its node, and then the type entry of that.
+/// Checks an expression: its node, and then the node's type entry.
 #[cycle(check)]
 pub(super) fn check_tree<'a>(
     alloc: Global,
@@ -64,7 +64,7 @@ fn id_of(tree: &Tree) -> i64
     }
 }
 
-/// Checks an expression, but for the type entry of its own node.
+/// Checks an expression, without the type entry of its own node.
 #[cycle(check)]
 fn check_node<'a>(
     alloc: Global,
@@ -106,7 +106,7 @@ fn check_node<'a>(
     }
 }
 
-/// Checks a Select: the attribute of a bare root's field, or what its operand holds.
+/// Checks a Select: of a root's attribute, or of its operand, a map from texts.
 #[cycle(check)]
 fn check_select<'a>(
     alloc: Global,
@@ -130,7 +130,7 @@ fn check_select<'a>(
     field_expr(alloc, map, field, test_only)
 }
 
-/// Checks the target of a call, where it has one.
+/// Checks the target of a call, if there is one.
 #[cycle(check)]
 fn check_target<'a>(
     alloc: Global,
@@ -154,7 +154,7 @@ fn check_target<'a>(
     }
 }
 
-/// Checks expressions one after the other, and puts them behind those before.
+/// Checks expressions in order, and appends their elaborations.
 #[cycle(check)]
 fn check_each<'a>(
     alloc: Global,
@@ -196,7 +196,8 @@ fn check_list<'a>(
     Ok(TypedExpr::List { cel_type, elements })
 }
 
-/// Checks a map literal: its keys and values, and then whether each have one type.
+/// Checks a map literal: its keys and values, and then whether all keys have one type, and all
+/// values one.
 #[cycle(check)]
 fn check_map<'a>(
     alloc: Global,
@@ -239,7 +240,7 @@ fn check_pairs<'a>(
     Ok(pairs)
 }
 
-/// Checks a comprehension: its names, what it walks and what it begins with, and then its turns.
+/// Checks a comprehension: its names, its range, its initial value, its turns, and then its result.
 #[cycle(check)]
 fn check_loop<'a>(
     alloc: Global,
@@ -275,7 +276,7 @@ fn check_loop<'a>(
     Ok(TypedExpr::Loop { cel_type, parts })
 }
 
-/// Checks the condition and the step of a comprehension, in which what is gathered has this type.
+/// Checks the condition and the step of a comprehension, whose accumulator has this type.
 #[cycle(check)]
 fn check_turn<'a>(
     alloc: Global,

@@ -28,12 +28,12 @@ pub(super) enum Scope<'s> {
 #[derive(Clone, Copy)]
 pub(super) struct FoundLocal<'s> {
     pub cel_type: &'s CelType,
-    /// How many locals are outside of it.
+    /// The number of locals outside of it.
     pub outside: u8,
 }
 
 impl<'s> Scope<'s> {
-    /// The scope with one local more.
+    /// The scope with one more local.
     pub(super) fn with(&'s self, name: &'s RcStr, cel_type: &'s CelType) -> Scope<'s>
         ensures { scope_view result ≡ (text_view name.now, type_view cel_type.now) ∷ scope_view self.now }
     {
@@ -68,7 +68,7 @@ impl<'s> Scope<'s> {
         }
     }
 
-    /// How many there are.
+    /// The number of locals in scope.
     fn count(&self) -> u8
         requires { length (scope_view self.now) ≤ most_locals }
         ensures { result ≡ length (scope_view self.now) }

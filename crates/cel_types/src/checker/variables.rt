@@ -1,4 +1,4 @@
-//! Nodes that are variables: names and attributes.
+//! Checks nodes that are variables: names and attributes.
 
 ghost use Rattle.std.specs.Prelude.{◌≡◌, ◌≢◌, ◌≤◌, IfErr, IfOk, Some, length};
 ghost use Rattle.std.specs.FinMap.{get};
@@ -48,7 +48,7 @@ pub(super) fn check_ident<'a>(
     Ok(name_expr(alloc, found)?)
 }
 
-/// Checks a Select of a bare root: an attribute, and its reference entry.
+/// Checks a Select of a root: an attribute, and its reference entry.
 pub(super) fn check_attribute<'a>(
     alloc: Global,
     refs: &ReferenceMap,
@@ -68,7 +68,8 @@ pub(super) fn check_attribute<'a>(
     Ok(attribute_expr(alloc, attribute)?)
 }
 
-/// A map's value at a name, or whether the map has the name; refuses what is no map with names.
+/// A map's value at a name, or, in a test, whether the map has the name. Refuses a type other than
+/// a map from texts.
 pub(super) fn field_expr<'a>(
     alloc: Global,
     map: TypedExpr<'a>,

@@ -1,4 +1,4 @@
--- The tests of equality decide sameness, and so are equivalences, as std asks of `==`.
+-- The tests of equality are exact, and therefore equivalences, as std requires of `==`.
 use Rattle.std.proofs.Common.{◌≡◌, ◌&&◌, Bool, refl, sym, ap}
 use Rattle.std.specs.Bool.{Decides}
 use Rattle.std.specs.Cmp.{booleans_Decides, IsEquivalence}
@@ -87,7 +87,7 @@ type_eq_decides (map_type j s) (map_type k t) =
     )
 type_eq_decides _ _ = (λ e. cc, λ e. cc)
 
--- a test that decides sameness is an equivalence
+-- a test that is true exactly of equal values is an equivalence
 pub equivalence : {A : Type 0} (E : A → A → Bool) → ((a b : A) → Decides (E a b) (a ≡ b))
     → IsEquivalence E
 equivalence E d = record {

@@ -1,5 +1,5 @@
--- What measuring an expression answers: its size and what its cost leaves, or that its cost is more
--- than there is.
+-- The results of measuring an expression: its size and the budget that its cost leaves, or a
+-- refusal if the budget is too small.
 use Rattle.std.specs.Prelude.{ℕ, ◌≡◌, ◌<◌, ◌+◌, ◌-◌, List, [], ◌∷◌}
 use Rattle.proto_wire.specs.declared.refusal.Refusal.{Refusal}
 use Rattle.proto_wire.specs.declared.refusal.Refusal.TheVariants.{TooCostly}
@@ -13,32 +13,32 @@ use Rattle.cel_value.specs.Types.{ValueType}
 use Rattle.cost_bound.specs.Sizes.{Size}
 use Rattle.cost_bound.specs.Costs.{charge_at, cost_of, costs_of, size_of, sizes_of}
 
--- the cost is more than is left
+-- the refusal of a cost above the budget
 abbrev pub CostsMore : (cost left : ℕ) → Refusal → Type 0
 CostsMore cost left e = (e ≡ TooCostly) × (left < cost)
 
--- what an `&&` or `||` of two charges besides its operands, and any other call but a conditional of
--- three, all less 1
+-- the charge of a call without its operands, less 1: two jumps for `&&` and `||`, one instruction
+-- otherwise. Not for a conditional of three operands
 abbrev pub call_part : Overload → List ValueType → List Size → ℕ
 call_part (overloads.Operate operations.And) ts (a ∷ b ∷ []) = 1
 call_part (overloads.Operate operations.Or) ts (a ∷ b ∷ []) = 1
 call_part o ts sizes = charge_at o ts sizes - 1
 
--- what is gathered after one turn, by what was gathered before it
+-- the step's size in one turn, by the accumulator's size before it
 abbrev pub next_size : TypedParts → LimitsValue → (element : Size) → List Size → Size → Size
 next_size p l element sizes s = size_of p.step l (element ∷ s ∷ sizes)
 
--- what one turn costs
+-- the cost of one turn, by the accumulator's size before it
 abbrev pub turn_cost : TypedParts → LimitsValue → (element : Size) → List Size → Size → ℕ
 turn_cost p l element sizes s =
     cost_of p.condition l (element ∷ s ∷ sizes) + cost_of p.step l (element ∷ s ∷ sizes) + 4
 
--- two expressions that measure the same, whatever the limits and the sizes of the locals are
+-- two expressions have the same size and cost, for all limits and all sizes of the locals
 abbrev pub MeasureAlike : TypedTree → TypedTree → Type 0
 MeasureAlike e d = (l : LimitsValue) (sizes : List Size)
     → (size_of e l sizes ≡ size_of d l sizes) × (cost_of e l sizes ≡ cost_of d l sizes)
 
--- the same of expressions one after the other
+-- the expressions of two lists have the same sizes and costs, in order
 abbrev pub EachAlike : TypedTrees → TypedTrees → Type 0
 EachAlike es ds = (l : LimitsValue) (sizes : List Size)
     → (sizes_of es l sizes ≡ sizes_of ds l sizes) × (costs_of es l sizes ≡ costs_of ds l sizes)

@@ -1,4 +1,4 @@
--- What is known of an expression before it is measured, and when it is true.
+-- Memos: what is known of an expression before it is measured, and when that is true.
 use Rattle.std.specs.Prelude.{ℕ, zero, suc, ◌≡◌, ◌<◌, ◌≤◌, ◌+◌, ◌⊎◌, List, [], ◌∷◌, length, map, Option, Some, None}
 use denote.Ref.{Bor}
 use Rattle.attributes.specs.Limits.{LimitsValue}
@@ -12,40 +12,40 @@ use Rattle.cost_bound.specs.declared.memo.Memo.{Memo, fold-Memo}
 use Rattle.cost_bound.specs.declared.memo.Memo.TheOpen.{Memo-F}
 
 mutual
-  -- nothing; the size and the cost; that the cost is more than so much; or what is known of the parts
+  -- a memo: nothing; the size and the cost; a number that the cost exceeds; or memos of the parts
   pub data MemoTree : Type 0 where
     nothing_known : MemoTree
     known_as : (size : Size) → (cost : ℕ) → MemoTree
     more_than : (cost : ℕ) → MemoTree
     parts_known : MemoTrees → MemoTree
 
-  -- of parts one after the other
+  -- memos of parts, in order
   pub data MemoTrees : Type 0 where
     no_memos : MemoTrees
     memo : MemoTree → MemoTrees → MemoTrees
 
--- of parts one after the other
+-- memos of parts, in order
 abbrev pub memos_of : List MemoTree → MemoTrees
 memos_of [] = no_memos
 memos_of (m ∷ ms) = memo m (memos_of ms)
 
--- one level of a memo, with each memo inside already seen
+-- one level of a memo, whose inner memos are already translated
 abbrev pub memo_level : Memo-F MemoTree → MemoTree
 memo_level Memo-F.Unknown = nothing_known
 memo_level (Memo-F.Known s c) = known_as (size_view s) c
 memo_level (Memo-F.Costly n) = more_than n
 memo_level (Memo-F.Parts ms) = parts_known (memos_of ms.items)
 
--- what a `Memo` stands for
+-- the memo that a `Memo` means
 abbrev pub memo_view : Memo → MemoTree
 memo_view = fold-Memo MemoTree memo_level
 
--- what is known, where there may be a memo
+-- the memo of an optional `Memo`; without one, nothing is known
 abbrev pub known_view : Option (Bor Memo) → MemoTree
 known_view None = nothing_known
 known_view (Some m) = memo_view m.now
 
--- the same of parts one after the other
+-- the memos that a list means, in order
 abbrev pub memos_view : List Memo → MemoTrees
 memos_view ms = memos_of (map memo_view ms)
 
@@ -55,31 +55,31 @@ memo_at i no_memos = nothing_known
 memo_at zero (memo m ms) = m
 memo_at (suc i) (memo m ms) = memo_at i ms
 
--- what is known of the part at a place
+-- the memo of the part at a place
 abbrev pub part_at : ℕ → MemoTree → MemoTree
 part_at i nothing_known = nothing_known
 part_at i (known_as s c) = nothing_known
 part_at i (more_than n) = nothing_known
 part_at i (parts_known ms) = memo_at i ms
 
--- what a memo says of a size and of a cost
+-- what the memo states of the expression itself is true of this size and cost
 abbrev pub Says : MemoTree → Size → ℕ → Type 0
 Says nothing_known size cost = Unit {0}
 Says (known_as s c) size cost = (s ≡ size) × (c ≡ cost)
 Says (more_than n) size cost = n < cost
 Says (parts_known ms) size cost = Unit {0}
 
--- it says all of them, or that the cost is more than a number that it is more than
+-- the memo states this size and cost, or a number that the cost exceeds
 abbrev pub IsTold : MemoTree → Size → ℕ → Type 0
 IsTold m size cost = (m ≡ known_as size cost) ⊎ ((n : ℕ) × (m ≡ more_than n) × (n < cost))
 
--- it says so of an expression, and more
+-- what the memo states of the expression itself is true, and `More` is true
 abbrev pub SaysAnd : MemoTree → TypedTree → LimitsValue → List Size → (More : Type 0) → Type 0
 SaysAnd m e l sizes More = Says m (size_of e l sizes) (cost_of e l sizes) × More
 
 abbrev mutual
-  -- what a memo says of an expression's parts is true; of a loop's condition, step and result whatever
-  -- is gathered and whatever the element is
+  -- what a memo states of an expression's parts is true. For a loop's condition, step and result it is
+  -- true for all sizes of the accumulator and the element
   pub HoldsInside : MemoTree → TypedTree → LimitsValue → List Size → Type 0
   HoldsInside m (typed_constant t v) l sizes = Unit {0}
   HoldsInside m (typed_local t outside) l sizes = Unit {0}
@@ -101,28 +101,28 @@ abbrev mutual
       × ((s : Size) → SaysAnd (part_at 4 m) result l (s ∷ sizes)
       (HoldsInside (part_at 4 m) result l (s ∷ sizes)))
 
-  -- the same of parts one after the other, from a place on
+  -- the same for parts in order; the first has this place
   pub HoldsEach : MemoTree → ℕ → TypedTrees → LimitsValue → List Size → Type 0
   HoldsEach m place no_typed l sizes = Unit {0}
   HoldsEach m place (typed e es) l sizes =
       SaysAnd (part_at place m) e l sizes (HoldsInside (part_at place m) e l sizes)
       × HoldsEach m (suc place) es l sizes
 
--- all that a memo says of an expression and of its parts is true
+-- all that a memo states of an expression and of its parts is true
 abbrev pub Holds : MemoTree → TypedTree → LimitsValue → List Size → Type 0
 Holds m e l sizes = SaysAnd m e l sizes (HoldsInside m e l sizes)
 
--- a local that each turn of a loop finds as it was, by how many locals are outside of the loop: one of
--- these, or the loop's element
+-- a local is the same in each turn of a loop: one of the `around` locals outside of the loop, or the
+-- loop's element
 abbrev pub IsSteady : (around : ℕ) → ℕ → Type 0
 IsSteady around n = (n < around) ⊎ (n ≡ around + 1)
 
--- or one that is no local of a scope of so many
+-- such a local, or the expression's own: one with at least `depth` locals outside of it
 abbrev pub IsSettled : (around depth : ℕ) → ℕ → Type 0
 IsSettled around depth n = IsSteady around n ⊎ (depth ≤ n)
 
 abbrev mutual
-  -- each local that an expression names is one of these
+  -- each local that an expression names has this property
   pub NamesOnly : (ℕ → Type 0) → TypedTree → Type 0
   NamesOnly N (typed_constant t v) = Unit {0}
   NamesOnly N (typed_local t outside) = N outside
@@ -136,23 +136,23 @@ abbrev mutual
       NamesOnly N range × NamesOnly N init × NamesOnly N condition × NamesOnly N step
       × NamesOnly N result
 
-  -- the same of expressions
+  -- the same for each of the expressions
   pub EachNamesOnly : (ℕ → Type 0) → TypedTrees → Type 0
   EachNamesOnly N no_typed = Unit {0}
   EachNamesOnly N (typed e es) = NamesOnly N e × EachNamesOnly N es
 
--- the sizes that the locals have inside of a loop in one turn and in another
+-- the sizes of the locals inside a loop, in two of its turns
 pub record InTurns (around : ℕ) (sizes others : List Size) : Type 0 where
   pub inside : around + 2 ≤ length sizes
   pub many : length sizes ≡ length others
   pub same : (n : ℕ) → IsSteady around n → known (local_at n sizes) ≡ known (local_at n others)
 
--- whatever a turn of the loop finds, what the memo says of an expression inside of it is true
+-- in every turn of the loop, what the memo states of an expression inside is true
 abbrev pub Remembers : MemoTree → TypedTree → LimitsValue → (around : ℕ) → List Size → Type 0
 Remembers m e l around sizes = (k : ℕ) (others : List Size) → around ≡ capped k → InTurns k sizes others
     → Holds m e l others
 
--- the same of expressions one after the other
+-- the same for expressions, in order
 abbrev pub RemembersEach : MemoTree → TypedTrees → LimitsValue → (around : ℕ) → List Size → Type 0
 RemembersEach m es l around sizes = (k : ℕ) (others : List Size) → around ≡ capped k
     → InTurns k sizes others → HoldsEach m 0 es l others

@@ -1,6 +1,6 @@
--- Numbers of 64 bits that stand for whole numbers without limit.
+-- Whole numbers, capped to 64 bits.
 use Rattle.std.specs.Prelude.{ℕ, ◌-◌, ◌^◌, min}
 
--- the number, or the greatest of 64 bits where that is less
+-- the number, but at most 2^64 - 1
 abbrev pub capped : ℕ → ℕ
 capped n = min n (2 ^ 64 - 1)

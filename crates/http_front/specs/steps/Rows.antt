@@ -1,4 +1,4 @@
--- A row of the table of answers, as the code has it.
+-- A row of the table of answers, in the code.
 use Rattle.http_front.specs.declared.answer.Row.{Row}
 use Rattle.http_front.specs.Answer.{RowValue}
 

@@ -1,5 +1,5 @@
--- What was seen of a head, and what may follow, so that all is one head (RFC 9112, sections 2 to 5). What may follow is
--- told from its first byte on, so that a scan takes one more byte off its front.
+-- How far a head was scanned, and which bytes may follow to make it whole (RFC 9112, sections 2 to 5). The definitions
+-- of what may follow begin with its first byte, so that a scan can take one more byte off its front.
 use Rattle.std.specs.Prelude.{◌≡◌, ℕ, ◌+◌, ◌≤◌, List, [], ◌∷◌, ◌++◌, drop, length, take, All}
 use Rattle.httparse.specs.Ascii.{carriage_return, colon, line_feed, space}
 use Rattle.httparse.specs.Grammar.{AllPass, Field, IsField, IsRequestHead, IsToken, LineEnd, RequestHead, is_token_byte, is_uri_byte, is_value_byte, print_blank, print_end, print_request, print_section, print_version}
@@ -29,7 +29,7 @@ EndsName bytes =
     (name : List ℕ) × (rest : List ℕ) × AllPass is_token_byte name × EndsValue rest
     × (bytes ≡ name ++ colon ∷ rest)
 
--- the rest of a version behind so many bytes, and the end of its line
+-- the rest of a version after `count` of its bytes, the end of its line, and further lines
 abbrev pub EndsVersion : ℕ → List ℕ → Type 0
 EndsVersion count bytes =
     (minor : ℕ) × (end : LineEnd) × (rest : List ℕ) × (minor ≤ 1) × EndsLine rest
@@ -40,7 +40,7 @@ abbrev pub EndsCrLf : List ℕ → Type 0
 EndsCrLf [] = ⊥
 EndsCrLf (b ∷ rest) = (b ≡ line_feed) × EndsLine rest
 
--- what may follow where the scan is, behind the target
+-- the bytes may follow a scan that is past the target
 abbrev pub Ends : LineScan → List ℕ → Type 0
 Ends (lines.Version count) bytes = EndsVersion count bytes
 Ends lines.LineEnd bytes = EndsCrLf bytes
@@ -50,11 +50,11 @@ Ends lines.Value bytes = EndsValue bytes
 Ends lines.HeadEnd bytes = bytes ≡ line_feed ∷ []
 Ends lines.Stop bytes = ⊥
 
--- something may follow
+-- at least one byte may follow
 abbrev pub GoesOn : LineScan → Type 0
 GoesOn scan = (first : ℕ) × (rest : List ℕ) × Ends scan (first ∷ rest)
 
--- the bytes end in a target, which begins at this place
+-- the bytes end in a target, which begins at the index `start`
 pub record IsInTarget (start : ℕ) (bytes : List ℕ) : Type 0 where
   pub blank : List LineEnd
   pub method : List ℕ
@@ -64,7 +64,7 @@ pub record IsInTarget (start : ℕ) (bytes : List ℕ) : Type 0 where
   pub begins : start ≡ length (print_blank blank) + length method + 1
   pub whole : bytes ≡ print_blank blank ++ (method ++ space ∷ target)
 
--- the bytes were seen
+-- the scan is the state after these bytes
 abbrev pub IsSeen : Scan → List ℕ → Type 0
 IsSeen scans.Blank bytes = (blank : List LineEnd) × (bytes ≡ print_blank blank)
 IsSeen scans.BlankEnd bytes =
@@ -74,6 +74,6 @@ IsSeen scans.Method bytes =
 IsSeen (scans.Target start) bytes = IsInTarget start bytes
 IsSeen (scans.Behind line) bytes = (more : List ℕ) → Ends line more → IsHead (bytes ++ more)
 
--- the first so many of the bytes were seen
+-- the scan is the state after the first `seen` of the bytes
 abbrev pub AreSeen : Scan → ℕ → List ℕ → Type 0
 AreSeen scan seen bytes = (seen ≤ length bytes) × IsSeen scan (take seen bytes)

@@ -1,4 +1,4 @@
--- What the code keeps of a connection, and what it makes of the first ask of some bytes.
+-- What the code keeps of a connection, and its result for the first ask of some bytes.
 use Rattle.std.specs.Prelude.{◌≡◌, ℕ, ◌+◌, Bool, true, false, List, drop, take}
 use Rattle.attributes.specs.Conn.{Facts}
 use Rattle.attributes.specs.Limits.{LimitsValue}
@@ -15,7 +15,7 @@ use Rattle.http_front.specs.Head.{HeadValue}
 use Rattle.http_front.specs.Heads.{IsAtRest, Kept, Takes, closed, passed, reading}
 use Rattle.http_front.specs.steps.Asks.{IsAskOf}
 
--- what the fields of a front stand for
+-- what the fields of a front mean
 abbrev pub kept_of : Bool → ℕ → ℕ → List ℕ → Kept
 kept_of true skip at bytes = closed
 kept_of false skip at bytes = reading skip (drop at bytes)
@@ -24,26 +24,26 @@ kept_of false skip at bytes = reading skip (drop at bytes)
 abbrev pub front_of : LimitsValue → Facts → Kept → FrontValue
 front_of limits facts kept = record { limits = limits; facts = facts; kept = kept }
 
--- so many bytes are passed over
+-- so many bytes are skipped
 abbrev pub passing : ℕ → Kept → Kept
 passing count (reading skip bytes) = passed count bytes
 passing count closed = closed
 
--- the turn is what the bytes begin with
+-- the turn is the first ask of the bytes, or there is none yet
 abbrev pub IsTurn : LimitsValue → Facts → List ℕ → Turn → Type 0
 IsTurn limits facts bytes Rest = IsUnfinished bytes
 IsTurn limits facts bytes (Close ask) = Takes limits facts (reading 0 bytes) ask closed
 IsTurn limits facts bytes (Pass r n) =
     Takes limits facts (reading 0 bytes) (asks.Judge r false) (passed n bytes)
 
--- the first n bytes tell this turn, or they do not tell it yet
+-- the first `n` bytes suffice for this turn; `Rest` if they do not
 abbrev pub IsTurnOfFirst : LimitsValue → Facts → ℕ → List ℕ → Turn → Type 0
 IsTurnOfFirst limits facts n bytes Rest = HasNoRequest (take n bytes) × MayBecomeRequest (take n bytes)
 IsTurnOfFirst limits facts n bytes (Close ask) = Takes limits facts (reading 0 bytes) ask closed
 IsTurnOfFirst limits facts n bytes (Pass r count) =
     Takes limits facts (reading 0 bytes) (asks.Judge r false) (passed count bytes)
 
--- the turn is what a head of this size makes
+-- the turn is the ask of a whole head of this size
 abbrev pub IsTurnOf : LimitsValue → Facts → HeadValue → ℕ → Turn → Type 0
 IsTurnOf limits facts h size Rest = ⊥
 IsTurnOf limits facts h size (Close (asks.Judge r close)) =
@@ -52,7 +52,7 @@ IsTurnOf limits facts h size (Close (asks.Fault fault)) = IsAskOf limits facts h
 IsTurnOf limits facts h size (Pass r n) =
     IsAskOf limits facts h (head_asks.Judge r) × (closes h ≡ false) × (n ≡ size + body_of h)
 
--- the turn is the first of what is kept
+-- the turn is the first ask of what is kept, or there is none yet
 abbrev pub IsNextTurn : LimitsValue → Facts → Kept → Turn → Type 0
 IsNextTurn limits facts kept Rest = IsAtRest limits facts kept
 IsNextTurn limits facts kept (Close ask) = Takes limits facts kept ask closed

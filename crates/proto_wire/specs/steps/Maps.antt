@@ -2,7 +2,7 @@
 use Rattle.std.specs.Prelude.{◌≡◌, ℕ, List, [], ◌∷◌}
 use Rattle.proto_wire.specs.Maps.{KeyKind, KeyOf, Entry}
 
--- the values are at the keys of the payloads, each in its place
+-- the keys of the entries in order, each with the value that its payloads merge to
 abbrev pub Held : (kind : KeyKind) {V : Type 0} → (List (List ℕ) → V → Type 0)
     → List (Entry kind) → List (KeyOf kind × V) → Type 0
 Held kind IsValue [] values = values ≡ []

@@ -2,7 +2,7 @@
 use Rattle.std.specs.Prelude.{◌≡◌, ℕ, List, ◌++◌}
 use Rattle.proto_wire.specs.Fields.{Payload, wire_type_of, tag_bits, SpellsPayload}
 
--- the bytes begin with a payload of the wire type that a tag gives, and then comes the rest
+-- the bytes are a payload of the wire type that a tag gives, and then the rest
 pub record StartsPayload (wire_type : ℕ) (bytes : List ℕ) (p : Payload) (rest : List ℕ) : Type 0
   where
     pub typed : tag_bits (wire_type_of p) ≡ wire_type

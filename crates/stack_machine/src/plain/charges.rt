@@ -1,4 +1,4 @@
-//! What a step of the plain machine costs.
+//! The charges of instructions in the plain machine.
 
 ghost use Rattle.std.specs.Prelude.{◌≡◌, ◌*◌, ◌≤◌, ◌^◌, MatchOption, map, reverse, take};
 ghost use Rattle.cel_value.specs.Masses.{left_of};
@@ -18,7 +18,7 @@ use cel_ops::{
 };
 use cel_value::Answer;
 
-/// What the instruction costs on the stack, none where that is above 2^64 - 1.
+/// The charge of the instruction on the stack; none above 2^64 - 1.
 pub(super) fn charge(instr: Op<'_>, stack: &Stack<Answer>) -> Option<u64>
     ensures { MatchOption result
         (2 ^ 64 ≤ charge_on (op_view instr.entry) (map answer_view stack.now))
@@ -28,7 +28,7 @@ pub(super) fn charge(instr: Op<'_>, stack: &Stack<Answer>) -> Option<u64>
     Some(u64::MAX - left)
 }
 
-// What is left of the fuel.
+// The fuel left after the instruction; none if its charge exceeds the fuel.
 fn left_after(instr: Op<'_>, stack: &Stack<Answer>, fuel: u64) -> Option<u64>
     ensures { result ≡ left_of fuel (charge_on (op_view instr.entry) (map answer_view stack.now)) }
 {
@@ -110,7 +110,7 @@ fn left_after_loop(stack: &Stack<Answer>, fuel: u64) -> Option<u64>
     }
 }
 
-// The topmost results, so many or all, from the lowest of them up.
+// The topmost results, at most `count`; the lowest is the first.
 fn topmost(stack: &Stack<Answer>, count: usize) -> &[Answer]
     ensures { map answer_view result.now ≡ reverse (take count (map answer_view stack.now)) }
 {

@@ -1,4 +1,4 @@
--- What the code keeps of a frame that has not come whole, and how one frame is cut off.
+-- The bytes of an incomplete frame that the code keeps, and how it cuts off one frame.
 use Rattle.std.specs.Prelude.{◌≡◌, ℕ, ◌<◌, List, ◌++◌, length, take, vec_len}
 use Rattle.xds_wire.specs.Frames.{head_of, frame_of, IsLength, IsBeginning, Breaks, Tail, unfinished, broken}
 use Rattle.xds_wire.specs.declared.head.Head.{Head}
@@ -7,23 +7,23 @@ use Rattle.xds_wire.specs.declared.cut.Piece.TheVariants as pieces
 use Rattle.xds_wire.specs.declared.state.State.{State}
 use Rattle.xds_wire.specs.declared.state.State.TheVariants as states
 
--- the bytes of a head that have come
+-- the bytes of a head that have arrived
 abbrev pub head_view : Head → List ℕ
 head_view head = take head.count head.bytes
 
--- what the state means
+-- the tail that a state means
 abbrev pub tail_view : State → Tail
 tail_view (states.Head head) = unfinished (head_view head)
 tail_view (states.Data kept) = unfinished (head_of kept.length ++ kept.bytes.items)
 tail_view (states.Broken fault) = broken fault
 
--- what holds of each state: a head is not whole, and a message is neither whole nor too long
+-- the invariant of a state: a head is incomplete; a message is incomplete and not too long
 abbrev pub IsState : ℕ → State → Type 0
 IsState max (states.Head head) = head.count < 5
 IsState max (states.Data kept) = (vec_len kept.bytes < kept.length) × IsLength max kept.length
 IsState max (states.Broken fault) = Unit {0}
 
--- the bytes begin with this piece
+-- the bytes are this piece
 abbrev pub IsPiece : ℕ → List ℕ → Piece → Type 0
 IsPiece max bytes (pieces.Head head) =
     (head.count < 5) × (head_view head ≡ bytes) × IsBeginning max bytes
