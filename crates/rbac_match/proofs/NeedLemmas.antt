@@ -1,17 +1,16 @@
 -- What each request has that a test passes, or that rules match.
-use Rattle.std.proofs.Common.{◌≡◌, ℕ, ◌+◌, ◌<◌, ◌≤◌, ◌&&◌, ◌||◌, ◌==◌, ◌⊎◌, Bool, true, false, List, [], ◌∷◌, ◌++◌, length, take, drop, get_or, Option, Some, None, nat_eq, inl, inr, refl, sym, ap, ◌∙◌, arith}
-use Rattle.std.proofs.lemmas.Bool.{and_parts, cases_Bool}
-use Rattle.std.proofs.lemmas.List.{append_assoc, take-append-drop, length-take-le, take_more}
+use Rattle.std.proofs.Common.{◌≡◌, ℕ, ◌+◌, ◌<◌, ◌||◌, ◌==◌, ◌⊎◌, Bool, true, false, List, [], ◌∷◌, ◌++◌, length, take, drop, get_or, Option, Some, None, nat_eq, inl, inr, refl, sym, ap, ◌∙◌}
+use Rattle.std.proofs.lemmas.Bool.{and_parts}
+use Rattle.std.proofs.lemmas.List.{append_assoc, take-append-drop, take_more}
 use Rattle.std.proofs.Math.Dec.{eqb-suc-zero}
 use Rattle.std.proofs.Math.Seq.{take-append_seam, take-length}
 use Rattle.std.specs.List.{slice_get, starts_with}
-use Rattle.std.specs.Option.{option_map_or}
 use Rattle.std.specs.Prelude.{IfSome, unwrap_or}
 use Rattle.std.specs.Str.{bytes_eq}
 use Rattle.attributes.proofs.TextOrder.{same_from_test}
 use Rattle.attributes.specs.Request.{RequestValue}
-use Rattle.rbac_match.specs.Formula.{Formula, Formulas, formula, holds, all_hold, some_hold}
-use Rattle.rbac_match.specs.Header.{turned, value_holds, value_or_empty}
+use Rattle.rbac_match.specs.Formula.{Formulas, formula, holds, all_hold, some_hold}
+use Rattle.rbac_match.specs.Header.{value_holds}
 use Rattle.rbac_match.specs.Needs.{Begins}
 use Rattle.rbac_match.specs.Tokens.{formula_of, inside_count}
 use Rattle.rbac_match.specs.declared.list.Node.{Node}

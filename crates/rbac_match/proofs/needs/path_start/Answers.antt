@@ -1,6 +1,6 @@
-use Rattle.std.proofs.Common.{◌≡◌, inl, inr, ap, sym, ◌∙◌}
+use Rattle.std.proofs.Common.{◌≡◌, inl, inr, ap, ◌∙◌}
 use Rattle.attributes.specs.Attributes.{url_path_of}
-use Rattle.rbac_match.specs.Formula.{Formulas, some_hold}
+use Rattle.rbac_match.specs.Formula.{some_hold}
 use Rattle.rbac_match.specs.Tokens.{decode}
 use Rattle.rbac_match.specs.View.{rules_view}
 use Rattle.rbac_match.specs.steps.Nodes.{formulas_in}
