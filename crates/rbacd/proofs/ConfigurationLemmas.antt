@@ -1,5 +1,5 @@
 -- A configuration's value has one reading, and one that is at fault is none.
-use Rattle.std.proofs.Common.{◌≡◌, ◌≢◌, ◌⊎◌, inl, inr, ℕ, zero, suc, ◌+◌, ◌<◌, ◌++◌, List, [], ◌∷◌, Option, Some, None, Result, Ok, Err, OnErr, refl, sym, ◌∙◌, ap, length, map, take, get_or, arith, codes}
+use Rattle.std.proofs.Common.{◌≡◌, inl, inr, ℕ, zero, suc, ◌+◌, ◌<◌, ◌++◌, List, [], ◌∷◌, Option, Some, None, Result, Ok, Err, OnErr, refl, sym, ◌∙◌, ap, length, map, take, get_or, arith, codes}
 use Rattle.std.specs.List.{AllByRecursion, AllZip}
 use Rattle.ads.proofs.Lists.{zip_more}
 use Rattle.ads.specs.Config.{ConfigValue, FilterIsAtFault, FilterValue, IsAtFault, IsFilter, IsSound}

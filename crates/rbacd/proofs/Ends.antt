@@ -1,5 +1,5 @@
 -- What a run comes to, by what was printed of it.
-use Rattle.std.proofs.Common.{◌≡◌, ◌≢◌, ◌⊎◌, ◌↔◌, ℕ, List, Option, Result, Ok, Err, IfErr, IfOk, IsTrue, false, ap, inl, inr, refl, option_map, string_bytes}
+use Rattle.std.proofs.Common.{◌≡◌, ◌≢◌, ◌⊎◌, ◌↔◌, ℕ, List, Option, Result, Ok, Err, IfErr, IfOk, IsTrue, true, false, ap, inl, inr, refl, option_map, string_bytes}
 use Rattle.std.proofs.lemmas.Bool.{false≢true}
 use Rattle.std.specs.declared.io.Error.{Error as IoError}
 use Rattle.clap.specs.Words.{kind_of}
@@ -8,20 +8,23 @@ use Rattle.clap.specs.declared.error.kind.ErrorKind.TheVariants as kinds
 use Rattle.rbacd.proofs.JudgeLemmas.{less_found}
 use Rattle.rbacd.specs.Explain.{IsGiven}
 use Rattle.rbacd.specs.Judging.{IsDecision}
-use Rattle.rbacd.specs.steps.Printed.{IsPrintedFor, less_told}
-use Rattle.rbacd.specs.Run.{ComesTo, EndsConfig, EndsReplay, EndsReport, Finds, IsStoppedBy, LacksConfig, LeavesFault, PrintsReport, Ran, StopsBy}
+use Rattle.rbacd.specs.steps.Printed.{IsPrintedFor, less_told, told_with}
+use Rattle.rbacd.specs.Run.{ComesTo, EndsConfig, EndsControl, EndsProxy, EndsReplay, EndsReport, Finds, IsStoppedBy, LacksConfig, LeavesFault, LeavesObject, PrintsReport, Ran, StopsBy, StopsControl, StopsProxy}
 use Rattle.rbacd.specs.Words.{AreMistaken, is_explained, is_json}
 use Rattle.rbacd.specs.steps.Judged.{MemoryOrStop, bare, report_with}
 use Rattle.rbacd.specs.declared.explain.Explanation.{Explanation}
 use Rattle.rbacd.specs.declared.explain.Explanation.TheVariants as explanations
+use Rattle.rbacd.specs.declared.json.Why.{Why}
 use Rattle.rbacd.specs.declared.judge.Finding.{Finding}
 use Rattle.rbacd.specs.declared.outcome.Outcome.{Outcome}
 use Rattle.rbacd.specs.declared.outcome.Outcome.TheVariants as outcomes
 use Rattle.rbacd.specs.declared.outcome.Report.{Report}
-use Rattle.rbacd.specs.declared.run.JobFault.{JobFault}
-use Rattle.rbacd.specs.declared.run.JobFault.TheVariants as faults
+use Rattle.rbacd.specs.declared.job_fault.JobFault.{JobFault}
+use Rattle.rbacd.specs.declared.job_fault.JobFault.TheVariants as faults
+use Rattle.rbacd.specs.declared.words.ControlWords.{ControlWords}
 use Rattle.rbacd.specs.declared.words.Job.{Job}
-use Rattle.rbacd.specs.declared.words.Job.TheVariants.{Check, CheckConfig, Judge, Replay}
+use Rattle.rbacd.specs.declared.words.ProxyWords.{ProxyWords}
+use Rattle.rbacd.specs.declared.words.Job.TheVariants.{Check, CheckConfig, Control, Judge, Proxy, Replay}
 
 -- nothing is given of what is no verdict
 nothing_given : {A : Type 0} → ⊥ ↔ (A × ⊥)
@@ -47,6 +50,8 @@ module _ (holds : List ℕ → List ℕ → Type 0) (lacks : (List ℕ × IoErro
   never_by_memory (Check policy budget json) unread = unread
   never_by_memory (CheckConfig config) never = never
   never_by_memory (Replay config) never = never
+  never_by_memory (Control words) never = never
+  never_by_memory (Proxy words) never = never
   never_by_memory (Judge policy facts budget json explain) stops = elim stops [
     | StopsBy.no_policy unread ↦ unread
     | StopsBy.no_facts policy path read named unread ↦ unread
@@ -76,6 +81,8 @@ module _ (holds : List ℕ → List ℕ → Type 0) (lacks : (List ℕ × IoErro
   finds_less (Check policy budget json) name explanation outcome finds = finds
   finds_less (CheckConfig config) name explanation outcome finds = finds
   finds_less (Replay config) name explanation outcome finds = finds
+  finds_less (Control words) name explanation outcome finds = finds
+  finds_less (Proxy words) name explanation outcome finds = finds
   finds_less (Judge policy facts budget json explain) name explanation outcome finds = record {
     policy = finds.policy;
     facts = finds.facts;
@@ -100,22 +107,36 @@ module _ (holds : List ℕ → List ℕ → Type 0) (lacks : (List ℕ × IoErro
   )
   comes_as job report printed (json, given, finds) (inr (inr none)) = rw none (json, nothing_given, inl refl)
 
+  -- a report comes with why it is no verdict
+  comes_told : (job : Job) (report : Report) (why : Why) → ComesTo holds lacks input job (Ok report)
+      → ComesTo holds lacks input job (Ok (told_with why report))
+  comes_told job report why comes = comes
+
   module _ (out out_new errors errors_new : Option (List ℕ)) (status : ℕ) (job : Job) where
     -- it is the report that was printed
-    pub end_of_printed : (report printed : Report)
-        → ComesTo holds lacks input job (Ok report) → IsPrintedFor report printed
+    pub end_of_printed : (report told printed : Report) (why : Why)
+        → ComesTo holds lacks input job (Ok report) → told ≡ told_with why report → IsPrintedFor told printed
         → PrintsReport out out_new errors errors_new status printed
         → EndsReport holds lacks input out out_new errors errors_new status job
-    end_of_printed report printed comes same left =
-        EndsReport.ended (Ok printed) (comes_as job report printed comes same) left
+    end_of_printed report told printed why comes is same left =
+        let comes_so = comes_told job report why comes in
+        EndsReport.ended (Ok printed) (comes_as job (told_with why report) printed comes_so (rw is at same)) left
 
     -- and the fault that was told, or want of memory
     pub end_of_told : (fault told : JobFault) → ComesTo holds lacks input job (Err fault)
-        → (told ≡ fault) ⊎ (told ≡ faults.Memory)
+        → is_json job ≡ false → (told ≡ fault) ⊎ (told ≡ faults.Memory)
         → LeavesFault out out_new errors errors_new status told
         → EndsReport holds lacks input out out_new errors errors_new status job
-    end_of_told fault told comes (inl same) left = EndsReport.ended (Err fault) comes (rw same at left)
-    end_of_told fault told comes (inr none) left = EndsReport.memory (rw none at left)
+    end_of_told fault told comes words (inl same) left = EndsReport.ended (Err fault) comes (rw words (rw same at left))
+    end_of_told fault told comes words (inr none) left = EndsReport.memory (rw none at left)
+
+    -- with JSON its object, or want of memory
+    pub end_of_object : (fault : JobFault) → ComesTo holds lacks input job (Err fault) → is_json job ≡ true
+        → LeavesObject out out_new errors errors_new status fault
+        ⊎ LeavesFault out out_new errors errors_new status faults.Memory
+        → EndsReport holds lacks input out out_new errors errors_new status job
+    end_of_object fault comes json (inl left) = EndsReport.ended (Err fault) comes (rw json left)
+    end_of_object fault comes json (inr none) = EndsReport.memory none
 
 module _ (holds : List ℕ → List ℕ → Type 0) (lacks : (List ℕ × IoError) → Type 0)
     (out out_new errors errors_new : Option (List ℕ)) (status : ℕ) where
@@ -135,6 +156,23 @@ module _ (holds : List ℕ → List ℕ → Type 0) (lacks : (List ℕ × IoErro
   end_of_replay path input fault told (inl none) (inl same) left = EndsReplay.memory (rw (same, none) at left)
   end_of_replay path input fault told (inr lacking) (inl same) left = EndsReplay.lacking fault lacking (rw same at left)
   end_of_replay path input fault told stops (inr none) left = EndsReplay.memory (rw none at left)
+
+  -- where a control plane does not serve, that is told, or want of memory
+  pub end_of_control : (words : ControlWords) (fault told : JobFault)
+      → MemoryOrStop (StopsControl holds lacks words) fault
+      → (told ≡ fault) ⊎ (told ≡ faults.Memory) → LeavesFault out out_new errors errors_new status told
+      → EndsControl holds lacks out out_new errors errors_new status words
+  end_of_control words fault told (inl none) (inl same) left = EndsControl.memory (rw (same, none) at left)
+  end_of_control words fault told (inr stops) (inl same) left = EndsControl.stopped fault stops (rw same at left)
+  end_of_control words fault told stops (inr none) left = EndsControl.memory (rw none at left)
+
+  -- where a proxy runs no round
+  pub end_of_proxy : (words : ProxyWords) (fault told : JobFault) → MemoryOrStop (StopsProxy holds lacks words) fault
+      → (told ≡ fault) ⊎ (told ≡ faults.Memory) → LeavesFault out out_new errors errors_new status told
+      → EndsProxy holds lacks out out_new errors errors_new status words
+  end_of_proxy words fault told (inl none) (inl same) left = EndsProxy.memory (rw (same, none) at left)
+  end_of_proxy words fault told (inr stops) (inl same) left = EndsProxy.stopped fault stops (rw same at left)
+  end_of_proxy words fault told stops (inr none) left = EndsProxy.memory (rw none at left)
 
   -- where the words name no job, that is told, or want of memory
   pub end_of_words : (input : Option (List ℕ)) (words : List (List ℕ)) (error : Error) (fault told : JobFault)

@@ -9,3 +9,6 @@ mod JsonLemmas
 mod ConfigurationLemmas
 mod ReplayLemmas
 mod PumpLemmas
+mod ControlPumpLemmas
+mod RoundLemmas
+mod SnapshotLemmas

@@ -1,16 +1,20 @@
 -- One call more of a pump.
-use Rattle.std.proofs.Common.{◌≡◌, ◌+◌, ◌++◌, ◌∙◌, ℕ, List, [], ◌∷◌, Option, Result, Ok, Err, IfOk, OnErr, ap, append-nil, append_assoc, arith, inl, inr, length, length-append, map, refl, sym, take}
+use Rattle.std.proofs.Common.{◌≡◌, ◌≢◌, ◌+◌, ◌++◌, ◌∙◌, ℕ, Bool, false, List, [], ◌∷◌, Option, Result, Ok, Err, IfOk, OnErr, ap, append-nil, append_assoc, arith, inl, inr, length, length-append, map, refl, sym, take}
 use Rattle.std.specs.declared.alloc.AllocError.{AllocError}
 use Rattle.std.proofs.lemmas.List.{map-append}
 use Rattle.std.proofs.Math.Seq.{take-append-add}
-use Rattle.std.proofs.KnownBytes.{Appends-trans, Consumes-nil}
-use Rattle.std.specs.Io.KnownBytes.{Appends, Consumes}
+use Rattle.std.proofs.KnownBytes.{Appends-nil, Appends-trans, Consumes-nil}
+use Rattle.std.specs.List.{AllByRecursion}
+use Rattle.std.specs.Io.KnownBytes.{Appends}
 use Rattle.proxy_core.specs.Step.{CallDoes, CallsDo, EventCall, ProxyValue, StepsBy, answered, no_memory}
 use Rattle.attributes.specs.Conn.{Facts}
 use Rattle.proxy_core.specs.Events.{EventValue, http_open, output_view}
 use Rattle.proxy_core.specs.declared.event.Output.{Output}
 use Rattle.rbacd.specs.Output.{Takes}
-use Rattle.rbacd.specs.Pumps.{Hears, ads_of, http_of, joined, output_of}
+use Rattle.rbacd.specs.Pumps.{AllButLast, Hears, LastIs, WrittenInTurn, http_of, joined}
+use Rattle.rbacd.specs.declared.pumps.Turn.{Turn}
+use Rattle.rbacd.specs.declared.pumps.Turn.TheVariants as turns
+use Rattle.rbacd.specs.steps.Pumping.{IsTurnOf}
 use Rattle.rbacd.specs.Replays.{event_of}
 
 pub joined_more : (chunks : List (List ℕ)) (chunk : List ℕ) → joined (chunks ++ chunk ∷ []) ≡ joined chunks ++ chunk
@@ -18,19 +22,10 @@ joined_more [] chunk = append-nil chunk
 joined_more (first ∷ chunks) chunk =
     ap (λ rest. first ++ rest) (joined_more chunks chunk) ∙ sym (append_assoc first (joined chunks) chunk)
 
-pub http_more : (calls : List EventCall) (call : EventCall)
-    → http_of (calls ++ call ∷ []) ≡ http_of calls ++ (output_of call).http
-http_more [] call = append-nil (output_of call).http
-http_more (first ∷ calls) call =
-    ap (λ rest. (output_of first).http ++ rest) (http_more calls call)
-    ∙ sym (append_assoc (output_of first).http (http_of calls) (output_of call).http)
-
-pub ads_more : (calls : List EventCall) (call : EventCall)
-    → ads_of (calls ++ call ∷ []) ≡ ads_of calls ++ (output_of call).ads
-ads_more [] call = append-nil (output_of call).ads
-ads_more (first ∷ calls) call =
-    ap (λ rest. (output_of first).ads ++ rest) (ads_more calls call)
-    ∙ sym (append_assoc (output_of first).ads (ads_of calls) (output_of call).ads)
+-- what is made of each, and of one more, joined
+pub joined_of_more : {X : Type 0} (f : X → List ℕ) (calls : List X) (call : X)
+    → joined (map f (calls ++ call ∷ [])) ≡ joined (map f calls) ++ f call
+joined_of_more f calls call = rw (map-append f calls (call ∷ [])) (joined_more (map f calls) (f call))
 
 -- the call that a step is
 pub step_call : (r : Result Output AllocError) (old new : ProxyValue) (event : EventValue)
@@ -42,14 +37,15 @@ step_call (Err e) old new event found fault = (no_memory event, refl, fault)
 module _ (old new : ProxyValue) (input input_new out out_new : Option (List ℕ)) (facts : Facts) where
   -- the opening alone
   pub heard_opening : (call : EventCall) → event_of call ≡ http_open 0 facts → CallDoes old call new
-      → input_new ≡ input → Takes out out_new (output_of call).http → Hears old new input input_new out out_new facts
+      → input_new ≡ input → Takes out out_new (http_of call) → Hears old new input input_new out out_new facts
   heard_opening call given does same written = record {
     chunks = [];
     calls = call ∷ [];
     done = (new, does, refl);
     events = ap (λ e. e ∷ []) given;
+    is_open = tt;
     read = rw same (Consumes-nil input);
-    written = rw (append-nil (output_of call).http) written;
+    written = written;
   }
 
 -- events of one call more
@@ -75,3 +71,80 @@ takes_more out now next text more so_far (inr (n, fewer, part)) = inr (
   rw (length-append text more) (omega (arith, fewer)),
   rw (take-append-add text more n) (Appends-trans out now next text (take n more) so_far part),
 )
+
+-- each is such, and one more is
+pub all_more : {X : Type 0} (P : X → Type 0) (calls : List X) (call : X) → AllByRecursion P calls → P call
+    → AllByRecursion P (calls ++ call ∷ [])
+all_more P [] call all last = (last, tt)
+all_more P (first ∷ calls) call (here, rest) last = (here, all_more P calls call rest last)
+
+-- each is such but one more, which comes last
+pub but_last_more : {X : Type 0} (P : X → Type 0) (calls : List X) (call : X) → AllByRecursion P calls
+    → AllButLast P (calls ++ call ∷ [])
+but_last_more P [] call all = tt
+but_last_more P (first ∷ []) call (here, rest) = (here, tt)
+but_last_more P (first ∷ next ∷ calls) call (here, rest) = (here, but_last_more P (next ∷ calls) call rest)
+
+-- all are such, so all but the last are
+pub all_but_last : {X : Type 0} (P : X → Type 0) (calls : List X) → AllByRecursion P calls → AllButLast P calls
+all_but_last P [] all = tt
+all_but_last P (first ∷ []) all = tt
+all_but_last P (first ∷ next ∷ calls) (here, rest) = (here, all_but_last P (next ∷ calls) rest)
+
+-- the one more is the last
+pub last_more : {X : Type 0} (P : X → Type 0) (calls : List X) (call : X) → P call → LastIs P (calls ++ call ∷ [])
+last_more P [] call last = last
+last_more P (first ∷ []) call last = last
+last_more P (first ∷ next ∷ calls) call last = last_more P (next ∷ calls) call last
+
+-- texts were written in order, each whole
+abbrev pub WrittenWhole : Option (List ℕ) → Option (List ℕ) → List (List ℕ) → Type 0
+WrittenWhole out now [] = Appends out now []
+WrittenWhole out now (text ∷ texts) = (between : Option (List ℕ)) × Appends out between text × WrittenWhole between now texts
+
+pub whole_more : (out now next : Option (List ℕ)) (texts : List (List ℕ)) (text : List ℕ) → WrittenWhole out now texts
+    → Appends now next text → WrittenWhole out next (texts ++ text ∷ [])
+whole_more out now next [] text so_far more = (next, Appends-trans out now next [] text so_far more, Appends-nil next)
+whole_more out now next (first ∷ texts) text (between, here, rest) more =
+    (between, here, whole_more between now next texts text rest more)
+
+pub in_turn_more : (out now next : Option (List ℕ)) (texts : List (List ℕ)) (text : List ℕ) → WrittenWhole out now texts
+    → Takes now next text → WrittenInTurn out next (texts ++ text ∷ [])
+in_turn_more out now next [] text so_far more = takes_more out now next [] text so_far more
+in_turn_more out now next (first ∷ []) text (between, here, rest) more =
+    (between, here, in_turn_more between now next [] text rest more)
+in_turn_more out now next (first ∷ second ∷ texts) text (between, here, rest) more =
+    (between, here, in_turn_more between now next (second ∷ texts) text rest more)
+
+pub whole_in_turn : (out now : Option (List ℕ)) (texts : List (List ℕ)) → WrittenWhole out now texts
+    → WrittenInTurn out now texts
+whole_in_turn out now [] whole = whole
+whole_in_turn out now (text ∷ []) (between, here, rest) =
+    inl (rw append-nil at (Appends-trans out between now text [] here rest))
+whole_in_turn out now (text ∷ next ∷ texts) (between, here, rest) =
+    (between, here, whole_in_turn between now (next ∷ texts) rest)
+
+pub whole_joined : (out now : Option (List ℕ)) (texts : List (List ℕ)) → WrittenWhole out now texts
+    → Appends out now (joined texts)
+whole_joined out now [] whole = whole
+whole_joined out now (text ∷ texts) (between, here, rest) =
+    Appends-trans out between now text (joined texts) here (whole_joined between now texts rest)
+
+-- a turn that is no end leaves the stream or the connection open
+pub stays_open : (written : List ℕ) (closes : Bool) (turn : Turn) → IsTurnOf written closes turn → turn ≢ turns.Ended
+    → closes ≡ false
+stays_open written closes turns.Ended is not_ended = absurd (not_ended refl)
+stays_open written closes turns.Waits is not_ended = is.0
+stays_open written closes turns.Answered is not_ended = is.0
+
+pub turn_waits : (written : List ℕ) (closes : Bool) (turn : Turn) → IsTurnOf written closes turn → turn ≡ turns.Waits
+    → (closes ≡ false) × (written ≡ [])
+turn_waits written closes turns.Ended is same = (let clash = same in cc)
+turn_waits written closes turns.Waits is same = is
+turn_waits written closes turns.Answered is same = (let clash = same in cc)
+
+pub turn_responds : (written : List ℕ) (closes : Bool) (turn : Turn) → IsTurnOf written closes turn → turn ≡ turns.Answered
+    → (closes ≡ false) × (written ≢ [])
+turn_responds written closes turns.Ended is same = (let clash = same in cc)
+turn_responds written closes turns.Waits is same = (let clash = same in cc)
+turn_responds written closes turns.Answered is same = is

@@ -1,14 +1,14 @@
 -- One line more of a replay.
-use Rattle.std.proofs.Common.{◌≡◌, ◌≢◌, ◌⊎◌, inl, inr, ◌++◌, ◌+◌, ◌∙◌, ℕ, List, [], ◌∷◌, Option, Some, None, ap, append_assoc, append-nil, arith, length, length-append, refl, sym}
+use Rattle.std.proofs.Common.{◌≡◌, ◌≢◌, ◌⊎◌, inl, inr, ◌++◌, ◌+◌, ◌∙◌, ℕ, List, [], ◌∷◌, Option, Some, None, ap, append_assoc, append-nil, length, refl, sym}
 use Rattle.std.proofs.KnownBytes.{Appends-nil, Appends-trans}
 use Rattle.std.specs.Prelude.{IfSome}
 use Rattle.std.specs.Io.BufRead.{drop_through, take_through}
 use Rattle.std.specs.Io.KnownBytes.{Appends}
 use Rattle.xds_wire.proofs.Each.{zip_push}
 use Rattle.ads.specs.Config.{ConfigValue}
-use Rattle.proxy_core.specs.Step.{CallDoes, CallsDo, EventCall, ProxyValue, new_proxy}
+use Rattle.proxy_core.specs.Step.{CallDoes, EventCall, ProxyValue, new_proxy}
 use Rattle.rbacd.proofs.PumpLemmas.{calls_more}
-use Rattle.rbacd.specs.Replays.{AreLines, IsLineText, IsReplayed, ReadsLine, Replayed, Replays, StopsBy, answer_line, event_of, printed_of}
+use Rattle.rbacd.specs.Replays.{AreLines, IsLineText, IsReplayed, ReadsLine, Replayed, StopsBy, answer_line, event_of, printed_of}
 use Rattle.rbacd.specs.declared.replay.ReplayFault.{ReplayFault}
 use Rattle.rbacd.specs.declared.replay.ReplayFault.TheVariants as faults
 use Rattle.rbacd.specs.steps.Replaying.{IsSomeLine, TurnStops}

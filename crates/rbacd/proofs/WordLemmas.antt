@@ -8,7 +8,9 @@ use Rattle.clap.specs.Words.{Row, Text, subcommand_name_of, subcommand_rows_of}
 use Rattle.clap.specs.declared.parser.matches.ArgMatches.{ArgMatches}
 use Rattle.clap.specs.declared.parser.matches.ArgMatches.TheViews.{out-ArgMatches}
 use Rattle.rbacd.specs.declared.words.Job.{Job}
-use Rattle.rbacd.specs.declared.words.Job.TheVariants.{Check, CheckConfig, Judge, Replay}
+use Rattle.rbacd.specs.declared.words.Job.TheVariants.{Check, CheckConfig, Control, Judge, Proxy, Replay}
+use Rattle.rbacd.specs.declared.words.ControlWords.{ControlWords}
+use Rattle.rbacd.specs.declared.words.ProxyWords.{ProxyWords}
 use Rattle.rbacd.specs.Words.{IsJobOfRows, NamesNoJob, subcommand_name}
 
 -- texts that a test tells apart differ
@@ -22,24 +24,48 @@ module _ (P : Job → Type 0) where
   of_check f (Judge policy facts budget json explain) same = absurd (apart (codes "judge") (codes "check") refl same)
   of_check f (CheckConfig config) same = absurd (apart (codes "check-config") (codes "check") refl same)
   of_check f (Replay config) same = absurd (apart (codes "replay") (codes "check") refl same)
+  of_check f (Control words) same = absurd (apart (codes "control") (codes "check") refl same)
+  of_check f (Proxy words) same = absurd (apart (codes "proxy") (codes "check") refl same)
 
   pub of_judge : ((policy : String Global) (facts : Option (String Global)) (budget : ℕ) (json explain : Bool) → P (Judge policy facts budget json explain)) → (job : Job) → subcommand_name job ≡ codes "judge" → P job
   of_judge f (Check policy budget json) same = absurd (apart (codes "check") (codes "judge") refl same)
   of_judge f (Judge policy facts budget json explain) same = f policy facts budget json explain
   of_judge f (CheckConfig config) same = absurd (apart (codes "check-config") (codes "judge") refl same)
   of_judge f (Replay config) same = absurd (apart (codes "replay") (codes "judge") refl same)
+  of_judge f (Control words) same = absurd (apart (codes "control") (codes "judge") refl same)
+  of_judge f (Proxy words) same = absurd (apart (codes "proxy") (codes "judge") refl same)
 
   pub of_check_config : ((config : String Global) → P (CheckConfig config)) → (job : Job) → subcommand_name job ≡ codes "check-config" → P job
   of_check_config f (Check policy budget json) same = absurd (apart (codes "check") (codes "check-config") refl same)
   of_check_config f (Judge policy facts budget json explain) same = absurd (apart (codes "judge") (codes "check-config") refl same)
   of_check_config f (CheckConfig config) same = f config
   of_check_config f (Replay config) same = absurd (apart (codes "replay") (codes "check-config") refl same)
+  of_check_config f (Control words) same = absurd (apart (codes "control") (codes "check-config") refl same)
+  of_check_config f (Proxy words) same = absurd (apart (codes "proxy") (codes "check-config") refl same)
 
   pub of_replay : ((config : String Global) → P (Replay config)) → (job : Job) → subcommand_name job ≡ codes "replay" → P job
   of_replay f (Check policy budget json) same = absurd (apart (codes "check") (codes "replay") refl same)
   of_replay f (Judge policy facts budget json explain) same = absurd (apart (codes "judge") (codes "replay") refl same)
   of_replay f (CheckConfig config) same = absurd (apart (codes "check-config") (codes "replay") refl same)
   of_replay f (Replay config) same = f config
+  of_replay f (Control words) same = absurd (apart (codes "control") (codes "replay") refl same)
+  of_replay f (Proxy words) same = absurd (apart (codes "proxy") (codes "replay") refl same)
+
+  pub of_control : ((words : ControlWords) → P (Control words)) → (job : Job) → subcommand_name job ≡ codes "control" → P job
+  of_control f (Check policy budget json) same = absurd (apart (codes "check") (codes "control") refl same)
+  of_control f (Judge policy facts budget json explain) same = absurd (apart (codes "judge") (codes "control") refl same)
+  of_control f (CheckConfig config) same = absurd (apart (codes "check-config") (codes "control") refl same)
+  of_control f (Replay config) same = absurd (apart (codes "replay") (codes "control") refl same)
+  of_control f (Control words) same = f words
+  of_control f (Proxy words) same = absurd (apart (codes "proxy") (codes "control") refl same)
+
+  pub of_proxy : ((words : ProxyWords) → P (Proxy words)) → (job : Job) → subcommand_name job ≡ codes "proxy" → P job
+  of_proxy f (Check policy budget json) same = absurd (apart (codes "check") (codes "proxy") refl same)
+  of_proxy f (Judge policy facts budget json explain) same = absurd (apart (codes "judge") (codes "proxy") refl same)
+  of_proxy f (CheckConfig config) same = absurd (apart (codes "check-config") (codes "proxy") refl same)
+  of_proxy f (Replay config) same = absurd (apart (codes "replay") (codes "proxy") refl same)
+  of_proxy f (Control words) same = absurd (apart (codes "control") (codes "proxy") refl same)
+  of_proxy f (Proxy words) same = f words
 
 -- two maps in turn
 maps_in_turn : {X Y Z : Type 0} (g : Y → Z) (f : X → Y) (o : Option X)
@@ -72,15 +98,21 @@ names_no_job m name rows None met found none = λ other held.
 pub no_subcommand : (m : ArgMatches) → (subcommand_name_of m ≡ Some (codes "check") → false ≡ true)
     → (subcommand_name_of m ≡ Some (codes "judge") → false ≡ true)
     → (subcommand_name_of m ≡ Some (codes "check-config") → false ≡ true)
-    → (subcommand_name_of m ≡ Some (codes "replay") → false ≡ true) → NamesNoJob (subcommand_rows_of m)
-no_subcommand m check judge check_config replay (Check policy budget json) held =
+    → (subcommand_name_of m ≡ Some (codes "replay") → false ≡ true)
+    → (subcommand_name_of m ≡ Some (codes "control") → false ≡ true)
+    → (subcommand_name_of m ≡ Some (codes "proxy") → false ≡ true) → NamesNoJob (subcommand_rows_of m)
+no_subcommand m check judge check_config replay control proxy (Check policy budget json) held =
     false≢true (check (name_of_rows m (codes "check") held.0 held.1))
-no_subcommand m check judge check_config replay (Judge policy facts budget json explain) held =
+no_subcommand m check judge check_config replay control proxy (Judge policy facts budget json explain) held =
     false≢true (judge (name_of_rows m (codes "judge") held.0 held.1))
-no_subcommand m check judge check_config replay (CheckConfig config) held =
+no_subcommand m check judge check_config replay control proxy (CheckConfig config) held =
     false≢true (check_config (name_of_rows m (codes "check-config") held.0 held.1))
-no_subcommand m check judge check_config replay (Replay config) held =
+no_subcommand m check judge check_config replay control proxy (Replay config) held =
     false≢true (replay (name_of_rows m (codes "replay") held.0 held.1))
+no_subcommand m check judge check_config replay control proxy (Control words) held =
+    false≢true (control (name_of_rows m (codes "control") held.0 held.1))
+no_subcommand m check judge check_config replay control proxy (Proxy words) held =
+    false≢true (proxy (name_of_rows m (codes "proxy") held.0 held.1))
 
 -- a flag was given where its value is `true`
 pub flag_given : (found : Option Text) (text : Text) (given : Bool) → found ≡ Some text

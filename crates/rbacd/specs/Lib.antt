@@ -9,6 +9,8 @@ pub mod Configuration
 pub mod Lines
 pub mod Replays
 pub mod Pumps
+pub mod ControlPump
+pub mod Rounds
 pub mod Output
 pub mod Run
 pub mod steps

@@ -6,7 +6,7 @@ use Rattle.proto_wire.specs.Refusal as refusal
 use Rattle.proto_wire.specs.declared.refusal.Refusal.{Refusal}
 use Rattle.serde_json.specs.Written.{compact_text}
 use Rattle.rbacd.specs.Explain.{told_in, with_trials}
-use Rattle.rbacd.specs.Json.{json_of}
+use Rattle.rbacd.specs.Json.{json_of, why_view}
 use Rattle.rbacd.specs.declared.outcome.Outcome.{Outcome}
 use Rattle.rbacd.specs.declared.outcome.Outcome.TheVariants as outcomes
 use Rattle.rbacd.specs.declared.outcome.Report.{Report}
@@ -36,8 +36,8 @@ line_of outcome = text_of outcome ++ 10 ∷ []
 abbrev pub printed_of : Report → List ℕ
 printed_of report =
     if report.json
-    then compact_text (json_of (option_map string_bytes report.name) (told_in report.explanation) report.outcome)
-    ++ 10 ∷ []
+    then compact_text (json_of (option_map string_bytes report.name) (told_in report.explanation)
+    (why_view report.why) report.outcome) ++ 10 ∷ []
     else with_trials (line_of report.outcome) (told_in report.explanation)
 
 -- the exit status

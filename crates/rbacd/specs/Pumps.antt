@@ -1,8 +1,8 @@
 -- What the pumps do: which events the core of a proxy is given, in which order, and what is written of each output.
-use Rattle.std.specs.Prelude.{◌≡◌, ◌++◌, ℕ, Bool, true, false, List, [], ◌∷◌, Option, map}
+use Rattle.std.specs.Prelude.{◌≡◌, ◌≢◌, ◌++◌, ⊤, ℕ, Bool, true, false, List, [], ◌∷◌, Option, map}
 use Rattle.std.specs.Io.KnownBytes.{Appends, Consumes}
 use Rattle.attributes.specs.Conn.{Facts}
-use Rattle.proxy_core.specs.Events.{EventValue, OutputValue, ads_bytes, ads_lost, ads_up, http_bytes, http_closed, http_open, no_output}
+use Rattle.proxy_core.specs.Events.{OutputValue, ads_bytes, ads_lost, ads_up, http_bytes, http_closed, http_open, no_output}
 use Rattle.proxy_core.specs.Step.{CallDoes, CallsDo, EventCall, ProxyValue, answered, no_memory}
 use Rattle.rbacd.specs.Output.{Takes}
 use Rattle.rbacd.specs.Replays.{event_of}
@@ -12,48 +12,86 @@ abbrev pub output_of : EventCall → OutputValue
 output_of (answered event out) = out
 output_of (no_memory event) = no_output
 
--- what calls put out for their connections, in order
-abbrev pub http_of : List EventCall → List ℕ
-http_of [] = []
-http_of (call ∷ calls) = (output_of call).http ++ http_of calls
+-- what a call puts out for its connection
+abbrev pub http_of : EventCall → List ℕ
+http_of call = (output_of call).http
 
--- what they put out for the update stream
-abbrev pub ads_of : List EventCall → List ℕ
-ads_of [] = []
-ads_of (call ∷ calls) = (output_of call).ads ++ ads_of calls
+-- what it puts out for the update stream
+abbrev pub ads_of : EventCall → List ℕ
+ads_of call = (output_of call).ads
+
+-- the connection stays open after the call
+abbrev pub StaysOpen : EventCall → Type 0
+StaysOpen (answered event out) = out.http_close ≡ false
+StaysOpen (no_memory event) = ⊥
+
+-- the update stream stays up after the call
+abbrev pub StaysUp : EventCall → Type 0
+StaysUp (answered event out) = out.ads_close ≡ false
+StaysUp (no_memory event) = ⊥
+
+-- the call answers nothing on the update stream, which stays up
+abbrev pub Waits : EventCall → Type 0
+Waits call = StaysUp call × (ads_of call ≡ [])
+
+-- the call answers on the update stream, which stays up
+abbrev pub Responds : EventCall → Type 0
+Responds call = StaysUp call × (ads_of call ≢ [])
 
 -- chunks joined
 abbrev pub joined : List (List ℕ) → List ℕ
 joined [] = []
 joined (chunk ∷ chunks) = chunk ++ joined chunks
 
--- nothing more is done where the stream is up; where it is lost, the core was told
+-- each but the last of a list is such
+abbrev pub AllButLast : {X : Type 0} → (X → Type 0) → List X → Type 0
+AllButLast P [] = ⊤
+AllButLast P (x ∷ []) = ⊤
+AllButLast P (x ∷ next ∷ rest) = P x × AllButLast P (next ∷ rest)
+
+-- a list has a last one, which is such
+abbrev pub LastIs : {X : Type 0} → (X → Type 0) → List X → Type 0
+LastIs P [] = ⊥
+LastIs P (x ∷ []) = P x
+LastIs P (x ∷ next ∷ rest) = LastIs P (next ∷ rest)
+
+-- texts are written in order: the writer took the whole of each but the last, and the last at least in part
+abbrev pub WrittenInTurn : Option (List ℕ) → Option (List ℕ) → List (List ℕ) → Type 0
+WrittenInTurn out out_new [] = Appends out out_new []
+WrittenInTurn out out_new (text ∷ []) = Takes out out_new text
+WrittenInTurn out out_new (text ∷ next ∷ rest) =
+    (between : Option (List ℕ)) × Appends out between text × WrittenInTurn between out_new (next ∷ rest)
+
+-- if the stream is up, nothing happens; else the core is given its loss
 abbrev pub EndsUpdates : ProxyValue → ProxyValue → Bool → Type 0
 EndsUpdates between new true = new ≡ between
 EndsUpdates between new false = (last : EventCall) × (event_of last ≡ ads_lost) × CallDoes between last new
 
--- a stream: what it has left to read, and what was written to it
+-- what a reader has left and what a writer took, each before and after
 module _ (old new : ProxyValue) (input input_new out out_new : Option (List ℕ)) where
-  -- the core was given the opening of connection 0 and then chunks of its bytes, which are what was read; what it put out
-  -- was written, up to a write that failed
+  -- the core was given the opening of connection 0 and then chunks of its bytes, which are what was read, until it closed the
+  -- connection at the latest; what it put out was written in turn
   pub record Hears (facts : Facts) : Type 0 where
     pub chunks : List (List ℕ)
     pub calls : List EventCall
     pub done : CallsDo old calls new
     pub events : map event_of calls ≡ http_open 0 facts ∷ map (http_bytes 0) chunks
+    pub is_open : AllButLast StaysOpen calls
     pub read : Consumes input input_new (joined chunks)
-    pub written : Takes out out_new (http_of calls)
+    pub written : WrittenInTurn out out_new (map http_of calls)
 
-  -- the core was given chunks of the bytes of the update stream, which are what was read; what it put out was written, up to
-  -- a write that failed, and whole where the stream is still up
+  -- the core was given chunks of the bytes of the update stream, which are what was read, until it answered or closed the
+  -- stream at the latest; what it put out was written. If the stream is up, the last chunk was answered, and all was written
   pub record Receives (is_up : Bool) : Type 0 where
     pub chunks : List (List ℕ)
     pub calls : List EventCall
     pub done : CallsDo old calls new
     pub events : map event_of calls ≡ map ads_bytes chunks
+    pub waits : AllButLast Waits calls
     pub read : Consumes input input_new (joined chunks)
-    pub written : Takes out out_new (ads_of calls)
-    pub whole : is_up ≡ true → Appends out out_new (ads_of calls)
+    pub written : WrittenInTurn out out_new (map ads_of calls)
+    pub responds : is_up ≡ true → LastIs Responds calls
+    pub whole : is_up ≡ true → Appends out out_new (joined (map ads_of calls))
 
 -- a connection was served: the core was given its bytes, and then its closing
 pub record Serves (old new : ProxyValue) (input input_new out out_new : Option (List ℕ)) (facts : Facts) : Type 0 where
@@ -63,17 +101,18 @@ pub record Serves (old new : ProxyValue) (input input_new out out_new : Option (
   pub closing : event_of last ≡ http_closed 0
   pub closes : CallDoes between last new
 
--- the update stream came up: the core was told, and its first request was written, up to a write that failed; it is lost then
+-- the core was given the start of an update stream, and its first request was written, at least in part. If the stream is not
+-- up, the core was told
 pub record Opens (old new : ProxyValue) (out out_new : Option (List ℕ)) (is_up : Bool) : Type 0 where
   pub between : ProxyValue
   pub call : EventCall
   pub given : event_of call ≡ ads_up
   pub does : CallDoes old call between
-  pub written : Takes out out_new (output_of call).ads
-  pub whole : is_up ≡ true → Appends out out_new (output_of call).ads
+  pub written : Takes out out_new (ads_of call)
+  pub came : is_up ≡ true → StaysUp call × Appends out out_new (ads_of call)
   pub ends : EndsUpdates between new is_up
 
--- a response was received, or the stream was lost
+-- a response was received and answered, or the stream was lost and the core was told
 pub record TakesResponse (old new : ProxyValue) (input input_new out out_new : Option (List ℕ)) (is_up : Bool) : Type 0 where
   pub between : ProxyValue
   pub receives : Receives old between input input_new out out_new is_up

@@ -6,8 +6,8 @@ use Rattle.std.specs.IoError.{error_kind}
 use Rattle.std.specs.List.{AllZip}
 use Rattle.std.specs.declared.io.ErrorKind.{ErrorKind as IoKind}
 use Rattle.ads.specs.Config.{ConfigValue}
-use Rattle.proxy_core.specs.Events.{EventValue, OutputValue}
-use Rattle.proxy_core.specs.Step.{CallDoes, CallsDo, EventCall, ProxyValue, answered, new_proxy, no_memory}
+use Rattle.proxy_core.specs.Events.{EventValue}
+use Rattle.proxy_core.specs.Step.{CallsDo, EventCall, ProxyValue, answered, new_proxy, no_memory}
 use Rattle.rbacd.specs.Lines.{IsLine, words_of}
 use Rattle.rbacd.specs.Output.{BreaksOff}
 use Rattle.rbacd.specs.declared.replay.ReplayFault.{ReplayFault}

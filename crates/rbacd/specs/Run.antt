@@ -1,13 +1,16 @@
 -- A run of the program, from its words to its status: what it reads, which fault counts first, and
 -- what it leaves on its two outputs.
-use Rattle.std.specs.Prelude.{◌≡◌, ◌≢◌, ◌⊎◌, ◌↔◌, ◌++◌, ◌∷◌, [], ⊤, ℕ, List, Option, Some, None, Ok, Err, Result, IsTrue, codes, option_map, string_bytes}
+use Rattle.std.specs.Prelude.{◌≡◌, ◌≢◌, ◌⊎◌, ◌↔◌, ◌++◌, ◌∷◌, [], ⊤, true, false, ℕ, Bool, List, Option, Some, None, Ok, Err, Result, IsTrue, codes, map, option_map, string_bytes}
+use Rattle.std.specs.List.{AllZip}
 use Rattle.std.specs.Io.KnownBytes.{Appends}
 use Rattle.std.specs.Io.{StartsWith}
 use Rattle.std.specs.IoError.{error_kind}
 use Rattle.std.specs.declared.io.Error.{Error as IoError}
 use Rattle.std.specs.declared.io.ErrorKind.{ErrorKind as IoKind}
 use Rattle.attributes.specs.Conn.{Facts}
-use Rattle.attributes.specs.Limits.{FactsInLimits, largest}
+use Rattle.attributes.specs.Limits.{FactsInLimits, LimitsValue, largest}
+use Rattle.ads.specs.Control.{ControlValue, ResourceValue, new_control}
+use Rattle.proxy_core.specs.Step.{ProxyValue, new_proxy}
 use Rattle.clap.specs.Words.{Text, kind_of}
 use Rattle.clap.specs.declared.error.kind.ErrorKind.{ErrorKind}
 use Rattle.clap.specs.declared.error.kind.ErrorKind.TheVariants as kinds
@@ -22,18 +25,24 @@ use Rattle.rbacd.specs.Replays.{IsReplayed, IsStopped}
 use Rattle.rbacd.specs.declared.replay.ReplayFault.{ReplayFault}
 use Rattle.rbacd.specs.declared.replay.ReplayFault.TheVariants as replay_faults
 use Rattle.rbacd.specs.Judging.{IsAllOf, IsCheckOf, IsDecision, IsOutcomeOf, plain_facts}
+use Rattle.rbacd.specs.ControlPump.{ServesStream}
+use Rattle.serde_json.specs.Written.{compact_text}
+use Rattle.rbacd.specs.Json.{fault_json}
 use Rattle.rbacd.specs.Outcome.{line_of, printed_of, status_of}
 use Rattle.rbacd.specs.Output.{BreaksOff, Takes}
+use Rattle.rbacd.specs.Rounds.{Link, Rounds}
 use Rattle.rbacd.specs.Words.{AreMistaken, IsJobOf, is_explained, is_json}
 use Rattle.rbacd.specs.declared.explain.Explanation.{Explanation}
 use Rattle.rbacd.specs.declared.explain.Explanation.TheVariants as explanations
 use Rattle.rbacd.specs.declared.words.Job.{Job}
-use Rattle.rbacd.specs.declared.words.Job.TheVariants.{Check, CheckConfig, Judge, Replay}
+use Rattle.rbacd.specs.declared.words.ControlWords.{ControlWords}
+use Rattle.rbacd.specs.declared.words.Job.TheVariants.{Check, CheckConfig, Control, Judge, Proxy, Replay}
+use Rattle.rbacd.specs.declared.words.ProxyWords.{ProxyWords}
 use Rattle.rbacd.specs.declared.outcome.Outcome.{Outcome}
 use Rattle.rbacd.specs.declared.outcome.Outcome.TheVariants as outcomes
 use Rattle.rbacd.specs.declared.outcome.Report.{Report}
-use Rattle.rbacd.specs.declared.run.JobFault.{JobFault}
-use Rattle.rbacd.specs.declared.run.JobFault.TheVariants as faults
+use Rattle.rbacd.specs.declared.job_fault.JobFault.{JobFault}
+use Rattle.rbacd.specs.declared.job_fault.JobFault.TheVariants as faults
 
 -- a source of files: which bytes the file at a path holds, and which file cannot be read, for which cause
 module _ (holds : Text → Text → Type 0) (lacks : (Text × IoError) → Type 0) where
@@ -129,7 +138,27 @@ first_line (faults.File path cause) = codes "cannot read " ++ string_bytes path 
 first_line faults.Facts = codes "bad facts" ++ 10 ∷ []
 first_line faults.Config = codes "bad config" ++ 10 ∷ []
 first_line (faults.Input cause) = codes "cannot read standard input" ++ 10 ∷ []
+first_line (faults.Log path cause) = codes "cannot write " ++ string_bytes path ++ 10 ∷ []
+first_line (faults.Listen address cause) = codes "cannot listen " ++ string_bytes address ++ 10 ∷ []
 first_line faults.Memory = []
+
+-- its status
+abbrev pub status_of_fault : JobFault → ℕ
+status_of_fault faults.Facts = 6
+status_of_fault faults.Config = 6
+status_of_fault faults.Memory = 5
+status_of_fault fault = 2
+
+-- the words of a fault that stops a job with a report
+abbrev pub fault_words : JobFault → Text
+fault_words (faults.File path cause) = codes "cannot read " ++ string_bytes path
+fault_words faults.Facts = codes "bad facts"
+fault_words (faults.Input cause) = codes "cannot read standard input"
+fault_words fault = []
+
+-- the line with the fault's object
+abbrev pub fault_object : JobFault → Text → Text
+fault_object fault cause = compact_text (fault_json (fault_words fault) cause) ++ 10 ∷ []
 
 -- the words ask for a text to read, and for nothing else
 abbrev pub IsShown : ErrorKind → Type 0
@@ -173,7 +202,21 @@ module _ (out out_new errors errors_new : Option Text) (status : ℕ) where
   LeavesFault faults.Facts = Tells 6 (first_line faults.Facts)
   LeavesFault faults.Config = Tells 6 (first_line faults.Config)
   LeavesFault (faults.Input cause) = Tells 2 (first_line (faults.Input cause))
+  LeavesFault (faults.Log path cause) = Tells 2 (first_line (faults.Log path cause))
+  LeavesFault (faults.Listen address cause) = Tells 2 (first_line (faults.Listen address cause))
   LeavesFault faults.Memory = Prints 5 (line_of outcomes.Memory)
+
+  -- an object that has the fault's words and some cause stands on standard output, and its line on standard
+  -- error, unless that failed; or the output broke off
+  abbrev pub LeavesObject : JobFault → Type 0
+  LeavesObject fault = (cause : Text) × (((status ≡ status_of_fault fault) × Appends out out_new (fault_object fault cause)
+      × ((told : Text) × StartsWith told (first_line fault) × Takes errors errors_new told))
+      ⊎ ((status ≡ 2) × BreaksOff out out_new (fault_object fault cause)))
+
+  -- what is left of a run of a job with a report that comes to this fault, with an object or without
+  abbrev pub LeavesAs : Bool → JobFault → Type 0
+  LeavesAs true fault = LeavesObject fault
+  LeavesAs false fault = LeavesFault fault
 
   -- what is printed of the report stands on standard output
   abbrev pub PrintsReport : Report → Type 0
@@ -181,10 +224,10 @@ module _ (out out_new errors errors_new : Option Text) (status : ℕ) where
       × IsTold errors errors_new report.explanation report.outcome)
       ⊎ ((status ≡ 2) × BreaksOff out out_new (printed_of report))
 
-  -- what is left of a run that comes to this
-  abbrev pub Leaves : Result Report JobFault → Type 0
-  Leaves (Ok report) = PrintsReport report
-  Leaves (Err fault) = LeavesFault fault
+  -- what is left of a run that comes to this, as JSON or in words
+  abbrev pub Leaves : Bool → Result Report JobFault → Type 0
+  Leaves json (Ok report) = PrintsReport report
+  Leaves json (Err fault) = LeavesAs json fault
 
 -- the line of a line that is no event
 abbrev pub bad_line : ℕ → Text
@@ -208,7 +251,7 @@ module _ (holds : Text → Text → Type 0) (lacks : (Text × IoError) → Type 
   -- the job comes to this, and it is told; or memory ran out
   pub data EndsReport (job : Job) : Type 0 where
     ended : (found : Result Report JobFault) → ComesTo holds lacks input job found
-        → Leaves out out_new errors errors_new status found → EndsReport job
+        → Leaves out out_new errors errors_new status (is_json job) found → EndsReport job
     memory : LeavesFault out out_new errors errors_new status faults.Memory → EndsReport job
 
 -- the file at this path is a configuration, and it is told what it means; or it is not, and that is told
@@ -233,6 +276,107 @@ module _ (holds : Text → Text → Type 0) (lacks : (Text × IoError) → Type 
           → LeavesFault out out_new errors errors_new status fault → EndsReplay
       memory : LeavesFault out out_new errors errors_new status faults.Memory → EndsReplay
 
+-- the fault says that nothing can listen at this address
+abbrev pub CannotListen : Text → JobFault → Type 0
+CannotListen address (faults.Listen name cause) = string_bytes name ≡ address
+CannotListen address _ = ⊥
+
+-- the fault says that the log of this path cannot be opened
+abbrev pub CannotLog : Option Text → JobFault → Type 0
+CannotLog log (faults.Log path cause) = log ≡ Some (string_bytes path)
+CannotLog log _ = ⊥
+
+-- a stream of the control plane was served, or none came
+abbrev pub ServesOneStream : ControlValue → ControlValue → Type 0
+ServesOneStream old new = (new ≡ old)
+    ⊎ ((input input_new out out_new : Option Text) × ServesStream old new input input_new out out_new)
+
+-- the line of what was acknowledged
+abbrev pub acknowledged_line : Option ℕ → Text
+acknowledged_line (Some number) = codes "acknowledged " ++ decimal number ++ 10 ∷ []
+acknowledged_line None = codes "acknowledged none" ++ 10 ∷ []
+
+module _ (holds : Text → Text → Type 0) (lacks : (Text × IoError) → Type 0) where
+  -- the snapshot is that of the file at this path: one filter, of this name
+  abbrev pub IsSnapshotOf : Text → Text → List ResourceValue → Type 0
+  IsSnapshotOf name path snapshot =
+      (bytes : Text) × holds path bytes × (snapshot ≡ record { name = name; filter = bytes } ∷ [])
+
+  -- the fault says that one of the files cannot be read, and those before it can
+  abbrev pub LacksFile : List Text → JobFault → Type 0
+  LacksFile [] fault = ⊥
+  LacksFile (path ∷ paths) fault = IsUnread holds lacks path fault
+      ⊎ (((bytes : Text) × holds path bytes) × LacksFile paths fault)
+
+  -- the files of these words are the snapshots
+  abbrev pub AreSnapshotsOf : ControlWords → List (List ResourceValue) → Type 0
+  AreSnapshotsOf words snapshots =
+      AllZip (IsSnapshotOf (string_bytes words.name)) (map string_bytes words.files.items) snapshots
+
+  -- a control plane of these words served a stream, and this number was acknowledged last
+  pub record IsServed (words : ControlWords) (acknowledged : Option ℕ) : Type 0 where
+    pub snapshots : List (List ResourceValue)
+    pub read : AreSnapshotsOf words snapshots
+    pub after : ControlValue
+    pub serves : ServesOneStream (new_control snapshots) after
+    pub number : acknowledged ≡ after.served.acknowledged
+
+  -- what stops a control plane: files are read first, then the log is opened, and then it listens
+  pub data StopsControl (words : ControlWords) (fault : JobFault) : Type 0 where
+    no_file : LacksFile (map string_bytes words.files.items) fault → StopsControl words fault
+    no_log : (snapshots : List (List ResourceValue)) → AreSnapshotsOf words snapshots
+        → CannotLog (option_map string_bytes words.log) fault → StopsControl words fault
+    no_listener : (snapshots : List (List ResourceValue)) → AreSnapshotsOf words snapshots
+        → CannotListen (string_bytes words.listen) fault → StopsControl words fault
+
+  -- the facts cannot be read, are none, or are not within the limits
+  pub data LacksFit (facts_path : Option Text) (limits : LimitsValue) (fault : JobFault) : Type 0 where
+    no_facts : (path : Text) → facts_path ≡ Some path
+        → IsUnread holds lacks path fault ⊎ HasBadFacts holds lacks path fault → LacksFit facts_path limits fault
+    unfit : (facts : Facts) → IsConnOf holds lacks facts_path facts → ¬ FactsInLimits facts limits
+        → fault ≡ faults.Facts → LacksFit facts_path limits fault
+
+  -- a configuration, and facts of connections that are within its limits
+  pub record IsSetUp (words : ProxyWords) (c : ConfigValue) (facts : Facts) : Type 0 where
+    pub config : IsConfigOf holds lacks (string_bytes words.config) c
+    pub conn : IsConnOf holds lacks (option_map string_bytes words.facts) facts
+    pub fits : FactsInLimits facts c.limits
+
+  -- a proxy of these words ran its rounds, of which the first had to bring the update stream up
+  pub record IsProxied (words : ProxyWords) : Type 0 where
+    pub c : ConfigValue
+    pub facts : Facts
+    pub set_up : IsSetUp words c facts
+    pub after : ProxyValue
+    pub link : Option Link
+    pub rounds : Rounds facts words.rounds (new_proxy c) after None link
+
+  -- what stops a proxy: the configuration is read first, then the facts are, then the log is opened, and then it listens
+  pub data StopsProxy (words : ProxyWords) (fault : JobFault) : Type 0 where
+    no_config : LacksConfig holds lacks (string_bytes words.config) fault → StopsProxy words fault
+    no_facts : (c : ConfigValue) → IsConfigOf holds lacks (string_bytes words.config) c
+        → LacksFit (option_map string_bytes words.facts) c.limits fault → StopsProxy words fault
+    no_log : (c : ConfigValue) (facts : Facts) → IsSetUp words c facts
+        → CannotLog (option_map string_bytes words.log) fault → StopsProxy words fault
+    no_listener : (c : ConfigValue) (facts : Facts) → IsSetUp words c facts
+        → CannotListen (string_bytes words.listen) fault → StopsProxy words fault
+
+  module _ (out out_new errors errors_new : Option Text) (status : ℕ) where
+    -- how a control plane ends: it prints what was acknowledged, or tells what stopped it
+    pub data EndsControl (words : ControlWords) : Type 0 where
+      served : (acknowledged : Option ℕ) → IsServed words acknowledged
+          → Prints out out_new errors errors_new status 0 (acknowledged_line acknowledged) → EndsControl words
+      stopped : (fault : JobFault) → StopsControl words fault → LeavesFault out out_new errors errors_new status fault
+          → EndsControl words
+      memory : LeavesFault out out_new errors errors_new status faults.Memory → EndsControl words
+
+    -- how a proxy ends: it prints nothing, or tells what stopped it
+    pub data EndsProxy (words : ProxyWords) : Type 0 where
+      served : IsProxied words → status ≡ 0 → out_new ≡ out → errors_new ≡ errors → EndsProxy words
+      stopped : (fault : JobFault) → StopsProxy words fault → LeavesFault out out_new errors errors_new status fault
+          → EndsProxy words
+      memory : LeavesFault out out_new errors errors_new status faults.Memory → EndsProxy words
+
 module _ (holds : Text → Text → Type 0) (lacks : (Text × IoError) → Type 0) (input : Option Text)
     (out out_new errors errors_new : Option Text) (status : ℕ) where
   -- how the job ends
@@ -245,6 +389,8 @@ module _ (holds : Text → Text → Type 0) (lacks : (Text × IoError) → Type 
       EndsConfig holds lacks out out_new errors errors_new status (string_bytes config)
   EndsJob (Replay config) =
       EndsReplay holds lacks out out_new errors errors_new status (string_bytes config) input
+  EndsJob (Control words) = EndsControl holds lacks out out_new errors errors_new status words
+  EndsJob (Proxy words) = EndsProxy holds lacks out out_new errors errors_new status words
 
   -- the words name a job that ends so, or they are mistaken, or memory ran out before that was known
   pub data Ran (words : List Text) : Type 0 where

@@ -1,14 +1,14 @@
 -- The program's command line and the job that its words name.
-use Rattle.std.specs.Prelude.{◌≡◌, ◌≤◌, ◌⊎◌, ◌↔◌, ⊤, ℕ, List, [], ◌∷◌, Bool, true, false, IsTrue, Ok, Option, Some, option_map, codes, string_bytes}
+use Rattle.std.specs.Prelude.{◌≡◌, ◌≤◌, ◌⊎◌, ◌↔◌, ⊤, ℕ, List, [], ◌∷◌, Bool, true, false, IsTrue, Ok, Option, Some, map, option_map, codes, string_bytes}
 use Rattle.std.specs.Str.Parse.{ParsesUnsigned}
-use Rattle.clap.specs.Words.{App, IsAmong, Row, Rule, Text, fault_of, first_of, one_of, new_app, new_rule, subcommand_of, with_rule, with_subcommand}
+use Rattle.clap.specs.Words.{App, IsAmong, Row, Rule, Text, all_of, fault_of, first_of, one_of, new_app, new_rule, subcommand_of, with_rule, with_subcommand}
 use Rattle.clap.specs.Simple.{on_top}
-use Rattle.clap.specs.declared.builder.action.ArgAction.TheVariants.{SetTrue}
+use Rattle.clap.specs.declared.builder.action.ArgAction.TheVariants.{Append, SetTrue}
 use Rattle.clap.specs.declared.builder.value_parser.ValueParser.TheVariants as parsers
 use Rattle.clap.specs.declared.error.kind.ErrorKind.{ErrorKind}
 use Rattle.clap.specs.declared.error.kind.ErrorKind.TheVariants.{ValueValidation}
 use Rattle.rbacd.specs.declared.words.Job.{Job}
-use Rattle.rbacd.specs.declared.words.Job.TheVariants.{Check, CheckConfig, Judge, Replay}
+use Rattle.rbacd.specs.declared.words.Job.TheVariants.{Check, CheckConfig, Control, Judge, Proxy, Replay}
 
 -- `--policy FILE`, which has to be there
 abbrev pub policy_rule : Rule
@@ -56,6 +56,54 @@ config_rule = record (new_rule (codes "config")) {
   required = true;
 }
 
+-- `--listen ADDR`, which has to be there
+abbrev pub listen_rule : Rule
+listen_rule = record (new_rule (codes "listen")) {
+  long = Some (codes "listen");
+  value_names = 1;
+  required = true;
+}
+
+-- `--control ADDR`, which has to be there
+abbrev pub control_rule : Rule
+control_rule = record (new_rule (codes "control")) {
+  long = Some (codes "control");
+  value_names = 1;
+  required = true;
+}
+
+-- `--name F`, which has to be there
+abbrev pub name_rule : Rule
+name_rule = record (new_rule (codes "name")) {
+  long = Some (codes "name");
+  value_names = 1;
+  required = true;
+}
+
+-- `--log FILE`
+abbrev pub log_rule : Rule
+log_rule = record (new_rule (codes "log")) {
+  long = Some (codes "log");
+  value_names = 1;
+}
+
+-- `FILE...`, of which one has to be there
+abbrev pub files_rule : Rule
+files_rule = record (new_rule (codes "file")) {
+  value_names = 1;
+  required = true;
+  action = Some Append;
+}
+
+-- `--rounds N`, a number from 0 to 1,000,000, which has to be there
+abbrev pub rounds_rule : Rule
+rounds_rule = record (new_rule (codes "rounds")) {
+  long = Some (codes "rounds");
+  value_names = 1;
+  required = true;
+  parser = Some (parsers.Unsigned 0 1000000);
+}
+
 -- `check --policy FILE [--budget N] [--json]`
 abbrev pub check_app : App
 check_app = with_rule (with_rule (with_rule (new_app (codes "check")) policy_rule) budget_rule) json_rule
@@ -73,6 +121,16 @@ check_config_app = with_rule (new_app (codes "check-config")) config_rule
 abbrev pub replay_app : App
 replay_app = with_rule (new_app (codes "replay")) config_rule
 
+-- `control --listen ADDR --name F [--log FILE] FILE...`
+abbrev pub control_app : App
+control_app = with_rule (with_rule (with_rule (with_rule (new_app (codes "control")) listen_rule) name_rule) files_rule)
+    log_rule
+
+-- `proxy --config FILE --control ADDR --listen ADDR --rounds N [--facts FILE] [--log FILE]`
+abbrev pub proxy_app : App
+proxy_app = with_rule (with_rule (with_rule (with_rule (with_rule (with_rule (new_app (codes "proxy")) config_rule)
+    control_rule) listen_rule) rounds_rule) facts_rule) log_rule
+
 -- the program without its subcommands, of which it needs one; it has a version, and without words it shows its help
 abbrev pub bare_app : App
 bare_app = on_top (λ s. record s {
@@ -83,8 +141,8 @@ bare_app = on_top (λ s. record s {
 
 -- the program
 abbrev pub rbacd_app : App
-rbacd_app = with_subcommand (with_subcommand (with_subcommand (with_subcommand bare_app check_app.top) judge_app.top)
-    check_config_app.top) replay_app.top
+rbacd_app = with_subcommand (with_subcommand (with_subcommand (with_subcommand (with_subcommand (with_subcommand bare_app
+    check_app.top) judge_app.top) check_config_app.top) replay_app.top) control_app.top) proxy_app.top
 
 -- the value of `--budget` is that number, and it is allowed
 pub record IsBudgetOf (rows : List Row) (budget : ℕ) : Type 0 where
@@ -93,6 +151,13 @@ pub record IsBudgetOf (rows : List Row) (budget : ℕ) : Type 0 where
   pub number : ParsesUnsigned {E = ⊤} 64 10 text (Ok budget)
   pub positive : 1 ≤ budget
   pub allowed : budget ≤ 100000000
+
+-- the value of `--rounds` is that number, and it is allowed
+pub record AreRoundsOf (rows : List Row) (rounds : ℕ) : Type 0 where
+  pub text : Text
+  pub given : one_of (codes "rounds") rows ≡ Some text
+  pub number : ParsesUnsigned {E = ⊤} 64 10 text (Ok rounds)
+  pub allowed : rounds ≤ 1000000
 
 -- whether the flag was given
 abbrev pub HasFlag : Text → List Row → Bool → Type 0
@@ -109,6 +174,16 @@ IsJobOfRows rows (Judge policy facts budget json explain) =
     × HasFlag (codes "explain") rows explain
 IsJobOfRows rows (CheckConfig config) = first_of (codes "config") rows ≡ Some (string_bytes config)
 IsJobOfRows rows (Replay config) = first_of (codes "config") rows ≡ Some (string_bytes config)
+IsJobOfRows rows (Control words) = (first_of (codes "listen") rows ≡ Some (string_bytes words.listen))
+    × (first_of (codes "name") rows ≡ Some (string_bytes words.name))
+    × (all_of (codes "file") rows ≡ Some (map string_bytes words.files.items))
+    × (first_of (codes "log") rows ≡ option_map string_bytes words.log)
+IsJobOfRows rows (Proxy words) = (first_of (codes "config") rows ≡ Some (string_bytes words.config))
+    × (first_of (codes "control") rows ≡ Some (string_bytes words.control))
+    × (first_of (codes "listen") rows ≡ Some (string_bytes words.listen))
+    × AreRoundsOf rows words.rounds
+    × (first_of (codes "facts") rows ≡ option_map string_bytes words.facts)
+    × (first_of (codes "log") rows ≡ option_map string_bytes words.log)
 
 -- the job's subcommand
 abbrev pub subcommand_name : Job → Text
@@ -116,6 +191,8 @@ subcommand_name (Check policy budget json) = codes "check"
 subcommand_name (Judge policy facts budget json explain) = codes "judge"
 subcommand_name (CheckConfig config) = codes "check-config"
 subcommand_name (Replay config) = codes "replay"
+subcommand_name (Control words) = codes "control"
+subcommand_name (Proxy words) = codes "proxy"
 
 -- the job comes to a report, which is printed
 abbrev pub IsReported : Job → Type 0

@@ -2,7 +2,7 @@
 ghost use Rattle.std.specs.Prelude.{◌≡◌, IfOk, codes, false};
 ghost use Rattle.clap.specs.Words.{app_of, rule_of};
 ghost use Rattle.clap.specs.declared.builder.command.Command.TheViews.{out-Command};
-ghost use Rattle.rbacd.specs.Words.{bare_app, budget_rule, check_app, check_config_app, config_rule, explain_rule, facts_rule, json_rule, judge_app, policy_rule, rbacd_app, replay_app};
+ghost use Rattle.rbacd.specs.Words.{bare_app, budget_rule, check_app, check_config_app, config_rule, control_app, control_rule, explain_rule, facts_rule, files_rule, json_rule, judge_app, listen_rule, log_rule, name_rule, policy_rule, proxy_app, rbacd_app, replay_app, rounds_rule};
 
 use clap::{Arg, ArgAction, Command, value_parser};
 use std::alloc::{AllocError, Global};
@@ -21,9 +21,10 @@ const CHECK_HELP: &str = "The line on standard output, and the status:
   refused: N NAME               1  it is refused for this reason (5 for want of memory)
 With no line there, standard error has one: 2 for words, a file or an output that fails.
 
-With --json the line is one of these objects:
+With --json the line is one of these objects; \"place\" is null where no part of a policy is at fault:
   {\"admitted\":true,\"bound\":B,\"policies\":P}
-  {\"name\":\"NAME\",\"refused\":N}
+  {\"cause\":\"why\",\"name\":\"NAME\",\"place\":\"policy \\\"p\\\": permissions[0]\",\"refused\":N}
+  {\"cause\":\"why\",\"error\":\"cannot read FILE\"}
 
 Examples:
   rbacd check --policy examples/any_any.bin --budget 1000
@@ -43,9 +44,10 @@ With --json the line is one of these objects; no policy matched where \"name\" a
   {\"name\":\"p\",\"policy\":M,\"verdict\":\"allow\"}
   {\"name\":\"p\",\"policy\":M,\"verdict\":\"deny\"}
   {\"out_of_steps\":true,\"verdict\":\"deny\"}
-  {\"name\":\"NAME\",\"refused\":N}
-  {\"head\":S}
+  {\"cause\":\"why\",\"name\":\"NAME\",\"place\":\"policy \\\"p\\\": permissions[0]\",\"refused\":N}
+  {\"cause\":\"why\",\"head\":S}
   {\"memory\":true}
+  {\"cause\":\"why\",\"error\":\"bad facts\"}
 
 With --explain a line follows for each policy that was tried, in order, up to the one that matched:
   M \"p\": permission                      no permission of it matches
@@ -101,6 +103,48 @@ connection. The line is memory where memory ran out, and the proxy is then as it
 The status is 0 at the end of the input, 6 for a bad configuration or line, 5 where memory runs out
 elsewhere, 2 for words, a file or an output that fails.";
 
+/// The end of the help of `control`.
+const CONTROL_HELP: &str =
+    "It sends the first snapshot to the first client, and each other one after the answer to the one before. Where
+the client closes the stream, or the stream fails, it prints one line and ends with status 0:
+  acknowledged N     N is the number of the snapshot that was acknowledged last, from 1
+  acknowledged none  none was
+
+The status is 2 for words, a file or an output that fails, and for an address at which it cannot listen. If
+memory runs out, except while it serves, it prints memory and ends with 5.
+
+With --log each line of that file is one of these objects:
+  {\"nonce\":\"\",\"update\":\"asked\",\"version\":\"\"}
+  {\"nonce\":\"1\",\"update\":\"sent\",\"version\":\"1\"}
+  {\"nonce\":\"1\",\"update\":\"acknowledged\",\"version\":\"1\"}
+  {\"message\":\"policy refused: N\",\"nonce\":\"1\",\"update\":\"refused\"}
+
+Example:
+  rbacd control --listen 127.0.0.1:18000 --name f examples/any_any.bin";
+
+/// The end of the help of `proxy`.
+const PROXY_HELP: &str =
+    "In each round it connects the update stream if that is down, takes one response or the loss of the stream,
+and then serves one connection to its end. It judges the requests and answers them; it passes nothing on.
+A control plane that cannot be reached is a lost stream. Nothing is tried again in the same round.
+
+Standard output stays empty. The status is 0 after the last round, 6 for a bad configuration or bad facts,
+2 for words or a file that fails, and for an address at which it cannot listen. If memory runs out at the
+start, it prints memory and ends with 5.
+
+With --log each line of that file is one of these objects; \"filter\" and \"place\" are null where no part of
+a policy is at fault:
+  {\"stream\":\"up\"}  or unreachable, or lost
+  {\"generation\":G,\"nonce\":\"1\",\"update\":\"acknowledged\",\"version\":\"1\"}
+  {\"cause\":\"why\",\"filter\":\"f\",\"generation\":G,\"name\":\"NAME\",\"nonce\":\"2\",
+   \"place\":\"policy \\\"p\\\": permissions[0]\",\"refused\":N,\"update\":\"refused\",\"version\":\"2\"}
+  {\"connection\":K,\"end\":\"client\"}  the client closed connection K, or a read failed
+  {\"connection\":K,\"end\":\"proxy\"}   the proxy closed it, or a write failed, or memory ran out
+G is how many responses were acknowledged so far.
+
+Example:
+  rbacd proxy --config config.json --control 127.0.0.1:18000 --listen 127.0.0.1:18080 --rounds 10";
+
 /// The program's command, with a subcommand for each job.
 pub(crate) fn command<'a>(alloc: Global) -> Result<Command<'a>, AllocError>
     ensures { IfOk result (λ c. app_of c ≡ rbacd_app) }
@@ -109,11 +153,15 @@ pub(crate) fn command<'a>(alloc: Global) -> Result<Command<'a>, AllocError>
     let judge = judge_command(alloc)?;
     let check_config = check_config_command(alloc)?;
     let replay = replay_command(alloc)?;
+    let control = control_command(alloc)?;
+    let proxy = proxy_command(alloc)?;
     bare_command(alloc)
         .subcommand(check)?
         .subcommand(judge)?
         .subcommand(check_config)?
-        .subcommand(replay)
+        .subcommand(replay)?
+        .subcommand(control)?
+        .subcommand(proxy)
 }
 
 fn check_command<'a>(alloc: Global) -> Result<Command<'a>, AllocError>
@@ -236,4 +284,97 @@ fn config_arg<'a>(alloc: Global) -> Arg<'a>
         .value_name("FILE")
         .required(true)
         .help("The configuration: one JSON object")
+}
+
+fn control_command<'a>(alloc: Global) -> Result<Command<'a>, AllocError>
+    ensures app { IfOk result (λ c. app_of c ≡ control_app) }
+    ensures local { IfOk result (λ c. (out-Command c).has_globals ≡ false) }
+{
+    Command::new(alloc, "control")
+        .about("Serves filters as a control plane, to one client")
+        .after_help(CONTROL_HELP)
+        .arg(listen_arg(alloc))?
+        .arg(name_arg(alloc))?
+        .arg(files_arg(alloc))?
+        .arg(log_arg(alloc))
+}
+
+fn proxy_command<'a>(alloc: Global) -> Result<Command<'a>, AllocError>
+    ensures app { IfOk result (λ c. app_of c ≡ proxy_app) }
+    ensures local { IfOk result (λ c. (out-Command c).has_globals ≡ false) }
+{
+    Command::new(alloc, "proxy")
+        .about("Judges the requests of connections, by the filters of a control plane")
+        .after_help(PROXY_HELP)
+        .arg(config_arg(alloc))?
+        .arg(control_arg(alloc))?
+        .arg(listen_arg(alloc))?
+        .arg(rounds_arg(alloc))?
+        .arg(facts_arg(alloc))?
+        .arg(log_arg(alloc))
+}
+
+fn listen_arg<'a>(alloc: Global) -> Arg<'a>
+    ensures rule { rule_of result ≡ listen_rule }
+    ensures local { result.global ≡ false }
+{
+    Arg::new(alloc, "listen")
+        .long("listen")
+        .value_name("ADDR")
+        .required(true)
+        .help("Where to listen: a host and a port, as 127.0.0.1:18080")
+}
+
+fn control_arg<'a>(alloc: Global) -> Arg<'a>
+    ensures rule { rule_of result ≡ control_rule }
+    ensures local { result.global ≡ false }
+{
+    Arg::new(alloc, "control")
+        .long("control")
+        .value_name("ADDR")
+        .required(true)
+        .help("Where the control plane is: a host and a port")
+}
+
+fn name_arg<'a>(alloc: Global) -> Arg<'a>
+    ensures rule { rule_of result ≡ name_rule }
+    ensures local { result.global ≡ false }
+{
+    Arg::new(alloc, "name")
+        .long("name")
+        .value_name("F")
+        .required(true)
+        .help("The name of the filter that each snapshot holds")
+}
+
+fn files_arg<'a>(alloc: Global) -> Arg<'a>
+    ensures rule { rule_of result ≡ files_rule }
+    ensures local { result.global ≡ false }
+{
+    Arg::new(alloc, "file")
+        .value_name("FILE")
+        .required(true)
+        .action(ArgAction::Append)
+        .help("A snapshot: one HTTP RBAC filter message")
+}
+
+fn log_arg<'a>(alloc: Global) -> Arg<'a>
+    ensures rule { rule_of result ≡ log_rule }
+    ensures local { result.global ≡ false }
+{
+    Arg::new(alloc, "log").long("log").value_name("FILE").help(
+        "Where to log what happens, as JSON lines; - is standard error",
+    )
+}
+
+fn rounds_arg<'a>(alloc: Global) -> Arg<'a>
+    ensures rule { rule_of result ≡ rounds_rule }
+    ensures local { result.global ≡ false }
+{
+    Arg::new(alloc, "rounds")
+        .long("rounds")
+        .value_name("N")
+        .required(true)
+        .value_parser(value_parser!(u64).range(0..=1_000_000))
+        .help("How many rounds it runs, from 0 to 1000000")
 }

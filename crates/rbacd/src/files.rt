@@ -5,7 +5,8 @@ ghost use Rattle.std.specs.IoError.{error_kind};
 
 use std::alloc::Global;
 use std::fs::File;
-use std::io::{self, ErrorKind, Read};
+use std::io::{self, ErrorKind, Read, Write};
+use std::rt::Stderr;
 
 /// A file that the program reads has at most so many bytes: 16 MiB.
 pub(crate) const MOST_FILE: u64 = 16_777_216;
@@ -23,6 +24,12 @@ pub trait Source {
         ensures found { IfOk result (λ v. holds self.now path.now v.items) }
         ensures fault { IfErr result (λ e. (error_kind e ≡ ErrorKind.OutOfMemory)
             ⊎ lacks self.now (path.now, e)) };
+
+    /// What takes a log.
+    type Log: Write + Drop;
+
+    /// A log that goes to the file at this path, of which nothing is left, or to standard error where the path is `-`.
+    fn open_log(&self, path: &str) -> io::Result<Self::Log>;
 }
 
 /// The files of the system. No proof knows what they hold.
@@ -35,6 +42,40 @@ impl Source for HostRuntime {
 
     fn read_file(&self, alloc: Global, path: &str) -> io::Result<Vec<u8>> {
         read_whole(alloc, File::open(self, path)?)
+    }
+
+    type Log = LogWriter;
+
+    fn open_log(&self, path: &str) -> io::Result<LogWriter> {
+        match path {
+            "-" => Ok(LogWriter::Errors(self.stderr())),
+            _ => Ok(LogWriter::File(File::create(self, path)?)),
+        }
+    }
+}
+
+/// Where the log of a program goes.
+#[derive(Drop)]
+pub enum LogWriter {
+    /// To a file.
+    File(File),
+    /// To standard error.
+    Errors(Stderr),
+}
+
+impl Write for LogWriter {
+    fn write(&mut self, bytes: &[u8]) -> io::Result<usize> {
+        match self {
+            LogWriter::File(file) => file.write(bytes),
+            LogWriter::Errors(errors) => errors.write(bytes),
+        }
+    }
+
+    fn flush(&mut self) -> io::Result<()> {
+        match self {
+            LogWriter::File(file) => file.flush(),
+            LogWriter::Errors(errors) => errors.flush(),
+        }
     }
 }
 

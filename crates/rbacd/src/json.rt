@@ -4,34 +4,57 @@ ghost use Rattle.serde_json.specs.Data.{array, no_members, object};
 ghost use Rattle.serde_json.specs.View.{items_of, view};
 ghost use Rattle.rbac_policy.specs.declared.trials.Reason.TheVariants.{ConditionFails, ConditionTrue};
 ghost use Rattle.rbacd.specs.Explain.{own_trial_view, reason_json, told_in, trial_json, trial_members};
-ghost use Rattle.rbacd.specs.Json.{admitted_json, json_of, matched_json, name_json, refused_json, verdict_json};
+ghost use Rattle.rbacd.specs.Json.{admitted_json, head_json, json_of, matched_json, text_json, refused_json, untold, verdict_json, why_view};
 
 use crate::explain::{Explanation, OwnTrial};
 use crate::outcome::Outcome;
 use cel_value::CelError;
+use http_front::HeadFault;
 use proto_wire::Refusal;
 use rbac_policy::Reason;
 use serde_json::{Value, json};
 use std::alloc::{AllocError, Global};
 
-/// The outcome as a JSON object, with the name of the policy that matched, and with the trials, if they
-/// are told.
+/// Why an outcome that is no verdict is what it is, as far as that is told.
+#[derive(Drop)]
+pub struct Why {
+    /// The cause, in words.
+    pub cause: Option<String>,
+    /// The part of a policy that has the fault.
+    pub place: Option<String>,
+}
+
+impl Why {
+    /// Nothing is told.
+    pub(crate) fn none() -> Why
+        ensures { result ≡ untold }
+    {
+        Why {
+            cause: None,
+            place: None,
+        }
+    }
+}
+
+/// The outcome as a JSON object, with the name of the policy that matched, with the trials, if they are
+/// told, and with why it is no verdict.
 pub(crate) fn value_of(
     alloc: Global,
     outcome: Outcome,
     name: &Option<String>,
     explanation: &Explanation,
+    why: &Why,
 ) -> Result<Value, AllocError>
-    ensures { IfOk result (λ value. view value
-        ≡ json_of (option_map string_bytes name.now) (told_in explanation.now) outcome) }
+    ensures { IfOk result (λ value. view value ≡ json_of (option_map string_bytes name.now)
+        (told_in explanation.now) (why_view why.now) outcome) }
 {
     match outcome {
         Outcome::Admitted { policies, bound } => admitted_value(alloc, policies, bound),
         Outcome::Allowed(matched) => verdict_value(alloc, "allow", name, matched, explanation),
         Outcome::Denied(matched) => verdict_value(alloc, "deny", name, matched, explanation),
         Outcome::OutOfSteps => json!(in alloc; {"verdict": "deny", "out_of_steps": true}),
-        Outcome::Refused(refusal) => refused_value(alloc, refusal),
-        Outcome::Fault(fault) => json!(in alloc; {"head": fault.status()}),
+        Outcome::Refused(refusal) => refused_value(alloc, refusal, why),
+        Outcome::Fault(fault) => head_value(alloc, fault, why),
         Outcome::Memory => json!(in alloc; {"memory": true}),
     }
 }
@@ -71,7 +94,7 @@ fn plain_value(
     ensures { IfOk result (λ value. view value
         ≡ verdict_json word.now (option_map string_bytes name.now) matched None) }
 {
-    let name = name_value(alloc, name)?;
+    let name = text_value(alloc, name)?;
     json!(in alloc; {"verdict": word, "policy": matched_value(matched), "name": name})
 }
 
@@ -86,7 +109,7 @@ fn explained_value(
     ensures { IfOk result (λ value. view value ≡ verdict_json word.now
         (option_map string_bytes name.now) matched (Some (map own_trial_view trials.now))) }
 {
-    let name = name_value(alloc, name)?;
+    let name = text_value(alloc, name)?;
     let trials = trials_value(alloc, trials)?;
     json!(in alloc; {"verdict": word, "policy": matched_value(matched), "name": name, "trials": trials})
 }
@@ -152,9 +175,9 @@ fn true_value(alloc: Global, trial: &OwnTrial, steps: u64, bound: u64) -> Result
     })
 }
 
-/// The name of the policy that matched, or `null`.
-fn name_value(alloc: Global, name: &Option<String>) -> Result<Value, AllocError>
-    ensures { IfOk result (λ value. view value ≡ name_json (option_map string_bytes name.now)) }
+/// A text, or `null`.
+fn text_value(alloc: Global, name: &Option<String>) -> Result<Value, AllocError>
+    ensures { IfOk result (λ value. view value ≡ text_json (option_map string_bytes name.now)) }
 {
     match name {
         Some(name) => Value::try_from_str(alloc, name.as_str()),
@@ -173,8 +196,23 @@ fn matched_value(matched: Option<usize>) -> Value
 }
 
 /// A policy that is refused.
-fn refused_value(alloc: Global, refusal: Refusal) -> Result<Value, AllocError>
-    ensures { IfOk result (λ value. view value ≡ refused_json refusal) }
+fn refused_value(alloc: Global, refusal: Refusal, why: &Why) -> Result<Value, AllocError>
+    ensures { IfOk result (λ value. view value ≡ refused_json (why_view why.now) refusal) }
 {
-    json!(in alloc; {"refused": refusal.number(), "name": refusal.name()})
+    let cause = text_value(alloc, &why.cause)?;
+    let place = text_value(alloc, &why.place)?;
+    json!(in alloc; {
+        "cause": cause,
+        "name": refusal.name(),
+        "place": place,
+        "refused": refusal.number()
+    })
+}
+
+/// A head that has a fault.
+fn head_value(alloc: Global, fault: HeadFault, why: &Why) -> Result<Value, AllocError>
+    ensures { IfOk result (λ value. view value ≡ head_json (why_view why.now) fault) }
+{
+    let cause = text_value(alloc, &why.cause)?;
+    json!(in alloc; {"cause": cause, "head": fault.status()})
 }

@@ -19,6 +19,7 @@ ghost use Rattle.rbacd.specs.steps.Judged.{IsAnswerTo, IsExplanationOf, IsNameOf
 
 use crate::explain::{Explanation, own_trials};
 use crate::input::read_ask;
+use crate::json::Why;
 use crate::outcome::{Outcome, Report};
 use crate::output::write_whole;
 use attributes::{Conn, Limits, Request};
@@ -60,6 +61,7 @@ impl Finding {
             name: self.name,
             json,
             explanation: self.explanation,
+            why: Why::none(),
         }
     }
 }

@@ -1,30 +1,42 @@
 //! Judges requests by a role-based access policy.
 #![tactic(auto)]
 
+use ending::MISTAKE;
 use outcome::Outcome;
-use run::{MISTAKE, run};
+use run::run;
 use std::env::{Env, FillError};
 use std::io::{ErrorKind, Write};
 use std::process::ExitCode;
 use std::{env, io};
 
 mod bad_facts;
+mod bad_heads;
 mod commands;
 pub mod configuration;
+mod ending;
 mod explain;
 pub mod facts;
+mod fault_json;
 mod files;
 mod input;
+pub mod job_fault;
 mod json;
 pub mod judge;
 pub mod lines;
+pub mod log;
+mod log_lines;
+mod meanings;
 mod members;
 mod notes;
 pub mod outcome;
 mod output;
 pub mod pumps;
+mod reading;
+mod recorded;
 pub mod replay;
+pub mod rounds;
 pub mod run;
+mod serve;
 mod settings;
 mod telling;
 pub mod words;

@@ -4,9 +4,12 @@
 //! Nothing here bears on the outcome or the status, but that memory may run out here too; no contract speaks of the texts.
 
 use crate::bad_facts::cause_of_bad_facts;
+use crate::bad_heads::passed_limit;
+use crate::json::Why;
+use crate::meanings::{meaning_of, rule_of};
 use crate::outcome::Outcome;
 use crate::telling::cause_of_bad_config;
-use http_front::{HeadFault, HeadPart};
+use http_front::HeadFault;
 use proto_wire::{Payload, Reader, Refusal};
 use rbac_policy::place_of;
 use std::alloc::{AllocError, Global};
@@ -23,6 +26,8 @@ pub(crate) struct Notes {
     pub(crate) facts: String,
     /// Why the configuration file is no configuration.
     pub(crate) config: String,
+    /// What of a head is above its limit.
+    pub(crate) head: Option<String>,
 }
 
 impl Notes {
@@ -33,6 +38,7 @@ impl Notes {
             place: None,
             facts: String::new(alloc),
             config: String::new(alloc),
+            head: None,
         }
     }
 
@@ -48,6 +54,50 @@ impl Notes {
         Ok(())
     }
 
+    /// Notes of a head whose request is outside the limits what is above its limit.
+    pub(crate) fn look_at_head(&mut self, alloc: Global, head: &[u8], outcome: Outcome) {
+        if let Outcome::Fault(HeadFault::OutsideLimits) = outcome {
+            self.head = passed_limit(alloc, head).unwrap_or(None);
+        }
+    }
+
+    /// Why an outcome is what it is, where that is no verdict.
+    pub(crate) fn why(&self, alloc: Global, outcome: Outcome) -> Why {
+        match outcome {
+            Outcome::Refused(refusal) => Why {
+                cause: self.cause_of_refusal(alloc, refusal).ok(),
+                place: copy_of(alloc, &self.place),
+            },
+            Outcome::Fault(fault) => Why {
+                cause: self.cause_of_fault(alloc, fault).ok(),
+                place: None,
+            },
+            Outcome::Admitted { .. }
+            | Outcome::Allowed(_)
+            | Outcome::Denied(_)
+            | Outcome::OutOfSteps
+            | Outcome::Memory => Why::none(),
+        }
+    }
+
+    /// Why a policy file is refused, and what it looks like.
+    fn cause_of_refusal(&self, alloc: Global, refusal: Refusal) -> Result<String, AllocError> {
+        let meaning = meaning_of(refusal);
+        match self.policy {
+            Some(likeness) => format!(in alloc; "{meaning}; the policy file looks like {likeness}"),
+            None => String::from_str(alloc, meaning),
+        }
+    }
+
+    /// Which rule a head breaks, and what of it is above its limit.
+    fn cause_of_fault(&self, alloc: Global, fault: HeadFault) -> Result<String, AllocError> {
+        let rule = rule_of(fault);
+        match &self.head {
+            Some(cause) => format!(in alloc; "{rule}: {cause}"),
+            None => String::from_str(alloc, rule),
+        }
+    }
+
     /// Notes of a policy file that is refused which part of it has the fault; and where no part has one
     /// and its own fields may be at fault, what it looks like.
     pub(crate) fn look_at_policy(&mut self, alloc: Global, bytes: &[u8], outcome: Outcome) {
@@ -57,6 +107,14 @@ impl Notes {
                 self.policy = likeness_of(bytes);
             }
         }
+    }
+}
+
+/// A copy of a text, if there is one and memory for it.
+fn copy_of(alloc: Global, text: &Option<String>) -> Option<String> {
+    match text {
+        Some(text) => String::from_str(alloc, text.as_str()).ok(),
+        None => None,
     }
 }
 
@@ -180,59 +238,4 @@ fn likeness_of_text(text: &[u8]) -> Likeness {
         return Likeness::Base64;
     }
     Likeness::Yaml
-}
-
-/// What a refusal means.
-pub(crate) fn meaning_of(refusal: Refusal) -> &'static str {
-    match refusal {
-        Refusal::BadWire => "the bytes are no whole fields of Protocol Buffers",
-        Refusal::BadText => "a text is not UTF-8",
-        Refusal::UnknownField => "a field is not known, or not of its wire type",
-        Refusal::Missing => "a part that has to be there is not",
-        Refusal::OutOfRange => "a value is outside its range",
-        Refusal::Unsupported => "a part is known, and not supported",
-        Refusal::TooLarge => "a limit of size, number or depth is passed",
-        Refusal::BothConditions => "a policy has a checked and an unchecked condition",
-        Refusal::UnknownName => "a condition has a name that is not known",
-        Refusal::NoOverload => "a condition's function does not take these operands",
-        Refusal::BadTypeEntry => "a condition's type map has another type than is found",
-        Refusal::BadReference => "a condition's reference map names something else",
-        Refusal::NotBool => "a condition is of another type than bool",
-        Refusal::NeedsType => "an empty list or map in a condition has no type",
-        Refusal::TooCostly => "the conditions may take more steps than the budget has",
-        Refusal::DuplicateResource => "a resource stands twice",
-        Refusal::WrongType => "a resource is of another type",
-        Refusal::CodeRefused => "a condition's code is not taken",
-        Refusal::Memory => "memory ran out",
-    }
-}
-
-/// Which rule a head breaks that has this fault.
-pub(crate) fn rule_of(fault: HeadFault) -> &'static str {
-    match fault {
-        HeadFault::Malformed(part) => wrong_part(part),
-        HeadFault::Unfinished => "the input ends before its head does",
-        HeadFault::TooLong => "the head is longer than 65536 bytes",
-        HeadFault::OtherForm => "the target does not begin with a slash",
-        HeadFault::BadText => "the value of a field is not UTF-8",
-        HeadFault::NoHost => "a request of HTTP/1.1 has to have a Host field",
-        HeadFault::TwoHosts => "there is more than one Host field",
-        HeadFault::TwoLengths => "there is more than one Content-Length field",
-        HeadFault::BadLength => "a Content-Length is not 1 to 18 digits",
-        HeadFault::TransferCoding => "there is a Transfer-Encoding field",
-        HeadFault::OutsideLimits => "the request is outside the limits of sizes and numbers",
-    }
-}
-
-/// What is wrong with the part of a head where its parser stopped.
-fn wrong_part(part: HeadPart) -> &'static str {
-    match part {
-        HeadPart::Method => "the method is no token with a space behind it",
-        HeadPart::Target => "the target is empty, is not UTF-8, or has a byte that no target has",
-        HeadPart::Version => "the version is neither HTTP/1.0 nor HTTP/1.1",
-        HeadPart::LineEnd => "a line does not end in CR LF or LF",
-        HeadPart::FieldName => "the name of a field is no token with a colon behind it",
-        HeadPart::FieldValue => "the value of a field has a control byte",
-        HeadPart::FoldedLine => "a line begins with white space (obsolete folding)",
-    }
 }

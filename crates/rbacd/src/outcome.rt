@@ -3,11 +3,11 @@ ghost use Rattle.std.specs.Prelude.{◌≡◌, ◌↔◌, IfOk, IsTrue, string_b
 ghost use Rattle.rbacd.specs.Explain.{told_in, with_trials};
 ghost use Rattle.rbacd.specs.Judging.{IsDecision};
 ghost use Rattle.rbacd.specs.Outcome.{line_of, printed_of, status_of};
-ghost use Rattle.rbacd.specs.steps.Printed.{unexplained, without_memory};
+ghost use Rattle.rbacd.specs.steps.Printed.{told_with, unexplained, without_memory};
 ghost use Rattle.rbacd.specs.steps.Judged.{matched_in};
 
 use crate::explain::{Explanation, push_lines};
-use crate::json::value_of;
+use crate::json::{Why, value_of};
 use http_front::HeadFault;
 use proto_wire::Refusal;
 use std::alloc::{AllocError, Global};
@@ -120,9 +120,24 @@ pub struct Report {
     pub json: bool,
     /// Why a verdict is what it is, where that was asked for.
     pub explanation: Explanation,
+    /// Why it is no verdict, if it is none.
+    pub why: Why,
 }
 
 impl Report {
+    /// The report with why it is no verdict.
+    pub(crate) fn told(self, why: Why) -> Report
+        ensures { result ≡ told_with why self }
+    {
+        Report {
+            outcome: self.outcome,
+            name: self.name,
+            json: self.json,
+            explanation: self.explanation,
+            why,
+        }
+    }
+
     /// The report without its trials, for which no memory is left.
     pub(crate) fn unexplained(self) -> Report
         ensures { result ≡ unexplained self }
@@ -132,6 +147,7 @@ impl Report {
             name: self.name,
             json: self.json,
             explanation: self.explanation.less_told(),
+            why: self.why,
         }
     }
 
@@ -144,6 +160,7 @@ impl Report {
             name: self.name,
             json: self.json,
             explanation: Explanation::Absent,
+            why: self.why,
         }
     }
 
@@ -163,7 +180,13 @@ impl Report {
         requires { self.now.json ≡ true }
         ensures { IfOk result (λ line. string_bytes line ≡ printed_of self.now) }
     {
-        let value = value_of(alloc, self.outcome, &self.name, &self.explanation)?;
+        let value = value_of(
+            alloc,
+            self.outcome,
+            &self.name,
+            &self.explanation,
+            &self.why,
+        )?;
         let mut line = value.to_string(alloc)?;
         line.push('\n')?;
         Ok(line)

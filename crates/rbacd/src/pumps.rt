@@ -1,14 +1,19 @@
-//! The pumps: what moves bytes between the core of a proxy and its streams.
+//! The pumps: what moves bytes between the core of a proxy, or a control plane, and its streams.
 ghost use Rattle.std.specs.Prelude.{◌≡◌, ◌≤◌, false, length, take};
 ghost use Rattle.std.specs.Io.KnownBytes.{Consumes};
 ghost use Rattle.attributes.specs.Conn.{conn_view};
 ghost use Rattle.proxy_core.specs.Events.{event_view};
 ghost use Rattle.proxy_core.specs.Proxies.{proxy_view};
+ghost use Rattle.ads.specs.Ends.{control_view};
+ghost use Rattle.rbacd.specs.ControlPump.{HearsRequests, ServesStream};
 ghost use Rattle.rbacd.specs.Pumps.{EndsUpdates, Hears, Opens, Receives, Serves, TakesResponse};
-ghost use Rattle.rbacd.specs.steps.Pumping.{Answers, Updates};
+ghost use Rattle.rbacd.specs.steps.Pumping.{Answers, Feeds, IsTurnOf, Updates};
 
 use crate::input::read_some;
+use crate::log::Log;
+use crate::log_lines::End;
 use crate::output::write_whole;
+use ads::Control;
 use attributes::Conn;
 use proxy_core::{Event, Proxy};
 use std::alloc::AllocError;
@@ -20,39 +25,42 @@ const CHUNK: usize = 16_384;
 /// Serves a connection of these facts to its end: gives the core its opening, its bytes as they come, and its closing, and
 /// writes what the core answers. It ends where the core closes it, where a read gives no bytes or fails, where a write fails,
 /// and where memory runs out.
-pub fn serve_connection<R: Read, W: Write>(
+pub fn serve_connection<R: Read, W: Write, L: Write + Drop>(
     proxy: &mut Proxy,
     conn: &Conn,
     reader: &mut R,
     writer: &mut W,
+    log: &mut Log<L>,
 )
     ensures { Serves (proxy_view proxy.old) (proxy_view proxy.new) (R.remaining reader.old)
         (R.remaining reader.new) (W.contents writer.old) (W.contents writer.new) (conn_view conn.now) }
 {
-    hear(proxy, conn, reader, writer);
+    let end = hear(proxy, conn, reader, writer);
     let _ = proxy.step(Event::HttpClosed(0));
+    log.tell_connection(end);
 }
 
-/// Gives the core the opening of a connection and its bytes, and writes what it answers.
-fn hear<R: Read, W: Write>(proxy: &mut Proxy, conn: &Conn, reader: &mut R, writer: &mut W)
+/// Gives the core the opening of a connection and its bytes, and writes what it answers; who ends the connection.
+fn hear<R: Read, W: Write>(proxy: &mut Proxy, conn: &Conn, reader: &mut R, writer: &mut W) -> End
     ensures { Hears (proxy_view proxy.old) (proxy_view proxy.new) (R.remaining reader.old)
         (R.remaining reader.new) (W.contents writer.old) (W.contents writer.new) (conn_view conn.now) }
 {
     match answer(proxy, Event::HttpOpen(0, conn), writer) {
-        Turn::Ended => return,
+        Turn::Ended => return End::Proxy,
         _ => {}
     }
     let mut room = [0u8; CHUNK];
     for _ in 0..u64::MAX {
         let count = count_of(reader, &mut room);
         if count == 0 {
-            return;
+            return End::Client;
         }
         match answer(proxy, Event::HttpBytes(0, &room[..count]), writer) {
-            Turn::Ended => return,
+            Turn::Ended => return End::Proxy,
             _ => {}
         }
     }
+    End::Proxy
 }
 
 /// Gives the core an event of a connection, and writes what it answers.
@@ -92,7 +100,9 @@ enum Turn {
 }
 
 /// What came of an event for which these bytes were written.
-fn turn_of(written: &[u8], closes: bool) -> Turn {
+fn turn_of(written: &[u8], closes: bool) -> Turn
+    ensures { IsTurnOf written.now closes result }
+{
     if closes {
         return Turn::Ended;
     }
@@ -104,10 +114,14 @@ fn turn_of(written: &[u8], closes: bool) -> Turn {
 
 /// The update stream comes up: gives the core that event and writes its first request; whether the stream is still up. Where
 /// it is not, the core was told.
-pub fn open_updates<W: Write>(proxy: &mut Proxy, writer: &mut W) -> bool
+pub fn open_updates<W: Write, L: Write + Drop>(
+    proxy: &mut Proxy,
+    writer: &mut W,
+    log: &mut Log<L>,
+) -> bool
     ensures { Opens (proxy_view proxy.old) (proxy_view proxy.new) (W.contents writer.old) (W.contents writer.new) result }
 {
-    match update(proxy, Event::AdsUp, writer) {
+    match update(proxy, Event::AdsUp, writer, log) {
         Turn::Ended => lose(proxy),
         _ => true,
     }
@@ -116,18 +130,23 @@ pub fn open_updates<W: Write>(proxy: &mut Proxy, writer: &mut W) -> bool
 /// Takes one response of the update stream: gives the core its bytes as they come, and writes what it answers, up to the
 /// event with which a response is answered; whether the stream is still up. It is lost where the core closes it, where a read
 /// gives no bytes or fails, where a write fails, and where memory runs out; then the core was told.
-pub fn take_response<R: Read, W: Write>(proxy: &mut Proxy, reader: &mut R, writer: &mut W) -> bool
+pub fn take_response<R: Read, W: Write, L: Write + Drop>(
+    proxy: &mut Proxy,
+    reader: &mut R,
+    writer: &mut W,
+    log: &mut Log<L>,
+) -> bool
     ensures { TakesResponse (proxy_view proxy.old) (proxy_view proxy.new) (R.remaining reader.old)
         (R.remaining reader.new) (W.contents writer.old) (W.contents writer.new) result }
 {
-    match receive(proxy, reader, writer) {
+    match receive(proxy, reader, writer, log) {
         true => true,
         false => lose(proxy),
     }
 }
 
 /// Tells the core that the update stream is lost; it is not up.
-fn lose(proxy: &mut Proxy) -> bool
+pub(crate) fn lose(proxy: &mut Proxy) -> bool
     ensures down { result ≡ false }
     ensures told { EndsUpdates (proxy_view proxy.old) (proxy_view proxy.new) false }
 {
@@ -136,7 +155,12 @@ fn lose(proxy: &mut Proxy) -> bool
 }
 
 /// Gives the core bytes of the update stream up to the event with which a response is answered; whether one was.
-fn receive<R: Read, W: Write>(proxy: &mut Proxy, reader: &mut R, writer: &mut W) -> bool
+fn receive<R: Read, W: Write, L: Write + Drop>(
+    proxy: &mut Proxy,
+    reader: &mut R,
+    writer: &mut W,
+    log: &mut Log<L>,
+) -> bool
     ensures { Receives (proxy_view proxy.old) (proxy_view proxy.new) (R.remaining reader.old)
         (R.remaining reader.new) (W.contents writer.old) (W.contents writer.new) result }
 {
@@ -146,7 +170,8 @@ fn receive<R: Read, W: Write>(proxy: &mut Proxy, reader: &mut R, writer: &mut W)
         if count == 0 {
             return false;
         }
-        match update(proxy, Event::AdsBytes(&room[..count]), writer) {
+        log.hear(&room[..count]);
+        match update(proxy, Event::AdsBytes(&room[..count]), writer, log) {
             Turn::Answered => return true,
             Turn::Ended => return false,
             Turn::Waits => {}
@@ -156,15 +181,85 @@ fn receive<R: Read, W: Write>(proxy: &mut Proxy, reader: &mut R, writer: &mut W)
 }
 
 /// Gives the core an event of the update stream, and writes what it answers.
-fn update<W: Write>(proxy: &mut Proxy, event: Event<'_>, writer: &mut W) -> Turn
+fn update<W: Write, L: Write + Drop>(
+    proxy: &mut Proxy,
+    event: Event<'_>,
+    writer: &mut W,
+    log: &mut Log<L>,
+) -> Turn
     ensures { Updates (proxy_view proxy.old) (proxy_view proxy.new) (W.contents writer.old) (W.contents writer.new)
         (event_view event.entry) result }
 {
     match proxy.step(event) {
-        Ok(output) => match write_whole(writer, &output.ads) {
-            Ok(()) => turn_of(&output.ads, output.ads_close),
-            Err(_) => Turn::Ended,
-        },
+        Ok(output) => {
+            log.tell_answers(&output, proxy.client());
+            match write_whole(writer, &output.ads) {
+                Ok(()) => turn_of(&output.ads, output.ads_close),
+                Err(_) => Turn::Ended,
+            }
+        }
         Err(AllocError) => Turn::Ended,
+    }
+}
+
+/// Serves one stream of a control plane to its end: gives it the bytes of the stream as they come, and writes what it answers.
+/// It ends where a read gives no bytes or fails, where a write fails, where the control plane breaks it, and where memory runs
+/// out. Then the control plane was told.
+pub fn serve_stream<R: Read, W: Write, L: Write + Drop>(
+    control: &mut Control,
+    reader: &mut R,
+    writer: &mut W,
+    log: &mut Log<L>,
+)
+    ensures { ServesStream (control_view control.old) (control_view control.new) (R.remaining reader.old)
+        (R.remaining reader.new) (W.contents writer.old) (W.contents writer.new) }
+{
+    hear_requests(control, reader, writer, log);
+    control.lost();
+}
+
+/// Gives a control plane the bytes of its stream, and writes what it answers.
+fn hear_requests<R: Read, W: Write, L: Write + Drop>(
+    control: &mut Control,
+    reader: &mut R,
+    writer: &mut W,
+    log: &mut Log<L>,
+)
+    ensures { HearsRequests (control_view control.old) (control_view control.new) (R.remaining reader.old)
+        (R.remaining reader.new) (W.contents writer.old) (W.contents writer.new) }
+{
+    let mut room = [0u8; CHUNK];
+    for _ in 0..u64::MAX {
+        let count = count_of(reader, &mut room);
+        if count == 0 {
+            return;
+        }
+        log.hear(&room[..count]);
+        match feed(control, &room[..count], writer, log) {
+            true => {}
+            false => return,
+        }
+    }
+}
+
+/// Gives a control plane bytes of its stream, and writes what it answers; whether the stream goes on.
+fn feed<W: Write, L: Write + Drop>(
+    control: &mut Control,
+    bytes: &[u8],
+    writer: &mut W,
+    log: &mut Log<L>,
+) -> bool
+    ensures { Feeds (control_view control.old) (control_view control.new) (W.contents writer.old) (W.contents writer.new)
+        bytes.now result }
+{
+    match control.feed(bytes) {
+        Ok(fed) => {
+            log.tell_served(&fed);
+            match write_whole(writer, &fed.replies) {
+                Ok(()) => !fed.broken,
+                Err(_) => false,
+            }
+        }
+        Err(AllocError) => false,
     }
 }

@@ -1,71 +1,39 @@
 //! The whole job of the program, from its words to its status.
-ghost use Rattle.std.specs.Prelude.{◌≡◌, ◌≢◌, ◌⊎◌, ◌↔◌, ℕ, Err, IfErr, IfOk, IsTrue, List, Ok, Some, map, option_map, string_bytes};
-ghost use Rattle.attributes.specs.Conn.{conn_view};
-ghost use Rattle.std.specs.Io.{StartsWith};
-ghost use Rattle.std.specs.IoError.{error_kind};
+ghost use Rattle.std.specs.Prelude.{◌≡◌, ◌≢◌, ◌⊎◌, ◌↔◌, Err, IfErr, IfOk, IsTrue, Ok, map, option_map, string_bytes};
 ghost use Rattle.rbacd.specs.Explain.{IsGiven};
 ghost use Rattle.rbacd.specs.Judging.{IsDecision};
-ghost use Rattle.rbacd.specs.Outcome.{line_of};
-ghost use Rattle.rbacd.specs.Output.{Takes};
 ghost use Rattle.clap.specs.Words.{kind_of};
-ghost use Rattle.rbacd.specs.Run.{ComesTo, EndsJob, EndsReport, HasBadFacts, IsCheckedAs, IsConnOf, IsJudgedAs, IsShown, IsTold, IsUnread, LeavesFault, Prints, Ran, StopsBy, TellsCause, first_line};
-ghost use Rattle.rbacd.specs.Words.{IsReported};
+ghost use Rattle.rbacd.specs.Run.{ComesTo, EndsJob, EndsReport, IsCheckedAs, IsJudgedAs, IsTold, IsUnread, Prints, Ran, StopsBy, TellsCause};
+ghost use Rattle.rbacd.specs.Words.{IsReported, is_json};
 ghost use Rattle.rbacd.specs.steps.Judged.{MemoryOrStop, bare, report_with};
-ghost use Rattle.rbacd.specs.declared.run.JobFault.{JobFault};
+ghost use Rattle.rbacd.specs.declared.job_fault.JobFault.{JobFault};
 
+use crate::ending::{end_by, tell_output};
 use crate::explain::{Explanation, untold_text};
-use crate::facts::{FactsFault, read_conn};
+use crate::fault_json::end_in_json;
 use crate::files::Source;
-use crate::judge::{Finding, check_of, finding_of, plain_conn, print_report};
-use crate::notes::{Notes, meaning_of, rule_of};
+use crate::job_fault::JobFault;
+use crate::judge::{Finding, check_of, finding_of, print_report};
+use crate::meanings::{meaning_of, rule_of};
+use crate::notes::Notes;
 use crate::outcome::{Outcome, Report};
 use crate::output::write_whole;
+use crate::reading::{conn_of, read_file};
+use crate::recorded::Recorded;
+use crate::serve::{run_control, run_proxy};
 use crate::settings::{check_config, replay_config};
 use crate::words::{Job, read_words};
-use attributes::Conn;
 use clap::error::ErrorKind as WordsKind;
+use http_front::HeadFault;
 use proto_wire::Refusal;
-use std::alloc::{AllocError, Global};
+use std::alloc::Global;
 use std::convert::AsStr;
-use std::io::{self, BufRead, ErrorKind, Read, Write};
-
-/// The status of words that name no job, and of a file or an output that fails.
-pub(crate) const MISTAKE: u8 = 2;
-
-/// The status of a file whose JSON text is not as it has to be.
-pub(crate) const BAD_JSON: u8 = 6;
-
-/// Why nothing is found.
-#[derive(Drop)]
-pub enum JobFault {
-    /// The words name no job: they ask for help, or hold a mistake.
-    Words(clap::Error),
-    /// The file at this path cannot be read, for this cause.
-    File(String, io::Error),
-    /// The facts file tells of no connection.
-    Facts,
-    /// The configuration file is no configuration.
-    Config,
-    /// The input cannot be read, for this cause.
-    Input(io::Error),
-    /// Memory ran out.
-    Memory,
-}
-
-impl From<AllocError> for JobFault {
-    ghost use Rattle.std.specs.Prelude.{◌≡◌};
-    ghost use Rattle.rbacd.specs.declared.run.JobFault.TheVariants.{Memory};
-
-    ghost from_gives = { λ _ e. e ≡ Memory };
-
-    fn from(_refused: AllocError) -> JobFault {
-        JobFault::Memory
-    }
-}
+use std::io::{BufRead, Read, Write};
+use std::net::Net;
 
 /// Runs the job that the words name, the program's own name first: reads the files that they name, and the input where the
-/// job has one. Prints what it finds, and answers the status.
-pub fn run<S: AsStr, F: Source, R: BufRead + Drop, W: Write, E: Write>(
+/// job has one, and serves at the addresses. Prints what it finds, and answers the status.
+pub fn run<S: AsStr, F: Source + Net, R: BufRead + Drop, W: Write, E: Write>(
     alloc: Global,
     words: &[S],
     files: &F,
@@ -95,7 +63,7 @@ fn words_fault(error: clap::Error) -> JobFault
 }
 
 /// Runs the job.
-fn run_named<F: Source, R: BufRead + Drop, W: Write, E: Write>(
+fn run_named<F: Source + Net, R: BufRead + Drop, W: Write, E: Write>(
     alloc: Global,
     job: Job,
     files: &F,
@@ -109,6 +77,8 @@ fn run_named<F: Source, R: BufRead + Drop, W: Write, E: Write>(
     match job {
         Job::CheckConfig { config } => check_config(alloc, config.as_str(), files, out, errors),
         Job::Replay { config } => replay_config(alloc, config.as_str(), files, input, out, errors),
+        Job::Control(words) => run_control(alloc, &words, files, out, errors),
+        Job::Proxy(words) => run_proxy(alloc, words, files, out, errors),
         Job::Check {
             policy,
             budget,
@@ -162,15 +132,30 @@ fn run_reported<F: Source, R: Read + Drop, W: Write, E: Write>(
         (W.contents out.old) (W.contents out.new) (E.contents errors.old) (E.contents errors.new) result job }
 {
     let mut notes = Notes::new(alloc);
+    let json = is_json(&job);
     match run_job(alloc, job, files, input, &mut notes) {
-        Ok(report) => match print_report(alloc, report, out) {
-            Ok(printed) => {
-                tell_below(&printed, &notes, errors);
-                printed.outcome.status()
+        Ok(report) => {
+            let why = notes.why(alloc, report.outcome);
+            match print_report(alloc, report.told(why), out) {
+                Ok(printed) => {
+                    tell_below(&printed, &notes, errors);
+                    printed.outcome.status()
+                }
+                Err(cause) => tell_output(cause, errors),
             }
-            Err(cause) => tell_output(cause, errors),
-        },
+        }
+        Err(fault) if json => end_in_json(alloc, &fault, &notes, out, errors),
         Err(fault) => end_by(alloc, &fault, &notes, out, errors),
+    }
+}
+
+/// Whether what the job finds is printed as JSON.
+fn is_json(job: &Job) -> bool
+    ensures { result ≡ is_json job.now }
+{
+    match job {
+        Job::Check { json, .. } | Job::Judge { json, .. } => *json,
+        Job::CheckConfig { .. } | Job::Replay { .. } | Job::Control(_) | Job::Proxy(_) => false,
     }
 }
 
@@ -213,7 +198,9 @@ fn run_job<F: Source, R: Read + Drop>(
             ),
             json,
         ),
-        Job::CheckConfig { .. } | Job::Replay { .. } => unreachable!(),
+        Job::CheckConfig { .. } | Job::Replay { .. } | Job::Control(_) | Job::Proxy(_) => {
+            unreachable!()
+        }
     }
 }
 
@@ -271,197 +258,19 @@ fn judge_files<F: Source, R: Read + Drop>(
 {
     let bytes = read_file(alloc, files, policy)?;
     let conn = conn_of(alloc, facts, files, notes)?;
+    let mut kept = Vec::new(alloc);
+    let input = Recorded {
+        input,
+        kept: &mut kept,
+    };
     match finding_of(alloc, &bytes, budget, conn, explain, input) {
         Ok(finding) => {
             notes.look_at_policy(alloc, &bytes, finding.outcome);
+            notes.look_at_head(alloc, &kept, finding.outcome);
             Ok(finding)
         }
         Err(cause) => Err(JobFault::Input(cause)),
     }
-}
-
-/// The connection that the facts file tells of, or a plain one where none is named.
-fn conn_of<F: Source>(
-    alloc: Global,
-    facts: Option<String>,
-    files: &F,
-    notes: &mut Notes,
-) -> Result<Conn, JobFault>
-    ensures found { IfOk result (λ conn. IsConnOf (F.holds files.now) (F.lacks files.now)
-        (option_map string_bytes facts) (conn_view conn)) }
-    ensures fault { IfErr result (MemoryOrStop (λ e. (path : List ℕ)
-        × (option_map string_bytes facts ≡ Some path)
-        × (IsUnread (F.holds files.now) (F.lacks files.now) path e
-        ⊎ HasBadFacts (F.holds files.now) (F.lacks files.now) path e))) }
-{
-    match facts {
-        None => Ok(plain_conn(alloc)?),
-        Some(path) => read_facts_file(alloc, files, path.as_str(), notes),
-    }
-}
-
-/// The connection that the facts file tells of.
-fn read_facts_file<F: Source>(
-    alloc: Global,
-    files: &F,
-    path: &str,
-    notes: &mut Notes,
-) -> Result<Conn, JobFault>
-    ensures found { IfOk result (λ conn. IsConnOf (F.holds files.now) (F.lacks files.now)
-        (Some path.now) (conn_view conn)) }
-    ensures fault { IfErr result (MemoryOrStop (λ e.
-        IsUnread (F.holds files.now) (F.lacks files.now) path.now e
-        ⊎ HasBadFacts (F.holds files.now) (F.lacks files.now) path.now e)) }
-{
-    let text = read_file(alloc, files, path)?;
-    match read_conn(alloc, &text) {
-        Ok(conn) => Ok(conn),
-        Err(fault) => {
-            if matches!(fault, FactsFault::Bad) {
-                notes.look_at_facts(alloc, &text)?;
-            }
-            Err(stop_by_facts(fault))
-        }
-    }
-}
-
-/// What stops a job whose facts are not read.
-fn stop_by_facts(fault: FactsFault) -> JobFault
-    ensures bad { fault ≡ FactsFault.Bad → result ≡ JobFault.Facts }
-    ensures memory { fault ≡ FactsFault.Memory → result ≡ JobFault.Memory }
-{
-    match fault {
-        FactsFault::Bad => JobFault::Facts,
-        FactsFault::Memory => JobFault::Memory,
-    }
-}
-
-/// The bytes of the file at this path.
-pub(crate) fn read_file<F: Source>(
-    alloc: Global,
-    files: &F,
-    path: &str,
-) -> Result<Vec<u8>, JobFault>
-    ensures found { IfOk result (λ v. F.holds files.now path.now v.items) }
-    ensures fault { IfErr result (MemoryOrStop
-        (IsUnread (F.holds files.now) (F.lacks files.now) path.now)) }
-{
-    match files.read_file(alloc, path) {
-        Ok(bytes) => Ok(bytes),
-        Err(cause) => Err(stop_by_file(String::from_str(alloc, path)?, cause)),
-    }
-}
-
-/// What stops a job for which the file of this name cannot be read, for this cause.
-fn stop_by_file(name: String, cause: io::Error) -> JobFault
-    ensures file { error_kind cause ≢ ErrorKind.OutOfMemory → result ≡ JobFault.File name cause }
-    ensures memory { error_kind cause ≡ ErrorKind.OutOfMemory → result ≡ JobFault.Memory }
-{
-    if cause.kind() == ErrorKind::OutOfMemory {
-        return JobFault::Memory;
-    }
-    JobFault::File(name, cause)
-}
-
-/// Tells why nothing is judged; the status. Where no memory is left for that, it tells so.
-pub(crate) fn end_by<W: Write, E: Write>(
-    alloc: Global,
-    fault: &JobFault,
-    notes: &Notes,
-    out: &mut W,
-    errors: &mut E,
-) -> u8
-    ensures { (told : JobFault) × ((told ≡ fault.now) ⊎ (told ≡ JobFault.Memory))
-        × LeavesFault (W.contents out.old) (W.contents out.new) (E.contents errors.old)
-        (E.contents errors.new) result told }
-{
-    let Ok(text) = text_of(alloc, fault, notes) else {
-        return end_by_memory(out, errors);
-    };
-    match fault {
-        JobFault::Memory => end_by_memory(out, errors),
-        JobFault::Words(error) if is_shown(error.kind()) => show(text.as_bytes(), 0, out, errors),
-        JobFault::Facts | JobFault::Config => tell(text.as_bytes(), BAD_JSON, errors),
-        JobFault::Words(_) | JobFault::File(..) | JobFault::Input(_) => {
-            tell(text.as_bytes(), MISTAKE, errors)
-        }
-    }
-}
-
-/// Whether the words ask for a text, so that the text is no mistake's.
-fn is_shown(kind: WordsKind) -> bool
-    ensures { IsTrue result ↔ IsShown kind }
-{
-    matches!(kind, WordsKind::DisplayHelp | WordsKind::DisplayVersion)
-}
-
-/// What the program's user reads of a fault: its line, and below it the cause.
-fn text_of(alloc: Global, fault: &JobFault, notes: &Notes) -> Result<String, AllocError>
-    ensures { IfOk result (λ text. StartsWith (string_bytes text) (first_line fault.now)) }
-{
-    match fault {
-        JobFault::Words(error) => error.to_string(alloc),
-        JobFault::File(path, cause) => {
-            let cause = cause.to_string(alloc)?;
-            with_cause(
-                alloc,
-                format!(in alloc; "cannot read {path}\n")?,
-                cause.as_str(),
-            )
-        }
-        JobFault::Facts => {
-            let line = String::from_str(alloc, "bad facts\n")?;
-            with_cause(alloc, line, notes.facts.as_str())
-        }
-        JobFault::Config => {
-            let line = String::from_str(alloc, "bad config\n")?;
-            with_cause(alloc, line, notes.config.as_str())
-        }
-        JobFault::Input(cause) => {
-            let cause = cause.to_string(alloc)?;
-            let line = String::from_str(alloc, "cannot read standard input\n")?;
-            with_cause(alloc, line, cause.as_str())
-        }
-        JobFault::Memory => Ok(String::new(alloc)),
-    }
-}
-
-/// The text with a line below it that says why.
-pub(crate) fn with_cause(alloc: Global, line: String, cause: &str) -> Result<String, AllocError>
-    ensures { IfOk result (λ text. StartsWith (string_bytes text) (string_bytes line)) }
-{
-    let mut text = line;
-    let cause = format!(in alloc; "  {cause}\n")?;
-    text.push_str(cause.as_str())?;
-    Ok(text)
-}
-
-/// Ends where memory ran out.
-pub(crate) fn end_by_memory<W: Write, E: Write>(out: &mut W, errors: &mut E) -> u8
-    ensures { Prints (W.contents out.old) (W.contents out.new) (E.contents errors.old)
-        (E.contents errors.new) result 5 (line_of Outcome.Memory) }
-{
-    show(b"memory\n", Outcome::Memory.status(), out, errors)
-}
-
-/// Ends with this status and this text on standard output.
-pub(crate) fn show<W: Write, E: Write>(text: &[u8], status: u8, out: &mut W, errors: &mut E) -> u8
-    ensures { Prints (W.contents out.old) (W.contents out.new) (E.contents errors.old)
-        (E.contents errors.new) result status text.now }
-{
-    match write_whole(out, text) {
-        Ok(()) => status,
-        Err(cause) => tell_output(cause, errors),
-    }
-}
-
-/// Ends with this status and this text on standard error. The status stays where that fails.
-pub(crate) fn tell<E: Write>(text: &[u8], status: u8, errors: &mut E) -> u8
-    ensures status { result ≡ status }
-    ensures told { Takes (E.contents errors.old) (E.contents errors.new) text.now }
-{
-    let _ = write_whole(errors, text);
-    status
 }
 
 /// Tells why an outcome is so, where that is no verdict, or why a verdict is not explained. Nothing is
@@ -472,9 +281,7 @@ fn tell_below<E: Write>(report: &Report, notes: &Notes, errors: &mut E)
 {
     match report.outcome {
         Outcome::Refused(refusal) => tell_refusal(refusal, notes, errors),
-        Outcome::Fault(fault) => {
-            let _ = writeln!(errors, "  {}", rule_of(fault));
-        }
+        Outcome::Fault(fault) => tell_head(fault, notes, errors),
         Outcome::Admitted { .. }
         | Outcome::Allowed(_)
         | Outcome::Denied(_)
@@ -496,6 +303,14 @@ fn tell_untold<E: Write>(explanation: &Explanation, errors: &mut E)
     }
 }
 
+/// Tells which rule a head breaks, and what of it is above its limit.
+fn tell_head<E: Write>(fault: HeadFault, notes: &Notes, errors: &mut E) {
+    let _ = writeln!(errors, "  {}", rule_of(fault));
+    if let Some(cause) = &notes.head {
+        let _ = writeln!(errors, "  {cause}");
+    }
+}
+
 /// Tells what the refusal means, which part of the policy file it is about, and what the file looks like.
 fn tell_refusal<E: Write>(refusal: Refusal, notes: &Notes, errors: &mut E) {
     let _ = writeln!(errors, "  {}", meaning_of(refusal));
@@ -509,14 +324,4 @@ fn tell_refusal<E: Write>(refusal: Refusal, notes: &Notes, errors: &mut E) {
              envoy.extensions.filters.http.rbac.v3.RBAC"
         );
     }
-}
-
-/// Ends where standard output fails. One whose reader went away is not spoken of.
-pub(crate) fn tell_output<E: Write>(cause: io::Error, errors: &mut E) -> u8
-    ensures { result ≡ 2 }
-{
-    if cause.kind() != ErrorKind::BrokenPipe {
-        let _ = writeln!(errors, "cannot write standard output\n  {cause}");
-    }
-    MISTAKE
 }

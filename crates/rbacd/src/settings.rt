@@ -5,14 +5,15 @@ ghost use Rattle.rbacd.specs.Run.{EndsConfig, EndsReplay, IsConfigOf, LacksConfi
 ghost use Rattle.rbacd.specs.steps.Judged.{MemoryOrStop};
 
 use crate::configuration::{ConfigTextFault, read_config};
+use crate::ending::{
+    BAD_JSON, MISTAKE, end_by, end_by_memory, show, tell, tell_output, with_cause,
+};
 use crate::files::Source;
+use crate::job_fault::JobFault;
 use crate::notes::Notes;
 use crate::outcome::Outcome;
+use crate::reading::read_file;
 use crate::replay::{ReplayFault, replay};
-use crate::run::{
-    BAD_JSON, JobFault, MISTAKE, end_by, end_by_memory, read_file, show, tell, tell_output,
-    with_cause,
-};
 use crate::telling::config_text;
 use ads::Config;
 use std::alloc::{AllocError, Global};
@@ -40,7 +41,7 @@ pub(crate) fn check_config<F: Source, W: Write, E: Write>(
 }
 
 /// The configuration that the file at this path is.
-fn config_file<F: Source>(
+pub(crate) fn config_file<F: Source>(
     alloc: Global,
     files: &F,
     path: &str,

@@ -1,7 +1,7 @@
 //! The command line: which job its words name.
 ghost use Rattle.std.specs.Prelude.{◌≡◌, ◌⊎◌, ℕ, IfErr, IfNone, IfOk, IfSome, codes, false, map, option_map, string_bytes};
-ghost use Rattle.clap.specs.Words.{first_of, found_of, kind_of, rows_of, subcommand_rows_of};
-ghost use Rattle.rbacd.specs.Words.{AreMistaken, HasFlag, IsBudgetOf, IsJobOf, IsJobOfNamed, IsJobOfRows, NamesNoJob, subcommand_name};
+ghost use Rattle.clap.specs.Words.{all_of, first_of, found_of, kind_of, rows_of, subcommand_rows_of};
+ghost use Rattle.rbacd.specs.Words.{AreMistaken, AreRoundsOf, HasFlag, IsBudgetOf, IsJobOf, IsJobOfNamed, IsJobOfRows, NamesNoJob, subcommand_name};
 ghost use Rattle.rbacd.specs.declared.words.Job.{Job};
 
 use crate::commands::command;
@@ -12,6 +12,9 @@ use std::convert::AsStr;
 
 /// The most that the conditions of one filter may cost.
 pub(crate) const MOST_BUDGET: u64 = 100_000_000;
+
+/// The most rounds of a proxy.
+pub(crate) const MOST_ROUNDS: u64 = 1_000_000;
 
 /// What the program is asked to do.
 #[derive(Drop)]
@@ -49,6 +52,40 @@ pub enum Job {
         /// The path of the configuration.
         config: String,
     },
+    /// `control --listen ADDR --name F [--log FILE] FILE...`: to serve filters as a control plane.
+    Control(ControlWords),
+    /// `proxy --config FILE --control ADDR --listen ADDR --rounds N [--facts FILE] [--log FILE]`: to judge the requests of connections.
+    Proxy(ProxyWords),
+}
+
+/// What a control plane is to serve, and where.
+#[derive(Drop)]
+pub struct ControlWords {
+    /// The address at which it listens.
+    pub listen: String,
+    /// The name of the filter.
+    pub name: String,
+    /// The paths of the filter's files, each a snapshot.
+    pub files: Vec<String>,
+    /// Where the log goes, if one is kept.
+    pub log: Option<String>,
+}
+
+/// How a proxy is to run.
+#[derive(Drop)]
+pub struct ProxyWords {
+    /// The path of the configuration.
+    pub config: String,
+    /// The address of the control plane.
+    pub control: String,
+    /// The address at which it listens.
+    pub listen: String,
+    /// How many rounds it runs, at most `MOST_ROUNDS`.
+    pub rounds: u64,
+    /// The path of the file with what is known of each connection, if there is one.
+    pub facts: Option<String>,
+    /// Where the log goes, if one is kept.
+    pub log: Option<String>,
 }
 
 /// The job that the words name, the program's own name first. An error holds the text that its user
@@ -61,15 +98,15 @@ pub fn read_words<S: AsStr>(alloc: Global, words: &[S]) -> Result<Job, Error>
     let matches = command(alloc)?.try_get_matches_from(words)?;
     match named_job(alloc, &matches)? {
         Some(job) => Ok(job),
-        None => Err(budget_fault(alloc)?),
+        None => Err(number_fault(alloc)?),
     }
 }
 
 /// What is wrong with words that the command takes and that name no job.
-fn budget_fault(alloc: Global) -> Result<Error, AllocError>
+fn number_fault(alloc: Global) -> Result<Error, AllocError>
     ensures { IfOk result (λ e. kind_of e ≡ ErrorKind.ValueValidation) }
 {
-    let fault = "a budget is a number from 1 to 100000000";
+    let fault = "a budget is a number from 1 to 100000000, and rounds are one from 0 to 1000000";
     command(alloc)?.error(ErrorKind::ValueValidation, fault)
 }
 
@@ -87,8 +124,14 @@ fn named_job(alloc: Global, matches: &ArgMatches<'_>) -> Result<Option<Job>, All
     if let Some(check_config) = matches.subcommand_matches("check-config") {
         return check_config_job(alloc, check_config);
     }
-    match matches.subcommand_matches("replay") {
-        Some(replay) => replay_job(alloc, replay),
+    if let Some(replay) = matches.subcommand_matches("replay") {
+        return replay_job(alloc, replay);
+    }
+    if let Some(control) = matches.subcommand_matches("control") {
+        return control_job(alloc, control);
+    }
+    match matches.subcommand_matches("proxy") {
+        Some(proxy) => proxy_job(alloc, proxy),
         None => Ok(None),
     }
 }
@@ -202,4 +245,97 @@ fn replay_job(alloc: Global, matches: &ArgMatches<'_>) -> Result<Option<Job>, Al
         Some(config) => Ok(Some(Job::Replay { config })),
         None => Ok(None),
     }
+}
+
+/// The job of the subcommand `control`, if its values are there.
+fn control_job(alloc: Global, matches: &ArgMatches<'_>) -> Result<Option<Job>, AllocError>
+    ensures job { IfOk result (λ job. IfSome job (λ job. (subcommand_name job ≡ codes "control")
+        × IsJobOfRows (rows_of (found_of matches.now)) job)) }
+    ensures none { IfOk result (λ job. IfNone job ((other : Job) → subcommand_name other ≡ codes "control"
+        → ¬ (IsJobOfRows (rows_of (found_of matches.now)) other))) }
+{
+    let Some(listen) = text_of(alloc, matches, "listen")? else {
+        return Ok(None);
+    };
+    let Some(name) = text_of(alloc, matches, "name")? else {
+        return Ok(None);
+    };
+    let Some(files) = texts_of(alloc, matches, "file")? else {
+        return Ok(None);
+    };
+    let log_path = text_of(alloc, matches, "log")?;
+    Ok(Some(Job::Control(ControlWords {
+        listen,
+        name,
+        files,
+        log: log_path,
+    })))
+}
+
+/// The job of the subcommand `proxy`, if its values are there and its number of rounds is allowed.
+fn proxy_job(alloc: Global, matches: &ArgMatches<'_>) -> Result<Option<Job>, AllocError>
+    ensures job { IfOk result (λ job. IfSome job (λ job. (subcommand_name job ≡ codes "proxy")
+        × IsJobOfRows (rows_of (found_of matches.now)) job)) }
+    ensures none { IfOk result (λ job. IfNone job ((other : Job) → subcommand_name other ≡ codes "proxy"
+        → ¬ (IsJobOfRows (rows_of (found_of matches.now)) other))) }
+{
+    let Some(config) = text_of(alloc, matches, "config")? else {
+        return Ok(None);
+    };
+    let Some(control) = text_of(alloc, matches, "control")? else {
+        return Ok(None);
+    };
+    let Some(listen) = text_of(alloc, matches, "listen")? else {
+        return Ok(None);
+    };
+    let Some(rounds) = rounds_of(matches) else {
+        return Ok(None);
+    };
+    let facts_path = text_of(alloc, matches, "facts")?;
+    let log_path = text_of(alloc, matches, "log")?;
+    Ok(Some(Job::Proxy(ProxyWords {
+        config,
+        control,
+        listen,
+        rounds,
+        facts: facts_path,
+        log: log_path,
+    })))
+}
+
+/// The values of this argument, if it has any.
+fn texts_of(
+    alloc: Global,
+    matches: &ArgMatches<'_>,
+    name: &str,
+) -> Result<Option<Vec<String>>, AllocError>
+    ensures { IfOk result (λ texts. all_of name.now (rows_of (found_of matches.now))
+        ≡ option_map (λ v. map string_bytes v.items) texts) }
+{
+    match matches.get_strs(name) {
+        Some(texts) => Ok(Some(copy_texts(alloc, texts)?)),
+        None => Ok(None),
+    }
+}
+
+fn copy_texts(alloc: Global, texts: &[&str]) -> Result<Vec<String>, AllocError>
+    ensures { IfOk result (λ v. map string_bytes v.items ≡ map (λ text. text.now) texts.now) }
+{
+    let mut copies = Vec::new(alloc);
+    for text in texts {
+        copies.push(String::from_str(alloc, text)?)?;
+    }
+    Ok(copies)
+}
+
+fn rounds_of(matches: &ArgMatches<'_>) -> Option<u64>
+    ensures rounds { IfSome result (AreRoundsOf (rows_of (found_of matches.now))) }
+    ensures none { IfNone result ((rounds : ℕ)
+        → ¬ (AreRoundsOf (rows_of (found_of matches.now)) rounds)) }
+{
+    let rounds = matches.get_one::<u64>("rounds")?;
+    if rounds > MOST_ROUNDS {
+        return None;
+    }
+    Some(rounds)
 }

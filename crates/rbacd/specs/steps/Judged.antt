@@ -13,6 +13,7 @@ use Rattle.rbac_policy.specs.Condition.{Program, is_met}
 use Rattle.rbac_policy.specs.Filter.{Filter}
 use Rattle.rbac_policy.specs.Verdict.{IsVerdict}
 use Rattle.rbacd.specs.Explain.{Explains}
+use Rattle.rbacd.specs.Json.{untold}
 use Rattle.rbacd.specs.Judging.{IsOutcomeOf}
 use Rattle.rbacd.specs.declared.explain.Explanation.{Explanation}
 use Rattle.rbacd.specs.declared.explain.Explanation.TheVariants as explanations
@@ -20,7 +21,7 @@ use Rattle.rbacd.specs.declared.judge.Finding.{Finding}
 use Rattle.rbacd.specs.declared.outcome.Outcome.{Outcome}
 use Rattle.rbacd.specs.declared.outcome.Outcome.TheVariants as outcomes
 use Rattle.rbacd.specs.declared.outcome.Report.{Report}
-use Rattle.rbacd.specs.declared.run.JobFault.{JobFault}
+use Rattle.rbacd.specs.declared.job_fault.JobFault.{JobFault}
 
 -- memory ran out, or this stops the job
 abbrev pub MemoryOrStop : (JobFault → Type 0) → JobFault → Type 0
@@ -48,6 +49,7 @@ report_with json finding = record {
   name = finding.name;
   json = json;
   explanation = finding.explanation;
+  why = untold;
 }
 
 -- the outcome is the filter's answer to the request

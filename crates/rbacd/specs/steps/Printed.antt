@@ -3,8 +3,13 @@ use Rattle.std.specs.Prelude.{◌≡◌, ◌⊎◌}
 use Rattle.stack_machine.specs.declared.error.RunError.TheVariants as errors
 use Rattle.rbacd.specs.declared.explain.Explanation.{Explanation}
 use Rattle.rbacd.specs.declared.explain.Explanation.TheVariants as explanations
+use Rattle.rbacd.specs.declared.json.Why.{Why}
 use Rattle.rbacd.specs.declared.outcome.Outcome.TheVariants as outcomes
 use Rattle.rbacd.specs.declared.outcome.Report.{Report}
+
+-- the report with why it is no verdict
+abbrev pub told_with : Why → Report → Report
+told_with why report = record report { why = why }
 
 -- the report of want of memory, printed in the same way
 abbrev pub without_memory : Report → Report

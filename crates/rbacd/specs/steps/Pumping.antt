@@ -1,29 +1,49 @@
 -- What single steps of the pumps come to.
-use Rattle.std.specs.Prelude.{◌≡◌, ◌≢◌, List, ℕ, Option}
+use Rattle.std.specs.Prelude.{◌≡◌, ◌≢◌, Bool, true, false, List, [], ℕ, Option}
 use Rattle.std.specs.Io.KnownBytes.{Appends}
+use Rattle.ads.specs.Control.{ControlValue}
 use Rattle.proxy_core.specs.Events.{EventValue}
 use Rattle.proxy_core.specs.Step.{CallDoes, EventCall, ProxyValue}
+use Rattle.rbacd.specs.ControlPump.{FeedCall, FeedDoes, GoesOn, bytes_of, replies_of}
 use Rattle.rbacd.specs.Output.{Takes}
-use Rattle.rbacd.specs.Pumps.{output_of}
+use Rattle.rbacd.specs.Pumps.{Responds, StaysOpen, StaysUp, Waits, ads_of, http_of}
 use Rattle.rbacd.specs.Replays.{event_of}
 use Rattle.rbacd.specs.declared.pumps.Turn.{Turn}
 use Rattle.rbacd.specs.declared.pumps.Turn.TheVariants as turns
 
--- the core was given this event, and what it put out for the connection was written, up to a write that failed; all of it
--- where the connection goes on
+-- what came of an event for which these bytes were written, and after which the stream or the connection is closed or not
+abbrev pub IsTurnOf : List ℕ → Bool → Turn → Type 0
+IsTurnOf written closes turns.Ended = closes ≡ true
+IsTurnOf written closes turns.Waits = (closes ≡ false) × (written ≡ [])
+IsTurnOf written closes turns.Answered = (closes ≡ false) × (written ≢ [])
+
+-- the core was given this event, and what it put out for the connection was written, at least in part; if the connection is not
+-- at its end, all of it was, and the connection stays open
 pub record Answers (old new : ProxyValue) (out out_new : Option (List ℕ)) (event : EventValue) (turn : Turn)
     : Type 0 where
   pub call : EventCall
   pub given : event_of call ≡ event
   pub does : CallDoes old call new
-  pub written : Takes out out_new (output_of call).http
-  pub whole : turn ≢ turns.Ended → Appends out out_new (output_of call).http
+  pub written : Takes out out_new (http_of call)
+  pub whole : turn ≢ turns.Ended → StaysOpen call × Appends out out_new (http_of call)
 
--- the same of the update stream: it waits for more, it was answered, or it is lost
+-- the core was given this event of the update stream, and what it put out was written, at least in part; if the stream is not
+-- at its end, all of it was, the stream stays up, and it was answered or not
 pub record Updates (old new : ProxyValue) (out out_new : Option (List ℕ)) (event : EventValue) (turn : Turn)
     : Type 0 where
   pub call : EventCall
   pub given : event_of call ≡ event
   pub does : CallDoes old call new
-  pub written : Takes out out_new (output_of call).ads
-  pub whole : turn ≢ turns.Ended → Appends out out_new (output_of call).ads
+  pub written : Takes out out_new (ads_of call)
+  pub whole : turn ≢ turns.Ended → StaysUp call × Appends out out_new (ads_of call)
+  pub waits : turn ≡ turns.Waits → Waits call
+  pub responds : turn ≡ turns.Answered → Responds call
+
+-- a control plane was given these bytes, and what it sent was written, at least in part; if the stream goes on, all of it was
+pub record Feeds (old new : ControlValue) (out out_new : Option (List ℕ)) (bytes : List ℕ) (is_up : Bool) : Type 0 where
+  pub call : FeedCall
+  pub given : bytes_of call ≡ bytes
+  pub does : FeedDoes old call new
+  pub written : Takes out out_new (replies_of call)
+  pub on : is_up ≡ true → GoesOn call
+  pub whole : is_up ≡ true → Appends out out_new (replies_of call)

@@ -11,7 +11,11 @@ returns c =
     ∙ ap₂ with_subcommand step_1 (ap (λ (a : App). a.top) c.in_ok-judge.ensures.app) in
     let step_3 = c.in_ok-subcommand-3.ensures.shape c.in_ok-check_config.ensures.local
     ∙ ap₂ with_subcommand step_2 (ap (λ (a : App). a.top) c.in_ok-check_config.ensures.app) in
-    IfOk-weaker c.subcommand-4.result _ _
-    (λ new adds. adds.shape c.in_ok-replay.ensures.local
-    ∙ ap₂ with_subcommand step_3 (ap (λ (a : App). a.top) c.in_ok-replay.ensures.app))
-    c.subcommand-4.ensures
+    let step_4 = c.in_ok-subcommand-4.ensures.shape c.in_ok-replay.ensures.local
+    ∙ ap₂ with_subcommand step_3 (ap (λ (a : App). a.top) c.in_ok-replay.ensures.app) in
+    let step_5 = c.in_ok-subcommand-5.ensures.shape c.in_ok-control.ensures.local
+    ∙ ap₂ with_subcommand step_4 (ap (λ (a : App). a.top) c.in_ok-control.ensures.app) in
+    IfOk-weaker c.subcommand-6.result _ _
+    (λ new adds. adds.shape c.in_ok-proxy.ensures.local
+    ∙ ap₂ with_subcommand step_5 (ap (λ (a : App). a.top) c.in_ok-proxy.ensures.app))
+    c.subcommand-6.ensures

@@ -1,5 +1,5 @@
 use Rattle.std.proofs.Common.{◌∙◌, ◌++◌, ap, arith, refl}
-use Rattle.std.specs.Prelude.{[], Some}
+use Rattle.std.specs.Prelude.{[]}
 use Rattle.std.proofs.KnownBytes.{Consumes-nil, Consumes-trans}
 use Rattle.http_front.specs.Front.{fed_front, keeping}
 use Rattle.rbacd.specs.steps.Reading.{head_ask}

@@ -2,6 +2,7 @@ use Rattle.std.proofs.Common.{inl, inr, refl}
 use Rattle.std.proofs.KnownBytes.{Appends-nil}
 use Rattle.proxy_core.specs.Events.{event_view, output_view}
 use Rattle.proxy_core.specs.Step.{answered, no_memory}
+use Rattle.rbacd.proofs.PumpLemmas.{stays_open}
 use Rattle.rbacd.proofs.pumps.answer.Goals as goal
 
 pub returns-in-Ok-write_whole : goal.returns-in-Ok-write_whole
@@ -12,7 +13,7 @@ returns-in-Ok-write_whole g c =
       given = refl;
       does = c.in-Ok.ensures.found;
       written = inl appends;
-      whole = λ _. appends;
+      whole = λ goes. (stays_open _ _ _ c.turn_of.ensures goes, appends);
     }
 
 pub returns-in-Ok : goal.returns-in-Ok

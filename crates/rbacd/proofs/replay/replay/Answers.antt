@@ -1,4 +1,4 @@
-use Rattle.std.proofs.Common.{◌++◌, ◌∷◌, [], ◌⊎◌, arith, inl, inr, length-append, refl}
+use Rattle.std.proofs.Common.{◌++◌, ◌∷◌, [], arith, inl, inr, length-append, refl}
 use Rattle.std.proofs.lemmas.Result.{err_from_is_err_and}
 use Rattle.rbacd.proofs.ReplayLemmas.{replayed_end, replayed_more, replayed_none, stops_of}
 use Rattle.rbacd.proofs.replay.replay.Goals as goal

@@ -11,3 +11,9 @@ returns-in-Judge g c = rw c.in-Judge.is c.run_reported-in-Judge.ensures
 
 pub returns-in-Replay : goal.returns-in-Replay
 returns-in-Replay g c = rw c.in-Replay.is (rw c.as_str-in-Replay.ensures.value at c.replay_config.ensures)
+
+pub returns-in-Control : goal.returns-in-Control
+returns-in-Control g c = rw c.in-Control.is c.run_control.ensures
+
+pub returns-in-Proxy : goal.returns-in-Proxy
+returns-in-Proxy g c = rw c.in-Proxy.is c.run_proxy.ensures

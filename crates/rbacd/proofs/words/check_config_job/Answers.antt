@@ -1,4 +1,3 @@
-use Rattle.std.proofs.Common.{refl}
 use Rattle.clap.specs.Words.{found_of, rows_of}
 use Rattle.rbacd.proofs.WordLemmas.{of_check_config}
 use Rattle.rbacd.specs.Words.{IsJobOfRows}

@@ -53,4 +53,4 @@ returns-clause-mistaken g c =
     let parsed = (c.in_ok-matches.ensures.matches (ap is_simple app ∙ is_simple_app)).1
     ∙ ap (λ (a : App). subcommand_of a words) app in
     let none = rw c.in-None.is at c.in_ok-job.ensures.none in
-    inr (inr (c.in_ok-budget_fault-in-None.ensures, taken _ app words c.in_ok-matches.ensures.kinds, rw parsed at none))
+    inr (inr (c.in_ok-number_fault-in-None.ensures, taken _ app words c.in_ok-matches.ensures.kinds, rw parsed at none))

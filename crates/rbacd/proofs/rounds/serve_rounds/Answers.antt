@@ -1,0 +1,15 @@
+use Rattle.std.proofs.Common.{◌≡◌, arith, refl}
+use Rattle.rbacd.proofs.RoundLemmas.{rounds_next}
+use Rattle.rbacd.proofs.rounds.serve_rounds.Goals as goal
+
+pub loop-init : goal.loop-init
+loop-init g c = (refl, refl)
+
+pub loop-preserved : goal.loop-preserved
+loop-preserved g c = rounds_next _ c.loop.counter _ _ _ _ _ _ c.loop.invariant
+    (record { between = _; hears = c.hear_updates-link.ensures; serves = c.serve_one.ensures })
+
+pub returns : goal.returns
+returns g c =
+    let ended : c.loop.counter ≡ c.args.rounds = omega (arith, c.loop.auto.counter-end, c.loop-test.false) in
+    (_, rw ended at c.loop.invariant)

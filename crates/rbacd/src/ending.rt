@@ -1,0 +1,144 @@
+//! How a job ends that finds nothing: what is told, and the status.
+ghost use Rattle.std.specs.Prelude.{◌≡◌, ◌⊎◌, ◌↔◌, IfOk, IsTrue, string_bytes};
+ghost use Rattle.std.specs.Io.{StartsWith};
+ghost use Rattle.rbacd.specs.Outcome.{line_of};
+ghost use Rattle.rbacd.specs.Output.{Takes};
+ghost use Rattle.rbacd.specs.Run.{IsShown, LeavesFault, Prints, first_line};
+ghost use Rattle.rbacd.specs.declared.job_fault.JobFault.{JobFault};
+
+use crate::job_fault::JobFault;
+use crate::notes::Notes;
+use crate::outcome::Outcome;
+use crate::output::write_whole;
+use clap::error::ErrorKind as WordsKind;
+use std::alloc::{AllocError, Global};
+use std::io::{self, ErrorKind, Write};
+
+/// The status of words that name no job, and of a file or an output that fails.
+pub(crate) const MISTAKE: u8 = 2;
+
+/// The status of a file whose JSON text is not as it has to be.
+pub(crate) const BAD_JSON: u8 = 6;
+
+/// Tells why nothing is judged; the status. Where no memory is left for that, it tells so.
+pub(crate) fn end_by<W: Write, E: Write>(
+    alloc: Global,
+    fault: &JobFault,
+    notes: &Notes,
+    out: &mut W,
+    errors: &mut E,
+) -> u8
+    ensures { (told : JobFault) × ((told ≡ fault.now) ⊎ (told ≡ JobFault.Memory))
+        × LeavesFault (W.contents out.old) (W.contents out.new) (E.contents errors.old)
+        (E.contents errors.new) result told }
+{
+    let Ok(text) = text_of(alloc, fault, notes) else {
+        return end_by_memory(out, errors);
+    };
+    match fault {
+        JobFault::Memory => end_by_memory(out, errors),
+        JobFault::Words(error) if is_shown(error.kind()) => show(text.as_bytes(), 0, out, errors),
+        JobFault::Facts | JobFault::Config => tell(text.as_bytes(), BAD_JSON, errors),
+        JobFault::Words(_) => tell(text.as_bytes(), MISTAKE, errors),
+        JobFault::File(..) => tell(text.as_bytes(), MISTAKE, errors),
+        JobFault::Input(_) => tell(text.as_bytes(), MISTAKE, errors),
+        JobFault::Log(..) => tell(text.as_bytes(), MISTAKE, errors),
+        JobFault::Listen(..) => tell(text.as_bytes(), MISTAKE, errors),
+    }
+}
+
+/// Whether the words ask for a text, so that the text is no mistake's.
+fn is_shown(kind: WordsKind) -> bool
+    ensures { IsTrue result ↔ IsShown kind }
+{
+    matches!(kind, WordsKind::DisplayHelp | WordsKind::DisplayVersion)
+}
+
+/// What the program's user reads of a fault: its line, and below it the cause.
+pub(crate) fn text_of(alloc: Global, fault: &JobFault, notes: &Notes) -> Result<String, AllocError>
+    ensures { IfOk result (λ text. StartsWith (string_bytes text) (first_line fault.now)) }
+{
+    match fault {
+        JobFault::Words(error) => error.to_string(alloc),
+        JobFault::File(path, cause) => {
+            let cause = cause.to_string(alloc)?;
+            with_cause(
+                alloc,
+                format!(in alloc; "cannot read {path}\n")?,
+                cause.as_str(),
+            )
+        }
+        JobFault::Facts => {
+            let line = String::from_str(alloc, "bad facts\n")?;
+            with_cause(alloc, line, notes.facts.as_str())
+        }
+        JobFault::Config => {
+            let line = String::from_str(alloc, "bad config\n")?;
+            with_cause(alloc, line, notes.config.as_str())
+        }
+        JobFault::Input(cause) => {
+            let cause = cause.to_string(alloc)?;
+            let line = String::from_str(alloc, "cannot read standard input\n")?;
+            with_cause(alloc, line, cause.as_str())
+        }
+        JobFault::Log(path, cause) => {
+            let cause = cause.to_string(alloc)?;
+            let line = format!(in alloc; "cannot write {path}\n")?;
+            with_cause(alloc, line, cause.as_str())
+        }
+        JobFault::Listen(address, cause) => {
+            let cause = cause.to_string(alloc)?;
+            let line = format!(in alloc; "cannot listen {address}\n")?;
+            with_cause(alloc, line, cause.as_str())
+        }
+        JobFault::Memory => Ok(String::new(alloc)),
+    }
+}
+
+/// The text with a line below it that says why.
+pub(crate) fn with_cause(alloc: Global, line: String, cause: &str) -> Result<String, AllocError>
+    ensures { IfOk result (λ text. StartsWith (string_bytes text) (string_bytes line)) }
+{
+    let mut text = line;
+    let cause = format!(in alloc; "  {cause}\n")?;
+    text.push_str(cause.as_str())?;
+    Ok(text)
+}
+
+/// Ends where memory ran out.
+pub(crate) fn end_by_memory<W: Write, E: Write>(out: &mut W, errors: &mut E) -> u8
+    ensures { Prints (W.contents out.old) (W.contents out.new) (E.contents errors.old)
+        (E.contents errors.new) result 5 (line_of Outcome.Memory) }
+{
+    show(b"memory\n", Outcome::Memory.status(), out, errors)
+}
+
+/// Ends with this status and this text on standard output.
+pub(crate) fn show<W: Write, E: Write>(text: &[u8], status: u8, out: &mut W, errors: &mut E) -> u8
+    ensures { Prints (W.contents out.old) (W.contents out.new) (E.contents errors.old)
+        (E.contents errors.new) result status text.now }
+{
+    match write_whole(out, text) {
+        Ok(()) => status,
+        Err(cause) => tell_output(cause, errors),
+    }
+}
+
+/// Ends with this status and this text on standard error. The status stays where that fails.
+pub(crate) fn tell<E: Write>(text: &[u8], status: u8, errors: &mut E) -> u8
+    ensures status { result ≡ status }
+    ensures told { Takes (E.contents errors.old) (E.contents errors.new) text.now }
+{
+    let _ = write_whole(errors, text);
+    status
+}
+
+/// Ends where standard output fails. One whose reader went away is not spoken of.
+pub(crate) fn tell_output<E: Write>(cause: io::Error, errors: &mut E) -> u8
+    ensures { result ≡ 2 }
+{
+    if cause.kind() != ErrorKind::BrokenPipe {
+        let _ = writeln!(errors, "cannot write standard output\n  {cause}");
+    }
+    MISTAKE
+}

@@ -1,0 +1,215 @@
+//! The lines of a log, as JSON objects. No contract speaks of them.
+
+use crate::meanings::meaning_of;
+use ads::{Client, Config};
+use proto_wire::Refusal;
+use rbac_policy::place_of;
+use serde_json::{Value, json};
+use std::alloc::{AllocError, Global};
+use xds_wire::{DiscoveryResponse, read_extension, read_request, read_response};
+
+/// Who ended a connection.
+#[derive(Clone, Copy)]
+pub(crate) enum End {
+    /// The client closed it, or a read failed.
+    Client,
+    /// The proxy closed it, or a write failed, or memory ran out.
+    Proxy,
+}
+
+/// What became of an update stream.
+#[derive(Clone, Copy)]
+pub(crate) enum StreamEvent {
+    /// It came up.
+    Up,
+    /// It could not be connected.
+    Unreachable,
+    /// It was lost.
+    Lost,
+}
+
+/// Each reason for which a response is refused.
+const REASONS: [Refusal; 19] = [
+    Refusal::BadWire,
+    Refusal::BadText,
+    Refusal::UnknownField,
+    Refusal::Missing,
+    Refusal::OutOfRange,
+    Refusal::Unsupported,
+    Refusal::BothConditions,
+    Refusal::TooLarge,
+    Refusal::UnknownName,
+    Refusal::NoOverload,
+    Refusal::BadTypeEntry,
+    Refusal::BadReference,
+    Refusal::NotBool,
+    Refusal::NeedsType,
+    Refusal::TooCostly,
+    Refusal::DuplicateResource,
+    Refusal::WrongType,
+    Refusal::CodeRefused,
+    Refusal::Memory,
+];
+
+/// What became of an update stream.
+pub(crate) fn stream_value(alloc: Global, event: StreamEvent) -> Result<Value, AllocError> {
+    let word = match event {
+        StreamEvent::Up => "up",
+        StreamEvent::Unreachable => "unreachable",
+        StreamEvent::Lost => "lost",
+    };
+    json!(in alloc; {"stream": word})
+}
+
+/// The end of a connection, which was the one of this number, from 1.
+pub(crate) fn connection_value(alloc: Global, number: u64, end: End) -> Result<Value, AllocError> {
+    let word = match end {
+        End::Client => "client",
+        End::Proxy => "proxy",
+    };
+    json!(in alloc; {"connection": number, "end": word})
+}
+
+/// How a proxy answers a response: whether it is acknowledged, and else for which reason it is not, and which part of it
+/// has the fault.
+pub(crate) fn answer_value(
+    alloc: Global,
+    request: &[u8],
+    response: &[u8],
+    client: &Client,
+) -> Result<Value, Refusal> {
+    let request = read_request(alloc, request)?;
+    let response = read_response(alloc, response)?;
+    match &request.error_detail {
+        None => acknowledged_value(alloc, &response, client.generation()),
+        Some(status) => {
+            let reason = reason_in(status.message).ok_or(Refusal::BadText)?;
+            refused_value(alloc, reason, &response, client)
+        }
+    }
+}
+
+/// A response that is acknowledged.
+fn acknowledged_value(
+    alloc: Global,
+    response: &DiscoveryResponse<'_>,
+    generation: u64,
+) -> Result<Value, Refusal> {
+    Ok(json!(in alloc; {
+        "update": "acknowledged",
+        "version": response.version_info,
+        "nonce": response.nonce,
+        "generation": generation
+    })?)
+}
+
+/// A response that is refused for this reason.
+fn refused_value(
+    alloc: Global,
+    reason: Refusal,
+    response: &DiscoveryResponse<'_>,
+    client: &Client,
+) -> Result<Value, Refusal> {
+    let fault = fault_in(alloc, response, reason, client.config());
+    Ok(json!(in alloc; {
+        "update": "refused",
+        "version": response.version_info,
+        "nonce": response.nonce,
+        "refused": reason.number(),
+        "name": reason.name(),
+        "cause": meaning_of(reason),
+        "filter": text_or_null(alloc, &fault.filter)?,
+        "place": text_or_null(alloc, &fault.place)?,
+        "generation": client.generation()
+    })?)
+}
+
+/// The text, or `null`.
+fn text_or_null(alloc: Global, text: &Option<String>) -> Result<Value, AllocError> {
+    match text {
+        Some(text) => Value::try_from_str(alloc, text.as_str()),
+        None => Ok(Value::Null),
+    }
+}
+
+/// Where the fault of a response is, as far as that is known.
+#[derive(Drop)]
+struct FaultPlace {
+    /// The name of the filter.
+    filter: Option<String>,
+    /// The part of the filter.
+    place: Option<String>,
+}
+
+/// The first filter of a response that is configured and of which a part has this fault.
+fn fault_in(
+    alloc: Global,
+    response: &DiscoveryResponse<'_>,
+    reason: Refusal,
+    config: &Config,
+) -> FaultPlace {
+    for resource in &response.resources {
+        let Ok(extension) = read_extension(alloc, resource.value) else {
+            continue;
+        };
+        let Some(filter) = extension.typed_config else {
+            continue;
+        };
+        if config.filters().get_index_of(extension.name).is_none() {
+            continue;
+        }
+        if let Some(place) = place_of(alloc, filter.value, reason) {
+            return FaultPlace {
+                filter: String::from_str(alloc, extension.name).ok(),
+                place: Some(place),
+            };
+        }
+    }
+    FaultPlace {
+        filter: None,
+        place: None,
+    }
+}
+
+/// The reason whose number the text of a refusal has.
+fn reason_in(message: &str) -> Option<Refusal> {
+    let number = message.strip_prefix("policy refused: ")?;
+    let number = number.parse::<u8>().ok()?;
+    for reason in REASONS {
+        if reason.number() == number {
+            return Some(reason);
+        }
+    }
+    None
+}
+
+/// What a client asks a control plane for, or how it answers a response.
+pub(crate) fn request_value(alloc: Global, request: &[u8]) -> Result<Value, Refusal> {
+    let request = read_request(alloc, request)?;
+    if let Some(status) = &request.error_detail {
+        return Ok(json!(in alloc; {
+            "update": "refused",
+            "nonce": request.response_nonce,
+            "message": status.message
+        })?);
+    }
+    let word = match request.response_nonce.is_empty() {
+        true => "asked",
+        false => "acknowledged",
+    };
+    Ok(json!(in alloc; {
+        "update": word,
+        "version": request.version_info,
+        "nonce": request.response_nonce
+    })?)
+}
+
+/// What a control plane sends.
+pub(crate) fn response_value(alloc: Global, response: &[u8]) -> Result<Value, Refusal> {
+    let response = read_response(alloc, response)?;
+    Ok(json!(in alloc; {
+        "update": "sent",
+        "version": response.version_info,
+        "nonce": response.nonce
+    })?)
+}

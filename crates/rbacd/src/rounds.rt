@@ -1,0 +1,125 @@
+//! The rounds of a proxy: in each, the update stream gives one response, and one connection is served.
+ghost use Rattle.std.specs.Prelude.{List, None, Option, Some, option_map, ℕ};
+ghost use Rattle.attributes.specs.Conn.{conn_view};
+ghost use Rattle.proxy_core.specs.Proxies.{proxy_view};
+ghost use Rattle.rbacd.specs.Rounds.{HearsUpdates, Link, Rounds, ServesOne, TakesOne};
+
+use crate::log::Log;
+use crate::log_lines::StreamEvent;
+use crate::pumps::{lose, open_updates, serve_connection, take_response};
+use attributes::Conn;
+use proxy_core::Proxy;
+use std::io::{self, Read, Write};
+
+/// Where the streams of a proxy come from.
+pub trait Streams {
+    /// What gives the bytes of a stream.
+    type Reader: Read + Drop;
+
+    /// What takes the bytes for it.
+    type Writer: Write + Drop;
+
+    /// A new update stream.
+    fn connect(&mut self) -> io::Result<(Self::Reader, Self::Writer)>;
+
+    /// The next connection.
+    fn accept(&mut self) -> io::Result<(Self::Reader, Self::Writer)>;
+}
+
+/// Runs so many rounds. In each the update stream comes up, unless it is up, and gives one response, or is lost; then one
+/// connection of these facts is served to its end. A stream that cannot be connected is lost. Nothing is tried again before
+/// the next round, and a connection that cannot be accepted is none.
+pub fn serve_rounds<S: Streams, L: Write + Drop>(
+    proxy: &mut Proxy,
+    conn: &Conn,
+    streams: &mut S,
+    rounds: u64,
+    log: &mut Log<L>,
+)
+    ensures { (after : Option Link)
+        × Rounds (conn_view conn.now) rounds (proxy_view proxy.old) (proxy_view proxy.new) None after }
+{
+    let mut link = None;
+    for _ in 0..rounds {
+        link = hear_updates(proxy, link, streams, log);
+        serve_one(proxy, conn, streams.accept(), log);
+    }
+}
+
+/// Takes one response of the update stream, which comes up first where it is down; the stream, unless it is lost.
+fn hear_updates<S: Streams, L: Write + Drop>(
+    proxy: &mut Proxy,
+    link: Option<(S::Reader, S::Writer)>,
+    streams: &mut S,
+    log: &mut Log<L>,
+) -> Option<(S::Reader, S::Writer)>
+    ensures { HearsUpdates (proxy_view proxy.old) (proxy_view proxy.new)
+        (option_map (λ l. (S.Reader.remaining l.0, S.Writer.contents l.1)) link)
+        (option_map (λ l. (S.Reader.remaining l.0, S.Writer.contents l.1)) result) }
+{
+    match link {
+        Some(ends) => take_one(proxy, ends, log),
+        None => come_up(proxy, streams.connect(), log),
+    }
+}
+
+/// Takes one response of an update stream that is up; the stream, unless it is lost.
+fn take_one<R: Read + Drop, W: Write + Drop, L: Write + Drop>(
+    proxy: &mut Proxy,
+    ends: (R, W),
+    log: &mut Log<L>,
+) -> Option<(R, W)>
+    ensures { TakesOne (proxy_view proxy.old) (proxy_view proxy.new) (R.remaining ends.0, W.contents ends.1)
+        (option_map (λ l. (R.remaining l.0, W.contents l.1)) result) }
+{
+    let (mut reader, mut writer) = ends;
+    match take_response(proxy, &mut reader, &mut writer, log) {
+        true => Some((reader, writer)),
+        false => {
+            log.tell_stream(StreamEvent::Lost);
+            None
+        }
+    }
+}
+
+/// Brings the update stream up, where it was connected, and takes one response of it; the stream, unless it is lost.
+fn come_up<R: Read + Drop, W: Write + Drop, L: Write + Drop>(
+    proxy: &mut Proxy,
+    connected: io::Result<(R, W)>,
+    log: &mut Log<L>,
+) -> Option<(R, W)>
+    ensures { HearsUpdates (proxy_view proxy.old) (proxy_view proxy.new) None
+        (option_map (λ l. (R.remaining l.0, W.contents l.1)) result) }
+{
+    match connected {
+        Ok((reader, mut writer)) => match open_updates(proxy, &mut writer, log) {
+            true => {
+                log.tell_stream(StreamEvent::Up);
+                take_one(proxy, (reader, writer), log)
+            }
+            false => {
+                log.tell_stream(StreamEvent::Lost);
+                None
+            }
+        },
+        Err(_) => {
+            lose(proxy);
+            log.tell_stream(StreamEvent::Unreachable);
+            None
+        }
+    }
+}
+
+/// Serves a connection of these facts to its end, where one was accepted.
+fn serve_one<R: Read + Drop, W: Write + Drop, L: Write + Drop>(
+    proxy: &mut Proxy,
+    conn: &Conn,
+    accepted: io::Result<(R, W)>,
+    log: &mut Log<L>,
+)
+    ensures { ServesOne (conn_view conn.now) (proxy_view proxy.old) (proxy_view proxy.new) }
+{
+    if let Ok((mut reader, mut writer)) = accepted {
+        serve_connection(proxy, conn, &mut reader, &mut writer, log);
+    }
+}

@@ -1,0 +1,252 @@
+//! The jobs that serve: the control plane and the proxy, over sockets.
+ghost use Rattle.std.specs.Prelude.{◌≡◌, IfErr, IfOk, OnOk, map, option_map, string_bytes};
+ghost use Rattle.std.specs.List.{AllZip};
+ghost use Rattle.attributes.specs.Conn.{conn_view};
+ghost use Rattle.attributes.specs.Limits.{FactsInLimits};
+ghost use Rattle.ads.specs.Ends.{control_view};
+ghost use Rattle.ads.specs.Views.{snapshot_view, snapshots_view};
+ghost use Rattle.rbacd.specs.Run.{CannotListen, CannotLog, EndsControl, EndsProxy, IsConnOf, IsProxied, IsServed, IsSnapshotOf, IsUnread, LacksFile, LacksFit, ServesOneStream, StopsControl, StopsProxy, acknowledged_line};
+ghost use Rattle.rbacd.specs.steps.Judged.{MemoryOrStop};
+
+use crate::ending::{end_by, end_by_memory, show};
+use crate::files::Source;
+use crate::job_fault::JobFault;
+use crate::log::Log;
+use crate::notes::Notes;
+use crate::pumps::serve_stream;
+use crate::reading::{conn_of, read_file};
+use crate::rounds::{Streams, serve_rounds};
+use crate::settings::config_file;
+use crate::words::{ControlWords, ProxyWords};
+use ads::{Control, Resource, Snapshot};
+use attributes::{Conn, Limits};
+use proxy_core::Proxy;
+use std::alloc::{AllocError, Global};
+use std::io::{self, Read, Write};
+use std::net::{Net, OpenListener, OpenStream, TcpListener, TcpStream};
+
+/// Serves one stream as a control plane, and prints what was acknowledged; the status.
+pub(crate) fn run_control<F: Source + Net, W: Write, E: Write>(
+    alloc: Global,
+    words: &ControlWords,
+    system: &F,
+    out: &mut W,
+    errors: &mut E,
+) -> u8
+    ensures { EndsControl (F.holds system.now) (F.lacks system.now) (W.contents out.old) (W.contents out.new)
+        (E.contents errors.old) (E.contents errors.new) result words.now }
+{
+    match acknowledged_by(alloc, words, system) {
+        Ok(acknowledged) => match acknowledged_text(alloc, acknowledged) {
+            Ok(text) => show(text.as_bytes(), 0, out, errors),
+            Err(AllocError) => end_by_memory(out, errors),
+        },
+        Err(fault) => end_by(alloc, &fault, &Notes::new(alloc), out, errors),
+    }
+}
+
+/// The number of the snapshot that was acknowledged last, when the stream of the first client ends.
+fn acknowledged_by<F: Source + Net>(
+    alloc: Global,
+    words: &ControlWords,
+    system: &F,
+) -> Result<Option<u64>, JobFault>
+    ensures found { IfOk result (IsServed (F.holds system.now) (F.lacks system.now) words.now) }
+    ensures fault { IfErr result (MemoryOrStop (StopsControl (F.holds system.now) (F.lacks system.now) words.now)) }
+{
+    let snapshots = snapshots_of(alloc, system, words.name.as_str(), &words.files)?;
+    let mut log = log_of(alloc, system, &words.log)?;
+    let listener = listen(alloc, system, words.listen.as_str())?;
+    let mut control = Control::new(alloc, snapshots);
+    serve_accepted(&mut control, accept(&listener), &mut log);
+    Ok(control.acknowledged())
+}
+
+/// A snapshot of each file, with one filter of this name.
+fn snapshots_of<F: Source>(
+    alloc: Global,
+    files: &F,
+    name: &str,
+    paths: &[String],
+) -> Result<Vec<Snapshot>, JobFault>
+    ensures found { IfOk result (λ v. AllZip (IsSnapshotOf (F.holds files.now) (F.lacks files.now) name.now)
+        (map string_bytes paths.now) (snapshots_view v.items)) }
+    ensures fault { IfErr result (MemoryOrStop (LacksFile (F.holds files.now) (F.lacks files.now)
+        (map string_bytes paths.now))) }
+{
+    let mut snapshots = Vec::new(alloc);
+    for path in paths {
+        snapshots.push(snapshot_of(alloc, files, name, path.as_str())?)?;
+    }
+    Ok(snapshots)
+}
+
+/// The snapshot of a file, with one filter of this name.
+fn snapshot_of<F: Source>(
+    alloc: Global,
+    files: &F,
+    name: &str,
+    path: &str,
+) -> Result<Snapshot, JobFault>
+    ensures found { IfOk result (λ s. IsSnapshotOf (F.holds files.now) (F.lacks files.now) name.now path.now
+        (snapshot_view s)) }
+    ensures fault { IfErr result (MemoryOrStop (IsUnread (F.holds files.now) (F.lacks files.now) path.now)) }
+{
+    let filter = read_file(alloc, files, path)?;
+    let name = String::from_str(alloc, name)?;
+    let mut resources = Vec::new(alloc);
+    resources.push(Resource { name, filter })?;
+    Ok(Snapshot { resources })
+}
+
+/// The log that goes to the file of this path, or is not kept where none is named.
+fn log_of<F: Source>(
+    alloc: Global,
+    files: &F,
+    path: &Option<String>,
+) -> Result<Log<F::Log>, JobFault>
+    ensures fault { IfErr result (MemoryOrStop (CannotLog (option_map string_bytes path.now))) }
+{
+    let Some(path) = path else {
+        return Ok(Log::new(alloc, None));
+    };
+    match files.open_log(path.as_str()) {
+        Ok(writer) => Ok(Log::new(alloc, Some(writer))),
+        Err(cause) => Err(JobFault::Log(String::from_str(alloc, path.as_str())?, cause)),
+    }
+}
+
+/// Listens at this address.
+fn listen<N: Net>(alloc: Global, net: &N, address: &str) -> Result<N::Listener, JobFault>
+    ensures fault { IfErr result (MemoryOrStop (CannotListen address.now)) }
+{
+    match TcpListener::bind(net, address) {
+        Ok(listener) => Ok(listener),
+        Err(cause) => Err(JobFault::Listen(String::from_str(alloc, address)?, cause)),
+    }
+}
+
+/// The next connection, to read from and to write to.
+fn accept<L: OpenListener>(listener: &L) -> io::Result<(L::Stream, L::Stream)>
+where
+    L::Stream: OpenStream,
+{
+    let (stream, _) = listener.accept()?;
+    both_ends(stream)
+}
+
+/// A stream, to read from and to write to.
+fn both_ends<S: OpenStream + Drop>(stream: S) -> io::Result<(S, S)> {
+    Ok((stream.try_clone()?, stream))
+}
+
+/// Serves the stream to its end, where one was accepted.
+fn serve_accepted<R: Read + Drop, W: Write + Drop, L: Write + Drop>(
+    control: &mut Control,
+    accepted: io::Result<(R, W)>,
+    log: &mut Log<L>,
+)
+    ensures { ServesOneStream (control_view control.old) (control_view control.new) }
+{
+    if let Ok((mut reader, mut writer)) = accepted {
+        serve_stream(control, &mut reader, &mut writer, log);
+    }
+}
+
+/// What is printed of a stream that ended.
+fn acknowledged_text(alloc: Global, acknowledged: Option<u64>) -> Result<String, AllocError>
+    ensures { IfOk result (λ text. string_bytes text ≡ acknowledged_line acknowledged) }
+{
+    match acknowledged {
+        Some(number) => format!(in alloc; "acknowledged {number}\n"),
+        None => String::from_str(alloc, "acknowledged none\n"),
+    }
+}
+
+/// Runs the rounds of a proxy; the status.
+pub(crate) fn run_proxy<F: Source + Net, W: Write, E: Write>(
+    alloc: Global,
+    words: ProxyWords,
+    system: &F,
+    out: &mut W,
+    errors: &mut E,
+) -> u8
+    ensures { EndsProxy (F.holds system.now) (F.lacks system.now) (W.contents out.old) (W.contents out.new)
+        (E.contents errors.old) (E.contents errors.new) result words }
+{
+    let mut notes = Notes::new(alloc);
+    match run_rounds(alloc, words, system, &mut notes) {
+        Ok(()) => 0,
+        Err(fault) => end_by(alloc, &fault, &notes, out, errors),
+    }
+}
+
+/// Runs the rounds of a proxy of this configuration, on these addresses.
+fn run_rounds<F: Source + Net>(
+    alloc: Global,
+    words: ProxyWords,
+    system: &F,
+    notes: &mut Notes,
+) -> Result<(), JobFault>
+    ensures found { OnOk result (IsProxied (F.holds system.now) (F.lacks system.now) words) }
+    ensures fault { IfErr result (MemoryOrStop (StopsProxy (F.holds system.now) (F.lacks system.now) words)) }
+{
+    let config = config_file(alloc, system, words.config.as_str(), notes)?;
+    let conn = fitting_conn(alloc, words.facts, config.limits(), system, notes)?;
+    let mut log = log_of(alloc, system, &words.log)?;
+    let listener = listen(alloc, system, words.listen.as_str())?;
+    let mut proxy = Proxy::new(alloc, config)?;
+    let mut sockets = Sockets {
+        net: system,
+        control: words.control.as_str(),
+        listener,
+    };
+    serve_rounds(&mut proxy, &conn, &mut sockets, words.rounds, &mut log);
+    Ok(())
+}
+
+/// The connection of the facts file, or a plain one where none is named; its texts are within the limits.
+fn fitting_conn<F: Source>(
+    alloc: Global,
+    facts: Option<String>,
+    limits: &Limits,
+    files: &F,
+    notes: &mut Notes,
+) -> Result<Conn, JobFault>
+    ensures found { IfOk result (λ conn. IsConnOf (F.holds files.now) (F.lacks files.now)
+        (option_map string_bytes facts) (conn_view conn) × FactsInLimits (conn_view conn) limits.now) }
+    ensures fault { IfErr result (MemoryOrStop (LacksFit (F.holds files.now) (F.lacks files.now)
+        (option_map string_bytes facts) limits.now)) }
+{
+    let conn = conn_of(alloc, facts, files, notes)?;
+    if limits.fits_conn(&conn) {
+        return Ok(conn);
+    }
+    notes.facts = String::from_str(
+        alloc,
+        "a text is longer than the configuration's limit text",
+    )?;
+    Err(JobFault::Facts)
+}
+
+/// Where the streams of a proxy come from: sockets.
+#[derive(Drop)]
+struct Sockets<'a, N: Net> {
+    net: &'a N,
+    control: &'a str,
+    listener: N::Listener,
+}
+
+impl<'a, N: Net> Streams for Sockets<'a, N> {
+    type Reader = N::Stream;
+
+    type Writer = N::Stream;
+
+    fn connect(&mut self) -> io::Result<(N::Stream, N::Stream)> {
+        both_ends(TcpStream::connect(self.net, self.control)?)
+    }
+
+    fn accept(&mut self) -> io::Result<(N::Stream, N::Stream)> {
+        accept(&self.listener)
+    }
+}
