@@ -1,5 +1,5 @@
 -- What one event does to a proxy, by what the proxy keeps (this project's own).
-use Rattle.std.specs.Prelude.{◌≡◌, ℕ, ◌<◌, ◌≤◌, Bool, true, false, Option, Some, None, List, [], ◌∷◌, slice_get, set, if◌then◌else◌}
+use Rattle.std.specs.Prelude.{◌≡◌, ℕ, ◌<◌, ◌≤◌, Bool, true, false, Option, Some, None, List, [], ◌∷◌, slice_get, set, if◌then◌else◌, ⊤}
 use Rattle.attributes.specs.Conn.{AreFacts, Facts}
 use Rattle.attributes.specs.Limits.{FactsInLimits}
 use Rattle.attributes.specs.Request.{RequestValue}
@@ -104,6 +104,12 @@ StepsBy old ads_lost out new = (out ≡ no_output) × (new ≡ with_client old (
 StepsBy old (http_open k facts) out new = OpensAt old k facts out new
 StepsBy old (http_bytes k bytes) out new = TakesHttp (front_at old k) old k bytes out new
 StepsBy old (http_closed k) out new = (out ≡ no_output) × (new ≡ with_conn old k None)
+
+-- the events that take no memory: the loss of the update stream, and the closing of a connection
+abbrev pub TakesNoMemory : EventValue → Type 0
+TakesNoMemory ads_lost = ⊤
+TakesNoMemory (http_closed k) = ⊤
+TakesNoMemory _ = ⊥
 
 -- ---- calls
 

@@ -1,12 +1,12 @@
 //! What a proxy does with an event.
 
-ghost use Rattle.std.specs.Prelude.{◌≡◌, ◌<◌, [], None, Some, false, true, IfOk, IfSome, OnErr, MatchBool, MatchOption};
+ghost use Rattle.std.specs.Prelude.{◌≡◌, ◌<◌, [], None, Some, false, true, IfOk, IfSome, IsOk, OnErr, MatchBool, MatchOption};
 ghost use Rattle.attributes.specs.Conn.{conn_view};
 ghost use Rattle.ads.specs.Ends.{client_view};
 ghost use Rattle.http_front.specs.Front.{HasNoAsk, fed_front};
 ghost use Rattle.proxy_core.specs.Events.{ads_output, ads_up, event_view, http_output, no_output, output_view};
 ghost use Rattle.proxy_core.specs.Proxies.{proxy_view};
-ghost use Rattle.proxy_core.specs.Step.{OpensAt, StepsBy, TakesAds, TakesHttp, front_at, new_proxy, with_conn};
+ghost use Rattle.proxy_core.specs.Step.{OpensAt, StepsBy, TakesAds, TakesHttp, TakesNoMemory, front_at, new_proxy, with_conn};
 ghost use Rattle.proxy_core.specs.steps.Fronts.{IsOpenFor, KeepsAt};
 
 use crate::event::{Event, Output};
@@ -80,11 +80,12 @@ impl Proxy {
 
     /// What the event does, and what is to be sent. Bytes and closes of what is not open do nothing. A request that is
     /// completed is judged by what was accepted in earlier events. After an error all is as before
-    /// the call.
+    /// the call. The loss of the update stream and the closing of a connection take no memory.
     pub fn step(&mut self, event: Event<'_>) -> Result<Output, AllocError>
         ensures found { IfOk result (λ out.
             StepsBy (proxy_view self.old) (event_view event.entry) (output_view out) (proxy_view self.new)) }
         ensures fault { OnErr result (proxy_view self.new ≡ proxy_view self.old) }
+        ensures sure { TakesNoMemory (event_view event.entry) → IsOk result }
     {
         match event {
             Event::AdsUp => self.ads_up(),

@@ -1,14 +1,16 @@
 -- One call more of a pump.
-use Rattle.std.proofs.Common.{◌≡◌, ◌≢◌, ◌+◌, ◌++◌, ◌∙◌, ℕ, Bool, false, List, [], ◌∷◌, Option, Result, Ok, Err, IfOk, OnErr, ap, append-nil, append_assoc, arith, inl, inr, length, length-append, map, refl, sym, take}
+use Rattle.std.proofs.Common.{◌≡◌, ◌≢◌, ◌+◌, ◌++◌, ◌∙◌, ℕ, Bool, false, List, [], ◌∷◌, None, Option, Result, Ok, Err, IfOk, IsOk, ap, append-nil, append_assoc, arith, inl, inr, length, length-append, map, refl, sym, take}
 use Rattle.std.specs.declared.alloc.AllocError.{AllocError}
 use Rattle.std.proofs.lemmas.List.{map-append}
 use Rattle.std.proofs.Math.Seq.{take-append-add}
 use Rattle.std.proofs.KnownBytes.{Appends-nil, Appends-trans, Consumes-nil}
+use Rattle.std.proofs.lemmas.Bool.{false≢true}
 use Rattle.std.specs.List.{AllByRecursion}
 use Rattle.std.specs.Io.KnownBytes.{Appends}
-use Rattle.proxy_core.specs.Step.{CallDoes, CallsDo, EventCall, ProxyValue, StepsBy, answered, no_memory}
+use Rattle.proxy_core.specs.Step.{CallDoes, CallsDo, EventCall, ProxyValue, StepsBy, with_client, with_conn}
+use Rattle.ads.specs.Client.{stream_down}
 use Rattle.attributes.specs.Conn.{Facts}
-use Rattle.proxy_core.specs.Events.{EventValue, http_open, output_view}
+use Rattle.proxy_core.specs.Events.{EventValue, OutputValue, ads_lost, http_closed, http_open, output_view}
 use Rattle.proxy_core.specs.declared.event.Output.{Output}
 use Rattle.rbacd.specs.Output.{Takes}
 use Rattle.rbacd.specs.Pumps.{AllButLast, Hears, LastIs, WrittenInTurn, http_of, joined}
@@ -27,12 +29,20 @@ pub joined_of_more : {X : Type 0} (f : X → List ℕ) (calls : List X) (call : 
     → joined (map f (calls ++ call ∷ [])) ≡ joined (map f calls) ++ f call
 joined_of_more f calls call = rw (map-append f calls (call ∷ [])) (joined_more (map f calls) (f call))
 
--- the call that a step is
-pub step_call : (r : Result Output AllocError) (old new : ProxyValue) (event : EventValue)
-    → IfOk r (λ out. StepsBy old event (output_view out) new) → OnErr r (new ≡ old)
-    → (call : EventCall) × (event_of call ≡ event) × CallDoes old call new
-step_call (Ok out) old new event found fault = (answered event (output_view out), refl, found)
-step_call (Err e) old new event found fault = (no_memory event, refl, fault)
+-- a step that is sure to be answered
+step_sure : (r : Result Output AllocError) (old new : ProxyValue) (event : EventValue)
+    → IfOk r (λ out. StepsBy old event (output_view out) new) → IsOk r → (out : OutputValue) × StepsBy old event out new
+step_sure (Ok out) old new event found sure = (output_view out, found)
+step_sure (Err e) old new event found sure = absurd (false≢true sure)
+
+-- the loss of the update stream is sure to be told, and the closing of a connection
+pub loss_told : (r : Result Output AllocError) (old new : ProxyValue)
+    → IfOk r (λ out. StepsBy old ads_lost (output_view out) new) → IsOk r → new ≡ with_client old (stream_down old.client)
+loss_told r old new found sure = (step_sure r old new ads_lost found sure).1.1
+
+pub closing_told : (r : Result Output AllocError) (old new : ProxyValue)
+    → IfOk r (λ out. StepsBy old (http_closed 0) (output_view out) new) → IsOk r → new ≡ with_conn old 0 None
+closing_told r old new found sure = (step_sure r old new (http_closed 0) found sure).1.1
 
 module _ (old new : ProxyValue) (input input_new out out_new : Option (List ℕ)) (facts : Facts) where
   -- the opening alone

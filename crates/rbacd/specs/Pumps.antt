@@ -1,9 +1,10 @@
 -- What the pumps do: which events the core of a proxy is given, in which order, and what is written of each output.
-use Rattle.std.specs.Prelude.{◌≡◌, ◌≢◌, ◌++◌, ⊤, ℕ, Bool, true, false, List, [], ◌∷◌, Option, map}
+use Rattle.std.specs.Prelude.{◌≡◌, ◌≢◌, ◌++◌, ⊤, ℕ, Bool, true, false, List, [], ◌∷◌, None, Option, map}
 use Rattle.std.specs.Io.KnownBytes.{Appends, Consumes}
 use Rattle.attributes.specs.Conn.{Facts}
-use Rattle.proxy_core.specs.Events.{OutputValue, ads_bytes, ads_lost, ads_up, http_bytes, http_closed, http_open, no_output}
-use Rattle.proxy_core.specs.Step.{CallDoes, CallsDo, EventCall, ProxyValue, answered, no_memory}
+use Rattle.proxy_core.specs.Events.{OutputValue, ads_bytes, ads_up, http_bytes, http_open, no_output}
+use Rattle.proxy_core.specs.Step.{CallDoes, CallsDo, EventCall, ProxyValue, answered, no_memory, with_client, with_conn}
+use Rattle.ads.specs.Client.{stream_down}
 use Rattle.rbacd.specs.Output.{Takes}
 use Rattle.rbacd.specs.Replays.{event_of}
 
@@ -62,10 +63,10 @@ WrittenInTurn out out_new (text ∷ []) = Takes out out_new text
 WrittenInTurn out out_new (text ∷ next ∷ rest) =
     (between : Option (List ℕ)) × Appends out between text × WrittenInTurn between out_new (next ∷ rest)
 
--- if the stream is up, nothing happens; else the core is given its loss
+-- if the stream is up, nothing happens; else the core was told of its loss, and has no stream
 abbrev pub EndsUpdates : ProxyValue → ProxyValue → Bool → Type 0
 EndsUpdates between new true = new ≡ between
-EndsUpdates between new false = (last : EventCall) × (event_of last ≡ ads_lost) × CallDoes between last new
+EndsUpdates between new false = new ≡ with_client between (stream_down between.client)
 
 -- what a reader has left and what a writer took, each before and after
 module _ (old new : ProxyValue) (input input_new out out_new : Option (List ℕ)) where
@@ -93,13 +94,11 @@ module _ (old new : ProxyValue) (input input_new out out_new : Option (List ℕ)
     pub responds : is_up ≡ true → LastIs Responds calls
     pub whole : is_up ≡ true → Appends out out_new (joined (map ads_of calls))
 
--- a connection was served: the core was given its bytes, and then its closing
+-- a connection was served: the core was given its bytes, and then its closing, after which its place is empty
 pub record Serves (old new : ProxyValue) (input input_new out out_new : Option (List ℕ)) (facts : Facts) : Type 0 where
   pub between : ProxyValue
   pub hears : Hears old between input input_new out out_new facts
-  pub last : EventCall
-  pub closing : event_of last ≡ http_closed 0
-  pub closes : CallDoes between last new
+  pub closes : new ≡ with_conn between 0 None
 
 -- the core was given the start of an update stream, and its first request was written, at least in part. If the stream is not
 -- up, the core was told

@@ -1,5 +1,6 @@
-use Rattle.rbacd.proofs.PumpLemmas.{step_call}
+use Rattle.proxy_core.specs.Proxies.{proxy_view}
+use Rattle.rbacd.proofs.PumpLemmas.{loss_told}
 use Rattle.rbacd.proofs.pumps.lose.Goals as goal
 
 pub returns-clause-told : goal.returns-clause-told
-returns-clause-told c = step_call c.step.result _ _ _ c.step.ensures.found c.step.ensures.fault
+returns-clause-told c = loss_told c.step.result (proxy_view c.args.proxy.now) _ c.step.ensures.found (c.step.ensures.sure tt)
