@@ -1,17 +1,17 @@
--- A configuration of a client: who asks (Envoy v3 API, `config/core/v3/base.proto`, Node), its filters, and the limits of
--- their requests. What it may hold is this project's own.
+-- A configuration of a client: its node (Envoy v3 API, `config/core/v3/base.proto`, Node), its filters, and the limits
+-- of their requests. The bounds on its parts are this project's own.
 use Rattle.std.specs.Prelude.{◌≡◌, ◌≢◌, ◌⊎◌, ℕ, ◌<◌, ◌≤◌, List, [], ◌∷◌, map, length}
 use Rattle.std.specs.List.{AllByRecursion}
 use Rattle.attributes.specs.Limits.{LimitsValue}
 use Rattle.xds_wire.specs.Envelope.{SomeOf}
 use Rattle.ads.specs.declared.config.ConfigFault.{ConfigFault}
 
--- a filter: the name of its resource, and how many steps its conditions may cost
+-- a filter: the name of its resource, and the budget of its conditions in steps
 pub record FilterValue : Type 0 where
   pub name : List ℕ
   pub budget : ℕ
 
--- a configuration; the filters are in the order in which they are configured
+-- a configuration: the node's id and cluster, the filters in configured order, and the limits of their requests
 pub record ConfigValue : Type 0 where
   pub node : List ℕ
   pub cluster : List ℕ
@@ -26,7 +26,7 @@ names_of filters = map (λ f. f.name) filters
 abbrev pub HasName : List ℕ → FilterValue → Type 0
 HasName name f = f.name ≡ name
 
--- two filters have one name
+-- two filters have the same name
 abbrev pub Repeats : List FilterValue → Type 0
 Repeats [] = ⊥
 Repeats (f ∷ fs) = SomeOf (HasName f.name) fs ⊎ Repeats fs
@@ -39,11 +39,11 @@ IsName name = (1 ≤ length name) × (length name ≤ 256)
 abbrev pub IsBudget : ℕ → Type 0
 IsBudget budget = (1 ≤ budget) × (budget ≤ 100000000)
 
--- what holds of a filter
+-- the filter's name and its budget are allowed
 abbrev pub IsFilter : FilterValue → Type 0
 IsFilter f = IsName f.name × IsBudget f.budget
 
--- what holds of a configuration
+-- the configuration is allowed: it has 1 to 8 filters with distinct names, and each of its texts and budgets is allowed
 pub record IsSound (c : ConfigValue) : Type 0 where
   pub some : c.filters ≢ []
   pub few : length c.filters ≤ 8
@@ -52,12 +52,12 @@ pub record IsSound (c : ConfigValue) : Type 0 where
   pub node : length c.node ≤ 256
   pub cluster : length c.cluster ≤ 256
 
--- what is wrong with a filter
+-- the faults of a filter
 pub data FilterIsAtFault (f : FilterValue) (e : ConfigFault) : Type 0 where
   bad_name : (IsName f.name → ⊥) → e ≡ ConfigFault.BadName → FilterIsAtFault f e
   bad_budget : (IsBudget f.budget → ⊥) → e ≡ ConfigFault.BadBudget → FilterIsAtFault f e
 
--- what is wrong with a configuration
+-- the faults of a configuration
 pub data IsAtFault (c : ConfigValue) (e : ConfigFault) : Type 0 where
   no_filter : c.filters ≡ [] → e ≡ ConfigFault.NoFilter → IsAtFault c e
   too_many_filters : 8 < length c.filters → e ≡ ConfigFault.TooManyFilters → IsAtFault c e

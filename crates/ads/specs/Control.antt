@@ -1,6 +1,6 @@
--- The control plane's end of the update stream, and what each call on it does: xDS REST and gRPC protocol,
--- "ACK and NACK". That it serves snapshots, numbered from 1, each after the answer to the one before, is this project's
--- own; so is that versions and nonces are numbers in decimal.
+-- The control plane's end of the update stream, and the effect of each call on it: xDS REST and gRPC protocol, "ACK and
+-- NACK". This project's own: it serves snapshots numbered from 1, each after the answer to the one before. Versions and
+-- nonces are numbers in decimal.
 use Rattle.std.specs.Prelude.{◌≡◌, ◌≢◌, ◌⊎◌, ℕ, ◌+◌, ◌-◌, ◌^◌, ◌<◌, ◌≤◌, Bool, true, false, Option, Some, None, List, [], ◌∷◌, ◌++◌, length, filter, decimal, bytes_eq, is_none, IsSomeAnd}
 use Rattle.std.specs.List.{AllZip, list_any}
 use Rattle.proto_wire.specs.declared.refusal.Refusal.{Refusal}
@@ -15,12 +15,12 @@ pub record ResourceValue : Type 0 where
   pub name : List ℕ
   pub filter : List ℕ
 
--- the snapshot of this number; the first is 1
+-- the snapshot has this number; the first one has number 1
 abbrev pub IsSnapshot : List (List ResourceValue) → ℕ → List ResourceValue → Type 0
 IsSnapshot snapshots number snapshot = (before after : List (List ResourceValue))
     × (snapshots ≡ before ++ snapshot ∷ after) × (number ≡ length before + 1)
 
--- the resources that are asked for by these names, in the snapshot's order
+-- the resources with one of these names, in the snapshot's order
 abbrev pub asked : List (List ℕ) → List ResourceValue → List ResourceValue
 asked names resources = filter (λ r. list_any (λ name. bytes_eq name r.name) names) resources
 
@@ -31,12 +31,12 @@ extension_of r = record {
   typed_config = Some (record { type_url = filter_type; value = r.filter });
 }
 
--- the resource as it stands in a response
+-- the resource, as a resource of a response
 abbrev pub IsSentAs : ResourceValue → AnyMessage → Type 0
 IsSentAs r any = (any.type_url ≡ extension_type) × ExtensionWritten (extension_of r) any.value
 
--- the response that sends the snapshot of this number to who asks for these names: this many responses were
--- sent with it
+-- the response that sends the snapshot of this number for these names; its nonce is the number of responses sent so
+-- far, including it
 pub record IsResponseOf (snapshot : List ResourceValue) (names : List (List ℕ)) (number count : ℕ)
     (response : ResponseMessage) : Type 0 where
   pub version : response.version_info ≡ decimal number
@@ -44,37 +44,37 @@ pub record IsResponseOf (snapshot : List ResourceValue) (names : List (List ℕ)
   pub type_url : response.type_url ≡ extension_type
   pub nonce : response.nonce ≡ decimal count
 
--- what was served: the current snapshot's number, how many responses were sent, the last of them on this
--- stream, and the number that was acknowledged last
+-- the serving state: the number of the current snapshot, and how many responses were sent. Also the number of the last
+-- response on this stream, and of the last acknowledged snapshot
 pub record ServedValue : Type 0 where
   pub current : ℕ
   pub sent : ℕ
   pub last : Option ℕ
   pub acknowledged : Option ℕ
 
--- a request of the type, without a nonce, on a stream on which nothing was sent
+-- the request has the right type and no nonce, and nothing was sent on this stream yet
 pub record IsFirst (old : ServedValue) (request : RequestMessage) : Type 0 where
   pub type_url : request.type_url ≡ extension_type
   pub nonce : request.response_nonce ≡ []
   pub last : old.last ≡ None
 
--- a request of the type that answers the last response on this stream
+-- the request has the right type and answers the last response on this stream
 pub record IsReply (old : ServedValue) (request : RequestMessage) : Type 0 where
   pub type_url : request.type_url ≡ extension_type
   pub nonce : IsSomeAnd old.last (λ n. request.response_nonce ≡ decimal n)
 
--- the last response is accepted
+-- the request accepts the last response
 pub record IsAck (old : ServedValue) (request : RequestMessage) : Type 0 where
   pub reply : IsReply old request
   pub error : request.error_detail ≡ None
   pub version : request.version_info ≡ decimal old.current
 
--- the last response is refused
+-- the request refuses the last response
 pub record IsNack (old : ServedValue) (request : RequestMessage) : Type 0 where
   pub reply : IsReply old request
   pub error : request.error_detail ≢ None
 
--- one response more was sent
+-- the serving state after one more response
 abbrev pub sent_one : ServedValue → ServedValue
 sent_one s = record {
   current = s.current;
@@ -83,8 +83,8 @@ sent_one s = record {
   acknowledged = s.acknowledged;
 }
 
--- the current snapshot, where there is one, is sent to who asks for these names; a response that is too long,
--- or one more than 2 ^ 64 - 1, is not sent and ends the stream
+-- the current snapshot, if there is one, is sent for these names. The stream ends, and nothing is sent, if the response
+-- is too long or 2^64 - 1 responses were sent already
 pub data Sends (snapshots : List (List ResourceValue)) (names : List (List ℕ)) (old : ServedValue)
     (replies : List ℕ) (new : ServedValue) (ends : Bool) : Type 0 where
   none : ((snapshot : List ResourceValue) → IsSnapshot snapshots old.current snapshot → ⊥)
@@ -104,7 +104,7 @@ pub data Sends (snapshots : List (List ResourceValue)) (names : List (List ℕ))
       → 2 ^ 64 - 1 ≤ old.sent → replies ≡ [] → new ≡ old → ends ≡ true
       → Sends snapshots names old replies new ends
 
--- the next snapshot is the current one
+-- the serving state, with the next snapshot as the current one
 abbrev pub advanced : ServedValue → ServedValue
 advanced s = record {
   current = s.current + 1;
@@ -113,7 +113,7 @@ advanced s = record {
   acknowledged = s.acknowledged;
 }
 
--- the next snapshot, where there is one, becomes the current one and is sent
+-- the next snapshot, if there is one, becomes the current one and is sent
 pub data Advances (snapshots : List (List ResourceValue)) (names : List (List ℕ)) (old : ServedValue)
     (replies : List ℕ) (new : ServedValue) (ends : Bool) : Type 0 where
   at_last : length snapshots ≤ old.current → replies ≡ [] → new ≡ old → ends ≡ false
@@ -121,7 +121,7 @@ pub data Advances (snapshots : List (List ResourceValue)) (names : List (List �
   next : old.current < length snapshots → Sends snapshots names (advanced old) replies new ends
       → Advances snapshots names old replies new ends
 
--- the current snapshot was acknowledged
+-- the serving state, with the current snapshot acknowledged
 abbrev pub recorded : ServedValue → ServedValue
 recorded s = record {
   current = s.current;
@@ -130,8 +130,8 @@ recorded s = record {
   acknowledged = Some s.current;
 }
 
--- what is sent for a request, which numbers are recorded, what was served after it, and whether it ends the
--- stream
+-- a request is served: the bytes sent, the snapshot numbers recorded, the serving state after it, and whether it ends
+-- the stream
 pub data Serves (snapshots : List (List ResourceValue)) (request : RequestMessage) (old : ServedValue)
     (replies numbers : List ℕ) (new : ServedValue) (ends : Bool) : Type 0 where
   first : IsFirst old request → Sends snapshots request.resource_names old replies new ends → numbers ≡ []
@@ -144,13 +144,13 @@ pub data Serves (snapshots : List (List ResourceValue)) (request : RequestMessag
       → replies ≡ [] → new ≡ old → ends ≡ false → numbers ≡ []
       → Serves snapshots request old replies numbers new ends
 
--- the message is no request, which ends the stream
+-- the message is not a request: nothing is sent or recorded, and the stream ends
 abbrev pub IsNoRequest : List ℕ → ServedValue → List ℕ → List ℕ → ServedValue → Bool → Type 0
 IsNoRequest message old replies numbers new ends = ((e : Refusal) × RequestFault message e)
     × (replies ≡ []) × (numbers ≡ []) × (new ≡ old) × (ends ≡ true)
 
--- what is sent for the messages of a stream, in order, which numbers are recorded, and whether one of them
--- ends the stream
+-- the messages of a stream are served in order. This fixes the bytes sent, the numbers recorded, the serving state
+-- after them, and whether a message ended the stream
 abbrev pub AreServed : List (List ResourceValue) → ServedValue → List (List ℕ) → List ℕ → List ℕ → ServedValue
     → Bool → Type 0
 AreServed snapshots old [] replies numbers new ends =
@@ -164,14 +164,13 @@ AreServed snapshots old (message ∷ messages) replies numbers new ends =
     × (replies ≡ first ++ more) × (numbers ≡ now ++ later)
     × AreServed snapshots next messages more later new ends)
 
--- what a control is: its snapshots, the unfinished bytes of the stream, unless that is broken, and what it
--- has served
+-- a control plane: its snapshots, the unfinished bytes of its stream unless the stream is broken, and its serving state
 pub record ControlValue : Type 0 where
   pub snapshots : List (List ResourceValue)
   pub stream : Option (List ℕ)
   pub served : ServedValue
 
--- bytes come behind the unfinished ones: their messages are served
+-- further bytes arrive after the unfinished ones: the messages that they complete are served
 pub record ServesStream (old : ControlValue) (rest bytes replies numbers : List ℕ) (new : ControlValue) : Type 0
   where
     pub messages : List (List ℕ)
@@ -182,28 +181,27 @@ pub record ServesStream (old : ControlValue) (rest bytes replies numbers : List 
     pub stream : new.stream ≡ stream_after ends tail
     pub snapshots : new.snapshots ≡ old.snapshots
 
--- bytes come, on a stream or behind a broken one, where nothing is done with them
+-- bytes arrive: on a stream its messages are served; if the stream is broken, nothing is done
 abbrev pub ServesBy : Option (List ℕ) → ControlValue → List ℕ → List ℕ → Bool → List ℕ → ControlValue → Type 0
 ServesBy None old bytes replies is_broken numbers new =
     (replies ≡ []) × (is_broken ≡ true) × (numbers ≡ []) × (new ≡ old)
 ServesBy (Some rest) old bytes replies is_broken numbers new =
     ServesStream old rest bytes replies numbers new × (is_broken ≡ is_none new.stream)
 
--- bytes come: what is sent, whether the stream is broken, which numbers are recorded, and what the control is
--- then
+-- bytes arrive: the bytes sent, whether the stream is broken, the numbers recorded, and the control plane after them
 abbrev pub ServesBytes : ControlValue → List ℕ → List ℕ → Bool → List ℕ → ControlValue → Type 0
 ServesBytes old bytes replies is_broken numbers new =
     ServesBy old.stream old bytes replies is_broken numbers new
 
--- nothing was served
+-- the serving state of a control plane that has served no request
 abbrev pub nothing_served : ServedValue
 nothing_served = record { current = 1; sent = 0; last = None; acknowledged = None }
 
--- a control of which nothing was asked
+-- a control plane that has received no request
 abbrev pub new_control : List (List ResourceValue) → ControlValue
 new_control snapshots = record { snapshots = snapshots; stream = Some []; served = nothing_served }
 
--- the stream ends: the next one begins without bytes, and nothing was sent on it
+-- the stream ends: the next one begins, with no bytes received and no response sent
 abbrev pub stream_lost : ControlValue → ControlValue
 stream_lost c = record {
   snapshots = c.snapshots;

@@ -1,4 +1,4 @@
--- What the two ends of an update stream stand for (this project's own).
+-- What the two ends of an update stream mean in the definitions (this project's own).
 use Rattle.std.specs.String.{string_bytes}
 use Rattle.ads.specs.Answer.{Accepted}
 use Rattle.ads.specs.Client.{ClientValue}
@@ -8,7 +8,7 @@ use Rattle.ads.specs.declared.accepted.State.{State}
 use Rattle.ads.specs.declared.client.Client.{Client}
 use Rattle.ads.specs.declared.control.Control.{Control}
 
--- what the code has accepted
+-- the accepted state that a `State` means
 abbrev pub state_view : State → Accepted
 state_view s = record {
   version = string_bytes s.version;
@@ -16,7 +16,7 @@ state_view s = record {
   generation = s.generation;
 }
 
--- what a client is
+-- the client that a `Client` means
 abbrev pub client_view : Client → ClientValue
 client_view c = record {
   config = c.config;
@@ -24,7 +24,7 @@ client_view c = record {
   accepted = state_view c.accepted;
 }
 
--- what a control is
+-- the control plane that a `Control` means
 abbrev pub control_view : Control → ControlValue
 control_view c = record {
   snapshots = snapshots_view c.snapshots.items;

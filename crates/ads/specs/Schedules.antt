@@ -1,5 +1,5 @@
--- A client and a control plane joined by a stream (this project's own): the steps that they take, the versions that were
--- accepted and the numbers that were recorded.
+-- A client and a control plane joined by a stream (this project's own): their steps, the accepted versions and the
+-- recorded numbers.
 use Rattle.std.specs.Prelude.{◌≡◌, ◌⊎◌, ℕ, ◌≤◌, Bool, true, false, List, [], ◌∷◌, ◌++◌, map, decimal}
 use Rattle.std.specs.List.{AllByRecursion}
 use Rattle.ads.specs.Config.{ConfigValue}
@@ -7,8 +7,8 @@ use Rattle.ads.specs.Answer.{first_request}
 use Rattle.ads.specs.Client.{ClientValue, Feeds, IsFrameThen, new_client, stream_down, stream_up}
 use Rattle.ads.specs.Control.{ControlValue, ResourceValue, ServesBytes, new_control, stream_lost}
 
--- both ends, whether a stream is open, the bytes in flight on it, and since the start the versions that the client
--- accepted and the numbers that the control plane recorded
+-- both ends, whether a stream is open, and the bytes in flight on it. Also all versions that the client accepted and
+-- all numbers that the control plane recorded since the start
 pub record Joined : Type 0 where
   pub client : ClientValue
   pub control : ControlValue
@@ -18,7 +18,7 @@ pub record Joined : Type 0 where
   pub accepted : List (List ℕ)
   pub recorded : List ℕ
 
--- a new client and a new control plane
+-- a new client and a new control plane, without a stream
 abbrev pub new_joined : ConfigValue → List (List ResourceValue) → Joined
 new_joined c snapshots = record {
   client = new_client c;
@@ -30,7 +30,7 @@ new_joined c snapshots = record {
   recorded = [];
 }
 
--- a stream opens, with the client's first request in flight
+-- a stream opens: the client's first request, these bytes, is in flight
 abbrev pub opened : Joined → List ℕ → Joined
 opened j bytes = record {
   client = stream_up j.client;
@@ -42,7 +42,8 @@ opened j bytes = record {
   recorded = j.recorded;
 }
 
--- the client gets bytes: the others stay in flight, and its replies are in flight behind those to the control plane
+-- the client has read some bytes: the others stay in flight, and its replies are added to the bytes in flight to the
+-- control plane
 abbrev pub client_got : Joined → List ℕ → ClientValue → List ℕ → List (List ℕ) → Joined
 client_got j others client replies versions = record {
   client = client;
@@ -54,7 +55,8 @@ client_got j others client replies versions = record {
   recorded = j.recorded;
 }
 
--- the control plane gets bytes
+-- the control plane has read some bytes: the others stay in flight, and its replies are added to the bytes in flight to
+-- the client
 abbrev pub control_got : Joined → List ℕ → ControlValue → List ℕ → List ℕ → Joined
 control_got j others control replies numbers = record {
   client = j.client;
@@ -66,7 +68,7 @@ control_got j others control replies numbers = record {
   recorded = j.recorded ++ numbers;
 }
 
--- the stream is lost at both ends, with all bytes in flight
+-- the stream is lost at both ends, and all bytes in flight are lost with it
 abbrev pub lost : Joined → Joined
 lost j = record {
   client = stream_down j.client;
@@ -78,8 +80,8 @@ lost j = record {
   recorded = j.recorded;
 }
 
--- one step: a stream opens where none is open, a piece of the bytes in flight reaches its end, or the stream is lost.
--- A call that answers want of memory leaves all as it was, and is no step.
+-- one step: a stream opens if none is open, the next bytes in flight reach an end, or the stream is lost. A call that
+-- fails since it is out of memory changes nothing, and is no step.
 pub data Moves (old new : Joined) : Type 0 where
   opens : (bytes : List ℕ) → old.is_open ≡ false
       → IsFrameThen (first_request old.client.config old.client.accepted) bytes []
@@ -94,7 +96,7 @@ pub data Moves (old new : Joined) : Type 0 where
       → new ≡ control_got old others control replies numbers → Moves old new
   is_lost : old.is_open ≡ true → new ≡ lost old → Moves old new
 
--- steps one after the other, by the states that they lead to
+-- steps in order, with the state after each of them
 abbrev pub Runs : Joined → List Joined → Joined → Type 0
 Runs old [] new = new ≡ old
 Runs old (next ∷ states) new = Moves old next × Runs next states new
@@ -104,18 +106,18 @@ abbrev pub NeverFalls : List ℕ → Type 0
 NeverFalls [] = Unit {0}
 NeverFalls (n ∷ ns) = AllByRecursion (λ m. n ≤ m) ns × NeverFalls ns
 
--- the first list, in order, is part of the second
+-- the elements of the first list are among those of the second, in the same order
 abbrev pub IsPart : {A : Type 0} → List A → List A → Type 0
 IsPart [] ys = Unit {0}
 IsPart (x ∷ xs) [] = ⊥
 IsPart (x ∷ xs) (y ∷ ys) = ((x ≡ y) × IsPart xs ys) ⊎ IsPart (x ∷ xs) ys
 
--- the last of the numbers
+-- the number is the last one of the list
 abbrev pub IsLast : ℕ → List ℕ → Type 0
 IsLast n ns = (before : List ℕ) × (ns ≡ before ++ n ∷ [])
 
--- what holds of both ends after any steps: the numbers that were recorded never fall, they are part of the versions
--- that were accepted, and the client's version is the last of them or a later one
+-- both ends after any steps: the recorded numbers never fall, and are among the accepted versions, in the same order.
+-- The client's version is the last recorded number or a later one
 pub record AreInStep (j : Joined) : Type 0 where
   pub rises : NeverFalls j.recorded
   pub part : IsPart (map decimal j.recorded) j.accepted

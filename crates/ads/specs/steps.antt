@@ -1,4 +1,4 @@
--- What private clauses and proofs of this crate cite (this project's own).
+-- Definitions that private clauses and proofs of this crate use (this project's own).
 pub mod Streams
 pub mod Taking
 pub mod Drafts

@@ -1,4 +1,4 @@
-//! What a client has accepted, and what stands beside it while bytes are answered.
+//! The accepted state of a client, and the draft that is kept next to it while bytes are answered.
 
 ghost use Rattle.std.specs.Prelude.{◌≡◌, ◌≤◌, ◌+◌, ◌-◌, ◌^◌, min, [], None, List, Option, map, length, vec_len, IfOk};
 ghost use Rattle.std.specs.String.{string_bytes};
@@ -13,8 +13,8 @@ use indexmap::IndexMap;
 use rbac_policy::Admitted;
 use std::alloc::{AllocError, Global};
 
-/// The last version, empty where there is none, each filter's policies in configured order, and how many responses were
-/// accepted.
+/// The last version (empty if there is none), each filter's policies in configured order, and the number of accepted
+/// responses.
 #[derive(Debug, Drop)]
 pub(crate) struct State {
     pub(crate) version: String,
@@ -23,7 +23,7 @@ pub(crate) struct State {
 }
 
 impl State {
-    /// Nothing was accepted.
+    /// The state of a client that has accepted nothing.
     pub(crate) fn new(alloc: Global, config: &Config) -> Result<State, AllocError>
         ensures { IfOk result (λ s. state_view s ≡ nothing_accepted config.now) }
     {
@@ -34,8 +34,7 @@ impl State {
         })
     }
 
-    /// Puts the draft's version, policies and generation in the place of the old, and gives its replies. It takes no
-    /// memory.
+    /// Replaces the old version, policies and generation by the draft's, and returns its replies. It takes no memory.
     pub(crate) fn commit(&mut self, draft: Draft) -> Vec<u8>
         requires { Covers (vec_len self.old.policies) draft.given.items }
         ensures state { state_view self.new ≡ draft_view (policies_view self.old.policies.items) draft }
@@ -49,7 +48,7 @@ impl State {
     }
 }
 
-/// Nothing for each of the filters.
+/// A list with no policies for each of the filters.
 fn no_policies(
     alloc: Global,
     filters: &IndexMap<String, u64>,
@@ -64,7 +63,7 @@ fn no_policies(
     Ok(policies)
 }
 
-/// What is accepted and replied while bytes are answered, beside the state that it will change.
+/// The changes to the state, and the replies, while bytes are answered.
 #[derive(Debug, Drop)]
 pub(crate) struct Draft {
     pub(crate) version: String,
@@ -89,7 +88,7 @@ impl Draft {
         })
     }
 
-    /// Accepts a version, with what it gives each filter. It takes no memory.
+    /// Accepts a version, and the policies that it gives each filter. It takes no memory.
     pub(crate) fn accept(&mut self, version: String, given: Vec<Option<Admitted>>)
         requires { Covers (vec_len given) self.old.given.items }
         ensures version { string_bytes self.new.version ≡ string_bytes version }
@@ -109,7 +108,7 @@ impl Draft {
     }
 }
 
-/// Puts what is given in its place; where nothing is given, the old stays. It takes no memory.
+/// Puts each given policy in its place; if none is given, the old one stays. It takes no memory.
 fn place(policies: &mut Vec<Option<Admitted>>, mut given: Vec<Option<Admitted>>)
     requires { vec_len given ≤ vec_len policies.old }
     ensures placed { policies_view policies.new.items

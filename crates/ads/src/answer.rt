@@ -16,8 +16,8 @@ use proto_wire::Refusal;
 use std::alloc::{AllocError, Global};
 use xds_wire::{DiscoveryResponse, Frames, read_response};
 
-/// Answers the messages that have come whole, up to one that is no response, which ends the stream; tells whether one
-/// does.
+/// Answers the complete messages, up to one that is not a response, which ends the stream. Returns whether there is
+/// one.
 pub(crate) fn answer_all(
     alloc: Global,
     config: &Config,
@@ -41,7 +41,7 @@ pub(crate) fn answer_all(
     Ok(false)
 }
 
-/// Answers a message where it is a response, and tells whether it is one.
+/// Answers a message if it is a response, and returns whether it is one.
 fn answer(
     alloc: Global,
     config: &Config,
@@ -70,14 +70,14 @@ fn answer(
     }
 }
 
-/// Whether memory ran out.
+/// Whether the refusal is that memory ran out.
 pub(crate) fn is_memory(refusal: Refusal) -> bool
     ensures { MatchBool result (refusal ≡ Memory) (refusal ≢ Memory) }
 {
     matches!(refusal, Refusal::Memory)
 }
 
-/// Answers a response.
+/// Answers a response: accepts or refuses it, and appends the reply.
 fn answer_response(
     alloc: Global,
     config: &Config,

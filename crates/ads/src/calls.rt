@@ -1,4 +1,4 @@
-//! What a client does: its stream comes up, gives bytes, and is lost.
+//! The calls on a client: its stream comes up, delivers bytes, and is lost.
 
 ghost use Rattle.std.specs.Prelude.{◌≡◌, ℕ, List, None, Some, [], IfOk, IfSome, OnOk, OnErr, MatchOption, is_some};
 ghost use Rattle.std.specs.List.{AllZip};
@@ -18,7 +18,7 @@ use std::alloc::{AllocError, Global};
 impl Client {
     ghost use Rattle.ads.specs.Client.{Feeds, WasAdmitted, WasAdmittedAs, new_client, policies_of, stream_down, stream_up};
     ghost use Rattle.ads.specs.Ends.{client_view};
-    /// A client that has accepted nothing, and whose stream is down. The one error is want of memory.
+    /// A client that has accepted nothing, and whose stream is down. The only error is out of memory.
     pub fn new(alloc: Global, config: &Config) -> Result<Client, AllocError>
         ensures { IfOk result (λ c. client_view c ≡ new_client config.now) }
     {
@@ -32,8 +32,8 @@ impl Client {
         })
     }
 
-    /// A stream comes up: the bytes to send first. A stream that is up is lost before. The one error is want of memory;
-    /// after it all is as before the call.
+    /// A stream comes up: returns the bytes to send first. If a stream is up, it is lost first. The only error is out
+    /// of memory; after it all is as before the call.
     pub fn connected(&mut self) -> Result<Vec<u8>, AllocError>
         ensures found { IfOk result (λ bytes.
             IsFrameThen (first_request self.old.config (client_view self.old).accepted) bytes.items []) }
@@ -46,11 +46,11 @@ impl Client {
         Ok(bytes)
     }
 
-    /// The stream gives bytes. Each response that they complete is answered, in order: it is accepted, or refused by the
-    /// number of a refusal, which is `WrongType`, `BadWire`, `BadText`, `Missing`, `DuplicateResource` or one of
-    /// `rbac_policy::admit`, `Memory` among them. A broken frame or a message that is no response ends the stream, and
-    /// without a stream nothing is done: then it is `broken`. The one error is want of memory elsewhere than in an
-    /// admission; after it all is as before the call.
+    /// The stream delivers bytes. Each response that they complete is answered, in order: it is accepted, or refused
+    /// with the number of a refusal. That is `WrongType`, `BadWire`, `BadText`, `Missing`, `DuplicateResource` or one
+    /// of `rbac_policy::admit`, which include `Memory`. A broken frame or a message that is not a response ends the
+    /// stream. Without a stream nothing is done. In these cases the result is `broken`. The only error is out of memory
+    /// outside of an admission; after it all is as before the call.
     pub fn feed(&mut self, bytes: &[u8]) -> Result<Fed, AllocError>
         ensures found { IfOk result (λ fed. (versions : List (List ℕ))
             × Feeds (client_view self.old) bytes.now fed.replies.items fed.broken versions (client_view self.new)) }
@@ -76,15 +76,15 @@ impl Client {
         Ok(Fed { replies, broken })
     }
 
-    /// The stream is lost: its unfinished bytes are forgotten. What was accepted stays. It takes no memory.
+    /// The stream is lost, with its unfinished bytes. What was accepted stays. It takes no memory.
     pub fn lost(&mut self)
         ensures { client_view self.new ≡ stream_down (client_view self.old) }
     {
         self.stream = None;
     }
 
-    /// The filter of this name, as it was accepted last; it was admitted for the configuration's limits, under the
-    /// filter's budget. None where no filter has the name or nothing was accepted for it. It takes no memory.
+    /// The filter of this name, as it was last accepted. It was admitted for the configuration's limits, under the
+    /// filter's budget. None if no filter has the name or nothing was accepted for it. It takes no memory.
     pub fn current(&self, name: &str) -> Option<&Admitted>
         ensures found { let found = policies_of (client_view self.now) name.now in
             MatchOption result (found ≡ None) (λ a. found ≡ Some (admitted_view a.now)) }
@@ -102,8 +102,8 @@ impl Client {
         }
     }
 
-    /// What each filter has, in configured order, as it was accepted last; None where nothing was accepted for it. Each was
-    /// admitted for the configuration's limits, under the filter's budget. It takes no memory.
+    /// The policies of each filter, in configured order, as they were last accepted; None if nothing was accepted for
+    /// it. Each was admitted for the configuration's limits, under the filter's budget. It takes no memory.
     pub fn policies(&self) -> &[Option<Admitted>]
         ensures found { policies_view result.now ≡ (client_view self.now).accepted.policies }
         ensures admitted { ∥ AllZip (WasAdmitted (client_view self.now).config.limits)
@@ -126,7 +126,7 @@ impl Client {
         &self.config
     }
 
-    /// How many responses were accepted; it stays at 2^64 - 1. It takes no memory.
+    /// The number of accepted responses, at most 2^64 - 1. It takes no memory.
     pub fn generation(&self) -> u64
         ensures { result ≡ (client_view self.now).accepted.generation }
     {

@@ -1,4 +1,4 @@
-//! What a client of an update stream is.
+//! The client of an update stream.
 
 ghost use Rattle.std.specs.Prelude.{◌≡◌, length};
 ghost use Rattle.std.specs.List.{AllZip};
@@ -10,16 +10,16 @@ use crate::config::Config;
 use crate::stream::Stream;
 use std::alloc::Global;
 
-/// What a call with bytes of the stream answers.
+/// The result of a call with bytes of the stream.
 #[derive(Debug, Drop)]
 pub struct Fed {
     /// The bytes to send, in whole frames.
     pub replies: Vec<u8>,
-    /// Whether no stream is up after it.
+    /// Whether no stream is up after the call.
     pub broken: bool,
 }
 
-/// A client that subscribes to the filters of a configuration, and keeps what it accepted of them (xDS, state of the
+/// A client that subscribes to the filters of a configuration, and keeps what it accepted for them (xDS, state of the
 /// world). It has no socket: bytes of the stream go in, and bytes to send come out.
 #[derive(Debug, Drop)]
 pub struct Client {

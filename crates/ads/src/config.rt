@@ -1,4 +1,4 @@
-//! A configuration: who asks, the filters in the order in which they are configured, and the limits of their requests.
+//! A configuration: the node, the filters in configured order, and the limits of their requests.
 
 ghost use Rattle.std.specs.Prelude.{◌≡◌, ◌⊎◌, ◌<◌, ◌≤◌, length, map, IfOk, IfErr, OnOk, MatchBool};
 ghost use Rattle.std.specs.List.{AllByRecursion};
@@ -13,21 +13,21 @@ use indexmap::IndexMap;
 use std::alloc::{AllocError, AllocFailed, Global};
 use std::marker::Model;
 
-/// How many filters a configuration may have.
+/// The greatest number of filters in a configuration.
 pub(crate) const MOST_FILTERS: usize = 8;
 
-/// The most bytes of a filter's name, of the node and of the cluster.
+/// The greatest length in bytes of a filter's name, of the node and of the cluster.
 const LONGEST_NAME: usize = 256;
 
-/// The greatest budget.
+/// The greatest budget, in steps.
 const LARGEST_BUDGET: u64 = 100_000_000;
 
-/// A filter: the name of its resource, and how many steps its conditions may cost.
+/// A filter: the name of its resource, and the budget of its conditions in steps.
 #[derive(Debug, Drop)]
 pub struct Filter {
     /// The name, of 1 to 256 bytes.
     pub name: String,
-    /// The budget, 1 to 100,000,000.
+    /// The budget, 1 to 100,000,000 steps.
     pub budget: u64,
 }
 
@@ -38,7 +38,7 @@ pub enum ConfigFault {
     NoFilter,
     /// There are more than 8 filters.
     TooManyFilters,
-    /// Two filters have one name.
+    /// Two filters have the same name.
     DoubledName,
     /// A filter's name is empty or has more than 256 bytes, or the node or the cluster has more.
     BadName,
@@ -64,7 +64,7 @@ impl<T: Drop> From<AllocFailed<T>> for ConfigFault {
     }
 }
 
-/// Who asks, the filters, and the limits of the requests that they judge.
+/// The node and its cluster, the filters, and the limits of the requests that they judge.
 #[derive(Debug, Drop)]
 pub struct Config {
     node: String,
@@ -98,9 +98,9 @@ impl Model for Config {
 impl Config {
     ghost use Rattle.ads.specs.Config.{IsSound, IsAtFault};
     ghost use Rattle.ads.specs.Views.{config_of, entries_view};
-    /// A configuration of these parts. It is refused for a fault that is there: `NoFilter`, `TooManyFilters`, `BadName`
-    /// (of a filter, the node or the cluster), `BadBudget` or `DoubledName`; or for want of memory, by `Memory`. Of several
-    /// faults one is answered.
+    /// A configuration with these parts. The errors are `NoFilter`, `TooManyFilters`, `BadName` (of a filter, the node
+    /// or the cluster), `BadBudget`, `DoubledName`, and `Memory` if it is out of memory. If there are several faults,
+    /// one of them is returned.
     pub fn new(
         alloc: Global,
         node: String,
@@ -127,7 +127,7 @@ impl Config {
         })
     }
 
-    /// The same configuration once more. The one error is want of memory.
+    /// A copy of the configuration. The only error is out of memory.
     pub fn copy(&self) -> Result<Config, AllocError>
         ensures { IfOk result (λ copy. copy ≡ self.now) }
     {
@@ -139,21 +139,21 @@ impl Config {
         })
     }
 
-    /// The node.
+    /// The id of the node.
     pub fn node(&self) -> &str
         ensures { result.now ≡ self.now.node }
     {
         self.node.as_str()
     }
 
-    /// The cluster.
+    /// The cluster of the node.
     pub fn cluster(&self) -> &str
         ensures { result.now ≡ self.now.cluster }
     {
         self.cluster.as_str()
     }
 
-    /// The limits of the requests.
+    /// The limits of the requests that the filters judge.
     pub fn limits(&self) -> &Limits
         ensures { result.now ≡ self.now.limits }
     {
@@ -168,7 +168,7 @@ impl Config {
     }
 }
 
-/// Refuses no filter, and more than 8.
+/// Refuses a configuration without a filter, or with more than 8.
 fn check_count(count: usize) -> Result<(), ConfigFault>
     ensures found { OnOk result ((0 < count) × (count ≤ 8)) }
     ensures fault { IfErr result (λ e. ((count ≡ 0) × (e ≡ NoFilter)) ⊎ ((8 < count) × (e ≡ TooManyFilters))) }
@@ -182,7 +182,7 @@ fn check_count(count: usize) -> Result<(), ConfigFault>
     Ok(())
 }
 
-/// Refuses a node or a cluster that is too long.
+/// Refuses a node or a cluster of more than 256 bytes.
 fn check_text(text: &str) -> Result<(), ConfigFault>
     ensures found { OnOk result (length text.now ≤ 256) }
     ensures fault { IfErr result (λ e. (256 < length text.now) × (e ≡ BadName)) }
@@ -218,7 +218,7 @@ fn check_filter(filter: &Filter) -> Result<(), ConfigFault>
     Ok(())
 }
 
-/// Refuses filters of which two have one name.
+/// Refuses filters if two have the same name.
 fn check_names(filters: &[Filter]) -> Result<(), ConfigFault>
     ensures found { OnOk result (Repeats (filters_view filters.now) → ⊥) }
     ensures fault { IfErr result (λ e. Repeats (filters_view filters.now) × (e ≡ DoubledName)) }
@@ -233,7 +233,7 @@ fn check_names(filters: &[Filter]) -> Result<(), ConfigFault>
     Ok(())
 }
 
-/// Whether some filter has the name.
+/// Whether a filter has the name.
 fn has_name(filters: &[Filter], name: &str) -> bool
     ensures { MatchBool result
         (SomeOf (HasName name.now) (filters_view filters.now))
@@ -247,7 +247,7 @@ fn has_name(filters: &[Filter], name: &str) -> bool
     false
 }
 
-/// The filters as a map in their order. No two have one name.
+/// The filters as a map, in the same order. No two have the same name.
 fn ordered(alloc: Global, filters: Vec<Filter>) -> Result<IndexMap<String, u64>, AllocError>
     requires { Repeats (filters_view filters.items) → ⊥ }
     ensures { IfOk result (λ m. entries_view m.entries ≡ filters_view filters.items) }

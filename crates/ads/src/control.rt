@@ -8,8 +8,8 @@ use crate::snapshot::Snapshot;
 use crate::stream::{Stream, served_by};
 use std::alloc::{AllocError, Global};
 
-/// A control plane that serves snapshots to one client, one after the other, each as it is answered (xDS, state of the
-/// world). It has no socket: bytes of the stream go in, and bytes to send come out.
+/// A control plane that serves snapshots to one client in order, the next after each answer (xDS, state of the world).
+/// It has no socket: bytes of the stream go in, and bytes to send come out.
 #[derive(Debug, Drop)]
 pub struct Control {
     alloc: Global,
@@ -22,7 +22,7 @@ impl Control {
     ghost use Rattle.ads.specs.Control.{ServesBytes, new_control, stream_lost};
     ghost use Rattle.ads.specs.Ends.{control_view};
     ghost use Rattle.ads.specs.Views.{snapshots_view};
-    /// A control plane of these snapshots, numbered from 1, of which nothing was asked. It takes no memory.
+    /// A control plane of these snapshots, numbered from 1, that has received no request. It takes no memory.
     pub fn new(alloc: Global, snapshots: Vec<Snapshot>) -> Control
         ensures { control_view result ≡ new_control (snapshots_view snapshots.items) }
     {
@@ -39,9 +39,10 @@ impl Control {
         }
     }
 
-    /// The stream gives bytes. Each request that they complete is served, in order. A broken frame, a message that is
-    /// no request, and a response that is too long or has no number of 64 bits end the stream: from then on it is `broken`,
-    /// and nothing is sent until it is `lost`. The one error is want of memory; after it all is as before the call.
+    /// The stream delivers bytes. Each request that they complete is served, in order. The stream ends at a broken
+    /// frame and at a message that is not a request. It also ends at a response that is too long, or whose number does
+    /// not fit in 64 bits. From then on it is `broken`, and nothing is sent until it is `lost`. The only error is out
+    /// of memory; after it all is as before the call.
     pub fn feed(&mut self, bytes: &[u8]) -> Result<Fed, AllocError>
         ensures found { IfOk result (λ fed. (numbers : List ℕ)
             × ServesBytes (control_view self.old) bytes.now fed.replies.items fed.broken numbers
@@ -73,8 +74,8 @@ impl Control {
         Ok(Fed { replies, broken })
     }
 
-    /// The stream is lost, and the next one begins: its unfinished bytes are forgotten. What was acknowledged stays, and
-    /// the current snapshot is sent again. It takes no memory.
+    /// The stream is lost, with its unfinished bytes, and the next one begins. What was acknowledged stays, and the
+    /// current snapshot is sent again. It takes no memory.
     pub fn lost(&mut self)
         ensures { control_view self.new ≡ stream_lost (control_view self.old) }
     {
@@ -82,7 +83,7 @@ impl Control {
         self.served.last = None;
     }
 
-    /// The number of the snapshot that was acknowledged last; none where none was. It takes no memory.
+    /// The number of the last acknowledged snapshot; None if none was acknowledged. It takes no memory.
     pub fn acknowledged(&self) -> Option<u64>
         ensures { result ≡ (control_view self.now).served.acknowledged }
     {

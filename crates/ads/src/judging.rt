@@ -1,4 +1,5 @@
-//! The judging of a response, as a function of the response alone: what it gives each filter, or why it is refused.
+//! The judging of a response, as a function of the response alone: the policies that it gives each filter, or the
+//! refusal.
 
 ghost use Rattle.std.specs.Prelude.{◌≡◌, ◌≢◌, ◌⊎◌, ℕ, Some, [], ◌∷◌, List, map, IfOk, IfErr, OnOk, MatchOption};
 ghost use Rattle.std.specs.Option.{option_map};
@@ -21,24 +22,24 @@ use rbac_policy::{Admitted, admit};
 use std::alloc::{AllocError, Global};
 use xds_wire::{Any, DiscoveryResponse, TypedExtensionConfig, read_extension};
 
-/// The type of the resources that a client subscribes to.
+/// The type URL of the resources that a client subscribes to.
 pub(crate) const EXTENSION_TYPE: &str =
     "type.googleapis.com/envoy.config.core.v3.TypedExtensionConfig";
 
-/// The type of a filter's message.
+/// The type URL of a filter's message.
 pub(crate) const FILTER_TYPE: &str =
     "type.googleapis.com/envoy.extensions.filters.http.rbac.v3.RBAC";
 
-/// What a response comes to.
+/// The judgement of a response.
 #[derive(Debug, Drop)]
 pub(crate) enum Judged {
-    /// What it gives each filter, in configured order.
+    /// The policies that it gives each filter, in configured order.
     Given(Vec<Option<Admitted>>),
     /// Why it is refused.
     Refused(Refusal),
 }
 
-/// Judges a response. An error tells that memory ran out elsewhere than in an admission.
+/// Judges a response. The error means out of memory outside of an admission.
 pub(crate) fn judge(
     alloc: Global,
     config: &Config,
@@ -57,7 +58,7 @@ pub(crate) fn judge(
     take_all(alloc, config.limits(), config.filters(), &extensions)
 }
 
-/// Refuses another type than that of the resources.
+/// Refuses any type but that of the resources.
 fn check_type(type_url: &str) -> Result<(), Refusal>
     ensures found { OnOk result (type_url.now ≡ extension_type) }
     ensures fault { IfErr result (λ e. (type_url.now ≢ extension_type) × (e ≡ WrongType)) }
@@ -68,7 +69,7 @@ fn check_type(type_url: &str) -> Result<(), Refusal>
     Ok(())
 }
 
-/// The resources as extensions, each of which has a name.
+/// The resources as extensions; each has a name.
 fn read_resources<'a>(
     alloc: Global,
     resources: &[Any<'a>],
@@ -84,7 +85,7 @@ fn read_resources<'a>(
     Ok(extensions)
 }
 
-/// The resource as an extension, which has a name.
+/// The resource as an extension; it has a name.
 fn read_resource<'a>(alloc: Global, resource: &Any<'a>) -> Result<TypedExtensionConfig<'a>, Refusal>
     ensures found { IfOk result (λ x. IsResource (any_view resource.now) (extension_view x)) }
     ensures fault { IfErr result (MemoryOr (ResourceFault (any_view resource.now))) }
@@ -106,7 +107,7 @@ fn require_name(extension: &TypedExtensionConfig<'_>) -> Result<(), Refusal>
     Ok(())
 }
 
-/// What the extensions give each of the filters, or why they are refused.
+/// The policies that the extensions give each of the filters, or the refusal.
 fn take_all(
     alloc: Global,
     limits: &Limits,
@@ -126,7 +127,7 @@ fn take_all(
     Ok(Judged::Given(given))
 }
 
-/// What the extensions give the filter of this name.
+/// The policies that the extensions give the filter of this name.
 fn take(
     alloc: Global,
     limits: &Limits,
@@ -148,7 +149,7 @@ fn take(
     }
 }
 
-/// The one extension of this name, where there is one.
+/// The extension of this name, if there is one. Refuses two of the name.
 fn find<'a>(
     extensions: &[TypedExtensionConfig<'a>],
     name: &str,

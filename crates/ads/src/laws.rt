@@ -16,9 +16,9 @@ pub fn answer_disjoint()
         → Accepts c response old new → Refuses c response e → ⊥ }
 {}
 
-/// Whatever bytes a new control plane gets, on streams that are lost: what it sent, whether its stream is broken and which
-/// numbers it recorded follow from the whole lists of requests that its streams are cut to; what was acknowledged last is
-/// the last of those numbers.
+/// Whatever bytes a new control plane receives, and whichever streams are lost, its results follow from the complete
+/// lists of its streams' requests. These results are the bytes sent, whether its stream is broken, and the numbers
+/// recorded. The last acknowledged number is the last one recorded.
 pub fn control_serves()
     ensures { (snapshots : List (List ResourceValue)) (calls : List Call) (end : ControlValue)
         → Calls (new_control snapshots) calls end
@@ -26,9 +26,9 @@ pub fn control_serves()
         × (end.served.acknowledged ≡ last_of (numbers_of calls)) }
 {}
 
-/// Whatever steps a new client and a new control plane take on streams that open, bring bytes in pieces of any length
-/// and are lost: the numbers that were recorded never fall, they are part of the versions that the client accepted, and
-/// the client's version is the last of them or a later one.
+/// A new client and a new control plane take any steps. Streams open, carry bytes in pieces of any length, and are
+/// lost. Then the recorded numbers never fall, and are among the versions that the client accepted, in the same order.
+/// The client's version is the last recorded number or a later one.
 pub fn schedules()
     ensures { (c : ConfigValue) (snapshots : List (List ResourceValue)) (states : List Joined) (end : Joined)
         → Runs (new_joined c snapshots) states end → AreInStep end }

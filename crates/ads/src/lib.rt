@@ -1,5 +1,5 @@
-//! The two ends of an update stream: the client, which judges responses, answers them and keeps what it accepts, and the
-//! control plane, which serves snapshots.
+//! The two ends of an update stream. The client judges responses, answers them and keeps what it accepts; the control
+//! plane serves snapshots.
 #![tactic(auto)]
 
 mod accepted;

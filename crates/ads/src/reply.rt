@@ -15,13 +15,13 @@ use proto_wire::Refusal;
 use std::alloc::{AllocError, Global};
 use xds_wire::{DiscoveryRequest, DiscoveryResponse, Node, Status, write_frame, write_request};
 
-/// What tells that a response is refused for itself (`google.rpc.Code.INVALID_ARGUMENT`).
+/// The code of a response that is wrong (`google.rpc.Code.INVALID_ARGUMENT`).
 const INVALID_ARGUMENT: i32 = 3;
 
-/// What tells that memory ran out (`google.rpc.Code.RESOURCE_EXHAUSTED`).
+/// The code of a refusal because memory ran out (`google.rpc.Code.RESOURCE_EXHAUSTED`).
 const RESOURCE_EXHAUSTED: i32 = 8;
 
-/// The first length that a frame can't name.
+/// The smallest length that a frame cannot hold, in bytes.
 const FRAME_ROOM: usize = 0x1_0000_0000;
 
 /// Appends the frame of the first request on a stream.
@@ -42,7 +42,7 @@ pub(crate) fn put_first(
     put_frame(alloc, &request, out)
 }
 
-/// Appends the frame of the answer to a response that is accepted.
+/// Appends the frame of the answer to an accepted response.
 pub(crate) fn put_ack(
     alloc: Global,
     config: &Config,
@@ -55,7 +55,7 @@ pub(crate) fn put_ack(
     put_frame(alloc, &request, out)
 }
 
-/// Appends the frame of the answer to a response that is refused, with the last version that was accepted.
+/// Appends the frame of the answer to a refused response, with the last accepted version.
 pub(crate) fn put_nack(
     alloc: Global,
     config: &Config,
@@ -74,7 +74,7 @@ pub(crate) fn put_nack(
     put_frame(alloc, &request, out)
 }
 
-/// The error of a refusal, with its text.
+/// The error of a refusal: its code, with this text.
 fn status_of(refusal: Refusal, message: &str) -> Status<'_>
     ensures { status_view result ≡ record { code = code_of refusal; message = message.now } }
 {
@@ -90,7 +90,7 @@ fn status_of(refusal: Refusal, message: &str) -> Status<'_>
     }
 }
 
-/// The text that a refusal tells.
+/// The text of a refusal's error, with the number of the refusal.
 fn refusal_text(alloc: Global, refusal: Refusal) -> Result<String, AllocError>
     ensures { IfOk result (λ text. string_bytes text ≡ (status_of refusal).message) }
 {
@@ -98,7 +98,7 @@ fn refusal_text(alloc: Global, refusal: Refusal) -> Result<String, AllocError>
     format!(in alloc; "policy refused: {number}")
 }
 
-/// A request without a node and an error.
+/// A request without a node and without an error.
 fn request_of<'a>(
     alloc: Global,
     config: &'a Config,
@@ -118,7 +118,7 @@ fn request_of<'a>(
     })
 }
 
-/// Appends the request's frame. A request of 2^32 bytes and more, which no frame holds, counts as want of memory.
+/// Appends the request's frame. A request of 2^32 bytes or more does not fit in a frame, and counts as out of memory.
 fn put_frame(
     alloc: Global,
     request: &DiscoveryRequest<'_>,

@@ -14,8 +14,8 @@ use crate::stream::MOST_BYTES;
 use std::alloc::{AllocError, Global};
 use xds_wire::{DiscoveryRequest, Frames, read_request, write_frame};
 
-/// What was served: the current snapshot's number, how many responses were sent, the last of them on this stream, and
-/// the number that was acknowledged last.
+/// The number of the current snapshot, and how many responses were sent. Also the number of the last response on this
+/// stream, and of the last acknowledged snapshot.
 #[derive(Clone, Copy, Debug)]
 pub(crate) struct Served {
     pub(crate) current: usize,
@@ -24,10 +24,10 @@ pub(crate) struct Served {
     pub(crate) acknowledged: Option<u64>,
 }
 
-/// What a request is.
+/// The kind of a request.
 #[derive(Clone, Copy, Debug)]
 pub(crate) enum Kind {
-    /// The first one of a stream.
+    /// It is the first one of a stream.
     First,
     /// It accepts the last response.
     Ack,
@@ -37,7 +37,7 @@ pub(crate) enum Kind {
     Ignored,
 }
 
-/// Serves the messages that have come whole, up to one that ends the stream; tells whether one does.
+/// Serves the complete messages, up to one that ends the stream. Returns whether there is one.
 pub(crate) fn serve_all(
     alloc: Global,
     snapshots: &[Snapshot],
@@ -59,7 +59,7 @@ pub(crate) fn serve_all(
     Ok(false)
 }
 
-/// Serves a message; tells whether it ends the stream, as one that is no request does.
+/// Serves a message. Returns whether it ends the stream; a message that is not a request does.
 fn serve(
     alloc: Global,
     snapshots: &[Snapshot],
@@ -81,7 +81,7 @@ fn serve(
     }
 }
 
-/// Serves a request; tells whether that ends the stream.
+/// Serves a request. Returns whether it ends the stream.
 fn serve_request(
     alloc: Global,
     snapshots: &[Snapshot],
@@ -104,7 +104,7 @@ fn serve_request(
     }
 }
 
-/// What a request is, behind what was served.
+/// The kind of a request, after what was served.
 fn kind_of(
     alloc: Global,
     request: &DiscoveryRequest<'_>,
@@ -141,7 +141,7 @@ fn is_number(alloc: Global, text: &str, number: u64) -> Result<bool, AllocError>
     Ok(digits.as_str() == text)
 }
 
-/// Makes the next snapshot, where there is one, the current one and sends it; tells whether that ends the stream.
+/// Makes the next snapshot, if there is one, the current one and sends it. Returns whether that ends the stream.
 fn advance(
     alloc: Global,
     snapshots: &[Snapshot],
@@ -160,8 +160,8 @@ fn advance(
     send(alloc, snapshots, served, replies, names)
 }
 
-/// Sends the current snapshot, where there is one. A response that is too long, or that has no number of 64 bits, is
-/// not sent and ends the stream; tells whether it does.
+/// Sends the current snapshot, if there is one. The stream ends, and nothing is sent, if the response is too long or
+/// its number does not fit in 64 bits. Returns whether the stream ends.
 fn send(
     alloc: Global,
     snapshots: &[Snapshot],
@@ -189,7 +189,7 @@ fn send(
     Ok(false)
 }
 
-/// The snapshot of this number.
+/// The snapshot of this number, if there is one.
 fn snapshot_at(snapshots: &[Snapshot], number: usize) -> Option<&Snapshot>
     ensures { MatchOption result
         ((s : List ResourceValue) → IsSnapshot (snapshots_view snapshots.now) number s → ⊥)

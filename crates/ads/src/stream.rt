@@ -1,4 +1,4 @@
-//! A stream that is up, and what its bytes come to.
+//! A stream that is up, and the effects of its bytes.
 
 ghost use Rattle.std.specs.Prelude.{◌≡◌, ◌++◌, ℕ, false, [], List, Bool, length, IfOk, OnErr, MatchBool};
 ghost use Rattle.xds_wire.specs.Frames.{Cut, IsBeginning, Tail};
@@ -20,10 +20,10 @@ use std::alloc::{AllocError, Global};
 use std::marker::Model;
 use xds_wire::{FrameError, Frames};
 
-/// The most bytes of a message.
+/// The greatest length of a message in bytes.
 pub(crate) const MOST_BYTES: usize = 1_048_576;
 
-/// A stream that is up: all its whole messages were answered.
+/// A stream that is up. All its complete messages were answered.
 #[derive(Debug, Drop)]
 pub(crate) struct Stream {
     frames: Frames,
@@ -41,7 +41,7 @@ impl Model for Stream {
 }
 
 impl Stream {
-    /// A stream of which nothing has come. It takes no memory.
+    /// A stream that has received no bytes. It takes no memory.
     pub(crate) fn new(alloc: Global) -> Stream
         ensures { result ≡ [] }
     {
@@ -50,7 +50,7 @@ impl Stream {
         }
     }
 
-    /// Takes the bytes where they complete no message and break no frame, and tells whether it does. Where it does not,
+    /// Takes the bytes if they complete no message and break no frame, and returns whether it took them. If it did not,
     /// and after an error, all is as before the call.
     pub(crate) fn keeps(&mut self, bytes: &[u8]) -> Result<bool, AllocError>
         ensures kept { IfOk result (λ kept. MatchBool kept
@@ -66,7 +66,7 @@ impl Stream {
     }
 }
 
-/// What the bytes come to: the draft of what is accepted and replied, and the stream after them.
+/// Answers the bytes: the draft with the accepted state and the replies, and the stream after them.
 pub(crate) fn answered(
     alloc: Global,
     config: &Config,
@@ -88,7 +88,7 @@ pub(crate) fn answered(
     Ok((draft, kept(frames, ends, is_faulty)))
 }
 
-/// What the bytes come to at a control plane: what was served after them, what is sent, and the stream after them.
+/// Serves the bytes at a control plane: the serving state after them, the bytes to send, and the stream after them.
 pub(crate) fn served_by(
     alloc: Global,
     snapshots: &[Snapshot],
@@ -109,7 +109,7 @@ pub(crate) fn served_by(
     Ok((served, replies, kept(frames, ends, is_faulty)))
 }
 
-/// The stream, unless a message ended it or its frames are broken.
+/// The stream, if no message ended it and its frames are not broken.
 fn kept(frames: Frames, ends: bool, is_faulty: bool) -> Option<Stream>
     requires faulty { StreamIsBroken is_faulty frames.tail }
     requires max { frames.max ≡ most_bytes }
@@ -125,7 +125,7 @@ fn kept(frames: Frames, ends: bool, is_faulty: bool) -> Option<Stream>
     Some(Stream { frames })
 }
 
-/// Feeds the frames, and tells whether they are broken now. After an error all is as before the call.
+/// Feeds the frames, and returns whether they are broken now. After an error all is as before the call.
 fn feed_frames(frames: &mut Frames, bytes: &[u8]) -> Result<bool, AllocError>
     ensures found { IfOk result (λ is_faulty. wire.Feeds frames.old bytes.now frames.new
         × StreamIsBroken is_faulty frames.new.tail) }

@@ -1,6 +1,6 @@
 -- The instructions of an elaborated expression (this project's code forms). Targets are positions in the
--- whole code, so that the code of a part depends on where it begins; a local's number is how many
--- locals are outside of it.
+-- whole code, so the code of a part depends on where it begins. A local's number is how many locals are
+-- outside of it.
 use Rattle.std.specs.Prelude.{ℕ, ◌+◌, List, [], ◌∷◌, ◌++◌}
 use Rattle.cel_value.specs.Types.{ValueType, list_type, map_type}
 use Rattle.cel_value.specs.declared.cel_type.KeyType.TheVariants as keys
@@ -10,39 +10,41 @@ use Rattle.cel_overload.specs.declared.overload.Overload.TheVariants as overload
 use Rattle.cel_types.specs.Elaborated.{TypedTree, typed_constant, typed_local, typed_attribute, typed_field, typed_has, typed_call, typed_list, typed_map, typed_loop, TypedTrees, no_typed, typed}
 use Rattle.stack_machine.specs.Instructions.{Instruction, Const, Attr, Load, Store, Operate, Field, HasField, MakeList, EmptyList, MakeMap, EmptyMap, Jump, IfFalse, IfTrue, Test, LoopStart, LoopNext, LoopTest}
 
--- the instruction of a call that works on its operands' answers; what stands for a conditional is met by no
--- well typed expression, since a conditional has three operands and jumps
+-- the instruction of a call on its operands' answers. No well typed expression uses the one of a conditional,
+-- since a conditional has three operands and jumps
 abbrev pub instruction_of : Overload → Instruction
 instruction_of overloads.Conditional = Operate operations.Not
 instruction_of (overloads.Operate op) = Operate op
 
--- how many expressions there are
+-- the number of expressions
 abbrev pub count : TypedTrees → ℕ
 count no_typed = 0
 count (typed e es) = 1 + count es
 
--- how many pairs there are, of keys and values in turn
+-- the number of pairs, of which keys and values come in turn
 abbrev pub pairs : TypedTrees → ℕ
 pairs no_typed = 0
 pairs (typed e no_typed) = 0
 pairs (typed k (typed v es)) = 1 + pairs es
 
--- a list of so many elements is made; an empty one of its type, which is a list's in each well typed expression
+-- the instruction that makes a list of these elements. An empty list has its type, which is a list type in
+-- each well typed expression
 abbrev pub list_instruction : ValueType → TypedTrees → Instruction
 list_instruction (list_type t) no_typed = EmptyList t
 list_instruction t no_typed = EmptyList t
 list_instruction t es = MakeList (count es)
 
--- a map likewise, of so many pairs
+-- the instruction that makes a map of these pairs. An empty map has its type, which is a map type in each
+-- well typed expression
 abbrev pub map_instruction : ValueType → TypedTrees → Instruction
 map_instruction (map_type k t) no_typed = EmptyMap k t
 map_instruction t no_typed = EmptyMap keys.Bool t
 map_instruction t es = MakeMap (pairs es)
 
--- ---- how many instructions there are
+-- ---- the number of instructions
 
 abbrev mutual
-  -- of an expression
+  -- the number of instructions of an expression
   pub extent : TypedTree → ℕ
   extent (typed_constant t v) = 1
   extent (typed_local t outside) = 1
@@ -61,7 +63,7 @@ abbrev mutual
   extent (typed_loop t range init condition step result) = extent range + 1 + extent init + 1 + 1
       + extent condition + 1 + extent step + 1 + 1 + extent result
 
-  -- of expressions one after the other
+  -- the number of instructions of expressions in order
   pub extents : TypedTrees → ℕ
   extents no_typed = 0
   extents (typed e es) = extent e + extents es
@@ -69,7 +71,7 @@ abbrev mutual
 -- ---- the instructions
 
 abbrev mutual
-  -- of an expression whose code begins at a position, with so many locals in scope
+  -- the instructions of an expression whose code begins at `begin`, with `scope` locals in scope
   pub code_of : (begin scope : ℕ) → TypedTree → List Instruction
   code_of p d (typed_constant t v) = Const v ∷ []
   code_of p d (typed_local t outside) = Load outside ∷ []
@@ -103,7 +105,7 @@ abbrev mutual
       ∷ (code_of (tested + 1) (d + 2) step ++ Store d ∷ (Jump turn
       ∷ code_of after (d + 1) result)))))
 
-  -- of expressions one after the other
+  -- the instructions of expressions in order
   pub codes_of : (begin scope : ℕ) → TypedTrees → List Instruction
   codes_of p d no_typed = []
   codes_of p d (typed e es) = code_of p d e ++ codes_of (p + extent e) d es

@@ -1,9 +1,9 @@
--- How many locals an expression has in scope at most: a local's number is one byte.
+-- The most locals that an expression has in scope: a local's number is one byte.
 use Rattle.std.specs.Prelude.{ℕ, ◌+◌, ◌≤◌}
 use Rattle.cel_types.specs.Elaborated.{TypedTree, typed_constant, typed_local, typed_attribute, typed_field, typed_has, typed_call, typed_list, typed_map, typed_loop, TypedTrees, no_typed, typed}
 
 abbrev mutual
-  -- with so many locals in scope, no part of the expression has more than 255
+  -- no part of the expression has more than 255 locals in scope, if `scope` are in scope outside of it
   pub HasFewLocals : (scope : ℕ) → TypedTree → Type 0
   HasFewLocals d (typed_constant t v) = Unit {0}
   HasFewLocals d (typed_local t outside) = Unit {0}
@@ -17,7 +17,7 @@ abbrev mutual
       × HasFewLocals d range × HasFewLocals d init × HasFewLocals (d + 2) condition
       × HasFewLocals (d + 2) step × HasFewLocals (d + 1) result
 
-  -- the same of each of the expressions
+  -- the same for each of the expressions
   pub HaveFewLocals : (scope : ℕ) → TypedTrees → Type 0
   HaveFewLocals d no_typed = Unit {0}
   HaveFewLocals d (typed e es) = HasFewLocals d e × HaveFewLocals d es

@@ -1,4 +1,4 @@
--- What is promised of compiled code: it comes to the expression's meaning, within its cost.
+-- What compiled code promises: it evaluates to the expression's meaning, within its cost.
 use Rattle.std.specs.Prelude.{◌≡◌, ℕ, ◌≤◌, List, [], Some}
 use Rattle.attributes.specs.Limits.{InLimits, LimitsValue}
 use Rattle.attributes.specs.Request.{IsRequest, RequestValue}
@@ -13,8 +13,8 @@ use Rattle.cost_bound.specs.Sizes.{Within}
 use Rattle.stack_machine.specs.Instructions.{Instruction}
 use Rattle.stack_machine.specs.Machine.{Ends}
 
--- the code's run on a request ends with what the expression comes to, of its type and within its size,
--- in at most as many steps as its cost by the limits
+-- the code's run on a request ends with the expression's answer, of the expression's type and within its
+-- size. The steps are at most the expression's cost by the limits
 pub record RunsTo (code : List Instruction) (e : TypedTree) (request : RequestValue) (limits : LimitsValue) : Type 0 where
   pub answer : CelAnswer
   pub means : typed_answer e request [] ≡ Some answer
@@ -24,13 +24,12 @@ pub record RunsTo (code : List Instruction) (e : TypedTree) (request : RequestVa
   pub ends : Ends code request answer steps
   pub bounded : steps ≤ cost_of e limits []
 
--- it does so on each request within the limits
+-- the code does so on each request within the limits
 abbrev pub IsSound : List Instruction → TypedTree → Type 0
 IsSound code e = (request : RequestValue) (limits : LimitsValue) → IsRequest request
     → InLimits request limits → RunsTo code e request limits
 
--- the same in the words of the checked expression that the code was made from: the run ends with what it
--- means
+-- the same for the checked expression that the code was made from: the run ends with the expression's meaning
 pub record RunsToMeaning (code : List Instruction) (c : CelChecked) (e : TypedTree) (request : RequestValue)
     (limits : LimitsValue) : Type 0 where
   pub answer : CelAnswer

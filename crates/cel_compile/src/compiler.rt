@@ -1,4 +1,4 @@
-//! From elaborated expressions to code.
+//! Compiles elaborated expressions to code.
 
 ghost use Rattle.std.specs.Prelude.{◌≡◌, ◌↔◌, IsTrue, ◌<◌, ◌^◌, ◌⊎◌, ℕ, List, [], ◌∷◌, ◌++◌, length, IfErr, IfOk, OnOk};
 ghost use Rattle.attributes.specs.Limits.{InLimits, LimitsValue};
@@ -34,35 +34,35 @@ use proto_wire::Refusal;
 use stack_machine::{Code, CodeFault, Instr};
 use std::alloc::{AllocError, Global};
 
-/// The code of an expression, which shares its texts.
+/// Compiles an expression to code, which shares the expression's texts.
 ///
-/// It refuses with 8, `TooLarge`, where the code has more than 65,535 instructions, or where some part of the
-/// expression has more than 255 locals in scope; and with 19, `Memory`, for want of memory. An expression that
-/// was read and checked is never too large.
+/// It refuses code of more than 65,535 instructions with 8, `TooLarge`. So it does if some part of the
+/// expression has more than 255 locals in scope. If it is out of memory, it refuses with 19, `Memory`. An
+/// expression that was read and checked is never too large.
 pub fn compile(alloc: Global, typed: &Typed<'_>) -> Result<Code, Refusal>
     ensures found { IfOk result (λ code. code_view code ≡ code_of 0 0 (typed_view typed.now)) }
     ensures sound { IfOk result (λ code. IsWellTyped [] (typed_view typed.now)
         → IsSound (code_view code) (typed_view typed.now)) }
-    // what the code of a checked expression's elaboration comes to is what the expression means
+    // the code of a checked expression's elaboration evaluates to what the expression means
     ensures means { IfOk result (λ code. (c : CelChecked) (request : RequestValue) (limits : LimitsValue)
         → HasGoodConstants c.tree → IsElaborated c (typed_view typed.now) → IsRequest request
         → InLimits request limits
         → RunsToMeaning (code_view code) c (typed_view typed.now) request limits) }
-    // one pass verifies it, and no run of it is stuck
+    // one pass verifies the code of a well typed expression, and no run of that code is stuck
     ensures forward { IfOk result (λ code. IsWellTyped [] (typed_view typed.now)
         → Forward (code_view code) (kind (typed_view typed.now))) }
     ensures lives { IfOk result (λ code. (request : RequestValue) → IsWellTyped [] (typed_view typed.now)
         → IsRequest request → NeverStuck (code_view code) request) }
     ensures fault { IfErr result (MemoryOr (λ e. (e ≡ Refusal.TooLarge)
         × ((65535 < extent (typed_view typed.now)) ⊎ (HasFewLocals 0 (typed_view typed.now) → ⊥)))) }
-    // an expression that was read and checked is refused for want of memory alone
+    // an expression that was read and checked is refused only if it is out of memory
     ensures room { IfErr result (λ e. (parts : List (List ℕ)) (c : CelChecked) → IsChecked parts c
         → IsElaborated c (typed_view typed.now) → e ≡ Refusal.Memory) }
 {
     compile_whole(alloc, typed)
 }
 
-// The same without what follows of the code's runs.
+// The same as `compile`, without the clauses on the code's runs.
 fn compile_whole(alloc: Global, typed: &Typed<'_>) -> Result<Code, Refusal>
     ensures found { IfOk result (λ code. code_view code ≡ code_of 0 0 (typed_view typed.now)) }
     ensures fault { IfErr result (MemoryOr (λ e. (e ≡ Refusal.TooLarge)
@@ -87,7 +87,7 @@ fn require_short(count: u32) -> Result<(), Refusal>
     Ok(())
 }
 
-// One more instruction, for which there is room.
+// Appends an instruction; the code has room for it.
 fn put(code: &mut Code, instr: Instr) -> Result<(), AllocError>
     requires { length code.old < 65535 }
     ensures found { OnOk result (code_view code.new ≡ code_view code.old ++ instr_view instr ∷ []) }
@@ -99,8 +99,8 @@ fn put(code: &mut Code, instr: Instr) -> Result<(), AllocError>
     }
 }
 
-// The instructions of an expression with so many locals in scope; what is below is not looked at.
-// The lengths of its jumps are taken.
+// Appends the instructions of an expression with `depth` locals in scope, and takes the lengths of its jumps.
+// The code before them stays as it is.
 #[cycle(emit)]
 fn emit(
     code: &mut Code,
@@ -143,7 +143,7 @@ fn emit(
     }
 }
 
-// The same of expressions one after the other.
+// The same for expressions in order.
 #[cycle(emit)]
 fn emit_all(
     code: &mut Code,
@@ -161,7 +161,7 @@ fn emit_all(
     Ok(())
 }
 
-// A call.
+// The same for a call.
 #[cycle(emit)]
 fn emit_call(
     code: &mut Code,
@@ -189,7 +189,7 @@ fn emit_call(
     Ok(())
 }
 
-// `&&` or `||`: the right side is passed over where the left one decides.
+// The same for `&&` or `||`: if the left side decides, a jump skips the right side.
 #[cycle(emit)]
 fn emit_junction(
     code: &mut Code,
@@ -216,7 +216,7 @@ fn emit_junction(
     Ok(())
 }
 
-// `?:`: one of the branches runs, or none where the condition fails.
+// The same for `?:`: one of the branches runs, or none if the condition is an error.
 #[cycle(emit)]
 fn emit_choice(
     code: &mut Code,
@@ -245,7 +245,7 @@ fn emit_choice(
     Ok(())
 }
 
-// A comprehension.
+// The same for a comprehension.
 #[cycle(emit)]
 fn emit_loop(
     code: &mut Code,

@@ -1,4 +1,4 @@
-//! Whether an expression's locals have numbers of one byte.
+//! Whether the numbers of an expression's locals fit in one byte.
 
 ghost use Rattle.std.specs.Prelude.{◌≡◌, IsTrue, ◌↔◌, OnOk, IfErr};
 ghost use Rattle.cel_types.specs.View.{expr_view, loop_of};
@@ -9,7 +9,7 @@ ghost use Rattle.cel_compile.specs.Slots.{HasFewLocals, HaveFewLocals};
 use cel_types::{TypedExpr, TypedLoop};
 use proto_wire::Refusal;
 
-/// Refuses an expression of which some part has more than 255 locals in scope.
+/// Refuses an expression if some part of it has more than 255 locals in scope.
 pub(crate) fn require_few_locals(expr: &TypedExpr<'_>) -> Result<(), Refusal>
     ensures found { OnOk result (HasFewLocals 0 (expr_view expr.now)) }
     ensures fault { IfErr result (λ e. (e ≡ Refusal.TooLarge)
@@ -21,7 +21,8 @@ pub(crate) fn require_few_locals(expr: &TypedExpr<'_>) -> Result<(), Refusal>
     Ok(())
 }
 
-/// Whether no part of the expression has more than 255 locals in scope, with so many outside.
+/// Whether no part of the expression has more than 255 locals in scope, if `depth` are in scope outside of
+/// it.
 #[cycle(few_locals)]
 fn has_few_locals(depth: u8, expr: &TypedExpr<'_>) -> bool
     ensures { IsTrue result ↔ HasFewLocals depth (expr_view expr.now) }
@@ -39,7 +40,7 @@ fn has_few_locals(depth: u8, expr: &TypedExpr<'_>) -> bool
     }
 }
 
-// The same of a comprehension.
+// The same for a comprehension.
 #[cycle(few_locals)]
 fn loop_has_few_locals(depth: u8, parts: &TypedLoop<'_>) -> bool
     ensures { (t : ValueType) → IsTrue result ↔ HasFewLocals depth (loop_of t (parts_view parts.now)) }
@@ -54,7 +55,7 @@ fn loop_has_few_locals(depth: u8, parts: &TypedLoop<'_>) -> bool
         && has_few_locals(depth + 1, &parts.result)
 }
 
-// The same of each of the expressions.
+// The same for each of the expressions.
 #[cycle(few_locals)]
 fn have_few_locals(depth: u8, exprs: &[TypedExpr<'_>]) -> bool
     ensures { IsTrue result ↔ HaveFewLocals depth (exprs_view exprs.now) }

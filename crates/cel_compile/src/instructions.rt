@@ -1,4 +1,4 @@
-//! Single instructions of elaborated expressions.
+//! Single instructions of the code of elaborated expressions.
 
 ghost use Rattle.std.specs.Prelude.{◌≡◌, ◌≢◌, ◌<◌, ◌↔◌, ◌⊎◌, ◌^◌, IfOk, IsTrue, length};
 ghost use Rattle.cel_ops.specs.declared.operation.Operation.TheVariants as operations;
@@ -22,7 +22,7 @@ use stack_machine::{Constant as MachineConstant, Instr};
 use std::alloc::AllocError;
 use std::rc::RcStr;
 
-/// Whether a call is `&&` or `||` of two operands, which jumps.
+/// Whether a call is `&&` or `||` with two operands; its code jumps.
 pub(crate) fn is_junction(overload: Overload, count: usize) -> bool
     ensures { IsTrue result ↔ (((overload ≡ Overload.Operate operations.And)
         ⊎ (overload ≡ Overload.Operate operations.Or)) × (count ≡ 2)) }
@@ -31,21 +31,21 @@ pub(crate) fn is_junction(overload: Overload, count: usize) -> bool
         && count == 2
 }
 
-/// Whether a call is `?:`, which jumps.
+/// Whether a call is `?:` with three operands; its code jumps.
 pub(crate) fn is_choice(overload: Overload, count: usize) -> bool
     ensures { IsTrue result ↔ ((overload ≡ Overload.Conditional) × (count ≡ 3)) }
 {
     overload == Overload::Conditional && count == 3
 }
 
-/// The push of a constant, which shares the tree's text or bytes.
+/// The push of a constant; it shares the tree's text or bytes.
 pub(crate) fn constant_instr(constant: &Constant) -> Result<Instr, AllocError>
     ensures { IfOk result (λ i. instr_view i ≡ Const (constant_view constant.now)) }
 {
     Ok(Instr::Const(constant_of(constant)?))
 }
 
-// The constant of the machine.
+// The constant as the machine has it.
 fn constant_of(constant: &Constant) -> Result<MachineConstant, AllocError>
     ensures { IfOk result (λ c. machine.constant_view c ≡ constant_view constant.now) }
 {
@@ -58,21 +58,21 @@ fn constant_of(constant: &Constant) -> Result<MachineConstant, AllocError>
     }
 }
 
-/// The look-up of a name in a map, which shares the tree's text.
+/// The look-up of a name in a map; it shares the tree's text.
 pub(crate) fn field_instr(name: &RcStr) -> Result<Instr, AllocError>
     ensures { IfOk result (λ i. instr_view i ≡ Field (text_view name.now)) }
 {
     Ok(Instr::Field(name.clone()?))
 }
 
-/// The test whether a map has a name, likewise.
+/// The test whether a map has a name; it shares the tree's text.
 pub(crate) fn has_field_instr(name: &RcStr) -> Result<Instr, AllocError>
     ensures { IfOk result (λ i. instr_view i ≡ HasField (text_view name.now)) }
 {
     Ok(Instr::HasField(name.clone()?))
 }
 
-/// The jump of `&&` or `||` over its right side: where the left one is false, or true.
+/// The jump over the right side: of `&&` if the left side is false, of `||` if it is true.
 pub(crate) fn passing_over(overload: Overload, end: u16) -> Instr
     ensures { instr_view result ≡ passing_over overload end }
 {
@@ -82,7 +82,7 @@ pub(crate) fn passing_over(overload: Overload, end: u16) -> Instr
     Instr::IfFalse(end)
 }
 
-/// The instruction of a call that works on its operands' answers.
+/// The instruction of a call on its operands' answers.
 pub(crate) fn call_instr(overload: Overload) -> Instr
     ensures { instr_view result ≡ instruction_of overload }
 {
@@ -92,7 +92,7 @@ pub(crate) fn call_instr(overload: Overload) -> Instr
     }
 }
 
-/// The instruction of a list literal.
+/// The instruction of a list literal: it has the type of an empty list, or the number of elements.
 pub(crate) fn list_instr(
     cel_type: &CelType,
     elements: &[TypedExpr<'_>],
@@ -121,7 +121,7 @@ fn empty_list(cel_type: &CelType) -> Result<Instr, AllocError>
     }
 }
 
-/// The instruction of a map literal.
+/// The instruction of a map literal: it has the type of an empty map, or the number of pairs.
 pub(crate) fn map_instr(cel_type: &CelType, pairs: &[TypedExpr<'_>]) -> Result<Instr, AllocError>
     requires { length pairs.now < 2 ^ 16 }
     ensures { IfOk result (λ i.

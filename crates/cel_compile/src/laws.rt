@@ -1,4 +1,4 @@
-//! What holds of every expression's code.
+//! Laws of every expression's code.
 
 ghost use Rattle.std.specs.Prelude.{◌≡◌, ◌≤◌, ◌<◌, ◌*◌, ℕ, List, [], length};
 ghost use Rattle.attributes.specs.Limits.{InLimits, LimitsValue};
@@ -16,32 +16,32 @@ ghost use Rattle.cel_compile.specs.Codes.{code_of, extent};
 ghost use Rattle.cel_compile.specs.Slots.{HasFewLocals};
 ghost use Rattle.cel_compile.specs.Sound.{IsSound, RunsToMeaning};
 
-/// The code of a well typed expression runs to what the expression comes to, on every request within
-/// the limits, within its cost.
+/// On every request within the limits, the code of a well typed expression ends with the expression's answer,
+/// within its cost.
 pub fn compiled_code_is_sound()
     ensures { (e : TypedTree) (code : List Instruction) → IsWellTyped [] e → code ≡ code_of 0 0 e
         → IsSound code e }
 {}
 
-/// The code of a checked expression's elaboration runs to what the expression means, on every request
-/// within the limits, within its cost.
+/// On every request within the limits, the code of a checked expression's elaboration ends with what the
+/// expression means, within its cost.
 pub fn compiled_code_means_its_expression()
     ensures { (c : CelChecked) (e : TypedTree) → HasGoodConstants c.tree → IsElaborated c e
         → (request : RequestValue) (limits : LimitsValue) → IsRequest request → InLimits request limits
         → RunsToMeaning (code_of 0 0 e) c e request limits }
 {}
 
-/// No run of a well typed expression's code is ever stuck, on any request: no instruction lacks an
-/// operand, meets one of the wrong kind or leads out of the code.
+/// No run of a well typed expression's code is ever stuck, on any request. No instruction lacks an operand,
+/// meets one of the wrong kind or leads out of the code.
 pub fn compiled_code_is_never_stuck()
     ensures { (e : TypedTree) (request : RequestValue) → IsWellTyped [] e → IsRequest request
         → NeverStuck (code_of 0 0 e) request }
 {}
 
-/// The code of an expression has as many instructions as its extent, and that of an elaboration fewer
-/// than two for each node of the expression. So an expression that was read, which has at most 2,048
-/// nodes, and that is typed, with at most 64 locals in scope, is never too large for a code: it has
-/// at most 4,095 instructions.
+/// The code of an expression has as many instructions as its extent. The code of an elaboration has fewer
+/// than two for each node of the expression. An expression that was read has at most 2,048 nodes, so its code
+/// has at most 4,095 instructions. If it is typed, at most 64 locals are in scope. So it is never too large
+/// for a code.
 pub fn compiled_code_is_short()
     ensures extent { (e : TypedTree) (p d : ℕ) → length (code_of p d e) ≡ extent e }
     ensures short { (c : CelChecked) (e : TypedTree) → IsElaborated c e
@@ -50,9 +50,9 @@ pub fn compiled_code_is_short()
         → IsElaborated c e → (length (code_of 0 0 e) ≤ 65535) × HasFewLocals 0 e }
 {}
 
-/// One pass over the code of a well typed expression, and so over that of a checked expression's
-/// elaboration, finds a table of shapes that fits the code, with the expression's type: a verifier that
-/// finds a table wherever one pass does refuses no compiled code.
+/// One pass over the code of a well typed expression finds a table of shapes that fits the code, with the
+/// expression's type. So does one pass over the code of a checked expression's elaboration. So a verifier
+/// refuses no compiled code, if it finds a table whenever one pass does.
 pub fn compiled_code_is_forward()
     ensures typed { (e : TypedTree) → IsWellTyped [] e → Forward (code_of 0 0 e) (kind e) }
     ensures checked { (c : CelChecked) (e : TypedTree) → HasGoodConstants c.tree → IsElaborated c e

@@ -1,4 +1,5 @@
-//! How many instructions an expression's code has, counted once: jumps are written by it.
+//! The number of instructions of an expression's code, counted once; the targets of jumps are computed from
+//! it.
 
 ghost use Rattle.std.specs.Prelude.{◌≡◌, ◌≤◌, ◌<◌, ◌+◌, ◌-◌, ◌^◌, ◌++◌, ◌∷◌, [], ℕ, List, IfOk, length, ◌⊎◌};
 ghost use Rattle.cel_value.specs.Types.{ValueType};
@@ -14,21 +15,21 @@ use cel_overload::Overload;
 use cel_types::{TypedExpr, TypedLoop};
 use std::alloc::AllocError;
 
-/// The lengths of an expression that jumps: of its whole code, and of its last part's.
+/// The lengths of an expression that jumps: of its whole code, and of its last part's code.
 #[derive(Clone, Copy)]
 pub(crate) struct Lengths {
     pub(crate) whole: u32,
     pub(crate) last: u32,
 }
 
-/// Where the code of an expression that jumps ends, and where its last part's begins.
+/// For an expression that jumps: where its code ends, and where its last part's code begins.
 #[derive(Clone, Copy)]
 pub(crate) struct Targets {
     pub(crate) end: u16,
     pub(crate) last: u16,
 }
 
-/// The targets of an expression that jumps and whose code begins here; its lengths are taken.
+/// Takes the lengths of an expression that jumps, and gives its targets; its code begins at `begin`.
 pub(crate) fn take_targets(lengths: &mut Vec<Lengths>, begin: usize) -> Targets
     requires { (rest : List Lengths) × (whole last : ℕ)
         × (lengths.old.items ≡ rest ++ lengths_are whole last ∷ []) × (last ≤ whole) × (begin + whole < 2 ^ 16) }
@@ -46,8 +47,8 @@ pub(crate) fn take_targets(lengths: &mut Vec<Lengths>, begin: usize) -> Targets
     }
 }
 
-/// How many instructions an expression has. The lengths of what jumps come after the others, those that
-/// are taken first last.
+/// Counts the instructions of an expression, and appends the lengths of the expressions in it that jump.
+/// Those that are taken first are last.
 #[cycle(measure)]
 pub(crate) fn measure(lengths: &mut Vec<Lengths>, expr: &TypedExpr<'_>) -> Result<u32, AllocError>
     ensures long { IfOk result
@@ -70,7 +71,7 @@ pub(crate) fn measure(lengths: &mut Vec<Lengths>, expr: &TypedExpr<'_>) -> Resul
     }
 }
 
-// The same of expressions in order.
+// The same for expressions in order.
 #[cycle(measure)]
 fn measure_all(lengths: &mut Vec<Lengths>, exprs: &[TypedExpr<'_>]) -> Result<u32, AllocError>
     ensures long { IfOk result
@@ -84,7 +85,7 @@ fn measure_all(lengths: &mut Vec<Lengths>, exprs: &[TypedExpr<'_>]) -> Result<u3
     Ok(count)
 }
 
-// A call.
+// The same for a call.
 #[cycle(measure)]
 fn measure_call(
     lengths: &mut Vec<Lengths>,
@@ -103,7 +104,7 @@ fn measure_call(
     Ok(sum(measure_all(lengths, operands)?, 1))
 }
 
-// `&&` or `||`.
+// The same for `&&` or `||`.
 #[cycle(measure)]
 fn measure_junction(
     lengths: &mut Vec<Lengths>,
@@ -122,7 +123,7 @@ fn measure_junction(
     Ok(whole)
 }
 
-// `?:`.
+// The same for `?:`.
 #[cycle(measure)]
 fn measure_choice(lengths: &mut Vec<Lengths>, operands: &[TypedExpr<'_>]) -> Result<u32, AllocError>
     requires { length operands.now ≡ 3 }
@@ -138,7 +139,7 @@ fn measure_choice(lengths: &mut Vec<Lengths>, operands: &[TypedExpr<'_>]) -> Res
     Ok(whole)
 }
 
-// A comprehension.
+// The same for a comprehension.
 #[cycle(measure)]
 fn measure_loop(lengths: &mut Vec<Lengths>, parts: &TypedLoop<'_>) -> Result<u32, AllocError>
     ensures long { IfOk result (λ n. (t : ValueType)
@@ -155,7 +156,7 @@ fn measure_loop(lengths: &mut Vec<Lengths>, parts: &TypedLoop<'_>) -> Result<u32
     Ok(whole)
 }
 
-// The sum of two counts, or the greatest number.
+// The sum of two counts; the greatest `u32` if the sum is greater.
 fn sum(left: u32, right: u32) -> u32
     ensures { (a b : ℕ) → Counts left a → Counts right b → Counts result (a + b) }
 {

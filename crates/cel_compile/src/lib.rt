@@ -1,4 +1,4 @@
-//! Conditions as code of the machine.
+//! Compiles conditions to code of the machine.
 #![tactic(auto)]
 
 mod compiler;

@@ -1,5 +1,5 @@
--- What a request is answered by the filters of a chain: Envoy, "HTTP filters", "Filter ordering"; RBAC (config.rbac.v3). That
--- a filter may have no policies yet, and that memory may run out, is this project's own.
+-- How the filters of a chain answer a request: Envoy, "HTTP filters", "Filter ordering"; RBAC (config.rbac.v3). That a
+-- filter may have no policies yet, and that memory may run out, is this project's own.
 use Rattle.std.specs.Prelude.{◌≡◌, ◌⊎◌, ℕ, Bool, true, false, Option, Some, None, List, [], ◌∷◌, ◌++◌, map, codes, bytes_eq, MatchBool, if◌then◌else◌}
 use Rattle.attributes.specs.Request.{RequestValue}
 use Rattle.xds_wire.specs.Envelope.{SomeOf}
@@ -10,15 +10,15 @@ use Rattle.http_front.specs.declared.answer.Case.TheVariants as cases
 use Rattle.http_front.specs.declared.ask.Ask.{Ask}
 use Rattle.http_front.specs.declared.ask.Ask.TheVariants.{Judge, Fault}
 
--- what a filter decides: whether it lets a request through, and the number of the policy that matched
+-- the verdict of a filter: whether it lets the request through, and the number of the policy that matched
 pub record VerdictValue : Type 0 where
   pub allowed : Bool
   pub matched : Option ℕ
 
--- by what the policies of a filter decide, and whether they ask for a condition
+-- parameters: which verdict policies give, and whether they ask for a condition
 module _ {P : Type 0} (Decides : RequestValue → P → VerdictValue → Type 0) (AsksCondition : RequestValue → P → Type 0) where
-  -- each filter has policies, and they are tried in configured order, up to the first that refuses: these are the
-  -- verdicts of those that are tried, and whether the request is let through
+  -- each filter has policies. They are tried in configured order, up to the first that refuses. This fixes the verdicts
+  -- of the filters that are tried, and whether the request is let through
   abbrev pub Chain : RequestValue → List (Option P) → List VerdictValue → Bool → Type 0
   Chain r [] verdicts is_allowed = (verdicts ≡ []) × (is_allowed ≡ true)
   Chain r (None ∷ filters) verdicts is_allowed = ⊥
@@ -26,19 +26,19 @@ module _ {P : Type 0} (Decides : RequestValue → P → VerdictValue → Type 0)
   Chain r (Some p ∷ filters) (v ∷ verdicts) is_allowed = Decides r p v
       × MatchBool v.allowed (Chain r filters verdicts is_allowed) ((verdicts ≡ []) × (is_allowed ≡ false))
 
-  -- a filter that is tried asks for a condition
+  -- one of the filters that are tried asks for a condition
   abbrev pub ChainAsks : RequestValue → List (Option P) → Type 0
   ChainAsks r [] = ⊥
   ChainAsks r (None ∷ filters) = ⊥
   ChainAsks r (Some p ∷ filters) = AsksCondition r p
       ⊎ ((v : VerdictValue) × Decides r p v × (v.allowed ≡ true) × ChainAsks r filters)
 
-  -- some filter has no policies
+  -- at least one filter has no policies
   abbrev pub IsUnready : List (Option P) → Type 0
   IsUnready filters = SomeOf (λ p. p ≡ None) filters
 
-  -- the case of the answer to a request, and the matches that it tells: whether some filter has no policies is asked
-  -- before any is tried, and memory runs out in a condition alone
+  -- the case of the answer to a request, and the matches that the answer shows. No filter is tried if one has no
+  -- policies. Memory can run out only if a filter that is tried asks for a condition
   pub data Judges (filters : List (Option P)) (r : RequestValue) (case : Case) (matches : List (Option ℕ)) : Type 0 where
     unready : IsUnready filters → case ≡ cases.Unready → matches ≡ [] → Judges filters r case matches
     decided : (verdicts : List VerdictValue) (is_allowed : Bool) → (IsUnready filters → ⊥)
@@ -47,7 +47,7 @@ module _ {P : Type 0} (Decides : RequestValue → P → VerdictValue → Type 0)
     out_of_memory : (IsUnready filters → ⊥) → ChainAsks r filters → case ≡ cases.Memory → matches ≡ []
         → Judges filters r case matches
 
-  -- the answer to what a head asks; a body is left out of the answer to HEAD (RFC 9110, section 9.3.2)
+  -- the answer to the ask of a head. The answer to a HEAD request has no body (RFC 9110, section 9.3.2)
   abbrev pub IsReplyTo : AcceptedOf P → Ask → ReplyValue → Type 0
   IsReplyTo accepted (Judge r closes) reply = Judges accepted.policies r reply.case reply.matches
       × (reply.generation ≡ accepted.generation) × (reply.closes ≡ closes)

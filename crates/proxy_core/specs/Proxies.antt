@@ -1,8 +1,8 @@
--- What a proxy stands for (this project's own).
+-- What a proxy means in the definitions (this project's own).
 use Rattle.ads.specs.Ends.{client_view}
 use Rattle.proxy_core.specs.Step.{ProxyValue}
 use Rattle.proxy_core.specs.declared.proxy.Proxy.{Proxy}
 
--- what a proxy is
+-- the proxy that a `Proxy` means
 abbrev pub proxy_view : Proxy → ProxyValue
 proxy_view p = record { client = client_view p.client; conns = p.conns }

@@ -1,6 +1,6 @@
--- What a proxy puts out for a list of events. Each event is judged on all bytes since its update stream (xDS REST and gRPC
--- protocol, "ACK and NACK") or its connection (RFC 9112, section 9) began; no state of the code is in it. The latest event
--- is first.
+-- The outputs of a proxy for a list of events (xDS REST and gRPC protocol, "ACK and NACK"; RFC 9112, section 9). An
+-- event is judged on all bytes since its update stream or its connection began. No state of the code is used. Lists of
+-- moments have the latest event first.
 use Rattle.std.specs.Prelude.{◌≡◌, ℕ, ◌==◌, ◌<◌, ◌≤◌, nat_lt, not, Bool, true, false, ◌&&◌, Option, Some, None, List, [], ◌∷◌, ◌++◌, map, option_map, reverse, if◌then◌else◌}
 use Rattle.attributes.specs.Conn.{AreFacts, Facts}
 use Rattle.attributes.specs.Limits.{LimitsValue, FactsInLimits}
@@ -24,7 +24,7 @@ use Rattle.proxy_core.specs.Events.{EventValue, ads_up, ads_bytes, ads_lost, htt
 
 -- ---- policies as they are written
 
--- the rules of a filter as they are written, with the checked expressions of their conditions
+-- the rules of a filter as they are written, with checked expressions as conditions
 abbrev pub Rules : Type 0
 Rules = Filter CelChecked
 
@@ -32,57 +32,58 @@ Rules = Filter CelChecked
 abbrev pub AreRules : LimitsValue → FilterValue → List ℕ → Rules → Type 0
 AreRules limits f bytes rules = IsAdmissibleAs bytes limits f.budget rules
 
--- what the rules decide: conditions have their meaning in CEL, and an error is no match
+-- the rules give this verdict: conditions have their meaning in CEL, and an error is no match
 abbrev pub DecideByMeaning : RequestValue → Rules → VerdictValue → Type 0
 DecideByMeaning r rules v = IsVerdict (is_met r) r rules v.allowed v.matched
 
--- the rules ask for a condition
+-- the rules ask for a condition for this request
 abbrev pub AskCondition : RequestValue → Rules → Type 0
 AskCondition r rules = SomeAsked (is_met r) (λ condition. Unit {0}) r rules
 
--- what was acknowledged: the last version, the rules of each filter, and how many responses
+-- the acknowledged state: the last version, the rules of each filter, and the number of acknowledged responses
 abbrev pub Acknowledged : Type 0
 Acknowledged = AcceptedOf Rules
 
 -- ---- what happened
 
--- a response that was answered: the answer, and what is acknowledged after it
+-- a response, the answer to it, and the acknowledged state after it
 pub record Exchange : Type 0 where
   pub response : ResponseMessage
   pub reply : RequestMessage
   pub after : Acknowledged
 
--- an event and its output, the responses that it completed, with their answers, and the asks that it completed
+-- a moment: an event and its output, the responses that the event completed, with their answers, and the asks that it
+-- completed
 pub record Moment : Type 0 where
   pub event : EventValue
   pub output : OutputValue
   pub exchanges : List Exchange
   pub asks : List Ask
 
--- what is acknowledged after exchanges
+-- the acknowledged state after the exchanges
 abbrev pub acknowledged_after : Acknowledged → List Exchange → Acknowledged
 acknowledged_after acknowledged [] = acknowledged
 acknowledged_after acknowledged (x ∷ exchanges) = acknowledged_after x.after exchanges
 
--- what was acknowledged in the past
+-- the acknowledged state after the moments of the past
 abbrev pub acknowledged_in : ConfigValue → List Moment → Acknowledged
 acknowledged_in c [] = nothing_accepted c
 acknowledged_in c (m ∷ past) = acknowledged_after (acknowledged_in c past) m.exchanges
 
 -- ---- update streams
 
--- an update stream: what had happened when it came up, all its bytes, and all its exchanges
+-- an update stream: the moments before it came up, all its bytes, and all its exchanges
 pub record UpdateStream : Type 0 where
   pub before : List Moment
   pub bytes : List ℕ
   pub exchanges : List Exchange
 
--- more of the stream
+-- the update stream with further bytes and exchanges
 abbrev pub stream_more : List ℕ → List Exchange → UpdateStream → UpdateStream
 stream_more bytes exchanges s =
     record { before = s.before; bytes = s.bytes ++ bytes; exchanges = s.exchanges ++ exchanges }
 
--- the update stream behind an event, by the one before it: an output that closes it ends it
+-- the update stream after an event, from the one before it; an output that closes the stream ends it
 abbrev pub stream_then : Moment → List Moment → Option UpdateStream → EventValue → Option UpdateStream
 stream_then m past old ads_up = Some (record { before = past; bytes = []; exchanges = [] })
 stream_then m past old (ads_bytes bytes) =
@@ -92,19 +93,19 @@ stream_then m past old (http_open k facts) = old
 stream_then m past old (http_bytes k bytes) = old
 stream_then m past old (http_closed k) = old
 
--- the update stream that is up
+-- the update stream that is up; none if none is up
 abbrev pub stream_in : List Moment → Option UpdateStream
 stream_in [] = None
 stream_in (m ∷ past) = stream_then m past (stream_in past) m.event
 
--- the messages are responses, and are answered in order, from what was acknowledged on
+-- the messages are responses, and these exchanges answer them in order, beginning with this acknowledged state
 abbrev pub AreExchanges : ConfigValue → Acknowledged → List (List ℕ) → List Exchange → Type 0
 AreExchanges c old [] exchanges = exchanges ≡ []
 AreExchanges c old (message ∷ messages) [] = ⊥
 AreExchanges c old (message ∷ messages) (x ∷ exchanges) = IsResponse message x.response
     × AnswersAs AreRules c x.response old x.reply x.after × AreExchanges c x.after messages exchanges
 
--- how a stream goes on behind its exchanges: it is unfinished, or a frame or a message that is no response broke it
+-- the state of a stream after its exchanges: unfinished, or broken by a frame or by a message that is not a response
 pub data StreamGoesOn (others : List (List ℕ)) (tail : Tail) (is_broken : Bool) : Type 0 where
   is_unfinished : (rest : List ℕ) → others ≡ [] → tail ≡ unfinished rest → is_broken ≡ false
       → StreamGoesOn others tail is_broken
@@ -113,7 +114,8 @@ pub data StreamGoesOn (others : List (List ℕ)) (tail : Tail) (is_broken : Bool
   no_response : (message : List ℕ) (more : List (List ℕ)) (e : Refusal) → others ≡ message ∷ more
       → ResponseFault message e → is_broken ≡ true → StreamGoesOn others tail is_broken
 
--- the exchanges of all bytes of a stream, where this was acknowledged before it, and whether it is broken
+-- the exchanges of all bytes of a stream, from the acknowledged state before the stream, and whether the stream is
+-- broken
 pub record IsUpdateStream (c : ConfigValue) (old : Acknowledged) (bytes : List ℕ) (exchanges : List Exchange)
     (is_broken : Bool) : Type 0 where
   pub messages : List (List ℕ)
@@ -123,28 +125,29 @@ pub record IsUpdateStream (c : ConfigValue) (old : Acknowledged) (bytes : List �
   pub answered : AreExchanges c old messages exchanges
   pub goes_on : StreamGoesOn others tail is_broken
 
--- the bytes are the frames of the answers
+-- the bytes are the frames of the answers, in order
 abbrev pub AreSent : List Exchange → List ℕ → Type 0
 AreSent [] bytes = bytes ≡ []
 AreSent (x ∷ exchanges) bytes = (more : List ℕ) × IsFrameThen x.reply bytes more × AreSent exchanges more
 
 -- ---- connections
 
--- how many connections there may be
+-- the greatest number of connections
 abbrev pub places : ℕ
 places = 8
 
--- a connection: its facts, all its bytes, and all that they ask
+-- a connection: its facts, all its bytes, and all asks that they complete
 pub record Connection : Type 0 where
   pub facts : Facts
   pub bytes : List ℕ
   pub asks : List Ask
 
--- more of the connection
+-- the connection with further bytes and asks
 abbrev pub connection_more : List ℕ → List Ask → Connection → Connection
 connection_more bytes asks s = record { facts = s.facts; bytes = s.bytes ++ bytes; asks = s.asks ++ asks }
 
--- the connection of a number behind an event of that number, by the one before it: an output that closes it ends it
+-- the connection with a number after an event of that number, from the one before it; an output that closes the
+-- connection ends it
 abbrev pub connection_then : Moment → Option Connection → EventValue → Option Connection
 connection_then m old ads_up = old
 connection_then m old (ads_bytes bytes) = old
@@ -155,14 +158,14 @@ connection_then m old (http_bytes k bytes) =
     if m.output.http_close then None else option_map (connection_more bytes m.asks) old
 connection_then m old (http_closed k) = None
 
--- whether the event is one of the connection of this number
+-- whether the event is one of the connection with this number
 abbrev pub is_of : ℕ → EventValue → Bool
 is_of number (http_open k facts) = k == number
 is_of number (http_bytes k bytes) = k == number
 is_of number (http_closed k) = k == number
 is_of number event = false
 
--- the connection of this number that is open
+-- the open connection with this number; none if none is open
 abbrev pub connection_in : ℕ → List Moment → Option Connection
 connection_in number [] = None
 connection_in number (m ∷ past) = if is_of number m.event
@@ -170,19 +173,19 @@ connection_in number (m ∷ past) = if is_of number m.event
 
 -- ---- moments
 
--- nothing was completed, and this is put out
+-- the event completed nothing, and has this output
 abbrev pub IsQuiet : Moment → OutputValue → Type 0
 IsQuiet m output = (m.output ≡ output) × (m.exchanges ≡ []) × (m.asks ≡ [])
 
--- bytes of the update stream, judged with all before them; where none is up they are dropped
+-- bytes of the update stream, judged with all bytes before them; if no stream is up, they are dropped
 abbrev pub GivesStream : ConfigValue → List Moment → Moment → List ℕ → Option UpdateStream → Type 0
 GivesStream c past m bytes None = IsQuiet m no_output
 GivesStream c past m bytes (Some s) = (replies : List ℕ) × (is_broken : Bool)
     × IsUpdateStream c (acknowledged_in c s.before) (s.bytes ++ bytes) (s.exchanges ++ m.exchanges) is_broken
     × AreSent m.exchanges replies × (m.output ≡ ads_output replies is_broken) × (m.asks ≡ [])
 
--- bytes of a connection, judged with all before them: what they ask is answered by what was acknowledged in earlier
--- events; where none is open they are dropped
+-- bytes of a connection, judged with all bytes before them. Their asks are answered by what was acknowledged in earlier
+-- events. If the connection is not open, the bytes are dropped
 abbrev pub GivesConnection : ConfigValue → List Moment → Moment → List ℕ → Option Connection → Type 0
 GivesConnection c past m bytes None = IsQuiet m no_output
 GivesConnection c past m bytes (Some s) = (answers : List ℕ) × (is_done : Bool)
@@ -190,14 +193,15 @@ GivesConnection c past m bytes (Some s) = (answers : List ℕ) × (is_done : Boo
     × AreRepliesTo DecideByMeaning AskCondition (acknowledged_in c past) m.asks answers
     × (m.output ≡ http_output answers is_done) × (m.exchanges ≡ [])
 
--- a connection opens: where its facts, texts of UTF-8 and numbers in their ranges, are outside the limits it is closed
+-- a connection opens: it is closed if its facts are outside the limits. Its texts are UTF-8, and its numbers are in
+-- their ranges
 pub data Opens (limits : LimitsValue) (k : ℕ) (facts : Facts) (output : OutputValue) : Type 0 where
   fits : k < places → AreFacts facts → FactsInLimits facts limits → output ≡ no_output → Opens limits k facts output
   unfit : k < places → (FactsInLimits facts limits → ⊥) → output ≡ http_output [] true
       → Opens limits k facts output
   nowhere : places ≤ k → output ≡ no_output → Opens limits k facts output
 
--- what an event does behind the past
+-- the effect of an event after the past
 abbrev pub Happens : ConfigValue → List Moment → Moment → EventValue → Type 0
 Happens c past m ads_up = (bytes : List ℕ) × IsFrameThen (first_request c (acknowledged_in c past)) bytes []
     × IsQuiet m (ads_output bytes false)
@@ -207,7 +211,7 @@ Happens c past m (http_open k facts) = (output : OutputValue) × Opens c.limits 
 Happens c past m (http_bytes k bytes) = GivesConnection c past m bytes (connection_in k past)
 Happens c past m (http_closed k) = IsQuiet m no_output
 
--- each moment happens behind those before it
+-- each moment happens after those before it
 abbrev pub IsHistory : ConfigValue → List Moment → Type 0
 IsHistory c [] = Unit {0}
 IsHistory c (m ∷ past) = Happens c past m m.event × IsHistory c past

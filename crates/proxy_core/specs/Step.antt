@@ -1,4 +1,4 @@
--- What one event does to a proxy, by what the proxy keeps (this project's own).
+-- The effect of one event on a proxy, from the state that the proxy keeps (this project's own).
 use Rattle.std.specs.Prelude.{◌≡◌, ℕ, ◌<◌, ◌≤◌, Bool, true, false, Option, Some, None, List, [], ◌∷◌, slice_get, set, if◌then◌else◌, ⊤}
 use Rattle.attributes.specs.Conn.{AreFacts, Facts}
 use Rattle.attributes.specs.Limits.{FactsInLimits}
@@ -20,32 +20,32 @@ use Rattle.proxy_core.specs.Run.{places}
 
 -- ---- policies as they are enforced
 
--- what is enforced decides as each written filter of which it may be enforced
+-- the enforced policies give the verdict of each written filter that may be enforced as them
 abbrev pub DecidesAsWritten : RequestValue → AdmittedValue → VerdictValue → Type 0
 DecidesAsWritten r a v = (rules : Filter CelChecked) → IsAdmittedAs a.limits rules a.filter
     → IsVerdict (is_met r) r rules v.allowed v.matched
 
--- it asks for a condition where each of those does
+-- the enforced policies ask for a condition: each written filter that may be enforced as them asks for one
 abbrev pub AsksAsWritten : RequestValue → AdmittedValue → Type 0
 AsksAsWritten r a = (rules : Filter CelChecked) → IsAdmittedAs a.limits rules a.filter
     → SomeAsked (is_met r) (λ condition. Unit {0}) r rules
 
--- the bytes are the answers to the asks by what is enforced
+-- the bytes are the answers to the asks, by the enforced policies
 abbrev pub AreEnforced : Accepted → List Ask → List ℕ → Type 0
 AreEnforced = AreRepliesTo DecidesAsWritten AsksAsWritten
 
 -- ---- the proxy
 
--- a client, and the fronts of the connections that are open, each in its place
+-- a proxy: its client, and in each place the front of the connection that is open there
 pub record ProxyValue : Type 0 where
   pub client : ClientValue
   pub conns : List (Option FrontValue)
 
--- no connection is open
+-- the eight places, with no connection open
 abbrev pub nobody : List (Option FrontValue)
 nobody = None ∷ None ∷ None ∷ None ∷ None ∷ None ∷ None ∷ None ∷ []
 
--- nothing happened
+-- a proxy to which nothing has happened
 abbrev pub new_proxy : ConfigValue → ProxyValue
 new_proxy c = record { client = new_client c; conns = nobody }
 
@@ -53,27 +53,27 @@ new_proxy c = record { client = new_client c; conns = nobody }
 abbrev pub with_client : ProxyValue → ClientValue → ProxyValue
 with_client p client = record { client = client; conns = p.conns }
 
--- the proxy with something else in a place
+-- the proxy with this front, or none, in a place
 abbrev pub with_conn : ProxyValue → ℕ → Option FrontValue → ProxyValue
 with_conn p k conn = record { client = p.client; conns = set p.conns k conn }
 
--- what is in a place, if that is one of the places
+-- the front in a place; none if there is no such place
 abbrev pub front_in : Option (Option FrontValue) → Option FrontValue
 front_in None = None
 front_in (Some front) = front
 
--- the front of the connection in this place, if one is open there
+-- the front of the connection in this place; none if none is open
 abbrev pub front_at : ProxyValue → ℕ → Option FrontValue
 front_at p k = front_in (slice_get p.conns k)
 
--- bytes of the update stream come, by the stream that is up
+-- bytes of the update stream arrive: the client reads them if a stream is up, otherwise they are dropped
 abbrev pub TakesAds : Option (List ℕ) → ProxyValue → List ℕ → OutputValue → ProxyValue → Type 0
 TakesAds None old bytes out new = (out ≡ no_output) × (new ≡ old)
 TakesAds (Some rest) old bytes out new = (replies : List ℕ) × (is_broken : Bool) × (versions : List (List ℕ))
     × (client : ClientValue) × Feeds old.client bytes replies is_broken versions client
     × (out ≡ ads_output replies is_broken) × (new ≡ with_client old client)
 
--- a connection opens
+-- a connection opens, and takes its place; it is closed if its facts are outside the limits
 pub data OpensAt (old : ProxyValue) (k : ℕ) (facts : Facts) (out : OutputValue) (new : ProxyValue) : Type 0 where
   opened : k < places → AreFacts facts → FactsInLimits facts old.client.config.limits → out ≡ no_output
       → new ≡ with_conn old k (Some (new_front old.client.config.limits facts)) → OpensAt old k facts out new
@@ -81,12 +81,12 @@ pub data OpensAt (old : ProxyValue) (k : ℕ) (facts : Facts) (out : OutputValue
       → new ≡ with_conn old k None → OpensAt old k facts out new
   nowhere : places ≤ k → out ≡ no_output → new ≡ old → OpensAt old k facts out new
 
--- the front is behind bytes, and all asks that they complete were taken
+-- the front after the bytes: all asks that they complete were taken
 abbrev pub Hears : FrontValue → List ℕ → List Ask → FrontValue → Type 0
 Hears front bytes asks after = TakesAll front.limits front.facts (fed_front front bytes).kept asks after.kept
     × HasNoAsk after × (after ≡ keeping front after.kept)
 
--- bytes of a connection come, by the front that is in its place
+-- bytes of a connection arrive: the front in its place reads them; if there is none, they are dropped
 abbrev pub TakesHttp : Option FrontValue → ProxyValue → ℕ → List ℕ → OutputValue → ProxyValue → Type 0
 TakesHttp None old k bytes out new = (out ≡ no_output) × (new ≡ old)
 TakesHttp (Some front) old k bytes out new = (asks : List Ask) × (after : FrontValue) × (http : List ℕ)
@@ -94,7 +94,7 @@ TakesHttp (Some front) old k bytes out new = (asks : List Ask) × (after : Front
     × (out ≡ http_output http (is_closed after.kept))
     × (new ≡ with_conn old k (if is_closed after.kept then None else Some after))
 
--- what an event does
+-- the effect of an event: its output, and the proxy after it
 abbrev pub StepsBy : ProxyValue → EventValue → OutputValue → ProxyValue → Type 0
 StepsBy old ads_up out new =
     (bytes : List ℕ) × IsFrameThen (first_request old.client.config old.client.accepted) bytes []
@@ -105,7 +105,7 @@ StepsBy old (http_open k facts) out new = OpensAt old k facts out new
 StepsBy old (http_bytes k bytes) out new = TakesHttp (front_at old k) old k bytes out new
 StepsBy old (http_closed k) out new = (out ≡ no_output) × (new ≡ with_conn old k None)
 
--- the events that take no memory: the loss of the update stream, and the closing of a connection
+-- the events that take no memory: the update stream is lost, and a connection is closed
 abbrev pub TakesNoMemory : EventValue → Type 0
 TakesNoMemory ads_lost = ⊤
 TakesNoMemory (http_closed k) = ⊤
@@ -113,28 +113,28 @@ TakesNoMemory _ = ⊥
 
 -- ---- calls
 
--- a call with an event: it was answered by an output, or memory ran out
+-- a call with an event: it returned an output, or memory ran out
 pub data EventCall : Type 0 where
   answered : EventValue → OutputValue → EventCall
   no_memory : EventValue → EventCall
 
--- what the call does: one for which memory ran out leaves all as it was
+-- the effect of a call: if memory ran out, nothing changes
 abbrev pub CallDoes : ProxyValue → EventCall → ProxyValue → Type 0
 CallDoes old (answered event out) new = StepsBy old event out new
 CallDoes old (no_memory event) new = new ≡ old
 
--- calls one after the other
+-- calls in order
 abbrev pub CallsDo : ProxyValue → List EventCall → ProxyValue → Type 0
 CallsDo old [] new = new ≡ old
 CallsDo old (call ∷ calls) new = (next : ProxyValue) × CallDoes old call next × CallsDo next calls new
 
--- the events that count as given
+-- the events of the calls that did not run out of memory
 abbrev pub events_of : List EventCall → List EventValue
 events_of [] = []
 events_of (answered event out ∷ calls) = event ∷ events_of calls
 events_of (no_memory event ∷ calls) = events_of calls
 
--- their outputs
+-- the outputs of the calls that did not run out of memory
 abbrev pub outputs_of : List EventCall → List OutputValue
 outputs_of [] = []
 outputs_of (answered event out ∷ calls) = out ∷ outputs_of calls

@@ -1,3 +1,3 @@
--- What private clauses and proofs of this crate cite (this project's own).
+-- Definitions that private clauses and proofs of this crate use (this project's own).
 pub mod Fronts
 pub mod Deciding

@@ -13,17 +13,17 @@ use rbac_policy::Admitted;
 use stack_machine::RunError;
 use std::alloc::{AllocError, Global};
 
-/// How the trying of filters ends.
+/// The result of trying the filters in order.
 #[derive(Debug, Drop)]
 pub(crate) enum Tried {
-    /// All let through, or one refuses; the matches of those that were tried.
+    /// Whether all filters let the request through, and the matches of those that were tried.
     Decided(bool, Vec<Option<usize>>),
-    /// Memory ran out in a decision.
+    /// Memory ran out while a filter decided.
     NoMemory,
 }
 
-/// What is answered to a request, and the matches of the filters that were tried. Whether some filter has no policies is
-/// asked before any is tried.
+/// The case of the answer to a request, and the matches of the filters that were tried. If a filter has no policies,
+/// none is tried.
 pub(crate) fn judged(
     alloc: Global,
     policies: &[Option<Admitted>],
@@ -57,7 +57,7 @@ fn is_ready(policies: &[Option<Admitted>]) -> bool
     true
 }
 
-/// Tries the filters in order.
+/// Tries the filters in order, up to the first that refuses.
 fn try_all(
     alloc: Global,
     policies: &[Option<Admitted>],

@@ -1,4 +1,4 @@
-//! What the bytes of a connection ask, and the answers.
+//! The asks in the bytes of a connection, and the answers.
 
 ghost use Rattle.std.specs.Prelude.{◌≡◌, List, IfOk, OnOk};
 ghost use Rattle.ads.specs.Ends.{client_view};
@@ -13,7 +13,8 @@ use ads::Client;
 use http_front::{Ask, Case, Front, Reply};
 use std::alloc::{AllocError, Global};
 
-/// A front behind bytes, and the answers to what they ask: the front that was there stays as it is.
+/// A copy of the front that has read the bytes, and the answers to the asks that they complete. The given front stays
+/// as it is.
 pub(crate) fn heard(
     alloc: Global,
     client: &Client,
@@ -33,7 +34,7 @@ pub(crate) fn heard(
     Ok((front, out))
 }
 
-/// Appends the answer to what a head asks, which is used up.
+/// Appends the answer to an ask, and consumes the ask.
 fn put_answer(alloc: Global, client: &Client, ask: Ask, out: &mut Vec<u8>) -> Result<(), AllocError>
     requires { AskInLimits (client_view client.now).config.limits ask }
     ensures { OnOk result (AddsReply (client_view client.now).accepted ask out.old.items out.new.items) }
@@ -41,7 +42,7 @@ fn put_answer(alloc: Global, client: &Client, ask: Ask, out: &mut Vec<u8>) -> Re
     answer_to(alloc, client, &ask, out)
 }
 
-/// Appends the answer to what a head asks.
+/// Appends the answer to an ask.
 fn answer_to(alloc: Global, client: &Client, ask: &Ask, out: &mut Vec<u8>) -> Result<(), AllocError>
     requires { AskInLimits (client_view client.now).config.limits ask.now }
     ensures { OnOk result (AddsReply (client_view client.now).accepted ask.now out.old.items out.new.items) }
@@ -51,7 +52,7 @@ fn answer_to(alloc: Global, client: &Client, ask: &Ask, out: &mut Vec<u8>) -> Re
     out.extend_from_slice(&bytes)
 }
 
-/// The answer to what a head asks.
+/// The answer to an ask.
 fn reply_to(alloc: Global, client: &Client, ask: &Ask) -> Result<Reply, AllocError>
     requires { AskInLimits (client_view client.now).config.limits ask.now }
     ensures { IfOk result (λ reply. IsReplyTo DecidesAsWritten AsksAsWritten

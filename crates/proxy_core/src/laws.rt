@@ -8,15 +8,16 @@ ghost use Rattle.proxy_core.specs.Acknowledging.{HasLast};
 ghost use Rattle.proxy_core.specs.Headline.{Headline};
 ghost use Rattle.proxy_core.specs.Run.{IsHistory, Moment, acknowledged_in};
 
-/// Whatever events a new proxy is given, the headline holds of them and of its outputs; an event for which memory ran out
-/// counts as not given.
+/// The headline holds for the events that a new proxy is given, whatever they are, and for its outputs. An event for
+/// which memory ran out counts as not given.
 pub fn events()
     ensures { (c : ConfigValue) (calls : List EventCall) (end : ProxyValue) → CallsDo (new_proxy c) calls end
         → Headline c (events_of calls) (outputs_of calls) }
 {}
 
-/// In a history each filter has the rules that were acknowledged last: the last response that was acknowledged and has a
-/// resource of the filter's name gave it these, and its ACK was put out. A filter that has none was given none.
+/// In a history each filter has the rules that were last acknowledged. The last acknowledged response that has a
+/// resource of the filter's name gave these rules, and its ACK was sent. If a filter has no rules, no such response
+/// exists.
 pub fn filters_have_what_was_acknowledged_last()
     ensures { (c : ConfigValue) (past : List Moment) → IsHistory c past
         → AllZip (HasLast c past) c.filters (acknowledged_in c past).policies }

@@ -1,4 +1,4 @@
-//! What the core of a proxy is.
+//! The core of a proxy.
 
 ghost use Rattle.std.specs.List.{AllByRecursion};
 ghost use Rattle.ads.specs.Ends.{client_view};
@@ -8,8 +8,8 @@ use ads::Client;
 use http_front::Front;
 use std::alloc::Global;
 
-/// The core of a proxy: one update stream, and up to eight connections. Events go in by `step`, and what is to be sent comes
-/// out.
+/// The core of a proxy: one update stream, and up to eight connections. Events go in by `step`, and what is to be sent
+/// is returned.
 #[derive(Drop)]
 pub struct Proxy {
     pub(crate) alloc: Global,

@@ -1,4 +1,4 @@
-//! What a proxy does with an event.
+//! The effect of an event on a proxy.
 
 ghost use Rattle.std.specs.Prelude.{◌≡◌, ◌<◌, [], None, Some, false, true, IfOk, IfSome, IsOk, OnErr, MatchBool, MatchOption};
 ghost use Rattle.attributes.specs.Conn.{conn_view};
@@ -17,11 +17,11 @@ use attributes::Conn;
 use http_front::Front;
 use std::alloc::{AllocError, Global};
 
-/// How many connections there may be.
+/// The greatest number of connections.
 const PLACES: u64 = 8;
 
 impl Output {
-    /// Nothing.
+    /// The output that sends and closes nothing.
     fn none(alloc: Global) -> Output
         ensures { output_view result ≡ no_output }
     {
@@ -33,7 +33,7 @@ impl Output {
         }
     }
 
-    /// Something on the update stream alone.
+    /// The output that only sends bytes on the update stream, and may close it.
     fn on_ads(alloc: Global, ads: Vec<u8>, ads_close: bool) -> Output
         ensures { output_view result ≡ ads_output ads.items ads_close }
     {
@@ -45,7 +45,7 @@ impl Output {
         }
     }
 
-    /// Something on the event's connection alone.
+    /// The output that only sends bytes on the event's connection, and may close it.
     fn on_http(alloc: Global, http: Vec<u8>, http_close: bool) -> Output
         ensures { output_view result ≡ http_output http.items http_close }
     {
@@ -59,7 +59,7 @@ impl Output {
 }
 
 impl Proxy {
-    /// A proxy of this configuration, to which nothing has happened.
+    /// A proxy with this configuration, to which nothing has happened. The error means out of memory.
     pub fn new(alloc: Global, config: Config) -> Result<Proxy, AllocError>
         ensures { IfOk result (λ p. proxy_view p ≡ new_proxy config) }
     {
@@ -71,16 +71,16 @@ impl Proxy {
         })
     }
 
-    /// The client of the update stream: what it accepted, and how many responses.
+    /// The client of the update stream, with its accepted policies and the number of accepted responses.
     pub fn client(&self) -> &Client
         ensures { client_view result.now ≡ (proxy_view self.now).client }
     {
         &self.client
     }
 
-    /// What the event does, and what is to be sent. Bytes and closes of what is not open do nothing. A request that is
-    /// completed is judged by what was accepted in earlier events. After an error all is as before
-    /// the call. The loss of the update stream and the closing of a connection take no memory.
+    /// Takes an event, and returns what to send. Bytes and closes of a connection or stream that is not open do
+    /// nothing. A request that is completed is judged by what was accepted in earlier events. After an error all is as
+    /// before the call. The loss of the update stream and the closing of a connection take no memory.
     pub fn step(&mut self, event: Event<'_>) -> Result<Output, AllocError>
         ensures found { IfOk result (λ out.
             StepsBy (proxy_view self.old) (event_view event.entry) (output_view out) (proxy_view self.new)) }
@@ -113,7 +113,7 @@ impl Proxy {
         Ok(Output::on_ads(self.alloc, ads, false))
     }
 
-    /// The update stream gives bytes.
+    /// The update stream delivers bytes.
     fn ads_bytes(&mut self, bytes: &[u8]) -> Result<Output, AllocError>
         ensures found { IfOk result (λ out. TakesAds (client_view self.old.client).stream (proxy_view self.old) bytes.now
             (output_view out) (proxy_view self.new)) }
@@ -126,7 +126,7 @@ impl Proxy {
         Ok(Output::on_ads(self.alloc, fed.replies, fed.broken))
     }
 
-    /// A connection opens.
+    /// A connection opens in place `k`; it is closed at once if its facts are outside the limits.
     fn http_open(&mut self, k: u64, conn: &Conn) -> Result<Output, AllocError>
         ensures found { IfOk result (λ out.
             OpensAt (proxy_view self.old) k (conn_view conn.now) (output_view out) (proxy_view self.new)) }
@@ -145,7 +145,7 @@ impl Proxy {
         Ok(Output::none(self.alloc))
     }
 
-    /// A connection gives bytes.
+    /// A connection delivers bytes.
     fn http_bytes(&mut self, k: u64, bytes: &[u8]) -> Result<Output, AllocError>
         ensures found { IfOk result (λ out. TakesHttp (front_at (proxy_view self.old) k) (proxy_view self.old) k bytes.now
             (output_view out) (proxy_view self.new)) }
@@ -167,7 +167,7 @@ impl Proxy {
         Ok(Output::on_http(self.alloc, http, http_close))
     }
 
-    /// Takes the bytes where they complete no ask of a connection that is open, and tells whether it does. Where it does
+    /// Takes the bytes if the connection is open and they complete no ask, and returns whether it took them. If it did
     /// not, and after an error, all is as before the call.
     fn keeps(&mut self, k: u64, bytes: &[u8]) -> Result<bool, AllocError>
         ensures kept { IfOk result (λ kept. MatchBool kept
@@ -183,7 +183,7 @@ impl Proxy {
         kept
     }
 
-    /// Takes the front of the connection in a place out of it.
+    /// Takes the front out of a place.
     fn take(&mut self, k: u64) -> Option<Front>
         ensures taken { result ≡ front_at (proxy_view self.old) k }
         ensures fits { IsOpenFor (client_view self.old.client).config.limits result }
@@ -196,7 +196,7 @@ impl Proxy {
         None
     }
 
-    /// The front of the connection in a place, if one is open there.
+    /// The front in a place, if a connection is open there.
     fn front(&self, k: u64) -> Option<&Front>
         ensures found { let found = front_at (proxy_view self.now) k in
             MatchOption result (found ≡ None) (λ f. found ≡ Some f.now) }
@@ -209,7 +209,7 @@ impl Proxy {
         }
     }
 
-    /// Puts a front in its place; there are eight.
+    /// Puts a front, or none, in a place; if there is no such place, nothing changes.
     fn put(&mut self, k: u64, front: Option<Front>)
         requires { IsOpenFor (client_view self.old.client).config.limits front }
         ensures put { proxy_view self.new ≡ with_conn (proxy_view self.old) k front }
@@ -221,7 +221,7 @@ impl Proxy {
     }
 }
 
-/// Gives a front the bytes where they complete no ask, and tells whether it does. Where it does not, and after an error, all
+/// Feeds a front the bytes if they complete no ask, and returns whether it did. If it did not, and after an error, all
 /// is as before the call.
 fn kept_by(front: &mut Front, bytes: &[u8]) -> Result<bool, AllocError>
     ensures kept { IfOk result (λ kept. MatchBool kept

@@ -19,29 +19,29 @@ authenticated_field = record { principal_name = 2 }
 abbrev pub authenticated_keys : List Key
 authenticated_keys = len_key authenticated_field.principal_name ∷ []
 
--- what the payloads of principal_name say: without one every name will do
+-- the meaning of the payloads of principal_name; without payloads, every name is accepted
 abbrev pub SaysName : List (List ℕ) → Option TextTest → Type 0
 SaysName names None = names ≡ []
 SaysName names (Some test) = (names ≢ []) × IsTextMatcher names test
 
--- the payloads merge to an Authenticated that means this test of the name, if any
+-- the payloads merge to an Authenticated that means this test of the name, if it has one
 abbrev pub IsAuthenticated : List (List ℕ) → Option TextTest → Type 0
 IsAuthenticated parts name = (fs : List Wire) × IsMessage authenticated_keys parts fs
     × SaysName (payloads authenticated_field.principal_name fs) name
 
--- a fault of an Authenticated: of its fields, or of its principal_name
+-- a fault of an Authenticated: in its fields, or in its principal_name
 pub data AuthenticatedFault (parts : List (List ℕ)) (e : Refusal) : Type 0 where
   authenticated_fields : MessageFault authenticated_keys parts e → AuthenticatedFault parts e
   in_name : (fs : List Wire) → Merges parts fs → payloads authenticated_field.principal_name fs ≢ []
       → TextFault (payloads authenticated_field.principal_name fs) e → AuthenticatedFault parts e
 
--- the peer's name: the first that is there of its URI SAN, its DNS SAN and its subject
+-- the peer's name: the first that is present of its URI SAN, its DNS SAN and its subject
 abbrev pub peer_name : Facts → Option (List ℕ)
 peer_name facts =
     option_or facts.uri_san_peer_certificate
     (option_or facts.dns_san_peer_certificate facts.subject_peer_certificate)
 
--- whether the name passes the test: none does where there is a test
+-- whether the name passes the test, if there is one; a missing name passes no test
 abbrev pub name_holds : Option TextTest → Option (List ℕ) → Bool
 name_holds None name = true
 name_holds (Some test) name = option_map_or (text_holds test) name false

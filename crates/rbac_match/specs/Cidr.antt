@@ -1,6 +1,6 @@
--- Ranges of addresses: Envoy v3 `config/core/v3/address.proto` (CidrRange),
--- `google/protobuf/wrappers.proto` (UInt32Value); what they say of a request: Envoy RBAC,
--- "Permission" and "Principal" (`destination_ip`, `direct_remote_ip`, `remote_ip`).
+-- Ranges of addresses: Envoy v3 `config/core/v3/address.proto` (CidrRange), `google/protobuf/wrappers.proto`
+-- (UInt32Value). What they mean for a request: Envoy RBAC, "Permission" and "Principal" (`destination_ip`,
+-- `direct_remote_ip`, `remote_ip`).
 use Rattle.std.specs.Prelude.{◌≡◌, ◌⊎◌, ℕ, ◌<◌, ◌≤◌, List, [], ◌∷◌, Option, IsUtf8}
 use Rattle.attributes.specs.Address.{IsIpText, Range, width_of}
 use Rattle.attributes.specs.Conn.{Facts}
@@ -33,12 +33,12 @@ uint32_field = record { value = 1 }
 abbrev pub uint32_keys : List Key
 uint32_keys = varint_key uint32_field.value ∷ []
 
--- the parts merge to a UInt32Value of this value; no parts are 0
+-- the parts merge to a UInt32Value of this value; without parts, the value is 0
 abbrev pub IsUint32 : List (List ℕ) → ℕ → Type 0
 IsUint32 parts n = (fs : List Wire) × IsMessage uint32_keys parts fs
     × (n ≡ uint32_at uint32_field.value fs)
 
--- the parts merge to a CidrRange that means these addresses
+-- the parts merge to a CidrRange of these addresses
 abbrev pub IsCidr : List (List ℕ) → Range → Type 0
 IsCidr parts range = (fs : List Wire) × IsMessage cidr_keys parts fs
     × IsUtf8 (bytes_at cidr_field.address_prefix fs)
@@ -46,12 +46,13 @@ IsCidr parts range = (fs : List Wire) × IsMessage cidr_keys parts fs
     × IsUint32 (payloads cidr_field.prefix_len fs) range.prefix_len
     × (range.prefix_len ≤ width_of range.address)
 
--- the bytes are no text, or one that spells no address
+-- the bytes are not UTF-8, or spell no address
 abbrev pub AddressFault : List ℕ → Refusal → Type 0
 AddressFault bytes e = Utf8Fault bytes e
     ⊎ ((e ≡ OutOfRange) × IsUtf8 bytes × ((ip : Ip) → ¬ IsIpText bytes ip))
 
--- a fault of a CidrRange: of its own fields, of its address, or of its length
+-- a fault of a CidrRange: in its fields, in its address, in its length, or a length of more bits than the
+-- address has
 pub data CidrFault (parts : List (List ℕ)) (e : Refusal) : Type 0 where
   cidr_fields : MessageFault cidr_keys parts e → CidrFault parts e
   in_address : (fs : List Wire) → Merges parts fs
@@ -63,7 +64,7 @@ pub data CidrFault (parts : List (List ℕ)) (e : Refusal) : Type 0 where
       → Merges (payloads cidr_field.prefix_len fs) ls
       → width_of ip < uint32_at uint32_field.value ls → e ≡ OutOfRange → CidrFault parts e
 
--- the address of the connection that the rule looks at
+-- the address of the connection that the rule tests
 abbrev pub source_ip : AddressSource → Facts → Option Ip
 source_ip Destination facts = facts.destination_ip
 source_ip DirectRemote facts = facts.direct_remote_ip

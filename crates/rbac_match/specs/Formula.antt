@@ -1,4 +1,4 @@
--- What a permission or a principal says of a request: Envoy RBAC, "Permission" and "Principal"
+-- What a permission or a principal means for a request: Envoy RBAC, "Permission" and "Principal"
 -- (config.rbac.v3).
 use Rattle.std.specs.Prelude.{Bool, true, false, not, ◌&&◌, ◌||◌}
 use Rattle.attributes.specs.Request.{RequestValue}
@@ -14,13 +14,13 @@ mutual
     not_of : Formula → Formula
     leaf : Matcher → Formula
 
-  -- rules one after the other
+  -- rules in order
   pub data Formulas : Type 0 where
     end : Formulas
     formula : Formula → Formulas → Formulas
 
 abbrev mutual
-  -- whether the request is as the formula says
+  -- whether the formula holds of the request
   pub holds : RequestValue → Formula → Bool
   holds r any = true
   holds r (and_of fs) = all_hold r fs
@@ -28,12 +28,12 @@ abbrev mutual
   holds r (not_of f) = not (holds r f)
   holds r (leaf m) = matcher_holds m r
 
-  -- whether it is as each of the formulas says
+  -- whether each of the formulas holds of the request
   pub all_hold : RequestValue → Formulas → Bool
   all_hold r end = true
   all_hold r (formula f fs) = holds r f && all_hold r fs
 
-  -- whether it is as some of the formulas says
+  -- whether at least one of the formulas holds of the request
   pub some_hold : RequestValue → Formulas → Bool
   some_hold r end = false
   some_hold r (formula f fs) = holds r f || some_hold r fs

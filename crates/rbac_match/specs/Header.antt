@@ -23,31 +23,30 @@ use Rattle.rbac_match.specs.declared.header.Specifier.TheVariants.{Present, Text
 use Rattle.rbac_match.specs.declared.text.Pattern.{Pattern}
 use Rattle.rbac_match.specs.declared.text.Pattern.TheVariants.{Exact, Prefix, Suffix, Contains}
 
--- ---- what it says
+-- ---- the meaning
 
--- a test of the header of this name, which is in lower case
+-- a test of the header with this name; the name is in lower case
 pub record HeaderTest : Type 0 where
   pub name : List ℕ
   pub specifier : Specifier
   pub invert_match : Bool
   pub treat_missing_header_as_empty : Bool
 
--- the answer, turned where the matcher inverts
+-- the answer, negated if the matcher inverts
 abbrev pub turned : Bool → Bool → Bool
 turned invert answer = if invert then not answer else answer
 
--- the value of a header, found or missing; a missing one is empty, where it counts as that
+-- the value of a header, present or missing; a missing one that counts as empty has the empty value
 abbrev pub value_or_empty : (empty : Bool) → Option (List ℕ) → Option (List ℕ)
 value_or_empty empty found = option_or found (if empty then Some [] else None)
 
--- whether a value passes, or does not where the matcher inverts; a missing one that does not count
--- as empty never does
+-- whether a value passes, or fails if the matcher inverts. A missing header that does not count as empty
+-- never passes
 abbrev pub value_holds : (List ℕ → Bool) → (invert empty : Bool) → Option (List ℕ) → Bool
 value_holds test invert empty found =
     option_map_or (λ value. turned invert (test value)) (value_or_empty empty found) false
 
--- whether a header, found or missing, is as the specifier asks: that it is there or is not, or what
--- its value is like
+-- whether a header, present or missing, passes: a test of its presence, or a test of its value
 abbrev pub specifier_holds : Specifier → (invert empty : Bool) → Option (List ℕ) → Bool
 specifier_holds (Present wanted) invert empty found =
     turned invert (if wanted then is_some found else not (is_some found))
@@ -56,11 +55,11 @@ specifier_holds (Text test) invert empty found =
 specifier_holds (Range range) invert empty found =
     value_holds (range_holds range) invert empty found
 
--- ---- its message
+-- ---- the message
 
--- the numbers of the fields of a HeaderMatcher (`config.route.v3.HeaderMatcher`): `invert_match`
--- says whether the answer is turned, `treat_missing_header_as_empty` whether a missing header
--- counts as one of the empty value
+-- the numbers of the fields of a HeaderMatcher (`config.route.v3.HeaderMatcher`). `invert_match` says whether
+-- the answer is negated. `treat_missing_header_as_empty` says whether a missing header counts as one with the
+-- empty value
 abbrev pub header_field : record { name : ℕ; exact_match : ℕ; range_match : ℕ; present_match : ℕ; invert_match : ℕ; prefix_match : ℕ; suffix_match : ℕ; safe_regex_match : ℕ; contains_match : ℕ; string_match : ℕ; treat_missing_header_as_empty : ℕ }
 header_field = record { name = 1; exact_match = 4; range_match = 6; present_match = 7; invert_match = 8; prefix_match = 9; suffix_match = 10; safe_regex_match = 11; contains_match = 12; string_match = 13; treat_missing_header_as_empty = 14 }
 
@@ -74,13 +73,13 @@ specifiers = let h = header_field in (len_key h.exact_match, Some (members.Text 
     ∷ (len_key h.contains_match, Some (members.Text Contains))
     ∷ (len_key h.string_match, Some members.Matcher) ∷ []
 
--- all fields
+-- all fields of a HeaderMatcher
 abbrev pub header_keys : List Key
 header_keys = len_key header_field.name ∷ varint_key header_field.invert_match
     ∷ varint_key header_field.treat_missing_header_as_empty ∷ keys_of specifiers
 
--- the run of this member, which has this number, says what is asked; in a text of its own the case
--- of letters counts
+-- the run of this member, which has this number, means this specifier. If the member is itself a text, the
+-- case of letters counts
 abbrev pub SaysMember : HeaderMember → ℕ → List Wire → Specifier → Type 0
 SaysMember (members.Text pattern) n run s = IsSought pattern (bytes_at n run)
     × (s ≡ Text (record { pattern = pattern; sought = bytes_at n run; ignore_case = false }))
@@ -88,14 +87,14 @@ SaysMember members.Range n run s = MadeOf (IsRange (payloads n run)) Range s
 SaysMember members.Present n run s = s ≡ Present (bool_at n run)
 SaysMember members.Matcher n run s = MadeOf (IsTextMatcher (payloads n run)) Text s
 
--- the last member says what is asked; without one it is that the header is there
+-- the last member means this specifier; without a member, the header must be present
 pub data SaysSpecifier (fs : List Wire) (s : Specifier) : Type 0 where
   says_nothing : last_number (keys_of specifiers) fs ≡ None → s ≡ Present true → SaysSpecifier fs s
   says_member : (n : ℕ) (member : HeaderMember) → last_number (keys_of specifiers) fs ≡ Some n
       → member_in specifiers n ≡ Some member
       → SaysMember member n (member_run (keys_of specifiers) fs) s → SaysSpecifier fs s
 
--- the parts merge to a HeaderMatcher that asks this
+-- the parts merge to a HeaderMatcher that means this test
 pub record IsHeader (parts : List (List ℕ)) (h : HeaderTest) : Type 0 where
   pub fields : List Wire
   pub message : IsMessage header_keys parts fields
@@ -107,9 +106,9 @@ pub record IsHeader (parts : List (List ℕ)) (h : HeaderTest) : Type 0 where
   pub emptied :
       h.treat_missing_header_as_empty ≡ bool_at header_field.treat_missing_header_as_empty fields
 
--- ---- its faults
+-- ---- the faults
 
--- what is wrong with the run of this member, which has this number
+-- a fault in the run of this member, which has this number
 abbrev pub HeaderMemberFault : Option HeaderMember → ℕ → List Wire → Refusal → Type 0
 HeaderMemberFault None n run e = e ≡ Unsupported
 HeaderMemberFault (Some (members.Text pattern)) n run e =
@@ -118,14 +117,14 @@ HeaderMemberFault (Some members.Range) n run e = MessageFault range_keys (payloa
 HeaderMemberFault (Some members.Present) n run e = ⊥
 HeaderMemberFault (Some members.Matcher) n run e = TextFault (payloads n run) e
 
--- the last member's own text, where it has one, is UTF-8
+-- if the last member is itself a text, it is UTF-8
 abbrev pub MemberReads : List Wire → Type 0
 MemberReads fs = (n : ℕ) (pattern : Pattern) → last_number (keys_of specifiers) fs ≡ Some n
     → member_in specifiers n ≡ Some (members.Text pattern)
     → IsUtf8 (bytes_at n (member_run (keys_of specifiers) fs))
 
--- a fault of a HeaderMatcher: of its fields, its name or its last member; that the name is missing
--- counts only where its own texts read
+-- a fault of a HeaderMatcher: in its fields, its name or its last member. A missing name is a fault only if
+-- the last member's own text is UTF-8
 pub data HeaderFault (parts : List (List ℕ)) (e : Refusal) : Type 0 where
   header_fields : MessageFault header_keys parts e → HeaderFault parts e
   name_unreadable : (fs : List Wire) → Merges parts fs → Utf8Fault (bytes_at header_field.name fs) e

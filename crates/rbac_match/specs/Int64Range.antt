@@ -16,8 +16,8 @@ abbrev pub is_int64 : ℤ → Bool
 is_int64 (pos n) = nat_lt n (2 ^ 63)
 is_int64 (negsuc n) = nat_lt n (2 ^ 63)
 
--- the number that the whole text spells, where it has 64 bits: decimal digits, one at least, behind
--- one sign or none
+-- the number that the whole text spells, if it fits in 64 bits: at most one sign, then at least one decimal
+-- digit
 abbrev pub int64_in : List ℕ → Option ℤ
 int64_in text =
     let digits = without_leading_sign text in let z = signed_digits_value 10 text in
@@ -27,11 +27,11 @@ int64_in text =
 abbrev pub is_within : Int64Range → ℤ → Bool
 is_within range z = int_le range.start z && int_lt z range.end
 
--- whether the text is wholly a number of 64 bits in the range
+-- whether the whole text is a number of 64 bits in the range
 abbrev pub range_holds : Int64Range → List ℕ → Bool
 range_holds range text = option_map_or (is_within range) (int64_in text) false
 
--- the parts merge to an Int64Range of these bounds; it has no fault but of its fields
+-- the parts merge to an Int64Range of these bounds; all its faults are in its fields
 abbrev pub IsRange : List (List ℕ) → Int64Range → Type 0
 IsRange parts range = (fs : List Wire) × IsMessage range_keys parts fs
     × (range.start ≡ int64_at range_field.start fs) × (range.end ≡ int64_at range_field.end fs)

@@ -15,7 +15,7 @@ use Rattle.rbac_match.specs.declared.matcher.Matcher.TheVariants as matcher
 use Rattle.rbac_match.specs.declared.member.LeafKind.{LeafKind}
 use Rattle.rbac_match.specs.declared.member.LeafKind.TheVariants.{Header, Address, Port, PortRange, ServerName, UrlPath, Authenticated}
 
--- the run, whose member has this number, is a leaf of the kind, and means the matcher
+-- the run of a member of this number is a leaf of the kind, and means the matcher
 abbrev pub IsLeaf : LeafKind → ℕ → List Wire → Matcher → Type 0
 IsLeaf Header n run m = MadeOf (IsHeader (payloads n run)) matcher.Header m
 IsLeaf (Address source) n run m = MadeOf (IsCidr (payloads n run)) (matcher.Address source) m
@@ -25,7 +25,7 @@ IsLeaf ServerName n run m = MadeOf (IsTextMatcher (payloads n run)) matcher.Serv
 IsLeaf UrlPath n run m = MadeOf (IsPathMatcher (payloads n run)) matcher.UrlPath m
 IsLeaf Authenticated n run m = MadeOf (IsAuthenticated (payloads n run)) matcher.Authenticated m
 
--- the fault of a leaf
+-- a fault of a leaf of the kind
 abbrev pub LeafFault : LeafKind → ℕ → List Wire → Refusal → Type 0
 LeafFault Header n run e = HeaderFault (payloads n run) e
 LeafFault (Address source) n run e = CidrFault (payloads n run) e

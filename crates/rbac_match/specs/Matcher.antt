@@ -1,4 +1,4 @@
--- The leaves of permissions and principals, and what they say of a request: Envoy v3
+-- The leaves of permissions and principals, and what they mean for a request: Envoy v3
 -- `config/rbac/v3/rbac.proto`.
 use Rattle.std.specs.Prelude.{Bool, false, ◌==◌, ◌&&◌, nat_le, nat_lt, [], unwrap_or}
 use Rattle.std.specs.Option.{option_map_or}
@@ -12,10 +12,10 @@ use Rattle.rbac_match.specs.Text.{text_holds}
 use Rattle.rbac_match.specs.declared.matcher.Matcher.{Matcher}
 use Rattle.rbac_match.specs.declared.matcher.Matcher.TheVariants.{Header, Address, Port, PortRange, ServerName, UrlPath, Authenticated}
 
--- whether the request passes a test of one fact: its header is as asked; its address is there and
--- in the range; its port is there and is this one, or one of these; its server name, or the empty
--- text where there is none, passes; so does its target up to the first `?` or `#`; it is known to
--- come by mutual TLS, from such a peer
+-- whether the request passes a test of one fact. Its header passes. Its address is known and in the range.
+-- Its port is known, and is this one or one of these. Its server name passes, or the empty text if there is
+-- none. Its target up to the first `?` or `#` passes. Its connection is known to use mutual TLS, and its
+-- peer's name passes
 abbrev pub matcher_holds : Matcher → RequestValue → Bool
 matcher_holds (Header h) r = specifier_holds h.specifier h.invert_match
     h.treat_missing_header_as_empty (header_of r h.name)

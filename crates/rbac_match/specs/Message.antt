@@ -17,8 +17,8 @@ use Rattle.rbac_match.specs.declared.rule.Side.TheVariants.{Permission, Principa
 abbrev pub permission_field : record { and_rules : ℕ; or_rules : ℕ; any : ℕ; header : ℕ; destination_ip : ℕ; destination_port : ℕ; metadata : ℕ; not_rule : ℕ; requested_server_name : ℕ; url_path : ℕ; destination_port_range : ℕ; matcher : ℕ }
 permission_field = record { and_rules = 1; or_rules = 2; any = 3; header = 4; destination_ip = 5; destination_port = 6; metadata = 7; not_rule = 8; requested_server_name = 9; url_path = 10; destination_port_range = 11; matcher = 12 }
 
--- the numbers of the fields of a Principal (`config.rbac.v3.Principal`): `direct_remote_ip` is
--- where the connection comes from, `remote_ip` where the request does
+-- the numbers of the fields of a Principal (`config.rbac.v3.Principal`): `direct_remote_ip` is where the
+-- connection comes from, and `remote_ip` is where the request comes from
 abbrev pub principal_field : record { and_ids : ℕ; or_ids : ℕ; any : ℕ; authenticated : ℕ; source_ip : ℕ; header : ℕ; metadata : ℕ; not_id : ℕ; url_path : ℕ; direct_remote_ip : ℕ; remote_ip : ℕ; filter_state : ℕ }
 principal_field = record { and_ids = 1; or_ids = 2; any = 3; authenticated = 4; source_ip = 5; header = 6; metadata = 7; not_id = 8; url_path = 9; direct_remote_ip = 10; remote_ip = 11; filter_state = 12 }
 
@@ -40,13 +40,13 @@ members Principal = let p = principal_field in
     ∷ (len_key p.direct_remote_ip, Some (Leaf (Address DirectRemote)))
     ∷ (len_key p.remote_ip, Some (Leaf (Address Remote))) ∷ (len_key p.filter_state, None) ∷ []
 
--- all fields: each is a member
+-- all fields of a rule: each is a member
 abbrev pub rule_keys : Side → List Key
 rule_keys side = keys_of (members side)
 
 -- ---- sets of rules, and ranges of integers
 
--- the number of the field of a Set (`config.rbac.v3.Permission.Set`); a Principal calls it `ids`
+-- the number of the field of a Set (`config.rbac.v3.Permission.Set`); a Principal's Set calls it `ids`
 abbrev pub set_field : record { rules : ℕ }
 set_field = record { rules = 1 }
 
@@ -54,8 +54,8 @@ set_field = record { rules = 1 }
 abbrev pub set_keys : List Key
 set_keys = len_key set_field.rules ∷ []
 
--- the numbers of the fields of a range (`type.v3.Int32Range`, `type.v3.Int64Range`): its first
--- integer, and the one behind its last
+-- the numbers of the fields of a range (`type.v3.Int32Range`, `type.v3.Int64Range`): its first integer, and
+-- the one after its last
 abbrev pub range_field : record { start : ℕ; end : ℕ }
 range_field = record { start = 1; end = 2 }
 

@@ -23,7 +23,7 @@ abbrev pub IsPathMatcher : List (List ℕ) → TextTest → Type 0
 IsPathMatcher parts test = (fs : List Wire) × IsMessage path_keys parts fs
     × (payloads path_field.path fs ≢ []) × IsTextMatcher (payloads path_field.path fs) test
 
--- a fault of a PathMatcher: of its fields, that it has no path, or of its path
+-- a fault of a PathMatcher: in its fields, that it has no path, or in its path
 pub data PathFault (parts : List (List ℕ)) (e : Refusal) : Type 0 where
   path_fields : MessageFault path_keys parts e → PathFault parts e
   no_path : (fs : List Wire) → IsMessage path_keys parts fs → payloads path_field.path fs ≡ []

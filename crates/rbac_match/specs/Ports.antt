@@ -10,15 +10,15 @@ use Rattle.proto_wire.specs.declared.refusal.Refusal.{Refusal}
 use Rattle.proto_wire.specs.declared.refusal.Refusal.TheVariants.{OutOfRange}
 use Rattle.rbac_match.specs.Message.{range_field, range_keys}
 
--- the run of a permission's `destination_port`, which has this number, says this port
+-- the run of a permission's `destination_port`, which has this number, means this port
 abbrev pub IsDestinationPort : ℕ → List Wire → ℕ → Type 0
 IsDestinationPort n run port = (port ≡ uint32_at n run) × (port ≤ 65535)
 
--- it says a number that no port has
+-- the run has a number that is no port
 abbrev pub PortFault : ℕ → List Wire → Refusal → Type 0
 PortFault n run e = (65535 < uint32_at n run) × (e ≡ OutOfRange)
 
--- the fields' bounds are those of the ports: there is some port, and each is from 0 to 65,535
+-- the bounds in the fields are those of these ports: there is at least one, and each is from 0 to 65,535
 abbrev pub AreBounds : List Wire → Range ℕ → Type 0
 AreBounds fs span = (int32_at range_field.start fs ≡ pos span.start)
     × (int32_at range_field.end fs ≡ pos span.end) × (span.start < span.end) × (span.end ≤ 65536)
@@ -27,7 +27,7 @@ AreBounds fs span = (int32_at range_field.start fs ≡ pos span.start)
 abbrev pub IsPortRange : List (List ℕ) → Range ℕ → Type 0
 IsPortRange parts span = (fs : List Wire) × IsMessage range_keys parts fs × AreBounds fs span
 
--- a fault of an Int32Range of ports: of its own fields, or of its bounds
+-- a fault of an Int32Range of ports: in its fields, or in its bounds
 pub data PortRangeFault (parts : List (List ℕ)) (e : Refusal) : Type 0 where
   range_fields : MessageFault range_keys parts e → PortRangeFault parts e
   no_bounds : (fs : List Wire) → Merges parts fs → ((span : Range ℕ) → ¬ (AreBounds fs span))

@@ -16,20 +16,20 @@ use Rattle.rbac_match.specs.declared.member.Member.{Member}
 use Rattle.rbac_match.specs.declared.member.Member.TheVariants.{And, Or, Any, Not, Leaf}
 use Rattle.rbac_match.specs.declared.rule.Side.{Side}
 
--- ---- what it says; `Below` says what a rule one level down says
+-- ---- the meaning; `Below` is the meaning of a rule one level down
 
--- each child is a rule
+-- each child is a rule, and means the formula of the same place
 abbrev pub AreRules : (List (List ℕ) → Formula → Type 0) → List (List ℕ) → Formulas → Type 0
 AreRules Below [] end = Unit {0}
 AreRules Below (child ∷ children) (formula f fs) = Below (child ∷ []) f × AreRules Below children fs
 AreRules Below children fs = ⊥
 
--- the parts merge to a Set of some rules
+-- the parts merge to a Set of at least one rule, whose rules mean these formulas
 abbrev pub IsSet : (List (List ℕ) → Formula → Type 0) → List (List ℕ) → Formulas → Type 0
 IsSet Below parts gs = (fs : List Wire) × IsMessage set_keys parts fs
     × (payloads set_field.rules fs ≢ []) × AreRules Below (payloads set_field.rules fs) gs
 
--- the run of the member, which has this number, says the formula
+-- the run of the member, which has this number, means the formula
 abbrev pub MemberSays : (List (List ℕ) → Formula → Type 0) → Member → ℕ → List Wire → Formula
     → Type 0
 MemberSays Below And n run f = (gs : Formulas) × IsSet Below (payloads n run) gs × (f ≡ and_of gs)
@@ -38,20 +38,20 @@ MemberSays Below Any n run f = (bool_at n run ≡ true) × (f ≡ any)
 MemberSays Below Not n run f = (g : Formula) × Below (payloads n run) g × (f ≡ not_of g)
 MemberSays Below (Leaf kind) n run f = (m : Matcher) × IsLeaf kind n run m × (f ≡ leaf m)
 
--- the parts merge to fields that are all members, and the run of the last one says the formula
+-- the parts merge to fields that are all members, and the run of the last one means the formula
 abbrev pub IsLevel : Side → (List (List ℕ) → Formula → Type 0) → List (List ℕ) → Formula → Type 0
 IsLevel side Below parts f = (fs : List Wire) × IsMessage (rule_keys side) parts fs
     × IsSomeAnd (last_number (rule_keys side) fs) (λ n. IsSomeAnd (member_in (members side) n)
     (λ member. MemberSays Below member n (member_run (rule_keys side) fs) f))
 
--- the parts merge to a rule of at most `depth` levels, which says the formula
+-- the parts merge to a rule of at most `depth` levels, which means the formula
 abbrev pub IsRule : Side → ℕ → List (List ℕ) → Formula → Type 0
 IsRule side zero parts f = ⊥
 IsRule side (suc depth) parts f = IsLevel side (IsRule side depth) parts f
 
--- ---- its faults; `Below` says what a fault of a rule one level down is
+-- ---- the faults; `Below` is a fault of a rule one level down
 
--- a fault of a Set: of its own fields, that it is empty, or of one of its rules
+-- a fault of a Set: in its fields, that it has no rules, or in one of its rules
 pub data SetFault (Below : List (List ℕ) → Refusal → Type 0) (parts : List (List ℕ)) (e : Refusal)
     : Type 0 where
   set_fields : MessageFault set_keys parts e → SetFault Below parts e
@@ -60,7 +60,7 @@ pub data SetFault (Below : List (List ℕ) → Refusal → Type 0) (parts : List
   in_rule : (fs : List Wire) (child : List ℕ) → Merges parts fs
       → Contains (payloads set_field.rules fs) child → Below (child ∷ []) e → SetFault Below parts e
 
--- a fault of the run of the last member, which has this number: some members are not supported
+-- a fault of the run of the last member, which has this number; a member that is not supported is a fault
 abbrev pub MemberFault : (List (List ℕ) → Refusal → Type 0) → Option Member → ℕ → List Wire
     → Refusal → Type 0
 MemberFault Below None n run e = e ≡ Unsupported
@@ -70,7 +70,7 @@ MemberFault Below (Some Any) n run e = (bool_at n run ≡ false) × (e ≡ OutOf
 MemberFault Below (Some Not) n run e = Below (payloads n run) e
 MemberFault Below (Some (Leaf kind)) n run e = LeafFault kind n run e
 
--- a fault of a rule: of its own fields, that it has no member, or of its last one
+-- a fault of a rule: in its fields, that it has no member, or in its last member
 pub data LevelFault (side : Side) (Below : List (List ℕ) → Refusal → Type 0)
     (parts : List (List ℕ)) (e : Refusal) : Type 0 where
   rule_fields : MessageFault (rule_keys side) parts e → LevelFault side Below parts e
@@ -80,13 +80,12 @@ pub data LevelFault (side : Side) (Below : List (List ℕ) → Refusal → Type 
       → MemberFault Below (member_in (members side) n) n (member_run (rule_keys side) fs) e
       → LevelFault side Below parts e
 
--- a fault of a rule that may have `depth` levels: past them any rule is one too deep, whatever it
--- holds
+-- a fault of a rule that may have `depth` levels. If it may have none, it is too deep, whatever it holds
 abbrev pub RuleFault : Side → ℕ → List (List ℕ) → Refusal → Type 0
 RuleFault side zero parts e = e ≡ TooLarge
 RuleFault side (suc depth) parts e = LevelFault side (RuleFault side depth) parts e
 
--- one of several rules, each of one payload, has a fault
+-- at least one of these rules has a fault; each rule is one payload
 abbrev pub SomeRuleFault : Side → ℕ → List (List ℕ) → Refusal → Type 0
 SomeRuleFault side depth children e = (child : List ℕ) × Contains children child
     × RuleFault side depth (child ∷ []) e

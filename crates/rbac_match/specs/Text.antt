@@ -15,25 +15,25 @@ use Rattle.proto_wire.specs.Oneof.{last_number, member_in}
 use Rattle.rbac_match.specs.declared.text.Pattern.{Pattern}
 use Rattle.rbac_match.specs.declared.text.Pattern.TheVariants.{Exact, Prefix, Suffix, Contains}
 
--- ---- what it says
+-- ---- the meaning
 
--- how a text is compared with the one that is sought, as bytes; with `ignore_case` A to Z count as
--- a to z, and no other letter changes
+-- a test that compares a text with the sought one, as bytes. With `ignore_case`, A to Z count as a to z, and
+-- no other letter changes
 pub record TextTest : Type 0 where
   pub pattern : Pattern
   pub sought : List ℕ
   pub ignore_case : Bool
 
--- the bytes that are compared
+-- the bytes to compare: in lower case, if the case is ignored
 abbrev pub folded : Bool → List ℕ → List ℕ
 folded ignore_case bytes = if ignore_case then str_to_ascii_lowercase bytes else bytes
 
--- the part stands in the bytes: it begins them, or stands in what follows the first
+-- the bytes contain the part: they begin with it, or the bytes after the first contain it
 abbrev pub is_substring : List ℕ → List ℕ → Bool
 is_substring part [] = starts_with nat_eq [] part
 is_substring part (b ∷ bytes) = starts_with nat_eq (b ∷ bytes) part || is_substring part bytes
 
--- whether the bytes are, begin with, end with or contain those that are sought
+-- whether the bytes are, begin with, end with or contain the sought ones
 abbrev pub pattern_holds : Pattern → List ℕ → List ℕ → Bool
 pattern_holds Exact sought bytes = bytes_eq bytes sought
 pattern_holds Prefix sought bytes = starts_with nat_eq bytes sought
@@ -45,7 +45,7 @@ abbrev pub text_holds : TextTest → List ℕ → Bool
 text_holds test bytes = let fold = folded test.ignore_case in
     pattern_holds test.pattern (fold test.sought) (fold bytes)
 
--- ---- its message
+-- ---- the message
 
 -- the numbers of the fields of a StringMatcher (`type.matcher.v3.StringMatcher`)
 abbrev pub string_field : record { exact : ℕ; prefix : ℕ; suffix : ℕ; safe_regex : ℕ; ignore_case : ℕ; contains : ℕ }
@@ -66,7 +66,7 @@ abbrev pub IsFilled : Pattern → List ℕ → Type 0
 IsFilled Exact sought = Unit {0}
 IsFilled pattern sought = sought ≢ []
 
--- the bytes may be sought so
+-- the bytes may be sought by this pattern
 abbrev pub IsSought : Pattern → List ℕ → Type 0
 IsSought pattern bytes = IsUtf8 bytes × IsFilled pattern bytes
 
@@ -81,15 +81,15 @@ pub record IsTextMatcher (parts : List (List ℕ)) (test : TextTest) : Type 0 wh
   pub accepted : IsSought test.pattern test.sought
   pub case : test.ignore_case ≡ bool_at string_field.ignore_case fields
 
--- ---- its faults
+-- ---- the faults
 
--- a fault of a text that is sought: one by a regular expression is not supported
+-- a fault of a sought text; a regular expression is not supported
 abbrev pub SoughtFault : Option Pattern → List ℕ → Refusal → Type 0
 SoughtFault None bytes e = e ≡ Unsupported
 SoughtFault (Some pattern) bytes e =
     Utf8Fault bytes e ⊎ ((e ≡ OutOfRange) × ¬ IsFilled pattern bytes)
 
--- a fault of a StringMatcher: of its fields, that it has no member, or of the last one
+-- a fault of a StringMatcher: in its fields, that it has no member, or in its last member
 pub data TextFault (parts : List (List ℕ)) (e : Refusal) : Type 0 where
   text_fields : MessageFault string_keys parts e → TextFault parts e
   no_pattern : (fs : List Wire) → IsMessage string_keys parts fs

@@ -1,5 +1,4 @@
--- What single steps of the code come to: clauses of private functions cite these, and no promise
--- does.
+-- What single steps of the code do. Only clauses of private functions cite these definitions.
 pub mod Leaves
 pub mod Nodes
 pub mod Ports

@@ -15,8 +15,7 @@ const PRINCIPAL_NAME: u32 = 2;
 
 static AUTHENTICATED: [Key; 1] = keys![Len PRINCIPAL_NAME];
 
-/// Reads an Authenticated, which stands in the parts: the test of the peer's name, or none where
-/// every name will do.
+/// Reads an Authenticated from its parts: the test of the peer's name, or `None` if every name is accepted.
 pub(crate) fn read_authenticated<'a>(
     alloc: Global,
     parts: &[&'a [u8]],

@@ -1,4 +1,4 @@
-//! Ranges of addresses, and which addresses of a request they are compared with.
+//! Ranges of addresses, and the addresses of a request that are compared with them.
 
 ghost use Rattle.std.specs.Prelude.{◌≡◌, ◌<◌, ◌≤◌, IfOk, IfErr, IsUtf8, map};
 ghost use Rattle.attributes.specs.Address.{IsIpText, width_of};
@@ -17,14 +17,14 @@ use attributes::{Cidr, Conn, Ip, Request, parse_ip};
 use proto_wire::{Field, Key, Refusal, keys, payloads_of, read_message, text_at, uint32_at};
 use std::alloc::Global;
 
-/// Which address of a request a rule looks at.
+/// The address of a request that a rule tests.
 #[derive(Clone, Copy, PartialEq, Eq, Debug)]
 pub enum AddressSource {
-    /// Where the connection goes to: a permission's `destination_ip`.
+    /// The address that the connection goes to: a permission's `destination_ip`.
     Destination,
-    /// Where the connection comes from: a principal's `direct_remote_ip`.
+    /// The address that the connection comes from: a principal's `direct_remote_ip`.
     DirectRemote,
-    /// Where the request comes from: a principal's `remote_ip`.
+    /// The address that the request comes from: a principal's `remote_ip`.
     Remote,
 }
 
@@ -44,16 +44,16 @@ const ADDRESS_PREFIX: u32 = 1;
 
 const PREFIX_LEN: u32 = 2;
 
-/// The value of a UInt32Value.
+/// The field of a UInt32Value's value.
 const VALUE: u32 = 1;
 
 static CIDR_RANGE: [Key; 2] = keys![Len ADDRESS_PREFIX, Len PREFIX_LEN];
 
 static UINT32_VALUE: [Key; 1] = keys![Varint VALUE];
 
-/// Reads a range of addresses (`envoy.config.core.v3.CidrRange`), which stands in the parts:
-/// `BadText` where its address is not UTF-8, `OutOfRange` where that spells no address or has fewer
-/// bits than the prefix. No `prefix_len` is 0.
+/// Reads a range of addresses (`envoy.config.core.v3.CidrRange`) from its parts. `BadText`: the address is
+/// not UTF-8. `OutOfRange`: the text spells no address, or the address has fewer bits than the prefix. An
+/// absent `prefix_len` is 0.
 pub(crate) fn read_cidr(alloc: Global, parts: &[&[u8]]) -> Result<Cidr, Refusal>
     ensures found { IfOk result (λ range. IsCidr (parts_view parts.now) range) }
     ensures fault { IfErr result (MemoryOr (CidrFault (parts_view parts.now))) }
@@ -65,7 +65,7 @@ pub(crate) fn read_cidr(alloc: Global, parts: &[&[u8]]) -> Result<Cidr, Refusal>
     range_of(address, prefix_len)
 }
 
-/// The address that the fields of a range name.
+/// The address in the fields of a range.
 fn address_prefix(fields: &[Field<'_>]) -> Result<Ip, Refusal>
     ensures found { let text = bytes_at cidr_field.address_prefix (map field_view fields.now) in
         IfOk result (λ ip. IsUtf8 text × IsIpText text ip) }
@@ -76,8 +76,7 @@ fn address_prefix(fields: &[Field<'_>]) -> Result<Ip, Refusal>
     parse_ip(text).ok_or(Refusal::OutOfRange)
 }
 
-/// Reads a uint32 in a message of its own (`google.protobuf.UInt32Value`), which stands in the
-/// parts.
+/// Reads a `google.protobuf.UInt32Value`, a message that holds one uint32, from its parts.
 fn read_uint32(alloc: Global, parts: &[&[u8]]) -> Result<u32, Refusal>
     ensures found { IfOk result (λ n. IsUint32 (parts_view parts.now) n) }
     ensures fault { IfErr result (MemoryOr (MessageFault uint32_keys (parts_view parts.now))) }
@@ -86,7 +85,8 @@ fn read_uint32(alloc: Global, parts: &[&[u8]]) -> Result<u32, Refusal>
     Ok(uint32_at(&fields, VALUE))
 }
 
-/// The range of the addresses that begin with so many bits of this one, unless it has fewer.
+/// The range of the addresses that begin with the first `prefix_len` bits of `address`, unless it has fewer
+/// bits.
 fn range_of(address: Ip, prefix_len: u32) -> Result<Cidr, Refusal>
     ensures found { IfOk result (λ range. (range.address ≡ address)
         × (range.prefix_len ≡ prefix_len) × (prefix_len ≤ width_of address)) }
@@ -98,7 +98,7 @@ fn range_of(address: Ip, prefix_len: u32) -> Result<Cidr, Refusal>
     }
 }
 
-/// Whether that address of the request is in the range; one that is not known is in none.
+/// Whether this address of the request is in the range; an unknown address is in no range.
 #[inline(never)]
 pub(crate) fn address_matches(source: AddressSource, range: &Cidr, request: &Request) -> bool
     ensures { result ≡ matcher_holds (Address source range.now) request.now }

@@ -1,4 +1,4 @@
-//! Tests of a request's header (`envoy.config.route.v3.HeaderMatcher`), and how they are read.
+//! Tests of a request's header (`envoy.config.route.v3.HeaderMatcher`), and the reading of their messages.
 
 ghost use Rattle.std.specs.Prelude.{◌≡◌, ◌≢◌, ◌⊎◌, ℕ, [], Some, None, IfOk, IfErr, map};
 ghost use Rattle.std.specs.Map.{keys_of};
@@ -20,19 +20,18 @@ use proto_wire::{
 use std::alloc::Global;
 use std::marker::Model;
 
-/// What is asked of a header.
+/// What a test requires of a header.
 #[derive(Debug, Drop)]
 pub enum Specifier<'a> {
-    /// That it is there, or that it is not.
+    /// The header is present if `true`, and missing if `false`.
     Present(bool),
-    /// That its value passes the test of texts.
+    /// The header's value passes the test of texts.
     Text(TextMatcher<'a>),
-    /// That its value is a decimal number in the range.
+    /// The header's value is a decimal number in the range.
     Range(Int64Range),
 }
 
-/// A test of a request's header, as it stands in a message; the case of letters in its name does not
-/// count.
+/// A test of a request's header, as a message has it. The case of letters in its name does not count.
 #[derive(Debug, Drop)]
 pub struct HeaderMatcher<'a> {
     pub(crate) name: &'a str,
@@ -55,7 +54,7 @@ impl<'a> Model for HeaderMatcher<'a> {
     } };
 }
 
-/// What a member of the oneof asks.
+/// A supported member of the oneof, by the kind of its test.
 #[derive(Clone, Copy, PartialEq, Eq, Debug)]
 pub(crate) enum HeaderMember {
     /// `exact_match`, `prefix_match`, `suffix_match` or `contains_match`
@@ -101,9 +100,9 @@ static HEADER_MATCHER: [Key; 11] = keys![
     Len SAFE_REGEX_MATCH, Len CONTAINS_MATCH, Len STRING_MATCH
 ];
 
-/// Reads a HeaderMatcher, which stands in the parts: `Missing` without a name, `BadText` where the
-/// name or the text of the member that counts is not UTF-8, `OutOfRange` where a prefix, a suffix
-/// or a contained text is empty, `Unsupported` where that member is a regular expression.
+/// Reads a HeaderMatcher from its parts. `Missing`: it has no name. `BadText`: the name or the last member's
+/// text is not UTF-8. `OutOfRange`: a prefix, a suffix or a contained text is empty. `Unsupported`: the last
+/// member is a regular expression.
 pub(crate) fn read_header_matcher<'a>(
     alloc: Global,
     parts: &[&'a [u8]],
@@ -124,7 +123,7 @@ pub(crate) fn read_header_matcher<'a>(
     })
 }
 
-/// The name as it stands in the message.
+/// The name as the message has it; it is not empty.
 fn header_name<'a>(fields: &[Field<'a>]) -> Result<&'a str, Refusal>
     ensures found { let bytes = bytes_at header_field.name (map field_view fields.now) in
         IfOk result (λ name. (name.now ≡ bytes) × IsUtf8 bytes × (bytes ≢ [])) }
@@ -138,7 +137,7 @@ fn header_name<'a>(fields: &[Field<'a>]) -> Result<&'a str, Refusal>
     text_of(bytes)
 }
 
-/// What the last member asks; without a member it is that the header is there.
+/// What the last member requires; without a member, the header must be present.
 fn read_specifier<'a>(alloc: Global, fields: &[Field<'a>]) -> Result<Specifier<'a>, Refusal>
     ensures found { IfOk result (λ s. SaysSpecifier (map field_view fields.now) s) }
     ensures fault { let fs = map field_view fields.now in IfErr result (MemoryOr (λ e.
@@ -153,7 +152,7 @@ fn read_specifier<'a>(alloc: Global, fields: &[Field<'a>]) -> Result<Specifier<'
     read_header_member(alloc, member, number, &run)
 }
 
-/// What the member of this number asks; a regular expression is not supported.
+/// The member of this number; a regular expression is not supported.
 fn header_member(number: u32) -> Result<HeaderMember, Refusal>
     ensures found { IfOk result (λ member. member_in specifiers number ≡ Some member) }
     ensures fault { IfErr result (λ e. (member_in specifiers number ≡ None) × (e ≡ Unsupported)) }
@@ -170,7 +169,7 @@ fn header_member(number: u32) -> Result<HeaderMember, Refusal>
     }
 }
 
-/// Reads what this member asks from its run; in a text of its own the case of letters counts.
+/// Reads from its run what this member requires. If the member is itself a text, the case of letters counts.
 fn read_header_member<'a>(
     alloc: Global,
     member: HeaderMember,

@@ -1,4 +1,4 @@
-//! Ranges of whole numbers, how their messages are read, and which texts are numbers in them.
+//! Ranges of whole numbers, the reading of their messages, and which texts are numbers in them.
 
 ghost use Rattle.std.specs.Prelude.{◌≡◌, IfOk, IfErr};
 ghost use Rattle.proto_wire.specs.Merge.{parts_view};
@@ -11,7 +11,7 @@ use crate::keys::{END, RANGE, START};
 use proto_wire::{Refusal, int64_at, read_message};
 use std::alloc::Global;
 
-/// The numbers from `start` on that are below `end`; none where `start` is not below `end`.
+/// The numbers from `start` on that are below `end`; none if `start` is not below `end`.
 #[derive(Clone, Copy, PartialEq, Eq, Debug)]
 pub struct Int64Range {
     start: i64,
@@ -26,7 +26,7 @@ impl Int64Range {
         self.start <= number && number < self.end
     }
 
-    /// Whether the whole text is a decimal number of 64 bits that is in the range.
+    /// Whether the whole text is a decimal number of 64 bits in the range.
     pub(crate) fn matches(&self, text: &str) -> bool
         ensures { result ≡ range_holds self.now text.now }
     {
@@ -37,15 +37,15 @@ impl Int64Range {
     }
 }
 
-/// The number that the whole text spells: decimal digits, one at least, behind an optional `+` or
-/// `-`. `None` for another text, and for a number that takes more than 64 bits.
+/// The number that the whole text spells: an optional `+` or `-`, then at least one decimal digit. `None` for
+/// any other text, and for a number that does not fit in 64 bits.
 fn parse_int64(text: &str) -> Option<i64>
     ensures { result ≡ int64_in text.now }
 {
     text.parse().ok()
 }
 
-/// Reads an Int64Range, whose message stands in the parts (`envoy.type.v3.Int64Range`).
+/// Reads an Int64Range (`envoy.type.v3.Int64Range`) from its parts.
 pub(crate) fn read_int64_range(alloc: Global, parts: &[&[u8]]) -> Result<Int64Range, Refusal>
     ensures found { IfOk result (λ range. IsRange (parts_view parts.now) range) }
     ensures fault { IfErr result (MemoryOr (MessageFault range_keys (parts_view parts.now))) }

@@ -7,7 +7,8 @@ ghost use Rattle.rbac_match.specs.Message.{rule_keys};
 use crate::rule::Side;
 use proto_wire::{Key, keys};
 
-/// `and_rules` of a permission, and `and_ids` of a principal: members that hold rules have one number in both.
+/// `and_rules` of a permission, and `and_ids` of a principal. Members that hold rules have the same number in
+/// both.
 pub const AND: u32 = 1;
 
 /// `or_rules` of a permission, and `or_ids` of a principal.
@@ -56,13 +57,13 @@ pub(crate) mod principal {
     pub(crate) const FILTER_STATE: u32 = 12;
 }
 
-/// The rules of a set, or its ids.
+/// `rules` of a permission's set, and `ids` of a principal's set.
 pub const RULES: u32 = 1;
 
-/// A range's first integer.
+/// The field of a range's first integer.
 pub(crate) const START: u32 = 1;
 
-/// The integer after a range's last.
+/// The field of the integer after a range's last.
 pub(crate) const END: u32 = 2;
 
 static PERMISSION: [Key; 12] = keys![

@@ -1,5 +1,5 @@
-//! Laws of the definitions: what each test means as a fact, and that each HeaderMatcher reads in
-//! one way or has a fault.
+//! Laws of the definitions: what each test means, and that payloads are exactly one HeaderMatcher or have a
+//! fault.
 
 ghost use Rattle.std.specs.Prelude.{◌≡◌, ◌≢◌, ◌↔◌, ◌⊎◌, ◌<◌, ◌≤◌, ◌≤ℤ◌, ◌<ℤ◌, ◌+◌, ◌==◌, ◌||◌, ℕ, ℤ, pos, neg_ℤ, FitsSigned, Bool, true, false, not, List, [], ◌∷◌, ◌++◌, Option, Some, None, IsTrue, codes};
 ghost use Rattle.std.specs.Char.{to_ascii_lowercase};
@@ -27,45 +27,44 @@ ghost use Rattle.rbac_match.specs.declared.matcher.Matcher.TheVariants.{Header, 
 ghost use Rattle.rbac_match.specs.declared.text.Pattern.{Pattern};
 ghost use Rattle.rbac_match.specs.declared.text.Pattern.TheVariants.{Exact, Prefix, Suffix, Contains};
 
-/// An exact text is the whole text.
+/// A text passes an exact test if and only if it is the sought text.
 pub fn exact_is_the_text()
     ensures { (whole bytes : List ℕ) → IsTrue (pattern_holds Exact whole bytes) ↔ (bytes ≡ whole) }
 {}
 
-/// A prefix has a rest behind it.
+/// A text passes a prefix test if and only if it is the prefix and then some rest.
 pub fn prefix_has_a_rest()
     ensures { (start bytes : List ℕ) → IsTrue (pattern_holds Prefix start bytes)
         ↔ ((rest : List ℕ) × (bytes ≡ start ++ rest)) }
 {}
 
-/// A suffix has a front before it.
+/// A text passes a suffix test if and only if it is some front and then the suffix.
 pub fn suffix_has_a_front()
     ensures { (end bytes : List ℕ) → IsTrue (pattern_holds Suffix end bytes)
         ↔ ((front : List ℕ) × (bytes ≡ front ++ end)) }
 {}
 
-/// A contained text has a front before it and a rest behind it.
+/// A text passes a contains test if and only if it is some front, then the part, then some rest.
 pub fn contained_has_both()
     ensures { (part bytes : List ℕ) → IsTrue (pattern_holds Contains part bytes)
         ↔ ((front rest : List ℕ) × (bytes ≡ front ++ (part ++ rest))) }
 {}
 
-/// A test that ignores case is one of the text in lower case, for the one that is sought in lower
-/// case.
+/// A test that ignores case compares the text in lower case with the sought text in lower case.
 pub fn case_is_lowered()
     ensures { (pattern : Pattern) (sought bytes : List ℕ)
         → text_holds (record { pattern = pattern; sought = sought; ignore_case = true }) bytes
         ≡ pattern_holds pattern (str_to_ascii_lowercase sought) (str_to_ascii_lowercase bytes) }
 {}
 
-/// Lower case changes the bytes of A to Z alone.
+/// Lower case changes only the bytes of A to Z.
 pub fn only_letters_are_lowered()
     ensures letters { (b : ℕ) → 65 ≤ b → b ≤ 90 → to_ascii_lowercase b ≡ b + 32 }
     ensures others { (b : ℕ) → (b < 65) ⊎ (90 < b) → to_ascii_lowercase b ≡ b }
 {}
 
-/// A path is tested without the query and the fragment behind it: all of a target without `?` (63)
-/// and `#` (35), and of another what stands before the first of them.
+/// A path is tested without its query and its fragment. A target without `?` (63) and `#` (35) is tested
+/// whole. Any other target is tested up to the first of them.
 pub fn path_ends_before_a_query()
     ensures whole { (test : TextTest) (request : RequestValue)
         → list_any (λ b. (b == 63) || (b == 35)) request.target ≡ false
@@ -76,7 +75,7 @@ pub fn path_ends_before_a_query()
         → matcher_holds (UrlPath test) request ≡ text_holds test path }
 {}
 
-/// The server name that is there is tested, and else the empty text.
+/// The server name is tested if there is one; otherwise the empty text is tested.
 pub fn absent_server_name_is_empty()
     ensures there { (test : TextTest) (request : RequestValue) (name : List ℕ)
         → request.facts.requested_server_name ≡ Some name
@@ -86,8 +85,8 @@ pub fn absent_server_name_is_empty()
         → matcher_holds (ServerName test) request ≡ text_holds test [] }
 {}
 
-/// No peer is authenticated where mutual TLS is not known to be there; where it is, every peer is,
-/// if no name is asked.
+/// No peer is authenticated unless the connection is known to use mutual TLS. On such a connection every peer
+/// is authenticated, if no name is required.
 pub fn mutual_tls_is_needed()
     ensures without { (name : Option TextTest) (request : RequestValue)
         → request.facts.mtls ≢ Some true → matcher_holds (Authenticated name) request ≡ false }
@@ -95,8 +94,8 @@ pub fn mutual_tls_is_needed()
         → matcher_holds (Authenticated None) request ≡ true }
 {}
 
-/// The name that is asked is compared with the first that is there: the URI SAN, the DNS SAN, the
-/// subject; with none of them no peer has it.
+/// The required name is compared with the first that is present: the URI SAN, the DNS SAN, the subject. If
+/// none is present, no peer passes.
 pub fn first_name_counts()
     ensures uri { (test : TextTest) (request : RequestValue) (name : List ℕ)
         → request.facts.mtls ≡ Some true
@@ -120,8 +119,7 @@ pub fn first_name_counts()
         → matcher_holds (Authenticated (Some test)) request ≡ false }
 {}
 
-/// What is read of a text is the number that it spells as Rust's `parse` reads one, where that has
-/// 64 bits.
+/// The number of a text is the one that Rust's `parse` reads, if it fits in 64 bits.
 pub fn decimal_text_is_its_number()
     ensures { (text : List ℕ) (z : ℤ) → (int64_in text ≡ Some z)
         ↔ (IsNumeral 10 (without_leading_sign text) × FitsSigned w64 z
@@ -134,14 +132,14 @@ pub fn range_is_two_comparisons()
         ↔ ((range.start ≤ℤ z) × (z <ℤ range.end)) }
 {}
 
-/// A range takes the texts that spell a number of 64 bits in it, and no others.
+/// A range takes a text if and only if it spells a number of 64 bits in the range.
 pub fn range_takes_its_decimal_texts()
     ensures { (range : Int64Range) (text : List ℕ) → IsTrue (range_holds range text)
         ↔ ((z : ℤ) × (int64_in text ≡ Some z) × (range.start ≤ℤ z) × (z <ℤ range.end)) }
 {}
 
-/// The range from -1 to 10 takes `+9` and `-1`, and neither its end nor a text that is no number of
-/// 64 bits.
+/// The range from -1 to 10 takes `+9` and `-1`. It takes neither its end nor a text that is no number of 64
+/// bits. Inverted, it takes `9x`, but no missing header.
 pub fn range_from_minus_one_to_ten()
     ensures taken { (range : Int64Range) → range ≡ record { start = neg_ℤ (pos 1); end = pos 10 }
         → (range_holds range (codes "+9") ≡ true) × (range_holds range (codes "-1") ≡ true) }
@@ -155,59 +153,59 @@ pub fn range_from_minus_one_to_ten()
         × (specifier_holds (Within range) true false None ≡ false) }
 {}
 
-/// Of a header that is there, inversion turns each answer.
+/// If a header is present, inversion negates every answer.
 pub fn inversion_turns_the_answer()
     ensures { (asked : Specifier) (empty : Bool) (value : List ℕ)
         → specifier_holds asked true empty (Some value)
         ≡ not (specifier_holds asked false empty (Some value)) }
 {}
 
-/// Of a missing header, inversion turns the answer where presence is asked.
+/// If a header is missing, inversion negates the answer of a test of presence.
 pub fn inversion_turns_presence()
     ensures { (wanted empty : Bool)
         → specifier_holds (Present wanted) true empty None
         ≡ not (specifier_holds (Present wanted) false empty None) }
 {}
 
-/// A missing header passes no test of its value, inverted or not.
+/// A missing header that does not count as empty passes no test of its value, inverted or not.
 pub fn missing_header_passes_no_value_test()
     ensures { (h : HeaderTest) (r : RequestValue) → header_of r h.name ≡ None
         → h.treat_missing_header_as_empty ≡ false
         → ((wanted : Bool) → h.specifier ≢ Present wanted) → matcher_holds (Header h) r ≡ false }
 {}
 
-/// Where a missing header counts as empty, a test of its value answers as for the empty value.
+/// If a missing header counts as empty, a test of its value answers as for the empty value.
 pub fn missing_header_may_count_as_empty()
     ensures { (asked : Specifier) (invert : Bool) → ((wanted : Bool) → asked ≢ Present wanted)
         → specifier_holds asked invert true None ≡ specifier_holds asked invert false (Some []) }
 {}
 
-/// That a missing header counts as empty does not change what is said of presence.
+/// The answer of a test of presence is the same, whether or not a missing header counts as empty.
 pub fn missing_header_is_not_present()
     ensures { (wanted invert : Bool)
         → specifier_holds (Present wanted) invert true None
         ≡ specifier_holds (Present wanted) invert false None }
 {}
 
-/// Payloads are a HeaderMatcher or have a fault.
+/// All payloads are a HeaderMatcher or have a fault.
 pub fn header_total()
     ensures { (parts : List (List ℕ)) → ((h : HeaderTest) × IsHeader parts h)
         ⊎ ((e : Refusal) × HeaderFault parts e) }
 {}
 
-/// No payloads are both a HeaderMatcher and at fault.
+/// No payloads both are a HeaderMatcher and have a fault.
 pub fn header_disjoint()
     ensures { (parts : List (List ℕ)) (h : HeaderTest) (e : Refusal) → IsHeader parts h
         → ¬ (HeaderFault parts e) }
 {}
 
-/// Payloads are one HeaderMatcher at most.
+/// Payloads are at most one HeaderMatcher.
 pub fn header_unique()
     ensures { (parts : List (List ℕ)) (h k : HeaderTest) → IsHeader parts h → IsHeader parts k
         → h ≡ k }
 {}
 
-/// An address is in a range where it is known, of the range's family, and begins with the range's
+/// An address is in a range if and only if it is known, is of the range's family, and begins with the range's
 /// bits.
 pub fn an_address_has_the_prefix()
     ensures { (source : AddressSource) (range : Range) (request : RequestValue)
@@ -216,15 +214,14 @@ pub fn an_address_has_the_prefix()
         × (share_prefix range.prefix_len range.address ip ≡ true)) }
 {}
 
-/// A port matches where the request's is known and is this one.
+/// A test of a port holds if and only if the request's port is known and is this one.
 pub fn a_port_is_the_same()
     ensures { (port : ℕ) (request : RequestValue)
         → IsTrue (matcher_holds (Port port) request)
         ↔ (request.facts.destination_port ≡ Some port) }
 {}
 
-/// A range of ports is two comparisons with a port that is known: its start is in it, and its end
-/// is not.
+/// A test of a range of ports holds if and only if the port is known, not below the start, and below the end.
 pub fn a_port_range_is_two_comparisons()
     ensures { (span : PortSpan ℕ) (request : RequestValue)
         → IsTrue (matcher_holds (PortRange span) request)
@@ -232,7 +229,7 @@ pub fn a_port_range_is_two_comparisons()
         × (span.start ≤ port) × (port < span.end)) }
 {}
 
-/// The rules that are read of the tokens of rules are these rules.
+/// Decoding the tokens of rules gives these rules.
 pub fn tokens_are_their_rules()
     ensures { (rules : Formulas) → decode (tokens rules) ≡ rules }
 {}

@@ -16,7 +16,7 @@ use crate::text::read_text_matcher;
 use proto_wire::{Field, Refusal, payloads_of};
 use std::alloc::Global;
 
-/// Reads a test of this kind from the run of its member, which has this number.
+/// Reads a test of this kind from the run of its member; the member has this number.
 pub(crate) fn read_leaf<'a>(
     alloc: Global,
     kind: LeafKind,

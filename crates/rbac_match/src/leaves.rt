@@ -23,7 +23,7 @@ use attributes::Request;
 use std::alloc::{AllocError, Global};
 use std::marker::Model;
 
-/// The header that a test looks at: its name in lower case, and what the test does with its answer.
+/// The header of a test: its name in lower case, and the two flags of its HeaderMatcher.
 #[derive(Clone, Copy, Debug)]
 pub(crate) struct NameLeaf {
     pub(crate) name: Span,
@@ -31,32 +31,32 @@ pub(crate) struct NameLeaf {
     pub(crate) treat_missing_header_as_empty: bool,
 }
 
-/// A test of one fact of a request; its texts stand in the pool.
+/// A test of one fact of a request; its texts are in the pool.
 #[derive(Clone, Copy, Debug)]
 pub(crate) enum Leaf {
-    /// That the header is there, or that it is not.
+    /// The header is present if `true`, and missing if `false`.
     Present(NameLeaf, bool),
-    /// That the header's value passes the test of texts.
+    /// The header's value passes the test of texts.
     HeaderText(NameLeaf, TextLeaf),
-    /// That the header's value is a decimal number in the range.
+    /// The header's value is a decimal number in the range.
     HeaderRange(NameLeaf, Int64Range),
-    /// That an address of the request is in the range at this place.
+    /// An address of the request is in the pool's range at this place.
     Address(AddressSource, u32),
-    /// That the request goes to this port.
+    /// The request goes to this port.
     Port(u16),
-    /// That the request goes to one of these ports.
+    /// The request goes to one of these ports.
     PortRange(PortRange),
-    /// Of the requested server name.
+    /// The requested server name passes; an absent one is the empty text.
     ServerName(TextLeaf),
-    /// Of the target up to its first `?` or `#`.
+    /// The target up to its first `?` or `#` passes.
     UrlPath(TextLeaf),
-    /// That the connection is by mutual TLS.
+    /// The connection uses mutual TLS.
     Mutual,
-    /// The same, and of its peer's name.
+    /// The connection uses mutual TLS, and its peer's name passes.
     Named(TextLeaf),
 }
 
-/// Tests, seen as the list of what they ask.
+/// Tests; their value is the list of their matchers.
 #[derive(Debug, Drop)]
 pub(crate) struct Leaves {
     leaves: Vec<Leaf>,
@@ -76,7 +76,7 @@ impl Model for Leaves {
 }
 
 impl Leaves {
-    /// No tests.
+    /// An empty list of tests.
     pub(crate) fn new(alloc: Global) -> Self
         ensures { result ≡ [] }
     {
@@ -86,7 +86,7 @@ impl Leaves {
         }
     }
 
-    /// Adds a test behind the others, and gives its place.
+    /// Appends a test, and gives its place.
     pub(crate) fn push(&mut self, alloc: Global, test: &Matcher<'_>) -> Result<u32, AllocError>
         ensures place { IfOk result (λ place. place ≡ length self.old) }
         ensures pushed { OnOk result (self.new ≡ self.old ++ test.now ∷ []) }
@@ -98,7 +98,7 @@ impl Leaves {
         Ok(place)
     }
 
-    /// Gives back the room in which nothing is kept.
+    /// Frees the unused capacity.
     pub(crate) fn shrink(&mut self)
         ensures { self.new ≡ self.old }
     {
@@ -106,7 +106,7 @@ impl Leaves {
         self.pool.shrink();
     }
 
-    /// Whether the request passes the test at this place; where there is none, each does.
+    /// Whether the request passes the test at this place; if there is no test, every request passes.
     #[inline(always)]
     pub(crate) fn passes(&self, place: u32, request: &Request) -> bool
         ensures { result ≡ passes_at (slice_get self.now place) request.now }
@@ -117,7 +117,7 @@ impl Leaves {
         }
     }
 
-    /// How the path of each request begins that passes the test at this place.
+    /// A start of the path of every request that passes the test at this place.
     pub(crate) fn path_start(&self, place: u32) -> &[u8]
         ensures { (r : RequestValue) → passes_at (slice_get self.now place) r ≡ true
             → Begins result.now (url_path_of r.target) }
@@ -128,8 +128,8 @@ impl Leaves {
         }
     }
 
-    /// The header that the test at this place looks at, and its value in each request that passes, where
-    /// there is only one.
+    /// The name of the header that the test at this place reads, and its value in each request that passes,
+    /// if only one passes. A missing header counts as empty.
     pub(crate) fn header_value(&self, place: u32) -> Option<(&str, &[u8])>
         ensures { IfSome result (λ need. (r : RequestValue)
             → passes_at (slice_get self.now place) r ≡ true
@@ -142,7 +142,7 @@ impl Leaves {
     }
 }
 
-/// How the path of each request begins that passes the leaf.
+/// A start of the path of every request that passes the leaf's test.
 fn leaf_start<'a>(pool: &'a Pool, leaf: &Leaf) -> &'a [u8]
     requires { GoodLeaf pool.now leaf.now }
     ensures { (r : RequestValue) → matcher_holds (leaf_in pool.now leaf.now) r ≡ true
@@ -154,7 +154,8 @@ fn leaf_start<'a>(pool: &'a Pool, leaf: &Leaf) -> &'a [u8]
     }
 }
 
-/// The header that the leaf looks at, and its value in each request that passes, where there is only one.
+/// The name of the header that the leaf's test reads, and its value in each request that passes, if only one
+/// passes.
 fn leaf_value<'a>(pool: &'a Pool, leaf: &Leaf) -> Option<(&'a str, &'a [u8])>
     requires { GoodLeaf pool.now leaf.now }
     ensures { IfSome result (λ need. (r : RequestValue)
@@ -167,7 +168,7 @@ fn leaf_value<'a>(pool: &'a Pool, leaf: &Leaf) -> Option<(&'a str, &'a [u8])>
     }
 }
 
-/// The same of a test of the header's text.
+/// The same for a test of the header's text.
 fn text_value<'a>(pool: &'a Pool, name: &NameLeaf, test: &TextLeaf) -> Option<(&'a str, &'a [u8])>
     requires name { GoodName pool.now name.now }
     requires text { GoodText pool.now test.now }
@@ -187,7 +188,7 @@ fn text_value<'a>(pool: &'a Pool, name: &NameLeaf, test: &TextLeaf) -> Option<(&
     }
 }
 
-/// The leaf that is the test, with what it names in the pool.
+/// Makes the leaf of a test, and adds its texts or its range of addresses to the pool.
 fn leaf_of(pool: &mut Pool, alloc: Global, test: &Matcher<'_>) -> Result<Leaf, AllocError>
     ensures grows { Grows pool.old pool.new }
     ensures found { IfOk result (λ leaf. GoodLeaf pool.new leaf × (leaf_in pool.new leaf ≡ test.now)) }
@@ -208,7 +209,7 @@ fn leaf_of(pool: &mut Pool, alloc: Global, test: &Matcher<'_>) -> Result<Leaf, A
     }
 }
 
-/// The leaf that is the test of a header.
+/// Makes the leaf of a test of a header, and adds its texts to the pool.
 fn header_leaf(pool: &mut Pool, alloc: Global, test: &HeaderMatcher<'_>) -> Result<Leaf, AllocError>
     ensures grows { Grows pool.old pool.new }
     ensures found { IfOk result (λ leaf. GoodLeaf pool.new leaf
@@ -226,7 +227,7 @@ fn header_leaf(pool: &mut Pool, alloc: Global, test: &HeaderMatcher<'_>) -> Resu
     }
 }
 
-/// Whether the request passes. It takes no memory.
+/// Whether the request passes the leaf's test. It takes no memory.
 #[inline(always)]
 fn leaf_passes(pool: &Pool, leaf: &Leaf, request: &Request) -> bool
     requires { GoodLeaf pool.now leaf.now }
@@ -239,7 +240,7 @@ fn leaf_passes(pool: &Pool, leaf: &Leaf, request: &Request) -> bool
     }
 }
 
-/// The same, out of line.
+/// The same, in a function that is not inlined.
 #[inline(never)]
 fn other_leaf_passes(pool: &Pool, leaf: &Leaf, request: &Request) -> bool
     requires { GoodLeaf pool.now leaf.now }
@@ -276,8 +277,7 @@ fn path_passes(pool: &Pool, test: &TextLeaf, request: &Request) -> bool
     pool.text_passes(test, request.url_path())
 }
 
-/// Whether the server name that the client asked for passes the test; without one it is the empty
-/// text.
+/// Whether the server name that the client requested passes the test; an absent one is the empty text.
 fn server_name_passes(pool: &Pool, test: &TextLeaf, request: &Request) -> bool
     requires { GoodText pool.now test.now }
     ensures { result ≡ matcher_holds (leaf_in pool.now (ServerName test.now)) request.now }
@@ -288,7 +288,7 @@ fn server_name_passes(pool: &Pool, test: &TextLeaf, request: &Request) -> bool
     }
 }
 
-/// The value of the header, if it is there.
+/// The value of the header in the request, if it is present.
 #[inline(always)]
 fn header_at<'a>(pool: &Pool, name: &NameLeaf, request: &'a Request) -> Option<&'a str>
     requires { GoodName pool.now name.now }
@@ -298,7 +298,7 @@ fn header_at<'a>(pool: &Pool, name: &NameLeaf, request: &'a Request) -> Option<&
     request.header(unsafe { str::from_utf8_unchecked(name) })
 }
 
-/// The same; the empty text where a missing header counts as that.
+/// The same; a missing header that counts as empty has the empty text.
 #[inline(always)]
 fn value_at<'a>(pool: &Pool, name: &NameLeaf, request: &'a Request) -> Option<&'a str>
     requires { GoodName pool.now name.now }
@@ -312,7 +312,7 @@ fn value_at<'a>(pool: &Pool, name: &NameLeaf, request: &'a Request) -> Option<&'
     }
 }
 
-/// Whether the header's value passes the test of texts.
+/// Whether the header's value passes the test of texts, or fails it if the test is inverted.
 #[inline(never)]
 fn header_text_passes(pool: &Pool, name: &NameLeaf, test: &TextLeaf, request: &Request) -> bool
     requires name { GoodName pool.now name.now }
@@ -325,7 +325,7 @@ fn header_text_passes(pool: &Pool, name: &NameLeaf, test: &TextLeaf, request: &R
     }
 }
 
-/// Whether the connection is known to be by mutual TLS, and its peer's name passes the test.
+/// Whether the connection is known to use mutual TLS, and its peer's name passes the test.
 fn named_passes(pool: &Pool, test: &TextLeaf, request: &Request) -> bool
     requires { GoodText pool.now test.now }
     ensures { result ≡ matcher_holds (leaf_in pool.now (Named test.now)) request.now }

@@ -1,5 +1,5 @@
-//! The rules of an RBAC policy: permissions and principals, how their messages are read, and what
-//! they say of a request.
+//! The rules of an RBAC policy: permissions and principals, the reading of their messages, and which requests
+//! they match.
 #![tactic(auto)]
 
 mod authenticated;

@@ -1,4 +1,4 @@
-//! All rules of a filter in one list: each stands before the rules in it.
+//! All rules of a filter in one list; each is before the rules in it.
 
 ghost use Rattle.std.specs.Prelude.{◌≡◌, ◌<◌, ◌≤◌, ◌+◌, ◌-◌, ◌++◌, ◌∷◌, [], List, length, take, drop, IfOk, OnOk};
 ghost use Rattle.rbac_match.specs.Tokens.{every, test as test_of, joins, inside_count, slice_at};
@@ -11,30 +11,30 @@ use crate::search::position;
 use std::alloc::{AllocError, Global};
 use std::marker::Model;
 
-/// How a rule joins those in it.
+/// How a rule joins the rules in it.
 #[derive(Clone, Copy, PartialEq, Eq, Debug)]
 pub enum Joint {
-    /// It matches where each of its rules does.
+    /// It matches if each rule in it matches.
     And,
-    /// It matches where some of its rules do.
+    /// It matches if at least one rule in it matches.
     Or,
-    /// It matches where its rule doesn't.
+    /// It matches if the rule in it does not match.
     Not,
 }
 
-/// A rule, or its head where others are in it.
+/// A rule, or the head of a rule that has others in it.
 #[derive(Clone, Copy, Debug)]
 pub(crate) enum Node {
     /// Matches every request.
     Any,
-    /// Matches where the request passes the test at this place.
+    /// Matches if the request passes the test at this place.
     Leaf(u32),
-    /// Joins the rules of so many nodes, which follow it.
+    /// Joins the rules of the next nodes, of which there are this many.
     Joined(Joint, u32),
 }
 
 impl Node {
-    /// How many nodes the rules in it take.
+    /// The number of nodes of the rules in it.
     #[inline(always)]
     pub(crate) fn inside(&self) -> usize
         ensures { (leaves : List Matcher) → result ≡ inside_count (token_in leaves self.now) }
@@ -46,15 +46,15 @@ impl Node {
     }
 }
 
-/// Rules of a list that stand one behind the other.
+/// Consecutive rules of a list: their first node, and the number of their nodes.
 #[derive(Clone, Copy, Debug)]
 pub struct Rules {
     from: u32,
     count: u32,
 }
 
-/// The rules of a filter, in a list to which readers add. It is seen as tokens: those of each rule are
-/// how it joins the rules in it, with how many tokens they take, and then theirs.
+/// The rules of a filter, in a list to which readers append. Its value is the list of its tokens. A rule's
+/// own token says how it joins the rules in it, and how many tokens they take. Their tokens follow it.
 #[derive(Debug, Drop)]
 pub struct RuleList {
     nodes: Vec<Node>,
@@ -74,7 +74,7 @@ impl Model for RuleList {
 }
 
 impl RuleList {
-    /// No rules.
+    /// An empty list of rules.
     pub fn new(alloc: Global) -> Self
         ensures { result ≡ [] }
     {
@@ -84,19 +84,19 @@ impl RuleList {
         }
     }
 
-    /// Where the list takes its memory.
+    /// The allocator of the list.
     pub fn alloc(&self) -> Global {
         *self.nodes.allocator()
     }
 
-    /// How many tokens there are.
+    /// The number of tokens.
     pub(crate) fn len(&self) -> usize
         ensures { result ≡ length self.now }
     {
         self.nodes.len()
     }
 
-    /// Adds a rule that matches every request.
+    /// Appends a rule that matches every request.
     pub(crate) fn add_any(&mut self) -> Result<(), AllocError>
         ensures { OnOk result (self.new ≡ self.old ++ every ∷ []) }
     {
@@ -104,7 +104,7 @@ impl RuleList {
         Ok(())
     }
 
-    /// Adds a rule that is a test.
+    /// Appends a rule that is a test.
     pub(crate) fn add_leaf(&mut self, test: &Matcher<'_>) -> Result<(), AllocError>
         ensures { OnOk result (self.new ≡ self.old ++ test_of test.now ∷ []) }
     {
@@ -114,8 +114,8 @@ impl RuleList {
         Ok(())
     }
 
-    /// Makes the rule at this place, which was added as one that matches every request, one that joins
-    /// all rules behind it.
+    /// Replaces the rule at this place, which was added as one that matches every request. The new rule joins
+    /// all rules after it.
     pub(crate) fn join(&mut self, place: usize, joint: Joint) -> Result<(), AllocError>
         requires { place < length self.old }
         ensures { OnOk result (self.new ≡ take place self.old
@@ -126,7 +126,7 @@ impl RuleList {
         Ok(())
     }
 
-    /// Gives back the room in which nothing is kept.
+    /// Frees the unused capacity.
     pub fn shrink(&mut self)
         ensures { self.new ≡ self.old }
     {
@@ -134,7 +134,7 @@ impl RuleList {
         self.leaves.shrink();
     }
 
-    /// The rules from this place on.
+    /// The rules from this place to the end of the list.
     pub(crate) fn since(&self, place: usize) -> Result<Rules, AllocError>
         requires { place ≤ length self.now }
         ensures { IfOk result (λ rules. (rules.from ≡ place)
@@ -156,7 +156,7 @@ impl RuleList {
     }
 }
 
-/// The first nodes, so many, and those behind them.
+/// The first `count` nodes, and the nodes after them. If there are no more than `count`, all nodes, and none.
 #[inline(always)]
 pub(crate) fn cut(nodes: &[Node], count: usize) -> (&[Node], &[Node])
     ensures first { result.0.now ≡ take count nodes.now }

@@ -6,22 +6,22 @@ use crate::ports::PortRange;
 use crate::text::TextMatcher;
 use attributes::Cidr;
 
-/// A test of one fact of a request, as it stands in a message. What could be refused was refused when
-/// it was read, so a test cannot fail.
+/// A test of one fact of a request, as a message has it. The reader refuses every fault, so a test cannot
+/// fail.
 #[derive(Debug, Drop)]
 pub enum Matcher<'a> {
-    /// Of a header.
+    /// A header of the request passes.
     Header(HeaderMatcher<'a>),
-    /// That an address of the request is in the range; one that is not known is in none.
+    /// An address of the request is in the range; an unknown address is in no range.
     Address(AddressSource, Cidr),
-    /// That the request goes to this port.
+    /// The request goes to this port.
     Port(u16),
-    /// That the request goes to one of these ports.
+    /// The request goes to one of these ports.
     PortRange(PortRange),
-    /// Of the requested server name; an absent one is the empty text.
+    /// The requested server name passes; an absent one is the empty text.
     ServerName(TextMatcher<'a>),
-    /// Of the target up to its first `?` or `#`.
+    /// The target up to its first `?` or `#` passes.
     UrlPath(TextMatcher<'a>),
-    /// That the connection is by mutual TLS, and of its peer's name.
+    /// The connection uses mutual TLS, and its peer's name passes, if there is a test of it.
     Authenticated(Option<TextMatcher<'a>>),
 }

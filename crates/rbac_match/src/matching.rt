@@ -10,8 +10,8 @@ use crate::leaves::Leaves;
 use crate::list::{Joint, Node, RuleList, Rules, cut};
 use attributes::Request;
 
-/// Whether some of these rules of the list matches the request. It takes no memory. Each node is looked at
-/// once at most.
+/// Whether at least one of these rules of the list matches the request. It takes no memory, and looks at each
+/// node at most once.
 #[inline(always)]
 pub fn any_matches(list: &RuleList, rules: Rules, request: &Request) -> bool
     ensures { result ≡ some_hold request.now (rules_view list.now rules) }
@@ -20,8 +20,8 @@ pub fn any_matches(list: &RuleList, rules: Rules, request: &Request) -> bool
     some_match(leaves, nodes, request)
 }
 
-/// Whether the rule of a node, with the nodes in it, matches the request. A test is made in place, so that a
-/// loop over tests makes no call for each.
+/// Whether the rule of a node matches the request; `inside` has the nodes of the rules in it. A test is
+/// inlined, so a loop over tests makes no call for each.
 #[cycle(matching)]
 #[inline(always)]
 fn node_matches(leaves: &Leaves, node: &Node, inside: &[Node], request: &Request) -> bool
@@ -34,7 +34,7 @@ fn node_matches(leaves: &Leaves, node: &Node, inside: &[Node], request: &Request
     }
 }
 
-/// The same of a rule that joins others.
+/// The same for a rule that joins others.
 #[cycle(matching)]
 #[inline(never)]
 fn joined_match(leaves: &Leaves, joint: Joint, inside: &[Node], request: &Request) -> bool
@@ -47,7 +47,7 @@ fn joined_match(leaves: &Leaves, joint: Joint, inside: &[Node], request: &Reques
     }
 }
 
-/// Whether the first rule of the nodes matches the request.
+/// Whether the first rule of the nodes matches the request; true without nodes.
 #[cycle(matching)]
 fn first_matches(leaves: &Leaves, nodes: &[Node], request: &Request) -> bool
     ensures { result ≡ holds request.now (first_of (formulas_in leaves.now nodes.now)) }
@@ -76,7 +76,7 @@ fn all_match(leaves: &Leaves, nodes: &[Node], request: &Request) -> bool
     true
 }
 
-/// Whether some rule of the nodes matches the request.
+/// Whether at least one rule of the nodes matches the request.
 #[cycle(matching)]
 #[inline(always)]
 fn some_match(leaves: &Leaves, nodes: &[Node], request: &Request) -> bool

@@ -12,7 +12,7 @@ use crate::keys::{AND, ANY, NOT, OR, permission, principal};
 use crate::rule::Side;
 use proto_wire::{Field, Refusal};
 
-/// What a member of the oneof is.
+/// A supported member of the oneof.
 #[derive(Clone, Copy, PartialEq, Eq, Debug)]
 pub(crate) enum Member {
     /// `and_rules` or `and_ids`
@@ -27,7 +27,7 @@ pub(crate) enum Member {
     Leaf(LeafKind),
 }
 
-/// What a test of one fact looks at.
+/// The kind of a test of one fact, by its member of the oneof.
 #[derive(Clone, Copy, PartialEq, Eq, Debug)]
 pub(crate) enum LeafKind {
     /// `header`
@@ -46,14 +46,14 @@ pub(crate) enum LeafKind {
     Authenticated,
 }
 
-/// The member of a rule that counts.
+/// The last member of a rule, which is the one that counts.
 #[derive(Clone, Copy, Debug)]
 pub(crate) struct LastMember {
     pub member: Member,
     pub number: u32,
 }
 
-/// The member of this number; `None` for one that is not supported.
+/// The member of this number; `None` if it is not supported.
 fn member_at(side: Side, number: u32) -> Option<Member>
     ensures { result ≡ member_in (members side) number }
 {
@@ -87,8 +87,8 @@ fn member_at(side: Side, number: u32) -> Option<Member>
     }
 }
 
-/// The last member of a rule's fields, which are all members: `Missing` without one, `Unsupported`
-/// where it is one that is not supported.
+/// The last member of a rule's fields, which are all members. `Missing`: there is none. `Unsupported`: the
+/// last member is not supported.
 pub(crate) fn last_member(side: Side, fields: &[Field<'_>]) -> Result<LastMember, Refusal>
     requires { AllKnown (rule_keys side) (map field_view fields.now) }
     ensures found { IfOk result (λ last.

@@ -1,4 +1,4 @@
-//! What each request has that rules match: how its path begins, and what a header of it is.
+//! What all requests that rules match have in common: how their paths begin, and the value of a header.
 
 ghost use Rattle.std.specs.Prelude.{◌≡◌, ◌≤◌, true, IfSome, List, [], length, take, unwrap_or};
 ghost use Rattle.attributes.specs.Attributes.{url_path_of};
@@ -12,8 +12,8 @@ ghost use Rattle.rbac_match.specs.steps.Nodes.{formula_in, formulas_in};
 use crate::leaves::Leaves;
 use crate::list::{Joint, Node, RuleList, Rules, cut};
 
-/// How the path of each request begins that some of these rules match: by the longest start that the rules
-/// have in common. A rule has one where it is a test of the path, or all of several rules of which one is.
+/// A start of the path of every request that at least one of these rules matches: the longest start that the
+/// rules have in common. A rule has a start if it is a test of the path, or an `And` with such a test in it.
 pub fn path_start(list: &RuleList, rules: Rules) -> &[u8]
     ensures { NeedsStart (rules_view list.now rules) result.now }
 {
@@ -26,9 +26,9 @@ pub fn path_start(list: &RuleList, rules: Rules) -> &[u8]
     common_start(leaves, start, others)
 }
 
-/// What a header is in each request that these rules match: its name, and its value, where a missing one
-/// counts as empty. It is known of one rule that is a test of the header, or all of several rules of which
-/// one is.
+/// A header's name, and its value in every request that at least one of these rules matches; a missing header
+/// counts as empty. It is known for a single rule that is a test of the header, or an `And` with such a test
+/// in it.
 pub fn header_value(list: &RuleList, rules: Rules) -> Option<(&str, &[u8])>
     ensures { IfSome result (λ need. NeedsValue (rules_view list.now rules) need.0.now need.1.now) }
 {
@@ -43,7 +43,8 @@ pub fn header_value(list: &RuleList, rules: Rules) -> Option<(&str, &[u8])>
     rule_value(leaves, node, inside)
 }
 
-/// How the path of each request begins that the rule of a node, with the nodes in it, matches.
+/// A start of the path of every request that the rule of a node matches; `inside` has the nodes of the rules
+/// in it.
 fn rule_start<'a>(leaves: &'a Leaves, node: &Node, inside: &[Node]) -> &'a [u8]
     ensures { (r : RequestValue) → holds r (formula_in leaves.now node.now inside.now) ≡ true
         → Begins result.now (url_path_of r.target) }
@@ -54,7 +55,7 @@ fn rule_start<'a>(leaves: &'a Leaves, node: &Node, inside: &[Node]) -> &'a [u8]
     }
 }
 
-/// The same of a rule that is a test.
+/// The same for a rule that is a test.
 fn test_start<'a>(leaves: &'a Leaves, node: &Node) -> &'a [u8]
     ensures { (inside : List Node) (r : RequestValue)
         → holds r (formula_in leaves.now node.now inside) ≡ true
@@ -66,7 +67,7 @@ fn test_start<'a>(leaves: &'a Leaves, node: &Node) -> &'a [u8]
     }
 }
 
-/// How the path of each request begins that all rules of the nodes match: by the first test of the path
+/// A start of the path of every request that all rules of the nodes match: that of the first test of the path
 /// among them.
 fn joined_start<'a>(leaves: &'a Leaves, nodes: &[Node]) -> &'a [u8]
     ensures { (r : RequestValue) → all_hold r (formulas_in leaves.now nodes.now) ≡ true
@@ -84,7 +85,8 @@ fn joined_start<'a>(leaves: &'a Leaves, nodes: &[Node]) -> &'a [u8]
     &[]
 }
 
-/// What begins the start, and the path of each request that some rule of the nodes matches.
+/// A start that `start` has in common with the path of every request that at least one rule of the nodes
+/// matches.
 fn common_start<'a>(leaves: &'a Leaves, start: &'a [u8], nodes: &[Node]) -> &'a [u8]
     ensures start { Begins result.now start.now }
     ensures rules { (r : RequestValue) → some_hold r (formulas_in leaves.now nodes.now) ≡ true
@@ -109,7 +111,7 @@ fn shared<'a>(one: &'a [u8], other: &[u8]) -> &'a [u8]
     &one[..count]
 }
 
-/// Of how many bytes it is.
+/// The number of bytes of that start.
 fn same_count(one: &[u8], other: &[u8]) -> usize
     ensures { (result ≤ length one.now) × (take result one.now ≡ take result other.now) }
 {
@@ -126,7 +128,8 @@ fn same_count(one: &[u8], other: &[u8]) -> usize
     one.len()
 }
 
-/// What a header is in each request that the rule of a node, with the nodes in it, matches.
+/// A header's name, and its value in every request that the rule of a node matches; `inside` has the nodes of
+/// the rules in it.
 fn rule_value<'a>(leaves: &'a Leaves, node: &Node, inside: &[Node]) -> Option<(&'a str, &'a [u8])>
     ensures { IfSome result (λ need. (r : RequestValue)
         → holds r (formula_in leaves.now node.now inside.now) ≡ true
@@ -138,7 +141,7 @@ fn rule_value<'a>(leaves: &'a Leaves, node: &Node, inside: &[Node]) -> Option<(&
     }
 }
 
-/// The same of a rule that is a test.
+/// The same for a rule that is a test.
 fn test_value<'a>(leaves: &'a Leaves, node: &Node) -> Option<(&'a str, &'a [u8])>
     ensures { IfSome result (λ need. (inside : List Node) (r : RequestValue)
         → holds r (formula_in leaves.now node.now inside) ≡ true
@@ -150,8 +153,8 @@ fn test_value<'a>(leaves: &'a Leaves, node: &Node) -> Option<(&'a str, &'a [u8])
     }
 }
 
-/// What a header is in each request that all rules of the nodes match: by the first test among them that
-/// tells it.
+/// A header's name, and its value in every request that all rules of the nodes match: from the first test
+/// that has one.
 fn joined_value<'a>(leaves: &'a Leaves, nodes: &[Node]) -> Option<(&'a str, &'a [u8])>
     ensures { IfSome result (λ need. (r : RequestValue)
         → all_hold r (formulas_in leaves.now nodes.now) ≡ true

@@ -13,8 +13,8 @@ const PATH: u32 = 1;
 
 static PATH_MATCHER: [Key; 1] = keys![Len PATH];
 
-/// Reads a PathMatcher, which stands in the parts: `Missing` without a path, and what
-/// `read_text_matcher` refuses of it.
+/// Reads a PathMatcher from its parts. `Missing`: it has no path. It refuses a path as `read_text_matcher`
+/// does.
 pub(crate) fn read_path_matcher<'a>(
     alloc: Global,
     parts: &[&'a [u8]],

@@ -1,4 +1,4 @@
-//! The texts of a filter's rules, one behind the other, and what else does not fit a leaf.
+//! The texts of a filter's rules in one list of bytes, and other data that does not fit a leaf.
 
 ghost use Rattle.std.specs.Prelude.{◌≡◌, ◌≤◌, ◌+◌, ℕ, true, List, length, IfOk, IfSome};
 ghost use Rattle.std.specs.Str.{IsUtf8, str_to_ascii_lowercase};
@@ -13,35 +13,35 @@ use crate::text::{Ends, Pattern, TextMatcher, holds, holds_ignore_case};
 use attributes::Cidr;
 use std::alloc::{AllocError, Global};
 
-/// The texts and the ranges of addresses that leaves name by their places.
+/// The texts and the ranges of addresses that leaves refer to by place.
 #[derive(Debug, Drop)]
 pub(crate) struct Pool {
     pub(crate) text: Vec<u8>,
-    // what the searches in any case need
+    // the borders of the texts that are searched for in any case
     pub(crate) borders: Vec<u32>,
     pub(crate) ranges: Vec<Cidr>,
 }
 
-/// Some bytes of the pool in a row.
+/// Consecutive bytes of the pool's text.
 #[derive(Clone, Copy, Debug)]
 pub(crate) struct Span {
     pub(crate) from: u32,
     pub(crate) count: u32,
 }
 
-/// A test of a text that stands in the pool.
+/// A test of a text; the sought text is in the pool.
 #[derive(Clone, Copy, Debug)]
 pub(crate) enum TextLeaf {
     /// The case of letters counts.
     Plain(Pattern, Span),
     /// The case of letters does not count.
     AnyCase(Ends, Span),
-    /// The text has it in it, in any case of letters; with the place of its borders.
+    /// The text contains the sought one, in any case of letters. The number is the place of its borders.
     Searched(Span, u32),
 }
 
 impl Pool {
-    /// A pool without texts.
+    /// An empty pool.
     pub(crate) fn new(alloc: Global) -> Self {
         Pool {
             text: Vec::new(alloc),
@@ -50,7 +50,7 @@ impl Pool {
         }
     }
 
-    /// Gives back the room in which nothing is kept.
+    /// Frees the unused capacity.
     pub(crate) fn shrink(&mut self)
         ensures { Grows self.old self.new }
     {
@@ -59,7 +59,7 @@ impl Pool {
         self.ranges.shrink_to_fit();
     }
 
-    /// Keeps the bytes behind all others.
+    /// Appends the bytes to the pool's text.
     pub(crate) fn keep(&mut self, bytes: &[u8]) -> Result<Span, AllocError>
         ensures grows { Grows self.old self.new }
         ensures kept { IfOk result (λ span. IsWithin span self.new × (part_of span self.new ≡ bytes.now)) }
@@ -70,7 +70,7 @@ impl Pool {
         Ok(Span { from, count })
     }
 
-    /// Keeps the text with its letters in lower case.
+    /// Appends the text, with its letters in lower case.
     pub(crate) fn keep_lowered(&mut self, alloc: Global, text: &str) -> Result<Span, AllocError>
         ensures grows { Grows self.old self.new }
         ensures kept { IfOk result (λ span. IsWithin span self.new
@@ -82,7 +82,7 @@ impl Pool {
         self.keep(lowered.as_bytes())
     }
 
-    /// Keeps the test's text, and its borders where it is searched for in any case.
+    /// Appends the sought text of the test, and its borders if it is searched for in any case.
     pub(crate) fn keep_text(
         &mut self,
         alloc: Global,
@@ -106,7 +106,7 @@ impl Pool {
         }
     }
 
-    /// Keeps the borders of a text that is searched for in any case.
+    /// Appends the borders of a text that is searched for in any case.
     fn keep_borders(&mut self, alloc: Global, part: &[u8]) -> Result<u32, AllocError>
         ensures grows { Grows self.old self.new }
         ensures kept { IfOk result (λ at. (at + length part.now ≤ length self.new.borders.items)
@@ -129,7 +129,7 @@ impl Pool {
         &self.text[from..from + span.count as usize]
     }
 
-    /// How each text begins that passes.
+    /// A start of every text that passes the test.
     pub(crate) fn text_start(&self, test: &TextLeaf) -> &[u8]
         requires { GoodText self.now test.now }
         ensures { (bytes : List ℕ) → text_holds (text_in self.now test.now) bytes ≡ true
@@ -141,7 +141,7 @@ impl Pool {
         }
     }
 
-    /// The same, by how the text is compared with that of the span.
+    /// The same for a test by this pattern, in which the case of letters counts.
     fn plain_start(&self, pattern: Pattern, span: Span) -> &[u8]
         requires { IsWithin span self.now }
         ensures { (bytes : List ℕ) → pattern_holds pattern (part_of span self.now) bytes ≡ true
@@ -154,7 +154,7 @@ impl Pool {
         }
     }
 
-    /// The one text that passes, where there is only one.
+    /// The text that passes the test, if there is only one.
     pub(crate) fn whole_text(&self, test: &TextLeaf) -> Option<&[u8]>
         requires { GoodText self.now test.now }
         ensures { IfSome result (λ whole. (bytes : List ℕ)
@@ -166,7 +166,7 @@ impl Pool {
         }
     }
 
-    /// Whether the text passes. It takes no memory.
+    /// Whether the text passes the test. It takes no memory.
     #[inline(always)]
     pub(crate) fn text_passes(&self, test: &TextLeaf, text: &str) -> bool
         requires { GoodText self.now test.now }
@@ -181,7 +181,7 @@ impl Pool {
         }
     }
 
-    /// Whether the text has that of the span in it, in any case of letters.
+    /// Whether the text contains that of the span, in any case of letters.
     #[inline(never)]
     fn has_inside(&self, span: Span, at: u32, text: &[u8]) -> bool
         requires within { IsWithin span self.now }

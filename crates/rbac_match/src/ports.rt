@@ -1,4 +1,4 @@
-//! Ports and ranges of them, and whether a request goes there.
+//! Ports and ranges of ports, and whether a request goes to them.
 
 ghost use Rattle.std.specs.Prelude.{◌≡◌, IfOk, IfErr, map};
 ghost use Rattle.proto_wire.specs.Fields.{field_view};
@@ -19,7 +19,7 @@ use std::marker::Model;
 /// One more than the greatest port.
 const PORTS: i32 = 65_536;
 
-/// Some ports in a row: `start` is the first, and `end` the one after the last.
+/// Consecutive ports: `start` is the first, and `end` is the one after the last.
 #[derive(Clone, Copy, Debug)]
 pub struct PortRange {
     start: u32,
@@ -39,8 +39,8 @@ impl Model for PortRange {
     ghost inverse = { λ s. record { start = s.start; end = s.end } };
 }
 
-/// Reads a permission's `destination_port` from its run, whose fields have this number:
-/// `OutOfRange` above 65,535.
+/// Reads a permission's `destination_port` from its run, whose fields have this number. `OutOfRange`: it is
+/// above 65,535.
 pub(crate) fn read_port(run: &[Field<'_>], number: u32) -> Result<u16, Refusal>
     ensures found { IfOk result (λ port. IsDestinationPort number (map field_view run.now) port) }
     ensures fault { IfErr result (λ e. PortFault number (map field_view run.now) e) }
@@ -52,8 +52,8 @@ pub(crate) fn read_port(run: &[Field<'_>], number: u32) -> Result<u16, Refusal>
     Ok(port as u16)
 }
 
-/// Reads a range of ports (`envoy.type.v3.Int32Range`), which stands in the parts: `OutOfRange`
-/// where it holds none, or what is no port.
+/// Reads a range of ports (`envoy.type.v3.Int32Range`) from its parts. `OutOfRange`: it has no ports, or has
+/// numbers that are no ports.
 pub(crate) fn read_port_range(alloc: Global, parts: &[&[u8]]) -> Result<PortRange, Refusal>
     ensures found { IfOk result (λ range. IsPortRange (parts_view parts.now) range) }
     ensures fault { IfErr result (MemoryOr (PortRangeFault (parts_view parts.now))) }
@@ -62,7 +62,7 @@ pub(crate) fn read_port_range(alloc: Global, parts: &[&[u8]]) -> Result<PortRang
     port_range(&fields)
 }
 
-/// The ports between the bounds that the fields give.
+/// The ports between the bounds in the fields.
 fn port_range(fields: &[Field<'_>]) -> Result<PortRange, Refusal>
     ensures found { IfOk result (λ range. AreBounds (map field_view fields.now) range) }
     ensures fault { IfErr result (λ e. AreNoBounds (map field_view fields.now) × (e ≡ OutOfRange)) }
@@ -78,14 +78,14 @@ fn port_range(fields: &[Field<'_>]) -> Result<PortRange, Refusal>
     })
 }
 
-/// Whether the request goes to this port; one whose port is not known doesn't.
+/// Whether the request goes to this port; not if its port is unknown.
 pub(crate) fn port_matches(port: u16, request: &Request) -> bool
     ensures { result ≡ matcher_holds (Port port) request.now }
 {
     request.conn().destination_port == Some(port)
 }
 
-/// Whether the request goes to one of these ports; one whose port is not known doesn't.
+/// Whether the request goes to one of these ports; not if its port is unknown.
 #[inline(never)]
 pub(crate) fn port_range_matches(range: &PortRange, request: &Request) -> bool
     ensures { result ≡ matcher_holds (PortsInARow range.now) request.now }

@@ -19,13 +19,13 @@ use proto_wire::{
     Field, Refusal, len_of, payloads_of, read_message, require_level, require_payload,
 };
 
-/// How many levels a permission or a principal may have; a rule that stands in no other is level 1.
+/// The most levels of a permission or a principal; a rule that is in no other is level 1.
 pub const RULE_DEPTH: u32 = 32;
 
-/// Reads a rule of at most `depth` levels, whose message stands in the parts, and adds it to the list.
-/// The depth is looked at before anything of the rule is read. It is refused as `TooLarge` where it has
-/// more levels, as `BadWire`, `BadText`, `UnknownField`, `Missing`, `OutOfRange` or `Unsupported` by what
-/// it says, and as `Memory`. What a refused rule leaves in the list is of no use.
+/// Reads a rule of at most `depth` levels from its parts, and appends it to the list. It checks the depth
+/// before it reads anything of the rule. `TooLarge`: the rule has more levels. `BadWire`, `BadText`,
+/// `UnknownField`, `Missing`, `OutOfRange` or `Unsupported`: its message has this fault. `Memory`: it is out
+/// of memory. What a refused rule leaves in the list is of no use.
 #[cycle(rule)]
 pub fn read_rule(
     list: &mut RuleList,
@@ -43,7 +43,7 @@ pub fn read_rule(
     read_member(list, side, last, run, depth - 1)
 }
 
-/// Reads a rule from the run of its last member; the rules in it may have `depth` levels.
+/// Reads a rule from the run of its last member, and appends it; the rules in it may have `depth` levels.
 #[cycle(rule)]
 fn read_member(
     list: &mut RuleList,
@@ -90,7 +90,7 @@ fn read_member(
     }
 }
 
-/// Reads the rules of a set, whose message stands in the parts.
+/// Reads the rules of a set from the set's parts, and appends them.
 #[cycle(rule)]
 fn read_set(list: &mut RuleList, side: Side, parts: &[&[u8]], depth: u32) -> Result<(), Refusal>
     ensures found { OnOk result (AddsRules (IsSet (IsRule side depth) (parts_view parts.now))
@@ -103,7 +103,7 @@ fn read_set(list: &mut RuleList, side: Side, parts: &[&[u8]], depth: u32) -> Res
     read_each(list, side, &fields, RULES, depth)
 }
 
-/// Reads the rules of this number among a message's fields, one behind the other.
+/// Reads the rules in the fields of this number, in order, and appends them.
 #[cycle(rule)]
 fn read_each(
     list: &mut RuleList,
@@ -125,10 +125,10 @@ fn read_each(
     Ok(())
 }
 
-/// Reads the rules of this number among a message's fields, each of at most `depth` levels and in
-/// one payload, and adds them to the list, where they stay however it grows. They are taken whole or
-/// refused, for a fault that is there: `BadWire`, `BadText`, `UnknownField`, `Missing`, `OutOfRange`,
-/// `Unsupported`, or `TooLarge` for a rule past the levels; or for want of memory.
+/// Reads the rules in the fields of this number, and appends them to the list, where they stay if it grows.
+/// Each is in one payload, and has at most `depth` levels. If a rule has a fault, all are refused, with a
+/// fault that a rule has. These are `BadWire`, `BadText`, `UnknownField`, `Missing`, `OutOfRange`,
+/// `Unsupported`, and `TooLarge` for too many levels. `Memory`: it is out of memory.
 pub fn read_rules(
     list: &mut RuleList,
     side: Side,

@@ -1,6 +1,6 @@
 //! The two kinds of rules.
 
-/// Which of the two kinds of rule a message is: they name other members by the same numbers.
+/// The kind of a rule; the two kinds use the same numbers for different members.
 #[derive(Clone, Copy, PartialEq, Eq, Debug)]
 pub enum Side {
     /// What a request wants to do (`envoy.config.rbac.v3.Permission`).

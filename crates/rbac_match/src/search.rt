@@ -1,6 +1,6 @@
-//! The search for a part of a text in which the case of letters does not count. It takes no memory,
-//! and looks at each byte of the text twice at most (Knuth, Morris and Pratt). So what a client
-//! sends costs a decision its length alone, and not its length times the part's.
+//! The search for a part of a text, in any case of letters. The search takes no memory, and looks at each
+//! byte of the text at most twice (Knuth, Morris and Pratt). So a decision costs the length of what a client
+//! sends, and not that length times the part's length.
 
 ghost use Rattle.std.specs.Prelude.{◌≡◌, ◌<◌, ◌≤◌, ℕ, List, [], ◌∷◌, ◌++◌, length, IfOk};
 ghost use Rattle.std.specs.Char.{to_ascii_lowercase};
@@ -10,8 +10,8 @@ ghost use Rattle.rbac_match.specs.steps.Search.{EndsWithMost, AreBorders, AreAll
 
 use std::alloc::{AllocError, Global};
 
-/// What the search for the part needs: of its first one, two, three bytes and so on, with how many
-/// bytes of its beginning they end, themselves left out. It takes four bytes for each of the part.
+/// The borders of the part, for the search. There is one for each beginning of the part: the length of the
+/// longest shorter beginning that it ends with. Each takes four bytes.
 pub(crate) fn borders_of(alloc: Global, part: &[u8]) -> Result<Vec<u32>, AllocError>
     ensures { IfOk result (λ borders. AreAllBorders
         (str_to_ascii_lowercase part.now) borders.items) }
@@ -29,7 +29,8 @@ pub(crate) fn borders_of(alloc: Global, part: &[u8]) -> Result<Vec<u32>, AllocEr
     Ok(borders)
 }
 
-/// The number in four bytes. What would not fit stands behind more bytes than a list has room for.
+/// The number in four bytes. One that does not fit would be a place after more bytes than a list has room
+/// for.
 pub(crate) fn position(number: usize) -> Result<u32, AllocError>
     ensures { IfOk result (λ n. n ≡ number) }
 {
@@ -39,7 +40,7 @@ pub(crate) fn position(number: usize) -> Result<u32, AllocError>
     Ok(number as u32)
 }
 
-/// Whether the part, which is not empty and has these borders, stands in the text.
+/// Whether the text contains the part, which is not empty and has these borders.
 pub(crate) fn contains_ignore_case(text: &[u8], part: &[u8], borders: &[u32]) -> bool
     requires some { 0 < length part.now }
     requires borders { AreAllBorders (str_to_ascii_lowercase part.now) borders.now }
@@ -56,8 +57,8 @@ pub(crate) fn contains_ignore_case(text: &[u8], part: &[u8], borders: &[u32]) ->
     false
 }
 
-/// With how many bytes of the part's beginning some bytes end, behind which this one comes, where
-/// they end with `matched` before it.
+/// The length of the longest beginning of the part that some bytes and then `byte` end with. Without `byte`,
+/// it is `matched`.
 fn advance(part: &[u8], borders: &[u32], matched: usize, byte: u8) -> usize
     requires below { matched < length part.now }
     requires known { matched ≤ length borders.now }

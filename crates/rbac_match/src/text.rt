@@ -1,4 +1,4 @@
-//! Tests of a text (`envoy.type.matcher.v3.StringMatcher`): how they are read, and which texts
+//! Tests of a text (`envoy.type.matcher.v3.StringMatcher`): the reading of their messages, and which texts
 //! pass.
 
 ghost use Rattle.std.specs.Prelude.{◌≡◌, Some, None, nat_eq, IfOk, IfErr, MatchOption, map};
@@ -21,31 +21,31 @@ use proto_wire::{
 use std::alloc::Global;
 use std::marker::Model;
 
-/// How a text is compared with the one that is sought.
+/// How a text is compared with the sought one.
 #[derive(Clone, Copy, PartialEq, Eq, Debug)]
 pub enum Pattern {
-    /// The text is the one that is sought.
+    /// The text is the sought one.
     Exact,
-    /// The text begins with it.
+    /// The text begins with the sought one.
     Prefix,
-    /// The text ends with it.
+    /// The text ends with the sought one.
     Suffix,
-    /// The text has it in it.
+    /// The text contains the sought one.
     Contains,
 }
 
-/// How a text is compared with the one that is sought, from one of its ends.
+/// How a text is compared with the sought one, from its ends.
 #[derive(Clone, Copy, PartialEq, Eq, Debug)]
 pub(crate) enum Ends {
-    /// The text is the one that is sought.
+    /// The text is the sought one.
     Exact,
-    /// The text begins with it.
+    /// The text begins with the sought one.
     Prefix,
-    /// The text ends with it.
+    /// The text ends with the sought one.
     Suffix,
 }
 
-/// A test of a text, as it stands in a message.
+/// A test of a text, as a message has it.
 #[derive(Debug, Drop)]
 pub struct TextMatcher<'a> {
     pub(crate) pattern: Pattern,
@@ -88,7 +88,7 @@ static STRING_MATCHER: [Key; 6] = keys![
 ];
 
 impl<'a> TextMatcher<'a> {
-    /// The test by this pattern, for a text that may be sought so.
+    /// The test by this pattern; the pattern allows the sought text.
     pub(crate) fn new(pattern: Pattern, sought: &'a str, ignore_case: bool) -> Self
         requires { IsSought pattern sought.now }
         ensures { result
@@ -102,9 +102,9 @@ impl<'a> TextMatcher<'a> {
     }
 }
 
-/// Reads a StringMatcher, which stands in the parts: `Missing` without a member, `BadText` where
-/// its text is not UTF-8, `OutOfRange` where a prefix, a suffix or a contained text is empty,
-/// `Unsupported` where it is a regular expression.
+/// Reads a StringMatcher from its parts. `Missing`: it has no member. `BadText`: the last member's text is
+/// not UTF-8. `OutOfRange`: a prefix, a suffix or a contained text is empty. `Unsupported`: the last member
+/// is a regular expression.
 pub(crate) fn read_text_matcher<'a>(
     alloc: Global,
     parts: &[&'a [u8]],
@@ -138,7 +138,7 @@ fn last_pattern<'a>(fields: &[Field<'a>]) -> Result<(Pattern, &'a str), Refusal>
     Ok((pattern, sought))
 }
 
-/// The pattern that the member of this number is; `None` for a regular expression.
+/// The pattern of the member of this number; `None` for a regular expression.
 fn pattern_at(number: u32) -> Option<Pattern>
     ensures { result ≡ member_in string_members number }
 {
@@ -151,8 +151,8 @@ fn pattern_at(number: u32) -> Option<Pattern>
     }
 }
 
-/// The bytes as a text that may be sought so: `BadText` where they are not UTF-8, `OutOfRange`
-/// where the text is empty and must not be.
+/// The bytes as a text to seek by this pattern. `BadText`: they are not UTF-8. `OutOfRange`: they are empty,
+/// and the pattern is not `Exact`.
 pub(crate) fn sought_text(pattern: Pattern, bytes: &[u8]) -> Result<&str, Refusal>
     ensures found { IfOk result (λ sought. (sought.now ≡ bytes.now) × IsSought pattern bytes.now) }
     ensures fault { IfErr result (SoughtFault (Some pattern) bytes.now) }
@@ -163,7 +163,7 @@ pub(crate) fn sought_text(pattern: Pattern, bytes: &[u8]) -> Result<&str, Refusa
     text_of(bytes)
 }
 
-/// Whether the text is, begins with, ends with or contains the one that is sought.
+/// Whether the text is, begins with, ends with or contains the sought one.
 #[inline(always)]
 pub(crate) fn holds(pattern: Pattern, sought: &[u8], text: &[u8]) -> bool
     ensures { result ≡ pattern_holds pattern sought.now text.now }
@@ -176,7 +176,7 @@ pub(crate) fn holds(pattern: Pattern, sought: &[u8], text: &[u8]) -> bool
     }
 }
 
-// Out of line, since the search is long code, and few patterns need it.
+// Not inlined: the search is long code, and few patterns need it.
 #[inline(never)]
 fn contains(text: &[u8], part: &[u8]) -> bool
     ensures { result ≡ is_substring part.now text.now }
@@ -184,7 +184,7 @@ fn contains(text: &[u8], part: &[u8]) -> bool
     memmem::find(text, part).is_some()
 }
 
-/// Whether the text is, begins with or ends with the one that is sought, in any case of letters.
+/// Whether the text is, begins with or ends with the sought one, in any case of letters.
 #[inline(never)]
 pub(crate) fn holds_ignore_case(ends: Ends, sought: &[u8], text: &[u8]) -> bool
     ensures { result ≡ pattern_holds (pattern_of ends) (str_to_ascii_lowercase sought.now)

@@ -1,5 +1,4 @@
--- Which bytes are admitted as a filter under limits and a budget, and what is wrong with the
--- others.
+-- Which bytes are admitted as a filter under limits and a budget, and the faults of all others.
 use Rattle.std.specs.Prelude.{◌≡◌, ◌≤◌, ◌<◌, ℕ, List}
 use Rattle.attributes.specs.Limits.{LimitsValue}
 use Rattle.cel_tree.specs.Checked.{CelChecked}
@@ -13,8 +12,8 @@ use Rattle.rbac_policy.specs.Filter.{Filter}
 use Rattle.rbac_policy.specs.Message.{IsFilter}
 use Rattle.rbac_policy.specs.Fault.{FilterFault, HoldsPolicies, SomeCost}
 
--- the bytes are the message of the filter, and its conditions, all of type bool, cost the budget's
--- steps together at most
+-- the bytes are the message of the filter. Its conditions are all of type bool, and together cost at most the
+-- budget's steps
 pub record IsAdmissibleAs (bytes : List ℕ) (limits : LimitsValue) (budget : ℕ)
     (filter : Filter CelChecked) : Type 0 where
   pub message : IsFilter bytes filter
@@ -27,20 +26,20 @@ abbrev pub Admissible : List ℕ → LimitsValue → ℕ → Type 0
 Admissible bytes limits budget =
     (filter : Filter CelChecked) × IsAdmissibleAs bytes limits budget filter
 
--- the bytes are admitted as the filter, and this is enforced of it
+-- the bytes are admitted as the filter, and this is enforced for it
 pub record Admits (bytes : List ℕ) (limits : LimitsValue) (budget : ℕ) (filter : Filter CelChecked)
     (enforced : Filter Program) : Type 0 where
   pub admissible : IsAdmissibleAs bytes limits budget filter
   pub enforces : Enforces limits filter enforced
 
--- the fault of this refusal stands in the bytes, for requests within these limits and this budget:
--- a fault of the message, or conditions that cost more than the budget, whatever else is there
+-- the bytes have a fault with this refusal, for requests within these limits and with this budget. It is a
+-- fault of the message, or conditions that cost more than the budget, whatever else the bytes have
 pub data Fault (e : Refusal) (bytes : List ℕ) (limits : LimitsValue) (budget : ℕ) : Type 0 where
   in_message : FilterFault bytes e → Fault e bytes limits budget
   too_costly : (policies : List (Entry text)) (cost : ℕ) → HoldsPolicies bytes policies
       → SomeCost limits policies cost → budget < cost → e ≡ TooCostly → Fault e bytes limits budget
 
--- some bytes were admitted as the filter, under some budget, and this is enforced of it
+-- some bytes were admitted as the filter, under some budget, and this is enforced for it
 abbrev pub IsAdmittedAs : LimitsValue → Filter CelChecked → Filter Program → Type 0
 IsAdmittedAs limits filter enforced =
     (bytes : List ℕ) × (budget : ℕ) × Admits bytes limits budget filter enforced

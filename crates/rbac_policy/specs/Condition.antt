@@ -13,7 +13,7 @@ use Rattle.stack_machine.specs.Instructions.{Instruction}
 use Rattle.stack_machine.specs.Machine.{RunsOut}
 use Rattle.stack_machine.specs.declared.error.RunError.{RunError}
 
--- whether an expression came to true: an error and any other value did not
+-- whether an expression's answer is true: an error is not, and neither is any other value
 abbrev pub came_true : Option CelAnswer → Bool
 came_true (Some (value (bool true))) = true
 came_true _ = false
@@ -22,12 +22,12 @@ came_true _ = false
 abbrev pub is_met : RequestValue → CelChecked → Bool
 is_met request condition = came_true (eval condition.tree request [])
 
--- what is enforced of a condition: its code, and how many steps that may take
+-- what is enforced for a condition: its code, and how many steps the code may take
 pub record Program : Type 0 where
   pub code : List Instruction
   pub bound : ℕ
 
--- the condition has the type bool, and this is its code and what it costs of requests within the limits
+-- the condition has the type bool; this is its code, and what it costs for requests within the limits
 pub record IsProgramOf (limits : LimitsValue) (condition : CelChecked) (program : Program) : Type 0 where
   pub e : TypedTree
   pub elaborated : IsElaborated condition e
@@ -40,6 +40,6 @@ abbrev pub TakesTooLong : LimitsValue → RequestValue → CelChecked → Type 0
 TakesTooLong limits request condition = (program : Program) × IsProgramOf limits condition program
     × RunsOut program.code request program.bound
 
--- memory ran out, or the steps did and this is so
+-- the error is out of memory, or out of steps for this cause
 abbrev pub MemoryOrSteps : Type 0 → RunError → Type 0
 MemoryOrSteps Cause e = (e ≡ RunError.Memory) ⊎ ((e ≡ RunError.OutOfSteps) × Cause)

@@ -1,4 +1,4 @@
--- What is enforced of a filter: its conditions as programs.
+-- What is enforced for a filter: its conditions as programs.
 use Rattle.std.specs.Prelude.{◌≡◌, ℕ, ◌+◌, List, [], ◌∷◌, Option, Some, None, IsSomeAnd, MatchOption}
 use Rattle.std.specs.FinMap.{entries, get}
 use Rattle.attributes.specs.Limits.{LimitsValue}
@@ -6,7 +6,7 @@ use Rattle.cel_tree.specs.Checked.{CelChecked}
 use Rattle.rbac_policy.specs.Condition.{IsProgramOf, Program}
 use Rattle.rbac_policy.specs.Filter.{Filter, Policy}
 
--- the policy's permissions and principals, and its condition's program
+-- this is enforced for the policy: its permissions and principals, and its condition's program
 pub record EnforcesPolicy (limits : LimitsValue) (policy : Policy CelChecked)
     (enforced : Policy Program) : Type 0 where
   pub permissions : enforced.permissions ≡ policy.permissions
@@ -14,7 +14,7 @@ pub record EnforcesPolicy (limits : LimitsValue) (policy : Policy CelChecked)
   pub condition : MatchOption policy.condition (enforced.condition ≡ None)
       (λ c. IsSomeAnd enforced.condition (IsProgramOf limits c))
 
--- the filter's action, and of each name what is enforced of its policy
+-- this is enforced for the filter: its action, and for each name what is enforced for the policy of this name
 pub record Enforces (limits : LimitsValue) (filter : Filter CelChecked) (enforced : Filter Program)
     : Type 0 where
   pub action : enforced.action ≡ filter.action
@@ -27,11 +27,11 @@ abbrev pub bound_of : Option Program → ℕ
 bound_of None = 0
 bound_of (Some program) = program.bound
 
--- how many steps the conditions of policies may take together
+-- how many steps the policies' conditions together may take
 abbrev pub bounds_of : List (List ℕ × Policy Program) → ℕ
 bounds_of [] = 0
 bounds_of ((name, policy) ∷ others) = bound_of policy.condition + bounds_of others
 
--- the same of a filter's
+-- how many steps the conditions of a filter together may take
 abbrev pub total_bound : Filter Program → ℕ
 total_bound enforced = bounds_of (entries enforced.policies)

@@ -1,4 +1,4 @@
--- What is wrong with bytes that are no admissible filter; each fault names its refusal.
+-- The faults of bytes that are no admissible filter, each with its refusal.
 use Rattle.std.specs.Prelude.{◌≡◌, ◌≢◌, ◌⊎◌, ℕ, ◌+◌, ◌<◌, List, [], ◌∷◌}
 use Rattle.std.specs.FinMap.{entries, len}
 use Rattle.proto_wire.specs.Fields.{Wire}
@@ -21,15 +21,15 @@ use Rattle.rbac_policy.specs.Keys.{filter_keys, rules_keys, policy_keys, filter_
 use Rattle.rbac_policy.specs.Message.{rule_depth, most_policies, action_in, action_number, HasBothSides}
 use Rattle.rbac_policy.specs.declared.filter.Action.TheVariants.{Log}
 
--- the policy in these parts has this condition
+-- the policy in these parts has this checked condition
 pub record PolicyHas (parts : List (List ℕ)) (condition : CelChecked) : Type 0 where
   pub fs : List Wire
   pub merges : Merges parts fs
   pub reads : IsChecked (payloads policy_field.checked_condition fs) condition
 
--- a fault of a policy: of its own fields, that it lacks permissions or principals, of its rules, that it has an
--- unchecked condition, alone or beside a checked one, or of its checked condition: it does not read, has no type,
--- or has another than bool
+-- a fault of a policy: in its fields, in its rules, or that it lacks permissions or principals. Also that it
+-- has an unchecked condition, with or without a checked one. Or that its checked condition does not read, has
+-- no type, or has another type than bool
 pub data PolicyFault (parts : List (List ℕ)) (e : Refusal) : Type 0 where
   policy_fields : MessageFault policy_keys parts e → PolicyFault parts e
   lacks_side : (fs : List Wire) → IsMessage policy_keys parts fs → ¬ (HasBothSides fs) → e ≡ Missing
@@ -48,8 +48,8 @@ pub data PolicyFault (parts : List (List ℕ)) (e : Refusal) : Type 0 where
   in_principal : (fs : List Wire) → Merges parts fs
       → SomeRuleFault Principal rule_depth (payloads policy_field.principals fs) e → PolicyFault parts e
 
--- a fault of what the fields of the filter's rules hold: an action above LOG, the audit log's options, the map
--- of policies, or that it has too many
+-- a fault in the fields of the filter's rules: an action above LOG, or options of an audit log. Also a fault
+-- in the map of policies, or too many policies
 pub data RulesFault (fs : List Wire) (e : Refusal) : Type 0 where
   bad_action : action_number Log < action_in fs → e ≡ OutOfRange → RulesFault fs e
   audited : payloads rules_field.audit_logging_options fs ≢ [] → e ≡ Unsupported → RulesFault fs e
@@ -67,7 +67,7 @@ pub data FilterFault (bytes : List ℕ) (e : Refusal) : Type 0 where
   in_rules : (top fs : List Wire) → Merges (bytes ∷ []) top → payloads filter_field.rules top ≢ []
       → Merges (payloads filter_field.rules top) fs → RulesFault fs e → FilterFault bytes e
 
--- the filter's message holds these policies by their names
+-- the filter's message has these policies, by their names
 pub record HoldsPolicies (bytes : List ℕ) (policies : List (Entry text)) : Type 0 where
   pub top : List Wire
   pub fs : List Wire
@@ -77,7 +77,7 @@ pub record HoldsPolicies (bytes : List ℕ) (policies : List (Entry text)) : Typ
   pub readable : Readable text (payloads rules_field.policies fs) read
   pub named : policies ≡ entries (map_of text read)
 
--- some of the policies have conditions of type bool that cost this together
+-- some of the policies have conditions of type bool, and this is the cost of these conditions together
 abbrev pub SomeCost : LimitsValue → List (Entry text) → ℕ → Type 0
 SomeCost limits [] cost = cost ≡ 0
 SomeCost limits ((name, parts) ∷ others) cost = SomeCost limits others cost

@@ -5,9 +5,8 @@ use Rattle.attributes.specs.Headers.{name_cmp}
 use Rattle.rbac_match.specs.Formula.{Formulas}
 use Rattle.rbac_policy.specs.declared.filter.Action.{Action}
 
--- what a policy asks of a request: some permission and some principal, and its condition if it has
--- one. In a filter as it is written a condition is a checked expression, in one that is enforced a
--- program
+-- what a policy requires of a request: some permission, some principal, and its condition if it has one. In a
+-- filter as it is written, a condition is a checked expression. In one that is enforced, it is a program
 pub record Policy (C : Type 0) : Type 0 where
   pub permissions : Formulas
   pub principals : Formulas

@@ -1,11 +1,11 @@
--- The fields of the messages of a filter: Envoy v3 `extensions/filters/http/rbac/v3/rbac.proto` and
+-- The fields of a filter's messages: Envoy v3 `extensions/filters/http/rbac/v3/rbac.proto` and
 -- `config/rbac/v3/rbac.proto`.
 use Rattle.std.specs.Prelude.{ℕ, List, [], ◌∷◌}
 use Rattle.proto_wire.specs.Keys.{len_key, varint_key}
 use Rattle.proto_wire.specs.declared.key.Key.{Key}
 
--- the numbers of the fields of the HTTP filter (`extensions.filters.http.rbac.v3.RBAC`): `rules` is
--- what it enforces; the others are skipped
+-- the numbers of the fields of the HTTP filter (`extensions.filters.http.rbac.v3.RBAC`): it enforces `rules`,
+-- and the others are skipped
 abbrev pub filter_field : record { rules : ℕ; shadow_rules : ℕ; shadow_rules_stat_prefix : ℕ }
 filter_field = record { rules = 1; shadow_rules = 2; shadow_rules_stat_prefix = 3 }
 
@@ -24,8 +24,8 @@ abbrev pub rules_keys : List Key
 rules_keys = varint_key rules_field.action ∷ len_key rules_field.policies
     ∷ len_key rules_field.audit_logging_options ∷ []
 
--- the numbers of the fields of a policy (`config.rbac.v3.Policy`): `condition` is one as it was
--- parsed, and `checked_condition` one as a type checker left it
+-- the numbers of the fields of a policy (`config.rbac.v3.Policy`): `condition` is only parsed, and
+-- `checked_condition` is the result of a type checker
 abbrev pub policy_field : record { permissions : ℕ; principals : ℕ; condition : ℕ; checked_condition : ℕ }
 policy_field = record { permissions = 1; principals = 2; condition = 3; checked_condition = 4 }
 

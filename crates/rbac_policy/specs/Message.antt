@@ -15,20 +15,20 @@ use Rattle.rbac_policy.specs.Keys.{filter_keys, rules_keys, policy_keys, filter_
 use Rattle.rbac_policy.specs.declared.filter.Action.{Action}
 use Rattle.rbac_policy.specs.declared.filter.Action.TheVariants.{Allow, Deny, Log}
 
--- how many levels a permission or a principal may have
+-- the most levels of a permission or a principal
 abbrev pub rule_depth : ℕ
 rule_depth = 32
 
--- how many policies a filter may have
+-- the most policies of a filter
 abbrev pub most_policies : ℕ
 most_policies = 256
 
--- some permission and some principal
+-- the fields have some permission and some principal
 abbrev pub HasBothSides : List Wire → Type 0
 HasBothSides fs =
     (payloads policy_field.permissions fs ≢ []) × (payloads policy_field.principals fs ≢ [])
 
--- the payloads of a condition: there are none, or they merge to a checked expression
+-- without payloads, there is no condition; otherwise they merge to this checked expression
 abbrev pub IsCondition : List (List ℕ) → Option CelChecked → Type 0
 IsCondition parts None = parts ≡ []
 IsCondition parts (Some condition) = (parts ≢ []) × IsChecked parts condition
@@ -45,7 +45,7 @@ pub record IsPolicy (parts : List (List ℕ)) (policy : Policy CelChecked) : Typ
   pub principals : AreRules (IsRule Principal rule_depth) (payloads policy_field.principals fs)
       policy.principals
 
--- the number of the action, an enum
+-- the number of the action, which is an enum
 abbrev pub action_in : List Wire → ℕ
 action_in fs = uint32_at rules_field.action fs
 
@@ -55,7 +55,7 @@ action_number Allow = 0
 action_number Deny = 1
 action_number Log = 2
 
--- the fields are rules of the filter
+-- the fields are the rules of the filter
 pub record AreFilterRules (fs : List Wire) (filter : Filter CelChecked) : Type 0 where
   pub unaudited : payloads rules_field.audit_logging_options fs ≡ []
   pub action : action_in fs ≡ action_number filter.action

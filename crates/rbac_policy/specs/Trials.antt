@@ -1,5 +1,5 @@
--- How a filter comes to its answer: which policies are tried, and why each matches or does not. Envoy
--- RBAC, "RBAC.policies" and "Policy" (config.rbac.v3).
+-- How a filter finds its answer: which policies are tried, and why each matches or does not. Envoy RBAC,
+-- "RBAC.policies" and "Policy" (config.rbac.v3).
 use Rattle.std.specs.Prelude.{◌≡◌, ◌≢◌, ℕ, ◌+◌, Bool, true, false, List, [], ◌∷◌, Some, None, IsSomeAnd, MatchBool}
 use Rattle.attributes.specs.Limits.{LimitsValue}
 use Rattle.attributes.specs.Request.{RequestValue}
@@ -15,22 +15,23 @@ use Rattle.rbac_policy.specs.declared.trials.Reason.{Reason}
 use Rattle.rbac_policy.specs.declared.trials.Reason.TheVariants.{NoPermission, NoPrincipal, Matches, ConditionFalse, ConditionFails, ConditionTrue}
 use Rattle.rbac_policy.specs.declared.trials.Trial.{Trial}
 
--- whether it is a reason to match
+-- whether the reason is one to match
 abbrev pub is_match : Reason → Bool
 is_match Matches = true
 is_match (ConditionTrue steps bound) = true
 is_match _ = false
 
--- why a policy matches or does not, by what conditions come to, and what their runs take of what they may
+-- why a policy matches or does not. `Comes` relates a condition to its answer, and `Takes` to the steps of
+-- its run and their bound
 module _ {C : Type 0} (Comes : C → CelAnswer → Type 0) (Takes : C → (steps bound : ℕ) → Type 0) where
-  -- its condition gives this reason
+  -- the condition gives this reason
   abbrev pub IsReasonOf : C → Reason → Type 0
   IsReasonOf c ConditionFalse = (v : CelValue) × (v ≢ bool true) × Comes c (value v)
   IsReasonOf c (ConditionFails e) = Comes c (fails e)
   IsReasonOf c (ConditionTrue steps bound) = Comes c (value (bool true)) × Takes c steps bound
   IsReasonOf c _ = ⊥
 
-  -- the policy has this reason: its permissions, its principals, and then its condition
+  -- the policy has this reason, by its permissions, its principals, and then its condition
   abbrev pub HasReason : RequestValue → Policy C → Reason → Type 0
   HasReason r p NoPermission = some_hold r p.permissions ≡ false
   HasReason r p NoPrincipal =
@@ -39,16 +40,17 @@ module _ {C : Type 0} (Comes : C → CelAnswer → Type 0) (Takes : C → (steps
   HasReason r p reason =
       (sides_match r p ≡ true) × IsSomeAnd p.condition (λ c. IsReasonOf c reason)
 
--- what a condition means on the request
+-- the answer that a condition means on the request
 abbrev pub Means : RequestValue → CelChecked → CelAnswer → Type 0
 Means r c answer = eval c.tree r [] ≡ Some answer
 
--- the run of its program takes so many steps of so many that it may
+-- the run of the condition's program takes `steps` steps, and may take `bound`
 abbrev pub TakesSteps : LimitsValue → RequestValue → CelChecked → (steps bound : ℕ) → Type 0
 TakesSteps limits r c steps bound = (program : Program) × IsProgramOf limits c program
     × (bound ≡ program.bound) × (answer : CelAnswer) × Ends program.code r answer steps
 
--- each policy has its trial, in order, with its number and its name, up to the first that matches
+-- the trials are those of the policies, in order, each with its number and its name, up to the first that
+-- matches
 abbrev pub AreTrials : {P : Type 0} → (P → Reason → Type 0) → ℕ → List (List ℕ × P) → List Trial
     → Type 0
 AreTrials Has number [] trials = trials ≡ []

@@ -1,5 +1,4 @@
--- What single steps of the code come to: clauses of private functions cite these, and no promise
--- does.
+-- What single steps of the code do. Only clauses of private functions cite these definitions.
 pub mod Action
 pub mod Conditions
 pub mod Named

@@ -1,4 +1,4 @@
-//! Admission: from the bytes of a filter's message to the filter, or to why it is refused.
+//! Admission: reads the bytes of a filter's message as a filter, or refuses them.
 
 ghost use Rattle.std.specs.Prelude.{◌≡◌, ◌≢◌, ◌<◌, ◌≤◌, ◌⊎◌, List, [], IfOk, IfErr, OnOk, MatchResult, map};
 ghost use Rattle.std.specs.FinMap.{entries};
@@ -28,15 +28,15 @@ use proto_wire::{Field, Refusal, has_payload, payloads_of, read_entries, read_me
 use rbac_match::RuleList;
 use std::alloc::Global;
 
-/// How many policies a filter may have.
+/// The most policies that a filter may have.
 const MOST_POLICIES: usize = 256;
 
-/// Reads the message of an HTTP RBAC filter (`envoy.extensions.filters.http.rbac.v3.RBAC`), for
-/// requests within the limits and with a budget of steps for its conditions together. It is taken
-/// whole or refused whole, for a fault that is there: `BadWire`, `BadText`, `UnknownField`, `Missing`,
-/// `OutOfRange`, `Unsupported`, `BothConditions`, `TooLarge`, `UnknownName`, `NoOverload`,
-/// `BadTypeEntry`, `BadReference`, `NotBool`, `NeedsType` or `TooCostly`; or for want of memory. There
-/// is always room for a condition's code, and it is always verified: `CodeRefused` never comes.
+/// Reads the message of an HTTP RBAC filter (`envoy.extensions.filters.http.rbac.v3.RBAC`) for requests
+/// within the limits. Its conditions together may take at most `budget` steps. The filter is taken whole or
+/// refused whole, with a fault that it has. A fault is `BadWire`, `BadText`, `UnknownField`, `Missing`,
+/// `OutOfRange`, `Unsupported`, `BothConditions`, `TooLarge`, `UnknownName`, `NoOverload`, `BadTypeEntry`,
+/// `BadReference`, `NotBool`, `NeedsType` or `TooCostly`. `Memory`: it is out of memory. There is always room
+/// for a condition's code, and the code is always verified, so the refusal is never `CodeRefused`.
 pub fn admit(alloc: Global, bytes: &[u8], limits: &Limits, budget: u64) -> Result<Admitted, Refusal>
     ensures found { IfOk result (λ a. (filter : Filter CelChecked)
         × Admits bytes.now limits.now budget filter (filter_view a)) }
@@ -47,7 +47,7 @@ pub fn admit(alloc: Global, bytes: &[u8], limits: &Limits, budget: u64) -> Resul
     Ok(Admitted::new(rules, *limits))
 }
 
-/// Reads the filter's message.
+/// Reads the rules of the filter's message.
 fn read_filter(
     alloc: Global,
     bytes: &[u8],
@@ -131,7 +131,7 @@ fn refuse_many(count: usize) -> Result<(), Refusal>
     Ok(())
 }
 
-/// The action: an enum keeps the low 32 bits of its number, and is 0 where it is absent.
+/// The action: the low 32 bits of the enum's number, and 0 if the field is absent.
 pub(crate) fn read_action(fields: &[Field<'_>]) -> Result<Action, Refusal>
     ensures { MatchResult result (λ action. action_in (map field_view fields.now)
         ≡ action_number action)

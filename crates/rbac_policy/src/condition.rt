@@ -1,4 +1,4 @@
-//! Conditions: how one is admitted, and its runs.
+//! Conditions: their admission and their runs.
 
 ghost use Rattle.std.specs.Prelude.{◌≡◌, ◌≢◌, ◌≤◌, ℕ, List, IfErr, IfOk, OnOk, Some};
 ghost use Rattle.cel_tree.specs.Checked.{CelChecked};
@@ -34,7 +34,7 @@ use stack_machine::{Code, RunError, Verified, run};
 use std::alloc::Global;
 use std::fmt;
 
-/// A condition that was admitted: its code, and how many steps that may take.
+/// An admitted condition: its code, and how many steps the code may take.
 #[derive(Drop)]
 pub(crate) struct Condition {
     pub code: Verified,
@@ -48,7 +48,7 @@ impl fmt::Debug for Condition {
 }
 
 impl Condition {
-    /// Whether the request meets the condition: its code comes to true. An error is no match.
+    /// Whether the request meets the condition: its code evaluates to true. An error is no match.
     pub(crate) fn is_met(&self, alloc: Global, request: &Request) -> Result<bool, RunError>
         ensures found { IfOk result (λ met. RunsAs request.now (program_view self.now) met) }
         ensures fault { IfErr result (MemoryOrSteps
@@ -86,8 +86,8 @@ fn is_true(answer: &Answer) -> bool
     matches!(answer, Ok(Value::Bool(true)))
 }
 
-/// Reads the condition that stands in the parts, for requests within the limits, with so many steps
-/// left for it. Its tree is not kept.
+/// Reads the condition from its parts, for requests within the limits; it may take at most `left` steps. Its
+/// tree is not kept.
 pub(crate) fn read_condition(
     alloc: Global,
     parts: &[&[u8]],
@@ -104,8 +104,8 @@ pub(crate) fn read_condition(
     condition_of(alloc, &checked, limits, left)
 }
 
-/// The condition that the expression is. The expression was read from some parts, so a code has room
-/// for it, and the code is verified.
+/// The condition of the expression. The expression was read from some parts, so a code has room for it, and
+/// the code is verified.
 fn condition_of(
     alloc: Global,
     checked: &Checked,
@@ -121,7 +121,7 @@ fn condition_of(
     enforced(alloc, &typed, limits, left)
 }
 
-/// What is enforced of an expression that was elaborated. It was read from some parts.
+/// The condition of an elaborated expression. The expression was read from some parts.
 fn enforced(
     alloc: Global,
     typed: &Typed<'_>,
@@ -143,7 +143,7 @@ fn enforced(
     Ok(Condition { code, bound: steps })
 }
 
-/// Refuses another type than bool.
+/// Refuses every type except bool.
 fn require_bool(found: &CelType) -> Result<(), Refusal>
     ensures found { OnOk result (type_view found.now ≡ bool_type) }
     ensures fault { IfErr result (λ e. (type_view found.now ≢ bool_type) × (e ≡ NotBool)) }
@@ -154,7 +154,7 @@ fn require_bool(found: &CelType) -> Result<(), Refusal>
     Err(Refusal::NotBool)
 }
 
-/// The code, verified to answer a bool.
+/// Verifies that the code answers a bool.
 fn verified(alloc: Global, code: Code) -> Result<Verified, Refusal>
     requires { Forward (code_view code) bool_type }
     ensures found { IfOk result (λ v. v ≡ code) }

@@ -22,11 +22,12 @@ use stack_machine::RunError;
 use std::alloc::Global;
 
 impl Admitted {
-    /// What the filter answers the request. Its conditions have their meaning in CEL, and an error is
-    /// no match. A condition is run only where a permission and a principal match and no policy before
-    /// matched. Where no condition is asked for, it always answers, and takes no memory; so does a filter
-    /// without conditions. Else it may answer `Memory`; and `OutOfSteps`, for a request outside the
-    /// limits, exactly where a condition that is asked for takes more steps than it may.
+    /// The filter's answer to the request. Its conditions have their meaning in CEL, and an error is no
+    /// match. A condition runs only if a permission and a principal of its policy match and no earlier policy
+    /// matches. If no condition is asked for, `decide` always answers, and takes no memory; so it does if the
+    /// filter has no conditions. Otherwise it may answer `Memory`. It answers `OutOfSteps` exactly if a
+    /// condition that is asked for takes more steps than it may. That happens only for a request outside the
+    /// limits.
     pub fn decide(&self, request: &Request) -> Result<Verdict, RunError>
         ensures found { IfOk result (λ v. (filter : Filter CelChecked)
             → IsAdmittedAs (limits_view self.now) filter (filter_view self.now)
@@ -61,7 +62,7 @@ impl Admitted {
     }
 }
 
-/// The number of the first of the policies that matches the request. Their rules are in the list, and the
+/// The number of the first policy that matches the request. The policies' rules are in the list, and the
 /// sieve is theirs.
 fn first_match(
     alloc: Global,
@@ -86,7 +87,7 @@ fn first_match(
     first_left(alloc, list, Some(&probe), policies, request)
 }
 
-/// The same, among the policies that the probe leaves, if there is one.
+/// The same, among the policies that the probe does not rule out, if there is a probe.
 #[inline(always)]
 fn first_left(
     alloc: Global,
@@ -116,7 +117,7 @@ fn first_left(
     Ok(None)
 }
 
-/// Whether the policy of this number does not match, by the probe.
+/// Whether the probe rules out the policy of this number, which then does not match.
 #[inline(always)]
 fn is_ruled_out(probe: Option<&Probe<'_>>, number: usize) -> bool
     ensures { (r : RequestValue) (ps : List (Policy Program))
@@ -128,7 +129,7 @@ fn is_ruled_out(probe: Option<&Probe<'_>>, number: usize) -> bool
     }
 }
 
-/// Whether the policy matches the request: its sides, and then its condition, if it has one.
+/// Whether the policy matches the request: first its sides, and then its condition, if it has one.
 #[inline(always)]
 fn policy_matches(
     alloc: Global,

@@ -1,4 +1,4 @@
-//! An admitted filter, and what it answers.
+//! An admitted filter, and its answers.
 
 ghost use Rattle.std.specs.Prelude.{◌≡◌, IsTrue, map, option_map, slice_get, string_bytes};
 ghost use Rattle.std.specs.FinMap.{is_sorted};
@@ -13,12 +13,12 @@ use attributes::Limits;
 use rbac_match::RuleList;
 use std::alloc::Global;
 
-/// What a filter does with a request that some policy matches.
+/// How a filter treats a request, by whether some policy matches it.
 #[derive(Clone, Copy, PartialEq, Eq, Debug)]
 pub(crate) enum Action {
-    /// Lets it through, and no other.
+    /// Lets through the requests that some policy matches, and no others.
     Allow,
-    /// Refuses it, and no other.
+    /// Refuses the requests that some policy matches, and no others.
     Deny,
     /// Lets every request through.
     Log,
@@ -27,7 +27,7 @@ pub(crate) enum Action {
 impl Action {
     ghost use Rattle.rbac_policy.specs.steps.Action.{allows};
 
-    /// Whether it lets a request through, by whether some policy matches.
+    /// Whether it lets a request through, if `is_match` says whether some policy matches.
     pub(crate) fn allows(self, is_match: bool) -> bool
         ensures { result ≡ allows self is_match }
     {
@@ -39,7 +39,7 @@ impl Action {
     }
 }
 
-/// What a filter answers a request.
+/// A filter's answer to a request.
 #[derive(Clone, Copy, PartialEq, Eq, Debug)]
 pub struct Verdict {
     /// Whether the request is let through.
@@ -48,8 +48,8 @@ pub struct Verdict {
     pub matched: Option<usize>,
 }
 
-/// What a filter enforces: the list of all rules, and its policies in ascending order of their names, each
-/// name once. The sieve is theirs, and their conditions may take so many steps together.
+/// What a filter enforces: the list of all rules, and the policies in ascending order of their names, each
+/// name once. The sieve is that of these policies. Their conditions together may take `bound` steps.
 #[derive(Debug, Drop)]
 pub(crate) struct FilterRules {
     action: Action,
@@ -66,8 +66,8 @@ impl FilterRules {
     ghost use Rattle.std.specs.FinMap.{from_entries};
     ghost use Rattle.rbac_policy.specs.Admitted.{filter_rules_view};
 
-    /// The rules of an action and policies, whose rules are in the list. They are in ascending order of their
-    /// names, with their sieve, and their conditions may take so many steps together.
+    /// The rules of an action and policies, whose rules are in the list. The policies ascend by name, and the
+    /// sieve is theirs. Their conditions together may take `bound` steps.
     pub(crate) fn new(
         action: Action,
         list: RuleList,
@@ -93,7 +93,7 @@ impl FilterRules {
     }
 }
 
-/// A filter that was admitted, with the limits of the requests for which it was.
+/// An admitted filter, and the limits of the requests that it was admitted for.
 #[derive(Debug, Drop)]
 pub struct Admitted {
     rules: FilterRules,
@@ -113,7 +113,7 @@ impl Admitted {
         Admitted { rules, limits }
     }
 
-    /// What the filter does with a request that some policy matches.
+    /// How the filter treats a request, by whether some policy matches it.
     pub(crate) fn action(&self) -> Action
         ensures { result ≡ self.now.rules.action }
     {
@@ -148,7 +148,7 @@ impl Admitted {
         *self.rules.policies.allocator()
     }
 
-    /// The limits of the requests for which it was admitted.
+    /// The limits of the requests that the filter was admitted for.
     pub fn limits(&self) -> &Limits
         ensures { result.now ≡ limits_view self.now }
     {
@@ -170,7 +170,7 @@ impl Admitted {
         name_in(&self.rules.policies, number)
     }
 
-    /// How many steps its conditions may take together.
+    /// How many steps the filter's conditions together may take.
     pub fn bound(&self) -> u64
         ensures { result ≡ total_bound (filter_view self.now) }
     {
@@ -178,7 +178,7 @@ impl Admitted {
     }
 }
 
-/// The name of the policy that stands at this place.
+/// The name of the policy at this place.
 fn name_in(policies: &[NamedPolicy], place: usize) -> Option<&str>
     ensures { option_map (λ name. name.now) result
         ≡ option_map (λ p. string_bytes p.name) (slice_get policies.now place) }

@@ -1,9 +1,9 @@
-//! The fields that the messages of a filter have, by number and wire type.
+//! The fields of a filter's messages, by number and wire type.
 
 use crate::numbers;
 use proto_wire::{Key, keys};
 
-/// The fields of the filter's message: its rules, and what is skipped.
+/// The fields of the filter's message: its rules, and fields that are skipped.
 pub(crate) static FILTER_KEYS: [Key; 3] = keys![
     Len numbers::RULES, Len numbers::SHADOW_RULES, Len numbers::SHADOW_RULES_STAT_PREFIX
 ];

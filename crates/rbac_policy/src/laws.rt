@@ -18,28 +18,29 @@ pub fn admission_disjoint()
         → Admissible bytes limits budget → Fault e bytes limits budget → ⊥ }
 {}
 
-/// All bytes are admissible or have some fault.
+/// All bytes are admissible or have a fault.
 pub fn admission_total()
     ensures { (bytes : List ℕ) (limits : LimitsValue) (budget : ℕ)
         → Admissible bytes limits budget ⊎ ((e : Refusal) × Fault e bytes limits budget) }
 {}
 
-/// Bytes are admitted as one filter at most, and as one that is enforced.
+/// Bytes are admitted as at most one filter, and at most one filter is enforced for them.
 pub fn filter_unique()
     ensures { (bytes : List ℕ) (limits : LimitsValue) (budget : ℕ) (f f' : Filter CelChecked)
         (g g' : Filter Program)
         → Admits bytes limits budget f g → Admits bytes limits budget f' g' → (f ≡ f') × (g ≡ g') }
 {}
 
-/// What is enforced of a filter may take what its conditions cost together, and they cost nothing else.
+/// A number is the cost of a filter's conditions together if and only if the enforced filter may take that
+/// many steps.
 pub fn bound_is_cost()
     ensures { (limits : LimitsValue) (filter : Filter CelChecked) (enforced : Filter Program) (cost : ℕ)
         → Enforces limits filter enforced
         → FilterCosts limits filter cost ↔ (cost ≡ total_bound enforced) }
 {}
 
-/// A filter gives a request one verdict at most, by which of its conditions the request meets: as it is
-/// written, and as it is enforced.
+/// A filter gives a request at most one verdict, by which of its conditions the request meets. This holds for
+/// a filter as it is written, and as it is enforced.
 pub fn verdict_unique()
     ensures written { (is_met : CelChecked → Bool) (r : RequestValue) (filter : Filter CelChecked)
         (a b : Bool) (m n : Option ℕ)

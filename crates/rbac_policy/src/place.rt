@@ -1,5 +1,5 @@
-//! Where in a filter's message a fault stands, for those who read a refusal. No contract speaks of
-//! it: each part that is named was read by itself and has the fault.
+//! The place of a fault in a filter's message, for readers of a refusal. No contract mentions the place. Each
+//! part that is named was read by itself and has the fault.
 
 use crate::admission::{read_action, refuse_audit_options};
 use crate::numbers::{PERMISSIONS, POLICIES, PRINCIPALS, RULES};
@@ -12,10 +12,10 @@ use rbac_match::{
 use smallvec::SmallVec;
 use std::alloc::Global;
 
-/// The part of the filter's message that has this fault, as
-/// `policy "p": permissions[0].and_rules.rules[2]` or `policy "p": checked_condition`; nothing where it
-/// cannot be told, as of `TooCostly`, which is a fault of several conditions together. Control
-/// characters of the name are escaped.
+/// The part of the filter's message that has this fault, such as
+/// `policy "p": permissions[0].and_rules.rules[2]` or `policy "p": checked_condition`. Control characters of
+/// the name are escaped. `None` if no part can be named, as for `TooCostly`, which is a fault of several
+/// conditions together.
 pub fn place_of(alloc: Global, bytes: &[u8], refusal: Refusal) -> Option<String> {
     if refusal == Refusal::TooCostly {
         return None;
@@ -25,12 +25,12 @@ pub fn place_of(alloc: Global, bytes: &[u8], refusal: Refusal) -> Option<String>
     place_in_rules(alloc, &rules, refusal)
 }
 
-/// The budget with which conditions are read once more. Each other fault comes before a condition is
-/// bounded, and a bound without a budget might be sought for as long as the condition itself could run.
+/// The budget with which conditions are read again. Every other fault is found before a condition is bounded.
+/// A search for a bound without a budget might take as long as a run of the condition.
 const NO_STEPS: u64 = 0;
 
-// Each of the functions lends what it owns to the next: an exit of a function drops all that it owns, which
-// is dear in a proof.
+// Each of these functions lends what it owns to the next. At an exit a function drops all that it owns, which
+// is expensive in a proof.
 
 /// The part of the filter's rules that has the fault.
 fn place_in_rules(alloc: Global, rules: &[&[u8]], refusal: Refusal) -> Option<String> {
@@ -41,7 +41,7 @@ fn place_in_rules(alloc: Global, rules: &[&[u8]], refusal: Refusal) -> Option<St
     }
 }
 
-/// The first policy of the rules that has the fault by itself, and its part.
+/// The first policy of the rules that has the fault by itself, and the part of it that has the fault.
 fn place_in_policies(alloc: Global, fields: &[Field<'_>], refusal: Refusal) -> Option<String> {
     let entries = payloads_of(alloc, fields, POLICIES).ok()?;
     place_in_entries(alloc, &entries, refusal)
@@ -74,7 +74,7 @@ fn part_of_rules(fields: &[Field<'_>], refusal: Refusal) -> Option<&'static str>
     None
 }
 
-/// This policy, and its part that has the fault: a rule, its checked condition, or all of it.
+/// This policy, and the part of it that has the fault: a rule, its checked condition, or the policy itself.
 fn place_in_policy(alloc: Global, name: &str, parts: &[&[u8]], refusal: Refusal) -> Option<String> {
     match part_of_policy(alloc, parts, refusal) {
         Some(part) => format!(in alloc; "policy {name:?}: {part}").ok(),
@@ -136,7 +136,7 @@ fn path_in_rules(
     Some(path)
 }
 
-/// The rules right inside of another one: the step to them, and whether they have numbers.
+/// The rules directly inside another rule: the step to them, and whether they are numbered.
 #[derive(Drop)]
 struct Inside<'a> {
     step: &'static str,
@@ -144,8 +144,7 @@ struct Inside<'a> {
     rules: SmallVec<&'a [u8], 1>,
 }
 
-/// The first rule inside this one that has the fault, where it may have `depth` levels, and the step
-/// to it.
+/// The first rule inside this one that has the fault, if it may have `depth` levels, and the step to it.
 fn inner_at_fault<'a>(
     alloc: Global,
     side: Side,
@@ -177,7 +176,7 @@ fn step_to(alloc: Global, step: &str, numbered: bool, index: usize) -> Option<St
     String::from_str(alloc, step).ok()
 }
 
-/// The rules inside of this one, where it holds any.
+/// The rules inside this one, if it has any.
 fn inside_of<'a>(alloc: Global, side: Side, rule: &'a [u8]) -> Option<Inside<'a>> {
     let fields = read_fields(alloc, rule).ok()?;
     inside_of_fields(alloc, side, &fields)
@@ -207,7 +206,7 @@ fn rules_of_set<'a>(alloc: Global, payloads: &[&'a [u8]]) -> Option<SmallVec<&'a
     payloads_of(alloc, &set, SET_RULES).ok()
 }
 
-/// The step to the rules in a member of this number, by Envoy's names.
+/// The step to the rules in the member of this number, by Envoy's names.
 fn step_of(side: Side, number: u32) -> Option<&'static str> {
     match (side, number) {
         (Side::Permission, AND) => Some(".and_rules.rules"),
@@ -220,7 +219,7 @@ fn step_of(side: Side, number: u32) -> Option<&'static str> {
     }
 }
 
-/// The number of the first of the rules that has the fault by itself.
+/// The index of the first rule that has the fault by itself.
 fn index_at_fault(
     alloc: Global,
     side: Side,

@@ -30,8 +30,8 @@ use proto_wire::{Field, MapEntry, Refusal, has_payload, payloads_of, read_messag
 use rbac_match::{RULE_DEPTH, RuleList, Rules, Side, read_rules};
 use std::alloc::Global;
 
-/// A policy with its name: it matches where some permission, some principal and the condition do, if
-/// it has one. Its rules stand in the filter's list.
+/// A policy with its name. It matches if some permission and some principal match, and its condition is true,
+/// if it has one. Its rules are in the filter's list.
 #[derive(Debug, Drop)]
 pub(crate) struct NamedPolicy {
     pub name: String,
@@ -41,7 +41,7 @@ pub(crate) struct NamedPolicy {
 }
 
 impl NamedPolicy {
-    /// How many steps its condition may take.
+    /// How many steps the policy's condition may take.
     fn bound(&self) -> u64
         ensures { result ≡ bound_of (option_map program_view self.now.condition) }
     {
@@ -52,9 +52,9 @@ impl NamedPolicy {
     }
 }
 
-/// Reads each policy of the map's entries, which ascend by name, for requests within the limits, and adds
-/// their rules to the list; their conditions may take so many steps together. Gives besides how many they
-/// take.
+/// Reads the policies of the map's entries, which ascend by name, for requests within the limits, and appends
+/// their rules to the list. Their conditions together may take at most `budget` steps. Also gives how many
+/// steps they may take.
 pub(crate) fn read_policies(
     list: &mut RuleList,
     named: &[MapEntry<'_, &str>],
@@ -80,8 +80,8 @@ pub(crate) fn read_policies(
     Ok((policies, spent))
 }
 
-/// Reads the policy that stands in the parts, for requests within the limits, with so many steps
-/// left for its condition, and adds its rules to the list, where they stay however it grows.
+/// Reads a policy from its parts, for requests within the limits; its condition may take at most `left`
+/// steps. Appends its rules to the list, where they stay if it grows.
 pub(crate) fn read_policy(
     list: &mut RuleList,
     name: &str,
@@ -114,7 +114,7 @@ pub(crate) fn read_policy(
     })
 }
 
-/// Refuses a policy that has an unchecked condition, alone or beside a checked one.
+/// Refuses a policy that has an unchecked condition, with or without a checked one.
 fn refuse_unchecked(fields: &[Field<'_>]) -> Result<(), Refusal>
     ensures found { OnOk result (payloads policy_field.condition (map field_view fields.now) ≡ []) }
     ensures fault { IfErr result (λ e. (payloads policy_field.condition (map field_view fields.now) ≢ [])
@@ -132,7 +132,7 @@ fn refuse_unchecked(fields: &[Field<'_>]) -> Result<(), Refusal>
     Err(Refusal::Unsupported)
 }
 
-/// Reads the condition that a type checker left, if there is one.
+/// Reads the checked condition, if there is one.
 pub(crate) fn read_checked(
     alloc: Global,
     fields: &[Field<'_>],
@@ -156,7 +156,7 @@ pub(crate) fn read_checked(
     Ok(Some(condition))
 }
 
-/// Refuses a policy that lacks permissions or principals.
+/// Refuses a policy without permissions or without principals.
 fn require_sides(fields: &[Field<'_>]) -> Result<(), Refusal>
     ensures found { OnOk result (HasBothSides (map field_view fields.now)) }
     ensures fault { IfErr result (λ e. ¬ (HasBothSides (map field_view fields.now))

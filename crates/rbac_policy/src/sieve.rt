@@ -1,5 +1,5 @@
-//! A sieve of policies: by what it has, a decision passes over policies that do not match the request, and
-//! looks at no rule of theirs.
+//! A sieve of policies. With it, a decision skips policies that cannot match the request, and does not look
+//! at their rules.
 
 ghost use Rattle.std.specs.Prelude.{◌≡◌, ◌≢◌, ◌≤◌, ◌⊎◌, ◌+◌, true, ℕ, List, IfOk, IfSome, map, take, get_or, length, string_bytes};
 ghost use Rattle.attributes.specs.Request.{RequestValue};
@@ -15,17 +15,17 @@ use attributes::Request;
 use rbac_match::{RuleList, Rules, header_value, path_start};
 use std::alloc::{AllocError, Global};
 
-/// How many bytes of a path's start are looked at.
+/// How many bytes of a path's start are used, at most.
 const MOST: usize = 64;
 
-/// How many of the last bytes of a header's value are looked at.
+/// How many of the last bytes of a header's value are used.
 const LAST: usize = 24;
 
-/// With fewer policies there is no sieve.
+/// A filter with fewer policies has no sieve.
 const FEWEST: usize = 8;
 
-/// What each request has that a policy matches. Its path's start of so many bytes has this number, and so has
-/// a header's value; 0 where no value is needed.
+/// What every request has that a policy matches: numbers for the first `count` bytes of its path, and for a
+/// header's value. The value's number is 0 if no value is needed.
 #[derive(Clone, Copy, Debug)]
 pub(crate) struct Need {
     count: usize,
@@ -33,8 +33,8 @@ pub(crate) struct Need {
     value: u64,
 }
 
-/// What the policies of a filter need, in order; nothing where a sieve would save little. Starts have at most
-/// so many bytes, and values are those of the header of this name.
+/// What each policy of a filter needs, in order; empty if a sieve would save little. Starts have at most
+/// `most` bytes. Values are those of the header of this name.
 #[derive(Debug, Drop)]
 pub(crate) struct Sieve {
     most: usize,
@@ -79,13 +79,13 @@ impl Sieve {
         Ok(Sieve { most, name, needs })
     }
 
-    /// Whether it has nothing.
+    /// Whether the sieve has no needs.
     #[inline(always)]
     pub(crate) fn is_empty(&self) -> bool {
         self.needs.is_empty()
     }
 
-    /// What it looks at of the request.
+    /// The numbers that the sieve needs of the request.
     pub(crate) fn probe(&self, request: &Request) -> Probe<'_>
         ensures { (ps : List (Policy Program)) → IsSieve self.now ps → Sieves result request.now ps }
     {
@@ -98,7 +98,7 @@ impl Sieve {
 }
 
 impl<'a> Probe<'a> {
-    /// Whether the policy of this number does not match.
+    /// Whether the probe rules out the policy of this number, which then does not match.
     #[inline(always)]
     pub(crate) fn rules_out(&self, number: usize) -> bool
         ensures { (r : RequestValue) (ps : List (Policy Program)) → Sieves self.now r ps
@@ -110,7 +110,7 @@ impl<'a> Probe<'a> {
         }
     }
 
-    /// Whether the request may have what is needed.
+    /// Whether the request may have what the policy needs.
     #[inline(always)]
     fn meets(&self, need: &Need) -> bool
         ensures { (most : ℕ) (name : List ℕ) (r : RequestValue)
@@ -123,7 +123,7 @@ impl<'a> Probe<'a> {
         }
     }
 
-    /// Whether the header's value may be what is needed.
+    /// Whether the header's value may be the needed one.
     #[inline(always)]
     fn has_value(&self, value: u64) -> bool
         ensures { (value ≡ 0) ⊎ (self.now.value ≡ value) → result ≡ true }
@@ -132,7 +132,7 @@ impl<'a> Probe<'a> {
     }
 }
 
-/// The greatest number of bytes that a start of theirs has.
+/// The number of bytes of the policies' longest start, up to the limit.
 fn most_count(list: &RuleList, policies: &[NamedPolicy]) -> usize {
     let mut most = 0;
     for policy in policies {
@@ -154,7 +154,7 @@ fn lesser(one: usize, other: usize) -> usize
     other
 }
 
-/// The first header of which a policy needs the value.
+/// The first header whose value a policy needs.
 fn header_name<'a>(list: &'a RuleList, policies: &[NamedPolicy]) -> &'a str {
     for policy in policies {
         if let Some((name, _)) = header_value(list, policy.principals) {
@@ -182,7 +182,7 @@ fn needs_of(
     Ok(needs)
 }
 
-/// Whether fewer than half of them can tell requests apart: each path has at least the start `/`.
+/// Whether fewer than half of the needs can tell requests apart: every path has at least the start `/`.
 fn are_few(needs: &[Need]) -> bool {
     let mut count: usize = 0;
     for need in needs {
@@ -206,7 +206,8 @@ fn need_of(list: &RuleList, policy: &NamedPolicy, most: usize, name: &str) -> Ne
     }
 }
 
-/// The number of the header's value in each request that these rules match; 0 where none is known.
+/// The number of the header's value in each request that at least one of these rules matches; 0 if none is
+/// known.
 fn value_needed(list: &RuleList, rules: Rules, name: &str) -> u64
     ensures { (r : RequestValue) → some_hold r (rules_view list.now rules) ≡ true
         → result ≢ 0 → value_number (value_of r name.now) ≡ result }
@@ -222,7 +223,7 @@ fn value_needed(list: &RuleList, rules: Rules, name: &str) -> u64
     }
 }
 
-/// The numbers of a path's starts, by their lengths, up to so many bytes.
+/// The numbers of the path's starts of up to `most` bytes; the index is the start's length.
 fn starts_of(path: &[u8], most: usize) -> [u64; 65]
     ensures { (count : ℕ) → count ≤ most → count ≤ 64
         → get_or result count 0 ≡ start_number (take count path.now) }
@@ -239,7 +240,7 @@ fn starts_of(path: &[u8], most: usize) -> [u64; 65]
     starts
 }
 
-/// The number of a start with one byte more, if there is one.
+/// The number of a start with one more byte, if the path has one.
 #[inline(always)]
 fn next_number(number: u64, path: &[u8], count: usize) -> u64
     requires { number ≡ start_number (take count path.now) }
@@ -251,7 +252,7 @@ fn next_number(number: u64, path: &[u8], count: usize) -> u64
     }
 }
 
-/// The number of the value of the request's header of this name.
+/// The number of the value of the request's header of this name; a missing header counts as empty.
 fn value_seen(request: &Request, name: &str) -> u64
     ensures { result ≡ value_number (value_of request.now name.now) }
 {
@@ -269,7 +270,7 @@ fn number_of_value(value: &[u8]) -> u64
     number_from(value.len() as u64, &value[from..])
 }
 
-/// A number for bytes, from one for what is before them.
+/// A number for bytes, computed from `before`, a number for what is before them.
 fn number_from(before: u64, bytes: &[u8]) -> u64
     ensures { result ≡ number_from before bytes.now }
 {
@@ -280,7 +281,7 @@ fn number_from(before: u64, bytes: &[u8]) -> u64
     number
 }
 
-/// A number for a number and a byte after it.
+/// A number computed from a number and the next byte.
 #[inline(always)]
 fn mix(number: u64, byte: u8) -> u64
     ensures { result ≡ mix number byte }

@@ -1,4 +1,4 @@
-//! Why a filter answers a request as it does.
+//! The reasons for a filter's answer to a request.
 
 ghost use Rattle.std.specs.Prelude.{◌≡◌, ◌≢◌, ◌⊎◌, ◌++◌, ◌∷◌, [], Err, IfErr, IfOk, OnOk, map};
 ghost use Rattle.std.specs.FinMap.{entries};
@@ -22,20 +22,20 @@ use rbac_match::{RuleList, any_matches};
 use stack_machine::RunError;
 use std::alloc::{AllocError, Global};
 
-/// Why a policy matches a request, or does not.
+/// The reason why a policy matches a request, or does not.
 #[derive(Clone, Copy, PartialEq, Eq, Debug)]
 pub enum Reason {
     /// No permission matches.
     NoPermission,
-    /// A permission matches, and no principal does.
+    /// A permission matches, but no principal does.
     NoPrincipal,
-    /// It matches, and has no condition.
+    /// The policy matches, and has no condition.
     Matches,
-    /// Its condition is false.
+    /// The policy's condition is false.
     ConditionFalse,
-    /// Its condition is this error, which is no match.
+    /// The policy's condition is this error, which is no match.
     ConditionFails(CelError),
-    /// It matches: its condition is true, after so many steps of so many that it may take.
+    /// The policy matches: its condition is true, after `steps` of the `bound` steps that it may take.
     ConditionTrue { steps: u64, bound: u64 },
 }
 
@@ -54,7 +54,7 @@ impl Reason {
     }
 }
 
-/// A policy that was tried, by its number and its name.
+/// A policy that was tried: its number, its name, and the reason why it matches or does not.
 #[derive(Clone, Copy, Debug)]
 pub struct Trial<'a> {
     pub number: usize,
@@ -63,10 +63,10 @@ pub struct Trial<'a> {
 }
 
 impl Admitted {
-    /// The policies that a decision on the request tries, in order, each with why it matches or does
-    /// not: up to the first that matches, with which they end. May answer `Memory`; and
-    /// `OutOfSteps`, for a request outside the limits, exactly where a condition that is asked for takes
-    /// more steps than it may.
+    /// The policies that a decision on the request tries, in order, each with the reason why it matches or
+    /// does not. They end with the first that matches. It may answer `Memory`. It answers `OutOfSteps`
+    /// exactly if a condition that is asked for takes more steps than it may. That happens only for a request
+    /// outside the limits.
     pub fn trials(&self, request: &Request) -> Result<Vec<Trial<'_>>, RunError>
         ensures tried { IfOk result (λ trials. (filter : Filter CelChecked)
             → IsAdmittedAs (limits_view self.now) filter (filter_view self.now)
@@ -121,7 +121,7 @@ fn try_policies<'a>(
     Ok(trials)
 }
 
-/// Adds a trial at the end.
+/// Appends a trial.
 fn add<'a>(trials: &mut Vec<Trial<'a>>, trial: Trial<'a>) -> Result<(), AllocError>
     ensures { OnOk result (trials.new.items ≡ trials.old.items ++ trial.entry ∷ []) }
 {
@@ -129,7 +129,7 @@ fn add<'a>(trials: &mut Vec<Trial<'a>>, trial: Trial<'a>) -> Result<(), AllocErr
     Ok(())
 }
 
-/// Why the policy matches, or does not.
+/// The reason why the policy matches, or does not.
 fn reason_of(
     alloc: Global,
     list: &RuleList,

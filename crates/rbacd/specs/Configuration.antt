@@ -11,12 +11,12 @@ use Rattle.rbacd.specs.Members.{HasOnly, IsNumberOr, values}
 use Rattle.rbacd.specs.declared.configuration.ConfigTextFault.{ConfigTextFault}
 use Rattle.rbacd.specs.declared.configuration.ConfigTextFault.TheVariants.{Bad, Memory}
 
--- what a fault is printed as
+-- the text of a fault
 abbrev pub fault_text : ConfigTextFault → List ℕ
 fault_text Bad = codes "bad config"
 fault_text Memory = codes "memory"
 
--- the names that a configuration, a filter and limits may have
+-- the names of the members that a configuration, a filter and limits may have
 abbrev pub config_names : List (List ℕ)
 config_names = codes "node" ∷ codes "cluster" ∷ codes "filters" ∷ codes "limits" ∷ []
 
@@ -27,24 +27,24 @@ abbrev pub limit_names : List (List ℕ)
 limit_names =
     codes "fields" ∷ codes "name" ∷ codes "value" ∷ codes "method" ∷ codes "target" ∷ codes "text" ∷ []
 
--- the object is this filter; its budget is 1,000,000 unless it says another
+-- the object means this filter; without a budget, the budget is 1,000,000
 pub record IsFilterObject (d : Data) (f : FilterValue) : Type 0 where
   pub names : HasOnly filter_names d
   pub name : get (codes "name") d ≡ Some (string f.name)
   pub budget : IsNumberOr 1000000 (get (codes "budget") d) f.budget
 
--- the object declares these limits; each that it does not name is the greatest
+-- the object declares these limits; a limit that it does not name has the greatest value
 pub record DeclaresLimits (d : Data) (l : LimitsValue) : Type 0 where
   pub names : HasOnly limit_names d
   pub each : (limit : Limit) → IsNumberOr (limit_of limit largest) (get (name_of limit) d) (limit_of limit l)
   pub sound : AreLimits l
 
--- the limits that are declared, if any are, and else the greatest
+-- the declared limits; if none are declared, each limit has the greatest value
 abbrev pub AreDeclared : Option Data → LimitsValue → Type 0
 AreDeclared None l = l ≡ largest
 AreDeclared (Some d) l = DeclaresLimits d l
 
--- the object is this configuration
+-- the object means this configuration
 pub record IsConfig (d : Data) (c : ConfigValue) : Type 0 where
   pub names : HasOnly config_names d
   pub node : get (codes "node") d ≡ Some (string c.node)
@@ -55,6 +55,6 @@ pub record IsConfig (d : Data) (c : ConfigValue) : Type 0 where
   pub limits : AreDeclared (get (codes "limits") d) c.limits
   pub sound : IsSound c
 
--- the bytes are the text of an object that is this configuration
+-- the bytes are the text of a JSON object that means this configuration
 abbrev pub IsConfigText : List ℕ → ConfigValue → Type 0
 IsConfigText text c = IsUtf8 text × ((d : Data) × (read text ≡ Some d) × IsConfig d c)

@@ -1,5 +1,5 @@
--- What `judge --explain` tells: the policies that were tried, each with why it matches or does not, in
--- words and as JSON objects (RFC 8259), whose members stand in ascending order of their names.
+-- The output of `judge --explain`: the policies that were tried, each with why it matches or does not. It is in words
+-- or in JSON objects (RFC 8259), whose members are in ascending order of their names.
 use Rattle.std.specs.Prelude.{◌≡◌, ⊤, ℕ, Bool, false, ◌==◌, ◌||◌, ◌&&◌, nat_le, if◌then◌else◌, List, [], ◌∷◌, ◌++◌, Option, Some, None, codes, map, string_bytes}
 use Rattle.std.specs.Char.{encode_utf8}
 use Rattle.std.specs.FinMap.{entries}
@@ -29,49 +29,50 @@ pub record TrialValue : Type 0 where
   pub name : List ℕ
   pub reason : Reason
 
--- the trial without where its name lies
+-- the trial that a `Trial` means, whose name is borrowed
 abbrev pub trial_view : Trial → TrialValue
 trial_view trial = record { number = trial.number; name = trial.name.now; reason = trial.reason }
 
--- and one that has its own name
+-- the trial that an `OwnTrial` means, which owns its name
 abbrev pub own_trial_view : OwnTrial → TrialValue
 own_trial_view trial =
     record { number = trial.number; name = string_bytes trial.name; reason = trial.reason }
 
--- the trials that are told, if they are
+-- the trials of an explanation, if it has trials
 abbrev pub told_in : Explanation → Option (List TrialValue)
 told_in explanations.Absent = None
 told_in (explanations.Trials trials) = Some (map own_trial_view trials.items)
 told_in (explanations.Untold cause) = None
 
--- these policies are tried for the request
+-- these are the policies that are tried for the request, in order
 abbrev pub AreTried : RequestValue → Filter CelChecked → List TrialValue → Type 0
 AreTried request filter told = (trials : List Trial)
     × AreTrials (HasReason (Means request) (TakesSteps largest request) request) 0
     (entries filter.policies) trials
     × (told ≡ map trial_view trials)
 
--- what is told of the request is so, and nothing but want of memory keeps it from being told
+-- the explanation is right: its trials are those of the request. Trials that were asked for are absent only if memory
+-- ran out
 abbrev pub Explains : RequestValue → Filter CelChecked → Explanation → Type 0
 Explains request filter explanations.Absent = ⊤
 Explains request filter (explanations.Trials trials) =
     AreTried request filter (map own_trial_view trials.items)
 Explains request filter (explanations.Untold cause) = cause ≡ errors.Memory
 
--- there is an explanation, or a cause why there is none
+-- the explanation has trials, or the cause for which it has none
 abbrev pub IsGiven : Explanation → Type 0
 IsGiven explanations.Absent = ⊥
 IsGiven (explanations.Trials trials) = ⊤
 IsGiven (explanations.Untold cause) = ⊤
 
--- a character that is not seen, or moves those around it: controls, those without width, and those that
--- change the direction of a text
+-- the character is invisible, or moves its neighbours: a control, a character without width, or one that changes the
+-- direction of text
 abbrev pub is_hidden : ℕ → Bool
 is_hidden c = nat_le c 0x1f || (nat_le 0x7f c && nat_le c 0x9f) || (c == 0x61c)
     || (nat_le 0x200b c && nat_le c 0x200f) || (nat_le 0x2028 c && nat_le c 0x202e)
     || (nat_le 0x2060 c && nat_le c 0x206f) || (c == 0xfeff)
 
--- a character between quotes: as `\"`, `\\`, `\0`, `\t`, `\n`, `\r`, `\u{1b}` or itself
+-- a character as it is written between quotes: as `\"`, `\\`, `\0`, `\t`, `\n`, `\r`, `\u{1b}` or itself
 abbrev pub escaped : ℕ → List ℕ
 escaped c =
     if c == 34 then 92 ∷ 34 ∷ []
@@ -97,22 +98,22 @@ reason_text (ConditionFails e) = codes "condition error " ++ error_name e
 reason_text (ConditionTrue steps bound) =
     codes "condition true steps " ++ decimal steps ++ codes " bound " ++ decimal bound
 
--- the line of a trial, as `0 "p": condition false`
+-- the line of a trial, such as `0 "p": condition false`
 abbrev pub trial_line : TrialValue → List ℕ
 trial_line trial = decimal trial.number ++ 32 ∷ (quoted trial.name ++ codes ": " ++ reason_text trial.reason ++ 10 ∷ [])
 
--- the lines of the trials below a line, if they are told
+-- a line, followed by the lines of the trials, if there are any to show
 abbrev pub with_trials : List ℕ → Option (List TrialValue) → List ℕ
 with_trials line None = line
 with_trials line (Some told) = line ++ flat_map trial_line told
 
--- the members of a trial's object from its name on, with this word for the reason
+-- the members `name`, `number` and `reason` of a trial's object, with this word as the reason, and then the rest
 abbrev pub trial_members : TrialValue → List ℕ → Members → Members
 trial_members trial word rest = member (codes "name") (string trial.name)
     (member (codes "number") (number (unsigned trial.number))
     (member (codes "reason") (string word) rest))
 
--- the object of a trial with this reason
+-- the object of a trial that has this reason
 abbrev pub reason_json : TrialValue → Reason → Data
 reason_json trial (ConditionFails e) = object (member (codes "error") (string (error_name e))
     (trial_members trial (codes "condition error") no_members))
@@ -121,16 +122,16 @@ reason_json trial (ConditionTrue steps bound) =
     (member (codes "steps") (number (unsigned steps)) no_members)))
 reason_json trial reason = object (trial_members trial (reason_text reason) no_members)
 
--- the trial as an object
+-- the object of a trial
 abbrev pub trial_json : TrialValue → Data
 trial_json trial = reason_json trial trial.reason
 
--- the member with the trials, if they are told
+-- the member `trials`, if there are trials to show, and then the rest
 abbrev pub put_trials : Option (List TrialValue) → Members → Members
 put_trials None rest = rest
 put_trials (Some told) rest = member (codes "trials") (array (items_of (map trial_json told))) rest
 
--- what is told where the trials cannot be
+-- the text on standard error if the trials cannot be shown
 abbrev pub untold_text : RunError → List ℕ
 untold_text errors.Memory = codes "cannot explain" ++ 10 ∷ (codes "  memory ran out" ++ 10 ∷ [])
 untold_text errors.OutOfSteps =

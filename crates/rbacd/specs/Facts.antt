@@ -12,7 +12,7 @@ use Rattle.rbacd.specs.declared.facts.Fact.TheVariants.{SourceAddress, SourcePor
 use Rattle.rbacd.specs.declared.facts.FactsFault.{FactsFault}
 use Rattle.rbacd.specs.declared.facts.FactsFault.TheVariants.{Bad, Memory}
 
--- what a fault is printed as
+-- the text of a fault
 abbrev pub fault_text : FactsFault → List ℕ
 fault_text Bad = codes "bad facts"
 fault_text Memory = codes "memory"
@@ -29,7 +29,7 @@ IsPortNumber d port = (d ≡ number (unsigned port)) × (port < 2 ^ 16)
 abbrev pub IsNumber : Data → ℕ → Type 0
 IsNumber d n = d ≡ number (unsigned n)
 
--- the value is this answer
+-- the value is this Boolean
 abbrev pub IsAnswer : Data → Bool → Type 0
 IsAnswer d b = d ≡ boolean b
 
@@ -37,18 +37,18 @@ IsAnswer d b = d ≡ boolean b
 abbrev pub IsAddress : Data → Ip → Type 0
 IsAddress d ip = (text : List ℕ) × (d ≡ string text) × IsIpText text ip
 
--- the fact is there exactly where a value for it is, and the value means it
+-- the fact and a value for it are both absent; or both are present, and the value means the fact
 abbrev pub Tells : {A : Type 0} → (Data → A → Type 0) → Option Data → Option A → Type 0
 Tells Means None None = Unit {0}
 Tells Means None (Some a) = ⊥
 Tells Means (Some d) None = ⊥
 Tells Means (Some d) (Some a) = Means d a
 
--- the text, or `http` where there is none
+-- the value is this scheme; if there is no value, the scheme is `http`
 abbrev pub IsScheme : Option Data → List ℕ → Type 0
 IsScheme d scheme = (named : Option (List ℕ)) × Tells IsText d named × (scheme ≡ unwrap_or named (codes "http"))
 
--- the name of each fact, and what the member of that name, or its absence, says of the facts
+-- each fact's name, and what the member of that name, or its absence, means for the facts
 abbrev pub fact_row : Fact → List ℕ × (Option Data → Facts → Type 0)
 fact_row SourceAddress = (codes "source.address", λ d f. Tells IsText d f.source_address)
 fact_row SourcePort = (codes "source.port", λ d f. Tells IsPortNumber d f.source_port)
@@ -74,7 +74,7 @@ fact_row RequestScheme = (codes "request.scheme", λ d f. IsScheme d f.scheme)
 abbrev pub name_of : Fact → List ℕ
 name_of fact = (fact_row fact).0
 
--- some fact has the name
+-- the name is that of a fact
 abbrev pub IsFactName : List ℕ → Type 0
 IsFactName name = (fact : Fact) × (name ≡ name_of fact)
 
@@ -83,20 +83,20 @@ abbrev pub AreNamed : Members → Type 0
 AreNamed no_members = Unit {0}
 AreNamed (member name d ms) = IsFactName name × AreNamed ms
 
--- the value is an object, and each name in it is a fact's
+-- the value is an object, and each of its names is that of a fact
 abbrev pub HasFactNames : Data → Type 0
 HasFactNames d = (ms : Members) × (d ≡ object ms) × AreNamed ms
 
--- the object tells these facts: each is as the member of its name says
+-- the object means these facts: its members have names of facts, and each fact is what the member of its name means
 pub record AreFacts (d : Data) (f : Facts) : Type 0 where
   pub names : HasFactNames d
   pub tells : (fact : Fact) → (fact_row fact).1 (get (name_of fact) d) f
 
--- the bytes are the text of an object that tells these facts
+-- the bytes are the text of a JSON object that means these facts
 abbrev pub IsFactsText : List ℕ → Facts → Type 0
 IsFactsText text f = IsUtf8 text × ((d : Data) × (read text ≡ Some d) × AreFacts d f)
 
--- the bytes tell no facts, or facts that are outside the limits
+-- the bytes mean no facts, or facts that are outside the limits
 abbrev pub TellsNone : List ℕ → Type 0
 TellsNone text = ((f : Facts) → ¬ IsFactsText text f)
     ⊎ ((f : Facts) × IsFactsText text f × ¬ FactsInLimits f largest)

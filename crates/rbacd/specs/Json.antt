@@ -1,4 +1,4 @@
--- An outcome as a JSON object (RFC 8259), whose members stand in ascending order of their names.
+-- An outcome as a JSON object (RFC 8259), whose members are in ascending order of their names.
 use Rattle.std.specs.Prelude.{ℕ, List, true, Option, Some, None, codes, option_map, string_bytes}
 use Rattle.http_front.specs.Head.{fault_status}
 use Rattle.http_front.specs.declared.fault.HeadFault.{HeadFault}
@@ -10,7 +10,7 @@ use Rattle.rbacd.specs.declared.json.Why.{Why}
 use Rattle.rbacd.specs.declared.outcome.Outcome.{Outcome}
 use Rattle.rbacd.specs.declared.outcome.Outcome.TheVariants as outcomes
 
--- a policy that is admitted
+-- the object of a policy that is admitted: its number of policies, and the greatest number of steps of its conditions
 abbrev pub admitted_json : ℕ → ℕ → Data
 admitted_json policies bound = object (member (codes "admitted") (boolean true)
     (member (codes "bound") (number (unsigned bound))
@@ -26,7 +26,7 @@ abbrev pub text_json : Option (List ℕ) → Data
 text_json (Some text) = string text
 text_json None = null
 
--- why an outcome is no verdict, as far as that is told: the cause, and the part of a policy that has the fault
+-- why an outcome is no verdict, as far as that is known: the cause, and the part of a policy that has the fault
 pub record WhyValue : Type 0 where
   pub cause : Option (List ℕ)
   pub place : Option (List ℕ)
@@ -35,36 +35,35 @@ abbrev pub why_view : Why → WhyValue
 why_view why =
     record { cause = option_map string_bytes why.cause; place = option_map string_bytes why.place }
 
--- nothing is told of that
+-- neither a cause nor a part is known
 abbrev pub untold : Why
 untold = record { cause = None; place = None }
 
--- a verdict, with the name and the number of the policy that matched, and with the trials, if they are
--- told
+-- the object of a verdict: the name and the number of the policy that matched, and the trials, if there are any to show
 abbrev pub verdict_json : List ℕ → Option (List ℕ) → Option ℕ → Option (List TrialValue) → Data
 verdict_json word name matched told = object (member (codes "name") (text_json name)
     (member (codes "policy") (matched_json matched)
     (put_trials told (member (codes "verdict") (string word) no_members))))
 
--- a policy that is refused
+-- the object of a policy that is refused
 abbrev pub refused_json : WhyValue → Refusal → Data
 refused_json why reason = object (member (codes "cause") (text_json why.cause)
     (member (codes "name") (string (name_of reason))
     (member (codes "place") (text_json why.place)
     (member (codes "refused") (number (unsigned (number_of reason))) no_members))))
 
--- a head that has a fault
+-- the object of a head that has a fault
 abbrev pub head_json : WhyValue → HeadFault → Data
 head_json why fault = object (member (codes "cause") (text_json why.cause)
     (member (codes "head") (number (unsigned (fault_status fault))) no_members))
 
--- a fault that stops a job: its words, and its cause
+-- the object of a fault that stops a job: its words, and its cause
 abbrev pub fault_json : List ℕ → List ℕ → Data
 fault_json words cause =
     object (member (codes "cause") (string cause) (member (codes "error") (string words) no_members))
 
--- each outcome, with the name of the policy that matched, with the trials, if they are told, and with why
--- it is no verdict
+-- the object of an outcome. A verdict has the name of the policy that matched, and the trials, if there are any to
+-- show. A refusal or a head's fault has its cause
 abbrev pub json_of : Option (List ℕ) → Option (List TrialValue) → WhyValue → Outcome → Data
 json_of name told why (outcomes.Admitted policies bound) = admitted_json policies bound
 json_of name told why (outcomes.Allowed matched) = verdict_json (codes "allow") name matched told

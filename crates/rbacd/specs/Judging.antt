@@ -1,4 +1,4 @@
--- Which outcome a policy file has, and one head under it.
+-- The outcome of a policy file, and of a request head under it.
 use Rattle.std.specs.Prelude.{◌≡◌, ⊤, true, false, ℕ, Bool, IfSome, List, Option, codes, option_and_then, slice_get}
 use Rattle.std.specs.FinMap.{keys, len}
 use Rattle.attributes.specs.Conn.{Facts, only_scheme}
@@ -20,17 +20,16 @@ use Rattle.rbacd.specs.declared.explain.Explanation.{Explanation}
 use Rattle.rbacd.specs.declared.outcome.Outcome.{Outcome}
 use Rattle.rbacd.specs.declared.outcome.Outcome.TheVariants as outcomes
 
--- a connection of which nothing but the scheme `http` is known
+-- a connection of which only the scheme `http` is known
 abbrev pub plain_facts : Facts
 plain_facts = only_scheme (codes "http")
 
--- the bytes are all that the input gives, where that is known
+-- the bytes are all bytes of the input, if these are known
 abbrev pub IsAllOf : Option (List ℕ) → List ℕ → Type 0
 IsAllOf input bytes = IfSome input (λ all. bytes ≡ all)
 
--- the policy is admitted as a filter, and the bytes begin with a head that asks for a request on a
--- connection of these facts, which the filter gives this verdict; the name is that of the policy that
--- matched, and the explanation is that of the request
+-- the policy is admitted as a filter. The bytes begin with a head whose request, on a connection with these facts, has
+-- this verdict. The name is that of the policy that matched, and the explanation is that of the request
 pub record IsDecided (policy : List ℕ) (budget : ℕ) (facts : Facts) (bytes : List ℕ)
     (name : Option (List ℕ)) (explanation : Explanation) (allowed : Bool) (matched : Option ℕ)
     : Type 0 where
@@ -43,16 +42,16 @@ pub record IsDecided (policy : List ℕ) (budget : ℕ) (facts : Facts) (bytes :
   pub named : name ≡ option_and_then (slice_get (keys enforced.policies)) matched
   pub explained : Explains request filter explanation
 
--- the bytes, which are all that comes on a connection of these facts, ask for nothing, for this fault
+-- the bytes are all that arrive on a connection with these facts, and ask for no request, because of this fault
 pub data InputFault (facts : Facts) (bytes : List ℕ) (fault : HeadFault) : Type 0 where
   present : HasFault bytes largest facts fault → InputFault facts bytes fault
   unfinished : IsUnfinished bytes → fault ≡ Unfinished → InputFault facts bytes fault
 
--- the policy is refused for this reason: memory ran out, or its fault is there
+-- the policy is refused for this reason: it has the fault, or memory ran out
 abbrev pub IsRefusedFor : List ℕ → ℕ → Refusal → Type 0
 IsRefusedFor policy budget = MemoryOr (λ e. Fault e policy largest budget)
 
--- the outcome is what the policy gives by itself
+-- the outcome is that of checking the policy alone
 abbrev pub IsCheckOf : List ℕ → ℕ → Outcome → Type 0
 IsCheckOf policy budget (outcomes.Admitted policies bound) =
     (filter : Filter CelChecked) × (enforced : Filter Program)
@@ -62,8 +61,8 @@ IsCheckOf policy budget (outcomes.Refused reason) = IsRefusedFor policy budget r
 IsCheckOf policy budget outcomes.Memory = ⊤
 IsCheckOf policy budget _ = ⊥
 
--- the outcome is what the policy, the facts and the bytes give, with the name of the policy that matched
--- and the explanation. No condition runs out of its steps, since the request is within the limits
+-- the outcome is that of the policy, the facts and the bytes, with the name of the policy that matched and the
+-- explanation. No condition exceeds its steps, since the request is within the limits
 abbrev pub IsOutcomeOf : List ℕ → ℕ → Facts → List ℕ → Option (List ℕ) → Explanation → Outcome
     → Type 0
 IsOutcomeOf policy budget facts bytes name explanation (outcomes.Allowed matched) =

@@ -1,4 +1,4 @@
--- What is printed of an outcome, and its exit status.
+-- The text of an outcome, and its exit status.
 use Rattle.std.specs.Prelude.{ℕ, List, [], ◌∷◌, ◌++◌, if◌then◌else◌, Option, Some, None, codes, option_map, string_bytes}
 use Rattle.std.specs.Fmt.{decimal}
 use Rattle.http_front.specs.Head.{fault_text}
@@ -27,12 +27,12 @@ text_of (outcomes.Refused reason) = codes "refused: " ++ refusal.text_of reason
 text_of (outcomes.Fault fault) = codes "head: " ++ fault_text fault
 text_of outcomes.Memory = codes "memory"
 
--- its line
+-- the outcome's line: its text with a line feed
 abbrev pub line_of : Outcome → List ℕ
 line_of outcome = text_of outcome ++ 10 ∷ []
 
--- what is printed of the report: one line with a JSON object; or the outcome's line, and below it those
--- of the trials, if they are told
+-- the text that is printed for the report. It is one line with a JSON object, or the outcome's line, followed by those
+-- of the trials, if there are any to show
 abbrev pub printed_of : Report → List ℕ
 printed_of report =
     if report.json
@@ -40,7 +40,7 @@ printed_of report =
     (why_view report.why) report.outcome) ++ 10 ∷ []
     else with_trials (line_of report.outcome) (told_in report.explanation)
 
--- the exit status
+-- the exit status of an outcome
 abbrev pub status_of : Outcome → ℕ
 status_of (outcomes.Admitted policies bound) = 0
 status_of (outcomes.Allowed matched) = 0

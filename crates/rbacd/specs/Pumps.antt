@@ -1,4 +1,4 @@
--- What the pumps do: which events the core of a proxy is given, in which order, and what is written of each output.
+-- The pumps of a proxy: the events that the core receives, in order, and what is written of each output.
 use Rattle.std.specs.Prelude.{◌≡◌, ◌≢◌, ◌++◌, ⊤, ℕ, Bool, true, false, List, [], ◌∷◌, None, Option, map}
 use Rattle.std.specs.Io.KnownBytes.{Appends, Consumes}
 use Rattle.attributes.specs.Conn.{Facts}
@@ -8,70 +8,70 @@ use Rattle.ads.specs.Client.{stream_down}
 use Rattle.rbacd.specs.Output.{Takes}
 use Rattle.rbacd.specs.Replays.{event_of}
 
--- the output of a call; where memory ran out there is none
+-- the output of a call; nothing if memory ran out
 abbrev pub output_of : EventCall → OutputValue
 output_of (answered event out) = out
 output_of (no_memory event) = no_output
 
--- what a call puts out for its connection
+-- the bytes that a call puts out for its connection
 abbrev pub http_of : EventCall → List ℕ
 http_of call = (output_of call).http
 
--- what it puts out for the update stream
+-- the bytes that a call puts out for the update stream
 abbrev pub ads_of : EventCall → List ℕ
 ads_of call = (output_of call).ads
 
--- the connection stays open after the call
+-- the call leaves the connection open, and memory did not run out
 abbrev pub StaysOpen : EventCall → Type 0
 StaysOpen (answered event out) = out.http_close ≡ false
 StaysOpen (no_memory event) = ⊥
 
--- the update stream stays up after the call
+-- the call leaves the update stream up, and memory did not run out
 abbrev pub StaysUp : EventCall → Type 0
 StaysUp (answered event out) = out.ads_close ≡ false
 StaysUp (no_memory event) = ⊥
 
--- the call answers nothing on the update stream, which stays up
+-- the call answers nothing on the update stream, and leaves it up
 abbrev pub Waits : EventCall → Type 0
 Waits call = StaysUp call × (ads_of call ≡ [])
 
--- the call answers on the update stream, which stays up
+-- the call answers on the update stream, and leaves it up
 abbrev pub Responds : EventCall → Type 0
 Responds call = StaysUp call × (ads_of call ≢ [])
 
--- chunks joined
+-- the chunks, joined in order
 abbrev pub joined : List (List ℕ) → List ℕ
 joined [] = []
 joined (chunk ∷ chunks) = chunk ++ joined chunks
 
--- each but the last of a list is such
+-- `P` holds of each element except the last
 abbrev pub AllButLast : {X : Type 0} → (X → Type 0) → List X → Type 0
 AllButLast P [] = ⊤
 AllButLast P (x ∷ []) = ⊤
 AllButLast P (x ∷ next ∷ rest) = P x × AllButLast P (next ∷ rest)
 
--- a list has a last one, which is such
+-- the list is not empty, and `P` holds of its last element
 abbrev pub LastIs : {X : Type 0} → (X → Type 0) → List X → Type 0
 LastIs P [] = ⊥
 LastIs P (x ∷ []) = P x
 LastIs P (x ∷ next ∷ rest) = LastIs P (next ∷ rest)
 
--- texts are written in order: the writer took the whole of each but the last, and the last at least in part
+-- texts are written in order: the writer took the whole of each text but the last, and of the last at least a beginning
 abbrev pub WrittenInTurn : Option (List ℕ) → Option (List ℕ) → List (List ℕ) → Type 0
 WrittenInTurn out out_new [] = Appends out out_new []
 WrittenInTurn out out_new (text ∷ []) = Takes out out_new text
 WrittenInTurn out out_new (text ∷ next ∷ rest) =
     (between : Option (List ℕ)) × Appends out between text × WrittenInTurn between out_new (next ∷ rest)
 
--- if the stream is up, nothing happens; else the core was told of its loss, and has no stream
+-- if the stream is up, nothing happens; otherwise the core has received the loss of the stream, and has none
 abbrev pub EndsUpdates : ProxyValue → ProxyValue → Bool → Type 0
 EndsUpdates between new true = new ≡ between
 EndsUpdates between new false = new ≡ with_client between (stream_down between.client)
 
--- what a reader has left and what a writer took, each before and after
+-- parameters: a proxy, the bytes that a reader has left, and the bytes that a writer took, each before and after
 module _ (old new : ProxyValue) (input input_new out out_new : Option (List ℕ)) where
-  -- the core was given the opening of connection 0 and then chunks of its bytes, which are what was read, until it closed the
-  -- connection at the latest; what it put out was written in turn
+  -- the core received the opening of connection 0 and then the bytes that were read, in chunks. It received nothing
+  -- after a call that closed the connection or ran out of memory. What the core put out was written in order
   pub record Hears (facts : Facts) : Type 0 where
     pub chunks : List (List ℕ)
     pub calls : List EventCall
@@ -81,8 +81,9 @@ module _ (old new : ProxyValue) (input input_new out out_new : Option (List ℕ)
     pub read : Consumes input input_new (joined chunks)
     pub written : WrittenInTurn out out_new (map http_of calls)
 
-  -- the core was given chunks of the bytes of the update stream, which are what was read, until it answered or closed the
-  -- stream at the latest; what it put out was written. If the stream is up, the last chunk was answered, and all was written
+  -- the core received the bytes of the update stream that were read, in chunks. It received nothing after a call that
+  -- answered, closed the stream or ran out of memory. What the core put out was written in order. If the stream is up,
+  -- the last chunk was answered, and everything was written
   pub record Receives (is_up : Bool) : Type 0 where
     pub chunks : List (List ℕ)
     pub calls : List EventCall
@@ -94,14 +95,14 @@ module _ (old new : ProxyValue) (input input_new out out_new : Option (List ℕ)
     pub responds : is_up ≡ true → LastIs Responds calls
     pub whole : is_up ≡ true → Appends out out_new (joined (map ads_of calls))
 
--- a connection was served: the core was given its bytes, and then its closing, after which its place is empty
+-- a connection was served: the core received its bytes, and then its closing, after which its place is empty
 pub record Serves (old new : ProxyValue) (input input_new out out_new : Option (List ℕ)) (facts : Facts) : Type 0 where
   pub between : ProxyValue
   pub hears : Hears old between input input_new out out_new facts
   pub closes : new ≡ with_conn between 0 None
 
--- the core was given the start of an update stream, and its first request was written, at least in part. If the stream is not
--- up, the core was told
+-- the core received the start of an update stream, and its first request was written, at least in part. If the stream
+-- is not up, the core has also received its loss
 pub record Opens (old new : ProxyValue) (out out_new : Option (List ℕ)) (is_up : Bool) : Type 0 where
   pub between : ProxyValue
   pub call : EventCall
@@ -111,7 +112,7 @@ pub record Opens (old new : ProxyValue) (out out_new : Option (List ℕ)) (is_up
   pub came : is_up ≡ true → StaysUp call × Appends out out_new (ads_of call)
   pub ends : EndsUpdates between new is_up
 
--- a response was received and answered, or the stream was lost and the core was told
+-- a response was received and answered; or the stream was lost, and the core has received its loss
 pub record TakesResponse (old new : ProxyValue) (input input_new out out_new : Option (List ℕ)) (is_up : Bool) : Type 0 where
   pub between : ProxyValue
   pub receives : Receives old between input input_new out out_new is_up

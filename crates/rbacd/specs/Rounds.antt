@@ -1,31 +1,31 @@
--- The rounds of a proxy: what it hears of its update stream in each, and which connection it serves.
+-- The rounds of a proxy: in each round it hears its update stream, and serves one connection.
 use Rattle.std.specs.Prelude.{◌≡◌, ◌⊎◌, ℕ, zero, suc, Bool, true, false, List, Option, Some, None}
 use Rattle.attributes.specs.Conn.{Facts}
 use Rattle.proxy_core.specs.Step.{ProxyValue}
 use Rattle.rbacd.specs.Pumps.{EndsUpdates, Opens, Serves, TakesResponse}
 
--- an update stream that is up: what it has left to read, and what was written to it
+-- an update stream that is up: the bytes that it has left to read, and the bytes that were written to it
 abbrev pub Link : Type 0
 Link = Option (List ℕ) × Option (List ℕ)
 
--- the stream, where it is up
+-- the stream if it is up, otherwise none
 abbrev pub link_after : Link → Bool → Option Link
 link_after link true = Some link
 link_after link false = None
 
--- a response of the stream was taken, or the stream was lost
+-- one response of the stream was taken, or the stream was lost
 pub record TakesOne (old new : ProxyValue) (link : Link) (after : Option Link) : Type 0 where
   pub next : Link
   pub is_up : Bool
   pub takes : TakesResponse old new link.0 next.0 link.1 next.1 is_up
   pub left : after ≡ link_after next is_up
 
--- where the stream is up, a response of it was taken
+-- if the stream is up, one response of it was taken; if it is not, nothing happened
 abbrev pub TakesWhereUp : Bool → ProxyValue → ProxyValue → Link → Option Link → Type 0
 TakesWhereUp true old new link after = TakesOne old new link after
 TakesWhereUp false old new link after = (new ≡ old) × (after ≡ None)
 
--- the stream came up, and a response of it was taken; or it was lost
+-- the stream came up, and one response of it was taken; or it was lost
 pub record ComesUp (old new : ProxyValue) (link : Link) (after : Option Link) : Type 0 where
   pub between : ProxyValue
   pub out : Option (List ℕ)
@@ -33,25 +33,25 @@ pub record ComesUp (old new : ProxyValue) (link : Link) (after : Option Link) : 
   pub opens : Opens old between link.1 out is_up
   pub takes : TakesWhereUp is_up between new (link.0, out) after
 
--- what a proxy hears of its update stream in a round: it takes a response where it is up, and else comes up first; where it
--- cannot be connected, that is its loss
+-- the update stream in a round. If it is up, one response is taken; if it is not, it comes up first. If it cannot be
+-- connected, it is lost
 pub data HearsUpdates (old new : ProxyValue) (before after : Option Link) : Type 0 where
   up : (link : Link) → before ≡ Some link → TakesOne old new link after → HearsUpdates old new before after
   connected : (link : Link) → before ≡ None → ComesUp old new link after → HearsUpdates old new before after
   unreachable : before ≡ None → EndsUpdates old new false → after ≡ None → HearsUpdates old new before after
 
--- a connection of these facts was served, or none came
+-- one connection with these facts was served, or none was accepted
 abbrev pub ServesOne : Facts → ProxyValue → ProxyValue → Type 0
 ServesOne facts old new = (new ≡ old)
     ⊎ ((input input_new out out_new : Option (List ℕ)) × Serves old new input input_new out out_new facts)
 
--- a round
+-- one round: the update stream first, then a connection
 pub record IsRound (facts : Facts) (old new : ProxyValue) (before after : Option Link) : Type 0 where
   pub between : ProxyValue
   pub hears : HearsUpdates old between before after
   pub serves : ServesOne facts between new
 
--- so many rounds
+-- this many rounds
 abbrev pub Rounds : Facts → ℕ → ProxyValue → ProxyValue → Option Link → Option Link → Type 0
 Rounds facts zero old new before after = (new ≡ old) × (after ≡ before)
 Rounds facts (suc rounds) old new before after = (next : ProxyValue) × (link : Option Link)

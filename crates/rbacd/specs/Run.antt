@@ -1,5 +1,4 @@
--- A run of the program, from its words to its status: what it reads, which fault counts first, and
--- what it leaves on its two outputs.
+-- A run of the program: what it reads, which fault counts first, what it writes to its two outputs, and its status.
 use Rattle.std.specs.Prelude.{◌≡◌, ◌≢◌, ◌⊎◌, ◌↔◌, ◌++◌, ◌∷◌, [], ⊤, true, false, ℕ, Bool, List, Option, Some, None, Ok, Err, Result, IsTrue, codes, map, option_map, string_bytes}
 use Rattle.std.specs.List.{AllZip}
 use Rattle.std.specs.Io.KnownBytes.{Appends}
@@ -44,48 +43,49 @@ use Rattle.rbacd.specs.declared.outcome.Report.{Report}
 use Rattle.rbacd.specs.declared.job_fault.JobFault.{JobFault}
 use Rattle.rbacd.specs.declared.job_fault.JobFault.TheVariants as faults
 
--- a source of files: which bytes the file at a path holds, and which file cannot be read, for which cause
+-- parameters, a source of files: which bytes the file at a path holds, and which file cannot be read, with the cause
 module _ (holds : Text → Text → Type 0) (lacks : (Text × IoError) → Type 0) where
-  -- the connection is the one that the facts file tells of, or a plain one where none is named
+  -- the connection has the facts of the facts file; if no file is named, it is a plain one
   abbrev pub IsConnOf : Option Text → Facts → Type 0
   IsConnOf None facts = facts ≡ plain_facts
   IsConnOf (Some path) facts =
       (text : Text) × holds path text × IsFactsText text facts × FactsInLimits facts largest
 
-  -- the fault says that the file at this path cannot be read, and for which cause
+  -- the fault says that the file at this path cannot be read, with the cause
   abbrev pub IsUnread : Text → JobFault → Type 0
   IsUnread path (faults.File name cause) = (string_bytes name ≡ path) × lacks (path, cause)
   IsUnread path _ = ⊥
 
-  -- the file that the path names holds no facts
+  -- the file at this path holds no facts within the limits
   abbrev pub HasBadFacts : Text → JobFault → Type 0
   HasBadFacts path fault =
       (text : Text) × holds path text × TellsNone text × (fault ≡ faults.Facts)
 
-  -- the fault says that the input cannot be read, and not for want of memory
+  -- the fault says that the input cannot be read, and the cause is not out of memory
   abbrev pub IsInputFault : JobFault → Type 0
   IsInputFault (faults.Input cause) = error_kind cause ≢ IoKind.OutOfMemory
   IsInputFault _ = ⊥
 
-  -- the file that the path names is this configuration
+  -- the file at this path holds this configuration
   abbrev pub IsConfigOf : Text → ConfigValue → Type 0
   IsConfigOf path c = (text : Text) × holds path text × IsConfigText text c
 
-  -- the file that the path names cannot be read, or is no configuration
+  -- the file at this path cannot be read, or holds no configuration
   abbrev pub LacksConfig : Text → JobFault → Type 0
   LacksConfig path fault = IsUnread path fault
       ⊎ ((text : Text) × holds path text × ((c : ConfigValue) → ¬ IsConfigText text c) × (fault ≡ faults.Config))
 
-  -- the outcome is that of the policy file at this path
+  -- the outcome is that of checking the policy file at this path
   pub record IsCheckedAs (policy_path : Text) (budget : ℕ) (outcome : Outcome) : Type 0 where
     pub policy : Text
     pub read : holds policy_path policy
     pub found : IsCheckOf policy budget outcome
 
-  -- to judge by that policy file, that facts file, if any, and that budget, with this input
+  -- parameters of a judgement: the paths of the policy file and of the facts file, if one is named, the budget, and the
+  -- input
   module _ (policy_path : Text) (facts_path : Option Text) (budget : ℕ) (input : Option Text) where
-    -- the outcome is that of the files and of all of the input, with the name of the policy that matched
-    -- and the explanation
+    -- the outcome is that of the files and of all bytes of the input, with the name of the policy that matched and the
+    -- explanation
     pub record IsJudgedAs (name : Option Text) (explanation : Explanation) (outcome : Outcome)
         : Type 0 where
       pub policy : Text
@@ -96,7 +96,7 @@ module _ (holds : Text → Text → Type 0) (lacks : (Text × IoError) → Type 
       pub all : IsAllOf input bytes
       pub found : IsOutcomeOf policy budget facts bytes name explanation outcome
 
-    -- the fault is there, and nothing that is looked at before it has one
+    -- this fault stops the judgement, and nothing that is read before it has a fault
     pub data StopsBy (fault : JobFault) : Type 0 where
       no_policy : IsUnread policy_path fault → StopsBy fault
       no_facts : (policy path : Text) → holds policy_path policy → facts_path ≡ Some path
@@ -107,7 +107,7 @@ module _ (holds : Text → Text → Type 0) (lacks : (Text × IoError) → Type 
           → IsConnOf facts_path facts → Admissible policy largest budget → IsInputFault fault
           → StopsBy fault
 
-  -- the job with this input finds this outcome, the name of the policy that matched, and this explanation
+  -- the job with this input has this outcome, this name of the policy that matched, and this explanation
   abbrev pub Finds : Option Text → Job → Option Text → Explanation → Outcome → Type 0
   Finds input (Check policy budget json) name explanation outcome =
       IsCheckedAs (string_bytes policy) budget outcome
@@ -115,15 +115,15 @@ module _ (holds : Text → Text → Type 0) (lacks : (Text × IoError) → Type 
       IsJudgedAs (string_bytes policy) (option_map string_bytes facts) budget input name explanation outcome
   Finds input _ name explanation outcome = ⊥
 
-  -- the job with this input is stopped by this fault
+  -- this fault stops the job with this input
   abbrev pub IsStoppedBy : Option Text → Job → JobFault → Type 0
   IsStoppedBy input (Check policy budget json) fault = IsUnread (string_bytes policy) fault
   IsStoppedBy input (Judge policy facts budget json explain) fault =
       StopsBy (string_bytes policy) (option_map string_bytes facts) budget input fault
   IsStoppedBy input _ fault = ⊥
 
-  -- the job with this input comes to this. An explanation is given exactly where the job asks for one
-  -- and there is a verdict to explain
+  -- the result of the job with this input: a report, or the fault that stops it. The report has an explanation exactly
+  -- if the job asks for one and there is a verdict to explain
   abbrev pub ComesTo : Option Text → Job → Result Report JobFault → Type 0
   ComesTo input job (Ok report) = (report.json ≡ is_json job)
       × (IsGiven report.explanation ↔ (IsTrue (is_explained job) × IsDecision report.outcome))
@@ -131,7 +131,7 @@ module _ (holds : Text → Text → Type 0) (lacks : (Text × IoError) → Type 
       ⊎ Finds input job (option_map string_bytes report.name) report.explanation report.outcome)
   ComesTo input job (Err fault) = IsStoppedBy input job fault
 
--- the line of a fault, as far as it has one
+-- the first line of a fault on standard error, if it has one
 abbrev pub first_line : JobFault → Text
 first_line (faults.Words error) = []
 first_line (faults.File path cause) = codes "cannot read " ++ string_bytes path ++ 10 ∷ []
@@ -142,7 +142,7 @@ first_line (faults.Log path cause) = codes "cannot write " ++ string_bytes path 
 first_line (faults.Listen address cause) = codes "cannot listen " ++ string_bytes address ++ 10 ∷ []
 first_line faults.Memory = []
 
--- its status
+-- the status of a fault
 abbrev pub status_of_fault : JobFault → ℕ
 status_of_fault faults.Facts = 6
 status_of_fault faults.Config = 6
@@ -156,46 +156,48 @@ fault_words faults.Facts = codes "bad facts"
 fault_words (faults.Input cause) = codes "cannot read standard input"
 fault_words fault = []
 
--- the line with the fault's object
+-- the line with the fault's JSON object
 abbrev pub fault_object : JobFault → Text → Text
 fault_object fault cause = compact_text (fault_json (fault_words fault) cause) ++ 10 ∷ []
 
--- the words ask for a text to read, and for nothing else
+-- the words only ask for a text: the help or the version
 abbrev pub IsShown : ErrorKind → Type 0
 IsShown kind = (kind ≡ kinds.DisplayHelp) ⊎ (kind ≡ kinds.DisplayVersion)
 
--- where the trials cannot be told, the cause is, and nothing else is told of a verdict
+-- standard error for a verdict: if the trials cannot be shown, the cause is written; otherwise nothing is
 abbrev pub TellsCause : Option Text → Option Text → Explanation → Type 0
 TellsCause errors errors_new explanations.Absent = errors_new ≡ errors
 TellsCause errors errors_new (explanations.Trials trials) = errors_new ≡ errors
 TellsCause errors errors_new (explanations.Untold cause) = Takes errors errors_new (untold_text cause)
 
--- what is told below the line of a refusal or of a head's fault is left open
+-- standard error for an outcome: any text after a refusal or a head's fault; otherwise as for a verdict
 abbrev pub IsTold : Option Text → Option Text → Explanation → Outcome → Type 0
 IsTold errors errors_new explanation (outcomes.Refused reason) = ⊤
 IsTold errors errors_new explanation (outcomes.Fault fault) = ⊤
 IsTold errors errors_new explanation _ = TellsCause errors errors_new explanation
 
--- what a run leaves: its status, and what it wrote to its outputs, whose bytes were `out` and `errors`
--- and are `out_new` and `errors_new`
+-- parameters: the bytes of the two outputs before a run (`out` and `errors`) and after it (`out_new` and `errors_new`),
+-- and its status
 module _ (out out_new errors errors_new : Option Text) (status : ℕ) where
-  -- the text stands on standard output, and this is the status; or the output broke off, which is 2
+  -- the text is written to standard output, with this status, and nothing to standard error; or the output breaks off,
+  -- with status 2
   abbrev pub Prints : ℕ → Text → Type 0
   Prints good text = ((status ≡ good) × Appends out out_new text × (errors_new ≡ errors))
       ⊎ ((status ≡ 2) × BreaksOff out out_new text)
 
-  -- nothing stands on standard output, and what stands on standard error, unless that failed, begins
-  -- with the text
+  -- nothing is written to standard output, and this is the status. A text that begins with `text` is written to
+  -- standard error, or a beginning of it, if that fails
   abbrev pub Tells : ℕ → Text → Type 0
   Tells bad text = (status ≡ bad) × (out_new ≡ out)
       × ((told : Text) × StartsWith told text × Takes errors errors_new told)
 
-  -- a text that was asked for stands on standard output, and another on standard error
+  -- if the words ask for a text, it is written to standard output, with status 0. Otherwise some text is written to
+  -- standard error, with status 2
   abbrev pub TellsWords : ErrorKind → Type 0
   TellsWords kind = (IsShown kind × ((text : Text) × Prints 0 text))
       ⊎ ((¬ IsShown kind) × Tells 2 [])
 
-  -- what is left of a run that comes to this fault
+  -- the outputs and the status of a run that this fault stops
   abbrev pub LeavesFault : JobFault → Type 0
   LeavesFault (faults.Words error) = TellsWords (kind_of error)
   LeavesFault (faults.File path cause) = Tells 2 (first_line (faults.File path cause))
@@ -206,55 +208,57 @@ module _ (out out_new errors errors_new : Option Text) (status : ℕ) where
   LeavesFault (faults.Listen address cause) = Tells 2 (first_line (faults.Listen address cause))
   LeavesFault faults.Memory = Prints 5 (line_of outcomes.Memory)
 
-  -- an object that has the fault's words and some cause stands on standard output, and its line on standard
-  -- error, unless that failed; or the output broke off
+  -- the fault's object, with some cause, is written to standard output, and its line to standard error, unless that
+  -- fails. Or standard output breaks off
   abbrev pub LeavesObject : JobFault → Type 0
   LeavesObject fault = (cause : Text) × (((status ≡ status_of_fault fault) × Appends out out_new (fault_object fault cause)
       × ((told : Text) × StartsWith told (first_line fault) × Takes errors errors_new told))
       ⊎ ((status ≡ 2) × BreaksOff out out_new (fault_object fault cause)))
 
-  -- what is left of a run of a job with a report that comes to this fault, with an object or without
+  -- the outputs and the status of a job with a report that this fault stops, with or without a JSON object
   abbrev pub LeavesAs : Bool → JobFault → Type 0
   LeavesAs true fault = LeavesObject fault
   LeavesAs false fault = LeavesFault fault
 
-  -- what is printed of the report stands on standard output
+  -- the text of the report is written to standard output
   abbrev pub PrintsReport : Report → Type 0
   PrintsReport report = ((status ≡ status_of report.outcome) × Appends out out_new (printed_of report)
       × IsTold errors errors_new report.explanation report.outcome)
       ⊎ ((status ≡ 2) × BreaksOff out out_new (printed_of report))
 
-  -- what is left of a run that comes to this, as JSON or in words
+  -- the outputs and the status for this result of a job, as JSON or in words
   abbrev pub Leaves : Bool → Result Report JobFault → Type 0
   Leaves json (Ok report) = PrintsReport report
   Leaves json (Err fault) = LeavesAs json fault
 
--- the line of a line that is no event
+-- the first line on standard error for an input line that is no event
 abbrev pub bad_line : ℕ → Text
 bad_line number = codes "bad line " ++ (decimal number ++ (10 ∷ []))
 
--- it is told, or memory ran out for that
+-- a text that begins with the line for a bad line is written to standard error, with status 6. Or memory ran out, with
+-- status 5
 abbrev pub TellsLine : Option Text → Option Text → ℕ → ℕ → Type 0
 TellsLine errors errors_new status number = ((status ≡ 5) × (errors_new ≡ errors))
     ⊎ ((status ≡ 6) × ((told : Text) × StartsWith told (bad_line number) × Takes errors errors_new told))
 
--- what is told of a replay that ended before its input did. Its answers so far stand on standard output
+-- standard error and the status of a replay that ended before its input did. The answers until then are on standard
+-- output
 abbrev pub LeavesReplay : Option Text → Option Text → ℕ → ReplayFault → Type 0
 LeavesReplay errors errors_new status (replay_faults.Line number cause) = TellsLine errors errors_new status number
 LeavesReplay errors errors_new status (replay_faults.Input cause) = (status ≡ 5) ⊎ (status ≡ 2)
 LeavesReplay errors errors_new status (replay_faults.Output cause) = status ≡ 2
 LeavesReplay errors errors_new status replay_faults.Memory = (status ≡ 5) × (errors_new ≡ errors)
 
--- a source of files, an input, and what a run leaves
+-- parameters: a source of files, an input, the outputs before and after a run, and its status
 module _ (holds : Text → Text → Type 0) (lacks : (Text × IoError) → Type 0) (input : Option Text)
     (out out_new errors errors_new : Option Text) (status : ℕ) where
-  -- the job comes to this, and it is told; or memory ran out
+  -- the job has this result, which is printed; or memory ran out
   pub data EndsReport (job : Job) : Type 0 where
     ended : (found : Result Report JobFault) → ComesTo holds lacks input job found
         → Leaves out out_new errors errors_new status (is_json job) found → EndsReport job
     memory : LeavesFault out out_new errors errors_new status faults.Memory → EndsReport job
 
--- the file at this path is a configuration, and it is told what it means; or it is not, and that is told
+-- the file at this path holds a configuration, and its meaning is printed; or the fault is printed, or memory ran out
 module _ (holds : Text → Text → Type 0) (lacks : (Text × IoError) → Type 0)
     (out out_new errors errors_new : Option Text) (status : ℕ) (path : Text) where
   pub data EndsConfig : Type 0 where
@@ -264,7 +268,7 @@ module _ (holds : Text → Text → Type 0) (lacks : (Text × IoError) → Type 
         → LeavesFault out out_new errors errors_new status fault → EndsConfig
     memory : LeavesFault out out_new errors errors_new status faults.Memory → EndsConfig
 
-  -- the file at this path is a configuration, with which the input is replayed, up to its end or to what stops that
+  -- the file at this path holds a configuration, and the input is replayed with it, up to its end or to a fault
   module _ (input : Option Text) where
     pub data EndsReplay : Type 0 where
       whole : (c : ConfigValue) (input_new : Option Text) → IsConfigOf holds lacks path c
@@ -276,44 +280,45 @@ module _ (holds : Text → Text → Type 0) (lacks : (Text × IoError) → Type 
           → LeavesFault out out_new errors errors_new status fault → EndsReplay
       memory : LeavesFault out out_new errors errors_new status faults.Memory → EndsReplay
 
--- the fault says that nothing can listen at this address
+-- the fault says that the program cannot listen at this address
 abbrev pub CannotListen : Text → JobFault → Type 0
 CannotListen address (faults.Listen name cause) = string_bytes name ≡ address
 CannotListen address _ = ⊥
 
--- the fault says that the log of this path cannot be opened
+-- the fault says that the log at this path cannot be opened
 abbrev pub CannotLog : Option Text → JobFault → Type 0
 CannotLog log (faults.Log path cause) = log ≡ Some (string_bytes path)
 CannotLog log _ = ⊥
 
--- a stream of the control plane was served, or none came
+-- one stream of the control plane was served, or none was accepted
 abbrev pub ServesOneStream : ControlValue → ControlValue → Type 0
 ServesOneStream old new = (new ≡ old)
     ⊎ ((input input_new out out_new : Option Text) × ServesStream old new input input_new out out_new)
 
--- the line of what was acknowledged
+-- the line for the last acknowledged number
 abbrev pub acknowledged_line : Option ℕ → Text
 acknowledged_line (Some number) = codes "acknowledged " ++ decimal number ++ 10 ∷ []
 acknowledged_line None = codes "acknowledged none" ++ 10 ∷ []
 
 module _ (holds : Text → Text → Type 0) (lacks : (Text × IoError) → Type 0) where
-  -- the snapshot is that of the file at this path: one filter, of this name
+  -- the snapshot of the file at this path: one filter, with this name
   abbrev pub IsSnapshotOf : Text → Text → List ResourceValue → Type 0
   IsSnapshotOf name path snapshot =
       (bytes : Text) × holds path bytes × (snapshot ≡ record { name = name; filter = bytes } ∷ [])
 
-  -- the fault says that one of the files cannot be read, and those before it can
+  -- the fault says that one of the files cannot be read; those before it can
   abbrev pub LacksFile : List Text → JobFault → Type 0
   LacksFile [] fault = ⊥
   LacksFile (path ∷ paths) fault = IsUnread holds lacks path fault
       ⊎ (((bytes : Text) × holds path bytes) × LacksFile paths fault)
 
-  -- the files of these words are the snapshots
+  -- the snapshots are those of the files on the command line
   abbrev pub AreSnapshotsOf : ControlWords → List (List ResourceValue) → Type 0
   AreSnapshotsOf words snapshots =
       AllZip (IsSnapshotOf (string_bytes words.name)) (map string_bytes words.files.items) snapshots
 
-  -- a control plane of these words served a stream, and this number was acknowledged last
+  -- a control plane, run as the command line says, served one stream, if one was accepted, and this number was the last
+  -- acknowledged
   pub record IsServed (words : ControlWords) (acknowledged : Option ℕ) : Type 0 where
     pub snapshots : List (List ResourceValue)
     pub read : AreSnapshotsOf words snapshots
@@ -321,7 +326,7 @@ module _ (holds : Text → Text → Type 0) (lacks : (Text × IoError) → Type 
     pub serves : ServesOneStream (new_control snapshots) after
     pub number : acknowledged ≡ after.served.acknowledged
 
-  -- what stops a control plane: files are read first, then the log is opened, and then it listens
+  -- the fault that stops a control plane. It reads the files first, then opens the log, and then listens
   pub data StopsControl (words : ControlWords) (fault : JobFault) : Type 0 where
     no_file : LacksFile (map string_bytes words.files.items) fault → StopsControl words fault
     no_log : (snapshots : List (List ResourceValue)) → AreSnapshotsOf words snapshots
@@ -329,20 +334,20 @@ module _ (holds : Text → Text → Type 0) (lacks : (Text × IoError) → Type 
     no_listener : (snapshots : List (List ResourceValue)) → AreSnapshotsOf words snapshots
         → CannotListen (string_bytes words.listen) fault → StopsControl words fault
 
-  -- the facts cannot be read, are none, or are not within the limits
+  -- the facts file cannot be read or holds no facts, or the facts are outside the limits
   pub data LacksFit (facts_path : Option Text) (limits : LimitsValue) (fault : JobFault) : Type 0 where
     no_facts : (path : Text) → facts_path ≡ Some path
         → IsUnread holds lacks path fault ⊎ HasBadFacts holds lacks path fault → LacksFit facts_path limits fault
     unfit : (facts : Facts) → IsConnOf holds lacks facts_path facts → ¬ FactsInLimits facts limits
         → fault ≡ faults.Facts → LacksFit facts_path limits fault
 
-  -- a configuration, and facts of connections that are within its limits
+  -- the configuration and the facts on the command line; the facts are within the configuration's limits
   pub record IsSetUp (words : ProxyWords) (c : ConfigValue) (facts : Facts) : Type 0 where
     pub config : IsConfigOf holds lacks (string_bytes words.config) c
     pub conn : IsConnOf holds lacks (option_map string_bytes words.facts) facts
     pub fits : FactsInLimits facts c.limits
 
-  -- a proxy of these words ran its rounds, of which the first had to bring the update stream up
+  -- a proxy of this configuration and these facts ran its rounds; before them the update stream was down
   pub record IsProxied (words : ProxyWords) : Type 0 where
     pub c : ConfigValue
     pub facts : Facts
@@ -351,7 +356,8 @@ module _ (holds : Text → Text → Type 0) (lacks : (Text × IoError) → Type 
     pub link : Option Link
     pub rounds : Rounds facts words.rounds (new_proxy c) after None link
 
-  -- what stops a proxy: the configuration is read first, then the facts are, then the log is opened, and then it listens
+  -- the fault that stops a proxy. It reads the configuration first, then the facts, then opens the log, and then
+  -- listens
   pub data StopsProxy (words : ProxyWords) (fault : JobFault) : Type 0 where
     no_config : LacksConfig holds lacks (string_bytes words.config) fault → StopsProxy words fault
     no_facts : (c : ConfigValue) → IsConfigOf holds lacks (string_bytes words.config) c
@@ -362,7 +368,7 @@ module _ (holds : Text → Text → Type 0) (lacks : (Text × IoError) → Type 
         → CannotListen (string_bytes words.listen) fault → StopsProxy words fault
 
   module _ (out out_new errors errors_new : Option Text) (status : ℕ) where
-    -- how a control plane ends: it prints what was acknowledged, or tells what stopped it
+    -- the end of a control plane: it prints the last acknowledged number, or the fault that stopped it
     pub data EndsControl (words : ControlWords) : Type 0 where
       served : (acknowledged : Option ℕ) → IsServed words acknowledged
           → Prints out out_new errors errors_new status 0 (acknowledged_line acknowledged) → EndsControl words
@@ -370,7 +376,7 @@ module _ (holds : Text → Text → Type 0) (lacks : (Text × IoError) → Type 
           → EndsControl words
       memory : LeavesFault out out_new errors errors_new status faults.Memory → EndsControl words
 
-    -- how a proxy ends: it prints nothing, or tells what stopped it
+    -- the end of a proxy: it prints nothing, or the fault that stopped it
     pub data EndsProxy (words : ProxyWords) : Type 0 where
       served : IsProxied words → status ≡ 0 → out_new ≡ out → errors_new ≡ errors → EndsProxy words
       stopped : (fault : JobFault) → StopsProxy words fault → LeavesFault out out_new errors errors_new status fault
@@ -379,7 +385,7 @@ module _ (holds : Text → Text → Type 0) (lacks : (Text × IoError) → Type 
 
 module _ (holds : Text → Text → Type 0) (lacks : (Text × IoError) → Type 0) (input : Option Text)
     (out out_new errors errors_new : Option Text) (status : ℕ) where
-  -- how the job ends
+  -- the end of a job
   abbrev pub EndsJob : Job → Type 0
   EndsJob (Check policy budget json) =
       EndsReport holds lacks input out out_new errors errors_new status (Check policy budget json)
@@ -392,7 +398,7 @@ module _ (holds : Text → Text → Type 0) (lacks : (Text × IoError) → Type 
   EndsJob (Control words) = EndsControl holds lacks out out_new errors errors_new status words
   EndsJob (Proxy words) = EndsProxy holds lacks out out_new errors errors_new status words
 
-  -- the words name a job that ends so, or they are mistaken, or memory ran out before that was known
+  -- the words name a job, which ends in this way; or they are mistaken; or memory ran out before that was known
   pub data Ran (words : List Text) : Type 0 where
     job : (job : Job) → IsJobOf words job → EndsJob job → Ran words
     mistaken : (error : Error) → AreMistaken words (kind_of error)

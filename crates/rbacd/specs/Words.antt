@@ -1,4 +1,4 @@
--- The program's command line and the job that its words name.
+-- The program's command line, and the job that its words name.
 use Rattle.std.specs.Prelude.{◌≡◌, ◌≤◌, ◌⊎◌, ◌↔◌, ⊤, ℕ, List, [], ◌∷◌, Bool, true, false, IsTrue, Ok, Option, Some, map, option_map, codes, string_bytes}
 use Rattle.std.specs.Str.Parse.{ParsesUnsigned}
 use Rattle.clap.specs.Words.{App, IsAmong, Row, Rule, Text, all_of, fault_of, first_of, one_of, new_app, new_rule, subcommand_of, with_rule, with_subcommand}
@@ -10,7 +10,7 @@ use Rattle.clap.specs.declared.error.kind.ErrorKind.TheVariants.{ValueValidation
 use Rattle.rbacd.specs.declared.words.Job.{Job}
 use Rattle.rbacd.specs.declared.words.Job.TheVariants.{Check, CheckConfig, Control, Judge, Proxy, Replay}
 
--- `--policy FILE`, which has to be there
+-- `--policy FILE`, required
 abbrev pub policy_rule : Rule
 policy_rule = record (new_rule (codes "policy")) {
   long = Some (codes "policy");
@@ -25,7 +25,7 @@ facts_rule = record (new_rule (codes "facts")) {
   value_names = 1;
 }
 
--- `--budget N`, a number from 1 to 100,000,000
+-- `--budget N`, a number from 1 to 100,000,000; 1,000,000 if it is absent
 abbrev pub budget_rule : Rule
 budget_rule = record (new_rule (codes "budget")) {
   long = Some (codes "budget");
@@ -48,7 +48,7 @@ explain_rule = record (new_rule (codes "explain")) {
   action = Some SetTrue;
 }
 
--- `--config FILE`, which has to be there
+-- `--config FILE`, required
 abbrev pub config_rule : Rule
 config_rule = record (new_rule (codes "config")) {
   long = Some (codes "config");
@@ -56,7 +56,7 @@ config_rule = record (new_rule (codes "config")) {
   required = true;
 }
 
--- `--listen ADDR`, which has to be there
+-- `--listen ADDR`, required
 abbrev pub listen_rule : Rule
 listen_rule = record (new_rule (codes "listen")) {
   long = Some (codes "listen");
@@ -64,7 +64,7 @@ listen_rule = record (new_rule (codes "listen")) {
   required = true;
 }
 
--- `--control ADDR`, which has to be there
+-- `--control ADDR`, required
 abbrev pub control_rule : Rule
 control_rule = record (new_rule (codes "control")) {
   long = Some (codes "control");
@@ -72,7 +72,7 @@ control_rule = record (new_rule (codes "control")) {
   required = true;
 }
 
--- `--name F`, which has to be there
+-- `--name F`, required
 abbrev pub name_rule : Rule
 name_rule = record (new_rule (codes "name")) {
   long = Some (codes "name");
@@ -87,7 +87,7 @@ log_rule = record (new_rule (codes "log")) {
   value_names = 1;
 }
 
--- `FILE...`, of which one has to be there
+-- `FILE...`, at least one is required
 abbrev pub files_rule : Rule
 files_rule = record (new_rule (codes "file")) {
   value_names = 1;
@@ -95,7 +95,7 @@ files_rule = record (new_rule (codes "file")) {
   action = Some Append;
 }
 
--- `--rounds N`, a number from 0 to 1,000,000, which has to be there
+-- `--rounds N`, a number from 0 to 1,000,000, required
 abbrev pub rounds_rule : Rule
 rounds_rule = record (new_rule (codes "rounds")) {
   long = Some (codes "rounds");
@@ -131,7 +131,7 @@ abbrev pub proxy_app : App
 proxy_app = with_rule (with_rule (with_rule (with_rule (with_rule (with_rule (new_app (codes "proxy")) config_rule)
     control_rule) listen_rule) rounds_rule) facts_rule) log_rule
 
--- the program without its subcommands, of which it needs one; it has a version, and without words it shows its help
+-- the program without its subcommands. It requires a subcommand, has a version, and shows its help if it has no words
 abbrev pub bare_app : App
 bare_app = on_top (λ s. record s {
   has_version = true;
@@ -139,12 +139,12 @@ bare_app = on_top (λ s. record s {
   arg_required_else_help = true;
 }) (new_app (codes "rbacd"))
 
--- the program
+-- the program with its subcommands
 abbrev pub rbacd_app : App
 rbacd_app = with_subcommand (with_subcommand (with_subcommand (with_subcommand (with_subcommand (with_subcommand bare_app
     check_app.top) judge_app.top) check_config_app.top) replay_app.top) control_app.top) proxy_app.top
 
--- the value of `--budget` is that number, and it is allowed
+-- the value of `--budget` is this number, and it is allowed
 pub record IsBudgetOf (rows : List Row) (budget : ℕ) : Type 0 where
   pub text : Text
   pub given : one_of (codes "budget") rows ≡ Some text
@@ -152,7 +152,7 @@ pub record IsBudgetOf (rows : List Row) (budget : ℕ) : Type 0 where
   pub positive : 1 ≤ budget
   pub allowed : budget ≤ 100000000
 
--- the value of `--rounds` is that number, and it is allowed
+-- the value of `--rounds` is this number, and it is allowed
 pub record AreRoundsOf (rows : List Row) (rounds : ℕ) : Type 0 where
   pub text : Text
   pub given : one_of (codes "rounds") rows ≡ Some text
@@ -163,7 +163,7 @@ pub record AreRoundsOf (rows : List Row) (rounds : ℕ) : Type 0 where
 abbrev pub HasFlag : Text → List Row → Bool → Type 0
 HasFlag name rows given = IsTrue given ↔ (first_of name rows ≡ Some (codes "true"))
 
--- the matches of the job's subcommand hold what the job says
+-- the matches of the job's subcommand have the values of the job
 abbrev pub IsJobOfRows : List Row → Job → Type 0
 IsJobOfRows rows (Check policy budget json) = (first_of (codes "policy") rows ≡ Some (string_bytes policy))
     × IsBudgetOf rows budget × HasFlag (codes "json") rows json
@@ -185,7 +185,7 @@ IsJobOfRows rows (Proxy words) = (first_of (codes "config") rows ≡ Some (strin
     × (first_of (codes "facts") rows ≡ option_map string_bytes words.facts)
     × (first_of (codes "log") rows ≡ option_map string_bytes words.log)
 
--- the job's subcommand
+-- the name of the job's subcommand
 abbrev pub subcommand_name : Job → Text
 subcommand_name (Check policy budget json) = codes "check"
 subcommand_name (Judge policy facts budget json explain) = codes "judge"
@@ -194,43 +194,43 @@ subcommand_name (Replay config) = codes "replay"
 subcommand_name (Control words) = codes "control"
 subcommand_name (Proxy words) = codes "proxy"
 
--- the job comes to a report, which is printed
+-- the job has a report, which is printed
 abbrev pub IsReported : Job → Type 0
 IsReported (Check policy budget json) = ⊤
 IsReported (Judge policy facts budget json explain) = ⊤
 IsReported _ = ⊥
 
--- whether what the job finds is printed as JSON
+-- whether the job prints its outcome as JSON
 abbrev pub is_json : Job → Bool
 is_json (Check policy budget json) = json
 is_json (Judge policy facts budget json explain) = json
 is_json _ = false
 
--- whether it is told which policies were tried
+-- whether the job shows the policies that were tried
 abbrev pub is_explained : Job → Bool
 is_explained (Check policy budget json) = false
 is_explained (Judge policy facts budget json explain) = explain
 is_explained _ = false
 
--- the subcommand that was met, with its matches, names that job
+-- the subcommand that was found, with its matches, names this job
 abbrev pub IsJobOfNamed : Option (Text × List Row) → Job → Type 0
 IsJobOfNamed named job = (rows : List Row) × (named ≡ Some (subcommand_name job, rows))
     × IsJobOfRows rows job
 
--- and it names none
+-- the subcommand that was found, with its matches, names no job
 abbrev pub NamesNoJob : Option (Text × List Row) → Type 0
 NamesNoJob named = (job : Job) → ¬ (IsJobOfNamed named job)
 
--- a parse takes the words: none of its steps fails
+-- the parser accepts the words: none of its steps fails
 abbrev pub AreTaken : List Text → Type 0
 AreTaken words = fault_of rbacd_app words ≡ []
 
--- the words are taken and name the job
+-- the words are accepted and name the job
 abbrev pub IsJobOf : List Text → Job → Type 0
 IsJobOf words job = AreTaken words × IsJobOfNamed (subcommand_of rbacd_app words) job
 
--- what is wrong with the words: the first step of a parse that fails does so in this way, or they are
--- taken and name no job, since the budget is not allowed
+-- the words are mistaken: the first step of a parse that fails does so in this way. Or the parse succeeds, and names no
+-- job, since the budget or the rounds are not allowed
 abbrev pub AreMistaken : List Text → ErrorKind → Type 0
 AreMistaken words kind = IsAmong kind (fault_of rbacd_app words)
     ⊎ ((kind ≡ ValueValidation) × AreTaken words × NamesNoJob (subcommand_of rbacd_app words))

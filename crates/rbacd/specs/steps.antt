@@ -1,5 +1,4 @@
--- What single steps of the code come to: clauses of private functions cite these, and no promise
--- does.
+-- The effects of single steps of the code. Only clauses of private functions use these definitions.
 pub mod Reading
 pub mod Judged
 pub mod Printed

@@ -1,10 +1,10 @@
-//! Why facts are bad, in words for their writer. No contract speaks of these texts.
+//! The causes of bad facts, in words for their author. No contract describes these texts.
 use crate::facts::{Fact, address_at, answer_at, number_at, port_at, str_at};
 use attributes::{Limit, Limits};
 use serde_json::{Map, Value};
 use std::alloc::{AllocError, Global};
 
-/// Why a text tells of no connection.
+/// Why a text is not one of facts.
 pub(crate) fn cause_of_bad_facts(alloc: Global, text: &[u8]) -> Result<String, AllocError> {
     let value = match Value::from_slice(alloc, text) {
         Ok(value) => value,
@@ -16,7 +16,7 @@ pub(crate) fn cause_of_bad_facts(alloc: Global, text: &[u8]) -> Result<String, A
     }
 }
 
-/// Why a value tells of no connection, if it does not.
+/// Why a JSON value is not one of facts; None if it is one.
 pub(crate) fn cause_of_bad_value(
     alloc: Global,
     value: &Value,
@@ -27,7 +27,7 @@ pub(crate) fn cause_of_bad_value(
     }
 }
 
-// What is wrong with the first member that is no fact, is not of its kind, or is too long.
+// The fault of the first member that is no fact, has the wrong kind of value, or is too long.
 fn cause_of_bad_members(
     alloc: Global,
     object: &Value,
@@ -52,7 +52,7 @@ fn cause_of_bad_members(
     Ok(None)
 }
 
-// How many bytes the text of a fact has, if it is one.
+// The length in bytes of a fact's text; 0 if it has none.
 fn length_at(object: &Value, fact: Fact) -> usize {
     match str_at(object, fact) {
         Ok(Some(text)) => text.len(),
@@ -60,7 +60,7 @@ fn length_at(object: &Value, fact: Fact) -> usize {
     }
 }
 
-// What the value of a fact has to be, if it is not.
+// The kind that the value of a fact must have, if it has another.
 fn kind_that_lacks(object: &Value, fact: Fact) -> Option<&'static str> {
     let (is_right, kind) = match fact {
         Fact::SourcePort | Fact::DestinationPort => (

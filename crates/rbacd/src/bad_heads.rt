@@ -1,8 +1,8 @@
-//! Which limit a head passes, in words for its sender. No contract speaks of these texts.
+//! The limit that a head exceeds, in words for its sender. No contract describes these texts.
 use attributes::{Limit, Limits};
 use std::alloc::{AllocError, Global};
 
-/// What of a head is above its limit, if that can be told. The head is whole and keeps the rules of HTTP.
+/// The part of a head that exceeds its limit, if that is known. The head is whole and keeps the rules of HTTP.
 pub(crate) fn passed_limit(alloc: Global, head: &[u8]) -> Result<Option<String>, AllocError> {
     let lines = lines_of(alloc, head)?;
     let Some((first, fields)) = lines.split_first() else {
@@ -20,7 +20,7 @@ pub(crate) fn passed_limit(alloc: Global, head: &[u8]) -> Result<Option<String>,
     passed_by_fields(alloc, fields)
 }
 
-/// The first line of a head and those of its fields, without their ends.
+/// The first line of a head and the lines of its fields, without line ends.
 fn lines_of<'a>(alloc: Global, head: &'a [u8]) -> Result<Vec<&'a [u8]>, AllocError> {
     let mut lines = Vec::new(alloc);
     for line in head.split(|byte| *byte == b'\n') {
@@ -34,7 +34,7 @@ fn lines_of<'a>(alloc: Global, head: &'a [u8]) -> Result<Vec<&'a [u8]>, AllocErr
     Ok(lines)
 }
 
-/// What of these fields is above its limit.
+/// The part of these fields that exceeds its limit.
 fn passed_by_fields(alloc: Global, fields: &[&[u8]]) -> Result<Option<String>, AllocError> {
     let (count, most) = (
         fields.len().saturating_add(3),
@@ -59,7 +59,7 @@ fn passed_by_fields(alloc: Global, fields: &[&[u8]]) -> Result<Option<String>, A
     Ok(None)
 }
 
-/// That a text is above its limit, if it is.
+/// The words for a text that exceeds its limit; None if it does not.
 fn above(
     alloc: Global,
     what: &str,
@@ -78,13 +78,13 @@ fn name_of(field: &[u8]) -> &[u8] {
     field.split(|byte| *byte == b':').next().unwrap_or(&[])
 }
 
-/// The value of a field, without the spaces around it.
+/// The value of a field, without the white space around it.
 fn value_of(field: &[u8]) -> &[u8] {
     let start = name_of(field).len().saturating_add(1);
     field.get(start..).unwrap_or(&[]).trim_ascii()
 }
 
-/// How many bytes the values of all fields of this name have, with a comma between each two.
+/// The length in bytes of the values of all fields with this name, joined by commas.
 fn joined_length(fields: &[&[u8]], name: &[u8]) -> usize {
     let mut count: usize = 0;
     let mut is_first = true;

@@ -7,10 +7,10 @@ ghost use Rattle.rbacd.specs.Words.{bare_app, budget_rule, check_app, check_conf
 use clap::{Arg, ArgAction, Command, value_parser};
 use std::alloc::{AllocError, Global};
 
-/// The program's version, and the kit that it is proved with.
+/// The program's version, and the kit that proves it.
 const VERSION: &str = "0.1.0, proved with rattle-kit-13f, logic dac8208d650f15bf";
 
-/// The end of the program's help.
+/// The example at the end of the program's help.
 const EXAMPLE: &str = "Example:
   printf 'GET / HTTP/1.1\\r\\nHost: h\\r\\n\\r\\n' | rbacd judge --policy examples/any_any.bin";
 

@@ -19,22 +19,22 @@ use std::alloc::{AllocError, AllocFailed, Global};
 use std::error::Error;
 use std::fmt;
 
-/// The names that a configuration may have.
+/// The names of the members that a configuration may have.
 pub(crate) const CONFIG_NAMES: [&str; 4] = ["node", "cluster", "filters", "limits"];
 
-/// The names that a filter may have.
+/// The names of the members that a filter may have.
 pub(crate) const FILTER_NAMES: [&str; 2] = ["name", "budget"];
 
-/// The names that limits may have.
+/// The names of the members that limits may have.
 pub(crate) const LIMIT_NAMES: [&str; 6] = ["fields", "name", "value", "method", "target", "text"];
 
-/// The budget of a filter that names none.
+/// The budget of a filter for which none is given.
 pub(crate) const DEFAULT_BUDGET: u64 = 1_000_000;
 
-/// Why a configuration is not read.
+/// Why a configuration cannot be read.
 #[derive(Clone, Copy, Debug)]
 pub enum ConfigTextFault {
-    /// The text is no JSON object that is a configuration.
+    /// The text is no JSON object of a configuration.
     Bad,
     /// Memory ran out.
     Memory,
@@ -105,11 +105,11 @@ impl From<serde_json::Error> for ConfigTextFault {
     }
 }
 
-/// The configuration that a JSON text is (RFC 8259): an object with `node` and `cluster`, both strings of at most 256
-/// bytes; `filters`, an array of 1 to 8 objects, each with a `name` of 1 to 256 bytes, all different, and perhaps a
-/// `budget` of 1 to 100,000,000; and perhaps `limits`, an object with any of `fields`, `name`, `value`, `method`,
-/// `target` and `text`, none of them 0 or above the greatest. Of two members of one name the last counts. `Bad` where
-/// the text is no configuration, `Memory` where memory ran out.
+/// The configuration of a JSON text (RFC 8259): an object with `node` and `cluster`, both strings of at most 256 bytes,
+/// and `filters`. These are an array of 1 to 8 objects, each with a `name` of 1 to 256 bytes, all different. A filter
+/// may have a `budget` of 1 to 100,000,000. The configuration may have `limits`, an object with any of `fields`,
+/// `name`, `value`, `method`, `target` and `text`. None of them may be 0 or above the greatest. Of two members with the
+/// same name the last counts. `Bad` if the text is no configuration, `Memory` if memory ran out.
 pub fn read_config(alloc: Global, text: &[u8]) -> Result<Config, ConfigTextFault>
     ensures found { IfOk result (IsConfigText text.now) }
     ensures fault { IfErr result (λ e. e ≡ Bad → (c : ConfigValue) → ¬ IsConfigText text.now c) }
@@ -118,7 +118,7 @@ pub fn read_config(alloc: Global, text: &[u8]) -> Result<Config, ConfigTextFault
     config_at(alloc, &value)
 }
 
-/// The configuration that a JSON value is, as in `read_config`.
+/// The configuration of a JSON value, as in `read_config`.
 fn config_at(alloc: Global, value: &Value) -> Result<Config, ConfigTextFault>
     ensures found { IfOk result (IsConfig (view value.now)) }
     ensures fault { IfErr result (λ e. e ≡ Bad → (c : ConfigValue) → ¬ IsConfig (view value.now) c) }
@@ -134,7 +134,7 @@ fn config_at(alloc: Global, value: &Value) -> Result<Config, ConfigTextFault>
     sound_config(alloc, node, cluster, filters, limits)
 }
 
-/// The configuration of these parts, if it is one.
+/// The configuration with these parts, if they are allowed.
 fn sound_config(
     alloc: Global,
     node: String,
@@ -152,7 +152,7 @@ fn sound_config(
     }
 }
 
-/// Why no configuration is read where its parts have this fault.
+/// The fault of the text for a fault of a configuration's parts.
 fn text_fault(fault: ConfigFault) -> ConfigTextFault
     ensures { result ≡ Bad → fault ≢ ConfigFault.Memory }
 {
@@ -166,7 +166,7 @@ fn text_fault(fault: ConfigFault) -> ConfigTextFault
     }
 }
 
-/// The filters that these values are.
+/// The filters of these JSON values.
 fn filters_of(alloc: Global, items: &[Value]) -> Result<Vec<Filter>, ConfigTextFault>
     ensures found { IfOk result (λ v. AllZip IsFilterObject (values (items_view items.now)) (filters_view v.items)) }
     ensures fault { IfErr result (λ e. e ≡ Bad
@@ -180,7 +180,7 @@ fn filters_of(alloc: Global, items: &[Value]) -> Result<Vec<Filter>, ConfigTextF
     Ok(filters)
 }
 
-/// The filter that a value is.
+/// The filter of a JSON value.
 fn filter_of(alloc: Global, value: &Value) -> Result<Filter, ConfigTextFault>
     ensures found { IfOk result (λ f. IsFilterObject (view value.now) (filter_view f)) }
     ensures fault { IfErr result (λ e. e ≡ Bad → (f : FilterValue) → ¬ IsFilterObject (view value.now) f) }
@@ -192,7 +192,7 @@ fn filter_of(alloc: Global, value: &Value) -> Result<Filter, ConfigTextFault>
     Ok(Filter { name, budget })
 }
 
-/// The limits that a configuration declares.
+/// The limits that a configuration declares; the greatest if it declares none.
 fn limits_at(value: &Value) -> Result<Limits, Misfit>
     ensures found { IfOk result (AreDeclared (get (codes "limits") (view value.now))) }
     ensures fault { OnErr result ((l : LimitsValue) → ¬ AreDeclared (get (codes "limits") (view value.now)) l) }
@@ -203,7 +203,7 @@ fn limits_at(value: &Value) -> Result<Limits, Misfit>
     }
 }
 
-/// The limits that an object declares.
+/// The limits that a JSON object declares.
 fn declared_limits(object: &Value) -> Result<Limits, Misfit>
     ensures found { IfOk result (DeclaresLimits (view object.now)) }
     ensures fault { OnErr result ((l : LimitsValue) → ¬ DeclaresLimits (view object.now) l) }
@@ -218,7 +218,7 @@ fn declared_limits(object: &Value) -> Result<Limits, Misfit>
     sound_limits(fields, name, value, method, target, text)
 }
 
-/// The limit of this name, or the greatest of its kind where there is none.
+/// The limit of this name; the greatest of its kind if there is none.
 pub(crate) fn limit_at(object: &Value, name: &str, limit: Limit) -> Result<usize, Misfit>
     ensures found { IfOk result (IsNumberOr (limit_of limit largest) (get name.now (view object.now))) }
     ensures fault { OnErr result ((n : ℕ)
@@ -228,7 +228,7 @@ pub(crate) fn limit_at(object: &Value, name: &str, limit: Limit) -> Result<usize
     Ok(number_or(object, name, greatest as u64)? as usize)
 }
 
-/// Limits as declared, if none is 0 or above the greatest.
+/// Limits as declared, if none of them is 0 or above the greatest.
 fn sound_limits(
     fields: usize,
     name: usize,

@@ -1,4 +1,4 @@
-//! How a job ends that finds nothing: what is told, and the status.
+//! The end of a job without a result: what is printed, and the status.
 ghost use Rattle.std.specs.Prelude.{◌≡◌, ◌⊎◌, ◌↔◌, IfOk, IsTrue, string_bytes};
 ghost use Rattle.std.specs.Io.{StartsWith};
 ghost use Rattle.rbacd.specs.Outcome.{line_of};
@@ -14,13 +14,14 @@ use clap::error::ErrorKind as WordsKind;
 use std::alloc::{AllocError, Global};
 use std::io::{self, ErrorKind, Write};
 
-/// The status of words that name no job, and of a file or an output that fails.
+/// The status of mistaken words, and of a file or an output that fails.
 pub(crate) const MISTAKE: u8 = 2;
 
-/// The status of a file whose JSON text is not as it has to be.
+/// The status of a file whose JSON text is wrong.
 pub(crate) const BAD_JSON: u8 = 6;
 
-/// Tells why nothing is judged; the status. Where no memory is left for that, it tells so.
+/// Prints the fault that stops a job, and returns the status. If there is no memory for that, it prints that memory ran
+/// out.
 pub(crate) fn end_by<W: Write, E: Write>(
     alloc: Global,
     fault: &JobFault,
@@ -47,14 +48,14 @@ pub(crate) fn end_by<W: Write, E: Write>(
     }
 }
 
-/// Whether the words ask for a text, so that the text is no mistake's.
+/// Whether the words ask for a text, and so are no mistake.
 fn is_shown(kind: WordsKind) -> bool
     ensures { IsTrue result ↔ IsShown kind }
 {
     matches!(kind, WordsKind::DisplayHelp | WordsKind::DisplayVersion)
 }
 
-/// What the program's user reads of a fault: its line, and below it the cause.
+/// The text of a fault for the program's user: its line, and the cause below.
 pub(crate) fn text_of(alloc: Global, fault: &JobFault, notes: &Notes) -> Result<String, AllocError>
     ensures { IfOk result (λ text. StartsWith (string_bytes text) (first_line fault.now)) }
 {
@@ -95,7 +96,7 @@ pub(crate) fn text_of(alloc: Global, fault: &JobFault, notes: &Notes) -> Result<
     }
 }
 
-/// The text with a line below it that says why.
+/// The text, with a line for the cause below.
 pub(crate) fn with_cause(alloc: Global, line: String, cause: &str) -> Result<String, AllocError>
     ensures { IfOk result (λ text. StartsWith (string_bytes text) (string_bytes line)) }
 {
@@ -105,7 +106,7 @@ pub(crate) fn with_cause(alloc: Global, line: String, cause: &str) -> Result<Str
     Ok(text)
 }
 
-/// Ends where memory ran out.
+/// Prints that memory ran out, and returns the status.
 pub(crate) fn end_by_memory<W: Write, E: Write>(out: &mut W, errors: &mut E) -> u8
     ensures { Prints (W.contents out.old) (W.contents out.new) (E.contents errors.old)
         (E.contents errors.new) result 5 (line_of Outcome.Memory) }
@@ -113,7 +114,7 @@ pub(crate) fn end_by_memory<W: Write, E: Write>(out: &mut W, errors: &mut E) -> 
     show(b"memory\n", Outcome::Memory.status(), out, errors)
 }
 
-/// Ends with this status and this text on standard output.
+/// Prints this text on standard output, and returns this status; 2 if that fails.
 pub(crate) fn show<W: Write, E: Write>(text: &[u8], status: u8, out: &mut W, errors: &mut E) -> u8
     ensures { Prints (W.contents out.old) (W.contents out.new) (E.contents errors.old)
         (E.contents errors.new) result status text.now }
@@ -124,7 +125,7 @@ pub(crate) fn show<W: Write, E: Write>(text: &[u8], status: u8, out: &mut W, err
     }
 }
 
-/// Ends with this status and this text on standard error. The status stays where that fails.
+/// Prints this text on standard error, and returns this status, even if that fails.
 pub(crate) fn tell<E: Write>(text: &[u8], status: u8, errors: &mut E) -> u8
     ensures status { result ≡ status }
     ensures told { Takes (E.contents errors.old) (E.contents errors.new) text.now }
@@ -133,7 +134,8 @@ pub(crate) fn tell<E: Write>(text: &[u8], status: u8, errors: &mut E) -> u8
     status
 }
 
-/// Ends where standard output fails. One whose reader went away is not spoken of.
+/// Ends with status 2 after a failure of standard output. It prints the cause on standard error, unless the reader
+/// closed the pipe.
 pub(crate) fn tell_output<E: Write>(cause: io::Error, errors: &mut E) -> u8
     ensures { result ≡ 2 }
 {

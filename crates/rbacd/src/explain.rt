@@ -1,4 +1,4 @@
-//! Why a request is answered as it is: the policies that were tried, and their lines.
+//! The explanation of a verdict: the policies that were tried, and their lines.
 ghost use Rattle.std.specs.Prelude.{◌≡◌, ◌∷◌, ◌++◌, [], codes, IfOk, OnOk, map, string_bytes};
 ghost use Rattle.std.specs.Fmt.{decimal};
 ghost use Rattle.std.specs.List.{flat_map};
@@ -10,7 +10,7 @@ use stack_machine::RunError;
 use std::alloc::{AllocError, Global};
 use std::fmt;
 
-/// A policy that was tried, by its number and its name.
+/// A policy that was tried: its number, its name, and why it matches or does not.
 #[derive(Drop)]
 pub struct OwnTrial {
     pub number: usize,
@@ -18,19 +18,19 @@ pub struct OwnTrial {
     pub reason: Reason,
 }
 
-/// Why a request is answered as it is, as far as that is told.
+/// The explanation of a verdict, if there is one.
 #[derive(Drop)]
 pub enum Explanation {
-    /// Nobody asked for it, or no request was answered.
+    /// None was asked for, or there is no verdict.
     Absent,
     /// The policies that were tried, in order.
     Trials(Vec<OwnTrial>),
-    /// It was asked for, and cannot be told for this cause.
+    /// It was asked for, but cannot be shown, for this cause.
     Untold(RunError),
 }
 
 impl Explanation {
-    /// What is left where there is no memory to tell the trials.
+    /// The explanation without trials, if there is no memory to print them.
     pub(crate) fn less_told(self) -> Explanation
         ensures { result ≡ less_told self }
     {
@@ -42,7 +42,7 @@ impl Explanation {
     }
 }
 
-/// The trials, with names of their own.
+/// The trials, with copies of the names.
 pub(crate) fn own_trials(alloc: Global, trials: &[Trial<'_>]) -> Result<Vec<OwnTrial>, AllocError>
     ensures { IfOk result (λ own. map own_trial_view own.items ≡ map trial_view trials.now) }
 {
@@ -53,7 +53,7 @@ pub(crate) fn own_trials(alloc: Global, trials: &[Trial<'_>]) -> Result<Vec<OwnT
     Ok(own)
 }
 
-/// The trial, with a name of its own.
+/// The trial, with a copy of the name.
 fn own_trial(alloc: Global, trial: &Trial<'_>) -> Result<OwnTrial, AllocError>
     ensures { IfOk result (λ own. own_trial_view own ≡ trial_view trial.now) }
 {
@@ -80,7 +80,7 @@ pub(crate) fn push_lines(
     Ok(())
 }
 
-/// The line of a trial, as `0 "p": condition false`.
+/// The line of a trial, such as `0 "p": condition false`.
 fn line_of_trial(alloc: Global, trial: &OwnTrial) -> Result<String, AllocError>
     ensures { IfOk result (λ line. string_bytes line ≡ trial_line (own_trial_view trial.now)) }
 {
@@ -88,7 +88,7 @@ fn line_of_trial(alloc: Global, trial: &OwnTrial) -> Result<String, AllocError>
     line_with(alloc, trial.number, name.as_str(), trial.reason)
 }
 
-/// The line of a trial whose name stands in quotes already.
+/// The line of a trial whose name is quoted already.
 fn line_with(alloc: Global, number: usize, name: &str, reason: Reason) -> Result<String, AllocError>
     ensures { IfOk result (λ line. string_bytes line
         ≡ decimal number ++ 32 ∷ (name.now ++ codes ": " ++ reason_text reason ++ 10 ∷ [])) }
@@ -101,13 +101,13 @@ fn line_with(alloc: Global, number: usize, name: &str, reason: Reason) -> Result
     Ok(line)
 }
 
-/// A reason, to be written in words.
+/// A reason, to be printed in words.
 #[derive(Clone, Copy)]
 struct ReasonText {
     reason: Reason,
 }
 
-/// Writes the reason, as `permission`, `condition error Overflow` or `condition true steps 7 bound 9`.
+/// Writes the reason, such as `permission`, `condition error Overflow` or `condition true steps 7 bound 9`.
 impl fmt::Display for ReasonText {
     ghost use Rattle.std.specs.Prelude.{Some};
     ghost use Rattle.rbacd.specs.Explain.{reason_text};
@@ -128,7 +128,7 @@ impl fmt::Display for ReasonText {
     }
 }
 
-/// The name in quotes.
+/// The name in quotes, with its characters escaped.
 fn quoted(alloc: Global, name: &str) -> Result<String, AllocError>
     ensures { IfOk result (λ text. string_bytes text ≡ quoted name.now) }
 {
@@ -141,7 +141,7 @@ fn quoted(alloc: Global, name: &str) -> Result<String, AllocError>
     Ok(text)
 }
 
-/// Appends the character as it stands between quotes.
+/// Appends the character as it is written between quotes.
 fn push_escaped(alloc: Global, text: &mut String, c: char) -> Result<(), AllocError>
     ensures { OnOk result (string_bytes text.new ≡ string_bytes text.old ++ escaped c) }
 {
@@ -160,7 +160,7 @@ fn push_escaped(alloc: Global, text: &mut String, c: char) -> Result<(), AllocEr
     }
 }
 
-/// Whether the character of this code is not seen, or moves those around it.
+/// Whether the character with this code is invisible, or moves its neighbours.
 fn is_hidden(code: u32) -> bool
     ensures { result ≡ is_hidden code }
 {
@@ -173,7 +173,7 @@ fn is_hidden(code: u32) -> bool
         || code == 0xfeff
 }
 
-/// What is told on standard error where the trials cannot be told, for this cause.
+/// The text on standard error if the trials cannot be shown, for this cause.
 pub(crate) fn untold_text(cause: RunError) -> &'static [u8]
     ensures { result.now ≡ untold_text cause }
 {

@@ -1,4 +1,4 @@
-//! What is known of a connection, as a JSON object.
+//! The facts of a connection, as a JSON object.
 ghost use Rattle.std.specs.Prelude.{◌≡◌, ◌↔◌, ℕ, Bool, List, Option, Some, IsTrue, IfOk, IfErr, OnOk, find, option_map};
 ghost use Rattle.std.specs.Rc.{rc_str_bytes};
 ghost use Rattle.std.specs.Str.{bytes_eq};
@@ -18,7 +18,7 @@ use std::error::Error;
 use std::fmt;
 use std::rc::RcStr;
 
-/// Why facts are not read.
+/// Why facts cannot be read.
 #[derive(Clone, Copy, Debug)]
 pub enum FactsFault {
     /// The text is no JSON object of facts.
@@ -70,7 +70,7 @@ impl From<serde_json::Error> for FactsFault {
     }
 }
 
-/// A fact, by the name of the member that tells it: `SourcePort` is `source.port`.
+/// A fact, named after its member: `SourcePort` is `source.port`.
 #[derive(Clone, Copy)]
 pub(crate) enum Fact {
     /// The address that the connection comes from.
@@ -81,7 +81,7 @@ pub(crate) enum Fact {
     DestinationAddress,
     /// The port that the connection goes to.
     DestinationPort,
-    /// Whether TLS is used and the client showed a certificate.
+    /// Whether TLS is used and the client presented a certificate.
     ConnectionMtls,
     /// The number of the connection.
     ConnectionId,
@@ -97,9 +97,9 @@ pub(crate) enum Fact {
     ConnectionUriSanPeerCertificate,
     /// The address of the peer itself.
     DirectRemoteIp,
-    /// The address of the client, which a proxy may have told.
+    /// The address of the client; a proxy in between may have reported it.
     RemoteIp,
-    /// The address that the connection goes to, as a number.
+    /// The address that the connection goes to, as an IP address.
     DestinationIp,
     /// The scheme of the connection's requests.
     RequestScheme,
@@ -125,7 +125,7 @@ const FACTS: [Fact; 15] = [
 ];
 
 impl Fact {
-    // The name of the member that tells it.
+    // The name of the fact's member.
     fn name(self) -> &'static str
         ensures { result.now ≡ name_of self }
     {
@@ -156,18 +156,18 @@ impl Fact {
     }
 }
 
-// The first of these that has the name.
+// The first of these facts that has the name.
 fn find_named(facts: &[Fact], name: &str) -> Option<Fact>
     ensures { result ≡ find (λ fact. bytes_eq (name_of fact) name.now) facts.now }
 {
     facts.iter().copied().find(|fact| fact.name() == name)
 }
 
-/// The facts that a JSON text tells (RFC 8259): an object whose members have the names of the facts in
-/// `Conn`. Texts are strings, addresses strings that `parse_ip` reads, ports integers below 65,536, the
-/// connection's number an integer below 2^64, and `connection.mtls` is `true` or `false`. Each may be
-/// absent, and `request.scheme` is then `http`. Of two members of one name the last counts. `Bad` where the
-/// text tells no facts, `Memory` for want of memory.
+/// The facts of a JSON text (RFC 8259): an object whose members have the names of the facts in `Conn`. Texts are
+/// strings, addresses are strings that `parse_ip` reads, and ports are integers below 65,536. The connection's number
+/// is an integer below 2^64, and `connection.mtls` is `true` or `false`. Each may be absent; `request.scheme` is then
+/// `http`. Of two members with the same name the last counts. `Bad` if the text has no facts, `Memory` if memory ran
+/// out.
 pub fn read_facts(alloc: Global, text: &[u8]) -> Result<Conn, FactsFault>
     ensures found { IfOk result (λ conn. IsFactsText text.now (conn_view conn)) }
     ensures fault { IfErr result (λ e. e ≡ Bad → (f : Facts) → ¬ IsFactsText text.now f) }
@@ -176,8 +176,8 @@ pub fn read_facts(alloc: Global, text: &[u8]) -> Result<Conn, FactsFault>
     conn_of(alloc, &value)
 }
 
-/// The connection that the text of a facts file tells of, as in `read_facts`, where it is within the limits;
-/// `Bad` where it tells of none, `Memory` for want of memory.
+/// The connection with the facts of a facts file, as in `read_facts`. Its facts are within the limits. `Bad` if the
+/// text has no facts within the limits, `Memory` if memory ran out.
 pub fn read_conn(alloc: Global, text: &[u8]) -> Result<Conn, FactsFault>
     ensures found { IfOk result (λ conn. IsFactsText text.now (conn_view conn)
         × FactsInLimits (conn_view conn) largest) }
@@ -188,7 +188,7 @@ pub fn read_conn(alloc: Global, text: &[u8]) -> Result<Conn, FactsFault>
     Ok(conn)
 }
 
-// That the connection is within the limits.
+// Refuses a connection that is outside the limits.
 fn require_limits(conn: &Conn) -> Result<(), FactsFault>
     ensures found { OnOk result (FactsInLimits (conn_view conn.now) largest) }
     ensures fault { IfErr result (λ e. (e ≡ Bad) × ¬ FactsInLimits (conn_view conn.now) largest) }
@@ -199,7 +199,7 @@ fn require_limits(conn: &Conn) -> Result<(), FactsFault>
     Ok(())
 }
 
-/// The facts that a JSON value tells, and the faults, as in `read_facts`.
+/// The facts of a JSON value, with the errors of `read_facts`.
 pub fn conn_of(alloc: Global, value: &Value) -> Result<Conn, FactsFault>
     ensures found { IfOk result (λ conn. AreFacts (view value.now) (conn_view conn)) }
     ensures fault { IfErr result (λ e. e ≡ Bad → (f : Facts) → ¬ AreFacts (view value.now) f) }
@@ -224,7 +224,7 @@ pub fn conn_of(alloc: Global, value: &Value) -> Result<Conn, FactsFault>
     })
 }
 
-// That the value is an object without a name that no fact has.
+// Refuses any value but an object whose names are all those of facts.
 fn require_fact_names(value: &Value) -> Result<(), FactsFault>
     ensures found { OnOk result (HasFactNames (view value.now)) }
     ensures fault { IfErr result (λ e. (e ≡ Bad) × ¬ HasFactNames (view value.now)) }
@@ -235,7 +235,7 @@ fn require_fact_names(value: &Value) -> Result<(), FactsFault>
     Ok(())
 }
 
-// Whether the value is an object without a name that no fact has.
+// Whether the value is an object whose names are all those of facts.
 fn has_fact_names(value: &Value) -> bool
     ensures { IsTrue result ↔ HasFactNames (view value.now) }
 {

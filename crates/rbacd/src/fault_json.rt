@@ -14,8 +14,8 @@ use serde_json::{Value, json};
 use std::alloc::{AllocError, Global};
 use std::io::Write;
 
-/// Tells why nothing is judged, on standard output as JSON and on standard error in words; the status.
-/// Where no memory is left for that, it tells so.
+/// Prints the fault that stops a job, as JSON on standard output and in words on standard error, and returns the
+/// status. If there is no memory for that, it prints that memory ran out.
 pub(crate) fn end_in_json<W: Write, E: Write>(
     alloc: Global,
     fault: &JobFault,
@@ -55,7 +55,7 @@ fn status_of(fault: &JobFault) -> u8
     }
 }
 
-/// The line of the fault's object.
+/// The line with the fault's JSON object.
 fn object_line(alloc: Global, fault: &JobFault, notes: &Notes) -> Result<String, AllocError>
     ensures { IfOk result (λ line.
         (cause : List ℕ) × (string_bytes line ≡ fault_object fault.now cause)) }
@@ -64,7 +64,7 @@ fn object_line(alloc: Global, fault: &JobFault, notes: &Notes) -> Result<String,
     object_with(alloc, fault, cause.as_str())
 }
 
-/// The line of the fault's object with this cause.
+/// The line with the fault's JSON object, with this cause.
 fn object_with(alloc: Global, fault: &JobFault, cause: &str) -> Result<String, AllocError>
     ensures { IfOk result (λ line. string_bytes line ≡ fault_object fault.now cause.now) }
 {
@@ -75,7 +75,7 @@ fn object_with(alloc: Global, fault: &JobFault, cause: &str) -> Result<String, A
     Ok(line)
 }
 
-/// An object with these words and this cause.
+/// The JSON object with these words and this cause.
 fn fault_value(alloc: Global, words: &str, cause: &str) -> Result<Value, AllocError>
     ensures { IfOk result (λ value. view value ≡ fault_json words.now cause.now) }
 {

@@ -1,4 +1,4 @@
-//! Where files come from.
+//! Sources of files, and destinations of logs.
 ghost use Rattle.std.specs.Prelude.{◌≡◌, ◌≤◌, ◌<◌, ◌⊎◌, ℕ, List, IfErr, IfOk, IfSome, length};
 ghost use Rattle.std.specs.declared.io.Error.{Error as IoError};
 ghost use Rattle.std.specs.IoError.{error_kind};
@@ -8,10 +8,10 @@ use std::fs::File;
 use std::io::{self, ErrorKind, Read, Write};
 use std::rt::Stderr;
 
-/// A file that the program reads has at most so many bytes: 16 MiB.
+/// The greatest length in bytes of a file that the program reads: 16 MiB.
 pub(crate) const MOST_FILE: u64 = 16_777_216;
 
-/// A source of files.
+/// Where files are read from, and where a log goes.
 pub trait Source {
     /// The file at this path holds these bytes.
     ghost holds: { Self → List ℕ → List ℕ → Type 0 };
@@ -25,14 +25,15 @@ pub trait Source {
         ensures fault { IfErr result (λ e. (error_kind e ≡ ErrorKind.OutOfMemory)
             ⊎ lacks self.now (path.now, e)) };
 
-    /// What takes a log.
+    /// The writer of a log.
     type Log: Write + Drop;
 
-    /// A log that goes to the file at this path, of which nothing is left, or to standard error where the path is `-`.
+    /// Opens a log that goes to the file at this path, whose old content is removed. If the path is `-`, the log goes
+    /// to standard error.
     fn open_log(&self, path: &str) -> io::Result<Self::Log>;
 }
 
-/// The files of the system. No proof knows what they hold.
+/// The files of the system. Proofs assume nothing about their content.
 impl Source for HostRuntime {
     ghost use Rattle.std.specs.Prelude.{⊤};
 
@@ -54,7 +55,7 @@ impl Source for HostRuntime {
     }
 }
 
-/// Where the log of a program goes.
+/// The destination of a log.
 #[derive(Drop)]
 pub enum LogWriter {
     /// To a file.

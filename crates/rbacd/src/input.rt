@@ -1,4 +1,4 @@
-//! Reading the head that an input begins with, and no more than that.
+//! Reads the head that an input begins with, and no more.
 ghost use Rattle.std.specs.Prelude.{◌≡◌, List, [], ℕ, IfOk, OnOk};
 ghost use Rattle.std.specs.Io.{ReadsAtMost};
 ghost use Rattle.std.specs.Io.KnownBytes.{Consumes, ReadConsumes};
@@ -12,12 +12,12 @@ use http_front::{Ask, Front, HeadAsk};
 use std::alloc::Global;
 use std::io::{self, ErrorKind, Read};
 
-/// One read takes at most so many bytes.
+/// The greatest number of bytes of one read.
 const CHUNK: usize = 4_096;
 
-/// What the head asks that the input begins with, on this connection; nothing where the input ends
-/// before its head does. It answers after the first read whose bytes decide that, so that an input
-/// which stays open behind its head is not waited for.
+/// The ask of the head that the input begins with, on this connection; None if the input ends before its head does. It
+/// returns after the first read whose bytes decide that. So it does not wait for an input that stays open after its
+/// head.
 pub(crate) fn read_ask<R: Read>(
     alloc: Global,
     limits: &Limits,
@@ -33,7 +33,7 @@ pub(crate) fn read_ask<R: Read>(
     first_ask(&mut front, input)
 }
 
-/// What the head asks that the input begins with, to a front that has nothing yet, as in `read_ask`.
+/// The ask of the head that the input begins with, read by a new front, as in `read_ask`.
 fn first_ask<R: Read>(front: &mut Front, input: &mut R) -> io::Result<Option<HeadAsk>>
     requires { front.old.kept ≡ reading 0 [] }
     ensures found { IfOk result (λ found. (bytes : List ℕ) × IsAllOf (R.remaining input.old) bytes
@@ -54,7 +54,7 @@ fn first_ask<R: Read>(front: &mut Front, input: &mut R) -> io::Result<Option<Hea
     Err(io::Error::from(ErrorKind::TimedOut))
 }
 
-/// What the head asks, without whether its connection closes.
+/// The ask, without whether its connection closes.
 fn head_ask(ask: Ask) -> HeadAsk
     ensures { result ≡ head_ask ask }
 {
@@ -64,7 +64,7 @@ fn head_ask(ask: Ask) -> HeadAsk
     }
 }
 
-/// Feeds the front what one read gives; how many bytes. At the end of the input there are none.
+/// Feeds the front the bytes of one read, and returns their number: 0 at the end of the input.
 fn read_chunk<R: Read>(input: &mut R, front: &mut Front) -> io::Result<usize>
     ensures { IfOk result (Feeds front.old front.new (R.remaining input.old)
         (R.remaining input.new)) }
@@ -75,7 +75,7 @@ fn read_chunk<R: Read>(input: &mut R, front: &mut Front) -> io::Result<usize>
     Ok(count)
 }
 
-/// One read, which is tried again where a signal interrupts it.
+/// One read; it is repeated if a signal interrupts it.
 pub(crate) fn read_some<R: Read>(input: &mut R, room: &mut [u8]) -> io::Result<usize>
     ensures bound { ReadsAtMost result room.new }
     ensures bytes { ReadConsumes (R.remaining input.old) (R.remaining input.new) result room.new }

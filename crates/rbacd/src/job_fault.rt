@@ -1,24 +1,24 @@
-//! Why a job finds nothing.
+//! Why a job has no result.
 
 use std::alloc::{AllocError, AllocFailed};
 use std::io;
 
-/// Why nothing is found.
+/// Why a job has no result.
 #[derive(Drop)]
 pub enum JobFault {
-    /// The words name no job: they ask for help, or hold a mistake.
+    /// The words name no job: they ask for help, or are mistaken.
     Words(clap::Error),
     /// The file at this path cannot be read, for this cause.
     File(String, io::Error),
-    /// The facts file tells of no connection.
+    /// The facts file has no facts within the limits.
     Facts,
-    /// The configuration file is no configuration.
+    /// The configuration file has no configuration.
     Config,
     /// The input cannot be read, for this cause.
     Input(io::Error),
     /// The log at this path cannot be opened, for this cause.
     Log(String, io::Error),
-    /// Nothing can listen at this address, for this cause.
+    /// The program cannot listen at this address, for this cause.
     Listen(String, io::Error),
     /// Memory ran out.
     Memory,

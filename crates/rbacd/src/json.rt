@@ -15,7 +15,7 @@ use rbac_policy::Reason;
 use serde_json::{Value, json};
 use std::alloc::{AllocError, Global};
 
-/// Why an outcome that is no verdict is what it is, as far as that is told.
+/// Why an outcome is no verdict, as far as that is known.
 #[derive(Drop)]
 pub struct Why {
     /// The cause, in words.
@@ -25,7 +25,7 @@ pub struct Why {
 }
 
 impl Why {
-    /// Nothing is told.
+    /// Neither a cause nor a part is known.
     pub(crate) fn none() -> Why
         ensures { result ≡ untold }
     {
@@ -36,8 +36,8 @@ impl Why {
     }
 }
 
-/// The outcome as a JSON object, with the name of the policy that matched, with the trials, if they are
-/// told, and with why it is no verdict.
+/// The outcome as a JSON object. A verdict has the name of the policy that matched, and the trials, if there are any to
+/// show. A refusal or a head's fault has its cause.
 pub(crate) fn value_of(
     alloc: Global,
     outcome: Outcome,
@@ -59,14 +59,14 @@ pub(crate) fn value_of(
     }
 }
 
-/// A policy that is admitted.
+/// The object of a policy that is admitted.
 fn admitted_value(alloc: Global, policies: usize, bound: u64) -> Result<Value, AllocError>
     ensures { IfOk result (λ value. view value ≡ admitted_json policies bound) }
 {
     json!(in alloc; {"admitted": true, "policies": policies, "bound": bound})
 }
 
-/// A verdict of this word.
+/// The object of a verdict, with this word.
 fn verdict_value(
     alloc: Global,
     word: &str,
@@ -84,7 +84,7 @@ fn verdict_value(
     }
 }
 
-/// A verdict of this word, by itself.
+/// The object of a verdict, with this word and without trials.
 fn plain_value(
     alloc: Global,
     word: &str,
@@ -98,7 +98,7 @@ fn plain_value(
     json!(in alloc; {"verdict": word, "policy": matched_value(matched), "name": name})
 }
 
-/// A verdict of this word, with the trials.
+/// The object of a verdict, with this word and with the trials.
 fn explained_value(
     alloc: Global,
     word: &str,
@@ -114,7 +114,7 @@ fn explained_value(
     json!(in alloc; {"verdict": word, "policy": matched_value(matched), "name": name, "trials": trials})
 }
 
-/// The trials, each as an object.
+/// The array of the trials' objects.
 fn trials_value(alloc: Global, trials: &[OwnTrial]) -> Result<Value, AllocError>
     ensures { IfOk result (λ value. view value
         ≡ array (items_of (map trial_json (map own_trial_view trials.now)))) }
@@ -126,7 +126,7 @@ fn trials_value(alloc: Global, trials: &[OwnTrial]) -> Result<Value, AllocError>
     Ok(Value::Array(values))
 }
 
-/// The trial as an object.
+/// The object of a trial.
 fn trial_value(alloc: Global, trial: &OwnTrial) -> Result<Value, AllocError>
     ensures { IfOk result (λ value. view value ≡ trial_json (own_trial_view trial.now)) }
 {
@@ -140,7 +140,7 @@ fn trial_value(alloc: Global, trial: &OwnTrial) -> Result<Value, AllocError>
     }
 }
 
-/// A trial whose reason is this word.
+/// The object of a trial whose reason is this word.
 fn reason_value(alloc: Global, trial: &OwnTrial, word: &str) -> Result<Value, AllocError>
     ensures { IfOk result (λ value. view value
         ≡ object (trial_members (own_trial_view trial.now) word.now no_members)) }
@@ -148,7 +148,7 @@ fn reason_value(alloc: Global, trial: &OwnTrial, word: &str) -> Result<Value, Al
     json!(in alloc; {"name": trial.name.as_str(), "number": trial.number, "reason": word})
 }
 
-/// A trial whose condition is this error.
+/// The object of a trial whose condition fails with this error.
 fn fails_value(alloc: Global, trial: &OwnTrial, error: CelError) -> Result<Value, AllocError>
     ensures { IfOk result (λ value. view value
         ≡ reason_json (own_trial_view trial.now) (ConditionFails error)) }
@@ -161,7 +161,7 @@ fn fails_value(alloc: Global, trial: &OwnTrial, error: CelError) -> Result<Value
     })
 }
 
-/// A trial whose condition is true, after so many steps of so many that it may take.
+/// The object of a trial whose condition is true, after `steps` of at most `bound` steps.
 fn true_value(alloc: Global, trial: &OwnTrial, steps: u64, bound: u64) -> Result<Value, AllocError>
     ensures { IfOk result (λ value. view value
         ≡ reason_json (own_trial_view trial.now) (ConditionTrue steps bound)) }
@@ -195,7 +195,7 @@ fn matched_value(matched: Option<usize>) -> Value
     }
 }
 
-/// A policy that is refused.
+/// The object of a policy that is refused.
 fn refused_value(alloc: Global, refusal: Refusal, why: &Why) -> Result<Value, AllocError>
     ensures { IfOk result (λ value. view value ≡ refused_json (why_view why.now) refusal) }
 {
@@ -209,7 +209,7 @@ fn refused_value(alloc: Global, refusal: Refusal, why: &Why) -> Result<Value, Al
     })
 }
 
-/// A head that has a fault.
+/// The object of a head that has a fault.
 fn head_value(alloc: Global, fault: HeadFault, why: &Why) -> Result<Value, AllocError>
     ensures { IfOk result (λ value. view value ≡ head_json (why_view why.now) fault) }
 {

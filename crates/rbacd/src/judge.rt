@@ -1,4 +1,4 @@
-//! Checking a policy file, and judging a request head by it.
+//! Checks a policy file, and judges a request head by it.
 ghost use Rattle.std.specs.Prelude.{◌≡◌, ◌≢◌, ◌⊎◌, ◌↔◌, ℕ, List, Option, Ok, Err, IfErr, IfOk, IsTrue, OnErr, option_map, slice_get, string_bytes};
 ghost use Rattle.std.specs.FinMap.{keys};
 ghost use Rattle.std.specs.IoError.{error_kind};
@@ -30,18 +30,18 @@ use std::alloc::{AllocError, Global};
 use std::io::{self, ErrorKind, Read, Write};
 use std::rc::RcStr;
 
-/// What judging finds.
+/// The result of checking or judging.
 #[derive(Drop)]
 pub(crate) struct Finding {
     pub(crate) outcome: Outcome,
     /// The name of the policy that matched, if one did.
     pub(crate) name: Option<String>,
-    /// Why a verdict is what it is, where that was asked for.
+    /// Why a verdict is what it is, if that was asked for.
     pub(crate) explanation: Explanation,
 }
 
 impl Finding {
-    /// An outcome and nothing else.
+    /// A finding with only an outcome.
     pub(crate) fn bare(outcome: Outcome) -> Finding
         ensures { result ≡ bare outcome }
     {
@@ -52,7 +52,7 @@ impl Finding {
         }
     }
 
-    /// Its report, to be printed so.
+    /// The report of the finding, to be printed as JSON or in words.
     pub(crate) fn report(self, json: bool) -> Report
         ensures { result ≡ report_with json self }
     {
@@ -66,7 +66,7 @@ impl Finding {
     }
 }
 
-/// What `check` prints.
+/// The outcome of `check`.
 pub(crate) fn check_of(alloc: Global, policy: &[u8], budget: u64) -> Outcome
     ensures { IsCheckOf policy.now budget result }
 {
@@ -79,8 +79,8 @@ pub(crate) fn check_of(alloc: Global, policy: &[u8], budget: u64) -> Outcome
     }
 }
 
-/// Prints the report; the one that is printed. Where no memory is left for its trials, it is printed
-/// without them, and where none is left for its line, that of want of memory is.
+/// Prints the report, and returns the report that was printed. If there is no memory for its trials, it is printed
+/// without them. If there is none for its line, the report that memory ran out is printed.
 pub(crate) fn print_report<W: Write>(
     alloc: Global,
     report: Report,
@@ -101,7 +101,7 @@ pub(crate) fn print_report<W: Write>(
     }
 }
 
-/// Prints the report without its trials, or the line of want of memory; the report that is printed.
+/// Prints the report without its trials, or the line that memory ran out; returns the report that was printed.
 fn print_unexplained<W: Write>(alloc: Global, report: Report, out: &mut W) -> io::Result<Report>
     ensures same { IfOk result (IsPrintedFor report) }
     ensures text { IfOk result (λ printed. Appends (W.contents out.old) (W.contents out.new)
@@ -123,7 +123,7 @@ fn print_unexplained<W: Write>(alloc: Global, report: Report, out: &mut W) -> io
     }
 }
 
-/// The line of want of memory, in words or as JSON.
+/// The line that memory ran out, in words or as JSON.
 fn memory_line(json: bool) -> &'static [u8]
     ensures { (report : Report) → report.json ≡ json
         → result.now ≡ printed_of (without_memory report) }
@@ -135,14 +135,14 @@ fn memory_line(json: bool) -> &'static [u8]
     }
 }
 
-/// A connection of which nothing but the scheme `http` is known.
+/// A connection of which only the scheme `http` is known.
 pub(crate) fn plain_conn(alloc: Global) -> Result<Conn, AllocError>
     ensures { IfOk result (λ conn. conn_view conn ≡ plain_facts) }
 {
     Ok(Conn::of_scheme(RcStr::from_str(alloc, "http")?))
 }
 
-/// What `judge` prints. An error is one of the input, of another kind than want of memory.
+/// The finding of `judge`. An error is one of the input, of another kind than out of memory.
 pub(crate) fn finding_of<R: Read + Drop>(
     alloc: Global,
     policy: &[u8],
@@ -165,7 +165,7 @@ pub(crate) fn finding_of<R: Read + Drop>(
     }
 }
 
-/// Want of memory as an outcome; other errors stay errors.
+/// Turns an out-of-memory error into an outcome; other errors stay errors.
 fn memory_as_finding(answer: io::Result<Finding>) -> io::Result<Finding>
     ensures kept { IfOk answer (λ finding. result ≡ Ok finding) }
     ensures memory { OnErr answer (IfOk result (λ finding. finding ≡ bare Outcome.Memory)) }
@@ -179,7 +179,7 @@ fn memory_as_finding(answer: io::Result<Finding>) -> io::Result<Finding>
     }
 }
 
-/// What is found of the head that the input begins with. Want of memory is an error here.
+/// The finding for the head that the input begins with. Out of memory is an error here.
 fn head_finding<R: Read + Drop>(
     alloc: Global,
     admitted: &Admitted,
@@ -234,7 +234,7 @@ fn name_at(alloc: Global, admitted: &Admitted, number: usize) -> Result<Option<S
     }
 }
 
-/// The outcome of what a head asks, or of none.
+/// The outcome of an ask, or of a head that is not whole.
 fn outcome_of_ask(admitted: &Admitted, found: &Option<HeadAsk>) -> Outcome
     requires { limits_view admitted.now ≡ largest }
     ensures { IsOutcomeOfAsk (filter_view admitted.now) found.now result }
@@ -246,7 +246,7 @@ fn outcome_of_ask(admitted: &Admitted, found: &Option<HeadAsk>) -> Outcome
     }
 }
 
-/// The outcome of a request. It is never `Memory` without conditions.
+/// The outcome of a request. A filter without conditions never gives `Memory`.
 fn decided(admitted: &Admitted, request: &Request) -> Outcome
     requires { limits_view admitted.now ≡ largest }
     ensures never { IsUnconditional (filter_view admitted.now) → result ≢ Outcome.Memory }
@@ -264,7 +264,7 @@ fn decided(admitted: &Admitted, request: &Request) -> Outcome
     }
 }
 
-/// Why a verdict is what it is, where that is asked for.
+/// Why a verdict is what it is, if that was asked for.
 fn explanation_of_ask(
     alloc: Global,
     admitted: &Admitted,
@@ -286,7 +286,7 @@ fn explanation_of_ask(
     }
 }
 
-/// The policies that are tried for the request.
+/// The explanation with the policies that are tried for the request.
 fn explained(alloc: Global, admitted: &Admitted, request: &Request) -> Explanation
     requires { limits_view admitted.now ≡ largest }
     ensures found { IsExplanationOf (filter_view admitted.now) request.now result }

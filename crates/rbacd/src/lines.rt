@@ -1,4 +1,4 @@
-//! The lines of a replay: an event as a JSON object, and an output in four words.
+//! The lines of a replay: events as JSON objects, and outputs in four words.
 ghost use Rattle.std.specs.Prelude.{◌≡◌, ◌≢◌, ◌⊎◌, ◌↔◌, ℕ, List, Some, IfOk, IfErr, OnErr, OnOk, find, string_bytes};
 ghost use Rattle.std.specs.Str.{bytes_eq};
 ghost use Rattle.attributes.specs.Conn.{Facts, conn_view};
@@ -20,10 +20,10 @@ use std::alloc::{AllocError, Global};
 use std::error::Error;
 use std::fmt;
 
-/// Why a line is not read.
+/// Why a line cannot be read.
 #[derive(Clone, Copy, Debug)]
 pub enum LineFault {
-    /// The line is no JSON object that is an event.
+    /// The line is no JSON object of an event.
     BadLine,
     /// Memory ran out.
     Memory,
@@ -83,18 +83,18 @@ impl From<serde_json::Error> for LineFault {
     }
 }
 
-/// What happens in an event.
+/// The kind of an event.
 #[derive(Clone, Copy)]
 pub(crate) enum EventKind {
     /// The update stream comes up.
     AdsUp,
-    /// The update stream gives bytes.
+    /// The update stream delivers bytes.
     AdsBytes,
     /// The update stream is lost.
     AdsLost,
     /// A connection opens.
     HttpOpen,
-    /// A connection gives bytes.
+    /// A connection delivers bytes.
     HttpBytes,
     /// A connection is closed.
     HttpClosed,
@@ -111,7 +111,7 @@ const KINDS: [EventKind; 6] = [
 ];
 
 impl EventKind {
-    // The name by which a line tells it.
+    // The name of the kind in a line.
     fn name(self) -> &'static str
         ensures { result.now ≡ name_of self }
     {
@@ -133,32 +133,32 @@ impl EventKind {
     }
 }
 
-// The first of these that has the name.
+// The first of these kinds that has the name.
 fn kind_named(kinds: &[EventKind], name: &str) -> Option<EventKind>
     ensures { result ≡ find (λ kind. bytes_eq (name_of kind) name.now) kinds.now }
 {
     kinds.iter().copied().find(|kind| kind.name() == name)
 }
 
-/// An event, with the bytes and the facts that a line told.
+/// An event, with the bytes and the facts of a line.
 #[derive(Drop)]
 pub enum LineEvent {
     /// The update stream comes up.
     AdsUp,
-    /// The update stream gives these bytes.
+    /// The update stream delivers these bytes.
     AdsBytes(Vec<u8>),
     /// The update stream is lost.
     AdsLost,
     /// A connection of this number opens, with these facts.
     HttpOpen(u64, Conn),
-    /// The connection of this number gives these bytes.
+    /// The connection of this number delivers these bytes.
     HttpBytes(u64, Vec<u8>),
     /// The connection of this number is closed.
     HttpClosed(u64),
 }
 
 impl LineEvent {
-    /// The event, which borrows the bytes and the facts.
+    /// The event, with the bytes and the facts borrowed.
     pub fn event(&self) -> Event<'_>
         ensures { event_view result ≡ line_view self.now }
     {
@@ -173,10 +173,10 @@ impl LineEvent {
     }
 }
 
-/// The event that a JSON text is (RFC 8259): an object whose `event` is `ads_up`, `ads_bytes`, `ads_lost`, `http_open`,
-/// `http_bytes` or `http_closed`. Bytes are hexadecimal pairs in `hex`, the number of a connection is `k`, below 2^64, and
-/// its facts are an object as in `read_facts`. Each of these has to be there, and nothing else may. Of two members of one
-/// name the last counts. `BadLine` where the text is no event, `Memory` where memory ran out.
+/// The event of a JSON text (RFC 8259): an object whose `event` is `ads_up`, `ads_bytes`, `ads_lost`, `http_open`,
+/// `http_bytes` or `http_closed`. Bytes are hexadecimal pairs in `hex`. The number of a connection is `k`, below 2^64,
+/// and its facts are an object as in `read_facts`. Each member of an event is required, and no other is allowed. Of two
+/// members with the same name the last counts. `BadLine` if the text is no event, `Memory` if memory ran out.
 pub fn line_event(alloc: Global, line: &str) -> Result<LineEvent, LineFault>
     ensures found { IfOk result (λ event. IsLine line.now (line_view event)) }
     ensures fault { IfErr result (λ e. e ≡ BadLine → (event : EventValue) → ¬ IsLine line.now event) }
@@ -185,7 +185,7 @@ pub fn line_event(alloc: Global, line: &str) -> Result<LineEvent, LineFault>
     event_at(alloc, &value)
 }
 
-// The event that a JSON value is.
+// The event of a JSON value.
 fn event_at(alloc: Global, value: &Value) -> Result<LineEvent, LineFault>
     ensures found { IfOk result (λ event. IsEvent (view value.now) (line_view event)) }
     ensures fault { IfErr result (λ e. e ≡ BadLine → (event : EventValue) → ¬ IsEvent (view value.now) event) }
@@ -198,7 +198,7 @@ fn event_at(alloc: Global, value: &Value) -> Result<LineEvent, LineFault>
     parts_at(alloc, value, kind)
 }
 
-// That an event of this kind has no members of other names.
+// Refuses a value that has members which an event of this kind does not have.
 fn require_members(value: &Value, kind: EventKind) -> Result<(), Misfit>
     ensures found { OnOk result (HasOnly (names_of kind) (view value.now)) }
     ensures fault { OnErr result (¬ HasOnly (names_of kind) (view value.now)) }
@@ -212,7 +212,7 @@ fn require_members(value: &Value, kind: EventKind) -> Result<(), Misfit>
     }
 }
 
-// The event of this kind that the other members of a value tell.
+// The event of this kind, with the other members of a value.
 fn parts_at(alloc: Global, value: &Value, kind: EventKind) -> Result<LineEvent, LineFault>
     ensures kind { IfOk result (λ event. kind_of (line_view event) ≡ kind) }
     ensures found { IfOk result (λ event. HasParts (view value.now) (line_view event)) }
@@ -237,7 +237,7 @@ fn parts_at(alloc: Global, value: &Value, kind: EventKind) -> Result<LineEvent, 
     }
 }
 
-// The bytes that the member `hex` spells.
+// The bytes of the member `hex`.
 fn hex_at(alloc: Global, object: &Value) -> Result<Vec<u8>, LineFault>
     ensures found { IfOk result (λ bytes. HasHex (view object.now) bytes.items) }
     ensures fault { IfErr result (λ e. e ≡ BadLine → (bytes : List ℕ) → ¬ HasHex (view object.now) bytes) }
@@ -249,7 +249,7 @@ fn hex_at(alloc: Global, object: &Value) -> Result<Vec<u8>, LineFault>
     }
 }
 
-// Why a line is not read whose bytes have this fault.
+// The fault of a line whose `hex` has this fault.
 fn hex_fault(error: FromHexError) -> LineFault
     ensures { result ≡ BadLine → error ≢ OutOfMemory }
 {
@@ -261,7 +261,7 @@ fn hex_fault(error: FromHexError) -> LineFault
     }
 }
 
-// The facts that the member `facts` tells.
+// The facts of the member `facts`.
 fn facts_at(alloc: Global, object: &Value) -> Result<Conn, LineFault>
     ensures found { IfOk result (λ conn. HasFacts (view object.now) (conn_view conn)) }
     ensures fault { IfErr result (λ e. e ≡ BadLine → (facts : Facts) → ¬ HasFacts (view object.now) facts) }
@@ -276,8 +276,9 @@ fn facts_at(alloc: Global, object: &Value) -> Result<Conn, LineFault>
     }
 }
 
-/// An output in four words, with a space between each two: the bytes for the update stream as hexadecimal pairs, or `-`;
-/// `close` or `open`, whether that stream is closed; and the same of the event's connection.
+/// An output in four words, separated by spaces. The first is the bytes for the update stream as hexadecimal pairs, or
+/// `-` for none. The second is `close` or `open`, whether that stream is closed. The others are the same for the
+/// event's connection.
 pub fn line_text(alloc: Global, output: &Output) -> Result<String, AllocError>
     ensures { IfOk result (λ text. string_bytes text ≡ words_of (output_view output.now)) }
 {
@@ -298,14 +299,14 @@ fn bytes_text(alloc: Global, bytes: &[u8]) -> Result<String, AllocError>
     hex::encode(alloc, bytes)
 }
 
-// Whether something is closed, as a word.
+// The word for whether something is closed.
 fn end_text(closes: bool) -> &'static str
     ensures { result.now ≡ end_word closes }
 {
     if closes { "close" } else { "open" }
 }
 
-/// Why a line is no event, in words for its writer.
+/// Why a line is no event, in words for its author.
 pub(crate) fn cause_of_bad_line(alloc: Global, line: &[u8]) -> Result<String, AllocError> {
     let value = match Value::from_slice(alloc, line) {
         Ok(value) => value,
@@ -320,7 +321,7 @@ pub(crate) fn cause_of_bad_line(alloc: Global, line: &[u8]) -> Result<String, Al
     cause_of_bad_parts(alloc, &value, kind)
 }
 
-// Why the members of a value are not those of this kind of event.
+// Why the members of a value are not those of an event of this kind.
 fn cause_of_bad_parts(alloc: Global, value: &Value, kind: EventKind) -> Result<String, AllocError> {
     let name = kind.name();
     if require_members(value, kind).is_err() {

@@ -1,5 +1,5 @@
-//! The log of a proxy and of a control plane: one JSON object a line. Nothing here bears on what is answered, and no
-//! contract speaks of it. A line for which there is no memory, or which the log does not take, is left out.
+//! The log of a proxy and of a control plane: one JSON object on each line. The log has no effect on the answers, and
+//! no contract describes it. A line is left out if there is no memory for it, or if the writer of the log fails.
 
 use crate::log_lines::{
     End, StreamEvent, answer_value, connection_value, request_value, response_value, stream_value,
@@ -12,21 +12,21 @@ use std::alloc::Global;
 use std::io::Write;
 use xds_wire::{FrameError, Frames, Message};
 
-/// A message of an update stream has at most so many bytes.
+/// The greatest length in bytes of a message of an update stream.
 const MOST_MESSAGE: usize = 1_048_576;
 
-/// A log, and what of an update stream it has not told yet.
+/// A log, and the messages of an update stream that it has not written yet.
 #[derive(Drop)]
 pub struct Log<W: Drop> {
     alloc: Global,
     writer: Option<W>,
-    /// What was heard of the update stream; nothing once memory ran out for it.
+    /// The bytes received on the update stream; None once memory ran out for them.
     heard: Option<Frames>,
     connections: u64,
 }
 
 impl<W: Write + Drop> Log<W> {
-    /// A log that goes to this writer, or is not kept.
+    /// A log that goes to this writer; without a writer, nothing is logged.
     pub fn new(alloc: Global, writer: Option<W>) -> Log<W> {
         Log {
             alloc,
@@ -36,12 +36,12 @@ impl<W: Write + Drop> Log<W> {
         }
     }
 
-    /// What it went to, if it was kept.
+    /// The writer of the log, if it has one.
     pub fn into_writer(self) -> Option<W> {
         self.writer
     }
 
-    /// Tells what became of the update stream.
+    /// Logs that the update stream came up, was unreachable, or was lost.
     pub(crate) fn tell_stream(&mut self, event: StreamEvent) {
         self.heard = Some(Frames::new(self.alloc, MOST_MESSAGE));
         if self.writer.is_some() {
@@ -51,7 +51,7 @@ impl<W: Write + Drop> Log<W> {
         }
     }
 
-    /// Hears bytes of the update stream.
+    /// Keeps bytes received on the update stream.
     pub(crate) fn hear(&mut self, bytes: &[u8]) {
         if self.writer.is_none() {
             return;
@@ -64,7 +64,7 @@ impl<W: Write + Drop> Log<W> {
         }
     }
 
-    /// The next message that was heard.
+    /// The next message that was received.
     fn next_heard(&mut self) -> Option<Message> {
         match &mut self.heard {
             Some(heard) => heard.next(),
@@ -72,7 +72,7 @@ impl<W: Write + Drop> Log<W> {
         }
     }
 
-    /// Tells how a proxy answers the responses that were heard.
+    /// Logs how a proxy answers the responses that it received.
     pub(crate) fn tell_answers(&mut self, output: &Output, client: &Client) {
         if self.writer.is_none() {
             return;
@@ -93,7 +93,7 @@ impl<W: Write + Drop> Log<W> {
         }
     }
 
-    /// Tells which requests a control plane heard, and which responses it sends.
+    /// Logs the requests that a control plane received, and the responses that it sends.
     pub(crate) fn tell_served(&mut self, fed: &Fed) {
         if self.writer.is_none() {
             return;
@@ -102,7 +102,7 @@ impl<W: Write + Drop> Log<W> {
         self.tell_responses(&fed.replies);
     }
 
-    /// Tells each request that was heard.
+    /// Logs each request that was received.
     fn tell_requests(&mut self) {
         for _ in 0..MOST_MESSAGE {
             let Some(request) = self.next_heard() else {
@@ -114,7 +114,7 @@ impl<W: Write + Drop> Log<W> {
         }
     }
 
-    /// Tells each response among these bytes.
+    /// Logs each response in these bytes.
     fn tell_responses(&mut self, replies: &[u8]) {
         let mut sent = Frames::new(self.alloc, MOST_MESSAGE);
         let _ = sent.feed(replies);
@@ -128,7 +128,7 @@ impl<W: Write + Drop> Log<W> {
         }
     }
 
-    /// Tells that a connection ended.
+    /// Logs that a connection ended, and who ended it.
     pub(crate) fn tell_connection(&mut self, end: End) {
         self.connections = self.connections.saturating_add(1);
         if self.writer.is_some() {

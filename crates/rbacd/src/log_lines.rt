@@ -1,4 +1,4 @@
-//! The lines of a log, as JSON objects. No contract speaks of them.
+//! The lines of a log, as JSON objects. No contract describes them.
 
 use crate::meanings::meaning_of;
 use ads::{Client, Config};
@@ -17,7 +17,7 @@ pub(crate) enum End {
     Proxy,
 }
 
-/// What became of an update stream.
+/// What happened to an update stream.
 #[derive(Clone, Copy)]
 pub(crate) enum StreamEvent {
     /// It came up.
@@ -28,7 +28,7 @@ pub(crate) enum StreamEvent {
     Lost,
 }
 
-/// Each reason for which a response is refused.
+/// All reasons for which a response can be refused.
 const REASONS: [Refusal; 19] = [
     Refusal::BadWire,
     Refusal::BadText,
@@ -51,7 +51,7 @@ const REASONS: [Refusal; 19] = [
     Refusal::Memory,
 ];
 
-/// What became of an update stream.
+/// The line for what happened to an update stream.
 pub(crate) fn stream_value(alloc: Global, event: StreamEvent) -> Result<Value, AllocError> {
     let word = match event {
         StreamEvent::Up => "up",
@@ -61,7 +61,7 @@ pub(crate) fn stream_value(alloc: Global, event: StreamEvent) -> Result<Value, A
     json!(in alloc; {"stream": word})
 }
 
-/// The end of a connection, which was the one of this number, from 1.
+/// The line for the end of the connection with this number, counted from 1.
 pub(crate) fn connection_value(alloc: Global, number: u64, end: End) -> Result<Value, AllocError> {
     let word = match end {
         End::Client => "client",
@@ -70,8 +70,8 @@ pub(crate) fn connection_value(alloc: Global, number: u64, end: End) -> Result<V
     json!(in alloc; {"connection": number, "end": word})
 }
 
-/// How a proxy answers a response: whether it is acknowledged, and else for which reason it is not, and which part of it
-/// has the fault.
+/// The line for a proxy's answer to a response: acknowledged, or refused with the reason and the part of the response
+/// that has the fault.
 pub(crate) fn answer_value(
     alloc: Global,
     request: &[u8],
@@ -89,7 +89,7 @@ pub(crate) fn answer_value(
     }
 }
 
-/// A response that is acknowledged.
+/// The line for a response that is acknowledged.
 fn acknowledged_value(
     alloc: Global,
     response: &DiscoveryResponse<'_>,
@@ -103,7 +103,7 @@ fn acknowledged_value(
     })?)
 }
 
-/// A response that is refused for this reason.
+/// The line for a response that is refused for this reason.
 fn refused_value(
     alloc: Global,
     reason: Refusal,
@@ -132,7 +132,7 @@ fn text_or_null(alloc: Global, text: &Option<String>) -> Result<Value, AllocErro
     }
 }
 
-/// Where the fault of a response is, as far as that is known.
+/// The place of a response's fault, as far as that is known.
 #[derive(Drop)]
 struct FaultPlace {
     /// The name of the filter.
@@ -141,7 +141,7 @@ struct FaultPlace {
     place: Option<String>,
 }
 
-/// The first filter of a response that is configured and of which a part has this fault.
+/// The first configured filter of a response that has a part with this fault.
 fn fault_in(
     alloc: Global,
     response: &DiscoveryResponse<'_>,
@@ -171,7 +171,7 @@ fn fault_in(
     }
 }
 
-/// The reason whose number the text of a refusal has.
+/// The refusal whose number is in the text of an error.
 fn reason_in(message: &str) -> Option<Refusal> {
     let number = message.strip_prefix("policy refused: ")?;
     let number = number.parse::<u8>().ok()?;
@@ -183,7 +183,7 @@ fn reason_in(message: &str) -> Option<Refusal> {
     None
 }
 
-/// What a client asks a control plane for, or how it answers a response.
+/// The line for a client's request: it asks for resources, or answers a response.
 pub(crate) fn request_value(alloc: Global, request: &[u8]) -> Result<Value, Refusal> {
     let request = read_request(alloc, request)?;
     if let Some(status) = &request.error_detail {
@@ -204,7 +204,7 @@ pub(crate) fn request_value(alloc: Global, request: &[u8]) -> Result<Value, Refu
     })?)
 }
 
-/// What a control plane sends.
+/// The line for a response of a control plane.
 pub(crate) fn response_value(alloc: Global, response: &[u8]) -> Result<Value, Refusal> {
     let response = read_response(alloc, response)?;
     Ok(json!(in alloc; {

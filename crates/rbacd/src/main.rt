@@ -41,12 +41,13 @@ mod settings;
 mod telling;
 pub mod words;
 
-/// The words of the command line, the program's own name first.
+/// The words of the command line; the first is the program's own name.
 fn words_of<R: Env + AllocGlobal>(rt: &R) -> io::Result<Vec<String>> {
     Ok(env::args(rt)?.collect(rt.alloc())?)
 }
 
-/// The number of the first word that is no UTF-8, if its bytes fit a small room; 0 is the program's name.
+/// The index of the first word that is not UTF-8; 0 is the program's name. Words of more than 4,096 bytes are not
+/// examined.
 fn first_bad_word<R: Env>(rt: &R) -> Option<usize> {
     let mut room = [0u8; 4_096];
     for index in 0..usize::MAX {
@@ -63,7 +64,7 @@ fn first_bad_word<R: Env>(rt: &R) -> Option<usize> {
     None
 }
 
-/// Tells why the words cannot be read.
+/// Prints why the words of the command line cannot be read.
 fn tell_bad_words<R: Env, E: Write>(rt: &R, cause: io::Error, errors: &mut E) {
     let _ = match first_bad_word(rt) {
         Some(index) => writeln!(

@@ -1,9 +1,9 @@
-//! What refusals and head faults mean, in words.
+//! The meanings of refusals and of head faults, in words.
 
 use http_front::{HeadFault, HeadPart};
 use proto_wire::Refusal;
 
-/// What a refusal means.
+/// The meaning of a refusal.
 pub(crate) fn meaning_of(refusal: Refusal) -> &'static str {
     match refusal {
         Refusal::BadWire => "the bytes are no whole fields of Protocol Buffers",
@@ -28,7 +28,7 @@ pub(crate) fn meaning_of(refusal: Refusal) -> &'static str {
     }
 }
 
-/// Which rule a head breaks that has this fault.
+/// The rule of HTTP or of this program that a head with this fault breaks.
 pub(crate) fn rule_of(fault: HeadFault) -> &'static str {
     match fault {
         HeadFault::Malformed(part) => wrong_part(part),
@@ -45,7 +45,7 @@ pub(crate) fn rule_of(fault: HeadFault) -> &'static str {
     }
 }
 
-/// What is wrong with the part of a head where its parser stopped.
+/// The fault of the part of a head at which its parser stopped.
 fn wrong_part(part: HeadPart) -> &'static str {
     match part {
         HeadPart::Method => "the method is no token with a space behind it",

@@ -9,11 +9,11 @@ ghost use Rattle.rbacd.specs.Members.{AreAmong, HasOnly, IsNumberOr};
 
 use serde_json::{Map, Value};
 
-/// A value is not of the kind that it has to be, or has a member of a name that it may not have.
+/// The value is not of the required kind, or has a member with a name that is not allowed.
 #[derive(Clone, Copy, Debug)]
 pub(crate) struct Misfit;
 
-/// That the value is an object whose members have only these names.
+/// Refuses any value but an object whose members have only these names.
 pub(crate) fn require_names(value: &Value, names: &[&str]) -> Result<(), Misfit>
     ensures found { OnOk result (HasOnly (map (λ n. n.now) names.now) (view value.now)) }
     ensures fault { OnErr result (¬ HasOnly (map (λ n. n.now) names.now) (view value.now)) }
@@ -51,7 +51,7 @@ pub(crate) fn is_among(name: &str, names: &[&str]) -> bool
     false
 }
 
-/// The text of the member of this name, which has to be there.
+/// The text of the member with this name, which is required.
 pub(crate) fn str_at<'a>(object: &'a Value, name: &str) -> Result<&'a str, Misfit>
     ensures found { IfOk result (λ text. get name.now (view object.now) ≡ Some (string text.now)) }
     ensures fault { OnErr result ((text : List ℕ) → get name.now (view object.now) ≢ Some (string text)) }
@@ -65,7 +65,7 @@ pub(crate) fn str_at<'a>(object: &'a Value, name: &str) -> Result<&'a str, Misfi
     }
 }
 
-/// The values of the array of this name, which has to be there.
+/// The values of the array with this name, which is required.
 pub(crate) fn items_at<'a>(object: &'a Value, name: &str) -> Result<&'a [Value], Misfit>
     ensures found { IfOk result (λ items. get name.now (view object.now) ≡ Some (array (items_view items.now))) }
     ensures fault { OnErr result ((items : Items) → get name.now (view object.now) ≢ Some (array items)) }
@@ -79,7 +79,7 @@ pub(crate) fn items_at<'a>(object: &'a Value, name: &str) -> Result<&'a [Value],
     }
 }
 
-/// The number of the member of this name, or another where there is none.
+/// The number of the member with this name; `absent` if there is none.
 pub(crate) fn number_or(object: &Value, name: &str, absent: u64) -> Result<u64, Misfit>
     ensures found { IfOk result (IsNumberOr absent (get name.now (view object.now))) }
     ensures fault { OnErr result ((n : ℕ) → ¬ IsNumberOr absent (get name.now (view object.now)) n) }
@@ -93,7 +93,7 @@ pub(crate) fn number_or(object: &Value, name: &str, absent: u64) -> Result<u64, 
     }
 }
 
-/// The unsigned integer of the member of this name, which has to be there.
+/// The unsigned integer of the member with this name, which is required.
 pub(crate) fn number_at(object: &Value, name: &str) -> Result<u64, Misfit>
     ensures found { IfOk result (λ n. get name.now (view object.now) ≡ Some (number (unsigned n))) }
     ensures fault { OnErr result ((n : ℕ) → get name.now (view object.now) ≢ Some (number (unsigned n))) }

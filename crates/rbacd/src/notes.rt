@@ -1,7 +1,8 @@
-//! What is told below a line, so that its reader knows why: the cause, the part of a file that has the
+//! The notes that explain a result or a fault, in lines below it. They are the cause, the part of a file that has the
 //! fault, and a guess at what the file is.
 //!
-//! Nothing here bears on the outcome or the status, but that memory may run out here too; no contract speaks of the texts.
+//! The notes have no effect on the outcome or the status, except that memory may run out here too. No contract
+//! describes the texts.
 
 use crate::bad_facts::cause_of_bad_facts;
 use crate::bad_heads::passed_limit;
@@ -15,23 +16,23 @@ use rbac_policy::place_of;
 use std::alloc::{AllocError, Global};
 use std::fmt;
 
-/// What was noticed while a job was done.
+/// The notes that are taken during a job.
 #[derive(Drop)]
 pub(crate) struct Notes {
-    /// What the policy file looks like that is refused, if it is plainly no filter message.
+    /// What a refused policy file looks like, if it is plainly no filter message.
     pub(crate) policy: Option<Likeness>,
-    /// The part of that file that has the fault, if it can be told.
+    /// The part of the policy file that has the fault, if it is known.
     pub(crate) place: Option<String>,
-    /// Why the facts file tells of no connection.
+    /// Why the facts file has no facts within the limits.
     pub(crate) facts: String,
-    /// Why the configuration file is no configuration.
+    /// Why the configuration file has no configuration.
     pub(crate) config: String,
-    /// What of a head is above its limit.
+    /// The part of a head that exceeds its limit.
     pub(crate) head: Option<String>,
 }
 
 impl Notes {
-    /// Nothing was noticed yet.
+    /// No notes.
     pub(crate) fn new(alloc: Global) -> Notes {
         Notes {
             policy: None,
@@ -42,7 +43,7 @@ impl Notes {
         }
     }
 
-    /// Notes why this text of facts tells of no connection.
+    /// Notes why this text has no facts within the limits.
     pub(crate) fn look_at_facts(&mut self, alloc: Global, text: &[u8]) -> Result<(), AllocError> {
         self.facts = cause_of_bad_facts(alloc, text)?;
         Ok(())
@@ -54,14 +55,14 @@ impl Notes {
         Ok(())
     }
 
-    /// Notes of a head whose request is outside the limits what is above its limit.
+    /// Notes which part of a head exceeds its limit, if its request is outside the limits.
     pub(crate) fn look_at_head(&mut self, alloc: Global, head: &[u8], outcome: Outcome) {
         if let Outcome::Fault(HeadFault::OutsideLimits) = outcome {
             self.head = passed_limit(alloc, head).unwrap_or(None);
         }
     }
 
-    /// Why an outcome is what it is, where that is no verdict.
+    /// Why an outcome is no verdict.
     pub(crate) fn why(&self, alloc: Global, outcome: Outcome) -> Why {
         match outcome {
             Outcome::Refused(refusal) => Why {
@@ -89,7 +90,7 @@ impl Notes {
         }
     }
 
-    /// Which rule a head breaks, and what of it is above its limit.
+    /// The rule that a head breaks, and the part that exceeds its limit.
     fn cause_of_fault(&self, alloc: Global, fault: HeadFault) -> Result<String, AllocError> {
         let rule = rule_of(fault);
         match &self.head {
@@ -98,8 +99,8 @@ impl Notes {
         }
     }
 
-    /// Notes of a policy file that is refused which part of it has the fault; and where no part has one
-    /// and its own fields may be at fault, what it looks like.
+    /// Notes which part of a refused policy file has the fault. If no part has it, and the file's own fields may be
+    /// wrong, it notes what the file looks like.
     pub(crate) fn look_at_policy(&mut self, alloc: Global, bytes: &[u8], outcome: Outcome) {
         if let Outcome::Refused(refusal) = outcome {
             self.place = place_of(alloc, bytes, refusal);
@@ -110,7 +111,7 @@ impl Notes {
     }
 }
 
-/// A copy of a text, if there is one and memory for it.
+/// A copy of a text, if there is one and there is memory for it.
 fn copy_of(alloc: Global, text: &Option<String>) -> Option<String> {
     match text {
         Some(text) => String::from_str(alloc, text.as_str()).ok(),
@@ -118,7 +119,7 @@ fn copy_of(alloc: Global, text: &Option<String>) -> Option<String> {
     }
 }
 
-/// Whether a file can be refused for this reason because its own fields are not a filter's.
+/// Whether this refusal may mean that the file's own fields are not those of a filter.
 fn is_of_fields(refusal: Refusal) -> bool {
     matches!(
         refusal,
@@ -126,7 +127,7 @@ fn is_of_fields(refusal: Refusal) -> bool {
     )
 }
 
-/// What a file looks like that is no filter message.
+/// What a file that is no filter message looks like.
 #[derive(Clone, Copy)]
 pub(crate) enum Likeness {
     Json,
@@ -156,14 +157,13 @@ impl fmt::Display for Likeness {
     }
 }
 
-/// How the name of a message's type begins in an Any.
+/// The beginning of the type URL of an Any.
 const TYPE_START: &[u8] = b"type.googleapis.com/";
 
-/// The number of `rules` in a filter message.
+/// The field number of `rules` in a filter message.
 const RULES: u32 = 1;
 
-/// What the bytes look like, if they are plainly something else than a filter message. It is asked only
-/// where their own fields may be at fault.
+/// What the bytes look like, if they are plainly no filter message. Call it only if the file's own fields may be wrong.
 pub(crate) fn likeness_of(bytes: &[u8]) -> Option<Likeness> {
     if bytes.starts_with(&[0x1f, 0x8b]) {
         return Some(Likeness::Gzip);
@@ -182,18 +182,17 @@ pub(crate) fn likeness_of(bytes: &[u8]) -> Option<Likeness> {
     }
 }
 
-/// Whether the bytes begin as an Any does, with the name of a type. A filter's rules never do, since
-/// their field 1 is a number.
+/// Whether the bytes begin like an Any, with a type URL. A filter's rules never do, since their field 1 is a number.
 fn begins_as_any(bytes: &[u8]) -> bool {
     bytes.first() == Some(&0x0a) && bytes.get(2..).unwrap_or(&[]).starts_with(TYPE_START)
 }
 
-/// What stands among the fields of a file, up to its end or to where its bytes break.
+/// What the fields of a file include, up to its end or to bytes that are no field.
 #[derive(Clone, Copy)]
 struct FirstFields {
-    /// Whether one is a filter's rules, by its number and wire type.
+    /// Whether one field has the number and the wire type of a filter's rules.
     has_rules: bool,
-    /// Whether one begins as an Any does.
+    /// Whether one field begins like an Any.
     has_any: bool,
 }
 
@@ -215,7 +214,7 @@ fn first_fields(bytes: &[u8]) -> FirstFields {
     found
 }
 
-/// Whether the byte stands in a text.
+/// Whether the byte may be part of a text.
 fn is_printed(byte: u8) -> bool {
     byte >= 0x80 || byte.is_ascii_graphic() || byte.is_ascii_whitespace()
 }

@@ -1,4 +1,4 @@
-//! What the program finds, what it prints of it and the status that it ends with.
+//! The outcomes of the program, with their texts and their exit statuses.
 ghost use Rattle.std.specs.Prelude.{◌≡◌, ◌↔◌, IfOk, IsTrue, string_bytes, true};
 ghost use Rattle.rbacd.specs.Explain.{told_in, with_trials};
 ghost use Rattle.rbacd.specs.Judging.{IsDecision};
@@ -13,21 +13,21 @@ use proto_wire::Refusal;
 use std::alloc::{AllocError, Global};
 use std::fmt;
 
-/// What came of checking one policy file, or of judging one head by it.
+/// The outcome of checking one policy file, or of judging one head by it.
 #[derive(Clone, Copy)]
 pub enum Outcome {
     /// The policy is admitted.
     Admitted {
-        /// How many policies it has.
+        /// The number of its policies.
         policies: usize,
-        /// How many steps its conditions may take, together.
+        /// The greatest number of steps that all its conditions may take together.
         bound: u64,
     },
-    /// The request is let through; the number of the policy that matched, if one did.
+    /// The request is let through. The number is that of the policy that matched, if one did.
     Allowed(Option<usize>),
-    /// The request is refused.
+    /// The request is refused. The number is that of the policy that matched, if one did.
     Denied(Option<usize>),
-    /// A condition ran out of its steps, so the request is refused.
+    /// A condition exceeded its steps, so the request is refused.
     OutOfSteps,
     /// The policy is not admitted.
     Refused(Refusal),
@@ -53,7 +53,7 @@ impl Outcome {
         }
     }
 
-    /// Whether it is a verdict.
+    /// Whether the outcome is a verdict.
     pub(crate) fn is_decision(self) -> bool
         ensures { IsTrue result ↔ IsDecision self }
     {
@@ -67,8 +67,7 @@ impl Outcome {
         }
     }
 
-    /// The exit status: 0 admitted or let through, 1 policy refused, 3 denied, 4 head fault, 5 want of
-    /// memory.
+    /// The exit status: 0 admitted or let through, 1 policy refused, 3 denied, 4 head fault, 5 out of memory.
     pub fn status(self) -> u8
         ensures { result ≡ status_of self }
     {
@@ -85,7 +84,7 @@ impl Outcome {
     }
 }
 
-/// Writes the outcome in words, as `allow 0`, `deny -` or `refused: 5 OutOfRange`.
+/// Writes the outcome in words, such as `allow 0`, `deny -` or `refused: 5 OutOfRange`.
 impl fmt::Display for Outcome {
     ghost use Rattle.std.specs.Prelude.{Some};
     ghost use Rattle.rbacd.specs.Outcome.{text_of};
@@ -109,23 +108,23 @@ impl fmt::Display for Outcome {
     }
 }
 
-/// An outcome, and how it is printed.
+/// An outcome, and the form in which it is printed.
 #[derive(Drop)]
 pub struct Report {
-    /// What was found.
+    /// The outcome.
     pub outcome: Outcome,
     /// The name of the policy that matched, if one did.
     pub name: Option<String>,
-    /// Whether it is printed as a JSON object, and not in words.
+    /// Whether it is printed as a JSON object, rather than in words.
     pub json: bool,
-    /// Why a verdict is what it is, where that was asked for.
+    /// Why a verdict is what it is, if that was asked for.
     pub explanation: Explanation,
-    /// Why it is no verdict, if it is none.
+    /// Why the outcome is no verdict, if it is none.
     pub why: Why,
 }
 
 impl Report {
-    /// The report with why it is no verdict.
+    /// The report, with why its outcome is no verdict.
     pub(crate) fn told(self, why: Why) -> Report
         ensures { result ≡ told_with why self }
     {
@@ -138,7 +137,7 @@ impl Report {
         }
     }
 
-    /// The report without its trials, for which no memory is left.
+    /// The report without its trials, if there is no memory for them.
     pub(crate) fn unexplained(self) -> Report
         ensures { result ≡ unexplained self }
     {
@@ -151,7 +150,7 @@ impl Report {
         }
     }
 
-    /// The report of want of memory, to be printed in the same way.
+    /// The report that memory ran out, in the same form.
     pub(crate) fn without_memory(self) -> Report
         ensures { result ≡ without_memory self }
     {
@@ -164,7 +163,7 @@ impl Report {
         }
     }
 
-    /// What is printed of it: whole lines, each with its end.
+    /// The text of the report: whole lines, each with its line feed.
     pub(crate) fn text(&self, alloc: Global) -> Result<String, AllocError>
         ensures { IfOk result (λ text. string_bytes text ≡ printed_of self.now) }
     {
@@ -175,7 +174,7 @@ impl Report {
         }
     }
 
-    /// The line of the outcome as JSON.
+    /// The line with the report's JSON object.
     fn json_line(&self, alloc: Global) -> Result<String, AllocError>
         requires { self.now.json ≡ true }
         ensures { IfOk result (λ line. string_bytes line ≡ printed_of self.now) }
@@ -193,7 +192,7 @@ impl Report {
     }
 }
 
-/// The outcome's line, and below it those of the trials, if they are told.
+/// The outcome's line, followed by those of the trials, if there are any to show.
 fn lines(alloc: Global, outcome: Outcome, explanation: &Explanation) -> Result<String, AllocError>
     ensures { IfOk result (λ text.
         string_bytes text ≡ with_trials (line_of outcome) (told_in explanation.now)) }

@@ -1,12 +1,12 @@
-//! Writing a text in one piece.
+//! Writes a whole text.
 ghost use Rattle.std.specs.Prelude.{OnErr, OnOk};
 ghost use Rattle.std.specs.Io.KnownBytes.{Appends};
 ghost use Rattle.rbacd.specs.Output.{BreaksOff};
 
 use std::io::{self, ErrorKind, Write};
 
-/// Hands the whole text over at once, and what is left of it again where the writer took a part. A
-/// writer that fails holds no more than a part of the text.
+/// Writes the whole text; if the writer takes only a part, it writes the rest again. If the writer fails, it has taken
+/// a proper beginning of the text.
 pub(crate) fn write_whole<W: Write>(out: &mut W, text: &[u8]) -> io::Result<()>
     ensures whole { OnOk result (Appends (W.contents out.old) (W.contents out.new) text.now) }
     ensures part { OnErr result (BreaksOff (W.contents out.old) (W.contents out.new) text.now) }

@@ -1,4 +1,4 @@
-//! The pumps: what moves bytes between the core of a proxy, or a control plane, and its streams.
+//! The pumps move bytes between the core of a proxy, or a control plane, and its streams.
 ghost use Rattle.std.specs.Prelude.{◌≡◌, ◌≤◌, false, length, take};
 ghost use Rattle.std.specs.Io.KnownBytes.{Consumes};
 ghost use Rattle.attributes.specs.Conn.{conn_view};
@@ -19,12 +19,12 @@ use proxy_core::{Event, Proxy};
 use std::alloc::AllocError;
 use std::io::{Read, Write};
 
-/// One read takes at most so many bytes.
+/// The greatest number of bytes of one read.
 const CHUNK: usize = 16_384;
 
-/// Serves a connection of these facts to its end: gives the core its opening, its bytes as they come, and its closing, and
-/// writes what the core answers. It ends where the core closes it, where a read gives no bytes or fails, where a write fails,
-/// and where memory runs out.
+/// Serves a connection with these facts to its end. It passes the core the opening, the bytes as they arrive, and the
+/// closing, and writes the core's answers. The connection ends if the core closes it, a read gives no bytes or fails, a
+/// write fails, or memory runs out.
 pub fn serve_connection<R: Read, W: Write, L: Write + Drop>(
     proxy: &mut Proxy,
     conn: &Conn,
@@ -40,7 +40,7 @@ pub fn serve_connection<R: Read, W: Write, L: Write + Drop>(
     log.tell_connection(end);
 }
 
-/// Gives the core the opening of a connection and its bytes, and writes what it answers; who ends the connection.
+/// Passes the core the opening of a connection and its bytes, and writes the answers. Returns who ended the connection.
 fn hear<R: Read, W: Write>(proxy: &mut Proxy, conn: &Conn, reader: &mut R, writer: &mut W) -> End
     ensures { Hears (proxy_view proxy.old) (proxy_view proxy.new) (R.remaining reader.old)
         (R.remaining reader.new) (W.contents writer.old) (W.contents writer.new) (conn_view conn.now) }
@@ -63,7 +63,7 @@ fn hear<R: Read, W: Write>(proxy: &mut Proxy, conn: &Conn, reader: &mut R, write
     End::Proxy
 }
 
-/// Gives the core an event of a connection, and writes what it answers.
+/// Passes the core an event of a connection, and writes the answer.
 fn answer<W: Write>(proxy: &mut Proxy, event: Event<'_>, writer: &mut W) -> Turn
     ensures { Answers (proxy_view proxy.old) (proxy_view proxy.new) (W.contents writer.old) (W.contents writer.new)
         (event_view event.entry) result }
@@ -77,7 +77,7 @@ fn answer<W: Write>(proxy: &mut Proxy, event: Event<'_>, writer: &mut W) -> Turn
     }
 }
 
-/// How many bytes a read gives; none at the end of the input, and where it fails.
+/// The number of bytes that a read gives; 0 at the end of the input, or if the read fails.
 fn count_of<R: Read>(reader: &mut R, room: &mut [u8]) -> usize
     ensures bound { result ≤ length room.new }
     ensures read { Consumes (R.remaining reader.old) (R.remaining reader.new) (take result room.new) }
@@ -88,7 +88,7 @@ fn count_of<R: Read>(reader: &mut R, room: &mut [u8]) -> usize
     }
 }
 
-/// What came of an event.
+/// The result of an event.
 #[derive(Clone, Copy)]
 enum Turn {
     /// Nothing was answered.
@@ -99,7 +99,7 @@ enum Turn {
     Ended,
 }
 
-/// What came of an event for which these bytes were written.
+/// The result of an event for which these bytes were written.
 fn turn_of(written: &[u8], closes: bool) -> Turn
     ensures { IsTurnOf written.now closes result }
 {
@@ -112,8 +112,8 @@ fn turn_of(written: &[u8], closes: bool) -> Turn
     Turn::Answered
 }
 
-/// The update stream comes up: gives the core that event and writes its first request; whether the stream is still up. Where
-/// it is not, the core was told.
+/// Passes the core the event that the update stream comes up, and writes the first request. Returns whether the stream
+/// is still up. If it is not, the core has received its loss.
 pub fn open_updates<W: Write, L: Write + Drop>(
     proxy: &mut Proxy,
     writer: &mut W,
@@ -127,9 +127,9 @@ pub fn open_updates<W: Write, L: Write + Drop>(
     }
 }
 
-/// Takes one response of the update stream: gives the core its bytes as they come, and writes what it answers, up to the
-/// event with which a response is answered; whether the stream is still up. It is lost where the core closes it, where a read
-/// gives no bytes or fails, where a write fails, and where memory runs out; then the core was told.
+/// Takes one response of the update stream. It passes the core the bytes as they arrive, up to the event with which a
+/// response is answered, and writes the answers. Returns whether the stream is still up. The stream is lost if the core
+/// closes it, a read gives no bytes or fails, a write fails, or memory runs out. The core then receives its loss.
 pub fn take_response<R: Read, W: Write, L: Write + Drop>(
     proxy: &mut Proxy,
     reader: &mut R,
@@ -145,7 +145,7 @@ pub fn take_response<R: Read, W: Write, L: Write + Drop>(
     }
 }
 
-/// Tells the core that the update stream is lost; it is not up.
+/// Passes the core the loss of the update stream. Returns `false`: the stream is not up.
 pub(crate) fn lose(proxy: &mut Proxy) -> bool
     ensures down { result ≡ false }
     ensures told { EndsUpdates (proxy_view proxy.old) (proxy_view proxy.new) false }
@@ -154,7 +154,8 @@ pub(crate) fn lose(proxy: &mut Proxy) -> bool
     false
 }
 
-/// Gives the core bytes of the update stream up to the event with which a response is answered; whether one was.
+/// Passes the core bytes of the update stream, up to the event with which a response is answered. Returns whether one
+/// was.
 fn receive<R: Read, W: Write, L: Write + Drop>(
     proxy: &mut Proxy,
     reader: &mut R,
@@ -180,7 +181,7 @@ fn receive<R: Read, W: Write, L: Write + Drop>(
     false
 }
 
-/// Gives the core an event of the update stream, and writes what it answers.
+/// Passes the core an event of the update stream, and writes the answer.
 fn update<W: Write, L: Write + Drop>(
     proxy: &mut Proxy,
     event: Event<'_>,
@@ -202,9 +203,9 @@ fn update<W: Write, L: Write + Drop>(
     }
 }
 
-/// Serves one stream of a control plane to its end: gives it the bytes of the stream as they come, and writes what it answers.
-/// It ends where a read gives no bytes or fails, where a write fails, where the control plane breaks it, and where memory runs
-/// out. Then the control plane was told.
+/// Serves one stream of a control plane to its end. It passes the control plane the bytes of the stream as they arrive,
+/// and writes the answers. The stream ends if a read gives no bytes or fails, a write fails, the control plane breaks
+/// it, or memory runs out. The control plane then receives its loss.
 pub fn serve_stream<R: Read, W: Write, L: Write + Drop>(
     control: &mut Control,
     reader: &mut R,
@@ -218,7 +219,7 @@ pub fn serve_stream<R: Read, W: Write, L: Write + Drop>(
     control.lost();
 }
 
-/// Gives a control plane the bytes of its stream, and writes what it answers.
+/// Passes a control plane the bytes of its stream, and writes the answers.
 fn hear_requests<R: Read, W: Write, L: Write + Drop>(
     control: &mut Control,
     reader: &mut R,
@@ -242,7 +243,7 @@ fn hear_requests<R: Read, W: Write, L: Write + Drop>(
     }
 }
 
-/// Gives a control plane bytes of its stream, and writes what it answers; whether the stream goes on.
+/// Passes a control plane bytes of its stream, and writes the answer. Returns whether the stream goes on.
 fn feed<W: Write, L: Write + Drop>(
     control: &mut Control,
     bytes: &[u8],

@@ -1,4 +1,4 @@
-//! Reading the files of a job.
+//! Reads the files of a job.
 ghost use Rattle.std.specs.Prelude.{◌≡◌, ◌≢◌, ◌⊎◌, ℕ, IfErr, IfOk, List, Some, option_map, string_bytes};
 ghost use Rattle.attributes.specs.Conn.{conn_view};
 ghost use Rattle.std.specs.IoError.{error_kind};
@@ -15,7 +15,7 @@ use attributes::Conn;
 use std::alloc::Global;
 use std::io::{self, ErrorKind};
 
-/// The connection that the facts file tells of, or a plain one where none is named.
+/// The connection with the facts of the facts file; a plain one if no file is named.
 pub(crate) fn conn_of<F: Source>(
     alloc: Global,
     facts: Option<String>,
@@ -35,7 +35,7 @@ pub(crate) fn conn_of<F: Source>(
     }
 }
 
-/// The connection that the facts file tells of.
+/// The connection with the facts of the facts file at this path.
 fn read_facts_file<F: Source>(
     alloc: Global,
     files: &F,
@@ -60,7 +60,7 @@ fn read_facts_file<F: Source>(
     }
 }
 
-/// What stops a job whose facts are not read.
+/// The job's fault if the facts cannot be read.
 fn stop_by_facts(fault: FactsFault) -> JobFault
     ensures bad { fault ≡ FactsFault.Bad → result ≡ JobFault.Facts }
     ensures memory { fault ≡ FactsFault.Memory → result ≡ JobFault.Memory }
@@ -87,7 +87,7 @@ pub(crate) fn read_file<F: Source>(
     }
 }
 
-/// What stops a job for which the file of this name cannot be read, for this cause.
+/// The job's fault if the file of this name cannot be read, for this cause.
 fn stop_by_file(name: String, cause: io::Error) -> JobFault
     ensures file { error_kind cause ≢ ErrorKind.OutOfMemory → result ≡ JobFault.File name cause }
     ensures memory { error_kind cause ≡ ErrorKind.OutOfMemory → result ≡ JobFault.Memory }

@@ -1,7 +1,7 @@
-//! An input of which it is kept what was read.
+//! An input that keeps a copy of the bytes that were read.
 use std::io::{self, Read};
 
-/// An input. What reads give is kept as well, as far as there is memory for that.
+/// An input. The bytes that it gives are also kept, as far as there is memory for them.
 #[derive(Drop)]
 pub(crate) struct Recorded<'a, R: Drop> {
     pub(crate) input: R,
@@ -13,7 +13,7 @@ impl<'a, R: Read + Drop> Read for Recorded<'a, R> {
 
     fn read(&mut self, buf: &mut [u8]) -> io::Result<usize> {
         let count = self.input.read(buf)?;
-        // what is not kept is not told
+        // bytes for which there is no memory are left out
         let _ = self.kept.extend_from_slice(&buf[..count]);
         Ok(count)
     }

@@ -1,4 +1,4 @@
-//! A replay: events from lines, and the core's answer to each.
+//! A replay: reads events from lines, and prints the core's answer to each.
 ghost use Rattle.std.specs.Prelude.{◌≡◌, ◌≢◌, ◌⊎◌, List, ℕ, Ok, Some, None, IfErr, IfOk, OnErr, OnOk, IsUtf8, option_map, string_bytes};
 ghost use Rattle.std.specs.Io.KnownBytes.{IsAtEnd, Keeps};
 ghost use Rattle.std.specs.IoError.{error_kind};
@@ -20,7 +20,7 @@ use std::io::{self, BufRead, ErrorKind, Write};
 /// Why a replay ends before its input does.
 #[derive(Drop)]
 pub enum ReplayFault {
-    /// The line of this number, counted from 1, is no event, and why.
+    /// The line with this number, counted from 1, is no event, for this cause.
     Line(u64, String),
     /// The input cannot be read, for this cause.
     Input(io::Error),
@@ -41,9 +41,9 @@ impl From<AllocError> for ReplayFault {
     }
 }
 
-/// Gives a proxy of this configuration the event of each line of the input, in order, and prints a line for each: its output
-/// in four words, or `memory` where memory ran out for it; the proxy is then as it was. It ends at the end of the input, and
-/// before that at a line that is no event.
+/// Passes a proxy with this configuration the event of each line of the input, in order, and prints a line for each.
+/// That is its output in four words, or `memory` if memory ran out; the proxy is then as before the event. The replay
+/// ends at the end of the input, or at a line that is no event.
 pub fn replay<R: BufRead, W: Write>(
     alloc: Global,
     config: Config,
@@ -80,7 +80,7 @@ fn read_line<R: BufRead>(alloc: Global, input: &mut R) -> Result<Option<Vec<u8>>
     }
 }
 
-/// What ends a replay whose input fails for this cause.
+/// The fault of a replay whose input fails for this cause.
 fn input_fault(cause: io::Error) -> ReplayFault
     ensures { TurnFault result }
 {
@@ -112,7 +112,7 @@ fn answer_line<W: Write>(
     }
 }
 
-/// The line that answers the event of this one.
+/// The line that answers the event of this line.
 fn answer(alloc: Global, proxy: &mut Proxy, line: &[u8]) -> Result<String, LineFault>
     ensures found { IfOk result (λ text. Answers (proxy_view proxy.old) line.now (string_bytes text)
         (proxy_view proxy.new)) }
@@ -129,7 +129,7 @@ fn answer(alloc: Global, proxy: &mut Proxy, line: &[u8]) -> Result<String, LineF
     }
 }
 
-/// The event that the bytes of a line tell.
+/// The event of a line's bytes.
 fn event_of(alloc: Global, line: &[u8]) -> Result<LineEvent, LineFault>
     ensures found { IfOk result (λ event. IsLineText line.now (line_view event)) }
     ensures fault { IfErr result (λ e. e ≡ BadLine → (event : EventValue) → ¬ IsLineText line.now event) }

@@ -1,4 +1,4 @@
-//! The rounds of a proxy: in each, the update stream gives one response, and one connection is served.
+//! The rounds of a proxy: each takes one response of the update stream, and serves one connection.
 ghost use Rattle.std.specs.Prelude.{List, None, Option, Some, option_map, ℕ};
 ghost use Rattle.attributes.specs.Conn.{conn_view};
 ghost use Rattle.proxy_core.specs.Proxies.{proxy_view};
@@ -11,24 +11,24 @@ use attributes::Conn;
 use proxy_core::Proxy;
 use std::io::{self, Read, Write};
 
-/// Where the streams of a proxy come from.
+/// The source of a proxy's streams.
 pub trait Streams {
-    /// What gives the bytes of a stream.
+    /// The end of a stream to read from.
     type Reader: Read + Drop;
 
-    /// What takes the bytes for it.
+    /// The end of a stream to write to.
     type Writer: Write + Drop;
 
-    /// A new update stream.
+    /// Opens a new update stream.
     fn connect(&mut self) -> io::Result<(Self::Reader, Self::Writer)>;
 
-    /// The next connection.
+    /// Accepts the next connection.
     fn accept(&mut self) -> io::Result<(Self::Reader, Self::Writer)>;
 }
 
-/// Runs so many rounds. In each the update stream comes up, unless it is up, and gives one response, or is lost; then one
-/// connection of these facts is served to its end. A stream that cannot be connected is lost. Nothing is tried again before
-/// the next round, and a connection that cannot be accepted is none.
+/// Runs this many rounds. In each the update stream comes up, if it is down, and one response is taken, or the stream
+/// is lost. Then one connection with these facts is served to its end. A stream that cannot be connected is lost.
+/// Nothing is tried again before the next round. If no connection can be accepted, none is served.
 pub fn serve_rounds<S: Streams, L: Write + Drop>(
     proxy: &mut Proxy,
     conn: &Conn,
@@ -46,7 +46,7 @@ pub fn serve_rounds<S: Streams, L: Write + Drop>(
     }
 }
 
-/// Takes one response of the update stream, which comes up first where it is down; the stream, unless it is lost.
+/// Takes one response of the update stream, which comes up first if it is down. Returns the stream, unless it is lost.
 fn hear_updates<S: Streams, L: Write + Drop>(
     proxy: &mut Proxy,
     link: Option<(S::Reader, S::Writer)>,
@@ -63,7 +63,7 @@ fn hear_updates<S: Streams, L: Write + Drop>(
     }
 }
 
-/// Takes one response of an update stream that is up; the stream, unless it is lost.
+/// Takes one response of an update stream that is up. Returns the stream, unless it is lost.
 fn take_one<R: Read + Drop, W: Write + Drop, L: Write + Drop>(
     proxy: &mut Proxy,
     ends: (R, W),
@@ -82,7 +82,8 @@ fn take_one<R: Read + Drop, W: Write + Drop, L: Write + Drop>(
     }
 }
 
-/// Brings the update stream up, where it was connected, and takes one response of it; the stream, unless it is lost.
+/// Brings the update stream up, if it is connected, and takes one response of it. Returns the stream, unless it is
+/// lost.
 fn come_up<R: Read + Drop, W: Write + Drop, L: Write + Drop>(
     proxy: &mut Proxy,
     connected: io::Result<(R, W)>,
@@ -110,7 +111,7 @@ fn come_up<R: Read + Drop, W: Write + Drop, L: Write + Drop>(
     }
 }
 
-/// Serves a connection of these facts to its end, where one was accepted.
+/// Serves a connection with these facts to its end, if one was accepted.
 fn serve_one<R: Read + Drop, W: Write + Drop, L: Write + Drop>(
     proxy: &mut Proxy,
     conn: &Conn,

@@ -1,4 +1,4 @@
-//! The whole job of the program, from its words to its status.
+//! The program's whole run, from its words to its status.
 ghost use Rattle.std.specs.Prelude.{◌≡◌, ◌≢◌, ◌⊎◌, ◌↔◌, Err, IfErr, IfOk, IsTrue, Ok, map, option_map, string_bytes};
 ghost use Rattle.rbacd.specs.Explain.{IsGiven};
 ghost use Rattle.rbacd.specs.Judging.{IsDecision};
@@ -31,8 +31,8 @@ use std::convert::AsStr;
 use std::io::{BufRead, Read, Write};
 use std::net::Net;
 
-/// Runs the job that the words name, the program's own name first: reads the files that they name, and the input where the
-/// job has one, and serves at the addresses. Prints what it finds, and answers the status.
+/// Runs the job that the words name; the first word is the program's own name. It reads the named files, and the input
+/// if the job has one, or serves at the named addresses. Prints the result, and returns the status.
 pub fn run<S: AsStr, F: Source + Net, R: BufRead + Drop, W: Write, E: Write>(
     alloc: Global,
     words: &[S],
@@ -51,7 +51,7 @@ pub fn run<S: AsStr, F: Source + Net, R: BufRead + Drop, W: Write, E: Write>(
     }
 }
 
-/// Why no job is run whose words have this fault.
+/// The job's fault if the words have this fault.
 fn words_fault(error: clap::Error) -> JobFault
     ensures memory { kind_of error ≡ WordsKind.OutOfMemory → result ≡ JobFault.Memory }
     ensures words { (result ≡ JobFault.Memory) ⊎ (result ≡ JobFault.Words error) }
@@ -118,7 +118,7 @@ fn run_named<F: Source + Net, R: BufRead + Drop, W: Write, E: Write>(
     }
 }
 
-/// Runs a job that comes to a report, and prints that.
+/// Runs a job that has a report, and prints the report.
 fn run_reported<F: Source, R: Read + Drop, W: Write, E: Write>(
     alloc: Global,
     job: Job,
@@ -149,7 +149,7 @@ fn run_reported<F: Source, R: Read + Drop, W: Write, E: Write>(
     }
 }
 
-/// Whether what the job finds is printed as JSON.
+/// Whether the job prints its outcome as JSON.
 fn is_json(job: &Job) -> bool
     ensures { result ≡ is_json job.now }
 {
@@ -159,7 +159,7 @@ fn is_json(job: &Job) -> bool
     }
 }
 
-/// What the job comes to.
+/// The report of the job, or the fault that stops it.
 fn run_job<F: Source, R: Read + Drop>(
     alloc: Global,
     job: Job,
@@ -204,7 +204,7 @@ fn run_job<F: Source, R: Read + Drop>(
     }
 }
 
-/// The report of what a job finds. Want of memory is an outcome of it.
+/// The report of a job's finding. Out of memory becomes an outcome.
 fn report_of(found: Result<Finding, JobFault>, json: bool) -> Result<Report, JobFault>
     ensures kept { IfOk found (λ finding. result ≡ Ok (report_with json finding)) }
     ensures memory { found ≡ Err JobFault.Memory → result ≡ Ok (report_with json (bare Outcome.Memory)) }
@@ -237,7 +237,7 @@ fn check_file<F: Source>(
     Ok(Finding::bare(outcome))
 }
 
-/// Judges the head that the input begins with by a policy file, on the connection of a facts file.
+/// Judges the head that the input begins with, by a policy file, on a connection with the facts of a facts file.
 fn judge_files<F: Source, R: Read + Drop>(
     alloc: Global,
     policy: &str,
@@ -273,8 +273,8 @@ fn judge_files<F: Source, R: Read + Drop>(
     }
 }
 
-/// Tells why an outcome is so, where that is no verdict, or why a verdict is not explained. Nothing is
-/// lost where standard error fails.
+/// Prints why an outcome is no verdict, or why a verdict is not explained, on standard error. A failure there is
+/// ignored.
 fn tell_below<E: Write>(report: &Report, notes: &Notes, errors: &mut E)
     ensures { IsTold (E.contents errors.old) (E.contents errors.new) report.now.explanation
         report.now.outcome }
@@ -290,7 +290,7 @@ fn tell_below<E: Write>(report: &Report, notes: &Notes, errors: &mut E)
     }
 }
 
-/// Tells why there is no explanation, where one was asked for.
+/// Prints why there is no explanation, if one was asked for.
 fn tell_untold<E: Write>(explanation: &Explanation, errors: &mut E)
     ensures { TellsCause (E.contents errors.old) (E.contents errors.new) explanation.now }
 {
@@ -303,7 +303,7 @@ fn tell_untold<E: Write>(explanation: &Explanation, errors: &mut E)
     }
 }
 
-/// Tells which rule a head breaks, and what of it is above its limit.
+/// Prints the rule that a head breaks, and the part that exceeds its limit.
 fn tell_head<E: Write>(fault: HeadFault, notes: &Notes, errors: &mut E) {
     let _ = writeln!(errors, "  {}", rule_of(fault));
     if let Some(cause) = &notes.head {
@@ -311,7 +311,7 @@ fn tell_head<E: Write>(fault: HeadFault, notes: &Notes, errors: &mut E) {
     }
 }
 
-/// Tells what the refusal means, which part of the policy file it is about, and what the file looks like.
+/// Prints the meaning of the refusal, the part of the policy file that has the fault, and what the file looks like.
 fn tell_refusal<E: Write>(refusal: Refusal, notes: &Notes, errors: &mut E) {
     let _ = writeln!(errors, "  {}", meaning_of(refusal));
     if let Some(place) = &notes.place {

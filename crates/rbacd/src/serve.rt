@@ -1,4 +1,4 @@
-//! The jobs that serve: the control plane and the proxy, over sockets.
+//! The jobs that serve over sockets: the control plane and the proxy.
 ghost use Rattle.std.specs.Prelude.{◌≡◌, IfErr, IfOk, OnOk, map, option_map, string_bytes};
 ghost use Rattle.std.specs.List.{AllZip};
 ghost use Rattle.attributes.specs.Conn.{conn_view};
@@ -25,7 +25,7 @@ use std::alloc::{AllocError, Global};
 use std::io::{self, Read, Write};
 use std::net::{Net, OpenListener, OpenStream, TcpListener, TcpStream};
 
-/// Serves one stream as a control plane, and prints what was acknowledged; the status.
+/// Serves one stream as a control plane, and prints the last acknowledged number. Returns the status.
 pub(crate) fn run_control<F: Source + Net, W: Write, E: Write>(
     alloc: Global,
     words: &ControlWords,
@@ -45,7 +45,7 @@ pub(crate) fn run_control<F: Source + Net, W: Write, E: Write>(
     }
 }
 
-/// The number of the snapshot that was acknowledged last, when the stream of the first client ends.
+/// Serves the stream of the first client to its end. Returns the number of the last acknowledged snapshot.
 fn acknowledged_by<F: Source + Net>(
     alloc: Global,
     words: &ControlWords,
@@ -62,7 +62,7 @@ fn acknowledged_by<F: Source + Net>(
     Ok(control.acknowledged())
 }
 
-/// A snapshot of each file, with one filter of this name.
+/// A snapshot for each file, with one filter of this name.
 fn snapshots_of<F: Source>(
     alloc: Global,
     files: &F,
@@ -99,7 +99,7 @@ fn snapshot_of<F: Source>(
     Ok(Snapshot { resources })
 }
 
-/// The log that goes to the file of this path, or is not kept where none is named.
+/// The log that goes to the file at this path; if no path is given, nothing is logged.
 fn log_of<F: Source>(
     alloc: Global,
     files: &F,
@@ -126,7 +126,7 @@ fn listen<N: Net>(alloc: Global, net: &N, address: &str) -> Result<N::Listener, 
     }
 }
 
-/// The next connection, to read from and to write to.
+/// Accepts the next connection, with an end to read from and one to write to.
 fn accept<L: OpenListener>(listener: &L) -> io::Result<(L::Stream, L::Stream)>
 where
     L::Stream: OpenStream,
@@ -135,12 +135,12 @@ where
     both_ends(stream)
 }
 
-/// A stream, to read from and to write to.
+/// A stream as an end to read from and one to write to.
 fn both_ends<S: OpenStream + Drop>(stream: S) -> io::Result<(S, S)> {
     Ok((stream.try_clone()?, stream))
 }
 
-/// Serves the stream to its end, where one was accepted.
+/// Serves the stream to its end, if one was accepted.
 fn serve_accepted<R: Read + Drop, W: Write + Drop, L: Write + Drop>(
     control: &mut Control,
     accepted: io::Result<(R, W)>,
@@ -153,7 +153,7 @@ fn serve_accepted<R: Read + Drop, W: Write + Drop, L: Write + Drop>(
     }
 }
 
-/// What is printed of a stream that ended.
+/// The line that is printed after a stream ended.
 fn acknowledged_text(alloc: Global, acknowledged: Option<u64>) -> Result<String, AllocError>
     ensures { IfOk result (λ text. string_bytes text ≡ acknowledged_line acknowledged) }
 {
@@ -163,7 +163,7 @@ fn acknowledged_text(alloc: Global, acknowledged: Option<u64>) -> Result<String,
     }
 }
 
-/// Runs the rounds of a proxy; the status.
+/// Runs the rounds of a proxy, and returns the status.
 pub(crate) fn run_proxy<F: Source + Net, W: Write, E: Write>(
     alloc: Global,
     words: ProxyWords,
@@ -181,7 +181,7 @@ pub(crate) fn run_proxy<F: Source + Net, W: Write, E: Write>(
     }
 }
 
-/// Runs the rounds of a proxy of this configuration, on these addresses.
+/// Runs the rounds of a proxy with this configuration and these addresses.
 fn run_rounds<F: Source + Net>(
     alloc: Global,
     words: ProxyWords,
@@ -205,7 +205,8 @@ fn run_rounds<F: Source + Net>(
     Ok(())
 }
 
-/// The connection of the facts file, or a plain one where none is named; its texts are within the limits.
+/// The connection with the facts of the facts file, or a plain one if no file is named. Its facts are within the
+/// limits.
 fn fitting_conn<F: Source>(
     alloc: Global,
     facts: Option<String>,
@@ -229,7 +230,7 @@ fn fitting_conn<F: Source>(
     Err(JobFault::Facts)
 }
 
-/// Where the streams of a proxy come from: sockets.
+/// The source of a proxy's streams: sockets.
 #[derive(Drop)]
 struct Sockets<'a, N: Net> {
     net: &'a N,

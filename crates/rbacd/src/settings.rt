@@ -1,4 +1,4 @@
-//! The jobs that begin with a configuration.
+//! The jobs that begin with reading a configuration.
 ghost use Rattle.std.specs.Prelude.{◌≡◌, ◌⊎◌, IfErr, IfOk, string_bytes};
 ghost use Rattle.std.specs.Io.{StartsWith};
 ghost use Rattle.rbacd.specs.Run.{EndsConfig, EndsReplay, IsConfigOf, LacksConfig, LeavesReplay, TellsLine, bad_line};
@@ -19,7 +19,7 @@ use ads::Config;
 use std::alloc::{AllocError, Global};
 use std::io::{self, BufRead, Write};
 
-/// Tells what the configuration of the file means, or what is wrong with it; the status.
+/// Prints the meaning of the configuration in the file, or its fault. Returns the status.
 pub(crate) fn check_config<F: Source, W: Write, E: Write>(
     alloc: Global,
     path: &str,
@@ -40,7 +40,7 @@ pub(crate) fn check_config<F: Source, W: Write, E: Write>(
     }
 }
 
-/// The configuration that the file at this path is.
+/// The configuration in the file at this path.
 pub(crate) fn config_file<F: Source>(
     alloc: Global,
     files: &F,
@@ -62,7 +62,7 @@ pub(crate) fn config_file<F: Source>(
     }
 }
 
-/// Replays the events on the input with the configuration of the file; the status.
+/// Replays the events of the input with the configuration in the file. Returns the status.
 pub(crate) fn replay_config<F: Source, R: BufRead + Drop, W: Write, E: Write>(
     alloc: Global,
     path: &str,
@@ -85,7 +85,7 @@ pub(crate) fn replay_config<F: Source, R: BufRead + Drop, W: Write, E: Write>(
     }
 }
 
-/// Tells why a replay ended before its input did; the status.
+/// Prints why a replay ended before its input did. Returns the status.
 fn end_replay<E: Write>(alloc: Global, fault: ReplayFault, errors: &mut E) -> u8
     ensures { LeavesReplay (E.contents errors.old) (E.contents errors.new) result fault }
 {
@@ -97,7 +97,7 @@ fn end_replay<E: Write>(alloc: Global, fault: ReplayFault, errors: &mut E) -> u8
     }
 }
 
-/// Ends at a line that is no event.
+/// Ends the replay at a line that is no event.
 fn end_by_line<E: Write>(alloc: Global, number: u64, cause: &str, errors: &mut E) -> u8
     ensures { TellsLine (E.contents errors.old) (E.contents errors.new) result number }
 {
@@ -107,14 +107,14 @@ fn end_by_line<E: Write>(alloc: Global, number: u64, cause: &str, errors: &mut E
     }
 }
 
-/// What is told of a line that is no event.
+/// The text on standard error for a line that is no event.
 fn line_fault_text(alloc: Global, number: u64, cause: &str) -> Result<String, AllocError>
     ensures { IfOk result (λ text. StartsWith (string_bytes text) (bad_line number)) }
 {
     with_cause(alloc, format!(in alloc; "bad line {number}\n")?, cause)
 }
 
-/// Ends where the input cannot be read.
+/// Ends the replay if the input cannot be read.
 fn end_by_input<E: Write>(alloc: Global, cause: io::Error, errors: &mut E) -> u8
     ensures { (result ≡ 5) ⊎ (result ≡ 2) }
 {
@@ -124,7 +124,7 @@ fn end_by_input<E: Write>(alloc: Global, cause: io::Error, errors: &mut E) -> u8
     }
 }
 
-/// What is told of an input that cannot be read.
+/// The text on standard error for an input that cannot be read.
 fn input_text(alloc: Global, cause: io::Error) -> Result<String, AllocError> {
     let cause = cause.to_string(alloc)?;
     format!(in alloc; "cannot read standard input\n  {cause}\n")

@@ -1,4 +1,4 @@
-//! What is told of a configuration: what it means, or what is wrong with it. No contract speaks of these texts.
+//! The texts on a configuration: its meaning, or its fault. No contract describes these texts.
 use crate::configuration::{CONFIG_NAMES, DEFAULT_BUDGET, FILTER_NAMES, LIMIT_NAMES, limit_at};
 use crate::members::{Misfit, is_among, items_at, number_or, str_at};
 use ads::Config;
@@ -6,7 +6,7 @@ use attributes::{Limit, Limits};
 use serde_json::Value;
 use std::alloc::{AllocError, Global};
 
-/// What a configuration means, in lines for its writer.
+/// The meaning of a configuration, in lines for its author.
 pub(crate) fn config_text(alloc: Global, config: &Config) -> Result<String, AllocError> {
     let (node, cluster) = (config.node(), config.cluster());
     let mut text = format!(in alloc; "node {node:?}\ncluster {cluster:?}\n")?;
@@ -37,7 +37,7 @@ fn limits_text(alloc: Global, limits: &Limits) -> Result<String, AllocError> {
     )
 }
 
-/// Why a text is no configuration, in words for its writer.
+/// Why a text is no configuration, in words for its author.
 pub(crate) fn cause_of_bad_config(alloc: Global, text: &[u8]) -> Result<String, AllocError> {
     let value = match Value::from_slice(alloc, text) {
         Ok(value) => value,
@@ -62,7 +62,7 @@ pub(crate) fn cause_of_bad_config(alloc: Global, text: &[u8]) -> Result<String, 
     }
 }
 
-/// Why the names of an object are not all among these.
+/// Why the names of an object's members are not all among these.
 fn cause_of_names(
     alloc: Global,
     value: &Value,
@@ -80,7 +80,7 @@ fn cause_of_names(
     Ok(None)
 }
 
-/// What is wrong with declared limits.
+/// The fault of declared limits, if they have one.
 fn cause_of_limits(alloc: Global, value: &Value) -> Result<Option<String>, AllocError> {
     let Some(limits) = value.get("limits") else {
         return Ok(None);
@@ -109,7 +109,7 @@ fn cause_of_limits(alloc: Global, value: &Value) -> Result<Option<String>, Alloc
     Ok(None)
 }
 
-/// What is wrong with these filters.
+/// The fault of these filters.
 fn cause_of_filters(alloc: Global, items: &[Value]) -> Result<String, AllocError> {
     let count = items.len();
     if count == 0 || count > 8 {
@@ -123,7 +123,7 @@ fn cause_of_filters(alloc: Global, items: &[Value]) -> Result<String, AllocError
     String::from_str(alloc, "two filters have one name")
 }
 
-/// What is wrong with this filter.
+/// The fault of this filter, if it has one.
 fn cause_of_filter(alloc: Global, item: &Value) -> Result<Option<String>, AllocError> {
     if let Some(cause) = cause_of_names(alloc, item, &FILTER_NAMES)? {
         return Ok(Some(cause));

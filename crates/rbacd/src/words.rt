@@ -1,4 +1,4 @@
-//! The command line: which job its words name.
+//! The command line, and the job that its words name.
 ghost use Rattle.std.specs.Prelude.{◌≡◌, ◌⊎◌, ℕ, IfErr, IfNone, IfOk, IfSome, codes, false, map, option_map, string_bytes};
 ghost use Rattle.clap.specs.Words.{all_of, first_of, found_of, kind_of, rows_of, subcommand_rows_of};
 ghost use Rattle.rbacd.specs.Words.{AreMistaken, AreRoundsOf, HasFlag, IsBudgetOf, IsJobOf, IsJobOfNamed, IsJobOfRows, NamesNoJob, subcommand_name};
@@ -10,68 +10,69 @@ use clap::{ArgMatches, Error};
 use std::alloc::{AllocError, Global};
 use std::convert::AsStr;
 
-/// The most that the conditions of one filter may cost.
+/// The greatest budget for the conditions of one filter, in steps.
 pub(crate) const MOST_BUDGET: u64 = 100_000_000;
 
-/// The most rounds of a proxy.
+/// The greatest number of rounds of a proxy.
 pub(crate) const MOST_ROUNDS: u64 = 1_000_000;
 
-/// What the program is asked to do.
+/// The job that the program is asked to do.
 #[derive(Drop)]
 pub enum Job {
-    /// `check --policy FILE [--budget N] [--json]`: to check whether a policy file is admitted.
+    /// `check --policy FILE [--budget N] [--json]`: checks whether a policy file is admitted.
     Check {
         /// The path of the policy file.
         policy: String,
-        /// What the policy's conditions may cost, from 1 to `MOST_BUDGET`.
+        /// The budget of the policy's conditions in steps, from 1 to `MOST_BUDGET`.
         budget: u64,
         /// Whether the outcome is printed as JSON.
         json: bool,
     },
-    /// `judge --policy FILE [--facts FILE] [--budget N] [--json] [--explain]`: to judge the head on
-    /// standard input by a policy file.
+    /// `judge --policy FILE [--facts FILE] [--budget N] [--json] [--explain]`: judges the head on standard input by a
+    /// policy file.
     Judge {
         /// The path of the policy file.
         policy: String,
-        /// The path of the file with what is known of the connection, if there is one.
+        /// The path of the file with the facts of the connection, if there is one.
         facts: Option<String>,
-        /// What the policy's conditions may cost, from 1 to `MOST_BUDGET`.
+        /// The budget of the policy's conditions in steps, from 1 to `MOST_BUDGET`.
         budget: u64,
         /// Whether the outcome is printed as JSON.
         json: bool,
-        /// Whether it is told which policies were tried.
+        /// Whether the policies that were tried are shown.
         explain: bool,
     },
-    /// `check-config --config FILE`: to tell what a configuration means.
+    /// `check-config --config FILE`: prints the meaning of a configuration.
     CheckConfig {
         /// The path of the configuration.
         config: String,
     },
-    /// `replay --config FILE`: to run the core of the proxy on the events on standard input.
+    /// `replay --config FILE`: runs the core of the proxy on the events on standard input.
     Replay {
         /// The path of the configuration.
         config: String,
     },
-    /// `control --listen ADDR --name F [--log FILE] FILE...`: to serve filters as a control plane.
+    /// `control --listen ADDR --name F [--log FILE] FILE...`: serves filters as a control plane.
     Control(ControlWords),
-    /// `proxy --config FILE --control ADDR --listen ADDR --rounds N [--facts FILE] [--log FILE]`: to judge the requests of connections.
+    /// `proxy --config FILE --control ADDR --listen ADDR --rounds N [--facts FILE] [--log FILE]`: judges the requests
+    /// of connections.
     Proxy(ProxyWords),
 }
 
-/// What a control plane is to serve, and where.
+/// What a control plane serves, and where.
 #[derive(Drop)]
 pub struct ControlWords {
     /// The address at which it listens.
     pub listen: String,
     /// The name of the filter.
     pub name: String,
-    /// The paths of the filter's files, each a snapshot.
+    /// The paths of the filter's files; each is a snapshot.
     pub files: Vec<String>,
-    /// Where the log goes, if one is kept.
+    /// The path of the log, if one is kept.
     pub log: Option<String>,
 }
 
-/// How a proxy is to run.
+/// The settings of a proxy.
 #[derive(Drop)]
 pub struct ProxyWords {
     /// The path of the configuration.
@@ -80,16 +81,16 @@ pub struct ProxyWords {
     pub control: String,
     /// The address at which it listens.
     pub listen: String,
-    /// How many rounds it runs, at most `MOST_ROUNDS`.
+    /// The number of rounds that it runs, at most `MOST_ROUNDS`.
     pub rounds: u64,
-    /// The path of the file with what is known of each connection, if there is one.
+    /// The path of the file with the facts of each connection, if there is one.
     pub facts: Option<String>,
-    /// Where the log goes, if one is kept.
+    /// The path of the log, if one is kept.
     pub log: Option<String>,
 }
 
-/// The job that the words name, the program's own name first. An error holds the text that its user
-/// reads: the fault, or the help that was asked for.
+/// The job that the words name; the first word is the program's own name. An error has the text for the program's user:
+/// the fault, or the help that was asked for.
 pub fn read_words<S: AsStr>(alloc: Global, words: &[S]) -> Result<Job, Error>
     ensures job { IfOk result (IsJobOf (map S.text words.now)) }
     ensures mistaken { IfErr result (λ e. (kind_of e ≡ ErrorKind.OutOfMemory)
@@ -102,7 +103,7 @@ pub fn read_words<S: AsStr>(alloc: Global, words: &[S]) -> Result<Job, Error>
     }
 }
 
-/// What is wrong with words that the command takes and that name no job.
+/// The error for words that the parser accepts but that name no job.
 fn number_fault(alloc: Global) -> Result<Error, AllocError>
     ensures { IfOk result (λ e. kind_of e ≡ ErrorKind.ValueValidation) }
 {
@@ -110,7 +111,7 @@ fn number_fault(alloc: Global) -> Result<Error, AllocError>
     command(alloc)?.error(ErrorKind::ValueValidation, fault)
 }
 
-/// The job of the subcommand that was met, if its values are there and allowed.
+/// The job of the subcommand that was found, if its values are present and allowed.
 fn named_job(alloc: Global, matches: &ArgMatches<'_>) -> Result<Option<Job>, AllocError>
     ensures job { IfOk result (λ job. IfSome job (IsJobOfNamed (subcommand_rows_of matches.now))) }
     ensures none { IfOk result (λ job. IfNone job (NamesNoJob (subcommand_rows_of matches.now))) }
@@ -136,7 +137,7 @@ fn named_job(alloc: Global, matches: &ArgMatches<'_>) -> Result<Option<Job>, All
     }
 }
 
-/// The job of the subcommand `check`, if its values are there and its budget is allowed.
+/// The job of the subcommand `check`, if its values are present and its budget is allowed.
 fn check_job(alloc: Global, matches: &ArgMatches<'_>) -> Result<Option<Job>, AllocError>
     ensures job { IfOk result (λ job. IfSome job (λ job. (subcommand_name job ≡ codes "check")
         × IsJobOfRows (rows_of (found_of matches.now)) job)) }
@@ -158,7 +159,7 @@ fn check_job(alloc: Global, matches: &ArgMatches<'_>) -> Result<Option<Job>, All
     }))
 }
 
-/// The job of the subcommand `judge`, if its values are there and its budget is allowed.
+/// The job of the subcommand `judge`, if its values are present and its budget is allowed.
 fn judge_job(alloc: Global, matches: &ArgMatches<'_>) -> Result<Option<Job>, AllocError>
     ensures job { IfOk result (λ job. IfSome job (λ job. (subcommand_name job ≡ codes "judge")
         × IsJobOfRows (rows_of (found_of matches.now)) job)) }
@@ -221,7 +222,7 @@ fn budget_of(matches: &ArgMatches<'_>) -> Option<u64>
     Some(budget)
 }
 
-/// The job of the subcommand `check-config`, if its values are there.
+/// The job of the subcommand `check-config`, if its values are present.
 fn check_config_job(alloc: Global, matches: &ArgMatches<'_>) -> Result<Option<Job>, AllocError>
     ensures job { IfOk result (λ job. IfSome job (λ job. (subcommand_name job ≡ codes "check-config")
         × IsJobOfRows (rows_of (found_of matches.now)) job)) }
@@ -234,7 +235,7 @@ fn check_config_job(alloc: Global, matches: &ArgMatches<'_>) -> Result<Option<Jo
     }
 }
 
-/// The job of the subcommand `replay`, if its values are there.
+/// The job of the subcommand `replay`, if its values are present.
 fn replay_job(alloc: Global, matches: &ArgMatches<'_>) -> Result<Option<Job>, AllocError>
     ensures job { IfOk result (λ job. IfSome job (λ job. (subcommand_name job ≡ codes "replay")
         × IsJobOfRows (rows_of (found_of matches.now)) job)) }
@@ -247,7 +248,7 @@ fn replay_job(alloc: Global, matches: &ArgMatches<'_>) -> Result<Option<Job>, Al
     }
 }
 
-/// The job of the subcommand `control`, if its values are there.
+/// The job of the subcommand `control`, if its values are present.
 fn control_job(alloc: Global, matches: &ArgMatches<'_>) -> Result<Option<Job>, AllocError>
     ensures job { IfOk result (λ job. IfSome job (λ job. (subcommand_name job ≡ codes "control")
         × IsJobOfRows (rows_of (found_of matches.now)) job)) }
@@ -272,7 +273,7 @@ fn control_job(alloc: Global, matches: &ArgMatches<'_>) -> Result<Option<Job>, A
     })))
 }
 
-/// The job of the subcommand `proxy`, if its values are there and its number of rounds is allowed.
+/// The job of the subcommand `proxy`, if its values are present and its number of rounds is allowed.
 fn proxy_job(alloc: Global, matches: &ArgMatches<'_>) -> Result<Option<Job>, AllocError>
     ensures job { IfOk result (λ job. IfSome job (λ job. (subcommand_name job ≡ codes "proxy")
         × IsJobOfRows (rows_of (found_of matches.now)) job)) }

@@ -1,4 +1,4 @@
--- What the parts of a control stand for, and what the serving of one request does (this project's own).
+-- The parts of a response, and the serving of one request (this project's own).
 use Rattle.std.specs.Prelude.{◌≡◌, ℕ, Bool, List, [], ◌++◌}
 use Rattle.xds_wire.specs.Discovery.{AnyMessage, RequestMessage, IsRequest}
 use Rattle.xds_wire.specs.Written.{ResponseWritten}
@@ -6,11 +6,11 @@ use Rattle.ads.specs.Answer.{extension_type}
 use Rattle.ads.specs.Control.{ResourceValue, ServedValue, IsFirst, IsAck, IsNack, Serves, IsNoRequest}
 use Rattle.ads.specs.declared.serving.Kind.{Kind}
 
--- the resource that has these bytes
+-- the resource with these bytes
 abbrev pub any_of : List ℕ → AnyMessage
 any_of bytes = record { type_url = extension_type; value = bytes }
 
--- the bytes are a response of this version, with this nonce and these resources
+-- the bytes are the message of a response with this version, this nonce and these resources
 abbrev pub ResponseIsOf : List ℕ → List ℕ → List AnyMessage → List ℕ → Type 0
 ResponseIsOf version nonce resources bytes = ResponseWritten (record {
   version_info = version;
@@ -19,7 +19,7 @@ ResponseIsOf version nonce resources bytes = ResponseWritten (record {
   nonce = nonce;
 }) bytes
 
--- what a request is; all others are ignored
+-- the kind of a request; a request of no other kind is ignored
 abbrev pub IsKind : ServedValue → RequestMessage → Kind → Type 0
 IsKind old request Kind.First = IsFirst old request
 IsKind old request Kind.Ack = IsAck old request
@@ -27,17 +27,17 @@ IsKind old request Kind.Nack = IsNack old request
 IsKind old request Kind.Ignored =
     (IsFirst old request → ⊥) × (IsAck old request → ⊥) × (IsNack old request → ⊥)
 
--- replies are put behind those that were there
+-- replies are appended
 abbrev pub AddsReplies : (List ℕ → Type 0) → List ℕ → List ℕ → Type 0
 AddsReplies Are before after = (added : List ℕ) × Are added × (after ≡ before ++ added)
 
--- a request is served, and the replies stand behind those that were there
+-- a request is served, and its replies are appended
 abbrev pub IsServed : List (List ResourceValue) → RequestMessage → ServedValue → List ℕ → List ℕ → ServedValue
     → Bool → Type 0
 IsServed snapshots request old before after new ends = (numbers : List ℕ)
     × AddsReplies (λ added. Serves snapshots request old added numbers new ends) before after
 
--- a message is served where it is a request
+-- a message is served if it is a request; if it is not, nothing is appended
 pub data MessageIsServed (snapshots : List (List ResourceValue)) (message : List ℕ) (old : ServedValue)
     (before after : List ℕ) (new : ServedValue) (ends : Bool) : Type 0 where
   a_request : (request : RequestMessage) → IsRequest message request

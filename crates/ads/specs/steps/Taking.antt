@@ -1,4 +1,4 @@
--- What a filter takes of the extensions of a response (this project's own).
+-- What a filter takes from the extensions of a response (this project's own).
 use Rattle.std.specs.Prelude.{◌≡◌, ◌⊎◌, ℕ, List, ◌∷◌}
 use Rattle.std.specs.List.{AllZip}
 use Rattle.attributes.specs.Limits.{LimitsValue}
@@ -11,24 +11,24 @@ use Rattle.ads.specs.Views.{policies_view}
 use Rattle.ads.specs.declared.judging.Judged.{Judged}
 use Rattle.ads.specs.declared.judging.Judged.TheVariants as judged
 
--- two extensions have the name
+-- at least two extensions have the name
 abbrev pub IsDoubled : List ℕ → List ExtensionMessage → Type 0
 IsDoubled name xs = (x y : ExtensionMessage) × (more : List ExtensionMessage) × (named name xs ≡ x ∷ y ∷ more)
 
--- why a filter takes nothing of the extensions
+-- the reasons for which a filter refuses the extensions
 pub data TakeFault (limits : LimitsValue) (f : FilterValue) (xs : List ExtensionMessage) (e : Refusal) : Type 0 where
   twice : IsDoubled f.name xs → e ≡ Refusal.DuplicateResource → TakeFault limits f xs e
   out_of_memory : SomeOf HoldsSome (named f.name xs) → e ≡ Refusal.Memory → TakeFault limits f xs e
   bad : SomeOf (λ x. ExtensionIsRefused limits f x e) (named f.name xs) → TakeFault limits f xs e
 
--- what the extensions give, or what refuses them
+-- the policies that the extensions give each filter, or the refusal
 abbrev pub IsTaken : LimitsValue → List FilterValue → List ExtensionMessage → Judged → Type 0
 IsTaken limits fs xs (judged.Given given) =
     AllZip (λ f. Gives limits f (named f.name xs)) fs (policies_view given.items)
 IsTaken limits fs xs (judged.Refused e) =
     SomeOf (λ f. TakeFault limits f xs e) fs
 
--- what the response gives, or what refuses it
+-- the policies that the response gives each filter, or the refusal
 abbrev pub IsJudged : ConfigValue → ResponseMessage → Judged → Type 0
 IsJudged c response (judged.Given given) =
     (response.type_url ≡ extension_type)
@@ -36,6 +36,6 @@ IsJudged c response (judged.Given given) =
     × AllZip (λ f. Gives c.limits f (named f.name extensions)) c.filters (policies_view given.items)
 IsJudged c response (judged.Refused e) = ((e ≡ Refusal.Memory) × IsAdmitting c response) ⊎ Refuses c response e
 
--- the filter of this name and budget
+-- the filter with this name and this budget
 abbrev pub filter_of : List ℕ → ℕ → FilterValue
 filter_of name budget = record { name = name; budget = budget }

@@ -1,4 +1,4 @@
--- What the private functions of the compiler do to the code, and to the lengths that they take.
+-- What the compiler's private functions do to the code, and to the lengths that they take.
 use Rattle.std.specs.Prelude.{◌≡◌, ℕ, ◌+◌, ◌<◌, ◌^◌, List, ◌++◌, length}
 use Rattle.cel_types.specs.Elaborated.{TypedTree, TypedTrees}
 use Rattle.cel_overload.specs.declared.overload.Overload.{Overload}
@@ -11,29 +11,29 @@ use Rattle.cel_compile.specs.Codes.{code_of, codes_of, extent, extents}
 use Rattle.cel_compile.specs.Slots.{HasFewLocals, HaveFewLocals}
 use Rattle.cel_compile.specs.steps.Lengths.{EndsWith, all_lengths, lengths_of}
 
--- so many instructions came after the code, and these lengths were taken
+-- these `n` instructions were appended to the code, and these lengths were taken from the end of the list
 pub record Writes (old new : List Instr) (before after : List Lengths) (n : ℕ) (written : List Instruction)
     (taken : List Lengths) : Type 0 where
   pub longer : length new ≡ length old + n
   pub code : code_view new ≡ code_view old ++ written
   pub takes : (rest : List Lengths) → before ≡ rest ++ taken → after ≡ rest
 
--- they are an expression's
+-- the instructions and the lengths are an expression's
 abbrev pub Grows : (old new : List Instr) → (before after : List Lengths) → (scope : ℕ) → TypedTree → Type 0
 Grows old new before after d e =
     Writes old new before after (extent e) (code_of (length old) d e) (lengths_of e)
 
--- they are those of expressions in order
+-- the instructions and the lengths are those of expressions in order
 abbrev pub GrowsAll : (old new : List Instr) → (before after : List Lengths) → (scope : ℕ) → TypedTrees → Type 0
 GrowsAll old new before after d es =
     Writes old new before after (extents es) (codes_of (length old) d es) (all_lengths es)
 
--- there is room for an expression's code and for its locals, and its lengths are the last
+-- the code has room for an expression's instructions, its locals are few enough, and its lengths are the last
 abbrev pub HasRoom : (code : List Instr) → (lengths : List Lengths) → (scope : ℕ) → TypedTree → Type 0
 HasRoom code lengths d e =
     EndsWith lengths (lengths_of e) × HasFewLocals d e × (length code + extent e < 2 ^ 16)
 
--- the same of expressions in order
+-- the same for expressions in order
 abbrev pub HaveRoom : (code : List Instr) → (lengths : List Lengths) → (scope : ℕ) → TypedTrees → Type 0
 HaveRoom code lengths d es =
     EndsWith lengths (all_lengths es) × HaveFewLocals d es × (length code + extents es < 2 ^ 16)

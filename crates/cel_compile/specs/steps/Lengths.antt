@@ -1,5 +1,5 @@
--- The lengths that jumps are written by: each expression that jumps has those of its whole code and of its
--- last part's.
+-- The lengths that give jumps their targets: each expression that jumps has those of its whole code and of
+-- its last part's code.
 use Rattle.std.specs.Prelude.{◌≡◌, ℕ, ◌+◌, ◌<◌, ◌≤◌, ◌^◌, List, [], ◌∷◌, ◌++◌}
 use Rattle.cel_ops.specs.declared.operation.Operation.TheVariants as operations
 use Rattle.cel_overload.specs.declared.overload.Overload.TheVariants as overloads
@@ -12,7 +12,7 @@ abbrev pub lengths_are : (whole last : ℕ) → Lengths
 lengths_are whole last = record { whole = whole; last = last }
 
 abbrev mutual
-  -- those of an expression and of what is in it; what is written first is last
+  -- the lengths of an expression and of the expressions in it; those that are taken first are last
   pub lengths_of : TypedTree → List Lengths
   lengths_of (typed_constant t v) = []
   lengths_of (typed_local t outside) = []
@@ -34,28 +34,28 @@ abbrev mutual
       ++ lengths_are (extent range + 1 + extent init + 1 + 1 + extent condition + 1 + extent step + 1 + 1
       + extent result) (extent result) ∷ []
 
-  -- those of expressions in order
+  -- the lengths of expressions in order; those of the first expression are last
   pub all_lengths : TypedTrees → List Lengths
   all_lengths no_typed = []
   all_lengths (typed e es) = all_lengths es ++ lengths_of e
 
--- the last of the list are these
+-- the list ends with these lengths
 abbrev pub EndsWith : (whole last : List Lengths) → Type 0
 EndsWith whole last = (rest : List Lengths) × (whole ≡ rest ++ last)
 
--- a count of so many, where code may have so many; else of too many
+-- `count` is `many`, if code may have that many instructions. Otherwise `count` is too many as well
 abbrev pub Counts : (count many : ℕ) → Type 0
 Counts n m = (m < 2 ^ 16 → n ≡ m) × (2 ^ 16 ≤ m → 2 ^ 16 ≤ n)
 
--- so many instructions are counted, and these lengths came after the others where code may have so many
+-- the count is one of `m` instructions. If code may have that many, these lengths were appended to the list
 pub record Adds (old new : List Lengths) (n m : ℕ) (added : List Lengths) : Type 0 where
   pub counts : Counts n m
   pub adds : m < 2 ^ 16 → new ≡ old ++ added
 
--- those of an expression
+-- the count and the lengths are an expression's
 abbrev pub Measures : (old new : List Lengths) → ℕ → TypedTree → Type 0
 Measures old new n e = Adds old new n (extent e) (lengths_of e)
 
--- those of expressions in order
+-- the count and the lengths are those of expressions in order
 abbrev pub MeasuresAll : (old new : List Lengths) → ℕ → TypedTrees → Type 0
 MeasuresAll old new n es = Adds old new n (extents es) (all_lengths es)

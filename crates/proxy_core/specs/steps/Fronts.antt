@@ -5,7 +5,7 @@ use Rattle.http_front.specs.Front.{FrontValue, HasNoAsk, fed_front}
 use Rattle.http_front.specs.Heads.{is_closed}
 use Rattle.proxy_core.specs.Step.{ProxyValue, front_at, with_conn}
 
--- a front has these limits, and its connection is not closed
+-- the front, if there is one, has these limits, and its connection is not closed
 abbrev pub IsOpenFor : LimitsValue → Option FrontValue → Type 0
 IsOpenFor limits front = IfSome front (λ f. (f.limits ≡ limits) × (is_closed f.kept ≡ false))
 

@@ -1,4 +1,4 @@
--- Leaves whose texts stand in a pool, and the tests that they are.
+-- Leaves whose texts are in a pool, and the tests that they mean.
 use Rattle.std.specs.Prelude.{ℕ, ◌+◌, ◌<◌, ◌≤◌, Bool, true, false, List, [], ◌∷◌, length, get_or, Option, Some, None}
 use Rattle.std.specs.Str.{IsUtf8, str_to_ascii_lowercase}
 use Rattle.attributes.specs.Address.{Range}
@@ -25,7 +25,7 @@ use Rattle.rbac_match.specs.declared.text.Pattern.{Pattern}
 use Rattle.rbac_match.specs.declared.text.Pattern.TheVariants.{Exact, Prefix, Suffix, Contains}
 use Rattle.rbac_match.specs.steps.Search.{AreAllBorders}
 
--- the pattern that looks at one end of a text, or at both
+-- the pattern of a comparison from one end of a text, or from both
 abbrev pub pattern_of : Ends → Pattern
 pattern_of ends.Exact = Exact
 pattern_of ends.Prefix = Prefix
@@ -35,30 +35,30 @@ pattern_of ends.Suffix = Suffix
 abbrev pub part_of : Span → Pool → List ℕ
 part_of span pool = slice_at span.from span.count pool.text.items
 
--- the span ends in the pool
+-- the span is inside the pool's text
 abbrev pub IsWithin : Span → Pool → Type 0
 IsWithin span pool = span.from + span.count ≤ length pool.text.items
 
--- the text of the span is not empty, and its borders stand here
+-- the text of the span is not empty, and its borders are at this place
 pub record IsBorders (span : Span) (at : ℕ) (pool : Pool) : Type 0 where
   pub some : 0 < span.count
   pub there : at + span.count ≤ length pool.borders.items
   pub are : AreAllBorders (str_to_ascii_lowercase (part_of span pool))
       (slice_at at span.count pool.borders.items)
 
--- a pool keeps what it has
+-- the pool keeps what it has; more may be appended
 pub record Grows (before after : Pool) : Type 0 where
   pub text : GoesOn before.text.items after.text.items
   pub borders : GoesOn before.borders.items after.borders.items
   pub ranges : GoesOn before.ranges.items after.ranges.items
 
--- what a leaf names stands in the pool
+-- the pool has what this test of a text refers to
 abbrev pub GoodText : Pool → TextLeaf → Type 0
 GoodText pool (Plain pattern span) = IsWithin span pool
 GoodText pool (AnyCase at_ends span) = IsWithin span pool
 GoodText pool (Searched span at) = IsWithin span pool × IsBorders span at pool
 
--- the test that it is
+-- the meaning of a test of a text
 abbrev pub text_in : Pool → TextLeaf → TextTest
 text_in pool (Plain pattern span) =
     record { pattern = pattern; sought = part_of span pool; ignore_case = false }
@@ -67,11 +67,11 @@ text_in pool (AnyCase at_ends span) =
 text_in pool (Searched span at) =
     record { pattern = Contains; sought = part_of span pool; ignore_case = true }
 
--- the name stands in the pool
+-- the pool has the name, and the name is UTF-8
 abbrev pub GoodName : Pool → NameLeaf → Type 0
 GoodName pool name = IsWithin name.name pool × IsUtf8 (part_of name.name pool)
 
--- the test of the header of this name
+-- the test of the header with this name
 abbrev pub header_in : Pool → NameLeaf → Specifier → HeaderTest
 header_in pool name specifier = record {
   name = part_of name.name pool;
@@ -80,15 +80,15 @@ header_in pool name specifier = record {
   treat_missing_header_as_empty = name.treat_missing_header_as_empty;
 }
 
--- a range that stands in for one that is not there
+-- the range that is used if there is none at a place
 abbrev pub no_range : Range
 no_range = record { address = V4 0; prefix_len = 0 }
 
--- the range at this place
+-- the range at this place of the pool
 abbrev pub range_in : Pool → ℕ → Range
 range_in pool place = get_or pool.ranges.items place no_range
 
--- what a leaf names stands in the pool
+-- the pool has what the leaf refers to
 abbrev pub GoodLeaf : Pool → Leaf → Type 0
 GoodLeaf pool (Present name wanted) = GoodName pool name
 GoodLeaf pool (HeaderText name text) = GoodName pool name × GoodText pool text
@@ -101,7 +101,7 @@ GoodLeaf pool (UrlPath text) = GoodText pool text
 GoodLeaf pool Mutual = Unit {0}
 GoodLeaf pool (Named text) = GoodText pool text
 
--- the test that it is
+-- the meaning of a leaf
 abbrev pub leaf_in : Pool → Leaf → Matcher
 leaf_in pool (Present name wanted) = matchers.Header (header_in pool name (specifiers.Present wanted))
 leaf_in pool (HeaderText name text) =
@@ -116,12 +116,12 @@ leaf_in pool (UrlPath text) = matchers.UrlPath (text_in pool text)
 leaf_in pool Mutual = matchers.Authenticated None
 leaf_in pool (Named text) = matchers.Authenticated (Some (text_in pool text))
 
--- each of the leaves is so
+-- the pool has what each of the leaves refers to
 abbrev pub AreGood : Pool → List Leaf → Type 0
 AreGood pool [] = Unit {0}
 AreGood pool (leaf ∷ leaves) = GoodLeaf pool leaf × AreGood pool leaves
 
--- whether the request passes a test; where there is none, each does
+-- whether the request passes the test; without a test, every request passes
 abbrev pub passes_at : Option Matcher → RequestValue → Bool
 passes_at None r = true
 passes_at (Some m) r = matcher_holds m r

@@ -1,4 +1,4 @@
--- The tokens that the nodes of a list are.
+-- The tokens of a list's nodes.
 use Rattle.std.specs.Prelude.{ℕ, ◌<◌, List, [], ◌∷◌, map, slice_get, Option, Some, None}
 use Rattle.rbac_match.specs.Formula.{Formula, Formulas}
 use Rattle.rbac_match.specs.Tokens.{Token, every, test, joins, decode, formula_of}
@@ -6,7 +6,7 @@ use Rattle.rbac_match.specs.declared.list.Node.{Node}
 use Rattle.rbac_match.specs.declared.list.Node.TheVariants.{Any, Leaf, Joined}
 use Rattle.rbac_match.specs.declared.matcher.Matcher.{Matcher}
 
--- a test; where there is none, what always matches
+-- the token of a test; without a test, the token that always matches
 abbrev pub test_at : Option Matcher → Token
 test_at None = every
 test_at (Some m) = test m
@@ -25,11 +25,11 @@ tokens_in leaves nodes = map (token_in leaves) nodes
 abbrev pub formulas_in : List Matcher → List Node → Formulas
 formulas_in leaves nodes = decode (tokens_in leaves nodes)
 
--- the rule of a node and of the nodes in it
+-- the rule of a node, with the rules of other nodes in it
 abbrev pub formula_in : List Matcher → Node → List Node → Formula
 formula_in leaves node inside = formula_of (token_in leaves node) (formulas_in leaves inside)
 
--- each place of a test is one of so many
+-- each node's test is at a place below `count`
 abbrev pub HasLeaves : ℕ → List Node → Type 0
 HasLeaves count [] = Unit {0}
 HasLeaves count (Leaf place ∷ nodes) = (place < count) × HasLeaves count nodes

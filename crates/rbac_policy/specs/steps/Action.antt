@@ -1,9 +1,9 @@
--- What an action does, as a test.
+-- The effect of an action, as a test.
 use Rattle.std.specs.Prelude.{Bool, true, not}
 use Rattle.rbac_policy.specs.declared.filter.Action.{Action}
 use Rattle.rbac_policy.specs.declared.filter.Action.TheVariants.{Allow, Deny, Log}
 
--- whether it lets a request through, by whether some policy matches
+-- whether the action lets a request through, if `is_match` says whether some policy matches
 abbrev pub allows : Action → Bool → Bool
 allows Allow is_match = is_match
 allows Deny is_match = not is_match

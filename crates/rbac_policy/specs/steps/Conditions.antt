@@ -16,7 +16,7 @@ use Rattle.rbac_policy.specs.Fault.{SomeCost}
 use Rattle.rbac_policy.specs.Filter.{Policy}
 use Rattle.rbac_policy.specs.Message.{IsCondition, IsPolicy}
 
--- why a condition is not admitted with so many steps left
+-- why a condition is not admitted if `left` steps are left
 pub data ExpressionFault (condition : CelChecked) (limits : LimitsValue) (left : ℕ) (e : Refusal)
     : Type 0 where
   untyped : CheckFault condition e → ExpressionFault condition limits left e
@@ -25,24 +25,24 @@ pub data ExpressionFault (condition : CelChecked) (limits : LimitsValue) (left :
   too_costly : (cost : ℕ) → Costs limits condition cost → left < cost → e ≡ TooCostly
       → ExpressionFault condition limits left e
 
--- the same of a condition's payloads, which may not read
+-- the same for the payloads of a condition, which may have faults
 pub data ConditionFault (parts : List (List ℕ)) (limits : LimitsValue) (left : ℕ) (e : Refusal)
     : Type 0 where
   unreadable : CheckedFault parts e → ConditionFault parts limits left e
   expression : (condition : CelChecked) → IsChecked parts condition
       → ExpressionFault condition limits left e → ConditionFault parts limits left e
 
--- the program is that of the condition in the payloads; there is none where there are no payloads
+-- the program is that of the condition in the payloads; without payloads there is none
 abbrev pub HasProgram : LimitsValue → List (List ℕ) → Option Program → Type 0
 HasProgram limits parts program = (condition : Option CelChecked) × IsCondition parts condition
     × MatchOption condition (program ≡ None) (λ c. IsSomeAnd program (IsProgramOf limits c))
 
--- the parts are a policy of which this is enforced
+-- the parts are a policy, and this is enforced for it
 abbrev pub IsEnforced : LimitsValue → List (List ℕ) → Policy Program → Type 0
 IsEnforced limits parts enforced =
     (policy : Policy CelChecked) × IsPolicy parts policy × EnforcesPolicy limits policy enforced
 
--- why policies are not admitted with so many steps left, for what their conditions cost
+-- why policies are not admitted if `left` steps are left: their conditions cost more
 pub data ConditionsFault (policies : List (Entry text)) (limits : LimitsValue) (left : ℕ) (e : Refusal)
     : Type 0 where
   cost_too_much : (cost : ℕ) → SomeCost limits policies cost → left < cost → e ≡ TooCostly

@@ -1,4 +1,4 @@
--- What runs of conditions come to, policy by policy.
+-- The results of runs of conditions, policy by policy.
 use Rattle.std.specs.Prelude.{◌≡◌, ◌≤◌, ◌⊎◌, ◌+◌, ℕ, Bool, true, false, List, [], ◌∷◌, Option, Some, None, MatchOption, IsSomeAnd}
 use Rattle.attributes.specs.Request.{RequestValue}
 use Rattle.cel_value.specs.Values.{CelAnswer}
@@ -7,37 +7,37 @@ use Rattle.rbac_policy.specs.Condition.{Program, came_true}
 use Rattle.rbac_policy.specs.Filter.{Policy}
 use Rattle.rbac_policy.specs.Verdict.{sides_match}
 
--- the program's run ends within its bound, and came to true or not
+-- the program's run ends within its bound; `is_true` says whether it ends with true
 abbrev pub RunsAs : RequestValue → Program → Bool → Type 0
 RunsAs r program is_true = (answer : CelAnswer) × (steps : ℕ) × Ends program.code r answer steps
     × (steps ≤ program.bound) × (is_true ≡ came_true (Some answer))
 
--- whether the policy matches: by its sides, and then by the run of its condition
+-- whether the policy matches, by its sides, and then by the run of its condition
 abbrev pub Tells : RequestValue → Policy Program → Bool → Type 0
 Tells r p matches = ((sides_match r p ≡ false) × (matches ≡ false))
     ⊎ ((sides_match r p ≡ true)
     × MatchOption p.condition (matches ≡ true) (λ program. RunsAs r program matches))
 
--- the number of the first policy that matches, counted on from a number
+-- the number of the first policy that matches, if the first policy has the number `i`
 abbrev pub IsFirst : RequestValue → ℕ → List (Policy Program) → Option ℕ → Type 0
 IsFirst r i [] first = first ≡ None
 IsFirst r i (p ∷ ps) first =
     (Tells r p true × (first ≡ Some i)) ⊎ (Tells r p false × IsFirst r (i + 1) ps first)
 
--- the policy's sides match, and this holds of its condition's program
+-- the policy's sides match, and `P` holds of its condition's program
 abbrev pub Asks : (Program → Type 0) → RequestValue → Policy Program → Type 0
 Asks P r p = (sides_match r p ≡ true) × IsSomeAnd p.condition P
 
--- the same of the first policy that does not tell that it does not match
+-- the same for one of the policies, if no policy before it matches
 abbrev pub SomeAsks : (Program → Type 0) → RequestValue → List (Policy Program) → Type 0
 SomeAsks P r [] = ⊥
 SomeAsks P r (p ∷ ps) = Asks P r p ⊎ (Tells r p false × SomeAsks P r ps)
 
--- the program's run passes its bound
+-- the program's run takes more steps than its bound
 abbrev pub PassesBound : RequestValue → Program → Type 0
 PassesBound r program = RunsOut program.code r program.bound
 
--- whatever the program
+-- this holds of every program
 abbrev pub AnyProgram : Program → Type 0
 AnyProgram program = Unit {0}
 

@@ -1,4 +1,4 @@
--- What each request has that a policy matches, as numbers: which policies a decision need not try.
+-- What every request has that a policy matches, as numbers. With them a decision skips policies.
 use Rattle.std.specs.Prelude.{◌≡◌, ◌≢◌, ◌≤◌, ℕ, ◌+◌, ◌-◌, ◌*◌, ◌%◌, ◌^◌, true, false, List, [], ◌∷◌, length, take, drop, get_or, Some, slice_get, unwrap_or}
 use Rattle.std.specs.String.{string_bytes}
 use Rattle.attributes.specs.Attributes.{url_path_of}
@@ -10,11 +10,11 @@ use Rattle.rbac_policy.specs.declared.sieve.Need.{Need}
 use Rattle.rbac_policy.specs.declared.sieve.Probe.{Probe}
 use Rattle.rbac_policy.specs.declared.sieve.Sieve.{Sieve}
 
--- a number of 64 bits for a number and a byte after it
+-- a number of 64 bits, computed from a number and the next byte
 abbrev pub mix : ℕ → ℕ → ℕ
 mix number byte = ((number * 257) % 2 ^ 64 + byte) % 2 ^ 64
 
--- a number for bytes, from one for what is before them
+-- a number for bytes, computed from the number for what is before them
 abbrev pub number_from : ℕ → List ℕ → ℕ
 number_from number [] = number
 number_from number (byte ∷ bytes) = number_from (mix number byte) bytes
@@ -23,54 +23,54 @@ number_from number (byte ∷ bytes) = number_from (mix number byte) bytes
 abbrev pub start_number : List ℕ → ℕ
 start_number bytes = number_from 1 bytes
 
--- a number for a header's value: of its length and its last bytes
+-- a number for a header's value, from its length and its last 24 bytes
 abbrev pub value_number : List ℕ → ℕ
 value_number bytes = number_from (length bytes) (drop (length bytes - 24) bytes)
 
--- the value of a header, where a missing one is empty
+-- the value of a header; a missing one is empty
 abbrev pub value_of : RequestValue → List ℕ → List ℕ
 value_of r name = unwrap_or (header_of r name) []
 
--- the request has what is needed: its path's start of so many bytes, at most `most`, has this number. So has
--- the value of the header of this name, if that is needed
+-- the request has what is needed: the first `count` bytes of its path, at most `most`, have the needed
+-- number. If a value is needed, the value of the header of this name has the needed number
 pub record Meets (most : ℕ) (name : List ℕ) (need : Need) (r : RequestValue) : Type 0 where
   pub within : need.count ≤ most
   pub start : start_number (take need.count (url_path_of r.target)) ≡ need.start
   pub value : need.value ≢ 0 → value_number (value_of r name) ≡ need.value
 
--- each request that the policy's sides match has what is needed
+-- every request that the policy's sides match has what is needed
 abbrev pub IsNeeded : ℕ → List ℕ → Policy Program → Need → Type 0
 IsNeeded most name p need =
     (r : RequestValue) → sides_match r p ≡ true → Meets most name need r
 
--- the needs are those of the policies of the same numbers
+-- each need is that of the policy of the same number
 abbrev pub AreNeeded : ℕ → List ℕ → List (Policy Program) → List Need → Type 0
 AreNeeded most name ps needs = (number : ℕ) (p : Policy Program) (need : Need)
     → slice_get ps number ≡ Some p → slice_get needs number ≡ Some need → IsNeeded most name p need
 
--- the needs are those of the policies, one by one
+-- the needs are those of the policies, in order, one for each
 abbrev pub AreInOrder : ℕ → List ℕ → List (Policy Program) → List Need → Type 0
 AreInOrder most name [] needs = needs ≡ []
 AreInOrder most name (p ∷ ps) [] = ⊥
 AreInOrder most name (p ∷ ps) (need ∷ needs) =
     IsNeeded most name p need × AreInOrder most name ps needs
 
--- the sieve has what the first policies need
+-- each need of the sieve is that of the policy of the same number
 abbrev pub IsSieve : Sieve → List (Policy Program) → Type 0
 IsSieve sieve ps = AreNeeded sieve.most (string_bytes sieve.name) ps sieve.needs.items
 
--- the numbers of a request: of its path's starts of up to `most` bytes, and of the header's value
+-- the numbers of a request: those of its path's starts of up to `most` bytes, and that of the header's value
 pub record IsProbe (most : ℕ) (name : List ℕ) (starts : List ℕ) (value : ℕ) (r : RequestValue) : Type 0 where
   pub starts_are : (count : ℕ) → count ≤ most → count ≤ 64
       → get_or starts count 0 ≡ start_number (take count (url_path_of r.target))
   pub value_is : value ≡ value_number (value_of r name)
 
--- what is known of a request, and what the policies need
+-- the probe has the numbers of the request, and what the policies need
 abbrev pub Sieves : Probe → RequestValue → List (Policy Program) → Type 0
 Sieves probe r ps = (most : ℕ) × (name : List ℕ) × IsProbe most name probe.starts probe.value r
     × AreNeeded most name ps probe.needs.now
 
--- the sides of the policy of this number don't match
+-- the sides of the policy of this number do not match
 abbrev pub IsRuledOut : ℕ → RequestValue → List (Policy Program) → Type 0
 IsRuledOut number r ps =
     (p : Policy Program) → slice_get ps number ≡ Some p → sides_match r p ≡ false

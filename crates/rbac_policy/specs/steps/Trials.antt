@@ -13,11 +13,11 @@ abbrev pub EndsWith : RequestValue → Program → CelAnswer → Type 0
 EndsWith r program answer =
     (steps : ℕ) × Ends program.code r answer steps × (steps ≤ program.bound)
 
--- it takes so many steps of so many that it may
+-- the program's run takes `steps` steps, and may take `bound`
 abbrev pub TakesOf : RequestValue → Program → (steps bound : ℕ) → Type 0
 TakesOf r program steps bound =
     (bound ≡ program.bound) × (answer : CelAnswer) × Ends program.code r answer steps
 
--- what is enforced of a policy has this reason
+-- the enforced policy has this reason
 abbrev pub HasRunReason : RequestValue → Policy Program → Reason → Type 0
 HasRunReason r = HasReason (EndsWith r) (TakesOf r) r

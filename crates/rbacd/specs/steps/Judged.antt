@@ -1,4 +1,4 @@
--- What one head has under a filter that was admitted.
+-- The outcome of one head under an admitted filter.
 use Rattle.std.specs.Prelude.{◌≡◌, ◌⊎◌, ⊤, Bool, true, false, ℕ, List, Option, None, IfNone, option_and_then, slice_get}
 use Rattle.std.specs.FinMap.{keys}
 use Rattle.attributes.specs.Conn.{Facts}
@@ -23,7 +23,7 @@ use Rattle.rbacd.specs.declared.outcome.Outcome.TheVariants as outcomes
 use Rattle.rbacd.specs.declared.outcome.Report.{Report}
 use Rattle.rbacd.specs.declared.job_fault.JobFault.{JobFault}
 
--- memory ran out, or this stops the job
+-- the fault is that memory ran out, or this one stops the job
 abbrev pub MemoryOrStop : (JobFault → Type 0) → JobFault → Type 0
 MemoryOrStop Stop fault = (fault ≡ JobFault.Memory) ⊎ Stop fault
 
@@ -38,11 +38,11 @@ abbrev pub IsNameOf : Filter Program → Outcome → Option (List ℕ) → Type 
 IsNameOf enforced outcome name =
     name ≡ option_and_then (slice_get (keys enforced.policies)) (matched_in outcome)
 
--- an outcome and nothing else
+-- a finding that has only an outcome
 abbrev pub bare : Outcome → Finding
 bare outcome = record { outcome = outcome; name = None; explanation = explanations.Absent }
 
--- the report of what was found
+-- the report of a finding
 abbrev pub report_with : Bool → Finding → Report
 report_with json finding = record {
   outcome = finding.outcome;
@@ -63,7 +63,7 @@ IsAnswerTo enforced request outcomes.OutOfSteps = (filter : Filter CelChecked)
 IsAnswerTo enforced request outcomes.Memory = ⊤
 IsAnswerTo enforced request _ = ⊥
 
--- the outcome is the answer to what was found
+-- the outcome is that of what was found: a request, a fault, or no whole head
 pub record IsOutcomeOfAsk (enforced : Filter Program) (found : Option HeadAsk) (outcome : Outcome)
     : Type 0 where
   pub judged : IfJudge found (λ request. IsAnswerTo enforced request outcome)
@@ -76,8 +76,8 @@ IsExplanationOf enforced request explanation = (filter : Filter CelChecked)
     → IsAdmittedAs largest filter enforced → ¬ (¬ (InLimits request largest))
     → Explains request filter explanation
 
--- with the name of the policy that matched, the outcome and the explanation are what each policy that is
--- admitted so gives with the facts and the bytes
+-- take any policy that is admitted as this filter. Its outcome and its explanation for the facts and the bytes are
+-- these, with the name of the policy that matched
 abbrev pub IsOutcomeUnder : Filter Program → Facts → List ℕ → Explanation → Outcome → Type 0
 IsOutcomeUnder enforced facts bytes explanation outcome = (policy : List ℕ) (budget : ℕ)
     (filter : Filter CelChecked) (name : Option (List ℕ))

@@ -1,4 +1,4 @@
--- What single steps of the pumps come to.
+-- The effects of single steps of the pumps.
 use Rattle.std.specs.Prelude.{◌≡◌, ◌≢◌, Bool, true, false, List, [], ℕ, Option}
 use Rattle.std.specs.Io.KnownBytes.{Appends}
 use Rattle.ads.specs.Control.{ControlValue}
@@ -11,14 +11,14 @@ use Rattle.rbacd.specs.Replays.{event_of}
 use Rattle.rbacd.specs.declared.pumps.Turn.{Turn}
 use Rattle.rbacd.specs.declared.pumps.Turn.TheVariants as turns
 
--- what came of an event for which these bytes were written, and after which the stream or the connection is closed or not
+-- the result of an event for which these bytes were written, and after which the stream or connection is closed or not
 abbrev pub IsTurnOf : List ℕ → Bool → Turn → Type 0
 IsTurnOf written closes turns.Ended = closes ≡ true
 IsTurnOf written closes turns.Waits = (closes ≡ false) × (written ≡ [])
 IsTurnOf written closes turns.Answered = (closes ≡ false) × (written ≢ [])
 
--- the core was given this event, and what it put out for the connection was written, at least in part; if the connection is not
--- at its end, all of it was, and the connection stays open
+-- the core received this event of a connection, and what it put out was written, at least in part. If the connection is
+-- not at its end, everything was written, and the connection stays open
 pub record Answers (old new : ProxyValue) (out out_new : Option (List ℕ)) (event : EventValue) (turn : Turn)
     : Type 0 where
   pub call : EventCall
@@ -27,8 +27,8 @@ pub record Answers (old new : ProxyValue) (out out_new : Option (List ℕ)) (eve
   pub written : Takes out out_new (http_of call)
   pub whole : turn ≢ turns.Ended → StaysOpen call × Appends out out_new (http_of call)
 
--- the core was given this event of the update stream, and what it put out was written, at least in part; if the stream is not
--- at its end, all of it was, the stream stays up, and it was answered or not
+-- the core received this event of the update stream, and what it put out was written, at least in part. If the stream
+-- is not at its end, everything was written, and the stream stays up. The result says whether it was answered
 pub record Updates (old new : ProxyValue) (out out_new : Option (List ℕ)) (event : EventValue) (turn : Turn)
     : Type 0 where
   pub call : EventCall
@@ -39,7 +39,8 @@ pub record Updates (old new : ProxyValue) (out out_new : Option (List ℕ)) (eve
   pub waits : turn ≡ turns.Waits → Waits call
   pub responds : turn ≡ turns.Answered → Responds call
 
--- a control plane was given these bytes, and what it sent was written, at least in part; if the stream goes on, all of it was
+-- a control plane received these bytes, and what it sent was written, at least in part. If the stream goes on,
+-- everything was written
 pub record Feeds (old new : ControlValue) (out out_new : Option (List ℕ)) (bytes : List ℕ) (is_up : Bool) : Type 0 where
   pub call : FeedCall
   pub given : bytes_of call ≡ bytes

@@ -1,4 +1,4 @@
--- How much of an input is read, and what is answered of it.
+-- How much of an input is read, and what is found in it.
 use Rattle.std.specs.Prelude.{◌≡◌, ◌≢◌, ◌≤◌, ◌++◌, ℕ, List, [], Option, IfNone, length}
 use Rattle.std.specs.Io.KnownBytes.{Consumes, IsAtEnd}
 use Rattle.attributes.specs.Conn.{Facts}
@@ -10,14 +10,14 @@ use Rattle.http_front.specs.declared.ask.Ask.TheVariants as asks
 use Rattle.http_front.specs.declared.read.HeadAsk.{HeadAsk}
 use Rattle.http_front.specs.declared.read.HeadAsk.TheVariants.{Judge, Fault}
 
--- what is found is what the head asks that the bytes begin with, or that they end before it does
+-- the found ask is that of the head that the bytes begin with; if there is none, the bytes end before the head does
 pub record IsFound (limits : LimitsValue) (facts : Facts) (bytes : List ℕ) (found : Option HeadAsk)
     : Type 0 where
   pub judged : IfJudge found (HeadAsks bytes limits facts)
   pub fault : IfFault found (HasFault bytes limits facts)
   pub none : IfNone found (IsUnfinished bytes)
 
--- a read of at most 4,096 bytes came last, and only since those before it left their head open
+-- the last read took at most 4,096 bytes. If it took any, the bytes before it left their head unfinished
 pub record IsJustEnough (bytes : List ℕ) : Type 0 where
   pub before : List ℕ
   pub last : List ℕ
@@ -25,12 +25,12 @@ pub record IsJustEnough (bytes : List ℕ) : Type 0 where
   pub few : length last ≤ 4096
   pub needed : last ≢ [] → IsUnfinished before
 
--- what an ask of a front is, whether or not its connection closes
+-- the ask without whether its connection closes
 abbrev pub head_ask : Ask → HeadAsk
 head_ask (asks.Judge request close) = Judge request
 head_ask (asks.Fault fault) = Fault fault
 
--- so many bytes came from the input and were fed to the front, and none only at the input's end
+-- `n` bytes of the input were fed to the front; `n` is 0 only at the end of the input
 pub record Feeds (old new : FrontValue) (input input_new : Option (List ℕ)) (n : ℕ) : Type 0 where
   pub chunk : List ℕ
   pub front : new ≡ fed_front old chunk
