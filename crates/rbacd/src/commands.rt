@@ -8,7 +8,7 @@ use clap::{Arg, ArgAction, Command, value_parser};
 use std::alloc::{AllocError, Global};
 
 /// The program's version, and the kit that proves it.
-const VERSION: &str = "0.1.0, proved with rattle-kit-13f, logic dac8208d650f15bf";
+const VERSION: &str = "0.1.0, proved with rattle logic dac8208d650f15bf";
 
 /// The example at the end of the program's help.
 const EXAMPLE: &str = "Example:
