@@ -2,6 +2,8 @@
 use Rattle.std.proofs.Common.{◌≡◌, ℕ, ◌+◌, ◌-◌, ◌<◌, ◌≤◌, ◌^◌, ◌⊎◌, inl, inr, List, [], ◌∷◌, ◌++◌, length, refl, sym, ap, ◌∙◌, subst, arith, append_assoc, append-nil, length-append}
 use Rattle.std.proofs.lemmas.List.{length-map}
 use Rattle.cel_types.specs.Elaborated.{TypedTree, TypedTrees, no_typed, typed, typed_call, typed_loop}
+use Rattle.cel_types.specs.Names.{variable_count}
+use Rattle.cel_types.specs.declared.typed.Variables.{Variables}
 use Rattle.cel_value.specs.Types.{ValueType}
 use Rattle.cel_overload.specs.declared.overload.Overload.{Overload}
 use Rattle.cel_ops.specs.declared.operation.Operation.TheVariants as operations
@@ -243,20 +245,21 @@ module _ {d : ℕ} {c a b : TypedTree} {i0 : List Instr} {l0 l1 : List Lengths} 
 -- ---- comprehensions
 
 -- the room that one needs
-pub record LoopRoom (d : ℕ) (range init condition step result : TypedTree) (i : List Instr) (l : List Lengths) : Type 0 where
+pub record LoopRoom (d inner : ℕ) (range init condition step result : TypedTree) (i : List Instr) (l : List Lengths) : Type 0 where
   pub ends : EndsWith l (((((lengths_of result ++ lengths_of step) ++ lengths_of condition) ++ lengths_of init) ++ lengths_of range)
       ++ lengths_are (extent range + 1 + extent init + 1 + 1 + extent condition + 1 + extent step + 1 + 1 + extent result) (extent result) ∷ [])
-  pub locals : d + 2 ≤ 255
+  pub locals : inner ≤ 255
   pub few_range : HasFewLocals d range
   pub few_init : HasFewLocals d init
-  pub few_condition : HasFewLocals (d + 2) condition
-  pub few_step : HasFewLocals (d + 2) step
+  pub few_condition : HasFewLocals inner condition
+  pub few_step : HasFewLocals inner step
   pub few_result : HasFewLocals (d + 1) result
   pub fits : length i + (extent range + 1 + extent init + 1 + 1 + extent condition + 1 + extent step + 1 + 1 + extent result) < 2 ^ 16
 
-pub loop_room : (d : ℕ) (t : ValueType) (range init condition step result : TypedTree) (i : List Instr) (l : List Lengths)
-    → HasRoom i l d (typed_loop t range init condition step result) → LoopRoom d range init condition step result i l
-loop_room d t range init condition step result i l room = record {
+pub loop_room : (d inner : ℕ) (t : ValueType) (vars : Variables) (range init condition step result : TypedTree) (i : List Instr) (l : List Lengths)
+    → inner ≡ d + 1 + variable_count vars → HasRoom i l d (typed_loop t vars range init condition step result)
+    → LoopRoom d inner range init condition step result i l
+loop_room d inner t vars range init condition step result i l is room = rw is record {
   ends = room.0;
   locals = room.1.0;
   few_range = room.1.1;

@@ -1,18 +1,20 @@
 -- The code of a comprehension, written piece by piece.
 use Rattle.std.proofs.Common.{◌≡◌, ℕ, ◌+◌, ◌-◌, ◌<◌, List, [], ◌∷◌, ◌++◌, length, refl, ◌∙◌, arith, append_assoc}
 use Rattle.cel_types.specs.Elaborated.{TypedTree, typed_loop}
+use Rattle.cel_types.specs.Names.{variable_count}
+use Rattle.cel_types.specs.declared.typed.Variables.{Variables}
 use Rattle.cel_value.specs.Types.{ValueType}
-use Rattle.stack_machine.specs.Instructions.{code_view, instr_view, Jump, LoopNext, LoopStart, LoopTest, Store}
+use Rattle.stack_machine.specs.Instructions.{code_view, instr_view, Jump, LoopStart, LoopTest, Store}
 use Rattle.stack_machine.specs.declared.instr.Instr.{Instr}
 use Rattle.cel_compile.specs.declared.lengths.Lengths.{Lengths}
-use Rattle.cel_compile.specs.Codes.{code_of, extent}
+use Rattle.cel_compile.specs.Codes.{code_of, extent, turn_instruction}
 use Rattle.cel_compile.specs.steps.Emitting.{Grows, HasRoom}
 use Rattle.cel_compile.specs.steps.Lengths.{EndsWith, lengths_are, lengths_of}
 use Rattle.cel_compile.proofs.Built.{LoopRoom, in_words, left, next, one, taken, then}
 
 -- i0 to i11 are the code before and after each call
-module _ {d : ℕ} {range init condition step result : TypedTree} {i0 : List Instr} {l0 l1 : List Lengths}
-    (room : LoopRoom d range init condition step result i0 l0)
+module _ {d inner : ℕ} {range init condition step result : TypedTree} {i0 : List Instr} {l0 l1 : List Lengths}
+    (room : LoopRoom d inner range init condition step result i0 l0)
     (take : (rest : List Lengths) → l0 ≡ rest
     ++ lengths_are (extent range + 1 + extent init + 1 + 1 + extent condition + 1 + extent step + 1 + 1 + extent result) (extent result) ∷ []
     → l1 ≡ rest) where
@@ -48,10 +50,10 @@ module _ {d : ℕ} {range init condition step result : TypedTree} {i0 : List Ins
             n5 : length i5 ≡ length i0 + (extent range + 1 + extent init + 1 + 1)
             n5 = let before = n4 in let step = one {i0 = i4} {i1 = i5} {l = l3} x5 (instr_view x5) put5 refl in let longer = step.longer in omega (arith, before, longer)
 
-            pub condition_room : HasRoom i5 l3 (d + 2) condition
+            pub condition_room : HasRoom i5 l3 inner condition
             condition_room = let fits = room.fits in let so_far = n5 in (next l3 _ _ ends3, room.few_condition, omega (arith, fits, so_far))
 
-            module _ {i6 : List Instr} {l4 : List Lengths} (g6 : Grows i5 i6 l3 l4 (d + 2) condition) where
+            module _ {i6 : List Instr} {l4 : List Lengths} (g6 : Grows i5 i6 l3 l4 inner condition) where
               n6 : length i6 ≡ length i0 + (extent range + 1 + extent init + 1 + 1 + extent condition)
               n6 = let before = n5 in let longer = g6.longer in omega (arith, before, longer)
 
@@ -62,10 +64,10 @@ module _ {d : ℕ} {range init condition step result : TypedTree} {i0 : List Ins
                 n7 : length i7 ≡ length i0 + (extent range + 1 + extent init + 1 + 1 + extent condition + 1)
                 n7 = let before = n6 in let step = one {i0 = i6} {i1 = i7} {l = l4} x7 (instr_view x7) put7 refl in let longer = step.longer in omega (arith, before, longer)
 
-                pub step_room : HasRoom i7 l4 (d + 2) step
+                pub step_room : HasRoom i7 l4 inner step
                 step_room = let fits = room.fits in let so_far = n7 in (next l4 _ _ ends4, room.few_step, omega (arith, fits, so_far))
 
-                module _ {i8 : List Instr} {l5 : List Lengths} (g8 : Grows i7 i8 l4 l5 (d + 2) step) where
+                module _ {i8 : List Instr} {l5 : List Lengths} (g8 : Grows i7 i8 l4 l5 inner step) where
                   n8 : length i8 ≡ length i0 + (extent range + 1 + extent init + 1 + 1 + extent condition + 1 + extent step)
                   n8 = let before = n7 in let longer = g8.longer in omega (arith, before, longer)
 
@@ -83,13 +85,13 @@ module _ {d : ℕ} {range init condition step result : TypedTree} {i0 : List Ins
                       pub result_room : HasRoom i10 l5 (d + 1) result
                       result_room = let fits = room.fits in let so_far = n10 in (left g8 ends4, room.few_result, omega (arith, fits, so_far))
 
-                      pub loop_built : {i11 : List Instr} {l6 : List Lengths} → Grows i10 i11 l5 l6 (d + 1) result → (t : ValueType) (end done turn : ℕ)
+                      pub loop_built : {i11 : List Instr} {l6 : List Lengths} → Grows i10 i11 l5 l6 (d + 1) result → (t : ValueType) (vars : Variables) (end done turn : ℕ)
                           → end ≡ length i0 + (extent range + 1 + extent init + 1 + 1 + extent condition + 1 + extent step + 1 + 1 + extent result)
                           → done ≡ length i0 + (extent range + 1 + extent init + 1 + 1 + extent condition + 1 + extent step + 1 + 1 + extent result) - extent result
-                          → turn ≡ length i4 → instr_view x2 ≡ LoopStart end → instr_view x4 ≡ Store d → instr_view x5 ≡ LoopNext (d + 1) done
+                          → turn ≡ length i4 → inner ≡ d + 1 + variable_count vars → instr_view x2 ≡ LoopStart end → instr_view x4 ≡ Store d → instr_view x5 ≡ turn_instruction vars (d + 1) done
                           → instr_view x7 ≡ LoopTest done end → instr_view x9 ≡ Store d → instr_view x10 ≡ Jump turn
-                          → Grows i0 i11 l0 l6 d (typed_loop t range init condition step result)
-                      loop_built {i11} {l6} g11 t end done turn ends dones turns e2 e4 e5 e7 e9 e10 =
+                          → Grows i0 i11 l0 l6 d (typed_loop t vars range init condition step result)
+                      loop_built {i11} {l6} g11 t vars end done turn ends dones turns inside e2 e4 e5 e7 e9 e10 =
                           let p = length i0 in
                           let so2 = n2 in
                           let so4 = n4 in
@@ -107,22 +109,22 @@ module _ {d : ℕ} {range init condition step result : TypedTree} {i0 : List Ins
                           let me : end ≡ behind + extent result = omega (arith, ends) in
                           let A = code_of p d range in
                           let I = code_of (length i2) d init in
-                          let C = code_of (length i5) (d + 2) condition in
-                          let S = code_of (length i7) (d + 2) step in
+                          let C = code_of (length i5) inner condition in
+                          let S = code_of (length i7) inner step in
                           let Q = code_of (length i10) (d + 1) result in
                           let st = Store d in
                           let T = LoopStart end in
-                          let N = LoopNext (d + 1) done in
+                          let N = turn_instruction vars (d + 1) done in
                           let G = LoopTest done end in
                           let J = Jump turn in
                           let w2 = then (then (taken i0 l0 l1 _ take) g1) (one {i0 = i1} {i1 = i2} {l = l2} x2 (LoopStart end) put2 e2) in
                           let w4 = then (then w2 g3) (one {i0 = i3} {i1 = i4} {l = l3} x4 (Store d) put4 e4) in
-                          let w5 = then w4 (one {i0 = i4} {i1 = i5} {l = l3} x5 (LoopNext (d + 1) done) put5 e5) in
+                          let w5 = then w4 (one {i0 = i4} {i1 = i5} {l = l3} x5 (turn_instruction vars (d + 1) done) put5 e5) in
                           let w7 = then (then w5 g6) (one {i0 = i6} {i1 = i7} {l = l4} x7 (LoopTest done end) put7 e7) in
                           let w9 = then (then w7 g8) (one {i0 = i8} {i1 = i9} {l = l5} x9 (Store d) put9 e9) in
                           let w10 = then w9 (one {i0 = i9} {i1 = i10} {l = l5} x10 (Jump turn) put10 e10) in
                           let flat : (((((((((A ++ T ∷ []) ++ I) ++ st ∷ []) ++ N ∷ []) ++ C) ++ G ∷ []) ++ S) ++ st ∷ []) ++ J ∷ []) ++ Q
                           ≡ A ++ T ∷ (I ++ st ∷ (N ∷ (C ++ G ∷ (S ++ st ∷ (J ∷ Q))))) = simp append_assoc in
                           let shape : A ++ T ∷ (I ++ st ∷ (N ∷ (C ++ G ∷ (S ++ st ∷ (J ∷ Q)))))
-                          ≡ code_of p d (typed_loop t range init condition step result) = rw (m2, m4, m5, m7, m10, md, me) refl in
+                          ≡ code_of p d (typed_loop t vars range init condition step result) = rw (m2, m4, m5, m7, m10, md, me, inside) refl in
                           in_words (omega arith) (flat ∙ shape) (simp append_assoc) (then w10 g11)

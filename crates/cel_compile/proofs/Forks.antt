@@ -1,13 +1,17 @@
 -- Jumps in an expression's code: where the ways meet again, they have in common what the table says.
-use Rattle.std.proofs.Common.{◌≡◌, ℕ, suc, ◌+◌, ◌<◌, ◌≤◌, true, List, [], ◌∷◌, length, Some, None, refl, sym, ap, subst, arith, slice_get, if◌then◌else◌}
+use Rattle.std.proofs.Common.{◌≡◌, ℕ, suc, ◌+◌, ◌<◌, ◌≤◌, true, List, [], ◌∷◌, ◌++◌, length, Some, None, refl, sym, ap, ◌∙◌, subst, arith, slice_get, if◌then◌else◌}
 use Rattle.std.specs.Option.{option_and_then}
-use Rattle.cel_value.specs.Types.{ValueType, bool_type}
-use Rattle.stack_machine.specs.Instructions.{Instruction, IfFalse, IfTrue, Jump, LoopNext, LoopStart, LoopTest, Store, Test}
+use Rattle.cel_value.specs.Types.{ValueType, bool_type, int_type, list_type, map_type, type_of_key}
+use Rattle.cel_types.specs.Typing.{IsOver}
+use Rattle.cel_types.specs.declared.typed.Variables.{Variables}
+use Rattle.cel_types.specs.declared.typed.Variables.TheVariants as variables
+use Rattle.stack_machine.specs.Instructions.{Instruction, IfFalse, IfTrue, Jump, LoopNext, LoopNext2, LoopStart, LoopTest, Store, Test}
 use Rattle.stack_machine.specs.Locals.{with_local}
-use Rattle.stack_machine.specs.Slots.{Slot, failing, of, is_a, loop_slot}
+use Rattle.stack_machine.specs.Slots.{Slot, failing, of, is_a, loop_slot, pair_slots}
 use Rattle.stack_machine.specs.Shapes.{Serves, Shape, ways}
 use Rattle.stack_machine.specs.Typable.{Table}
-use Rattle.cel_compile.proofs.Leading.{known_again, known_still, locals_of, shape, to}
+use Rattle.cel_compile.specs.Codes.{turn_instruction}
+use Rattle.cel_compile.proofs.Leading.{known_again, known_outside, known_still, locals_of, loop_known, shape, to}
 use Rattle.cel_compile.proofs.Settling.{Flows, Settled, Stands, first_settles, good_at, known, lead, one_more, plain, second_settles, served, serves_same, serves_trans, slots_refl, then_flows}
 use Rattle.cel_compile.proofs.Tables.{turned}
 
@@ -39,18 +43,44 @@ module _ (ks : List ValueType) (slots loops : List Slot) (m : ℕ) (t : ValueTyp
   loop_tests over after q =
       ap (λ b. if b then Some (to (m + 1) (shape slots ks (over ∷ loops)) ∷ to after (shape slots ks loops) ∷ to q (shape (failing ∷ slots) ks loops) ∷ []) else None) a_bool
 
-pub loop_starts : (ks : List ValueType) (slots loops : List Slot) (m q : ℕ) (t element : ValueType) → loop_slot (of t) ≡ Some (of element)
+pub loop_starts : (ks : List ValueType) (slots loops : List Slot) (m q : ℕ) (vars : Variables) (t : ValueType) (each : List ValueType) → IsOver vars t each
     → ways (LoopStart q) m (shape (of t ∷ slots) ks loops)
     ≡ Some (to (m + 1) (shape slots ks (of t ∷ loops)) ∷ to q (shape (failing ∷ slots) ks loops) ∷ [])
-loop_starts ks slots loops m q t element over =
-    ap (option_and_then (λ each. Some (to (m + 1) (shape slots ks (of t ∷ loops)) ∷ to q (shape (failing ∷ slots) ks loops) ∷ []))) over
+loop_starts ks slots loops m q vars t each over =
+    ap (option_and_then (λ a. Some (to (m + 1) (shape slots ks (of t ∷ loops)) ∷ to q (shape (failing ∷ slots) ks loops) ∷ []))) (loop_known vars t each over).1
 
-pub loop_goes_on : (ks : List ValueType) (slots loops : List Slot) (m after : ℕ) (t element : ValueType) → loop_slot (of t) ≡ Some (of element)
-    → ways (LoopNext (length ks) after) m (shape slots ks (of t ∷ loops))
-    ≡ Some (to (m + 1) (shape slots (element ∷ ks) (of t ∷ loops)) ∷ to after (shape slots ks loops) ∷ [])
-loop_goes_on ks slots loops m after t element over =
-    ap (option_and_then (λ each. Some ((record { target = m + 1; shape = record { slots = slots; locals = with_local (locals_of ks) (length ks) each; loops = of t ∷ loops } })
-    ∷ to after (shape slots ks loops) ∷ []))) over
+module _ (ks : List ValueType) (slots loops : List Slot) (m after : ℕ) (t : ValueType) where
+  -- a turn leads on with its locals set, and out of the loop
+  abbrev Begins : Instruction → List ValueType → Type 0
+  Begins i each = ways i m (shape slots ks (of t ∷ loops))
+      ≡ Some (to (m + 1) (shape slots (each ++ ks) (of t ∷ loops)) ∷ to after (shape slots ks loops) ∷ [])
+
+  next_begins : (s : ValueType) → loop_slot (of t) ≡ Some (of s) → Begins (LoopNext (length ks) after) (s ∷ [])
+  next_begins s known =
+      ap (option_and_then (λ a. Some ((record { target = m + 1; shape = record { slots = slots; locals = with_local (locals_of ks) (length ks) a; loops = of t ∷ loops } })
+      ∷ to after (shape slots ks loops) ∷ []))) known
+
+  pair_begins : (s k : ValueType) → pair_slots (of t) ≡ Some (of k, of s) → Begins (LoopNext2 (length ks) (length ks + 1) after) (s ∷ k ∷ [])
+  pair_begins s k known =
+      let next : length ks + 1 ≡ suc (length ks) = omega arith in
+      ap (option_and_then (λ a. Some ((record { target = m + 1; shape = record { slots = slots; locals = with_local (with_local (locals_of ks) (length ks) a.0) (length ks + 1) a.1; loops = of t ∷ loops } })
+      ∷ to after (shape slots ks loops) ∷ []))) known
+      ∙ ap (λ n. Some ((record { target = m + 1; shape = record { slots = slots; locals = with_local (locals_of (k ∷ ks)) n (of s); loops = of t ∷ loops } })
+      ∷ to after (shape slots ks loops) ∷ [])) next
+
+pub loop_goes_on : (ks : List ValueType) (slots loops : List Slot) (m after : ℕ) (vars : Variables) (t : ValueType) (each : List ValueType) → IsOver vars t each
+    → ways (turn_instruction vars (length ks) after) m (shape slots ks (of t ∷ loops))
+    ≡ Some (to (m + 1) (shape slots (each ++ ks) (of t ∷ loops)) ∷ to after (shape slots ks loops) ∷ [])
+loop_goes_on ks slots loops m after variables.One (list_type s) each is =
+    subst (Begins ks slots loops m after (list_type s) (LoopNext (length ks) after)) (sym is) (next_begins ks slots loops m after (list_type s) s refl)
+loop_goes_on ks slots loops m after variables.One (map_type k s) each is =
+    subst (Begins ks slots loops m after (map_type k s) (LoopNext (length ks) after)) (sym is) (next_begins ks slots loops m after (map_type k s) (type_of_key k) refl)
+loop_goes_on ks slots loops m after variables.Two (list_type s) each is =
+    subst (Begins ks slots loops m after (list_type s) (LoopNext2 (length ks) (length ks + 1) after)) (sym is) (pair_begins ks slots loops m after (list_type s) s int_type refl)
+loop_goes_on ks slots loops m after variables.Two (map_type k s) each is =
+    subst (Begins ks slots loops m after (map_type k s) (LoopNext2 (length ks) (length ks + 1) after)) (sym is) (pair_begins ks slots loops m after (map_type k s) s (type_of_key k) refl)
+loop_goes_on ks slots loops m after variables.One _ each is = absurd is
+loop_goes_on ks slots loops m after variables.Two _ each is = absurd is
 
 -- ---- shapes that say less
 
@@ -61,11 +91,14 @@ module _ (ks : List ValueType) (slots loops : List Slot) where
   pub less_serves : (t : ValueType) → Serves (shape slots (t ∷ ks) loops) (shape slots ks loops)
   less_serves t = record { slots = slots_refl slots; locals = λ l a e. known_still ks t l a e; loops = refl }
 
-  pub turned_serves : (element gathered step : ValueType) → step ≡ gathered
-      → Serves (turned element gathered step slots ks loops) (shape slots (gathered ∷ ks) loops)
-  turned_serves element gathered step same = record {
+  pub outside_serves : (each : List ValueType) → Serves (shape slots (each ++ ks) loops) (shape slots ks loops)
+  outside_serves each = record { slots = slots_refl slots; locals = λ l a e. known_outside each ks l a e; loops = refl }
+
+  pub turned_serves : (each : List ValueType) (gathered step : ValueType) → step ≡ gathered
+      → Serves (turned each gathered step slots ks loops) (shape slots (gathered ∷ ks) loops)
+  turned_serves each gathered step same = record {
     slots = slots_refl slots;
-    locals = λ l a e. known_again ks gathered element step l a same e;
+    locals = λ l a e. known_again each ks gathered step l a same e;
     loops = refl;
   }
 
@@ -137,10 +170,10 @@ module _ (code : List Instruction) (table : Table) where
     -- ---- a comprehension
 
     -- its own instructions and the codes of its parts, at these positions
-    pub record Turns (range gathered condition step result element : ValueType) (p m n k l q : ℕ) : Type 0 where
+    pub record Turns (vars : Variables) (each : List ValueType) (range gathered condition step result : ValueType) (p m n k l q : ℕ) : Type 0 where
       pub starts : slice_get code m ≡ Some (LoopStart q)
       pub first : slice_get code n ≡ Some (Store (length ks))
-      pub turns : slice_get code (n + 1) ≡ Some (LoopNext (suc (length ks)) (l + 1 + 1))
+      pub turns : slice_get code (n + 1) ≡ Some (turn_instruction vars (suc (length ks)) (l + 1 + 1))
       pub tested : slice_get code k ≡ Some (LoopTest (l + 1 + 1) q)
       pub kept : slice_get code l ≡ Some (Store (length ks))
       pub again : slice_get code (l + 1) ≡ Some (Jump (n + 1))
@@ -148,13 +181,13 @@ module _ (code : List Instruction) (table : Table) where
       pub in_init : table (m + 1) ≡ shape slots ks (of range ∷ loops)
       pub of_init : table n ≡ shape (of gathered ∷ slots) ks (of range ∷ loops)
       pub in_turn : table (n + 1) ≡ shape slots (gathered ∷ ks) (of range ∷ loops)
-      pub in_condition : table (n + 1 + 1) ≡ shape slots (element ∷ gathered ∷ ks) (of range ∷ loops)
-      pub of_condition : table k ≡ shape (of condition ∷ slots) (element ∷ gathered ∷ ks) (of range ∷ loops)
-      pub in_step : table (k + 1) ≡ shape slots (element ∷ gathered ∷ ks) (of range ∷ loops)
-      pub of_step : table l ≡ shape (of step ∷ slots) (element ∷ gathered ∷ ks) (of range ∷ loops)
-      pub in_back : table (l + 1) ≡ turned element gathered step slots ks (of range ∷ loops)
+      pub in_condition : table (n + 1 + 1) ≡ shape slots (each ++ gathered ∷ ks) (of range ∷ loops)
+      pub of_condition : table k ≡ shape (of condition ∷ slots) (each ++ gathered ∷ ks) (of range ∷ loops)
+      pub in_step : table (k + 1) ≡ shape slots (each ++ gathered ∷ ks) (of range ∷ loops)
+      pub of_step : table l ≡ shape (of step ∷ slots) (each ++ gathered ∷ ks) (of range ∷ loops)
+      pub in_back : table (l + 1) ≡ turned each gathered step slots ks (of range ∷ loops)
       pub in_result : table (l + 1 + 1) ≡ shape slots (gathered ∷ ks) loops
-      pub over : loop_slot (of range) ≡ Some (of element)
+      pub over : IsOver vars range each
       pub condition_is : condition ≡ bool_type
       pub step_is : step ≡ gathered
       pub m_n : m < n
@@ -166,19 +199,19 @@ module _ (code : List Instruction) (table : Table) where
       pub range_flows : Flows code table p m (shape (of range ∷ slots) ks loops)
       pub init_flows : S (m + 1) (table (m + 1)) → Flows code table (m + 1) n (shape (of gathered ∷ slots) ks (of range ∷ loops))
       pub condition_flows : S (n + 1 + 1) (table (n + 1 + 1))
-          → Flows code table (n + 1 + 1) k (shape (of condition ∷ slots) (element ∷ gathered ∷ ks) (of range ∷ loops))
+          → Flows code table (n + 1 + 1) k (shape (of condition ∷ slots) (each ++ gathered ∷ ks) (of range ∷ loops))
       pub step_flows : S (k + 1) (table (k + 1))
-          → Flows code table (k + 1) l (shape (of step ∷ slots) (element ∷ gathered ∷ ks) (of range ∷ loops))
+          → Flows code table (k + 1) l (shape (of step ∷ slots) (each ++ gathered ∷ ks) (of range ∷ loops))
       pub result_flows : S (l + 1 + 1) (table (l + 1 + 1))
           → Flows code table (l + 1 + 1) q (shape (of result ∷ slots) (gathered ∷ ks) loops)
 
-    pub loop_flow : (range gathered condition step result element : ValueType) (p m n k l q : ℕ)
-        → Turns range gathered condition step result element p m n k l q
+    pub loop_flow : (vars : Variables) (each : List ValueType) (range gathered condition step result : ValueType) (p m n k l q : ℕ)
+        → Turns vars each range gathered condition step result p m n k l q
         → Flows code table p q (shape (of result ∷ slots) ks loops)
-    loop_flow range gathered condition step result element p m n k l q x =
+    loop_flow vars each range gathered condition step result p m n k l q x =
         let over = of range ∷ loops in
         let outer = gathered ∷ ks in
-        let inner = element ∷ outer in
+        let inner = each ++ outer in
         let after = l + 1 + 1 in
         let m_n = x.m_n in
         let n_k = x.n_k in
@@ -193,7 +226,7 @@ module _ (code : List Instruction) (table : Table) where
         let s5 = shape slots inner over in
         let s6 = shape (of condition ∷ slots) inner over in
         let s7 = shape (of step ∷ slots) inner over in
-        let s8 = turned element gathered step slots ks over in
+        let s8 = turned each gathered step slots ks over in
         let s9 = shape slots outer loops in
         let r = shape (of result ∷ slots) ks loops in
         let r' = shape (of result ∷ slots) outer loops in
@@ -202,11 +235,11 @@ module _ (code : List Instruction) (table : Table) where
         let s9' = shape slots inner loops in
         -- instructions
         let i1 : Stands code table m (LoopStart q) s1 (to (m + 1) s2 ∷ to q f ∷ []) =
-        record { at = x.starts; is = x.of_range; found = loop_starts ks slots loops m q range element x.over } in
+        record { at = x.starts; is = x.of_range; found = loop_starts ks slots loops m q vars range each x.over } in
         let i2 : Stands code table n (Store (length ks)) s3 (to (n + 1) s4 ∷ []) =
         record { at = x.first; is = x.of_init; found = refl } in
-        let i3 : Stands code table (n + 1) (LoopNext (suc (length ks)) after) s4 (to (n + 1 + 1) s5 ∷ to after s9 ∷ []) =
-        record { at = x.turns; is = x.in_turn; found = loop_goes_on outer slots loops (n + 1) after range element x.over } in
+        let i3 : Stands code table (n + 1) (turn_instruction vars (suc (length ks)) after) s4 (to (n + 1 + 1) s5 ∷ to after s9 ∷ []) =
+        record { at = x.turns; is = x.in_turn; found = loop_goes_on outer slots loops (n + 1) after vars range each x.over } in
         let i4 : Stands code table k (LoopTest after q) s6 (to (k + 1) s5 ∷ to after s9' ∷ to q f' ∷ []) =
         record { at = x.tested; is = x.of_condition; found = loop_tests inner slots loops k condition x.condition_is (of range) after q } in
         let i5 : Stands code table l (Store (length ks)) s7 (to (l + 1) s8 ∷ []) =
@@ -217,21 +250,21 @@ module _ (code : List Instruction) (table : Table) where
         let fails : Serves f (table q) = serves_trans f r (table q) (error_serves ks slots loops result) x.serves in
         let fails' : Serves f' (table q) =
         serves_trans f' f (table q)
-        (serves_trans f' (shape (failing ∷ slots) outer loops) f (less_serves outer (failing ∷ slots) loops element) (less_serves ks (failing ∷ slots) loops gathered))
+        (serves_trans f' (shape (failing ∷ slots) outer loops) f (outside_serves outer (failing ∷ slots) loops each) (less_serves ks (failing ∷ slots) loops gathered))
         fails in
         let ends : Serves r' (table q) =
         serves_trans r' r (table q) (less_serves ks (of result ∷ slots) loops gathered) x.serves in
         -- what is settled
         let t2 = known code table (m + 1) s2 (first_settles code table m (LoopStart q) s1 (to (m + 1) s2 ∷ to q f ∷ []) i1 (m + 1) (to (m + 1) s2) (to q f ∷ []) (omega arith) refl refl) x.in_init in
         let t4 = known code table (n + 1) s4 (first_settles code table n (Store (length ks)) s3 (to (n + 1) s4 ∷ []) i2 (n + 1) (to (n + 1) s4) [] (omega arith) refl refl) x.in_turn in
-        let t5 = known code table (n + 1 + 1) s5 (first_settles code table (n + 1) (LoopNext (suc (length ks)) after) s4 (to (n + 1 + 1) s5 ∷ to after s9 ∷ []) i3 (n + 1 + 1) (to (n + 1 + 1) s5) (to after s9 ∷ []) (omega arith) refl refl) x.in_condition in
-        let t9 = known code table after s9 (second_settles code table (n + 1) (LoopNext (suc (length ks)) after) s4 (to (n + 1 + 1) s5 ∷ to after s9 ∷ []) i3 after (to (n + 1 + 1) s5) (to after s9) [] (omega arith) refl refl) x.in_result in
+        let t5 = known code table (n + 1 + 1) s5 (first_settles code table (n + 1) (turn_instruction vars (suc (length ks)) after) s4 (to (n + 1 + 1) s5 ∷ to after s9 ∷ []) i3 (n + 1 + 1) (to (n + 1 + 1) s5) (to after s9 ∷ []) (omega arith) refl refl) x.in_condition in
+        let t9 = known code table after s9 (second_settles code table (n + 1) (turn_instruction vars (suc (length ks)) after) s4 (to (n + 1 + 1) s5 ∷ to after s9 ∷ []) i3 after (to (n + 1 + 1) s5) (to after s9) [] (omega arith) refl refl) x.in_result in
         let t7 = known code table (k + 1) s5 (first_settles code table k (LoopTest after q) s6 (to (k + 1) s5 ∷ to after s9' ∷ to q f' ∷ []) i4 (k + 1) (to (k + 1) s5) (to after s9' ∷ to q f' ∷ []) (omega arith) refl refl) x.in_step in
         let t8 = known code table (l + 1) s8 (first_settles code table l (Store (length ks)) s7 (to (l + 1) s8 ∷ []) i5 (l + 1) (to (l + 1) s8) [] (omega arith) refl refl) x.in_back in
         -- positions
         let last = x.result_flows t9 in
         let g6 = good_at code table (l + 1) (Jump (n + 1)) s8 (to (n + 1) s8 ∷ []) i6 t8
-        (lead code table (n + 1) s8 s4 (omega arith) x.in_turn (turned_serves ks slots over element gathered step x.step_is), tt) in
+        (lead code table (n + 1) s8 s4 (omega arith) x.in_turn (turned_serves ks slots over each gathered step x.step_is), tt) in
         let from_step : Flows code table (k + 1) q r' =
         then_flows code table (k + 1) l q s7 r' (x.step_flows t7) x.of_step (λ t.
         one_more code table l q r'
@@ -242,12 +275,12 @@ module _ (code : List Instruction) (table : Table) where
         one_more code table k q r'
         (good_at code table k (LoopTest after q) s6 (to (k + 1) s5 ∷ to after s9' ∷ to q f' ∷ []) i4 t (
           lead code table (k + 1) s5 s5 (omega arith) x.in_step (serves_same s5 s5 refl),
-          (lead code table after s9' s9 (omega arith) x.in_result (less_serves outer slots loops element), (record { inside = inside; serves = fails' }, tt)),
+          (lead code table after s9' s9 (omega arith) x.in_result (outside_serves outer slots loops each), (record { inside = inside; serves = fails' }, tt)),
         ))
         from_step) in
         let from_turn : Flows code table (n + 1) q r' =
         one_more code table (n + 1) q r'
-        (good_at code table (n + 1) (LoopNext (suc (length ks)) after) s4 (to (n + 1 + 1) s5 ∷ to after s9 ∷ []) i3 t4 (
+        (good_at code table (n + 1) (turn_instruction vars (suc (length ks)) after) s4 (to (n + 1 + 1) s5 ∷ to after s9 ∷ []) i3 t4 (
           lead code table (n + 1 + 1) s5 s5 (omega arith) x.in_condition (serves_same s5 s5 refl),
           (lead code table after s9 s9 (omega arith) x.in_result (serves_same s9 s9 refl), tt),
         ))

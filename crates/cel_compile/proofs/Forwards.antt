@@ -1,8 +1,7 @@
 -- One pass finds the table of every expression's code, by induction on the expression.
-use Rattle.std.proofs.Common.{◌≡◌, ℕ, suc, ◌+◌, ◌<◌, ◌≤◌, inl, inr, List, [], ◌∷◌, length, Some, refl, sym, ap, ◌∙◌, subst, arith, slice_get}
+use Rattle.std.proofs.Common.{◌≡◌, ℕ, suc, ◌+◌, ◌<◌, ◌≤◌, inl, inr, List, [], ◌∷◌, ◌++◌, length, length-append, Some, refl, sym, ap, ◌∙◌, subst, arith, slice_get}
 use Rattle.std.proofs.lemmas.Bool.{cases_lt}
 use Rattle.std.proofs.lemmas.Option.{slice_get_within}
-use Rattle.attributes.specs.Request.{IsRequest, RequestValue}
 use Rattle.cel_value.specs.Types.{ValueType, bool_type, map_type}
 use Rattle.cel_value.specs.declared.cel_type.KeyType.TheVariants as keys
 use Rattle.cel_ops.specs.declared.operation.Operation.TheVariants as operations
@@ -10,20 +9,20 @@ use Rattle.cel_overload.specs.declared.overload.Overload.TheVariants as overload
 use Rattle.cel_tree.specs.Checked.{CelChecked}
 use Rattle.cel_tree.specs.GoodConstants.{HasGoodConstants}
 use Rattle.cel_types.specs.Elaborated.{IsElaborated, TypedTree, typed_constant, typed_local, typed_attribute, typed_field, typed_has, typed_call, typed_list, typed_map, typed_loop, TypedTrees, no_typed, typed, kind, kinds}
+use Rattle.cel_types.specs.Names.{variable_count}
 use Rattle.cel_types.specs.Typing.{IsOver, maps_of}
 use Rattle.cel_types.specs.WellTyped.{AreWellTyped, IsWellTyped}
 use Rattle.cel_types.proofs.WellTypedElaborations.{elaborated_typed}
 use Rattle.stack_machine.specs.Instructions.{Instruction, Attr, Const, Field, HasField, IfFalse, IfTrue, Load, Operate}
-use Rattle.stack_machine.specs.Machine.{NeverStuck}
 use Rattle.stack_machine.specs.Shapes.{Serves, leaves, ways}
 use Rattle.stack_machine.specs.Slots.{Slot, field_slot, has_field_slot, of}
 use Rattle.stack_machine.specs.Typable.{Forward, Table}
-use Rattle.stack_machine.proofs.Sound.{never_stuck_lem}
 use Rattle.cel_compile.specs.Codes.{code_of, extent, instruction_of, list_instruction, map_instruction}
 use Rattle.cel_compile.proofs.Forks.{both_flow, choice_flow, if_false, if_true, less_serves, loop_flow, tests}
-use Rattle.cel_compile.proofs.Leading.{call_leaves, constant_known, known_local, list_leaves, loop_known, map_leaves, pushed, shape, to, walked, walked_is}
+use Rattle.cel_compile.proofs.Leading.{call_leaves, constant_known, known_local, list_leaves, map_leaves, pushed, shape, to, walked, walked_is}
 use Rattle.cel_compile.proofs.Placing.{Placed, PlacedAll, extent_is, has_all, placed}
 use Rattle.cel_compile.proofs.Settling.{Agrees, Flows, Settled, back, cut, front, here, known, next, plain, serves_same, serves_trans, spot, then_flows}
+use Rattle.cel_compile.proofs.Turns.{over_count}
 use Rattle.cel_compile.proofs.Tables.{last, longer, longer_all, table_of, tables_of}
 
 -- ---- what a field leaves
@@ -111,10 +110,10 @@ module _ (code : List Instruction) (table : Table) where
     begins (typed_map t entries) p d q (m, po, h, e) ks slots loops agrees =
         let parts = operand_tables entries p d m q po e ks slots loops agrees in
         begins_all entries p d m po ks slots loops parts.0 parts.1
-    begins (typed_loop t range init condition step result) p d q (m, n, k, l, pr, h1, pi, h2, h3, pc, h4, ps, h5, h6, pe) ks slots loops agrees =
+    begins (typed_loop t vars range init condition step result) p d q (m, n, k, l, pr, h1, pi, h2, h3, pc, h4, ps, h5, h6, pe) ks slots loops agrees =
         let li = longer code init (m + 1) d n pi in
-        let lc = longer code condition (n + 1 + 1) (suc (suc d)) k pc in
-        let ls = longer code step (k + 1) (suc (suc d)) l ps in
+        let lc = longer code condition (n + 1 + 1) (variable_count vars + suc d) k pc in
+        let ls = longer code step (k + 1) (variable_count vars + suc d) l ps in
         let le = longer code result (l + 1 + 1) (suc d) q pe in
         begins range p d m pr ks slots loops (front table _ _ p m q agrees (omega (arith, li, lc, ls, le)))
 
@@ -125,6 +124,13 @@ module _ (code : List Instruction) (table : Table) where
     begins_all (typed e es) p d q (m, pe, ps) ks slots loops agrees end =
         let le = longer_all code es m d q ps in
         begins e p d m pe ks slots loops (front table _ _ p m q agrees le)
+
+  -- what follows from an expression's table, with another word for the number of locals
+  at_scope : (d c : ℕ) → d ≡ c → (e : TypedTree) (p q : ℕ) (ks : List ValueType) (slots loops : List Slot)
+      → ((x : Placed code p d e q) → Agrees table (table_of code e p d q x ks slots loops) p q → Flows code table p q (shape (of (kind e) ∷ slots) ks loops))
+      → (x : Placed code p c e q) → Agrees table (table_of code e p c q x ks slots loops) p q → Flows code table p q (shape (of (kind e) ∷ slots) ks loops)
+  at_scope d c same e p q ks slots loops way =
+      subst (λ n. (x : Placed code p n e q) → Agrees table (table_of code e p n q x ks slots loops) p q → Flows code table p q (shape (of (kind e) ∷ slots) ks loops)) same way
 
   mutual
     flows : (e : TypedTree) (p q : ℕ) (ks : List ValueType) (slots loops : List Slot)
@@ -231,19 +237,22 @@ module _ (code : List Instruction) (table : Table) where
         let parts = operand_tables entries p (length ks) m q po e ks slots loops agrees in
         call_flow ks slots loops (kinds entries) t (map_instruction t entries) p m q h e parts.1 (map_leaves m slots ks loops t g.1.0 g.1.1 entries g.1.2 g.1.3) le serves
         (flows_all entries p m ks slots loops g.0 po parts.0 (omega (arith, e, le)) settled parts.1)
-    flows (typed_loop t range init condition step result) p q ks slots loops g (m, n, k, l, pr, h1, pi, h2, h3, pc, h4, ps, h5, h6, pe) agrees le settled serves =
+    flows (typed_loop t vars range init condition step result) p q ks slots loops g (m, n, k, l, pr, h1, pi, h2, h3, pc, h4, ps, h5, h6, pe) agrees le settled serves =
         let d = length ks in
-        let element = walked (kind range) in
-        let element_is : g.2.0 ≡ element = walked_is (kind range) g.2.0 g.2.1 in
+        let each = walked vars (kind range) in
+        let each_is : g.2.0 ≡ each = walked_is vars (kind range) g.2.0 g.2.1 in
+        let walks : IsOver vars (kind range) each = subst (λ z. IsOver vars (kind range) z) each_is g.2.1 in
         let outer = kind init ∷ ks in
-        let inner = element ∷ outer in
+        let inner = each ++ outer in
+        let scope : length inner ≡ variable_count vars + suc d =
+        length-append each outer ∙ ap (λ n. n + suc d) (over_count vars (kind range) each walks) in
         let over = of (kind range) ∷ loops in
-        let typed_condition : IsWellTyped inner condition = subst (λ z. IsWellTyped (z ∷ outer) condition) element_is g.2.2 in
-        let typed_step : IsWellTyped inner step = subst (λ z. IsWellTyped (z ∷ outer) step) element_is g.2.4 in
+        let typed_condition : IsWellTyped inner condition = subst (λ z. IsWellTyped (z ++ outer) condition) each_is g.2.2 in
+        let typed_step : IsWellTyped inner step = subst (λ z. IsWellTyped (z ++ outer) step) each_is g.2.4 in
         let lr = longer code range p d m pr in
         let li = longer code init (m + 1) d n pi in
-        let lc = longer code condition (n + 1 + 1) (suc (suc d)) k pc in
-        let ls = longer code step (k + 1) (suc (suc d)) l ps in
+        let lc = longer code condition (n + 1 + 1) (variable_count vars + suc d) k pc in
+        let ls = longer code step (k + 1) (variable_count vars + suc d) l ps in
         let lq = longer code result (l + 1 + 1) (suc d) q pe in
         let m_n : m < n = omega (arith, li) in
         let n_k : n + 1 < k = omega (arith, lc) in
@@ -272,7 +281,7 @@ module _ (code : List Instruction) (table : Table) where
         let same : kind result ≡ t = sym g.4 in
         let serves' : Serves (shape (of (kind result) ∷ slots) ks loops) (table q) = subst (λ z. Serves (shape (of z ∷ slots) ks loops) (table q)) g.4 serves in
         subst (λ z. Flows code table p q (shape (of z ∷ slots) ks loops)) same
-        (loop_flow code table ks slots loops (kind range) (kind init) (kind condition) (kind step) (kind result) element p m n k l q (record {
+        (loop_flow code table ks slots loops vars each (kind range) (kind init) (kind condition) (kind step) (kind result) p m n k l q (record {
           starts = h1;
           first = h2;
           turns = h3;
@@ -283,13 +292,13 @@ module _ (code : List Instruction) (table : Table) where
           in_init = begins init (m + 1) d n pi ks slots over in_init;
           of_init = at_n;
           in_turn = at_turn;
-          in_condition = begins condition (n + 1 + 1) (suc (suc d)) k pc inner slots over in_condition;
+          in_condition = begins condition (n + 1 + 1) (variable_count vars + suc d) k pc inner slots over in_condition;
           of_condition = at_k;
-          in_step = begins step (k + 1) (suc (suc d)) l ps inner slots over in_step;
+          in_step = begins step (k + 1) (variable_count vars + suc d) l ps inner slots over in_step;
           of_step = at_l;
           in_back = at_back;
           in_result = begins result (l + 1 + 1) (suc d) q pe outer slots loops in_result;
-          over = loop_known (kind range) element (subst (λ z. IsOver (kind range) z) element_is g.2.1);
+          over = walks;
           condition_is = g.2.3;
           step_is = g.2.5;
           m_n = m_n;
@@ -300,8 +309,12 @@ module _ (code : List Instruction) (table : Table) where
           serves = serves';
           range_flows = flows range p m ks slots loops g.0 pr in_range (omega (arith, m_n, n_k, k_l, l_q, le)) settled (serves_same _ (table m) (sym at_m));
           init_flows = λ there. flows init (m + 1) n ks slots over g.1 pi in_init (omega (arith, n_k, k_l, l_q, le)) there (serves_same _ (table n) (sym at_n));
-          condition_flows = λ there. flows condition (n + 1 + 1) k inner slots over typed_condition pc in_condition (omega (arith, k_l, l_q, le)) there (serves_same _ (table k) (sym at_k));
-          step_flows = λ there. flows step (k + 1) l inner slots over typed_step ps in_step (omega (arith, l_q, le)) there (serves_same _ (table l) (sym at_l));
+          condition_flows = λ there.
+              at_scope (length inner) (variable_count vars + suc d) scope condition (n + 1 + 1) k inner slots over
+              (λ x agree. flows condition (n + 1 + 1) k inner slots over typed_condition x agree (omega (arith, k_l, l_q, le)) there (serves_same _ (table k) (sym at_k))) pc in_condition;
+          step_flows = λ there.
+              at_scope (length inner) (variable_count vars + suc d) scope step (k + 1) l inner slots over
+              (λ x agree. flows step (k + 1) l inner slots over typed_step x agree (omega (arith, l_q, le)) there (serves_same _ (table l) (sym at_l))) ps in_step;
           result_flows = λ there. flows result (l + 1 + 1) q outer slots loops g.3 pe in_result le there (serves_trans _ _ (table q) (less_serves ks (of (kind result) ∷ slots) loops (kind init)) serves');
         }))
 
@@ -360,10 +373,3 @@ pub elaborated_code_is_forward : (c : CelChecked) (e : TypedTree) → HasGoodCon
     → Forward (code_of 0 0 e) (kind e)
 elaborated_code_is_forward c e good elaborated =
     code_is_forward e (elaborated_typed (maps_of c) [] c.tree e good elaborated.elaborates)
-
--- so no run of it is ever stuck
-pub code_never_stuck : (e : TypedTree) (request : RequestValue) → IsWellTyped [] e → IsRequest request
-    → NeverStuck (code_of 0 0 e) request
-code_never_stuck e request g sound =
-    let found = code_is_forward e g in
-    never_stuck_lem (code_of 0 0 e) (kind e) request (found.0, found.1.typed) sound

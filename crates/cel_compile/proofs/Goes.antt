@@ -1,5 +1,5 @@
 -- Runs between points of a code, whatever is kept below on the stack.
-use Rattle.std.proofs.Common.{◌≡◌, ℕ, ◌+◌, ◌<◌, ◌≤◌, Bool, true, false, cond, nat_eq, List, [], ◌∷◌, length, Option, Some, refl, sym, ap, ◌∙◌, subst, arith, slice_get, ne_eqb, eq-eqb}
+use Rattle.std.proofs.Common.{◌≡◌, ℕ, ◌+◌, ◌<◌, ◌≤◌, Bool, true, false, cond, nat_eq, List, [], ◌∷◌, ◌++◌, length, Option, Some, refl, sym, ap, ◌∙◌, subst, arith, slice_get, ne_eqb, eq-eqb}
 use Rattle.std.proofs.lemmas.Bool.Decides.{nat_tests}
 use Rattle.cel_value.specs.Values.{CelAnswer, CelValue}
 use Rattle.attributes.specs.Request.{RequestValue}
@@ -31,6 +31,11 @@ holds_put (b ∷ ls) f l a le h = (put_other f l (length ls) a (omega arith) ∙
 -- the next local is set
 pub holds_more : (ls : List CelAnswer) (f : Locals) (a : CelAnswer) → Holds ls f → Holds (a ∷ ls) (with_local f (length ls) a)
 holds_more ls f a h = (put_same f (length ls) a, holds_put ls f (length ls) a (omega arith) h)
+
+-- the locals outside are held too
+pub holds_less : (vs ls : List CelAnswer) (f : Locals) → Holds (vs ++ ls) f → Holds ls f
+holds_less [] ls f h = h
+holds_less (v ∷ vs) ls f h = holds_less vs ls f h.1
 
 -- a local that is known is held
 pub held : (ls : List CelAnswer) (f : Locals) (outside : ℕ) (a : CelAnswer) → Holds ls f → local_at outside ls ≡ Some a → f outside ≡ Some a

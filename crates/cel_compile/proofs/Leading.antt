@@ -21,6 +21,8 @@ use Rattle.cel_types.specs.Elaborated.{TypedTrees, kinds, no_typed, typed}
 use Rattle.cel_types.specs.TypedMeaning.{local_at}
 use Rattle.cel_types.specs.Typing.{IsOver, constant_type}
 use Rattle.cel_types.specs.WellTyped.{AreAll, AreKeyed}
+use Rattle.cel_types.specs.declared.typed.Variables.{Variables}
+use Rattle.cel_types.specs.declared.typed.Variables.TheVariants as variables
 use Rattle.stack_machine.specs.Instructions.{Instruction}
 use Rattle.stack_machine.specs.Locals.{with_local}
 use Rattle.stack_machine.specs.Slots.{Slot, of, arithmetic_slot, compare_slot, concat_slot, constant_slot, has_size, in_list_slot, in_map_slot, joined_all, joined_entries, joined_slot, list_literal_slot, list_of, loop_slot, map_index_slot, map_literal_slot, map_of_slots, may_compare, of_type_if, size_slot}
@@ -79,15 +81,20 @@ pub known_still : (ks : List ValueType) (t : ValueType) (l : ℕ) (a : Slot) →
 known_still ks t l a e =
     let below = known_below ks l a e in rw (ne_eqb l (length ks) (λ same. omega (arith, same, below))) e
 
+-- nor do several more
+pub known_outside : (each ks : List ValueType) (l : ℕ) (a : Slot) → locals_of ks l ≡ Some a → locals_of (each ++ ks) l ≡ Some a
+known_outside [] ks l a e = e
+known_outside (t ∷ each) ks l a e = known_still (each ++ ks) t l a (known_outside each ks l a e)
+
 -- what is gathered is known again behind the step
-pub known_again : (ks : List ValueType) (t u s : ValueType) (l : ℕ) (a : Slot) → s ≡ t → locals_of (t ∷ ks) l ≡ Some a
-    → with_local (locals_of (u ∷ t ∷ ks)) (length ks) (of s) l ≡ Some a
-known_again ks t u s l a same e = rw same (by_test (nat_eq l (length ks)) e
-    (λ h. known_still (t ∷ ks) u l a (known_still ks t l a h)))
+pub known_again : (each ks : List ValueType) (t s : ValueType) (l : ℕ) (a : Slot) → s ≡ t → locals_of (t ∷ ks) l ≡ Some a
+    → with_local (locals_of (each ++ t ∷ ks)) (length ks) (of s) l ≡ Some a
+known_again each ks t s l a same e = rw same (by_test (nat_eq l (length ks)) e
+    (λ h. known_outside each (t ∷ ks) l a (known_still ks t l a h)))
   where
     by_test : (b : Bool) → cond b (Some (of t)) (locals_of ks l) ≡ Some a
-        → (locals_of ks l ≡ Some a → locals_of (u ∷ t ∷ ks) l ≡ Some a)
-        → cond b (Some (of t)) (locals_of (u ∷ t ∷ ks) l) ≡ Some a
+        → (locals_of ks l ≡ Some a → locals_of (each ++ t ∷ ks) l ≡ Some a)
+        → cond b (Some (of t)) (locals_of (each ++ t ∷ ks) l) ≡ Some a
     by_test true e more = e
     by_test false e more = more e
 
@@ -152,22 +159,31 @@ key_known keys.Int = refl
 key_known keys.Uint = refl
 key_known keys.Text = refl
 
--- a loop over the range goes over its elements
-pub walked : ValueType → ValueType
-walked (list_type s) = s
-walked (map_type k s) = type_of_key k
-walked t = t
+-- what the variables of a loop over the range get, the innermost first
+pub walked : Variables → ValueType → List ValueType
+walked variables.One (list_type s) = s ∷ []
+walked variables.One (map_type k s) = type_of_key k ∷ []
+walked variables.Two (list_type s) = s ∷ int_type ∷ []
+walked variables.Two (map_type k s) = s ∷ type_of_key k ∷ []
+walked vars t = []
 
-pub walked_is : (t element : ValueType) → IsOver t element → element ≡ walked t
+pub walked_is : (vars : Variables) (t : ValueType) (each : List ValueType) → IsOver vars t each → each ≡ walked vars t
 unfolding walked
-walked_is (list_type s) element h = h
-walked_is (map_type k s) element h = h
-walked_is _ element h = absurd h
+walked_is variables.One (list_type s) each h = h
+walked_is variables.One (map_type k s) each h = h
+walked_is variables.Two (list_type s) each h = h
+walked_is variables.Two (map_type k s) each h = h
+walked_is variables.One _ each h = absurd h
+walked_is variables.Two _ each h = absurd h
 
-pub loop_known : (t element : ValueType) → IsOver t element → loop_slot (of t) ≡ Some (of element)
-loop_known (list_type s) element h = ap (λ z. Some (of z)) (sym h)
-loop_known (map_type k s) element h = ap (λ z. Some (of z)) (sym h)
-loop_known _ element h = absurd h
+-- a loop opens over the range
+pub loop_known : (vars : Variables) (t : ValueType) (each : List ValueType) → IsOver vars t each → (a : Slot) × (loop_slot (of t) ≡ Some a)
+loop_known variables.One (list_type s) each h = (of s, refl)
+loop_known variables.One (map_type k s) each h = (of (type_of_key k), refl)
+loop_known variables.Two (list_type s) each h = (of s, refl)
+loop_known variables.Two (map_type k s) each h = (of (type_of_key k), refl)
+loop_known variables.One _ each h = absurd h
+loop_known variables.Two _ each h = absurd h
 
 -- ---- calls
 

@@ -3,6 +3,7 @@ pub mod Goes
 pub mod Answering
 pub mod Calls
 pub mod Nodes
+pub mod Turns
 pub mod Loop
 pub mod Bounds
 pub mod Sound
@@ -18,3 +19,4 @@ pub mod Settling
 pub mod Tables
 pub mod Forks
 pub mod Forwards
+pub mod Unstuck

@@ -7,6 +7,7 @@ use Rattle.cel_overload.specs.declared.overload.Overload.{Overload}
 use Rattle.cel_ops.specs.declared.operation.Operation.TheVariants as operations
 use Rattle.cel_overload.specs.declared.overload.Overload.TheVariants as overloads
 use Rattle.cel_types.specs.Elaborated.{TypedTree, no_typed, typed, typed_call, typed_loop}
+use Rattle.cel_types.specs.declared.typed.Variables.{Variables}
 use Rattle.cel_types.specs.View.{expr_view}
 use Rattle.cel_types.specs.steps.ExprViews.{exprs_view}
 use Rattle.cel_types.specs.declared.typed.TypedExpr.{TypedExpr}
@@ -48,11 +49,11 @@ choice_measured c a b k0 k1 k2 k3 k4 nc na nb s t mb ma mc counts put =
     let n = extent c + 1 + extent a + 1 + extent b in
     jumps s n (adds s n (adds s n mb ma counts (omega arith) (omega arith)) mc counts (omega arith) (omega arith)) put counts (omega arith) mb.counts (omega arith)
 
-pub loop_measured : (t : ValueType) (range init condition step result : TypedTree) (k0 k1 k2 k3 k4 k5 k6 : List Lengths) (nr ns nc ni ng s : ℕ)
+pub loop_measured : (t : ValueType) (vars : Variables) (range init condition step result : TypedTree) (k0 k1 k2 k3 k4 k5 k6 : List Lengths) (nr ns nc ni ng s : ℕ)
     → Measures k0 k1 nr result → Measures k1 k2 ns step → Measures k2 k3 nc condition → Measures k3 k4 ni init → Measures k4 k5 ng range
     → Counts s (extent range + 1 + extent init + 1 + 1 + extent condition + 1 + extent step + 1 + 1 + extent result)
-    → k6 ≡ k5 ++ lengths_are s nr ∷ [] → Measures k0 k6 s (typed_loop t range init condition step result)
-loop_measured t range init condition step result k0 k1 k2 k3 k4 k5 k6 nr ns nc ni ng s mr ms mc mi mg counts put =
+    → k6 ≡ k5 ++ lengths_are s nr ∷ [] → Measures k0 k6 s (typed_loop t vars range init condition step result)
+loop_measured t vars range init condition step result k0 k1 k2 k3 k4 k5 k6 nr ns nc ni ng s mr ms mc mi mg counts put =
     let n = extent range + 1 + extent init + 1 + 1 + extent condition + 1 + extent step + 1 + 1 + extent result in
     let two = adds s n mr ms counts (omega arith) (omega arith) in
     let three = adds s n two mc counts (omega arith) (omega arith) in

@@ -52,7 +52,7 @@ some_extent (typed_call t overloads.Conditional (typed c (typed a (typed b no_ty
 some_extent (typed_call t o operands) = let some : 1 ≤ extents operands + 1 = omega arith in some
 some_extent (typed_list t elements) = omega arith
 some_extent (typed_map t entries) = omega arith
-some_extent (typed_loop t range init condition step result) = omega arith
+some_extent (typed_loop t vars range init condition step result) = omega arith
 
 -- there are no more expressions than instructions
 few_expressions : (xs : List TypedExpr) → length xs ≤ extents (exprs_view xs)

@@ -5,8 +5,9 @@ use Rattle.std.proofs.lemmas.Option.{slice_get-get_or}
 use Rattle.cel_ops.specs.declared.operation.Operation.TheVariants as operations
 use Rattle.cel_overload.specs.declared.overload.Overload.TheVariants as overloads
 use Rattle.cel_types.specs.Elaborated.{TypedTree, typed_constant, typed_local, typed_attribute, typed_field, typed_has, typed_call, typed_list, typed_map, typed_loop, TypedTrees, no_typed, typed}
-use Rattle.stack_machine.specs.Instructions.{Instruction, Const, Attr, Load, Store, Operate, Field, HasField, Jump, IfFalse, IfTrue, Test, LoopStart, LoopNext, LoopTest}
-use Rattle.cel_compile.specs.Codes.{instruction_of, list_instruction, map_instruction, extent, extents, code_of, codes_of}
+use Rattle.cel_types.specs.Names.{variable_count}
+use Rattle.stack_machine.specs.Instructions.{Instruction, Const, Attr, Load, Store, Operate, Field, HasField, Jump, IfFalse, IfTrue, Test, LoopStart, LoopTest}
+use Rattle.cel_compile.specs.Codes.{instruction_of, list_instruction, map_instruction, turn_instruction, extent, extents, code_of, codes_of}
 
 -- the instructions stand in the code at this position
 abbrev pub HasAt : List Instruction → ℕ → List Instruction → Type 0
@@ -40,13 +41,13 @@ abbrev mutual
       × (slice_get code m ≡ Some (list_instruction t elements)) × (q ≡ m + 1)
   Placed code p d (typed_map t entries) q = (m : ℕ) × PlacedAll code p d entries m
       × (slice_get code m ≡ Some (map_instruction t entries)) × (q ≡ m + 1)
-  Placed code p d (typed_loop t range init condition step result) q = (m n k l : ℕ)
+  Placed code p d (typed_loop t vars range init condition step result) q = (m n k l : ℕ)
       × Placed code p d range m × (slice_get code m ≡ Some (LoopStart q))
       × Placed code (m + 1) d init n × (slice_get code n ≡ Some (Store d))
-      × (slice_get code (n + 1) ≡ Some (LoopNext (suc d) (l + 1 + 1)))
-      × Placed code (n + 1 + 1) (suc (suc d)) condition k
+      × (slice_get code (n + 1) ≡ Some (turn_instruction vars (suc d) (l + 1 + 1)))
+      × Placed code (n + 1 + 1) (variable_count vars + suc d) condition k
       × (slice_get code k ≡ Some (LoopTest (l + 1 + 1) q))
-      × Placed code (k + 1) (suc (suc d)) step l × (slice_get code l ≡ Some (Store d))
+      × Placed code (k + 1) (variable_count vars + suc d) step l × (slice_get code l ≡ Some (Store d))
       × (slice_get code (l + 1) ≡ Some (Jump (n + 1)))
       × Placed code (l + 1 + 1) (suc d) result q
 
@@ -94,7 +95,7 @@ mutual
       length-append (codes_of p d operands) (instruction_of o ∷ []) ∙ ap (λ n. n + 1) (extents_is operands p d)
   extent_is (typed_list t elements) p d = simp (length-append, extents_is elements) (omega arith)
   extent_is (typed_map t entries) p d = simp (length-append, extents_is entries) (omega arith)
-  extent_is (typed_loop t range init condition step result) p d =
+  extent_is (typed_loop t vars range init condition step result) p d =
       simp (length-append, extent_is range, extent_is init, extent_is condition, extent_is step, extent_is result) (omega arith)
 
   pub extents_is : (es : TypedTrees) (p d : ℕ) → length (codes_of p d es) ≡ extents es
@@ -167,18 +168,18 @@ module _ (code : List Instruction) where
         (p + extents elements, placed_all elements p d (p + extents elements) refl (has_front code p (codes_of p d elements) (list_instruction t elements ∷ []) h), (behind_all elements p d (list_instruction t elements ∷ []) h).0, omega arith)
     placed (typed_map t entries) p d q e h =
         (p + extents entries, placed_all entries p d (p + extents entries) refl (has_front code p (codes_of p d entries) (map_instruction t entries ∷ []) h), (behind_all entries p d (map_instruction t entries ∷ []) h).0, omega arith)
-    placed (typed_loop t range init condition step result) p d q e h =
+    placed (typed_loop t vars range init condition step result) p d q e h =
         let m = p + extent range in
         let n = m + 1 + extent init in
         let k = n + 1 + 1 + extent condition in
         let l = k + 1 + extent step in
         let h1 = behind range p d _ h in
         let h2 = behind init (m + 1) d _ h1.1 in
-        let h3 = behind condition (n + 1 + 1) (d + 2) _ h2.1.1 in
-        let h4 = behind step (k + 1) (d + 2) _ h3.1 in
+        let h3 = behind condition (n + 1 + 1) (d + 1 + variable_count vars) _ h2.1.1 in
+        let h4 = behind step (k + 1) (d + 1 + variable_count vars) _ h3.1 in
         let e1 : l + 1 + 1 + extent result ≡ q = omega arith in
         let one : d + 1 ≡ suc d = omega arith in
-        let two : d + 2 ≡ suc (suc d) = omega arith in (
+        let two : d + 1 + variable_count vars ≡ variable_count vars + suc d = omega arith in (
           m,
           n,
           k,
@@ -187,10 +188,10 @@ module _ (code : List Instruction) where
           h1.0 ∙ ap (λ i. Some (LoopStart i)) e1,
           placed init (m + 1) d n refl (has_front code (m + 1) _ _ h1.1),
           h2.0,
-          h2.1.0 ∙ ap (λ i. Some (LoopNext i (l + 1 + 1))) one,
-          subst (λ x. Placed code (n + 1 + 1) x condition k) two (placed condition (n + 1 + 1) (d + 2) k refl (has_front code (n + 1 + 1) _ _ h2.1.1)),
+          h2.1.0 ∙ ap (λ i. Some (turn_instruction vars i (l + 1 + 1))) one,
+          subst (λ x. Placed code (n + 1 + 1) x condition k) two (placed condition (n + 1 + 1) (d + 1 + variable_count vars) k refl (has_front code (n + 1 + 1) _ _ h2.1.1)),
           h3.0 ∙ ap (λ i. Some (LoopTest (l + 1 + 1) i)) e1,
-          subst (λ x. Placed code (k + 1) x step l) two (placed step (k + 1) (d + 2) l refl (has_front code (k + 1) _ _ h3.1)),
+          subst (λ x. Placed code (k + 1) x step l) two (placed step (k + 1) (d + 1 + variable_count vars) l refl (has_front code (k + 1) _ _ h3.1)),
           h4.0,
           h4.1.0,
           subst (λ x. Placed code (l + 1 + 1) x result q) one (placed result (l + 1 + 1) (d + 1) q (sym e1) h4.1.1),

@@ -1,5 +1,5 @@
 -- The code of an elaboration is short: fewer than two instructions a node, and few locals.
-use Rattle.std.proofs.Common.{◌≡◌, ℕ, ◌+◌, ◌*◌, ◌<◌, ◌≤◌, ◌⊎◌, List, [], inl, inr, max, refl, arith, length}
+use Rattle.std.proofs.Common.{◌≡◌, ℕ, ◌+◌, ◌*◌, ◌<◌, ◌≤◌, ◌⊎◌, List, [], inl, inr, max, refl, ap, arith, length}
 use Rattle.std.proofs.Math.Nat.{le-max_left, le-max_right}
 use Rattle.cel_value.specs.Types.{ValueType}
 use Rattle.cel_overload.specs.declared.overload.Overload.{Overload}
@@ -10,6 +10,7 @@ use Rattle.cel_tree.specs.Message.{IsChecked}
 use Rattle.cel_tree.specs.Tree.{CelTree, constant, ident, select, call, list_literal, map_literal, comprehension, CelTarget, no_target, target, CelTrees, no_trees, tree, CelTreeEntries, no_tree_entries, tree_entry}
 use Rattle.cel_tree.specs.Trees.{entries_count, node_count, target_count, trees_count}
 use Rattle.cel_types.specs.Elaborated.{Elaborates, ElaboratesEach, ElaboratesPairs, ElaboratesTarget, IsElaborated, TypedTree, TypedTrees, no_typed, typed, typed_attribute, typed_call, typed_constant, typed_field, typed_has, typed_list, typed_local, typed_loop, typed_map}
+use Rattle.cel_types.specs.Names.{variable_count, variables_of}
 use Rattle.cel_types.specs.Typing.{Kinds, Maps, locals_in, locals_in_each, locals_in_entries, locals_in_target, maps_of}
 use Rattle.proto_wire.specs.Refusal.{MemoryOr}
 use Rattle.proto_wire.specs.declared.refusal.Refusal.{Refusal}
@@ -53,14 +54,14 @@ mutual
   extent_bound m ks (map_literal id entries) (typed_map t pairs) g =
       let inside = pairs_bound m ks entries pairs g.1 in omega (arith, inside)
   extent_bound m ks (map_literal id entries) _ g = absurd g
-  extent_bound m ks (comprehension id x acc range init condition step result) (typed_loop t r i c s e) g =
-      let of_range = extent_bound m ks range r g.5 in
-      let of_init = extent_bound m ks init i g.6 in
-      let of_condition = extent_bound m _ condition c g.7 in
-      let of_step = extent_bound m _ step s g.8 in
-      let of_result = extent_bound m _ result e g.9 in
+  extent_bound m ks (comprehension id x y acc range init condition step result) (typed_loop t vars r i c s e) g =
+      let of_range = extent_bound m ks range r g.6 in
+      let of_init = extent_bound m ks init i g.7 in
+      let of_condition = extent_bound m _ condition c g.8 in
+      let of_step = extent_bound m _ step s g.9 in
+      let of_result = extent_bound m _ result e g.10 in
       omega (arith, of_range, of_init, of_condition, of_step, of_result)
-  extent_bound m ks (comprehension id x acc range init condition step result) _ g = absurd g
+  extent_bound m ks (comprehension id x y acc range init condition step result) _ g = absurd g
 
   target_bound : (m : Maps) (ks : Kinds) (on : CelTarget) (args : CelTrees) (es : TypedTrees)
       → ((fs : TypedTrees) → ElaboratesEach m ks args fs → extents fs + count fs ≤ 2 * trees_count args)
@@ -120,26 +121,28 @@ mutual
   few m ks (list_literal id elements) _ d g le = absurd g
   few m ks (map_literal id entries) (typed_map t pairs) d g le = few_pairs m ks entries pairs d g.1 le
   few m ks (map_literal id entries) _ d g le = absurd g
-  few m ks (comprehension id x acc range init condition step result) (typed_loop t r i c s e) d g le =
+  few m ks (comprehension id x y acc range init condition step result) (typed_loop t vars r i c s e) d g le =
+      let n = variable_count (variables_of y) in
+      let many : variable_count vars ≡ n = ap variable_count g.1 in
       let a = locals_in range in
       let b = locals_in init in
-      let u = locals_in condition in
-      let v = locals_in step in
-      let w = locals_in result in
-      let l1 = right a (max b (max (2 + u) (max (2 + v) (1 + w)))) 255 d le in
-      let l2 = right b (max (2 + u) (max (2 + v) (1 + w))) 255 d l1 in
-      let l3 = right (2 + u) (max (2 + v) (1 + w)) 255 d l2 in
-      let of_condition = left (2 + u) (max (2 + v) (1 + w)) 255 d l2 in
-      let of_step = left (2 + v) (1 + w) 255 d l3 in
-      let of_result = right (2 + v) (1 + w) 255 d l3 in (
-        omega (arith, of_condition),
-        few m ks range r d g.5 (left a (max b (max (2 + u) (max (2 + v) (1 + w)))) 255 d le),
-        few m ks init i d g.6 (left b (max (2 + u) (max (2 + v) (1 + w))) 255 d l1),
-        few m _ condition c (d + 2) g.7 (omega (arith, of_condition)),
-        few m _ step s (d + 2) g.8 (omega (arith, of_step)),
-        few m _ result e (d + 1) g.9 (omega (arith, of_result)),
+      let u = n + 1 + locals_in condition in
+      let v = n + 1 + locals_in step in
+      let w = 1 + locals_in result in
+      let l1 = right a (max b (max u (max v w))) 255 d le in
+      let l2 = right b (max u (max v w)) 255 d l1 in
+      let l3 = right u (max v w) 255 d l2 in
+      let of_condition = left u (max v w) 255 d l2 in
+      let of_step = left v w 255 d l3 in
+      let of_result = right v w 255 d l3 in (
+        omega (arith, many, of_condition),
+        few m ks range r d g.6 (left a (max b (max u (max v w))) 255 d le),
+        few m ks init i d g.7 (left b (max u (max v w)) 255 d l1),
+        few m _ condition c (d + 1 + variable_count vars) g.8 (omega (arith, many, of_condition)),
+        few m _ step s (d + 1 + variable_count vars) g.9 (omega (arith, many, of_step)),
+        few m _ result e (d + 1) g.10 (omega (arith, of_result)),
       )
-  few m ks (comprehension id x acc range init condition step result) _ d g le = absurd g
+  few m ks (comprehension id x y acc range init condition step result) _ d g le = absurd g
 
   few_target : (m : Maps) (ks : Kinds) (on : CelTarget) (args : CelTrees) (es : TypedTrees) (d : ℕ)
       → ((fs : TypedTrees) → ElaboratesEach m ks args fs → HaveFewLocals d fs)

@@ -1,29 +1,31 @@
 -- The theorem, by induction on the expression.
-use Rattle.std.proofs.Common.{◌≡◌, ℕ, ◌+◌, ◌*◌, ◌≤◌, List, [], ◌∷◌, length, Option, Some, None, refl, sym, ap, ◌∙◌, subst, arith, slice_get}
+use Rattle.std.proofs.Common.{◌≡◌, ℕ, suc, ◌+◌, ◌*◌, ◌≤◌, List, [], ◌∷◌, ◌++◌, length, Option, Some, None, refl, sym, ap, ◌∙◌, subst, arith, slice_get}
 use Rattle.std.specs.Option.{option_and_then}
 use Rattle.attributes.specs.Limits.{LimitsValue}
 use Rattle.attributes.specs.Request.{IsRequest, RequestValue}
 use Rattle.cel_value.specs.Masses.{length_of}
-use Rattle.cel_value.specs.Types.{AnswerHasType, EachItem, HasType, ValueType, bool_type, list_type, map_type}
-use Rattle.cel_value.specs.Values.{CelAnswer, CelValue, CelValues, no_items, item, no_entries, list, map_of, value, fails}
+use Rattle.cel_value.specs.Types.{AnswerHasType, ValueType, bool_type, list_type, map_type}
+use Rattle.cel_value.specs.Values.{CelAnswer, CelValue, CelValues, no_items, no_entries, list, map_of, value, fails}
 use Rattle.cel_value.specs.declared.cel_type.KeyType.{KeyType}
 use Rattle.cel_value.specs.declared.cel_type.KeyType.TheVariants as keys
 use Rattle.cel_value.specs.declared.error.CelError.{CelError}
 use Rattle.cel_ops.specs.Charges.{list_literal_charge, loop_charge, map_literal_charge}
 use Rattle.cel_ops.specs.Collections.{elements_of, field, has_field, list_literal, map_literal}
 use Rattle.cel_ops.specs.Logic.{conjunction, disjunction}
-use Rattle.cel_ops.specs.Typed.{ElementsHaveType}
 use Rattle.cel_overload.specs.Answers.{HaveTypes, conditional, on_two, overload_answer}
 use Rattle.cel_overload.specs.steps.Charges.{overload_charge}
 use Rattle.cel_ops.specs.declared.operation.Operation.TheVariants as operations
 use Rattle.cel_overload.specs.declared.overload.Overload.TheVariants as overloads
 use Rattle.cel_types.specs.Elaborated.{TypedTree, typed_constant, typed_local, typed_attribute, typed_field, typed_has, typed_call, typed_list, typed_map, typed_loop, TypedTrees, no_typed, typed, kind, kinds}
-use Rattle.cel_types.specs.Meaning.{before, fold, over}
+use Rattle.cel_types.specs.Meaning.{before, fold, over, turns_of}
+use Rattle.cel_types.specs.Names.{variable_count}
+use Rattle.cel_types.specs.declared.typed.Variables.{Variables}
 use Rattle.cel_types.specs.TypedMeaning.{typed_answer, typed_answers}
 use Rattle.cel_types.specs.WellTyped.{AreKeyed, AreWellTyped, IsWellTyped}
-use Rattle.cel_types.proofs.WellTypedAnswers.{answer_typed, answers_typed, walked_typed}
-use Rattle.cost_bound.specs.Costs.{charge_at, cost_of, costs_of, element_size, grown, map_cost, size_of, sizes_of, total, turns_cost}
-use Rattle.cost_bound.specs.Sizes.{AllWithin, Fits, Size, Within, most_of}
+use Rattle.cel_types.proofs.WellTypedAnswers.{all_have_types, answer_typed, answers_typed, walked_typed}
+use Rattle.cost_bound.specs.Costs.{charge_at, cost_of, costs_of, grown, map_cost, size_of, sizes_of, total, turns_cost, variable_sizes}
+use Rattle.cost_bound.specs.Sizes.{AllWithin, Size, Within, most_of}
+use Rattle.cost_bound.proofs.Within.{all_within_more}
 use Rattle.stack_machine.specs.Instructions.{Instruction, Const, Attr, Load, Store, EmptyList, EmptyMap, Field, HasField, LoopStart, MakeList, MakeMap}
 use Rattle.stack_machine.specs.Machine.{OpenLoop, gives, opened}
 use Rattle.cel_compile.specs.Codes.{count, instruction_of, list_instruction, map_instruction, pairs}
@@ -34,6 +36,7 @@ use Rattle.cel_compile.proofs.Goes.{Goes, at, at_most, held, one, plain, state, 
 use Rattle.cel_compile.proofs.Loop.{Parts, left_all, loop_goes}
 use Rattle.cel_compile.proofs.Nodes.{and_goes, choice_goes, makes_goes, or_goes}
 use Rattle.cel_compile.proofs.Placing.{Placed, PlacedAll}
+use Rattle.cel_compile.proofs.Turns.{both_each, scope_count, turns_typed, walks_over}
 
 -- ---- answers of two or three operands
 
@@ -52,15 +55,16 @@ three_some oc oa ob xs e =
     let y = two_some oa ob x.1 x.3 in
     (x.0, y.0, y.1, x.2, y.2, y.3, x.4 ∙ ap (λ l. x.0 ∷ l) y.4)
 
--- a range that has an answer is an error, or has elements
-data Ranges (o : Option CelAnswer) (go : CelValues → Option CelAnswer) (r : CelAnswer) : Type 0 where
-  failed : (e : CelError) → o ≡ Some (fails e) → r ≡ fails e → Ranges o go r
-  walks : (v : CelValue) (vs : CelValues) → o ≡ Some (value v) → elements_of v ≡ Some vs → go vs ≡ Some r → Ranges o go r
+-- a range that has an answer is an error, or has turns
+data Ranges (vars : Variables) (o : Option CelAnswer) (go : List (List CelAnswer) → Option CelAnswer) (r : CelAnswer) : Type 0 where
+  failed : (e : CelError) → o ≡ Some (fails e) → r ≡ fails e → Ranges vars o go r
+  walks : (v : CelValue) (turns : List (List CelAnswer)) → o ≡ Some (value v) → turns_of vars v ≡ Some turns → go turns ≡ Some r → Ranges vars o go r
 
-over_some : (o : Option CelAnswer) (go : CelValues → Option CelAnswer) (r : CelAnswer) → over o go ≡ Some r → Ranges o go r
-over_some None go r e = absurd cc
-over_some (Some (fails d)) go r e = failed d refl cc
-over_some (Some (value v)) go r e = let x = then_some go (elements_of v) r e in walks v x.0 refl x.1 x.2
+over_some : (vars : Variables) (o : Option CelAnswer) (go : List (List CelAnswer) → Option CelAnswer) (r : CelAnswer) → over vars o go ≡ Some r
+    → Ranges vars o go r
+over_some vars None go r e = absurd cc
+over_some vars (Some (fails d)) go r e = failed d refl cc
+over_some vars (Some (value v)) go r e = let x = then_some go (turns_of vars v) r e in walks v x.0 refl x.1 x.2
 
 -- ---- numbers of operands
 
@@ -119,15 +123,6 @@ map_makes t no_typed (a ∷ xs) r many e = absurd (omega arith)
 map_makes t (typed y es) xs r many e =
     rw (some_map t y es) (literal_makes (MakeMap (pairs (typed y es))) map_literal map_literal_charge (2 * pairs (typed y es)) (λ q z. refl) (λ st. refl) xs r many e)
 
--- each element is typed and within the size
-both_each : (t : ValueType) (s : Size) (vs : CelValues) → EachItem (λ v. HasType v t) vs → EachItem (λ v. Fits v s) vs
-    → EachItem (λ v. HasType v t × Fits v s) vs
-both_each t s no_items h k = tt
-both_each t s (item v vs) h k = ((h.0, k.0), both_each t s vs h.1 k.1)
-
-elements_typed : (o : Option CelValues) (vs : CelValues) (t : ValueType) → o ≡ Some vs → ElementsHaveType o t → EachItem (λ v. HasType v t) vs
-elements_typed o vs t e h = subst (λ x. ElementsHaveType x t) e h
-
 -- ---- a loop whole, from its range, its init and its turns
 
 module _ (code : List Instruction) (request : RequestValue) (st ls : List CelAnswer) (lo : List OpenLoop) where
@@ -154,23 +149,24 @@ module _ (code : List Instruction) (request : RequestValue) (st ls : List CelAns
       at_most code request le (then_goes code request (then_goes code request (then_goes code request (then_goes code request gr g') gi) kept) gl)
 
 -- a loop whole, by what its range comes to
-loop_runs : (code : List Instruction) (request : RequestValue) (limits : LimitsValue) (st ls : List CelAnswer) (lo : List OpenLoop) (range init : TypedTree)
-    (p m n q : ℕ) (sizes : List Size) (r : CelAnswer) (go : CelValues → Option CelAnswer) (cr ci cl e : ℕ)
+loop_runs : (code : List Instruction) (request : RequestValue) (limits : LimitsValue) (st ls : List CelAnswer) (lo : List OpenLoop) (vars : Variables) (range init : TypedTree)
+    (p m n q : ℕ) (sizes : List Size) (r : CelAnswer) (go : List (List CelAnswer) → Option CelAnswer) (cr ci cl e : ℕ)
     → slice_get code m ≡ Some (LoopStart q) → slice_get code n ≡ Some (Store (length ls))
-    → Ranges (typed_answer range request ls) go r
+    → Ranges vars (typed_answer range request ls) go r
     → ((a : CelAnswer) → typed_answer range request ls ≡ Some a → Goes code request cr (at p st ls lo) (at m (a ∷ st) ls lo))
-    → ((v : CelValue) (vs : CelValues) → typed_answer range request ls ≡ Some (value v) → elements_of v ≡ Some vs → go vs ≡ Some r
+    → ((v : CelValue) (turns : List (List CelAnswer)) → typed_answer range request ls ≡ Some (value v) → turns_of vars v ≡ Some turns → go turns ≡ Some r
     → (a : CelAnswer) × Goes code request ci (at (m + 1) st ls (turned v 0 ∷ lo)) (at n (a ∷ st) ls (turned v 0 ∷ lo))
     × (length_of v ≤ most_of (size_of range limits sizes))
     × Goes code request cl (at (n + 1) st (a ∷ ls) (turned v 0 ∷ lo)) (at q (r ∷ st) ls lo))
     → cr + (1 + most_of (size_of range limits sizes)) + ci + 1 + cl ≤ e
     → Goes code request e (at p st ls lo) (at q (r ∷ st) ls lo)
-loop_runs code request limits st ls lo range init p m n q sizes r go cr ci cl e h1 h2 (failed d is same) gr rest le =
+loop_runs code request limits st ls lo vars range init p m n q sizes r go cr ci cl e h1 h2 (failed d is same) gr rest le =
     rw same (range_fails code request st ls lo p m q cr e d h1 (omega arith) (gr (fails d) is))
-loop_runs code request limits st ls lo range init p m n q sizes r go cr ci cl e h1 h2 (walks v vs is elements turns) gr rest le =
-    let x = rest v vs is elements turns in
+loop_runs code request limits st ls lo vars range init p m n q sizes r go cr ci cl e h1 h2 (walks v turns is begun made) gr rest le =
+    let x = rest v turns is begun made in
+    let elements = walks_over vars v turns begun in
     let long = x.2 in
-    range_walks code request st ls lo p m n q cr ci cl (most_of (size_of range limits sizes)) e v vs x.0 r h1 h2 elements (omega (arith, long)) le
+    range_walks code request st ls lo p m n q cr ci cl (most_of (size_of range limits sizes)) e v elements.0 x.0 r h1 h2 elements.1 (omega (arith, long)) le
     (gr (value v) is) x.1 x.3
 
 -- ---- every expression
@@ -269,31 +265,39 @@ module _ (code : List Instruction) (request : RequestValue) (limits : LimitsValu
         rw e (makes_goes code request ls lo (map_instruction t entries) p m all.0 st r (total (costs_of entries limits sizes)) (map_literal_charge all.0)
         (total (costs_of entries limits sizes) + map_cost (sizes_of entries limits sizes)) h
         (map_makes t entries all.0 r many all.2) (omega (arith, charged)) (runs_all entries p m st ls lo sizes ks all.0 ht hw g.0 po all.1))
-    runs (typed_loop t range init condition step result) p q st ls lo sizes ks r ht hw g (m, n, k, l, pr, h1, pi, h2, h3, pc, h4, ps, h5, h6, pe) is =
-        let C : CelValue → CelAnswer → Option CelAnswer = λ v a. typed_answer condition request (value v ∷ a ∷ ls) in
-        let S : CelValue → CelAnswer → Option CelAnswer = λ v a. typed_answer step request (value v ∷ a ∷ ls) in
+    runs (typed_loop t vars range init condition step result) p q st ls lo sizes ks r ht hw g (m, n, k, l, pr, h1, pi, h2, h3, pc, h4, ps, h5, h6, pe) is =
+        let C : List CelAnswer → CelAnswer → Option CelAnswer = λ vs a. typed_answer condition request (vs ++ a ∷ ls) in
+        let S : List CelAnswer → CelAnswer → Option CelAnswer = λ vs a. typed_answer step request (vs ++ a ∷ ls) in
         let R : CelAnswer → Option CelAnswer = λ a. typed_answer result request (a ∷ ls) in
         let over_size = size_of range limits sizes in
-        let item_size = element_size over_size in
-        let cc : Size → ℕ = λ z. cost_of condition limits (item_size ∷ z ∷ sizes) in
-        let cs : Size → ℕ = λ z. cost_of step limits (item_size ∷ z ∷ sizes) in
+        let each_size = variable_sizes vars over_size in
+        let cc : Size → ℕ = λ z. cost_of condition limits (each_size ++ z ∷ sizes) in
+        let cs : Size → ℕ = λ z. cost_of step limits (each_size ++ z ∷ sizes) in
         let cr : Size → ℕ = λ z. cost_of result limits (z ∷ sizes) in
-        let next : Size → Size = λ z. size_of step limits (item_size ∷ z ∷ sizes) in
-        let element = g.2.0 in
-        let IsElement : CelValue → Type 0 = λ v. HasType v element × Fits v item_size in
+        let next : Size → Size = λ z. size_of step limits (each_size ++ z ∷ sizes) in
+        let each = g.2.0 in
+        let inner = each ++ kind init ∷ ks in
+        let IsTurn : List CelAnswer → Type 0 = λ vs. HaveTypes vs each × AllWithin vs each_size in
         let IsGathered : CelAnswer → Size → Type 0 = λ a s. AnswerHasType a (kind init) × Within a s in
-        let parts : (over : CelValue) → Parts code request ls lo st over n k l q C S R cc cs cr next IsElement IsGathered = λ over. record {
+        -- the scope of a turn
+        let types : (vs : List CelAnswer) (a : CelAnswer) (s : Size) → IsTurn vs → IsGathered a s → HaveTypes (vs ++ a ∷ ls) inner =
+        λ vs a s hv ha. all_have_types vs (a ∷ ls) each (kind init ∷ ks) hv.0 (ha.0, ht) in
+        let fits : (vs : List CelAnswer) (a : CelAnswer) (s : Size) → IsTurn vs → IsGathered a s → AllWithin (vs ++ a ∷ ls) (each_size ++ s ∷ sizes) =
+        λ vs a s hv ha. all_within_more vs (a ∷ ls) each_size (s ∷ sizes) hv.1 (ha.1, hw) in
+        let scope : (vs : List CelAnswer) (a : CelAnswer) → HaveTypes vs each → variable_count vars + suc (length ls) ≡ length (vs ++ a ∷ ls) =
+        λ vs a hv. sym (scope_count vars (kind range) each vs ls a g.2.1 hv) in
+        let parts : (over : CelValue) → Parts code request ls lo st vars over n k l q C S R cc cs cr next IsTurn IsGathered = λ over. record {
           starts = h3;
           tested = h4;
           kept = h5;
           again = h6;
-          condition = λ v a s i c hv ha e. runs condition (n + 1 + 1) k st (value v ∷ a ∷ ls) (turned over i ∷ lo) (item_size ∷ s ∷ sizes) (element ∷ kind init ∷ ks) c
-              (hv.0, (ha.0, ht)) (hv.1, (ha.1, hw)) g.2.2 pc e;
-          body = λ v a s i b hv ha e. runs step (k + 1) l st (value v ∷ a ∷ ls) (turned over i ∷ lo) (item_size ∷ s ∷ sizes) (element ∷ kind init ∷ ks) b
-              (hv.0, (ha.0, ht)) (hv.1, (ha.1, hw)) g.2.4 ps e;
-          gathers = λ v a s b hv ha e. (
-            subst (λ z. AnswerHasType b z) g.2.5 (answer_has_type step (element ∷ kind init ∷ ks) (value v ∷ a ∷ ls) b (hv.0, (ha.0, ht)) g.2.4 e),
-            bounds.right b s (next s) (bounds.answer step (element ∷ kind init ∷ ks) (value v ∷ a ∷ ls) (item_size ∷ s ∷ sizes) b g.2.4 (hv.1, (ha.1, hw)) e),
+          condition = λ vs a s i c hv ha e. runs condition (n + 1 + 1) k st (vs ++ a ∷ ls) (turned over i ∷ lo) (each_size ++ s ∷ sizes) inner c
+              (types vs a s hv ha) (fits vs a s hv ha) g.2.2 (subst (λ d. Placed code (n + 1 + 1) d condition k) (scope vs a hv.0) pc) e;
+          body = λ vs a s i b hv ha e. runs step (k + 1) l st (vs ++ a ∷ ls) (turned over i ∷ lo) (each_size ++ s ∷ sizes) inner b
+              (types vs a s hv ha) (fits vs a s hv ha) g.2.4 (subst (λ d. Placed code (k + 1) d step l) (scope vs a hv.0) ps) e;
+          gathers = λ vs a s b hv ha e. (
+            subst (λ z. AnswerHasType b z) g.2.5 (answer_has_type step inner (vs ++ a ∷ ls) b (types vs a s hv ha) g.2.4 e),
+            bounds.right b s (next s) (bounds.answer step inner (vs ++ a ∷ ls) (each_size ++ s ∷ sizes) b g.2.4 (fits vs a s hv ha) e),
           );
           keeps = λ a s ha. (ha.0, bounds.left a s (next s) ha.1);
           result = λ a s b ha e. runs result (l + 1 + 1) q st (a ∷ ls) lo (s ∷ sizes) (kind init ∷ ks) b (ha.0, ht) (ha.1, hw) g.3 pe e;
@@ -301,23 +305,23 @@ module _ (code : List Instruction) (request : RequestValue) (limits : LimitsValu
         let most = most_of over_size in
         let from = size_of init limits sizes in
         let far = grown next most from in
-        let turns = turns_cost next (λ z. cc z + cs z + 4) most from in
-        loop_runs code request limits st ls lo range init p m n q sizes r
-        (λ vs. option_and_then (fold C S R vs) (typed_answer init request ls)) (cost_of range limits sizes) (cost_of init limits sizes) (turns + 1 + cr far) _
-        h1 h2 (over_some (typed_answer range request ls) _ r is)
+        let all_turns = turns_cost next (λ z. cc z + cs z + 4) most from in
+        loop_runs code request limits st ls lo vars range init p m n q sizes r
+        (λ turns. option_and_then (fold C S R turns) (typed_answer init request ls)) (cost_of range limits sizes) (cost_of init limits sizes) (all_turns + 1 + cr far) _
+        h1 h2 (over_some vars (typed_answer range request ls) _ r is)
         (λ a e. runs range p m st ls lo sizes ks a ht hw g.0 pr e)
-        (λ v vs e is_elements is_turns.
-        let x = then_some (fold C S R vs) (typed_answer init request ls) r is_turns in
+        (λ v turns e is_turns is_made.
+        let x = then_some (fold C S R turns) (typed_answer init request ls) r is_made in
         let fit = bounds.answer range ks ls sizes (value v) g.0 hw e in
-        let range_typed = answer_has_type range ks ls (value v) ht g.0 e in (
+        let range_typed = answer_has_type range ks ls (value v) ht g.0 e in
+        let found = bounds.turns vars v turns over_size fit is_turns in (
           x.0,
           runs init (m + 1) n st ls (turned v 0 ∷ lo) sizes ks x.0 ht hw g.1 pi x.1,
           bounds.long v over_size fit,
-          loop_goes code request ls lo st v n k l q C S R cc cs cr next IsElement IsGathered (parts v) vs 0 most x.0 from r (left_all v vs is_elements)
+          loop_goes code request ls lo st vars v n k l q C S R cc cs cr next IsTurn IsGathered (parts v) turns 0 most x.0 from r (left_all vars v turns is_turns)
               (answer_has_type init ks ls x.0 ht g.1 x.1, bounds.answer init ks ls sizes x.0 g.1 hw x.1)
-              (both_each element item_size vs (elements_typed (elements_of v) vs element is_elements (walked_typed (kind range) element g.2.1 v range_typed))
-              (bounds.elements v vs over_size fit is_elements))
-              (bounds.few v vs over_size fit is_elements) x.2,
+              (both_each each each_size turns (turns_typed (turns_of vars v) turns each is_turns (walked_typed vars (kind range) each g.2.1 v range_typed)) found.1)
+              found.0 x.2,
         ))
         (omega arith)
 

@@ -1,9 +1,10 @@
 -- The table of an expression's code: what is known at each of its positions, by the expression's types.
-use Rattle.std.proofs.Common.{ℕ, suc, ◌+◌, ◌<◌, ◌≤◌, List, ◌∷◌, length, arith}
+use Rattle.std.proofs.Common.{ℕ, suc, ◌+◌, ◌<◌, ◌≤◌, List, ◌∷◌, ◌++◌, length, arith}
 use Rattle.cel_value.specs.Types.{ValueType}
 use Rattle.cel_ops.specs.declared.operation.Operation.TheVariants as operations
 use Rattle.cel_overload.specs.declared.overload.Overload.TheVariants as overloads
 use Rattle.cel_types.specs.Elaborated.{TypedTree, typed_constant, typed_local, typed_attribute, typed_field, typed_has, typed_call, typed_list, typed_map, typed_loop, TypedTrees, no_typed, typed, kind, kinds}
+use Rattle.cel_types.specs.Names.{variable_count}
 use Rattle.stack_machine.specs.Instructions.{Instruction}
 use Rattle.stack_machine.specs.Locals.{with_local}
 use Rattle.stack_machine.specs.Shapes.{Shape}
@@ -17,11 +18,11 @@ use Rattle.cel_compile.proofs.Settling.{cut, spot}
 abbrev pub last : Shape → Table
 last s = λ r. s
 
--- behind a comprehension's step: what is gathered is set again, and the element is known still
-abbrev pub turned : (element gathered step : ValueType) → List Slot → List ValueType → List Slot → Shape
-turned element gathered step slots ks loops = record {
+-- behind a comprehension's step: what is gathered is set again, and the variables are known still
+abbrev pub turned : (each : List ValueType) (gathered step : ValueType) → List Slot → List ValueType → List Slot → Shape
+turned each gathered step slots ks loops = record {
   slots = slots;
-  locals = with_local (locals_of (element ∷ gathered ∷ ks)) (length ks) (of step);
+  locals = with_local (locals_of (each ++ gathered ∷ ks)) (length ks) (of step);
   loops = loops;
 }
 
@@ -55,17 +56,17 @@ module _ (code : List Instruction) where
         cut x.0 (tables_of elements p d x.0 x.1 ks slots loops) (last (shape (pushed (kinds elements) slots) ks loops))
     table_of (typed_map t entries) p d q x ks slots loops =
         cut x.0 (tables_of entries p d x.0 x.1 ks slots loops) (last (shape (pushed (kinds entries) slots) ks loops))
-    table_of (typed_loop t range init condition step result) p d q (m, n, k, l, pr, h1, pi, h2, h3, pc, h4, ps, h5, h6, pe) ks slots loops =
-        let element = walked (kind range) in
+    table_of (typed_loop t vars range init condition step result) p d q (m, n, k, l, pr, h1, pi, h2, h3, pc, h4, ps, h5, h6, pe) ks slots loops =
+        let each = walked vars (kind range) in
         let outer = kind init ∷ ks in
-        let inner = element ∷ outer in
+        let inner = each ++ outer in
         let over = of (kind range) ∷ loops in
         cut m (table_of range p d m pr ks slots loops) (spot m (shape (of (kind range) ∷ slots) ks loops)
         (cut n (table_of init (m + 1) d n pi ks slots over) (spot n (shape (of (kind init) ∷ slots) ks over)
         (spot (n + 1) (shape slots outer over)
-        (cut k (table_of condition (n + 1 + 1) (suc (suc d)) k pc inner slots over) (spot k (shape (of (kind condition) ∷ slots) inner over)
-        (cut l (table_of step (k + 1) (suc (suc d)) l ps inner slots over) (spot l (shape (of (kind step) ∷ slots) inner over)
-        (spot (l + 1) (turned element (kind init) (kind step) slots ks over)
+        (cut k (table_of condition (n + 1 + 1) (variable_count vars + suc d) k pc inner slots over) (spot k (shape (of (kind condition) ∷ slots) inner over)
+        (cut l (table_of step (k + 1) (variable_count vars + suc d) l ps inner slots over) (spot l (shape (of (kind step) ∷ slots) inner over)
+        (spot (l + 1) (turned each (kind init) (kind step) slots ks over)
         (table_of result (l + 1 + 1) (suc d) q pe outer slots loops))))))))))
 
     -- the same of expressions one after the other
@@ -101,11 +102,11 @@ module _ (code : List Instruction) where
         omega (arith, le, end)
     longer (typed_list t elements) p d q (m, po, h, e) = let le = longer_all elements p d m po in omega (arith, le, e)
     longer (typed_map t entries) p d q (m, po, h, e) = let le = longer_all entries p d m po in omega (arith, le, e)
-    longer (typed_loop t range init condition step result) p d q (m, n, k, l, pr, h1, pi, h2, h3, pc, h4, ps, h5, h6, pe) =
+    longer (typed_loop t vars range init condition step result) p d q (m, n, k, l, pr, h1, pi, h2, h3, pc, h4, ps, h5, h6, pe) =
         let lr = longer range p d m pr in
         let li = longer init (m + 1) d n pi in
-        let lc = longer condition (n + 1 + 1) (suc (suc d)) k pc in
-        let ls = longer step (k + 1) (suc (suc d)) l ps in
+        let lc = longer condition (n + 1 + 1) (variable_count vars + suc d) k pc in
+        let ls = longer step (k + 1) (variable_count vars + suc d) l ps in
         let le = longer result (l + 1 + 1) (suc d) q pe in
         omega (arith, lr, li, lc, ls, le)
 

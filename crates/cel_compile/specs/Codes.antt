@@ -8,7 +8,10 @@ use Rattle.cel_overload.specs.declared.overload.Overload.{Overload}
 use Rattle.cel_ops.specs.declared.operation.Operation.TheVariants as operations
 use Rattle.cel_overload.specs.declared.overload.Overload.TheVariants as overloads
 use Rattle.cel_types.specs.Elaborated.{TypedTree, typed_constant, typed_local, typed_attribute, typed_field, typed_has, typed_call, typed_list, typed_map, typed_loop, TypedTrees, no_typed, typed}
-use Rattle.stack_machine.specs.Instructions.{Instruction, Const, Attr, Load, Store, Operate, Field, HasField, MakeList, EmptyList, MakeMap, EmptyMap, Jump, IfFalse, IfTrue, Test, LoopStart, LoopNext, LoopTest}
+use Rattle.cel_types.specs.Names.{variable_count}
+use Rattle.cel_types.specs.declared.typed.Variables.{Variables}
+use Rattle.cel_types.specs.declared.typed.Variables.TheVariants as variables
+use Rattle.stack_machine.specs.Instructions.{Instruction, Const, Attr, Load, Store, Operate, Field, HasField, MakeList, EmptyList, MakeMap, EmptyMap, Jump, IfFalse, IfTrue, Test, LoopStart, LoopNext, LoopNext2, LoopTest}
 
 -- the instruction of a call on its operands' answers. No well typed expression uses the one of a conditional,
 -- since a conditional has three operands and jumps
@@ -41,6 +44,11 @@ map_instruction (map_type k t) no_typed = EmptyMap k t
 map_instruction t no_typed = EmptyMap keys.Bool t
 map_instruction t es = MakeMap (pairs es)
 
+-- the begin of a turn: it sets the local with this number, and for two variables the next one too
+abbrev pub turn_instruction : Variables → (local done : ℕ) → Instruction
+turn_instruction variables.One local done = LoopNext local done
+turn_instruction variables.Two local done = LoopNext2 local (local + 1) done
+
 -- ---- the number of instructions
 
 abbrev mutual
@@ -60,7 +68,7 @@ abbrev mutual
   extent (typed_call t o operands) = extents operands + 1
   extent (typed_list t elements) = extents elements + 1
   extent (typed_map t entries) = extents entries + 1
-  extent (typed_loop t range init condition step result) = extent range + 1 + extent init + 1 + 1
+  extent (typed_loop t vars range init condition step result) = extent range + 1 + extent init + 1 + 1
       + extent condition + 1 + extent step + 1 + 1 + extent result
 
   -- the number of instructions of expressions in order
@@ -92,7 +100,7 @@ abbrev mutual
   code_of p d (typed_call t o operands) = codes_of p d operands ++ instruction_of o ∷ []
   code_of p d (typed_list t elements) = codes_of p d elements ++ list_instruction t elements ∷ []
   code_of p d (typed_map t entries) = codes_of p d entries ++ map_instruction t entries ∷ []
-  code_of p d (typed_loop t range init condition step result) =
+  code_of p d (typed_loop t vars range init condition step result) =
       let first = p + extent range + 1 in
       let turn = first + extent init + 1 in
       let tested = turn + 1 + extent condition in
@@ -100,9 +108,9 @@ abbrev mutual
       let end = after + extent result in
       code_of p d range ++ LoopStart end
       ∷ (code_of first d init ++ Store d
-      ∷ (LoopNext (d + 1) after
-      ∷ (code_of (turn + 1) (d + 2) condition ++ LoopTest after end
-      ∷ (code_of (tested + 1) (d + 2) step ++ Store d ∷ (Jump turn
+      ∷ (turn_instruction vars (d + 1) after
+      ∷ (code_of (turn + 1) (d + 1 + variable_count vars) condition ++ LoopTest after end
+      ∷ (code_of (tested + 1) (d + 1 + variable_count vars) step ++ Store d ∷ (Jump turn
       ∷ code_of after (d + 1) result)))))
 
   -- the instructions of expressions in order

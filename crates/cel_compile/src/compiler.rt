@@ -25,7 +25,7 @@ ghost use Rattle.cel_compile.specs.steps.Emitting.{Grows, GrowsAll, HasRoom, Hav
 use crate::few_locals::require_few_locals;
 use crate::instructions::{
     call_instr, constant_instr, field_instr, has_field_instr, is_choice, is_junction, list_instr,
-    map_instr, passing_over,
+    map_instr, passing_over, turn_instr, variable_count,
 };
 use crate::lengths::{Lengths, measure, take_targets};
 use cel_overload::Overload;
@@ -267,17 +267,12 @@ fn emit_loop(
     emit(code, lengths, depth, &parts.init)?;
     put(code, Instr::Store(depth))?;
     let turn = code.len() as u16;
-    let element = depth + 1;
-    put(
-        code,
-        Instr::LoopNext {
-            local: element,
-            done,
-        },
-    )?;
-    emit(code, lengths, depth + 2, &parts.condition)?;
+    let first = depth + 1;
+    let inside = first + variable_count(parts.variables);
+    put(code, turn_instr(parts.variables, first, done))?;
+    emit(code, lengths, inside, &parts.condition)?;
     put(code, Instr::LoopTest { done, failed: end })?;
-    emit(code, lengths, depth + 2, &parts.step)?;
+    emit(code, lengths, inside, &parts.step)?;
     put(code, Instr::Store(depth))?;
     put(code, Instr::Jump(turn))?;
     emit(code, lengths, depth + 1, &parts.result)?;

@@ -6,6 +6,7 @@ ghost use Rattle.cel_types.specs.steps.ExprViews.{exprs_view, parts_view};
 ghost use Rattle.cel_value.specs.Types.{ValueType};
 ghost use Rattle.cel_compile.specs.Slots.{HasFewLocals, HaveFewLocals};
 
+use crate::instructions::variable_count;
 use cel_types::{TypedExpr, TypedLoop};
 use proto_wire::Refusal;
 
@@ -45,13 +46,15 @@ fn has_few_locals(depth: u8, expr: &TypedExpr<'_>) -> bool
 fn loop_has_few_locals(depth: u8, parts: &TypedLoop<'_>) -> bool
     ensures { (t : ValueType) → IsTrue result ↔ HasFewLocals depth (loop_of t (parts_view parts.now)) }
 {
-    if depth > 253 {
+    let count = variable_count(parts.variables);
+    if depth > 254 - count {
         return false;
     }
+    let inside = depth + 1 + count;
     has_few_locals(depth, &parts.range)
         && has_few_locals(depth, &parts.init)
-        && has_few_locals(depth + 2, &parts.condition)
-        && has_few_locals(depth + 2, &parts.step)
+        && has_few_locals(inside, &parts.condition)
+        && has_few_locals(inside, &parts.step)
         && has_few_locals(depth + 1, &parts.result)
 }
 

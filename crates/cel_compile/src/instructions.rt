@@ -1,22 +1,23 @@
 //! Single instructions of the code of elaborated expressions.
 
-ghost use Rattle.std.specs.Prelude.{◌≡◌, ◌≢◌, ◌<◌, ◌↔◌, ◌⊎◌, ◌^◌, IfOk, IsTrue, length};
+ghost use Rattle.std.specs.Prelude.{◌≡◌, ◌≢◌, ◌<◌, ◌≤◌, ◌↔◌, ◌⊎◌, ◌^◌, IfOk, IsTrue, length};
 ghost use Rattle.cel_ops.specs.declared.operation.Operation.TheVariants as operations;
 ghost use Rattle.cel_overload.specs.declared.overload.Overload.TheVariants as Overload;
 ghost use Rattle.cel_value.specs.Types.{type_view};
 ghost use Rattle.cel_tree.specs.View.{constant_view};
 ghost use Rattle.cel_types.specs.steps.ExprViews.{exprs_view};
 ghost use Rattle.cel_types.specs.Elaborated.{no_typed};
+ghost use Rattle.cel_types.specs.Names.{variable_count};
 ghost use Rattle.stack_machine.specs.Instructions.{instr_view, Const, Field, HasField};
 ghost use Rattle.stack_machine.specs.Instructions as machine;
 ghost use Rattle.cel_value.specs.Texts.{text_view};
-ghost use Rattle.cel_compile.specs.Codes.{instruction_of, list_instruction, map_instruction};
+ghost use Rattle.cel_compile.specs.Codes.{instruction_of, list_instruction, map_instruction, turn_instruction};
 ghost use Rattle.cel_compile.specs.steps.Emitting.{passing_over};
 
 use cel_ops::Operation;
 use cel_overload::Overload;
 use cel_tree::Constant;
-use cel_types::TypedExpr;
+use cel_types::{TypedExpr, Variables};
 use cel_value::{CelType, KeyType};
 use stack_machine::{Constant as MachineConstant, Instr};
 use std::alloc::AllocError;
@@ -144,5 +145,31 @@ fn empty_map(cel_type: &CelType) -> Result<Instr, AllocError>
         CelType::Text => Ok(Instr::EmptyMap(KeyType::Bool, CelType::Text)),
         CelType::Bytes => Ok(Instr::EmptyMap(KeyType::Bool, CelType::Bytes)),
         CelType::List(items) => Ok(Instr::EmptyMap(KeyType::Bool, CelType::List(items.clone()?))),
+    }
+}
+
+/// How many variables a comprehension has beside its accumulator.
+pub(crate) fn variable_count(variables: Variables) -> u8
+    ensures same { result ≡ variable_count variables }
+    ensures few { result ≤ 2 }
+{
+    match variables {
+        Variables::One => 1,
+        Variables::Two => 2,
+    }
+}
+
+/// The begin of a turn. It sets the local with this number, and for two variables the next one too.
+pub(crate) fn turn_instr(variables: Variables, local: u8, done: u16) -> Instr
+    requires { local < 255 }
+    ensures { instr_view result ≡ turn_instruction variables local done }
+{
+    match variables {
+        Variables::One => Instr::LoopNext { local, done },
+        Variables::Two => Instr::LoopNext2 {
+            key: local,
+            value: local + 1,
+            done,
+        },
     }
 }

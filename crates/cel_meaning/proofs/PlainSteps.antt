@@ -1,5 +1,5 @@
 -- What the single steps of the plain evaluator come to.
-use Rattle.std.proofs.Common.{◌≡◌, ◌<◌, ◌+◌, ◌&&◌, ℕ, IsTrue, true, false, List, [], ◌∷◌, ◌++◌, drop, length, get_or, Option, Some, None, option_map, is_some, refl, sym, ap, ◌∙◌}
+use Rattle.std.proofs.Common.{◌≡◌, ◌<◌, ◌+◌, ◌&&◌, ℕ, IsTrue, true, false, List, [], ◌∷◌, ◌++◌, drop, length, get_or, map, Option, Some, None, option_map, is_some, refl, sym, ap, ◌∙◌}
 use Rattle.std.proofs.lemmas.List.{append_assoc, append-nil, drop_more}
 use Rattle.std.specs.FinMap.{entries, entries-from_sorted, from_sorted, is_sorted}
 use Rattle.std.specs.declared.alloc.Global.{Global}
@@ -26,7 +26,9 @@ use Rattle.cel_overload.specs.Answers.{function_answer}
 use Rattle.cel_overload.specs.Functions.{function_named}
 use Rattle.cel_overload.specs.declared.function.Function.{Function}
 use Rattle.cel_types.specs.Meaning.{Locals, before, call_answer, eval, eval_each, eval_entries, eval_target, turn}
-use Rattle.cel_meaning.specs.steps.Plain.{are_pairs, behind, turns}
+use Rattle.cel_types.specs.Names.{turn_scope}
+use Rattle.cel_meaning.specs.declared.elements.Turn.{Turn}
+use Rattle.cel_meaning.specs.steps.Plain.{are_pairs, behind, turn_view, turns}
 use Rattle.cel_ops.proofs.Operands.{gather_error as erring}
 pub use Rattle.cel_value.proofs.Items.{ranged, is_ranged, at_ranged, joined_none, some_left}
 use Rattle.cel_ops.proofs.AttributeTypes.{seen_pairs}
@@ -80,16 +82,16 @@ no_more vs items at (item w rest, is) =
 -- ---- turns of a comprehension
 
 -- the turns that are left: the next one, and those behind it
-pub next_turn : (p : LoopParts) (request : RequestValue) (ls : Locals) (elements : List Value) (i : ℕ)
-    (x : Value) (a : CelAnswer) → i < length elements → x ≡ get_or elements i x
-    → turns p request ls (values_view (drop i elements)) a
-    ≡ turn (eval p.loop_condition request ((p.iter_var, value (value_view x)) ∷ (p.accu_var, a) ∷ ls))
-    (eval p.loop_step request ((p.iter_var, value (value_view x)) ∷ (p.accu_var, a) ∷ ls))
-    (turns p request ls (values_view (drop (i + 1) elements)))
+pub next_turn : (p : LoopParts) (request : RequestValue) (ls : Locals) (each : List Turn) (i : ℕ)
+    (t : Turn) (a : CelAnswer) → i < length each → t ≡ get_or each i t
+    → turns p request ls (map turn_view (drop i each)) a
+    ≡ turn (eval p.loop_condition request (turn_scope p.iter_var p.iter_var2 p.accu_var (turn_view t) a ls))
+    (eval p.loop_step request (turn_scope p.iter_var p.iter_var2 p.accu_var (turn_view t) a ls))
+    (turns p request ls (map turn_view (drop (i + 1) each)))
     (eval p.result request ((p.accu_var, a) ∷ ls))
-next_turn p request ls elements i x a within here =
-    let first : drop i elements ≡ x ∷ drop (i + 1) elements = rw (← here) at (drop_more elements i x within) in
-    ap (λ vs. turns p request ls (values_view vs) a) first
+next_turn p request ls each i t a within here =
+    let first : drop i each ≡ t ∷ drop (i + 1) each = rw (← here) at (drop_more each i t within) in
+    ap (λ ts. turns p request ls (map turn_view ts) a) first
 
 -- ---- map literals
 

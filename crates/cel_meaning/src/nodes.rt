@@ -4,15 +4,15 @@ ghost use Rattle.std.specs.Prelude.{◌≡◌, [], ◌∷◌, IfOk, Option, Some
 ghost use Rattle.cel_tree.specs.View.{target_of, tree_view};
 ghost use Rattle.cel_tree.specs.steps.TreeViews.{boxed_view, loop_view, tree_entries_view, trees_view};
 ghost use Rattle.cel_value.specs.Texts.{text_view};
-ghost use Rattle.cel_value.specs.Values.{CelAnswer, value};
-ghost use Rattle.cel_value.specs.View.{answer_view, value_view, values_view};
+ghost use Rattle.cel_value.specs.Values.{CelAnswer};
+ghost use Rattle.cel_value.specs.View.{answer_view};
 ghost use Rattle.cel_types.specs.Meaning.{eval, eval_each, eval_entries, eval_target, select_answer, turn};
-ghost use Rattle.cel_types.specs.Names.{root_of};
-ghost use Rattle.cel_meaning.specs.steps.Plain.{behind, locals_view, loop_answer, turned, turns};
+ghost use Rattle.cel_types.specs.Names.{root_of, turn_scope};
+ghost use Rattle.cel_meaning.specs.steps.Plain.{behind, locals_view, loop_answer, turn_view, turned, turns};
 
 use crate::calls::call;
-use crate::elements::elements_of;
-use crate::known::{bare_root, with_local};
+use crate::elements::{Turn, turns_of};
+use crate::known::{bare_root, turn_scope, variables_of, with_local};
 use crate::leaves::{constant_value, field_answer, name_answer};
 use crate::literals::{list_of, map_of};
 use crate::unary::{has_field, select_field};
@@ -187,32 +187,33 @@ fn eval_loop(
         Some(Err(error)) => return Ok(Some(Err(error))),
         Some(Ok(range)) => range,
     };
-    let Some(elements) = elements_of(alloc, &range)? else {
+    let variables = variables_of(&parts.iter_var2);
+    let Some(turns) = turns_of(alloc, variables, &range)? else {
         return Ok(None);
     };
     match eval(alloc, &parts.accu_init, request, known)? {
         None => Ok(None),
-        Some(init) => eval_turns(alloc, parts, request, known, &elements, init),
+        Some(init) => eval_turns(alloc, parts, request, known, &turns, init),
     }
 }
 
-/// The turns of a comprehension over these elements, from this accumulator, and then its result.
+/// These turns of a comprehension, from this accumulator, and then its result.
 #[cycle(eval)]
 fn eval_turns(
     alloc: Global,
     parts: &Comprehension,
     request: &Request,
     known: &[(RcStr, Answer)],
-    elements: &[Value],
+    each: &[Turn],
     init: Answer,
 ) -> Result<Option<Answer>, AllocError>
     ensures { IfOk result (λ found. option_map answer_view found
-        ≡ turns (loop_view parts.now) request.now (locals_view known.now) (values_view elements.now)
+        ≡ turns (loop_view parts.now) request.now (locals_view known.now) (map turn_view each.now)
         (answer_view init)) }
 {
     let mut gathered = init;
-    for element in elements {
-        match eval_turn(alloc, parts, request, known, element, &gathered)? {
+    for turn in each {
+        match eval_turn(alloc, parts, request, known, turn, &gathered)? {
             Some(Ok(Some(next))) => gathered = next,
             Some(Ok(None)) => return eval_result(alloc, parts, request, known, &gathered),
             Some(Err(error)) => return Ok(Some(Err(error))),
@@ -239,7 +240,7 @@ fn eval_result(
     eval(alloc, &parts.result, request, &inner)
 }
 
-/// One turn with this element and this accumulator: the next accumulator, nothing if the loop ends, or the error that
+/// One turn with this accumulator: the next accumulator, nothing if the loop ends, or the error that
 /// is the loop's answer. `None` if a value is of a wrong kind or a name is not known.
 #[cycle(eval)]
 fn eval_turn(
@@ -247,18 +248,16 @@ fn eval_turn(
     parts: &Comprehension,
     request: &Request,
     known: &[(RcStr, Answer)],
-    element: &Value,
+    bound: &Turn,
     gathered: &Answer,
 ) -> Result<Option<Result<Option<Answer>, CelError>>, AllocError>
-    ensures { let ls = (text_view parts.now.iter_var, value (value_view element.now))
-        ∷ (text_view parts.now.accu_var, answer_view gathered.now) ∷ locals_view known.now in
+    ensures { let ls = turn_scope (text_view parts.now.iter_var) (text_view parts.now.iter_var2)
+        (text_view parts.now.accu_var) (turn_view bound.now) (answer_view gathered.now) (locals_view known.now) in
         IfOk result (λ t. (next : CelAnswer → Option CelAnswer) (ended : Option CelAnswer)
         → turn (eval (tree_view parts.now.loop_condition) request.now ls)
         (eval (tree_view parts.now.loop_step) request.now ls) next ended ≡ turned t next ended) }
 {
-    let inner = with_local(alloc, known, &parts.accu_var, gathered)?;
-    let element: Answer = Ok(element.copy()?);
-    let both = with_local(alloc, &inner, &parts.iter_var, &element)?;
+    let both = turn_scope(alloc, parts, known, bound, gathered)?;
     match eval(alloc, &parts.loop_condition, request, &both)? {
         Some(Ok(Value::Bool(true))) => match eval(alloc, &parts.loop_step, request, &both)? {
             Some(next) => Ok(Some(Ok(Some(next)))),

@@ -1,5 +1,5 @@
 -- The trees inside a node, as the code reads them one after the other.
-use Rattle.std.proofs.Common.{◌≡◌, ◌-◌, ◌+◌, ◌<◌, ◌++◌, inl, inr, ℕ, zero, suc, ℤ, List, [], ◌∷◌, Bor, length, take, get_or, Option, Some, None, SFits, w64, to_z, of_z, to_z-of_z, rules, arith, refl, ap, ap₂, subst}
+use Rattle.std.proofs.Common.{◌≡◌, ◌-◌, ◌+◌, ◌<◌, ◌++◌, ◌∙◌, inl, inr, ℕ, zero, suc, ℤ, List, [], ◌∷◌, Bor, length, take, get_or, Option, Some, None, SFits, w64, to_z, of_z, to_z-of_z, rules, arith, refl, ap, ap₂, subst}
 use Rattle.std.specs.declared.alloc.Global.{Global}
 use Rattle.std.specs.declared.boxed.Box.{Box}
 use Rattle.std.specs.declared.rc.RcStr.{RcStr}
@@ -114,7 +114,8 @@ module _ (depth : ℕ) (id : ℤ) (fits : SFits w64 id) where
       let sum = are.count in (
         tree q.iter_range (tree q.accu_init (tree q.loop_condition (tree q.loop_step (tree q.result no_trees)))),
         (are.iter_range, (are.accu_init, (are.loop_condition, (are.loop_step, (are.result, tt))))),
-        ap₂ (λ x y. comprehension id x y q.iter_range q.accu_init q.loop_condition q.loop_step q.result) are.iter_var are.accu_var,
+        ap₂ (λ x y. comprehension id x y q.accu_var q.iter_range q.accu_init q.loop_condition q.loop_step q.result) are.iter_var are.iter_var2
+            ∙ ap (λ acc. comprehension id p.iter_var p.iter_var2 acc q.iter_range q.accu_init q.loop_condition q.loop_step q.result) are.accu_var,
         omega (arith, sum),
       )
 

@@ -6,7 +6,7 @@ use Rattle.proto_wire.specs.Values.{bool_at, int64_at, bytes_at, payloads, has_f
 use Rattle.proto_wire.specs.declared.refusal.Refusal.{Refusal}
 use Rattle.proto_wire.specs.declared.refusal.Refusal.TheVariants.{BadText, Missing, Unsupported}
 use Rattle.cel_value.specs.Texts.{points_of}
-use Rattle.cel_tree.specs.Nodes.{EntryNode, Node, constant_node, ident_node, select_node, call_node, list_node, map_node, loop_node, ident_keys, IdentSays, IdentWrong, select_keys, SelectSays, SelectLacks, SelectWrong, call_keys, CallSays, CallWrong, list_keys, ListSays, ListWrong, key_members, entry_keys, EntrySays, EntryLacks, EntryWrong, optional, key_of_message, IsEntry, EntryFault, AreEntries, struct_keys, StructSays, StructWrong, bad_name, of_message, in_entry, loop_keys, NamesRead, PartsThere, loop_at, LoopSays, LacksPart, no_range, no_init, no_condition, no_step, no_result, LoopLacks, LoopWrong, bad_iter_var, bad_accu_var, bad_second_name, two_variables, node_kinds, node_keys, KindSays, KindFault, MemberSays, MemberFails, NodeSays, IsNode, NodeFault, ident_field, select_field, call_field, list_field, entry_field, struct_field, loop_field, node_field}
+use Rattle.cel_tree.specs.Nodes.{EntryNode, Node, constant_node, ident_node, select_node, call_node, list_node, map_node, loop_node, ident_keys, IdentSays, IdentWrong, select_keys, SelectSays, SelectLacks, SelectWrong, call_keys, CallSays, CallWrong, list_keys, ListSays, ListWrong, key_members, entry_keys, EntrySays, EntryLacks, EntryWrong, optional, key_of_message, IsEntry, EntryFault, AreEntries, struct_keys, StructSays, StructWrong, bad_name, of_message, in_entry, loop_keys, NamesRead, PartsThere, loop_at, LoopSays, LacksPart, no_range, no_init, no_condition, no_step, no_result, LoopLacks, LoopWrong, bad_iter_var, bad_accu_var, bad_second_name, node_kinds, node_keys, KindSays, KindFault, MemberSays, MemberFails, NodeSays, IsNode, NodeFault, ident_field, select_field, call_field, list_field, entry_field, struct_field, loop_field, node_field}
 use Rattle.cel_tree.specs.Reading.{LacksNothing, Never, LacksMember, IsUnsupported, OneofFault}
 use Rattle.cel_tree.specs.steps.Values.{ValuesFault}
 use Rattle.cel_tree.specs.declared.node.NodeKind.{NodeKind}
@@ -184,9 +184,9 @@ names_total fs = elim (utf8_total (bytes_at loop_field.iter_var fs)) [
   | inr other ↦ inr (BadText, bad_iter_var (other, refl))
   | inl iter ↦ elim (utf8_total (bytes_at loop_field.accu_var fs)) [
     | inr other ↦ inr (BadText, bad_accu_var (other, refl))
-    | inl accu ↦ elim (nil_or_not (bytes_at loop_field.iter_var2 fs)) [
-      | inr two ↦ inr (Unsupported, two_variables two refl)
-      | inl one ↦ inl (record { iter_var = iter; accu_var = accu; one = one })
+    | inl accu ↦ elim (utf8_total (bytes_at loop_field.iter_var2 fs)) [
+      | inr other ↦ inr (BadText, bad_second_name (other, refl))
+      | inl second ↦ inl (record { iter_var = iter; accu_var = accu; iter_var2 = second })
     ]
   ]
 ]
@@ -213,7 +213,7 @@ loop_total : (fs : List Wire) → ((node : Node) × LoopSays fs node) ⊎ ((e : 
 loop_total fs = elim (names_total fs) [
   | inr (e, bad) ↦ inr (e, inr bad)
   | inl names ↦ elim (parts_total fs) [
-    | inr lacks ↦ inr (Missing, inl ((names.iter_var, names.accu_var, empty_text (bytes_at loop_field.iter_var2 fs) names.one, lacks), refl))
+    | inr lacks ↦ inr (Missing, inl ((names, lacks), refl))
     | inl parts ↦ inl (loop_node (loop_at fs), (names, parts, refl))
   ]
 ]
@@ -226,11 +226,10 @@ parts_disjoint fs there (no_step none) = there.loop_step none
 parts_disjoint fs there (no_result none) = there.result none
 
 loop_disjoint : (fs : List Wire) (node : Node) (e : Refusal) → LoopSays fs node → ValuesFault LoopLacks LoopWrong fs e → ⊥
-loop_disjoint fs node e says (inl lacks) = parts_disjoint fs says.1 lacks.0.3
+loop_disjoint fs node e says (inl lacks) = parts_disjoint fs says.1 lacks.0.1
 loop_disjoint fs node e says (inr (bad_iter_var bad)) = bad.0 says.0.iter_var
 loop_disjoint fs node e says (inr (bad_accu_var bad)) = bad.0 says.0.accu_var
-loop_disjoint fs node e says (inr (bad_second_name bad)) = bad.0 (empty_text (bytes_at loop_field.iter_var2 fs) says.0.one)
-loop_disjoint fs node e says (inr (two_variables two is)) = two says.0.one
+loop_disjoint fs node e says (inr (bad_second_name bad)) = bad.0 says.0.iter_var2
 
 loop_unique : (fs : List Wire) (a b : Node) → LoopSays fs a → LoopSays fs b → a ≡ b
 loop_unique fs a b x y = x.2 ∙ sym y.2

@@ -2,6 +2,7 @@
 -- in the specs does not check.
 use Rattle.std.proofs.Common.{◌≡◌, ℕ, suc, ◌+◌, ◌*◌, ◌<◌, ℤ, pos, negsuc, Bool, true, false, ◌&&◌, T, ltb, List, [], ◌∷◌, ◌++◌, None, codes, length, ltb→lt, refl, sym, ap, ap₂, subst, arith}
 use Rattle.std.specs.Str.{IsUtf8, chars}
+use Rattle.std.proofs.lemmas.Str.{IsUtf8-nil}
 use Rattle.std.specs.Ordering.{int_cmp}
 use Rattle.std.specs.Cmp.{int_cmp_total}
 use Rattle.std.specs.FinMap.{entries, from_entries}
@@ -423,6 +424,7 @@ map_entry = record { id = pos 2; key = number_bytes 0x03 0x01 ∷ []; value = nu
 abbrev loop : List ℕ → List ℕ → Node
 loop element gathered = loop_node (record {
   iter_var = element;
+  iter_var2 = [];
   accu_var = gathered;
   iter_range = letter_bytes 0x01 0x78 ∷ [];
   accu_init = empty_bytes ∷ [];
@@ -458,6 +460,7 @@ abbrev expr_fields : ℕ → ℕ → List Wire → List Wire
 expr_fields id member inner = field 2 (varint id) ∷ field member (len (message inner)) ∷ []
 
 pub nodes : AreNodes
+unfolding chars
 nodes = record {
   has = (
     expr_fields 4 5 has_fields,
@@ -509,7 +512,7 @@ nodes = record {
         loop_fields,
         (merges loop_fields tt, refl),
         (
-          record { iter_var = i_text.0; accu_var = result_text.0; one = refl },
+          record { iter_var = i_text.0; accu_var = result_text.0; iter_var2 = IsUtf8-nil },
           record {
             iter_range = λ e. cc;
             accu_init = λ e. cc;

@@ -46,7 +46,7 @@ module _ (Below : Parts → CelTree → Type 0) where
   made id (loop_node p) (tree a (tree b (tree c no_trees))) are = absurd are.1.1.1
   made id (loop_node p) (tree a (tree b (tree c (tree d no_trees)))) are = absurd are.1.1.1.1
   made id (loop_node p) (tree a (tree b (tree c (tree d (tree e no_trees))))) are =
-      (comprehension id p.iter_var p.accu_var a b c d e, refl)
+      (comprehension id p.iter_var p.iter_var2 p.accu_var a b c d e, refl)
   made id (loop_node p) (tree a (tree b (tree c (tree d (tree e (tree f ts)))))) are = absurd are.1.1.1.1.1
 
   module _ (Fails : Parts → Refusal → Type 0) where

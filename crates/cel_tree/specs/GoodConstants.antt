@@ -22,7 +22,7 @@ abbrev mutual
   HasGoodConstants (call id function on args) = TargetIsGood on × AreGood args
   HasGoodConstants (list_literal id elements) = AreGood elements
   HasGoodConstants (map_literal id entries) = EntriesAreGood entries
-  HasGoodConstants (comprehension id x acc range init condition step result) =
+  HasGoodConstants (comprehension id x y acc range init condition step result) =
       HasGoodConstants range × HasGoodConstants init × HasGoodConstants condition
       × HasGoodConstants step × HasGoodConstants result
 

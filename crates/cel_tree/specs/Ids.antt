@@ -16,7 +16,7 @@ abbrev mutual
   HasIds (call id function on args) = IsInt64 id × TargetHasIds on × AllHaveIds args
   HasIds (list_literal id elements) = IsInt64 id × AllHaveIds elements
   HasIds (map_literal id entries) = IsInt64 id × EntriesHaveIds entries
-  HasIds (comprehension id x acc range init condition step result) =
+  HasIds (comprehension id x y acc range init condition step result) =
       IsInt64 id × HasIds range × HasIds init × HasIds condition × HasIds step × HasIds result
 
   -- each id in a call's target, if there is one, is an int64

@@ -30,9 +30,11 @@ pub record EntryNode : Type 0 where
   pub key : Parts
   pub value : Parts
 
--- the names of a comprehension, and the parts of its expressions
+-- the names of a comprehension, and the parts of its expressions; iter_var2 is empty if there is one
+-- variable
 pub record LoopNode : Type 0 where
   pub iter_var : List ℕ
+  pub iter_var2 : List ℕ
   pub accu_var : List ℕ
   pub iter_range : Parts
   pub accu_init : Parts
@@ -250,11 +252,11 @@ loop_keys = len_key loop_field.iter_var ∷ len_key loop_field.iter_range
     ∷ len_key loop_field.loop_condition ∷ len_key loop_field.loop_step
     ∷ len_key loop_field.result ∷ len_key loop_field.iter_var2 ∷ []
 
--- the names are UTF-8, and iter_var2 is empty
+-- the names are UTF-8
 pub record NamesRead (fs : List Wire) : Type 0 where
   pub iter_var : IsUtf8 (bytes_at loop_field.iter_var fs)
   pub accu_var : IsUtf8 (bytes_at loop_field.accu_var fs)
-  pub one : bytes_at loop_field.iter_var2 fs ≡ []
+  pub iter_var2 : IsUtf8 (bytes_at loop_field.iter_var2 fs)
 
 -- each part is present
 pub record PartsThere (fs : List Wire) : Type 0 where
@@ -268,6 +270,7 @@ pub record PartsThere (fs : List Wire) : Type 0 where
 abbrev pub loop_at : List Wire → LoopNode
 loop_at fs = record {
   iter_var = points_of (bytes_at loop_field.iter_var fs);
+  iter_var2 = points_of (bytes_at loop_field.iter_var2 fs);
   accu_var = points_of (bytes_at loop_field.accu_var fs);
   iter_range = payloads loop_field.iter_range fs;
   accu_init = payloads loop_field.accu_init fs;
@@ -288,17 +291,15 @@ pub data LacksPart (fs : List Wire) : Type 0 where
   no_step : payloads loop_field.loop_step fs ≡ [] → LacksPart fs
   no_result : payloads loop_field.result fs ≡ [] → LacksPart fs
 
--- some part is absent; this is a fault only if all names are UTF-8, even with an iter_var2
+-- some part is absent; this is a fault only if all names are UTF-8
 abbrev pub LoopLacks : List Wire → Type 0
-LoopLacks fs = IsUtf8 (bytes_at loop_field.iter_var fs) × IsUtf8 (bytes_at loop_field.accu_var fs)
-    × IsUtf8 (bytes_at loop_field.iter_var2 fs) × LacksPart fs
+LoopLacks fs = NamesRead fs × LacksPart fs
 
--- a name is not UTF-8, or iter_var2 is not empty
+-- a name is not UTF-8
 pub data LoopWrong (fs : List Wire) (e : Refusal) : Type 0 where
   bad_iter_var : Utf8Fault (bytes_at loop_field.iter_var fs) e → LoopWrong fs e
   bad_accu_var : Utf8Fault (bytes_at loop_field.accu_var fs) e → LoopWrong fs e
   bad_second_name : Utf8Fault (bytes_at loop_field.iter_var2 fs) e → LoopWrong fs e
-  two_variables : bytes_at loop_field.iter_var2 fs ≢ [] → e ≡ Unsupported → LoopWrong fs e
 
 -- ---- Expr
 

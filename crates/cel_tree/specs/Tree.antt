@@ -13,7 +13,8 @@ mutual
     call : ℤ → (function : List ℕ) → (target : CelTarget) → (args : CelTrees) → CelTree
     list_literal : ℤ → (elements : CelTrees) → CelTree
     map_literal : ℤ → (entries : CelTreeEntries) → CelTree
-    comprehension : ℤ → (iter_var accu_var : List ℕ)
+    -- a comprehension of one variable has no second name
+    comprehension : ℤ → (iter_var iter_var2 accu_var : List ℕ)
         → (iter_range accu_init loop_condition loop_step result : CelTree) → CelTree
 
   -- the optional target of a call

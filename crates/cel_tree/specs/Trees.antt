@@ -28,7 +28,7 @@ Makes id (map_node es) ts t =
     (entries : CelTreeEntries) × MadeEntries es ts entries × (t ≡ map_literal id entries)
 Makes id (loop_node p)
     (tree range (tree init (tree condition (tree step (tree result no_trees))))) t =
-    t ≡ comprehension id p.iter_var p.accu_var range init condition step result
+    t ≡ comprehension id p.iter_var p.iter_var2 p.accu_var range init condition step result
 Makes _ _ _ _ = ⊥
 
 -- each message is the tree at its place
@@ -76,7 +76,7 @@ abbrev mutual
   node_count (call id function on args) = 1 + (target_count on + trees_count args)
   node_count (list_literal id elements) = 1 + trees_count elements
   node_count (map_literal id entries) = 1 + entries_count entries
-  node_count (comprehension id x acc range init condition step result) =
+  node_count (comprehension id x y acc range init condition step result) =
       1 + (node_count range
       + (node_count init + (node_count condition + (node_count step + node_count result))))
 

@@ -60,6 +60,7 @@ pub record EntryParts : Type 0 where
 -- the names and parts of a comprehension
 pub record LoopParts : Type 0 where
   pub iter_var : List ℕ
+  pub iter_var2 : List ℕ
   pub accu_var : List ℕ
   pub iter_range : CelTree
   pub accu_init : CelTree
@@ -84,12 +85,13 @@ target_of (Some t) = target t
 
 -- the comprehension of these parts
 abbrev pub loop_of : ℤ → LoopParts → CelTree
-loop_of id p = comprehension id p.iter_var p.accu_var p.iter_range p.accu_init p.loop_condition p.loop_step p.result
+loop_of id p = comprehension id p.iter_var p.iter_var2 p.accu_var p.iter_range p.accu_init p.loop_condition p.loop_step p.result
 
 -- one level of a comprehension, whose inner trees are already translated
 abbrev pub loop_level : Comprehension-F CelTree LoopParts EntryParts → LoopParts
 loop_level c = record {
   iter_var = text_view c.iter_var;
+  iter_var2 = text_view c.iter_var2;
   accu_var = text_view c.accu_var;
   iter_range = c.iter_range;
   accu_init = c.accu_init;

@@ -1,11 +1,11 @@
 //! The message Comprehension, without the expressions inside it.
 
-ghost use Rattle.std.specs.Prelude.{◌≡◌, ◌≢◌, [], IfOk, IfErr, OnOk, map};
+ghost use Rattle.std.specs.Prelude.{◌≡◌, IfOk, IfErr, OnOk, map};
 ghost use Rattle.proto_wire.specs.Fields.{field_view};
 ghost use Rattle.proto_wire.specs.Merge.{parts_view};
 ghost use Rattle.proto_wire.specs.Refusal.{MemoryOr};
-ghost use Rattle.proto_wire.specs.Values.{bytes_at, payloads};
-ghost use Rattle.proto_wire.specs.declared.refusal.Refusal.TheVariants.{Missing, Unsupported};
+ghost use Rattle.proto_wire.specs.Values.{payloads};
+ghost use Rattle.proto_wire.specs.declared.refusal.Refusal.TheVariants.{Missing};
 ghost use Rattle.cel_tree.specs.Nodes.{loop_field, loop_keys, NamesRead, PartsThere, LacksPart, LoopSays, LoopLacks, LoopWrong};
 ghost use Rattle.cel_tree.specs.Reading.{Reads, ReadFault};
 ghost use Rattle.cel_tree.specs.steps.Values.{ValuesFault};
@@ -14,8 +14,7 @@ ghost use Rattle.cel_tree.specs.steps.NodeViews.{node_view};
 use crate::fields::{name_at, two_payloads_of};
 use crate::node::Node;
 use proto_wire::{
-    Field, Key, Payloads, Refusal, bytes_at, keys, payloads_of, read_message, require_payload,
-    text_at,
+    Field, Key, Payloads, Refusal, keys, payloads_of, read_message, require_payload, text_at,
 };
 use std::alloc::{AllocError, Global};
 use std::rc::RcStr;
@@ -45,6 +44,7 @@ static COMPREHENSION: [Key; 8] = keys![
 #[derive(Drop)]
 pub(crate) struct LoopNode<'a> {
     pub iter_var: RcStr,
+    pub iter_var2: RcStr,
     pub accu_var: RcStr,
     pub iter_range: Payloads<'a>,
     pub accu_init: Payloads<'a>,
@@ -70,11 +70,13 @@ fn loop_of<'a>(alloc: Global, fields: &[Field<'a>]) -> Result<Node<'a>, Refusal>
     require_names(fields)?;
     require_parts(fields)?;
     let iter_var = name_at(alloc, fields, ITER_VAR)?;
+    let iter_var2 = name_at(alloc, fields, ITER_VAR2)?;
     let accu_var = name_at(alloc, fields, ACCU_VAR)?;
     let (iter_range, accu_init) = two_payloads_of(alloc, fields, ITER_RANGE, ACCU_INIT)?;
     let (loop_condition, loop_step, result) = body_of(alloc, fields)?;
     Ok(Node::Comprehension(LoopNode {
         iter_var,
+        iter_var2,
         accu_var,
         iter_range,
         accu_init,
@@ -100,26 +102,15 @@ fn body_of<'a>(
     Ok((loop_condition, loop_step, result))
 }
 
-/// Refuses names that are not UTF-8, and an iter_var2.
+/// Refuses names that are not UTF-8.
 fn require_names(fields: &[Field<'_>]) -> Result<(), Refusal>
     ensures found { OnOk result (NamesRead (map field_view fields.now)) }
     ensures fault { IfErr result (LoopWrong (map field_view fields.now)) }
 {
     text_at(fields, ITER_VAR)?;
     text_at(fields, ACCU_VAR)?;
-    refuse_second_name(fields)
-}
-
-/// Refuses a comprehension with an iter_var2, a second name of the element.
-fn refuse_second_name(fields: &[Field<'_>]) -> Result<(), Refusal>
-    ensures found { OnOk result (bytes_at loop_field.iter_var2 (map field_view fields.now) ≡ []) }
-    ensures fault { IfErr result (λ e.
-        (bytes_at loop_field.iter_var2 (map field_view fields.now) ≢ []) × (e ≡ Unsupported)) }
-{
-    if bytes_at(fields, ITER_VAR2).is_empty() {
-        return Ok(());
-    }
-    Err(Refusal::Unsupported)
+    text_at(fields, ITER_VAR2)?;
+    Ok(())
 }
 
 /// Refuses a comprehension that lacks a part.

@@ -268,13 +268,14 @@ fn read_loop_trees(
     ensures found { IfOk result (λ c. AreLoopTrees depth (loop_node_view node.now) (loop_view c) left.new left.old) }
     ensures fault { IfErr result (MemoryOr (SomeFails depth left.old (loop_children (loop_node_view node.now)))) }
 {
-    let (iter_var, accu_var) = names_of(node)?;
+    let (iter_var, iter_var2, accu_var) = names_of(node)?;
     let start = read_two(alloc, &node.iter_range, &node.accu_init, depth, left)?;
     let (start, body) = both(start, read_loop_body(alloc, node, depth, left))?;
     let (iter_range, accu_init) = start;
     let ((loop_condition, loop_step), result) = body;
     Ok(Comprehension {
         iter_var,
+        iter_var2,
         accu_var,
         iter_range,
         accu_init,
@@ -321,13 +322,15 @@ fn read_two(
 }
 
 /// The names of a comprehension.
-fn names_of(node: &LoopNode<'_>) -> Result<(RcStr, RcStr), AllocError>
+fn names_of(node: &LoopNode<'_>) -> Result<(RcStr, RcStr, RcStr), AllocError>
     ensures { IfOk result (λ names. (text_view names.0 ≡ text_view node.now.iter_var)
-        × (text_view names.1 ≡ text_view node.now.accu_var)) }
+        × (text_view names.1 ≡ text_view node.now.iter_var2)
+        × (text_view names.2 ≡ text_view node.now.accu_var)) }
 {
     let iter_var = node.iter_var.clone()?;
+    let iter_var2 = node.iter_var2.clone()?;
     let accu_var = node.accu_var.clone()?;
-    Ok((iter_var, accu_var))
+    Ok((iter_var, iter_var2, accu_var))
 }
 
 /// Takes one of the nodes that are left; refuses if there is none.

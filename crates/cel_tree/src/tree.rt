@@ -65,8 +65,11 @@ pub struct TreeEntry {
 #[derive(Drop)]
 #[cycle(tree)]
 pub struct Comprehension {
-    /// The name of the element, in the condition and in the step.
+    /// The name of the element, or, if there is a second name, of the index or key, in the condition and in
+    /// the step.
     pub iter_var: RcStr,
+    /// The second name, of the item or value, in the condition and in the step; empty for one variable.
+    pub iter_var2: RcStr,
     /// The name of the accumulator, in the condition, in the step and in the result.
     pub accu_var: RcStr,
     /// The list or map whose elements are folded.

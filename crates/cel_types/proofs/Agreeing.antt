@@ -1,6 +1,6 @@
 -- Entries of an expression with a type agree, or one of them is a fault; and so an expression has a
 -- type with which its entries agree, or a fault.
-use Rattle.std.proofs.Common.{◌≡◌, ◌⊎◌, inl, inr, ℕ, ℤ, Bool, true, false, List, [], ◌∷◌, Option, Some, None, refl, ◌∙◌, subst}
+use Rattle.std.proofs.Common.{◌⊎◌, inl, inr, ℕ, ℤ, Bool, true, false, List, [], ◌∷◌, Option, Some, None, refl, ap₂, ◌∙◌, subst}
 use Rattle.std.specs.FinMap.{get}
 use Rattle.proto_wire.specs.declared.refusal.Refusal.{Refusal}
 use Rattle.proto_wire.specs.declared.refusal.Refusal.TheVariants.{BadReference, BadTypeEntry, Unsupported}
@@ -8,12 +8,12 @@ use Rattle.cel_value.specs.Types.{ValueType, bool_type, map_type, type_of_key}
 use Rattle.cel_value.specs.declared.cel_type.KeyType.TheVariants as keys
 use Rattle.cel_tree.specs.Checked.{CelReference, CelTypeEntry, of_type, dyn_type, unsupported_type}
 use Rattle.cel_tree.specs.Tree.{CelTree, constant, ident, select, call, list_literal, map_literal, comprehension, CelTarget, no_target, target, CelTrees, no_trees, tree, CelTreeEntries, no_tree_entries, tree_entry}
-use Rattle.cel_types.specs.Names.{joined_name, root_of}
+use Rattle.cel_types.specs.Names.{joined_name, root_of, turn_scope, variables_of}
 use Rattle.cel_types.specs.Typing.{EachAgrees, EntriesAgree, EntryAgrees, IsOver, Kinds, ListRule, MapRule, Maps, NameAgrees, PairsAgree, SelectAgrees, SelectRule, TargetAgrees, Types, TypesAll, TypesEach, TypesPairs, TypesTarget}
 use Rattle.cel_types.specs.TypingFaults.{ItemTypes, KeyTypes, SomeTypes, ElementsFault, EntryFault, IdentFault, ListFault, MapsFault, PairFault, PairsFault, SelectFault, SomeFault, TargetFault, TypeFault, CallsFault}
 use Rattle.cel_types.specs.TypingFaults.{unsupported_kind, another_type, in_range, in_init, in_turn, in_result}
 use Rattle.cel_types.proofs.OneType.{OneAtMost, one_type, over_one}
-use Rattle.cel_types.proofs.Total.{each_turn, ref_decided, same_type, type_total, typed_no_root}
+use Rattle.cel_types.proofs.Total.{ref_decided, same_type, type_total, typed_no_root}
 
 -- it holds, or there is a fault
 abbrev pub Kept : Type 0 → (Refusal → Type 0) → Type 0
@@ -103,61 +103,39 @@ mutual
       both (entry_kept (get m.types id) (Types m ks (map_literal id entries)) s
       (one_type m ks (map_literal id entries)) g)
       (map_kept m ks entries (get m.types id) s (pairs_kept m ks entries) g)
-  entries_kept m ks (comprehension id x acc range init condition step result) s g =
+  entries_kept m ks (comprehension id x y acc range init condition step result) s g =
+      let ls = turn_scope x y acc g.each g.gathered ks in
       elim (entry_kept (get m.types id)
-      (Types m ks (comprehension id x acc range init condition step result)) s
-      (one_type m ks (comprehension id x acc range init condition step result)) g) [
+      (Types m ks (comprehension id x y acc range init condition step result)) s
+      (one_type m ks (comprehension id x y acc range init condition step result)) g) [
         | inr (e, f) ↦ inr (e, inr f)
         | inl agrees ↦ elim (entries_kept m ks range g.walked g.range) [
           | inr (e, f) ↦ inr (e, inl (in_range f))
           | inl on_range ↦ elim (entries_kept m ks init g.gathered g.init) [
             | inr (e, f) ↦ inr (e, inl (in_init f))
-            | inl on_init ↦ elim (entries_kept m ((x, g.element) ∷ (acc, g.gathered) ∷ ks)
-                condition bool_type g.condition) [
-                  | inr (e, f) ↦ inr (
-                    e,
-                    inl (in_turn (each_turn (Types m ks range) (Types m ks init)
-                        (λ s a. TypeFault m ((x, s) ∷ (acc, a) ∷ ks) condition e
-                        ⊎ TypeFault m ((x, s) ∷ (acc, a) ∷ ks) step e) g.walked g.element g.gathered
-                        g.range g.over g.init (inl f))),
+            | inl on_init ↦ elim (entries_kept m ls condition bool_type g.condition) [
+              | inr (e, f) ↦
+                  inr (e, inl (in_turn g.each g.gathered (g.walked, g.range, g.over) g.init (inl f)))
+              | inl on_condition ↦ elim (entries_kept m ls step g.gathered g.step) [
+                | inr (e, f) ↦
+                    inr (e, inl (in_turn g.each g.gathered (g.walked, g.range, g.over) g.init (inr f)))
+                | inl on_step ↦ elim (entries_kept m ((acc, g.gathered) ∷ ks) result s g.result) [
+                  | inr (e, f) ↦ inr (e, inl (in_result g.gathered g.init f))
+                  | inl on_result ↦ inl (
+                    agrees,
+                    on_range,
+                    on_init,
+                    (λ w each a r over i. subst (λ ls. EntriesAgree m ls condition × EntriesAgree m ls step)
+                        (ap₂ (λ each a. turn_scope x y acc each a ks)
+                        (over_one (variables_of y) w g.each each (subst (λ w. IsOver (variables_of y) w g.each)
+                        (one_type m ks range g.walked w g.range r) g.over) over)
+                        (one_type m ks init g.gathered a g.init i)) (on_condition, on_step)),
+                    (λ a i. subst (λ a. EntriesAgree m ((acc, a) ∷ ks) result)
+                        (one_type m ks init g.gathered a g.init i) on_result),
                   )
-                  | inl on_condition ↦ elim (entries_kept m
-                      ((x, g.element) ∷ (acc, g.gathered) ∷ ks) step g.gathered g.step) [
-                        | inr (e, f) ↦ inr (
-                          e,
-                          inl (in_turn (each_turn (Types m ks range) (Types m ks init)
-                              (λ s a. TypeFault m ((x, s) ∷ (acc, a) ∷ ks) condition e
-                              ⊎ TypeFault m ((x, s) ∷ (acc, a) ∷ ks) step e) g.walked g.element g.gathered
-                              g.range g.over g.init (inr f))),
-                        )
-                        | inl on_step ↦ elim (entries_kept m ((acc, g.gathered) ∷ ks) result s
-                            g.result) [
-                              | inr (e, f) ↦ inr (
-                                e,
-                                inl (in_result (λ b may. subst (λ b. TypeFault m ((acc, b) ∷ ks) result e)
-                                    (may g.gathered g.init) f)),
-                              )
-                              | inl on_result ↦ inl (
-                                agrees,
-                                on_range,
-                                on_init,
-                                (λ w u a r over i.
-                                    let elements : g.element ≡ u = over_one w g.element u
-                                    (subst (λ w. IsOver w g.element)
-                                    (one_type m ks range g.walked w g.range r) g.over) over in
-                                    let gathered : g.gathered ≡ a =
-                                    one_type m ks init g.gathered a g.init i in
-                                    subst (λ u. EntriesAgree m ((x, u) ∷ (acc, a) ∷ ks) condition
-                                    × EntriesAgree m ((x, u) ∷ (acc, a) ∷ ks) step) elements
-                                    (subst (λ a. EntriesAgree m ((x, g.element) ∷ (acc, a) ∷ ks) condition
-                                    × EntriesAgree m ((x, g.element) ∷ (acc, a) ∷ ks) step) gathered
-                                    (on_condition, on_step))),
-                                (λ a i. subst (λ a. EntriesAgree m ((acc, a) ∷ ks) result)
-                                    (one_type m ks init g.gathered a g.init i) on_result),
-                              )
-                            ]
-                      ]
                 ]
+              ]
+            ]
           ]
         ]
       ]

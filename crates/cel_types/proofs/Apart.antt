@@ -11,10 +11,10 @@ use Rattle.cel_overload.specs.declared.overload.OverloadFault.TheVariants as cal
 use Rattle.cel_overload.proofs.OneOverload.{call_disjoint}
 use Rattle.cel_ops.specs.Attributes.{attribute_type}
 use Rattle.cel_types.specs.Attributes.{attribute_named}
-use Rattle.cel_types.specs.Names.{joined_name, root_of}
+use Rattle.cel_types.specs.Names.{joined_name, root_of, turn_scope, variables_of}
 use Rattle.cel_types.specs.Typing.{CallRule, EachAgrees, EntriesAgree, EntryAgrees, IdentRule, IsList, IsMap, IsOver, Kinds, ListRule, LoopRule, MapRule, Maps, NameAgrees, PairsAgree, RefAgrees, SelectAgrees, SelectRule, TargetAgrees, TypeAgrees, TypeGiven, Types, TypesAll, TypesEach, TypesPairs, TypesTarget, has_target}
-use Rattle.cel_types.specs.TypingFaults.{CallsFault, ElementsFault, ElementOf, MayBe, EmptyFault, EntryFault, IdentFault, ItemTypes, KeyTypes, ListFault, LoopFault, MapsFault, PairFault, PairsFault, SaysNothing, SelectFault, SomeFault, SomeTypes, TargetFault, TypeFault}
-use Rattle.cel_types.specs.TypingFaults.{unsupported_kind, another_type, untold, of_another_kind, no_element_name, no_gathered_name, one_name, no_elements, no_condition, no_step, in_range, in_init, in_turn, in_result}
+use Rattle.cel_types.specs.TypingFaults.{AreGot, CallsFault, ElementsFault, EmptyFault, EntryFault, IdentFault, ItemTypes, KeyTypes, ListFault, LoopFault, MapsFault, PairFault, PairsFault, SaysNothing, SelectFault, SomeFault, SomeTypes, TargetFault, TypeFault}
+use Rattle.cel_types.specs.TypingFaults.{unsupported_kind, another_type, untold, of_another_kind, no_element_name, no_gathered_name, one_name, one_variable, second_gathered, no_elements, no_condition, no_step, in_range, in_init, in_turn, in_result}
 use Rattle.cel_types.proofs.OneType.{OneAtMost, one_each, one_target, one_type, over_one}
 
 entry_apart : (entry : Option CelTypeEntry) (Has : ValueType → Type 0) (t : ValueType)
@@ -143,53 +143,55 @@ items_one m ks (tree_entry id key value es) r s u all (inl here) =
 items_one m ks (tree_entry id key value es) r s u all (inr some) =
     items_one m ks es r s u all.2 some
 
-module _ (x acc : List ℕ) (Range Init : ValueType → Type 0)
-    (Condition Step : ValueType → ValueType → ValueType → Type 0)
+module _ (x y acc : List ℕ) (Range Init : ValueType → Type 0)
+    (Condition Step : List ValueType → ValueType → ValueType → Type 0)
     (Result : ValueType → ValueType → Type 0) (InRange InInit : Refusal → Type 0)
-    (InTurn : ValueType → ValueType → Refusal → Type 0) (InResult : ValueType → Refusal → Type 0)
+    (InTurn : List ValueType → ValueType → Refusal → Type 0) (InResult : ValueType → Refusal → Type 0)
     (range : OneAtMost Range) (init : OneAtMost Init)
-    (condition : (s a : ValueType) → OneAtMost (Condition s a))
-    (step : (s a : ValueType) → OneAtMost (Step s a))
+    (condition : (each : List ValueType) (a : ValueType) → OneAtMost (Condition each a))
+    (step : (each : List ValueType) (a : ValueType) → OneAtMost (Step each a))
     (range-apart : (s : ValueType) (e : Refusal) → Range s → InRange e → ⊥)
     (init-apart : (s : ValueType) (e : Refusal) → Init s → InInit e → ⊥)
-    (turn-apart : (w s a : ValueType) (e : Refusal) → Range w → IsOver w s → Init a
-    → Condition s a bool_type → Step s a a → InTurn s a e → ⊥)
+    (turn-apart : (w : ValueType) (each : List ValueType) (a : ValueType) (e : Refusal) → Range w
+    → IsOver (variables_of y) w each → Init a → Condition each a bool_type → Step each a a
+    → InTurn each a e → ⊥)
     (result-apart : (a t : ValueType) (e : Refusal) → Init a → Result a t → InResult a e → ⊥) where
-  -- what the rule says of locals they may be
-  may_element : (t : ValueType) (rule : LoopRule x acc Range Init Condition Step Result t)
-      → MayBe (ElementOf Range) rule.element
-  may_element t rule s found =
-      over_one rule.walked s rule.element
-      (subst (λ w. IsOver w s) (range found.0 rule.walked found.1 rule.range) found.2) rule.over
-
-  may_gathered : (t : ValueType) (rule : LoopRule x acc Range Init Condition Step Result t)
-      → MayBe Init rule.gathered
-  may_gathered t rule s found = init s rule.gathered found rule.init
+  -- what is so with the types of a turn's locals is so with those of the rule
+  by_rule : (t : ValueType) (rule : LoopRule x y acc Range Init Condition Step Result t)
+      (IsSo : List ValueType → ValueType → Type 0) (each : List ValueType) (a : ValueType)
+      → AreGot (variables_of y) Range each → Init a → IsSo each a → IsSo rule.each rule.gathered
+  by_rule t rule IsSo each a got i so =
+      subst (λ a. IsSo rule.each a) (init a rule.gathered i rule.init)
+      (subst (λ each. IsSo each a) (over_one (variables_of y) rule.walked each rule.each
+      (subst (λ w. IsOver (variables_of y) w each) (range got.0 rule.walked got.1 rule.range) got.2)
+      rule.over) so)
 
   loop_apart : (t : ValueType) (e : Refusal)
-      → LoopRule x acc Range Init Condition Step Result t
-      → LoopFault x acc Range Init Condition Step InRange InInit InTurn InResult e → ⊥
+      → LoopRule x y acc Range Init Condition Step Result t
+      → LoopFault x y acc Range Init Condition Step InRange InInit InTurn InResult e → ⊥
   loop_apart t e rule (no_element_name is _) = rule.names.element is
   loop_apart t e rule (no_gathered_name is _) = rule.names.gathered is
   loop_apart t e rule (one_name is _) = rule.names.differ is
+  loop_apart t e rule (one_variable some is _) = rule.names.second is
+  loop_apart t e rule (second_gathered some is _) = rule.names.apart is
   loop_apart t e rule (no_elements s r never _) =
-      never rule.element (subst (λ w. IsOver w rule.element) (range rule.walked s rule.range r)
+      never rule.each (subst (λ w. IsOver (variables_of y) w rule.each) (range rule.walked s rule.range r)
       rule.over)
-  loop_apart t e rule (no_condition other _) =
-      let it = other rule.element rule.gathered (may_element t rule) (may_gathered t rule) in
-      it.2 (condition rule.element rule.gathered it.0 bool_type it.1 rule.condition)
-  loop_apart t e rule (no_step other _) =
-      let it = other rule.element rule.gathered (may_element t rule) (may_gathered t rule) in
-      it.2 (step rule.element rule.gathered it.0 rule.gathered it.1 rule.step)
+  loop_apart t e rule (no_condition each a u got i c differs _) =
+      differs (condition rule.each rule.gathered u bool_type
+      (by_rule t rule (λ each a. Condition each a u) each a got i c) rule.condition)
+  loop_apart t e rule (no_step each a u got i p differs _) =
+      differs (step rule.each rule.gathered u rule.gathered
+      (by_rule t rule (λ each a. Step each a u) each a got i p) rule.step
+      ∙ init rule.gathered a rule.init i)
   loop_apart t e rule (in_range inside) = range-apart rule.walked e rule.range inside
   loop_apart t e rule (in_init inside) = init-apart rule.gathered e rule.init inside
-  loop_apart t e rule (in_turn inside) =
-      turn-apart rule.walked rule.element rule.gathered e rule.range rule.over rule.init
-      rule.condition rule.step
-      (inside rule.element rule.gathered (may_element t rule) (may_gathered t rule))
-  loop_apart t e rule (in_result inside) =
+  loop_apart t e rule (in_turn each a got i inside) =
+      turn-apart rule.walked rule.each rule.gathered e rule.range rule.over rule.init
+      rule.condition rule.step (by_rule t rule (λ each a. InTurn each a e) each a got i inside)
+  loop_apart t e rule (in_result a i inside) =
       result-apart rule.gathered t e rule.init rule.result
-      (inside rule.gathered (may_gathered t rule))
+      (subst (λ a. InResult a e) (init a rule.gathered i rule.init) inside)
 
 -- the operands after a target
 others_typed : (m : Maps) (ks : Kinds) (on : CelTarget) (Others : List ValueType → Type 0)
@@ -238,26 +240,27 @@ mutual
       (λ r u d all inside. pairs_apart m ks entries r u d all h.1 inside) g fault
   typed_apart m ks (map_literal id entries) s e g h (inr fault) =
       entry_apart (get m.types id) (Types m ks (map_literal id entries)) s e g h.0 fault
-  typed_apart m ks (comprehension id x acc range init condition step result) s e g h (inl fault) =
-      loop_apart x acc (Types m ks range) (Types m ks init)
-      (λ s a. Types m ((x, s) ∷ (acc, a) ∷ ks) condition)
-      (λ s a. Types m ((x, s) ∷ (acc, a) ∷ ks) step)
+  typed_apart m ks (comprehension id x y acc range init condition step result) s e g h (inl fault) =
+      loop_apart x y acc (Types m ks range) (Types m ks init)
+      (λ each a. Types m (turn_scope x y acc each a ks) condition)
+      (λ each a. Types m (turn_scope x y acc each a ks) step)
       (λ a. Types m ((acc, a) ∷ ks) result) (TypeFault m ks range) (TypeFault m ks init)
-      (λ s a d. TypeFault m ((x, s) ∷ (acc, a) ∷ ks) condition d
-      ⊎ TypeFault m ((x, s) ∷ (acc, a) ∷ ks) step d)
+      (λ each a d. TypeFault m (turn_scope x y acc each a ks) condition d
+      ⊎ TypeFault m (turn_scope x y acc each a ks) step d)
       (λ a. TypeFault m ((acc, a) ∷ ks) result) (one_type m ks range) (one_type m ks init)
-      (λ s a. one_type m ((x, s) ∷ (acc, a) ∷ ks) condition)
-      (λ s a. one_type m ((x, s) ∷ (acc, a) ∷ ks) step)
+      (λ each a. one_type m (turn_scope x y acc each a ks) condition)
+      (λ each a. one_type m (turn_scope x y acc each a ks) step)
       (λ u d r f. typed_apart m ks range u d r h.1 f)
       (λ u d r f. typed_apart m ks init u d r h.2 f)
-      (λ w s a d r over i c p inside. elim inside [
-        | inl f ↦ typed_apart m ((x, s) ∷ (acc, a) ∷ ks) condition bool_type d c
-            (h.3 w s a r over i).0 f
-        | inr f ↦ typed_apart m ((x, s) ∷ (acc, a) ∷ ks) step a d p (h.3 w s a r over i).1 f
+      (λ w each a d r over i c p inside. elim inside [
+        | inl f ↦ typed_apart m (turn_scope x y acc each a ks) condition bool_type d c
+            (h.3 w each a r over i).0 f
+        | inr f ↦
+            typed_apart m (turn_scope x y acc each a ks) step a d p (h.3 w each a r over i).1 f
       ]) (λ a u d i r f. typed_apart m ((acc, a) ∷ ks) result u d r (h.4 a i) f) s e g fault
-  typed_apart m ks (comprehension id x acc range init condition step result) s e g h (inr fault) =
+  typed_apart m ks (comprehension id x y acc range init condition step result) s e g h (inr fault) =
       entry_apart (get m.types id)
-      (Types m ks (comprehension id x acc range init condition step result)) s e g h.0 fault
+      (Types m ks (comprehension id x y acc range init condition step result)) s e g h.0 fault
 
   target_apart : (m : Maps) (ks : Kinds) (on : CelTarget) (args : CelTrees)
       (ts : List ValueType) (e : Refusal) → TypesTarget m ks on (TypesEach m ks args) ts

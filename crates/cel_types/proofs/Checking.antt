@@ -9,22 +9,26 @@ use Rattle.std.specs.FinMap.{get}
 use Rattle.cel_tree.specs.Checked.{CelTypeEntry}
 use Rattle.cel_tree.specs.Tree.{CelTree, constant, ident, select, call, list_literal, map_literal, comprehension, CelTarget, no_target, target, CelTrees, no_trees, tree, CelTreeEntries, no_tree_entries, tree_entry}
 use Rattle.cel_value.specs.steps.EqualityLaws.{type_eq_decides}
-use Rattle.cel_value.specs.Types.{ValueType, bool_type, map_type, type_eq, type_of_key}
+use Rattle.cel_value.specs.Types.{ValueType, map_type, type_eq, type_of_key, type_view}
+use Rattle.cel_value.specs.declared.cel_type.CelType.{CelType}
 use Rattle.cel_value.specs.declared.cel_type.KeyType.TheVariants as keys
 use Rattle.cel_types.specs.Elaborated.{ElaboratesEach, ElaboratesPairs, ElaboratesTarget, TypedTree, TypedTrees, kind, kinds, no_typed, typed, typed_list, typed_loop, typed_map}
-use Rattle.cel_types.specs.Names.{joined_name, root_of}
+use Rattle.cel_types.specs.Names.{bound, joined_name, root_of, turn_scope, variables_of}
 use Rattle.cel_types.specs.Typing.{EachAgrees, EntriesAgree, EntryAgrees, ListRule, MapRule, IsOver, Kinds, Maps, NamesDiffer, PairsAgree, TargetAgrees, TypeAgrees, Types, TypesAll, TypesEach, TypesPairs, TypesTarget, has_target, locals_in, locals_in_each, locals_in_entries}
 use Rattle.cel_types.specs.TypingFaults.{CallsFault, ElementsFault, EntryFault, ItemTypes, KeyTypes, PairFault, PairsFault, SelectFault, SomeFault, SomeTypes, TargetFault, TypeFault}
-use Rattle.cel_types.specs.TypingFaults.{EachTurn, unsupported_kind, another_type, no_element_name, no_gathered_name, one_name, no_elements, no_condition, no_step, in_range, in_init, in_turn as faulty_turn, in_result}
+use Rattle.cel_types.specs.TypingFaults.{unsupported_kind, another_type, no_element_name, no_gathered_name, one_name, one_variable, second_gathered, no_elements, no_condition, no_step, in_range, in_init, in_turn as faulty_turn, in_result}
 use Rattle.cel_types.specs.View.{expr_view, typed_of}
 use Rattle.cel_types.specs.steps.ExprViews.{exprs_view}
 use Rattle.cel_types.specs.steps.Checks.{AreFound, InsideAgrees, IsAttribute, IsCalled, IsFound, IsNode, IsTarget, IsTurn, NamesFault, TurnFault, id_of}
-use Rattle.cel_types.specs.steps.Kinds.{IsListOf, IsMapOf, NoCall, NoListOf, NoMapOf, field_of, in_turn}
+use Rattle.cel_types.specs.steps.Kinds.{IsListOf, IsMapOf, NoCall, NoElements, NoListOf, NoMapOf, each_view, field_of, in_turn, second_type}
+use Rattle.cel_types.specs.declared.checker.kinds.TurnTypes.{TurnTypes}
+use Rattle.cel_types.specs.declared.typed.Variables.{Variables}
 use Rattle.std.proofs.lemmas.Bool.{and_parts}
 use Rattle.cel_tree.specs.View.{EntryParts, LoopParts, loop_of, tree_entries_of, tree_view, trees_of}
 use Rattle.cel_tree.specs.steps.TreeViews.{entry_view, tree_entries_view, trees_view}
 use Rattle.cel_types.proofs.OneType.{OneAtMost, one_type, over_one}
-use Rattle.cel_types.proofs.Total.{each_turn, same_type, typed_no_root}
+use Rattle.cel_types.proofs.TurnScopes.{over_length}
+use Rattle.cel_types.proofs.Total.{same_type, typed_no_root}
 use Rattle.proto_wire.specs.declared.refusal.Refusal.{Refusal}
 use Rattle.proto_wire.specs.declared.refusal.Refusal.TheVariants.{NoOverload}
 pub use Rattle.cel_types.proofs.WellTypedElaborations.{elaborates_types as types_of}
@@ -65,7 +69,7 @@ node_fault m ks (select id operand field test_only) s e g f = inr f
 node_fault m ks (call id name on args) s e g f = inr f
 node_fault m ks (list_literal id elements) s e g f = inr f
 node_fault m ks (map_literal id entries) s e g f = inr f
-node_fault m ks (comprehension id x acc range init condition step result) s e g f = inr f
+node_fault m ks (comprehension id x y acc range init condition step result) s e g f = inr f
 
 node_agrees : (m : Maps) (ks : Kinds) (t : CelTree) (s : ValueType) → Types m ks t s
     → EntryAgrees (get m.types (id_of t)) (Types m ks t) → InsideAgrees m ks t
@@ -76,7 +80,7 @@ node_agrees m ks (select id operand field test_only) s g agrees inside = (agrees
 node_agrees m ks (call id name on args) s g agrees inside = (agrees, inside.0, inside.1)
 node_agrees m ks (list_literal id elements) s g agrees inside = (agrees, inside)
 node_agrees m ks (map_literal id entries) s g agrees inside = (agrees, inside)
-node_agrees m ks (comprehension id x acc range init condition step result) s g agrees inside =
+node_agrees m ks (comprehension id x y acc range init condition step result) s g agrees inside =
     (agrees, inside.0, inside.1, inside.2, inside.3)
 
 -- a node whose type entry agrees is found
@@ -347,14 +351,36 @@ module _ (m : Maps) (ks : Kinds) where
 
 -- ---- comprehensions
 
-module _ (m : Maps) (ks : Kinds) (id : ℤ) (p : LoopParts) where
-  abbrev turn_of : ValueType → ValueType → Kinds
-  turn_of s a = (p.iter_var, s) ∷ (p.accu_var, a) ∷ ks
+-- the names and types of a turn's locals are those of its scope
+pub turn_is : (x y acc : List ℕ) (each : TurnTypes) (w a : ValueType) (ks : Kinds)
+    → IsOver (variables_of y) w (each_view each)
+    → bound (y ∷ []) (second_type each.second) ++ (x, type_view each.first) ∷ (acc, a) ∷ ks
+    ≡ turn_scope x y acc (each_view each) a ks
+turn_is x y acc each w a ks is = at y each.second is
+  where
+    at : (y : List ℕ) (second : Option CelType)
+        → IsOver (variables_of y) w (second_type second ++ type_view each.first ∷ [])
+        → bound (y ∷ []) (second_type second) ++ (x, type_view each.first) ∷ (acc, a) ∷ ks
+        ≡ turn_scope x y acc (second_type second ++ type_view each.first ∷ []) a ks
+    at [] None is = refl
+    at [] (Some t) is = let long = over_length x [] w _ is in absurd (omega (arith, long))
+    at (c ∷ y) None is = let short = over_length x (c ∷ y) w _ is in absurd (omega (arith, short))
+    at (c ∷ y) (Some t) is = refl
 
-  pub names_bad : (e : Refusal) → NamesFault p.iter_var p.accu_var e → TypeFault m ks (loop_of id p) e
+module _ (m : Maps) (ks : Kinds) (id : ℤ) (p : LoopParts) where
+  abbrev turn_of : List ValueType → ValueType → Kinds
+  turn_of each a = turn_scope p.iter_var p.iter_var2 p.accu_var each a ks
+
+  abbrev vars : Variables
+  vars = variables_of p.iter_var2
+
+  pub names_bad : (e : Refusal) → NamesFault p.iter_var p.iter_var2 p.accu_var e
+      → TypeFault m ks (loop_of id p) e
   names_bad e (inl (none, err)) = inl (no_element_name none err)
   names_bad e (inr (inl (none, err))) = inl (no_gathered_name none err)
-  names_bad e (inr (inr (same, err))) = inl (one_name same err)
+  names_bad e (inr (inr (inl (same, err)))) = inl (one_name same err)
+  names_bad e (inr (inr (inr (some, inl same, err)))) = inl (one_variable some same err)
+  names_bad e (inr (inr (inr (some, inr same, err)))) = inl (second_gathered some same err)
 
   pub range_bad : (e : Refusal) → TypeFault m ks p.iter_range e → TypeFault m ks (loop_of id p) e
   range_bad e f = inl (in_range f)
@@ -366,80 +392,70 @@ module _ (m : Maps) (ks : Kinds) (id : ℤ) (p : LoopParts) where
     has_range : Types m ks p.iter_range (kind r)
     has_range = types_of m ks p.iter_range r range.0
 
-    pub elements_none : (e : Refusal) → ((t : ValueType) → IsOver (kind r) t → ⊥) → e ≡ NoOverload
-        → TypeFault m ks (loop_of id p) e
-    elements_none e never err = inl (no_elements (kind r) has_range never err)
+    pub elements_none : (e : Refusal) → NoElements vars (kind r) e → TypeFault m ks (loop_of id p) e
+    elements_none e never = inl (no_elements (kind r) has_range never.0 never.1)
 
-    module _ (i : TypedTree) (init : IsFound m ks p.accu_init i) (s : ValueType) (over : IsOver (kind r) s)
-      where
-        has_init : Types m ks p.accu_init (kind i)
-        has_init = types_of m ks p.accu_init i init.0
+    module _ (i : TypedTree) (init : IsFound m ks p.accu_init i) (each : List ValueType)
+        (over : IsOver vars (kind r) each) where
+      has_init : Types m ks p.accu_init (kind i)
+      has_init = types_of m ks p.accu_init i init.0
 
-        turns : (IsSo : ValueType → ValueType → Type 0) → IsSo s (kind i)
-            → EachTurn (Types m ks p.iter_range) (Types m ks p.accu_init) IsSo
-        turns IsSo so = each_turn (Types m ks p.iter_range) (Types m ks p.accu_init) IsSo (kind r) s (kind i)
-            has_range over has_init so
+      pub turn_bad : (e : Refusal)
+          → TurnFault m (turn_of each (kind i)) p.loop_condition p.loop_step (kind i) e
+          → TypeFault m ks (loop_of id p) e
+      turn_bad e (inl f) = inl (faulty_turn each (kind i) (kind r, has_range, over) has_init f)
+      turn_bad e (inr (inl (f, err))) =
+          inl (no_condition each (kind i) f.0 (kind r, has_range, over) has_init f.1 f.2 err)
+      turn_bad e (inr (inr (f, err))) =
+          inl (no_step each (kind i) f.0 (kind r, has_range, over) has_init f.1 f.2 err)
 
-        pub turn_bad : (e : Refusal)
-            → TurnFault m (turn_of s (kind i)) p.loop_condition p.loop_step (kind i) e
-            → TypeFault m ks (loop_of id p) e
-        turn_bad e (inl f) = inl (faulty_turn (turns (λ s a. TypeFault m (turn_of s a) p.loop_condition e
-            ⊎ TypeFault m (turn_of s a) p.loop_step e) f))
-        turn_bad e (inr (inl (f, err))) = inl (no_condition (turns
-            (λ s a. (t : ValueType) × Types m (turn_of s a) p.loop_condition t × (t ≢ bool_type)) f) err)
-        turn_bad e (inr (inr (f, err))) = inl (no_step (turns
-            (λ s a. (t : ValueType) × Types m (turn_of s a) p.loop_step t × (t ≢ a)) f) err)
+      pub result_bad : (e : Refusal) → TypeFault m ((p.accu_var, kind i) ∷ ks) p.result e
+          → TypeFault m ks (loop_of id p) e
+      result_bad e f = inl (in_result (kind i) has_init f)
 
-        pub result_bad : (e : Refusal) → TypeFault m ((p.accu_var, kind i) ∷ ks) p.result e
-            → TypeFault m ks (loop_of id p) e
-        result_bad e f = inl (in_result
-            (λ b may. subst (λ b. TypeFault m ((p.accu_var, b) ∷ ks) p.result e) (may (kind i) has_init) f))
-
-        pub loop_found : NamesDiffer p.iter_var p.accu_var → (c u e : TypedTree)
-            → IsTurn m (turn_of s (kind i)) p.loop_condition p.loop_step (kind i) c u
-            → IsFound m ((p.accu_var, kind i) ∷ ks) p.result e
-            → IsNode m ks (loop_of id p) (typed_loop (kind e) r i c u e)
-        loop_found names c u e (condition, is_bool, step, keeps) result = (
-          (
-            record {
-              names = names;
-              walked = kind r;
-              element = s;
-              gathered = kind i;
-              range = has_range;
-              over = over;
-              init = has_init;
-              condition = subst (Types m (turn_of s (kind i)) p.loop_condition) is_bool
-                  (types_of m (turn_of s (kind i)) p.loop_condition c condition.0);
-              step = subst (Types m (turn_of s (kind i)) p.loop_step) keeps
-                  (types_of m (turn_of s (kind i)) p.loop_step u step.0);
-              result = types_of m ((p.accu_var, kind i) ∷ ks) p.result e result.0;
-            },
-            s,
-            kind i,
-            over,
-            refl,
-            range.0,
-            init.0,
-            condition.0,
-            step.0,
-            result.0,
-          ),
-          (
-            range.1,
-            init.1,
-            (λ w v a is_range is_over is_init.
-                let elements : s ≡ v = over_one w s v
-                (subst (λ w. IsOver w s) (one_type m ks p.iter_range (kind r) w has_range is_range) over) is_over in
-                let gathered : kind i ≡ a = one_type m ks p.accu_init (kind i) a has_init is_init in
-                subst (λ v. EntriesAgree m (turn_of v a) p.loop_condition
-                × EntriesAgree m (turn_of v a) p.loop_step) elements
-                (subst (λ a. EntriesAgree m (turn_of s a) p.loop_condition
-                × EntriesAgree m (turn_of s a) p.loop_step) gathered (condition.1, step.1))),
-            (λ a is_init. subst (λ a. EntriesAgree m ((p.accu_var, a) ∷ ks) p.result)
-                (one_type m ks p.accu_init (kind i) a has_init is_init) result.1),
-          ),
-        )
+      pub loop_found : NamesDiffer p.iter_var p.iter_var2 p.accu_var → (c u e : TypedTree)
+          → IsTurn m (turn_of each (kind i)) p.loop_condition p.loop_step (kind i) c u
+          → IsFound m ((p.accu_var, kind i) ∷ ks) p.result e
+          → IsNode m ks (loop_of id p) (typed_loop (kind e) vars r i c u e)
+      loop_found names c u e (condition, is_bool, step, keeps) result = (
+        (
+          record {
+            names = names;
+            walked = kind r;
+            each = each;
+            gathered = kind i;
+            range = has_range;
+            over = over;
+            init = has_init;
+            condition = subst (Types m (turn_of each (kind i)) p.loop_condition) is_bool
+                (types_of m (turn_of each (kind i)) p.loop_condition c condition.0);
+            step = subst (Types m (turn_of each (kind i)) p.loop_step) keeps
+                (types_of m (turn_of each (kind i)) p.loop_step u step.0);
+            result = types_of m ((p.accu_var, kind i) ∷ ks) p.result e result.0;
+          },
+          refl,
+          each,
+          kind i,
+          over,
+          refl,
+          range.0,
+          init.0,
+          condition.0,
+          step.0,
+          result.0,
+        ),
+        (
+          range.1,
+          init.1,
+          (λ w others a is_range is_over is_init.
+              subst (λ ls. EntriesAgree m ls p.loop_condition × EntriesAgree m ls p.loop_step)
+              (ap₂ turn_of (over_one vars w each others (subst (λ w. IsOver vars w each)
+              (one_type m ks p.iter_range (kind r) w has_range is_range) over) is_over)
+              (one_type m ks p.accu_init (kind i) a has_init is_init)) (condition.1, step.1)),
+          (λ a is_init. subst (λ a. EntriesAgree m ((p.accu_var, a) ∷ ks) p.result)
+              (one_type m ks p.accu_init (kind i) a has_init is_init) result.1),
+        ),
+      )
 
 -- ---- one expression after another
 

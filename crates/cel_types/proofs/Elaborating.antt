@@ -10,7 +10,7 @@ use Rattle.cel_tree.specs.Tree.{CelTree, constant, ident, select, call, list_lit
 use Rattle.cel_overload.specs.Overloads.{IsCall}
 use Rattle.cel_ops.specs.Attributes.{attribute_type}
 use Rattle.cel_types.specs.Attributes.{attribute_named}
-use Rattle.cel_types.specs.Names.{joined_name, local, root_of}
+use Rattle.cel_types.specs.Names.{joined_name, local, root_of, turn_scope, variables_of}
 use Rattle.cel_types.specs.Typing.{IsOver, Kinds, ListRule, MapRule, Maps, SelectRule, Types, TypesAll, TypesEach, TypesPairs, TypesTarget, has_target, name_type}
 use Rattle.cel_types.specs.Elaborated.{Elaborates, ElaboratesEach, ElaboratesPairs, ElaboratesTarget, TypedTree, TypedTrees, kind, kinds, no_typed, slot, typed, typed_attribute, typed_call, typed_constant, typed_field, typed_has, typed_list, typed_local, typed_loop, typed_map}
 
@@ -85,21 +85,21 @@ mutual
   elaborated m ks (map_literal id entries) s g =
       let es = map_elaborated m ks entries (get m.types id) s (pairs_elaborated m ks entries) g in
       (typed_map s es.0, (g, es.1), refl)
-  elaborated m ks (comprehension id x acc range init condition step result) s g =
+  elaborated m ks (comprehension id x y acc range init condition step result) s g =
       let rule = g in
+      let ls = turn_scope x y acc rule.each rule.gathered ks in
       let r = elaborated m ks range rule.walked rule.range in
       let i = elaborated m ks init rule.gathered rule.init in
-      let c = elaborated m ((x, rule.element) ∷ (acc, rule.gathered) ∷ ks) condition bool_type
-      rule.condition in
-      let p = elaborated m ((x, rule.element) ∷ (acc, rule.gathered) ∷ ks) step rule.gathered
-      rule.step in
+      let c = elaborated m ls condition bool_type rule.condition in
+      let p = elaborated m ls step rule.gathered rule.step in
       let e = elaborated m ((acc, rule.gathered) ∷ ks) result s rule.result in (
-        typed_loop s r.0 i.0 c.0 p.0 e.0,
+        typed_loop s (variables_of y) r.0 i.0 c.0 p.0 e.0,
         (
           g,
-          rule.element,
+          refl,
+          rule.each,
           rule.gathered,
-          subst (λ w. IsOver w rule.element) (sym r.2) rule.over,
+          subst (λ w. IsOver (variables_of y) w rule.each) (sym r.2) rule.over,
           i.2,
           r.1,
           i.1,

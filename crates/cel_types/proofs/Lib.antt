@@ -1,5 +1,6 @@
 pub mod Written
 pub mod StandardFacts
+pub mod TurnScopes
 pub mod OneType
 pub mod Apart
 pub mod Total
@@ -12,6 +13,7 @@ pub mod WellTypedAnswers
 pub mod WellTypedElaborations
 pub mod MeansCalls
 pub mod MeansTheSame
+pub mod OneVariable
 pub mod Checking
 pub mod CheckNames
 pub mod CheckSteps

@@ -1,38 +1,34 @@
 -- An elaboration means what its expression means: names and numbers of locals say the same, and so do
 -- functions and overloads on operands of the overload's types.
-use Rattle.std.proofs.Common.{◌≡◌, suc, ℕ, Bool, true, false, cond, is_some, List, [], ◌∷◌, length, Option, Some, None, option_map, refl, sym, ap, ap₂, ◌∙◌, subst}
+use Rattle.std.proofs.Common.{◌≡◌, suc, ℕ, Bool, true, false, cond, is_some, List, [], ◌∷◌, ◌++◌, length, map, Option, Some, None, option_map, refl, sym, ap, ap₂, ◌∙◌, subst}
 use Rattle.std.specs.Option.{option_and_then}
 use Rattle.std.specs.Str.{bytes_eq}
 use Rattle.attributes.specs.Request.{IsRequest, RequestValue}
 use Rattle.attributes.specs.declared.attribute.AttrId.{AttrId}
-use Rattle.cel_value.specs.Types.{AnswerHasType, EachItem, HasType, ValueType}
-use Rattle.cel_value.specs.Values.{CelAnswer, CelValue, CelValues, bool, fails, item, no_items, value}
+use Rattle.cel_value.specs.Types.{AnswerHasType, ValueType}
+use Rattle.cel_value.specs.Values.{CelAnswer, bool, fails, value}
 use Rattle.cel_ops.specs.Attributes.{attribute}
-use Rattle.cel_ops.specs.Collections.{elements_of}
 use Rattle.cel_ops.specs.Collections as collections
-use Rattle.cel_ops.specs.Typed.{Answers, ElementsHaveType}
+use Rattle.cel_ops.specs.Typed.{Answers}
 use Rattle.cel_overload.specs.Answers.{HaveTypes, function_answer, overload_answer}
 use Rattle.cel_tree.specs.GoodConstants.{AreGood, EntriesAreGood, HasGoodConstants, TargetIsGood}
 use Rattle.cel_tree.specs.Tree.{CelTree, constant, ident, select, call, list_literal, map_literal, comprehension, CelTarget, no_target, target, CelTrees, no_trees, tree, CelTreeEntries, no_tree_entries, tree_entry}
 use Rattle.cel_types.specs.Attributes.{attribute_named}
 use Rattle.cel_types.specs.Elaborated.{Elaborates, ElaboratesEach, ElaboratesPairs, ElaboratesTarget, TypedTree, TypedTrees, kind, kinds, no_typed, slot, typed, typed_attribute, typed_call, typed_constant, typed_field, typed_has, typed_list, typed_local, typed_loop, typed_map}
-use Rattle.cel_types.specs.Meaning.{Locals, before, eval, eval_each, eval_entries, eval_target, fold, name_answer, over, select_answer, turn}
-use Rattle.cel_types.specs.Names.{Scope, is_root, joined_name, local, root_of}
+use Rattle.cel_types.specs.Meaning.{Locals, before, eval, eval_each, eval_entries, eval_target, fold, name_answer, over, select_answer, turn, turns_of}
+use Rattle.cel_types.specs.Names.{Scope, bound, is_root, joined_name, local, root_of, turn_scope, variable_names, variables_of}
 use Rattle.cel_types.specs.TypedMeaning.{typed_answer, typed_answers}
 use Rattle.cel_types.specs.Typing.{IsOver, Kinds, Maps, SelectRule, Types}
+use Rattle.cel_types.specs.declared.typed.Variables.{Variables}
 use Rattle.cel_types.proofs.MeansCalls.{call_same}
-use Rattle.cel_types.proofs.WellTypedAnswers.{answer_typed, answers_typed, walked_typed}
+use Rattle.cel_types.proofs.TurnScopes.{known_turn, over_length, scoped, scoped_turn}
+use Rattle.cel_types.proofs.WellTypedAnswers.{TurnsHaveTypes, WalkHasTypes, answer_typed, answers_typed, walked_typed}
 use Rattle.cel_types.proofs.WellTypedElaborations.{elaborated_typed, known, loop_kinds, no_slot, slot_known}
 
 -- ---- locals in scope, each with what it comes to and with its type
 
 abbrev pub Bound : Type 0
 Bound = CelAnswer × ValueType
-
--- the same names with another thing known of each
-abbrev pub scoped : {A B : Type 0} → (A → B) → Scope A → Scope B
-scoped f [] = []
-scoped f (l ∷ ls) = (l.0, f l.1) ∷ scoped f ls
 
 abbrev pub locals_of : Scope Bound → Locals
 locals_of = scoped (λ b. b.0)
@@ -98,44 +94,137 @@ turn_same (Some (value (bool true))) (Some a) next others ended g h same = same 
 turn_same (Some (value (bool false))) step next others ended g h same = refl
 turn_same (Some (value _)) step next others ended g h same = refl
 
-module _ (condition condition' step step' : CelValue → CelAnswer → Option CelAnswer)
-    (result result' : CelAnswer → Option CelAnswer) (x g : ValueType)
-    (conditions : (v : CelValue) (a : CelAnswer) → HasType v x → AnswerHasType a g
-    → condition v a ≡ condition' v a)
-    (steps : (v : CelValue) (a : CelAnswer) → HasType v x → AnswerHasType a g
-    → step v a ≡ step' v a)
+module _ (condition condition' step step' : List CelAnswer → CelAnswer → Option CelAnswer)
+    (result result' : CelAnswer → Option CelAnswer) (each : List ValueType) (g : ValueType)
+    (conditions : (vs : List CelAnswer) (a : CelAnswer) → HaveTypes vs each → AnswerHasType a g
+    → condition vs a ≡ condition' vs a)
+    (steps : (vs : List CelAnswer) (a : CelAnswer) → HaveTypes vs each → AnswerHasType a g
+    → step vs a ≡ step' vs a)
     (results : (a : CelAnswer) → AnswerHasType a g → result a ≡ result' a)
-    (stays : (v : CelValue) (a : CelAnswer) → HasType v x → AnswerHasType a g
-    → Answers (step' v a) g) where
-  -- parts that mean the same for elements and answers of their types make the same fold
-  fold_same : (vs : CelValues) (a : CelAnswer) → EachItem (λ v. HasType v x) vs
-      → AnswerHasType a g → fold condition step result vs a ≡ fold condition' step' result' vs a
-  fold_same no_items a each h = results a h
-  fold_same (item v vs) a each h =
-      rw (conditions v a each.0 h, steps v a each.0 h, results a h)
-      (turn_same (condition' v a) (step' v a) (fold condition step result vs)
-      (fold condition' step' result' vs) (result' a) g (stays v a each.0 h)
-      (λ b more. fold_same vs b each.1 more))
+    (stays : (vs : List CelAnswer) (a : CelAnswer) → HaveTypes vs each → AnswerHasType a g
+    → Answers (step' vs a) g) where
+  -- parts that mean the same for answers of their types make the same fold
+  fold_same : (turns : List (List CelAnswer)) (a : CelAnswer) → TurnsHaveTypes turns each
+      → AnswerHasType a g → fold condition step result turns a ≡ fold condition' step' result' turns a
+  fold_same [] a have h = results a h
+  fold_same (vs ∷ turns) a have h =
+      rw (conditions vs a have.0 h, steps vs a have.0 h, results a h)
+      (turn_same (condition' vs a) (step' vs a) (fold condition step result turns)
+      (fold condition' step' result' turns) (result' a) g (stays vs a have.0 h)
+      (λ b more. fold_same turns b have.1 more))
 
-over_same : (o : Option CelAnswer) (go others : CelValues → Option CelAnswer) (w x : ValueType)
-    → IsOver w x → Answers o w
-    → ((vs : CelValues) → EachItem (λ v. HasType v x) vs → go vs ≡ others vs)
-    → over o go ≡ over o others
-over_same None go others w x is h same = refl
-over_same (Some (fails e)) go others w x is h same = refl
-over_same (Some (value v)) go others w x is h same =
-    at (elements_of v) (walked_typed w x is v h)
+over_same : (vars : Variables) (o : Option CelAnswer)
+    (go others : List (List CelAnswer) → Option CelAnswer) (w : ValueType) (each : List ValueType)
+    → IsOver vars w each → Answers o w
+    → ((turns : List (List CelAnswer)) → TurnsHaveTypes turns each → go turns ≡ others turns)
+    → over vars o go ≡ over vars o others
+over_same vars None go others w each is h same = refl
+over_same vars (Some (fails e)) go others w each is h same = refl
+over_same vars (Some (value v)) go others w each is h same =
+    at (turns_of vars v) (walked_typed vars w each is v h)
   where
-    at : (found : Option CelValues) → ElementsHaveType found x
+    at : (found : Option (List (List CelAnswer))) → WalkHasTypes found each
         → option_and_then go found ≡ option_and_then others found
     at None have = refl
-    at (Some vs) have = same vs have
+    at (Some turns) have = same turns have
 
 then_same : (o : Option CelAnswer) (go others : CelAnswer → Option CelAnswer) (t : ValueType)
     → Answers o t → ((a : CelAnswer) → AnswerHasType a t → go a ≡ others a)
     → option_and_then go o ≡ option_and_then others o
 then_same None go others t h same = refl
 then_same (Some a) go others t h same = same a h
+
+-- ---- the locals of a turn
+
+-- answers, each with its type
+abbrev paired : List CelAnswer → List ValueType → List Bound
+paired [] each = []
+paired (v ∷ vs) [] = []
+paired (v ∷ vs) (t ∷ each) = (v, t) ∷ paired vs each
+
+first_paired : (vs : List CelAnswer) (each : List ValueType) → HaveTypes vs each
+    → map (λ b. b.0) (paired vs each) ≡ vs
+first_paired [] each h = refl
+first_paired (v ∷ vs) [] h = absurd h
+first_paired (v ∷ vs) (t ∷ each) h = ap (λ l. v ∷ l) (first_paired vs each h.1)
+
+second_paired : (vs : List CelAnswer) (each : List ValueType) → HaveTypes vs each
+    → map (λ b. b.1) (paired vs each) ≡ each
+second_paired [] [] h = refl
+second_paired [] (t ∷ each) h = absurd h
+second_paired (v ∷ vs) [] h = absurd h
+second_paired (v ∷ vs) (t ∷ each) h = ap (λ l. t ∷ l) (second_paired vs each h.1)
+
+have_length : (vs : List CelAnswer) (each : List ValueType) → HaveTypes vs each
+    → length vs ≡ length each
+have_length [] [] h = refl
+have_length [] (t ∷ each) h = absurd h
+have_length (v ∷ vs) [] h = absurd h
+have_length (v ∷ vs) (t ∷ each) h = ap suc (have_length vs each h.1)
+
+-- answers of their types at names, before locals of theirs
+bound_typed : (names : List (List ℕ)) (vs : List CelAnswer) (each : List ValueType) (ls : Scope Bound)
+    → HaveTypes vs each → AreTyped ls → AreTyped (bound names (paired vs each) ++ ls)
+bound_typed [] vs each ls h more = more
+bound_typed (name ∷ names) [] each ls h more = more
+bound_typed (name ∷ names) (v ∷ vs) [] ls h more = absurd h
+bound_typed (name ∷ names) (v ∷ vs) (t ∷ each) ls h more =
+    (h.0, bound_typed names vs each ls h.1 more)
+
+module _ (x y acc : List ℕ) (w : ValueType) (each : List ValueType) (is : IsOver (variables_of y) w each)
+    (g : ValueType) (ls : Scope Bound) (typed_around : AreTyped ls) where
+  -- the locals of a turn, each with its answer and its type
+  abbrev inside : List CelAnswer → CelAnswer → Scope Bound
+  inside vs a = turn_scope x y acc (paired vs each) (a, g) ls
+
+  inside_typed : (vs : List CelAnswer) (a : CelAnswer) → HaveTypes vs each → AnswerHasType a g
+      → AreTyped (inside vs a)
+  inside_typed vs a hv ha =
+      bound_typed (variable_names x y) vs each ((acc, (a, g)) ∷ ls) hv (ha, typed_around)
+
+  inside_answers : (vs : List CelAnswer) (a : CelAnswer) → HaveTypes vs each
+      → locals_of (inside vs a) ≡ turn_scope x y acc vs a (locals_of ls)
+  inside_answers vs a hv =
+      scoped_turn (λ b. b.0) x y acc (paired vs each) (a, g) ls
+      ∙ ap (λ l. turn_scope x y acc l a (locals_of ls)) (first_paired vs each hv)
+
+  inside_kinds : (vs : List CelAnswer) (a : CelAnswer) → HaveTypes vs each
+      → kinds_of (inside vs a) ≡ turn_scope x y acc each g (kinds_of ls)
+  inside_kinds vs a hv =
+      scoped_turn (λ b. b.1) x y acc (paired vs each) (a, g) ls
+      ∙ ap (λ l. turn_scope x y acc l g (kinds_of ls)) (second_paired vs each hv)
+
+  inside_known : (vs : List CelAnswer) (a : CelAnswer) → HaveTypes vs each
+      → known (turn_scope x y acc vs a (locals_of ls)) ≡ vs ++ a ∷ known (locals_of ls)
+  inside_known vs a hv =
+      known_turn x y acc vs a (locals_of ls) (have_length vs each hv ∙ over_length x y w each is)
+
+  -- a part means the same in a turn, if it does with all locals
+  part_same : (m : Maps) (request : RequestValue) (t : CelTree) (e : TypedTree)
+      → ((ls : Scope Bound) → AreTyped ls → Elaborates m (kinds_of ls) t e
+      → eval t request (locals_of ls) ≡ typed_answer e request (known (locals_of ls)))
+      → Elaborates m (turn_scope x y acc each g (kinds_of ls)) t e
+      → (vs : List CelAnswer) (a : CelAnswer) → HaveTypes vs each → AnswerHasType a g
+      → eval t request (turn_scope x y acc vs a (locals_of ls))
+      ≡ typed_answer e request (vs ++ a ∷ known (locals_of ls))
+  part_same m request t e same of vs a hv ha =
+      subst (λ l. eval t request l ≡ typed_answer e request (known l)) (inside_answers vs a hv)
+      (same (inside vs a) (inside_typed vs a hv ha)
+      (subst (λ ks. Elaborates m ks t e) (sym (inside_kinds vs a hv)) of))
+      ∙ ap (typed_answer e request) (inside_known vs a hv)
+
+  -- so it answers with its type
+  part_typed : (m : Maps) (request : RequestValue) (t : CelTree) (e : TypedTree)
+      → ((ls : Scope Bound) → AreTyped ls → Elaborates m (kinds_of ls) t e
+      → Answers (typed_answer e request (known (locals_of ls))) (kind e))
+      → Elaborates m (turn_scope x y acc each g (kinds_of ls)) t e
+      → (vs : List CelAnswer) (a : CelAnswer) → HaveTypes vs each → AnswerHasType a g
+      → Answers (typed_answer e request (vs ++ a ∷ known (locals_of ls))) (kind e)
+  part_typed m request t e has of vs a hv ha =
+      subst (λ l. Answers (typed_answer e request l) (kind e))
+      (ap known (inside_answers vs a hv) ∙ inside_known vs a hv)
+      (has (inside vs a) (inside_typed vs a hv ha)
+      (subst (λ ks. Elaborates m ks t e) (sym (inside_kinds vs a hv)) of))
 
 -- ---- calls and Selects
 
@@ -209,25 +298,28 @@ module _ (m : Maps) (request : RequestValue) (sound : IsRequest request) where
     means_same (map_literal id entries) (typed_map t pairs) ls h good g =
         ap (option_and_then collections.map_literal) (pairs_same entries pairs ls h good g.1)
     means_same (map_literal id entries) _ ls h good g = absurd g
-    means_same (comprehension id x acc range init condition step result)
-        (typed_loop t r i c s e) ls h good g =
-        let of = loop_kinds m (kinds_of ls) id x acc range init condition step result t r i c s e g in
-        let inside = λ (v : CelValue) (a : CelAnswer).
-        (x, (value v, g.1)) ∷ (acc, (a, g.2)) ∷ ls in
-        let at_end = λ (a : CelAnswer). (acc, (a, g.2)) ∷ ls in
-        rw (means_same range r ls h good.0 g.5, means_same init i ls h good.1 g.6)
-        (over_same (typed_answer r request (known (locals_of ls))) _ _ (kind r) g.1 g.3
-        (has_type range r ls h good.0 g.5)
-        (λ vs each. then_same (typed_answer i request (known (locals_of ls))) _ _ (kind i)
-        (has_type init i ls h good.1 g.6)
-        (λ a gathered. fold_same _ _ _ _ _ _ g.1 g.2
-        (λ v b hv hb. means_same condition c (inside v b) (hv, (hb, h)) good.2 g.7)
-        (λ v b hv hb. means_same step s (inside v b) (hv, (hb, h)) good.3 g.8)
-        (λ b hb. means_same result e (at_end b) (hb, h) good.4 g.9)
-        (λ v b hv hb. subst (Answers (typed_answer s request (known (locals_of (inside v b)))))
-        (of.1 ∙ g.4) (has_type step s (inside v b) (hv, (hb, h)) good.3 g.8))
-        vs a each (subst (AnswerHasType a) g.4 gathered))))
-    means_same (comprehension id x acc range init condition step result) _ ls h good g = absurd g
+    means_same (comprehension id x y acc range init condition step result)
+        (typed_loop t vars r i c s e) ls h good g =
+        let of = loop_kinds m (kinds_of ls) id x y acc range init condition step result t vars r i c s e g in
+        let is = subst (λ v. IsOver v (kind r) g.2) g.1 g.4 in
+        let at_end = λ (a : CelAnswer). (acc, (a, g.3)) ∷ ls in
+        rw (means_same range r ls h good.0 g.6, means_same init i ls h good.1 g.7, g.1)
+        (over_same (variables_of y) (typed_answer r request (known (locals_of ls))) _ _ (kind r) g.2 is
+        (has_type range r ls h good.0 g.6)
+        (λ turns have. then_same (typed_answer i request (known (locals_of ls))) _ _ (kind i)
+        (has_type init i ls h good.1 g.7)
+        (λ a gathered. fold_same _ _ _ _ _ _ g.2 g.3
+        (part_same x y acc (kind r) g.2 is g.3 ls h m request condition c
+        (λ at ht gt. means_same condition c at ht good.2 gt) g.8)
+        (part_same x y acc (kind r) g.2 is g.3 ls h m request step s
+        (λ at ht gt. means_same step s at ht good.3 gt) g.9)
+        (λ b hb. means_same result e (at_end b) (hb, h) good.4 g.10)
+        (λ vs b hv hb. subst (Answers (typed_answer s request (vs ++ b ∷ known (locals_of ls))))
+        (of.1 ∙ g.5)
+        (part_typed x y acc (kind r) g.2 is g.3 ls h m request step s
+        (λ at ht gt. has_type step s at ht good.3 gt) g.9 vs b hv hb))
+        turns a have (subst (AnswerHasType a) g.5 gathered))))
+    means_same (comprehension id x y acc range init condition step result) _ ls h good g = absurd g
 
     target_same : (on : CelTarget) (args : CelTrees) (es : TypedTrees) (ls : Scope Bound)
         → AreTyped ls → TargetIsGood on

@@ -7,7 +7,7 @@ use Rattle.cel_overload.specs.Overloads.{IsCall}
 use Rattle.cel_overload.proofs.OneOverload.{call_unique}
 use Rattle.cel_types.specs.Attributes.{attribute_named}
 use Rattle.cel_types.specs.Elaborated.{Elaborates, ElaboratesEach, ElaboratesPairs, ElaboratesTarget, kind, kinds, no_typed, slot, typed, typed_attribute, typed_call, typed_constant, typed_field, typed_has, typed_list, typed_local, typed_loop, typed_map}
-use Rattle.cel_types.specs.Names.{joined_name, root_of}
+use Rattle.cel_types.specs.Names.{joined_name, root_of, turn_scope}
 use Rattle.cel_types.specs.Typing.{IsOver, Kinds, Maps, has_target}
 use Rattle.cel_types.proofs.OneType.{OneAtMost, one_some, one_type, over_one}
 
@@ -85,26 +85,28 @@ mutual
       (one_pairs m ks entries es fs g.1 h.1)
   one_elaboration m ks (map_literal id entries) (typed_map t es) _ g h = absurd h
   one_elaboration m ks (map_literal id entries) _ f g h = absurd g
-  one_elaboration m ks (comprehension id x acc range init condition step result)
-      (typed_loop t r i c s e) (typed_loop u r' i' c' s' e') g h =
-      let types = one_type m ks (comprehension id x acc range init condition step result) t u
+  one_elaboration m ks (comprehension id x y acc range init condition step result)
+      (typed_loop t vars r i c s e) (typed_loop u vars' r' i' c' s' e') g h =
+      let types = one_type m ks (comprehension id x y acc range init condition step result) t u
       g.0 h.0 in
-      let ranges = one_elaboration m ks range r r' g.5 h.5 in
-      let inits = one_elaboration m ks init i i' g.6 h.6 in
-      let elements = over_one (kind r') g.1 h.1 (subst (λ r. IsOver (kind r) g.1) ranges g.3) h.3 in
-      let gathered = subst (λ i. g.2 ≡ kind i) inits (sym g.4) ∙ h.4 in
-      let conditions = one_elaboration m ((x, h.1) ∷ (acc, h.2) ∷ ks) condition c c'
-      (subst (λ a. Elaborates m ((x, h.1) ∷ (acc, a) ∷ ks) condition c) gathered
-      (subst (λ v. Elaborates m ((x, v) ∷ (acc, g.2) ∷ ks) condition c) elements g.7)) h.7 in
-      let steps = one_elaboration m ((x, h.1) ∷ (acc, h.2) ∷ ks) step s s'
-      (subst (λ a. Elaborates m ((x, h.1) ∷ (acc, a) ∷ ks) step s) gathered
-      (subst (λ v. Elaborates m ((x, v) ∷ (acc, g.2) ∷ ks) step s) elements g.8)) h.8 in
-      let results = one_elaboration m ((acc, h.2) ∷ ks) result e e'
-      (subst (λ a. Elaborates m ((acc, a) ∷ ks) result e) gathered g.9) h.9 in
-      rw (types, ranges, inits, conditions, steps, results) refl
-  one_elaboration m ks (comprehension id x acc range init condition step result)
-      (typed_loop t r i c s e) _ g h = absurd h
-  one_elaboration m ks (comprehension id x acc range init condition step result) _ f g h = absurd g
+      let numbers = g.1 ∙ sym h.1 in
+      let ranges = one_elaboration m ks range r r' g.6 h.6 in
+      let inits = one_elaboration m ks init i i' g.7 h.7 in
+      let each = over_one vars' (kind r') g.2 h.2
+      (subst (λ v. IsOver v (kind r') g.2) numbers (subst (λ r. IsOver vars (kind r) g.2) ranges g.4)) h.4 in
+      let gathered = subst (λ i. g.3 ≡ kind i) inits (sym g.5) ∙ h.5 in
+      let here : turn_scope x y acc g.2 g.3 ks ≡ turn_scope x y acc h.2 h.3 ks =
+      ap₂ (λ each a. turn_scope x y acc each a ks) each gathered in
+      let conditions = one_elaboration m (turn_scope x y acc h.2 h.3 ks) condition c c'
+      (subst (λ ls. Elaborates m ls condition c) here g.8) h.8 in
+      let steps = one_elaboration m (turn_scope x y acc h.2 h.3 ks) step s s'
+      (subst (λ ls. Elaborates m ls step s) here g.9) h.9 in
+      let results = one_elaboration m ((acc, h.3) ∷ ks) result e e'
+      (subst (λ a. Elaborates m ((acc, a) ∷ ks) result e) gathered g.10) h.10 in
+      rw (types, numbers, ranges, inits, conditions, steps, results) refl
+  one_elaboration m ks (comprehension id x y acc range init condition step result)
+      (typed_loop t vars r i c s e) _ g h = absurd h
+  one_elaboration m ks (comprehension id x y acc range init condition step result) _ f g h = absurd g
 
   one_operands : (m : Maps) (ks : Kinds) (on : CelTarget) (args : CelTrees)
       → OneAtMost (ElaboratesEach m ks args)

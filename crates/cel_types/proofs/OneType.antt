@@ -7,8 +7,10 @@ use Rattle.cel_value.specs.declared.cel_type.KeyType.TheVariants as keys
 use Rattle.cel_tree.specs.Checked.{CelTypeEntry, of_type, dyn_type, unsupported_type}
 use Rattle.cel_tree.specs.Tree.{CelTree, constant, ident, select, call, list_literal, map_literal, comprehension, CelTarget, no_target, target, CelTrees, no_trees, tree, CelTreeEntries, no_tree_entries, tree_entry}
 use Rattle.cel_overload.proofs.OneOverload.{call_unique}
-use Rattle.cel_types.specs.Names.{root_of}
+use Rattle.cel_types.specs.Names.{root_of, turn_scope}
 use Rattle.cel_types.specs.Typing.{CallRule, IsOver, Kinds, ListRule, LoopRule, MapRule, Maps, SelectRule, TypeGiven, Types, TypesAll, TypesEach, TypesPairs, TypesTarget, has_target}
+use Rattle.cel_types.specs.declared.typed.Variables.{Variables}
+use Rattle.cel_types.specs.declared.typed.Variables.TheVariants as variables
 
 pub one_some : {A : Type 0} (o : Option A) (a b : A) → o ≡ Some a → o ≡ Some b → a ≡ b
 one_some o a b d e = let k : Some a ≡ Some b = sym d ∙ e in cc
@@ -74,17 +76,20 @@ map_one entry (tree_entry id key value others) Pairs one a b g h =
     let same = one id key value others refl (type_of_key g.0) (type_of_key h.0) g.1 h.1 g.2 h.2 in
     g.3 ∙ ap₂ map_type (key_one g.0 h.0 same.0) same.1 ∙ sym h.3
 
-pub over_one : (walked : ValueType) → OneAtMost (IsOver walked)
-over_one (list_type s) a b g h = g ∙ sym h
-over_one (map_type k s) a b g h = g ∙ sym h
-over_one _ a b g h = absurd g
+pub over_one : (vars : Variables) (walked : ValueType) → OneAtMost (IsOver vars walked)
+over_one variables.One (list_type s) a b g h = g ∙ sym h
+over_one variables.One (map_type k s) a b g h = g ∙ sym h
+over_one variables.One _ a b g h = absurd g
+over_one variables.Two (list_type s) a b g h = g ∙ sym h
+over_one variables.Two (map_type k s) a b g h = g ∙ sym h
+over_one variables.Two _ a b g h = absurd g
 
-pub loop_one : (x acc : List ℕ) (Range Init : ValueType → Type 0)
-    (Condition Step : ValueType → ValueType → ValueType → Type 0)
+pub loop_one : (x y acc : List ℕ) (Range Init : ValueType → Type 0)
+    (Condition Step : List ValueType → ValueType → ValueType → Type 0)
     (Result : ValueType → ValueType → Type 0) → OneAtMost Range → OneAtMost Init
     → ((gathered : ValueType) → OneAtMost (Result gathered))
-    → OneAtMost (LoopRule x acc Range Init Condition Step Result)
-loop_one x acc Range Init Condition Step Result range init result a b g h =
+    → OneAtMost (LoopRule x y acc Range Init Condition Step Result)
+loop_one x y acc Range Init Condition Step Result range init result a b g h =
     let same : g.gathered ≡ h.gathered = init g.gathered h.gathered g.init h.init in
     result h.gathered a b (rw (sym same) (g.result)) h.result
 
@@ -104,10 +109,10 @@ mutual
   one_type m ks (map_literal id entries) a b g h =
       map_one (get m.types id) entries (TypesPairs m ks entries) (one_pair m ks entries) a b
       g h
-  one_type m ks (comprehension id x acc range init condition step result) a b g h =
-      loop_one x acc (Types m ks range) (Types m ks init)
-      (λ s a. Types m ((x, s) ∷ (acc, a) ∷ ks) condition)
-      (λ s a. Types m ((x, s) ∷ (acc, a) ∷ ks) step)
+  one_type m ks (comprehension id x y acc range init condition step result) a b g h =
+      loop_one x y acc (Types m ks range) (Types m ks init)
+      (λ each a. Types m (turn_scope x y acc each a ks) condition)
+      (λ each a. Types m (turn_scope x y acc each a ks) step)
       (λ a. Types m ((acc, a) ∷ ks) result) (one_type m ks range) (one_type m ks init)
       (λ gathered. one_type m ((acc, gathered) ∷ ks) result) a b g h
 

@@ -19,10 +19,12 @@ use Rattle.cel_overload.proofs.OneOverload.{call_total}
 use Rattle.attributes.specs.declared.attribute.AttrId.{AttrId}
 use Rattle.cel_ops.specs.Attributes.{attribute_type}
 use Rattle.cel_types.specs.Attributes.{attribute_named}
-use Rattle.cel_types.specs.Names.{bare_root, is_root, joined_name, local, root_of}
+use Rattle.cel_types.specs.Names.{bare_root, is_root, joined_name, local, root_of, turn_scope, variables_of}
 use Rattle.cel_types.specs.Typing.{CallRule, IdentRule, IsList, IsMap, IsOver, Kinds, ListRule, LoopRule, MapRule, Maps, NamesDiffer, RefAgrees, SelectRule, TypeGiven, Types, TypesAll, TypesEach, TypesPairs, TypesTarget, constant_type, field_type, has_target, name_type}
-use Rattle.cel_types.specs.TypingFaults.{CallsFault, ConstantFault, EachTurn, ElementsFault, EmptyFault, EntryFault, IdentFault, ItemTypes, KeyTypes, ListFault, LoopFault, MapsFault, PairFault, PairsFault, RefDiffers, SelectFault, SomeFault, SomeTypes, TargetFault, TypeFault}
-use Rattle.cel_types.specs.TypingFaults.{unsupported_kind, untold, of_another_kind, no_element_name, no_gathered_name, one_name, no_elements, no_condition, no_step, in_range, in_init, in_turn, in_result}
+use Rattle.cel_types.specs.TypingFaults.{CallsFault, ConstantFault, ElementsFault, EmptyFault, EntryFault, IdentFault, ItemTypes, KeyTypes, ListFault, LoopFault, MapsFault, PairFault, PairsFault, RefDiffers, SelectFault, SomeFault, SomeTypes, TargetFault, TypeFault}
+use Rattle.cel_types.specs.TypingFaults.{unsupported_kind, untold, of_another_kind, no_element_name, no_gathered_name, one_name, one_variable, second_gathered, no_elements, no_condition, no_step, in_range, in_init, in_turn, in_result}
+use Rattle.cel_types.specs.declared.typed.Variables.{Variables}
+use Rattle.cel_types.specs.declared.typed.Variables.TheVariants as variables
 
 -- a type by a rule, or a fault
 abbrev pub Decided : (ValueType → Type 0) → (Refusal → Type 0) → Type 0
@@ -180,15 +182,15 @@ key_kind (map_type j t) = inr other
     other keys.Uint e = cc
     other keys.Text e = cc
 
--- the elements of a range
-range_kind : (s : ValueType) → ((t : ValueType) × IsOver s t) ⊎ ((t : ValueType) → IsOver s t → ⊥)
-range_kind (list_type t) = inl (t, refl)
-range_kind (map_type k t) = inl (type_of_key k, refl)
-range_kind bool_type = inr (λ t h. h)
-range_kind int_type = inr (λ t h. h)
-range_kind uint_type = inr (λ t h. h)
-range_kind text_type = inr (λ t h. h)
-range_kind bytes_type = inr (λ t h. h)
+-- what the variables get from a range
+range_kind : (vars : Variables) (s : ValueType)
+    → ((each : List ValueType) × IsOver vars s each) ⊎ ((each : List ValueType) → IsOver vars s each → ⊥)
+range_kind variables.One (list_type t) = inl (t ∷ [], refl)
+range_kind variables.One (map_type k t) = inl (type_of_key k ∷ [], refl)
+range_kind variables.One _ = inr (λ each h. h)
+range_kind variables.Two (list_type t) = inl (t ∷ int_type ∷ [], refl)
+range_kind variables.Two (map_type k t) = inl (t ∷ type_of_key k ∷ [], refl)
+range_kind variables.Two _ = inr (λ each h. h)
 
 -- ---- elements and pairs of one type
 
@@ -279,79 +281,68 @@ module _ (m : Maps) (ks : Kinds) where
 
 -- ---- comprehensions
 
-names_decided : (x acc : List ℕ) → NamesDiffer x acc ⊎ ((x ≡ []) ⊎ ((acc ≡ []) ⊎ (x ≡ acc)))
-names_decided [] acc = inr (inl refl)
-names_decided (c ∷ x) [] = inr (inr (inl refl))
-names_decided (c ∷ x) (d ∷ acc) = elim (same_name (c ∷ x) (d ∷ acc)) [
-  | inl e ↦ inr (inr (inr e))
-  | inr differs ↦ inl (record { element = λ e. cc; gathered = λ e. cc; differ = differs })
+names_decided : (x y acc : List ℕ) → NamesDiffer x y acc
+    ⊎ ((x ≡ []) ⊎ ((acc ≡ []) ⊎ ((x ≡ acc) ⊎ ((y ≢ []) × ((x ≡ y) ⊎ (y ≡ acc))))))
+names_decided [] y acc = inr (inl refl)
+names_decided (c ∷ x) y [] = inr (inr (inl refl))
+names_decided (c ∷ x) y (d ∷ acc) = elim (same_name (c ∷ x) (d ∷ acc)) [
+  | inl e ↦ inr (inr (inr (inl e)))
+  | inr differs ↦ elim (same_name (c ∷ x) y) [
+    | inl e ↦ inr (inr (inr (inr (λ none. let clash : c ∷ x ≡ [] = e ∙ none in cc, inl e))))
+    | inr second ↦ elim (same_name y (d ∷ acc)) [
+      | inl e ↦ inr (inr (inr (inr (λ none. let clash : d ∷ acc ≡ [] = sym e ∙ none in cc, inr e))))
+      | inr apart ↦ inl (record {
+        element = λ e. cc;
+        gathered = λ e. cc;
+        differ = differs;
+        second = second;
+        apart = apart;
+      })
+    ]
+  ]
 ]
 
--- what is so with the types that are found is so with all that the locals may have
-pub each_turn : (Range Init : ValueType → Type 0) (IsSo : ValueType → ValueType → Type 0)
-    (w s a : ValueType) → Range w → IsOver w s → Init a → IsSo s a → EachTurn Range Init IsSo
-each_turn Range Init IsSo w s a r over i so u b may_u may_b =
-    subst (λ b. IsSo u b) (may_b a i) (subst (λ u. IsSo u a) (may_u s (w, r, over)) so)
-
-module _ (x acc : List ℕ) (Range Init : ValueType → Type 0)
-    (Condition Step : ValueType → ValueType → ValueType → Type 0)
+module _ (x y acc : List ℕ) (Range Init : ValueType → Type 0)
+    (Condition Step : List ValueType → ValueType → ValueType → Type 0)
     (Result : ValueType → ValueType → Type 0) (InRange InInit : Refusal → Type 0)
-    (InCondition InStep : ValueType → ValueType → Refusal → Type 0)
+    (InCondition InStep : List ValueType → ValueType → Refusal → Type 0)
     (InResult : ValueType → Refusal → Type 0)
     (range : Decided Range InRange) (init : Decided Init InInit)
-    (condition : (s a : ValueType) → Decided (Condition s a) (InCondition s a))
-    (step : (s a : ValueType) → Decided (Step s a) (InStep s a))
+    (condition : (each : List ValueType) (a : ValueType) → Decided (Condition each a) (InCondition each a))
+    (step : (each : List ValueType) (a : ValueType) → Decided (Step each a) (InStep each a))
     (result : (a : ValueType) → Decided (Result a) (InResult a)) where
   abbrev Fault : Refusal → Type 0
-  Fault = LoopFault x acc Range Init Condition Step InRange InInit
-      (λ s a e. InCondition s a e ⊎ InStep s a e) InResult
+  Fault = LoopFault x y acc Range Init Condition Step InRange InInit
+      (λ each a e. InCondition each a e ⊎ InStep each a e) InResult
 
   abbrev Loop : Type 0
-  Loop = Decided (LoopRule x acc Range Init Condition Step Result) Fault
+  Loop = Decided (LoopRule x y acc Range Init Condition Step Result) Fault
 
-  parts_total : NamesDiffer x acc → (w s a : ValueType) → Range w → IsOver w s → Init a
-      → Decided (Condition s a) (InCondition s a) → Decided (Step s a) (InStep s a)
-      → Decided (Result a) (InResult a) → Loop
-  parts_total names w s a r over i (inr (e, f)) step' result' =
-      inr (
-        e,
-        in_turn (each_turn Range Init (λ s a. InCondition s a e ⊎ InStep s a e) w s a r over i
-            (inl f)),
-      )
-  parts_total names w s a r over i (inl c) (inr (e, f)) result' =
-      inr (
-        e,
-        in_turn (each_turn Range Init (λ s a. InCondition s a e ⊎ InStep s a e) w s a r over i
-            (inr f)),
-      )
-  parts_total names w s a r over i (inl c) (inl p) (inr (e, f)) =
-      inr (e, in_result (λ b may. subst (λ b. InResult b e) (may a i) f))
-  parts_total names w s a r over i (inl (t, c)) (inl (u, p)) (inl (v, q)) =
+  parts_total : NamesDiffer x y acc → (w : ValueType) (each : List ValueType) (a : ValueType) → Range w
+      → IsOver (variables_of y) w each → Init a → Decided (Condition each a) (InCondition each a)
+      → Decided (Step each a) (InStep each a) → Decided (Result a) (InResult a) → Loop
+  parts_total names w each a r over i (inr (e, f)) step' result' =
+      inr (e, in_turn each a (w, r, over) i (inl f))
+  parts_total names w each a r over i (inl c) (inr (e, f)) result' =
+      inr (e, in_turn each a (w, r, over) i (inr f))
+  parts_total names w each a r over i (inl c) (inl p) (inr (e, f)) = inr (e, in_result a i f)
+  parts_total names w each a r over i (inl (t, c)) (inl (u, p)) (inl (v, q)) =
       elim (same_type t bool_type) [
-        | inr differs ↦ inr (
-          NoOverload,
-          no_condition (each_turn Range Init
-              (λ s a. (t : ValueType) × Condition s a t × (t ≢ bool_type)) w s a r over i
-              (t, c, differs)) refl,
-        )
+        | inr differs ↦ inr (NoOverload, no_condition each a t (w, r, over) i c differs refl)
         | inl is_bool ↦ elim (same_type u a) [
-          | inr differs ↦ inr (
-            NoOverload,
-            no_step (each_turn Range Init (λ s a. (t : ValueType) × Step s a t × (t ≢ a)) w s a r
-                over i (u, p, differs)) refl,
-          )
+          | inr differs ↦ inr (NoOverload, no_step each a u (w, r, over) i p differs refl)
           | inl keeps ↦ inl (
             v,
             record {
               names = names;
               walked = w;
-              element = s;
+              each = each;
               gathered = a;
               range = r;
               over = over;
               init = i;
-              condition = subst (λ t. Condition s a t) is_bool c;
-              step = subst (λ u. Step s a u) keeps p;
+              condition = subst (λ t. Condition each a t) is_bool c;
+              step = subst (λ u. Step each a u) keeps p;
               result = q;
             },
           )
@@ -359,18 +350,20 @@ module _ (x acc : List ℕ) (Range Init : ValueType → Type 0)
       ]
 
   loop_total : Loop
-  loop_total = elim (names_decided x acc) [
+  loop_total = elim (names_decided x y acc) [
     | inr (inl e) ↦ inr (Missing, no_element_name e refl)
     | inr (inr (inl e)) ↦ inr (Missing, no_gathered_name e refl)
-    | inr (inr (inr e)) ↦ inr (OutOfRange, one_name e refl)
+    | inr (inr (inr (inl e))) ↦ inr (OutOfRange, one_name e refl)
+    | inr (inr (inr (inr (some, inl e)))) ↦ inr (OutOfRange, one_variable some e refl)
+    | inr (inr (inr (inr (some, inr e)))) ↦ inr (OutOfRange, second_gathered some e refl)
     | inl names ↦ elim range [
       | inr (e, f) ↦ inr (e, in_range f)
       | inl (w, r) ↦ elim init [
         | inr (e, f) ↦ inr (e, in_init f)
-        | inl (a, i) ↦ elim (range_kind w) [
+        | inl (a, i) ↦ elim (range_kind (variables_of y) w) [
           | inr never ↦ inr (NoOverload, no_elements w r never refl)
-          | inl (s, over) ↦
-              parts_total names w s a r over i (condition s a) (step s a) (result a)
+          | inl (each, over) ↦
+              parts_total names w each a r over i (condition each a) (step each a) (result a)
         ]
       ]
     ]
@@ -435,17 +428,17 @@ mutual
       list_decided m ks (get m.types id) elements (each_total m ks elements)
   type_total m ks (map_literal id entries) =
       map_decided m ks (get m.types id) entries (turn_total m ks entries)
-  type_total m ks (comprehension id x acc range init condition step result) =
-      own (loop_total x acc (Types m ks range) (Types m ks init)
-      (λ s a. Types m ((x, s) ∷ (acc, a) ∷ ks) condition)
-      (λ s a. Types m ((x, s) ∷ (acc, a) ∷ ks) step)
+  type_total m ks (comprehension id x y acc range init condition step result) =
+      own (loop_total x y acc (Types m ks range) (Types m ks init)
+      (λ each a. Types m (turn_scope x y acc each a ks) condition)
+      (λ each a. Types m (turn_scope x y acc each a ks) step)
       (λ a. Types m ((acc, a) ∷ ks) result) (TypeFault m ks range) (TypeFault m ks init)
-      (λ s a. TypeFault m ((x, s) ∷ (acc, a) ∷ ks) condition)
-      (λ s a. TypeFault m ((x, s) ∷ (acc, a) ∷ ks) step)
+      (λ each a. TypeFault m (turn_scope x y acc each a ks) condition)
+      (λ each a. TypeFault m (turn_scope x y acc each a ks) step)
       (λ a. TypeFault m ((acc, a) ∷ ks) result)
       (type_total m ks range) (type_total m ks init)
-      (λ s a. type_total m ((x, s) ∷ (acc, a) ∷ ks) condition)
-      (λ s a. type_total m ((x, s) ∷ (acc, a) ∷ ks) step)
+      (λ each a. type_total m (turn_scope x y acc each a ks) condition)
+      (λ each a. type_total m (turn_scope x y acc each a ks) step)
       (λ a. type_total m ((acc, a) ∷ ks) result))
 
   target_total : (m : Maps) (ks : Kinds) (on : CelTarget) (args : CelTrees)

@@ -18,9 +18,12 @@ use Rattle.cel_overload.specs.declared.overload.Overload.TheVariants as overload
 use Rattle.cel_tree.specs.Checked.{CelChecked, CelReference, CelTypeEntry, of_type, dyn_type, unsupported_type}
 use Rattle.cel_tree.specs.Tree.{CelTree, constant, ident, select, call, comprehension, list_literal, map_literal, no_target, no_tree_entries, tree_entry, CelTrees, no_trees, tree}
 use Rattle.cel_overload.proofs.OneOverload.{unchosen}
+use Rattle.cel_overload.specs.Overloads.{IsCall}
 use Rattle.cel_types.specs.Typing.{EntriesAgree, EntryAgrees, IsTyped, Kinds, Maps, NamesDiffer, RefAgrees, TypeGiven, Types, TypesEach, locals_in}
-use Rattle.cel_types.specs.TypingFaults.{CallsFault, CheckFault, too_many_locals, ElementsFault, IdentFault, PairsFault, SaysNothing, SelectFault, TypeFault, another_type, of_another_kind, unsupported_kind, untold, no_element_name, no_elements, one_name, in_init, in_range, in_result, in_turn, no_condition}
+use Rattle.cel_types.specs.TypingFaults.{CallsFault, CheckFault, too_many_locals, ElementsFault, IdentFault, PairsFault, SaysNothing, SelectFault, TypeFault, another_type, of_another_kind, unsupported_kind, untold, no_element_name, no_elements, one_name, one_variable, second_gathered, in_init, in_range, in_result, in_turn, no_condition}
 use Rattle.cel_types.specs.Elaborated.{Elaborates, no_typed, typed, typed_attribute, typed_call, typed_constant, typed_list, typed_local, typed_loop}
+use Rattle.cel_types.specs.Names.{turn_scope}
+use Rattle.cel_types.specs.declared.typed.Variables.TheVariants as variables
 use Rattle.attributes.specs.declared.attribute.AttrId.{AttrId}
 
 -- ---- `request.method == "GET"`: the call has id 3, the Select 1, the Ident 2, the text 4
@@ -217,33 +220,41 @@ entry_differs = inl (CallsFault.in_operand (inr (inl int_on_select)))
 -- and 11
 
 abbrev unknown_condition : CelTree
-unknown_condition = comprehension (pos 5) (codes "x") (codes "y") (list_literal (pos 6)
+unknown_condition = comprehension (pos 5) (codes "x") [] (codes "y") (list_literal (pos 6)
     (tree (constant (pos 7) (int (pos 7))) no_trees)) (constant (pos 1) (bool true))
     (ident (pos 8) (codes "nosuch")) (ident (pos 9) (codes "y")) (ident (pos 10) (codes "y"))
 
 condition_unknown : TypeFault int_entry [] unknown_condition UnknownName
-condition_unknown = inl (in_turn (λ s a may_s may_a. inl (inl (IdentFault.unknown refl refl))))
+condition_unknown = inl (in_turn (int_type ∷ []) bool_type
+    (list_type int_type, (int_type, (refl, tt), refl), refl) refl (inl (inl (IdentFault.unknown refl refl))))
 
 init_differs : TypeFault int_entry [] unknown_condition BadTypeEntry
 init_differs = inl (in_init (inr (another_type int_type bool_type refl
     (get-from_entries int_cmp_total ((pos 1, of_type int_type) ∷ []) (pos 1)) (λ e. cc) refl)))
 
--- a comprehension over an unknown name, its condition an int: 9 and 10; its result an unknown name
--- too
+-- a comprehension over an unknown name; its result is an unknown name too
 
 abbrev unknown_range : CelTree
-unknown_range = comprehension (pos 5) (codes "x") (codes "y") (ident (pos 6) (codes "nosuch"))
+unknown_range = comprehension (pos 5) (codes "x") [] (codes "y") (ident (pos 6) (codes "nosuch"))
     (constant (pos 1) (bool true)) (constant (pos 7) (int (pos 7))) (ident (pos 9) (codes "y"))
     (ident (pos 10) (codes "x"))
 
 range_unknown : TypeFault (with_types []) [] unknown_range UnknownName
 range_unknown = inl (in_range (inl (IdentFault.unknown refl refl)))
 
-condition_is_int : TypeFault (with_types []) [] unknown_range NoOverload
-condition_is_int = inl (no_condition (λ s a may_s may_a. (int_type, refl, λ e. cc)) refl)
-
 result_unknown : TypeFault (with_types []) [] unknown_range UnknownName
-result_unknown = inl (in_result (λ a may_a. inl (IdentFault.unknown refl refl)))
+result_unknown = inl (in_result bool_type refl (inl (IdentFault.unknown refl refl)))
+
+-- a comprehension over `[7]`, its condition an int: 10
+
+abbrev int_condition : CelTree
+int_condition = comprehension (pos 5) (codes "x") [] (codes "y") (list_literal (pos 6)
+    (tree (constant (pos 7) (int (pos 7))) no_trees)) (constant (pos 1) (bool true))
+    (constant (pos 8) (int (pos 7))) (ident (pos 9) (codes "y")) (ident (pos 10) (codes "y"))
+
+condition_is_int : TypeFault (with_types []) [] int_condition NoOverload
+condition_is_int = inl (no_condition (int_type ∷ []) bool_type int_type
+    (list_type int_type, (int_type, (refl, tt), refl), refl) refl refl (λ e. cc) refl)
 
 -- ---- `1 + 1u` and `[1, 2u]` are 10
 
@@ -357,7 +368,7 @@ list_of_map_type = inl (of_another_kind (map_type keys.Int int_type)
 -- a comprehension in the condition of a comprehension: the inner condition sees four
 
 abbrev one_loop : CelTree → CelTree
-one_loop condition = comprehension (pos 1) (codes "x") (codes "y") empty_list (ident (pos 2)
+one_loop condition = comprehension (pos 1) (codes "x") [] (codes "y") empty_list (ident (pos 2)
     (codes "a")) condition (ident (pos 2) (codes "a")) (ident (pos 2) (codes "a"))
 
 two_in_one : locals_in (one_loop (ident (pos 2) (codes "a"))) ≡ 2
@@ -367,14 +378,14 @@ four_in_two : locals_in (one_loop (one_loop (ident (pos 2) (codes "a")))) ≡ 4
 four_in_two = refl
 
 -- in a result the element is not in scope
-three_in_result : locals_in (comprehension (pos 1) (codes "x") (codes "y") empty_list empty_list
+three_in_result : locals_in (comprehension (pos 1) (codes "x") [] (codes "y") empty_list empty_list
     empty_list empty_list (one_loop empty_list)) ≡ 3
 three_in_result = refl
 
 -- ---- a comprehension over `[7]`: `y` is gathered from `true`, each step is `x == 7`
 
 abbrev seven_loop : (x y : List ℕ) → (range : CelTree) → CelTree
-seven_loop x y range = comprehension (pos 5) x y range (constant (pos 6) (bool true))
+seven_loop x y range = comprehension (pos 5) x [] y range (constant (pos 6) (bool true))
     (ident (pos 7) y) (call (pos 8) (codes "_==_") no_target
     (tree (ident (pos 9) x) (tree (constant (pos 10) (int (pos 7))) no_trees)))
     (ident (pos 11) y)
@@ -386,11 +397,32 @@ x_is_not_y : codes "x" ≢ codes "y"
 x_is_not_y e =
     let same : false ≡ true = (bytes_decides (codes "x") (codes "y")).1 e in cc
 
+x_and_y : NamesDiffer (codes "x") [] (codes "y")
+x_and_y = record {
+  element = λ e. cc;
+  gathered = λ e. cc;
+  differ = x_is_not_y;
+  second = λ e. cc;
+  apart = λ e. cc;
+}
+
+equal_ints : IsCall (codes "_==_") false (int_type ∷ int_type ∷ [])
+    (overloads.Operate (operations.Compare Equal)) bool_type
+equal_ints = (
+  functions.Compare Equal,
+  refl,
+  record {
+    function = refl;
+    shape = refl;
+    operands = (int_type, tt, refl, refl);
+  },
+)
+
 loop_is_bool : Types (with_types []) [] (seven_loop (codes "x") (codes "y") list_of_seven) bool_type
 loop_is_bool = record {
-  names = record { element = λ e. cc; gathered = λ e. cc; differ = x_is_not_y };
+  names = x_and_y;
   walked = list_type int_type;
-  element = int_type;
+  each = int_type ∷ [];
   gathered = bool_type;
   range = (int_type, (refl, tt), refl);
   over = refl;
@@ -400,18 +432,53 @@ loop_is_bool = record {
     int_type ∷ int_type ∷ [],
     (refl, (refl, tt)),
     overloads.Operate (operations.Compare Equal),
-    (
-      functions.Compare Equal,
-      refl,
-      record {
-        function = refl;
-        shape = refl;
-        operands = (int_type, tt, refl, refl);
-      },
-    ),
+    equal_ints,
   );
   result = refl;
 }
+
+-- with two variables, `x` is the index, `v` the item, and each step is `v == x`
+
+abbrev two_loop : (v : List ℕ) → CelTree
+two_loop v = comprehension (pos 5) (codes "x") v (codes "y") list_of_seven (constant (pos 6) (bool true))
+    (ident (pos 7) (codes "y")) (call (pos 8) (codes "_==_") no_target
+    (tree (ident (pos 9) v) (tree (ident (pos 10) (codes "x")) no_trees)))
+    (ident (pos 11) (codes "y"))
+
+three_in_two_variables : locals_in (two_loop (codes "v")) ≡ 3
+three_in_two_variables = refl
+
+two_are_bool : Types (with_types []) [] (two_loop (codes "v")) bool_type
+two_are_bool = record {
+  names = record {
+    element = λ e. cc;
+    gathered = λ e. cc;
+    differ = x_is_not_y;
+    second = λ e. let same : false ≡ true = (bytes_decides (codes "x") (codes "v")).1 e in cc;
+    apart = λ e. let same : false ≡ true = (bytes_decides (codes "v") (codes "y")).1 e in cc;
+  };
+  walked = list_type int_type;
+  each = int_type ∷ int_type ∷ [];
+  gathered = bool_type;
+  range = (int_type, (refl, tt), refl);
+  over = refl;
+  init = refl;
+  condition = refl;
+  step = (
+    int_type ∷ int_type ∷ [],
+    (refl, (refl, tt)),
+    overloads.Operate (operations.Compare Equal),
+    equal_ints,
+  );
+  result = refl;
+}
+
+-- a second name that is another's is 5
+second_is_first : TypeFault (with_types []) [] (two_loop (codes "x")) OutOfRange
+second_is_first = inl (one_variable (λ e. cc) refl refl)
+
+second_is_gathered : TypeFault (with_types []) [] (two_loop (codes "y")) OutOfRange
+second_is_gathered = inl (second_gathered (λ e. cc) refl refl)
 
 -- a name that is not given is 4, one name twice 5, a range of no list and no map 10
 
@@ -450,7 +517,7 @@ method_elaborated = (
 )
 
 loop_elaborated : Elaborates (with_types []) [] (seven_loop (codes "x") (codes "y") list_of_seven)
-    (typed_loop bool_type
+    (typed_loop bool_type variables.One
     (typed_list (list_type int_type) (typed (typed_constant int_type (int (pos 7))) no_typed))
     (typed_constant bool_type (bool true)) (typed_local bool_type 0)
     (typed_call bool_type (overloads.Operate (operations.Compare Equal))
@@ -458,7 +525,8 @@ loop_elaborated : Elaborates (with_types []) [] (seven_loop (codes "x") (codes "
     (typed_local bool_type 0))
 loop_elaborated = (
   loop_is_bool,
-  int_type,
+  refl,
+  int_type ∷ [],
   bool_type,
   refl,
   refl,
@@ -470,25 +538,40 @@ loop_elaborated = (
       int_type ∷ int_type ∷ [],
       (refl, (refl, tt)),
       overloads.Operate (operations.Compare Equal),
-      (
-        functions.Compare Equal,
-        refl,
-        record {
-          function = refl;
-          shape = refl;
-          operands = (int_type, tt, refl, refl);
-        },
-      ),
+      equal_ints,
     ),
+    equal_ints,
+    ((refl, refl), ((refl, refl), tt)),
+  ),
+  (refl, refl),
+)
+
+-- the accumulator has no local outside, the index one, and the item two
+two_elaborated : Elaborates (with_types []) [] (two_loop (codes "v"))
+    (typed_loop bool_type variables.Two
+    (typed_list (list_type int_type) (typed (typed_constant int_type (int (pos 7))) no_typed))
+    (typed_constant bool_type (bool true)) (typed_local bool_type 0)
+    (typed_call bool_type (overloads.Operate (operations.Compare Equal))
+    (typed (typed_local int_type 2) (typed (typed_local int_type 1) no_typed)))
+    (typed_local bool_type 0))
+two_elaborated = (
+  two_are_bool,
+  refl,
+  int_type ∷ int_type ∷ [],
+  bool_type,
+  refl,
+  refl,
+  ((int_type, (refl, tt), refl), ((refl, refl), tt)),
+  (refl, refl),
+  (refl, refl),
+  (
     (
-      functions.Compare Equal,
-      refl,
-      record {
-        function = refl;
-        shape = refl;
-        operands = (int_type, tt, refl, refl);
-      },
+      int_type ∷ int_type ∷ [],
+      (refl, (refl, tt)),
+      overloads.Operate (operations.Compare Equal),
+      equal_ints,
     ),
+    equal_ints,
     ((refl, refl), ((refl, refl), tt)),
   ),
   (refl, refl),
@@ -502,12 +585,12 @@ one_range = list_literal (pos 3) (tree (constant (pos 4) (int (pos 1))) no_trees
 
 abbrev loops : ℕ → CelTree
 loops zero = constant (pos 1) (bool true)
-loops (suc n) = comprehension (pos 2) (codes "x") (codes "y") one_range
+loops (suc n) = comprehension (pos 2) (codes "x") [] (codes "y") one_range
     (constant (pos 5) (bool true)) (ident (pos 6) (codes "y")) (loops n) (ident (pos 7) (codes "y"))
 
 -- all of them in the result of one more
 abbrev loops_in_result : ℕ → CelTree
-loops_in_result n = comprehension (pos 2) (codes "x") (codes "y") one_range
+loops_in_result n = comprehension (pos 2) (codes "x") [] (codes "y") one_range
     (constant (pos 5) (bool true)) (ident (pos 6) (codes "y")) (ident (pos 6) (codes "y")) (loops n)
 
 sixty_four : locals_in (loops 32) ≡ 64
@@ -516,21 +599,18 @@ sixty_four = refl
 sixty_five : locals_in (loops_in_result 32) ≡ 65
 sixty_five = refl
 
-x_and_y : NamesDiffer (codes "x") (codes "y")
-x_and_y = record { element = λ e. cc; gathered = λ e. cc; differ = x_is_not_y }
-
 loops_are_bool : (ks : Kinds) (n : ℕ) → Types (with_types []) ks (loops n) bool_type
 loops_are_bool ks zero = refl
 loops_are_bool ks (suc n) = record {
   names = x_and_y;
   walked = list_type int_type;
-  element = int_type;
+  each = int_type ∷ [];
   gathered = bool_type;
   range = (int_type, (refl, tt), refl);
   over = refl;
   init = refl;
   condition = refl;
-  step = loops_are_bool ((codes "x", int_type) ∷ (codes "y", bool_type) ∷ ks) n;
+  step = loops_are_bool (turn_scope (codes "x") [] (codes "y") (int_type ∷ []) bool_type ks) n;
   result = refl;
 }
 
@@ -553,9 +633,9 @@ loops_agree ks (suc n) = (
     (no_entry (pos 4) (Types (with_types []) ks (constant (pos 4) (int (pos 1)))), tt),
   ),
   no_entry (pos 5) (Types (with_types []) ks (constant (pos 5) (bool true))),
-  (λ w s a range over init. (
-    y_agrees (pos 6) ((codes "x", s) ∷ (codes "y", a) ∷ ks),
-    loops_agree ((codes "x", s) ∷ (codes "y", a) ∷ ks) n,
+  (λ w each a range over init. (
+    y_agrees (pos 6) (turn_scope (codes "x") [] (codes "y") each a ks),
+    loops_agree (turn_scope (codes "x") [] (codes "y") each a ks) n,
   )),
   (λ a init. y_agrees (pos 7) ((codes "y", a) ∷ ks)),
 )
@@ -572,7 +652,7 @@ sixty_five_are_bool : Types (with_types []) [] (loops_in_result 32) bool_type
 sixty_five_are_bool = record {
   names = x_and_y;
   walked = list_type int_type;
-  element = int_type;
+  each = int_type ∷ [];
   gathered = bool_type;
   range = (int_type, (refl, tt), refl);
   over = refl;

@@ -1,22 +1,27 @@
 -- A well typed expression has an answer of its type, whatever the locals of those types come to.
-use Rattle.std.proofs.Common.{◌≡◌, suc, ℕ, Bool, true, false, cond, nat_eq, List, [], ◌∷◌, length, Option, Some, None, refl, ap}
+use Rattle.std.proofs.Common.{◌≡◌, suc, ℕ, ℤ, pos, Bool, true, false, cond, nat_eq, List, [], ◌∷◌, ◌++◌, length, map, Option, Some, None, option_map, refl, ap}
 use Rattle.std.specs.Option.{option_and_then}
 use Rattle.std.proofs.lemmas.Option.{none-some}
 use Rattle.attributes.specs.Request.{IsRequest, RequestValue}
-use Rattle.cel_value.specs.Types.{AnswerHasType, EachItem, HasType, ValueType, bool_type, list_type, map_type}
-use Rattle.cel_value.specs.Values.{CelAnswer, CelValue, CelValues, bool, fails, item, list, no_items, value}
+use Rattle.cel_value.specs.Types.{AnswerHasType, EachEntry, EachItem, HasType, KeyHasType, ValueType, bool_type, int_type, list_type, map_type, type_of_key}
+use Rattle.cel_value.specs.Values.{CelAnswer, CelEntries, CelValue, CelValues, bool, entry, fails, int, item, list, map_of, no_entries, no_items, value}
 use Rattle.cel_value.specs.declared.cel_type.KeyType.{KeyType}
 use Rattle.cel_value.specs.declared.cel_type.KeyType.TheVariants as keys
-use Rattle.cel_ops.specs.Collections.{elements_of, field_of, has_field_of}
+use Rattle.cel_value.specs.declared.error.CelError.TheVariants.{Overflow}
+use Rattle.cel_ops.specs.Arithmetic.{int_answer, is_int64}
+use Rattle.cel_ops.specs.Collections.{elements_of, field_of, has_field_of, keyed, numbered}
 use Rattle.cel_ops.specs.Typed.{Answers, EachHasType, ElementsHaveType, PairsHaveType}
 use Rattle.cel_ops.proofs.AttributeTypes.{attribute_typed_fact}
-use Rattle.cel_ops.proofs.Typing.{elements_typed, field_typed, has_field_typed, list_typed, map_typed, one}
+use Rattle.cel_ops.proofs.Numbers.{int64_fits}
+use Rattle.cel_ops.proofs.Typing.{elements_typed, field_typed, has_field_typed, key_typed, list_typed, map_typed, one}
 use Rattle.cel_overload.specs.Answers.{HaveTypes}
 use Rattle.cel_overload.proofs.TypedCalls.{overload_typed_fact}
 use Rattle.cel_types.specs.Elaborated.{TypedTree, TypedTrees, kind, kinds, no_typed, typed, typed_attribute, typed_call, typed_constant, typed_field, typed_has, typed_list, typed_local, typed_loop, typed_map}
-use Rattle.cel_types.specs.Meaning.{before, fold, over, turn}
+use Rattle.cel_types.specs.Meaning.{before, fold, one_each, over, turn, turns_of}
 use Rattle.cel_types.specs.TypedMeaning.{local_at, typed_answer, typed_answers}
 use Rattle.cel_types.specs.Typing.{IsOver}
+use Rattle.cel_types.specs.declared.typed.Variables.{Variables}
+use Rattle.cel_types.specs.declared.typed.Variables.TheVariants as variables
 use Rattle.cel_types.specs.WellTyped.{AreAll, AreKeyed, AreWellTyped, IsWellTyped}
 
 -- there is an answer for each, of the type at its place
@@ -99,39 +104,97 @@ turn_typed (Some (value (bool true))) (Some a) next ended g t c s n e = n a s
 turn_typed (Some (value (bool false))) step next ended g t c s n e = e
 turn_typed (Some (value _)) step next ended g t c s n e = absurd c
 
-pub fold_typed : (condition step : CelValue → CelAnswer → Option CelAnswer)
-    (result : CelAnswer → Option CelAnswer) (x g t : ValueType)
-    → ((v : CelValue) (a : CelAnswer) → HasType v x → AnswerHasType a g
-    → Answers (condition v a) bool_type)
-    → ((v : CelValue) (a : CelAnswer) → HasType v x → AnswerHasType a g → Answers (step v a) g)
+-- in each turn, the variables get answers of these types
+abbrev pub TurnsHaveTypes : List (List CelAnswer) → List ValueType → Type 0
+TurnsHaveTypes [] each = Unit {0}
+TurnsHaveTypes (vs ∷ turns) each = HaveTypes vs each × TurnsHaveTypes turns each
+
+-- there are turns, and in each of them the variables get answers of these types
+abbrev pub WalkHasTypes : Option (List (List CelAnswer)) → List ValueType → Type 0
+WalkHasTypes None each = ⊥
+WalkHasTypes (Some turns) each = TurnsHaveTypes turns each
+
+-- answers of their types before others of theirs
+pub all_have_types : (vs ls : List CelAnswer) (each ks : List ValueType) → HaveTypes vs each
+    → HaveTypes ls ks → HaveTypes (vs ++ ls) (each ++ ks)
+all_have_types [] ls [] ks h more = more
+all_have_types [] ls (t ∷ each) ks h more = absurd h
+all_have_types (v ∷ vs) ls [] ks h more = absurd h
+all_have_types (v ∷ vs) ls (t ∷ each) ks h more = (h.0, all_have_types vs ls each ks h.1 more)
+
+pub fold_typed : (condition step : List CelAnswer → CelAnswer → Option CelAnswer)
+    (result : CelAnswer → Option CelAnswer) (each : List ValueType) (g t : ValueType)
+    → ((vs : List CelAnswer) (a : CelAnswer) → HaveTypes vs each → AnswerHasType a g
+    → Answers (condition vs a) bool_type)
+    → ((vs : List CelAnswer) (a : CelAnswer) → HaveTypes vs each → AnswerHasType a g
+    → Answers (step vs a) g)
     → ((a : CelAnswer) → AnswerHasType a g → Answers (result a) t)
-    → (vs : CelValues) (a : CelAnswer) → EachItem (λ v. HasType v x) vs → AnswerHasType a g
-    → Answers (fold condition step result vs a) t
-fold_typed condition step result x g t c s r no_items a each h = r a h
-fold_typed condition step result x g t c s r (item v vs) a each h =
-    turn_typed (condition v a) (step v a) (fold condition step result vs) (result a) g t
-    (c v a each.0 h) (s v a each.0 h)
-    (λ b more. fold_typed condition step result x g t c s r vs b each.1 more) (r a h)
+    → (turns : List (List CelAnswer)) (a : CelAnswer) → TurnsHaveTypes turns each → AnswerHasType a g
+    → Answers (fold condition step result turns a) t
+fold_typed condition step result each g t c s r [] a have h = r a h
+fold_typed condition step result each g t c s r (vs ∷ turns) a have h =
+    turn_typed (condition vs a) (step vs a) (fold condition step result turns) (result a) g t
+    (c vs a have.0 h) (s vs a have.0 h)
+    (λ b more. fold_typed condition step result each g t c s r turns b have.1 more) (r a h)
 
--- the elements of a value that is walked over
-pub walked_typed : (w x : ValueType) → IsOver w x → (v : CelValue) → HasType v w
-    → ElementsHaveType (elements_of v) x
-walked_typed (list_type s) x is (list vs) h = rw is h
-walked_typed (list_type s) x is _ h = absurd h
-walked_typed (map_type k s) x is v h = rw is (elements_typed k s v h)
-walked_typed _ x is v h = absurd is
+-- ---- what the variables get
 
-over_typed : (o : Option CelAnswer) (go : CelValues → Option CelAnswer) (w x t : ValueType)
-    → IsOver w x → Answers o w
-    → ((vs : CelValues) → EachItem (λ v. HasType v x) vs → Answers (go vs) t)
-    → Answers (over o go) t
-over_typed None go w x t is h each = absurd h
-over_typed (Some (fails e)) go w x t is h each = tt
-over_typed (Some (value v)) go w x t is h each = at (elements_of v) (walked_typed w x is v h)
+-- an int or an error
+int_typed : (z : ℤ) → AnswerHasType (int_answer z) int_type
+int_typed z = at (is_int64 z) refl
   where
-    at : (found : Option CelValues) → ElementsHaveType found x → Answers (option_and_then go found) t
-    at None have = absurd have
-    at (Some vs) have = each vs have
+    at : (b : Bool) → is_int64 z ≡ b → AnswerHasType (cond b (value (int z)) (fails Overflow)) int_type
+    at true e = int64_fits z e
+    at false e = tt
+
+one_typed : (vs : CelValues) (t : ValueType) → EachItem (λ v. HasType v t) vs
+    → TurnsHaveTypes (one_each vs) (t ∷ [])
+one_typed no_items t h = tt
+one_typed (item v vs) t h = ((h.0, tt), one_typed vs t h.1)
+
+one_walk_typed : (found : Option CelValues) (t : ValueType) → ElementsHaveType found t
+    → WalkHasTypes (option_map one_each found) (t ∷ [])
+one_walk_typed None t h = absurd h
+one_walk_typed (Some vs) t h = one_typed vs t h
+
+numbered_typed : (n : ℕ) (vs : CelValues) (t : ValueType) → EachItem (λ v. HasType v t) vs
+    → TurnsHaveTypes (map (λ pair. value pair.1 ∷ pair.0 ∷ []) (numbered n vs)) (t ∷ int_type ∷ [])
+numbered_typed n no_items t h = tt
+numbered_typed n (item v vs) t h = ((h.0, (int_typed (pos n), tt)), numbered_typed (suc n) vs t h.1)
+
+keyed_typed : (k : KeyType) (t : ValueType) (es : CelEntries)
+    → EachEntry (λ j. KeyHasType j k) (λ v. HasType v t) es
+    → TurnsHaveTypes (map (λ pair. value pair.1 ∷ pair.0 ∷ []) (keyed es)) (t ∷ type_of_key k ∷ [])
+keyed_typed k t no_entries h = tt
+keyed_typed k t (entry j v es) h = ((h.1, (key_typed k j h.0, tt)), keyed_typed k t es h.2)
+
+-- what the variables get from a value that is walked over
+pub walked_typed : (vars : Variables) (w : ValueType) (each : List ValueType) → IsOver vars w each
+    → (v : CelValue) → HasType v w → WalkHasTypes (turns_of vars v) each
+walked_typed variables.One (list_type s) each is (list vs) h = rw is (one_typed vs s h)
+walked_typed variables.One (map_type k s) each is v h =
+    rw is (one_walk_typed (elements_of v) (type_of_key k) (elements_typed k s v h))
+walked_typed variables.Two (list_type s) each is (list vs) h = rw is (numbered_typed 0 vs s h)
+walked_typed variables.Two (map_type k s) each is (map_of es) h = rw is (keyed_typed k s es h.0)
+walked_typed variables.One (list_type s) each is _ h = absurd h
+walked_typed variables.Two (list_type s) each is _ h = absurd h
+walked_typed variables.Two (map_type k s) each is _ h = absurd h
+walked_typed variables.One _ each is v h = absurd is
+walked_typed variables.Two _ each is v h = absurd is
+
+over_typed : (vars : Variables) (o : Option CelAnswer) (go : List (List CelAnswer) → Option CelAnswer)
+    (w t : ValueType) (each : List ValueType) → IsOver vars w each → Answers o w
+    → ((turns : List (List CelAnswer)) → TurnsHaveTypes turns each → Answers (go turns) t)
+    → Answers (over vars o go) t
+over_typed vars None go w t each is h have = absurd h
+over_typed vars (Some (fails e)) go w t each is h have = tt
+over_typed vars (Some (value v)) go w t each is h have =
+    at (turns_of vars v) (walked_typed vars w each is v h)
+  where
+    at : (found : Option (List (List CelAnswer))) → WalkHasTypes found each
+        → Answers (option_and_then go found) t
+    at None walked = absurd walked
+    at (Some turns) walked = have turns walked
 
 -- ---- expressions
 
@@ -165,20 +228,20 @@ module _ (request : RequestValue) (sound : IsRequest request) where
         (all_typed_here pairs ks ls h g.0)
         (λ answers have. map_typed g.1.0 g.1.1 answers
         (pairs_typed answers (kinds pairs) g.1.0 g.1.1 g.1.3 have)))
-    typed_here (typed_loop t range init condition step result) ks ls h g =
-        let element = g.2.0 in
+    typed_here (typed_loop t vars range init condition step result) ks ls h g =
+        let each = g.2.0 in
         rw (g.4)
-        (over_typed (typed_answer range request ls) _ (kind range) element (kind result) g.2.1
+        (over_typed vars (typed_answer range request ls) _ (kind range) (kind result) each g.2.1
         (typed_here range ks ls h g.0)
-        (λ vs each. then_typed _ (typed_answer init request ls) (kind init) (kind result)
+        (λ turns have. then_typed _ (typed_answer init request ls) (kind init) (kind result)
         (typed_here init ks ls h g.1)
-        (λ a gathered. fold_typed _ _ _ element (kind init) (kind result)
-        (λ v b hv hb. rw (← g.2.3) (typed_here condition (element ∷ kind init ∷ ks)
-        (value v ∷ b ∷ ls) (hv, (hb, h)) g.2.2))
-        (λ v b hv hb. rw (← g.2.5) (typed_here step (element ∷ kind init ∷ ks)
-        (value v ∷ b ∷ ls) (hv, (hb, h)) g.2.4))
+        (λ a gathered. fold_typed _ _ _ each (kind init) (kind result)
+        (λ vs b hv hb. rw (← g.2.3) (typed_here condition (each ++ kind init ∷ ks) (vs ++ b ∷ ls)
+        (all_have_types vs (b ∷ ls) each (kind init ∷ ks) hv (hb, h)) g.2.2))
+        (λ vs b hv hb. rw (← g.2.5) (typed_here step (each ++ kind init ∷ ks) (vs ++ b ∷ ls)
+        (all_have_types vs (b ∷ ls) each (kind init ∷ ks) hv (hb, h)) g.2.4))
         (λ b hb. typed_here result (kind init ∷ ks) (b ∷ ls) (hb, h) g.3)
-        vs a each gathered)))
+        turns a have gathered)))
 
     all_typed_here : (es : TypedTrees) (ks : List ValueType) (ls : List CelAnswer)
         → HaveTypes ls ks → AreWellTyped ks es → HaveAnswers (typed_answers es request ls) (kinds es)

@@ -1,5 +1,5 @@
 -- The elaboration of an expression whose constants have the types of their kinds is well typed.
-use Rattle.std.proofs.Common.{arith, ◌≡◌, ◌<◌, suc, ℕ, ℤ, Bool, true, false, cond, nat_eq, List, [], ◌∷◌, length, Option, Some, None, option_map, refl, sym, ap, ◌∙◌, subst}
+use Rattle.std.proofs.Common.{arith, ◌≡◌, ◌<◌, suc, ℕ, ℤ, Bool, true, false, cond, nat_eq, List, [], ◌∷◌, ◌++◌, length, Option, Some, None, option_map, refl, sym, ap, ap₂, ◌∙◌, subst}
 use Rattle.std.specs.Str.{bytes_eq}
 use Rattle.std.specs.FinMap.{get}
 use Rattle.std.proofs.lemmas.Bool.{eq-eqb, ne_eqb}
@@ -15,18 +15,16 @@ use Rattle.cel_tree.specs.GoodConstants.{AreGood, EntriesAreGood, HasGoodConstan
 use Rattle.cel_tree.specs.Tree.{CelTree, constant, ident, select, call, list_literal, map_literal, comprehension, CelTarget, no_target, target, CelTrees, no_trees, tree, CelTreeEntries, no_tree_entries, tree_entry}
 use Rattle.cel_types.specs.Attributes.{attribute_named}
 use Rattle.cel_types.specs.Elaborated.{Elaborates, ElaboratesEach, ElaboratesPairs, ElaboratesTarget, TypedTree, TypedTrees, kind, kinds, no_typed, slot, typed, typed_attribute, typed_call, typed_constant, typed_field, typed_has, typed_list, typed_local, typed_loop, typed_map}
-use Rattle.cel_types.specs.Names.{Scope, joined_name, local}
+use Rattle.cel_types.specs.Names.{Scope, joined_name, local, turn_scope, variables_of}
 use Rattle.cel_types.specs.TypedMeaning.{local_at}
 use Rattle.cel_types.specs.Typing.{IsList, IsMap, IsOver, Kinds, ListRule, MapRule, Maps, SelectRule, Types, TypesAll, TypesPairs, constant_type, field_type, name_type}
 use Rattle.cel_types.specs.WellTyped.{AreAll, AreKeyed, AreWellTyped, IsWellTyped}
+use Rattle.cel_types.specs.declared.typed.Variables.{Variables}
 use Rattle.cel_types.proofs.OneType.{one_type, over_one}
+use Rattle.cel_types.proofs.TurnScopes.{known_turn, over_length}
+pub use Rattle.cel_types.proofs.TurnScopes.{known}
 
 -- ---- locals, by name and by how many are outside
-
--- what is known of locals, without their names
-abbrev pub known : {A : Type 0} → Scope A → List A
-known [] = []
-known (l ∷ ls) = l.1 ∷ known ls
 
 known_length : {A : Type 0} (ls : Scope A) → length (known ls) ≡ length ls
 known_length [] = refl
@@ -94,9 +92,9 @@ elaborates_types m ks (list_literal id elements) (typed_list t es) g = g.0
 elaborates_types m ks (list_literal id elements) _ g = absurd g
 elaborates_types m ks (map_literal id entries) (typed_map t pairs) g = g.0
 elaborates_types m ks (map_literal id entries) _ g = absurd g
-elaborates_types m ks (comprehension id x acc range init condition step result)
-    (typed_loop t r i c s e) g = g.0
-elaborates_types m ks (comprehension id x acc range init condition step result) _ g = absurd g
+elaborates_types m ks (comprehension id x y acc range init condition step result)
+    (typed_loop t vars r i c s e) g = g.0
+elaborates_types m ks (comprehension id x y acc range init condition step result) _ g = absurd g
 
 -- an expression of this type has an elaboration of no other
 elaborated_type : (m : Maps) (ks : Kinds) (t : CelTree) (e : TypedTree) (s : ValueType)
@@ -181,28 +179,27 @@ module _ (m : Maps) (ks : Kinds) where
   )
 
   -- the types of a comprehension's parts
-  pub loop_kinds : (id : ℤ) (x acc : List ℕ) (range init condition step result : CelTree)
-      (t : ValueType) (r i c s e : TypedTree)
-      → (g : Elaborates m ks (comprehension id x acc range init condition step result)
-      (typed_loop t r i c s e))
+  pub loop_kinds : (id : ℤ) (x y acc : List ℕ) (range init condition step result : CelTree)
+      (t : ValueType) (vars : Variables) (r i c s e : TypedTree)
+      → (g : Elaborates m ks (comprehension id x y acc range init condition step result)
+      (typed_loop t vars r i c s e))
       → (kind c ≡ bool_type) × (kind s ≡ kind i) × (t ≡ kind e)
-  loop_kinds id x acc range init condition step result t r i c s e g =
+  loop_kinds id x y acc range init condition step result t vars r i c s e g =
       let rule = g.0 in
-      let walked : kind r ≡ rule.walked = elaborated_type m ks range r rule.walked g.5 rule.range in
+      let ls = turn_scope x y acc g.2 g.3 ks in
+      let walked : kind r ≡ rule.walked = elaborated_type m ks range r rule.walked g.6 rule.range in
       let gathered : kind i ≡ rule.gathered =
-      elaborated_type m ks init i rule.gathered g.6 rule.init in
-      let initial : rule.gathered ≡ g.2 = sym gathered ∙ g.4 in
-      let elements : rule.element ≡ g.1 = over_one rule.walked rule.element g.1 rule.over
-      (subst (λ w. IsOver w g.1) walked g.3) in (
-        elaborated_type m ((x, g.1) ∷ (acc, g.2) ∷ ks) condition c bool_type g.7
-            (subst (λ u. Types m ((x, u) ∷ (acc, g.2) ∷ ks) condition bool_type) elements
-            (subst (λ a. Types m ((x, rule.element) ∷ (acc, a) ∷ ks) condition bool_type) initial
-            rule.condition)),
-        elaborated_type m ((x, g.1) ∷ (acc, g.2) ∷ ks) step s (rule.gathered) g.8
-            (subst (λ u. Types m ((x, u) ∷ (acc, g.2) ∷ ks) step rule.gathered) elements
-            (subst (λ a. Types m ((x, rule.element) ∷ (acc, a) ∷ ks) step rule.gathered) initial
-            rule.step)) ∙ sym gathered,
-        sym (elaborated_type m ((acc, g.2) ∷ ks) result e t g.9
+      elaborated_type m ks init i rule.gathered g.7 rule.init in
+      let initial : rule.gathered ≡ g.3 = sym gathered ∙ g.5 in
+      let types : rule.each ≡ g.2 = over_one (variables_of y) rule.walked rule.each g.2 rule.over
+      (subst (λ w. IsOver (variables_of y) w g.2) walked (subst (λ v. IsOver v (kind r) g.2) g.1 g.4)) in
+      let here : turn_scope x y acc rule.each rule.gathered ks ≡ ls =
+      ap₂ (λ each a. turn_scope x y acc each a ks) types initial in (
+        elaborated_type m ls condition c bool_type g.8
+            (subst (λ ls. Types m ls condition bool_type) here rule.condition),
+        elaborated_type m ls step s (rule.gathered) g.9
+            (subst (λ ls. Types m ls step rule.gathered) here rule.step) ∙ sym gathered,
+        sym (elaborated_type m ((acc, g.3) ∷ ks) result e t g.10
             (subst (λ a. Types m ((acc, a) ∷ ks) result t) initial rule.result)),
       )
 
@@ -252,26 +249,30 @@ mutual
     map_kinds m ks (get m.types id) entries pairs t g.0 g.1,
   )
   elaborated_typed m ks (map_literal id entries) _ good g = absurd g
-  elaborated_typed m ks (comprehension id x acc range init condition step result)
-      (typed_loop t r i c s e) good g =
-      let of = loop_kinds m ks id x acc range init condition step result t r i c s e g in (
-        elaborated_typed m ks range r good.0 g.5,
-        elaborated_typed m ks init i good.1 g.6,
+  elaborated_typed m ks (comprehension id x y acc range init condition step result)
+      (typed_loop t vars r i c s e) good g =
+      let of = loop_kinds m ks id x y acc range init condition step result t vars r i c s e g in
+      let here : known (turn_scope x y acc g.2 g.3 ks) ≡ g.2 ++ kind i ∷ known ks =
+      known_turn x y acc g.2 g.3 ks
+      (over_length x y (kind r) g.2 (subst (λ v. IsOver v (kind r) g.2) g.1 g.4))
+      ∙ ap (λ a. g.2 ++ a ∷ known ks) (sym g.5) in (
+        elaborated_typed m ks range r good.0 g.6,
+        elaborated_typed m ks init i good.1 g.7,
         (
-          g.1,
-          g.3,
-          subst (λ a. IsWellTyped (g.1 ∷ a ∷ known ks) c) (sym g.4)
-              (elaborated_typed m ((x, g.1) ∷ (acc, g.2) ∷ ks) condition c good.2 g.7),
+          g.2,
+          g.4,
+          subst (λ ls. IsWellTyped ls c) here
+              (elaborated_typed m (turn_scope x y acc g.2 g.3 ks) condition c good.2 g.8),
           of.0,
-          subst (λ a. IsWellTyped (g.1 ∷ a ∷ known ks) s) (sym g.4)
-              (elaborated_typed m ((x, g.1) ∷ (acc, g.2) ∷ ks) step s good.3 g.8),
+          subst (λ ls. IsWellTyped ls s) here
+              (elaborated_typed m (turn_scope x y acc g.2 g.3 ks) step s good.3 g.9),
           of.1,
         ),
-        subst (λ a. IsWellTyped (a ∷ known ks) e) (sym g.4)
-            (elaborated_typed m ((acc, g.2) ∷ ks) result e good.4 g.9),
+        subst (λ a. IsWellTyped (a ∷ known ks) e) (sym g.5)
+            (elaborated_typed m ((acc, g.3) ∷ ks) result e good.4 g.10),
         of.2,
       )
-  elaborated_typed m ks (comprehension id x acc range init condition step result) _ good g =
+  elaborated_typed m ks (comprehension id x y acc range init condition step result) _ good g =
       absurd g
 
   target_typed : (m : Maps) (ks : Kinds) (on : CelTarget) (args : CelTrees) (es : TypedTrees)

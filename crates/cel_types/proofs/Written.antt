@@ -76,7 +76,7 @@ gathered = name (codes "__result__")
 abbrev pub macro : (range : CelTree) → (x : List ℕ) → (init condition step result : CelTree)
     → CelTree
 macro range x init condition step result =
-    comprehension node x (codes "__result__") range init condition step result
+    comprehension node x [] (codes "__result__") range init condition step result
 
 -- `range.all(x, p)`
 abbrev pub all : CelTree → List ℕ → CelTree → CelTree

@@ -10,7 +10,8 @@ use Rattle.cel_tree.specs.Tree.{CelTree, constant, ident, select, call, list_lit
 use Rattle.cel_overload.specs.Overloads.{IsCall}
 use Rattle.cel_overload.specs.declared.overload.Overload.{Overload}
 use Rattle.cel_types.specs.Attributes.{attribute_named}
-use Rattle.cel_types.specs.Names.{Scope, joined_name, root_of}
+use Rattle.cel_types.specs.Names.{Scope, joined_name, root_of, turn_scope, variables_of}
+use Rattle.cel_types.specs.declared.typed.Variables.{Variables}
 use Rattle.cel_types.specs.Typing.{IsOver, IsTyped, Kinds, Maps, Types, has_target, maps_of}
 
 mutual
@@ -27,7 +28,7 @@ mutual
     typed_list : ValueType → (elements : TypedTrees) → TypedTree
     -- a map literal: keys and values in turn
     typed_map : ValueType → (pairs : TypedTrees) → TypedTree
-    typed_loop : ValueType → (range init condition step result : TypedTree) → TypedTree
+    typed_loop : ValueType → Variables → (range init condition step result : TypedTree) → TypedTree
 
   -- expressions in order
   pub data TypedTrees : Type 0 where
@@ -44,7 +45,7 @@ kind (typed_has t on name) = t
 kind (typed_call t o operands) = t
 kind (typed_list t elements) = t
 kind (typed_map t pairs) = t
-kind (typed_loop t range init condition step result) = t
+kind (typed_loop t vars range init condition step result) = t
 
 -- the types of expressions
 abbrev pub kinds : TypedTrees → List ValueType
@@ -82,13 +83,14 @@ abbrev mutual
       Types m ks (list_literal id elements) t × ElaboratesEach m ks elements es
   Elaborates m ks (map_literal id entries) (typed_map t pairs) =
       Types m ks (map_literal id entries) t × ElaboratesPairs m ks entries pairs
-  Elaborates m ks (comprehension id x acc range init condition step result)
-      (typed_loop t r i c s e) =
-      Types m ks (comprehension id x acc range init condition step result) t
-      × (element : ValueType) × (gathered : ValueType) × IsOver (kind r) element
+  Elaborates m ks (comprehension id x y acc range init condition step result)
+      (typed_loop t vars r i c s e) =
+      Types m ks (comprehension id x y acc range init condition step result) t
+      × (vars ≡ variables_of y)
+      × (each : List ValueType) × (gathered : ValueType) × IsOver vars (kind r) each
       × (kind i ≡ gathered) × Elaborates m ks range r × Elaborates m ks init i
-      × Elaborates m ((x, element) ∷ (acc, gathered) ∷ ks) condition c
-      × Elaborates m ((x, element) ∷ (acc, gathered) ∷ ks) step s
+      × Elaborates m (turn_scope x y acc each gathered ks) condition c
+      × Elaborates m (turn_scope x y acc each gathered ks) step s
       × Elaborates m ((acc, gathered) ∷ ks) result e
   Elaborates m ks _ _ = ⊥
 

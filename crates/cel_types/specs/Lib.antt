@@ -1,6 +1,7 @@
 pub mod Attributes
 pub mod Names
 pub mod Meaning
+pub mod OneVariable
 pub mod Typing
 pub mod TypingFaults
 pub mod Elaborated

@@ -2,18 +2,20 @@
 -- Selection" and "Macros" (a macro is a comprehension). The order of errors is this project's choice.
 -- None means that a value is of a wrong kind or a name is not known; neither occurs in an expression
 -- that has a type.
-use Rattle.std.specs.Prelude.{ℕ, Bool, true, false, List, [], ◌∷◌, Option, Some, None, option_map}
+use Rattle.std.specs.Prelude.{ℕ, Bool, true, false, List, [], ◌∷◌, map, Option, Some, None, option_map}
 use Rattle.std.specs.Option.{option_and_then}
 use Rattle.attributes.specs.Request.{RequestValue}
 use Rattle.cel_value.specs.Values.{CelValue, bool, CelValues, no_items, item, CelAnswer, value, fails}
 use Rattle.cel_tree.specs.Tree.{CelTree, constant, ident, select, call, list_literal, map_literal, comprehension, CelTarget, no_target, target, CelTrees, no_trees, tree, CelTreeEntries, no_tree_entries, tree_entry}
-use Rattle.cel_ops.specs.Collections.{elements_of, field, has_field}
+use Rattle.cel_ops.specs.Collections.{elements_of, pairs_of, field, has_field}
 use Rattle.cel_ops.specs.Collections as collections
 use Rattle.cel_overload.specs.Answers.{function_answer}
 use Rattle.cel_overload.specs.Functions.{function_named}
 use Rattle.cel_ops.specs.Attributes.{attribute}
 use Rattle.cel_types.specs.Attributes.{attribute_named}
-use Rattle.cel_types.specs.Names.{Scope, joined_name, local, root_of}
+use Rattle.cel_types.specs.Names.{Scope, joined_name, local, root_of, turn_scope, variables_of}
+use Rattle.cel_types.specs.declared.typed.Variables.{Variables}
+use Rattle.cel_types.specs.declared.typed.Variables.TheVariants as variables
 
 -- the answers of the locals in scope
 abbrev pub Locals : Type 0
@@ -60,20 +62,32 @@ turn (Some (value (bool false))) step next ended = ended
 turn (Some (fails e)) step next ended = Some (fails e)
 turn _ _ next ended = None
 
--- the turns over these elements, from this accumulator, and then the result of the last accumulator
-abbrev pub fold : (condition step : CelValue → CelAnswer → Option CelAnswer)
-    → (result : CelAnswer → Option CelAnswer) → CelValues → CelAnswer → Option CelAnswer
-fold condition step result no_items gathered = result gathered
-fold condition step result (item v vs) gathered =
-    turn (condition v gathered) (step v gathered) (fold condition step result vs)
+-- what the variable gets in each turn
+abbrev pub one_each : CelValues → List (List CelAnswer)
+one_each no_items = []
+one_each (item v vs) = (value v ∷ []) ∷ one_each vs
+
+-- what the variables get in each turn of a loop over a value, the innermost first. One variable gets the
+-- items of a list, or the keys of a map in ascending order. Of two, the first gets the indices of a list or
+-- the keys of a map, and the second gets the items or the values
+abbrev pub turns_of : Variables → CelValue → Option (List (List CelAnswer))
+turns_of variables.One v = option_map one_each (elements_of v)
+turns_of variables.Two v = option_map (map (λ pair. value pair.1 ∷ pair.0 ∷ [])) (pairs_of v)
+
+-- these turns, from this accumulator, and then the result of the last accumulator
+abbrev pub fold : (condition step : List CelAnswer → CelAnswer → Option CelAnswer)
+    → (result : CelAnswer → Option CelAnswer) → List (List CelAnswer) → CelAnswer → Option CelAnswer
+fold condition step result [] gathered = result gathered
+fold condition step result (vs ∷ turns) gathered =
+    turn (condition vs gathered) (step vs gathered) (fold condition step result turns)
     (result gathered)
 
--- a loop over a range: over the items of a list, or the keys of a map in ascending order. If the
--- range is an error, that is the loop's answer
-abbrev pub over : Option CelAnswer → (CelValues → Option CelAnswer) → Option CelAnswer
-over None go = None
-over (Some (fails e)) go = Some (fails e)
-over (Some (value v)) go = option_and_then go (elements_of v)
+-- a loop over a range. If the range is an error, that is the loop's answer
+abbrev pub over : Variables → Option CelAnswer → (List (List CelAnswer) → Option CelAnswer)
+    → Option CelAnswer
+over vars None go = None
+over vars (Some (fails e)) go = Some (fails e)
+over vars (Some (value v)) go = option_and_then go (turns_of vars v)
 
 -- ---- one equation for each kind of node
 
@@ -90,11 +104,11 @@ abbrev mutual
       option_and_then collections.list_literal (eval_each elements request ls)
   eval (map_literal id entries) request ls =
       option_and_then collections.map_literal (eval_entries entries request ls)
-  eval (comprehension id x acc range init condition step result) request ls =
-      over (eval range request ls) (λ elements. option_and_then
-      (fold (λ v a. eval condition request ((x, value v) ∷ (acc, a) ∷ ls))
-      (λ v a. eval step request ((x, value v) ∷ (acc, a) ∷ ls))
-      (λ a. eval result request ((acc, a) ∷ ls)) elements)
+  eval (comprehension id x y acc range init condition step result) request ls =
+      over (variables_of y) (eval range request ls) (λ turns. option_and_then
+      (fold (λ vs a. eval condition request (turn_scope x y acc vs a ls))
+      (λ vs a. eval step request (turn_scope x y acc vs a ls))
+      (λ a. eval result request ((acc, a) ∷ ls)) turns)
       (eval init request ls))
 
   -- the answers of a call's operands, the target first

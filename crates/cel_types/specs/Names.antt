@@ -3,6 +3,8 @@
 use Rattle.std.specs.Prelude.{ℕ, Bool, false, ◌||◌, List, [], ◌∷◌, ◌++◌, Option, Some, None, if◌then◌else◌, is_some, codes}
 use Rattle.std.specs.Str.{bytes_eq}
 use Rattle.cel_tree.specs.Tree.{CelTree, ident}
+use Rattle.cel_types.specs.declared.typed.Variables.{Variables}
+use Rattle.cel_types.specs.declared.typed.Variables.TheVariants as variables
 
 -- names with their locals' types or answers, the innermost first
 abbrev pub Scope : Type 0 → Type 0
@@ -30,3 +32,30 @@ root_of _ ls = None
 -- a root's name and a field's, with a dot (46) between
 abbrev pub joined_name : List ℕ → List ℕ → List ℕ
 joined_name root field = root ++ (46 ∷ field)
+
+-- ---- the variables of a comprehension
+
+-- one variable without a second name, otherwise two
+abbrev pub variables_of : (iter_var2 : List ℕ) → Variables
+variables_of [] = variables.One
+variables_of (c ∷ y) = variables.Two
+
+-- how many variables there are
+abbrev pub variable_count : Variables → ℕ
+variable_count variables.One = 1
+variable_count variables.Two = 2
+
+-- the names of a comprehension's variables, the innermost first
+abbrev pub variable_names : (iter_var iter_var2 : List ℕ) → List (List ℕ)
+variable_names x [] = x ∷ []
+variable_names x (c ∷ y) = (c ∷ y) ∷ x ∷ []
+
+-- the names, each with what is at its place
+abbrev pub bound : {A : Type 0} → List (List ℕ) → List A → Scope A
+bound [] things = []
+bound (name ∷ names) [] = []
+bound (name ∷ names) (a ∷ things) = (name, a) ∷ bound names things
+
+-- the scope of a turn: the variables, and then the accumulator, before the locals around
+abbrev pub turn_scope : {A : Type 0} → (x y acc : List ℕ) → List A → A → Scope A → Scope A
+turn_scope x y acc things a ls = bound (variable_names x y) things ++ (acc, a) ∷ ls

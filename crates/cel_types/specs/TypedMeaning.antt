@@ -1,6 +1,6 @@
 -- The meaning of an elaborated expression: locals by number, attributes and overloads instead of names.
 -- None means that a value is of a wrong kind, or a local is not in scope.
-use Rattle.std.specs.Prelude.{ℕ, List, [], ◌∷◌, length, nat_eq, Option, Some, None, if◌then◌else◌}
+use Rattle.std.specs.Prelude.{ℕ, List, [], ◌∷◌, ◌++◌, length, nat_eq, Option, Some, None, if◌then◌else◌}
 use Rattle.std.specs.Option.{option_and_then}
 use Rattle.attributes.specs.Request.{RequestValue}
 use Rattle.cel_value.specs.Values.{CelAnswer, value}
@@ -33,11 +33,11 @@ abbrev mutual
       option_and_then collections.list_literal (typed_answers elements request ls)
   typed_answer (typed_map t pairs) request ls =
       option_and_then collections.map_literal (typed_answers pairs request ls)
-  typed_answer (typed_loop t range init condition step result) request ls =
-      over (typed_answer range request ls) (λ elements. option_and_then
-      (fold (λ v a. typed_answer condition request (value v ∷ a ∷ ls))
-      (λ v a. typed_answer step request (value v ∷ a ∷ ls))
-      (λ a. typed_answer result request (a ∷ ls)) elements)
+  typed_answer (typed_loop t vars range init condition step result) request ls =
+      over vars (typed_answer range request ls) (λ turns. option_and_then
+      (fold (λ vs a. typed_answer condition request (vs ++ a ∷ ls))
+      (λ vs a. typed_answer step request (vs ++ a ∷ ls))
+      (λ a. typed_answer result request (a ∷ ls)) turns)
       (typed_answer init request ls))
 
   -- the answers of expressions, from left to right

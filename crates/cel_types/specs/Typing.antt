@@ -15,7 +15,9 @@ use Rattle.cel_overload.specs.Overloads.{IsCall}
 use Rattle.cel_overload.specs.declared.overload.Overload.{Overload}
 use Rattle.cel_ops.specs.Attributes.{attribute_type}
 use Rattle.cel_types.specs.Attributes.{attribute_named}
-use Rattle.cel_types.specs.Names.{Scope, joined_name, local, root_of}
+use Rattle.cel_types.specs.Names.{Scope, joined_name, local, root_of, turn_scope, variable_count, variables_of}
+use Rattle.cel_types.specs.declared.typed.Variables.{Variables}
+use Rattle.cel_types.specs.declared.typed.Variables.TheVariants as variables
 
 -- how many locals may be in scope, shadowed ones included
 abbrev pub most_locals : ℕ
@@ -119,32 +121,36 @@ MapRule entry no_tree_entries Pairs t = TypeGiven entry t × IsMap t
 MapRule entry (tree_entry id key value others) Pairs t = (k : KeyType) × (s : ValueType)
     × Pairs (type_of_key k) s × (t ≡ map_type k s)
 
--- the type of a range's elements: of the items of a list, or of the keys of a map
-abbrev pub IsOver : ValueType → ValueType → Type 0
-IsOver (list_type s) element = element ≡ s
-IsOver (map_type k s) element = element ≡ type_of_key k
-IsOver _ element = ⊥
+-- the types of what the variables get from a range of this type, the innermost first. One variable gets
+-- items of a list or keys of a map. Of two, the first gets indices or keys, the second items or values
+abbrev pub IsOver : Variables → ValueType → List ValueType → Type 0
+IsOver variables.One (list_type s) each = each ≡ s ∷ []
+IsOver variables.One (map_type k s) each = each ≡ type_of_key k ∷ []
+IsOver variables.Two (list_type s) each = each ≡ s ∷ int_type ∷ []
+IsOver variables.Two (map_type k s) each = each ≡ s ∷ type_of_key k ∷ []
+IsOver _ _ each = ⊥
 
--- the names of a comprehension are not empty, and differ
-pub record NamesDiffer (x acc : List ℕ) : Type 0 where
+-- the names of a comprehension differ; the first variable's and the accumulator's are not empty
+pub record NamesDiffer (x y acc : List ℕ) : Type 0 where
   pub element : x ≢ []
   pub gathered : acc ≢ []
   pub differ : x ≢ acc
+  pub second : x ≢ y
+  pub apart : y ≢ acc
 
--- a comprehension over the elements of its range: its condition is a bool, and its step has the
--- accumulator's type
-pub record LoopRule (x acc : List ℕ) (Range Init : ValueType → Type 0)
-    (Condition Step : ValueType → ValueType → ValueType → Type 0)
+-- a comprehension over its range: its condition is a bool, and its step has the accumulator's type
+pub record LoopRule (x y acc : List ℕ) (Range Init : ValueType → Type 0)
+    (Condition Step : List ValueType → ValueType → ValueType → Type 0)
     (Result : ValueType → ValueType → Type 0) (t : ValueType) : Type 0 where
-  pub names : NamesDiffer x acc
+  pub names : NamesDiffer x y acc
   pub walked : ValueType
-  pub element : ValueType
+  pub each : List ValueType
   pub gathered : ValueType
   pub range : Range walked
-  pub over : IsOver walked element
+  pub over : IsOver (variables_of y) walked each
   pub init : Init gathered
-  pub condition : Condition element gathered bool_type
-  pub step : Step element gathered gathered
+  pub condition : Condition each gathered bool_type
+  pub step : Step each gathered gathered
   pub result : Result gathered t
 
 -- ---- expressions
@@ -162,10 +168,10 @@ abbrev mutual
       ListRule (get m.types id) elements (TypesAll m ks elements) t
   Types m ks (map_literal id entries) t =
       MapRule (get m.types id) entries (TypesPairs m ks entries) t
-  Types m ks (comprehension id x acc range init condition step result) t =
-      LoopRule x acc (Types m ks range) (Types m ks init)
-      (λ s a. Types m ((x, s) ∷ (acc, a) ∷ ks) condition)
-      (λ s a. Types m ((x, s) ∷ (acc, a) ∷ ks) step)
+  Types m ks (comprehension id x y acc range init condition step result) t =
+      LoopRule x y acc (Types m ks range) (Types m ks init)
+      (λ each a. Types m (turn_scope x y acc each a ks) condition)
+      (λ each a. Types m (turn_scope x y acc each a ks) step)
       (λ a. Types m ((acc, a) ∷ ks) result) t
 
   -- the first type is that of the target, if there is one, and `Others` holds of the rest
@@ -230,14 +236,14 @@ abbrev mutual
   EntriesAgree m ks (map_literal id entries) =
       EntryAgrees (get m.types id) (Types m ks (map_literal id entries))
       × PairsAgree m ks entries
-  EntriesAgree m ks (comprehension id x acc range init condition step result) =
+  EntriesAgree m ks (comprehension id x y acc range init condition step result) =
       EntryAgrees (get m.types id)
-      (Types m ks (comprehension id x acc range init condition step result))
+      (Types m ks (comprehension id x y acc range init condition step result))
       × EntriesAgree m ks range × EntriesAgree m ks init
-      × ((walked element gathered : ValueType) → Types m ks range walked → IsOver walked element
-      → Types m ks init gathered
-      → EntriesAgree m ((x, element) ∷ (acc, gathered) ∷ ks) condition
-      × EntriesAgree m ((x, element) ∷ (acc, gathered) ∷ ks) step)
+      × ((walked : ValueType) (each : List ValueType) (gathered : ValueType) → Types m ks range walked
+      → IsOver (variables_of y) walked each → Types m ks init gathered
+      → EntriesAgree m (turn_scope x y acc each gathered ks) condition
+      × EntriesAgree m (turn_scope x y acc each gathered ks) step)
       × ((gathered : ValueType) → Types m ks init gathered
       → EntriesAgree m ((acc, gathered) ∷ ks) result)
 
@@ -265,7 +271,7 @@ greatest a b c d e = max a (max b (max c (max d e)))
 
 abbrev mutual
   -- the greatest number of the expression's own locals that a node inside has in scope. A
-  -- comprehension adds two for its condition and step, and one for its result
+  -- comprehension adds its variables and one for its condition and step, and one for its result
   pub locals_in : CelTree → ℕ
   locals_in (constant id v) = 0
   locals_in (ident id name) = 0
@@ -273,9 +279,9 @@ abbrev mutual
   locals_in (call id name on args) = max (locals_in_target on) (locals_in_each args)
   locals_in (list_literal id elements) = locals_in_each elements
   locals_in (map_literal id entries) = locals_in_entries entries
-  locals_in (comprehension id x acc range init condition step result) =
-      greatest (locals_in range) (locals_in init) (2 + locals_in condition) (2 + locals_in step)
-      (1 + locals_in result)
+  locals_in (comprehension id x y acc range init condition step result) =
+      greatest (locals_in range) (locals_in init) (variable_count (variables_of y) + 1 + locals_in condition)
+      (variable_count (variables_of y) + 1 + locals_in step) (1 + locals_in result)
 
   -- the same for a call's target, if there is one
   pub locals_in_target : CelTarget → ℕ

@@ -1,7 +1,7 @@
 -- The faults of a checked expression, each with its refusal: rule by rule as in Typing, and entry by
 -- entry. An expression may have several faults. If a fault compares types, the parts have these types
--- by their rules; their entries do not matter. If a local has no type, a fault that depends on it
--- counts only if every type of the local leads to it.
+-- by their rules; their entries do not matter. The parts of a comprehension that see its locals have
+-- faults only where these locals have types.
 use Rattle.std.specs.Prelude.{◌≡◌, ◌≢◌, ◌⊎◌, ◌<◌, ℕ, Bool, true, false, List, [], ◌∷◌, Option, Some, None, option_map}
 use Rattle.std.specs.FinMap.{get}
 use Rattle.proto_wire.specs.declared.refusal.Refusal.{Refusal}
@@ -17,7 +17,8 @@ use Rattle.cel_overload.specs.Overloads.{CallFault}
 use Rattle.cel_overload.specs.declared.overload.OverloadFault.TheVariants as calls
 use Rattle.cel_ops.specs.Attributes.{attribute_type}
 use Rattle.cel_types.specs.Attributes.{attribute_named}
-use Rattle.cel_types.specs.Names.{bare_root, joined_name, local, root_of}
+use Rattle.cel_types.specs.Names.{bare_root, joined_name, local, root_of, turn_scope, variables_of}
+use Rattle.cel_types.specs.declared.typed.Variables.{Variables}
 use Rattle.cel_types.specs.Typing.{IsList, IsMap, IsOver, Kinds, Maps, RefAgrees, Types, TypesEach, TypesTarget, constant_type, has_target, locals_in, maps_of, most_locals, name_type}
 
 -- ---- entries
@@ -107,47 +108,44 @@ pub data PairsFault (HasKey HasValue : ValueType → Type 0) (InEntries : Refusa
       → e ≡ NoOverload → PairsFault HasKey HasValue InEntries e
   in_entry : InEntries e → PairsFault HasKey HasValue InEntries e
 
--- the types that a local may have: the one that is found; if none is found, any type
-abbrev pub MayBe : (Found : ValueType → Type 0) → ValueType → Type 0
-MayBe Found t = (s : ValueType) → Found s → s ≡ t
+-- the types of what the variables get from the range
+abbrev pub AreGot : Variables → (Range : ValueType → Type 0) → List ValueType → Type 0
+AreGot vars Range each = (walked : ValueType) × Range walked × IsOver vars walked each
 
--- the type of the elements of a range
-abbrev pub ElementOf : (Range : ValueType → Type 0) → ValueType → Type 0
-ElementOf Range t = (s : ValueType) × Range s × IsOver s t
-
--- this holds in a turn for all types that the element and the accumulator may have
-abbrev pub EachTurn : (Range Init : ValueType → Type 0) → (ValueType → ValueType → Type 0) → Type 0
-EachTurn Range Init IsSo = (element gathered : ValueType) → MayBe (ElementOf Range) element
-    → MayBe Init gathered → IsSo element gathered
-
--- a fault of a comprehension: a name is empty, or both names are the same, or the range has no
--- elements. Or the condition is not a bool, the step is not of the accumulator's type, or a part has a
--- fault
-pub data LoopFault (x acc : List ℕ) (Range Init : ValueType → Type 0)
-    (Condition Step : ValueType → ValueType → ValueType → Type 0)
-    (InRange InInit : Refusal → Type 0) (InTurn : ValueType → ValueType → Refusal → Type 0)
+-- a fault of a comprehension: a name is empty, two names are the same, or the range has no elements. Or the
+-- condition is not a bool, the step is not of the accumulator's type, or a part has a fault
+pub data LoopFault (x y acc : List ℕ) (Range Init : ValueType → Type 0)
+    (Condition Step : List ValueType → ValueType → ValueType → Type 0)
+    (InRange InInit : Refusal → Type 0) (InTurn : List ValueType → ValueType → Refusal → Type 0)
     (InResult : ValueType → Refusal → Type 0) (e : Refusal) : Type 0 where
   no_element_name : x ≡ [] → e ≡ Missing
-      → LoopFault x acc Range Init Condition Step InRange InInit InTurn InResult e
+      → LoopFault x y acc Range Init Condition Step InRange InInit InTurn InResult e
   no_gathered_name : acc ≡ [] → e ≡ Missing
-      → LoopFault x acc Range Init Condition Step InRange InInit InTurn InResult e
+      → LoopFault x y acc Range Init Condition Step InRange InInit InTurn InResult e
   one_name : x ≡ acc → e ≡ OutOfRange
-      → LoopFault x acc Range Init Condition Step InRange InInit InTurn InResult e
-  no_elements : (s : ValueType) → Range s → ((t : ValueType) → IsOver s t → ⊥) → e ≡ NoOverload
-      → LoopFault x acc Range Init Condition Step InRange InInit InTurn InResult e
-  no_condition : EachTurn Range Init (λ s a. (t : ValueType) × Condition s a t × (t ≢ bool_type))
-      → e ≡ NoOverload
-      → LoopFault x acc Range Init Condition Step InRange InInit InTurn InResult e
-  no_step : EachTurn Range Init (λ s a. (t : ValueType) × Step s a t × (t ≢ a)) → e ≡ NoOverload
-      → LoopFault x acc Range Init Condition Step InRange InInit InTurn InResult e
+      → LoopFault x y acc Range Init Condition Step InRange InInit InTurn InResult e
+  one_variable : y ≢ [] → x ≡ y → e ≡ OutOfRange
+      → LoopFault x y acc Range Init Condition Step InRange InInit InTurn InResult e
+  second_gathered : y ≢ [] → y ≡ acc → e ≡ OutOfRange
+      → LoopFault x y acc Range Init Condition Step InRange InInit InTurn InResult e
+  no_elements : (s : ValueType) → Range s
+      → ((each : List ValueType) → IsOver (variables_of y) s each → ⊥) → e ≡ NoOverload
+      → LoopFault x y acc Range Init Condition Step InRange InInit InTurn InResult e
+  no_condition : (each : List ValueType) (a t : ValueType) → AreGot (variables_of y) Range each → Init a
+      → Condition each a t → t ≢ bool_type → e ≡ NoOverload
+      → LoopFault x y acc Range Init Condition Step InRange InInit InTurn InResult e
+  no_step : (each : List ValueType) (a t : ValueType) → AreGot (variables_of y) Range each → Init a
+      → Step each a t → t ≢ a → e ≡ NoOverload
+      → LoopFault x y acc Range Init Condition Step InRange InInit InTurn InResult e
   in_range : InRange e
-      → LoopFault x acc Range Init Condition Step InRange InInit InTurn InResult e
+      → LoopFault x y acc Range Init Condition Step InRange InInit InTurn InResult e
   in_init : InInit e
-      → LoopFault x acc Range Init Condition Step InRange InInit InTurn InResult e
-  in_turn : EachTurn Range Init (λ s a. InTurn s a e)
-      → LoopFault x acc Range Init Condition Step InRange InInit InTurn InResult e
-  in_result : ((gathered : ValueType) → MayBe Init gathered → InResult gathered e)
-      → LoopFault x acc Range Init Condition Step InRange InInit InTurn InResult e
+      → LoopFault x y acc Range Init Condition Step InRange InInit InTurn InResult e
+  in_turn : (each : List ValueType) (a : ValueType) → AreGot (variables_of y) Range each → Init a
+      → InTurn each a e
+      → LoopFault x y acc Range Init Condition Step InRange InInit InTurn InResult e
+  in_result : (a : ValueType) → Init a → InResult a e
+      → LoopFault x y acc Range Init Condition Step InRange InInit InTurn InResult e
 
 -- ---- expressions
 
@@ -202,16 +200,16 @@ abbrev mutual
       MapsFault (get m.types id) entries (KeyTypes m ks entries) (ItemTypes m ks entries)
       (PairFault m ks entries) e
       ⊎ EntryFault (get m.types id) (Types m ks (map_literal id entries)) e
-  TypeFault m ks (comprehension id x acc range init condition step result) e =
-      LoopFault x acc (Types m ks range) (Types m ks init)
-      (λ s a. Types m ((x, s) ∷ (acc, a) ∷ ks) condition)
-      (λ s a. Types m ((x, s) ∷ (acc, a) ∷ ks) step)
+  TypeFault m ks (comprehension id x y acc range init condition step result) e =
+      LoopFault x y acc (Types m ks range) (Types m ks init)
+      (λ each a. Types m (turn_scope x y acc each a ks) condition)
+      (λ each a. Types m (turn_scope x y acc each a ks) step)
       (TypeFault m ks range) (TypeFault m ks init)
-      (λ s a d. TypeFault m ((x, s) ∷ (acc, a) ∷ ks) condition d
-      ⊎ TypeFault m ((x, s) ∷ (acc, a) ∷ ks) step d)
+      (λ each a d. TypeFault m (turn_scope x y acc each a ks) condition d
+      ⊎ TypeFault m (turn_scope x y acc each a ks) step d)
       (λ a. TypeFault m ((acc, a) ∷ ks) result) e
       ⊎ EntryFault (get m.types id)
-      (Types m ks (comprehension id x acc range init condition step result)) e
+      (Types m ks (comprehension id x y acc range init condition step result)) e
 
   -- a fault of a call's target, if there is one
   pub TargetFault : Maps → Kinds → CelTarget → Refusal → Type 0

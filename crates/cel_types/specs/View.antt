@@ -7,10 +7,12 @@ use Rattle.cel_types.specs.Elaborated.{TypedTree, typed_constant, typed_local, t
 use Rattle.cel_types.specs.declared.typed.TypedExpr.{TypedExpr, fold-TypedExpr}
 use Rattle.cel_types.specs.declared.typed.TypedExpr.TheOpen.{TypedExpr-F, TypedLoop-F}
 use Rattle.cel_types.specs.declared.typed.Typed.{Typed}
+use Rattle.cel_types.specs.declared.typed.Variables.{Variables}
 use Rattle.cel_value.specs.Types.{ValueType}
 
 -- the parts of a comprehension
 pub record TypedParts : Type 0 where
+  pub variables : Variables
   pub range : TypedTree
   pub init : TypedTree
   pub condition : TypedTree
@@ -24,7 +26,7 @@ typed_of (e ∷ es) = typed e (typed_of es)
 
 -- the comprehension of these parts
 abbrev pub loop_of : ValueType → TypedParts → TypedTree
-loop_of t p = typed_loop t p.range p.init p.condition p.step p.result
+loop_of t p = typed_loop t p.variables p.range p.init p.condition p.step p.result
 
 -- one level of an expression, whose inner expressions are already translated
 abbrev pub expr_level : TypedExpr-F TypedTree TypedParts → TypedTree
@@ -41,6 +43,7 @@ expr_level (TypedExpr-F.Loop t p) = loop_of (type_view t) p.value
 -- one level of a comprehension's parts, whose expressions are already translated
 abbrev pub parts_level : TypedLoop-F TypedTree TypedParts → TypedParts
 parts_level p = record {
+  variables = p.variables;
   range = p.range;
   init = p.init;
   condition = p.condition;

@@ -1,5 +1,5 @@
 -- Elaborated expressions whose types are right: CEL language definition, "Type Checking".
-use Rattle.std.specs.Prelude.{◌≡◌, List, [], ◌∷◌, Some}
+use Rattle.std.specs.Prelude.{◌≡◌, List, [], ◌∷◌, ◌++◌, Some}
 use Rattle.cel_value.specs.Types.{HasType, ValueType, bool_type, list_type, map_type, type_of_key}
 use Rattle.cel_value.specs.declared.cel_type.KeyType.{KeyType}
 use Rattle.cel_value.specs.declared.cel_type.KeyType.TheVariants as keys
@@ -36,11 +36,11 @@ abbrev mutual
       AreWellTyped ks elements × ((s : ValueType) × (t ≡ list_type s) × AreAll s (kinds elements))
   IsWellTyped ks (typed_map t pairs) = AreWellTyped ks pairs
       × ((k : KeyType) × (s : ValueType) × (t ≡ map_type k s) × AreKeyed k s (kinds pairs))
-  IsWellTyped ks (typed_loop t range init condition step result) =
+  IsWellTyped ks (typed_loop t vars range init condition step result) =
       IsWellTyped ks range × IsWellTyped ks init
-      × ((element : ValueType) × IsOver (kind range) element
-      × IsWellTyped (element ∷ kind init ∷ ks) condition × (kind condition ≡ bool_type)
-      × IsWellTyped (element ∷ kind init ∷ ks) step × (kind step ≡ kind init))
+      × ((each : List ValueType) × IsOver vars (kind range) each
+      × IsWellTyped (each ++ kind init ∷ ks) condition × (kind condition ≡ bool_type)
+      × IsWellTyped (each ++ kind init ∷ ks) step × (kind step ≡ kind init))
       × IsWellTyped (kind init ∷ ks) result × (t ≡ kind result)
 
   -- each of the expressions is well typed

@@ -1,16 +1,19 @@
 //! Laws of meaning and typing.
 
-ghost use Rattle.std.specs.Prelude.{◌≡◌, ◌↔◌, ◌⊎◌, ℕ, List, [], Some};
+ghost use Rattle.std.specs.Prelude.{◌≡◌, ◌↔◌, ◌⊎◌, ℕ, ℤ, List, [], ◌∷◌, Some};
+ghost use Rattle.std.specs.Option.{option_and_then};
 ghost use Rattle.attributes.specs.Attributes.{attr_name};
 ghost use Rattle.attributes.specs.Request.{IsRequest, RequestValue};
 ghost use Rattle.attributes.specs.declared.attribute.AttrId.{AttrId};
 ghost use Rattle.cel_types.specs.Attributes.{attribute_named};
 ghost use Rattle.cel_value.specs.Types.{AnswerHasType, ValueType};
-ghost use Rattle.cel_value.specs.Values.{CelAnswer};
+ghost use Rattle.cel_value.specs.Values.{CelAnswer, value};
 ghost use Rattle.cel_tree.specs.Checked.{CelChecked};
 ghost use Rattle.cel_tree.specs.GoodConstants.{HasGoodConstants};
+ghost use Rattle.cel_tree.specs.Tree.{CelTree, comprehension};
 ghost use Rattle.cel_types.specs.Elaborated.{IsElaborated, TypedTree, kind};
-ghost use Rattle.cel_types.specs.Meaning.{eval};
+ghost use Rattle.cel_types.specs.Meaning.{Locals, eval};
+ghost use Rattle.cel_types.specs.OneVariable.{fold_elements, over_elements};
 ghost use Rattle.cel_types.specs.Typing.{IsTyped};
 ghost use Rattle.cel_types.specs.TypingFaults.{CheckFault};
 ghost use Rattle.cel_types.specs.TypedMeaning.{typed_answer};
@@ -20,6 +23,16 @@ ghost use Rattle.proto_wire.specs.declared.refusal.Refusal.{Refusal};
 /// An attribute is found by its name, and by no other.
 pub fn attribute_is_named()
     ensures { (name : List ℕ) (id : AttrId) → (attribute_named name ≡ Some id) ↔ (name ≡ attr_name id) }
+{}
+
+/// A comprehension without a second name is a fold over the elements of its range.
+pub fn one_variable_is_a_fold()
+    ensures { (id : ℤ) (x acc : List ℕ) (range init condition step result : CelTree) (r : RequestValue) (ls : Locals)
+        → eval (comprehension id x [] acc range init condition step result) r ls
+        ≡ over_elements (eval range r ls) (λ vs. option_and_then
+        (fold_elements (λ v a. eval condition r ((x, value v) ∷ (acc, a) ∷ ls))
+        (λ v a. eval step r ((x, value v) ∷ (acc, a) ∷ ls)) (λ a. eval result r ((acc, a) ∷ ls)) vs)
+        (eval init r ls)) }
 {}
 
 /// A checked expression has at most one type.

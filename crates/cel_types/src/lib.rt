@@ -7,4 +7,4 @@ mod typed;
 
 pub use checker::check;
 pub use checker::names::{attribute_named, is_root, joined_name};
-pub use typed::{Typed, TypedExpr, TypedLoop};
+pub use typed::{Typed, TypedExpr, TypedLoop, Variables};

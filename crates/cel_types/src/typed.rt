@@ -57,11 +57,21 @@ pub enum TypedExpr<'a> {
     },
 }
 
-/// The parts of a comprehension. In its scope, the accumulator is the next local, and the element is
-/// the one after that.
+/// How many variables a comprehension has beside its accumulator.
+#[derive(Clone, Copy, PartialEq, Eq, Debug)]
+pub enum Variables {
+    /// The item of a list, or the key of a map.
+    One,
+    /// The index and the item of a list, or the key and the value of a map.
+    Two,
+}
+
+/// The parts of a comprehension. In its scope, the accumulator is the next local, and the variables come
+/// after that, in order.
 #[derive(Drop)]
 #[cycle(typed)]
 pub struct TypedLoop<'a> {
+    pub variables: Variables,
     pub range: TypedExpr<'a>,
     pub init: TypedExpr<'a>,
     pub condition: TypedExpr<'a>,

@@ -3,7 +3,7 @@
 ghost use Rattle.std.specs.Prelude.{◌≡◌, ◌<◌, ◌*◌, ◌^◌, Some, [], ◌∷◌, length, IfOk, option_map};
 ghost use Rattle.stack_machine.specs.Instructions.{Jump, instr_view};
 ghost use Rattle.stack_machine.specs.Slots.{list_literal_slot, map_literal_slot, slots_of};
-ghost use Rattle.stack_machine.specs.Shapes.{binary, branch, leaves, literal, loop_next, loop_start, loop_test, operate, store, test, unary, ways};
+ghost use Rattle.stack_machine.specs.Shapes.{binary, branch, leaves, literal, loop_next, loop_next2, loop_start, loop_test, operate, store, test, unary, ways};
 ghost use Rattle.code_verifier.specs.steps.Results.{binary_slot, unary_slot};
 ghost use Rattle.code_verifier.specs.steps.ShapeView.{AreWays, Stands, shape_view};
 ghost use Rattle.code_verifier.specs.steps.SlotView.{locals_view, slot_view};
@@ -12,7 +12,7 @@ ghost use Rattle.code_verifier.specs.steps.Stacks.{stack_at};
 use crate::literals::{list_literal, map_literal, take};
 use crate::locals::{local_at, with_slot};
 use crate::results::{
-    Binary, Unary, attribute_slot, binary_slot, constant_slot, loop_slot, unary_slot,
+    Binary, Unary, attribute_slot, binary_slot, constant_slot, loop_slot, pair_slots, unary_slot,
 };
 use crate::shape::{Due, Shape};
 use crate::slot::Slot;
@@ -72,6 +72,10 @@ pub(crate) fn ways_of(
         Instr::LoopStart { failed } => loop_start_ways(alloc, stacks, position, shape, *failed),
         Instr::LoopNext { local, done } => {
             loop_next_ways(alloc, stacks, position, shape, *local, *done)
+        }
+        Instr::LoopNext2 { key, value, done } => {
+            let both = (*key, *value);
+            loop_next2_ways(alloc, stacks, position, shape, both, *done)
         }
         Instr::LoopTest { done, failed } => {
             loop_test_ways(alloc, stacks, position, shape, *done, *failed)
@@ -403,6 +407,41 @@ fn loop_next_ways(
         return Ok(None);
     };
     let locals = with_slot(alloc, &shape.locals, local, each)?;
+    let next = Shape {
+        slots: shape.slots,
+        locals: Rc::new(alloc, locals)?,
+        loops: shape.loops,
+    };
+    let out = to(done as usize, shape, shape.slots, outer)?;
+    let on = Due {
+        target: position + 1,
+        shape: next,
+    };
+    let found = two(alloc, on, out)?;
+    Ok(Some(found))
+}
+
+fn loop_next2_ways(
+    alloc: Global,
+    stacks: &mut Stacks,
+    position: usize,
+    shape: &Shape,
+    both: (u8, u8),
+    done: u16,
+) -> Result<Option<Stack<Due>>, AllocError>
+    requires room { position < 2 ^ 32 }
+    requires stands { Stands stacks.old shape.now }
+    ensures { IfOk result (λ o. AreWays stacks.old stacks.new o
+        (loop_next2 both.0 both.1 done position (shape_view stacks.old shape.now))) }
+{
+    let Some((a, outer)) = stacks.top(shape.loops)? else {
+        return Ok(None);
+    };
+    let Some((first, second)) = pair_slots(&a)? else {
+        return Ok(None);
+    };
+    let keyed = with_slot(alloc, &shape.locals, both.0, first)?;
+    let locals = with_slot(alloc, &keyed, both.1, second)?;
     let next = Shape {
         slots: shape.slots,
         locals: Rc::new(alloc, locals)?,

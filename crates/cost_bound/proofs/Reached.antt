@@ -1,10 +1,9 @@
 -- What evaluation reaches is well typed, and is within its size and paid for at the sizes of its locals.
-use Rattle.std.proofs.Common.{◌≡◌, ◌≤◌, ◌<◌, ◌+◌, ℕ, zero, suc, ◌⊎◌, inl, inr, List, [], ◌∷◌, Some, refl, ap, arith}
+use Rattle.std.proofs.Common.{◌≡◌, ◌≤◌, ◌<◌, ◌+◌, ℕ, zero, suc, ◌⊎◌, inl, inr, List, [], ◌∷◌, ◌++◌, length, Some, refl, ap, arith}
 use Rattle.attributes.specs.Limits.{InLimits, LimitsValue}
 use Rattle.attributes.specs.Request.{IsRequest, RequestValue}
-use Rattle.cel_value.specs.Masses.{item_count}
-use Rattle.cel_value.specs.Types.{AnswerHasType, EachItem, HasType, ValueType}
-use Rattle.cel_value.specs.Values.{CelAnswer, CelValue, CelValues, item, value}
+use Rattle.cel_value.specs.Types.{AnswerHasType, ValueType}
+use Rattle.cel_value.specs.Values.{CelAnswer, value}
 use Rattle.cel_overload.specs.Answers.{HaveTypes}
 use Rattle.cel_overload.specs.declared.overload.Overload.{Overload}
 use Rattle.cel_ops.specs.declared.operation.Operation.TheVariants as operations
@@ -12,12 +11,13 @@ use Rattle.cel_overload.specs.declared.overload.Overload.TheVariants as overload
 use Rattle.cel_types.specs.Elaborated.{TypedTree, TypedTrees, kind, kinds, no_typed, typed, typed_attribute, typed_call, typed_constant, typed_field, typed_has, typed_list, typed_local, typed_loop, typed_map}
 use Rattle.cel_types.specs.TypedMeaning.{typed_answer}
 use Rattle.cel_types.specs.WellTyped.{AreWellTyped, IsWellTyped}
-use Rattle.cel_types.proofs.WellTypedAnswers.{answer_typed, walked_typed}
-use Rattle.cost_bound.specs.Costs.{call_cost, cost_of, costs_of, element_size, grown, size_of, sizes_of, total, turns_cost}
+use Rattle.cel_types.specs.declared.typed.Variables.{Variables}
+use Rattle.cel_types.proofs.WellTypedAnswers.{TurnsHaveTypes, all_have_types, answer_typed, walked_typed}
+use Rattle.cost_bound.specs.Costs.{call_cost, cost_of, costs_of, grown, size_of, sizes_of, total, turns_cost, variable_sizes}
 use Rattle.cost_bound.specs.Reaches.{Gathers, IsAmong, Reaches, ended, gathered_size, inside, more, none, parts, turn, whole}
-use Rattle.cost_bound.specs.Sizes.{AllWithin, EachFits, Size, Within, join, most_of}
+use Rattle.cost_bound.specs.Sizes.{AllWithin, Size, Within, join, most_of}
 use Rattle.cost_bound.proofs.Joins.{grown_within, within_right}
-use Rattle.cost_bound.proofs.Within.{answer_within, elements_within}
+use Rattle.cost_bound.proofs.Within.{TurnsWithin, all_within_more, answer_within, turns_within}
 
 -- ---- turns
 
@@ -63,7 +63,7 @@ part_typed (typed_has t on name) p ks g among =
 part_typed (typed_call t o operands) p ks g among = among_typed p operands ks g.0 among
 part_typed (typed_list t elements) p ks g among = among_typed p elements ks g.0 among
 part_typed (typed_map t pairs) p ks g among = among_typed p pairs ks g.0 among
-part_typed (typed_loop t range init condition step result) p ks g among =
+part_typed (typed_loop t vars range init condition step result) p ks g among =
     among_typed p (typed range (typed init no_typed)) ks (g.0, (g.1, tt)) among
 
 -- one of the numbers
@@ -135,7 +135,7 @@ module _ (l : LimitsValue) where
       let all = among_paid p elements sizes among in omega arith
   part_paid (typed_map t pairs) p sizes among =
       let all = among_paid p pairs sizes among in omega arith
-  part_paid (typed_loop t range init condition step result) p sizes among =
+  part_paid (typed_loop t vars range init condition step result) p sizes among =
       let all = among_paid p (typed range (typed init no_typed)) sizes among in omega arith
 
 -- ---- what is reached
@@ -148,12 +148,13 @@ pub record Placed (p : TypedTree) (ls : List CelAnswer) (sizes : List Size) : Ty
   pub locals : HaveTypes ls types
   pub within : AllWithin ls sizes
 
--- after so many turns: the elements that are left, and what is gathered
-record Kept (element kept : ValueType) (over now : Size) (k : ℕ) (left : CelValues) (a : CelAnswer) : Type 0 where
-  pub elements : EachItem (λ v. HasType v element) left
+-- after so many turns: the turns that are left, and the accumulator
+record Kept (vars : Variables) (each : List ValueType) (kept : ValueType) (over now : Size) (k : ℕ)
+    (left : List (List CelAnswer)) (a : CelAnswer) : Type 0 where
+  pub elements : TurnsHaveTypes left each
   pub gathered : AnswerHasType a kept
-  pub fit : EachFits left (element_size over)
-  pub few : k + item_count left ≤ most_of over
+  pub fit : TurnsWithin left (variable_sizes vars over)
+  pub few : k + length left ≤ most_of over
   pub within : Within a now
 
 module _ (r : RequestValue) (sound : IsRequest r) (l : LimitsValue) (fits : InLimits r l) where
@@ -165,15 +166,15 @@ module _ (r : RequestValue) (sound : IsRequest r) (l : LimitsValue) (fits : InLi
       let same : found.0 ≡ a = cc in
       rw same at found.2
 
-  turns_kept : (t : ValueType) (range init condition step result : TypedTree) (ks : List ValueType)
-      (ls : List CelAnswer) (sizes : List Size)
-      (g : IsWellTyped ks (typed_loop t range init condition step result)) → HaveTypes ls ks
-      → AllWithin ls sizes → (k : ℕ) (left : CelValues) (a : CelAnswer)
-      → Gathers range init step r ls k left a
-      → Kept g.2.0 (kind init) (size_of range l sizes) (gathered_size range init step l sizes k) k left a
-  turns_kept t range init condition step result ks ls sizes g h w k left a (none v _ _ over is begins) =
-      let types = walked_typed (kind range) g.2.0 g.2.1 v (has_type range ks ls (value v) g.0 h over) in
-      let room = elements_within v (size_of range l sizes)
+  turns_kept : (t : ValueType) (vars : Variables) (range init condition step result : TypedTree)
+      (ks : List ValueType) (ls : List CelAnswer) (sizes : List Size)
+      (g : IsWellTyped ks (typed_loop t vars range init condition step result)) → HaveTypes ls ks
+      → AllWithin ls sizes → (k : ℕ) (left : List (List CelAnswer)) (a : CelAnswer)
+      → Gathers vars range init step r ls k left a
+      → Kept vars g.2.0 (kind init) (size_of range l sizes) (gathered_size vars range init step l sizes k) k left a
+  turns_kept t vars range init condition step result ks ls sizes g h w k left a (none v _ _ over is begins) =
+      let types = walked_typed vars (kind range) g.2.0 g.2.1 v (has_type range ks ls (value v) g.0 h over) in
+      let room = turns_within vars v (size_of range l sizes)
       (answer_within range ks g.0 r sound l fits ls sizes w (value v) over) in
       let each = rw is at types in
       let some = rw is at room in
@@ -184,15 +185,16 @@ module _ (r : RequestValue) (sound : IsRequest r) (l : LimitsValue) (fits : InLi
         few = omega (arith, some.0);
         within = answer_within init ks g.1 r sound l fits ls sizes w a begins;
       }
-  turns_kept t range init condition step result ks ls sizes g h w k left b (more j v _ a _ before is) =
-      let was = turns_kept t range init condition step result ks ls sizes g h w j (item v left) a before in
-      let element = element_size (size_of range l sizes) in
-      let next : Size → Size = λ s. size_of step l (element ∷ s ∷ sizes) in
-      let now = gathered_size range init step l sizes j in
-      let fresh : Within b (next now) = answer_within step (g.2.0 ∷ kind init ∷ ks) g.2.4 r sound l fits
-      (value v ∷ a ∷ ls) (element ∷ now ∷ sizes) (was.fit.0, (was.within, w)) b is in
-      let step_type = has_type step (g.2.0 ∷ kind init ∷ ks) (value v ∷ a ∷ ls) b g.2.4
-      (was.elements.0, (was.gathered, h)) is in
+  turns_kept t vars range init condition step result ks ls sizes g h w k left b (more j vs _ a _ before is) =
+      let was = turns_kept t vars range init condition step result ks ls sizes g h w j (vs ∷ left) a before in
+      let each = variable_sizes vars (size_of range l sizes) in
+      let next : Size → Size = λ s. size_of step l (each ++ s ∷ sizes) in
+      let now = gathered_size vars range init step l sizes j in
+      let fresh : Within b (next now) = answer_within step (g.2.0 ++ kind init ∷ ks) g.2.4 r sound l fits
+      (vs ++ a ∷ ls) (each ++ now ∷ sizes)
+      (all_within_more vs (a ∷ ls) each (now ∷ sizes) was.fit.0 (was.within, w)) b is in
+      let step_type = has_type step (g.2.0 ++ kind init ∷ ks) (vs ++ a ∷ ls) b g.2.4
+      (all_have_types vs (a ∷ ls) g.2.0 (kind init ∷ ks) was.elements.0 (was.gathered, h)) is in
       let few = was.few in
       record {
         elements = was.elements.1;
@@ -203,35 +205,39 @@ module _ (r : RequestValue) (sound : IsRequest r) (l : LimitsValue) (fits : InLi
       }
 
   -- in a turn
-  turn_placed : (t : ValueType) (range init condition step result p : TypedTree) (ls : List CelAnswer)
-      (sizes : List Size) (k : ℕ) (v : CelValue) (left : CelValues) (a : CelAnswer)
-      → Placed (typed_loop t range init condition step result) ls sizes
-      → Gathers range init step r ls k (item v left) a
+  turn_placed : (t : ValueType) (vars : Variables) (range init condition step result p : TypedTree)
+      (ls : List CelAnswer) (sizes : List Size) (k : ℕ) (vs : List CelAnswer)
+      (left : List (List CelAnswer)) (a : CelAnswer)
+      → Placed (typed_loop t vars range init condition step result) ls sizes
+      → Gathers vars range init step r ls k (vs ∷ left) a
       → IsAmong p (typed condition (typed step no_typed))
-      → Placed p (value v ∷ a ∷ ls)
-      (element_size (size_of range l sizes) ∷ gathered_size range init step l sizes k ∷ sizes)
-  turn_placed t range init condition step result p ls sizes k v left a at before among =
+      → Placed p (vs ++ a ∷ ls)
+      (variable_sizes vars (size_of range l sizes) ++ gathered_size vars range init step l sizes k ∷ sizes)
+  turn_placed t vars range init condition step result p ls sizes k vs left a at before among =
       let g = at.typed in
-      let now = turns_kept t range init condition step result at.types ls sizes g at.locals at.within k
-      (item v left) a before in
+      let now = turns_kept t vars range init condition step result at.types ls sizes g at.locals at.within k
+      (vs ∷ left) a before in
+      let each = variable_sizes vars (size_of range l sizes) in
       record {
-        types = g.2.0 ∷ kind init ∷ at.types;
-        typed = among_typed p (typed condition (typed step no_typed)) (g.2.0 ∷ kind init ∷ at.types)
+        types = g.2.0 ++ kind init ∷ at.types;
+        typed = among_typed p (typed condition (typed step no_typed)) (g.2.0 ++ kind init ∷ at.types)
             (g.2.2, (g.2.4, tt)) among;
-        locals = (now.elements.0, (now.gathered, at.locals));
-        within = (now.fit.0, (now.within, at.within));
+        locals = all_have_types vs (a ∷ ls) g.2.0 (kind init ∷ at.types) now.elements.0
+            (now.gathered, at.locals);
+        within = all_within_more vs (a ∷ ls) each (gathered_size vars range init step l sizes k ∷ sizes)
+            now.fit.0 (now.within, at.within);
       }
 
   -- at the end of a loop
-  end_placed : (t : ValueType) (range init condition step result : TypedTree) (ls : List CelAnswer)
-      (sizes : List Size) (k : ℕ) (left : CelValues) (a : CelAnswer)
-      → Placed (typed_loop t range init condition step result) ls sizes
-      → Gathers range init step r ls k left a
+  end_placed : (t : ValueType) (vars : Variables) (range init condition step result : TypedTree)
+      (ls : List CelAnswer) (sizes : List Size) (k : ℕ) (left : List (List CelAnswer)) (a : CelAnswer)
+      → Placed (typed_loop t vars range init condition step result) ls sizes
+      → Gathers vars range init step r ls k left a
       → Placed result (a ∷ ls)
-      (gathered_size range init step l sizes (most_of (size_of range l sizes)) ∷ sizes)
-  end_placed t range init condition step result ls sizes k left a at before =
+      (gathered_size vars range init step l sizes (most_of (size_of range l sizes)) ∷ sizes)
+  end_placed t vars range init condition step result ls sizes k left a at before =
       let g = at.typed in
-      let now = turns_kept t range init condition step result at.types ls sizes g at.locals at.within k
+      let now = turns_kept t vars range init condition step result at.types ls sizes g at.locals at.within k
       left a before in
       let few = now.few in
       record {
@@ -255,12 +261,12 @@ module _ (r : RequestValue) (sound : IsRequest r) (l : LimitsValue) (fits : InLi
         locals = at.locals;
         within = at.within;
       }
-  placed e g p _ _ (turn t range init condition step result _ ls sizes k v left a there before among) =
-      turn_placed t range init condition step result p ls sizes k v left a
-      (placed e g (typed_loop t range init condition step result) ls sizes there) before among
-  placed e g p _ _ (ended t range init condition step _ ls sizes k left a there before) =
-      end_placed t range init condition step p ls sizes k left a
-      (placed e g (typed_loop t range init condition step p) ls sizes there) before
+  placed e g p _ _ (turn t vars range init condition step result _ ls sizes k vs left a there before among) =
+      turn_placed t vars range init condition step result p ls sizes k vs left a
+      (placed e g (typed_loop t vars range init condition step result) ls sizes there) before among
+  placed e g p _ _ (ended t vars range init condition step _ ls sizes k left a there before) =
+      end_placed t vars range init condition step p ls sizes k left a
+      (placed e g (typed_loop t vars range init condition step p) ls sizes there) before
 
   -- what is reached comes to an answer within its size
   pub placed_within : (p : TypedTree) (ls : List CelAnswer) (sizes : List Size) → Placed p ls sizes
@@ -279,19 +285,19 @@ module _ (r : RequestValue) (sound : IsRequest r) (l : LimitsValue) (fits : InLi
   reached_paid e g p ls sizes (inside d _ _ _ there among) =
       let outer = reached_paid e g d ls sizes there in
       let part = part_paid l d p sizes among in omega arith
-  reached_paid e g p _ _ (turn t range init condition step result _ ls sizes k v left a there before among) =
-      let outer = reached_paid e g (typed_loop t range init condition step result) ls sizes there in
-      let at = placed e g (typed_loop t range init condition step result) ls sizes there in
-      let now = turns_kept t range init condition step result at.types ls sizes at.typed at.locals
-      at.within k (item v left) a before in
+  reached_paid e g p _ _ (turn t vars range init condition step result _ ls sizes k vs left a there before among) =
+      let outer = reached_paid e g (typed_loop t vars range init condition step result) ls sizes there in
+      let at = placed e g (typed_loop t vars range init condition step result) ls sizes there in
+      let now = turns_kept t vars range init condition step result at.types ls sizes at.typed at.locals
+      at.within k (vs ∷ left) a before in
       let few = now.few in
       let n = most_of (size_of range l sizes) in
-      let turn_sizes : Size → List Size = λ s. element_size (size_of range l sizes) ∷ s ∷ sizes in
+      let turn_sizes : Size → List Size = λ s. variable_sizes vars (size_of range l sizes) ++ s ∷ sizes in
       let next : Size → Size = λ s. size_of step l (turn_sizes s) in
       let cost : Size → ℕ = λ s. cost_of condition l (turn_sizes s) + cost_of step l (turn_sizes s) + 4 in
       let this = turn_paid next cost k n (size_of init l sizes) (omega arith) in
       let part = among_paid l p (typed condition (typed step no_typed))
       (turn_sizes (grown next k (size_of init l sizes))) among in
       omega arith
-  reached_paid e g p _ _ (ended t range init condition step _ ls sizes k left a there before) =
-      let outer = reached_paid e g (typed_loop t range init condition step p) ls sizes there in omega arith
+  reached_paid e g p _ _ (ended t vars range init condition step _ ls sizes k left a there before) =
+      let outer = reached_paid e g (typed_loop t vars range init condition step p) ls sizes there in omega arith

@@ -1,12 +1,14 @@
 -- When what is known of expressions holds.
-use Rattle.std.proofs.Common.{◌≡◌, ℕ, zero, suc, ◌+◌, ◌<◌, List, [], ◌∷◌, length, get_or, refl, sym, ap, ◌∙◌, inl, inr, arith}
+use Rattle.std.proofs.Common.{◌≡◌, ℕ, zero, suc, ◌+◌, ◌<◌, List, [], ◌∷◌, ◌++◌, length, get_or, refl, sym, ap, ◌∙◌, inl, inr, arith}
 use Rattle.std.proofs.lemmas.Bool.{cases_lt}
 use Rattle.std.proofs.lemmas.List.{get_or_read}
 use Rattle.attributes.specs.Limits.{LimitsValue}
 use Rattle.cel_types.specs.Elaborated.{TypedTree, typed_constant, typed_local, typed_attribute, typed_field, typed_has, typed_call, typed_list, typed_map, typed_loop, TypedTrees, no_typed, typed}
+use Rattle.cel_types.specs.Names.{variable_count}
 use Rattle.cel_types.specs.View.{TypedParts, expr_view, loop_of}
 use Rattle.cel_types.specs.steps.ExprViews.{exprs_view}
 use Rattle.cel_types.specs.declared.typed.TypedExpr.{TypedExpr}
+use Rattle.cel_types.specs.declared.typed.Variables.{Variables}
 use Rattle.cel_value.specs.Types.{ValueType}
 use Rattle.cost_bound.specs.Costs.{cost_of, size_of}
 use Rattle.cost_bound.specs.Sizes.{Size}
@@ -14,7 +16,8 @@ use Rattle.cost_bound.specs.steps.Memos.{MemoTree, nothing_known, known_as, more
 use Rattle.cost_bound.specs.steps.Memos.{Remembers}
 use Rattle.cost_bound.specs.steps.Numbers.{capped}
 use Rattle.cost_bound.specs.steps.ScopeView.{Counted, sizes_among}
-use Rattle.cost_bound.proofs.Alike.{alike_settled, same_cost, same_size, turns_of, turns_with}
+use Rattle.cost_bound.specs.declared.steady.Around.{Around}
+use Rattle.cost_bound.proofs.Alike.{alike_settled, same_cost, same_size, turns_alike, turns_with, turns_with_all}
 use Rattle.cost_bound.proofs.Locals.{as_many}
 
 -- where nothing is known of parts, that is true of them
@@ -29,11 +32,11 @@ mutual
   alone_inside m h (typed_call t o es) l ss = alone_each m h 0 es l ss
   alone_inside m h (typed_list t es) l ss = alone_each m h 0 es l ss
   alone_inside m h (typed_map t es) l ss = alone_each m h 0 es l ss
-  alone_inside m h (typed_loop t range init condition step result) l ss = (
+  alone_inside m h (typed_loop t vars range init condition step result) l ss = (
     rw (h 0) (tt, alone_inside nothing_known (λ i. refl) range l ss),
     rw (h 1) (tt, alone_inside nothing_known (λ i. refl) init l ss),
-    λ s e. rw (h 2) (tt, alone_inside nothing_known (λ i. refl) condition l (e ∷ s ∷ ss)),
-    λ s e. rw (h 3) (tt, alone_inside nothing_known (λ i. refl) step l (e ∷ s ∷ ss)),
+    λ s each many. rw (h 2) (tt, alone_inside nothing_known (λ i. refl) condition l (each ++ s ∷ ss)),
+    λ s each many. rw (h 3) (tt, alone_inside nothing_known (λ i. refl) step l (each ++ s ∷ ss)),
     λ s. rw (h 4) (tt, alone_inside nothing_known (λ i. refl) result l (s ∷ ss)),
   )
 
@@ -111,17 +114,18 @@ more_parts es n p y old new m l ss place there within before at one all i x less
 ]
 
 -- what names no local that a turn changes measures in each as here
-pub holds_in_turns : (k d : ℕ) (e : TypedTree) (l : LimitsValue) (a b : List Size) → NamesOnly (IsSettled k d) e
-    → d ≡ length a → InTurns k a b → (size_of e l a ≡ size_of e l b) × (cost_of e l a ≡ cost_of e l b)
-holds_in_turns k d e l a b only deep turns =
-    let same = alike_settled k d a b deep turns in
-    (same_size (IsSettled k d) l e a b only same, same_cost (IsSettled k d) l e a b only same)
+pub holds_in_turns : (k : ℕ) (vars : Variables) (d : ℕ) (e : TypedTree) (l : LimitsValue) (a b : List Size)
+    → NamesOnly (IsSettled k vars d) e → d ≡ length a → InTurns k vars a b
+    → (size_of e l a ≡ size_of e l b) × (cost_of e l a ≡ cost_of e l b)
+holds_in_turns k vars d e l a b only deep turns =
+    let same = alike_settled k vars d a b deep turns in
+    (same_size (IsSettled k vars d) l e a b only same, same_cost (IsSettled k vars d) l e a b only same)
 
-pub told_in_turns : (k d : ℕ) (e : TypedTree) (l : LimitsValue) (a b : List Size) (m : MemoTree)
-    → NamesOnly (IsSettled k d) e → d ≡ length a → InTurns k a b → IsTold m (size_of e l a) (cost_of e l a)
-    → Holds m e l b
-told_in_turns k d e l a b m only deep turns told =
-    let same = holds_in_turns k d e l a b only deep turns in
+pub told_in_turns : (k : ℕ) (vars : Variables) (d : ℕ) (e : TypedTree) (l : LimitsValue) (a b : List Size)
+    (m : MemoTree) → NamesOnly (IsSettled k vars d) e → d ≡ length a → InTurns k vars a b
+    → IsTold m (size_of e l a) (cost_of e l a) → Holds m e l b
+told_in_turns k vars d e l a b m only deep turns told =
+    let same = holds_in_turns k vars d e l a b only deep turns in
     elim told [
       | inl is ↦ holds_known m (size_of e l a) (cost_of e l a) e l b is same.0 same.1
       | inr more ↦ holds_more m more.0 e l b more.1 (rw (← same.1) more.2)
@@ -141,32 +145,40 @@ pub one_held : (m p : MemoTree) (ms : MemoTrees) (e : TypedTree) (l : LimitsValu
     → part_at i m ≡ memo_at i ms → memo_at i ms ≡ p → Holds p e l ss → Holds (part_at i m) e l ss
 one_held m p ms e l ss i part at h = rw (part, at) h
 
+-- the locals of a turn: the variables, the innermost first, before the accumulator and those around
+pub two_scopes : (value : Size) (inside each keyed around : List Size) (ss : List Size) {any : Size}
+    → inside ≡ value ∷ keyed → value ∷ keyed ≡ each ++ around → around ≡ any ∷ ss
+    → inside ≡ each ++ any ∷ ss
+two_scopes value inside each keyed around ss is key outer = is ∙ key ∙ ap (λ x. each ++ x) outer
+
 -- what is remembered inside of a loop holds in each of its turns
-pub remembered_turns : (m : MemoTree) (e : TypedTree) (l : LimitsValue) (n : ℕ) (inside : List Size)
-    (element any : Size) (cs : List Counted) → n ≡ capped (length cs)
-    → inside ≡ element ∷ any ∷ sizes_among cs → Remembers m e l n inside
-    → (s : Size) → Holds m e l (element ∷ s ∷ sizes_among cs)
-remembered_turns m e l n inside element any cs counted is h s =
-    h (length (sizes_among cs)) (element ∷ s ∷ sizes_among cs) (counted ∙ ap capped (sym (as_many cs)))
-    (rw is (turns_of element any s (sizes_among cs)))
+pub remembered_turns : (m : MemoTree) (e : TypedTree) (l : LimitsValue) (around : Around) (inside : List Size)
+    (each : List Size) (any : Size) (cs : List Counted) → around.count ≡ capped (length cs)
+    → length each ≡ variable_count around.variables → inside ≡ each ++ any ∷ sizes_among cs
+    → Remembers m e l around inside → (s : Size) → Holds m e l (each ++ s ∷ sizes_among cs)
+remembered_turns m e l around inside each any cs counted many is h s =
+    h (length (sizes_among cs)) (each ++ s ∷ sizes_among cs) (counted ∙ ap capped (sym (as_many cs)))
+    (rw is (turns_alike around.variables each any s (sizes_among cs) many))
 
 -- and in each turn of a loop inside of it
-pub remembered_inside : (m : MemoTree) (e : TypedTree) (l : LimitsValue) (n k : ℕ) (ss others inside : List Size)
-    (any t : Size) → inside ≡ any ∷ ss → Remembers m e l n inside → n ≡ capped k → InTurns k ss others
-    → Holds m e l (t ∷ others)
-remembered_inside m e l n k ss others inside any t is h counted turns =
-    h k (t ∷ others) counted (rw is (turns_with k any t ss others turns))
+pub remembered_inside : (m : MemoTree) (e : TypedTree) (l : LimitsValue) (around : Around) (k : ℕ)
+    (ss others inside : List Size) (any t : Size) → inside ≡ any ∷ ss → Remembers m e l around inside
+    → around.count ≡ capped k → InTurns k around.variables ss others → Holds m e l (t ∷ others)
+remembered_inside m e l around k ss others inside any t is h counted turns =
+    h k (t ∷ others) counted (rw is (turns_with k around.variables any t ss others turns))
 
-pub remembered_turned : (m : MemoTree) (e : TypedTree) (l : LimitsValue) (n k : ℕ) (ss others inside : List Size)
-    (any more t u : Size) → inside ≡ more ∷ any ∷ ss → Remembers m e l n inside → n ≡ capped k
-    → InTurns k ss others → Holds m e l (u ∷ t ∷ others)
-remembered_turned m e l n k ss others inside any more t u is h counted turns =
-    h k (u ∷ t ∷ others) counted
-    (rw is (turns_with k more u (any ∷ ss) (t ∷ others) (turns_with k any t ss others turns)))
+pub remembered_turned : (m : MemoTree) (e : TypedTree) (l : LimitsValue) (around : Around) (k : ℕ)
+    (ss others inside : List Size) (more each : List Size) (any t : Size) → inside ≡ more ++ any ∷ ss
+    → length more ≡ length each → Remembers m e l around inside → around.count ≡ capped k
+    → InTurns k around.variables ss others → Holds m e l (each ++ t ∷ others)
+remembered_turned m e l around k ss others inside more each any t is many h counted turns =
+    h k (each ++ t ∷ others) counted
+    (rw is (turns_with_all k around.variables more each (any ∷ ss) (t ∷ others) many
+    (turns_with k around.variables any t ss others turns)))
 
 -- what is remembered of a loop that a turn changes, by what is remembered of its parts
-pub loop_remembered : (p : TypedParts) (t : ValueType) (l : LimitsValue) (n k : ℕ)
-    (ss others outer inner : List Size) (any : Size) (m r i c s e : MemoTree)
+pub loop_remembered : (p : TypedParts) (t : ValueType) (l : LimitsValue) (around : Around) (k : ℕ)
+    (ss others outer inner more : List Size) (any : Size) (m r i c s e : MemoTree)
     (one two three four five : MemoTrees)
     → ((j : ℕ) → part_at j m ≡ memo_at j five) → ((size : Size) (cost : ℕ) → Says m size cost)
     → memo_at 0 one ≡ r
@@ -174,25 +186,28 @@ pub loop_remembered : (p : TypedParts) (t : ValueType) (l : LimitsValue) (n k : 
     → ((j : ℕ) → j < 2 → memo_at j three ≡ memo_at j two) → memo_at 2 three ≡ c
     → ((j : ℕ) → j < 3 → memo_at j four ≡ memo_at j three) → memo_at 3 four ≡ s
     → ((j : ℕ) → j < 4 → memo_at j five ≡ memo_at j four) → memo_at 4 five ≡ e
-    → outer ≡ any ∷ ss → inner ≡ any ∷ outer
-    → Remembers r p.range l n ss → Remembers i p.init l n ss → Remembers c p.condition l n inner
-    → Remembers s p.step l n inner → Remembers e p.result l n outer
-    → n ≡ capped k → InTurns k ss others → Holds m (loop_of t p) l others
-loop_remembered p t l n k ss others outer inner any m r i c s e one two three four five at silent a0 b1 a1 b2 a2 b3 a3
-    b4 a4 isOuter isInner hr hi hc hs he counted turns =
+    → outer ≡ any ∷ ss → inner ≡ more ++ outer → length more ≡ variable_count p.variables
+    → Remembers r p.range l around ss → Remembers i p.init l around ss
+    → Remembers c p.condition l around inner → Remembers s p.step l around inner
+    → Remembers e p.result l around outer
+    → around.count ≡ capped k → InTurns k around.variables ss others → Holds m (loop_of t p) l others
+loop_remembered p t l around k ss others outer inner more any m r i c s e one two three four five at silent a0 b1 a1
+    b2 a2 b3 a3 b4 a4 isOuter isInner many hr hi hc hs he counted turns =
     let at0 : part_at 0 m ≡ r = at 0 ∙ b4 0 (omega arith) ∙ b3 0 (omega arith) ∙ b2 0 (omega arith)
     ∙ b1 0 (omega arith) ∙ a0 in
     let at1 : part_at 1 m ≡ i = at 1 ∙ b4 1 (omega arith) ∙ b3 1 (omega arith) ∙ b2 1 (omega arith) ∙ a1 in
     let at2 : part_at 2 m ≡ c = at 2 ∙ b4 2 (omega arith) ∙ b3 2 (omega arith) ∙ a2 in
     let at3 : part_at 3 m ≡ s = at 3 ∙ b4 3 (omega arith) ∙ a3 in
     let at4 : part_at 4 m ≡ e = at 4 ∙ a4 in
-    let isInner' : inner ≡ any ∷ any ∷ ss = isInner ∙ ap (λ x. any ∷ x) isOuter in (
+    let isInner' : inner ≡ more ++ any ∷ ss = isInner ∙ ap (λ x. more ++ x) isOuter in (
       silent _ _,
       (
         rw at0 (hr k others counted turns),
         rw at1 (hi k others counted turns),
-        λ u v. rw at2 (remembered_turned c p.condition l n k ss others inner any any u v isInner' hc counted turns),
-        λ u v. rw at3 (remembered_turned s p.step l n k ss others inner any any u v isInner' hs counted turns),
-        λ u. rw at4 (remembered_inside e p.result l n k ss others outer any u isOuter he counted turns),
+        λ u each has. rw at2 (remembered_turned c p.condition l around k ss others inner more each any u isInner'
+            (many ∙ sym has) hc counted turns),
+        λ u each has. rw at3 (remembered_turned s p.step l around k ss others inner more each any u isInner'
+            (many ∙ sym has) hs counted turns),
+        λ u. rw at4 (remembered_inside e p.result l around k ss others outer any u isOuter he counted turns),
       ),
     )

@@ -6,12 +6,14 @@ use Rattle.attributes.specs.declared.attribute.AttrId.{AttrId}
 use Rattle.cel_value.specs.Types.{ValueType, bool_type, int_type, list_type, map_type, text_type}
 use Rattle.cel_value.specs.Values.{bool, int, text}
 use Rattle.cel_value.specs.declared.cel_type.KeyType.{KeyType}
-use Rattle.cel_ops.specs.declared.arithmetic.ArithmeticOp.TheVariants.{Add, Divide}
+use Rattle.cel_ops.specs.declared.arithmetic.ArithmeticOp.TheVariants.{Add, Divide, Subtract}
 use Rattle.cel_ops.specs.declared.comparison.CompareOp.TheVariants.{Equal, Greater}
 use Rattle.cel_overload.specs.declared.overload.Overload.{Overload}
 use Rattle.cel_ops.specs.declared.operation.Operation.TheVariants as operations
 use Rattle.cel_overload.specs.declared.overload.Overload.TheVariants as overloads
 use Rattle.cel_types.specs.Elaborated.{TypedTree, TypedTrees, no_typed, typed, typed_attribute, typed_call, typed_constant, typed_has, typed_list, typed_local, typed_loop, typed_map}
+use Rattle.cel_types.specs.declared.typed.Variables.{Variables}
+use Rattle.cel_types.specs.declared.typed.Variables.TheVariants as variables
 use Rattle.cost_bound.specs.Costs.{cost_of, size_of}
 use Rattle.cost_bound.specs.Sizes.{Flat, Many, Size, Table, Text}
 
@@ -61,25 +63,34 @@ headers = typed_attribute (map_type KeyType.Text text_type) AttrId.RequestHeader
 abbrev numbers : List TypedTree → TypedTree
 numbers es = typed_list (list_type int_type) (all_of es)
 
--- what is gathered, and the element, of a loop outside of which are no locals
+-- the accumulator and the first and second variable of a loop outside of which are no locals
 abbrev gathered : ValueType → TypedTree
 gathered t = typed_local t 0
 
 abbrev element : ValueType → TypedTree
 element t = typed_local t 1
 
+abbrev second : ValueType → TypedTree
+second t = typed_local t 2
+
 -- ---- macros, as they are expanded: CEL language definition, "Macros"
 
-abbrev all : TypedTree → TypedTree → TypedTree
-all range passes = typed_loop bool_type range (truth true)
+abbrev all_over : Variables → TypedTree → TypedTree → TypedTree
+all_over vars range passes = typed_loop bool_type vars range (truth true)
     (test (overloads.Operate operations.NotStrictlyFalse) (gathered bool_type ∷ []))
     (test (overloads.Operate operations.And) (gathered bool_type ∷ passes ∷ [])) (gathered bool_type)
 
-abbrev exists : TypedTree → TypedTree → TypedTree
-exists range passes = typed_loop bool_type range (truth false)
+abbrev exists_over : Variables → TypedTree → TypedTree → TypedTree
+exists_over vars range passes = typed_loop bool_type vars range (truth false)
     (test (overloads.Operate operations.NotStrictlyFalse)
     (test (overloads.Operate operations.Not) (gathered bool_type ∷ []) ∷ []))
     (test (overloads.Operate operations.Or) (gathered bool_type ∷ passes ∷ [])) (gathered bool_type)
+
+abbrev all : TypedTree → TypedTree → TypedTree
+all = all_over variables.One
+
+abbrev exists : TypedTree → TypedTree → TypedTree
+exists = exists_over variables.One
 
 -- ---- calls
 
@@ -183,7 +194,7 @@ all_of_none : costs (all (numbers []) (equals (element int_type) (number 0))) �
 all_of_none = refl
 
 -- `[0, 1].exists_one(x, x == 1)`: 5 + 3 + 1 + 1 + 2 * (1 + 10 + 4) + 1 + 5
-exists_one : costs (typed_loop bool_type two_numbers (number 0) (truth true)
+exists_one : costs (typed_loop bool_type variables.One two_numbers (number 0) (truth true)
     (choice (equals (element int_type) (number 1))
     (typed_call int_type (overloads.Operate (operations.Arithmetic Add)) (all_of (gathered int_type ∷ number 1 ∷ [])))
     (gathered int_type)) (equals (gathered int_type) (number 1))) ≡ 46
@@ -191,7 +202,7 @@ exists_one = refl
 
 -- `[0, 1].map(x, x)`: 5 + 3 + 1 + 1 + (1 + 6 + 4) + (1 + 7 + 4) + 1 + 1
 abbrev same_numbers : TypedTree
-same_numbers = typed_loop (list_type int_type) two_numbers (numbers []) (truth true)
+same_numbers = typed_loop (list_type int_type) variables.One two_numbers (numbers []) (truth true)
     (typed_call (list_type int_type) (overloads.Operate operations.Concat)
     (all_of (gathered (list_type int_type) ∷ numbers (element int_type ∷ []) ∷ [])))
     (gathered (list_type int_type))
@@ -203,21 +214,35 @@ map_macro_size : sizes same_numbers ≡ Many 2 Flat
 map_macro_size = refl
 
 -- `[0, 1].all(x, [0, 1].all(y, true))`: 32 within, and 5 + 3 + 1 + 1 + 2 * (2 + 35 + 4) + 1 + 1
-nested : costs (all two_numbers (typed_loop bool_type two_numbers (truth true)
+nested : costs (all two_numbers (typed_loop bool_type variables.One two_numbers (truth true)
     (test (overloads.Operate operations.NotStrictlyFalse) (typed_local bool_type 2 ∷ []))
     (test (overloads.Operate operations.And) (typed_local bool_type 2 ∷ truth true ∷ []))
     (typed_local bool_type 2))) ≡ 94
 nested = refl
 
+-- `[7, 8].all(i, x, x - i == 7)`: 5 + 3 + 1 + 1 + 2 * (2 + 10 + 4) + 1 + 1
+all_of_two_variables : costs (all_over variables.Two (numbers (number 7 ∷ number 8 ∷ []))
+    (equals (typed_call int_type (overloads.Operate (operations.Arithmetic Subtract))
+    (all_of (second int_type ∷ element int_type ∷ []))) (number 7))) ≡ 44
+all_of_two_variables = refl
+
+-- `{"a": 1, "b": 2}.exists(k, v, k == "b" && v == 2)`: 13 + 3 + 1 + 1 + 2 * (3 + 17 + 4) + 1 + 1
+exists_of_two_variables : costs (exists_over variables.Two (typed_map (map_type KeyType.Text int_type)
+    (all_of (string (codes "a") ∷ number 1 ∷ string (codes "b") ∷ number 2 ∷ [])))
+    (test (overloads.Operate operations.And) (equals (element text_type) (string (codes "b"))
+    ∷ equals (second int_type) (number 2) ∷ []))) ≡ 68
+unfolding lib.Utf8.encode
+exists_of_two_variables = refl
+
 -- over the headers, `"a"` joined with itself at each turn, compared with `"a"` at last
 abbrev doubling : TypedTree
-doubling = typed_loop bool_type headers (string (codes "a")) (truth true)
+doubling = typed_loop bool_type variables.One headers (string (codes "a")) (truth true)
     (joined (gathered text_type) (gathered text_type))
     (equals (gathered text_type) (string (codes "a")))
 
 -- the same over as many elements as written
 abbrev doubled : TypedTree → TypedTree
-doubled range = typed_loop text_type range (string (codes "a")) (truth true)
+doubled range = typed_loop text_type variables.One range (string (codes "a")) (truth true)
     (joined (gathered text_type) (gathered text_type)) (gathered text_type)
 
 -- it doubles at each turn

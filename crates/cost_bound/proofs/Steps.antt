@@ -12,7 +12,7 @@ use Rattle.std.proofs.lemmas.Result.{IfErr-weaker}
 use Rattle.proto_wire.proofs.Exits.{exit_memory_or, memory_or_weaker}
 use Rattle.proto_wire.specs.Refusal.{MemoryOr}
 use Rattle.proto_wire.specs.declared.refusal.Refusal.{Refusal}
-use Rattle.cost_bound.specs.Costs.{cost_of, costs_of, element_size, field_cost, grown, size_of, sizes_of, total, turns_cost}
+use Rattle.cost_bound.specs.Costs.{cost_of, costs_of, field_cost, grown, size_of, sizes_of, total, turns_cost, variable_sizes}
 use Rattle.cost_bound.specs.Sizes.{Size, most_of}
 use Rattle.cost_bound.specs.steps.Measuring.{CostsMore, next_size, turn_cost}
 use Rattle.cost_bound.proofs.Capped.{one_less, paid}
@@ -76,83 +76,87 @@ last_more a rest b left r more h =
     (λ e fault. memory_or_weaker (CostsMore a rest) (CostsMore b left) e (λ d f. (f.0, more f.1)) fault) h
 
 -- a comprehension: what is paid for its parts, one after the other
-pub loop_adds : (p : TypedParts) (t : ValueType) (l : LimitsValue) (ss : List Size) (R E I G : Size)
+pub loop_adds : (p : TypedParts) (t : ValueType) (l : LimitsValue) (ss E : List Size) (R I G : Size)
     (n left r o i s g c m : ℕ)
-    → R ≡ size_of p.range l ss → n ≡ most_of R → E ≡ element_size R → I ≡ size_of p.init l ss
+    → R ≡ size_of p.range l ss → n ≡ most_of R → E ≡ variable_sizes p.variables R → I ≡ size_of p.init l ss
     → G ≡ grown (next_size p l E ss) n I
     → left ≡ cost_of p.range l ss + r → r ≡ 1 + n + o → o ≡ cost_of p.init l ss + i → i ≡ 1 + 0 + s
     → s ≡ turns_cost (next_size p l E ss) (turn_cost p l E ss) n I + g → g ≡ 1 + 0 + c
     → c ≡ cost_of p.result l (G ∷ ss) + m
     → left ≡ cost_of (loop_of t p) l ss + m
-loop_adds p t l ss R E I G n left r o i s g c m range most element init gathered h1 h2 h3 h4 h5 h6 h7 =
+loop_adds p t l ss E R I G n left r o i s g c m range most each init gathered h1 h2 h3 h4 h5 h6 h7 =
     let most' : n ≡ most_of (size_of p.range l ss) = most ∙ ap most_of range in
-    let element' : E ≡ element_size (size_of p.range l ss) = element ∙ ap element_size range in
-    let all = rw (element', most', init) at gathered in
-    let turns = rw (element', most', init) at h5 in
+    let each' : E ≡ variable_sizes p.variables (size_of p.range l ss) =
+    each ∙ ap (variable_sizes p.variables) range in
+    let all = rw (each', most', init) at gathered in
+    let turns = rw (each', most', init) at h5 in
     let opened = rw most' at h2 in
     let result = rw all at h7 in
     let whole : cost_of (loop_of t p) l ss
     ≡ cost_of p.range l ss + (1 + most_of (size_of p.range l ss)) + cost_of p.init l ss + 1
-    + turns_cost (next_size p l (element_size (size_of p.range l ss)) ss)
-    (turn_cost p l (element_size (size_of p.range l ss)) ss) (most_of (size_of p.range l ss))
+    + turns_cost (next_size p l (variable_sizes p.variables (size_of p.range l ss)) ss)
+    (turn_cost p l (variable_sizes p.variables (size_of p.range l ss)) ss) (most_of (size_of p.range l ss))
     (size_of p.init l ss)
-    + 1 + cost_of p.result l (grown (next_size p l (element_size (size_of p.range l ss)) ss)
+    + 1 + cost_of p.result l (grown (next_size p l (variable_sizes p.variables (size_of p.range l ss)) ss)
     (most_of (size_of p.range l ss)) (size_of p.init l ss) ∷ ss) = refl in
     rw whole (omega arith)
 
 -- what is short of the cost of its turns is short of its own
-pub loop_short : (p : TypedParts) (t : ValueType) (l : LimitsValue) (ss : List Size) (R E I : Size)
+pub loop_short : (p : TypedParts) (t : ValueType) (l : LimitsValue) (ss E : List Size) (R I : Size)
     (n left r o i s : ℕ)
-    → R ≡ size_of p.range l ss → n ≡ most_of R → E ≡ element_size R → I ≡ size_of p.init l ss
+    → R ≡ size_of p.range l ss → n ≡ most_of R → E ≡ variable_sizes p.variables R → I ≡ size_of p.init l ss
     → left ≡ cost_of p.range l ss + r → r ≡ 1 + n + o → o ≡ cost_of p.init l ss + i → i ≡ 1 + 0 + s
     → s < turns_cost (next_size p l E ss) (turn_cost p l E ss) n I
     → left < cost_of (loop_of t p) l ss
-loop_short p t l ss R E I n left r o i s range most element init h1 h2 h3 h4 short =
+loop_short p t l ss E R I n left r o i s range most each init h1 h2 h3 h4 short =
     let most' : n ≡ most_of (size_of p.range l ss) = most ∙ ap most_of range in
-    let element' : E ≡ element_size (size_of p.range l ss) = element ∙ ap element_size range in
-    let turns = rw (element', most', init) at short in
+    let each' : E ≡ variable_sizes p.variables (size_of p.range l ss) =
+    each ∙ ap (variable_sizes p.variables) range in
+    let turns = rw (each', most', init) at short in
     let opened = rw most' at h2 in
     let whole : cost_of (loop_of t p) l ss
     ≡ cost_of p.range l ss + (1 + most_of (size_of p.range l ss)) + cost_of p.init l ss + 1
-    + turns_cost (next_size p l (element_size (size_of p.range l ss)) ss)
-    (turn_cost p l (element_size (size_of p.range l ss)) ss) (most_of (size_of p.range l ss))
+    + turns_cost (next_size p l (variable_sizes p.variables (size_of p.range l ss)) ss)
+    (turn_cost p l (variable_sizes p.variables (size_of p.range l ss)) ss) (most_of (size_of p.range l ss))
     (size_of p.init l ss)
-    + 1 + cost_of p.result l (grown (next_size p l (element_size (size_of p.range l ss)) ss)
+    + 1 + cost_of p.result l (grown (next_size p l (variable_sizes p.variables (size_of p.range l ss)) ss)
     (most_of (size_of p.range l ss)) (size_of p.init l ss) ∷ ss) = refl in
     rw whole (omega arith)
 
 -- and what is short of the cost of its end once its turns are paid
-pub loop_ends_short : (p : TypedParts) (t : ValueType) (l : LimitsValue) (ss : List Size) (R E I G : Size)
+pub loop_ends_short : (p : TypedParts) (t : ValueType) (l : LimitsValue) (ss E : List Size) (R I G : Size)
     (n left r o i s g : ℕ)
-    → R ≡ size_of p.range l ss → n ≡ most_of R → E ≡ element_size R → I ≡ size_of p.init l ss
+    → R ≡ size_of p.range l ss → n ≡ most_of R → E ≡ variable_sizes p.variables R → I ≡ size_of p.init l ss
     → G ≡ grown (next_size p l E ss) n I
     → left ≡ cost_of p.range l ss + r → r ≡ 1 + n + o → o ≡ cost_of p.init l ss + i → i ≡ 1 + 0 + s
     → s ≡ turns_cost (next_size p l E ss) (turn_cost p l E ss) n I + g
     → g < 1 + cost_of p.result l (G ∷ ss)
     → left < cost_of (loop_of t p) l ss
-loop_ends_short p t l ss R E I G n left r o i s g range most element init gathered h1 h2 h3 h4 h5 short =
+loop_ends_short p t l ss E R I G n left r o i s g range most each init gathered h1 h2 h3 h4 h5 short =
     let most' : n ≡ most_of (size_of p.range l ss) = most ∙ ap most_of range in
-    let element' : E ≡ element_size (size_of p.range l ss) = element ∙ ap element_size range in
-    let all = rw (element', most', init) at gathered in
-    let turns = rw (element', most', init) at h5 in
+    let each' : E ≡ variable_sizes p.variables (size_of p.range l ss) =
+    each ∙ ap (variable_sizes p.variables) range in
+    let all = rw (each', most', init) at gathered in
+    let turns = rw (each', most', init) at h5 in
     let opened = rw most' at h2 in
     let result = rw all at short in
     let whole : cost_of (loop_of t p) l ss
     ≡ cost_of p.range l ss + (1 + most_of (size_of p.range l ss)) + cost_of p.init l ss + 1
-    + turns_cost (next_size p l (element_size (size_of p.range l ss)) ss)
-    (turn_cost p l (element_size (size_of p.range l ss)) ss) (most_of (size_of p.range l ss))
+    + turns_cost (next_size p l (variable_sizes p.variables (size_of p.range l ss)) ss)
+    (turn_cost p l (variable_sizes p.variables (size_of p.range l ss)) ss) (most_of (size_of p.range l ss))
     (size_of p.init l ss)
-    + 1 + cost_of p.result l (grown (next_size p l (element_size (size_of p.range l ss)) ss)
+    + 1 + cost_of p.result l (grown (next_size p l (variable_sizes p.variables (size_of p.range l ss)) ss)
     (most_of (size_of p.range l ss)) (size_of p.init l ss) ∷ ss) = refl in
     rw whole (omega arith)
 
 -- and its size
-pub loop_size : (p : TypedParts) (t : ValueType) (l : LimitsValue) (ss : List Size) (R E I G : Size) (n : ℕ)
-    → R ≡ size_of p.range l ss → n ≡ most_of R → E ≡ element_size R → I ≡ size_of p.init l ss
+pub loop_size : (p : TypedParts) (t : ValueType) (l : LimitsValue) (ss E : List Size) (R I G : Size) (n : ℕ)
+    → R ≡ size_of p.range l ss → n ≡ most_of R → E ≡ variable_sizes p.variables R → I ≡ size_of p.init l ss
     → G ≡ grown (next_size p l E ss) n I
     → size_of p.result l (G ∷ ss) ≡ size_of (loop_of t p) l ss
-loop_size p t l ss R E I G n range most element init gathered =
+loop_size p t l ss E R I G n range most each init gathered =
     let most' : n ≡ most_of (size_of p.range l ss) = most ∙ ap most_of range in
-    let element' : E ≡ element_size (size_of p.range l ss) = element ∙ ap element_size range in
-    let all = rw (element', most', init) at gathered in
+    let each' : E ≡ variable_sizes p.variables (size_of p.range l ss) =
+    each ∙ ap (variable_sizes p.variables) range in
+    let all = rw (each', most', init) at gathered in
     ap (λ k. size_of p.result l (k ∷ ss)) all

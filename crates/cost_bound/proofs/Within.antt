@@ -1,5 +1,5 @@
 -- What an expression comes to is within its size.
-use Rattle.std.proofs.Common.{◌≡◌, ◌≤◌, ◌+◌, ◌==◌, ℕ, zero, suc, pos, negsuc, All, Bool, true, false, cond, nat_eq, List, [], ◌∷◌, ◌++◌, length, IfSome, Option, Some, None, option_map, codes, refl, ap, subst, arith, length-append}
+use Rattle.std.proofs.Common.{◌≡◌, ◌≤◌, ◌+◌, ◌==◌, ℕ, zero, suc, pos, negsuc, All, Bool, true, false, cond, nat_eq, List, [], ◌∷◌, ◌++◌, length, map, IfSome, Option, Some, None, option_map, codes, refl, ap, subst, arith, length-append}
 use Rattle.std.specs.FinMap.{entries, len-entries}
 use Rattle.std.specs.List.{after_first, before_first, position_or_len}
 use Rattle.std.specs.Option.{option_and_then}
@@ -26,10 +26,10 @@ use Rattle.cel_value.specs.Types.{ValueType, list_type, map_type}
 use Rattle.cel_value.specs.declared.cel_type.KeyType.{KeyType}
 use Rattle.cel_value.specs.Values.{CelAnswer, CelEntries, CelKey, CelValue, CelValues, bool, bool_key, bytes, entry, fails, int, int_key, item, list, map_of, no_entries, no_items, text, text_key, uint, uint_key, value, value_of_key}
 use Rattle.cel_value.specs.declared.error.CelError.{CelError}
-use Rattle.cel_value.specs.declared.error.CelError.TheVariants.{RepeatedKey}
-use Rattle.cel_ops.specs.Arithmetic.{arithmetic, arithmetic_of, opposite, opposite_of}
+use Rattle.cel_value.specs.declared.error.CelError.TheVariants.{Overflow, RepeatedKey}
+use Rattle.cel_ops.specs.Arithmetic.{arithmetic, arithmetic_of, int_answer, is_int64, opposite, opposite_of}
 use Rattle.cel_ops.specs.Attributes.{answer_of, attribute, header_entries}
-use Rattle.cel_ops.specs.Collections.{all_put, are_distinct, at_key, elements_of, entry_before, entry_of, field, field_of, found_or, has_field, has_field_of, in_list, in_list_of, in_map, in_map_of, size, item_of, list_literal, map_literal, map_made_of, value_at, written_entries}
+use Rattle.cel_ops.specs.Collections.{all_put, are_distinct, at_key, entry_before, entry_of, field, field_of, found_or, has_field, has_field_of, in_list, in_list_of, in_map, in_map_of, keyed, numbered, size, item_of, list_literal, map_literal, map_made_of, value_at, written_entries}
 use Rattle.cel_ops.specs.Collections as collections
 use Rattle.cel_ops.specs.Comparison.{comparison, comparison_of}
 use Rattle.cel_ops.specs.Logic.{conjunction, disjunction, logical_not, negation_of, not_strictly_false}
@@ -41,9 +41,11 @@ use Rattle.cel_ops.specs.declared.operation.Operation.TheVariants as operations
 use Rattle.cel_overload.specs.declared.overload.Overload.TheVariants as overloads
 use Rattle.cel_types.specs.WellTyped.{AreWellTyped, IsWellTyped}
 use Rattle.cel_types.specs.Elaborated.{TypedTree, TypedTrees, kind, no_typed, typed, typed_attribute, typed_call, typed_constant, typed_field, typed_has, typed_list, typed_local, typed_loop, typed_map}
-use Rattle.cel_types.specs.Meaning.{before, fold, over, turn}
+use Rattle.cel_types.specs.Meaning.{before, fold, one_each, over, turn, turns_of}
+use Rattle.cel_types.specs.declared.typed.Variables.{Variables}
+use Rattle.cel_types.specs.declared.typed.Variables.TheVariants as variables
 use Rattle.cel_types.specs.TypedMeaning.{local_at, typed_answer, typed_answers}
-use Rattle.cost_bound.specs.Costs.{attribute_size, call_size, concat_size, element_size, grown, join_all, keys_of, known, list_size, map_size, size_of, sizes_of, value_size, values_of}
+use Rattle.cost_bound.specs.Costs.{attribute_size, call_size, concat_size, grown, join_all, keys_of, known, list_size, map_size, size_of, sizes_of, value_size, values_of, variable_sizes}
 use Rattle.cost_bound.specs.Sizes.{AllWithin, EachFits, EntriesFit, Fits, Flat, HasRoom, KeyFits, Many, Size, Table, Text, Within, join, most_of}
 use Rattle.cost_bound.proofs.Joins.{constant_within, each_left, each_right, entries_right, fits_left, grown_within, key_left, within_left, within_right}
 use Rattle.cost_bound.proofs.Scalars.{IsScalar, calculated, compared, conjoined, disjoined, listed, mapped, named, negated, one_operand, opposed, sized, strict_scalar, tested, two_operands, two_scalar, unstrict}
@@ -592,16 +594,38 @@ map_literal_within t k v answers (s ∷ ss) e h = at (gather answers) (pairs_gat
 
 -- ---- comprehensions
 
--- elements, if there are any, are at most as many as the size says, each within an element's
-abbrev IfElements : Option CelValues → Size → Type 0
-IfElements None s = Unit {0}
-IfElements (Some vs) s = (item_count vs ≤ most_of s) × EachFits vs (element_size s)
+-- answers within their sizes before others within theirs
+pub all_within_more : (vs ls : List CelAnswer) (each sizes : List Size) → AllWithin vs each
+    → AllWithin ls sizes → AllWithin (vs ++ ls) (each ++ sizes)
+all_within_more [] ls [] sizes h more = more
+all_within_more [] ls (s ∷ each) sizes h more = absurd h
+all_within_more (v ∷ vs) ls [] sizes h more = absurd h
+all_within_more (v ∷ vs) ls (s ∷ each) sizes h more =
+    (h.0, all_within_more vs ls each sizes h.1 more)
+
+-- in each turn, what the variables get is within these sizes
+abbrev pub TurnsWithin : List (List CelAnswer) → List Size → Type 0
+TurnsWithin [] each = Unit {0}
+TurnsWithin (vs ∷ turns) each = AllWithin vs each × TurnsWithin turns each
+
+-- turns, if there are any, are at most as many as the size says, within the sizes of the variables
+abbrev pub IfTurns : Variables → Option (List (List CelAnswer)) → Size → Type 0
+IfTurns vars None s = Unit {0}
+IfTurns vars (Some turns) s = (length turns ≤ most_of s) × TurnsWithin turns (variable_sizes vars s)
 
 key_value_fits : (k : CelKey) (s : Size) → KeyFits k s → Fits (value_of_key k) s
 key_value_fits (bool_key b) s h = tt
 key_value_fits (int_key i) s h = tt
 key_value_fits (uint_key n) s h = tt
 key_value_fits (text_key cs) s h = h
+
+one_within_each : (vs : CelValues) (e : Size) → EachFits vs e → TurnsWithin (one_each vs) (e ∷ [])
+one_within_each no_items e h = tt
+one_within_each (item v vs) e h = ((h.0, tt), one_within_each vs e h.1)
+
+one_count : (vs : CelValues) → length (one_each vs) ≡ item_count vs
+one_count no_items = refl
+one_count (item v vs) = let more = one_count vs in omega (arith, more)
 
 keys_fit : (es : CelEntries) (k v : Size) → EntriesFit es k v → EachFits (items.keys_of es) k
 keys_fit no_entries k v h = tt
@@ -611,17 +635,64 @@ key_count : (es : CelEntries) → item_count (items.keys_of es) ≡ entry_count 
 key_count no_entries = refl
 key_count (entry j w es) = let more = key_count es in omega (arith, more)
 
--- the elements of a value within a size
-pub elements_within : (v : CelValue) (s : Size) → Fits v s → IfElements (elements_of v) s
-elements_within (list vs) Flat h = absurd h
-elements_within (list vs) (Text n) h = absurd h
-elements_within (list vs) (Many n e) h = h
-elements_within (list vs) (Table n k v) h = (h.0, h.1)
-elements_within (map_of es) Flat h = absurd h
-elements_within (map_of es) (Text n) h = absurd h
-elements_within (map_of es) (Many n e) h = absurd h
-elements_within (map_of es) (Table n k v) h = (omega (arith, h.0, key_count es), keys_fit es k v h.1)
-elements_within _ s h = tt
+-- an int or an error is within every size
+index_fits : (n : ℕ) (s : Size) → Within (int_answer (pos n)) s
+index_fits n s = at (is_int64 (pos n))
+  where
+    at : (b : Bool) → Within (cond b (value (int (pos n))) (fails Overflow)) s
+    at true = tt
+    at false = tt
+
+numbered_within : (n : ℕ) (vs : CelValues) (e k : Size) → EachFits vs e
+    → TurnsWithin (map (λ pair. value pair.1 ∷ pair.0 ∷ []) (numbered n vs)) (e ∷ k ∷ [])
+numbered_within n no_items e k h = tt
+numbered_within n (item v vs) e k h =
+    ((h.0, (index_fits n k, tt)), numbered_within (suc n) vs e k h.1)
+
+numbered_count : (n : ℕ) (vs : CelValues)
+    → length (map (λ pair. value pair.1 ∷ pair.0 ∷ []) (numbered n vs)) ≡ item_count vs
+numbered_count n no_items = refl
+numbered_count n (item v vs) = let more = numbered_count (suc n) vs in omega (arith, more)
+
+keyed_within : (es : CelEntries) (k v : Size) → EntriesFit es k v
+    → TurnsWithin (map (λ pair. value pair.1 ∷ pair.0 ∷ []) (keyed es)) (v ∷ k ∷ [])
+keyed_within no_entries k v h = tt
+keyed_within (entry j w es) k v h =
+    ((h.1, (key_value_fits j k h.0, tt)), keyed_within es k v h.2)
+
+keyed_count : (es : CelEntries)
+    → length (map (λ pair. value pair.1 ∷ pair.0 ∷ []) (keyed es)) ≡ entry_count es
+keyed_count no_entries = refl
+keyed_count (entry j w es) = let more = keyed_count es in omega (arith, more)
+
+-- the turns over a value within a size
+pub turns_within : (vars : Variables) (v : CelValue) (s : Size) → Fits v s → IfTurns vars (turns_of vars v) s
+turns_within variables.One (list vs) Flat h = absurd h
+turns_within variables.One (list vs) (Text n) h = absurd h
+turns_within variables.One (list vs) (Many n e) h =
+    (omega (arith, h.0, one_count vs), one_within_each vs e h.1)
+turns_within variables.One (list vs) (Table n k v) h =
+    (omega (arith, h.0, one_count vs), one_within_each vs k h.1)
+turns_within variables.One (map_of es) Flat h = absurd h
+turns_within variables.One (map_of es) (Text n) h = absurd h
+turns_within variables.One (map_of es) (Many n e) h = absurd h
+turns_within variables.One (map_of es) (Table n k v) h = (
+  omega (arith, h.0, key_count es, one_count (items.keys_of es)),
+  one_within_each (items.keys_of es) k (keys_fit es k v h.1),
+)
+turns_within variables.Two (list vs) Flat h = absurd h
+turns_within variables.Two (list vs) (Text n) h = absurd h
+turns_within variables.Two (list vs) (Many n e) h =
+    (omega (arith, h.0, numbered_count 0 vs), numbered_within 0 vs e Flat h.1)
+turns_within variables.Two (list vs) (Table n k v) h =
+    (omega (arith, h.0, numbered_count 0 vs), numbered_within 0 vs v k h.2)
+turns_within variables.Two (map_of es) Flat h = absurd h
+turns_within variables.Two (map_of es) (Text n) h = absurd h
+turns_within variables.Two (map_of es) (Many n e) h = absurd h
+turns_within variables.Two (map_of es) (Table n k v) h =
+    (omega (arith, h.0, keyed_count es), keyed_within es k v h.1)
+turns_within variables.One _ s h = tt
+turns_within variables.Two _ s h = tt
 
 turn_within : (condition step : Option CelAnswer) (next : CelAnswer → Option CelAnswer)
     (ended : Option CelAnswer) (s z : Size) → IfWithin step s
@@ -634,39 +705,40 @@ turn_within (Some (value (bool true))) (Some a) next ended s z h n e = n a h
 turn_within (Some (value (bool false))) step next ended s z h n e = e
 turn_within (Some (value _)) step next ended s z h n e = tt
 
--- a fold over elements within a size, by the sizes of its step and of its result
-pub fold_within : (condition step : CelValue → CelAnswer → Option CelAnswer)
-    (result : CelAnswer → Option CelAnswer) (next : Size → Size) (element : Size)
+-- a fold over turns within the sizes of the variables, by the sizes of its step and of its result
+pub fold_within : (condition step : List CelAnswer → CelAnswer → Option CelAnswer)
+    (result : CelAnswer → Option CelAnswer) (next : Size → Size) (each : List Size)
     (ended : Size → Size)
-    → ((v : CelValue) (a : CelAnswer) (s : Size) → Fits v element → Within a s
-    → IfWithin (step v a) (next s))
+    → ((vs : List CelAnswer) (a : CelAnswer) (s : Size) → AllWithin vs each → Within a s
+    → IfWithin (step vs a) (next s))
     → ((a : CelAnswer) (s : Size) → Within a s → IfWithin (result a) (ended s))
-    → (vs : CelValues) (n : ℕ) (a : CelAnswer) (s : Size) → item_count vs ≤ n
-    → EachFits vs element → Within a s
-    → IfWithin (fold condition step result vs a) (ended (grown next n s))
-fold_within condition step result next element ended each last no_items n a s few h ha =
+    → (turns : List (List CelAnswer)) (n : ℕ) (a : CelAnswer) (s : Size) → length turns ≤ n
+    → TurnsWithin turns each → Within a s
+    → IfWithin (fold condition step result turns a) (ended (grown next n s))
+fold_within condition step result next each ended have last [] n a s few h ha =
     last a (grown next n s) (grown_within next n s a ha)
-fold_within condition step result next element ended each last (item v vs) zero a s few h ha =
+fold_within condition step result next each ended have last (vs ∷ turns) zero a s few h ha =
     absurd (omega arith)
-fold_within condition step result next element ended each last (item v vs) (suc n) a s few h ha =
-    turn_within (condition v a) (step v a) (fold condition step result vs) (result a) (next s)
-    (ended (grown next (suc n) s)) (each v a s h.0 ha)
-    (λ b hb. fold_within condition step result next element ended each last vs n b
+fold_within condition step result next each ended have last (vs ∷ turns) (suc n) a s few h ha =
+    turn_within (condition vs a) (step vs a) (fold condition step result turns) (result a) (next s)
+    (ended (grown next (suc n) s)) (have vs a s h.0 ha)
+    (λ b hb. fold_within condition step result next each ended have last turns n b
     (join s (next s)) (omega arith) h.1 (within_right b s (next s) hb))
     (last a (grown next (suc n) s) (grown_within next (suc n) s a ha))
 
-over_within : (o : Option CelAnswer) (go : CelValues → Option CelAnswer) (s z : Size)
-    → IfWithin o s
-    → ((vs : CelValues) → item_count vs ≤ most_of s → EachFits vs (element_size s)
-    → IfWithin (go vs) z)
-    → IfWithin (over o go) z
-over_within None go s z h each = tt
-over_within (Some (fails e)) go s z h each = tt
-over_within (Some (value v)) go s z h each = at (elements_of v) (elements_within v s h)
+over_within : (vars : Variables) (o : Option CelAnswer) (go : List (List CelAnswer) → Option CelAnswer)
+    (s z : Size) → IfWithin o s
+    → ((turns : List (List CelAnswer)) → length turns ≤ most_of s
+    → TurnsWithin turns (variable_sizes vars s) → IfWithin (go turns) z)
+    → IfWithin (over vars o go) z
+over_within vars None go s z h each = tt
+over_within vars (Some (fails e)) go s z h each = tt
+over_within vars (Some (value v)) go s z h each = at (turns_of vars v) (turns_within vars v s h)
   where
-    at : (found : Option CelValues) → IfElements found s → IfWithin (option_and_then go found) z
+    at : (found : Option (List (List CelAnswer))) → IfTurns vars found s
+        → IfWithin (option_and_then go found) z
     at None have = tt
-    at (Some vs) have = each vs have.0 have.1
+    at (Some turns) have = each turns have.0 have.1
 
 -- ---- expressions
 
@@ -734,28 +806,29 @@ module _ (l : LimitsValue) (r : RequestValue) (sound : IsRequest r) (fits : InLi
         all_then_within map_literal (typed_answers pairs r ls) (sizes_of pairs l sizes)
         (map_size t (sizes_of pairs l sizes)) (all_within_here pairs ks g.0 ls sizes h)
         (λ answers have. map_literal_within t g.1.0 g.1.1 answers (sizes_of pairs l sizes) g.1.2 have)
-    within_here (typed_loop t range init condition step result) ks g ls sizes h =
+    within_here (typed_loop t vars range init condition step result) ks g ls sizes h =
         let over_size : Size = size_of range l sizes in
+        let each : List Size = variable_sizes vars over_size in
         let first : Size = size_of init l sizes in
-        let next : Size → Size = λ s. size_of step l (element_size over_size ∷ s ∷ sizes) in
+        let next : Size → Size = λ s. size_of step l (each ++ s ∷ sizes) in
         let ended : Size → Size = λ s. size_of result l (s ∷ sizes) in
-        let go : CelAnswer → CelValues → Option CelAnswer = λ a vs. fold
-        (λ v b. typed_answer condition r (value v ∷ b ∷ ls))
-        (λ v b. typed_answer step r (value v ∷ b ∷ ls))
-        (λ b. typed_answer result r (b ∷ ls)) vs a in
-        over_within (typed_answer range r ls)
-        (λ vs. option_and_then (λ a. go a vs) (typed_answer init r ls))
+        let go : CelAnswer → List (List CelAnswer) → Option CelAnswer = λ a turns. fold
+        (λ vs b. typed_answer condition r (vs ++ b ∷ ls))
+        (λ vs b. typed_answer step r (vs ++ b ∷ ls))
+        (λ b. typed_answer result r (b ∷ ls)) turns a in
+        over_within vars (typed_answer range r ls)
+        (λ turns. option_and_then (λ a. go a turns) (typed_answer init r ls))
         over_size (ended (grown next (most_of over_size) first))
         (within_here range ks g.0 ls sizes h)
-        (λ vs few each. then_within (λ a. go a vs) (typed_answer init r ls) first
+        (λ turns few have. then_within (λ a. go a turns) (typed_answer init r ls) first
         (ended (grown next (most_of over_size) first)) (within_here init ks g.1 ls sizes h)
-        (λ a ha. fold_within (λ v b. typed_answer condition r (value v ∷ b ∷ ls))
-        (λ v b. typed_answer step r (value v ∷ b ∷ ls))
-        (λ b. typed_answer result r (b ∷ ls)) next (element_size over_size) ended
-        (λ v b s hv hb. within_here step (g.2.0 ∷ kind init ∷ ks) g.2.4 (value v ∷ b ∷ ls) (element_size over_size ∷ s ∷ sizes)
-        (hv, (hb, h)))
+        (λ a ha. fold_within (λ vs b. typed_answer condition r (vs ++ b ∷ ls))
+        (λ vs b. typed_answer step r (vs ++ b ∷ ls))
+        (λ b. typed_answer result r (b ∷ ls)) next each ended
+        (λ vs b s hv hb. within_here step (g.2.0 ++ kind init ∷ ks) g.2.4 (vs ++ b ∷ ls)
+        (each ++ s ∷ sizes) (all_within_more vs (b ∷ ls) each (s ∷ sizes) hv (hb, h)))
         (λ b s hb. within_here result (kind init ∷ ks) g.3 (b ∷ ls) (s ∷ sizes) (hb, h))
-        vs (most_of over_size) a first few each ha))
+        turns (most_of over_size) a first few have ha))
 
     all_within_here : (es : TypedTrees) (ks : List ValueType) → AreWellTyped ks es → (ls : List CelAnswer) (sizes : List Size)
         → AllWithin ls sizes → IfAllWithin (typed_answers es r ls) (sizes_of es l sizes)

@@ -4,7 +4,7 @@
 -- limit. There is one equation for each kind of node. A loop's body counts once for each element that its
 -- range has room for, each time at the size that the accumulator may have reached. Both are meant for
 -- well typed expressions only.
-use Rattle.std.specs.Prelude.{ℕ, zero, suc, ◌+◌, ◌*◌, max, List, [], ◌∷◌, length, Option, Some, None}
+use Rattle.std.specs.Prelude.{ℕ, zero, suc, ◌+◌, ◌*◌, max, List, [], ◌∷◌, ◌++◌, length, Option, Some, None}
 use Rattle.attributes.specs.Limits.{LimitsValue}
 use Rattle.attributes.specs.declared.attribute.AttrId.{AttrId}
 use Rattle.cel_value.specs.Masses.{length_of}
@@ -16,6 +16,8 @@ use Rattle.cel_ops.specs.declared.operation.Operation.TheVariants as operations
 use Rattle.cel_overload.specs.declared.overload.Overload.TheVariants as overloads
 use Rattle.cel_types.specs.Elaborated.{TypedTree, typed_constant, typed_local, typed_attribute, typed_field, typed_has, typed_call, typed_list, typed_map, typed_loop, TypedTrees, no_typed, typed, kinds}
 use Rattle.cel_types.specs.TypedMeaning.{local_at}
+use Rattle.cel_types.specs.declared.typed.Variables.{Variables}
+use Rattle.cel_types.specs.declared.typed.Variables.TheVariants as variables
 use Rattle.cost_bound.specs.Sizes.{Size, Flat, Text, Many, Table, join, least, mass_of, most_of}
 
 -- ---- sizes
@@ -48,17 +50,27 @@ abbrev pub known : Option Size → Size
 known None = Flat
 known (Some s) = s
 
--- the size of a loop's elements: of the range's items or keys
+-- the size of the one variable of a loop: of the range's items or keys
 abbrev pub element_size : Size → Size
 element_size (Many n e) = e
 element_size (Table n k v) = k
 element_size _ = Flat
+
+-- the size of the first of two variables: of an index or of a key
+abbrev pub key_size : Size → Size
+key_size (Table n k v) = k
+key_size _ = Flat
 
 -- the size of the answer of an index or a Select: of an item, or of a map's value
 abbrev pub value_size : Size → Size
 value_size (Many n e) = e
 value_size (Table n k v) = v
 value_size _ = Flat
+
+-- the sizes of a loop's variables, the innermost first, by the size of the range
+abbrev pub variable_sizes : Variables → Size → List Size
+variable_sizes variables.One s = element_size s ∷ []
+variable_sizes variables.Two s = value_size s ∷ key_size s ∷ []
 
 -- a size with another number of bytes, items or entries
 abbrev pub resized : ℕ → Size → Size
@@ -124,8 +136,8 @@ abbrev mutual
   size_of (typed_call t o operands) l sizes = call_size o (sizes_of operands l sizes)
   size_of (typed_list t elements) l sizes = list_size t (sizes_of elements l sizes)
   size_of (typed_map t pairs) l sizes = map_size t (sizes_of pairs l sizes)
-  size_of (typed_loop t range init condition step result) l sizes = size_of result l
-      (grown (λ s. size_of step l (element_size (size_of range l sizes) ∷ s ∷ sizes))
+  size_of (typed_loop t vars range init condition step result) l sizes = size_of result l
+      (grown (λ s. size_of step l (variable_sizes vars (size_of range l sizes) ++ s ∷ sizes))
       (most_of (size_of range l sizes)) (size_of init l sizes) ∷ sizes)
 
   -- the sizes of expressions
@@ -198,9 +210,9 @@ abbrev mutual
       total (costs_of elements l sizes) + (1 + length (costs_of elements l sizes))
   cost_of (typed_map t pairs) l sizes =
       total (costs_of pairs l sizes) + map_cost (sizes_of pairs l sizes)
-  cost_of (typed_loop t range init condition step result) l sizes =
+  cost_of (typed_loop t vars range init condition step result) l sizes =
       let n = most_of (size_of range l sizes) in
-      let turn_sizes : Size → List Size = λ s. element_size (size_of range l sizes) ∷ s ∷ sizes in
+      let turn_sizes : Size → List Size = λ s. variable_sizes vars (size_of range l sizes) ++ s ∷ sizes in
       let next : Size → Size = λ s. size_of step l (turn_sizes s) in
       cost_of range l sizes + (1 + n) + cost_of init l sizes + 1
       + turns_cost next (λ s. cost_of condition l (turn_sizes s) + cost_of step l (turn_sizes s) + 4)

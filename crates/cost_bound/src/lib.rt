@@ -13,6 +13,7 @@ mod remembered;
 mod scope;
 mod size;
 mod steady;
+mod variables;
 
 pub use bounding::bound;
 

@@ -1,6 +1,6 @@
 //! Measures expressions: the size of the answer, and the cost.
 
-ghost use Rattle.std.specs.Prelude.{◌≡◌, ◌+◌, ◌*◌, ◌↔◌, ◌∷◌, ℕ, IfErr, IfOk, IsTrue, length};
+ghost use Rattle.std.specs.Prelude.{◌≡◌, ◌+◌, ◌*◌, ◌↔◌, ◌∷◌, ◌++◌, ℕ, IfErr, IfOk, IsTrue, length};
 ghost use Rattle.proto_wire.specs.Refusal.{MemoryOr};
 ghost use Rattle.proto_wire.specs.declared.refusal.Refusal.TheVariants.{Memory};
 ghost use Rattle.cel_overload.specs.declared.overload.Overload.TheVariants.{Conditional};
@@ -14,7 +14,7 @@ ghost use Rattle.cost_bound.specs.Sizes.{Size, join};
 ghost use Rattle.cost_bound.specs.steps.Measuring.{CostsMore, call_part, next_size, turn_cost};
 ghost use Rattle.cost_bound.specs.steps.Memos.{Holds, HoldsEach, Remembers, RemembersEach, Says, known_view, memo_view};
 ghost use Rattle.cost_bound.specs.steps.ScopeView.{IsCounted, locals_view, scope_view};
-ghost use Rattle.cost_bound.specs.steps.SizeView.{size_view, sizes_view};
+ghost use Rattle.cost_bound.specs.steps.SizeView.{size_view, sizes_view, variables_view};
 
 use crate::charges::{call_part, field_part, pay, pay_turns};
 use crate::known::{attribute_size, constant_size};
@@ -25,7 +25,8 @@ use crate::memo::{Memo, part, with_part};
 use crate::remembered::{Remembered, budget_at, budget_for, keep_measured};
 use crate::scope::Scope;
 use crate::size::{ValueSize, join, same};
-use crate::steady::{has_items, is_steady};
+use crate::steady::{Around, has_items, is_steady};
+use crate::variables::VariableSizes;
 use attributes::Limits;
 use cel_overload::Overload;
 use cel_types::{TypedExpr, TypedLoop};
@@ -439,15 +440,19 @@ fn measure_loop(
 {
     let range = measure(alloc, &parts.range, limits, scope, part(memo, 0), left)?;
     let opened = pay(range.left, range.size.most())?;
-    let element = range.size.element()?;
+    let each = VariableSizes::of_range(parts.variables, &range.size)?;
     let turns = range.size.most();
     drop(range);
     let init = measure(alloc, &parts.init, limits, scope, part(memo, 1), opened)?;
     let stored = pay(init.left, 0)?;
     let any = ValueSize::Flat;
     let around = (&*scope).with(&any);
-    let inside = around.with(&element);
-    let count = scope.count();
+    let keyed = each.with_key(&around);
+    let inside = keyed.with(&each.value);
+    let turning = Around {
+        count: scope.count(),
+        variables: parts.variables,
+    };
     let worth = budget_for(turns > 0, stored);
     let condition = remember(
         alloc,
@@ -455,7 +460,7 @@ fn measure_loop(
         limits,
         &inside,
         part(memo, 2),
-        count,
+        turning,
         worth,
     )?;
     let step = remember(
@@ -464,7 +469,7 @@ fn measure_loop(
         limits,
         &inside,
         part(memo, 3),
-        count,
+        turning,
         condition.left,
     )?;
     let gathered = measure_turns(
@@ -474,7 +479,7 @@ fn measure_loop(
         scope,
         &condition.memo,
         &step.memo,
-        &element,
+        &each,
         turns,
         init.size,
         stored,
@@ -494,23 +499,23 @@ fn measure_turns(
     scope: &Scope<'_>,
     condition: &Memo,
     step: &Memo,
-    element: &ValueSize,
+    each: &VariableSizes,
     turns: u64,
     init: ValueSize,
     left: u64,
 ) -> Result<Measured, Refusal>
     requires counted { IsCounted (locals_view scope.now) }
     requires condition_holds { let p = parts_view parts.now in (s : Size) → Holds (memo_view condition.now)
-        p.condition limits.now (size_view element.now ∷ s ∷ scope_view scope.now) }
+        p.condition limits.now (variables_view each.now ++ s ∷ scope_view scope.now) }
     requires step_holds { let p = parts_view parts.now in (s : Size) → Holds (memo_view step.now)
-        p.step limits.now (size_view element.now ∷ s ∷ scope_view scope.now) }
+        p.step limits.now (variables_view each.now ++ s ∷ scope_view scope.now) }
     ensures found { IfOk result (λ m. let p = parts_view parts.now in
-        let sizes = scope_view scope.now in let e = size_view element.now in
+        let sizes = scope_view scope.now in let e = variables_view each.now in
         (size_view m.size ≡ grown (next_size p limits.now e sizes) turns (size_view init))
         × (left ≡ turns_cost (next_size p limits.now e sizes) (turn_cost p limits.now e sizes) turns
         (size_view init) + m.left)) }
     ensures fault { let p = parts_view parts.now in
-        let sizes = scope_view scope.now in let e = size_view element.now in
+        let sizes = scope_view scope.now in let e = variables_view each.now in
         IfErr result (MemoryOr (CostsMore (turns_cost (next_size p limits.now e sizes)
         (turn_cost p limits.now e sizes) turns (size_view init)) left)) }
 {
@@ -519,7 +524,7 @@ fn measure_turns(
     let mut others = turns;
     while others > 0 {
         let turn = measure_turn(
-            alloc, parts, limits, scope, condition, step, element, &gathered, rest,
+            alloc, parts, limits, scope, condition, step, each, &gathered, rest,
         )?;
         others -= 1;
         if same(&turn.size, &gathered) {
@@ -547,27 +552,28 @@ fn measure_turn(
     scope: &Scope<'_>,
     condition: &Memo,
     step: &Memo,
-    element: &ValueSize,
+    each: &VariableSizes,
     gathered: &ValueSize,
     left: u64,
 ) -> Result<Measured, Refusal>
     requires counted { IsCounted (locals_view scope.now) }
     requires condition_holds { let p = parts_view parts.now in (s : Size) → Holds (memo_view condition.now)
-        p.condition limits.now (size_view element.now ∷ s ∷ scope_view scope.now) }
+        p.condition limits.now (variables_view each.now ++ s ∷ scope_view scope.now) }
     requires step_holds { let p = parts_view parts.now in (s : Size) → Holds (memo_view step.now)
-        p.step limits.now (size_view element.now ∷ s ∷ scope_view scope.now) }
+        p.step limits.now (variables_view each.now ++ s ∷ scope_view scope.now) }
     ensures found { IfOk result (λ m. let p = parts_view parts.now in
-        let sizes = scope_view scope.now in let e = size_view element.now in
+        let sizes = scope_view scope.now in let e = variables_view each.now in
         let s = size_view gathered.now in
         (size_view m.size ≡ join s (next_size p limits.now e sizes s))
         × (left ≡ turn_cost p limits.now e sizes s + m.left)) }
     ensures fault { let p = parts_view parts.now in
-        let sizes = scope_view scope.now in let e = size_view element.now in
+        let sizes = scope_view scope.now in let e = variables_view each.now in
         let s = size_view gathered.now in
         IfErr result (MemoryOr (CostsMore (turn_cost p limits.now e sizes s) left)) }
 {
     let outer = (&*scope).with(&*gathered);
-    let inner = outer.with(&*element);
+    let keyed = (&*each).with_key(&outer);
+    let inner = keyed.with(&each.value);
     let tested = measure(
         alloc,
         &parts.condition,
@@ -584,12 +590,11 @@ fn measure_turn(
     })
 }
 
-// The memo of an expression inside a loop with `around` locals outside. It has the size and the cost of
-// each inner loop that names no local which a turn changes. Such changed locals may have any sizes in
-// the scope. The first turn would measure the same inner loops, in the same order and with no greater
-// budget, so this takes no more time. An inner loop above the budget is not refused here, since a turn
-// may run out of memory before it. But its memo refuses it as soon as a turn reaches it. Nothing more is
-// remembered after that.
+// The memo of an expression inside the loop `around`. It has the size and the cost of each inner loop that
+// names no local which a turn changes. Such changed locals may have any sizes in the scope. The first turn
+// would measure the same inner loops, in the same order and with no greater budget, so this takes no more
+// time. An inner loop above the budget is not refused here, since a turn may run out of memory before it. But
+// its memo refuses it as soon as a turn reaches it. Nothing more is remembered after that.
 #[cycle(measure)]
 fn remember(
     alloc: Global,
@@ -597,7 +602,7 @@ fn remember(
     limits: &Limits,
     scope: &Scope<'_>,
     memo: Option<&Memo>,
-    around: u64,
+    around: Around,
     left: u64,
 ) -> Result<Remembered, Refusal>
     requires counted { IsCounted (locals_view scope.now) }
@@ -672,7 +677,7 @@ fn remember_each(
     limits: &Limits,
     scope: &Scope<'_>,
     memo: Option<&Memo>,
-    around: u64,
+    around: Around,
     choice: bool,
     left: u64,
 ) -> Result<Remembered, Refusal>
@@ -709,7 +714,7 @@ fn remember_loop(
     limits: &Limits,
     scope: &Scope<'_>,
     memo: Option<&Memo>,
-    around: u64,
+    around: Around,
     left: u64,
 ) -> Result<Remembered, Refusal>
     requires counted { IsCounted (locals_view scope.now) }
@@ -741,7 +746,9 @@ fn remember_loop(
     let two = with_part(one, 1, init.memo)?;
     let any = ValueSize::Flat;
     let outer = (&*scope).with(&any);
-    let inner = outer.with(&any);
+    let others = VariableSizes::any(parts.variables);
+    let keyed = others.with_key(&outer);
+    let inner = keyed.with(&others.value);
     let turned = has_items(&parts.range);
     let condition = remember(
         alloc,

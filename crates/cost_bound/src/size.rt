@@ -1,7 +1,7 @@
 //! Sizes: upper bounds of an expression's answer.
 
 ghost use Rattle.std.specs.Prelude.{◌≡◌, ◌+◌, ◌*◌, ◌↔◌, ℕ, IfOk, IsTrue};
-ghost use Rattle.cost_bound.specs.Costs.{element_size, resized, value_size};
+ghost use Rattle.cost_bound.specs.Costs.{element_size, key_size, resized, value_size};
 ghost use Rattle.cost_bound.specs.Sizes.{Flat, Many, Size, Table, Text, join, mass_of, most_of};
 ghost use Rattle.cost_bound.specs.steps.Numbers.{capped};
 ghost use Rattle.cost_bound.specs.steps.SizeView.{size_view};
@@ -65,7 +65,7 @@ impl ValueSize {
         }
     }
 
-    /// The size of a loop's elements: of the range's items or keys.
+    /// The size of the one variable of a loop: of the range's items or keys.
     pub(crate) fn element(&self) -> Result<ValueSize, AllocError>
         ensures { IfOk result (λ size. size_view size ≡ element_size (size_view self.now)) }
     {
@@ -73,6 +73,18 @@ impl ValueSize {
             ValueSize::Many(_, items) => items.copy(),
             ValueSize::Table(_, keys, _) => keys.copy(),
             _ => Ok(ValueSize::Flat),
+        }
+    }
+
+    /// The size of the first of two variables of a loop: of an index or of a key.
+    pub(crate) fn key(&self) -> Result<ValueSize, AllocError>
+        ensures { IfOk result (λ size. size_view size ≡ key_size (size_view self.now)) }
+    {
+        match self {
+            ValueSize::Flat => Ok(ValueSize::Flat),
+            ValueSize::Text(_) => Ok(ValueSize::Flat),
+            ValueSize::Many(_, _) => Ok(ValueSize::Flat),
+            ValueSize::Table(_, keys, _) => keys.copy(),
         }
     }
 

@@ -1,21 +1,28 @@
 //! Which expressions measure the same in each turn of a loop around them.
 
-ghost use Rattle.std.specs.Prelude.{◌≡◌, ℕ, IsTrue};
+ghost use Rattle.std.specs.Prelude.{◌≡◌, ◌<◌, ◌≤◌, ℕ, IsTrue};
+ghost use Rattle.cel_types.specs.Names.{variable_count};
 ghost use Rattle.cel_types.specs.View.{expr_view, loop_of};
 ghost use Rattle.cel_types.specs.steps.ExprViews.{exprs_view, parts_view};
 ghost use Rattle.cel_value.specs.Types.{ValueType};
 ghost use Rattle.cost_bound.specs.steps.Memos.{EachNamesOnly, IsSettled, NamesOnly};
 ghost use Rattle.cost_bound.specs.steps.Numbers.{capped};
 
-use cel_types::{TypedExpr, TypedLoop};
+use cel_types::{TypedExpr, TypedLoop, Variables};
 
-/// Whether an expression names no local that a turn of a loop around it changes. The expression is in a
-/// scope of `depth` locals, and the loop has `around` locals outside. A turn changes the loop's
-/// accumulator, and the locals of other loops between.
+/// A loop around expressions: the number of locals outside of it, and its variables.
+#[derive(Clone, Copy)]
+pub(crate) struct Around {
+    pub(crate) count: u64,
+    pub(crate) variables: Variables,
+}
+
+/// Whether an expression names no local that a turn of the loop around it changes. The expression is in a
+/// scope of `depth` locals. A turn changes the loop's accumulator, and the locals of other loops between.
 #[cycle(steady)]
-pub(crate) fn is_steady(expr: &TypedExpr<'_>, around: u64, depth: u64) -> bool
-    ensures { (k d : ℕ) → around ≡ capped k → depth ≡ capped d → IsTrue result
-        → NamesOnly (IsSettled k d) (expr_view expr.now) }
+pub(crate) fn is_steady(expr: &TypedExpr<'_>, around: Around, depth: u64) -> bool
+    ensures { (k d : ℕ) → around.count ≡ capped k → depth ≡ capped d → IsTrue result
+        → NamesOnly (IsSettled k around.variables d) (expr_view expr.now) }
 {
     match expr {
         TypedExpr::Constant { .. } => true,
@@ -32,9 +39,9 @@ pub(crate) fn is_steady(expr: &TypedExpr<'_>, around: u64, depth: u64) -> bool
 
 // The same for a loop's parts.
 #[cycle(steady)]
-fn is_steady_loop(parts: &TypedLoop<'_>, around: u64, depth: u64) -> bool
-    ensures { (t : ValueType) (k d : ℕ) → around ≡ capped k → depth ≡ capped d → IsTrue result
-        → NamesOnly (IsSettled k d) (loop_of t (parts_view parts.now)) }
+fn is_steady_loop(parts: &TypedLoop<'_>, around: Around, depth: u64) -> bool
+    ensures { (t : ValueType) (k d : ℕ) → around.count ≡ capped k → depth ≡ capped d → IsTrue result
+        → NamesOnly (IsSettled k around.variables d) (loop_of t (parts_view parts.now)) }
 {
     is_steady(&parts.range, around, depth)
         && is_steady(&parts.init, around, depth)
@@ -45,9 +52,9 @@ fn is_steady_loop(parts: &TypedLoop<'_>, around: u64, depth: u64) -> bool
 
 // The same for expressions, in order.
 #[cycle(steady)]
-fn are_steady(exprs: &[TypedExpr<'_>], around: u64, depth: u64) -> bool
-    ensures { (k d : ℕ) → around ≡ capped k → depth ≡ capped d → IsTrue result
-        → EachNamesOnly (IsSettled k d) (exprs_view exprs.now) }
+fn are_steady(exprs: &[TypedExpr<'_>], around: Around, depth: u64) -> bool
+    ensures { (k d : ℕ) → around.count ≡ capped k → depth ≡ capped d → IsTrue result
+        → EachNamesOnly (IsSettled k around.variables d) (exprs_view exprs.now) }
 {
     for expr in exprs {
         if !is_steady(expr, around, depth) {
@@ -57,17 +64,27 @@ fn are_steady(exprs: &[TypedExpr<'_>], around: u64, depth: u64) -> bool
     true
 }
 
-// Whether no turn changes a local: it is outside of the loop, it is the loop's element, or it is the
-// expression's own.
-fn is_settled(outside: u8, around: u64, depth: u64) -> bool
-    ensures { (k d : ℕ) → around ≡ capped k → depth ≡ capped d → IsTrue result
-        → IsSettled k d outside }
+// Whether no turn changes a local's size: it is outside of the loop, it is one of the loop's variables, or it
+// is the expression's own.
+fn is_settled(outside: u8, around: Around, depth: u64) -> bool
+    ensures { (k d : ℕ) → around.count ≡ capped k → depth ≡ capped d → IsTrue result
+        → IsSettled k around.variables d outside }
 {
     let local = outside as u64;
-    if local < around {
+    if local < around.count {
         return true;
     }
-    local - around == 1 || depth <= local
+    is_variable(local - around.count, around.variables) || depth <= local
+}
+
+// Whether the local after so many of a loop, the accumulator first, is one of its variables.
+fn is_variable(after: u64, variables: Variables) -> bool
+    ensures { IsTrue result → (0 < after) × (after ≤ variable_count variables) }
+{
+    match variables {
+        Variables::One => after == 1,
+        Variables::Two => after == 1 || after == 2,
+    }
 }
 
 /// Whether a range has an item for all sizes of the locals.

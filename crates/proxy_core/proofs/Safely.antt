@@ -12,7 +12,7 @@ use Rattle.cel_tree.proofs.GoodConstantLaws.{checked_good}
 use Rattle.xds_wire.specs.Discovery.{ExtensionMessage}
 use Rattle.cel_types.specs.Typing.{maps_of}
 use Rattle.cel_types.proofs.WellTypedElaborations.{elaborated_typed}
-use Rattle.cel_compile.proofs.Forwards.{code_never_stuck}
+use Rattle.cel_compile.proofs.Unstuck.{code_never_stuck}
 use Rattle.cel_compile.proofs.Meaning.{code_means}
 use Rattle.rbac_policy.specs.Condition.{IsProgramOf, Program}
 use Rattle.rbac_policy.specs.Costs.{FilterCosts}

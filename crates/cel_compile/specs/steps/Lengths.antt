@@ -29,7 +29,7 @@ abbrev mutual
   lengths_of (typed_call t o operands) = all_lengths operands
   lengths_of (typed_list t elements) = all_lengths elements
   lengths_of (typed_map t entries) = all_lengths entries
-  lengths_of (typed_loop t range init condition step result) =
+  lengths_of (typed_loop t vars range init condition step result) =
       ((((lengths_of result ++ lengths_of step) ++ lengths_of condition) ++ lengths_of init) ++ lengths_of range)
       ++ lengths_are (extent range + 1 + extent init + 1 + 1 + extent condition + 1 + extent step + 1 + 1
       + extent result) (extent result) ∷ []

@@ -7,11 +7,13 @@ use Rattle.attributes.specs.Request.{RequestValue}
 use Rattle.cel_tree.specs.View.{LoopParts}
 use Rattle.cel_value.specs.Keys.{key_of_value}
 use Rattle.cel_value.specs.Texts.{text_view}
-use Rattle.cel_value.specs.Values.{CelAnswer, CelValues, fails, value}
-use Rattle.cel_value.specs.View.{answer_view}
+use Rattle.cel_value.specs.Values.{CelAnswer, CelValue, fails, value}
+use Rattle.cel_value.specs.View.{answer_view, value_view}
 use Rattle.cel_value.specs.declared.error.CelError.{CelError}
 use Rattle.cel_value.specs.declared.value.Value.{Value}
 use Rattle.cel_types.specs.Meaning.{Locals, eval, fold, over}
+use Rattle.cel_types.specs.Names.{turn_scope, variables_of}
+use Rattle.cel_meaning.specs.declared.elements.Turn.{Turn}
 
 -- the names and answers of locals, the innermost first
 abbrev pub locals_view : List (RcStr Global × Result Value CelError) → Locals
@@ -32,17 +34,31 @@ are_pairs [] = true
 are_pairs (a ∷ []) = false
 are_pairs (a ∷ b ∷ answers) = is_key a && are_pairs answers
 
--- the turns of a comprehension over these elements, from this accumulator, and then its result
-abbrev pub turns : LoopParts → RequestValue → Locals → CelValues → CelAnswer → Option CelAnswer
-turns p request ls elements gathered =
-    fold (λ v a. eval p.loop_condition request ((p.iter_var, value v) ∷ (p.accu_var, a) ∷ ls))
-    (λ v a. eval p.loop_step request ((p.iter_var, value v) ∷ (p.accu_var, a) ∷ ls))
-    (λ a. eval p.result request ((p.accu_var, a) ∷ ls)) elements gathered
+-- the index or the key of a turn, if there are two variables
+abbrev pub keys_view : Option (Result Value CelError) → List CelAnswer
+keys_view None = []
+keys_view (Some a) = answer_view a ∷ []
+
+-- what the variables get in a turn, the innermost first
+abbrev pub turn_view : Turn → List CelAnswer
+turn_view t = value (value_view t.value) ∷ keys_view t.key
+
+-- turns with an item or a value, and its index or key
+abbrev pub keyed_turns : List (CelAnswer × CelValue) → List (List CelAnswer)
+keyed_turns pairs = map (λ pair. value pair.1 ∷ pair.0 ∷ []) pairs
+
+-- these turns of a comprehension, from this accumulator, and then its result
+abbrev pub turns : LoopParts → RequestValue → Locals → List (List CelAnswer) → CelAnswer
+    → Option CelAnswer
+turns p request ls each gathered =
+    fold (λ vs a. eval p.loop_condition request (turn_scope p.iter_var p.iter_var2 p.accu_var vs a ls))
+    (λ vs a. eval p.loop_step request (turn_scope p.iter_var p.iter_var2 p.accu_var vs a ls))
+    (λ a. eval p.result request ((p.accu_var, a) ∷ ls)) each gathered
 
 -- the answer of a comprehension
 abbrev pub loop_answer : LoopParts → RequestValue → Locals → Option CelAnswer
-loop_answer p request ls = over (eval p.iter_range request ls)
-    (λ elements. option_and_then (turns p request ls elements) (eval p.accu_init request ls))
+loop_answer p request ls = over (variables_of p.iter_var2) (eval p.iter_range request ls)
+    (λ each. option_and_then (turns p request ls each) (eval p.accu_init request ls))
 
 -- the loop's answer after one turn, which may continue with an answer, end the loop, fail, or have
 -- no meaning

@@ -60,6 +60,7 @@ AreEntryTrees depth es entries rest left =
 pub record AreLoopTrees (depth : ℕ) (node : LoopNode) (parts : LoopParts) (rest : ℕ) (left : ℕ)
     : Type 0 where
   pub iter_var : parts.iter_var ≡ node.iter_var
+  pub iter_var2 : parts.iter_var2 ≡ node.iter_var2
   pub accu_var : parts.accu_var ≡ node.accu_var
   pub iter_range : IsTree depth node.iter_range parts.iter_range
   pub accu_init : IsTree depth node.accu_init parts.accu_init

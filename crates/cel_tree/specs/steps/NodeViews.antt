@@ -24,6 +24,7 @@ type_node_view (type_nodes.Map key value) = map_of (parts_view key.items) (parts
 abbrev pub loop_node_view : LoopNode → nodes.LoopNode
 loop_node_view p = record {
   iter_var = text_view p.iter_var;
+  iter_var2 = text_view p.iter_var2;
   accu_var = text_view p.accu_var;
   iter_range = parts_view p.iter_range.items;
   accu_init = parts_view p.accu_init.items;

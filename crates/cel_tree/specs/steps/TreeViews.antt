@@ -29,6 +29,7 @@ tree_entries_view es = tree_entries_of (map entry_view es)
 abbrev pub loop_view : Comprehension → LoopParts
 loop_view c = record {
   iter_var = text_view c.iter_var;
+  iter_var2 = text_view c.iter_var2;
   accu_var = text_view c.accu_var;
   iter_range = tree_view c.iter_range;
   accu_init = tree_view c.accu_init;

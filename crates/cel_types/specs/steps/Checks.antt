@@ -10,7 +10,7 @@ use Rattle.cel_overload.specs.Overloads.{IsCall}
 use Rattle.cel_overload.specs.declared.overload.Overload.{Overload}
 use Rattle.cel_types.specs.Attributes.{attribute_named}
 use Rattle.cel_types.specs.Elaborated.{Elaborates, ElaboratesEach, TypedTree, TypedTrees, kind, kinds, typed_attribute, typed_call}
-use Rattle.cel_types.specs.Names.{root_of}
+use Rattle.cel_types.specs.Names.{root_of, turn_scope, variables_of}
 use Rattle.cel_types.specs.Typing.{EachAgrees, EntriesAgree, IsOver, Kinds, Maps, PairsAgree, RefAgrees, SelectAgrees, TargetAgrees, Types}
 use Rattle.cel_types.specs.TypingFaults.{TypeFault}
 use Rattle.cel_types.specs.View.{typed_of}
@@ -25,7 +25,7 @@ id_of (select id o f t) = id
 id_of (call id f t xs) = id
 id_of (list_literal id es) = id
 id_of (map_literal id es) = id
-id_of (comprehension id x acc range init condition step result) = id
+id_of (comprehension id x y acc range init condition step result) = id
 
 -- all entries of an expression agree; the type entry of its own node is left out
 abbrev pub InsideAgrees : Maps → Kinds → CelTree → Type 0
@@ -37,12 +37,12 @@ InsideAgrees m ks (select id operand field test_only) =
 InsideAgrees m ks (call id name on args) = TargetAgrees m ks on × EachAgrees m ks args
 InsideAgrees m ks (list_literal id elements) = EachAgrees m ks elements
 InsideAgrees m ks (map_literal id entries) = PairsAgree m ks entries
-InsideAgrees m ks (comprehension id x acc range init condition step result) =
+InsideAgrees m ks (comprehension id x y acc range init condition step result) =
     EntriesAgree m ks range × EntriesAgree m ks init
-    × ((walked element gathered : ValueType) → Types m ks range walked → IsOver walked element
-    → Types m ks init gathered
-    → EntriesAgree m ((x, element) ∷ (acc, gathered) ∷ ks) condition
-    × EntriesAgree m ((x, element) ∷ (acc, gathered) ∷ ks) step)
+    × ((walked : ValueType) (each : List ValueType) (gathered : ValueType) → Types m ks range walked
+    → IsOver (variables_of y) walked each → Types m ks init gathered
+    → EntriesAgree m (turn_scope x y acc each gathered ks) condition
+    × EntriesAgree m (turn_scope x y acc each gathered ks) step)
     × ((gathered : ValueType) → Types m ks init gathered
     → EntriesAgree m ((acc, gathered) ∷ ks) result)
 
@@ -77,10 +77,10 @@ abbrev pub IsCalled : List ℕ → Bool → TypedTrees → TypedTree → Type 0
 IsCalled name on operands e = (o : Overload) × (t : ValueType)
     × IsCall name on (kinds operands) o t × (e ≡ typed_call t o operands)
 
--- a name of a comprehension is empty, or both are the same
-abbrev pub NamesFault : List ℕ → List ℕ → Refusal → Type 0
-NamesFault x acc e = ((x ≡ []) × (e ≡ Missing)) ⊎ (((acc ≡ []) × (e ≡ Missing))
-    ⊎ ((x ≡ acc) × (e ≡ OutOfRange)))
+-- a name of a comprehension is empty, or two are the same
+abbrev pub NamesFault : (x y acc : List ℕ) → Refusal → Type 0
+NamesFault x y acc e = ((x ≡ []) × (e ≡ Missing)) ⊎ (((acc ≡ []) × (e ≡ Missing))
+    ⊎ (((x ≡ acc) × (e ≡ OutOfRange)) ⊎ ((y ≢ []) × ((x ≡ y) ⊎ (y ≡ acc)) × (e ≡ OutOfRange))))
 
 -- these are the elaborations of the condition, a bool, and of the step, of the accumulator's type
 abbrev pub IsTurn : Maps → Kinds → (condition step : CelTree) → (gathered : ValueType)

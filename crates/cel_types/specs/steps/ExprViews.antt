@@ -8,6 +8,7 @@ use Rattle.cel_types.specs.declared.typed.TypedLoop.{TypedLoop}
 -- the parts of a comprehension
 abbrev pub parts_view : TypedLoop → TypedParts
 parts_view p = record {
+  variables = p.variables;
   range = expr_view p.range;
   init = expr_view p.init;
   condition = expr_view p.condition;

@@ -1,16 +1,17 @@
 -- Types of expressions, as the code compares them.
-use Rattle.std.specs.Prelude.{◌≡◌, ◌≢◌, ◌⊎◌, ◌&&◌, ℕ, Bool, true, false, List, [], ◌∷◌, Option, Some, None}
+use Rattle.std.specs.Prelude.{◌≡◌, ◌≢◌, ◌⊎◌, ◌&&◌, ◌++◌, ℕ, Bool, true, false, List, [], ◌∷◌, Option, Some, None}
 use Rattle.cel_overload.specs.Functions.{function_named}
 use Rattle.cel_overload.specs.Overloads.{CallFault}
 use Rattle.cel_overload.specs.declared.overload.OverloadFault.TheVariants as calls
 use Rattle.cel_tree.specs.Checked.{CelTypeEntry, unsupported_type}
 use Rattle.cel_value.specs.Types.{ValueType, bool_type, list_type, map_type, type_eq, type_of_key, type_view}
+use Rattle.cel_value.specs.declared.cel_type.CelType.{CelType}
 use Rattle.cel_value.specs.declared.cel_type.KeyType.{KeyType}
 use Rattle.cel_types.specs.Elaborated.{TypedTree, typed_field, typed_has}
-use Rattle.cel_types.specs.Typing.{IsList, IsMap, TypeGiven}
+use Rattle.cel_types.specs.Typing.{IsList, IsMap, IsOver, TypeGiven}
 use Rattle.cel_types.specs.TypingFaults.{EmptyFault, SaysNothing}
-use Rattle.cel_types.specs.declared.checker.kinds.Elements.{Elements}
-use Rattle.cel_types.specs.declared.checker.kinds.Elements.TheVariants as elements
+use Rattle.cel_types.specs.declared.checker.kinds.TurnTypes.{TurnTypes}
+use Rattle.cel_types.specs.declared.typed.Variables.{Variables}
 use Rattle.proto_wire.specs.declared.refusal.Refusal.{Refusal}
 use Rattle.proto_wire.specs.declared.refusal.Refusal.TheVariants.{NeedsType, NoOverload, Unsupported, UnknownName}
 
@@ -19,10 +20,18 @@ abbrev pub in_turn : ValueType → ValueType → List ValueType → Bool
 in_turn s t [] = true
 in_turn s t (u ∷ us) = type_eq u s && in_turn t s us
 
--- the type of a range's elements
-abbrev pub elements_type : Elements → ValueType
-elements_type (elements.Items t) = type_view t.now
-elements_type (elements.Keys k) = type_of_key k
+-- the type of a second variable, if there is one
+abbrev pub second_type : Option CelType → List ValueType
+second_type None = []
+second_type (Some t) = type_view t ∷ []
+
+-- the types of a turn's variables, the innermost first
+abbrev pub each_view : TurnTypes → List ValueType
+each_view each = second_type each.second ++ type_view each.first ∷ []
+
+-- a range of this type has no elements
+abbrev pub NoElements : Variables → ValueType → Refusal → Type 0
+NoElements vars t e = ((each : List ValueType) → IsOver vars t each → ⊥) × (e ≡ NoOverload)
 
 -- the entry gives no type, or an unsupported one
 abbrev pub NotGiven : Option CelTypeEntry → Refusal → Type 0

@@ -6,7 +6,7 @@ use Rattle.cel_value.specs.Types.{ValueType, type_view}
 use Rattle.cel_tree.specs.View.{LoopParts}
 use Rattle.cel_types.specs.Attributes.{attribute_named}
 use Rattle.cel_types.specs.Elaborated.{TypedTree, slot, typed_attribute, typed_local}
-use Rattle.cel_types.specs.Names.{local}
+use Rattle.cel_types.specs.Names.{local, variable_count, variables_of}
 use Rattle.cel_types.specs.Typing.{Kinds, greatest, locals_in}
 use Rattle.cel_types.specs.declared.checker.names.Name.{Name}
 use Rattle.cel_types.specs.declared.checker.names.Name.TheVariants as names
@@ -46,4 +46,5 @@ name_view (names.Attribute id) = typed_attribute (attribute_type id) id
 -- the greatest number of a comprehension's own locals that a node inside has in scope
 abbrev pub locals_in_loop : LoopParts → ℕ
 locals_in_loop p = greatest (locals_in p.iter_range) (locals_in p.accu_init)
-    (2 + locals_in p.loop_condition) (2 + locals_in p.loop_step) (1 + locals_in p.result)
+    (variable_count (variables_of p.iter_var2) + 1 + locals_in p.loop_condition)
+    (variable_count (variables_of p.iter_var2) + 1 + locals_in p.loop_step) (1 + locals_in p.result)

@@ -9,14 +9,15 @@ ghost use Rattle.cel_types.specs.Elaborated.{kind, kinds};
 ghost use Rattle.cel_types.specs.Typing.{IsList, IsMap, IsOver, constant_type};
 ghost use Rattle.cel_types.specs.View.{expr_view};
 ghost use Rattle.cel_types.specs.steps.ExprViews.{exprs_view};
-ghost use Rattle.cel_types.specs.steps.Kinds.{elements_type, in_turn};
+ghost use Rattle.cel_types.specs.steps.Kinds.{NoElements, each_view, in_turn};
+ghost use Rattle.cel_types.specs.declared.typed.Variables.TheVariants as variables;
+ghost use Rattle.proto_wire.specs.Refusal.{MemoryOr};
 ghost use Rattle.proto_wire.specs.declared.refusal.Refusal.TheVariants.{BadTypeEntry, NoOverload};
 
-use crate::typed::TypedExpr;
+use crate::typed::{TypedExpr, Variables};
 use cel_tree::Constant;
 use cel_value::{CelType, KeyType};
 use proto_wire::Refusal;
-use std::alloc::AllocError;
 
 impl<'a> TypedExpr<'a> {
     /// The type of the expression.
@@ -37,13 +38,12 @@ impl<'a> TypedExpr<'a> {
     }
 }
 
-/// The elements of a comprehension's range.
-#[derive(Clone, Copy)]
-pub(super) enum Elements<'t> {
-    /// The items of a list.
-    Items(&'t CelType),
-    /// The keys of a map.
-    Keys(KeyType),
+/// The types of what a comprehension's variables get in a turn.
+#[derive(Drop)]
+pub(super) struct TurnTypes {
+    pub first: CelType,
+    /// None if there is one variable.
+    pub second: Option<CelType>,
 }
 
 /// The type of a constant.
@@ -113,26 +113,50 @@ pub(super) fn require_names(found: &CelType) -> Result<&CelType, Refusal>
     }
 }
 
-/// The elements of a range; refuses a type without elements.
-pub(super) fn elements_of(range: &CelType) -> Result<Elements<'_>, Refusal>
-    ensures found { IfOk result (λ s. IsOver (type_view range.now) (elements_type s)) }
-    ensures fault { IfErr result (λ e. ((t : ValueType) → IsOver (type_view range.now) t → ⊥)
-        × (e ≡ NoOverload)) }
+/// The types of what the variables get from a range; refuses a type without elements.
+pub(super) fn turn_types(variables: Variables, range: &CelType) -> Result<TurnTypes, Refusal>
+    ensures found { IfOk result (λ each. IsOver variables (type_view range.now) (each_view each)) }
+    ensures fault { IfErr result (MemoryOr (NoElements variables (type_view range.now))) }
+{
+    match variables {
+        Variables::One => one_type(range),
+        Variables::Two => two_types(range),
+    }
+}
+
+/// The type of an item of a list, or of a key of a map.
+fn one_type(range: &CelType) -> Result<TurnTypes, Refusal>
+    ensures found { IfOk result (λ each. IsOver variables.One (type_view range.now) (each_view each)) }
+    ensures fault { IfErr result (MemoryOr (NoElements variables.One (type_view range.now))) }
 {
     match range {
-        CelType::List(items) => Ok(Elements::Items(items)),
-        CelType::Map(key, _) => Ok(Elements::Keys(*key)),
+        CelType::List(items) => Ok(TurnTypes {
+            first: items.copy()?,
+            second: None,
+        }),
+        CelType::Map(key, _) => Ok(TurnTypes {
+            first: type_of_key(*key),
+            second: None,
+        }),
         _ => Err(Refusal::NoOverload),
     }
 }
 
-/// The type of the elements.
-pub(super) fn element_type(elements: Elements<'_>) -> Result<CelType, AllocError>
-    ensures { IfOk result (λ t. type_view t ≡ elements_type elements.entry) }
+/// The types of an index and an item of a list, or of a key and a value of a map.
+fn two_types(range: &CelType) -> Result<TurnTypes, Refusal>
+    ensures found { IfOk result (λ each. IsOver variables.Two (type_view range.now) (each_view each)) }
+    ensures fault { IfErr result (MemoryOr (NoElements variables.Two (type_view range.now))) }
 {
-    match elements {
-        Elements::Items(items) => items.copy(),
-        Elements::Keys(key) => Ok(type_of_key(key)),
+    match range {
+        CelType::List(items) => Ok(TurnTypes {
+            first: CelType::Int,
+            second: Some(items.copy()?),
+        }),
+        CelType::Map(key, values) => Ok(TurnTypes {
+            first: type_of_key(*key),
+            second: Some(values.copy()?),
+        }),
+        _ => Err(Refusal::NoOverload),
     }
 }
 

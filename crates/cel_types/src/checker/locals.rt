@@ -1,12 +1,16 @@
 //! Limits the number of locals in scope.
 
-ghost use Rattle.std.specs.Prelude.{◌≡◌, ◌<◌, ◌≤◌, IfErr, OnOk, nat_lt, suc};
+ghost use Rattle.std.specs.Prelude.{◌≡◌, ◌+◌, ◌<◌, ◌≤◌, IfErr, OnOk, nat_lt, suc};
 ghost use Rattle.cel_tree.specs.View.{target_of, tree_view};
 ghost use Rattle.cel_tree.specs.steps.TreeViews.{boxed_view, loop_view, tree_entries_view, trees_view};
+ghost use Rattle.cel_value.specs.Texts.{text_view};
+ghost use Rattle.cel_types.specs.Names.{variable_count, variables_of};
 ghost use Rattle.cel_types.specs.Typing.{locals_in, locals_in_each, locals_in_entries, locals_in_target, most_locals};
 ghost use Rattle.cel_types.specs.steps.Scopes.{locals_in_loop};
 ghost use Rattle.proto_wire.specs.declared.refusal.Refusal.TheVariants.{TooLarge};
 
+use crate::checker::loops::variables_of;
+use crate::typed::Variables;
 use cel_tree::{Comprehension, Tree, TreeEntry};
 use proto_wire::Refusal;
 
@@ -76,17 +80,28 @@ fn entries_have_few(entries: &[TreeEntry], most: u8) -> bool
     true
 }
 
-/// The same for a comprehension: its condition and step have two more locals, its result one.
+/// The same for a comprehension: its condition and step have all its locals, its result one.
 #[cycle(locals)]
 fn loop_has_few(parts: &Comprehension, most: u8) -> bool
     ensures { result ≡ nat_lt (locals_in_loop (loop_view parts.now)) (suc most) }
 {
-    if most < 2 {
+    let own = own_locals(parts);
+    if most < own {
         return false;
     }
     has_few(&parts.iter_range, most)
         && has_few(&parts.accu_init, most)
-        && has_few(&parts.loop_condition, most - 2)
-        && has_few(&parts.loop_step, most - 2)
+        && has_few(&parts.loop_condition, most - own)
+        && has_few(&parts.loop_step, most - own)
         && has_few(&parts.result, most - 1)
+}
+
+/// The number of a comprehension's locals: its variables and its accumulator.
+fn own_locals(parts: &Comprehension) -> u8
+    ensures { result ≡ variable_count (variables_of (text_view parts.now.iter_var2)) + 1 }
+{
+    match variables_of(&parts.iter_var2) {
+        Variables::One => 2,
+        Variables::Two => 3,
+    }
 }

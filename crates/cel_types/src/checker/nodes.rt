@@ -1,6 +1,6 @@
 //! Checks nodes, and the nodes inside them.
 
-ghost use Rattle.std.specs.Prelude.{◌≡◌, ◌≤◌, ◌+◌, IfErr, IfOk, length, map};
+ghost use Rattle.std.specs.Prelude.{◌≡◌, ◌≤◌, ◌+◌, IfErr, IfOk, length, map, max};
 ghost use Rattle.cel_tree.specs.Tree.{list_literal, map_literal, select};
 ghost use Rattle.cel_tree.specs.View.{checked_view, loop_of, target_of, tree_view};
 ghost use Rattle.cel_tree.specs.steps.TreeViews.{boxed_view, loop_view, tree_entries_view, trees_view};
@@ -17,9 +17,9 @@ ghost use Rattle.proto_wire.specs.Refusal.{MemoryOr};
 
 use crate::checker::calls::call_expr;
 use crate::checker::entries::require_type;
-use crate::checker::kinds::{constant_type, element_type, elements_of, require_bool, require_same};
+use crate::checker::kinds::{constant_type, require_bool, require_same, turn_types};
 use crate::checker::literals::{list_type, map_type};
-use crate::checker::loops::require_names_differ;
+use crate::checker::loops::{require_names_differ, variables_of};
 use crate::checker::names::bare_root;
 use crate::checker::scope::Scope;
 use crate::checker::variables::{check_attribute, check_ident, field_expr};
@@ -255,17 +255,19 @@ fn check_loop<'a>(
     ensures fault { IfErr result (MemoryOr (TypeFault (maps_of (checked_view checked.now)) (scope_view scope.now)
         (loop_of id (loop_view parts.now)))) }
 {
-    require_names_differ(&parts.iter_var, &parts.accu_var)?;
+    require_names_differ(&parts.iter_var, &parts.iter_var2, &parts.accu_var)?;
     let range = check_tree(alloc, checked, scope, &parts.iter_range)?;
     let init = check_tree(alloc, checked, scope, &parts.accu_init)?;
-    let elements = elements_of(range.cel_type())?;
-    let element = element_type(elements)?;
+    let variables = variables_of(&parts.iter_var2);
+    let each = turn_types(variables, range.cel_type())?;
     let inner = (&*scope).with(&parts.accu_var, init.cel_type());
-    let turn = inner.with(&parts.iter_var, &element);
+    let first = inner.with(&parts.iter_var, &each.first);
+    let turn = first.with_second(&parts.iter_var2, &each.second);
     let (condition, step) = check_turn(alloc, checked, &turn, parts, init.cel_type())?;
     let result = check_tree(alloc, checked, &inner, &parts.result)?;
     let cel_type = result.cel_type().copy()?;
     let parts = TypedLoop {
+        variables,
         range,
         init,
         condition,
@@ -285,9 +287,8 @@ fn check_turn<'a>(
     parts: &'a Comprehension,
     gathered: &CelType,
 ) -> Result<(TypedExpr<'a>, TypedExpr<'a>), Refusal>
-    requires on_condition { length (scope_view turn.now) + locals_in (tree_view parts.now.loop_condition)
-        ≤ most_locals }
-    requires on_step { length (scope_view turn.now) + locals_in (tree_view parts.now.loop_step) ≤ most_locals }
+    requires { length (scope_view turn.now) + max (locals_in (tree_view parts.now.loop_condition))
+        (locals_in (tree_view parts.now.loop_step)) ≤ most_locals }
     ensures found { IfOk result (λ r. IsTurn (maps_of (checked_view checked.now)) (scope_view turn.now)
         (tree_view parts.now.loop_condition) (tree_view parts.now.loop_step) (type_view gathered.now)
         (expr_view r.0) (expr_view r.1)) }

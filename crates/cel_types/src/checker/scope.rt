@@ -1,12 +1,13 @@
 //! The locals in scope.
 
-ghost use Rattle.std.specs.Prelude.{◌≡◌, ◌≤◌, ◌∷◌, length, option_map};
+ghost use Rattle.std.specs.Prelude.{◌≡◌, ◌≤◌, [], ◌∷◌, ◌++◌, length, option_map};
 ghost use Rattle.std.specs.Str.{bytes_eq};
 ghost use Rattle.cel_value.specs.Texts.{text_view};
 ghost use Rattle.cel_value.specs.Types.{type_view};
 ghost use Rattle.cel_types.specs.Elaborated.{slot};
-ghost use Rattle.cel_types.specs.Names.{local};
+ghost use Rattle.cel_types.specs.Names.{bound, local};
 ghost use Rattle.cel_types.specs.Typing.{most_locals};
+ghost use Rattle.cel_types.specs.steps.Kinds.{second_type};
 ghost use Rattle.cel_types.specs.steps.Scopes.{found_slot, found_type, scope_view};
 
 use cel_value::CelType;
@@ -41,6 +42,17 @@ impl<'s> Scope<'s> {
             name,
             cel_type,
             outer: self,
+        }
+    }
+
+    /// The scope with one more local, if there is a type for it.
+    pub(super) fn with_second(&'s self, name: &'s RcStr, cel_type: &'s Option<CelType>) -> Scope<'s>
+        ensures { scope_view result
+            ≡ bound (text_view name.now ∷ []) (second_type cel_type.now) ++ scope_view self.now }
+    {
+        match cel_type {
+            None => *self,
+            Some(cel_type) => self.with(name, cel_type),
         }
     }
 

@@ -1,6 +1,6 @@
 -- The results of measuring an expression: its size and the budget that its cost leaves, or a
 -- refusal if the budget is too small.
-use Rattle.std.specs.Prelude.{ℕ, ◌≡◌, ◌<◌, ◌+◌, ◌-◌, List, [], ◌∷◌}
+use Rattle.std.specs.Prelude.{ℕ, ◌≡◌, ◌<◌, ◌+◌, ◌-◌, List, [], ◌∷◌, ◌++◌}
 use Rattle.proto_wire.specs.declared.refusal.Refusal.{Refusal}
 use Rattle.proto_wire.specs.declared.refusal.Refusal.TheVariants.{TooCostly}
 use Rattle.attributes.specs.Limits.{LimitsValue}
@@ -25,13 +25,13 @@ call_part (overloads.Operate operations.Or) ts (a ∷ b ∷ []) = 1
 call_part o ts sizes = charge_at o ts sizes - 1
 
 -- the step's size in one turn, by the accumulator's size before it
-abbrev pub next_size : TypedParts → LimitsValue → (element : Size) → List Size → Size → Size
-next_size p l element sizes s = size_of p.step l (element ∷ s ∷ sizes)
+abbrev pub next_size : TypedParts → LimitsValue → (each : List Size) → List Size → Size → Size
+next_size p l each sizes s = size_of p.step l (each ++ s ∷ sizes)
 
 -- the cost of one turn, by the accumulator's size before it
-abbrev pub turn_cost : TypedParts → LimitsValue → (element : Size) → List Size → Size → ℕ
-turn_cost p l element sizes s =
-    cost_of p.condition l (element ∷ s ∷ sizes) + cost_of p.step l (element ∷ s ∷ sizes) + 4
+abbrev pub turn_cost : TypedParts → LimitsValue → (each : List Size) → List Size → Size → ℕ
+turn_cost p l each sizes s =
+    cost_of p.condition l (each ++ s ∷ sizes) + cost_of p.step l (each ++ s ∷ sizes) + 4
 
 -- two expressions have the same size and cost, for all limits and all sizes of the locals
 abbrev pub MeasureAlike : TypedTree → TypedTree → Type 0

@@ -1,15 +1,18 @@
 -- Memos: what is known of an expression before it is measured, and when that is true.
-use Rattle.std.specs.Prelude.{ℕ, zero, suc, ◌≡◌, ◌<◌, ◌≤◌, ◌+◌, ◌⊎◌, List, [], ◌∷◌, length, map, Option, Some, None}
+use Rattle.std.specs.Prelude.{ℕ, zero, suc, ◌≡◌, ◌<◌, ◌≤◌, ◌+◌, ◌⊎◌, List, [], ◌∷◌, ◌++◌, length, map, Option, Some, None}
 use denote.Ref.{Bor}
 use Rattle.attributes.specs.Limits.{LimitsValue}
 use Rattle.cel_types.specs.Elaborated.{TypedTree, typed_constant, typed_local, typed_attribute, typed_field, typed_has, typed_call, typed_list, typed_map, typed_loop, TypedTrees, no_typed, typed}
+use Rattle.cel_types.specs.Names.{variable_count}
 use Rattle.cel_types.specs.TypedMeaning.{local_at}
+use Rattle.cel_types.specs.declared.typed.Variables.{Variables}
 use Rattle.cost_bound.specs.Costs.{cost_of, known, size_of}
 use Rattle.cost_bound.specs.Sizes.{Size}
 use Rattle.cost_bound.specs.steps.Numbers.{capped}
 use Rattle.cost_bound.specs.steps.SizeView.{size_view}
 use Rattle.cost_bound.specs.declared.memo.Memo.{Memo, fold-Memo}
 use Rattle.cost_bound.specs.declared.memo.Memo.TheOpen.{Memo-F}
+use Rattle.cost_bound.specs.declared.steady.Around.{Around}
 
 mutual
   -- a memo: nothing; the size and the cost; a number that the cost exceeds; or memos of the parts
@@ -79,7 +82,7 @@ SaysAnd m e l sizes More = Says m (size_of e l sizes) (cost_of e l sizes) × Mor
 
 abbrev mutual
   -- what a memo states of an expression's parts is true. For a loop's condition, step and result it is
-  -- true for all sizes of the accumulator and the element
+  -- true for all sizes of the accumulator and the variables
   pub HoldsInside : MemoTree → TypedTree → LimitsValue → List Size → Type 0
   HoldsInside m (typed_constant t v) l sizes = Unit {0}
   HoldsInside m (typed_local t outside) l sizes = Unit {0}
@@ -91,13 +94,15 @@ abbrev mutual
   HoldsInside m (typed_call t o operands) l sizes = HoldsEach m 0 operands l sizes
   HoldsInside m (typed_list t elements) l sizes = HoldsEach m 0 elements l sizes
   HoldsInside m (typed_map t pairs) l sizes = HoldsEach m 0 pairs l sizes
-  HoldsInside m (typed_loop t range init condition step result) l sizes =
+  HoldsInside m (typed_loop t vars range init condition step result) l sizes =
       SaysAnd (part_at 0 m) range l sizes (HoldsInside (part_at 0 m) range l sizes)
       × SaysAnd (part_at 1 m) init l sizes (HoldsInside (part_at 1 m) init l sizes)
-      × ((s e : Size) → SaysAnd (part_at 2 m) condition l (e ∷ s ∷ sizes)
-      (HoldsInside (part_at 2 m) condition l (e ∷ s ∷ sizes)))
-      × ((s e : Size) → SaysAnd (part_at 3 m) step l (e ∷ s ∷ sizes)
-      (HoldsInside (part_at 3 m) step l (e ∷ s ∷ sizes)))
+      × ((s : Size) (each : List Size) → length each ≡ variable_count vars
+      → SaysAnd (part_at 2 m) condition l (each ++ s ∷ sizes)
+      (HoldsInside (part_at 2 m) condition l (each ++ s ∷ sizes)))
+      × ((s : Size) (each : List Size) → length each ≡ variable_count vars
+      → SaysAnd (part_at 3 m) step l (each ++ s ∷ sizes)
+      (HoldsInside (part_at 3 m) step l (each ++ s ∷ sizes)))
       × ((s : Size) → SaysAnd (part_at 4 m) result l (s ∷ sizes)
       (HoldsInside (part_at 4 m) result l (s ∷ sizes)))
 
@@ -112,14 +117,14 @@ abbrev mutual
 abbrev pub Holds : MemoTree → TypedTree → LimitsValue → List Size → Type 0
 Holds m e l sizes = SaysAnd m e l sizes (HoldsInside m e l sizes)
 
--- a local is the same in each turn of a loop: one of the `around` locals outside of the loop, or the
--- loop's element
-abbrev pub IsSteady : (around : ℕ) → ℕ → Type 0
-IsSteady around n = (n < around) ⊎ (n ≡ around + 1)
+-- a local measures the same in each turn of a loop: one of the `around` locals outside of the loop, or one
+-- of its variables. These come after the accumulator
+abbrev pub IsSteady : (around : ℕ) → Variables → ℕ → Type 0
+IsSteady around vars n = (n < around) ⊎ ((around < n) × (n ≤ around + variable_count vars))
 
 -- such a local, or the expression's own: one with at least `depth` locals outside of it
-abbrev pub IsSettled : (around depth : ℕ) → ℕ → Type 0
-IsSettled around depth n = IsSteady around n ⊎ (depth ≤ n)
+abbrev pub IsSettled : (around : ℕ) → Variables → (depth : ℕ) → ℕ → Type 0
+IsSettled around vars depth n = IsSteady around vars n ⊎ (depth ≤ n)
 
 abbrev mutual
   -- each local that an expression names has this property
@@ -132,7 +137,7 @@ abbrev mutual
   NamesOnly N (typed_call t o operands) = EachNamesOnly N operands
   NamesOnly N (typed_list t elements) = EachNamesOnly N elements
   NamesOnly N (typed_map t pairs) = EachNamesOnly N pairs
-  NamesOnly N (typed_loop t range init condition step result) =
+  NamesOnly N (typed_loop t vars range init condition step result) =
       NamesOnly N range × NamesOnly N init × NamesOnly N condition × NamesOnly N step
       × NamesOnly N result
 
@@ -142,17 +147,17 @@ abbrev mutual
   EachNamesOnly N (typed e es) = NamesOnly N e × EachNamesOnly N es
 
 -- the sizes of the locals inside a loop, in two of its turns
-pub record InTurns (around : ℕ) (sizes others : List Size) : Type 0 where
-  pub inside : around + 2 ≤ length sizes
+pub record InTurns (around : ℕ) (vars : Variables) (sizes others : List Size) : Type 0 where
+  pub inside : around + 1 + variable_count vars ≤ length sizes
   pub many : length sizes ≡ length others
-  pub same : (n : ℕ) → IsSteady around n → known (local_at n sizes) ≡ known (local_at n others)
+  pub same : (n : ℕ) → IsSteady around vars n → known (local_at n sizes) ≡ known (local_at n others)
 
 -- in every turn of the loop, what the memo states of an expression inside is true
-abbrev pub Remembers : MemoTree → TypedTree → LimitsValue → (around : ℕ) → List Size → Type 0
-Remembers m e l around sizes = (k : ℕ) (others : List Size) → around ≡ capped k → InTurns k sizes others
-    → Holds m e l others
+abbrev pub Remembers : MemoTree → TypedTree → LimitsValue → Around → List Size → Type 0
+Remembers m e l around sizes = (k : ℕ) (others : List Size) → around.count ≡ capped k
+    → InTurns k around.variables sizes others → Holds m e l others
 
 -- the same for expressions, in order
-abbrev pub RemembersEach : MemoTree → TypedTrees → LimitsValue → (around : ℕ) → List Size → Type 0
-RemembersEach m es l around sizes = (k : ℕ) (others : List Size) → around ≡ capped k
-    → InTurns k sizes others → HoldsEach m 0 es l others
+abbrev pub RemembersEach : MemoTree → TypedTrees → LimitsValue → Around → List Size → Type 0
+RemembersEach m es l around sizes = (k : ℕ) (others : List Size) → around.count ≡ capped k
+    → InTurns k around.variables sizes others → HoldsEach m 0 es l others

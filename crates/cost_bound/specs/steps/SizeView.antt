@@ -1,8 +1,9 @@
 -- The sizes that values of the code mean.
-use Rattle.std.specs.Prelude.{List, map}
+use Rattle.std.specs.Prelude.{List, [], ◌∷◌, map, Option, Some, None}
 use Rattle.cost_bound.specs.Sizes.{Size, Flat, Text, Many, Table}
 use Rattle.cost_bound.specs.declared.size.ValueSize.{ValueSize, fold-ValueSize}
 use Rattle.cost_bound.specs.declared.size.ValueSize.TheOpen.{ValueSize-F}
+use Rattle.cost_bound.specs.declared.variables.VariableSizes.{VariableSizes}
 
 -- one level of a size, whose inner sizes are already translated
 abbrev pub size_level : ValueSize-F Size → Size
@@ -18,3 +19,12 @@ size_view = fold-ValueSize Size size_level
 -- the sizes that `ValueSize`s mean, in order
 abbrev pub sizes_view : List ValueSize → List Size
 sizes_view ss = map size_view ss
+
+-- the size of the first of two variables, if there are two
+abbrev pub key_view : Option ValueSize → List Size
+key_view None = []
+key_view (Some k) = size_view k ∷ []
+
+-- the sizes of a loop's variables, the innermost first
+abbrev pub variables_view : VariableSizes → List Size
+variables_view v = size_view v.value ∷ key_view v.key

@@ -1,4 +1,4 @@
-use Rattle.std.proofs.Common.{◌≡◌, ◌+◌, ◌∷◌, ◌++◌, [], List, rules, get_or, refl, subst, arith}
+use Rattle.std.proofs.Common.{◌≡◌, ◌+◌, ◌∷◌, ◌++◌, [], List, rules, get_or, refl, ap, subst, arith}
 use Rattle.std.proofs.lemmas.Grind.{common_steps}
 use Rattle.std.proofs.lemmas.Result.{MatchResult-weaker}
 use Rattle.cel_tree.specs.View.{constant_view}
@@ -6,6 +6,7 @@ use Rattle.cel_value.specs.Texts.{text_view}
 use Rattle.cel_value.specs.Types.{type_view}
 use Rattle.cel_overload.specs.declared.overload.Overload.TheVariants as overloads
 use Rattle.cel_types.specs.Elaborated.{no_typed, typed, typed_attribute, typed_call, typed_constant, typed_field, typed_has, typed_list, typed_local, typed_map}
+use Rattle.cel_types.specs.Names.{variable_count}
 use Rattle.cel_types.specs.View.{expr_view, loop_of}
 use Rattle.cel_types.specs.steps.ExprViews.{exprs_view, parts_view}
 use Rattle.cel_types.specs.declared.typed.TypedExpr as exprs
@@ -247,50 +248,55 @@ emit_choice-returns t c =
 
 pub emit_loop-take_targets-targets-requires : goal.emit_loop-take_targets-targets-requires
 emit_loop-take_targets-targets-requires t c =
-    let room = loop_room c.args.depth c.requires.room.0 (expr_view c.args.parts.now.range) (expr_view c.args.parts.now.init) (expr_view c.args.parts.now.condition) (expr_view c.args.parts.now.step) (expr_view c.args.parts.now.result) c.args.code.now c.args.lengths.now.items c.requires.room.1 in
+    let room = loop_room c.args.depth (c.args.depth + 1 + variable_count c.args.parts.now.variables) c.requires.room.0 c.args.parts.now.variables (expr_view c.args.parts.now.range) (expr_view c.args.parts.now.init) (expr_view c.args.parts.now.condition) (expr_view c.args.parts.now.step) (expr_view c.args.parts.now.result) c.args.code.now c.args.lengths.now.items refl c.requires.room.1 in
     let fits = room.fits in
     let begin = c.len.ensures.same in
     takes_of c.args.lengths.now.items ((((lengths_of (expr_view c.args.parts.now.result) ++ lengths_of (expr_view c.args.parts.now.step)) ++ lengths_of (expr_view c.args.parts.now.condition)) ++ lengths_of (expr_view c.args.parts.now.init)) ++ lengths_of (expr_view c.args.parts.now.range)) c.len.result (extent (expr_view c.args.parts.now.range) + 1 + extent (expr_view c.args.parts.now.init) + 1 + 1 + extent (expr_view c.args.parts.now.condition) + 1 + extent (expr_view c.args.parts.now.step) + 1 + 1 + extent (expr_view c.args.parts.now.result)) (extent (expr_view c.args.parts.now.result)) room.ends (omega arith) (omega (arith, fits, begin))
 
 pub emit_loop-emit-requires : goal.emit_loop-emit-requires
 emit_loop-emit-requires t c =
-    let room = loop_room c.args.depth c.requires.room.0 (expr_view c.args.parts.now.range) (expr_view c.args.parts.now.init) (expr_view c.args.parts.now.condition) (expr_view c.args.parts.now.step) (expr_view c.args.parts.now.result) c.args.code.now c.args.lengths.now.items c.requires.room.1 in
+    let room = loop_room c.args.depth (c.args.depth + 1 + variable_count c.args.parts.now.variables) c.requires.room.0 c.args.parts.now.variables (expr_view c.args.parts.now.range) (expr_view c.args.parts.now.init) (expr_view c.args.parts.now.condition) (expr_view c.args.parts.now.step) (expr_view c.args.parts.now.result) c.args.code.now c.args.lengths.now.items refl c.requires.room.1 in
     let take : (rest : List Lengths) → c.args.lengths.now.items ≡ rest ++ lengths_are (extent (expr_view c.args.parts.now.range) + 1 + extent (expr_view c.args.parts.now.init) + 1 + 1 + extent (expr_view c.args.parts.now.condition) + 1 + extent (expr_view c.args.parts.now.step) + 1 + 1 + extent (expr_view c.args.parts.now.result)) (extent (expr_view c.args.parts.now.result)) ∷ [] → c.take_targets-targets.new.lengths.items ≡ rest = λ rest e. (c.take_targets-targets.ensures rest (extent (expr_view c.args.parts.now.range) + 1 + extent (expr_view c.args.parts.now.init) + 1 + 1 + extent (expr_view c.args.parts.now.condition) + 1 + extent (expr_view c.args.parts.now.step) + 1 + 1 + extent (expr_view c.args.parts.now.result)) (extent (expr_view c.args.parts.now.result)) e).0 in
     (first_of (search (rules, exprs.the_lemmas), grind (arith, exprs.the_lemmas), grind (arith, common_steps)), range_room room take)
 
 pub emit_loop-emit-requires-2 : goal.emit_loop-emit-requires-2
 emit_loop-emit-requires-2 t c =
-    let room = loop_room c.args.depth c.requires.room.0 (expr_view c.args.parts.now.range) (expr_view c.args.parts.now.init) (expr_view c.args.parts.now.condition) (expr_view c.args.parts.now.step) (expr_view c.args.parts.now.result) c.args.code.now c.args.lengths.now.items c.requires.room.1 in
+    let room = loop_room c.args.depth (c.args.depth + 1 + variable_count c.args.parts.now.variables) c.requires.room.0 c.args.parts.now.variables (expr_view c.args.parts.now.range) (expr_view c.args.parts.now.init) (expr_view c.args.parts.now.condition) (expr_view c.args.parts.now.step) (expr_view c.args.parts.now.result) c.args.code.now c.args.lengths.now.items refl c.requires.room.1 in
     let take : (rest : List Lengths) → c.args.lengths.now.items ≡ rest ++ lengths_are (extent (expr_view c.args.parts.now.range) + 1 + extent (expr_view c.args.parts.now.init) + 1 + 1 + extent (expr_view c.args.parts.now.condition) + 1 + extent (expr_view c.args.parts.now.step) + 1 + 1 + extent (expr_view c.args.parts.now.result)) (extent (expr_view c.args.parts.now.result)) ∷ [] → c.take_targets-targets.new.lengths.items ≡ rest = λ rest e. (c.take_targets-targets.ensures rest (extent (expr_view c.args.parts.now.range) + 1 + extent (expr_view c.args.parts.now.init) + 1 + 1 + extent (expr_view c.args.parts.now.condition) + 1 + extent (expr_view c.args.parts.now.step) + 1 + 1 + extent (expr_view c.args.parts.now.result)) (extent (expr_view c.args.parts.now.result)) e).0 in
     (first_of (search (rules, exprs.the_lemmas), grind (arith, exprs.the_lemmas), grind (arith, common_steps)), init_room room take c.in_ok-emit.ensures.grows c.put.new.code (instrs.LoopStart c.take_targets-targets.result.end) c.in_ok-put.ensures.found)
 
 pub emit_loop-emit-requires-3 : goal.emit_loop-emit-requires-3
 emit_loop-emit-requires-3 t c =
-    let room = loop_room c.args.depth c.requires.room.0 (expr_view c.args.parts.now.range) (expr_view c.args.parts.now.init) (expr_view c.args.parts.now.condition) (expr_view c.args.parts.now.step) (expr_view c.args.parts.now.result) c.args.code.now c.args.lengths.now.items c.requires.room.1 in
+    let inside : c.args.depth + 1 + c.variable_count.result ≡ c.args.depth + 1 + variable_count c.args.parts.now.variables = ap (λ n. c.args.depth + 1 + n) c.variable_count.ensures.same in
+    let room = loop_room c.args.depth (c.args.depth + 1 + c.variable_count.result) c.requires.room.0 c.args.parts.now.variables (expr_view c.args.parts.now.range) (expr_view c.args.parts.now.init) (expr_view c.args.parts.now.condition) (expr_view c.args.parts.now.step) (expr_view c.args.parts.now.result) c.args.code.now c.args.lengths.now.items inside c.requires.room.1 in
     let take : (rest : List Lengths) → c.args.lengths.now.items ≡ rest ++ lengths_are (extent (expr_view c.args.parts.now.range) + 1 + extent (expr_view c.args.parts.now.init) + 1 + 1 + extent (expr_view c.args.parts.now.condition) + 1 + extent (expr_view c.args.parts.now.step) + 1 + 1 + extent (expr_view c.args.parts.now.result)) (extent (expr_view c.args.parts.now.result)) ∷ [] → c.take_targets-targets.new.lengths.items ≡ rest = λ rest e. (c.take_targets-targets.ensures rest (extent (expr_view c.args.parts.now.range) + 1 + extent (expr_view c.args.parts.now.init) + 1 + 1 + extent (expr_view c.args.parts.now.condition) + 1 + extent (expr_view c.args.parts.now.step) + 1 + 1 + extent (expr_view c.args.parts.now.result)) (extent (expr_view c.args.parts.now.result)) e).0 in
-    (first_of (search (rules, exprs.the_lemmas), grind (arith, exprs.the_lemmas), grind (arith, common_steps)), condition_room room take c.in_ok-emit.ensures.grows c.put.new.code (instrs.LoopStart c.take_targets-targets.result.end) c.in_ok-put.ensures.found c.in_ok-emit-2.ensures.grows c.put-2.new.code (instrs.Store c.args.depth) c.in_ok-put-2.ensures.found c.put-3.new.code (instrs.LoopNext (c.args.depth + 1) c.take_targets-targets.result.last) c.in_ok-put-3.ensures.found)
+    (first_of (search (rules, exprs.the_lemmas), grind (arith, exprs.the_lemmas), grind (arith, common_steps)), condition_room room take c.in_ok-emit.ensures.grows c.put.new.code (instrs.LoopStart c.take_targets-targets.result.end) c.in_ok-put.ensures.found c.in_ok-emit-2.ensures.grows c.put-2.new.code (instrs.Store c.args.depth) c.in_ok-put-2.ensures.found c.put-3.new.code c.turn_instr.result c.in_ok-put-3.ensures.found)
 
 pub emit_loop-emit-requires-4 : goal.emit_loop-emit-requires-4
 emit_loop-emit-requires-4 t c =
-    let room = loop_room c.args.depth c.requires.room.0 (expr_view c.args.parts.now.range) (expr_view c.args.parts.now.init) (expr_view c.args.parts.now.condition) (expr_view c.args.parts.now.step) (expr_view c.args.parts.now.result) c.args.code.now c.args.lengths.now.items c.requires.room.1 in
+    let inside : c.args.depth + 1 + c.variable_count.result ≡ c.args.depth + 1 + variable_count c.args.parts.now.variables = ap (λ n. c.args.depth + 1 + n) c.variable_count.ensures.same in
+    let room = loop_room c.args.depth (c.args.depth + 1 + c.variable_count.result) c.requires.room.0 c.args.parts.now.variables (expr_view c.args.parts.now.range) (expr_view c.args.parts.now.init) (expr_view c.args.parts.now.condition) (expr_view c.args.parts.now.step) (expr_view c.args.parts.now.result) c.args.code.now c.args.lengths.now.items inside c.requires.room.1 in
     let take : (rest : List Lengths) → c.args.lengths.now.items ≡ rest ++ lengths_are (extent (expr_view c.args.parts.now.range) + 1 + extent (expr_view c.args.parts.now.init) + 1 + 1 + extent (expr_view c.args.parts.now.condition) + 1 + extent (expr_view c.args.parts.now.step) + 1 + 1 + extent (expr_view c.args.parts.now.result)) (extent (expr_view c.args.parts.now.result)) ∷ [] → c.take_targets-targets.new.lengths.items ≡ rest = λ rest e. (c.take_targets-targets.ensures rest (extent (expr_view c.args.parts.now.range) + 1 + extent (expr_view c.args.parts.now.init) + 1 + 1 + extent (expr_view c.args.parts.now.condition) + 1 + extent (expr_view c.args.parts.now.step) + 1 + 1 + extent (expr_view c.args.parts.now.result)) (extent (expr_view c.args.parts.now.result)) e).0 in
-    (first_of (search (rules, exprs.the_lemmas), grind (arith, exprs.the_lemmas), grind (arith, common_steps)), step_room room take c.in_ok-emit.ensures.grows c.put.new.code (instrs.LoopStart c.take_targets-targets.result.end) c.in_ok-put.ensures.found c.in_ok-emit-2.ensures.grows c.put-2.new.code (instrs.Store c.args.depth) c.in_ok-put-2.ensures.found c.put-3.new.code (instrs.LoopNext (c.args.depth + 1) c.take_targets-targets.result.last) c.in_ok-put-3.ensures.found c.in_ok-emit-3.ensures.grows c.put-4.new.code (instrs.LoopTest c.take_targets-targets.result.last c.take_targets-targets.result.end) c.in_ok-put-4.ensures.found)
+    (first_of (search (rules, exprs.the_lemmas), grind (arith, exprs.the_lemmas), grind (arith, common_steps)), step_room room take c.in_ok-emit.ensures.grows c.put.new.code (instrs.LoopStart c.take_targets-targets.result.end) c.in_ok-put.ensures.found c.in_ok-emit-2.ensures.grows c.put-2.new.code (instrs.Store c.args.depth) c.in_ok-put-2.ensures.found c.put-3.new.code c.turn_instr.result c.in_ok-put-3.ensures.found c.in_ok-emit-3.ensures.grows c.put-4.new.code (instrs.LoopTest c.take_targets-targets.result.last c.take_targets-targets.result.end) c.in_ok-put-4.ensures.found)
 
 pub emit_loop-put-requires-6 : goal.emit_loop-put-requires-6
 emit_loop-put-requires-6 t c =
-    let room = loop_room c.args.depth c.requires.room.0 (expr_view c.args.parts.now.range) (expr_view c.args.parts.now.init) (expr_view c.args.parts.now.condition) (expr_view c.args.parts.now.step) (expr_view c.args.parts.now.result) c.args.code.now c.args.lengths.now.items c.requires.room.1 in
+    let inside : c.args.depth + 1 + c.variable_count.result ≡ c.args.depth + 1 + variable_count c.args.parts.now.variables = ap (λ n. c.args.depth + 1 + n) c.variable_count.ensures.same in
+    let room = loop_room c.args.depth (c.args.depth + 1 + c.variable_count.result) c.requires.room.0 c.args.parts.now.variables (expr_view c.args.parts.now.range) (expr_view c.args.parts.now.init) (expr_view c.args.parts.now.condition) (expr_view c.args.parts.now.step) (expr_view c.args.parts.now.result) c.args.code.now c.args.lengths.now.items inside c.requires.room.1 in
     let take : (rest : List Lengths) → c.args.lengths.now.items ≡ rest ++ lengths_are (extent (expr_view c.args.parts.now.range) + 1 + extent (expr_view c.args.parts.now.init) + 1 + 1 + extent (expr_view c.args.parts.now.condition) + 1 + extent (expr_view c.args.parts.now.step) + 1 + 1 + extent (expr_view c.args.parts.now.result)) (extent (expr_view c.args.parts.now.result)) ∷ [] → c.take_targets-targets.new.lengths.items ≡ rest = λ rest e. (c.take_targets-targets.ensures rest (extent (expr_view c.args.parts.now.range) + 1 + extent (expr_view c.args.parts.now.init) + 1 + 1 + extent (expr_view c.args.parts.now.condition) + 1 + extent (expr_view c.args.parts.now.step) + 1 + 1 + extent (expr_view c.args.parts.now.result)) (extent (expr_view c.args.parts.now.result)) e).0 in
-    back_room room take c.in_ok-emit.ensures.grows c.put.new.code (instrs.LoopStart c.take_targets-targets.result.end) c.in_ok-put.ensures.found c.in_ok-emit-2.ensures.grows c.put-2.new.code (instrs.Store c.args.depth) c.in_ok-put-2.ensures.found c.put-3.new.code (instrs.LoopNext (c.args.depth + 1) c.take_targets-targets.result.last) c.in_ok-put-3.ensures.found c.in_ok-emit-3.ensures.grows c.put-4.new.code (instrs.LoopTest c.take_targets-targets.result.last c.take_targets-targets.result.end) c.in_ok-put-4.ensures.found c.in_ok-emit-4.ensures.grows c.put-5.new.code (instrs.Store c.args.depth) c.in_ok-put-5.ensures.found
+    back_room room take c.in_ok-emit.ensures.grows c.put.new.code (instrs.LoopStart c.take_targets-targets.result.end) c.in_ok-put.ensures.found c.in_ok-emit-2.ensures.grows c.put-2.new.code (instrs.Store c.args.depth) c.in_ok-put-2.ensures.found c.put-3.new.code c.turn_instr.result c.in_ok-put-3.ensures.found c.in_ok-emit-3.ensures.grows c.put-4.new.code (instrs.LoopTest c.take_targets-targets.result.last c.take_targets-targets.result.end) c.in_ok-put-4.ensures.found c.in_ok-emit-4.ensures.grows c.put-5.new.code (instrs.Store c.args.depth) c.in_ok-put-5.ensures.found
 
 pub emit_loop-emit-requires-5 : goal.emit_loop-emit-requires-5
 emit_loop-emit-requires-5 t c =
-    let room = loop_room c.args.depth c.requires.room.0 (expr_view c.args.parts.now.range) (expr_view c.args.parts.now.init) (expr_view c.args.parts.now.condition) (expr_view c.args.parts.now.step) (expr_view c.args.parts.now.result) c.args.code.now c.args.lengths.now.items c.requires.room.1 in
+    let inside : c.args.depth + 1 + c.variable_count.result ≡ c.args.depth + 1 + variable_count c.args.parts.now.variables = ap (λ n. c.args.depth + 1 + n) c.variable_count.ensures.same in
+    let room = loop_room c.args.depth (c.args.depth + 1 + c.variable_count.result) c.requires.room.0 c.args.parts.now.variables (expr_view c.args.parts.now.range) (expr_view c.args.parts.now.init) (expr_view c.args.parts.now.condition) (expr_view c.args.parts.now.step) (expr_view c.args.parts.now.result) c.args.code.now c.args.lengths.now.items inside c.requires.room.1 in
     let take : (rest : List Lengths) → c.args.lengths.now.items ≡ rest ++ lengths_are (extent (expr_view c.args.parts.now.range) + 1 + extent (expr_view c.args.parts.now.init) + 1 + 1 + extent (expr_view c.args.parts.now.condition) + 1 + extent (expr_view c.args.parts.now.step) + 1 + 1 + extent (expr_view c.args.parts.now.result)) (extent (expr_view c.args.parts.now.result)) ∷ [] → c.take_targets-targets.new.lengths.items ≡ rest = λ rest e. (c.take_targets-targets.ensures rest (extent (expr_view c.args.parts.now.range) + 1 + extent (expr_view c.args.parts.now.init) + 1 + 1 + extent (expr_view c.args.parts.now.condition) + 1 + extent (expr_view c.args.parts.now.step) + 1 + 1 + extent (expr_view c.args.parts.now.result)) (extent (expr_view c.args.parts.now.result)) e).0 in
-    (first_of (search (rules, exprs.the_lemmas), grind (arith, exprs.the_lemmas), grind (arith, common_steps)), result_room room take c.in_ok-emit.ensures.grows c.put.new.code (instrs.LoopStart c.take_targets-targets.result.end) c.in_ok-put.ensures.found c.in_ok-emit-2.ensures.grows c.put-2.new.code (instrs.Store c.args.depth) c.in_ok-put-2.ensures.found c.put-3.new.code (instrs.LoopNext (c.args.depth + 1) c.take_targets-targets.result.last) c.in_ok-put-3.ensures.found c.in_ok-emit-3.ensures.grows c.put-4.new.code (instrs.LoopTest c.take_targets-targets.result.last c.take_targets-targets.result.end) c.in_ok-put-4.ensures.found c.in_ok-emit-4.ensures.grows c.put-5.new.code (instrs.Store c.args.depth) c.in_ok-put-5.ensures.found c.put-6.new.code (instrs.Jump c.len-turn.result) c.in_ok-put-6.ensures.found)
+    (first_of (search (rules, exprs.the_lemmas), grind (arith, exprs.the_lemmas), grind (arith, common_steps)), result_room room take c.in_ok-emit.ensures.grows c.put.new.code (instrs.LoopStart c.take_targets-targets.result.end) c.in_ok-put.ensures.found c.in_ok-emit-2.ensures.grows c.put-2.new.code (instrs.Store c.args.depth) c.in_ok-put-2.ensures.found c.put-3.new.code c.turn_instr.result c.in_ok-put-3.ensures.found c.in_ok-emit-3.ensures.grows c.put-4.new.code (instrs.LoopTest c.take_targets-targets.result.last c.take_targets-targets.result.end) c.in_ok-put-4.ensures.found c.in_ok-emit-4.ensures.grows c.put-5.new.code (instrs.Store c.args.depth) c.in_ok-put-5.ensures.found c.put-6.new.code (instrs.Jump c.len-turn.result) c.in_ok-put-6.ensures.found)
 
 pub emit_loop-returns : goal.emit_loop-returns
 emit_loop-returns t c =
-    let room = loop_room c.args.depth c.requires.room.0 (expr_view c.args.parts.now.range) (expr_view c.args.parts.now.init) (expr_view c.args.parts.now.condition) (expr_view c.args.parts.now.step) (expr_view c.args.parts.now.result) c.args.code.now c.args.lengths.now.items c.requires.room.1 in
+    let inside : c.args.depth + 1 + c.variable_count.result ≡ c.args.depth + 1 + variable_count c.args.parts.now.variables = ap (λ n. c.args.depth + 1 + n) c.variable_count.ensures.same in
+    let room = loop_room c.args.depth (c.args.depth + 1 + c.variable_count.result) c.requires.room.0 c.args.parts.now.variables (expr_view c.args.parts.now.range) (expr_view c.args.parts.now.init) (expr_view c.args.parts.now.condition) (expr_view c.args.parts.now.step) (expr_view c.args.parts.now.result) c.args.code.now c.args.lengths.now.items inside c.requires.room.1 in
     let take : (rest : List Lengths) → c.args.lengths.now.items ≡ rest ++ lengths_are (extent (expr_view c.args.parts.now.range) + 1 + extent (expr_view c.args.parts.now.init) + 1 + 1 + extent (expr_view c.args.parts.now.condition) + 1 + extent (expr_view c.args.parts.now.step) + 1 + 1 + extent (expr_view c.args.parts.now.result)) (extent (expr_view c.args.parts.now.result)) ∷ [] → c.take_targets-targets.new.lengths.items ≡ rest = λ rest e. (c.take_targets-targets.ensures rest (extent (expr_view c.args.parts.now.range) + 1 + extent (expr_view c.args.parts.now.init) + 1 + 1 + extent (expr_view c.args.parts.now.condition) + 1 + extent (expr_view c.args.parts.now.step) + 1 + 1 + extent (expr_view c.args.parts.now.result)) (extent (expr_view c.args.parts.now.result)) e).0 in
     let last = next c.args.lengths.now.items ((((lengths_of (expr_view c.args.parts.now.result) ++ lengths_of (expr_view c.args.parts.now.step)) ++ lengths_of (expr_view c.args.parts.now.condition)) ++ lengths_of (expr_view c.args.parts.now.init)) ++ lengths_of (expr_view c.args.parts.now.range)) (lengths_are (extent (expr_view c.args.parts.now.range) + 1 + extent (expr_view c.args.parts.now.init) + 1 + 1 + extent (expr_view c.args.parts.now.condition) + 1 + extent (expr_view c.args.parts.now.step) + 1 + 1 + extent (expr_view c.args.parts.now.result)) (extent (expr_view c.args.parts.now.result)) ∷ []) room.ends in
     let said = c.take_targets-targets.ensures last.0 (extent (expr_view c.args.parts.now.range) + 1 + extent (expr_view c.args.parts.now.init) + 1 + 1 + extent (expr_view c.args.parts.now.condition) + 1 + extent (expr_view c.args.parts.now.step) + 1 + 1 + extent (expr_view c.args.parts.now.result)) (extent (expr_view c.args.parts.now.result)) last.1 in
@@ -298,6 +304,6 @@ emit_loop-returns t c =
     let end_is = said.1 in
     let last_is = said.2 in
     record {
-      grows = λ kind. loop_built room take c.in_ok-emit.ensures.grows c.put.new.code (instrs.LoopStart c.take_targets-targets.result.end) c.in_ok-put.ensures.found c.in_ok-emit-2.ensures.grows c.put-2.new.code (instrs.Store c.args.depth) c.in_ok-put-2.ensures.found c.put-3.new.code (instrs.LoopNext (c.args.depth + 1) c.take_targets-targets.result.last) c.in_ok-put-3.ensures.found c.in_ok-emit-3.ensures.grows c.put-4.new.code (instrs.LoopTest c.take_targets-targets.result.last c.take_targets-targets.result.end) c.in_ok-put-4.ensures.found c.in_ok-emit-4.ensures.grows c.put-5.new.code (instrs.Store c.args.depth) c.in_ok-put-5.ensures.found c.put-6.new.code (instrs.Jump c.len-turn.result) c.in_ok-put-6.ensures.found c.in_ok-emit-5.ensures.grows kind c.take_targets-targets.result.end c.take_targets-targets.result.last c.len-turn.result
-          (omega (arith, end_is, begin)) (omega (arith, last_is, begin)) c.len-turn.ensures.same refl refl refl refl refl refl;
+      grows = λ kind. loop_built room take c.in_ok-emit.ensures.grows c.put.new.code (instrs.LoopStart c.take_targets-targets.result.end) c.in_ok-put.ensures.found c.in_ok-emit-2.ensures.grows c.put-2.new.code (instrs.Store c.args.depth) c.in_ok-put-2.ensures.found c.put-3.new.code c.turn_instr.result c.in_ok-put-3.ensures.found c.in_ok-emit-3.ensures.grows c.put-4.new.code (instrs.LoopTest c.take_targets-targets.result.last c.take_targets-targets.result.end) c.in_ok-put-4.ensures.found c.in_ok-emit-4.ensures.grows c.put-5.new.code (instrs.Store c.args.depth) c.in_ok-put-5.ensures.found c.put-6.new.code (instrs.Jump c.len-turn.result) c.in_ok-put-6.ensures.found c.in_ok-emit-5.ensures.grows kind c.args.parts.now.variables c.take_targets-targets.result.end c.take_targets-targets.result.last c.len-turn.result
+          (omega (arith, end_is, begin)) (omega (arith, last_is, begin)) c.len-turn.ensures.same inside refl refl c.turn_instr.ensures refl refl refl;
     }

@@ -1,9 +1,10 @@
 use Rattle.std.proofs.lemmas.Result.{MatchResult-weaker}
 use Rattle.cel_types.specs.View.{typed_view}
 use Rattle.stack_machine.specs.Instructions.{code_view}
-use Rattle.cel_compile.proofs.Forwards.{code_is_forward, code_never_stuck}
+use Rattle.cel_compile.proofs.Forwards.{code_is_forward}
 use Rattle.cel_compile.proofs.Meaning.{code_means}
 use Rattle.cel_compile.proofs.Short.{room_alone}
+use Rattle.cel_compile.proofs.Unstuck.{code_never_stuck}
 use Rattle.cel_compile.proofs.Whole.{code_is_sound}
 use Rattle.cel_compile.proofs.compiler.compile.Goals as goal
 

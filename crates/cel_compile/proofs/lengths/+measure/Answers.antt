@@ -94,7 +94,7 @@ measure_loop-returns t c =
     let turn = c.sum-turn.ensures _ 4 (c.sum.ensures _ _ c.in_ok-condition.ensures.long.counts c.in_ok-step.ensures.long.counts) (own 4) in
     let some = c.sum-whole.ensures _ 2 (c.sum-4.ensures _ _ (c.sum-2.ensures _ _ c.in_ok-range.ensures.long.counts c.in_ok-init.ensures.long.counts) (c.sum-3.ensures _ _ turn c.in_ok-last.ensures.long.counts)) (own 2) in
     record {
-      long = λ kind. loop_measured kind (expr_view c.args.parts.now.range) (expr_view c.args.parts.now.init) (expr_view c.args.parts.now.condition) (expr_view c.args.parts.now.step) (expr_view c.args.parts.now.result)
+      long = λ kind. loop_measured kind c.args.parts.now.variables (expr_view c.args.parts.now.range) (expr_view c.args.parts.now.init) (expr_view c.args.parts.now.condition) (expr_view c.args.parts.now.step) (expr_view c.args.parts.now.result)
           c.args.lengths.now.items c.measure.new.lengths.items c.measure-2.new.lengths.items c.measure-3.new.lengths.items c.measure-4.new.lengths.items c.measure-5.new.lengths.items c.push.new.self.items
           c.in_ok-last.last c.in_ok-step.step c.in_ok-condition.condition c.in_ok-init.init c.in_ok-range.range c.sum-whole.result
           c.in_ok-last.ensures.long c.in_ok-step.ensures.long c.in_ok-condition.ensures.long c.in_ok-init.ensures.long c.in_ok-range.ensures.long

@@ -5,9 +5,9 @@ use Rattle.std.specs.Option.{option_and_then}
 use Rattle.cel_tree.specs.View.{target_of}
 use Rattle.cel_tree.specs.steps.TreeViews.{boxed_view, loop_view, trees_view}
 use Rattle.cel_value.specs.Texts.{text_view}
-use Rattle.cel_value.specs.View.{answer_view, values_view}
+use Rattle.cel_value.specs.View.{answer_view}
 use Rattle.cel_types.specs.Meaning.{call_answer, eval, eval_each}
-use Rattle.cel_meaning.specs.steps.Plain.{locals_view, turns}
+use Rattle.cel_meaning.specs.steps.Plain.{locals_view, turn_view, turns}
 use Rattle.cel_types.proofs.CheckSteps.{tree_call, tree_comprehension, tree_map}
 use Rattle.cel_meaning.proofs.PlainSteps.{next_turn, no_call, target_before, target_none}
 use Rattle.cel_meaning.proofs.nodes.+eval.Goals as goal
@@ -63,36 +63,36 @@ eval_turns-returns-in-Some-Err t c =
     let p = loop_view c.args.parts.now in
     let request = c.args.request.now in
     let ls = locals_view c.args.known.now in
-    let elements = c.args.elements.now in
-    let i = c.loop-element.element-index in
-    let a = answer_view c.loop-element.gathered in
-    let left = next_turn p request ls elements i c.element-item.result a c.loop-element-test.true c.element-item.is in
+    let each = c.args.each.now in
+    let i = c.loop-turn.turn-index in
+    let a = answer_view c.loop-turn.gathered in
+    let left = next_turn p request ls each i c.turn-item.result a c.loop-turn-test.true c.turn-item.is in
     let told = rw (c.in-Some-Err.is, c.in-Some-Err.field-0-is) at (c.in_ok-init.ensures
-    (turns p request ls (values_view (drop (i + 1) elements))) (eval p.result request ((p.accu_var, a) ∷ ls))) in
-    sym (c.loop-element.invariant ∙ left ∙ told)
+    (turns p request ls (map turn_view (drop (i + 1) each))) (eval p.result request ((p.accu_var, a) ∷ ls))) in
+    sym (c.loop-turn.invariant ∙ left ∙ told)
 
 pub eval_turns-returns-in-None : goal.eval_turns-returns-in-None
 eval_turns-returns-in-None t c =
     let p = loop_view c.args.parts.now in
     let request = c.args.request.now in
     let ls = locals_view c.args.known.now in
-    let elements = c.args.elements.now in
-    let i = c.loop-element.element-index in
-    let a = answer_view c.loop-element.gathered in
-    let left = next_turn p request ls elements i c.element-item.result a c.loop-element-test.true c.element-item.is in
+    let each = c.args.each.now in
+    let i = c.loop-turn.turn-index in
+    let a = answer_view c.loop-turn.gathered in
+    let left = next_turn p request ls each i c.turn-item.result a c.loop-turn-test.true c.turn-item.is in
     let told = rw c.in-None.is at (c.in_ok-init.ensures
-    (turns p request ls (values_view (drop (i + 1) elements))) (eval p.result request ((p.accu_var, a) ∷ ls))) in
-    sym (c.loop-element.invariant ∙ left ∙ told)
+    (turns p request ls (map turn_view (drop (i + 1) each))) (eval p.result request ((p.accu_var, a) ∷ ls))) in
+    sym (c.loop-turn.invariant ∙ left ∙ told)
 
-pub eval_turns-loop-element-preserved : goal.eval_turns-loop-element-preserved
-eval_turns-loop-element-preserved t c =
+pub eval_turns-loop-turn-preserved : goal.eval_turns-loop-turn-preserved
+eval_turns-loop-turn-preserved t c =
     let p = loop_view c.args.parts.now in
     let request = c.args.request.now in
     let ls = locals_view c.args.known.now in
-    let elements = c.args.elements.now in
-    let i = c.loop-element.element-index in
-    let a = answer_view c.loop-element.gathered in
-    let left = next_turn p request ls elements i c.element-item.result a c.loop-element-test.true c.element-item.is in
+    let each = c.args.each.now in
+    let i = c.loop-turn.turn-index in
+    let a = answer_view c.loop-turn.gathered in
+    let left = next_turn p request ls each i c.turn-item.result a c.loop-turn-test.true c.turn-item.is in
     let told = rw (c.in-Some-Ok-Some.is, c.in-Some-Ok-Some.field-0-is, c.in-Some-Ok-Some.field-0-0-is) at (c.in_ok-init.ensures
-    (turns p request ls (values_view (drop (i + 1) elements))) (eval p.result request ((p.accu_var, a) ∷ ls))) in
-    c.loop-element.invariant ∙ left ∙ told
+    (turns p request ls (map turn_view (drop (i + 1) each))) (eval p.result request ((p.accu_var, a) ∷ ls))) in
+    c.loop-turn.invariant ∙ left ∙ told

@@ -1,9 +1,7 @@
 use Rattle.std.proofs.Common.{List, map, inl}
 use Rattle.proto_wire.specs.Fields.{Wire, field_view}
-use Rattle.proto_wire.specs.Values.{bytes_at}
-use Rattle.cel_tree.specs.Nodes.{loop_field, LoopLacks, LoopWrong}
+use Rattle.cel_tree.specs.Nodes.{LoopLacks, LoopWrong}
 use Rattle.cel_tree.specs.steps.Values.{ValuesFault}
-use Rattle.cel_tree.proofs.Basics.{empty_text}
 use Rattle.cel_tree.proofs.Readers.{exit_fault}
 use Rattle.cel_tree.proofs.loops.loop_of.Goals as goal
 
@@ -14,4 +12,4 @@ returns-in_err-require_parts-clause-fault c =
     let lacks = c.in_err-require_parts.ensures.fault in
     exit_fault (ValuesFault LoopLacks LoopWrong fs) c.from_residual-in_err-require_parts.result _
     c.from_residual-in_err-require_parts.ensures.1
-    (inl ((names.iter_var, names.accu_var, empty_text (bytes_at loop_field.iter_var2 fs) names.one, lacks.0), lacks.1))
+    (inl ((names, lacks.0), lacks.1))

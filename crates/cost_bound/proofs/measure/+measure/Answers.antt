@@ -11,7 +11,9 @@ use Rattle.cost_bound.specs.steps.Measuring.{call_part, next_size, turn_cost}
 use Rattle.cost_bound.specs.steps.Memos.{known_view, part_at}
 use Rattle.cost_bound.specs.steps.Numbers.{capped}
 use Rattle.cost_bound.specs.steps.ScopeView.{locals_view, scope_view}
-use Rattle.cost_bound.specs.steps.SizeView.{size_view}
+use Rattle.cost_bound.specs.steps.SizeView.{size_view, variables_view}
+use Rattle.cost_bound.specs.declared.steady.Around.{Around}
+use Rattle.cost_bound.proofs.Alike.{size_count}
 use Rattle.cost_bound.proofs.Calls.{call_costs, part_covers}
 use Rattle.cost_bound.proofs.Capped.{paid}
 use Rattle.cost_bound.proofs.ExprViews.{view_call, view_list, view_loop, view_map}
@@ -19,7 +21,7 @@ use Rattle.cost_bound.proofs.Locals as locals
 use Rattle.cost_bound.proofs.MemoViews.{view_unknown}
 use Rattle.cost_bound.proofs.Neighbours.{choice_alike, choice_found, choice_short, item_again, items_short}
 use Rattle.cost_bound.proofs.Pairs.{pair_found}
-use Rattle.cost_bound.proofs.Remembering.{each_holds, holds_nothing, loop_remembered, more_parts, part_holds, remembered_turns, told_in_turns}
+use Rattle.cost_bound.proofs.Remembering.{each_holds, holds_nothing, loop_remembered, more_parts, part_holds, remembered_turns, told_in_turns, two_scopes}
 use Rattle.cost_bound.proofs.Steps.{as_many, cost_count, exit_charge, exit_more, last_more, loop_adds, loop_ends_short, loop_short, loop_size}
 use Rattle.cost_bound.proofs.Turns.{grown_next, grown_still, still_paid, still_short, turns_next}
 use Rattle.cost_bound.proofs.measure.+measure.Goals as goal
@@ -133,9 +135,9 @@ measure_loop-returns-clause-found t c = λ kind.
     let opened = ap (λ k. 1 + k + c.in_ok-opened.opened) (c.most.ensures.most ∙ sym c.most-turns.ensures.most) in
     IfOk-weaker c.measure-3.result _ _ (λ m h. (
       h.0 ∙ loop_size (parts_view c.args.parts.now) kind c.args.limits.now (scope_view c.args.scope.now)
-          _ _ _ _ _ range.0 c.most-turns.ensures.most c.in_ok-element.ensures init.0 gathered.0,
+          _ _ _ _ _ range.0 c.most-turns.ensures.most c.in_ok-each.ensures init.0 gathered.0,
       loop_adds (parts_view c.args.parts.now) kind c.args.limits.now (scope_view c.args.scope.now)
-          _ _ _ _ _ _ _ _ _ _ _ _ _ range.0 c.most-turns.ensures.most c.in_ok-element.ensures init.0
+          _ _ _ _ _ _ _ _ _ _ _ _ _ range.0 c.most-turns.ensures.most c.in_ok-each.ensures init.0
           gathered.0 range.1 (c.in_ok-opened.ensures.found ∙ opened) init.1 c.in_ok-stored.ensures.found
           gathered.1 c.in_ok-closed.ensures.found h.1,
     )) (rw c.with-inner.ensures.sizes at c.measure-3.ensures.found)
@@ -167,9 +169,9 @@ measure_pair-returns-clause-found t c =
 
 pub measure_turns-loop-others-preserved : goal.measure_turns-loop-others-preserved
 measure_turns-loop-others-preserved t c =
-    let next = next_size (parts_view c.args.parts.now) c.args.limits.now (size_view c.args.element.now)
+    let next = next_size (parts_view c.args.parts.now) c.args.limits.now (variables_view c.args.each.now)
     (scope_view c.args.scope.now) in
-    let cost = turn_cost (parts_view c.args.parts.now) c.args.limits.now (size_view c.args.element.now)
+    let cost = turn_cost (parts_view c.args.parts.now) c.args.limits.now (variables_view c.args.each.now)
     (scope_view c.args.scope.now) in
     let before = c.loop-others.invariant in
     let turn = c.in_ok-turn.ensures.found in
@@ -181,9 +183,9 @@ measure_turns-loop-others-preserved t c =
 pub measure_turns-returns-in_err-left-clause-fault : goal.measure_turns-returns-in_err-left-clause-fault
 measure_turns-returns-in_err-left-clause-fault t c =
     let exit = c.from_residual-in_err-left in
-    let next = next_size (parts_view c.args.parts.now) c.args.limits.now (size_view c.args.element.now)
+    let next = next_size (parts_view c.args.parts.now) c.args.limits.now (variables_view c.args.each.now)
     (scope_view c.args.scope.now) in
-    let cost = turn_cost (parts_view c.args.parts.now) c.args.limits.now (size_view c.args.element.now)
+    let cost = turn_cost (parts_view c.args.parts.now) c.args.limits.now (variables_view c.args.each.now)
     (scope_view c.args.scope.now) in
     let before = c.loop-others.invariant in
     let turn = c.in_ok-turn.ensures.found in
@@ -194,9 +196,9 @@ measure_turns-returns-in_err-left-clause-fault t c =
 
 pub measure_turns-returns-then-same-clause-found : goal.measure_turns-returns-then-same-clause-found
 measure_turns-returns-then-same-clause-found t c =
-    let next = next_size (parts_view c.args.parts.now) c.args.limits.now (size_view c.args.element.now)
+    let next = next_size (parts_view c.args.parts.now) c.args.limits.now (variables_view c.args.each.now)
     (scope_view c.args.scope.now) in
-    let cost = turn_cost (parts_view c.args.parts.now) c.args.limits.now (size_view c.args.element.now)
+    let cost = turn_cost (parts_view c.args.parts.now) c.args.limits.now (variables_view c.args.each.now)
     (scope_view c.args.scope.now) in
     let before = c.loop-others.invariant in
     let turn = c.in_ok-turn.ensures.found in
@@ -234,26 +236,44 @@ measure_loop-measure-requires-2 t c = (
 pub measure_loop-remember-requires : goal.measure_loop-remember-requires
 measure_loop-remember-requires t c = (
   first_of (search (rules, the_lemmas), grind (arith, the_lemmas), grind (arith, common_steps)),
-  (c.with-inside.ensures.counted, rw (c.part-3.ensures, c.with-inside.ensures.sizes, c.with-around.ensures.sizes) ((c.requires.holds bool_type).1.2 _ _)),
+  (
+    c.with-inside.ensures.counted,
+    let each = c.in_ok-each.each in
+        let inside = two_scopes _ _ (variables_view each) _ _ _ c.with-inside.ensures.sizes
+        c.with_key-keyed.ensures.sizes c.with-around.ensures.sizes in
+        rw (c.part-3.ensures, inside) ((c.requires.holds bool_type).1.2 _ (variables_view each)
+        (ap length c.in_ok-each.ensures ∙ size_count (parts_view c.args.parts.now).variables _)),
+  ),
 )
 
 pub measure_loop-remember-requires-2 : goal.measure_loop-remember-requires-2
 measure_loop-remember-requires-2 t c = (
   first_of (search (rules, the_lemmas), grind (arith, the_lemmas), grind (arith, common_steps)),
-  (c.with-inside.ensures.counted, rw (c.part-4.ensures, c.with-inside.ensures.sizes, c.with-around.ensures.sizes) ((c.requires.holds bool_type).1.3 _ _)),
+  (
+    c.with-inside.ensures.counted,
+    let each = c.in_ok-each.each in
+        let inside = two_scopes _ _ (variables_view each) _ _ _ c.with-inside.ensures.sizes
+        c.with_key-keyed.ensures.sizes c.with-around.ensures.sizes in
+        rw (c.part-4.ensures, inside) ((c.requires.holds bool_type).1.3 _ (variables_view each)
+        (ap length c.in_ok-each.ensures ∙ size_count (parts_view c.args.parts.now).variables _)),
+  ),
 )
 
 pub measure_loop-measure_turns-requires : goal.measure_loop-measure_turns-requires
 measure_loop-measure_turns-requires t c =
-    let inside = rw c.with-around.ensures.sizes at c.with-inside.ensures.sizes in (
+    let turning : Around = record { count = c.count.result; variables = c.args.parts.now.variables } in
+    let each = variables_view c.in_ok-each.each in
+    let many = ap length c.in_ok-each.ensures ∙ size_count (parts_view c.args.parts.now).variables _ in
+    let inside = two_scopes _ _ each _ _ _ c.with-inside.ensures.sizes
+    c.with_key-keyed.ensures.sizes c.with-around.ensures.sizes in (
       first_of (search (rules, the_lemmas), grind (arith, the_lemmas), grind (arith, common_steps)),
       (
         c.requires.counted,
         (
-          remembered_turns _ _ c.args.limits.now _ _ _ _ (locals_view c.args.scope.now)
-              c.count-count.ensures inside c.in_ok-condition.ensures.found,
-          remembered_turns _ _ c.args.limits.now _ _ _ _ (locals_view c.args.scope.now)
-              c.count-count.ensures inside c.in_ok-step.ensures.found,
+          remembered_turns _ _ c.args.limits.now turning _ each _ (locals_view c.args.scope.now)
+              c.count.ensures many inside c.in_ok-condition.ensures.found,
+          remembered_turns _ _ c.args.limits.now turning _ each _ (locals_view c.args.scope.now)
+              c.count.ensures many inside c.in_ok-step.ensures.found,
         ),
       ),
     )
@@ -272,7 +292,7 @@ measure_loop-returns-in_err-gathered-clause-fault t c = λ kind.
     let opened = ap (λ k. 1 + k + c.in_ok-opened.opened) (c.most.ensures.most ∙ sym c.most-turns.ensures.most) in
     exit_more _ _ _ _ exit.result _ exit.ensures.1 c.in_err-gathered.ensures.fault
     (λ more. loop_short (parts_view c.args.parts.now) kind c.args.limits.now (scope_view c.args.scope.now)
-    _ _ _ _ _ _ _ _ _ range.0 c.most-turns.ensures.most c.in_ok-element.ensures init.0
+    _ _ _ _ _ _ _ _ _ range.0 c.most-turns.ensures.most c.in_ok-each.ensures init.0
     range.1 (c.in_ok-opened.ensures.found ∙ opened) init.1 c.in_ok-stored.ensures.found more)
 
 pub measure_loop-returns-in_err-closed-clause-fault : goal.measure_loop-returns-in_err-closed-clause-fault
@@ -284,7 +304,7 @@ measure_loop-returns-in_err-closed-clause-fault t c = λ kind.
     let opened = ap (λ k. 1 + k + c.in_ok-opened.opened) (c.most.ensures.most ∙ sym c.most-turns.ensures.most) in
     exit_charge _ _ _ _ exit.result _ exit.ensures.1 c.in_err-closed.ensures.fault
     (λ more. loop_ends_short (parts_view c.args.parts.now) kind c.args.limits.now (scope_view c.args.scope.now)
-    _ _ _ _ _ _ _ _ _ _ _ range.0 c.most-turns.ensures.most c.in_ok-element.ensures init.0 gathered.0
+    _ _ _ _ _ _ _ _ _ _ _ range.0 c.most-turns.ensures.most c.in_ok-each.ensures init.0 gathered.0
     range.1 (c.in_ok-opened.ensures.found ∙ opened) init.1 c.in_ok-stored.ensures.found gathered.1
     (omega (arith, more)))
 
@@ -300,7 +320,7 @@ measure_loop-returns-clause-fault t c = λ kind.
     (cost_of (loop_of kind (parts_view c.args.parts.now)) c.args.limits.now (scope_view c.args.scope.now))
     c.args.left c.measure-3.result
     (λ more. loop_ends_short (parts_view c.args.parts.now) kind c.args.limits.now (scope_view c.args.scope.now)
-    _ _ _ _ _ _ _ _ _ _ _ range.0 c.most-turns.ensures.most c.in_ok-element.ensures init.0 gathered.0
+    _ _ _ _ _ _ _ _ _ _ _ range.0 c.most-turns.ensures.most c.in_ok-each.ensures init.0 gathered.0
     range.1 (c.in_ok-opened.ensures.found ∙ opened) init.1 c.in_ok-stored.ensures.found gathered.1
     (omega (arith, more, closed)))
     (rw c.with-inner.ensures.sizes at c.measure-3.ensures.fault)
@@ -317,6 +337,12 @@ remember-returns-in-Call-clause-found t c =
     rw seen (IfOk-weaker c.remember_each.result _ _ (λ r h. λ k others counted turns.
     (h.0 _ _, h.1 k others counted turns)) (rw c.deref-in-Call-2.ensures.value at c.remember_each.ensures.found))
 
+pub remember-returns-in-List-clause-found : goal.remember-returns-in-List-clause-found
+remember-returns-in-List-clause-found t c =
+    let seen = ap expr_view c.in-List.is ∙ view_list c.in-List.cel_type c.in-List.elements in
+    rw seen (IfOk-weaker c.remember_each-in-List.result _ _ (λ r h. λ k others counted turns.
+    (h.0 _ _, h.1 k others counted turns)) (rw c.deref-in-List.ensures.value at c.remember_each-in-List.ensures.found))
+
 pub remember-returns-in-Map-clause-found : goal.remember-returns-in-Map-clause-found
 remember-returns-in-Map-clause-found t c =
     let seen = ap expr_view c.in-Map.is ∙ view_map c.in-Map.cel_type c.in-Map.pairs in
@@ -328,7 +354,7 @@ remember-returns-then-is_steady-clause-found t c =
     let sizes = scope_view c.args.scope.now in
     let e = expr_view c.args.expr.now in
     IfOk-weaker c.keep_measured.result _ _ (λ r told. λ k others counted turns.
-    told_in_turns k (length sizes) e c.args.limits.now sizes others _
+    told_in_turns k c.args.around.variables (length sizes) e c.args.limits.now sizes others _
     (c.is_steady.ensures k (length sizes) counted
     (c.count.ensures ∙ ap capped (sym (locals.as_many (locals_view c.args.scope.now)))) c.if-is_steady.true)
     refl turns told)
@@ -391,13 +417,25 @@ remember_loop-remember-requires-2 t c = (
 pub remember_loop-remember-requires-3 : goal.remember_loop-remember-requires-3
 remember_loop-remember-requires-3 t c = (
   first_of (search (rules, the_lemmas), grind (arith, the_lemmas), grind (arith, common_steps)),
-  (c.with-inner.ensures.counted, rw (c.part-3.ensures, c.with-inner.ensures.sizes, c.with-outer.ensures.sizes) ((c.requires.holds bool_type).1.2 _ _)),
+  (
+    c.with-inner.ensures.counted,
+    let others = c.any-others.result in
+        let inside = two_scopes _ _ (variables_view others) _ _ _ c.with-inner.ensures.sizes
+        c.with_key-keyed.ensures.sizes c.with-outer.ensures.sizes in
+        rw (c.part-3.ensures, inside) ((c.requires.holds bool_type).1.2 _ (variables_view others) c.any-others.ensures),
+  ),
 )
 
 pub remember_loop-remember-requires-4 : goal.remember_loop-remember-requires-4
 remember_loop-remember-requires-4 t c = (
   first_of (search (rules, the_lemmas), grind (arith, the_lemmas), grind (arith, common_steps)),
-  (c.with-inner.ensures.counted, rw (c.part-4.ensures, c.with-inner.ensures.sizes, c.with-outer.ensures.sizes) ((c.requires.holds bool_type).1.3 _ _)),
+  (
+    c.with-inner.ensures.counted,
+    let others = c.any-others.result in
+        let inside = two_scopes _ _ (variables_view others) _ _ _ c.with-inner.ensures.sizes
+        c.with_key-keyed.ensures.sizes c.with-outer.ensures.sizes in
+        rw (c.part-4.ensures, inside) ((c.requires.holds bool_type).1.3 _ (variables_view others) c.any-others.ensures),
+  ),
 )
 
 pub remember_loop-remember-requires-5 : goal.remember_loop-remember-requires-5
@@ -409,11 +447,11 @@ remember_loop-remember-requires-5 t c = (
 pub remember_loop-returns-clause-found : goal.remember_loop-returns-clause-found
 remember_loop-returns-clause-found t c = λ kind. λ k others counted turns.
     loop_remembered (parts_view c.args.parts.now) kind c.args.limits.now c.args.around k
-    (scope_view c.args.scope.now) others _ _ _ _ _ _ _ _ _ _ _ _ _ _
+    (scope_view c.args.scope.now) others _ _ (variables_view c.any-others.result) _ _ _ _ _ _ _ _ _ _ _ _
     c.of_parts.ensures.at c.of_parts.ensures.silent
     c.in_ok-one.ensures.there c.in_ok-two.ensures.before c.in_ok-two.ensures.there
     c.in_ok-three.ensures.before c.in_ok-three.ensures.there c.in_ok-four.ensures.before c.in_ok-four.ensures.there
     c.in_ok-five.ensures.before c.in_ok-five.ensures.there
-    c.with-outer.ensures.sizes c.with-inner.ensures.sizes
+    c.with-outer.ensures.sizes (c.with-inner.ensures.sizes ∙ c.with_key-keyed.ensures.sizes) c.any-others.ensures
     c.in_ok-range.ensures.found c.in_ok-init.ensures.found c.in_ok-condition.ensures.found
     c.in_ok-step.ensures.found c.in_ok-end.ensures.found counted turns

@@ -8,7 +8,7 @@ use Rattle.cost_bound.specs.steps.Measuring.{next_size, turn_cost}
 use Rattle.cost_bound.specs.steps.Memos.{Holds, InTurns, memo_at, memos_view}
 use Rattle.cost_bound.specs.steps.Numbers.{capped}
 use Rattle.cost_bound.specs.steps.ScopeView.{scope_view}
-use Rattle.cost_bound.specs.steps.SizeView.{size_view, sizes_view}
+use Rattle.cost_bound.specs.steps.SizeView.{size_view, sizes_view, variables_view}
 use Rattle.cost_bound.proofs.measure.+measure.Given as goal
 
 abbrev pub invariant-measure_each-loop-expr : goal.invariant-measure_each-loop-expr
@@ -37,14 +37,15 @@ abbrev pub invariant-remember_each-loop-expr : goal.invariant-remember_each-loop
 invariant-remember_each-loop-expr l =
     (l.place ≡ l.expr-index)
     × (length l.parts.items ≤ l.place)
-    × ((k : ℕ) (others : List Size) → l.around ≡ capped k → InTurns k (scope_view l.scope) others
+    × ((k : ℕ) (others : List Size) → l.around.count ≡ capped k
+    → InTurns k l.around.variables (scope_view l.scope) others
     → (i : ℕ) (x : TypedExpr) → i < l.expr-index → x ≡ get_or l.exprs i x
     → Holds (memo_at i (memos_view l.parts.items)) (expr_view x) l.limits others)
 
 abbrev pub invariant-measure_turns-loop-others : goal.invariant-measure_turns-loop-others
 invariant-measure_turns-loop-others l =
-    let next = next_size (parts_view l.parts) l.limits (size_view l.element) (scope_view l.scope) in
-    let turn = turn_cost (parts_view l.parts) l.limits (size_view l.element) (scope_view l.scope) in
+    let next = next_size (parts_view l.parts) l.limits (variables_view l.each) (scope_view l.scope) in
+    let turn = turn_cost (parts_view l.parts) l.limits (variables_view l.each) (scope_view l.scope) in
     (grown next l.others (size_view l.gathered) ≡ grown next l.initial.others (size_view l.initial.gathered))
     × (l.left + turns_cost next turn l.others (size_view l.gathered)
     ≡ turns_cost next turn l.initial.others (size_view l.initial.gathered) + l.rest)

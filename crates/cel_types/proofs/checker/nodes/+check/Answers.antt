@@ -7,13 +7,16 @@ use Rattle.cel_tree.specs.View.{checked_view, target_of, tree_view}
 use Rattle.cel_tree.specs.steps.TreeViews.{boxed_view, loop_view, tree_entries_view, trees_view}
 use Rattle.cel_value.specs.Texts.{text_view}
 use Rattle.cel_value.specs.Types.{type_view}
-use Rattle.cel_types.specs.Typing.{maps_of}
+use Rattle.cel_types.specs.Names.{turn_scope}
+use Rattle.cel_types.specs.Typing.{locals_in, maps_of}
 use Rattle.cel_types.specs.View.{expr_view}
 use Rattle.cel_types.specs.steps.ExprViews.{exprs_view}
-use Rattle.cel_types.specs.steps.Kinds.{elements_type}
+use Rattle.cel_types.specs.Elaborated.{kind}
+use Rattle.cel_types.specs.steps.Kinds.{each_view}
 use Rattle.cel_types.specs.steps.Scopes.{scope_view}
 use Rattle.cel_types.proofs.CheckSteps.{target_some, tree_call, tree_comprehension, tree_ident, tree_map, view_list, view_loop, view_map}
-use Rattle.cel_types.proofs.Checking.{attribute_bad, call_bad, call_found, each_more, each_within, elements_none, entry_within, entry_wrong, field_bad, field_found, list_bad, list_found, loop_found, map_bad, map_found, node_found, pair_at, pairs_more, result_bad, some_at, turn_bad, types_of}
+use Rattle.cel_types.proofs.Checking.{attribute_bad, call_bad, call_found, each_more, each_within, elements_none, entry_within, entry_wrong, field_bad, field_found, list_bad, list_found, loop_found, map_bad, map_found, node_found, pair_at, pairs_more, result_bad, some_at, turn_bad, turn_is, types_of}
+use Rattle.cel_types.proofs.TurnScopes.{turn_fits}
 use Rattle.cel_types.proofs.checker.nodes.+check.Goals as goal
 
 pub check_select-returns-in-Some-clause-fault : goal.check_select-returns-in-Some-clause-fault
@@ -189,57 +192,82 @@ check_node-returns-in-Comprehension-clause-found t c =
     rw (c.in-Comprehension.is, tree_comprehension c.in-Comprehension.id c.in-Comprehension.parts)
     (rw c.deref-in-Comprehension.ensures at c.check_loop.ensures.found)
 
-pub check_loop-returns-in_err-elements-clause-fault : goal.check_loop-returns-in_err-elements-clause-fault
-check_loop-returns-in_err-elements-clause-fault t c =
-    let bad = rw c.cel_type.ensures at c.in_err-elements.ensures.fault in
-    exit_fault _ c.from_residual-in_err-elements.result _ c.from_residual-in_err-elements.ensures.1
-    (elements_none (maps_of (checked_view c.args.checked.now)) (scope_view c.args.scope.now) c.args.id
-    (loop_view c.args.parts.now) (expr_view c.in_ok-range.range) c.in_ok-range.ensures.found _ bad.0 bad.1)
+pub check_loop-check_turn-requires : goal.check_loop-check_turn-requires
+check_loop-check_turn-requires t c =
+    let over = rw (c.variables_of-variables.ensures, c.cel_type.ensures) at c.in_ok-each.ensures.found in
+    let p = loop_view c.args.parts.now in
+    let ks = scope_view c.args.scope.now in
+    let walked = kind (expr_view c.in_ok-range.range) in
+    let gathered = kind (expr_view c.in_ok-init.init) in
+    let each = each_view c.in_ok-each.each in
+    let turn : scope_view c.with_second-turn.result ≡ turn_scope p.iter_var p.iter_var2 p.accu_var each gathered ks =
+    rw (c.with_second-turn.ensures, c.with-first.ensures, c.with-inner.ensures, c.cel_type-2.ensures)
+    (turn_is p.iter_var p.iter_var2 p.accu_var c.in_ok-each.each walked gathered ks over) in (
+      first_of (search (rules, the_lemmas), grind (arith, the_lemmas), grind (arith, common_steps)),
+      turn_fits p.iter_var p.iter_var2 p.accu_var walked each gathered ks (scope_view c.with_second-turn.result)
+          turn over (locals_in p.iter_range) (locals_in p.accu_init) (locals_in p.loop_condition)
+          (locals_in p.loop_step) (locals_in p.result) c.requires,
+    )
+
+pub check_loop-returns-in_err-each-clause-fault : goal.check_loop-returns-in_err-each-clause-fault
+check_loop-returns-in_err-each-clause-fault t c =
+    exit_memory_or _ _ c.from_residual-in_err-each.result _ c.from_residual-in_err-each.ensures.1
+    (rw (c.variables_of-variables.ensures, c.cel_type.ensures) at c.in_err-each.ensures.fault)
+    (λ e bad. elements_none (maps_of (checked_view c.args.checked.now)) (scope_view c.args.scope.now) c.args.id
+    (loop_view c.args.parts.now) (expr_view c.in_ok-range.range) c.in_ok-range.ensures.found e bad)
 
 pub check_loop-returns-in_err-condition-clause-fault : goal.check_loop-returns-in_err-condition-clause-fault
 check_loop-returns-in_err-condition-clause-fault t c =
-    let over = rw c.cel_type.ensures at c.in_ok-elements.ensures.found in
+    let over = rw (c.variables_of-variables.ensures, c.cel_type.ensures) at c.in_ok-each.ensures.found in
     exit_memory_or _ _ c.from_residual-in_err-condition.result _ c.from_residual-in_err-condition.ensures.1
     (rw (
-      c.with-turn.ensures,
+      c.with_second-turn.ensures,
+      c.with-first.ensures,
       c.with-inner.ensures,
-      c.in_ok-element.ensures,
       c.cel_type-2.ensures,
       c.cel_type-3.ensures,
+      turn_is (loop_view c.args.parts.now).iter_var (loop_view c.args.parts.now).iter_var2
+          (loop_view c.args.parts.now).accu_var c.in_ok-each.each (kind (expr_view c.in_ok-range.range))
+          (kind (expr_view c.in_ok-init.init)) (scope_view c.args.scope.now) over,
     ) at c.in_err-condition.ensures.fault)
     (λ e bad. turn_bad (maps_of (checked_view c.args.checked.now)) (scope_view c.args.scope.now) c.args.id
     (loop_view c.args.parts.now) (expr_view c.in_ok-range.range) c.in_ok-range.ensures.found (expr_view c.in_ok-init.init) c.in_ok-init.ensures.found
-    (elements_type c.in_ok-elements.elements) over e bad)
+    (each_view c.in_ok-each.each) over e bad)
 
 pub check_loop-returns-in_err-result-clause-fault : goal.check_loop-returns-in_err-result-clause-fault
 check_loop-returns-in_err-result-clause-fault t c =
-    let over = rw c.cel_type.ensures at c.in_ok-elements.ensures.found in
+    let over = rw (c.variables_of-variables.ensures, c.cel_type.ensures) at c.in_ok-each.ensures.found in
     exit_memory_or _ _ c.from_residual-in_err-result.result _ c.from_residual-in_err-result.ensures.1
     (rw (c.with-inner.ensures, c.cel_type-2.ensures) at c.in_err-result.ensures.fault)
     (λ e bad. result_bad (maps_of (checked_view c.args.checked.now)) (scope_view c.args.scope.now) c.args.id
     (loop_view c.args.parts.now) (expr_view c.in_ok-range.range) c.in_ok-range.ensures.found (expr_view c.in_ok-init.init) c.in_ok-init.ensures.found
-    (elements_type c.in_ok-elements.elements) over e bad)
+    (each_view c.in_ok-each.each) over e bad)
 
 pub check_loop-returns-clause-found : goal.check_loop-returns-clause-found
 check_loop-returns-clause-found t c =
-    let over = rw c.cel_type.ensures at c.in_ok-elements.ensures.found in
-    let turn = rw (
-      c.with-turn.ensures,
+    let over = rw (c.variables_of-variables.ensures, c.cel_type.ensures) at c.in_ok-each.ensures.found in
+    let turn =
+    (rw (
+      c.with_second-turn.ensures,
+      c.with-first.ensures,
       c.with-inner.ensures,
-      c.in_ok-element.ensures,
       c.cel_type-2.ensures,
       c.cel_type-3.ensures,
-    ) at c.in_ok-condition.ensures.found in
+      turn_is (loop_view c.args.parts.now).iter_var (loop_view c.args.parts.now).iter_var2
+          (loop_view c.args.parts.now).accu_var c.in_ok-each.each (kind (expr_view c.in_ok-range.range))
+          (kind (expr_view c.in_ok-init.init)) (scope_view c.args.scope.now) over,
+    ) at c.in_ok-condition.ensures.found) in
     let last = rw (c.with-inner.ensures, c.cel_type-2.ensures) at c.in_ok-result.ensures.found in
     rw (
       view_loop c.in_ok-cel_type.cel_type c.in_ok-parts.parts,
       c.in_ok-parts.ensures.ok,
+      c.variables_of-variables.ensures,
       c.in_ok-cel_type.ensures,
       c.cel_type-4.ensures,
     )
     (loop_found (maps_of (checked_view c.args.checked.now)) (scope_view c.args.scope.now) c.args.id
     (loop_view c.args.parts.now) (expr_view c.in_ok-range.range) c.in_ok-range.ensures.found (expr_view c.in_ok-init.init) c.in_ok-init.ensures.found
-    (elements_type c.in_ok-elements.elements) over c.in_ok-require_names_differ.ensures.found
+    (each_view c.in_ok-each.each) over c.in_ok-require_names_differ.ensures.found
     (expr_view c.in_ok-condition.condition) (expr_view c.in_ok-condition.step)
     (expr_view c.in_ok-result.result) turn last)
 

@@ -1,0 +1,115 @@
+//! The pairs that loops of two variables go over: an index and an item, or a key and a value.
+
+ghost use Rattle.std.specs.Prelude.{◌≡◌, IfOk, Ok, Some, option_map, pos, slice_get, zero};
+ghost use Rattle.cel_value.specs.View.{answer_view, entries_view, map_view, pairs_view, value_view, values_view};
+ghost use Rattle.cel_ops.specs.Arithmetic.{int_answer};
+ghost use Rattle.cel_ops.specs.Collections.{keyed, numbered};
+ghost use Rattle.stack_machine.specs.steps.Held.{held_view};
+ghost use Rattle.stack_machine.specs.steps.Pairs.{pair_answers, pair_view};
+
+use crate::held::Held;
+use attributes::Header;
+use cel_value::{CelError, Key, Map, Value};
+use std::alloc::AllocError;
+use std::rc::RcStr;
+
+/// An item of a list with its index.
+pub(crate) fn item_pair<'a>(
+    items: &[Value],
+    index: usize,
+) -> Result<Option<(Held<'a>, Held<'a>)>, AllocError>
+    ensures { IfOk result (λ found. option_map pair_view found
+        ≡ option_map pair_answers (slice_get (numbered zero (values_view items.now)) index)) }
+{
+    if index < items.len() {
+        let item = hold_item(&items[index])?;
+        return Ok(Some((hold_index(index), item)));
+    }
+    Ok(None)
+}
+
+/// An item of a list, as a result.
+#[inline(always)]
+pub(crate) fn hold_item<'a>(item: &Value) -> Result<Held<'a>, AllocError>
+    ensures { IfOk result (λ held. held_view held ≡ answer_view (Ok item.now)) }
+{
+    match item {
+        Value::Bool(b) => Ok(Held::Bool(*b)),
+        Value::Int(i) => Ok(Held::Int(*i)),
+        Value::Uint(n) => Ok(Held::Uint(*n)),
+        _ => Ok(Held::of_value(item.copy()?)),
+    }
+}
+
+// An index as an int, `Overflow` above 2^63 - 1.
+fn hold_index<'a>(index: usize) -> Held<'a>
+    ensures { held_view result ≡ int_answer (pos index) }
+{
+    match i64::try_from(index) {
+        Ok(number) => Held::Int(number),
+        Err(_) => Held::Fails(CelError::Overflow),
+    }
+}
+
+/// The value of a map at an index in the order of its keys, with its key.
+pub(crate) fn map_pair<'a>(
+    map: &Map,
+    index: usize,
+) -> Result<Option<(Held<'a>, Held<'a>)>, AllocError>
+    ensures { IfOk result (λ found. option_map pair_view found
+        ≡ option_map pair_answers (slice_get (keyed (map_view map.now)) index)) }
+{
+    match map {
+        Map::Entries(entries) => entry_pair(entries, index),
+        Map::Texts(pairs) => text_pair(pairs, index),
+    }
+}
+
+fn entry_pair<'a>(
+    entries: &[(Key, Value)],
+    index: usize,
+) -> Result<Option<(Held<'a>, Held<'a>)>, AllocError>
+    ensures { IfOk result (λ found. option_map pair_view found
+        ≡ option_map pair_answers (slice_get (keyed (entries_view entries.now)) index)) }
+{
+    if index < entries.len() {
+        let entry = &entries[index];
+        let key = Held::of_value(Value::from(entry.0.copy()?));
+        let value = hold_item(&entry.1)?;
+        return Ok(Some((key, value)));
+    }
+    Ok(None)
+}
+
+fn text_pair<'a>(
+    pairs: &[(RcStr, RcStr)],
+    index: usize,
+) -> Result<Option<(Held<'a>, Held<'a>)>, AllocError>
+    ensures { IfOk result (λ found. option_map pair_view found
+        ≡ option_map pair_answers (slice_get (keyed (pairs_view pairs.now)) index)) }
+{
+    match header_pair(pairs, index) {
+        Some(lent) => Ok(Some((owned(&lent.0)?, owned(&lent.1)?))),
+        None => Ok(None),
+    }
+}
+
+// A copy of the result that is not lent.
+fn owned<'a>(held: &Held<'_>) -> Result<Held<'a>, AllocError>
+    ensures { IfOk result (λ copy. held_view copy ≡ held_view held.now) }
+{
+    Ok(Held::of(held.answer()?))
+}
+
+/// The name and the value of a header at an index, lent.
+#[inline(always)]
+pub(crate) fn header_pair(headers: &[Header], index: usize) -> Option<(Held<'_>, Held<'_>)>
+    ensures { option_map pair_view result
+        ≡ option_map pair_answers (slice_get (keyed (pairs_view headers.now)) index) }
+{
+    if index < headers.len() {
+        let header = &headers[index];
+        return Some((Held::Lent(&header.0), Held::Lent(&header.1)));
+    }
+    None
+}
