@@ -47,6 +47,8 @@ var conditions = []condition{
 	{"chain", chain(), "users_60.http", true},
 	{"all", list() + ".all(x, x >= 0)", "users_60.http", true},
 	{"exists", `request.headers.exists(k, k == "none")`, "users_60.http", false},
+	// The engine runs `request.headers.exists(k, v, v == "none")`. This cel-go has no macros of two variables.
+	{"exists_value", `request.headers.exists(k, request.headers[k] == "none")`, "users_60.http", false},
 }
 
 // A subject evaluates one condition so often.

@@ -15,6 +15,7 @@ use Rattle.cel_ops.specs.declared.comparison.CompareOp.{CompareOp}
 use Rattle.cel_ops.specs.declared.comparison.CompareOp.TheVariants as comparisons
 use Rattle.cel_overload.specs.Overloads.{IsCompared, IsNumber, Takes}
 use Rattle.cel_overload.specs.declared.overload.Overload.{Overload}
+use Rattle.cel_ops.specs.declared.conversion.Conversion.TheVariants as conversions
 use Rattle.cel_ops.specs.declared.operation.Operation.TheVariants as operations
 use Rattle.cel_overload.specs.declared.overload.Overload.TheVariants as overloads
 use Rattle.cel_types.specs.Elaborated.{TypedTrees, kinds, no_typed, typed}
@@ -223,6 +224,12 @@ module _ (m : ℕ) (slots : List Slot) (ks : List ValueType) (loops : List Slot)
       rw is (two in_map_slot (type_of_key k) (map_type k a) bool_type ts are (ap (λ b. of_type_if b bool_type) (type_self (type_of_key k))))
   call_leaves (overloads.Operate operations.Size) ts t s (a, sizes, are, is) =
       rw is (one size_slot a int_type ts are (ap (λ b. of_type_if b int_type) (sized a sizes)))
+  call_leaves (overloads.Operate (operations.Convert conversions.UintToInt)) ts t s (are, is) = rw is (one _ uint_type int_type ts are refl)
+  call_leaves (overloads.Operate (operations.Convert conversions.IntToUint)) ts t s (are, is) = rw is (one _ int_type uint_type ts are refl)
+  call_leaves (overloads.Operate (operations.Convert conversions.IntToText)) ts t s (are, is) = rw is (one _ int_type text_type ts are refl)
+  call_leaves (overloads.Operate (operations.Convert conversions.UintToText)) ts t s (are, is) = rw is (one _ uint_type text_type ts are refl)
+  call_leaves (overloads.Operate (operations.Convert conversions.BytesToText)) ts t s (are, is) = rw is (one _ bytes_type text_type ts are refl)
+  call_leaves (overloads.Operate (operations.Convert conversions.TextToBytes)) ts t s (are, is) = rw is (one _ text_type bytes_type ts are refl)
   call_leaves (overloads.Operate (operations.TestText test)) ts t s (are, is) = rw is (two _ text_type text_type bool_type ts are refl)
 
 -- ---- literals

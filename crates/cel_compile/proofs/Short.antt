@@ -1,12 +1,12 @@
 -- The code of an elaboration is short: fewer than two instructions a node, and few locals.
-use Rattle.std.proofs.Common.{◌≡◌, ℕ, ◌+◌, ◌*◌, ◌<◌, ◌≤◌, ◌⊎◌, List, [], inl, inr, max, refl, ap, arith, length}
+use Rattle.std.proofs.Common.{◌≡◌, ℕ, ◌+◌, ◌*◌, ◌<◌, ◌≤◌, ◌⊎◌, [], inl, inr, max, refl, ap, arith, length}
 use Rattle.std.proofs.Math.Nat.{le-max_left, le-max_right}
 use Rattle.cel_value.specs.Types.{ValueType}
 use Rattle.cel_overload.specs.declared.overload.Overload.{Overload}
 use Rattle.cel_ops.specs.declared.operation.Operation.TheVariants as operations
 use Rattle.cel_overload.specs.declared.overload.Overload.TheVariants as overloads
 use Rattle.cel_tree.specs.Checked.{CelChecked}
-use Rattle.cel_tree.specs.Message.{IsChecked}
+use Rattle.cel_tree.specs.Message.{ExprParts, IsExprOf, checked_parts, most_nodes, unchecked_parts}
 use Rattle.cel_tree.specs.Tree.{CelTree, constant, ident, select, call, list_literal, map_literal, comprehension, CelTarget, no_target, target, CelTrees, no_trees, tree, CelTreeEntries, no_tree_entries, tree_entry}
 use Rattle.cel_tree.specs.Trees.{entries_count, node_count, target_count, trees_count}
 use Rattle.cel_types.specs.Elaborated.{Elaborates, ElaboratesEach, ElaboratesPairs, ElaboratesTarget, IsElaborated, TypedTree, TypedTrees, no_typed, typed, typed_attribute, typed_call, typed_constant, typed_field, typed_has, typed_list, typed_local, typed_loop, typed_map}
@@ -176,22 +176,26 @@ mutual
         (few m ks value f d g.1 (left b c 255 d rest), few_pairs m ks ts es d g.2 (right b c 255 d rest)),
       )
 
--- ---- checked expressions
+-- ---- expressions that were read
 
 pub short_code : (c : CelChecked) (e : TypedTree) → IsElaborated c e → extent e < 2 * node_count c.tree
 short_code c e is = extent_bound (maps_of c) [] c.tree e is.elaborates
 
-pub fitting_code : (parts : List (List ℕ)) (c : CelChecked) (e : TypedTree) → IsChecked parts c → IsElaborated c e
+few_nodes : (parts : ExprParts) (c : CelChecked) → IsExprOf parts c → node_count c.tree ≤ most_nodes
+few_nodes (checked_parts parts) c (fs, message, says) = says.few
+few_nodes (unchecked_parts parts) c read = read.few
+
+pub fitting_code : (parts : ExprParts) (c : CelChecked) (e : TypedTree) → IsExprOf parts c → IsElaborated c e
     → (length (code_of 0 0 e) ≤ 65535) × HasFewLocals 0 e
-fitting_code parts c e (fs, message, says) is =
+fitting_code parts c e read is =
     let long = extent_is e 0 0 in
     let bound = short_code c e is in
-    let nodes = says.few in
+    let nodes = few_nodes parts c read in
     let locals = is.typed.few in
     (omega (arith, long, bound, nodes), few (maps_of c) [] c.tree e 0 is.elaborates (omega (arith, locals)))
 
 -- so what `compile` refuses of it is want of memory
-pub room_alone : (parts : List (List ℕ)) (c : CelChecked) (e : TypedTree) → IsChecked parts c → IsElaborated c e
+pub room_alone : (parts : ExprParts) (c : CelChecked) (e : TypedTree) → IsExprOf parts c → IsElaborated c e
     → (r : Refusal) → MemoryOr (λ f. (f ≡ TooLarge) × ((65535 < extent e) ⊎ (HasFewLocals 0 e → ⊥))) r → r ≡ Memory
 room_alone parts c e read is r (inl memory) = memory
 room_alone parts c e read is r (inr (large, inl long)) =

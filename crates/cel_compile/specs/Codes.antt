@@ -44,7 +44,8 @@ map_instruction (map_type k t) no_typed = EmptyMap k t
 map_instruction t no_typed = EmptyMap keys.Bool t
 map_instruction t es = MakeMap (pairs es)
 
--- the begin of a turn: it sets the local with this number, and for two variables the next one too
+-- the instruction that begins a turn: it sets this local, and for two variables also the next. After the last
+-- turn it goes to `done`
 abbrev pub turn_instruction : Variables → (local done : ℕ) → Instruction
 turn_instruction variables.One local done = LoopNext local done
 turn_instruction variables.Two local done = LoopNext2 local (local + 1) done

@@ -6,7 +6,7 @@ ghost use Rattle.attributes.specs.Request.{IsRequest, RequestValue};
 ghost use Rattle.cel_value.specs.Types.{ValueType};
 ghost use Rattle.cel_tree.specs.Checked.{CelChecked};
 ghost use Rattle.cel_tree.specs.GoodConstants.{HasGoodConstants};
-ghost use Rattle.cel_tree.specs.Message.{IsChecked};
+ghost use Rattle.cel_tree.specs.Message.{ExprParts, IsExprOf};
 ghost use Rattle.cel_types.specs.Elaborated.{IsElaborated, kind, typed_call};
 ghost use Rattle.cel_ops.specs.declared.operation.Operation.TheVariants as operations;
 ghost use Rattle.cel_overload.specs.declared.overload.Overload.TheVariants as Overload;
@@ -38,7 +38,7 @@ use std::alloc::{AllocError, Global};
 ///
 /// It refuses code of more than 65,535 instructions with 8, `TooLarge`. So it does if some part of the
 /// expression has more than 255 locals in scope. If it is out of memory, it refuses with 19, `Memory`. An
-/// expression that was read and checked is never too large.
+/// expression that was read and has a type is never too large.
 pub fn compile(alloc: Global, typed: &Typed<'_>) -> Result<Code, Refusal>
     ensures found { IfOk result (λ code. code_view code ≡ code_of 0 0 (typed_view typed.now)) }
     ensures sound { IfOk result (λ code. IsWellTyped [] (typed_view typed.now)
@@ -55,8 +55,8 @@ pub fn compile(alloc: Global, typed: &Typed<'_>) -> Result<Code, Refusal>
         → IsRequest request → NeverStuck (code_view code) request) }
     ensures fault { IfErr result (MemoryOr (λ e. (e ≡ Refusal.TooLarge)
         × ((65535 < extent (typed_view typed.now)) ⊎ (HasFewLocals 0 (typed_view typed.now) → ⊥)))) }
-    // an expression that was read and checked is refused only if it is out of memory
-    ensures room { IfErr result (λ e. (parts : List (List ℕ)) (c : CelChecked) → IsChecked parts c
+    // the elaboration of an expression that was read is refused only if it is out of memory
+    ensures room { IfErr result (λ e. (parts : ExprParts) (c : CelChecked) → IsExprOf parts c
         → IsElaborated c (typed_view typed.now) → e ≡ Refusal.Memory) }
 {
     compile_whole(alloc, typed)

@@ -5,7 +5,7 @@ ghost use Rattle.attributes.specs.Limits.{InLimits, LimitsValue};
 ghost use Rattle.attributes.specs.Request.{IsRequest, RequestValue};
 ghost use Rattle.cel_tree.specs.Checked.{CelChecked};
 ghost use Rattle.cel_tree.specs.GoodConstants.{HasGoodConstants};
-ghost use Rattle.cel_tree.specs.Message.{IsChecked};
+ghost use Rattle.cel_tree.specs.Message.{ExprParts, IsExprOf};
 ghost use Rattle.cel_tree.specs.Trees.{node_count};
 ghost use Rattle.cel_types.specs.Elaborated.{IsElaborated, TypedTree, kind};
 ghost use Rattle.cel_types.specs.WellTyped.{IsWellTyped};
@@ -46,7 +46,7 @@ pub fn compiled_code_is_short()
     ensures extent { (e : TypedTree) (p d : ℕ) → length (code_of p d e) ≡ extent e }
     ensures short { (c : CelChecked) (e : TypedTree) → IsElaborated c e
         → extent e < 2 * node_count c.tree }
-    ensures room { (parts : List (List ℕ)) (c : CelChecked) (e : TypedTree) → IsChecked parts c
+    ensures room { (parts : ExprParts) (c : CelChecked) (e : TypedTree) → IsExprOf parts c
         → IsElaborated c e → (length (code_of 0 0 e) ≤ 65535) × HasFewLocals 0 e }
 {}
 

@@ -9,7 +9,9 @@ ghost use Rattle.cel_value.specs.View.{answer_view};
 ghost use Rattle.cel_types.specs.Meaning.{call_answer};
 
 use crate::binary::{add, calculate, compare, conjunction, disjunction, index, is_in, test_text};
-use crate::unary::{logical_not, negate, not_strictly_false, size};
+use crate::unary::{
+    logical_not, negate, not_strictly_false, size, to_bytes, to_int, to_text, to_uint,
+};
 use cel_ops::ArithmeticOp;
 use cel_overload::{Function, function_named};
 use cel_value::{Answer, Value, copy_answer};
@@ -39,22 +41,31 @@ fn answer_all(
         ≡ function_answer function (map answer_view operands.now)) }
 {
     match operands {
-        [a] => Ok(answer_one(function, a)),
+        [a] => answer_one(alloc, function, a),
         [a, b] => answer_two(alloc, function, a, b),
         [a, b, c] => answer_three(function, a, b, c),
         _ => Ok(None),
     }
 }
 
-fn answer_one(function: Function, operand: &Answer) -> Option<Answer>
-    ensures { option_map answer_view result ≡ function_answer function (answer_view operand.now ∷ []) }
+fn answer_one(
+    alloc: Global,
+    function: Function,
+    operand: &Answer,
+) -> Result<Option<Answer>, AllocError>
+    ensures { IfOk result (λ found. option_map answer_view found
+        ≡ function_answer function (answer_view operand.now ∷ [])) }
 {
     match function {
-        Function::Not => logical_not(operand),
-        Function::NotStrictlyFalse => not_strictly_false(operand),
-        Function::Negate => negate(operand),
-        Function::Size => size(operand),
-        _ => None,
+        Function::Not => Ok(logical_not(operand)),
+        Function::NotStrictlyFalse => Ok(not_strictly_false(operand)),
+        Function::Negate => Ok(negate(operand)),
+        Function::Size => Ok(size(operand)),
+        Function::ToInt => to_int(alloc, operand),
+        Function::ToUint => to_uint(alloc, operand),
+        Function::ToText => to_text(alloc, operand),
+        Function::ToBytes => to_bytes(alloc, operand),
+        _ => Ok(None),
     }
 }
 

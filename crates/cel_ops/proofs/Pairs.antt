@@ -1,8 +1,8 @@
 -- The pairs that comprehensions of two variables go over, by their number.
-use Rattle.std.proofs.Common.{◌≡◌, ◌+◌, ◌<◌, ◌≤◌, ℕ, zero, suc, pos, List, [], ◌∷◌, Some, None, length, get_or, slice_get, refl, sym, ap, ◌∙◌, arith}
+use Rattle.std.proofs.Common.{◌≡◌, ◌+◌, ◌<◌, ◌≤◌, ℕ, zero, suc, pos, List, [], ◌∷◌, Some, None, length, get_or, slice_get, refl, ap, ◌∙◌, arith}
 use Rattle.std.specs.declared.rc.RcStr.{RcStr}
 use Rattle.std.specs.declared.alloc.Global.{Global}
-use Rattle.cel_value.specs.Values.{CelValues, no_items, item, CelEntries, no_entries, entry, CelAnswer, CelValue, text, value, value_of_key}
+use Rattle.cel_value.specs.Values.{CelValues, no_items, item, CelEntries, no_entries, entry, text, value, value_of_key}
 use Rattle.cel_value.specs.Texts.{text_view}
 use Rattle.cel_value.specs.Items.{keys_of}
 use Rattle.cel_value.specs.Masses.{item_count}

@@ -7,7 +7,8 @@ use Rattle.cel_ops.specs.Logic.{conjunction, disjunction, logical_not, not_stric
 use Rattle.cel_ops.specs.Comparison.{comparison}
 use Rattle.cel_ops.specs.Parts.{text_test, joined}
 use Rattle.cel_ops.specs.Collections.{size, list_index, map_index, in_map, in_list}
-use Rattle.cel_ops.specs.Charges.{comparison_charge, joined_charge, size_charge, map_index_charge, in_map_charge, in_list_charge}
+use Rattle.cel_ops.specs.Conversions.{conversion}
+use Rattle.cel_ops.specs.Charges.{comparison_charge, conversion_charge, joined_charge, size_charge, map_index_charge, in_map_charge, in_list_charge}
 use Rattle.cel_ops.specs.declared.operation.Operation.{Operation}
 use Rattle.cel_ops.specs.declared.operation.Operation.TheVariants as operations
 
@@ -34,6 +35,7 @@ work operations.ListIndex = takes_two list_index (λ a b. 1)
 work operations.MapIndex = takes_two map_index map_index_charge
 work operations.InMap = takes_two in_map in_map_charge
 work operations.InList = takes_two in_list in_list_charge
+work (operations.Convert kind) = takes_one (conversion kind) (conversion_charge kind)
 
 -- ---- answers and charges by the number of operands
 

@@ -1,16 +1,19 @@
 //! Operations on one or two operands, each with its answer and its charge.
 
-ghost use Rattle.std.specs.Prelude.{◌≡◌, ◌≢◌, IfOk, None, Some};
+ghost use Rattle.std.specs.Prelude.{◌≡◌, ◌≢◌, IfErr, IfOk, None, Some};
 ghost use Rattle.cel_value.specs.Masses.{left_of};
 ghost use Rattle.cel_value.specs.View.{answer_view};
+ghost use Rattle.cel_ops.specs.Conversions.{MakesText};
 ghost use Rattle.cel_ops.specs.Operations.{one_answer, one_charge, two_answer, two_charge, work};
 
 use crate::arithmetic::{ArithmeticOp, calculate, negate};
 use crate::charges::{
-    spend_comparison, spend_in_list, spend_in_map, spend_join, spend_map_index, spend_size,
+    spend_comparison, spend_conversion, spend_in_list, spend_in_map, spend_join, spend_map_index,
+    spend_size,
 };
 use crate::collections::{index_list, index_map, is_in_list, is_in_map, size};
 use crate::comparison::{CompareOp, compare};
+use crate::conversion::{Conversion, convert};
 use crate::logic::{conjunction, disjunction, logical_not, not_strictly_false};
 use crate::texts::{TextTest, join, test_text};
 use cel_value::Answer;
@@ -47,19 +50,24 @@ pub enum Operation {
     InMap,
     /// A value and a list: whether the list has the value.
     InList,
+    /// An int, a uint, a text or bytes: the value as one of another of these types.
+    Convert(Conversion),
 }
 
-/// The answer of an operation on one operand.
+/// The answer of an operation on one operand. Only an answer that is a text or bytes takes memory.
 #[inline(always)]
-pub fn answer_one(op: Operation, operand: &Answer) -> Answer
+pub fn answer_one(alloc: Global, op: Operation, operand: &Answer) -> Result<Answer, AllocError>
     requires { one_answer (work op) (answer_view operand.now) ≢ None }
-    ensures { Some (answer_view result) ≡ one_answer (work op) (answer_view operand.now) }
+    ensures found { IfOk result (λ answer.
+        Some (answer_view answer) ≡ one_answer (work op) (answer_view operand.now)) }
+    ensures memory { IfErr result (λ e. MakesText (one_answer (work op) (answer_view operand.now))) }
 {
     match op {
-        Operation::Negate => negate(operand),
-        Operation::Not => logical_not(operand),
-        Operation::NotStrictlyFalse => not_strictly_false(operand),
-        Operation::Size => size(operand),
+        Operation::Negate => Ok(negate(operand)),
+        Operation::Not => Ok(logical_not(operand)),
+        Operation::NotStrictlyFalse => Ok(not_strictly_false(operand)),
+        Operation::Size => Ok(size(operand)),
+        Operation::Convert(kind) => convert(alloc, kind, operand),
         Operation::Arithmetic(_) => unreachable!(),
         Operation::And => unreachable!(),
         Operation::Or => unreachable!(),
@@ -100,6 +108,7 @@ pub fn answer_two(
         Operation::Not => unreachable!(),
         Operation::NotStrictlyFalse => unreachable!(),
         Operation::Size => unreachable!(),
+        Operation::Convert(_) => unreachable!(),
     }
 }
 
@@ -118,6 +127,7 @@ pub fn spend_on_one(op: Operation, operand: &Answer, fuel: u64) -> Option<u64>
 {
     match op {
         Operation::Size => spend_size(operand, fuel),
+        Operation::Convert(kind) => spend_conversion(kind, operand, fuel),
         Operation::Negate => spend_one(fuel),
         Operation::Not => spend_one(fuel),
         Operation::NotStrictlyFalse => spend_one(fuel),
@@ -155,5 +165,6 @@ pub fn spend_on_two(op: Operation, left: &Answer, right: &Answer, fuel: u64) -> 
         Operation::Not => spend_one(fuel),
         Operation::NotStrictlyFalse => spend_one(fuel),
         Operation::Size => spend_one(fuel),
+        Operation::Convert(_) => spend_one(fuel),
     }
 }

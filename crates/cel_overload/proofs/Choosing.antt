@@ -9,9 +9,10 @@ use Rattle.cel_ops.specs.declared.arithmetic.ArithmeticOp.{ArithmeticOp}
 use Rattle.cel_ops.specs.declared.arithmetic.ArithmeticOp.TheVariants as ops
 use Rattle.cel_ops.specs.declared.comparison.CompareOp.{CompareOp}
 use Rattle.cel_ops.specs.declared.comparison.CompareOp.TheVariants as compares
+use Rattle.cel_ops.specs.declared.conversion.Conversion.TheVariants as kinds
 use Rattle.cel_overload.specs.Functions.{may_take}
 use Rattle.cel_overload.specs.Overloads.{IsCompared, IsNumber, IsOverload, Takes, function_of}
-use Rattle.cel_overload.specs.steps.Choosing.{are_both, are_compared, calculated, choose, choose_arithmetic, choose_binary, choose_on, choose_ternary, choose_unary, is_joined, is_number, is_sized, when}
+use Rattle.cel_overload.specs.steps.Choosing.{are_both, are_compared, calculated, choose, choose_arithmetic, choose_binary, choose_on, choose_ternary, choose_to_text, choose_unary, is_joined, is_number, is_sized, when}
 use Rattle.cel_overload.specs.declared.function.Function.{Function}
 use Rattle.cel_overload.specs.declared.function.Function.TheVariants as functions
 use Rattle.cel_overload.specs.declared.overload.Overload.{Overload}
@@ -88,6 +89,12 @@ chosen_on (overloads.Operate operations.InList) ts r h = rw (h.1, h.2) (rw (itse
 chosen_on (overloads.Operate operations.InMap) ts r h = rw (h.2, h.3) (rw (itself (type_of_key h.0)) refl)
 chosen_on (overloads.Operate operations.Size) ts r h = rw (h.2, h.3) (rw (sizes h.0 h.1) refl)
 chosen_on (overloads.Operate (operations.TestText test)) ts r h = rw (h.0, h.1) refl
+chosen_on (overloads.Operate (operations.Convert kinds.UintToInt)) ts r h = rw (h.0, h.1) refl
+chosen_on (overloads.Operate (operations.Convert kinds.IntToUint)) ts r h = rw (h.0, h.1) refl
+chosen_on (overloads.Operate (operations.Convert kinds.IntToText)) ts r h = rw (h.0, h.1) refl
+chosen_on (overloads.Operate (operations.Convert kinds.UintToText)) ts r h = rw (h.0, h.1) refl
+chosen_on (overloads.Operate (operations.Convert kinds.BytesToText)) ts r h = rw (h.0, h.1) refl
+chosen_on (overloads.Operate (operations.Convert kinds.TextToBytes)) ts r h = rw (h.0, h.1) refl
 
 pub chosen : (f : Function) (target : Bool) (ts : List ValueType) (o : Overload) (r : ValueType)
     → IsOverload f target ts o r → choose f target ts ≡ Some (o, r)
@@ -193,6 +200,19 @@ arithmetic_fits ops.Multiply s t o r e = calculated_fits ops.Multiply s t o r e
 arithmetic_fits ops.Divide s t o r e = calculated_fits ops.Divide s t o r e
 arithmetic_fits ops.Remainder s t o r e = calculated_fits ops.Remainder s t o r e
 
+to_text_fits : (s : ValueType) (o : Overload) (r : ValueType)
+    → choose_to_text s ≡ Some (o, r) → Fits functions.ToText (s ∷ []) o r
+to_text_fits int_type o r e =
+    chosen_when (Fits functions.ToText (int_type ∷ [])) true
+    (overloads.Operate (operations.Convert kinds.IntToText)) text_type o r e (λ h. (refl, (refl, refl)))
+to_text_fits uint_type o r e =
+    chosen_when (Fits functions.ToText (uint_type ∷ [])) true
+    (overloads.Operate (operations.Convert kinds.UintToText)) text_type o r e (λ h. (refl, (refl, refl)))
+to_text_fits bytes_type o r e =
+    chosen_when (Fits functions.ToText (bytes_type ∷ [])) true
+    (overloads.Operate (operations.Convert kinds.BytesToText)) text_type o r e (λ h. (refl, (refl, refl)))
+to_text_fits _ o r e = absurd (none-some (o, r) e)
+
 unary_fits : (f : Function) (s : ValueType) (o : Overload) (r : ValueType)
     → choose_unary f s ≡ Some (o, r) → Fits f (s ∷ []) o r
 unary_fits functions.Not s o r e =
@@ -208,6 +228,19 @@ unary_fits functions.Negate s o r e =
 unary_fits functions.Size s o r e =
     chosen_when (Fits functions.Size (s ∷ [])) (is_sized s) (overloads.Operate operations.Size) int_type
     o r e (λ h. (refl, (s, is_sized_fact s h, refl, refl)))
+unary_fits functions.ToInt s o r e =
+    chosen_when (Fits functions.ToInt (s ∷ [])) (type_eq s uint_type)
+    (overloads.Operate (operations.Convert kinds.UintToInt)) int_type
+    o r e (λ h. (refl, (rw (same s uint_type h) refl, refl)))
+unary_fits functions.ToUint s o r e =
+    chosen_when (Fits functions.ToUint (s ∷ [])) (type_eq s int_type)
+    (overloads.Operate (operations.Convert kinds.IntToUint)) uint_type
+    o r e (λ h. (refl, (rw (same s int_type h) refl, refl)))
+unary_fits functions.ToText s o r e = to_text_fits s o r e
+unary_fits functions.ToBytes s o r e =
+    chosen_when (Fits functions.ToBytes (s ∷ [])) (type_eq s text_type)
+    (overloads.Operate (operations.Convert kinds.TextToBytes)) bytes_type
+    o r e (λ h. (refl, (rw (same s text_type h) refl, refl)))
 unary_fits _ s o r e = absurd (none-some (o, r) e)
 
 index_fits : (s t : ValueType) (o : Overload) (r : ValueType)

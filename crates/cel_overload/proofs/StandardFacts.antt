@@ -3,11 +3,12 @@
 use Rattle.std.proofs.Common.{◌≡◌, pos, negsuc, true, false, [], ◌∷◌, Some, None, refl}
 use Rattle.std.specs.Prelude.{codes}
 use Rattle.cel_value.specs.Values.{bool, int, text, list, map_of, no_items, item, no_entries, entry, text_key, CelAnswer, value, fails}
-use Rattle.cel_value.specs.Types.{bool_type, int_type, uint_type, text_type, list_type, map_type}
+use Rattle.cel_value.specs.Types.{bool_type, int_type, uint_type, text_type, bytes_type, list_type, map_type}
 use Rattle.cel_value.specs.declared.cel_type.KeyType.TheVariants as keys
 use Rattle.cel_value.specs.declared.error.CelError.TheVariants.{NoKey, ZeroDivisor}
 use Rattle.cel_ops.specs.declared.arithmetic.ArithmeticOp.TheVariants.{Add, Subtract}
 use Rattle.cel_ops.specs.declared.comparison.CompareOp.TheVariants.{Equal, Less}
+use Rattle.cel_ops.specs.declared.conversion.Conversion.TheVariants.{UintToInt, IntToText, BytesToText}
 use Rattle.cel_ops.specs.declared.texts.TextTest.TheVariants.{StartsWith}
 use Rattle.cel_overload.specs.Answers.{function_answer, overload_answer}
 use Rattle.cel_overload.specs.steps.Charges.{overload_charge}
@@ -122,6 +123,50 @@ starts_without_target = (
   functions.TestText StartsWith,
   refl,
   unchosen (functions.TestText StartsWith) false (text_type ∷ text_type ∷ []) refl,
+)
+
+-- `int(1u)`, `string(1)` and `string(b"a")` are overloads, `int(1)` and `uint("1")` are none
+
+int_of_uint : IsCall (codes "int") false (uint_type ∷ []) (overloads.Operate (operations.Convert UintToInt)) int_type
+int_of_uint = (
+  functions.ToInt,
+  refl,
+  record { function = refl; shape = refl; operands = (refl, refl) },
+)
+
+string_of_int : IsCall (codes "string") false (int_type ∷ []) (overloads.Operate (operations.Convert IntToText)) text_type
+string_of_int = (
+  functions.ToText,
+  refl,
+  record { function = refl; shape = refl; operands = (refl, refl) },
+)
+
+string_of_bytes : IsCall (codes "string") false (bytes_type ∷ []) (overloads.Operate (operations.Convert BytesToText)) text_type
+string_of_bytes = (
+  functions.ToText,
+  refl,
+  record { function = refl; shape = refl; operands = (refl, refl) },
+)
+
+int_of_int : CallFault (codes "int") false (int_type ∷ []) NoOverload
+int_of_int = (
+  functions.ToInt,
+  refl,
+  unchosen functions.ToInt false (int_type ∷ []) refl,
+)
+
+uint_of_text : CallFault (codes "uint") false (text_type ∷ []) NoOverload
+uint_of_text = (
+  functions.ToUint,
+  refl,
+  unchosen functions.ToUint false (text_type ∷ []) refl,
+)
+
+string_on_target : CallFault (codes "string") true (int_type ∷ []) NoOverload
+string_on_target = (
+  functions.ToText,
+  refl,
+  unchosen functions.ToText true (int_type ∷ []) refl,
 )
 
 -- a key has the map's type of keys

@@ -22,6 +22,8 @@ use Rattle.cel_ops.specs.Typed.{Answers, IsOrdered, IsSized}
 use Rattle.cel_ops.specs.declared.arithmetic.ArithmeticOp.{ArithmeticOp}
 use Rattle.cel_ops.specs.declared.comparison.CompareOp.{CompareOp}
 use Rattle.cel_ops.specs.declared.texts.TextTest.{TextTest}
+use Rattle.cel_ops.specs.Conversions.{conversion, conversion_type, converted_type}
+use Rattle.cel_ops.proofs.Conversions.{conversion_typed}
 use Rattle.cel_ops.proofs.Typing.{one, two, entry_typed, in_map_typed, index_typed, joined_typed}
 use Rattle.cel_overload.specs.Answers.{HaveTypes, conditional, on_one, on_two, overload_answer}
 use Rattle.cel_overload.specs.Overloads.{IsCompared, IsNumber, Takes}
@@ -316,4 +318,7 @@ overload_typed_fact (overloads.Operate operations.Size) ts r answers k h = rw (k
     (on_one_typed size k.0 int_type (size_typed k.0 k.1) answers (of_types answers ts _ k.2 h))
 overload_typed_fact (overloads.Operate (operations.TestText test)) ts r answers k h = rw (k.1)
     (on_two_typed (text_test test) text_type text_type bool_type (text_test_typed test) answers
+    (of_types answers ts _ k.0 h))
+overload_typed_fact (overloads.Operate (operations.Convert kind)) ts r answers k h = rw (k.1)
+    (on_one_typed (conversion kind) (converted_type kind) (conversion_type kind) (conversion_typed kind) answers
     (of_types answers ts _ k.0 h))

@@ -1,16 +1,18 @@
 -- The answers of calls: CEL language definition, "List of Standard Definitions"; the operations are
 -- those of `cel_ops`. None means that operands are of a wrong kind or number.
 use Rattle.std.specs.Prelude.{true, false, List, [], ◌∷◌, Option, Some, None}
-use Rattle.cel_value.specs.Values.{CelValue, bool, text, bytes, list, map_of, CelAnswer, value, fails}
+use Rattle.cel_value.specs.Values.{CelValue, bool, int, uint, text, bytes, list, map_of, CelAnswer, value, fails}
 use Rattle.cel_value.specs.Types.{ValueType, AnswerHasType}
-use Rattle.cel_ops.specs.Strict.{strict_two}
+use Rattle.cel_ops.specs.Strict.{strict, strict_two}
 use Rattle.cel_ops.specs.Arithmetic.{arithmetic, arithmetic_of, opposite}
 use Rattle.cel_ops.specs.Logic.{conjunction, disjunction, logical_not, not_strictly_false}
 use Rattle.cel_ops.specs.Comparison.{comparison}
 use Rattle.cel_ops.specs.Parts.{joined_of, text_test}
+use Rattle.cel_ops.specs.Conversions.{conversion, conversion_of}
 use Rattle.cel_ops.specs.Collections.{entry_of, in_list_of, in_map_of, item_of, size}
 use Rattle.cel_ops.specs.Operations.{Work, takes_one, takes_two, work}
 use Rattle.cel_ops.specs.declared.arithmetic.ArithmeticOp.TheVariants.{Add}
+use Rattle.cel_ops.specs.declared.conversion.Conversion.TheVariants.{UintToInt, IntToUint, IntToText, UintToText, BytesToText, TextToBytes}
 use Rattle.cel_overload.specs.declared.function.Function.{Function}
 use Rattle.cel_overload.specs.declared.function.Function.TheVariants as functions
 use Rattle.cel_overload.specs.declared.overload.Overload.{Overload}
@@ -64,6 +66,13 @@ in_of v (list vs) = in_list_of v (list vs)
 in_of v (map_of es) = in_map_of v (map_of es)
 in_of v _ = None
 
+-- `string`: the text of a number, or the text that bytes spell
+abbrev pub text_conversion_of : CelValue → Option CelAnswer
+text_conversion_of (int i) = conversion_of IntToText (int i)
+text_conversion_of (uint n) = conversion_of UintToText (uint n)
+text_conversion_of (bytes bs) = conversion_of BytesToText (bytes bs)
+text_conversion_of _ = None
+
 -- the answer of a function
 abbrev pub function_answer : Function → List CelAnswer → Option CelAnswer
 function_answer functions.And = on_two conjunction
@@ -79,6 +88,10 @@ function_answer functions.Index = on_two (strict_two index_of)
 function_answer functions.In = on_two (strict_two in_of)
 function_answer functions.Size = on_one size
 function_answer (functions.TestText test) = on_two (text_test test)
+function_answer functions.ToInt = on_one (conversion UintToInt)
+function_answer functions.ToUint = on_one (conversion IntToUint)
+function_answer functions.ToText = on_one (strict text_conversion_of)
+function_answer functions.ToBytes = on_one (conversion TextToBytes)
 
 -- each answer has the type at its place
 abbrev pub HaveTypes : List CelAnswer → List ValueType → Type 0

@@ -36,6 +36,10 @@ names =
     ∷ (codes "contains", functions.TestText Contains)
     ∷ (codes "startsWith", functions.TestText StartsWith)
     ∷ (codes "endsWith", functions.TestText EndsWith)
+    ∷ (codes "int", functions.ToInt)
+    ∷ (codes "uint", functions.ToUint)
+    ∷ (codes "string", functions.ToText)
+    ∷ (codes "bytes", functions.ToBytes)
     ∷ []
 
 -- the function of the first entry with this name
@@ -48,7 +52,7 @@ function_at name (entry ∷ entries) =
 abbrev pub function_named : List ℕ → Option Function
 function_named name = function_at name names
 
--- whether a function can be called with a target, or without one. Operators take no target, `size`
+-- whether a function can be called with a target, or without one. Operators and conversions take no target, `size`
 -- may take its operand as target, and tests of texts require one
 abbrev pub may_take : Function → (target : Bool) → Bool
 may_take functions.Size target = true

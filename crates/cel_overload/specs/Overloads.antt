@@ -2,10 +2,12 @@
 use Rattle.std.specs.Prelude.{◌≡◌, ℕ, Bool, true, List, [], ◌∷◌, Some, None}
 use Rattle.cel_value.specs.Types.{ValueType, bool_type, int_type, uint_type, text_type, list_type, map_type, type_of_key}
 use Rattle.cel_value.specs.declared.cel_type.KeyType.{KeyType}
+use Rattle.cel_ops.specs.Conversions.{conversion_type, converted_type}
 use Rattle.cel_ops.specs.Typed.{IsJoined, IsOrdered, IsSized}
 use Rattle.cel_ops.specs.declared.arithmetic.ArithmeticOp.TheVariants.{Add}
 use Rattle.cel_ops.specs.declared.comparison.CompareOp.{CompareOp}
 use Rattle.cel_ops.specs.declared.comparison.CompareOp.TheVariants.{Equal, NotEqual}
+use Rattle.cel_ops.specs.declared.conversion.Conversion.{Conversion}
 use Rattle.cel_overload.specs.Functions.{function_named, may_take}
 use Rattle.cel_overload.specs.declared.function.Function.{Function}
 use Rattle.cel_overload.specs.declared.function.Function.TheVariants as functions
@@ -15,6 +17,15 @@ use Rattle.cel_ops.specs.declared.operation.Operation.TheVariants as operations
 use Rattle.cel_overload.specs.declared.overload.Overload.TheVariants as overloads
 use Rattle.cel_overload.specs.declared.overload.OverloadFault.{OverloadFault}
 use Rattle.cel_overload.specs.declared.overload.OverloadFault.TheVariants.{UnknownName, NoOverload}
+
+-- the function to which a conversion belongs
+abbrev pub conversion_function : Conversion → Function
+conversion_function Conversion.UintToInt = functions.ToInt
+conversion_function Conversion.IntToUint = functions.ToUint
+conversion_function Conversion.IntToText = functions.ToText
+conversion_function Conversion.UintToText = functions.ToText
+conversion_function Conversion.BytesToText = functions.ToText
+conversion_function Conversion.TextToBytes = functions.ToBytes
 
 -- the function to which an operation belongs
 abbrev pub operation_function : Operation → Function
@@ -32,6 +43,7 @@ operation_function operations.InList = functions.In
 operation_function operations.InMap = functions.In
 operation_function operations.Size = functions.Size
 operation_function (operations.TestText test) = functions.TestText test
+operation_function (operations.Convert kind) = conversion_function kind
 
 -- the function to which an overload belongs
 abbrev pub function_of : Overload → Function
@@ -68,6 +80,7 @@ Operates operations.InMap ts r =
     (k : KeyType) × (t : ValueType) × (ts ≡ type_of_key k ∷ map_type k t ∷ []) × (r ≡ bool_type)
 Operates operations.Size ts r = (t : ValueType) × IsSized t × (ts ≡ t ∷ []) × (r ≡ int_type)
 Operates (operations.TestText test) ts r = (ts ≡ text_type ∷ text_type ∷ []) × (r ≡ bool_type)
+Operates (operations.Convert kind) ts r = (ts ≡ converted_type kind ∷ []) × (r ≡ conversion_type kind)
 
 -- the overload takes operands of these types, and gives a result of this type
 abbrev pub Takes : Overload → List ValueType → ValueType → Type 0

@@ -34,10 +34,18 @@ pub enum Function {
     Size,
     /// `contains`, `startsWith` and `endsWith`.
     TestText(TextTest),
+    /// `int`.
+    ToInt,
+    /// `uint`.
+    ToUint,
+    /// `string`.
+    ToText,
+    /// `bytes`.
+    ToBytes,
 }
 
 // Each name with its function.
-const FUNCTIONS: [(&'static str, Function); 26] = [
+const FUNCTIONS: [(&'static str, Function); 30] = [
     ("_&&_", Function::And),
     ("_||_", Function::Or),
     ("!_", Function::Not),
@@ -64,6 +72,10 @@ const FUNCTIONS: [(&'static str, Function); 26] = [
     ("contains", Function::TestText(TextTest::Contains)),
     ("startsWith", Function::TestText(TextTest::StartsWith)),
     ("endsWith", Function::TestText(TextTest::EndsWith)),
+    ("int", Function::ToInt),
+    ("uint", Function::ToUint),
+    ("string", Function::ToText),
+    ("bytes", Function::ToBytes),
 ];
 
 /// The function of a name; `None` if no function has it.

@@ -7,11 +7,11 @@ ghost use Rattle.cel_overload.specs.Overloads.{CallFault, IsCall};
 ghost use Rattle.cel_overload.specs.View.{result_view, types_of};
 ghost use Rattle.cel_overload.specs.declared.overload.Overload.TheVariants.{Operate};
 ghost use Rattle.cel_overload.specs.steps.View.{found_view};
-ghost use Rattle.cel_overload.specs.steps.Choosing.{are_both, choose, choose_arithmetic, choose_binary, choose_comparison, choose_in, choose_index, choose_ternary, choose_unary, when};
+ghost use Rattle.cel_overload.specs.steps.Choosing.{are_both, choose, choose_arithmetic, choose_binary, choose_comparison, choose_in, choose_index, choose_ternary, choose_to_text, choose_unary, when};
 
 use crate::function::{Function, function_named, may_take};
 use crate::kinds::{has_key_type, is_joined, is_number, is_sized};
-use cel_ops::{ArithmeticOp, CompareOp, Operation};
+use cel_ops::{ArithmeticOp, CompareOp, Conversion, Operation};
 use cel_value::CelType;
 
 /// What a call does.
@@ -29,6 +29,9 @@ pub enum Overload {
 pub enum ResultType<'a> {
     Bool,
     Int,
+    Uint,
+    Text,
+    Bytes,
     /// The type of an operand, or of a part of it.
     Same(&'a CelType),
 }
@@ -117,8 +120,37 @@ fn choose_unary<'a>(function: Function, operand: &'a CelType) -> Option<Found<'a
         ),
         Function::Negate => operate(*operand == CelType::Int, Operation::Negate, ResultType::Int),
         Function::Size => operate(is_sized(operand), Operation::Size, ResultType::Int),
+        Function::ToInt => operate(
+            *operand == CelType::Uint,
+            Operation::Convert(Conversion::UintToInt),
+            ResultType::Int,
+        ),
+        Function::ToUint => operate(
+            *operand == CelType::Int,
+            Operation::Convert(Conversion::IntToUint),
+            ResultType::Uint,
+        ),
+        Function::ToText => choose_to_text(operand),
+        Function::ToBytes => operate(
+            *operand == CelType::Text,
+            Operation::Convert(Conversion::TextToBytes),
+            ResultType::Bytes,
+        ),
         _ => None,
     }
+}
+
+// `string` takes an int, a uint or bytes.
+fn choose_to_text<'a>(operand: &'a CelType) -> Option<Found<'a>>
+    ensures { option_map found_view result ≡ choose_to_text (type_view operand.now) }
+{
+    let kind = match operand {
+        CelType::Int => Conversion::IntToText,
+        CelType::Uint => Conversion::UintToText,
+        CelType::Bytes => Conversion::BytesToText,
+        CelType::Bool | CelType::Text | CelType::List(_) | CelType::Map(_, _) => return None,
+    };
+    operate(true, Operation::Convert(kind), ResultType::Text)
 }
 
 fn choose_binary<'a>(function: Function, left: &'a CelType, right: &'a CelType) -> Option<Found<'a>>

@@ -8,7 +8,7 @@ use Rattle.cel_value.specs.Values.{CelValue}
 use Rattle.cel_tree.specs.Checked.{CelChecked}
 use Rattle.cel_tree.specs.Constants.{constants, constant_keys, ConstantSays, IsConstant}
 use Rattle.cel_tree.specs.GoodConstants.{IsGoodConstant, HasGoodConstants, AreGood, EntriesAreGood}
-use Rattle.cel_tree.specs.Message.{tree_depth, checked_field, IsChecked}
+use Rattle.cel_tree.specs.Message.{tree_depth, checked_field, IsExprOf, ExprParts, checked_parts, unchecked_parts}
 use Rattle.cel_tree.specs.Nodes.{Parts, EntryNode, Node, constant_node, ident_node, select_node, call_node, list_node, map_node, loop_node, children, node_kinds, kind_keys, KindSays, MemberSays, IsNode}
 use Rattle.cel_tree.specs.Reading.{Never}
 use Rattle.cel_tree.specs.Tree.{CelTree, CelTrees, no_trees, tree, CelTreeEntries}
@@ -105,5 +105,7 @@ tree_good (suc depth) parts t is =
     made_good is.id is.node is.inside t (node_good parts is.id is.node is.is)
     (inside_good (IsTree depth) (tree_good depth) (children is.node) is.inside is.are) is.makes
 
-pub checked_good : (parts : List (List ℕ)) (c : CelChecked) → IsChecked parts c → HasGoodConstants c.tree
-checked_good parts c (fs, message, says) = tree_good tree_depth (payloads checked_field.expr fs) c.tree says.tree
+-- the constants of an expression are good, whether it has entries or not
+pub expr_good : (parts : ExprParts) (c : CelChecked) → IsExprOf parts c → HasGoodConstants c.tree
+expr_good (checked_parts parts) c (fs, message, says) = tree_good tree_depth (payloads checked_field.expr fs) c.tree says.tree
+expr_good (unchecked_parts parts) c is = tree_good tree_depth parts c.tree is.tree

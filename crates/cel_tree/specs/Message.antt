@@ -1,6 +1,7 @@
--- The message of a checked expression, and what is wrong with it:
--- `google/api/expr/v1alpha1/checked.proto`, CheckedExpr.
-use Rattle.std.specs.Prelude.{◌≡◌, ◌≢◌, ◌≤◌, ℕ, List, [], ◌∷◌}
+-- The messages of a checked expression and of an expression without entries, and what is wrong with them:
+-- `google/api/expr/v1alpha1/checked.proto`, CheckedExpr, and `syntax.proto`, Expr.
+use Rattle.std.specs.Prelude.{◌≡◌, ◌≢◌, ◌⊎◌, ◌≤◌, ℕ, List, [], ◌∷◌}
+use Rattle.std.specs.FinMap.{empty}
 use Rattle.proto_wire.specs.Fields.{Wire}
 use Rattle.proto_wire.specs.Keys.{len_key}
 use Rattle.proto_wire.specs.Maps.{int64, IsMap, MapFault}
@@ -61,3 +62,36 @@ IsChecked = Reads checked_keys CheckedSays
 -- a fault of the message of a checked expression
 abbrev pub CheckedFault : List (List ℕ) → Refusal → Type 0
 CheckedFault = ReadFault checked_keys CheckedLacks CheckedWrong
+
+-- ---- expressions without entries
+
+-- the parts merge to the message of an expression; there are no entries
+pub record IsUnchecked (parts : List (List ℕ)) (c : CelChecked) : Type 0 where
+  pub tree : IsTree tree_depth parts c.tree
+  pub few : node_count c.tree ≤ most_nodes
+  pub types : c.types ≡ empty
+  pub refs : c.refs ≡ empty
+
+-- a fault of the message of an expression without entries
+abbrev pub UncheckedFault : List (List ℕ) → Refusal → Type 0
+UncheckedFault parts e = TreeFault tree_depth parts e ⊎ NodesFault tree_depth most_nodes parts e
+
+-- the payloads that an expression is read from: of a checked expression, or of one without entries
+pub data ExprParts : Type 0 where
+  checked_parts : List (List ℕ) → ExprParts
+  unchecked_parts : List (List ℕ) → ExprParts
+
+-- there are payloads
+abbrev pub ArePresent : ExprParts → Type 0
+ArePresent (checked_parts parts) = parts ≢ []
+ArePresent (unchecked_parts parts) = parts ≢ []
+
+-- the payloads merge to this expression
+abbrev pub IsExprOf : ExprParts → CelChecked → Type 0
+IsExprOf (checked_parts parts) c = IsChecked parts c
+IsExprOf (unchecked_parts parts) c = IsUnchecked parts c
+
+-- a fault of the payloads
+abbrev pub ExprFault : ExprParts → Refusal → Type 0
+ExprFault (checked_parts parts) e = CheckedFault parts e
+ExprFault (unchecked_parts parts) e = UncheckedFault parts e

@@ -241,7 +241,7 @@ pub data StructWrong (fs : List Wire) (e : Refusal) : Type 0 where
 
 -- ---- Comprehension
 
--- the fields of a Comprehension; an iter_var2 that is not empty is not supported
+-- the fields of a Comprehension
 abbrev pub loop_field : record { iter_var : ℕ; iter_range : ℕ; accu_var : ℕ; accu_init : ℕ; loop_condition : ℕ; loop_step : ℕ; result : ℕ; iter_var2 : ℕ }
 loop_field = record { iter_var = 1; iter_range = 2; accu_var = 3; accu_init = 4; loop_condition = 5; loop_step = 6; result = 7; iter_var2 = 8 }
 

@@ -1,4 +1,4 @@
-//! Laws of the definitions. Bytes are the message of at most one checked expression, or have a fault, and never both.
+//! Laws of the definitions. Payloads are the message of at most one expression, or have a fault, and never both.
 //! The constants of its tree have the types of their kinds, and its ids are int64.
 
 ghost use Rattle.std.specs.Prelude.{◌≡◌, ◌⊎◌, ℕ, List};
@@ -6,7 +6,7 @@ ghost use Rattle.proto_wire.specs.declared.refusal.Refusal.{Refusal};
 ghost use Rattle.cel_tree.specs.Checked.{CelChecked};
 ghost use Rattle.cel_tree.specs.GoodConstants.{HasGoodConstants};
 ghost use Rattle.cel_tree.specs.Ids.{IdsAreInt64};
-ghost use Rattle.cel_tree.specs.Message.{IsChecked, CheckedFault};
+ghost use Rattle.cel_tree.specs.Message.{IsChecked, CheckedFault, ExprFault, ExprParts, IsExprOf};
 
 /// Payloads are the message of a checked expression, or have a fault.
 pub fn checked_total()
@@ -23,9 +23,24 @@ pub fn checked_unique()
     ensures { (parts : List (List ℕ)) (c d : CelChecked) → IsChecked parts c → IsChecked parts d → c ≡ d }
 {}
 
-/// Each constant of a checked expression that was read has the type of its kind.
+/// Payloads, checked or not, are the message of an expression, or have a fault.
+pub fn expr_total()
+    ensures { (parts : ExprParts) → ((c : CelChecked) × IsExprOf parts c) ⊎ ((e : Refusal) × ExprFault parts e) }
+{}
+
+/// None of these payloads are both the message of an expression and at fault.
+pub fn expr_disjoint()
+    ensures { (parts : ExprParts) (c : CelChecked) (e : Refusal) → IsExprOf parts c → ExprFault parts e → ⊥ }
+{}
+
+/// These payloads are the message of at most one expression.
+pub fn expr_unique()
+    ensures { (parts : ExprParts) (c d : CelChecked) → IsExprOf parts c → IsExprOf parts d → c ≡ d }
+{}
+
+/// Each constant of an expression that was read has the type of its kind.
 pub fn constants_have_types()
-    ensures { (parts : List (List ℕ)) (c : CelChecked) → IsChecked parts c → HasGoodConstants c.tree }
+    ensures { (parts : ExprParts) (c : CelChecked) → IsExprOf parts c → HasGoodConstants c.tree }
 {}
 
 /// The id of each node, and each id of the maps, is from -2^63 to 2^63 - 1.

@@ -20,5 +20,5 @@ mod type_entry;
 mod type_node;
 
 pub use checked::{Checked, Reference, ReferenceMap, TypeEntry, TypeMap};
-pub use message::{read_checked, read_checked_parts};
+pub use message::{read_checked, read_checked_parts, read_unchecked_parts};
 pub use tree::{Comprehension, Constant, Tree, TreeEntry};

@@ -1,4 +1,4 @@
-//! Reads checked expressions (`google.api.expr.v1alpha1.CheckedExpr`).
+//! Reads checked expressions (`google.api.expr.v1alpha1.CheckedExpr`), and expressions without entries (`Expr`).
 
 ghost use Rattle.std.specs.Prelude.{◌≤◌, [], ◌∷◌, IfOk, IfErr, map};
 ghost use Rattle.proto_wire.specs.Fields.{field_view};
@@ -6,7 +6,7 @@ ghost use Rattle.proto_wire.specs.Maps.{int64, IsMap};
 ghost use Rattle.proto_wire.specs.Merge.{parts_view};
 ghost use Rattle.proto_wire.specs.Refusal.{MemoryOr};
 ghost use Rattle.proto_wire.specs.Values.{payloads};
-ghost use Rattle.cel_tree.specs.Message.{checked_field, most_nodes, tree_depth, CheckedSays, CheckedLacks, CheckedWrong, IsChecked, CheckedFault};
+ghost use Rattle.cel_tree.specs.Message.{checked_field, most_nodes, tree_depth, CheckedSays, CheckedLacks, CheckedWrong, IsChecked, CheckedFault, IsUnchecked, UncheckedFault};
 ghost use Rattle.cel_tree.specs.steps.Values.{ValuesFault};
 ghost use Rattle.cel_tree.specs.References.{IsReference};
 ghost use Rattle.cel_tree.specs.Trees.{IsTree, node_count};
@@ -53,6 +53,20 @@ pub fn read_checked_parts(alloc: Global, parts: &[&[u8]]) -> Result<Checked, Ref
     checked_of(alloc, &fields)
 }
 
+/// Reads the message of an expression (`google.api.expr.v1alpha1.Expr`) in several payloads. Both maps are empty. Refuses
+/// a message with a fault, as `read_checked` does; or `Memory`.
+pub fn read_unchecked_parts(alloc: Global, parts: &[&[u8]]) -> Result<Checked, Refusal>
+    ensures found { IfOk result (λ c. IsUnchecked (parts_view parts.now) (checked_view c)) }
+    ensures fault { IfErr result (MemoryOr (UncheckedFault (parts_view parts.now))) }
+{
+    let tree = whole_tree(alloc, parts)?;
+    Ok(Checked {
+        tree,
+        types: TypeMap::new(alloc),
+        refs: ReferenceMap::new(alloc),
+    })
+}
+
 /// The checked expression that the fields mean.
 fn checked_of(alloc: Global, fields: &[Field<'_>]) -> Result<Checked, Refusal>
     ensures found { IfOk result (λ c. CheckedSays (map field_view fields.now) (checked_view c)) }
@@ -84,6 +98,15 @@ fn tree_of(alloc: Global, fields: &[Field<'_>]) -> Result<Tree, Refusal>
         (TreeFails tree_depth most_nodes (payloads checked_field.expr (map field_view fields.now)))) }
 {
     let parts = payloads_of(alloc, fields, EXPR)?;
+    whole_tree(alloc, &parts)
+}
+
+/// The tree of an expression's payloads, with at most so many nodes as a tree may have.
+fn whole_tree(alloc: Global, parts: &[&[u8]]) -> Result<Tree, Refusal>
+    ensures found { IfOk result (λ t. IsTree tree_depth (parts_view parts.now) (tree_view t)
+        × (node_count (tree_view t) ≤ most_nodes)) }
+    ensures fault { IfErr result (MemoryOr (TreeFails tree_depth most_nodes (parts_view parts.now))) }
+{
     let mut left = MOST_NODES;
-    read_tree(alloc, &parts, TREE_DEPTH, &mut left)
+    read_tree(alloc, parts, TREE_DEPTH, &mut left)
 }

@@ -4,15 +4,17 @@ use Rattle.cel_value.specs.Types.{HasType, ValueType, bytes_type, int_type, list
 use Rattle.cel_value.specs.Values.{CelAnswer, CelValue, bytes, fails, int, list, map_of, text, uint, value}
 use Rattle.cel_value.specs.declared.cel_type.KeyType.{KeyType}
 use Rattle.cel_ops.specs.Arithmetic.{arithmetic_of}
+use Rattle.cel_ops.specs.Conversions.{conversion_of}
 use Rattle.cel_ops.specs.Collections.{entry_of, in_list_of, in_map_of, item_of}
 use Rattle.cel_ops.specs.Parts.{joined_of}
-use Rattle.cel_ops.specs.Strict.{strict_two}
+use Rattle.cel_ops.specs.Strict.{strict, strict_two}
 use Rattle.cel_ops.specs.Typed.{IsJoined}
 use Rattle.cel_ops.specs.declared.arithmetic.ArithmeticOp.{ArithmeticOp}
-use Rattle.cel_overload.specs.Answers.{HaveTypes, addition_of, function_answer, in_of, index_of, on_two, overload_answer}
+use Rattle.cel_overload.specs.Answers.{HaveTypes, addition_of, function_answer, in_of, index_of, on_one, on_two, overload_answer, text_conversion_of}
 use Rattle.cel_overload.specs.Overloads.{IsNumber, IsOverload, Takes, function_of}
 use Rattle.cel_overload.specs.declared.function.Function.{Function}
 use Rattle.cel_overload.specs.declared.overload.Overload.{Overload}
+use Rattle.cel_ops.specs.declared.conversion.Conversion.TheVariants as conversions
 use Rattle.cel_ops.specs.declared.operation.Operation.TheVariants as operations
 use Rattle.cel_overload.specs.declared.overload.Overload.TheVariants as overloads
 
@@ -31,6 +33,32 @@ two_same f g s t same ts is answers h = at answers (subst (HaveTypes answers) is
     at (value v ∷ fails e ∷ []) h = refl
     at (value v ∷ value w ∷ []) h = same v w h.0 h.1.0
     at (a ∷ b ∷ c ∷ answers) h = refl
+
+-- what is the same of values of a type is the same of operands of that type
+one_same : (f g : CelValue → Option CelAnswer) (s : ValueType)
+    → ((v : CelValue) → HasType v s → f v ≡ g v)
+    → (ts : List ValueType) → ts ≡ s ∷ [] → (answers : List CelAnswer) → HaveTypes answers ts
+    → on_one (strict f) answers ≡ on_one (strict g) answers
+one_same f g s same ts is answers h = at answers (subst (HaveTypes answers) is h)
+  where
+    at : (answers : List CelAnswer) → HaveTypes answers (s ∷ [])
+        → on_one (strict f) answers ≡ on_one (strict g) answers
+    at [] h = absurd h
+    at (fails e ∷ []) h = refl
+    at (value v ∷ []) h = same v h.0
+    at (a ∷ b ∷ answers) h = refl
+
+int_text_same : (v : CelValue) → HasType v int_type → text_conversion_of v ≡ conversion_of conversions.IntToText v
+int_text_same (int i) h = refl
+int_text_same _ h = absurd h
+
+uint_text_same : (v : CelValue) → HasType v uint_type → text_conversion_of v ≡ conversion_of conversions.UintToText v
+uint_text_same (uint n) h = refl
+uint_text_same _ h = absurd h
+
+bytes_text_same : (v : CelValue) → HasType v bytes_type → text_conversion_of v ≡ conversion_of conversions.BytesToText v
+bytes_text_same (bytes bs) h = refl
+bytes_text_same _ h = absurd h
 
 sum_same : (t : ValueType) → IsNumber t → (v w : CelValue) → HasType v t → HasType w t
     → addition_of v w ≡ arithmetic_of ArithmeticOp.Add v w
@@ -99,6 +127,15 @@ answer_same (overloads.Operate operations.InMap) ts r answers k h =
     answers h
 answer_same (overloads.Operate operations.Size) ts r answers k h = refl
 answer_same (overloads.Operate (operations.TestText test)) ts r answers k h = refl
+answer_same (overloads.Operate (operations.Convert conversions.UintToInt)) ts r answers k h = refl
+answer_same (overloads.Operate (operations.Convert conversions.IntToUint)) ts r answers k h = refl
+answer_same (overloads.Operate (operations.Convert conversions.IntToText)) ts r answers k h =
+    one_same text_conversion_of (conversion_of conversions.IntToText) int_type int_text_same ts k.0 answers h
+answer_same (overloads.Operate (operations.Convert conversions.UintToText)) ts r answers k h =
+    one_same text_conversion_of (conversion_of conversions.UintToText) uint_type uint_text_same ts k.0 answers h
+answer_same (overloads.Operate (operations.Convert conversions.BytesToText)) ts r answers k h =
+    one_same text_conversion_of (conversion_of conversions.BytesToText) bytes_type bytes_text_same ts k.0 answers h
+answer_same (overloads.Operate (operations.Convert conversions.TextToBytes)) ts r answers k h = refl
 
 pub call_same : (f : Function) (target : Bool) (ts : List ValueType) (o : Overload)
     (r : ValueType) (answers : List CelAnswer) → IsOverload f target ts o r

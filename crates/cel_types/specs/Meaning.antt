@@ -62,7 +62,7 @@ turn (Some (value (bool false))) step next ended = ended
 turn (Some (fails e)) step next ended = Some (fails e)
 turn _ _ next ended = None
 
--- what the variable gets in each turn
+-- what the one variable of a loop gets in each turn
 abbrev pub one_each : CelValues → List (List CelAnswer)
 one_each no_items = []
 one_each (item v vs) = (value v ∷ []) ∷ one_each vs

@@ -112,8 +112,8 @@ pub data PairsFault (HasKey HasValue : ValueType → Type 0) (InEntries : Refusa
 abbrev pub AreGot : Variables → (Range : ValueType → Type 0) → List ValueType → Type 0
 AreGot vars Range each = (walked : ValueType) × Range walked × IsOver vars walked each
 
--- a fault of a comprehension: a name is empty, two names are the same, or the range has no elements. Or the
--- condition is not a bool, the step is not of the accumulator's type, or a part has a fault
+-- a fault of a comprehension: iter_var or accu_var is empty, two given names are the same, or the range has no
+-- elements. Or the condition is not a bool, the step is not of the accumulator's type, or a part has a fault
 pub data LoopFault (x y acc : List ℕ) (Range Init : ValueType → Type 0)
     (Condition Step : List ValueType → ValueType → ValueType → Type 0)
     (InRange InInit : Refusal → Type 0) (InTurn : List ValueType → ValueType → Refusal → Type 0)

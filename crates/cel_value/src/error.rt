@@ -21,6 +21,10 @@ pub enum CelError {
     MissingAttribute,
     /// A map literal repeats a key.
     RepeatedKey,
+    /// A number is outside of the numbers of the type that it is converted to.
+    Range,
+    /// Bytes that are converted to a text are not UTF-8.
+    InvalidText,
 }
 
 impl CelError {
@@ -35,6 +39,8 @@ impl CelError {
             CelError::Index => "Index",
             CelError::MissingAttribute => "MissingAttribute",
             CelError::RepeatedKey => "RepeatedKey",
+            CelError::Range => "Range",
+            CelError::InvalidText => "InvalidText",
         }
     }
 }

@@ -101,6 +101,13 @@ fn operate_ways(
         Operation::Not => unary_ways(alloc, stacks, position, shape, Unary::Not),
         Operation::NotStrictlyFalse => unary_ways(alloc, stacks, position, shape, Unary::Not),
         Operation::Size => unary_ways(alloc, stacks, position, shape, Unary::Size),
+        Operation::Convert(kind) => unary_ways(
+            alloc,
+            stacks,
+            position,
+            shape,
+            Unary::Convert(kind),
+        ),
         Operation::Arithmetic(_) => binary_ways(alloc, stacks, position, shape, Binary::Arith),
         Operation::And => binary_ways(alloc, stacks, position, shape, Binary::Logic),
         Operation::Or => binary_ways(alloc, stacks, position, shape, Binary::Logic),

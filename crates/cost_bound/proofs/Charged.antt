@@ -13,6 +13,7 @@ use Rattle.cel_ops.specs.declared.operation.Operation.TheVariants as operations
 use Rattle.cel_overload.specs.declared.overload.Overload.TheVariants as overloads
 use Rattle.cost_bound.specs.Costs.{charge_at, counted_cost, field_cost, keys_of, map_cost, masses}
 use Rattle.cost_bound.specs.Sizes.{AllWithin, Fits, Size, Within, mass_of, most_of}
+use Rattle.cost_bound.proofs.Conversions.{conversion_charged, conversion_some}
 use Rattle.cost_bound.proofs.Joins.{length_within, mass_within}
 
 -- each charge is 1 at least
@@ -47,6 +48,7 @@ charge_some (overloads.Operate operations.Size) (t ∷ []) [] = omega arith
 charge_some (overloads.Operate operations.Size) (t ∷ []) (s ∷ []) = omega arith
 charge_some (overloads.Operate operations.Size) (t ∷ []) (s ∷ u ∷ ss) = omega arith
 charge_some (overloads.Operate operations.Size) (t ∷ k ∷ ts) sizes = omega arith
+charge_some (overloads.Operate (operations.Convert kind)) ts sizes = conversion_some kind ts sizes
 charge_some _ ts sizes = omega arith
 
 -- a charge of two values that is at most a cost is so of two answers
@@ -168,6 +170,7 @@ overload_charged (overloads.Operate operations.InList) answers ts sizes h g =
     two_charged in_list_charge (charge_at (overloads.Operate operations.InList) ts)
     (charge_some (overloads.Operate operations.InList) ts) in_list_charged answers sizes h
 overload_charged (overloads.Operate operations.Size) answers ts sizes h g = size_charged answers ts sizes h g
+overload_charged (overloads.Operate (operations.Convert kind)) answers ts sizes h g = conversion_charged kind answers ts sizes h
 overload_charged (overloads.Operate operations.And) answers ts sizes h g = plain_two answers
 overload_charged (overloads.Operate operations.Or) answers ts sizes h g = plain_two answers
 overload_charged (overloads.Operate operations.Not) answers ts sizes h g = plain_one answers

@@ -14,6 +14,7 @@ pub mod Pairs
 pub mod MemoViews
 pub mod Remembering
 pub mod Scalars
+pub mod Conversions
 pub mod Within
 pub mod Reached
 pub mod Charged

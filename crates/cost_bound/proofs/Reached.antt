@@ -106,6 +106,7 @@ call_paid (overloads.Operate operations.MapIndex) ts costs sizes c one = let all
 call_paid (overloads.Operate operations.InList) ts costs sizes c one = let all = one_paid c costs one in omega arith
 call_paid (overloads.Operate operations.InMap) ts costs sizes c one = let all = one_paid c costs one in omega arith
 call_paid (overloads.Operate operations.Size) ts costs sizes c one = let all = one_paid c costs one in omega arith
+call_paid (overloads.Operate (operations.Convert kind)) ts costs sizes c one = let all = one_paid c costs one in omega arith
 call_paid (overloads.Operate (operations.TestText test)) ts costs sizes c one = let all = one_paid c costs one in omega arith
 
 module _ (l : LimitsValue) where

@@ -1,4 +1,4 @@
--- Operations that answer a bool, a number or an error.
+-- Operations that answer a bool, a number or an error, which is within every size.
 use Rattle.std.proofs.Common.{◌+◌, ◌-◌, ◌*◌, ◌/◌, ◌%◌, ◌^◌, ◌==◌, ◌+ℤ◌, ◌-ℤ◌, ◌*ℤ◌, neg_ℤ, nat_lt, nat_le, int_div, int_rem, ℕ, ℤ, pos, Bool, true, false, cond, List, [], ◌∷◌, length, Option, Some, None, option_map}
 use Rattle.std.specs.Ordering.{int_eq}
 use Rattle.std.specs.declared.cmp.Ordering.{Ordering}
@@ -17,6 +17,7 @@ use Rattle.cel_ops.specs.declared.arithmetic.ArithmeticOp.{ArithmeticOp}
 use Rattle.cel_ops.specs.declared.comparison.CompareOp.{CompareOp}
 use Rattle.cel_ops.specs.declared.texts.TextTest.{TextTest}
 use Rattle.cel_overload.specs.Answers.{on_one, on_two}
+use Rattle.cost_bound.specs.Sizes.{Fits, Size, Within}
 
 -- a bool, a number, an error, or nothing
 abbrev pub IsScalar : Option CelAnswer → Type 0
@@ -26,6 +27,26 @@ IsScalar (Some (value (uint n))) = Unit {0}
 IsScalar (Some (value _)) = ⊥
 IsScalar (Some (fails e)) = Unit {0}
 IsScalar None = Unit {0}
+
+-- an answer, if there is one, is within the size
+abbrev pub IfWithin : Option CelAnswer → Size → Type 0
+IfWithin None s = Unit {0}
+IfWithin (Some a) s = Within a s
+
+pub scalar_within : (o : Option CelAnswer) (s : Size) → IsScalar o → IfWithin o s
+scalar_within (Some (value (bool b))) s h = tt
+scalar_within (Some (value (int i))) s h = tt
+scalar_within (Some (value (uint n))) s h = tt
+scalar_within (Some (fails e)) s h = tt
+scalar_within None s h = tt
+scalar_within (Some (value _)) s h = absurd h
+
+-- what an operation answers, by what it answers to values
+pub one_within : (f : CelValue → Option CelAnswer) (s z : Size)
+    → ((v : CelValue) → Fits v s → IfWithin (f v) z) → (a : CelAnswer) → Within a s
+    → IfWithin (strict f a) z
+one_within f s z each (value v) h = each v h
+one_within f s z each (fails e) h = tt
 
 either : (b : Bool) (x y : CelAnswer) → IsScalar (Some x) → IsScalar (Some y)
     → IsScalar (Some (cond b x y))

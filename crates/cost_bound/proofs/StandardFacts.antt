@@ -1,14 +1,16 @@
 -- Sizes and costs computed on expressions worked out by hand.
-use Rattle.std.proofs.Common.{◌≡◌, ◌<◌, ◌^◌, ◌-◌, ℕ, zero, suc, pos, Bool, true, false, List, [], ◌∷◌, refl, lit<}
+use Rattle.std.proofs.Common.{◌≡◌, ◌<◌, ◌^◌, ◌-◌, ℕ, zero, suc, pos, negsuc, Bool, true, false, List, [], ◌∷◌, refl, lit<}
 use Rattle.std.specs.Prelude.{codes}
 use Rattle.attributes.specs.Limits.{largest}
 use Rattle.attributes.specs.declared.attribute.AttrId.{AttrId}
-use Rattle.cel_value.specs.Types.{ValueType, bool_type, int_type, list_type, map_type, text_type}
-use Rattle.cel_value.specs.Values.{bool, int, text}
+use Rattle.cel_value.specs.Types.{ValueType, bool_type, bytes_type, int_type, list_type, map_type, text_type, uint_type}
+use Rattle.cel_value.specs.Values.{bool, bytes, int, text, uint}
 use Rattle.cel_value.specs.declared.cel_type.KeyType.{KeyType}
 use Rattle.cel_ops.specs.declared.arithmetic.ArithmeticOp.TheVariants.{Add, Divide, Subtract}
 use Rattle.cel_ops.specs.declared.comparison.CompareOp.TheVariants.{Equal, Greater}
 use Rattle.cel_overload.specs.declared.overload.Overload.{Overload}
+use Rattle.cel_ops.specs.declared.conversion.Conversion.{Conversion}
+use Rattle.cel_ops.specs.declared.conversion.Conversion.TheVariants as conversions
 use Rattle.cel_ops.specs.declared.operation.Operation.TheVariants as operations
 use Rattle.cel_overload.specs.declared.overload.Overload.TheVariants as overloads
 use Rattle.cel_types.specs.Elaborated.{TypedTree, TypedTrees, no_typed, typed, typed_attribute, typed_call, typed_constant, typed_has, typed_list, typed_local, typed_loop, typed_map}
@@ -258,6 +260,37 @@ doubled_cost = refl
 doubling_accumulator : 10 ^ 8 < costs doubling
 unfolding lib.Utf8.encode
 doubling_accumulator = lit< tt
+
+-- ---- conversions
+
+abbrev converted : ValueType → Conversion → TypedTree → TypedTree
+converted t kind e = typed_call t (overloads.Operate (operations.Convert kind)) (all_of (e ∷ []))
+
+abbrev octets : List ℕ → TypedTree
+octets bs = typed_constant bytes_type (bytes bs)
+
+-- `int(18446744073709551615u) == 0`: 1 + 1 + 1 + (1 + 1 + 1)
+int_of_greatest : costs (equals
+    (converted int_type conversions.UintToInt (typed_constant uint_type (uint (2 ^ 64 - 1)))) (number 0)) ≡ 6
+int_of_greatest = refl
+
+-- `string(-5) == "-5"`: 1 + 21 + 1 + (1 + 21 + 3)
+text_of_an_int : costs (equals
+    (converted text_type conversions.IntToText (typed_constant int_type (int (negsuc 4)))) (string (codes "-5"))) ≡ 48
+unfolding lib.Utf8.encode
+text_of_an_int = refl
+
+-- `bytes("é") == b"\xc3\xa9"`: 1 + 3 + 1 + (1 + 3 + 3)
+bytes_of_a_text : costs (equals
+    (converted bytes_type conversions.TextToBytes (string (233 ∷ []))) (octets (195 ∷ 169 ∷ []))) ≡ 12
+unfolding lib.Utf8.encode
+bytes_of_a_text = refl
+
+-- `string(b"\xff") == ""`: 1 + 2 + 1 + (1 + 2 + 1)
+text_of_other_bytes : costs (equals
+    (converted text_type conversions.BytesToText (octets (255 ∷ []))) (string [])) ≡ 8
+unfolding lib.Utf8.encode
+text_of_other_bytes = refl
 
 -- ---- sizes
 

@@ -34,7 +34,7 @@ use Rattle.cel_ops.specs.Collections as collections
 use Rattle.cel_ops.specs.Comparison.{comparison, comparison_of}
 use Rattle.cel_ops.specs.Logic.{conjunction, disjunction, logical_not, negation_of, not_strictly_false}
 use Rattle.cel_ops.specs.Parts.{joined, joined_of, text_test, text_test_of}
-use Rattle.cel_ops.specs.Strict.{Gathered, all_values, first_error, gather, gathered_after, strict, strict_all, strict_two}
+use Rattle.cel_ops.specs.Strict.{Gathered, all_values, first_error, gather, gathered_after, strict_all, strict_two}
 use Rattle.cel_overload.specs.Answers.{conditional, on_one, on_two, overload_answer}
 use Rattle.cel_overload.specs.declared.overload.Overload.{Overload}
 use Rattle.cel_ops.specs.declared.operation.Operation.TheVariants as operations
@@ -48,13 +48,9 @@ use Rattle.cel_types.specs.TypedMeaning.{local_at, typed_answer, typed_answers}
 use Rattle.cost_bound.specs.Costs.{attribute_size, call_size, concat_size, grown, join_all, keys_of, known, list_size, map_size, size_of, sizes_of, value_size, values_of, variable_sizes}
 use Rattle.cost_bound.specs.Sizes.{AllWithin, EachFits, EntriesFit, Fits, Flat, HasRoom, KeyFits, Many, Size, Table, Text, Within, join, most_of}
 use Rattle.cost_bound.proofs.Joins.{constant_within, each_left, each_right, entries_right, fits_left, grown_within, key_left, within_left, within_right}
-use Rattle.cost_bound.proofs.Scalars.{IsScalar, calculated, compared, conjoined, disjoined, listed, mapped, named, negated, one_operand, opposed, sized, strict_scalar, tested, two_operands, two_scalar, unstrict}
+use Rattle.cost_bound.proofs.Conversions.{converted_within}
+use Rattle.cost_bound.proofs.Scalars.{IfWithin, calculated, compared, conjoined, disjoined, listed, mapped, named, negated, one_operand, one_within, opposed, scalar_within, sized, strict_scalar, tested, two_operands, two_scalar, unstrict}
 use Rattle.cel_ops.proofs.AttributeTypes.{first_of, rest_of}
-
--- an answer, if there is one, is within the size
-abbrev pub IfWithin : Option CelAnswer → Size → Type 0
-IfWithin None s = Unit {0}
-IfWithin (Some a) s = Within a s
 
 -- answers, if there are any, are within the sizes
 abbrev pub IfAllWithin : Option (List CelAnswer) → List Size → Type 0
@@ -216,16 +212,6 @@ module _ (l : LimitsValue) where
     pub attribute_within : (id : AttrId) → Within (attribute r id) (attribute_size l id)
     attribute_within id = data_within (attr_type id) (attr_of r id) (attribute_size l id)
         (attr_typed r sound id) (attribute_fits id)
-
--- ---- what is a bool, a number or an error is within every size
-
-scalar_within : (o : Option CelAnswer) (s : Size) → IsScalar o → IfWithin o s
-scalar_within (Some (value (bool b))) s h = tt
-scalar_within (Some (value (int i))) s h = tt
-scalar_within (Some (value (uint n))) s h = tt
-scalar_within (Some (fails e)) s h = tt
-scalar_within None s h = tt
-scalar_within (Some (value _)) s h = absurd h
 
 -- ---- what is found
 
@@ -436,6 +422,7 @@ overload_within (overloads.Operate operations.InMap) given sizes h = scalar_with
     (two_operands in_map (two_scalar in_map_of mapped) given)
 overload_within (overloads.Operate operations.Size) given sizes h = scalar_within (on_one size given) Flat
     (one_operand size (strict_scalar collections.size_of sized) given)
+overload_within (overloads.Operate (operations.Convert kind)) given sizes h = converted_within kind given sizes h
 overload_within (overloads.Operate (operations.TestText test)) given sizes h =
     scalar_within (on_two (text_test test) given) Flat
     (two_operands (text_test test) (two_scalar (text_test_of test) (tested test)) given)
@@ -761,12 +748,6 @@ before_within : (o : Option CelAnswer) (others : Option (List CelAnswer)) (s : S
 before_within None others s sizes h hs = tt
 before_within (Some a) None s sizes h hs = tt
 before_within (Some a) (Some answers) s sizes h hs = (h, hs)
-
-one_within : (f : CelValue → Option CelAnswer) (s z : Size)
-    → ((v : CelValue) → Fits v s → IfWithin (f v) z) → (a : CelAnswer) → Within a s
-    → IfWithin (strict f a) z
-one_within f s z each (value v) h = each v h
-one_within f s z each (fails e) h = tt
 
 -- a Select's answer
 pub select_within : (name : List ℕ) (a : CelAnswer) (s : Size) → Within a s

@@ -12,6 +12,8 @@ use Rattle.cel_value.specs.Texts.{utf8_of}
 use Rattle.cel_value.specs.Types.{ValueType, text_type, bytes_type}
 use Rattle.cel_value.specs.Values.{CelValue, text, bytes}
 use Rattle.cel_overload.specs.declared.overload.Overload.{Overload}
+use Rattle.cel_ops.specs.declared.conversion.Conversion.{Conversion}
+use Rattle.cel_ops.specs.declared.conversion.Conversion.TheVariants as conversions
 use Rattle.cel_ops.specs.declared.operation.Operation.TheVariants as operations
 use Rattle.cel_overload.specs.declared.overload.Overload.TheVariants as overloads
 use Rattle.cel_types.specs.Elaborated.{TypedTree, typed_constant, typed_local, typed_attribute, typed_field, typed_has, typed_call, typed_list, typed_map, typed_loop, TypedTrees, no_typed, typed, kinds}
@@ -61,7 +63,8 @@ abbrev pub key_size : Size → Size
 key_size (Table n k v) = k
 key_size _ = Flat
 
--- the size of the answer of an index or a Select: of an item, or of a map's value
+-- the size of the answer of an index or a Select, and of the second of two variables: of an item, or of a
+-- map's value
 abbrev pub value_size : Size → Size
 value_size (Many n e) = e
 value_size (Table n k v) = v
@@ -83,12 +86,23 @@ resized n (Table m k v) = Table n k v
 abbrev pub concat_size : Size → Size → Size
 concat_size s t = resized (most_of s + most_of t) (join s t)
 
+-- the size of a conversion's answer: Flat for a number, 20 bytes for a number's text, otherwise as many bytes
+-- as the operand
+abbrev pub conversion_size : Conversion → Size → Size
+conversion_size conversions.UintToInt s = Flat
+conversion_size conversions.IntToUint s = Flat
+conversion_size conversions.IntToText s = Text 20
+conversion_size conversions.UintToText s = Text 20
+conversion_size conversions.BytesToText s = Text (most_of s)
+conversion_size conversions.TextToBytes s = Text (most_of s)
+
 -- the size of a call's answer, by the sizes of its operands
 abbrev pub call_size : Overload → List Size → Size
 call_size overloads.Conditional (c ∷ a ∷ b ∷ []) = join a b
 call_size (overloads.Operate operations.Concat) (s ∷ t ∷ []) = concat_size s t
 call_size (overloads.Operate operations.ListIndex) (s ∷ t ∷ []) = value_size s
 call_size (overloads.Operate operations.MapIndex) (s ∷ t ∷ []) = value_size s
+call_size (overloads.Operate (operations.Convert kind)) (s ∷ []) = conversion_size kind s
 call_size _ _ = Flat
 
 -- all these sizes joined
@@ -158,6 +172,15 @@ counted_cost text_type s = most_of s
 counted_cost bytes_type s = most_of s
 counted_cost _ s = 0
 
+-- the greatest charge of a conversion beyond 1
+abbrev pub conversion_cost : Conversion → Size → ℕ
+conversion_cost conversions.UintToInt s = 0
+conversion_cost conversions.IntToUint s = 0
+conversion_cost conversions.IntToText s = 20
+conversion_cost conversions.UintToText s = 20
+conversion_cost conversions.BytesToText s = most_of s
+conversion_cost conversions.TextToBytes s = most_of s
+
 -- the greatest charge of a call's instruction, by the types and sizes of its operands
 abbrev pub charge_at : Overload → List ValueType → List Size → ℕ
 charge_at (overloads.Operate (operations.Compare op)) ts (s ∷ t ∷ []) = 1 + (mass_of s + mass_of t)
@@ -167,6 +190,7 @@ charge_at (overloads.Operate operations.MapIndex) ts (m ∷ k ∷ []) = 1 + mass
 charge_at (overloads.Operate operations.InMap) ts (k ∷ m ∷ []) = 1 + mass_of k * most_of m
 charge_at (overloads.Operate operations.InList) ts (v ∷ s ∷ []) = 1 + (mass_of s + most_of s * mass_of v)
 charge_at (overloads.Operate operations.Size) (t ∷ []) (s ∷ []) = 1 + counted_cost t s
+charge_at (overloads.Operate (operations.Convert kind)) ts (s ∷ []) = 1 + conversion_cost kind s
 charge_at _ ts sizes = 1
 
 -- the cost of a call: its operands, and its instruction or jumps; of a conditional's branches the greater

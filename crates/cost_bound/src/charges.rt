@@ -8,13 +8,13 @@ ghost use Rattle.cel_types.specs.View.{expr_view};
 ghost use Rattle.cel_types.specs.steps.ExprViews.{exprs_view};
 ghost use Rattle.cel_value.specs.Texts.{text_view};
 ghost use Rattle.cel_value.specs.Types.{ValueType, type_view};
-ghost use Rattle.cost_bound.specs.Costs.{charge_at, counted_cost, field_cost, map_cost};
+ghost use Rattle.cost_bound.specs.Costs.{charge_at, conversion_cost, counted_cost, field_cost, map_cost};
 ghost use Rattle.cost_bound.specs.steps.Measuring.{CostsMore, call_part};
 ghost use Rattle.cost_bound.specs.steps.Numbers.{capped};
 ghost use Rattle.cost_bound.specs.steps.SizeView.{size_view, sizes_view};
 
 use crate::size::{ValueSize, product, sum};
-use cel_ops::Operation;
+use cel_ops::{Conversion, Operation};
 use cel_overload::Overload;
 use cel_types::TypedExpr;
 use cel_value::{CelType, text_length};
@@ -64,8 +64,46 @@ pub(crate) fn call_part(overload: Overload, operands: &[TypedExpr<'_>], sizes: &
         return counted_part(operands, sizes);
     }
     match sizes {
+        [size] => single_part(overload, size),
         [first, second] => pair_part(overload, first, second),
         _ => 0,
+    }
+}
+
+// The charge of an operation on one operand, less 1; not of `size`.
+fn single_part(overload: Overload, size: &ValueSize) -> u64
+    requires { overload ≢ overloads.Operate operations.Size }
+    ensures { (ts : List ValueType) → result ≡ capped (call_part overload ts (size_view size.now ∷ [])) }
+{
+    match overload {
+        Overload::Operate(op) => converted_part(op, size),
+        Overload::Conditional => 0,
+    }
+}
+
+// The same, of an operation.
+fn converted_part(op: Operation, size: &ValueSize) -> u64
+    requires { op ≢ operations.Size }
+    ensures { (ts : List ValueType)
+        → result ≡ capped (call_part (overloads.Operate op) ts (size_view size.now ∷ [])) }
+{
+    match op {
+        Operation::Convert(kind) => conversion_part(kind, size),
+        _ => 0,
+    }
+}
+
+// The charge of a conversion, less 1.
+fn conversion_part(kind: Conversion, size: &ValueSize) -> u64
+    ensures { result ≡ capped (conversion_cost kind (size_view size.now)) }
+{
+    match kind {
+        Conversion::UintToInt => 0,
+        Conversion::IntToUint => 0,
+        Conversion::IntToText => 20,
+        Conversion::UintToText => 20,
+        Conversion::BytesToText => size.most(),
+        Conversion::TextToBytes => size.most(),
     }
 }
 

@@ -3,14 +3,14 @@
 ghost use Rattle.std.specs.Prelude.{◌≡◌, ◌<◌, ◌+◌, ◌-◌, ◌^◌, List, [], ◌∷◌, IfOk, length};
 ghost use Rattle.cel_overload.specs.declared.overload.Overload.TheVariants.{Operate};
 ghost use Rattle.cel_value.specs.Types.{ValueType, type_view};
-ghost use Rattle.cost_bound.specs.Costs.{call_size, charge_at, concat_size, join_all, keys_of, list_size, map_cost, map_size, masses, values_of};
+ghost use Rattle.cost_bound.specs.Costs.{call_size, charge_at, concat_size, conversion_size, join_all, keys_of, list_size, map_cost, map_size, masses, values_of};
 ghost use Rattle.cost_bound.specs.Sizes.{Size, most_of};
 ghost use Rattle.cost_bound.specs.steps.Numbers.{capped};
 ghost use Rattle.cost_bound.specs.steps.SizeView.{size_view, sizes_view};
 
 use crate::known::least;
 use crate::size::{ValueSize, join, many, product, sum, table};
-use cel_ops::Operation;
+use cel_ops::{Conversion, Operation};
 use cel_overload::Overload;
 use cel_value::CelType;
 use std::alloc::{AllocError, Global};
@@ -26,6 +26,10 @@ pub(crate) fn call_size(
         → size_view size ≡ call_size overload (sizes_view sizes.now)) }
 {
     match sizes {
+        [size] => match overload {
+            Overload::Operate(op) => Ok(single_size(op, size)),
+            Overload::Conditional => Ok(ValueSize::Flat),
+        },
         [first, second] => match overload {
             Overload::Operate(op) => pair_size(alloc, op, first, second),
             Overload::Conditional => Ok(ValueSize::Flat),
@@ -35,6 +39,30 @@ pub(crate) fn call_size(
             Overload::Operate(_) => Ok(ValueSize::Flat),
         },
         _ => Ok(ValueSize::Flat),
+    }
+}
+
+// The size of the answer of an operation on one operand.
+fn single_size(op: Operation, size: &ValueSize) -> ValueSize
+    ensures { size_view result ≡ call_size (Operate op) (size_view size.now ∷ []) }
+{
+    match op {
+        Operation::Convert(kind) => converted_size(kind, size),
+        _ => ValueSize::Flat,
+    }
+}
+
+// The size of what is converted.
+fn converted_size(kind: Conversion, size: &ValueSize) -> ValueSize
+    ensures { size_view result ≡ conversion_size kind (size_view size.now) }
+{
+    match kind {
+        Conversion::UintToInt => ValueSize::Flat,
+        Conversion::IntToUint => ValueSize::Flat,
+        Conversion::IntToText => ValueSize::Text(20),
+        Conversion::UintToText => ValueSize::Text(20),
+        Conversion::BytesToText => ValueSize::Text(size.most()),
+        Conversion::TextToBytes => ValueSize::Text(size.most()),
     }
 }
 

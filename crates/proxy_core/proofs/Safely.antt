@@ -5,10 +5,10 @@ use Rattle.std.specs.FinMap.{get}
 use Rattle.std.specs.List.{AllByRecursion, AllZip}
 use Rattle.attributes.specs.Limits.{InLimits, LimitsValue}
 use Rattle.attributes.specs.Request.{IsRequest, RequestValue}
-use Rattle.proto_wire.specs.Values.{payloads}
+use Rattle.cel_tree.specs.Message.{ExprParts}
 use Rattle.cel_tree.specs.Checked.{CelChecked}
 use Rattle.cel_tree.specs.GoodConstants.{HasGoodConstants}
-use Rattle.cel_tree.proofs.GoodConstantLaws.{checked_good}
+use Rattle.cel_tree.proofs.GoodConstantLaws.{expr_good}
 use Rattle.xds_wire.specs.Discovery.{ExtensionMessage}
 use Rattle.cel_types.specs.Typing.{maps_of}
 use Rattle.cel_types.proofs.WellTypedElaborations.{elaborated_typed}
@@ -18,8 +18,7 @@ use Rattle.rbac_policy.specs.Condition.{IsProgramOf, Program}
 use Rattle.rbac_policy.specs.Costs.{FilterCosts}
 use Rattle.rbac_policy.specs.Enforced.{EnforcesPolicy}
 use Rattle.rbac_policy.specs.Filter.{Policy}
-use Rattle.rbac_policy.specs.Keys.{policy_field}
-use Rattle.rbac_policy.specs.Message.{IsCondition, IsPolicy}
+use Rattle.rbac_policy.specs.Message.{IsCondition, IsPolicy, condition_in}
 use Rattle.rbac_policy.proofs.Enforcing.{enforced_there}
 use Rattle.rbac_policy.proofs.Programs.{program_unique}
 use Rattle.ads.specs.Config.{ConfigValue, FilterValue}
@@ -35,13 +34,13 @@ good_of : (condition : CelChecked) (o : Option (Policy CelChecked)) (q : Option 
 good_of condition None q of has = absurd has
 good_of condition (Some p) None of has = let clash : Some p ≡ None = of in absurd cc
 good_of condition (Some p) (Some parts) of has =
-    by p.condition (payloads policy_field.checked_condition of.fs) of.condition has
+    by p.condition (condition_in of.fs) of.condition has
   where
-    by : (c : Option CelChecked) (parts : List (List ℕ)) → IsCondition parts c → c ≡ Some condition
+    by : (c : Option CelChecked) (parts : ExprParts) → IsCondition parts c → c ≡ Some condition
         → HasGoodConstants condition.tree
     by None parts reads is = absurd cc
     by (Some d) parts reads is =
-        let same : d ≡ condition = cc in subst (λ x. HasGoodConstants x.tree) same (checked_good parts d reads.1)
+        let same : d ≡ condition = cc in subst (λ x. HasGoodConstants x.tree) same (expr_good parts d reads.1)
 
 runs_well : (limits : LimitsValue) (condition : CelChecked) (program : Program) (r : RequestValue)
     → HasGoodConstants condition.tree → IsProgramOf limits condition program → IsRequest r → InLimits r limits

@@ -9,8 +9,7 @@ use Rattle.attributes.specs.Limits.{InLimits, LimitsValue}
 use Rattle.attributes.specs.Request.{IsRequest, RequestValue}
 use Rattle.cel_tree.specs.Checked.{CelChecked}
 use Rattle.cel_tree.specs.GoodConstants.{HasGoodConstants}
-use Rattle.cel_tree.proofs.GoodConstantLaws.{checked_good}
-use Rattle.proto_wire.specs.Values.{payloads}
+use Rattle.cel_tree.proofs.GoodConstantLaws.{expr_good}
 use Rattle.proto_wire.proofs.MapOrder.{above_all, both_first, both_second, found_later}
 use Rattle.rbac_match.specs.Formula.{Formulas, some_hold}
 use Rattle.stack_machine.specs.Machine.{RunsOut}
@@ -19,8 +18,7 @@ use Rattle.rbac_policy.specs.Admission.{IsAdmittedAs}
 use Rattle.rbac_policy.specs.Condition.{IsProgramOf, Program, TakesTooLong, is_met}
 use Rattle.rbac_policy.specs.Enforced.{EnforcesPolicy}
 use Rattle.rbac_policy.specs.Filter.{Filter, Policy}
-use Rattle.rbac_policy.specs.Keys.{policy_field}
-use Rattle.rbac_policy.specs.Message.{IsCondition, IsPolicy}
+use Rattle.rbac_policy.specs.Message.{IsCondition, IsPolicy, condition_in}
 use Rattle.rbac_policy.specs.Named.{named_views, policy_view}
 use Rattle.rbac_policy.specs.Verdict.{IsUnconditional, IsVerdict, SomeAsked, condition_holds, policy_matches, sides_match}
 use Rattle.rbac_policy.specs.declared.policy.NamedPolicy.{NamedPolicy}
@@ -39,9 +37,9 @@ GoodCondition (Some c) = HasGoodConstants c.tree
 good_of : (parts : List (List ℕ)) (p : Policy CelChecked) → IsPolicy parts p → GoodCondition p.condition
 good_of parts p is = by p.condition is.condition
   where
-    by : (c : Option CelChecked) → IsCondition (payloads policy_field.checked_condition is.fs) c → GoodCondition c
+    by : (c : Option CelChecked) → IsCondition (condition_in is.fs) c → GoodCondition c
     by None none = tt
-    by (Some c) reads = checked_good (payloads policy_field.checked_condition is.fs) c reads.1
+    by (Some c) reads = expr_good (condition_in is.fs) c reads.1
 
 module _ (limits : LimitsValue) (r : RequestValue) (valid : IsRequest r) where
   -- what is enforced stands for the policy

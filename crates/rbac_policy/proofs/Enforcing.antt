@@ -5,10 +5,9 @@ use Rattle.std.specs.FinMap.{FinMap, entries, entries_sorted, find, from_entries
 use Rattle.attributes.specs.Headers.{name_cmp}
 use Rattle.attributes.specs.Limits.{LimitsValue}
 use Rattle.cel_tree.specs.Checked.{CelChecked}
-use Rattle.cel_tree.specs.Message.{IsChecked}
-use Rattle.cel_tree.proofs.CheckedLaws.{checked_unique}
+use Rattle.cel_tree.specs.Message.{IsExprOf}
+use Rattle.cel_tree.proofs.CheckedLaws.{expr_given, expr_unique}
 use Rattle.proto_wire.specs.Maps.{Entry, text, AreValues}
-use Rattle.proto_wire.specs.Values.{payloads}
 use Rattle.proto_wire.specs.steps.Maps.{Held}
 use Rattle.proto_wire.proofs.MapOrder.{entries_from_entries}
 use Rattle.proto_wire.proofs.Unique.{merges_unique}
@@ -17,12 +16,11 @@ use Rattle.rbac_policy.specs.Costs.{Costs, FilterCosts, PoliciesCost}
 use Rattle.rbac_policy.specs.Enforced.{Enforces, EnforcesPolicy, bound_of, bounds_of, total_bound}
 use Rattle.rbac_policy.specs.Fault.{SomeCost}
 use Rattle.rbac_policy.specs.Filter.{Filter, Policy}
-use Rattle.rbac_policy.specs.Keys.{policy_field}
-use Rattle.rbac_policy.specs.Message.{IsCondition, IsPolicy}
+use Rattle.rbac_policy.specs.Message.{IsCondition, IsPolicy, condition_in}
 use Rattle.rbac_policy.specs.declared.filter.Action.{Action}
 use Rattle.rbac_policy.specs.steps.Conditions.{IsEnforced}
 use Rattle.rbac_policy.proofs.Besides.{Beside, beside_find, beside_map, beside_maps, in_a_row, name_same, sorted_beside}
-use Rattle.rbac_policy.proofs.Programs.{cost_unique, nothing_read, program_costs, program_of_cost, program_unique}
+use Rattle.rbac_policy.proofs.Programs.{cost_unique, program_costs, program_of_cost, program_unique}
 
 module _ (limits : LimitsValue) where
   -- ---- one policy
@@ -129,7 +127,7 @@ module _ (limits : LimitsValue) where
   one_costs n more v cost (p, is, enforces) others =
       by p.condition v.condition is.condition enforces.condition
     where
-      by : (c : Option CelChecked) (q : Option Program) → IsCondition (payloads policy_field.checked_condition is.fs) c
+      by : (c : Option CelChecked) (q : Option Program) → IsCondition (condition_in is.fs) c
           → MatchOption c (q ≡ None) (λ d. IsSomeAnd q (IsProgramOf limits d))
           → SomeCost limits (n ∷ more) (bound_of q + cost)
       by None q reads none = inl (rw (none, zero-add cost) others)
@@ -163,19 +161,19 @@ module _ (limits : LimitsValue) where
       rw made (omega (arith, most))
   cost_most (n ∷ ns) vs cost (v, others, (p, is, enforces), rest, made) (inr (c, own, less, has, costs, g, sum)) =
       let most = cost_most ns others less rest g in
-      let reads : IsChecked (payloads policy_field.checked_condition is.fs) c =
-      subst (λ fs. IsChecked (payloads policy_field.checked_condition fs) c) (merges_unique n.1 has.fs is.fs has.merges is.message.0) has.reads in
+      let reads : IsExprOf (condition_in is.fs) c =
+      subst (λ fs. IsExprOf (condition_in fs) c) (merges_unique n.1 has.fs is.fs has.merges is.message.0) has.reads in
       let same : own ≤ bound_of v.condition = by reads p.condition v.condition is.condition enforces.condition in
       rw made (omega (arith, most, same, sum))
     where
-      by : IsChecked (payloads policy_field.checked_condition is.fs) c → (d : Option CelChecked) (x : Option Program)
-          → IsCondition (payloads policy_field.checked_condition is.fs) d
+      by : IsExprOf (condition_in is.fs) c → (d : Option CelChecked) (x : Option Program)
+          → IsCondition (condition_in is.fs) d
           → MatchOption d (x ≡ None) (λ e. IsSomeAnd x (IsProgramOf limits e)) → own ≤ bound_of x
       by reads None x none h =
-          absurd (nothing_read c (subst (λ parts. IsChecked parts c) none reads))
+          absurd (none (expr_given (condition_in is.fs) c reads))
       by reads (Some d) None there h = absurd h
       by reads (Some d) (Some x) there h =
-          let one : c ≡ d = checked_unique (payloads policy_field.checked_condition is.fs) c d reads there.1 in
+          let one : c ≡ d = expr_unique (condition_in is.fs) c d reads there.1 in
           let same : own ≡ x.bound = cost_unique limits d own x.bound (subst (λ e. Costs limits e own) one costs) (program_costs limits d x h) in
           omega (arith, same)
 

@@ -13,3 +13,4 @@ pub mod StandardFacts
 pub mod StandardConditionFacts
 mod SieveLemmas
 mod PolicyNames
+mod ConditionParts

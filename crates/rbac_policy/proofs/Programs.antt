@@ -13,7 +13,6 @@ use Rattle.attributes.specs.Request.{IsRequest, RequestValue, protocol_of}
 use Rattle.cel_value.specs.Values.{CelAnswer}
 use Rattle.cel_tree.specs.Checked.{CelChecked}
 use Rattle.cel_tree.specs.GoodConstants.{HasGoodConstants}
-use Rattle.cel_tree.specs.Message.{IsChecked}
 use Rattle.cel_types.specs.Meaning.{eval}
 use Rattle.cel_types.specs.Typing.{maps_of}
 use Rattle.cel_types.proofs.OneElaboration.{one_elaboration}
@@ -77,11 +76,6 @@ within_own r =
     }
 
 -- ---- programs
-
--- no condition stands in no payloads
-pub nothing_read : (c : CelChecked) → IsChecked [] c → ⊥
-nothing_read c (fs, message, says) =
-    let none : fs ≡ [] = message.0 in says.there (rw none refl)
 
 -- a condition has one program at most
 pub program_unique : (limits : LimitsValue) (c : CelChecked) (p q : Program) → IsProgramOf limits c p

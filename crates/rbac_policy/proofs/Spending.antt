@@ -1,10 +1,9 @@
 -- What is wrong with the condition of one policy, and of one among others that spent some of the budget.
-use Rattle.std.proofs.Common.{arith, ◌≡◌, ◌≢◌, ◌+◌, ◌-◌, ◌⊎◌, inl, inr, ℕ, List, [], ◌∷◌, ◌++◌, refl, sym, add-zero}
+use Rattle.std.proofs.Common.{arith, ◌≡◌, ◌+◌, ◌-◌, ◌⊎◌, inl, inr, ℕ, List, [], ◌∷◌, ◌++◌, refl, sym, add-zero}
 use Rattle.attributes.specs.Limits.{LimitsValue}
 use Rattle.proto_wire.specs.Fields.{Wire}
 use Rattle.proto_wire.specs.Maps.{Entry, text}
 use Rattle.proto_wire.specs.Merge.{Merges}
-use Rattle.proto_wire.specs.Values.{payloads}
 use Rattle.proto_wire.specs.declared.refusal.Refusal.{Refusal}
 use Rattle.std.specs.Prelude.{Result, Ok, Err, IfOk}
 use Rattle.cel_tree.specs.Checked.{CelChecked}
@@ -13,7 +12,8 @@ use Rattle.rbac_policy.specs.Enforced.{bound_of, bounds_of}
 use Rattle.rbac_policy.specs.Admission.{Fault, too_costly}
 use Rattle.rbac_policy.specs.Fault.{HoldsPolicies, PolicyFault, PolicyHas, not_bool, unreadable, untyped}
 use Rattle.rbac_policy.specs.Filter.{Policy}
-use Rattle.rbac_policy.specs.Keys.{policy_field}
+use Rattle.cel_tree.specs.Message.{ArePresent}
+use Rattle.rbac_policy.specs.Message.{condition_in}
 use Rattle.rbac_policy.specs.steps.Conditions as step
 use Rattle.rbac_policy.specs.steps.Conditions.{ConditionFault, ConditionsFault, ExpressionFault, IsEnforced, cost_too_much}
 use Rattle.rbac_policy.proofs.Besides.{Beside}
@@ -28,8 +28,8 @@ module _ (limits : LimitsValue) (name : List ℕ) (parts : List (List ℕ)) (lef
       inr (cost_too_much cost (inr (c, cost, 0, has, costs, refl, sym (add-zero cost))) above is)
 
   -- the fault of a policy's condition is one of the policy, or one of its cost
-  pub condition_fails : (fs : List Wire) → Merges parts fs → payloads policy_field.checked_condition fs ≢ []
-      → ConditionFault (payloads policy_field.checked_condition fs) limits left e
+  pub condition_fails : (fs : List Wire) → Merges parts fs → ArePresent (condition_in fs)
+      → ConditionFault (condition_in fs) limits left e
       → PolicyFault parts e ⊎ ConditionsFault ((name, parts) ∷ []) limits left e
   condition_fails fs merges there (step.unreadable bad) = inl (unreadable fs merges there bad)
   condition_fails fs merges there (step.expression c reads bad) =

@@ -1,6 +1,6 @@
 -- The filter of StandardFacts with the condition `true && true`: its bytes as an encoder writes them, what
 -- they say, what the condition costs, whether they are admissible, and the filter's answer.
-use Rattle.std.proofs.Common.{◌≡◌, ℕ, suc, ◌<◌, ℤ, pos, true, false, cond, IsTrue, List, [], ◌∷◌, ◌++◌, Option, Some, None, IsSomeAnd, MatchOption, codes, length, map, refl, sym, ap, subst, arith, ◌∙◌}
+use Rattle.std.proofs.Common.{◌≡◌, ℕ, suc, ◌<◌, ℤ, pos, true, false, cond, IsTrue, List, [], ◌∷◌, ◌++◌, Option, Some, None, inl, IsSomeAnd, MatchOption, codes, length, map, refl, sym, ap, subst, arith, ◌∙◌}
 use Rattle.std.specs.Str.{IsUtf8, chars}
 use Rattle.std.specs.Ordering.{int_cmp, is_eq, is_lt}
 use Rattle.std.specs.declared.cmp.Ordering.TheVariants.{Less, Equal, Greater}
@@ -267,7 +267,7 @@ is_policy : IsPolicy (policy_bytes ∷ []) policy
 is_policy = record {
   fs = field 1 (len_of rule_bytes) ∷ field 2 (len_of rule_bytes) ∷ field 4 (len_of checked_bytes) ∷ [];
   message = (merged policy_bytes (field 1 (len_of rule_bytes) ∷ field 2 (len_of rule_bytes) ∷ field 4 (len_of checked_bytes) ∷ []) policy_fields, refl);
-  unchecked = refl;
+  one = inl refl;
   condition = (λ e. cc, is_checked);
   sides = (λ e. cc, λ e. cc);
   permissions = (is_rule Permission, tt);

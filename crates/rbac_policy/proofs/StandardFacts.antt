@@ -1,7 +1,7 @@
 -- One filter of Envoy (extensions.filters.http.rbac.v3.RBAC) that allows requests by one policy `p` of any
 -- permission and any principal: its bytes as an encoder writes them, what they say, and its answer,
 -- so that a wrong rule in the specs does not check.
-use Rattle.std.proofs.Common.{◌≡◌, ℕ, Bool, true, false, cond, IsTrue, List, [], ◌∷◌, ◌++◌, Some, None, IsSomeAnd, codes, length, map, refl, ap, arith, ◌∙◌}
+use Rattle.std.proofs.Common.{◌≡◌, ℕ, Bool, true, false, cond, IsTrue, List, [], ◌∷◌, ◌++◌, Some, None, inl, IsSomeAnd, codes, length, map, refl, ap, arith, ◌∙◌}
 use Rattle.std.specs.Str.{IsUtf8}
 use Rattle.std.specs.Ordering.{is_eq, is_lt}
 use Rattle.std.specs.declared.cmp.Ordering.TheVariants.{Less, Equal, Greater}
@@ -99,8 +99,8 @@ is_policy : IsPolicy (policy_bytes ∷ []) policy
 is_policy = record {
   fs = field 1 (len_of rule_bytes) ∷ field 2 (len_of rule_bytes) ∷ [];
   message = (merged policy_bytes (field 1 (len_of rule_bytes) ∷ field 2 (len_of rule_bytes) ∷ []) policy_fields, refl);
-  unchecked = refl;
-  condition = refl;
+  one = inl refl;
+  condition = λ some. some refl;
   sides = (λ e. cc, λ e. cc);
   permissions = (is_rule Permission, tt);
   principals = (is_rule Principal, tt);

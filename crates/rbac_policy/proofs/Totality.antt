@@ -16,8 +16,8 @@ use Rattle.proto_wire.specs.declared.refusal.Refusal.{Refusal}
 use Rattle.proto_wire.specs.declared.refusal.Refusal.TheVariants.{BothConditions, Missing, NotBool, OutOfRange, TooCostly, TooLarge, Unsupported}
 use Rattle.cel_value.specs.Types.{ValueType, bool_type, bytes_type, int_type, list_type, map_type, text_type, uint_type}
 use Rattle.cel_tree.specs.Checked.{CelChecked}
-use Rattle.cel_tree.specs.Message.{IsChecked, CheckedFault}
-use Rattle.cel_tree.proofs.CheckedLaws.{checked_disjoint, checked_total, checked_unique}
+use Rattle.cel_tree.specs.Message.{ExprFault, IsExprOf, ArePresent}
+use Rattle.cel_tree.proofs.CheckedLaws.{expr_disjoint, expr_given, expr_total, expr_unique, given_or_not}
 use Rattle.cel_types.specs.Typing.{IsTyped, maps_of}
 use Rattle.cel_types.proofs.CheckLaws.{check_disjoint, check_total}
 use Rattle.cel_types.proofs.Elaborating.{elaborated}
@@ -35,18 +35,17 @@ use Rattle.rbac_policy.specs.Condition.{IsProgramOf, Program}
 use Rattle.rbac_policy.specs.Enforced.{Enforces, EnforcesPolicy, bounds_of, total_bound}
 use Rattle.rbac_policy.specs.Filter.{Policy, Filter}
 use Rattle.rbac_policy.specs.Keys.{rules_field, policy_field, filter_keys, policy_keys, filter_field, rules_keys}
-use Rattle.rbac_policy.specs.Message.{rule_depth, most_policies, HasBothSides, IsCondition, IsPolicy, action_in, action_number, AreFilterRules, IsFilter}
+use Rattle.rbac_policy.specs.Message.{rule_depth, most_policies, HasBothSides, IsCondition, IsPolicy, condition_in, action_in, action_number, AreFilterRules, IsFilter}
 use Rattle.proto_wire.specs.Maps.{Entry, text, AreEntries, AreValues, Readable, map_of, in_entry, in_value}
 use Rattle.proto_wire.proofs.MapLaws.{entries_total, entries_readable, readable_unique}
 use Rattle.proto_wire.proofs.MapValues.{held_are_values, values_total}
 use Rattle.proto_wire.proofs.WholeMaps.{map_disjoint}
-use Rattle.rbac_policy.specs.Fault.{PolicyFault, PolicyHas, SomeCost, HoldsPolicies, policy_fields, lacks_side, both_conditions, unchecked, unreadable, untyped, not_bool, in_permission, in_principal, RulesFault, bad_action, audited, in_policies, too_many, FilterFault, filter_fields, no_rules, rules_fields, in_rules}
+use Rattle.rbac_policy.specs.Fault.{PolicyFault, PolicyHas, SomeCost, HoldsPolicies, policy_fields, lacks_side, both_conditions, unreadable, untyped, not_bool, in_permission, in_principal, RulesFault, bad_action, audited, in_policies, too_many, FilterFault, filter_fields, no_rules, rules_fields, in_rules}
 use Rattle.rbac_policy.specs.declared.filter.Action.{Action}
 use Rattle.rbac_policy.specs.declared.filter.Action.TheVariants.{Allow, Deny, Log}
 use Rattle.rbac_policy.specs.steps.Conditions.{IsEnforced}
 use Rattle.rbac_policy.proofs.Besides.{Beside, beside_length, beside_map, in_a_row, sorted_beside}
 use Rattle.rbac_policy.proofs.Enforcing.{all_cost, apart, cost_most, enforced_beside, enforced_costs, enforced_there, filter_enforced}
-use Rattle.rbac_policy.proofs.Programs.{nothing_read}
 
 -- payloads are a policy or have a fault
 ruled : (side : Side) (fs : List Wire) (k : ℕ)
@@ -60,6 +59,16 @@ sides_total fs = elim (nil_or_not (payloads policy_field.permissions fs)) [
   | inr permission ↦ elim (nil_or_not (payloads policy_field.principals fs)) [
     | inl none ↦ inr (λ sides. sides.1 none)
     | inr principal ↦ inl (permission, principal)
+  ]
+]
+
+-- one of two lists is empty, or none is
+one_or_both : (xs ys : List (List ℕ)) → ((xs ≡ []) ⊎ (ys ≡ [])) ⊎ ((xs ≢ []) × (ys ≢ []))
+one_or_both xs ys = elim (nil_or_not xs) [
+  | inl none ↦ inl (inl none)
+  | inr some ↦ elim (nil_or_not ys) [
+    | inl none ↦ inl (inr none)
+    | inr also ↦ inr (some, also)
   ]
 ]
 
@@ -90,12 +99,12 @@ module _ (limits : LimitsValue) where
 
   -- the condition in the payloads has a program, or has a fault, or there is none
   condition_total : (parts : List (List ℕ)) (fs : List Wire) → Merges parts fs
-      → ((condition : Option CelChecked) × (program : Option Program) × IsCondition (payloads policy_field.checked_condition fs) condition
+      → ((condition : Option CelChecked) × (program : Option Program) × IsCondition (condition_in fs) condition
       × MatchOption condition (program ≡ None) (λ c. IsSomeAnd program (IsProgramOf limits c)))
       ⊎ ((e : Refusal) × PolicyFault parts e)
-  condition_total parts fs merges = elim (nil_or_not (payloads policy_field.checked_condition fs)) [
-    | inl none ↦ inl (None, None, none, refl)
-    | inr there ↦ elim (checked_total (payloads policy_field.checked_condition fs)) [
+  condition_total parts fs merges = elim (given_or_not (condition_in fs)) [
+    | inr none ↦ inl (None, None, none, refl)
+    | inl there ↦ elim (expr_total (condition_in fs)) [
       | inr bad ↦ inr (bad.0, unreadable fs merges there bad.1)
       | inl reads ↦
           let has : PolicyHas parts reads.0 = record { fs = fs; merges = merges; reads = reads.1 } in
@@ -112,7 +121,7 @@ module _ (limits : LimitsValue) where
   ]
 
   fields_total : (parts : List (List ℕ)) (fs : List Wire) → IsMessage policy_keys parts fs
-      → payloads policy_field.condition fs ≡ [] → HasBothSides fs
+      → (payloads policy_field.condition fs ≡ []) ⊎ (payloads policy_field.checked_condition fs ≡ []) → HasBothSides fs
       → ((enforced : Policy Program) × IsEnforced limits parts enforced) ⊎ ((e : Refusal) × PolicyFault parts e)
   fields_total parts fs message plain sides = elim (ruled Permission fs policy_field.permissions) [
     | inr bad ↦ inr (bad.2, in_permission fs message.0 (bad.0, bad.1, bad.3))
@@ -127,7 +136,7 @@ module _ (limits : LimitsValue) where
             record {
               fs = fs;
               message = message;
-              unchecked = plain;
+              one = plain;
               condition = reads;
               sides = sides;
               permissions = permissions.1;
@@ -144,11 +153,8 @@ module _ (limits : LimitsValue) where
       → ((enforced : Policy Program) × IsEnforced limits parts enforced) ⊎ ((e : Refusal) × PolicyFault parts e)
   policy_total parts = elim (message_total policy_keys parts) [
     | inr bad ↦ inr (bad.0, policy_fields bad.1)
-    | inl message ↦ elim (nil_or_not (payloads policy_field.condition message.0)) [
-      | inr there ↦ elim (nil_or_not (payloads policy_field.checked_condition message.0)) [
-        | inl none ↦ inr (Unsupported, unchecked message.0 message.1.0 there none refl)
-        | inr also ↦ inr (BothConditions, both_conditions message.0 message.1.0 there also refl)
-      ]
+    | inl message ↦ elim (one_or_both (payloads policy_field.condition message.0) (payloads policy_field.checked_condition message.0)) [
+      | inr both ↦ inr (BothConditions, both_conditions message.0 message.1.0 both.0 both.1 refl)
       | inl plain ↦ elim (sides_total message.0) [
         | inr bad ↦ inr (Missing, lacks_side message.0 message.1 bad refl)
         | inl sides ↦ fields_total parts message.0 message.1 plain sides
@@ -171,30 +177,32 @@ module _ (limits : LimitsValue) where
     -- a condition that the parts have is of type bool
     has_bool : (c : CelChecked) → PolicyHas parts c → IsTyped c bool_type
     has_bool c has =
-        by (moved (λ fs. IsChecked (payloads policy_field.checked_condition fs) c) has.fs has.merges has.reads)
+        by (moved (λ fs. IsExprOf (condition_in fs) c) has.fs has.merges has.reads)
         policy.condition enforced.condition is.condition whole.2.condition
       where
-        by : IsChecked (payloads policy_field.checked_condition is.fs) c → (d : Option CelChecked) (x : Option Program)
-            → IsCondition (payloads policy_field.checked_condition is.fs) d
+        by : IsExprOf (condition_in is.fs) c → (d : Option CelChecked) (x : Option Program)
+            → IsCondition (condition_in is.fs) d
             → MatchOption d (x ≡ None) (λ e. IsSomeAnd x (IsProgramOf limits e)) → IsTyped c bool_type
-        by reads None x none h = absurd (nothing_read c (subst (λ ps. IsChecked ps c) none reads))
+        by reads None x none h = absurd (none (expr_given (condition_in is.fs) c reads))
         by reads (Some d) None there h = absurd h
         by reads (Some d) (Some x) there h =
-            let same : d ≡ c = checked_unique (payloads policy_field.checked_condition is.fs) d c there.1 reads in
+            let same : d ≡ c = expr_unique (condition_in is.fs) d c there.1 reads in
             subst (λ e. IsTyped e bool_type) same (subst (IsTyped d) h.has_type h.elaborated.typed)
 
     policy_disjoint : (e : Refusal) → PolicyFault parts e → ⊥
     policy_disjoint e (policy_fields bad) = message_disjoint policy_keys parts is.fs e is.message bad
     policy_disjoint e (lacks_side gs also bad at) = moved (λ xs. ¬ (HasBothSides xs)) gs also.0 bad is.sides
-    policy_disjoint e (both_conditions gs also there checked at) = moved (λ xs. payloads policy_field.condition xs ≢ []) gs also there is.unchecked
-    policy_disjoint e (unchecked gs also there none at) = moved (λ xs. payloads policy_field.condition xs ≢ []) gs also there is.unchecked
+    policy_disjoint e (both_conditions gs also there checked at) = elim is.one [
+      | inl none ↦ moved (λ xs. payloads policy_field.condition xs ≢ []) gs also there none
+      | inr none ↦ moved (λ xs. payloads policy_field.checked_condition xs ≢ []) gs also checked none
+    ]
     policy_disjoint e (unreadable gs also there bad) =
-        reads policy.condition is.condition (moved (λ xs. payloads policy_field.checked_condition xs ≢ []) gs also there) (moved (λ xs. CheckedFault (payloads policy_field.checked_condition xs) e) gs also bad)
+        reads policy.condition is.condition (moved (λ xs. ArePresent (condition_in xs)) gs also there) (moved (λ xs. ExprFault (condition_in xs) e) gs also bad)
       where
-        reads : (d : Option CelChecked) → IsCondition (payloads policy_field.checked_condition is.fs) d
-            → payloads policy_field.checked_condition is.fs ≢ [] → CheckedFault (payloads policy_field.checked_condition is.fs) e → ⊥
-        reads None none some fault = some none
-        reads (Some d) has some fault = checked_disjoint (payloads policy_field.checked_condition is.fs) d e has.1 fault
+        reads : (d : Option CelChecked) → IsCondition (condition_in is.fs) d
+            → ArePresent (condition_in is.fs) → ExprFault (condition_in is.fs) e → ⊥
+        reads None none some fault = none some
+        reads (Some d) has some fault = expr_disjoint (condition_in is.fs) d e has.1 fault
     policy_disjoint e (untyped c has bad) = check_disjoint c bool_type e (has_bool c has) bad
     policy_disjoint e (not_bool c t has typed other at) =
         other (one_type (maps_of c) [] c.tree t bool_type typed.types (has_bool c has).types)

@@ -12,14 +12,15 @@ use Rattle.rbac_match.specs.declared.rule.Side.TheVariants.{Permission, Principa
 use Rattle.rbac_match.proofs.RuleMessages.{rules_unique as rules_one}
 use Rattle.attributes.specs.Limits.{LimitsValue}
 use Rattle.cel_tree.specs.Checked.{CelChecked}
-use Rattle.cel_tree.proofs.CheckedLaws.{checked_unique}
+use Rattle.cel_tree.specs.Message.{ExprParts}
+use Rattle.cel_tree.proofs.CheckedLaws.{expr_unique}
 use Rattle.rbac_policy.specs.Admission.{Admits}
 use Rattle.rbac_policy.specs.Condition.{Program}
 use Rattle.rbac_policy.specs.Enforced.{Enforces}
 use Rattle.rbac_policy.specs.Filter.{Policy, Filter}
 use Rattle.attributes.specs.Headers.{name_cmp}
 use Rattle.rbac_policy.specs.Keys.{policy_field, rules_field, filter_field, rules_keys}
-use Rattle.rbac_policy.specs.Message.{rule_depth, IsCondition, IsPolicy, action_number, AreFilterRules, IsFilter}
+use Rattle.rbac_policy.specs.Message.{rule_depth, IsCondition, IsPolicy, condition_in, action_number, AreFilterRules, IsFilter}
 use Rattle.rbac_policy.specs.declared.filter.Action.{Action}
 use Rattle.rbac_policy.specs.declared.filter.Action.TheVariants.{Allow, Deny, Log}
 use Rattle.proto_wire.specs.Maps.{text}
@@ -27,11 +28,11 @@ use Rattle.proto_wire.proofs.WholeMaps.{map_unique}
 use Rattle.rbac_policy.proofs.Enforcing.{enforces_unique}
 
 -- payloads have one condition, or none
-condition_unique : (parts : List (List ℕ)) (x y : Option CelChecked) → IsCondition parts x → IsCondition parts y → x ≡ y
+condition_unique : (parts : ExprParts) (x y : Option CelChecked) → IsCondition parts x → IsCondition parts y → x ≡ y
 condition_unique parts None None a b = refl
-condition_unique parts None (Some d) a b = absurd (b.0 a)
-condition_unique parts (Some c) None a b = absurd (a.0 b)
-condition_unique parts (Some c) (Some d) a b = ap Some (checked_unique parts c d a.1 b.1)
+condition_unique parts None (Some d) a b = absurd (a b.0)
+condition_unique parts (Some c) None a b = absurd (b a.0)
+condition_unique parts (Some c) (Some d) a b = ap Some (expr_unique parts c d a.1 b.1)
 
 -- payloads merge to one policy
 module _ (parts : List (List ℕ)) (p q : Policy CelChecked) (a : IsPolicy parts p) (b : IsPolicy parts q) where
@@ -47,8 +48,8 @@ module _ (parts : List (List ℕ)) (p q : Policy CelChecked) (a : IsPolicy parts
   policy_unique =
       let permissions : p.permissions ≡ q.permissions = side_unique Permission policy_field.permissions p.permissions q.permissions a.permissions b.permissions in
       let principals : p.principals ≡ q.principals = side_unique Principal policy_field.principals p.principals q.principals a.principals b.principals in
-      let P : List Wire → Type 0 = λ fs. IsCondition (payloads policy_field.checked_condition fs) q.condition in
-      let condition : p.condition ≡ q.condition = condition_unique (payloads policy_field.checked_condition a.fs) p.condition q.condition a.condition
+      let P : List Wire → Type 0 = λ fs. IsCondition (condition_in fs) q.condition in
+      let condition : p.condition ≡ q.condition = condition_unique (condition_in a.fs) p.condition q.condition a.condition
       (subst P (merges_unique parts b.fs a.fs b.message.0 a.message.0) b.condition) in
       λ i. record { permissions = permissions i; principals = principals i; condition = condition i }
 

@@ -1,4 +1,4 @@
--- Conditions: Envoy RBAC, "Policy.checked_condition"; CEL language definition, "Evaluation".
+-- Conditions: Envoy RBAC, "Policy.condition" and "Policy.checked_condition"; CEL language definition, "Evaluation".
 use Rattle.std.specs.Prelude.{◌≡◌, ◌⊎◌, ℕ, Bool, true, false, List, [], Option, Some}
 use Rattle.attributes.specs.Limits.{LimitsValue}
 use Rattle.attributes.specs.Request.{RequestValue}

@@ -11,35 +11,32 @@ use Rattle.proto_wire.specs.declared.refusal.Refusal.TheVariants.{BothConditions
 use Rattle.attributes.specs.Limits.{LimitsValue}
 use Rattle.cel_value.specs.Types.{ValueType, bool_type}
 use Rattle.cel_tree.specs.Checked.{CelChecked}
-use Rattle.cel_tree.specs.Message.{CheckedFault, IsChecked}
+use Rattle.cel_tree.specs.Message.{ExprFault, IsExprOf, ArePresent}
 use Rattle.cel_types.specs.Typing.{IsTyped}
 use Rattle.cel_types.specs.TypingFaults.{CheckFault}
 use Rattle.rbac_policy.specs.Costs.{Costs}
 use Rattle.rbac_match.specs.Rules.{SomeRuleFault}
 use Rattle.rbac_match.specs.declared.rule.Side.TheVariants.{Permission, Principal}
 use Rattle.rbac_policy.specs.Keys.{filter_keys, rules_keys, policy_keys, filter_field, rules_field, policy_field}
-use Rattle.rbac_policy.specs.Message.{rule_depth, most_policies, action_in, action_number, HasBothSides}
+use Rattle.rbac_policy.specs.Message.{rule_depth, most_policies, action_in, action_number, condition_in, HasBothSides}
 use Rattle.rbac_policy.specs.declared.filter.Action.TheVariants.{Log}
 
--- the policy in these parts has this checked condition
+-- the policy in these parts has this condition
 pub record PolicyHas (parts : List (List ℕ)) (condition : CelChecked) : Type 0 where
   pub fs : List Wire
   pub merges : Merges parts fs
-  pub reads : IsChecked (payloads policy_field.checked_condition fs) condition
+  pub reads : IsExprOf (condition_in fs) condition
 
 -- a fault of a policy: in its fields, in its rules, or that it lacks permissions or principals. Also that it
--- has an unchecked condition, with or without a checked one. Or that its checked condition does not read, has
--- no type, or has another type than bool
+-- has both conditions. Or that its condition does not read, has no type, or has another type than bool
 pub data PolicyFault (parts : List (List ℕ)) (e : Refusal) : Type 0 where
   policy_fields : MessageFault policy_keys parts e → PolicyFault parts e
   lacks_side : (fs : List Wire) → IsMessage policy_keys parts fs → ¬ (HasBothSides fs) → e ≡ Missing
       → PolicyFault parts e
   both_conditions : (fs : List Wire) → Merges parts fs → payloads policy_field.condition fs ≢ []
       → payloads policy_field.checked_condition fs ≢ [] → e ≡ BothConditions → PolicyFault parts e
-  unchecked : (fs : List Wire) → Merges parts fs → payloads policy_field.condition fs ≢ []
-      → payloads policy_field.checked_condition fs ≡ [] → e ≡ Unsupported → PolicyFault parts e
-  unreadable : (fs : List Wire) → Merges parts fs → payloads policy_field.checked_condition fs ≢ []
-      → CheckedFault (payloads policy_field.checked_condition fs) e → PolicyFault parts e
+  unreadable : (fs : List Wire) → Merges parts fs → ArePresent (condition_in fs)
+      → ExprFault (condition_in fs) e → PolicyFault parts e
   untyped : (condition : CelChecked) → PolicyHas parts condition → CheckFault condition e → PolicyFault parts e
   not_bool : (condition : CelChecked) (t : ValueType) → PolicyHas parts condition → IsTyped condition t
       → t ≢ bool_type → e ≡ NotBool → PolicyFault parts e

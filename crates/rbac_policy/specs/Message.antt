@@ -1,13 +1,13 @@
 -- The messages of an RBAC filter: Envoy v3 `extensions/filters/http/rbac/v3/rbac.proto` and
 -- `config/rbac/v3/rbac.proto`.
-use Rattle.std.specs.Prelude.{◌≡◌, ◌≢◌, ℕ, ◌≤◌, List, [], ◌∷◌, Option, Some, None}
+use Rattle.std.specs.Prelude.{◌≡◌, ◌≢◌, ℕ, ◌⊎◌, ◌≤◌, List, [], ◌∷◌, Option, Some, None}
 use Rattle.std.specs.FinMap.{len}
 use Rattle.proto_wire.specs.Fields.{Wire}
 use Rattle.proto_wire.specs.Values.{payloads, uint32_at}
 use Rattle.proto_wire.specs.Maps.{text, IsMap}
 use Rattle.proto_wire.specs.Messages.{IsMessage}
 use Rattle.cel_tree.specs.Checked.{CelChecked}
-use Rattle.cel_tree.specs.Message.{IsChecked}
+use Rattle.cel_tree.specs.Message.{ExprParts, IsExprOf, ArePresent, checked_parts, unchecked_parts}
 use Rattle.rbac_match.specs.Rules.{AreRules, IsRule}
 use Rattle.rbac_match.specs.declared.rule.Side.TheVariants.{Permission, Principal}
 use Rattle.rbac_policy.specs.Filter.{Policy, Filter}
@@ -28,17 +28,26 @@ abbrev pub HasBothSides : List Wire → Type 0
 HasBothSides fs =
     (payloads policy_field.permissions fs ≢ []) × (payloads policy_field.principals fs ≢ [])
 
--- without payloads, there is no condition; otherwise they merge to this checked expression
-abbrev pub IsCondition : List (List ℕ) → Option CelChecked → Type 0
-IsCondition parts None = parts ≡ []
-IsCondition parts (Some condition) = (parts ≢ []) × IsChecked parts condition
+-- the payloads of `checked_condition`, or without them those of `condition`
+abbrev pub checked_or : (checked unchecked : List (List ℕ)) → ExprParts
+checked_or [] unchecked = unchecked_parts unchecked
+checked_or (part ∷ parts) unchecked = checked_parts (part ∷ parts)
+
+-- the payloads of the condition in the fields of a policy
+abbrev pub condition_in : List Wire → ExprParts
+condition_in fs = checked_or (payloads policy_field.checked_condition fs) (payloads policy_field.condition fs)
+
+-- without payloads, there is no condition; otherwise they merge to this expression
+abbrev pub IsCondition : ExprParts → Option CelChecked → Type 0
+IsCondition parts None = ArePresent parts → ⊥
+IsCondition parts (Some condition) = ArePresent parts × IsExprOf parts condition
 
 -- the parts merge to a policy
 pub record IsPolicy (parts : List (List ℕ)) (policy : Policy CelChecked) : Type 0 where
   pub fs : List Wire
   pub message : IsMessage policy_keys parts fs
-  pub unchecked : payloads policy_field.condition fs ≡ []
-  pub condition : IsCondition (payloads policy_field.checked_condition fs) policy.condition
+  pub one : (payloads policy_field.condition fs ≡ []) ⊎ (payloads policy_field.checked_condition fs ≡ [])
+  pub condition : IsCondition (condition_in fs) policy.condition
   pub sides : HasBothSides fs
   pub permissions : AreRules (IsRule Permission rule_depth) (payloads policy_field.permissions fs)
       policy.permissions

@@ -2,18 +2,17 @@
 
 ghost use Rattle.std.specs.Prelude.{◌≡◌, ◌≢◌, ◌≤◌, ℕ, List, IfErr, IfOk, OnOk, Some};
 ghost use Rattle.cel_tree.specs.Checked.{CelChecked};
-ghost use Rattle.cel_tree.specs.Message.{IsChecked};
+ghost use Rattle.cel_tree.specs.Message.{ExprParts, IsExprOf};
 ghost use Rattle.cel_tree.specs.View.{checked_view};
 ghost use Rattle.cel_types.specs.Elaborated.{IsElaborated};
 ghost use Rattle.cel_types.specs.View.{typed_view};
 ghost use Rattle.cel_value.specs.Types.{bool_type, type_view};
-ghost use Rattle.proto_wire.specs.Merge.{parts_view};
 ghost use Rattle.proto_wire.specs.Refusal.{MemoryOr};
 ghost use Rattle.proto_wire.specs.declared.refusal.Refusal.TheVariants.{NotBool};
 ghost use Rattle.cel_value.specs.View.{answer_view};
 ghost use Rattle.rbac_policy.specs.Condition.{IsProgramOf, MemoryOrSteps, came_true};
 ghost use Rattle.rbac_policy.specs.Named.{program_view};
-ghost use Rattle.rbac_policy.specs.steps.Conditions.{ConditionFault, ExpressionFault};
+ghost use Rattle.rbac_policy.specs.steps.Conditions.{ExpressionFault};
 ghost use Rattle.rbac_policy.specs.steps.Runs.{RunsAs};
 ghost use Rattle.rbac_policy.specs.Trials.{IsReasonOf};
 ghost use Rattle.rbac_policy.specs.steps.Trials.{EndsWith, TakesOf};
@@ -24,7 +23,7 @@ ghost use Rattle.stack_machine.specs.Typable.{Forward};
 use crate::trials::Reason;
 use attributes::{Limits, Request};
 use cel_compile::compile;
-use cel_tree::{Checked, read_checked_parts};
+use cel_tree::Checked;
 use cel_types::{Typed, check};
 use cel_value::{Answer, CelType, Value};
 use code_verifier::{VerifyFault, verify};
@@ -86,33 +85,16 @@ fn is_true(answer: &Answer) -> bool
     matches!(answer, Ok(Value::Bool(true)))
 }
 
-/// Reads the condition from its parts, for requests within the limits; it may take at most `left` steps. Its
-/// tree is not kept.
-pub(crate) fn read_condition(
-    alloc: Global,
-    parts: &[&[u8]],
-    limits: &Limits,
-    left: u64,
-) -> Result<Condition, Refusal>
-    ensures found { IfOk result (λ c. (condition : CelChecked)
-        × IsChecked (parts_view parts.now) condition
-        × IsProgramOf limits.now condition (program_view c)) }
-    ensures cheap { IfOk result (λ c. c.bound ≤ left) }
-    ensures fault { IfErr result (MemoryOr (ConditionFault (parts_view parts.now) limits.now left)) }
-{
-    let checked = read_checked_parts(alloc, parts)?;
-    condition_of(alloc, &checked, limits, left)
-}
-
-/// The condition of the expression. The expression was read from some parts, so a code has room for it, and
-/// the code is verified.
-fn condition_of(
+/// The condition of the expression, for requests within the limits; it may take at most `left` steps. The
+/// expression was read from some parts, so a code has room for it, and the code is verified. Its tree is not
+/// kept.
+pub(crate) fn condition_of(
     alloc: Global,
     checked: &Checked,
     limits: &Limits,
     left: u64,
 ) -> Result<Condition, Refusal>
-    requires { (parts : List (List ℕ)) × IsChecked parts (checked_view checked.now) }
+    requires { (parts : ExprParts) × IsExprOf parts (checked_view checked.now) }
     ensures found { IfOk result (λ c. IsProgramOf limits.now (checked_view checked.now) (program_view c)) }
     ensures cheap { IfOk result (λ c. c.bound ≤ left) }
     ensures fault { IfErr result (MemoryOr (ExpressionFault (checked_view checked.now) limits.now left)) }
@@ -128,7 +110,7 @@ fn enforced(
     limits: &Limits,
     left: u64,
 ) -> Result<Condition, Refusal>
-    requires { (parts : List (List ℕ)) × (x : CelChecked) × IsChecked parts x
+    requires { (parts : ExprParts) × (x : CelChecked) × IsExprOf parts x
         × IsElaborated x (typed_view typed.now) }
     ensures found { (x : CelChecked) → IsElaborated x (typed_view typed.now)
         → IfOk result (λ c. IsProgramOf limits.now x (program_view c)) }

@@ -1,6 +1,6 @@
 //! Decisions of an admitted filter.
 
-ghost use Rattle.std.specs.Prelude.{◌≡◌, ◌≢◌, ◌⊎◌, true, List, Err, IfErr, IfOk, IfSome, IsOk, map};
+ghost use Rattle.std.specs.Prelude.{◌≡◌, ◌≢◌, ◌<◌, ◌⊎◌, true, List, Err, IfErr, IfOk, IfSome, IsOk, length, map, take};
 ghost use Rattle.attributes.specs.Limits.{InLimits};
 ghost use Rattle.attributes.specs.Request.{RequestValue};
 ghost use Rattle.cel_tree.specs.Checked.{CelChecked};
@@ -10,7 +10,7 @@ ghost use Rattle.rbac_policy.specs.Condition.{MemoryOrSteps, Program, TakesTooLo
 ghost use Rattle.rbac_policy.specs.Filter.{Filter, Policy};
 ghost use Rattle.rbac_policy.specs.Named.{policy_view};
 ghost use Rattle.rbac_policy.specs.Verdict.{IsUnconditional, IsVerdict, SomeAsked, sides_match};
-ghost use Rattle.rbac_policy.specs.steps.Runs.{AnyProgram, Asks, HaveNoConditions, IsFirst, PassesBound, SomeAsks, Tells};
+ghost use Rattle.rbac_policy.specs.steps.Runs.{AnyProgram, Asks, HaveFailed, HaveNoConditions, IsFirst, PassesBound, SomeAsks, Tells};
 ghost use Rattle.rbac_policy.specs.steps.Sieve.{IsRuledOut, IsSieve, Sieves};
 
 use crate::filter::{Admitted, Verdict};
@@ -80,24 +80,35 @@ fn first_match(
     ensures fault { IfErr result (MemoryOrSteps
         (SomeAsks (PassesBound request.now) request.now (map (policy_view list.now) policies.now))) }
 {
-    if sieve.is_empty() {
-        return first_left(alloc, list, None, policies, request);
+    match policies.first() {
+        None => Ok(None),
+        Some(first) => {
+            if policy_matches(alloc, list, first, request)? {
+                return Ok(Some(0));
+            }
+            if sieve.is_empty() {
+                return first_later(alloc, list, None, policies, request);
+            }
+            let probe = sieve.probe(request);
+            first_later(alloc, list, Some(&probe), policies, request)
+        }
     }
-    let probe = sieve.probe(request);
-    first_left(alloc, list, Some(&probe), policies, request)
 }
 
-/// The same, among the policies that the probe does not rule out, if there is a probe.
+/// The same, if the first policy does not match. Policies that the probe rules out are skipped, if there is a
+/// probe. The first policy often settles a decision, so the numbers of a request are computed only after it.
 #[inline(always)]
-fn first_left(
+fn first_later(
     alloc: Global,
     list: &RuleList,
     probe: Option<&Probe<'_>>,
     policies: &[NamedPolicy],
     request: &Request,
 ) -> Result<Option<usize>, RunError>
-    requires { IfSome probe (λ seen.
+    requires sieved { IfSome probe (λ seen.
         Sieves seen.now request.now (map (policy_view list.now) policies.now)) }
+    requires tried { (0 < length policies.now)
+        × HaveFailed request.now (map (policy_view list.now) (take 1 policies.now)) }
     ensures found { IfOk result (λ matched.
         IsFirst request.now 0 (map (policy_view list.now) policies.now) matched) }
     ensures always { HaveNoConditions (map (policy_view list.now) policies.now) → IsOk result }
@@ -106,7 +117,8 @@ fn first_left(
     ensures fault { IfErr result (MemoryOrSteps
         (SomeAsks (PassesBound request.now) request.now (map (policy_view list.now) policies.now))) }
 {
-    for (number, policy) in policies.iter().enumerate() {
+    for number in 1..policies.len() {
+        let policy = &policies[number];
         if is_ruled_out(probe, number) {
             continue;
         }

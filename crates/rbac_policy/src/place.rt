@@ -2,10 +2,12 @@
 //! part that is named was read by itself and has the fault.
 
 use crate::admission::{read_action, refuse_audit_options};
-use crate::numbers::{PERMISSIONS, POLICIES, PRINCIPALS, RULES};
-use crate::policy::{read_checked, read_policy};
+use crate::numbers::{CHECKED_CONDITION, PERMISSIONS, POLICIES, PRINCIPALS, RULES};
+use crate::policy::{read_condition, read_policy};
 use attributes::Limits;
-use proto_wire::{Field, MapEntry, Refusal, payloads_of, read_entries, read_fields, read_parts};
+use proto_wire::{
+    Field, MapEntry, Refusal, has_payload, payloads_of, read_entries, read_fields, read_parts,
+};
 use rbac_match::{
     AND, NOT, OR, RULE_DEPTH, RULES as SET_RULES, RuleList, Side, read_rule, trailing_run,
 };
@@ -74,7 +76,7 @@ fn part_of_rules(fields: &[Field<'_>], refusal: Refusal) -> Option<&'static str>
     None
 }
 
-/// This policy, and the part of it that has the fault: a rule, its checked condition, or the policy itself.
+/// This policy, and the part of it that has the fault: a rule, its condition, or the policy itself.
 fn place_in_policy(alloc: Global, name: &str, parts: &[&[u8]], refusal: Refusal) -> Option<String> {
     match part_of_policy(alloc, parts, refusal) {
         Some(part) => format!(in alloc; "policy {name:?}: {part}").ok(),
@@ -91,14 +93,22 @@ fn part_of_policy(alloc: Global, parts: &[&[u8]], refusal: Refusal) -> Option<St
         return Some(path);
     }
     if is_condition_at_fault(alloc, &fields, refusal) {
-        return String::from_str(alloc, "checked_condition").ok();
+        return String::from_str(alloc, condition_name(&fields)).ok();
     }
     None
 }
 
-/// Whether the checked condition of these fields has the fault.
+/// The name of the field that has the condition.
+fn condition_name(fields: &[Field<'_>]) -> &'static str {
+    if has_payload(fields, CHECKED_CONDITION) {
+        return "checked_condition";
+    }
+    "condition"
+}
+
+/// Whether the condition of these fields has the fault.
 fn is_condition_at_fault(alloc: Global, fields: &[Field<'_>], refusal: Refusal) -> bool {
-    read_checked(alloc, fields, &Limits::largest(), NO_STEPS).err() == Some(refusal)
+    read_condition(alloc, fields, &Limits::largest(), NO_STEPS).err() == Some(refusal)
 }
 
 /// The path to the innermost rule of one side that has the fault.

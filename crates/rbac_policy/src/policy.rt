@@ -15,17 +15,20 @@ ghost use Rattle.rbac_match.specs.Tokens.{GoesOn, Token};
 ghost use Rattle.rbac_match.specs.View.{rules_view};
 ghost use Rattle.rbac_policy.specs.Enforced.{bound_of, bounds_of};
 ghost use Rattle.rbac_policy.specs.Keys.{policy_field};
-ghost use Rattle.rbac_policy.specs.Message.{HasBothSides, rule_depth};
+ghost use Rattle.cel_tree.specs.Message.{ExprFault, IsExprOf, ArePresent};
+ghost use Rattle.cel_tree.specs.View.{checked_view};
+ghost use Rattle.rbac_policy.specs.Message.{HasBothSides, condition_in, rule_depth};
 ghost use Rattle.rbac_policy.specs.Fault.{PolicyFault};
 ghost use Rattle.rbac_policy.specs.Named.{named_views, policy_view, program_view};
 ghost use Rattle.rbac_policy.specs.steps.Conditions.{ConditionFault, ConditionsFault, HasProgram, IsEnforced};
 ghost use Rattle.rbac_policy.specs.steps.Named.{names_view};
-ghost use Rattle.proto_wire.specs.declared.refusal.Refusal.TheVariants.{BothConditions, Missing, Unsupported};
+ghost use Rattle.proto_wire.specs.declared.refusal.Refusal.TheVariants.{BothConditions, Missing};
 
-use crate::condition::{Condition, read_condition};
+use crate::condition::{Condition, condition_of};
 use crate::keys::POLICY_KEYS;
 use crate::numbers::{CHECKED_CONDITION, CONDITION, PERMISSIONS, PRINCIPALS};
 use attributes::Limits;
+use cel_tree::{Checked, read_checked_parts, read_unchecked_parts};
 use proto_wire::{Field, MapEntry, Refusal, has_payload, payloads_of, read_message};
 use rbac_match::{RULE_DEPTH, RuleList, Rules, Side, read_rules};
 use std::alloc::Global;
@@ -100,11 +103,11 @@ pub(crate) fn read_policy(
 {
     let alloc = list.alloc();
     let fields = read_message(alloc, parts, &POLICY_KEYS)?;
-    refuse_unchecked(&fields)?;
+    refuse_both(&fields)?;
     require_sides(&fields)?;
     let permissions = read_side(list, Side::Permission, &fields, PERMISSIONS)?;
     let principals = read_side(list, Side::Principal, &fields, PRINCIPALS)?;
-    let condition = read_checked(alloc, &fields, limits, left)?;
+    let condition = read_condition(alloc, &fields, limits, left)?;
     let name = String::from_str(alloc, name)?;
     Ok(NamedPolicy {
         name,
@@ -114,46 +117,66 @@ pub(crate) fn read_policy(
     })
 }
 
-/// Refuses a policy that has an unchecked condition, with or without a checked one.
-fn refuse_unchecked(fields: &[Field<'_>]) -> Result<(), Refusal>
-    ensures found { OnOk result (payloads policy_field.condition (map field_view fields.now) ≡ []) }
-    ensures fault { IfErr result (λ e. (payloads policy_field.condition (map field_view fields.now) ≢ [])
-        × (((e ≡ BothConditions)
-        × (payloads policy_field.checked_condition (map field_view fields.now) ≢ []))
-        ⊎ ((e ≡ Unsupported)
-        × (payloads policy_field.checked_condition (map field_view fields.now) ≡ [])))) }
+/// Refuses a policy that has both conditions.
+fn refuse_both(fields: &[Field<'_>]) -> Result<(), Refusal>
+    ensures found { OnOk result ((payloads policy_field.condition (map field_view fields.now) ≡ [])
+        ⊎ (payloads policy_field.checked_condition (map field_view fields.now) ≡ [])) }
+    ensures fault { IfErr result (λ e. (e ≡ BothConditions)
+        × (payloads policy_field.condition (map field_view fields.now) ≢ [])
+        × (payloads policy_field.checked_condition (map field_view fields.now) ≢ [])) }
 {
     if !has_payload(fields, CONDITION) {
         return Ok(());
     }
-    if has_payload(fields, CHECKED_CONDITION) {
-        return Err(Refusal::BothConditions);
+    if !has_payload(fields, CHECKED_CONDITION) {
+        return Ok(());
     }
-    Err(Refusal::Unsupported)
+    Err(Refusal::BothConditions)
 }
 
-/// Reads the checked condition, if there is one.
-pub(crate) fn read_checked(
+/// Reads the condition, checked or not, if there is one.
+pub(crate) fn read_condition(
     alloc: Global,
     fields: &[Field<'_>],
     limits: &Limits,
     left: u64,
 ) -> Result<Option<Condition>, Refusal>
     ensures found { IfOk result (λ found. HasProgram limits.now
-        (payloads policy_field.checked_condition (map field_view fields.now))
-        (option_map program_view found)) }
+        (condition_in (map field_view fields.now)) (option_map program_view found)) }
     ensures cheap { IfOk result (λ found. bound_of (option_map program_view found) ≤ left) }
-    ensures fault { IfErr result (MemoryOr (λ e.
-        (payloads policy_field.checked_condition (map field_view fields.now) ≢ [])
-        × ConditionFault (payloads policy_field.checked_condition (map field_view fields.now)) limits.now
-        left e)) }
+    ensures fault { IfErr result (MemoryOr (λ e. ArePresent (condition_in (map field_view fields.now))
+        × ConditionFault (condition_in (map field_view fields.now)) limits.now left e)) }
 {
-    if !has_payload(fields, CHECKED_CONDITION) {
+    if !has_condition(fields) {
         return Ok(None);
     }
-    let parts = payloads_of(alloc, fields, CHECKED_CONDITION)?;
-    let condition = read_condition(alloc, &parts, limits, left)?;
+    let checked = read_expr(alloc, fields)?;
+    let condition = condition_of(alloc, &checked, limits, left)?;
     Ok(Some(condition))
+}
+
+/// Whether there is a condition, checked or not.
+fn has_condition(fields: &[Field<'_>]) -> bool
+    ensures { MatchBool result (ArePresent (condition_in (map field_view fields.now)))
+        (ArePresent (condition_in (map field_view fields.now)) → ⊥) }
+{
+    if has_payload(fields, CHECKED_CONDITION) {
+        return true;
+    }
+    has_payload(fields, CONDITION)
+}
+
+/// Reads the expression of the condition: a checked expression, or one without entries.
+fn read_expr(alloc: Global, fields: &[Field<'_>]) -> Result<Checked, Refusal>
+    ensures found { IfOk result (λ c. IsExprOf (condition_in (map field_view fields.now)) (checked_view c)) }
+    ensures fault { IfErr result (MemoryOr (ExprFault (condition_in (map field_view fields.now)))) }
+{
+    if has_payload(fields, CHECKED_CONDITION) {
+        let parts = payloads_of(alloc, fields, CHECKED_CONDITION)?;
+        return read_checked_parts(alloc, &parts);
+    }
+    let parts = payloads_of(alloc, fields, CONDITION)?;
+    read_unchecked_parts(alloc, &parts)
 }
 
 /// Refuses a policy without permissions or without principals.

@@ -12,7 +12,7 @@ TOO_COSTLY = 15
 
 def too_costly(message: Message, budget: int) -> List[Finding]:
     """The finding that the conditions of a filter may take more steps than its budget, at the one that takes most."""
-    bounds = [bound for bound in bounds_of(message) if bound.has_condition]
+    bounds = [bound for bound in bounds_of(message) if bound.condition is not None]
     total = sum(GREATEST_BUDGET + 1 if bound.steps is None else bound.steps for bound in bounds)
     if total <= budget:
         return []
@@ -23,7 +23,8 @@ def too_costly(message: Message, budget: int) -> List[Finding]:
     words += f"; the budget is {budget}"
     if worst.steps is not None and total <= GREATEST_BUDGET:
         words += f" (--budget {total} would admit it)"
-    return [Finding(TOO_COSTLY, words, None, ("rules", "policies", worst.policy, "checked_condition", "expr"))]
+    path = worst.condition.path if worst.condition is not None else ()
+    return [Finding(TOO_COSTLY, words, None, ("rules", "policies", worst.policy, *path))]
 
 
 def _weight(bound: Bound) -> int:

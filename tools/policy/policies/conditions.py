@@ -1,7 +1,8 @@
-"""Conditions as texts of CEL: `text`, with `ids`, `dotted` and the maps of types and references where they are given.
+"""Conditions as texts of CEL: `text`, with `ids`, `dotted`, `accumulator` and the maps of types and references where
+they are given.
 
-The keys `text`, `ids` and `dotted` stand in the place of `expr`. Without `ids` they run in the order of the text, from
-1; without `type_map` the entries are those of the empty literals whose types are told.
+These keys stand in the place of `expr`. Without `ids` they run in the order of the text, from 1; without `type_map` the
+entries are those of the empty literals whose types are told. `accumulator` is the name that macros give theirs.
 """
 from typing import List, NamedTuple, Optional
 
@@ -13,7 +14,15 @@ from .cel.infer import types_of_empty
 from .cel.mistake import TextMistake
 from .cel.parse import parse
 from .cel.printing import text_of
-from .cel.tree import Const, Node, in_order
+from .cel.tree import (
+    ACCUMULATOR,
+    NEW_ACCUMULATOR,
+    Comprehension,
+    Const,
+    Node,
+    in_order,
+    rename_accumulators,
+)
 from .conditions_typing import typing_of
 from .findings import Finding
 from .messages import CHECKED_EXPR, EXPR, Message, descriptor
@@ -22,7 +31,8 @@ from .scalars import is_bool, is_text
 from .trees import NoTree, message_tree, node_paths, tree_message, type_message
 from .writer import PLAIN, Writer
 
-TEXT_KEY, IDS_KEY, DOTTED_KEY = "text", "ids", "dotted"
+CONDITION = "condition"
+TEXT_KEY, IDS_KEY, DOTTED_KEY, ACCUMULATOR_KEY = "text", "ids", "dotted", "accumulator"
 ODD_CONSTANTS = {
     "double": "the profile has no doubles: write a whole number",
     "null": "the profile has no null: ask for a key with `in` or `has`",
@@ -42,26 +52,38 @@ def encode_text(encoding, kind, pairs: dict, path: tuple, depth: int) -> Message
         raise encoding.mistake(node, "a text of CEL is expected here; put it in quotes")
     dotted = _take_dotted(encoding, pairs)
     ids = _take_ids(encoding, pairs)
-    tree = _parse(encoding, node, dotted)
+    accumulator = _take_accumulator(encoding, pairs)
+    tree = rename_accumulators(_parse(encoding, node, dotted), ACCUMULATOR, accumulator)
     _give_ids(encoding, tree, ids)
     for name in ("expr",) if kind.full_name == CHECKED_EXPR else list(pairs):
         if name in pairs:
             raise encoding.mistake(pairs[name][0], f"`{name}` cannot be used together with `{TEXT_KEY}`")
     if kind.full_name == EXPR:
         encoding.marks[path] = node
-        return tree_message(tree)
+        message = tree_message(tree)
+        if path[-1] == CONDITION:
+            encoding.texts[path] = dotted
+            _tell_faults(encoding, node, tree, message, path)
+        return message
     encoding.marks[path + ("expr",)] = node
-    encoding.texts.add(path + ("expr",))
     message = encoding.fields(kind, pairs, path, depth)
     message.values["expr"] = tree_message(tree)
     if "type_map" not in message.values:
         message.values["type_map"] = type_entries(tree)
+    encoding.texts[path + ("expr",)] = dotted
+    _tell_faults(encoding, node, tree, message, path + ("expr",))
+    return message
+
+
+def _tell_faults(encoding, node: yaml.ScalarNode, tree: Node, message: Message, path: tuple) -> None:
+    """Keeps the faults of a condition's text with their places in it; the path is that of its tree."""
+    if path[0] != "rules":
+        return
     faults = [fault for fault in typing_of(message, tree).faults if fault.number != UNSUPPORTED]
     faults += _odd_constants(tree)
-    paths = dict(node_paths(tree, path + ("expr",))) if faults else {}
+    paths = dict(node_paths(tree, path)) if faults else {}
     for fault in faults:
         _tell(encoding, node, fault, paths[fault.node])
-    return message
 
 
 def _take_dotted(encoding, pairs: dict) -> bool:
@@ -75,6 +97,16 @@ def _take_dotted(encoding, pairs: dict) -> bool:
 
 def _take_ids(encoding, pairs: dict) -> Optional[yaml.Node]:
     return pairs.pop(IDS_KEY)[1] if IDS_KEY in pairs else None
+
+
+def _take_accumulator(encoding, pairs: dict) -> str:
+    if ACCUMULATOR_KEY not in pairs:
+        return ACCUMULATOR
+    _, node = pairs.pop(ACCUMULATOR_KEY)
+    if not is_text(node) or node.value not in (ACCUMULATOR, NEW_ACCUMULATOR):
+        names = f'"{NEW_ACCUMULATOR}" or {ACCUMULATOR}'
+        raise encoding.mistake(node, f"the name of cel-go's accumulators is expected here: {names}")
+    return node.value
 
 
 def _parse(encoding, node: yaml.ScalarNode, dotted: bool) -> Node:
@@ -113,11 +145,12 @@ def _odd_constants(tree: Node) -> List[Fault]:
 
 
 class TextForm(NamedTuple):
-    """A condition as text: whether attributes are dotted, the ids where they are not 1, 2, .., and whether the type
-    map is the one that the text gets by itself."""
+    """A condition as text: whether attributes are dotted, the accumulators' name, the ids where they are not 1, 2, ..,
+    and whether the type map is the one that the text gets by itself."""
 
     text: str
     dotted: bool
+    accumulator: str
     ids: Optional[List[int]]
     has_own_types: bool
 
@@ -131,17 +164,21 @@ def text_form(message: Message, writer: Writer) -> Optional[TextForm]:
     except NoTree:
         return None
     dotted = any(is_variable for _, is_variable in spellings(tree))
-    text = text_of(tree, dotted)
+    accumulator = ACCUMULATOR
+    if any(isinstance(node, Comprehension) and node.accu_var == NEW_ACCUMULATOR for node in in_order(tree)):
+        accumulator = NEW_ACCUMULATOR
+    text = text_of(rename_accumulators(tree, accumulator, ACCUMULATOR), dotted)
     if text is None:
         return None
     ids = [node.id for node in in_order(tree)]
-    again = parse(text, dotted)
+    again = rename_accumulators(parse(text, dotted), ACCUMULATOR, accumulator)
     for node, number in zip(in_order(again), ids):
         node.id = number
     if writer.write(tree_message(again)) != expr.raw:
         return None
     has_own_types = is_checked and _entry_bytes(type_entries(tree)) != _entry_bytes(message.get("type_map") or [])
-    return TextForm(text, dotted, None if ids == list(range(1, len(ids) + 1)) else ids, has_own_types)
+    other_ids = None if ids == list(range(1, len(ids) + 1)) else ids
+    return TextForm(text, dotted, accumulator, other_ids, has_own_types)
 
 
 def _entry_bytes(entries: list) -> list:

@@ -4,7 +4,7 @@ from typing import Dict, List, NamedTuple, Optional
 from .cel.check import NO_KIND, References, TypeEntries, Typing, check
 from .cel.cost import TooMuch, cost
 from .cel.tree import Node
-from .messages import Message
+from .messages import EXPR, Message
 from .trees import NoTree, message_tree, message_type
 
 
@@ -42,9 +42,34 @@ def references_of(checked: Message) -> References:
     return {number: (part.scalar("name"), part.get("value") is not None) for number, part in entries}
 
 
-def typing_of(checked: Message, tree: Node) -> Typing:
-    """The types of a checked condition's tree, and its faults."""
-    return check(tree, entries_of(checked), references_of(checked))
+def typing_of(condition: Message, tree: Node) -> Typing:
+    """The types of a condition's tree and its faults; an unchecked condition has no entries."""
+    if condition.kind.full_name == EXPR:
+        return check(tree, None, {})
+    return check(tree, entries_of(condition), references_of(condition))
+
+
+class Condition(NamedTuple):
+    """A policy's condition: its message, that of its tree, and the steps from the policy to the tree."""
+
+    message: Message
+    expr: Optional[Message]
+    path: tuple
+
+    def tree(self) -> Optional[Node]:
+        """Its tree, or None where it does not read."""
+        try:
+            return message_tree(self.expr)
+        except NoTree:
+            return None
+
+
+def condition_of(policy: Message) -> Optional[Condition]:
+    """The condition of a policy, the checked one where it has both, or None."""
+    checked, unchecked = policy.get("checked_condition"), policy.get("condition")
+    if checked is not None:
+        return Condition(checked, checked.get("expr"), ("checked_condition", "expr"))
+    return None if unchecked is None else Condition(unchecked, unchecked, ("condition",))
 
 
 class Bound(NamedTuple):
@@ -52,7 +77,7 @@ class Bound(NamedTuple):
 
     policy: str
     steps: Optional[int]
-    has_condition: bool
+    condition: Optional[Condition]
 
 
 def bounds_of(message: Message) -> List[Bound]:
@@ -61,17 +86,14 @@ def bounds_of(message: Message) -> List[Bound]:
     policies: Dict[str, Message] = dict(rules.get("policies") or []) if rules is not None and rules.is_whole else {}
     bounds = []
     for name in sorted(policies, key=str.encode):
-        checked = policies[name].get("checked_condition")
-        if checked is None:
-            bounds.append(Bound(name, 0, False))
+        condition = condition_of(policies[name])
+        if condition is None:
+            bounds.append(Bound(name, 0, None))
             continue
-        try:
-            tree = message_tree(checked.get("expr"))
-        except NoTree:
-            continue
-        typing = typing_of(checked, tree)
-        if typing.is_whole:
-            bounds.append(Bound(name, _steps(tree, typing), True))
+        tree = condition.tree()
+        typing = None if tree is None else typing_of(condition.message, tree)
+        if tree is not None and typing is not None and typing.is_whole:
+            bounds.append(Bound(name, _steps(tree, typing), condition))
     return bounds
 
 

@@ -4,8 +4,9 @@ from typing import List, Optional
 from google.protobuf.descriptor import FieldDescriptor
 
 from .cel.printing import describe
+from .cel.tree import ACCUMULATOR
 from .cel.typetext import type_text
-from .conditions import DOTTED_KEY, IDS_KEY, TEXT_KEY, TextForm, text_form
+from .conditions import ACCUMULATOR_KEY, DOTTED_KEY, IDS_KEY, TEXT_KEY, TextForm, text_form
 from .encode import LAST, ORDER_KEY, TYPE_KEY, WIRE_KEY, held_type
 from .messages import (
     ANY,
@@ -179,6 +180,8 @@ class _Decoding:
         pairs = _wire(message) + [Pair(TEXT_KEY, _text(form.text), comments)]
         if form.dotted:
             pairs.append(Pair(DOTTED_KEY, "true"))
+        if form.accumulator != ACCUMULATOR:
+            pairs.append(Pair(ACCUMULATOR_KEY, f'"{form.accumulator}"'))
         if form.ids is not None:
             pairs.append(Pair(IDS_KEY, f"[{', '.join(map(str, form.ids))}]"))
         return pairs + beside, remarks.own

@@ -1,6 +1,6 @@
 """YAML to messages: the proto3 JSON mapping, with the conditions' texts and the types' texts besides."""
 import difflib
-from typing import Dict, List, Optional, Set, Tuple
+from typing import Dict, List, Optional, Tuple
 
 import yaml
 from google.protobuf.descriptor import Descriptor, FieldDescriptor
@@ -46,8 +46,8 @@ ROOT = ()
 class Encoding:
     """One file on its way to a message.
 
-    `marks` keeps the node of each part by its path, `texts` the paths of the trees that texts give, and `findings` what
-    the engine refuses or skips.
+    `marks` keeps the node of each part by its path, `texts` the paths of the trees that texts give with
+    whether their attributes are dotted, and `findings` what the engine refuses or skips.
     """
 
     def __init__(self, source: Source, dotted: bool = False):
@@ -55,7 +55,7 @@ class Encoding:
         self.dotted = dotted
         self.writer = PLAIN
         self.marks: Dict[tuple, yaml.Node] = {}
-        self.texts: Set[tuple] = set()
+        self.texts: Dict[tuple, bool] = {}
         self.findings: List[Finding] = []
         self.mistakes: List[Mistake] = []
 

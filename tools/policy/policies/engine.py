@@ -22,6 +22,7 @@ INSTALLED = TOP.parent / "bin" / "rbacd" if TOP.name == "lib" else TOP / "crates
 ADMITTED = re.compile(r"admitted: policies (\d+) bound (\d+)\s*\Z")
 REFUSED = re.compile(r"refused: (\d+) (\w+)\s*\Z")
 PATIENCE = 60
+REQUESTS_A_SECOND = 100
 # Runs the program on each head, under facts where there are some; a line behind each output says its status.
 RUN_EACH = """program=$1; shift
 while read -r head facts; do
@@ -91,9 +92,9 @@ class Engine:
             self.files[data] = path
         return self.files[data]
 
-    def _run(self, words: List[str], given: bytes = b"") -> subprocess.CompletedProcess:
+    def _run(self, words: List[str], given: bytes = b"", patience: int = PATIENCE) -> subprocess.CompletedProcess:
         try:
-            return subprocess.run([self.program, *words], input=given, capture_output=True, timeout=PATIENCE)
+            return subprocess.run([self.program, *words], input=given, capture_output=True, timeout=patience)
         except (OSError, subprocess.TimeoutExpired) as fault:
             raise NoEngine(f"{self.program} does not answer: {fault}") from None
 
@@ -161,12 +162,27 @@ class Engine:
 
     def _batch(self, words: List[str], requests: List[Request]) -> List[dict]:
         """One process for all requests: a line of JSON each, in order."""
-        lines = [json.dumps({"head": one.head.decode("latin-1"), "facts": one.facts}) for one in requests]
-        ran = self._run(words + ["--batch"], "".join(line + "\n" for line in lines).encode())
-        answers = [json.loads(line) for line in ran.stdout.decode().splitlines()]
-        if len(answers) != len(requests):
-            raise NoEngine(f"{self.program} answered {len(answers)} of {len(requests)} requests: {_first(ran.stderr)}")
-        return answers
+        given = "".join(map(_batch_line, requests)).encode()
+        ran = self._run(words + ["--batch"], given, PATIENCE + len(requests) // REQUESTS_A_SECOND)
+        lines = ran.stdout.decode(errors="replace").splitlines()
+        if len(lines) != len(requests):
+            raise NoEngine(f"{self.program} answered {len(lines)} of {len(requests)} requests: {_first(ran.stderr)}")
+        return [_batch_answer(line, self.program) for line in lines]
+
+
+def _batch_line(request: Request) -> str:
+    """A request as a line of `judge --batch`."""
+    facts = {"facts": request.facts} if request.facts else {}
+    return json.dumps({"head": request.head.decode(), **facts}) + "\n"
+
+
+def _batch_answer(line: str, program: pathlib.Path) -> dict:
+    """The object of a line; one with a line's number says that the facts were bad."""
+    try:
+        answer = json.loads(line)
+    except ValueError:
+        raise NoEngine(f"{program} printed {line!r}: is this rbacd?") from None
+    return {"bad_facts": answer["cause"]} if "line" in answer else answer
 
 
 def _facts_text(facts: dict) -> bytes:

@@ -23,9 +23,6 @@ from .trees import NoTree, message_tree, node_paths
 
 MISSING, OUT_OF_RANGE, UNSUPPORTED, BOTH_CONDITIONS, TOO_LARGE = 4, 5, 6, 7, 8
 MOST_POLICIES = 256
-# What the engine does not take yet.
-NOT_YET_CONDITION = True
-NOT_YET_SECOND_VARIABLE = True
 # A field (with the key of its entry, or none for the whole message), the offset of its bytes, the number, words.
 Finding = Tuple[Union[None, str, tuple], int, int, str]
 Check = Callable[[Message], Iterator[Finding]]
@@ -60,9 +57,8 @@ def _policy(message: Message) -> Iterator[Finding]:
         return
     if message.get("checked_condition") is not None:
         yield "condition", message.place_of("condition"), BOTH_CONDITIONS, "both conditions are there"
-    elif NOT_YET_CONDITION:
-        words = "the engine takes a checked_condition alone so far: write `checked_condition: {expr: ..}` with the tree"
-        yield "condition", message.place_of("condition"), UNSUPPORTED, words
+    else:
+        yield from _typed(message.get("condition"), message.get("condition"), ("condition",), {})
 
 
 def _set(field: str) -> Check:
@@ -141,16 +137,21 @@ def _checked(message: Message) -> Iterator[Finding]:
     if message.get("expr") is None:
         yield None, message.start, MISSING, "a checked condition without a tree"
         return
+    places = dict(zip([key for key, _ in message.get("type_map") or []], message.places.get("type_map", [])))
+    yield from _typed(message, message.get("expr"), ("expr",), places)
+
+
+def _typed(condition: Message, expr: Message, path: tuple, places: dict) -> Iterator[Finding]:
+    """The faults of a condition's types: `path` leads to its tree, and `places` are those of its type entries."""
     try:
-        tree = message_tree(message.get("expr"))
+        tree = message_tree(expr)
     except NoTree:
         return
-    places = dict(zip([key for key, _ in message.get("type_map") or []], message.places.get("type_map", [])))
-    faults_found = typing_of(message, tree).faults
-    paths = dict(node_paths(tree, ("expr",))) if faults_found else {}
+    faults_found = typing_of(condition, tree).faults
+    paths = dict(node_paths(tree, path)) if faults_found else {}
     for fault in faults_found:
         if fault.number == UNSUPPORTED:
-            yield ("type_map", fault.entry), places.get(fault.entry, message.start), fault.number, fault.words
+            yield ("type_map", fault.entry), places.get(fault.entry, condition.start), fault.number, fault.words
         else:
             yield paths[fault.node], fault.node.place, fault.number, fault.words
 
@@ -188,10 +189,10 @@ def _loop(message: Message) -> Iterator[Finding]:
     for name in parts:
         if message.get(name) in (None, ""):
             yield None, message.start, MISSING, f"a loop without {name}"
-    if message.scalar("iter_var") and message.scalar("iter_var") == message.scalar("accu_var"):
-        yield "accu_var", message.place_of("accu_var"), OUT_OF_RANGE, "the loop's two names are the same"
-    if message.scalar("iter_var2") and NOT_YET_SECOND_VARIABLE:
-        yield "iter_var2", message.place_of("iter_var2"), UNSUPPORTED, "the engine takes loops of one variable so far"
+    names = [message.scalar(name) for name in ("iter_var", "iter_var2", "accu_var")]
+    for index, name in enumerate(("iter_var2", "accu_var"), 1):
+        if names[index] and names[index] in names[:index]:
+            yield name, message.place_of(name), OUT_OF_RANGE, "two names of the loop are the same"
 
 
 def _type(message: Message) -> Iterator[Finding]:

@@ -3,17 +3,18 @@ from typing import Dict, Iterator, List, Optional, Tuple
 
 from .cel.attributes import attribute_name, parts_of
 from .cel.literals import literal_text
-from .cel.tree import Call, Const, Node, Select
+from .cel.tree import Call, Comprehension, Const, Ident, Node, Select
 from .findings import NOTE, Finding
+from .conditions_typing import condition_of
 from .messages import Message
 from .placing import node_places
-from .trees import NoTree, message_tree
 from .writer import PLAIN
 
 CIDR = "envoy.config.core.v3.CidrRange"
 DENY = 1
 HEADERS = "request.headers"
 MEMBERSHIP = ("@in", "_in_", "in")
+COMPARISONS = ("_==_", "_!=_", "contains", "startsWith", "endsWith")
 # A node of a condition, and words.
 Remark = Tuple[Node, str]
 
@@ -28,8 +29,7 @@ def notes(message: Message, encoding) -> List[Finding]:
     found += _never_first(policies)
     found = [one if encoding is None else one._replace(place=encoding.place_of(one.path)) for one in found]
     for name, policy in policies.items():
-        path = ("rules", "policies", name, "checked_condition", "expr")
-        found += _of_condition(policy.get("checked_condition"), rules.scalar("action") == DENY, path, encoding)
+        found += _of_condition(policy, rules.scalar("action") == DENY, ("rules", "policies", name), encoding)
     return found
 
 
@@ -67,7 +67,7 @@ def _never_first(policies: Dict[str, Message]) -> List[Finding]:
             what = "every request" if earlier == everything else "whatever it matches"
             words = f'policy "{name}" is never the first to match: "{earlier}" comes before it and matches {what}'
             found.append(Finding(NOTE, words, None, ("rules", "policies", name)))
-        elif policy.get("checked_condition") is None and policy.get("condition") is None:
+        elif condition_of(policy) is None:
             seen[rules] = name
             if _matches_all(policy, "permissions") and _matches_all(policy, "principals"):
                 everything = name
@@ -82,14 +82,14 @@ def _matches_all(policy: Message, field: str) -> bool:
     return any(rule.get("any") for rule in policy.get(field) or [])
 
 
-def _of_condition(checked: Optional[Message], is_deny: bool, path: tuple, encoding) -> List[Finding]:
-    if checked is None:
+def _of_condition(policy: Message, is_deny: bool, path: tuple, encoding) -> List[Finding]:
+    condition = condition_of(policy)
+    tree = condition.tree() if condition is not None else None
+    if condition is None or tree is None:
         return []
-    try:
-        tree = message_tree(checked.get("expr"))
-    except NoTree:
-        return []
-    remarks = list(_upper_case(tree)) + (list(_missing_headers(tree)) if is_deny else [])
+    path += condition.path
+    remarks = [*_upper_case(tree), *_upper_case_in_loops(tree, frozenset())]
+    remarks += _missing_headers(tree) if is_deny else []
     places = node_places(tree, path, encoding) if remarks else {}
     return [Finding(NOTE, words, places.get(node), path) for node, words in remarks]
 
@@ -123,6 +123,29 @@ def _upper_case(tree: Node) -> Iterator[Remark]:
         if key is not None and key[0] != key[0].lower():
             name, lower = (literal_text("string", text) for text in (key[0], key[0].lower()))
             yield node, f"header names are in lower case here, so {name} is never there: write {lower}"
+
+
+def _upper_case_in_loops(node: Node, keys: frozenset) -> Iterator[Remark]:
+    """Comparisons of a header's name with a text that none is equal to; `keys` are the variables of such names."""
+    if isinstance(node, Call) and node.function in COMPARISONS:
+        operands = ([] if node.target is None else [node.target]) + node.args
+        compared = any(isinstance(part, Ident) and part.name in keys for part in operands)
+        for part in operands if compared else []:
+            if isinstance(part, Const) and part.kind == "string" and part.value != part.value.lower():
+                name, lower = (literal_text("string", text) for text in (part.value, part.value.lower()))
+                yield node, f"header names are in lower case here, and {name} is not: write {lower}"
+    for part, _ in parts_of(node, frozenset()):
+        yield from _upper_case_in_loops(part, _keys_in(node, part, keys))
+
+
+def _keys_in(node: Node, part: Node, keys: frozenset) -> frozenset:
+    """The variables that have names of headers in a part of a node: over request.headers a loop's first one has."""
+    if not isinstance(node, Comprehension) or part in (node.iter_range, node.accu_init):
+        return keys
+    if part is node.result:
+        return keys - {node.accu_var}
+    walks_headers = attribute_name(node.iter_range, frozenset()) == HEADERS
+    return keys - {node.accu_var, *node.variables()} | ({node.iter_var} if walks_headers else frozenset())
 
 
 def _missing_headers(tree: Node) -> Iterator[Remark]:

@@ -5,9 +5,9 @@ from typing import Dict, List, NamedTuple, Optional
 from .cel.mistake import TextMistake
 from .cel.parse import parse
 from .cel.tree import Node, in_order
+from .conditions_typing import condition_of
 from .messages import Message
 from .places import Place, spread
-from .trees import NoTree, message_tree
 
 # `policy "p": permissions[0].and_rules.rules[2]: 5 OutOfRange`, and with a node's id behind the part.
 ENGINE_PLACE = re.compile(
@@ -45,7 +45,7 @@ def node_places(tree: Node, path: tuple, encoding) -> Dict[Node, Place]:
         return dict.fromkeys(in_order(tree), encoding.place_of(path))
     scalar, source = encoding.marks[path], encoding.source
     try:
-        again = parse(scalar.value, encoding.dotted)
+        again = parse(scalar.value, encoding.texts[path])
     except TextMistake:
         return {}
     indices = spread(source, scalar)
@@ -58,13 +58,10 @@ def place_in_file(told: EnginePlace, message: Message, encoding) -> Optional[Pla
         return None
     if told.node is not None and told.path[:2] == ("rules", "policies") and len(told.path) > 2:
         policies = dict((message.get("rules") or message).values.get("policies") or [])
-        checked = policies[told.path[2]].get("checked_condition") if told.path[2] in policies else None
-        try:
-            tree = message_tree(checked.get("expr")) if checked is not None else None
-        except NoTree:
-            tree = None
-        if tree is not None:
-            places = node_places(tree, (*told.path[:3], "checked_condition", "expr"), encoding)
+        condition = condition_of(policies[told.path[2]]) if told.path[2] in policies else None
+        tree = condition.tree() if condition is not None else None
+        if condition is not None and tree is not None:
+            places = node_places(tree, (*told.path[:3], *condition.path), encoding)
             for node, place in places.items():
                 if node.id == told.node:
                     return place

@@ -113,16 +113,32 @@ def request_log(source: Source) -> List[Tuple[int, Request, str]]:
 def _entries(source: Source) -> List[Node]:
     lines = source.text.splitlines()
     if sum(line.lstrip().startswith("{") for line in lines) > 1 and not source.text.lstrip().startswith("["):
-        return [_moved(line, number) for number, line in enumerate(lines) if line.strip()]
+        return [_moved(source, line, number) for number, line in enumerate(lines) if line.strip()]
     nodes = [part for document in source.documents() for part in items(document) or [document]]
     if len(nodes) == 1 and names(nodes[0])[:1] == ["requests"]:
         return items(nodes[0].value[0][1])
     return nodes
 
 
-def _moved(line: str, number: int) -> Node:
+def _moved(source: Source, line: str, number: int) -> Node:
     """A line of JSON as a node whose place is in the whole file."""
-    return Source("line", b"\n" * number + line.encode()).compose()
+    try:
+        node = Source(source.name, line.encode()).compose()
+    except Mistake:
+        # told where it is in the file
+        return Source(source.name, b"\n" * number + line.encode()).compose()
+    _shift(node, number)
+    return node
+
+
+def _shift(node: Node, lines: int) -> None:
+    """Moves the places of a node and of all in it down by so many lines."""
+    mark = node.start_mark
+    node.start_mark = yaml.Mark(mark.name, mark.index, mark.line + lines, mark.column, None, 0)
+    parts = node.value if isinstance(node, yaml.CollectionNode) else []
+    for part in parts:
+        for one in part if isinstance(part, tuple) else (part,):
+            _shift(one, lines)
 
 
 def _request_node(node: Node, fields: Dict[str, Node]) -> Node:

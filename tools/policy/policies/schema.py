@@ -115,6 +115,7 @@ def _policies() -> dict:
     checked = {
         "text": {"type": "string", "description": "A condition in CEL."},
         "dotted": FLAG,
+        "accumulator": {"enum": ["__result__", "@result"]},
         "ids": {"type": "array", "items": INT64},
         "type_map": {**kinds, "description": "Types of empty literals by their ids: {2: list(int)}."},
         "expr": ANYTHING,
@@ -128,7 +129,11 @@ def _policies() -> dict:
         "permissions": some(ref("Permission")),
         "principals": some(ref("Principal")),
         "checked_condition": ref("CheckedCondition"),
-        "condition": {"type": "object", "description": "An unchecked condition, read as a checked one."},
+        "condition": {
+            "type": "object",
+            "description": "A condition without types of empty literals: `text` in CEL, or the tree itself.",
+            "properties": {name: checked[name] for name in ("text", "dotted", "accumulator", "ids")},
+        },
     }
     rules = {
         "action": {"enum": ["ALLOW", "DENY", "LOG", 0, 1, 2]},

@@ -44,7 +44,7 @@ def _member(node: Node):
     if isinstance(node, StructLiteral):
         values = {"message_name": node.message_name, "entries": [_entry_message(entry) for entry in node.entries]}
         return "struct_expr", _part(EXPR + ".CreateStruct", values)
-    values = {"iter_var": node.iter_var, "accu_var": node.accu_var}
+    values = {"iter_var": node.iter_var, "accu_var": node.accu_var, "iter_var2": node.iter_var2}
     for name in LOOP_PARTS:
         values[name] = tree_message(getattr(node, name))
     return "comprehension_expr", _part(EXPR + ".Comprehension", values)
@@ -111,10 +111,9 @@ def _entry(part: Message) -> Entry:
 
 
 def _loop(part: Message) -> Node:
-    if part.scalar("iter_var2"):
-        raise NoTree()
+    names = {name: part.scalar(name) for name in ("iter_var", "accu_var", "iter_var2")}
     parts = {name: message_tree(part.get(name)) for name in LOOP_PARTS}
-    return Comprehension(iter_var=part.scalar("iter_var"), accu_var=part.scalar("accu_var"), **parts)
+    return Comprehension(**names, **parts)
 
 
 READERS = {

@@ -81,6 +81,8 @@ size("a")
 "a".size()
 1 in [1]
 _in_(1, [1])
+[7, 8].all(i, x, x - i == 7)
+{"a": 1, "b": 2}.exists(k, v, k == "b" && v == 2)
 int(18446744073709551615u) == 0
 string(-5) == "-5"
 bytes("é") == b"\\xc3\\xa9"
@@ -118,6 +120,10 @@ LOOPS = {
     "same_names": LOOP % ("acc", "{id: 14, list_expr: {elements: [%s]}}" % ONE, "acc", TRUE, TRUE, ACC, ACC),
     "no_accumulator": LOOP % ("x", "{id: 14, list_expr: {elements: [%s]}}" % ONE, '""', TRUE, TRUE, TRUE, TRUE),
     "second_variable": LOOP.replace("iter_range", "iter_var2: y, iter_range")
+    % ("x", "{id: 14, list_expr: {elements: [%s]}}" % ONE, "acc", TRUE, TRUE, ACC, ACC),
+    "second_is_accumulator": LOOP.replace("iter_range", "iter_var2: acc, iter_range")
+    % ("x", "{id: 14, list_expr: {elements: [%s]}}" % ONE, "acc", TRUE, TRUE, ACC, ACC),
+    "second_is_first": LOOP.replace("iter_range", "iter_var2: x, iter_range")
     % ("x", "{id: 14, list_expr: {elements: [%s]}}" % ONE, "acc", TRUE, TRUE, ACC, ACC),
 }
 
@@ -167,6 +173,8 @@ def all_cases():
     cases.update({f"tree {text}": condition(text) for text in TREES})
     cases.update({name: tree_condition(tree) for name, tree in LOOPS.items()})
     cases.update(RULES)
+    cases["unchecked_empty_literal"] = POLICY + "      condition: {text: '[].all(x, x == 0)'}\n"
+    cases["both_conditions"] = condition("true && true") + "      condition: {text: 'true && true'}\n"
     cases["in_by_name"] = tree_condition(IN)
     cases["empty_literal_told"] = condition("size([]) == 0", "type_map: {2: list(int)}")
     cases["empty_literal_dyn"] = condition("size([]) == 0", "type_map: {2: list(dyn)}")

@@ -94,8 +94,9 @@ class Maker:
                 self._rule(policy.permissions.add(), 1)
                 self._rule(policy.principals.add(), 1)
             policy.ClearField("checked_condition")
+            policy.ClearField("condition")
             if self.random.random() < 0.7:
-                self.condition(policy.checked_condition)
+                self.condition(policy)
 
     def _rule(self, rule, depth):
         """A permission or a principal that the engine takes."""
@@ -157,11 +158,16 @@ class Maker:
         else:
             setattr(part, field.name, self.word(field.name not in NEVER_EMPTY))
 
-    def condition(self, checked):
-        """A checked condition: a tree of a text mostly, sometimes with entries, other ids or forms that no text has."""
+    def condition(self, policy):
+        """A condition: a tree of a text mostly, sometimes with other ids or a form that no text has; a checked one may
+        have entries."""
         from random_trees import TreeMaker
 
-        TreeMaker(self).checked(checked)
+        maker = TreeMaker(self)
+        if self.random.random() < 0.3:
+            maker.unchecked(policy.condition)
+        else:
+            maker.checked(policy.checked_condition)
 
     def _fill(self, message, depth):
         """Any values in any fields."""

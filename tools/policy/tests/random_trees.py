@@ -13,11 +13,16 @@ class TreeMaker:
         self.random = maker.random
         self.ids = 0
 
-    def checked(self, checked):
-        """Fills a `CheckedExpr`."""
+    def unchecked(self, expr):
+        """Fills the `Expr` of a whole condition."""
         self.odd = self.random.random() < 0.2
         self.dotted = self.random.random() < 0.3
-        self.tree(checked.expr, 0)
+        self.accumulator = "@result" if self.random.random() < 0.3 else "__result__"
+        self.tree(expr, 0)
+
+    def checked(self, checked):
+        """Fills a `CheckedExpr`."""
+        self.unchecked(checked.expr)
         if self.random.random() < 0.3:
             for _ in range(self.random.randrange(3)):
                 self.kind(checked.type_map[self.random.randrange(9)], 0)
@@ -142,7 +147,9 @@ class TreeMaker:
     def _loop(self, made, depth):
         """The expansion of a macro, or with odd trees any loop."""
         made.iter_var = self.random.choice(["x", "request", "y"])
-        made.accu_var = "__result__"
+        if self.random.random() < 0.4:
+            made.iter_var2 = self.random.choice(["z", "v"] + ["x", "a-b"] * self.odd)
+        made.accu_var = self.accumulator
         self.tree(made.iter_range, depth + 1)
         choice = self.random.randrange(7 if self.odd else 5)
         if choice < 2:
@@ -170,7 +177,7 @@ class TreeMaker:
     def _accumulator(self, made):
         self.ids += 1
         made.id = self.ids
-        made.ident_expr.name = "__result__"
+        made.ident_expr.name = self.accumulator
 
     def _quantifier(self, made, operator, depth):
         made.accu_init.const_expr.bool_value = operator == "_&&_"

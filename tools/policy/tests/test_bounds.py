@@ -36,6 +36,12 @@ BOUNDS = {
     "[].all(x, x == 0)": 6,
     "1 in [1]": 8,
     "_in_(1, [1])": 8,
+    "[7, 8].all(i, x, x - i == 7)": 44,
+    '{"a": 1, "b": 2}.exists(k, v, k == "b" && v == 2)': 68,
+    "int(18446744073709551615u) == 0": 6,
+    'string(-5) == "-5"': 48,
+    'bytes("é") == b"\\xc3\\xa9"': 12,
+    'string(b"\\xff") == ""': 8,
 }
 
 # Why each other condition is refused.
@@ -49,12 +55,8 @@ REFUSALS = {
     "{[1]: 2}": "10 NoOverload",
     'size("a")': "13 NotBool",
     '"a".size()': "13 NotBool",
-    "int(18446744073709551615u) == 0": "9 UnknownName",
-    'string(-5) == "-5"': "9 UnknownName",
-    'bytes("é") == b"\\xc3\\xa9"': "9 UnknownName",
-    'string(b"\\xff") == ""': "9 UnknownName",
-    "int(1)": "9 UnknownName",
-    'uint("1")': "9 UnknownName",
+    "int(1)": "10 NoOverload",
+    'uint("1")': "10 NoOverload",
 }
 
 # Filters by the names that `cases` has for them, and what is printed.
@@ -63,7 +65,9 @@ NAMED = {
     "rules_without_policies": "admitted: policies 0 bound 0",
     "empty": "refused: 4 Missing",
     "any_false": "refused: 5 OutOfRange",
-    "unchecked_condition": "refused: 6 Unsupported",
+    "unchecked_condition": "admitted: policies 1 bound 4",
+    "unchecked_empty_literal": "refused: 14 NeedsType",
+    "both_conditions": "refused: 7 BothConditions",
     "two_policies": "admitted: policies 2 bound 0",
     "true_and_true": "admitted: policies 1 bound 4",
     "method_is_get": "admitted: policies 1 bound 40",
@@ -71,7 +75,9 @@ NAMED = {
     "doubling_accumulator": "refused: 15 TooCostly",
     "same_names": "refused: 5 OutOfRange",
     "no_accumulator": "refused: 4 Missing",
-    "second_variable": "refused: 6 Unsupported",
+    "second_variable": "admitted: policies 1 bound 15",
+    "second_is_accumulator": "refused: 5 OutOfRange",
+    "second_is_first": "refused: 5 OutOfRange",
     "in_by_name": "refused: 14 NeedsType",
     "empty_literal_told": "admitted: policies 1 bound 6",
     "empty_literal_dyn": "refused: 6 Unsupported",

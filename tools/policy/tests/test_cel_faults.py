@@ -7,7 +7,9 @@ from policies.cel.cost import TooMuch, cost
 from policies.cel.infer import types_of_empty
 from policies.cel.mistake import TextMistake
 from policies.cel.parse import parse
-from support import POLICY, condition, told
+from policies.encode import encode
+from policies.places import Source
+from support import POLICY, condition, told, tree_condition
 
 # A text, the column of its one fault counted from 1, the refusal's number, and words.
 FAULTS = [
@@ -24,8 +26,15 @@ FAULTS = [
     ('request["method"] == "GET"', 1, 9, "`request` has no index: write `request.method`"),
     ('request["x-user"] == ""', 1, 9, 'a header is request.headers["x-user"]'),
     ("request == 1", 1, 9, "`request` is no value by itself"),
-    ('request.headers.exists(k, v, v == "a")', 17, 9, "`exists` takes one variable here"),
-    ("request.headers.transformList(k, v, v).size() == 0", 17, 9, "m.map(k, .. m[k] ..)"),
+    ("request.headers.transformMap(k, v, v).size() == 0", 17, 9, "write m.transformList(k, v, ..) for a list"),
+    ("request.headers.transformMapEntry(k, v, {v: k}).size() == 0", 17, 9, "test the entries, as in m.all(k, v, ..)"),
+    ("[1].map(i, x, i) == [1]", 12, 9, "with two it is x.transformList(index, element, result)"),
+    ("[1].filter(i, x, i) == [1]", 5, 9, "with two variables it is x.transformList(index, element, test, result)"),
+    ("request.headers.exists(k, v, v == 1)", 32, 10, 'write "1" in quotes'),
+    ("[1].exists(i, x, i == x && i == 'a')", 30, 10, "i is an int; == has no overload for int and string"),
+    ("[1].exists_one(i, x, x)", 22, 10, "x is an int; exists_one takes a test that is a bool"),
+    ("[1].transformList(i, x, x, i) == [1]", 25, 10, "x is an int; transformList takes a test that is a bool"),
+    ("source.port.all(i, x, true)", 13, 10, "source.port is an int; all goes over a list or a map"),
     ('request.mehtod == "GET"', 9, 9, "`request` has headers, host, id, method, path"),
     ('request.mehtod == "GET"', 9, 9, "do you mean `method`?"),
     ('request.header["a"] == ""', 9, 9, 'do you mean request.headers["name"]?'),
@@ -35,8 +44,17 @@ FAULTS = [
     ("[1].all(user, usr == 1)", 15, 9, "do you mean `user`?"),
     ("request.path.matches('a.*')", 14, 9, "there are no regular expressions"),
     ("request.path.startswith('a')", 14, 9, "do you mean `startsWith`?"),
-    ("int('1') == 1", 1, 9, "there are no conversions"),
-    ("all(x)", 1, 9, "`all` is written as x.all(name, ..)"),
+    ("int('1') == 1", 1, 10, '"1" is a string; int takes a uint, and no text is read as a number'),
+    ("uint('1') == 1u", 1, 10, "uint takes an int, and no text is read as a number"),
+    ("int(1) == 1", 1, 10, "1 is an int already: leave out int(..)"),
+    ("string(request.path) == ''", 1, 10, "request.path is a string already: leave out string(..)"),
+    ("string(true) == ''", 1, 10, 'string takes an int, a uint or bytes: write true ? "true" : "false"'),
+    ("bytes(1) == b''", 1, 10, "1 is an int; bytes takes a string"),
+    ("int(1u, 2u) == 1", 1, 10, "`int` takes one value: int(x)"),
+    ("1u.int() == 1", 4, 10, "`int` takes one value: int(x)"),
+    ("bool(1) == true", 1, 9, "nothing is converted to a bool"),
+    ("connection.id == source.port", 15, 10, "== has no overload for uint and int: write int(connection.id)"),
+    ("all(x)", 1, 9, "`all` is written as x.all(element, test) or x.all(index, element, test)"),
     ("has(request.method)", 13, 9, "an attribute that is absent is an error"),
     ("[1, 2].all(x, x)", 15, 10, "x is an int; all takes a test that is a bool"),
     ("[1].filter(x, x + 1) == [1]", 17, 10, "x + 1 is an int; filter takes a test that is a bool"),
@@ -69,6 +87,9 @@ FAULTS = [
 COSTS = {
     **test_bounds.BOUNDS,
     "request.headers.all(k, request.headers[k].size() < 10)": 791_686,
+    # 1 + 65 + 2 before the loop, 64 turns of 2 + (1 + 1 + (1 + 1 + 4096 + 1 + 3) + 1) + 4, and 2 behind it
+    "request.headers.all(k, v, v.size() < 10)": 263_174,
+    "request.headers.all(k, v, k.size() < 10)": 9_222,
 }
 
 
@@ -88,6 +109,48 @@ class Faults(unittest.TestCase):
                 lines = told(POLICY + "      checked_condition:\n        text: |-\n          " + text + "\n")
                 here = [line for line in lines if line.startswith(f"filter.yaml:10:{10 + column}: ")]
                 self.assertTrue(any(words in line and f" ({number} " in line for line in here), lines)
+
+    def test_line_and_column(self):
+        """The file's name, line and column, and the words, in a text of several lines."""
+        first = POLICY + "    q:\n      permissions: [{any: true}]\n      principals: [{any: true}]\n"
+        text = first + "      checked_condition:\n        text: >-\n          true &&\n" + 18 * " " + 'source.port == "80"\n'
+        source = Source("policy.yaml", text.encode())
+        [found] = encode(source)[1]
+        wanted = "policy.yaml:14:31: source.port is an int; == has no overload for int and string"
+        self.assertTrue(source.tell(found.place, found.told()).startswith(wanted), source.tell(found.place, found.told()))
+
+    def test_unchecked(self):
+        """The same at the same place of an unchecked condition's text."""
+        for text, column, number, words in FAULTS:
+            if number != 14:
+                with self.subTest(text):
+                    lines = told(POLICY + "      condition:\n        text: |-\n          " + text + "\n")
+                    here = [line for line in lines if line.startswith(f"filter.yaml:10:{10 + column}: ")]
+                    self.assertTrue(any(words in line and f" ({number} " in line for line in here), lines)
+
+    def test_unchecked_empty_literals(self):
+        for text, column, words in [
+            ("[].all(x, x == 0)", 1, "an empty list has no type in `condition`, which has no type map"),
+            ("{} == {'a': 1}", 1, "an empty map has no type in `condition`"),
+            ("[1].map(x, x) == [1]", 5, "the empty list with which `map` starts has no type in `condition`"),
+        ]:
+            with self.subTest(text):
+                [line] = told(POLICY + '      condition: {text: "%s"}\n' % text)
+                self.assertTrue(line.startswith(f"filter.yaml:8:{25 + column}: {words}"), line)
+                self.assertTrue(line.endswith("write `checked_condition` (14 NeedsType)"), line)
+                self.assertEqual(told(condition(text)), [])
+
+    def test_expanded_map(self):
+        """What cel-go's expansion of transformMap calls is told in a tree."""
+        insert = "{call_expr: {function: cel.@mapInsert, args: [{ident_expr: {name: x}}]}}"
+        found = [line for line in told(tree_condition(insert)) if "(9 UnknownName)" in line]
+        self.assertTrue(any("this loop makes a map by cel.@mapInsert" in line for line in found), found)
+
+    def test_unchecked_costs(self):
+        text = POLICY + "      condition: {text: request.method == 'GET'}\n"
+        self.assertEqual(told(text, 40), [])
+        [line] = told(text, 39)
+        self.assertIn('8:25: the condition of policy "p" may take 40 steps; the budget is 39', line)
 
     def test_one_fault_is_told_once(self):
         for text, _, number, _ in FAULTS:

@@ -1,7 +1,8 @@
 """Random texts of CEL: cel-go's own checked expressions up to ids, and no type where cel-go finds none.
 
 These run where a program `celcheck` that wraps cel-go is named by CELCHECK, or stands in GOPEERS/bin; CEL_GO_COUNT says
-how many texts of each spelling are compared.
+how many texts of each spelling are compared. Loops of two variables need `celcheck30`, which wraps cel-go 0.30, or
+CELCHECK30.
 """
 import json
 import os
@@ -13,14 +14,14 @@ import unittest
 from policies.cel.check import check
 from policies.cel.infer import types_of_empty
 from policies.cel.parse import parse
-from policies.cel.tree import in_order, shape
+from policies.cel.tree import ACCUMULATOR, NEW_ACCUMULATOR, in_order, rename_accumulators, shape
 from policies.messages import CHECKED_EXPR, descriptor
 from policies.reader import read
 from policies.trees import message_tree, message_type
 
-PROGRAM = pathlib.Path(
-    os.environ.get("CELCHECK") or pathlib.Path(os.environ.get("GOPEERS", "gopeers")) / "bin" / "celcheck"
-)
+PEERS = pathlib.Path(os.environ.get("GOPEERS", "gopeers")) / "bin"
+PROGRAM = pathlib.Path(os.environ.get("CELCHECK") or PEERS / "celcheck")
+NEWER = pathlib.Path(os.environ.get("CELCHECK30") or PEERS / "celcheck30")
 COUNT = int(os.environ.get("CEL_GO_COUNT", "300"))
 LEAVES = {
     "bool": ["true", "false", "connection.mtls"],
@@ -40,8 +41,9 @@ ORDERED = ["<", "<=", ">", ">="]
 class Maker:
     """Makes random texts, most of which have a type."""
 
-    def __init__(self, seed):
+    def __init__(self, seed, two_variables=False):
         self.random = random.Random(seed)
+        self.two_variables = two_variables
 
     def text(self, kind, depth=0, names=()):
         """A text of a type; now and then of another one. `names` are variables of loops with their types."""
@@ -70,7 +72,9 @@ class Maker:
         return f"{self.text(container, depth, names)}[{self.text(key, depth, names)}]"
 
     def _int(self, kind, depth, names):
-        choice = self.random.randrange(4)
+        choice = self.random.randrange(5)
+        if choice == 4:
+            return f"int({self.text('uint', depth, names)})"
         if choice == 0:
             return f"size({self.text(self.random.choice(['string', 'list(int)', 'bytes']), depth, names)})"
         if choice == 1:
@@ -79,16 +83,21 @@ class Maker:
         return f"({self.text('int', depth, names)} {sign} {self.text('int', depth, names)})"
 
     def _uint(self, kind, depth, names):
+        if self.random.random() < 0.2:
+            return f"uint({self.text('int', depth, names)})"
         return f"({self.text('uint', depth, names)} {self.random.choice('+-*/%')} {self.text('uint', depth, names)})"
 
     def _string(self, kind, depth, names):
+        if self.random.random() < 0.3:
+            return f"string({self.text(self.random.choice(['int', 'uint', 'bytes']), depth, names)})"
         return f"({self.text('string', depth, names)} + {self.text('string', depth, names)})"
 
-    _bytes = _string
+    def _bytes(self, kind, depth, names):
+        return f"bytes({self._string(kind, depth, names)})"
 
     def _list(self, kind, depth, names):
         element = kind[5:-1]
-        choice = self.random.randrange(4)
+        choice = self.random.randrange(5 if self.two_variables else 4)
         if choice == 0:
             return f"({self.text(kind, depth, names)} + {self.text(kind, depth, names)})"
         if choice == 1:
@@ -97,6 +106,10 @@ class Maker:
         if choice == 2:
             inner = [*names, ("w", "int")]
             return f"{self.text('list(int)', depth, names)}.map(w, {self.text(element, depth, inner)})"
+        if choice == 4:
+            walked, inner = self._walked(depth, names)
+            test = self.text("bool", depth, inner) + ", " if self.random.random() < 0.5 else ""
+            return f"{walked}.transformList(i, y, {test}{self.text(element, depth, inner)})"
         return f"[{self.text(element, depth, names)}, {self.text(element, depth, names)}]"
 
     def _bool(self, kind, depth, names):
@@ -129,23 +142,35 @@ class Maker:
 
     def _loop(self, depth, names):
         loop = self.random.choice(["all", "exists", "exists_one"])
+        if self.two_variables and self.random.random() < 0.7:
+            walked, inner = self._walked(depth, names)
+            return f"{walked}.{loop}(i, y, {self.text('bool', depth, inner)})"
         if self.random.random() < 0.5:
             inner = [*names, ("k", "string")]
             return f"request.headers.{loop}(k, {self.text('bool', depth, inner)})"
         inner = [*names, ("x", "int")]
         return f"{self.text('list(int)', depth, names)}.{loop}(x, {self.text('bool', depth, inner)})"
 
+    def _walked(self, depth, names):
+        """What a loop of two variables goes over, and the names with its variables."""
+        kind = self.random.choice(["list(int)", "list(string)", "map(string, string)", "map(int, bool)"])
+        parts = kind[:-1].partition("(")[2].split(", ")
+        inner = [*names, ("i", parts[0] if len(parts) == 2 else "int"), ("y", parts[-1])]
+        return self.text(kind, depth, names), inner
 
-@unittest.skipUnless(PROGRAM.exists(), "cel-go's celcheck is not here")
-class Random(unittest.TestCase):
-    """The same texts by cel-go and by the tool."""
 
-    def test_random(self):
+class Compared(unittest.TestCase):
+    """Texts by cel-go and by the tool."""
+
+    def compare_all(self, program, two_variables):
+        """Compares random texts of each spelling."""
         for spelling, seed in (("ident", 3), ("select", 4)):
-            maker = Maker(seed)
+            maker = Maker(seed, two_variables)
             texts = [maker.text("bool") for _ in range(COUNT)]
-            lines = "".join(json.dumps({"expr": text, "spelling": spelling}) + "\n" for text in texts)
-            ran = subprocess.run([PROGRAM], input=lines, capture_output=True, text=True)
+            options = ["two_var"] if two_variables else []
+            asked = [{"expr": text, "spelling": spelling, "options": options} for text in texts]
+            lines = "".join(json.dumps(line) + "\n" for line in asked)
+            ran = subprocess.run([program], input=lines, capture_output=True, text=True)
             self.assertEqual(ran.returncode, 0, ran.stderr)
             found = [self.compare(*pair) for pair in zip(texts, map(json.loads, ran.stdout.splitlines()), strict=True)]
             self.assertGreater(sum(found), COUNT * 2 // 3)
@@ -158,7 +183,7 @@ class Random(unittest.TestCase):
             self.assertTrue(self.typing(parse(text)).faults, (text, answer["error"]))
             return False
         checked = read(descriptor(CHECKED_EXPR), bytes.fromhex(answer["checked_hex"]))
-        theirs = message_tree(checked.get("expr"))
+        theirs = rename_accumulators(message_tree(checked.get("expr")), NEW_ACCUMULATOR, ACCUMULATOR)
         ours = next((tree for tree in (parse(text), parse(text, dotted=True)) if shape(tree) == shape(theirs)), None)
         self.assertIsNotNone(ours, text)
         typing = self.typing(ours)
@@ -174,3 +199,19 @@ class Random(unittest.TestCase):
         """The types that the tool finds, empty literals included."""
         entries = {literal.id: kind for literal, kind in types_of_empty(tree).items() if kind is not None}
         return check(tree, entries, {})
+
+
+@unittest.skipUnless(PROGRAM.exists(), "cel-go's celcheck is not here")
+class Random(Compared):
+    """The same texts by cel-go and by the tool."""
+
+    def test_random(self):
+        self.compare_all(PROGRAM, two_variables=False)
+
+
+@unittest.skipUnless(NEWER.exists(), "cel-go's celcheck30 is not here")
+class TwoVariables(Compared):
+    """The same with loops of two variables."""
+
+    def test_random(self):
+        self.compare_all(NEWER, two_variables=True)

@@ -2,32 +2,44 @@
 import json
 import unittest
 
+from policies.cel.mistake import TextMistake
 from policies.cel.parse import parse
-from policies.cel.printing import text_of
-from policies.cel.tree import Call, in_order, shape
+from policies.cel.printing import describe, text_of
+from policies.cel.tree import ACCUMULATOR, NEW_ACCUMULATOR, Call, in_order, rename_accumulators, shape
 from support import HERE, tree_of
 
 
-def stored():
-    """The texts with the trees of cel-go 0.18.2; go/cel_trees makes them."""
-    with open(HERE / "cel_trees.jsonl", encoding="utf-8") as lines:
-        return [json.loads(line) for line in lines]
+def stored(key):
+    """The texts with the trees or the faults of cel-go 0.18.2, and of 0.30.0 with loops of two variables; go/cel_trees
+    makes them."""
+    found = []
+    for name in ("cel_trees.jsonl", "cel_trees_two.jsonl"):
+        with open(HERE / name, encoding="utf-8") as lines:
+            found += [json.loads(line) for line in lines]
+    return [line for line in found if key in line]
 
 
 class Trees(unittest.TestCase):
     """The stored texts."""
 
     def test_same_trees(self):
-        self.assertGreater(len(stored()), 500)
-        for line in stored():
+        self.assertGreater(len(stored("tree")), 500)
+        for line in stored("tree"):
             with self.subTest(line["text"]):
                 self.assertEqual(shape(parse(line["text"])), shape(tree_of(bytes.fromhex(line["tree"]))))
 
     def test_texts_come_back(self):
-        for line in stored():
+        for line in stored("tree"):
             with self.subTest(line["text"]):
                 tree = parse(line["text"])
                 self.assertEqual(shape(parse(text_of(tree))), shape(tree))
+
+
+    def test_same_mistakes(self):
+        self.assertGreater(len(stored("fault")), 20)
+        for line in stored("fault"):
+            with self.subTest(line["text"]), self.assertRaises(TextMistake):
+                parse(line["text"])
 
 
 class Ids(unittest.TestCase):
@@ -78,6 +90,14 @@ class Ids(unittest.TestCase):
 class Printing(unittest.TestCase):
     """Texts as people would write them."""
 
+    def test_newer_accumulator(self):
+        """A loop of newer versions is described as its macro; its text says another name of the accumulator."""
+        text = "x.all(i, [i].exists(j, k, j == k))"
+        tree = parse(text)
+        rename_accumulators(tree, ACCUMULATOR, NEW_ACCUMULATOR)
+        self.assertEqual(describe(tree), text)
+        self.assertIsNone(text_of(tree))
+
     def test_plain_forms(self):
         for text in [
             'request.method == "GET" && !(a in [1, 2u]) || x.all(i, i > -1)',
@@ -90,6 +110,9 @@ class Printing(unittest.TestCase):
             '{"a": [1.5, null], true: b"\\x00\\xff"}',
             "has(a.b) ? x.map(i, i > 0, i * 2) : y.filter(j, has(j.k))",
             'x.exists_one(i, i == "\\n\\u200bé")',
+            "x.all(i, j, i < j) || y.exists(k, v, k == v) && z.exists_one(k, v, v)",
+            "x.transformList(i, j, i + j) + x.transformList(i, j, i < j, [i].map(k, j))",
+            "x.transformMap(k, v, k < v, v)",
             "(-1).size() + (1).size()",
         ]:
             with self.subTest(text):

@@ -24,8 +24,8 @@ from test_round_trip import alter
 class WithoutConditions(Maker):
     """Random filters whose policies have no condition."""
 
-    def condition(self, checked):
-        checked.Clear()
+    def condition(self, policy):
+        pass
 
 
 @unittest.skipUnless(ENGINE.exists(), NO_ENGINE)
@@ -70,8 +70,8 @@ class Engine(unittest.TestCase):
 
     def test_bounds(self):
         """Random conditions: the tool's bound is the engine's, or both refuse for the same reason."""
-        maker = TextMaker(11)
-        texts = [maker.text("bool") for _ in range(150)]
+        makers = [TextMaker(11), TextMaker(12, two_variables=True)]
+        texts = [maker.text("bool") for maker in makers for _ in range(100)]
         sources = [Source("filter.yaml", condition(text).encode()) for text in texts]
         made = [reading.encoded(one, Form("", one.compose()), GREATEST_BUDGET, False) for one in sources]
         with engine.Engine(ENGINE) as asked:

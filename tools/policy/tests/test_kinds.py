@@ -34,7 +34,7 @@ ADMITTED = {
         ],
     ),
     "source_ip.yaml": ([""], ["5:21: note: source_ip is read as direct_remote_ip"]),
-    "condition_tree.yaml": ([""], ["7:7: note: this condition is read as a checked_condition"]),
+    "condition_tree.yaml": ([""], []),
     "condition_text.yaml": ([""], []),
     "shadow.yaml": ([""], ["2:15: note: the engine skips shadow_rules"]),
     "typed_struct.yaml": (["envoy.filters.http.rbac"], []),

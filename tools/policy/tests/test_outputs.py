@@ -7,6 +7,7 @@ import tempfile
 import time
 import unittest
 
+from policies.wrap import frame, response
 from support import POLICY, TOP, condition, encoded
 
 PROGRAM = TOP / "tools" / "policy" / "policy"
@@ -93,6 +94,16 @@ class Inputs(Room):
                         self.assertEqual((status, out), (1, b""))
                         self.assertIn(f"{name}: ", errors)
                         self.assertIn(words, errors)
+
+    def test_response(self):
+        """A discovery response is shown as its bytes, with the names of the filters in it."""
+        data = encoded(POLICY)
+        framed = frame(response([("a", data), ("b", data)], "1", "n"))
+        status, out, _ = self.run_it("decode", self.file("w.bin", framed))
+        self.assertEqual(status, 0)
+        told = "# these bytes are no filter, but hold filters: a, b; `policy check` reads them"
+        self.assertTrue(out.decode().startswith(told), out)
+        self.assertEqual(self.run_it("encode", "--even-if-refused", self.file("again.yaml", out))[1], framed)
 
     def test_json_escapes(self):
         text = '{"rules": {"policies": {"a\\/\\ud83d\\ude00\\\\ud83d": {"permissions": [{"any": true}], "principals": [{"any": true}]}}}}'

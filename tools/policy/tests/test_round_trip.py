@@ -7,7 +7,7 @@ from policies.decode import decode
 from policies.places import Source
 from policies.reading import contents
 from random_filters import Maker
-from support import encoded, field
+from support import HERE, encoded, field
 
 PROFILE_SEED, ANY_SEED, ODD_SEED = 20_240, 20_241, 20_242
 
@@ -33,6 +33,13 @@ class RoundTrip(unittest.TestCase):
             trees += text.count("the tree below is that of no text")
         self.assertGreater(texts, 1000)
         self.assertLess(trees * 4, texts)
+
+    def test_newer_cel_go(self):
+        """A checked condition by cel-go 0.30, whose accumulators have another name."""
+        text = self.check(bytes.fromhex((HERE / "cel_go_30.hex").read_text()))
+        wanted = 'request.headers.exists(k, v, v == "a") && request.headers.transformList(k, v, k).size() < 3'
+        self.assertIn(f"        text: {wanted}\n", text)
+        self.assertIn('        accumulator: "@result"\n', text)
 
     def test_by_file(self):
         """A filter of the profile that a file holds is what the file says, whatever is read otherwise elsewhere."""

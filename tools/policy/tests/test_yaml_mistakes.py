@@ -79,6 +79,7 @@ WRONG = [
     (condition("true", "type_map: {1: int, '1': bool}"), 10, 28, "is here twice"),
     (condition("true", "type_map: {1: int, 01: bool}"), 10, 28, "a whole number"),
     (POLICY + "      condition: {text: 1}\n", 8, 25, "a text of CEL"),
+    (POLICY + "      condition: {text: a, accumulator: b}\n", 8, 41, "the name of cel-go's accumulators"),
     (POLICY + "      condition: {text: a, type_map: {}}\n", 8, 28, "`type_map` cannot be used together with `text`"),
     (POLICY + "      condition: {const_expr: {bytes_value: x}}\n", 8, 45, "in base64"),
     (POLICY + "      condition: {const_expr: {double_value: x}}\n", 8, 46, "a number is expected"),

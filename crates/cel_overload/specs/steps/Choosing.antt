@@ -5,6 +5,7 @@ use Rattle.cel_ops.specs.declared.arithmetic.ArithmeticOp.{ArithmeticOp}
 use Rattle.cel_ops.specs.declared.arithmetic.ArithmeticOp.TheVariants.{Add}
 use Rattle.cel_ops.specs.declared.comparison.CompareOp.{CompareOp}
 use Rattle.cel_ops.specs.declared.comparison.CompareOp.TheVariants.{Equal, NotEqual}
+use Rattle.cel_ops.specs.declared.conversion.Conversion.TheVariants.{UintToInt, IntToUint, IntToText, UintToText, BytesToText, TextToBytes}
 use Rattle.cel_overload.specs.Functions.{may_take}
 use Rattle.cel_overload.specs.declared.function.Function.{Function}
 use Rattle.cel_overload.specs.declared.function.Function.TheVariants as functions
@@ -47,6 +48,13 @@ Choice = Option (Overload × ValueType)
 abbrev pub when : Bool → Overload → ValueType → Choice
 when fits o r = if fits then Some (o, r) else None
 
+-- the choice for `string`: the text of a number, or the text that bytes spell
+abbrev pub choose_to_text : ValueType → Choice
+choose_to_text int_type = Some (overloads.Operate (operations.Convert IntToText), text_type)
+choose_to_text uint_type = Some (overloads.Operate (operations.Convert UintToText), text_type)
+choose_to_text bytes_type = Some (overloads.Operate (operations.Convert BytesToText), text_type)
+choose_to_text _ = None
+
 -- the choice for one operand
 abbrev pub choose_unary : Function → ValueType → Choice
 choose_unary functions.Not a = when (type_eq a bool_type) (overloads.Operate operations.Not) bool_type
@@ -54,6 +62,13 @@ choose_unary functions.NotStrictlyFalse a =
     when (type_eq a bool_type) (overloads.Operate operations.NotStrictlyFalse) bool_type
 choose_unary functions.Negate a = when (type_eq a int_type) (overloads.Operate operations.Negate) int_type
 choose_unary functions.Size a = when (is_sized a) (overloads.Operate operations.Size) int_type
+choose_unary functions.ToInt a =
+    when (type_eq a uint_type) (overloads.Operate (operations.Convert UintToInt)) int_type
+choose_unary functions.ToUint a =
+    when (type_eq a int_type) (overloads.Operate (operations.Convert IntToUint)) uint_type
+choose_unary functions.ToText a = choose_to_text a
+choose_unary functions.ToBytes a =
+    when (type_eq a text_type) (overloads.Operate (operations.Convert TextToBytes)) bytes_type
 choose_unary _ a = None
 
 -- whether values of the two types can be compared so

@@ -118,6 +118,9 @@ fn result_type(kind: ResultType<'_>) -> Result<CelType, AllocError>
     match kind {
         ResultType::Bool => Ok(CelType::Bool),
         ResultType::Int => Ok(CelType::Int),
+        ResultType::Uint => Ok(CelType::Uint),
+        ResultType::Text => Ok(CelType::Text),
+        ResultType::Bytes => Ok(CelType::Bytes),
         ResultType::Same(same) => same.copy(),
     }
 }

@@ -3,7 +3,7 @@ use Rattle.std.specs.Prelude.{◌≡◌, ◌≢◌, ◌<◌, ℕ, List, Option, 
 use Rattle.attributes.specs.Limits.{LimitsValue}
 use Rattle.cel_value.specs.Types.{ValueType, bool_type}
 use Rattle.cel_tree.specs.Checked.{CelChecked}
-use Rattle.cel_tree.specs.Message.{CheckedFault, IsChecked}
+use Rattle.cel_tree.specs.Message.{ExprFault, ExprParts, IsExprOf}
 use Rattle.cel_types.specs.Typing.{IsTyped}
 use Rattle.cel_types.specs.TypingFaults.{CheckFault}
 use Rattle.proto_wire.specs.Maps.{Entry, text}
@@ -26,14 +26,14 @@ pub data ExpressionFault (condition : CelChecked) (limits : LimitsValue) (left :
       → ExpressionFault condition limits left e
 
 -- the same for the payloads of a condition, which may have faults
-pub data ConditionFault (parts : List (List ℕ)) (limits : LimitsValue) (left : ℕ) (e : Refusal)
+pub data ConditionFault (parts : ExprParts) (limits : LimitsValue) (left : ℕ) (e : Refusal)
     : Type 0 where
-  unreadable : CheckedFault parts e → ConditionFault parts limits left e
-  expression : (condition : CelChecked) → IsChecked parts condition
+  unreadable : ExprFault parts e → ConditionFault parts limits left e
+  expression : (condition : CelChecked) → IsExprOf parts condition
       → ExpressionFault condition limits left e → ConditionFault parts limits left e
 
 -- the program is that of the condition in the payloads; without payloads there is none
-abbrev pub HasProgram : LimitsValue → List (List ℕ) → Option Program → Type 0
+abbrev pub HasProgram : LimitsValue → ExprParts → Option Program → Type 0
 HasProgram limits parts program = (condition : Option CelChecked) × IsCondition parts condition
     × MatchOption condition (program ≡ None) (λ c. IsSomeAnd program (IsProgramOf limits c))
 

@@ -1,5 +1,6 @@
 -- The results of runs of conditions, policy by policy.
 use Rattle.std.specs.Prelude.{◌≡◌, ◌≤◌, ◌⊎◌, ◌+◌, ℕ, Bool, true, false, List, [], ◌∷◌, Option, Some, None, MatchOption, IsSomeAnd}
+use Rattle.std.specs.List.{AllByRecursion}
 use Rattle.attributes.specs.Request.{RequestValue}
 use Rattle.cel_value.specs.Values.{CelAnswer}
 use Rattle.stack_machine.specs.Machine.{Ends, RunsOut}
@@ -17,6 +18,10 @@ abbrev pub Tells : RequestValue → Policy Program → Bool → Type 0
 Tells r p matches = ((sides_match r p ≡ false) × (matches ≡ false))
     ⊎ ((sides_match r p ≡ true)
     × MatchOption p.condition (matches ≡ true) (λ program. RunsAs r program matches))
+
+-- none of the policies matches
+abbrev pub HaveFailed : RequestValue → List (Policy Program) → Type 0
+HaveFailed r ps = AllByRecursion (λ p. Tells r p false) ps
 
 -- the number of the first policy that matches, if the first policy has the number `i`
 abbrev pub IsFirst : RequestValue → ℕ → List (Policy Program) → Option ℕ → Type 0

@@ -55,6 +55,11 @@ fn left_after_operation(op: Operation, stack: &Stack<Answer>, fuel: u64) -> Opti
             fuel,
         ),
         Operation::Size => left_after_one(Unary::Operate(Operation::Size), stack, fuel),
+        Operation::Convert(kind) => left_after_one(
+            Unary::Operate(Operation::Convert(kind)),
+            stack,
+            fuel,
+        ),
         Operation::Arithmetic(op) => left_after_two(Operation::Arithmetic(op), stack, fuel),
         Operation::And => left_after_two(Operation::And, stack, fuel),
         Operation::Or => left_after_two(Operation::Or, stack, fuel),

@@ -69,7 +69,7 @@ def parts_of(node: Node, scope: Scope) -> Iterator[Tuple[Node, Scope]]:
                 yield entry.key, scope
             yield entry.value, scope
     elif isinstance(node, Comprehension):
-        inside = scope | {node.iter_var, node.accu_var}
+        inside = scope | {*node.variables(), node.accu_var}
         yield node.iter_range, scope
         yield node.accu_init, scope
         yield node.loop_condition, inside
@@ -89,7 +89,7 @@ def _replace_parts(node: Node, scope: Scope, change: Callable[[Node, Scope], Nod
     elif isinstance(node, StructLiteral):
         node.entries = [_changed_entry(entry, scope, change) for entry in node.entries]
     elif isinstance(node, Comprehension):
-        inside = scope | {node.iter_var, node.accu_var}
+        inside = scope | {*node.variables(), node.accu_var}
         node.iter_range = change(node.iter_range, scope)
         node.accu_init = change(node.accu_init, scope)
         node.loop_condition = change(node.loop_condition, inside)

@@ -2,12 +2,12 @@
 
 Beside a fault the node's type is not known, and nothing is told of what stands on it.
 """
-from typing import Dict, List, NamedTuple, Optional, Tuple
+from typing import Dict, Iterator, List, NamedTuple, Optional, Tuple
 
 from . import words
-from .attributes import TYPES, attribute_name
+from .attributes import TYPES, attribute_name, parts_of
 from .fold import fold
-from .overloads import BOOL, FUNCTIONS, INT, KEYS, STRING, has_shape, result_type
+from .overloads import BOOL, CONVERSIONS, FUNCTIONS, INT, KEYS, STRING, has_shape, result_type
 from .tree import ROOTS, Call, Comprehension, Const, Ident, ListLiteral, Node, Select, StructLiteral
 from .typetext import type_text
 
@@ -42,10 +42,11 @@ class Typing(NamedTuple):
     is_whole: bool
 
 
-def check(tree: Node, entries: TypeEntries, references: References) -> Typing:
-    """The types of a condition and its faults, in the order of the tree."""
+def check(tree: Node, entries: Optional[TypeEntries], references: References) -> Typing:
+    """The types of a condition and its faults, in the order of the tree; an unchecked condition has no entries."""
     checker = _Checker(entries, references)
     kind = checker.type_of(tree, {}, None)
+    checker.tell_locals(tree, 0)
     if kind is not None and kind != BOOL:
         told = f"the condition {words.shown(tree)} is {words.a(kind)}; a condition is a bool"
         checker.tell(tree, NOT_BOOL, told)
@@ -53,16 +54,26 @@ def check(tree: Node, entries: TypeEntries, references: References) -> Typing:
 
 
 class _Checker:
-    def __init__(self, entries: TypeEntries, references: References):
-        self.entries = entries
+    def __init__(self, entries: Optional[TypeEntries], references: References):
+        self.is_checked = entries is not None
+        self.entries: TypeEntries = entries or {}
         self.references = references
         self.types: Dict[Node, tuple] = {}
+        self.starts: Dict[Node, str] = {}
         self.faults: List[Fault] = []
         self.all_known = True
 
     def tell(self, node: Node, number: int, told: str, entry: Optional[int] = None) -> None:
         """Keeps a fault."""
         self.faults.append(Fault(node, number, told, entry))
+
+    def tell_locals(self, node: Node, around: int) -> None:
+        """Tells the loops in which more variables than the limit are bound at once."""
+        bound = len(node.variables()) + 1 if isinstance(node, Comprehension) else 0
+        if around <= MOST_LOCALS < around + bound:
+            self.tell(node, TOO_LARGE, f"more than {MOST_LOCALS} variables of loops in one another")
+        for part, inside in _parts_of(node, around):
+            self.tell_locals(part, inside)
 
     def type_of(self, node: Node, scope: dict, parent: Optional[Node]) -> Optional[tuple]:
         """The type of a node where loops bind these names, or None where it has none; its entry is compared."""
@@ -136,7 +147,7 @@ class _Checker:
     def _call(self, call: Call, scope: dict) -> Optional[tuple]:
         if call.function not in FUNCTIONS:
             self.tell(call, UNKNOWN_NAME, words.unknown_function(call))
-            if call.function not in words.LOOPS_OF_TWO:
+            if call.function not in words.MACROS and call.function not in words.MAKE_MAPS:
                 self._types_of(call, scope)
             return None
         operands, kinds = self._types_of(call, scope)
@@ -205,12 +216,17 @@ class _Checker:
         }
         entries = ", ".join(f'{number}: "{type_text(known[number])}"' for number in sorted(known))
         told = f"nothing tells the type of this empty {container}; `type_map: {{{entries}}}` would tell one"
+        if not self.is_checked:
+            told = (
+                f"{self.starts.get(node, f'an empty {container}')} has no type in `condition`, which has no type map: "
+                "write `checked_condition`"
+            )
         self.tell(node, NEEDS_TYPE, told)
         return None
 
     def _loop(self, loop: Comprehension, scope: dict) -> Optional[tuple]:
         folded = fold(loop)
-        name = folded[0] if folded else None
+        name = folded.name if folded else None
         range_kind = self.type_of(loop.iter_range, scope, loop)
         if range_kind is not None and range_kind[0] not in ("list", "map"):
             told = (
@@ -218,18 +234,19 @@ class _Checker:
             )
             self.tell(loop, NO_OVERLOAD, told)
             range_kind = None
+        if name is not None:
+            self.starts[loop.accu_init] = f"the empty list with which `{name}` starts"
         accumulator = self.type_of(loop.accu_init, scope, loop)
-        element = None if range_kind is None else range_kind[1]
-        inside = {**scope, loop.iter_var: element, loop.accu_var: accumulator}
-        if len(inside) > MOST_LOCALS:
-            self.tell(loop, TOO_LARGE, f"more than {MOST_LOCALS} variables of loops in one another")
-        if name in words.MACROS[:3] or len(folded[1] if folded else []) == 2 or name == "filter":
-            if not self._tests_bool(name, folded[1][0], inside, loop):
-                return accumulator
+        inside = {**scope, **_variable_types(loop, range_kind), loop.accu_var: accumulator}
+        if folded and folded.test is not None and not self._tests_bool(folded.name, folded.test, inside, loop):
+            return BOOL if folded.name in words.QUANTIFIERS else accumulator
         return self._turn(loop, inside, scope, accumulator)
 
     def _tests_bool(self, name: str, test: Node, inside: dict, loop: Comprehension) -> bool:
         """Whether the test of a macro is a bool; else that is told and nothing else of the loop."""
+        if name in ("map", "filter") and isinstance(test, Ident) and not _is_known(test.name, inside):
+            self.tell(test, UNKNOWN_NAME, words.second_variable(test.name, inside))
+            return False
         before = len(self.faults)
         kind = self.type_of(test, inside, loop)
         if kind is not None and kind != BOOL:
@@ -252,8 +269,33 @@ class _Checker:
         return self.type_of(loop.result, {**scope, loop.accu_var: accumulator}, loop)
 
 
+def _is_known(name: str, scope: dict) -> bool:
+    """Whether a loop binds a name, or it may be of an attribute."""
+    return name in scope or name.partition(".")[0] in ROOTS
+
+
+def _variable_types(loop: Comprehension, kind: Optional[tuple]) -> Dict[str, Optional[tuple]]:
+    """The types of a loop's variables by the type of its range: of two, the first is an index or a key."""
+    if kind is None:
+        return dict.fromkeys(loop.variables())
+    if not loop.iter_var2:
+        return {loop.iter_var: kind[1]}
+    return {loop.iter_var: INT if kind[0] == "list" else kind[1], loop.iter_var2: kind[-1]}
+
+
+def _parts_of(node: Node, around: int) -> Iterator[Tuple[Node, int]]:
+    """The parts of a node, each with how many variables of loops are bound there."""
+    if not isinstance(node, Comprehension):
+        return ((part, around) for part, _ in parts_of(node, frozenset()))
+    inside = around + len(node.variables()) + 1
+    parts = (node.iter_range, node.accu_init, node.loop_condition, node.loop_step, node.result)
+    return zip(parts, (around, around, inside, inside, around + 1))
+
+
 def _certain_result(function: str, kinds: List[Optional[tuple]]) -> Optional[tuple]:
     """The type of a call's result where its function alone tells it."""
     if function in ("_+_", "_-_", "_*_", "_/_", "_%_", "-_", "_?_:_", "_[_]"):
         return None
+    if function in CONVERSIONS:
+        return CONVERSIONS[function][1]
     return INT if function == "size" else BOOL

@@ -11,6 +11,8 @@ from .tree import Call, Comprehension, Const, Ident, ListLiteral, Node, Select, 
 
 GREATEST_BUDGET = 100_000_000
 FLAT = ("flat",)
+# The longest text of a number: of a uint, or of an int with its sign.
+MOST_DIGITS = 20
 
 
 class TooMuch(Exception):
@@ -137,9 +139,10 @@ class _Measure:
         count = size[1]
         init_cost, accumulator = self.of(loop.accu_init, scope)
         found = range_cost + 1 + count + init_cost + 1
+        variables = _variable_sizes(loop, size)
         turn = 0
         while turn < count:
-            inside = {**scope, loop.iter_var: size[2], loop.accu_var: accumulator}
+            inside = {**scope, loop.accu_var: accumulator, **variables}
             condition, _ = self.of(loop.loop_condition, inside)
             step, grown = self.of(loop.loop_step, inside)
             grown = join(accumulator, grown)
@@ -150,6 +153,15 @@ class _Measure:
             turn, accumulator = turn + turns, grown
         result, size = self.of(loop.result, {**scope, loop.accu_var: accumulator})
         return found + 1 + result, size
+
+
+def _variable_sizes(loop: Comprehension, size: tuple) -> Dict[str, tuple]:
+    """The sizes of a loop's variables by the size of its range: of two, the first is an index or a key."""
+    if not loop.iter_var2:
+        return {loop.iter_var: size[2]}
+    if size[0] == "many":
+        return {loop.iter_var: FLAT, loop.iter_var2: size[2]}
+    return {loop.iter_var: size[2], loop.iter_var2: size[3]}
 
 
 def _constant_size(node: Const) -> tuple:
@@ -173,6 +185,10 @@ def _strict(function: str, sizes: list) -> Tuple[int, tuple]:
         together = sizes[0][1] + sizes[1][1]
         parts = map(join, sizes[0][2:], sizes[1][2:])
         return 1 + together, (sizes[0][0], together, *parts)
+    if function == "string" and sizes[0] == FLAT:
+        return 1 + MOST_DIGITS, ("text", MOST_DIGITS)
+    if function in ("string", "bytes"):
+        return 1 + sizes[0][1], sizes[0]
     if function == "size":
         return 1 + sizes[0][1] if sizes[0][0] == "text" else 1, FLAT
     if function == "_[_]":

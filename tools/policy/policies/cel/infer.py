@@ -25,7 +25,8 @@ RESULTS = {
     "string": STRING,
     "bytes": BYTES,
 }
-TEXT_TESTS = frozenset(["contains", "startsWith", "endsWith"])
+# What all operands of a function are; `string` takes several types.
+OPERANDS = {**dict.fromkeys(["contains", "startsWith", "endsWith", "bytes"], STRING), "int": UINT, "uint": INT}
 
 
 class Unknown:
@@ -168,13 +169,18 @@ class _Inference:
         if call.function in MEMBERSHIP and len(kinds) == 2:
             self._membership(*kinds)
             return BOOL
-        if call.function in TEXT_TESTS:
+        if call.function in OPERANDS:
             for kind in kinds:
-                _tie(kind, STRING)
+                _tie(kind, OPERANDS[call.function])
         return RESULTS.get(call.function) or Unknown()
 
     def _index(self, container, index):
         result = Unknown()
+        self._index_of(container, index, result)
+        return result
+
+    def _index_of(self, container, index, result) -> None:
+        """Ties an index or a key, and what a list or a map holds there."""
 
         def ask() -> bool:
             kind = _resolve(container)
@@ -189,7 +195,6 @@ class _Inference:
             return True
 
         self._when_known(ask)
-        return result
 
     def _membership(self, item, container) -> None:
         def ask() -> bool:
@@ -203,10 +208,14 @@ class _Inference:
         self._when_known(ask)
 
     def _loop(self, loop: Comprehension, scope: dict):
-        element = Unknown()
-        self._membership(element, self.type_of(loop.iter_range, scope))
+        walked = self.type_of(loop.iter_range, scope)
+        variables = {name: Unknown() for name in loop.variables()}
+        if loop.iter_var2:
+            self._index_of(walked, variables[loop.iter_var], variables[loop.iter_var2])
+        else:
+            self._membership(variables[loop.iter_var], walked)
         accumulator = self.type_of(loop.accu_init, scope)
-        inside = {**scope, loop.accu_var: accumulator, loop.iter_var: element}
+        inside = {**scope, loop.accu_var: accumulator, **variables}
         _tie(self.type_of(loop.loop_condition, inside), BOOL)
         _tie(accumulator, self.type_of(loop.loop_step, inside))
         return self.type_of(loop.result, {**scope, loop.accu_var: accumulator})

@@ -1,7 +1,7 @@
 """The functions of the profile: what operands each takes, and of what type its result is.
 
 A type is a tuple: its name, then its parts. Operators take no target; `size` takes its operand as target or as
-argument; the tests of texts take a target and one argument.
+argument; the tests of texts take a target and one argument; conversions take one argument.
 """
 from typing import List, Optional
 
@@ -19,8 +19,15 @@ OPERAND_COUNTS = {
     **dict.fromkeys(NEGATIONS | {"-_"}, 1),
     "_?_:_": 3,
 }
-FUNCTIONS = frozenset(OPERAND_COUNTS) | TEXT_TESTS | {"size"}
-CALLED_BY_NAME = ("size", "contains", "startsWith", "endsWith")
+# What each conversion takes, and what it gives.
+CONVERSIONS = {
+    "int": ((UINT,), INT),
+    "uint": ((INT,), UINT),
+    "string": ((INT, UINT, BYTES), STRING),
+    "bytes": ((STRING,), BYTES),
+}
+FUNCTIONS = frozenset(OPERAND_COUNTS) | TEXT_TESTS | set(CONVERSIONS) | {"size"}
+CALLED_BY_NAME = ("size", "contains", "startsWith", "endsWith", *CONVERSIONS)
 
 
 def has_shape(function: str, has_target: bool, count: int) -> bool:
@@ -29,6 +36,8 @@ def has_shape(function: str, has_target: bool, count: int) -> bool:
         return count + has_target == 1
     if function in TEXT_TESTS:
         return has_target and count == 1
+    if function in CONVERSIONS:
+        return not has_target and count == 1
     return not has_target and count == OPERAND_COUNTS[function]
 
 
@@ -52,6 +61,9 @@ def result_type(function: str, kinds: List[tuple]) -> Optional[tuple]:
         return BOOL if kinds[1][0] in ("list", "map") and kinds[1][1] == kinds[0] else None
     if function == "size":
         return INT if kinds[0][0] in ("string", "bytes", "list", "map") else None
+    if function in CONVERSIONS:
+        taken, given = CONVERSIONS[function]
+        return given if kinds[0] in taken else None
     return BOOL if kinds == [STRING, STRING] else None
 
 

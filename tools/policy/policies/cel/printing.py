@@ -152,11 +152,10 @@ def _entry(entry: Entry) -> str:
 def _loop(loop: Comprehension) -> str:
     folded = fold(loop)
     if folded is not None:
-        name, arguments = folded
-        return f"{_operand(loop.iter_range)}.{name}({loop.iter_var}, {_list(arguments)})"
+        return f"{_operand(loop.iter_range)}.{folded.name}({', '.join(loop.variables())}, {_list(folded.arguments)})"
     parts = (loop.accu_init, loop.loop_condition, loop.loop_step, loop.result)
     init, condition, step, result = (_print(part, CONDITIONAL) for part in parts)
     return (
-        f"<for {loop.iter_var} in {_print(loop.iter_range, CONDITIONAL)}, from {loop.accu_var} = {init}, "
+        f"<for {', '.join(loop.variables())} in {_print(loop.iter_range, CONDITIONAL)}, from {loop.accu_var} = {init}, "
         f"while {condition}: {loop.accu_var} = {step}; then {result}>"
     )

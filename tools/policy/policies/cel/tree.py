@@ -7,6 +7,8 @@ from typing import Iterator, Optional, Union
 
 ROOTS = ("request", "source", "destination", "connection")
 ACCUMULATOR = "__result__"
+# The same in the trees of newer versions of cel-go.
+NEW_ACCUMULATOR = "@result"
 NOT_STRICTLY_FALSE = "@not_strictly_false"
 
 
@@ -76,7 +78,11 @@ class StructLiteral(Node):
 
 @dataclass(eq=False)
 class Comprehension(Node):
-    """A loop over a list's elements or a map's keys."""
+    """A loop over a list or a map.
+
+    With one variable, it is an element of the list or a key of the map. With `iter_var2`, the first is the index or the
+    key, and the second the element or the value.
+    """
 
     iter_var: str
     iter_range: Node
@@ -85,6 +91,11 @@ class Comprehension(Node):
     loop_condition: Node
     loop_step: Node
     result: Node
+    iter_var2: str = field(default="", kw_only=True)
+
+    def variables(self) -> list:
+        """The names of its one or two variables."""
+        return [self.iter_var, self.iter_var2] if self.iter_var2 else [self.iter_var]
 
 
 BINARY = {
@@ -165,6 +176,16 @@ def _call_in_order(call: Call) -> Iterator[Node]:
         yield from in_order(part)
 
 
+def rename_accumulators(tree: Node, old: str, new: str) -> Node:
+    """Gives the accumulators of one name another, and answers the same tree."""
+    for node in in_order(tree):
+        if isinstance(node, Comprehension) and node.accu_var == old:
+            node.accu_var = new
+        elif isinstance(node, Ident) and node.name == old:
+            node.name = new
+    return tree
+
+
 def number(tree: Node) -> Node:
     """Gives the ids 1, 2, .. in the order of the text, and answers the same tree."""
     for count, node in enumerate(in_order(tree), 1):
@@ -191,4 +212,4 @@ def shape(node: Union[Node, str]) -> tuple:
         entries = tuple((shape(entry.key), shape(entry.value)) for entry in node.entries)
         return ("struct", node.message_name, entries)
     parts = (node.iter_range, node.accu_init, node.loop_condition, node.loop_step, node.result)
-    return ("loop", node.iter_var, node.accu_var, tuple(map(shape, parts)))
+    return ("loop", node.iter_var, node.iter_var2, node.accu_var, tuple(map(shape, parts)))

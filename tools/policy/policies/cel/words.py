@@ -4,15 +4,26 @@ import re
 from typing import Iterable, List, Optional
 
 from .attributes import TYPES
-from .overloads import CALLED_BY_NAME, EQUALITY, LOGIC, MEMBERSHIP, NEGATIONS, TEXT_TESTS
+from .overloads import CALLED_BY_NAME, CONVERSIONS, EQUALITY, LOGIC, MEMBERSHIP, NEGATIONS, TEXT_TESTS
 from .printing import describe
 from .tree import BINARY, ROOTS, Call, Const, Node, Select
 from .typetext import type_text
 
 LONGEST = 40
 SIGNS = {**{function: sign for sign, function in BINARY.items()}, "_in_": "in", "in": "in", "!_": "!", "-_": "-"}
-MACROS = ("all", "exists", "exists_one", "map", "filter")
-LOOPS_OF_TWO = ("all", "exists", "exists_one", "existsOne", "transformList", "transformMap", "transformMapEntry")
+QUANTIFIERS = ("all", "exists", "exists_one")
+# How each macro with a target is written.
+MACROS = {
+    **{name: f"x.{name}(element, test) or x.{name}(index, element, test)" for name in QUANTIFIERS},
+    "existsOne": "x.existsOne(index, element, test) or x.exists_one(element, test)",
+    "map": "x.map(element, result) or x.map(element, test, result); with two variables it is "
+    "x.transformList(index, element, result)",
+    "filter": "x.filter(element, test); with two variables it is x.transformList(index, element, test, result)",
+    "transformList": "x.transformList(index, element, result) or x.transformList(index, element, test, result)",
+}
+TAKEN = {"int": "a uint", "uint": "an int", "string": "an int, a uint or bytes", "bytes": "a string"}
+MAKE_MAPS = ("transformMap", "transformMapEntry")
+MAP_INSERT = "cel.@mapInsert"
 INSTEAD_OF_FUNCTIONS = {
     "matches": "there are no regular expressions: write `==`, `startsWith`, `endsWith`, `contains` or `in`",
     "double": "there are no doubles: compute with int or uint",
@@ -21,7 +32,7 @@ INSTEAD_OF_FUNCTIONS = {
     "type": "types are no values",
     "dyn": "there is no dyn: each part has one type",
     **dict.fromkeys(["lowerAscii", "upperAscii"], "texts are not folded: use a matcher with ignore_case"),
-    **dict.fromkeys(["int", "uint", "string", "bytes", "bool"], "there are no conversions"),
+    "bool": "nothing is converted to a bool: write a test, such as x == 1",
 }
 ENVOY_ATTRIBUTES = frozenset(
     "request.time request.size request.total_size request.duration request.body response.code source.labels "
@@ -109,18 +120,24 @@ def tested_attribute(name: str) -> str:
 def unknown_function(call: Call) -> str:
     """What to tell of a function that is none of the profile's."""
     name = call.function
-    if name in LOOPS_OF_TWO and call.target is not None and len(call.args) in (3, 4):
-        loop = {"existsOne": "exists_one"}.get(name, name if name in MACROS else "map")
+    if name in MAKE_MAPS or name == MAP_INSERT:
+        what = "this loop" if name == MAP_INSERT else f"`{name}`"
         return (
-            f"`{name}` takes one variable here: loops of two variables are not in the profile. Over a map the variable "
-            f"is the key: m.{loop}(k, .. m[k] ..)"
+            f"{what} makes a map by {MAP_INSERT}, which the engine does not have: write m.transformList(k, v, ..) for "
+            "a list, or test the entries, as in m.all(k, v, ..) or m.exists(k, v, ..)"
         )
     if name in MACROS:
-        return f"`{name}` is written as x.{name}(name, ..)"
+        return f"`{name}` is written as {MACROS[name]}"
     if name in INSTEAD_OF_FUNCTIONS:
         return f"the engine has no function {name}: {INSTEAD_OF_FUNCTIONS[name]}"
-    known = ", ".join(CALLED_BY_NAME + ("has",) + MACROS)
-    return f"the engine has no function {name}; it has {known}{near(name, CALLED_BY_NAME + MACROS)}"
+    known = [*CALLED_BY_NAME, "has", *MACROS]
+    return f"the engine has no function {name}; it has {', '.join(known)}{near(name, known)}"
+
+
+def second_variable(name: str, locals_in_scope: Iterable[str]) -> str:
+    """What to tell of a name that nothing binds where `map` or `filter` take a test."""
+    told = unknown_variable(name, locals_in_scope)
+    return f"{told}; `map` and `filter` take one variable: with two it is x.transformList(index, element, result)"
 
 
 def wrong_shape(function: str) -> str:
@@ -129,6 +146,8 @@ def wrong_shape(function: str) -> str:
         return "`size` takes one value: x.size() or size(x)"
     if function in TEXT_TESTS:
         return f"`{function}` is written as text.{function}(part)"
+    if function in CONVERSIONS:
+        return f"`{function}` takes one value: {function}(x)"
     return f"`{function}` is called with another number of operands than it takes"
 
 
@@ -140,6 +159,8 @@ def no_overload(call: Call, operands: List[Node], kinds: List[tuple]) -> str:
         return f"{shown(operands[index])} is {a(kinds[index])}; {function} takes two strings"
     if function == "size":
         return f"{shown(operands[0])} is {a(kinds[0])}; size takes a string, bytes, a list or a map"
+    if function in CONVERSIONS:
+        return _conversion(function, operands[0], kinds[0])
     if function in LOGIC or function in NEGATIONS:
         index = next(index for index, kind in enumerate(kinds) if kind != ("bool",))
         return f"{shown(operands[index])} is {a(kinds[index])}; {SIGNS.get(function, function)} takes bools"
@@ -154,6 +175,18 @@ def no_overload(call: Call, operands: List[Node], kinds: List[tuple]) -> str:
     first = 1 if isinstance(operands[0], Const) and not isinstance(operands[1], Const) else 0
     told = f"{shown(operands[first])} is {a(kinds[first])}; {sign} has no overload for {both}"
     return told + _instead(function, operands, kinds)
+
+
+def _conversion(function: str, operand: Node, kind: tuple) -> str:
+    """What to tell of a value that a conversion does not take."""
+    if kind == CONVERSIONS[function][1]:
+        return f"{shown(operand)} is {a(kind)} already: leave out {function}(..)"
+    told = f"{shown(operand)} is {a(kind)}; {function} takes {TAKEN[function]}"
+    if kind == ("string",):
+        return told + ", and no text is read as a number"
+    if kind == ("bool",) and function == "string":
+        return f'{told}: write {shown(operand)} ? "true" : "false"'
+    return told
 
 
 def _conditional(operands: List[Node], kinds: List[tuple]) -> str:
@@ -175,6 +208,7 @@ def _index(operands: List[Node], kinds: List[tuple]) -> str:
 def _instead(function: str, operands: List[Node], kinds: List[tuple]) -> str:
     """What to write for two operands of different types, where it is plain."""
     names = {kind[0] for kind in kinds}
+    both_are_numbers = names == {"int", "uint"} and not any(isinstance(node, Const) for node in operands)
     for node, kind, other in ((operands[0], *kinds), (operands[1], *reversed(kinds))):
         if not isinstance(node, Const):
             continue
@@ -188,6 +222,9 @@ def _instead(function: str, operands: List[Node], kinds: List[tuple]) -> str:
             return f": write {node.value}"
         if kind[0] in ("int", "uint") and other == ("string",):
             return f': write "{node.value}" in quotes'
+    if both_are_numbers:
+        node = operands[0] if kinds[0] == ("uint",) else operands[1]
+        return f": write int({shown(node)})"
     if function in MEMBERSHIP and names == {"string"}:
         return ": to ask for a part of a text write whole.contains(part)"
     if function in EQUALITY and kinds[0][0] == "list" and kinds[0][1] == kinds[1]:

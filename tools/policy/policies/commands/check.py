@@ -97,7 +97,7 @@ def answer_of(report: Report, budget: int) -> str:
 
 def _bound_text(bound: Bound) -> str:
     name = json.dumps(bound.policy, ensure_ascii=False)
-    return f"{name}: condition {figure(bound)} steps" if bound.has_condition else f"{name}: no condition"
+    return f"{name}: condition {figure(bound)} steps" if bound.condition is not None else f"{name}: no condition"
 
 
 def as_json(report: Report, budget: int) -> dict:
@@ -122,7 +122,7 @@ def as_json(report: Report, budget: int) -> dict:
 
 
 def _bound_json(bound: Bound) -> dict:
-    return {"name": bound.policy, "bound": bound.steps, "condition": bound.has_condition}
+    return {"name": bound.policy, "bound": bound.steps, "condition": bound.condition is not None}
 
 
 def _place_json(place: Optional[tuple]) -> dict:

@@ -4,6 +4,7 @@ from typing import Dict, List
 
 from .. import engine, output
 from ..checking import message_of
+from ..conditions_typing import condition_of
 from ..junit import document
 from ..testing import Coverage, Outcome, Test, TestFile, coverage, run_tests
 from .check import add_engine
@@ -54,8 +55,7 @@ def _policies(tests: List[Test]) -> Dict[bytes, Dict[str, bool]]:
         if data not in found:
             rules = message_of(data).get("rules")
             policies = dict(rules.get("policies") or []) if rules is not None and rules.is_whole else {}
-            conditions = {name: policies[name].get("checked_condition") for name in sorted(policies, key=str.encode)}
-            found[data] = {name: condition is not None for name, condition in conditions.items()}
+            found[data] = {name: condition_of(policies[name]) is not None for name in sorted(policies, key=str.encode)}
     return found
 
 

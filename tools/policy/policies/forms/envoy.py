@@ -133,7 +133,7 @@ class Reading:
 
 RBAC_NAME = "envoy.filters.http.rbac"
 # Where a file has none of these words, nothing in it is said otherwise.
-CAN_CHANGE = re.compile("regex|Regex|source_ip|sourceIp|condition|stat")
+CAN_CHANGE = re.compile("regex|Regex|source_ip|sourceIp|stat")
 
 
 def rewritten(source: Source, form: Form) -> Form:

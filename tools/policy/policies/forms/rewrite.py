@@ -3,7 +3,7 @@ from typing import Callable, List, NamedTuple, Optional
 
 import yaml
 
-from ..faults import NOT_YET_CONDITION, UNSUPPORTED
+from ..faults import UNSUPPORTED
 from ..findings import NOTE, Finding
 from ..places import Source, spread, start_of
 from .nodes import Node, camel, get, key_of, mapping, pairs, plain, sequence, text, text_of, without
@@ -52,17 +52,8 @@ class Rewriting:
             "permissions": lambda rules: self._list(rules, PERMISSION),
             "principals": lambda rules: self._list(rules, PRINCIPAL),
         }
-        made = [(key, self._condition(_changed(value, fields))) for key, value in node.value]
+        made = [(key, _changed(value, fields)) for key, value in node.value]
         return yaml.MappingNode(node.tag, made, node.start_mark, node.end_mark)
-
-    def _condition(self, policy: Node) -> Node:
-        """A policy whose unchecked condition, which the engine does not take yet, stands as a checked one."""
-        condition = get(policy, "condition")
-        if not NOT_YET_CONDITION or condition is None or get(policy, "checked_condition") is not None:
-            return policy
-        self._note(key_of(policy, "condition"), "this condition is read as a checked_condition, which has a type")
-        checked = condition if get(condition, "text") is not None else mapping({"expr": condition}, condition)
-        return _with(without(policy, "condition"), "checked_condition", checked)
 
     def _list(self, node: Node, kind: Kind) -> Node:
         if not isinstance(node, yaml.SequenceNode):

@@ -1,5 +1,5 @@
-use Rattle.cel_tree.proofs.GoodConstantLaws.{checked_good}
+use Rattle.cel_tree.proofs.GoodConstantLaws.{expr_good}
 use Rattle.cel_tree.proofs.laws.constants_have_types.Goals as goal
 
 pub returns : goal.returns
-returns c = checked_good
+returns c = expr_good

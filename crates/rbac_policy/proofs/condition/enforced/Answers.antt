@@ -8,7 +8,7 @@ use Rattle.cel_compile.specs.Slots.{HasFewLocals}
 use Rattle.cel_compile.proofs.Forwards.{elaborated_code_is_forward}
 use Rattle.cel_compile.proofs.Placing.{extent_is}
 use Rattle.cel_compile.proofs.Short.{fitting_code}
-use Rattle.cel_tree.proofs.GoodConstantLaws.{checked_good}
+use Rattle.cel_tree.proofs.GoodConstantLaws.{expr_good}
 use Rattle.proto_wire.specs.declared.refusal.Refusal.TheVariants.{TooCostly, TooLarge}
 use Rattle.proto_wire.proofs.Exits.{exit_memory_or}
 use Rattle.stack_machine.specs.Typable.{Forward}
@@ -51,5 +51,5 @@ pub verified-requires : goal.verified-requires
 verified-requires c =
     let e : TypedTree = typed_view c.args.typed.now in
     let is_bool : kind e ≡ bool_type = rw c.cel_type.ensures at c.in_ok-require_bool.ensures.found in
-    let good = checked_good c.requires.0 c.requires.1 c.requires.2 in
+    let good = expr_good c.requires.0 c.requires.1 c.requires.2 in
     rw c.in_ok-code.ensures.found (subst (Forward (code_of 0 0 e)) is_bool (elaborated_code_is_forward c.requires.1 e good c.requires.3))

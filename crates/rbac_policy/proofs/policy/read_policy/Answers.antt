@@ -1,4 +1,4 @@
-use Rattle.std.proofs.Common.{ℕ, ◌≢◌, ◌++◌, refl, ◌⊎◌, inl, inr, List, [], ◌∷◌, map, option_map}
+use Rattle.std.proofs.Common.{ℕ, ◌++◌, refl, ◌⊎◌, inl, inr, List, [], ◌∷◌, map, option_map}
 use Rattle.attributes.specs.Limits.{LimitsValue}
 use Rattle.proto_wire.specs.Fields.{Wire, field_view}
 use Rattle.proto_wire.specs.Values.{payloads}
@@ -11,8 +11,9 @@ use Rattle.rbac_match.specs.View.{rules_view}
 use Rattle.rbac_match.specs.declared.rule.Side.TheVariants.{Permission, Principal}
 use Rattle.rbac_match.proofs.Adding.{goes_on_more, stays}
 use Rattle.rbac_policy.specs.Keys.{policy_keys, policy_field}
-use Rattle.rbac_policy.specs.Message.{rule_depth}
-use Rattle.rbac_policy.specs.Fault.{PolicyFault, policy_fields, lacks_side, both_conditions, unchecked, in_permission, in_principal}
+use Rattle.cel_tree.specs.Message.{ExprParts, ArePresent}
+use Rattle.rbac_policy.specs.Message.{rule_depth, condition_in}
+use Rattle.rbac_policy.specs.Fault.{PolicyFault, policy_fields, lacks_side, both_conditions, in_permission, in_principal}
 use Rattle.rbac_policy.specs.Named.{program_view}
 use Rattle.rbac_policy.specs.steps.Conditions.{ConditionFault, ConditionsFault, HasProgram}
 use Rattle.rbac_policy.proofs.Spending.{condition_fails}
@@ -28,16 +29,13 @@ returns-in_err-fields-clause-fault c =
     c.from_residual.result _ c.from_residual.ensures.1 c.in_err-fields.ensures.fault
     (λ e bad. inl (policy_fields bad))
 
-pub returns-in_err-refuse_unchecked-clause-fault : goal.returns-in_err-refuse_unchecked-clause-fault
-returns-in_err-refuse_unchecked-clause-fault c =
+pub returns-in_err-refuse_both-clause-fault : goal.returns-in_err-refuse_both-clause-fault
+returns-in_err-refuse_both-clause-fault c =
     let F = Fails c.args.name.now (parts_view c.args.parts.now) c.args.limits.now c.args.left in
     let fs : List Wire = map field_view c.in_ok-fields.fields.items in
-    let bad = rw c.deref.ensures at c.in_err-refuse_unchecked.ensures.fault in
-    exit_memory_or F F c.from_residual-in_err-refuse_unchecked.result _ c.from_residual-in_err-refuse_unchecked.ensures.1
-    (inr (inl (elim bad.1 [
-      | inl both ↦ both_conditions fs c.in_ok-fields.ensures.found.0 bad.0 both.1 both.0
-      | inr alone ↦ unchecked fs c.in_ok-fields.ensures.found.0 bad.0 alone.1 alone.0
-    ]))) (λ e fault. fault)
+    let bad = rw c.deref.ensures at c.in_err-refuse_both.ensures.fault in
+    exit_memory_or F F c.from_residual-in_err-refuse_both.result _ c.from_residual-in_err-refuse_both.ensures.1
+    (inr (inl (both_conditions fs c.in_ok-fields.ensures.found.0 bad.1 bad.2 bad.0))) (λ e fault. fault)
 
 pub returns-in_err-require_sides-clause-fault : goal.returns-in_err-require_sides-clause-fault
 returns-in_err-require_sides-clause-fault c =
@@ -67,8 +65,8 @@ returns-in_err-principals-clause-fault c =
 pub returns-in_err-condition-clause-fault : goal.returns-in_err-condition-clause-fault
 returns-in_err-condition-clause-fault c =
     let fs : List Wire = map field_view c.in_ok-fields.fields.items in
-    let given : List (List ℕ) = payloads policy_field.checked_condition fs in
-    exit_memory_or (λ e. (given ≢ []) × ConditionFault given c.args.limits.now c.args.left e) (Fails c.args.name.now (parts_view c.args.parts.now) c.args.limits.now c.args.left)
+    let given : ExprParts = condition_in fs in
+    exit_memory_or (λ e. ArePresent given × ConditionFault given c.args.limits.now c.args.left e) (Fails c.args.name.now (parts_view c.args.parts.now) c.args.limits.now c.args.left)
     c.from_residual-in_err-condition.result _ c.from_residual-in_err-condition.ensures.1
     (rw c.deref-5.ensures at c.in_err-condition.ensures.fault)
     (λ e bad. condition_fails c.args.limits.now c.args.name.now (parts_view c.args.parts.now) c.args.left e fs c.in_ok-fields.ensures.found.0 bad.0 bad.1)
@@ -76,7 +74,7 @@ returns-in_err-condition-clause-fault c =
 pub returns-clause-found : goal.returns-clause-found
 returns-clause-found c =
     let fs : List Wire = map field_view c.in_ok-fields.fields.items in
-    let has : HasProgram c.args.limits.now (payloads policy_field.checked_condition fs) (option_map program_view c.in_ok-condition.condition) =
+    let has : HasProgram c.args.limits.now (condition_in fs) (option_map program_view c.in_ok-condition.condition) =
     rw c.deref-5.ensures at c.in_ok-condition.ensures.found in
     let first = rw c.deref-3.ensures at c.in_ok-permissions.ensures.found in
     let second = rw c.deref-4.ensures at c.in_ok-principals.ensures.found in
@@ -89,7 +87,7 @@ returns-clause-found c =
       record {
         fs = fs;
         message = c.in_ok-fields.ensures.found;
-        unchecked = rw c.deref.ensures at c.in_ok-refuse_unchecked.ensures.found;
+        one = rw c.deref.ensures at c.in_ok-refuse_both.ensures.found;
         condition = has.1;
         sides = rw c.deref-2.ensures at c.in_ok-require_sides.ensures.found;
         permissions = stays c.read_side.new.list c.read_side-2.new.list more

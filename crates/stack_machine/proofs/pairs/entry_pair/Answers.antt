@@ -13,7 +13,7 @@ returns-then-index-entries c =
     ap Some (ap₂ (λ x y. (x, y))
     (c.of_value-key.ensures ∙ ap value (c.from.ensures ∙ ap value_of_key c.in_ok-copy.ensures))
     c.in_ok-value.ensures)
-    ∙ ap (option_map pair_answers) 
+    ∙ ap (option_map pair_answers)
     (sym (entry_pair_at c.args.entries.now c.args.index c.index-entries-index.result c.if-index-entries.true
     ∙ ap (λ e. Some (value (value_of_key (key_view e.0)), value_view e.1)) (sym c.index-entries-index.is)))
 

@@ -11,7 +11,7 @@ use Rattle.stack_machine.proofs.pairs.header_pair.Goals as goal
 
 pub returns-then-index-headers : goal.returns-then-index-headers
 returns-then-index-headers c =
-    ap (option_map pair_answers) 
+    ap (option_map pair_answers)
     (sym (text_pair_at c.args.headers.now c.args.index c.index-headers-index.result c.if-index-headers.true
     ∙ ap (λ h. Some (value (text (text_view h.0)), text (text_view h.1))) (sym c.index-headers-index.is)))
 

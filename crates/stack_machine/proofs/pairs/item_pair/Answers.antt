@@ -13,7 +13,7 @@ returns-then-index-items c =
     let e : zero + c.args.index ≡ c.args.index = omega arith in
     ap Some (ap₂ (λ x y. (x, y)) c.hold_index.ensures
     (c.in_ok-item.ensures ∙ ap (λ v. value (value_view v)) c.index-items-index.is))
-    ∙ ap (option_map pair_answers) 
+    ∙ ap (option_map pair_answers)
     (sym (item_pair_at zero c.args.items.now c.args.index c.index-items-index.result c.if-index-items.true
     ∙ ap (λ m. Some (int_answer (pos m), value_view (get_or c.args.items.now c.args.index c.index-items-index.result))) e))
 

@@ -1,7 +1,7 @@
 // cel_trees parses texts with cel-go. Each line of standard input is a JSON object with "text"; it is printed again with
 // "tree", the parsed google.api.expr.v1alpha1.Expr in hexadecimal, or with "fault", cel-go's message.
 //
-// tests/cel_trees.jsonl was made with cel-go 0.18.2.
+// tests/cel_trees.jsonl was made with cel-go 0.18.2, tests/cel_trees_two.jsonl with cel-go 0.30.0 and the tag newcel.
 package main
 
 import (
@@ -36,8 +36,11 @@ func parse(env *cel.Env, text string) line {
 	return line{Text: text, Tree: hex.EncodeToString(data)}
 }
 
+// options are those of newer versions alone.
+var options []cel.EnvOption
+
 func main() {
-	env, err := cel.NewEnv()
+	env, err := cel.NewEnv(options...)
 	if err != nil {
 		panic(err)
 	}

@@ -1,0 +1,63 @@
+"""Many requests by one process, where the engine's `judge` has `--batch`; a script stands for the engine here."""
+import os
+import pathlib
+import sys
+import tempfile
+import unittest
+
+from policies import engine
+
+SCRIPT = """#!%s -S
+import json, os, sys
+with open(os.environ["CALLS"], "a") as calls:
+    calls.write(" ".join(sys.argv[1:]) + "\\n")
+if "--help" in sys.argv:
+    print("rbacd judge --policy FILE [--batch]")
+    sys.exit()
+for number, line in enumerate(sys.stdin, 1):
+    asked = json.loads(line)
+    if set(asked) - {"head", "facts"} or not asked.get("facts", {"a": 1}):
+        print(json.dumps({"cause": "no such member", "line": number}))
+    elif "bad" in asked.get("facts", {}):
+        print(json.dumps({"cause": "unknown fact bad", "line": number}))
+    elif "é" in asked["head"]:
+        print(json.dumps({"cause": "no token", "head": 400}))
+    else:
+        print(json.dumps({"verdict": "allow", "policy": 0, "name": str(asked.get("facts")), "trials": []}))
+""" % sys.executable
+
+
+class Batch(unittest.TestCase):
+    """Runs of the script."""
+
+    def setUp(self):
+        self.room = tempfile.TemporaryDirectory()
+        self.program = pathlib.Path(self.room.name) / "rbacd"
+        self.program.write_text(SCRIPT)
+        self.program.chmod(0o755)
+        self.calls = pathlib.Path(self.room.name) / "calls"
+        os.environ["CALLS"] = str(self.calls)
+
+    def tearDown(self):
+        del os.environ["CALLS"]
+        self.room.cleanup()
+
+    def test_answers(self):
+        heads = [b"GET / HTTP/1.1\r\n\r\n", b"GET / HTTP/1.1\r\n\r\n", "GET /é HTTP/1.1\r\n\r\n".encode()]
+        requests = [engine.Request(heads[0], {}), engine.Request(heads[1], {"source.port": 1})]
+        requests += [engine.Request(heads[2], {}), engine.Request(heads[0], {"bad": 1})] + 997 * requests[:1]
+        with engine.Engine(self.program) as asked:
+            answers = asked.decisions(b"", requests, 40)
+        self.assertEqual([answers[0]["name"], answers[1]["name"]], ["None", "{'source.port': 1}"])
+        self.assertEqual(answers[2], {"cause": "no token", "head": 400})
+        self.assertEqual(answers[3], {"bad_facts": "unknown fact bad"})
+        self.assertEqual(len(answers), 1001)
+        calls = self.calls.read_text().splitlines()
+        self.assertEqual(len(calls), 2, "one process for all requests, after one that tells whether it can do so")
+        self.assertTrue(calls[1].endswith("--budget 40 --json --explain --batch"), calls[1])
+
+    def test_no_answer(self):
+        for words in ("sys.exit(2)", "print('no JSON'); print(2 * '{}'); sys.exit()"):
+            self.program.write_text(SCRIPT.replace("for number", words + "\nfor number"))
+            with engine.Engine(self.program) as asked, self.assertRaises(engine.NoEngine):
+                asked.decisions(b"", [engine.Request(b"", {})] * 2, 40)
