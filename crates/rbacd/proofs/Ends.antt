@@ -8,6 +8,7 @@ use Rattle.clap.specs.declared.error.kind.ErrorKind.TheVariants as kinds
 use Rattle.rbacd.proofs.JudgeLemmas.{less_found}
 use Rattle.rbacd.specs.Explain.{IsGiven}
 use Rattle.rbacd.specs.Judging.{IsDecision}
+use Rattle.rbacd.specs.steps.Ending.{EndsResult}
 use Rattle.rbacd.specs.steps.Printed.{IsPrintedFor, less_told, told_with}
 use Rattle.rbacd.specs.Run.{ComesTo, EndsConfig, EndsControl, EndsProxy, EndsReplay, EndsReport, Finds, IsStoppedBy, LacksConfig, LeavesFault, LeavesObject, PrintsReport, Ran, StopsBy, StopsControl, StopsProxy}
 use Rattle.rbacd.specs.Words.{AreMistaken, is_explained, is_json}
@@ -24,7 +25,7 @@ use Rattle.rbacd.specs.declared.job_fault.JobFault.TheVariants as faults
 use Rattle.rbacd.specs.declared.words.ControlWords.{ControlWords}
 use Rattle.rbacd.specs.declared.words.Job.{Job}
 use Rattle.rbacd.specs.declared.words.ProxyWords.{ProxyWords}
-use Rattle.rbacd.specs.declared.words.Job.TheVariants.{Check, CheckConfig, Control, Judge, Proxy, Replay}
+use Rattle.rbacd.specs.declared.words.Job.TheVariants.{Batch, Check, CheckConfig, Control, Judge, Proxy, Replay}
 
 -- nothing is given of what is no verdict
 nothing_given : {A : Type 0} → ⊥ ↔ (A × ⊥)
@@ -46,12 +47,13 @@ none_given (Err e) is = tt
 
 module _ (holds : List ℕ → List ℕ → Type 0) (lacks : (List ℕ × IoError) → Type 0) (input : Option (List ℕ)) where
   -- want of memory stops no job: it is an outcome
-  never_by_memory : (job : Job) → ¬ (IsStoppedBy holds lacks input job faults.Memory)
+  pub never_by_memory : (job : Job) → ¬ (IsStoppedBy holds lacks input job faults.Memory)
   never_by_memory (Check policy budget json) unread = unread
   never_by_memory (CheckConfig config) never = never
   never_by_memory (Replay config) never = never
   never_by_memory (Control words) never = never
   never_by_memory (Proxy words) never = never
+  never_by_memory (Batch words) never = never
   never_by_memory (Judge policy facts budget json explain) stops = elim stops [
     | StopsBy.no_policy unread ↦ unread
     | StopsBy.no_facts policy path read named unread ↦ unread
@@ -83,6 +85,7 @@ module _ (holds : List ℕ → List ℕ → Type 0) (lacks : (List ℕ × IoErro
   finds_less (Replay config) name explanation outcome finds = finds
   finds_less (Control words) name explanation outcome finds = finds
   finds_less (Proxy words) name explanation outcome finds = finds
+  finds_less (Batch words) name explanation outcome finds = finds
   finds_less (Judge policy facts budget json explain) name explanation outcome finds = record {
     policy = finds.policy;
     facts = finds.facts;
@@ -113,30 +116,30 @@ module _ (holds : List ℕ → List ℕ → Type 0) (lacks : (List ℕ × IoErro
   comes_told job report why comes = comes
 
   module _ (out out_new errors errors_new : Option (List ℕ)) (status : ℕ) (job : Job) where
-    -- it is the report that was printed
-    pub end_of_printed : (report told printed : Report) (why : Why)
-        → ComesTo holds lacks input job (Ok report) → told ≡ told_with why report → IsPrintedFor told printed
-        → PrintsReport out out_new errors errors_new status printed
+    -- the job ends with its result as it was printed
+    pub end_of_result : (found : Result Report JobFault) → ComesTo holds lacks input job found
+        → EndsResult out out_new errors errors_new status (is_json job) found
         → EndsReport holds lacks input out out_new errors errors_new status job
-    end_of_printed report told printed why comes is same left =
-        let comes_so = comes_told job report why comes in
-        EndsReport.ended (Ok printed) (comes_as job (told_with why report) printed comes_so (rw is at same)) left
+    end_of_result (Ok report) comes ends =
+        let comes_so = comes_told job report ends.why comes in
+        EndsReport.ended (Ok ends.printed) (comes_as job (told_with ends.why report) ends.printed comes_so ends.same) ends.left
+    end_of_result (Err fault) comes (inl left) = EndsReport.ended (Err fault) comes left
+    end_of_result (Err fault) comes (inr none) = EndsReport.memory none
 
-    -- and the fault that was told, or want of memory
-    pub end_of_told : (fault told : JobFault) → ComesTo holds lacks input job (Err fault)
-        → is_json job ≡ false → (told ≡ fault) ⊎ (told ≡ faults.Memory)
-        → LeavesFault out out_new errors errors_new status told
-        → EndsReport holds lacks input out out_new errors errors_new status job
-    end_of_told fault told comes words (inl same) left = EndsReport.ended (Err fault) comes (rw words (rw same at left))
-    end_of_told fault told comes words (inr none) left = EndsReport.memory (rw none at left)
+module _ (out out_new errors errors_new : Option (List ℕ)) (status : ℕ) (fault : JobFault) where
+  -- a fault is told in words, or want of memory
+  pub of_told : (told : JobFault) → (told ≡ fault) ⊎ (told ≡ faults.Memory)
+      → LeavesFault out out_new errors errors_new status told
+      → EndsResult out out_new errors errors_new status false (Err fault)
+  of_told told (inl same) left = inl (rw same at left)
+  of_told told (inr none) left = inr (rw none at left)
 
-    -- with JSON its object, or want of memory
-    pub end_of_object : (fault : JobFault) → ComesTo holds lacks input job (Err fault) → is_json job ≡ true
-        → LeavesObject out out_new errors errors_new status fault
-        ⊎ LeavesFault out out_new errors errors_new status faults.Memory
-        → EndsReport holds lacks input out out_new errors errors_new status job
-    end_of_object fault comes json (inl left) = EndsReport.ended (Err fault) comes (rw json left)
-    end_of_object fault comes json (inr none) = EndsReport.memory none
+  -- or with JSON
+  pub of_object : LeavesObject out out_new errors errors_new status fault
+      ⊎ LeavesFault out out_new errors errors_new status faults.Memory
+      → EndsResult out out_new errors errors_new status true (Err fault)
+  of_object (inl left) = inl left
+  of_object (inr none) = inr none
 
 module _ (holds : List ℕ → List ℕ → Type 0) (lacks : (List ℕ × IoError) → Type 0)
     (out out_new errors errors_new : Option (List ℕ)) (status : ℕ) where

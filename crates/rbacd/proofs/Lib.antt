@@ -8,6 +8,8 @@ mod StandardFacts
 mod JsonLemmas
 mod ConfigurationLemmas
 mod ReplayLemmas
+mod BatchLemmas
+mod BatchEnds
 mod PumpLemmas
 mod ControlPumpLemmas
 mod RoundLemmas

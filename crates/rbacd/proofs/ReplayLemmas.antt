@@ -30,7 +30,7 @@ printed_more (first ∷ calls) call =
     ∙ sym (append_assoc (answer_line first) (printed_of calls) (answer_line call))
 
 -- what was read of an input, where it is known
-read_more : (input now next : Option (List ℕ)) (lines : List (List ℕ)) (line : List ℕ)
+pub read_more : (input now next : Option (List ℕ)) (lines : List (List ℕ)) (line : List ℕ)
     → IfSome input (λ bytes. (left : List ℕ) × (now ≡ Some left) × AreLines bytes lines left)
     → ReadsLine now line next
     → IfSome input (λ bytes. (left : List ℕ) × (next ≡ Some left) × AreLines bytes (lines ++ line ∷ []) left)

@@ -8,7 +8,8 @@ use Rattle.clap.specs.Words.{Row, Text, subcommand_name_of, subcommand_rows_of}
 use Rattle.clap.specs.declared.parser.matches.ArgMatches.{ArgMatches}
 use Rattle.clap.specs.declared.parser.matches.ArgMatches.TheViews.{out-ArgMatches}
 use Rattle.rbacd.specs.declared.words.Job.{Job}
-use Rattle.rbacd.specs.declared.words.Job.TheVariants.{Check, CheckConfig, Control, Judge, Proxy, Replay}
+use Rattle.rbacd.specs.declared.words.Job.TheVariants.{Batch, Check, CheckConfig, Control, Judge, Proxy, Replay}
+use Rattle.rbacd.specs.declared.words.BatchWords.{BatchWords}
 use Rattle.rbacd.specs.declared.words.ControlWords.{ControlWords}
 use Rattle.rbacd.specs.declared.words.ProxyWords.{ProxyWords}
 use Rattle.rbacd.specs.Words.{IsJobOfRows, NamesNoJob, subcommand_name}
@@ -22,22 +23,25 @@ module _ (P : Job → Type 0) where
   pub of_check : ((policy : String Global) (budget : ℕ) (json : Bool) → P (Check policy budget json)) → (job : Job) → subcommand_name job ≡ codes "check" → P job
   of_check f (Check policy budget json) same = f policy budget json
   of_check f (Judge policy facts budget json explain) same = absurd (apart (codes "judge") (codes "check") refl same)
+  of_check f (Batch words) same = absurd (apart (codes "judge") (codes "check") refl same)
   of_check f (CheckConfig config) same = absurd (apart (codes "check-config") (codes "check") refl same)
   of_check f (Replay config) same = absurd (apart (codes "replay") (codes "check") refl same)
   of_check f (Control words) same = absurd (apart (codes "control") (codes "check") refl same)
   of_check f (Proxy words) same = absurd (apart (codes "proxy") (codes "check") refl same)
 
-  pub of_judge : ((policy : String Global) (facts : Option (String Global)) (budget : ℕ) (json explain : Bool) → P (Judge policy facts budget json explain)) → (job : Job) → subcommand_name job ≡ codes "judge" → P job
-  of_judge f (Check policy budget json) same = absurd (apart (codes "check") (codes "judge") refl same)
-  of_judge f (Judge policy facts budget json explain) same = f policy facts budget json explain
-  of_judge f (CheckConfig config) same = absurd (apart (codes "check-config") (codes "judge") refl same)
-  of_judge f (Replay config) same = absurd (apart (codes "replay") (codes "judge") refl same)
-  of_judge f (Control words) same = absurd (apart (codes "control") (codes "judge") refl same)
-  of_judge f (Proxy words) same = absurd (apart (codes "proxy") (codes "judge") refl same)
+  pub of_judge : ((policy : String Global) (facts : Option (String Global)) (budget : ℕ) (json explain : Bool) → P (Judge policy facts budget json explain)) → ((words : BatchWords) → P (Batch words)) → (job : Job) → subcommand_name job ≡ codes "judge" → P job
+  of_judge f g (Check policy budget json) same = absurd (apart (codes "check") (codes "judge") refl same)
+  of_judge f g (Judge policy facts budget json explain) same = f policy facts budget json explain
+  of_judge f g (Batch words) same = g words
+  of_judge f g (CheckConfig config) same = absurd (apart (codes "check-config") (codes "judge") refl same)
+  of_judge f g (Replay config) same = absurd (apart (codes "replay") (codes "judge") refl same)
+  of_judge f g (Control words) same = absurd (apart (codes "control") (codes "judge") refl same)
+  of_judge f g (Proxy words) same = absurd (apart (codes "proxy") (codes "judge") refl same)
 
   pub of_check_config : ((config : String Global) → P (CheckConfig config)) → (job : Job) → subcommand_name job ≡ codes "check-config" → P job
   of_check_config f (Check policy budget json) same = absurd (apart (codes "check") (codes "check-config") refl same)
   of_check_config f (Judge policy facts budget json explain) same = absurd (apart (codes "judge") (codes "check-config") refl same)
+  of_check_config f (Batch words) same = absurd (apart (codes "judge") (codes "check-config") refl same)
   of_check_config f (CheckConfig config) same = f config
   of_check_config f (Replay config) same = absurd (apart (codes "replay") (codes "check-config") refl same)
   of_check_config f (Control words) same = absurd (apart (codes "control") (codes "check-config") refl same)
@@ -46,6 +50,7 @@ module _ (P : Job → Type 0) where
   pub of_replay : ((config : String Global) → P (Replay config)) → (job : Job) → subcommand_name job ≡ codes "replay" → P job
   of_replay f (Check policy budget json) same = absurd (apart (codes "check") (codes "replay") refl same)
   of_replay f (Judge policy facts budget json explain) same = absurd (apart (codes "judge") (codes "replay") refl same)
+  of_replay f (Batch words) same = absurd (apart (codes "judge") (codes "replay") refl same)
   of_replay f (CheckConfig config) same = absurd (apart (codes "check-config") (codes "replay") refl same)
   of_replay f (Replay config) same = f config
   of_replay f (Control words) same = absurd (apart (codes "control") (codes "replay") refl same)
@@ -54,6 +59,7 @@ module _ (P : Job → Type 0) where
   pub of_control : ((words : ControlWords) → P (Control words)) → (job : Job) → subcommand_name job ≡ codes "control" → P job
   of_control f (Check policy budget json) same = absurd (apart (codes "check") (codes "control") refl same)
   of_control f (Judge policy facts budget json explain) same = absurd (apart (codes "judge") (codes "control") refl same)
+  of_control f (Batch words) same = absurd (apart (codes "judge") (codes "control") refl same)
   of_control f (CheckConfig config) same = absurd (apart (codes "check-config") (codes "control") refl same)
   of_control f (Replay config) same = absurd (apart (codes "replay") (codes "control") refl same)
   of_control f (Control words) same = f words
@@ -62,6 +68,7 @@ module _ (P : Job → Type 0) where
   pub of_proxy : ((words : ProxyWords) → P (Proxy words)) → (job : Job) → subcommand_name job ≡ codes "proxy" → P job
   of_proxy f (Check policy budget json) same = absurd (apart (codes "check") (codes "proxy") refl same)
   of_proxy f (Judge policy facts budget json explain) same = absurd (apart (codes "judge") (codes "proxy") refl same)
+  of_proxy f (Batch words) same = absurd (apart (codes "judge") (codes "proxy") refl same)
   of_proxy f (CheckConfig config) same = absurd (apart (codes "check-config") (codes "proxy") refl same)
   of_proxy f (Replay config) same = absurd (apart (codes "replay") (codes "proxy") refl same)
   of_proxy f (Control words) same = absurd (apart (codes "control") (codes "proxy") refl same)
@@ -104,6 +111,8 @@ pub no_subcommand : (m : ArgMatches) → (subcommand_name_of m ≡ Some (codes "
 no_subcommand m check judge check_config replay control proxy (Check policy budget json) held =
     false≢true (check (name_of_rows m (codes "check") held.0 held.1))
 no_subcommand m check judge check_config replay control proxy (Judge policy facts budget json explain) held =
+    false≢true (judge (name_of_rows m (codes "judge") held.0 held.1))
+no_subcommand m check judge check_config replay control proxy (Batch words) held =
     false≢true (judge (name_of_rows m (codes "judge") held.0 held.1))
 no_subcommand m check judge check_config replay control proxy (CheckConfig config) held =
     false≢true (check_config (name_of_rows m (codes "check-config") held.0 held.1))

@@ -8,6 +8,7 @@ pub mod Members
 pub mod Configuration
 pub mod Lines
 pub mod Replays
+pub mod Batches
 pub mod Pumps
 pub mod ControlPump
 pub mod Rounds

@@ -14,6 +14,7 @@ use Rattle.clap.specs.Words.{Text, kind_of}
 use Rattle.clap.specs.declared.error.kind.ErrorKind.{ErrorKind}
 use Rattle.clap.specs.declared.error.kind.ErrorKind.TheVariants as kinds
 use Rattle.rbac_policy.specs.Admission.{Admissible}
+use Rattle.proto_wire.specs.declared.refusal.Refusal.{Refusal}
 use Rattle.rbacd.specs.Explain.{IsGiven, untold_text}
 use Rattle.ads.specs.Config.{ConfigValue}
 use Rattle.clap.specs.declared.error.Error.{Error}
@@ -23,7 +24,8 @@ use Rattle.rbacd.specs.Facts.{IsFactsText, TellsNone}
 use Rattle.rbacd.specs.Replays.{IsReplayed, IsStopped}
 use Rattle.rbacd.specs.declared.replay.ReplayFault.{ReplayFault}
 use Rattle.rbacd.specs.declared.replay.ReplayFault.TheVariants as replay_faults
-use Rattle.rbacd.specs.Judging.{IsAllOf, IsCheckOf, IsDecision, IsOutcomeOf, plain_facts}
+use Rattle.rbacd.specs.Batches.{IsBatch, IsCutShort}
+use Rattle.rbacd.specs.Judging.{IsAllOf, IsCheckOf, IsDecision, IsOutcomeOf, IsRefusedFor, plain_facts}
 use Rattle.rbacd.specs.ControlPump.{ServesStream}
 use Rattle.serde_json.specs.Written.{compact_text}
 use Rattle.rbacd.specs.Json.{fault_json}
@@ -34,8 +36,9 @@ use Rattle.rbacd.specs.Words.{AreMistaken, IsJobOf, is_explained, is_json}
 use Rattle.rbacd.specs.declared.explain.Explanation.{Explanation}
 use Rattle.rbacd.specs.declared.explain.Explanation.TheVariants as explanations
 use Rattle.rbacd.specs.declared.words.Job.{Job}
+use Rattle.rbacd.specs.declared.words.BatchWords.{BatchWords}
 use Rattle.rbacd.specs.declared.words.ControlWords.{ControlWords}
-use Rattle.rbacd.specs.declared.words.Job.TheVariants.{Check, CheckConfig, Control, Judge, Proxy, Replay}
+use Rattle.rbacd.specs.declared.words.Job.TheVariants.{Batch, Check, CheckConfig, Control, Judge, Proxy, Replay}
 use Rattle.rbacd.specs.declared.words.ProxyWords.{ProxyWords}
 use Rattle.rbacd.specs.declared.outcome.Outcome.{Outcome}
 use Rattle.rbacd.specs.declared.outcome.Outcome.TheVariants as outcomes
@@ -241,7 +244,7 @@ abbrev pub TellsLine : Option Text → Option Text → ℕ → ℕ → Type 0
 TellsLine errors errors_new status number = ((status ≡ 5) × (errors_new ≡ errors))
     ⊎ ((status ≡ 6) × ((told : Text) × StartsWith told (bad_line number) × Takes errors errors_new told))
 
--- standard error and the status of a replay that ended before its input did. The answers until then are on standard
+-- standard error and the status of a replay or a batch that ended before its input did. The answers until then are on standard
 -- output
 abbrev pub LeavesReplay : Option Text → Option Text → ℕ → ReplayFault → Type 0
 LeavesReplay errors errors_new status (replay_faults.Line number cause) = TellsLine errors errors_new status number
@@ -257,6 +260,34 @@ module _ (holds : Text → Text → Type 0) (lacks : (Text × IoError) → Type 
     ended : (found : Result Report JobFault) → ComesTo holds lacks input job found
         → Leaves out out_new errors errors_new status (is_json job) found → EndsReport job
     memory : LeavesFault out out_new errors errors_new status faults.Memory → EndsReport job
+
+  -- parameters of a batch: its words
+  module _ (words : BatchWords) where
+    -- the heads are judged by this policy, which is admitted, and lines without facts have these
+    pub record IsBasis (policy : Text) (facts : Facts) : Type 0 where
+      pub read : holds (string_bytes words.policy) policy
+      pub conn : IsConnOf holds lacks (option_map string_bytes words.facts) facts
+      pub admissible : Admissible policy largest words.budget
+
+    -- why no line is read: the policy is refused, memory ran out, or a fault stops the job
+    abbrev pub IsNoBatch : Result Report JobFault → Type 0
+    IsNoBatch (Ok report) = (report.json ≡ words.json) × ((report.outcome ≡ outcomes.Memory)
+        ⊎ ((policy : Text) × (reason : Refusal) × holds (string_bytes words.policy) policy
+        × IsRefusedFor policy words.budget reason × (report.outcome ≡ outcomes.Refused reason)))
+    IsNoBatch (Err fault) =
+        StopsBy holds lacks (string_bytes words.policy) (option_map string_bytes words.facts) words.budget input fault
+
+    -- every line was answered; or a fault ended the batch after some lines, or before the first; or memory ran out
+    pub data EndsBatch : Type 0 where
+      whole : (policy : Text) (facts : Facts) (input_new : Option Text) → IsBasis policy facts
+          → IsBatch policy words.budget facts words.explain input out input_new out_new → status ≡ 0
+          → errors_new ≡ errors → EndsBatch
+      short : (policy : Text) (facts : Facts) (fault : ReplayFault) → IsBasis policy facts
+          → IsCutShort policy words.budget facts words.explain input out fault out_new
+          → LeavesReplay errors errors_new status fault → EndsBatch
+      none : (found : Result Report JobFault) → IsNoBatch found
+          → Leaves out out_new errors errors_new status words.json found → EndsBatch
+      memory : LeavesFault out out_new errors errors_new status faults.Memory → EndsBatch
 
 -- the file at this path holds a configuration, and its meaning is printed; or the fault is printed, or memory ran out
 module _ (holds : Text → Text → Type 0) (lacks : (Text × IoError) → Type 0)
@@ -391,6 +422,7 @@ module _ (holds : Text → Text → Type 0) (lacks : (Text × IoError) → Type 
       EndsReport holds lacks input out out_new errors errors_new status (Check policy budget json)
   EndsJob (Judge policy facts budget json explain) =
       EndsReport holds lacks input out out_new errors errors_new status (Judge policy facts budget json explain)
+  EndsJob (Batch words) = EndsBatch holds lacks input out out_new errors errors_new status words
   EndsJob (CheckConfig config) =
       EndsConfig holds lacks out out_new errors errors_new status (string_bytes config)
   EndsJob (Replay config) =

@@ -8,7 +8,7 @@ use Rattle.clap.specs.declared.builder.value_parser.ValueParser.TheVariants as p
 use Rattle.clap.specs.declared.error.kind.ErrorKind.{ErrorKind}
 use Rattle.clap.specs.declared.error.kind.ErrorKind.TheVariants.{ValueValidation}
 use Rattle.rbacd.specs.declared.words.Job.{Job}
-use Rattle.rbacd.specs.declared.words.Job.TheVariants.{Check, CheckConfig, Control, Judge, Proxy, Replay}
+use Rattle.rbacd.specs.declared.words.Job.TheVariants.{Batch, Check, CheckConfig, Control, Judge, Proxy, Replay}
 
 -- `--policy FILE`, required
 abbrev pub policy_rule : Rule
@@ -45,6 +45,13 @@ json_rule = record (new_rule (codes "json")) {
 abbrev pub explain_rule : Rule
 explain_rule = record (new_rule (codes "explain")) {
   long = Some (codes "explain");
+  action = Some SetTrue;
+}
+
+-- `--batch`
+abbrev pub batch_rule : Rule
+batch_rule = record (new_rule (codes "batch")) {
+  long = Some (codes "batch");
   action = Some SetTrue;
 }
 
@@ -108,10 +115,10 @@ rounds_rule = record (new_rule (codes "rounds")) {
 abbrev pub check_app : App
 check_app = with_rule (with_rule (with_rule (new_app (codes "check")) policy_rule) budget_rule) json_rule
 
--- `judge --policy FILE [--facts FILE] [--budget N] [--json] [--explain]`
+-- `judge --policy FILE [--facts FILE] [--budget N] [--json] [--explain] [--batch]`
 abbrev pub judge_app : App
-judge_app = with_rule (with_rule (with_rule (with_rule (with_rule (new_app (codes "judge")) policy_rule)
-    facts_rule) budget_rule) json_rule) explain_rule
+judge_app = with_rule (with_rule (with_rule (with_rule (with_rule (with_rule (new_app (codes "judge")) policy_rule)
+    facts_rule) budget_rule) json_rule) explain_rule) batch_rule
 
 -- `check-config --config FILE`
 abbrev pub check_config_app : App
@@ -171,7 +178,11 @@ IsJobOfRows rows (Judge policy facts budget json explain) =
     (first_of (codes "policy") rows ≡ Some (string_bytes policy))
     × (first_of (codes "facts") rows ≡ option_map string_bytes facts)
     × IsBudgetOf rows budget × HasFlag (codes "json") rows json
-    × HasFlag (codes "explain") rows explain
+    × HasFlag (codes "explain") rows explain × HasFlag (codes "batch") rows false
+IsJobOfRows rows (Batch words) = (first_of (codes "policy") rows ≡ Some (string_bytes words.policy))
+    × (first_of (codes "facts") rows ≡ option_map string_bytes words.facts)
+    × IsBudgetOf rows words.budget × HasFlag (codes "json") rows words.json
+    × HasFlag (codes "explain") rows words.explain × HasFlag (codes "batch") rows true
 IsJobOfRows rows (CheckConfig config) = first_of (codes "config") rows ≡ Some (string_bytes config)
 IsJobOfRows rows (Replay config) = first_of (codes "config") rows ≡ Some (string_bytes config)
 IsJobOfRows rows (Control words) = (first_of (codes "listen") rows ≡ Some (string_bytes words.listen))
@@ -189,6 +200,7 @@ IsJobOfRows rows (Proxy words) = (first_of (codes "config") rows ≡ Some (strin
 abbrev pub subcommand_name : Job → Text
 subcommand_name (Check policy budget json) = codes "check"
 subcommand_name (Judge policy facts budget json explain) = codes "judge"
+subcommand_name (Batch words) = codes "judge"
 subcommand_name (CheckConfig config) = codes "check-config"
 subcommand_name (Replay config) = codes "replay"
 subcommand_name (Control words) = codes "control"

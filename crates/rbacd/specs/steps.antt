@@ -3,4 +3,6 @@ pub mod Reading
 pub mod Judged
 pub mod Printed
 pub mod Replaying
+pub mod Batching
+pub mod Ending
 pub mod Pumping

@@ -124,7 +124,7 @@ fn print_unexplained<W: Write>(alloc: Global, report: Report, out: &mut W) -> io
 }
 
 /// The line that memory ran out, in words or as JSON.
-fn memory_line(json: bool) -> &'static [u8]
+pub(crate) fn memory_line(json: bool) -> &'static [u8]
     ensures { (report : Report) → report.json ≡ json
         → result.now ≡ printed_of (without_memory report) }
 {
@@ -198,9 +198,29 @@ fn head_finding<R: Read + Drop>(
 {
     let mut input = input;
     let found = read_ask(alloc, admitted.limits(), conn, &mut input)?;
-    let outcome = outcome_of_ask(admitted, &found);
+    Ok(finding_of_ask(alloc, admitted, &found, explain)?)
+}
+
+/// The finding for what the bytes of an input ask.
+pub(crate) fn finding_of_ask(
+    alloc: Global,
+    admitted: &Admitted,
+    found: &Option<HeadAsk>,
+    explain: bool,
+) -> Result<Finding, AllocError>
+    requires { limits_view admitted.now ≡ largest }
+    ensures outcome { IfOk result (λ finding.
+        IsOutcomeOfAsk (filter_view admitted.now) found.now finding.outcome) }
+    ensures explanation { IfOk result (λ finding. IfJudge found.now
+        (λ request. IsExplanationOf (filter_view admitted.now) request finding.explanation)) }
+    ensures name { IfOk result (λ finding. IsNameOf (filter_view admitted.now) finding.outcome
+        (option_map string_bytes finding.name)) }
+    ensures given { IfOk result (λ finding.
+        IsGiven finding.explanation ↔ (IsTrue explain × IsDecision finding.outcome)) }
+{
+    let outcome = outcome_of_ask(admitted, found);
     let name = name_of(alloc, admitted, outcome)?;
-    let explanation = explanation_of_ask(alloc, admitted, &found, outcome, explain);
+    let explanation = explanation_of_ask(alloc, admitted, found, outcome, explain);
     Ok(Finding {
         outcome,
         name,

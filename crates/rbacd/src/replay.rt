@@ -67,7 +67,10 @@ pub fn replay<R: BufRead, W: Write>(
 }
 
 /// The next line of the input, with its line feed, if there is one.
-fn read_line<R: BufRead>(alloc: Global, input: &mut R) -> Result<Option<Vec<u8>>, ReplayFault>
+pub(crate) fn read_line<R: BufRead>(
+    alloc: Global,
+    input: &mut R,
+) -> Result<Option<Vec<u8>>, ReplayFault>
     ensures found { IfOk result (λ found.
         IsSomeLine (option_map (λ v. v.items) found) (R.remaining input.old) (R.remaining input.new)) }
     ensures fault { IfErr result (λ e. TurnFault e) }

@@ -1,31 +1,27 @@
 //! The program's whole run, from its words to its status.
-ghost use Rattle.std.specs.Prelude.{◌≡◌, ◌≢◌, ◌⊎◌, ◌↔◌, Err, IfErr, IfOk, IsTrue, Ok, map, option_map, string_bytes};
+ghost use Rattle.std.specs.Prelude.{◌≡◌, ◌⊎◌, ◌↔◌, IfErr, IfOk, IsTrue, map, option_map, string_bytes};
 ghost use Rattle.rbacd.specs.Explain.{IsGiven};
 ghost use Rattle.rbacd.specs.Judging.{IsDecision};
 ghost use Rattle.clap.specs.Words.{kind_of};
-ghost use Rattle.rbacd.specs.Run.{ComesTo, EndsJob, EndsReport, IsCheckedAs, IsJudgedAs, IsTold, IsUnread, Prints, Ran, StopsBy, TellsCause};
+ghost use Rattle.rbacd.specs.Run.{ComesTo, EndsJob, EndsReport, IsCheckedAs, IsJudgedAs, IsUnread, Ran, StopsBy};
 ghost use Rattle.rbacd.specs.Words.{IsReported, is_json};
-ghost use Rattle.rbacd.specs.steps.Judged.{MemoryOrStop, bare, report_with};
+ghost use Rattle.rbacd.specs.steps.Judged.{MemoryOrStop, bare};
 ghost use Rattle.rbacd.specs.declared.job_fault.JobFault.{JobFault};
 
-use crate::ending::{end_by, tell_output};
-use crate::explain::{Explanation, untold_text};
-use crate::fault_json::end_in_json;
+use crate::batch_job::run_batch;
+use crate::ending::end_by;
 use crate::files::Source;
 use crate::job_fault::JobFault;
-use crate::judge::{Finding, check_of, finding_of, print_report};
-use crate::meanings::{meaning_of, rule_of};
+use crate::judge::{Finding, check_of, finding_of};
 use crate::notes::Notes;
-use crate::outcome::{Outcome, Report};
-use crate::output::write_whole;
+use crate::outcome::Report;
 use crate::reading::{conn_of, read_file};
 use crate::recorded::Recorded;
+use crate::reporting::{end_result, report_of};
 use crate::serve::{run_control, run_proxy};
 use crate::settings::{check_config, replay_config};
 use crate::words::{Job, read_words};
 use clap::error::ErrorKind as WordsKind;
-use http_front::HeadFault;
-use proto_wire::Refusal;
 use std::alloc::Global;
 use std::convert::AsStr;
 use std::io::{BufRead, Read, Write};
@@ -79,6 +75,7 @@ fn run_named<F: Source + Net, R: BufRead + Drop, W: Write, E: Write>(
         Job::Replay { config } => replay_config(alloc, config.as_str(), files, input, out, errors),
         Job::Control(words) => run_control(alloc, &words, files, out, errors),
         Job::Proxy(words) => run_proxy(alloc, words, files, out, errors),
+        Job::Batch(words) => run_batch(alloc, words, files, input, out, errors),
         Job::Check {
             policy,
             budget,
@@ -133,20 +130,8 @@ fn run_reported<F: Source, R: Read + Drop, W: Write, E: Write>(
 {
     let mut notes = Notes::new(alloc);
     let json = is_json(&job);
-    match run_job(alloc, job, files, input, &mut notes) {
-        Ok(report) => {
-            let why = notes.why(alloc, report.outcome);
-            match print_report(alloc, report.told(why), out) {
-                Ok(printed) => {
-                    tell_below(&printed, &notes, errors);
-                    printed.outcome.status()
-                }
-                Err(cause) => tell_output(cause, errors),
-            }
-        }
-        Err(fault) if json => end_in_json(alloc, &fault, &notes, out, errors),
-        Err(fault) => end_by(alloc, &fault, &notes, out, errors),
-    }
+    let found = run_job(alloc, job, files, input, &mut notes);
+    end_result(alloc, found, json, &notes, out, errors)
 }
 
 /// Whether the job prints its outcome as JSON.
@@ -155,7 +140,11 @@ fn is_json(job: &Job) -> bool
 {
     match job {
         Job::Check { json, .. } | Job::Judge { json, .. } => *json,
-        Job::CheckConfig { .. } | Job::Replay { .. } | Job::Control(_) | Job::Proxy(_) => false,
+        Job::CheckConfig { .. }
+        | Job::Replay { .. }
+        | Job::Control(_)
+        | Job::Proxy(_)
+        | Job::Batch(_) => false,
     }
 }
 
@@ -198,22 +187,11 @@ fn run_job<F: Source, R: Read + Drop>(
             ),
             json,
         ),
-        Job::CheckConfig { .. } | Job::Replay { .. } | Job::Control(_) | Job::Proxy(_) => {
-            unreachable!()
-        }
-    }
-}
-
-/// The report of a job's finding. Out of memory becomes an outcome.
-fn report_of(found: Result<Finding, JobFault>, json: bool) -> Result<Report, JobFault>
-    ensures kept { IfOk found (λ finding. result ≡ Ok (report_with json finding)) }
-    ensures memory { found ≡ Err JobFault.Memory → result ≡ Ok (report_with json (bare Outcome.Memory)) }
-    ensures others { IfErr found (λ e. e ≢ JobFault.Memory → result ≡ Err e) }
-{
-    match found {
-        Ok(finding) => Ok(finding.report(json)),
-        Err(JobFault::Memory) => Ok(Finding::bare(Outcome::Memory).report(json)),
-        Err(fault) => Err(fault),
+        Job::CheckConfig { .. }
+        | Job::Replay { .. }
+        | Job::Control(_)
+        | Job::Proxy(_)
+        | Job::Batch(_) => { unreachable!() }
     }
 }
 
@@ -270,58 +248,5 @@ fn judge_files<F: Source, R: Read + Drop>(
             Ok(finding)
         }
         Err(cause) => Err(JobFault::Input(cause)),
-    }
-}
-
-/// Prints why an outcome is no verdict, or why a verdict is not explained, on standard error. A failure there is
-/// ignored.
-fn tell_below<E: Write>(report: &Report, notes: &Notes, errors: &mut E)
-    ensures { IsTold (E.contents errors.old) (E.contents errors.new) report.now.explanation
-        report.now.outcome }
-{
-    match report.outcome {
-        Outcome::Refused(refusal) => tell_refusal(refusal, notes, errors),
-        Outcome::Fault(fault) => tell_head(fault, notes, errors),
-        Outcome::Admitted { .. }
-        | Outcome::Allowed(_)
-        | Outcome::Denied(_)
-        | Outcome::OutOfSteps
-        | Outcome::Memory => tell_untold(&report.explanation, errors),
-    }
-}
-
-/// Prints why there is no explanation, if one was asked for.
-fn tell_untold<E: Write>(explanation: &Explanation, errors: &mut E)
-    ensures { TellsCause (E.contents errors.old) (E.contents errors.new) explanation.now }
-{
-    match explanation {
-        Explanation::Absent => {}
-        Explanation::Trials(_) => {}
-        Explanation::Untold(cause) => {
-            let _ = write_whole(errors, untold_text(*cause));
-        }
-    }
-}
-
-/// Prints the rule that a head breaks, and the part that exceeds its limit.
-fn tell_head<E: Write>(fault: HeadFault, notes: &Notes, errors: &mut E) {
-    let _ = writeln!(errors, "  {}", rule_of(fault));
-    if let Some(cause) = &notes.head {
-        let _ = writeln!(errors, "  {cause}");
-    }
-}
-
-/// Prints the meaning of the refusal, the part of the policy file that has the fault, and what the file looks like.
-fn tell_refusal<E: Write>(refusal: Refusal, notes: &Notes, errors: &mut E) {
-    let _ = writeln!(errors, "  {}", meaning_of(refusal));
-    if let Some(place) = &notes.place {
-        let _ = writeln!(errors, "  {place}: {refusal}");
-    }
-    if let Some(likeness) = notes.policy {
-        let _ = writeln!(
-            errors,
-            "  the policy file looks like {likeness}; it has to be one binary message \
-             envoy.extensions.filters.http.rbac.v3.RBAC"
-        );
     }
 }

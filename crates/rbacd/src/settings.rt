@@ -85,8 +85,8 @@ pub(crate) fn replay_config<F: Source, R: BufRead + Drop, W: Write, E: Write>(
     }
 }
 
-/// Prints why a replay ended before its input did. Returns the status.
-fn end_replay<E: Write>(alloc: Global, fault: ReplayFault, errors: &mut E) -> u8
+/// Prints why a replay or a batch ended before its input did. Returns the status.
+pub(crate) fn end_replay<E: Write>(alloc: Global, fault: ReplayFault, errors: &mut E) -> u8
     ensures { LeavesReplay (E.contents errors.old) (E.contents errors.new) result fault }
 {
     match fault {

@@ -42,6 +42,8 @@ pub enum Job {
         /// Whether the policies that were tried are shown.
         explain: bool,
     },
+    /// `judge --batch` with the other words of `judge`: judges the heads in the lines of standard input.
+    Batch(BatchWords),
     /// `check-config --config FILE`: prints the meaning of a configuration.
     CheckConfig {
         /// The path of the configuration.
@@ -57,6 +59,21 @@ pub enum Job {
     /// `proxy --config FILE --control ADDR --listen ADDR --rounds N [--facts FILE] [--log FILE]`: judges the requests
     /// of connections.
     Proxy(ProxyWords),
+}
+
+/// By what a batch is judged, and how it is answered.
+#[derive(Drop)]
+pub struct BatchWords {
+    /// The path of the policy file.
+    pub policy: String,
+    /// The path of the file with the facts of lines that have none, if there is one.
+    pub facts: Option<String>,
+    /// The budget of the policy's conditions in steps, from 1 to `MOST_BUDGET`.
+    pub budget: u64,
+    /// Whether a refusal of the policy, or a fault of the files, is printed as JSON.
+    pub json: bool,
+    /// Whether the policies that were tried are shown.
+    pub explain: bool,
 }
 
 /// What a control plane serves, and where.
@@ -176,6 +193,16 @@ fn judge_job(alloc: Global, matches: &ArgMatches<'_>) -> Result<Option<Job>, All
     let facts = text_of(alloc, matches, "facts")?;
     let json = has_flag(matches, "json");
     let explain = has_flag(matches, "explain");
+    let batched = has_flag(matches, "batch");
+    if batched {
+        return Ok(Some(Job::Batch(BatchWords {
+            policy,
+            facts,
+            budget,
+            json,
+            explain,
+        })));
+    }
     Ok(Some(Job::Judge {
         policy,
         facts,

@@ -165,6 +165,8 @@ class Engine:
         given = "".join(map(_batch_line, requests)).encode()
         ran = self._run(words + ["--batch"], given, PATIENCE + len(requests) // REQUESTS_A_SECOND)
         lines = ran.stdout.decode(errors="replace").splitlines()
+        if ran.returncode == 1:  # the filter is refused, which is told once
+            lines = lines[:1] * len(requests)
         if len(lines) != len(requests):
             raise NoEngine(f"{self.program} answered {len(lines)} of {len(requests)} requests: {_first(ran.stderr)}")
         return [_batch_answer(line, self.program) for line in lines]

@@ -17,3 +17,6 @@ returns-in-Control g c = rw c.in-Control.is c.run_control.ensures
 
 pub returns-in-Proxy : goal.returns-in-Proxy
 returns-in-Proxy g c = rw c.in-Proxy.is c.run_proxy.ensures
+
+pub returns-in-Batch : goal.returns-in-Batch
+returns-in-Batch g c = rw c.in-Batch.is c.run_batch.ensures

@@ -1,0 +1,124 @@
+-- A batch: request heads as lines with JSON objects (RFC 8259 section 4), and the answer to each. The names are this
+-- project's own.
+use Rattle.std.specs.Prelude.{◌≡◌, ◌⊎◌, ◌↔◌, ◌≢◌, ◌++◌, ◌+◌, ⊤, ℕ, Bool, true, List, [], ◌∷◌, IfSome, IsTrue, IsUtf8, Option, Some, None, codes, option_map, string_bytes}
+use Rattle.std.specs.Io.KnownBytes.{Appends}
+use Rattle.std.specs.IoError.{error_kind}
+use Rattle.std.specs.List.{flat_map}
+use Rattle.std.specs.declared.io.ErrorKind.{ErrorKind as IoKind}
+use Rattle.attributes.specs.Conn.{Facts}
+use Rattle.attributes.specs.Limits.{FactsInLimits, largest}
+use Rattle.serde_json.specs.Data.{Data, number, unsigned, string, object, member, no_members}
+use Rattle.serde_json.specs.Find.{get}
+use Rattle.serde_json.specs.Read.{read}
+use Rattle.serde_json.specs.Written.{compact_text}
+use Rattle.rbacd.specs.Explain.{IsGiven}
+use Rattle.rbacd.specs.Facts.{AreFacts}
+use Rattle.rbacd.specs.Judging.{IsDecision, IsOutcomeOf}
+use Rattle.rbacd.specs.Members.{HasOnly}
+use Rattle.rbacd.specs.Outcome.{printed_of}
+use Rattle.rbacd.specs.Output.{BreaksOff, Takes}
+use Rattle.rbacd.specs.Replays.{AreLines}
+use Rattle.rbacd.specs.declared.outcome.Outcome.TheVariants as outcomes
+use Rattle.rbacd.specs.declared.outcome.Report.{Report}
+use Rattle.rbacd.specs.declared.replay.ReplayFault.{ReplayFault}
+use Rattle.rbacd.specs.declared.replay.ReplayFault.TheVariants as faults
+
+-- the names of the members that the object of a line may have
+abbrev pub head_names : List (List ℕ)
+head_names = codes "head" ∷ codes "facts" ∷ []
+
+-- the value means these facts; if there is no value, the facts are `absent`
+abbrev pub AreFactsOr : Facts → Option Data → Facts → Type 0
+AreFactsOr absent None facts = facts ≡ absent
+AreFactsOr absent (Some d) facts = AreFacts d facts
+
+-- the value is an object with this head and these facts
+pub record IsHead (absent : Facts) (d : Data) (head : List ℕ) (facts : Facts) : Type 0 where
+  pub names : HasOnly head_names d
+  pub text : get (codes "head") d ≡ Some (string head)
+  pub conn : AreFactsOr absent (get (codes "facts") d) facts
+
+-- the bytes are the JSON text of an object with this head and these facts
+abbrev pub IsHeadText : Facts → List ℕ → List ℕ → Facts → Type 0
+IsHeadText absent line head facts = IsUtf8 line × ((d : Data) × (read line ≡ Some d) × IsHead absent d head facts)
+
+-- the line has no head, or its facts are not within the limits
+abbrev pub HasNoHead : Facts → List ℕ → Type 0
+HasNoHead absent line = ((head : List ℕ) (facts : Facts) → ¬ IsHeadText absent line head facts)
+    ⊎ ((head : List ℕ) × (facts : Facts) × IsHeadText absent line head facts × ¬ FactsInLimits facts largest)
+
+-- the answer to a line: the report on its head; or the number of a line that has none, with the cause
+pub data Answer : Type 0 where
+  judged : Report → Answer
+  bad : ℕ → List ℕ → Answer
+
+-- the object of a line that has no head
+abbrev pub bad_json : ℕ → List ℕ → Data
+bad_json n cause =
+    object (member (codes "cause") (string cause) (member (codes "line") (number (unsigned n)) no_members))
+
+-- the line that is printed for an answer
+abbrev pub answer_text : Answer → List ℕ
+answer_text (judged report) = printed_of report
+answer_text (bad n cause) = compact_text (bad_json n cause) ++ 10 ∷ []
+
+-- the lines that are printed for answers, in order
+abbrev pub answers_text : List Answer → List ℕ
+answers_text = flat_map answer_text
+
+-- what was printed of some answers when this fault ended a batch: all if the input failed, not all if the output did
+abbrev pub LeavesAnswers : Option (List ℕ) → Option (List ℕ) → List ℕ → ReplayFault → Type 0
+LeavesAnswers out out_new text (faults.Line n cause) = ⊥
+LeavesAnswers out out_new text (faults.Input cause) =
+    (error_kind cause ≢ IoKind.OutOfMemory) × Appends out out_new text
+LeavesAnswers out out_new text (faults.Output cause) = BreaksOff out out_new text
+LeavesAnswers out out_new text faults.Memory = Takes out out_new text
+
+-- parameters: a policy, its budget, the facts of a line that has none, and whether verdicts are explained
+module _ (policy : List ℕ) (budget : ℕ) (absent : Facts) (explain : Bool) where
+  -- the line has a head with facts within the limits, and the report is that of the policy, the head and its facts
+  pub record IsReportOn (line : List ℕ) (report : Report) : Type 0 where
+    pub head : List ℕ
+    pub facts : Facts
+    pub told : IsHeadText absent line head facts
+    pub fits : FactsInLimits facts largest
+    pub found : IsOutcomeOf policy budget facts head (option_map string_bytes report.name) report.explanation report.outcome
+    pub given : IsGiven report.explanation ↔ (IsTrue explain × IsDecision report.outcome)
+
+  -- the answer to the line of this number. It is the report on the line's head, as JSON, or that memory ran out; or the
+  -- line has no head
+  abbrev pub IsAnswer : ℕ → List ℕ → Answer → Type 0
+  IsAnswer n line (judged report) =
+      (report.json ≡ true) × ((report.outcome ≡ outcomes.Memory) ⊎ IsReportOn line report)
+  IsAnswer n line (bad told cause) = (told ≡ n) × HasNoHead absent line
+
+  -- the answers to the lines, one for each, in order; the first line has the number `n`
+  abbrev pub AreAnswers : ℕ → List (List ℕ) → List Answer → Type 0
+  AreAnswers n [] [] = ⊤
+  AreAnswers n [] (answer ∷ answers) = ⊥
+  AreAnswers n (line ∷ lines) [] = ⊥
+  AreAnswers n (line ∷ lines) (answer ∷ answers) = IsAnswer n line answer × AreAnswers (n + 1) lines answers
+
+  -- these lines of the input were read, and these are their answers
+  pub record Answered (input : Option (List ℕ)) (lines : List (List ℕ)) (answers : List Answer)
+      (input_new : Option (List ℕ)) : Type 0 where
+    pub right : AreAnswers 1 lines answers
+    pub taken : IfSome input (λ bytes. (left : List ℕ) × (input_new ≡ Some left) × AreLines bytes lines left)
+
+  -- parameters: an input, and the bytes `out` that the output had before
+  module _ (input out : Option (List ℕ)) where
+    -- every line was read, the answers were printed, and the input is at its end
+    pub record IsBatch (input_new out_new : Option (List ℕ)) : Type 0 where
+      pub lines : List (List ℕ)
+      pub answers : List Answer
+      pub answered : Answered input lines answers input_new
+      pub end : IfSome input (λ bytes. input_new ≡ Some [])
+      pub printed : Appends out out_new (answers_text answers)
+
+    -- some lines were read and have answers, and then this fault ended the batch
+    pub record IsCutShort (fault : ReplayFault) (out_new : Option (List ℕ)) : Type 0 where
+      pub lines : List (List ℕ)
+      pub answers : List Answer
+      pub between : Option (List ℕ)
+      pub answered : Answered input lines answers between
+      pub printed : LeavesAnswers out out_new (answers_text answers) fault

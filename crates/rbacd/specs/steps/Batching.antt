@@ -1,0 +1,84 @@
+-- The effects of single steps of a batch.
+use Rattle.std.specs.Prelude.{◌≡◌, ◌⊎◌, ◌↔◌, true, ℕ, Bool, IsTrue, List, Option, option_map, string_bytes}
+use Rattle.std.specs.declared.io.Error.{Error as IoError}
+use Rattle.attributes.specs.Conn.{Facts, conn_view}
+use Rattle.attributes.specs.Limits.{FactsInLimits, largest}
+use Rattle.cel_tree.specs.Checked.{CelChecked}
+use Rattle.rbac_policy.specs.Admission.{Admits}
+use Rattle.rbac_policy.specs.Condition.{Program}
+use Rattle.rbac_policy.specs.Filter.{Filter}
+use Rattle.serde_json.specs.Data.{Data}
+use Rattle.rbac_policy.specs.Admitted.{filter_view, limits_view}
+use Rattle.rbacd.specs.Batches.{Answer, IsAnswer, IsBatch, IsCutShort, IsHead, IsReportOn, answer_text}
+use Rattle.rbacd.specs.Explain.{IsGiven}
+use Rattle.rbacd.specs.Judging.{IsDecision, IsRefusedFor}
+use Rattle.rbacd.specs.Run.{IsConnOf, LeavesFault, LeavesReplay}
+use Rattle.rbacd.specs.steps.Judged.{IsNameOf, IsOutcomeUnder}
+use Rattle.rbacd.specs.declared.batch.Basis.{Basis}
+use Rattle.rbacd.specs.declared.batch_job.Start.{Start}
+use Rattle.rbacd.specs.declared.batch_job.Start.TheVariants.{Ready, Refused}
+use Rattle.rbacd.specs.declared.job_fault.JobFault.TheVariants as faults
+use Rattle.rbacd.specs.declared.outcome.Report.{Report}
+use Rattle.rbacd.specs.declared.replay.ReplayFault.{ReplayFault}
+use Rattle.rbacd.specs.declared.words.BatchWords.{BatchWords}
+
+-- what holds of each policy that is admitted as this filter
+abbrev pub OfPolicies : Filter Program → (List ℕ → ℕ → Type 0) → Type 0
+OfPolicies enforced P =
+    (policy : List ℕ) (budget : ℕ) (filter : Filter CelChecked) → Admits policy largest budget filter enforced → P policy budget
+
+-- the value has no head, or its facts are not within the limits
+abbrev pub LacksHead : Facts → Data → Type 0
+LacksHead absent d = ((head : List ℕ) (facts : Facts) → ¬ IsHead absent d head facts)
+    ⊎ ((head : List ℕ) × (facts : Facts) × IsHead absent d head facts × ¬ FactsInLimits facts largest)
+
+-- parameters: a filter, and whether verdicts are explained
+module _ (enforced : Filter Program) (explain : Bool) where
+  -- the report is that of the filter on this head, as JSON
+  pub record IsReportOf (head : List ℕ) (facts : Facts) (report : Report) : Type 0 where
+    pub json : report.json ≡ true
+    pub under : IsOutcomeUnder enforced facts head report.explanation report.outcome
+    pub named : IsNameOf enforced report.outcome (option_map string_bytes report.name)
+    pub given : IsGiven report.explanation ↔ (IsTrue explain × IsDecision report.outcome)
+
+  -- the value has a head, and the report is that of the filter on it
+  pub record IsReportAt (absent : Facts) (d : Data) (report : Report) : Type 0 where
+    pub head : List ℕ
+    pub facts : Facts
+    pub told : IsHead absent d head facts
+    pub fits : FactsInLimits facts largest
+    pub is : IsReportOf head facts report
+
+  -- the report is as JSON, and that of each policy that is admitted as the filter on the head of the line
+  abbrev pub IsReportUnder : Facts → List ℕ → Report → Type 0
+  IsReportUnder absent line report = (report.json ≡ true)
+      × OfPolicies enforced (λ policy budget. IsReportOn policy budget absent explain line report)
+
+  -- the text is the answer to the line of this number, under each policy that is admitted as the filter
+  pub record IsAnsweredBy (absent : Facts) (n : ℕ) (line text : List ℕ) : Type 0 where
+    pub answer : Answer
+    pub same : text ≡ answer_text answer
+    pub right : OfPolicies enforced (λ policy budget. IsAnswer policy budget absent explain n line answer)
+
+-- parameters: a source of files, and the words of a batch
+module _ (holds : List ℕ → List ℕ → Type 0) (lacks : (List ℕ × IoError) → Type 0) (words : BatchWords) where
+  -- the policy file is admitted as the filter, and the connection has the facts of the facts file. Or the policy file is
+  -- refused for this reason
+  abbrev pub IsBegunBy : Start → Type 0
+  IsBegunBy (Ready basis) = (policy : List ℕ) × (filter : Filter CelChecked) × holds (string_bytes words.policy) policy
+      × IsConnOf holds lacks (option_map string_bytes words.facts) (conn_view basis.conn)
+      × Admits policy largest words.budget filter (filter_view basis.admitted)
+      × (limits_view basis.admitted ≡ largest) × (basis.explain ≡ words.explain)
+  IsBegunBy (Refused reason) = (policy : List ℕ) × holds (string_bytes words.policy) policy
+      × IsRefusedFor policy words.budget reason
+
+-- the lines of the input were answered, up to its end or to a fault; or memory ran out before
+module _ (basis : Basis) (input out out_new errors errors_new : Option (List ℕ)) (status : ℕ) where
+  pub data EndsLines : Type 0 where
+    whole : (input_new : Option (List ℕ)) → OfPolicies (filter_view basis.admitted) (λ policy budget.
+        IsBatch policy budget (conn_view basis.conn) basis.explain input out input_new out_new)
+        → status ≡ 0 → errors_new ≡ errors → EndsLines
+    short : (fault : ReplayFault) → OfPolicies (filter_view basis.admitted) (λ policy budget.
+        IsCutShort policy budget (conn_view basis.conn) basis.explain input out fault out_new)
+        → LeavesReplay errors errors_new status fault → EndsLines
+    memory : LeavesFault out out_new errors errors_new status faults.Memory → EndsLines
