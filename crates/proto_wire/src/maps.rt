@@ -1,6 +1,6 @@
 //! Maps: repeated entries, each with a key 1 and a value 2 (Protocol Buffers encoding guide, "Maps").
 
-ghost use Rattle.std.specs.Prelude.{◌≡◌, [], ◌∷◌, List, T, true, Err, IfOk, IfErr, OnOk, MatchBool, MatchResult, map};
+ghost use Rattle.std.specs.Prelude.{◌≡◌, ◌++◌, [], ◌∷◌, List, T, true, Err, IfOk, IfErr, OnOk, MatchBool, MatchResult, map};
 ghost use Rattle.std.specs.FinMap.{entries, is_sorted};
 ghost use Rattle.std.specs.FinMap.Entries.{put};
 ghost use Rattle.proto_wire.specs.Fields.{field_view};
@@ -146,9 +146,24 @@ fn read_each<'a, K: MapKey<'a>>(
     let mut entries = Vec::new(alloc);
     for payload in payloads {
         let entry = read_entry(alloc, payload)?;
-        entries.push(entry)?;
+        add_entry(&mut entries, entry, payloads.len())?;
     }
     Ok(entries)
+}
+
+/// Appends an entry to those that are read. Before the first, makes room for `room` entries.
+fn add_entry<'a, K: MapKey<'a>>(
+    entries: &mut Vec<MapEntry<'a, K>>,
+    entry: MapEntry<'a, K>,
+    room: usize,
+) -> Result<(), AllocError>
+    ensures { OnOk result (entries.new.items ≡ entries.old.items ++ entry.entry ∷ []) }
+{
+    if entries.is_empty() {
+        entries.reserve_exact(room)?;
+    }
+    entries.push(entry)?;
+    Ok(())
 }
 
 /// Reads one entry from its payload.

@@ -1,6 +1,7 @@
 //! All fields of a message, and messages whose fields must all be known.
 
 ghost use Rattle.std.specs.Prelude.{◌≡◌, ◌<◌, ◌++◌, List, [], ◌∷◌, Err, map, IfOk, IfErr, OnOk, MatchResult};
+ghost use Rattle.smallvec.specs.SmallVec.{HasRoomFor};
 ghost use Rattle.proto_wire.specs.Fields.{Wire, Fields, IsBroken, field_view};
 ghost use Rattle.proto_wire.specs.Keys.{AllKnown, SomeUnknown};
 ghost use Rattle.proto_wire.specs.Merge.{Merges, FirstBreaks, parts_view};
@@ -12,7 +13,7 @@ use crate::key::{Key, all_known};
 use crate::reader::Reader;
 use crate::refusal::Refusal;
 use smallvec::SmallVec;
-use std::alloc::Global;
+use std::alloc::{AllocError, Global};
 
 /// The fields of a message. Up to three are in the list itself; more are on the heap.
 pub type MessageFields<'a> = SmallVec<Field<'a>, 3>;
@@ -98,7 +99,30 @@ fn append_fields<'a>(bytes: &'a [u8], fields: &mut MessageFields<'a>) -> Result<
 {
     let mut reader = Reader::new(bytes);
     while let Some(field) = reader.next()? {
-        fields.push(field)?;
+        add_field(fields, field)?;
     }
     Ok(())
+}
+
+/// Appends a field.
+#[inline(always)]
+fn add_field<'a>(fields: &mut MessageFields<'a>, field: Field<'a>) -> Result<(), AllocError>
+    ensures { OnOk result (fields.new.items ≡ fields.old.items ++ field.entry ∷ []) }
+{
+    if fields.len() == fields.capacity() {
+        grow(fields)?;
+    }
+    fields.push_reserved(field);
+    Ok(())
+}
+
+/// Makes room for half as many fields again. Doubled, the list would take twice the memory that the
+/// fields of a hostile message need.
+#[cold]
+#[inline(never)]
+fn grow(fields: &mut MessageFields<'_>) -> Result<(), AllocError>
+    ensures items { fields.new.items ≡ fields.old.items }
+    ensures room { OnOk result (HasRoomFor fields.new 1) }
+{
+    fields.reserve_exact(fields.len() / 2 + 1)
 }

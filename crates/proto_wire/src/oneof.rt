@@ -48,14 +48,15 @@ pub fn member_run<'a>(
     let mut run = MemberRun::new(alloc);
     for field in fields {
         if is_known(field, keys) {
-            push_member(&mut run, *field)?;
+            push_member(&mut run, *field, fields.len())?;
         }
     }
     Ok(run)
 }
 
-/// Adds a member's field to the run if it has the run's number; otherwise begins a new run with it.
-fn push_member<'a>(run: &mut MemberRun<'a>, field: Field<'a>) -> Result<(), AllocError>
+/// Adds a member's field to the run if it has the run's number; otherwise begins a new run with it. Before it
+/// adds a second field to a run, it makes room for `room` more.
+fn push_member<'a>(run: &mut MemberRun<'a>, field: Field<'a>, room: usize) -> Result<(), AllocError>
     ensures { OnOk result (map field_view run.new.items
         ≡ run_with (map field_view run.old.items) (field_view field.entry)) }
 {
@@ -64,6 +65,9 @@ fn push_member<'a>(run: &mut MemberRun<'a>, field: Field<'a>) -> Result<(), Allo
         .is_some_and(|first| first.number != field.number)
     {
         run.clear();
+    }
+    if run.len() == 1 {
+        run.reserve_exact(room)?;
     }
     run.push(field)?;
     Ok(())

@@ -1,7 +1,7 @@
 //! The values of a message's fields: varints and LEN payloads by number, and singular scalars, which
 //! are the last of them.
 
-ghost use Rattle.std.specs.Prelude.{◌≡◌, ◌≢◌, ◌==◌, cond, [], ◌∷◌, map, Some, None, IfOk, IfErr, MatchBool, MatchOption, OnOk, IsUtf8};
+ghost use Rattle.std.specs.Prelude.{◌≡◌, ◌≢◌, ◌==◌, ◌++◌, cond, [], ◌∷◌, map, Some, None, IfOk, IfErr, MatchBool, MatchOption, OnOk, IsUtf8};
 ghost use Rattle.proto_wire.specs.Fields.{payload_view, field_view};
 ghost use Rattle.proto_wire.specs.Keys.{len_key, varint_key, is_known};
 ghost use Rattle.proto_wire.specs.Merge.{parts_view};
@@ -53,10 +53,40 @@ pub fn payloads_of<'a>(
     let mut parts = Payloads::new(alloc);
     for field in fields {
         if let Some(bytes) = len_of(field, number) {
-            parts.push(bytes)?;
+            add_payload(&mut parts, bytes, fields, number)?;
         }
     }
     Ok(parts)
+}
+
+/// Appends one of the payloads of this number in the fields. Before the second, makes room for all.
+#[inline(always)]
+fn add_payload<'a>(
+    parts: &mut Payloads<'a>,
+    bytes: &'a [u8],
+    fields: &[Field<'a>],
+    number: u32,
+) -> Result<(), AllocError>
+    ensures { OnOk result (parts.new.items ≡ parts.old.items ++ bytes.entry ∷ []) }
+{
+    if parts.len() == 1 {
+        parts.reserve_exact(payload_count(fields, number))?;
+    }
+    parts.push(bytes)?;
+    Ok(())
+}
+
+/// How many LEN fields have this number. No contract mentions it: it only says how much room to make.
+#[cold]
+#[inline(never)]
+fn payload_count(fields: &[Field<'_>], number: u32) -> usize {
+    let mut count: usize = 0;
+    for field in fields {
+        if len_of(field, number).is_some() {
+            count = count.saturating_add(1);
+        }
+    }
+    count
 }
 
 /// Whether there is a LEN field of this number.

@@ -27,7 +27,7 @@ pub record AreAnyFields (fs : List Wire) (m : AnyMessage) : Type 0 where
   pub type_url : IsString any_type_url_field fs m.type_url
   pub value : m.value ≡ bytes_at any_value_field fs
 
--- a fault of its fields
+-- these fields of an Any have this fault
 pub data AnyFieldsFault (fs : List Wire) (e : Refusal) : Type 0 where
   bad_any_type : StringFault any_type_url_field fs e → AnyFieldsFault fs e
 
@@ -59,7 +59,7 @@ pub record AreStatusFields (fs : List Wire) (m : StatusMessage) : Type 0 where
   pub code : m.code ≡ int32_at status_code_field fs
   pub message : IsString status_message_field fs m.message
 
--- a fault of its fields
+-- these fields of a Status have this fault
 pub data StatusFieldsFault (fs : List Wire) (e : Refusal) : Type 0 where
   bad_status_message : StringFault status_message_field fs e → StatusFieldsFault fs e
 
@@ -91,7 +91,7 @@ pub record AreNodeFields (fs : List Wire) (m : NodeMessage) : Type 0 where
   pub id : IsString node_id_field fs m.id
   pub cluster : IsString node_cluster_field fs m.cluster
 
--- a fault of its fields
+-- these fields of a Node have this fault
 pub data NodeFieldsFault (fs : List Wire) (e : Refusal) : Type 0 where
   bad_node_id : StringFault node_id_field fs e → NodeFieldsFault fs e
   bad_node_cluster : StringFault node_cluster_field fs e → NodeFieldsFault fs e
@@ -148,7 +148,7 @@ pub record AreRequestFields (fs : List Wire) (m : RequestMessage) : Type 0 where
   pub response_nonce : IsString request_response_nonce_field fs m.response_nonce
   pub error_detail : IsMerged IsStatus request_error_detail_field fs m.error_detail
 
--- a fault of its fields
+-- these fields of a DiscoveryRequest have this fault
 pub data RequestFieldsFault (fs : List Wire) (e : Refusal) : Type 0 where
   bad_request_version : StringFault request_version_info_field fs e → RequestFieldsFault fs e
   bad_request_node : MergedFault NodeFault request_node_field fs e → RequestFieldsFault fs e
@@ -197,7 +197,7 @@ pub record AreResponseFields (fs : List Wire) (m : ResponseMessage) : Type 0 whe
   pub type_url : IsString response_type_url_field fs m.type_url
   pub nonce : IsString response_nonce_field fs m.nonce
 
--- a fault of its fields
+-- these fields of a DiscoveryResponse have this fault
 pub data ResponseFieldsFault (fs : List Wire) (e : Refusal) : Type 0 where
   bad_response_version : StringFault response_version_info_field fs e → ResponseFieldsFault fs e
   bad_response_resource : RepeatedFault AnyFault response_resources_field fs e → ResponseFieldsFault fs e
@@ -232,7 +232,7 @@ pub record AreExtensionFields (fs : List Wire) (m : ExtensionMessage) : Type 0 w
   pub name : IsString extension_name_field fs m.name
   pub typed_config : IsMerged IsAny extension_typed_config_field fs m.typed_config
 
--- a fault of its fields
+-- these fields of a TypedExtensionConfig have this fault
 pub data ExtensionFieldsFault (fs : List Wire) (e : Refusal) : Type 0 where
   bad_extension_name : StringFault extension_name_field fs e → ExtensionFieldsFault fs e
   bad_extension_config : MergedFault AnyFault extension_typed_config_field fs e → ExtensionFieldsFault fs e

@@ -89,7 +89,7 @@ fn read_each<'a>(alloc: Global, parts: &[&'a [u8]]) -> Result<Vec<Any<'a>>, Refu
         AllZip (λ part m. IsAny (part ∷ []) m) (parts_view parts.now) (map any_view v.items)) }
     ensures fault { IfErr result (MemoryOr (λ e. SomeOf (λ part. AnyFault (part ∷ []) e) (parts_view parts.now))) }
 {
-    let mut messages = Vec::new(alloc);
+    let mut messages = Vec::with_capacity(alloc, parts.len())?;
     for part in parts {
         messages.push(read_any(alloc, &[*part])?)?;
     }

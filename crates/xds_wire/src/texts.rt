@@ -32,7 +32,7 @@ fn read_each<'a>(alloc: Global, parts: &[&'a [u8]]) -> Result<Vec<&'a str>, Refu
         (texts_view v.items ≡ parts_view parts.now) × AllByRecursion IsUtf8 (texts_view v.items)) }
     ensures fault { IfErr result (MemoryOr (λ e. SomeOf (λ bytes. Utf8Fault bytes e) (parts_view parts.now))) }
 {
-    let mut texts = Vec::new(alloc);
+    let mut texts = Vec::with_capacity(alloc, parts.len())?;
     for part in parts {
         texts.push(text_of(part)?)?;
     }

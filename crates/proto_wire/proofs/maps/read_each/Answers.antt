@@ -24,8 +24,8 @@ returns-in_err-entry-clause-fault g c =
     c.from_residual.result _ c.from_residual.ensures.1 c.in_err-entry.ensures.fault
     (λ e bad. (_, part_in payloads i _ c.loop-payload-test.true, bad))
 
-pub returns-in_err-push-clause-at_once : goal.returns-in_err-push-clause-at_once
-returns-in_err-push-clause-at_once g c breaks =
+pub returns-in_err-add_entry-clause-at_once : goal.returns-in_err-add_entry-clause-at_once
+returns-in_err-add_entry-clause-at_once g c breaks =
     let here =
     entry_breaks_at g.K.KeyOrder.kind c.loop-payload.payload-index c.args.payloads.now _ _
     c.loop-payload-test.true c.loop-payload.invariant breaks in
@@ -38,7 +38,7 @@ loop-payload-preserved g c =
     let entry = c.in_ok-entry.entry in
     let e : Entry kind = (key_view entry.0, parts_view entry.1.items) in
     let old : List (Entry kind) = entries_view kind key_view c.loop-payload.entries.items in
-    rw (entries_view_push kind key_view c.loop-payload.entries.items c.push.new.self.items entry c.in_ok-push.ensures.items)
+    rw (entries_view_push kind key_view c.loop-payload.entries.items c.add_entry.new.entries.items entry c.in_ok-add_entry.ensures)
     (are_entries_more kind c.args.payloads.now c.loop-payload.payload-index _ old e c.loop-payload-test.true
     c.loop-payload.invariant c.in_ok-entry.ensures.found)
 

@@ -20,8 +20,8 @@ returns-in_err-field-clause-fault c =
     let p = err_from_is_err_and exit.result exit.ensures.1 in
     rw (p.1) (inr ((so_far.0, c.in_err-field.field-0.0, broken), p.2))
 
-pub returns-in_err-push-clause-at_once : goal.returns-in_err-push-clause-at_once
-returns-in_err-push-clause-at_once c breaks =
+pub returns-in_err-add_field-clause-at_once : goal.returns-in_err-add_field-clause-at_once
+returns-in_err-add_field-clause-at_once c breaks =
     let so_far = c.loop-field.invariant in
     let next = rw c.in-Some.is at c.in_ok-field.ensures.field in
     absurd (after_breaks_later c.args.bytes.now so_far.0 c.loop-field.reader _ _ so_far.1 next breaks)
@@ -40,7 +40,7 @@ loop-field-preserved c =
     let f = field_view c.in-Some.field in
     let old = map field_view c.args.fields.now.items in
     let next = rw c.in-Some.is at c.in_ok-field.ensures.field in
-    let pushed = ap (λ (fields : List Field). map field_view fields) c.in_ok-push.ensures.ok in
+    let pushed = ap (λ (fields : List Field). map field_view fields) c.in_ok-add_field.ensures in
     let whole = map-append field_view c.loop-field.fields.items (c.in-Some.field ∷ []) in
     let read = ap (λ (fs : List Wire). fs ++ f ∷ []) so_far.2 in (
       so_far.0 ++ f ∷ [],

@@ -8,7 +8,7 @@ use Rattle.xds_wire.proofs.any.read_each.Goals as goal
 pub returns-in_err-read_any-clause-fault : goal.returns-in_err-read_any-clause-fault
 returns-in_err-read_any-clause-fault c =
     exit_each (λ part e. AnyFault (part ∷ []) e) c.args.parts.now c.loop-part.part-index _
-    c.loop-part-test.true c.from_residual.result _ c.from_residual.ensures.1
+    c.loop-part-test.true c.from_residual-in_err-read_any.result _ c.from_residual-in_err-read_any.ensures.1
     c.in_err-read_any.ensures.fault
 
 pub loop-part-preserved : goal.loop-part-preserved

@@ -6,4 +6,4 @@ use Rattle.xds_wire.proofs.texts.read_each.Goals as goal
 pub returns-in_err-text_of-clause-fault : goal.returns-in_err-text_of-clause-fault
 returns-in_err-text_of-clause-fault c =
     exit_each Utf8Fault c.args.parts.now c.loop-part.part-index _ c.loop-part-test.true
-    c.from_residual.result _ c.from_residual.ensures.1 (inr c.in_err-text_of.ensures.fault)
+    c.from_residual-in_err-text_of.result _ c.from_residual-in_err-text_of.ensures.1 (inr c.in_err-text_of.ensures.fault)
