@@ -4,7 +4,7 @@ use Rattle.std.specs.declared.rc.RcStr.{RcStr}
 use Rattle.std.specs.declared.alloc.Global.{Global}
 use Rattle.cel_value.specs.Values.{CelValues, no_items, item, CelEntries, no_entries, entry, text, value, value_of_key}
 use Rattle.cel_value.specs.Texts.{text_view}
-use Rattle.cel_value.specs.Items.{keys_of}
+use Rattle.cel_value.specs.Items.{key_items}
 use Rattle.cel_value.specs.Masses.{item_count}
 use Rattle.cel_value.specs.View.{entries_view, key_view, pairs_view, value_view, values_view}
 use Rattle.cel_value.specs.declared.value.Key.{Key}
@@ -47,7 +47,7 @@ text_pair_at (p ∷ ps) zero d below = refl
 text_pair_at (p ∷ ps) (suc i) d below = text_pair_at ps i d (omega arith)
 
 -- past the last key there is no pair
-pub keyed_past : (es : CelEntries) (i : ℕ) → item_count (keys_of es) ≤ i → slice_get (keyed es) i ≡ None
+pub keyed_past : (es : CelEntries) (i : ℕ) → item_count (key_items es) ≤ i → slice_get (keyed es) i ≡ None
 keyed_past no_entries i past = refl
 keyed_past (entry k v es) zero past = absurd (omega arith)
 keyed_past (entry k v es) (suc i) past = keyed_past es i (omega arith)

@@ -51,23 +51,22 @@ conversion_of _ _ = None
 abbrev pub conversion : Conversion → CelAnswer → Option CelAnswer
 conversion kind a = strict (conversion_of kind) a
 
--- the type of values that are converted
-abbrev pub converted_type : Conversion → ValueType
-converted_type Conversion.UintToInt = uint_type
-converted_type Conversion.IntToUint = int_type
-converted_type Conversion.IntToText = int_type
-converted_type Conversion.UintToText = uint_type
-converted_type Conversion.BytesToText = bytes_type
-converted_type Conversion.TextToBytes = text_type
+-- the type of values that are converted, and the type that they are converted to
+abbrev pub conversion_types : Conversion → ValueType × ValueType
+conversion_types Conversion.UintToInt = (uint_type, int_type)
+conversion_types Conversion.IntToUint = (int_type, uint_type)
+conversion_types Conversion.IntToText = (int_type, text_type)
+conversion_types Conversion.UintToText = (uint_type, text_type)
+conversion_types Conversion.BytesToText = (bytes_type, text_type)
+conversion_types Conversion.TextToBytes = (text_type, bytes_type)
 
--- the type that they are converted to
+-- the first of them
+abbrev pub converted_type : Conversion → ValueType
+converted_type kind = (conversion_types kind).0
+
+-- the second of them
 abbrev pub conversion_type : Conversion → ValueType
-conversion_type Conversion.UintToInt = int_type
-conversion_type Conversion.IntToUint = uint_type
-conversion_type Conversion.IntToText = text_type
-conversion_type Conversion.UintToText = text_type
-conversion_type Conversion.BytesToText = text_type
-conversion_type Conversion.TextToBytes = bytes_type
+conversion_type kind = (conversion_types kind).1
 
 -- the answer is a text or bytes, which take memory
 abbrev pub MakesText : Option CelAnswer → Type 0

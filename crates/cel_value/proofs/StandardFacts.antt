@@ -7,7 +7,7 @@ use Rattle.std.specs.Ordering.{nat_cmp}
 use Rattle.std.specs.Char.{encode_utf8}
 use Rattle.cel_value.specs.Values.{bool_key, int_key, uint_key, text_key, bool, int, uint, text, bytes, list, map_of, no_items, item, CelEntries, no_entries, entry}
 use Rattle.cel_value.specs.Equality.{value_eq}
-use Rattle.cel_value.specs.Items.{keys_of}
+use Rattle.cel_value.specs.Items.{key_items}
 use Rattle.cel_value.specs.Keys.{get, is_ascending, key_cmp, put}
 use Rattle.cel_value.specs.Masses.{length_of, mass}
 use Rattle.cel_value.specs.Texts.{utf8_of}
@@ -65,7 +65,7 @@ two = put (int_key (pos 1)) (bool false) (put (int_key (pos 3)) (bool true) no_e
 two_rises : is_ascending two ≡ true
 two_rises = refl
 
-two_is_walked_upwards : keys_of two ≡ item (int (pos 1)) (item (int (pos 3)) no_items)
+two_is_walked_upwards : key_items two ≡ item (int (pos 1)) (item (int (pos 3)) no_items)
 two_is_walked_upwards = refl
 
 two_has_its_value : get two (int_key (pos 3)) ≡ Some (bool true)

@@ -12,34 +12,34 @@ use Rattle.cel_value.specs.Values.{text, value_of_key}
 use Rattle.cel_value.specs.Texts.{text_view}
 use Rattle.cel_value.specs.View.{entries_view, key_view, pairs_view}
 use Rattle.cel_value.specs.Keys.{AreRising, IsAscending, is_ascending}
-use Rattle.cel_value.specs.Items.{item_at, keys_of}
+use Rattle.cel_value.specs.Items.{item_at, key_items}
 use Rattle.cel_value.specs.declared.value.Key.{Key}
 use Rattle.cel_value.specs.declared.value.Value.{Value}
 use Rattle.cel_value.proofs.Places.{is_ascending_decides}
 use Rattle.cel_value.proofs.TextOrder.{chars_cmp}
 
 pub entry_key_at : (es : List (Key × Value)) (i : ℕ) (d : Key × Value) → i < length es
-    → item_at (keys_of (entries_view es)) i ≡ Some (value_of_key (key_view (get_or es i d).0))
+    → item_at (key_items (entries_view es)) i ≡ Some (value_of_key (key_view (get_or es i d).0))
 entry_key_at [] i d below = absurd (omega arith)
 entry_key_at (e ∷ es) zero d below = refl
 entry_key_at (e ∷ es) (suc i) d below = entry_key_at es i d (omega arith)
 
 pub entry_key_past : (es : List (Key × Value)) (i : ℕ) → length es ≤ i
-    → item_at (keys_of (entries_view es)) i ≡ None
+    → item_at (key_items (entries_view es)) i ≡ None
 entry_key_past [] i past = refl
 entry_key_past (e ∷ es) zero past = absurd (omega arith)
 entry_key_past (e ∷ es) (suc i) past = entry_key_past es i (omega arith)
 
 pub pair_key_at : (ps : List (RcStr Global × RcStr Global)) (i : ℕ)
     (d : RcStr Global × RcStr Global)
-    → i < length ps → item_at (keys_of (pairs_view ps)) i
+    → i < length ps → item_at (key_items (pairs_view ps)) i
     ≡ Some (text (text_view (get_or ps i d).0))
 pair_key_at [] i d below = absurd (omega arith)
 pair_key_at (p ∷ ps) zero d below = refl
 pair_key_at (p ∷ ps) (suc i) d below = pair_key_at ps i d (omega arith)
 
 pub pair_key_past : (ps : List (RcStr Global × RcStr Global)) (i : ℕ) → length ps ≤ i
-    → item_at (keys_of (pairs_view ps)) i ≡ None
+    → item_at (key_items (pairs_view ps)) i ≡ None
 pair_key_past [] i past = refl
 pair_key_past (p ∷ ps) zero past = absurd (omega arith)
 pair_key_past (p ∷ ps) (suc i) past = pair_key_past ps i (omega arith)

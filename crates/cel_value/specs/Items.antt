@@ -14,6 +14,6 @@ joined_items no_items ws = ws
 joined_items (item v vs) ws = item v (joined_items vs ws)
 
 -- the keys of entries as values, in the order of the entries
-abbrev pub keys_of : CelEntries → CelValues
-keys_of no_entries = no_items
-keys_of (entry k v es) = item (value_of_key k) (keys_of es)
+abbrev pub key_items : CelEntries → CelValues
+key_items no_entries = no_items
+key_items (entry k v es) = item (value_of_key k) (key_items es)

@@ -2,31 +2,27 @@
 -- definition, "Map Values". The order of keys is this project's choice.
 use Rattle.std.specs.Prelude.{ℕ, ◌≡◌, Bool, true, ◌&&◌, List, [], ◌∷◌, Option, Some, None, if◌then◌else◌}
 use Rattle.std.specs.declared.cmp.Ordering.{Ordering}
-use Rattle.std.specs.declared.cmp.Ordering.TheVariants.{Less, Greater}
+use Rattle.std.specs.declared.cmp.Ordering.TheVariants.{Less}
 use Rattle.std.specs.Ordering.{nat_cmp, int_cmp, bool_cmp, is_lt}
 use Rattle.std.specs.Cmp.Lexicographic.{slice_cmp}
 use Rattle.cel_value.specs.Values.{CelKey, bool_key, int_key, uint_key, text_key, CelValue, bool, int, uint, text, CelEntries, no_entries, entry}
 use Rattle.cel_value.specs.Equality.{key_eq}
 
--- the order of keys: bools, ints, uints, texts; false before true, numbers by value, texts by code
--- point
+-- the rank of a key's kind: bools, ints, uints, texts
+abbrev pub kind_rank : CelKey → ℕ
+kind_rank (bool_key b) = 0
+kind_rank (int_key i) = 1
+kind_rank (uint_key n) = 2
+kind_rank (text_key cs) = 3
+
+-- the order of keys: by the ranks of their kinds; within one kind false before true, numbers by value, texts by
+-- code point
 abbrev pub key_cmp : CelKey → CelKey → Ordering
 key_cmp (bool_key a) (bool_key b) = bool_cmp a b
-key_cmp (bool_key a) (int_key b) = Less
-key_cmp (bool_key a) (uint_key b) = Less
-key_cmp (bool_key a) (text_key b) = Less
-key_cmp (int_key a) (bool_key b) = Greater
 key_cmp (int_key a) (int_key b) = int_cmp a b
-key_cmp (int_key a) (uint_key b) = Less
-key_cmp (int_key a) (text_key b) = Less
-key_cmp (uint_key a) (bool_key b) = Greater
-key_cmp (uint_key a) (int_key b) = Greater
 key_cmp (uint_key a) (uint_key b) = nat_cmp a b
-key_cmp (uint_key a) (text_key b) = Less
-key_cmp (text_key a) (bool_key b) = Greater
-key_cmp (text_key a) (int_key b) = Greater
-key_cmp (text_key a) (uint_key b) = Greater
 key_cmp (text_key a) (text_key b) = slice_cmp nat_cmp a b
+key_cmp a b = nat_cmp (kind_rank a) (kind_rank b)
 
 -- a value as a key; none if it is bytes, a list or a map
 abbrev pub key_of_value : CelValue → Option CelKey

@@ -100,19 +100,19 @@ EachEntry K P no_entries = Unit {0}
 EachEntry K P (entry k v es) = K k × P v × EachEntry K P es
 
 -- the type has the value, by cases on the type
-abbrev pub Holds : ValueType → CelValue → Type 0
-Holds bool_type (bool b) = Unit {0}
-Holds int_type (int i) = IsInt64 i
-Holds uint_type (uint n) = IsUint64 n
-Holds text_type (text cs) = AreScalars cs
-Holds bytes_type (bytes bs) = Unit {0}
-Holds (list_type t) (list vs) = EachItem (Holds t) vs
-Holds (map_type k t) (map_of es) = EachEntry (λ j. KeyHasType j k) (Holds t) es × IsAscending es
-Holds _ _ = ⊥
+abbrev pub TypeHas : ValueType → CelValue → Type 0
+TypeHas bool_type (bool b) = Unit {0}
+TypeHas int_type (int i) = IsInt64 i
+TypeHas uint_type (uint n) = IsUint64 n
+TypeHas text_type (text cs) = AreScalars cs
+TypeHas bytes_type (bytes bs) = Unit {0}
+TypeHas (list_type t) (list vs) = EachItem (TypeHas t) vs
+TypeHas (map_type k t) (map_of es) = EachEntry (λ j. KeyHasType j k) (TypeHas t) es × IsAscending es
+TypeHas _ _ = ⊥
 
 -- the value has the type
 abbrev pub HasType : CelValue → ValueType → Type 0
-HasType v t = Holds t v
+HasType v t = TypeHas t v
 
 -- the answer's value has the type; an error has every type
 abbrev pub AnswerHasType : CelAnswer → ValueType → Type 0

@@ -1,7 +1,7 @@
 //! Maps: look-up, access by index, and insertion.
 
 ghost use Rattle.std.specs.Prelude.{◌≡◌, ◌≢◌, IfOk, IsTrue, MatchBool, None, OnErr, option_map, is_some};
-ghost use Rattle.cel_value.specs.Items.{item_at, keys_of};
+ghost use Rattle.cel_value.specs.Items.{item_at, key_items};
 ghost use Rattle.cel_value.specs.Keys.{IsAscending, get, is_ascending, put};
 ghost use Rattle.cel_value.specs.Masses.{entry_count};
 ghost use Rattle.cel_value.specs.Texts.{text_view};
@@ -66,7 +66,7 @@ impl Map {
     /// The key at an index in ascending order, as a value; none past the end.
     pub fn key_at(&self, index: usize) -> Result<Option<Value>, AllocError>
         ensures { IfOk result (λ found.
-            option_map value_view found ≡ item_at (keys_of (map_view self.now)) index) }
+            option_map value_view found ≡ item_at (key_items (map_view self.now)) index) }
     {
         match self {
             Map::Entries(entries) => entry_key(entries, index),
@@ -145,7 +145,7 @@ pub(crate) fn find_pair<'a>(pairs: &'a [(RcStr, RcStr)], name: &RcStr) -> Option
 
 fn entry_key(entries: &[(Key, Value)], index: usize) -> Result<Option<Value>, AllocError>
     ensures { IfOk result (λ found.
-        option_map value_view found ≡ item_at (keys_of (entries_view entries.now)) index) }
+        option_map value_view found ≡ item_at (key_items (entries_view entries.now)) index) }
 {
     if index >= entries.len() {
         return Ok(None);
@@ -155,7 +155,7 @@ fn entry_key(entries: &[(Key, Value)], index: usize) -> Result<Option<Value>, Al
 
 fn pair_key(pairs: &[(RcStr, RcStr)], index: usize) -> Result<Option<Value>, AllocError>
     ensures { IfOk result (λ found.
-        option_map value_view found ≡ item_at (keys_of (pairs_view pairs.now)) index) }
+        option_map value_view found ≡ item_at (key_items (pairs_view pairs.now)) index) }
 {
     if index >= pairs.len() {
         return Ok(None);
