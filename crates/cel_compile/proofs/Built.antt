@@ -11,10 +11,12 @@ use Rattle.cel_overload.specs.declared.overload.Overload.TheVariants as overload
 use Rattle.stack_machine.specs.Instructions.{Instruction, code_view, instr_view, Operate, IfFalse, IfTrue, Jump, Test}
 use Rattle.stack_machine.specs.declared.instr.Instr.{Instr}
 use Rattle.cel_compile.specs.declared.lengths.Lengths.{Lengths}
-use Rattle.cel_compile.specs.Codes.{code_of, codes_of, extent, instruction_of}
+use Rattle.cel_compile.specs.Codes.{code_of, codes_of, instruction_of}
+use Rattle.cel_compile.specs.steps.Extents.{extent}
 use Rattle.cel_compile.specs.Slots.{HasFewLocals}
 use Rattle.cel_compile.specs.steps.Emitting.{Grows, GrowsAll, HasRoom, Writes, passing_over}
 use Rattle.cel_compile.specs.steps.Lengths.{EndsWith, lengths_are, lengths_of}
+use Rattle.cel_compile.proofs.Placing.{and_code, choice_code, codes_are, or_code}
 
 many : (is : List Instr) → length (code_view is) ≡ length is
 many is = length-map is instr_view
@@ -67,7 +69,7 @@ in_words {i0} {i1} {l0} {l1} {m} {n} {v} {w} {ks} {ls} em ev el a = record {
 pub first_built : {i0 i1 i2 : List Instr} {l0 l1 l2 : List Lengths} (d : ℕ) (e : TypedTree) (es : TypedTrees)
     → Grows i0 i1 l0 l1 d e → GrowsAll i1 i2 l1 l2 d es → GrowsAll i0 i2 l0 l2 d (typed e es)
 first_built {i0} {i1} {i2} {l0} {l1} {l2} d e es g gs =
-    in_words refl (ap (λ n. code_of (length i0) d e ++ codes_of n d es) g.longer) refl (then g gs)
+    in_words refl (ap (λ n. code_of (length i0) d e ++ codes_of n d es) g.longer ∙ sym (codes_are e es (length i0) d)) refl (then g gs)
 
 -- ---- lengths that are left
 
@@ -158,8 +160,10 @@ module _ {d : ℕ} {a b : TypedTree} {i0 : List Instr} {l0 l1 : List Lengths} (r
             → instr_view x ≡ passing_over o end → code_view i4 ≡ code_view i3 ++ instr_view y ∷ [] → instr_view y ≡ instruction_of o
             → Grows i0 i4 l0 l3 d (typed_call t o (typed a (typed b no_typed)))
         junction_built y end t o which ends jumps last is = elim which [
-          | inl e ↦ rw e (both_built y end IfFalse (Operate operations.And) ends (jumps ∙ ap (λ v. passing_over v end) e) last (is ∙ ap instruction_of e))
-          | inr e ↦ rw e (both_built y end IfTrue (Operate operations.Or) ends (jumps ∙ ap (λ v. passing_over v end) e) last (is ∙ ap instruction_of e))
+          | inl e ↦ rw e (in_words refl (sym (and_code t a b (length i0) d)) refl
+              (both_built y end IfFalse (Operate operations.And) ends (jumps ∙ ap (λ v. passing_over v end) e) last (is ∙ ap instruction_of e)))
+          | inr e ↦ rw e (in_words refl (sym (or_code t a b (length i0) d)) refl
+              (both_built y end IfTrue (Operate operations.Or) ends (jumps ∙ ap (λ v. passing_over v end) e) last (is ∙ ap instruction_of e)))
         ]
 
 -- ---- `?:`
@@ -239,7 +243,7 @@ module _ {d : ℕ} {c a b : TypedTree} {i0 : List Instr} {l0 l1 : List Lengths} 
               let B = code_of (length i4) d b in
               let flat : (((C ++ Test other end ∷ []) ++ A) ++ Jump end ∷ []) ++ B ≡ C ++ Test other end ∷ (A ++ Jump end ∷ B) = simp append_assoc in
               let shape : C ++ Test other end ∷ (A ++ Jump end ∷ B) ≡ code_of p d (typed_call t overloads.Conditional (typed c (typed a (typed b no_typed)))) =
-              rw (m2, m4, mo, me) refl in
+              rw (m2, m4, mo, me) (sym (choice_code t c a b p d)) in
               in_words (omega arith) (flat ∙ shape) (simp append_assoc) whole
 
 -- ---- comprehensions

@@ -1,5 +1,5 @@
 -- The code of a comprehension, written piece by piece.
-use Rattle.std.proofs.Common.{◌≡◌, ℕ, ◌+◌, ◌-◌, ◌<◌, List, [], ◌∷◌, ◌++◌, length, refl, ◌∙◌, arith, append_assoc}
+use Rattle.std.proofs.Common.{◌≡◌, ℕ, ◌+◌, ◌-◌, ◌<◌, List, [], ◌∷◌, ◌++◌, length, refl, sym, ◌∙◌, arith, append_assoc}
 use Rattle.cel_types.specs.Elaborated.{TypedTree, typed_loop}
 use Rattle.cel_types.specs.Names.{variable_count}
 use Rattle.cel_types.specs.declared.typed.Variables.{Variables}
@@ -7,10 +7,12 @@ use Rattle.cel_value.specs.Types.{ValueType}
 use Rattle.stack_machine.specs.Instructions.{code_view, instr_view, Jump, LoopStart, LoopTest, Store}
 use Rattle.stack_machine.specs.declared.instr.Instr.{Instr}
 use Rattle.cel_compile.specs.declared.lengths.Lengths.{Lengths}
-use Rattle.cel_compile.specs.Codes.{code_of, extent, turn_instruction}
+use Rattle.cel_compile.specs.Codes.{code_of, turn_instruction}
+use Rattle.cel_compile.specs.steps.Extents.{extent}
 use Rattle.cel_compile.specs.steps.Emitting.{Grows, HasRoom}
 use Rattle.cel_compile.specs.steps.Lengths.{EndsWith, lengths_are, lengths_of}
 use Rattle.cel_compile.proofs.Built.{LoopRoom, in_words, left, next, one, taken, then}
+use Rattle.cel_compile.proofs.Placing.{loop_code_is}
 
 -- i0 to i11 are the code before and after each call
 module _ {d inner : ℕ} {range init condition step result : TypedTree} {i0 : List Instr} {l0 l1 : List Lengths}
@@ -126,5 +128,6 @@ module _ {d inner : ℕ} {range init condition step result : TypedTree} {i0 : Li
                           let flat : (((((((((A ++ T ∷ []) ++ I) ++ st ∷ []) ++ N ∷ []) ++ C) ++ G ∷ []) ++ S) ++ st ∷ []) ++ J ∷ []) ++ Q
                           ≡ A ++ T ∷ (I ++ st ∷ (N ∷ (C ++ G ∷ (S ++ st ∷ (J ∷ Q))))) = simp append_assoc in
                           let shape : A ++ T ∷ (I ++ st ∷ (N ∷ (C ++ G ∷ (S ++ st ∷ (J ∷ Q)))))
-                          ≡ code_of p d (typed_loop t vars range init condition step result) = rw (m2, m4, m5, m7, m10, md, me, inside) refl in
+                          ≡ code_of p d (typed_loop t vars range init condition step result) =
+                          rw (m2, m4, m5, m7, m10, md, me, inside) (sym (loop_code_is t vars range init condition step result p d again behind refl refl)) in
                           in_words (omega arith) (flat ∙ shape) (simp append_assoc) (then w10 g11)

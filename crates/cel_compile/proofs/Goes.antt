@@ -7,7 +7,7 @@ use Rattle.cel_types.specs.TypedMeaning.{local_at}
 use Rattle.stack_machine.specs.Instructions.{Instruction, Store}
 use Rattle.stack_machine.specs.Charges.{charge_on}
 use Rattle.stack_machine.specs.Locals.{with_local}
-use Rattle.stack_machine.specs.Machine.{OpenLoop, State, Step, Reaches, more, act, goes}
+use Rattle.stack_machine.specs.Machine.{OpenLoop, State, Step, RunReaches, more, act, goes}
 
 -- what the machine's locals are
 abbrev pub Locals : Type 0
@@ -80,11 +80,11 @@ module _ (code : List Instruction) (request : RequestValue) where
       subst (λ k. Chain s k u) e (on s s1 u charge (k + m) st (joined s1 t u k m rest c))
 
   -- what was reached before goes on by a chain
-  pub reached : (s t : State) (n m : ℕ) → Reaches code request s n → Chain s m t → Reaches code request t (n + m)
-  reached s t n m r (here s') = let e : n ≡ n + 0 = omega arith in subst (λ k. Reaches code request s k) e r
+  pub reached : (s t : State) (n m : ℕ) → RunReaches code request s n → Chain s m t → RunReaches code request t (n + m)
+  reached s t n m r (here s') = let e : n ≡ n + 0 = omega arith in subst (λ k. RunReaches code request s k) e r
   reached s t n m r (on s' s1 t' charge k st rest) =
       let e : n + charge + k ≡ n + (charge + k) = omega arith in
-      subst (λ k. Reaches code request t k) e
+      subst (λ k. RunReaches code request t k) e
       (reached s1 t (n + charge) k (more s s1 n charge (n + charge) r st refl) rest)
 
   -- from any locals that hold the first point's, the machine comes to the second within the bound

@@ -96,7 +96,7 @@ module _ (code : List Instruction) (request : RequestValue) (ls : List CelAnswer
       (λ f h. (
         with_local f (length ls) (value v),
         holds_more ls f (value v) h,
-        ap (λ x. machine.turn (length ls) after x (turned over i) lo (state p st f (turned over i ∷ lo))) is,
+        ap (λ (x : Option CelValue). machine.continued after (option_map (λ v. with_local f (length ls) (value v)) x) (turned over i) lo (state p st f (turned over i ∷ lo))) is,
       )))
 
   next_closed : (o : Option CelValue) → slice_get code p ≡ Some (LoopNext (length ls) after)
@@ -104,7 +104,7 @@ module _ (code : List Instruction) (request : RequestValue) (ls : List CelAnswer
   next_closed (Some v) stands is e = absurd cc
   next_closed None stands is e =
       plain code request (LoopNext (length ls) after) p st ls (turned over i ∷ lo) after st lo stands
-      (λ f. ap (λ x. machine.turn (length ls) after x (turned over i) lo (state p st f (turned over i ∷ lo))) is)
+      (λ f. ap (λ (x : Option CelValue). machine.continued after (option_map (λ v. with_local f (length ls) (value v)) x) (turned over i) lo (state p st f (turned over i ∷ lo))) is)
 
   pair_begun : (o : Option (CelAnswer × CelValue)) (vs : List CelAnswer) → slice_get code p ≡ Some (LoopNext2 (length ls) (length ls + 1) after)
       → pair (turned over i) ≡ o → option_map (λ x. value x.1 ∷ x.0 ∷ []) o ≡ Some vs → Begun vs
@@ -118,7 +118,7 @@ module _ (code : List Instruction) (request : RequestValue) (ls : List CelAnswer
         with_local (with_local f (length ls) x.0) (length ls + 1) (value x.1),
         subst (λ n. Holds (value x.1 ∷ x.0 ∷ ls) (with_local (with_local f (length ls) x.0) n (value x.1))) next
             (holds_more (x.0 ∷ ls) (with_local f (length ls) x.0) (value x.1) (holds_more ls f x.0 h)),
-        ap (λ z. machine.turn2 (length ls) (length ls + 1) after z (turned over i) lo (state p st f (turned over i ∷ lo))) is,
+        ap (λ (z : Option (CelAnswer × CelValue)). machine.continued after (option_map (λ x. with_local (with_local f (length ls) x.0) (length ls + 1) (value x.1)) z) (turned over i) lo (state p st f (turned over i ∷ lo))) is,
       )))
 
   pair_closed : (o : Option (CelAnswer × CelValue)) → slice_get code p ≡ Some (LoopNext2 (length ls) (length ls + 1) after)
@@ -126,7 +126,7 @@ module _ (code : List Instruction) (request : RequestValue) (ls : List CelAnswer
   pair_closed (Some x) stands is e = absurd cc
   pair_closed None stands is e =
       plain code request (LoopNext2 (length ls) (length ls + 1) after) p st ls (turned over i ∷ lo) after st lo stands
-      (λ f. ap (λ z. machine.turn2 (length ls) (length ls + 1) after z (turned over i) lo (state p st f (turned over i ∷ lo))) is)
+      (λ f. ap (λ (z : Option (CelAnswer × CelValue)). machine.continued after (option_map (λ x. with_local (with_local f (length ls) x.0) (length ls + 1) (value x.1)) z) (turned over i) lo (state p st f (turned over i ∷ lo))) is)
 
   -- there is a turn: its locals are bound
   turn_begins : (vars : Variables) (vs : List CelAnswer) → slice_get code p ≡ Some (turn_instruction vars (length ls) after)

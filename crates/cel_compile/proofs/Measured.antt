@@ -12,7 +12,7 @@ use Rattle.cel_types.specs.View.{expr_view}
 use Rattle.cel_types.specs.steps.ExprViews.{exprs_view}
 use Rattle.cel_types.specs.declared.typed.TypedExpr.{TypedExpr}
 use Rattle.cel_compile.specs.declared.lengths.Lengths.{Lengths}
-use Rattle.cel_compile.specs.Codes.{extent, extents}
+use Rattle.cel_compile.specs.steps.Extents.{extent, extents}
 use Rattle.cel_compile.specs.steps.Lengths.{Adds, Counts, Measures, MeasuresAll, lengths_are, lengths_of}
 
 -- a part's lengths after another's

@@ -2,7 +2,9 @@
 use Rattle.std.proofs.Common.{◌≡◌, ℕ, ◌+◌, ◌/◌, ◌<◌, ◌≤◌, ◌^◌, ◌↔◌, ◌⊎◌, inl, inr, Bool, true, false, List, [], ◌∷◌, ◌++◌, length, drop, get_or, refl, sym, ap, ◌∙◌, subst, arith}
 use Rattle.std.specs.Prelude.{IsTrue}
 use Rattle.std.proofs.lemmas.List.{drop_all, drop_more}
-use Rattle.cel_value.specs.Types.{ValueType}
+use Rattle.cel_value.specs.Types.{ValueType, list_type, map_type, type_eq}
+use Rattle.cel_value.specs.declared.cel_type.KeyType.{KeyType}
+use Rattle.cel_value.specs.steps.EqualityLaws.{type_eq_decides}
 use Rattle.cel_overload.specs.declared.overload.Overload.{Overload}
 use Rattle.cel_ops.specs.declared.operation.Operation.TheVariants as operations
 use Rattle.cel_overload.specs.declared.overload.Overload.TheVariants as overloads
@@ -12,7 +14,8 @@ use Rattle.cel_types.specs.steps.ExprViews.{exprs_view}
 use Rattle.cel_types.specs.declared.typed.TypedExpr.{TypedExpr}
 use Rattle.stack_machine.specs.Instructions.{code_view, instr_view, MakeList, MakeMap}
 use Rattle.stack_machine.specs.declared.instr.Instr.{Instr}
-use Rattle.cel_compile.specs.Codes.{count, extent, extents, instruction_of, list_instruction, map_instruction, pairs}
+use Rattle.cel_compile.specs.Codes.{count, instruction_of, list_instruction, map_instruction, pairs}
+use Rattle.cel_compile.specs.steps.Extents.{extent, extents}
 use Rattle.cel_compile.specs.Slots.{HasFewLocals, HaveFewLocals}
 use Rattle.cel_compile.specs.declared.lengths.Lengths.{Lengths}
 use Rattle.cel_compile.specs.steps.Emitting.{Grows, GrowsAll, HasRoom, HaveRoom}
@@ -35,10 +38,26 @@ made_list t [] n some e = absurd (omega arith)
 made_list t (x ∷ xs) n some e =
     ap MakeList (e ∙ sym (count_of (x ∷ xs))) ∙ sym (some_list t (expr_view x) (exprs_view xs))
 
+-- a literal of another type than a list's
+pub other_list : (t : ValueType) (es : TypedTrees) → ((s : ValueType) → false ≡ type_eq (list_type s) t) → MakeList (count es) ≡ list_instruction t es
+other_list (list_type s) es differs =
+    let same : type_eq (list_type s) (list_type s) ≡ true = (type_eq_decides s s).1 refl in
+    let not_same : false ≡ type_eq (list_type s) (list_type s) = differs s in
+    absurd cc
+other_list t es differs = refl
+
 pub made_map : (t : ValueType) (xs : List TypedExpr) (n : ℕ) → 0 < length xs → n ≡ length xs / 2 → MakeMap n ≡ map_instruction t (exprs_view xs)
 made_map t [] n some e = absurd (omega arith)
 made_map t (x ∷ xs) n some e =
     ap MakeMap (e ∙ sym (pairs_of (x ∷ xs))) ∙ sym (some_map t (expr_view x) (exprs_view xs))
+
+-- a literal of another type than a map's
+pub other_map : (t : ValueType) (es : TypedTrees) → ((k : KeyType) (s : ValueType) → false ≡ type_eq (map_type k s) t) → MakeMap (pairs es) ≡ map_instruction t es
+other_map (map_type k s) es differs =
+    let same : type_eq (map_type k s) (map_type k s) ≡ true = (type_eq_decides (map_type k s) (map_type k s)).1 refl in
+    let not_same : false ≡ type_eq (map_type k s) (map_type k s) = differs k s in
+    absurd cc
+other_map t es differs = refl
 
 some_extent : (e : TypedTree) → 1 ≤ extent e
 some_extent (typed_constant t v) = omega arith

@@ -6,8 +6,11 @@ use Rattle.cel_ops.specs.declared.operation.Operation.TheVariants as operations
 use Rattle.cel_overload.specs.declared.overload.Overload.TheVariants as overloads
 use Rattle.cel_types.specs.Elaborated.{TypedTree, typed_constant, typed_local, typed_attribute, typed_field, typed_has, typed_call, typed_list, typed_map, typed_loop, TypedTrees, no_typed, typed}
 use Rattle.cel_types.specs.Names.{variable_count}
+use Rattle.cel_types.specs.declared.typed.Variables.{Variables}
+use Rattle.cel_value.specs.Types.{ValueType}
 use Rattle.stack_machine.specs.Instructions.{Instruction, Const, Attr, Load, Store, Operate, Field, HasField, Jump, IfFalse, IfTrue, Test, LoopStart, LoopTest}
-use Rattle.cel_compile.specs.Codes.{instruction_of, list_instruction, map_instruction, turn_instruction, extent, extents, code_of, codes_of}
+use Rattle.cel_compile.specs.Codes.{instruction_of, list_instruction, map_instruction, turn_instruction, code_of, codes_of}
+use Rattle.cel_compile.specs.steps.Extents.{extent, extents}
 
 -- the instructions stand in the code at this position
 abbrev pub HasAt : List Instruction → ℕ → List Instruction → Type 0
@@ -102,6 +105,45 @@ mutual
   extents_is no_typed p d = refl
   extents_is (typed e es) p d = simp (length-append, extent_is e, extents_is es) (omega arith)
 
+-- ---- code whose targets are extents
+
+pub and_code : (t : ValueType) (a b : TypedTree) (p d : ℕ) → code_of p d (typed_call t (overloads.Operate operations.And) (typed a (typed b no_typed)))
+    ≡ code_of p d a ++ IfFalse (p + extent a + 1 + extent b + 1) ∷ (code_of (p + extent a + 1) d b ++ Operate operations.And ∷ [])
+and_code t a b p d = rw (extent_is a p d, extent_is b (p + extent a + 1) d) refl
+
+pub or_code : (t : ValueType) (a b : TypedTree) (p d : ℕ) → code_of p d (typed_call t (overloads.Operate operations.Or) (typed a (typed b no_typed)))
+    ≡ code_of p d a ++ IfTrue (p + extent a + 1 + extent b + 1) ∷ (code_of (p + extent a + 1) d b ++ Operate operations.Or ∷ [])
+or_code t a b p d = rw (extent_is a p d, extent_is b (p + extent a + 1) d) refl
+
+pub choice_code : (t : ValueType) (c a b : TypedTree) (p d : ℕ) → code_of p d (typed_call t overloads.Conditional (typed c (typed a (typed b no_typed))))
+    ≡ code_of p d c ++ Test (p + extent c + 1 + extent a + 1) (p + extent c + 1 + extent a + 1 + extent b)
+    ∷ (code_of (p + extent c + 1) d a ++ Jump (p + extent c + 1 + extent a + 1 + extent b) ∷ code_of (p + extent c + 1 + extent a + 1) d b)
+choice_code t c a b p d = rw (extent_is c p d, extent_is a (p + extent c + 1) d, extent_is b (p + extent c + 1 + extent a + 1) d) refl
+
+-- the code of a comprehension, with the positions of its turn, of what follows the last turn and of its end
+abbrev pub loop_code : (vars : Variables) (range init condition step result : TypedTree) (p d turn after end : ℕ) → List Instruction
+loop_code vars range init condition step result p d turn after end =
+    code_of p d range ++ LoopStart end ∷ (code_of (p + extent range + 1) d init ++ Store d ∷ (turn_instruction vars (d + 1) after
+    ∷ (code_of (turn + 1) (d + 1 + variable_count vars) condition ++ LoopTest after end
+    ∷ (code_of (turn + 1 + extent condition + 1) (d + 1 + variable_count vars) step ++ Store d ∷ (Jump turn ∷ code_of after (d + 1) result)))))
+
+pub loop_code_is : (t : ValueType) (vars : Variables) (range init condition step result : TypedTree) (p d turn after : ℕ)
+    → turn ≡ p + extent range + 1 + extent init + 1 → after ≡ turn + 1 + extent condition + 1 + extent step + 1 + 1
+    → code_of p d (typed_loop t vars range init condition step result) ≡ loop_code vars range init condition step result p d turn after (after + extent result)
+loop_code_is t vars range init condition step result p d turn after turns afters =
+    rw (
+      extent_is range p d,
+      extent_is init (p + extent range + 1) d,
+      ← turns,
+      extent_is condition (turn + 1) (d + 1 + variable_count vars),
+      extent_is step (turn + 1 + extent condition + 1) (d + 1 + variable_count vars),
+      ← afters,
+      extent_is result after (d + 1),
+    ) refl
+
+pub codes_are : (e : TypedTree) (es : TypedTrees) (p d : ℕ) → codes_of p d (typed e es) ≡ code_of p d e ++ codes_of (p + extent e) d es
+codes_are e es p d = rw (extent_is e p d) refl
+
 module _ (code : List Instruction) where
   -- what stands behind an expression's code
   behind : (e : TypedTree) (p d : ℕ) (is : List Instruction) → HasAt code p (code_of p d e ++ is) → HasAt code (p + extent e) is
@@ -120,9 +162,10 @@ module _ (code : List Instruction) where
         (p + extent on, placed on p d (p + extent on) refl (has_front code p _ _ h), (behind on p d _ h).0, omega arith)
     placed (typed_has t on name) p d q e h =
         (p + extent on, placed on p d (p + extent on) refl (has_front code p _ _ h), (behind on p d _ h).0, omega arith)
-    placed (typed_call t (overloads.Operate operations.And) (typed a (typed b no_typed))) p d q e h =
+    placed (typed_call t (overloads.Operate operations.And) (typed a (typed b no_typed))) p d q e stands =
         let m = p + extent a in
         let n = m + 1 + extent b in
+        let h = subst (λ l. HasAt code p l) (and_code t a b p d) stands in
         let h1 = behind a p d _ h in
         let h2 = behind b (m + 1) d _ h1.1 in
         let e1 : n + 1 ≡ q = omega arith in (
@@ -134,9 +177,10 @@ module _ (code : List Instruction) where
           h2.0,
           sym e1,
         )
-    placed (typed_call t (overloads.Operate operations.Or) (typed a (typed b no_typed))) p d q e h =
+    placed (typed_call t (overloads.Operate operations.Or) (typed a (typed b no_typed))) p d q e stands =
         let m = p + extent a in
         let n = m + 1 + extent b in
+        let h = subst (λ l. HasAt code p l) (or_code t a b p d) stands in
         let h1 = behind a p d _ h in
         let h2 = behind b (m + 1) d _ h1.1 in
         let e1 : n + 1 ≡ q = omega arith in (
@@ -148,9 +192,10 @@ module _ (code : List Instruction) where
           h2.0,
           sym e1,
         )
-    placed (typed_call t overloads.Conditional (typed c (typed a (typed b no_typed)))) p d q e h =
+    placed (typed_call t overloads.Conditional (typed c (typed a (typed b no_typed)))) p d q e stands =
         let m = p + extent c in
         let n = m + 1 + extent a in
+        let h = subst (λ l. HasAt code p l) (choice_code t c a b p d) stands in
         let h1 = behind c p d _ h in
         let h2 = behind a (m + 1) d _ h1.1 in
         let e1 : n + 1 + extent b ≡ q = omega arith in (
@@ -168,11 +213,12 @@ module _ (code : List Instruction) where
         (p + extents elements, placed_all elements p d (p + extents elements) refl (has_front code p (codes_of p d elements) (list_instruction t elements ∷ []) h), (behind_all elements p d (list_instruction t elements ∷ []) h).0, omega arith)
     placed (typed_map t entries) p d q e h =
         (p + extents entries, placed_all entries p d (p + extents entries) refl (has_front code p (codes_of p d entries) (map_instruction t entries ∷ []) h), (behind_all entries p d (map_instruction t entries ∷ []) h).0, omega arith)
-    placed (typed_loop t vars range init condition step result) p d q e h =
+    placed (typed_loop t vars range init condition step result) p d q e stands =
         let m = p + extent range in
         let n = m + 1 + extent init in
         let k = n + 1 + 1 + extent condition in
         let l = k + 1 + extent step in
+        let h = subst (λ c. HasAt code p c) (loop_code_is t vars range init condition step result p d (n + 1) (l + 1 + 1) refl refl) stands in
         let h1 = behind range p d _ h in
         let h2 = behind init (m + 1) d _ h1.1 in
         let h3 = behind condition (n + 1 + 1) (d + 1 + variable_count vars) _ h2.1.1 in
@@ -199,8 +245,9 @@ module _ (code : List Instruction) where
 
     pub placed_all : (es : TypedTrees) (p d q : ℕ) → q ≡ p + extents es → HasAt code p (codes_of p d es) → PlacedAll code p d es q
     placed_all no_typed p d q e h = omega arith
-    placed_all (typed e es) p d q eq h = (
-      p + extent e,
-      placed e p d (p + extent e) refl (has_front code p _ _ h),
-      placed_all es (p + extent e) d q (omega arith) (behind e p d _ h),
-    )
+    placed_all (typed e es) p d q eq stands =
+        let h = subst (λ l. HasAt code p l) (codes_are e es p d) stands in (
+          p + extent e,
+          placed e p d (p + extent e) refl (has_front code p _ _ h),
+          placed_all es (p + extent e) d q (omega arith) (behind e p d _ h),
+        )

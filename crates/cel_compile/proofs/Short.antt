@@ -15,7 +15,8 @@ use Rattle.cel_types.specs.Typing.{Kinds, Maps, locals_in, locals_in_each, local
 use Rattle.proto_wire.specs.Refusal.{MemoryOr}
 use Rattle.proto_wire.specs.declared.refusal.Refusal.{Refusal}
 use Rattle.proto_wire.specs.declared.refusal.Refusal.TheVariants.{Memory, TooLarge}
-use Rattle.cel_compile.specs.Codes.{code_of, count, extent, extents}
+use Rattle.cel_compile.specs.Codes.{code_of, count}
+use Rattle.cel_compile.specs.steps.Extents.{extent, extents}
 use Rattle.cel_compile.specs.Slots.{HasFewLocals, HaveFewLocals}
 use Rattle.cel_compile.proofs.Placing.{extent_is}
 
@@ -178,8 +179,11 @@ mutual
 
 -- ---- expressions that were read
 
-pub short_code : (c : CelChecked) (e : TypedTree) → IsElaborated c e → extent e < 2 * node_count c.tree
-short_code c e is = extent_bound (maps_of c) [] c.tree e is.elaborates
+pub short_code : (c : CelChecked) (e : TypedTree) (p d : ℕ) → IsElaborated c e → length (code_of p d e) < 2 * node_count c.tree
+short_code c e p d is =
+    let long = extent_is e p d in
+    let bound = extent_bound (maps_of c) [] c.tree e is.elaborates in
+    omega (arith, long, bound)
 
 few_nodes : (parts : ExprParts) (c : CelChecked) → IsExprOf parts c → node_count c.tree ≤ most_nodes
 few_nodes (checked_parts parts) c (fs, message, says) = says.few
@@ -188,11 +192,17 @@ few_nodes (unchecked_parts parts) c read = read.few
 pub fitting_code : (parts : ExprParts) (c : CelChecked) (e : TypedTree) → IsExprOf parts c → IsElaborated c e
     → (length (code_of 0 0 e) ≤ 65535) × HasFewLocals 0 e
 fitting_code parts c e read is =
-    let long = extent_is e 0 0 in
-    let bound = short_code c e is in
+    let short = short_code c e 0 0 is in
     let nodes = few_nodes parts c read in
     let locals = is.typed.few in
-    (omega (arith, long, bound, nodes), few (maps_of c) [] c.tree e 0 is.elaborates (omega (arith, locals)))
+    (omega (arith, short, nodes), few (maps_of c) [] c.tree e 0 is.elaborates (omega (arith, locals)))
+
+-- the number of instructions is the extent
+pub refused_length : (e : TypedTree) (r : Refusal) → MemoryOr (λ f. (f ≡ TooLarge) × ((65535 < extent e) ⊎ (HasFewLocals 0 e → ⊥))) r
+    → MemoryOr (λ f. (f ≡ TooLarge) × ((65535 < length (code_of 0 0 e)) ⊎ (HasFewLocals 0 e → ⊥))) r
+refused_length e r (inl memory) = inl memory
+refused_length e r (inr (large, inl long)) = let same = extent_is e 0 0 in inr (large, inl (omega (arith, long, same)))
+refused_length e r (inr (large, inr many)) = inr (large, inr many)
 
 -- so what `compile` refuses of it is want of memory
 pub room_alone : (parts : ExprParts) (c : CelChecked) (e : TypedTree) → IsExprOf parts c → IsElaborated c e

@@ -7,7 +7,6 @@ use Rattle.cel_value.specs.Masses.{length_of}
 use Rattle.cel_value.specs.Types.{AnswerHasType, ValueType, bool_type, list_type, map_type}
 use Rattle.cel_value.specs.Values.{CelAnswer, CelValue, CelValues, no_items, no_entries, list, map_of, value, fails}
 use Rattle.cel_value.specs.declared.cel_type.KeyType.{KeyType}
-use Rattle.cel_value.specs.declared.cel_type.KeyType.TheVariants as keys
 use Rattle.cel_value.specs.declared.error.CelError.{CelError}
 use Rattle.cel_ops.specs.Charges.{list_literal_charge, loop_charge, map_literal_charge}
 use Rattle.cel_ops.specs.Collections.{elements_of, field, has_field, list_literal, map_literal}
@@ -26,7 +25,7 @@ use Rattle.cel_types.proofs.WellTypedAnswers.{all_have_types, answer_typed, answ
 use Rattle.cost_bound.specs.Costs.{charge_at, cost_of, costs_of, grown, map_cost, size_of, sizes_of, total, turns_cost, variable_sizes}
 use Rattle.cost_bound.specs.Sizes.{AllWithin, Size, Within, most_of}
 use Rattle.cost_bound.proofs.Within.{all_within_more}
-use Rattle.stack_machine.specs.Instructions.{Instruction, Const, Attr, Load, Store, EmptyList, EmptyMap, Field, HasField, LoopStart, MakeList, MakeMap}
+use Rattle.stack_machine.specs.Instructions.{Instruction, Const, Attr, Load, Store, Field, HasField, LoopStart, MakeList, MakeMap}
 use Rattle.stack_machine.specs.Machine.{OpenLoop, gives, opened}
 use Rattle.cel_compile.specs.Codes.{count, instruction_of, list_instruction, map_instruction, pairs}
 use Rattle.cel_compile.proofs.Answering.{before_some, then_some}
@@ -87,14 +86,6 @@ paired (typed a (typed b es)) k t h = let rest = paired es k t h.2 in omega (ari
 
 -- ---- instructions of literals
 
-empty_list : (t : ValueType) → (s : ValueType) × (list_instruction t no_typed ≡ EmptyList s)
-empty_list (list_type t) = (t, refl)
-empty_list t = (t, refl)
-
-empty_map : (t : ValueType) → (k : KeyType) × (s : ValueType) × (map_instruction t no_typed ≡ EmptyMap k s)
-empty_map (map_type k t) = (k, t, refl)
-empty_map t = (keys.Bool, t, refl)
-
 pub some_list : (t : ValueType) (e : TypedTree) (es : TypedTrees) → list_instruction t (typed e es) ≡ MakeList (count (typed e es))
 some_list (list_type t) e es = refl
 some_list t e es = refl
@@ -105,23 +96,21 @@ some_map t e es = refl
 
 list_makes : (t : ValueType) (es : TypedTrees) (xs : List CelAnswer) (r : CelAnswer) → length xs ≡ count es → list_literal xs ≡ Some r
     → Makes (list_instruction t es) xs r (list_literal_charge xs)
-list_makes t no_typed [] r many e =
-    let x = empty_list t in
+list_makes (list_type t) no_typed [] r many e =
     let same : r ≡ value (list no_items) = cc in
-    rw (x.1, same) record { does = λ request p st f lo. refl; costs = λ st. refl }
-list_makes t no_typed (a ∷ xs) r many e = absurd (omega arith)
-list_makes t (typed y es) xs r many e =
-    rw (some_list t y es) (literal_makes (MakeList (count (typed y es))) list_literal list_literal_charge (count (typed y es)) (λ q z. refl) (λ st. refl) xs r many e)
+    rw same record { does = λ request p st f lo. refl; costs = λ st. refl }
+list_makes (list_type t) no_typed (a ∷ xs) r many e = absurd (omega arith)
+list_makes t es xs r many e =
+    literal_makes (MakeList (count es)) list_literal list_literal_charge (count es) (λ q z. refl) (λ st. refl) xs r many e
 
 map_makes : (t : ValueType) (es : TypedTrees) (xs : List CelAnswer) (r : CelAnswer) → length xs ≡ 2 * pairs es → map_literal xs ≡ Some r
     → Makes (map_instruction t es) xs r (map_literal_charge xs)
-map_makes t no_typed [] r many e =
-    let x = empty_map t in
+map_makes (map_type k t) no_typed [] r many e =
     let same : r ≡ value (map_of no_entries) = cc in
-    rw (x.2, same) record { does = λ request p st f lo. refl; costs = λ st. refl }
-map_makes t no_typed (a ∷ xs) r many e = absurd (omega arith)
-map_makes t (typed y es) xs r many e =
-    rw (some_map t y es) (literal_makes (MakeMap (pairs (typed y es))) map_literal map_literal_charge (2 * pairs (typed y es)) (λ q z. refl) (λ st. refl) xs r many e)
+    rw same record { does = λ request p st f lo. refl; costs = λ st. refl }
+map_makes (map_type k t) no_typed (a ∷ xs) r many e = absurd (omega arith)
+map_makes t es xs r many e =
+    literal_makes (MakeMap (pairs es)) map_literal map_literal_charge (2 * pairs es) (λ q z. refl) (λ st. refl) xs r many e
 
 -- ---- a loop whole, from its range, its init and its turns
 

@@ -3,7 +3,7 @@ use Rattle.std.proofs.Common.{◌≡◌, suc, ◌+◌, List, [], ◌∷◌, ◌+
 use Rattle.std.specs.List.{AllByRecursion}
 use Rattle.cel_value.specs.Types.{ValueType, list_type, map_type}
 use Rattle.cel_value.specs.Values.{CelAnswer, CelValue, CelValues, list, map_of}
-use Rattle.cel_value.specs.Items.{keys_of}
+use Rattle.cel_value.specs.Items.{key_items}
 use Rattle.cel_ops.specs.Collections.{elements_of}
 use Rattle.cel_overload.specs.Answers.{HaveTypes}
 use Rattle.cel_types.specs.Meaning.{one_each, turns_of}
@@ -49,7 +49,7 @@ pub walks_over : (vars : Variables) (v : CelValue) (turns : List (List CelAnswer
     → (vs : CelValues) × (elements_of v ≡ Some vs)
 walks_over variables.One v turns e = mapped_some one_each (elements_of v) turns e
 walks_over variables.Two (list vs) turns e = (vs, refl)
-walks_over variables.Two (map_of es) turns e = (keys_of es, refl)
+walks_over variables.Two (map_of es) turns e = (key_items es, refl)
 walks_over variables.Two _ turns e = absurd cc
 
 -- the turns that there are have their types

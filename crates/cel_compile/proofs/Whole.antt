@@ -6,8 +6,9 @@ use Rattle.cel_types.specs.Elaborated.{TypedTree}
 use Rattle.cel_types.specs.WellTyped.{IsWellTyped}
 use Rattle.cel_types.proofs.WellTypedAnswers.{answer_typed}
 use Rattle.stack_machine.specs.Instructions.{Instruction}
-use Rattle.stack_machine.specs.Machine.{Reaches, begins, start}
-use Rattle.cel_compile.specs.Codes.{code_of, extent}
+use Rattle.stack_machine.specs.Machine.{RunReaches, begins, start}
+use Rattle.cel_compile.specs.Codes.{code_of}
+use Rattle.cel_compile.specs.steps.Extents.{extent}
 use Rattle.cel_compile.specs.Sound.{IsSound, RunsTo}
 use Rattle.cel_compile.proofs.Bounds.{Bounds, bounds_of}
 use Rattle.cel_compile.proofs.Goes.{reached, state}
@@ -32,7 +33,7 @@ run_of e request limits g valid bounds =
       steps = y.1;
       ends = record {
         last = last;
-        reaches = subst (λ n. Reaches code request last n) from_start (reached code request start last 0 y.1 (begins start 0 refl refl) y.3);
+        reaches = subst (λ n. RunReaches code request last n) from_start (reached code request start last 0 y.1 (begins start 0 refl refl) y.3);
         at_end = refl;
         one = refl;
       };

@@ -1,9 +1,8 @@
 -- The instructions of an elaborated expression (this project's code forms). Targets are positions in the
 -- whole code, so the code of a part depends on where it begins. A local's number is how many locals are
 -- outside of it.
-use Rattle.std.specs.Prelude.{ℕ, ◌+◌, List, [], ◌∷◌, ◌++◌}
+use Rattle.std.specs.Prelude.{ℕ, ◌+◌, List, [], ◌∷◌, ◌++◌, length}
 use Rattle.cel_value.specs.Types.{ValueType, list_type, map_type}
-use Rattle.cel_value.specs.declared.cel_type.KeyType.TheVariants as keys
 use Rattle.cel_overload.specs.declared.overload.Overload.{Overload}
 use Rattle.cel_ops.specs.declared.operation.Operation.TheVariants as operations
 use Rattle.cel_overload.specs.declared.overload.Overload.TheVariants as overloads
@@ -30,18 +29,16 @@ pairs no_typed = 0
 pairs (typed e no_typed) = 0
 pairs (typed k (typed v es)) = 1 + pairs es
 
--- the instruction that makes a list of these elements. An empty list has its type, which is a list type in
--- each well typed expression
+-- the instruction of a list literal of this type. It has the items' type if the list is empty, else the number of
+-- elements
 abbrev pub list_instruction : ValueType → TypedTrees → Instruction
 list_instruction (list_type t) no_typed = EmptyList t
-list_instruction t no_typed = EmptyList t
 list_instruction t es = MakeList (count es)
 
--- the instruction that makes a map of these pairs. An empty map has its type, which is a map type in each
--- well typed expression
+-- the instruction of a map literal of this type. It has the types of keys and values if the map is empty, else
+-- the number of pairs
 abbrev pub map_instruction : ValueType → TypedTrees → Instruction
 map_instruction (map_type k t) no_typed = EmptyMap k t
-map_instruction t no_typed = EmptyMap keys.Bool t
 map_instruction t es = MakeMap (pairs es)
 
 -- the instruction that begins a turn: it sets this local, and for two variables also the next. After the last
@@ -49,35 +46,6 @@ map_instruction t es = MakeMap (pairs es)
 abbrev pub turn_instruction : Variables → (local done : ℕ) → Instruction
 turn_instruction variables.One local done = LoopNext local done
 turn_instruction variables.Two local done = LoopNext2 local (local + 1) done
-
--- ---- the number of instructions
-
-abbrev mutual
-  -- the number of instructions of an expression
-  pub extent : TypedTree → ℕ
-  extent (typed_constant t v) = 1
-  extent (typed_local t outside) = 1
-  extent (typed_attribute t a) = 1
-  extent (typed_field t on name) = extent on + 1
-  extent (typed_has t on name) = extent on + 1
-  extent (typed_call t (overloads.Operate operations.And) (typed a (typed b no_typed))) =
-      extent a + 1 + extent b + 1
-  extent (typed_call t (overloads.Operate operations.Or) (typed a (typed b no_typed))) =
-      extent a + 1 + extent b + 1
-  extent (typed_call t overloads.Conditional (typed c (typed a (typed b no_typed)))) =
-      extent c + 1 + extent a + 1 + extent b
-  extent (typed_call t o operands) = extents operands + 1
-  extent (typed_list t elements) = extents elements + 1
-  extent (typed_map t entries) = extents entries + 1
-  extent (typed_loop t vars range init condition step result) = extent range + 1 + extent init + 1 + 1
-      + extent condition + 1 + extent step + 1 + 1 + extent result
-
-  -- the number of instructions of expressions in order
-  pub extents : TypedTrees → ℕ
-  extents no_typed = 0
-  extents (typed e es) = extent e + extents es
-
--- ---- the instructions
 
 abbrev mutual
   -- the instructions of an expression whose code begins at `begin`, with `scope` locals in scope
@@ -88,33 +56,38 @@ abbrev mutual
   code_of p d (typed_field t on name) = code_of p d on ++ Field name ∷ []
   code_of p d (typed_has t on name) = code_of p d on ++ HasField name ∷ []
   code_of p d (typed_call t (overloads.Operate operations.And) (typed a (typed b no_typed))) =
-      code_of p d a ++ IfFalse (p + extent a + 1 + extent b + 1)
-      ∷ (code_of (p + extent a + 1) d b ++ Operate operations.And ∷ [])
+      let left = code_of p d a in
+      let right = code_of (p + length left + 1) d b in
+      left ++ IfFalse (p + length left + 1 + length right + 1) ∷ (right ++ Operate operations.And ∷ [])
   code_of p d (typed_call t (overloads.Operate operations.Or) (typed a (typed b no_typed))) =
-      code_of p d a ++ IfTrue (p + extent a + 1 + extent b + 1)
-      ∷ (code_of (p + extent a + 1) d b ++ Operate operations.Or ∷ [])
+      let left = code_of p d a in
+      let right = code_of (p + length left + 1) d b in
+      left ++ IfTrue (p + length left + 1 + length right + 1) ∷ (right ++ Operate operations.Or ∷ [])
   code_of p d (typed_call t overloads.Conditional (typed c (typed a (typed b no_typed)))) =
-      let other = p + extent c + 1 + extent a + 1 in
-      let end = other + extent b in
-      code_of p d c ++ Test other end
-      ∷ (code_of (p + extent c + 1) d a ++ Jump end ∷ code_of other d b)
+      let tested = code_of p d c in
+      let chosen = code_of (p + length tested + 1) d a in
+      let otherwise = p + length tested + 1 + length chosen + 1 in
+      let other = code_of otherwise d b in
+      let end = otherwise + length other in
+      tested ++ Test otherwise end ∷ (chosen ++ Jump end ∷ other)
   code_of p d (typed_call t o operands) = codes_of p d operands ++ instruction_of o ∷ []
   code_of p d (typed_list t elements) = codes_of p d elements ++ list_instruction t elements ∷ []
   code_of p d (typed_map t entries) = codes_of p d entries ++ map_instruction t entries ∷ []
   code_of p d (typed_loop t vars range init condition step result) =
-      let first = p + extent range + 1 in
-      let turn = first + extent init + 1 in
-      let tested = turn + 1 + extent condition in
-      let after = tested + 1 + extent step + 1 + 1 in
-      let end = after + extent result in
-      code_of p d range ++ LoopStart end
-      ∷ (code_of first d init ++ Store d
-      ∷ (turn_instruction vars (d + 1) after
-      ∷ (code_of (turn + 1) (d + 1 + variable_count vars) condition ++ LoopTest after end
-      ∷ (code_of (tested + 1) (d + 1 + variable_count vars) step ++ Store d ∷ (Jump turn
-      ∷ code_of after (d + 1) result)))))
+      let inside = d + 1 + variable_count vars in
+      let ranged = code_of p d range in
+      let begun = code_of (p + length ranged + 1) d init in
+      let turn = p + length ranged + 1 + length begun + 1 in
+      let tested = code_of (turn + 1) inside condition in
+      let stepped = code_of (turn + 1 + length tested + 1) inside step in
+      let after = turn + 1 + length tested + 1 + length stepped + 1 + 1 in
+      let ended = code_of after (d + 1) result in
+      let end = after + length ended in
+      ranged ++ LoopStart end ∷ (begun ++ Store d ∷ (turn_instruction vars (d + 1) after
+      ∷ (tested ++ LoopTest after end ∷ (stepped ++ Store d ∷ (Jump turn ∷ ended)))))
 
   -- the instructions of expressions in order
   pub codes_of : (begin scope : ℕ) → TypedTrees → List Instruction
   codes_of p d no_typed = []
-  codes_of p d (typed e es) = code_of p d e ++ codes_of (p + extent e) d es
+  codes_of p d (typed e es) =
+      let first = code_of p d e in first ++ codes_of (p + length first) d es

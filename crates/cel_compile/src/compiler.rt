@@ -17,9 +17,10 @@ ghost use Rattle.proto_wire.specs.Refusal.{MemoryOr};
 ghost use Rattle.stack_machine.specs.Instructions.{code_view, instr_view};
 ghost use Rattle.stack_machine.specs.Machine.{NeverStuck};
 ghost use Rattle.stack_machine.specs.Typable.{Forward};
-ghost use Rattle.cel_compile.specs.Codes.{code_of, extent};
+ghost use Rattle.cel_compile.specs.Codes.{code_of};
 ghost use Rattle.cel_compile.specs.Slots.{HasFewLocals};
 ghost use Rattle.cel_compile.specs.Sound.{IsSound, RunsToMeaning};
+ghost use Rattle.cel_compile.specs.steps.Extents.{extent};
 ghost use Rattle.cel_compile.specs.steps.Emitting.{Grows, GrowsAll, HasRoom, HaveRoom};
 
 use crate::few_locals::require_few_locals;
@@ -54,7 +55,7 @@ pub fn compile(alloc: Global, typed: &Typed<'_>) -> Result<Code, Refusal>
     ensures lives { IfOk result (λ code. (request : RequestValue) → IsWellTyped [] (typed_view typed.now)
         → IsRequest request → NeverStuck (code_view code) request) }
     ensures fault { IfErr result (MemoryOr (λ e. (e ≡ Refusal.TooLarge)
-        × ((65535 < extent (typed_view typed.now)) ⊎ (HasFewLocals 0 (typed_view typed.now) → ⊥)))) }
+        × ((65535 < length (code_of 0 0 (typed_view typed.now))) ⊎ (HasFewLocals 0 (typed_view typed.now) → ⊥)))) }
     // the elaboration of an expression that was read is refused only if it is out of memory
     ensures room { IfErr result (λ e. (parts : ExprParts) (c : CelChecked) → IsExprOf parts c
         → IsElaborated c (typed_view typed.now) → e ≡ Refusal.Memory) }

@@ -6,7 +6,6 @@ ghost use Rattle.cel_overload.specs.declared.overload.Overload.TheVariants as Ov
 ghost use Rattle.cel_value.specs.Types.{type_view};
 ghost use Rattle.cel_tree.specs.View.{constant_view};
 ghost use Rattle.cel_types.specs.steps.ExprViews.{exprs_view};
-ghost use Rattle.cel_types.specs.Elaborated.{no_typed};
 ghost use Rattle.cel_types.specs.Names.{variable_count};
 ghost use Rattle.stack_machine.specs.Instructions.{instr_view, Const, Field, HasField};
 ghost use Rattle.stack_machine.specs.Instructions as machine;
@@ -18,7 +17,7 @@ use cel_ops::Operation;
 use cel_overload::Overload;
 use cel_tree::Constant;
 use cel_types::{TypedExpr, Variables};
-use cel_value::{CelType, KeyType};
+use cel_value::CelType;
 use stack_machine::{Constant as MachineConstant, Instr};
 use std::alloc::AllocError;
 use std::rc::RcStr;
@@ -93,7 +92,8 @@ pub(crate) fn call_instr(overload: Overload) -> Instr
     }
 }
 
-/// The instruction of a list literal: it has the type of an empty list, or the number of elements.
+/// The instruction of a list literal of this type. It has the items' type if the list is empty, else the number
+/// of elements.
 pub(crate) fn list_instr(
     cel_type: &CelType,
     elements: &[TypedExpr<'_>],
@@ -102,49 +102,25 @@ pub(crate) fn list_instr(
     ensures { IfOk result (λ i.
         instr_view i ≡ list_instruction (type_view cel_type.now) (exprs_view elements.now)) }
 {
-    if elements.is_empty() {
-        return empty_list(cel_type);
-    }
-    Ok(Instr::MakeList(elements.len() as u16))
-}
-
-fn empty_list(cel_type: &CelType) -> Result<Instr, AllocError>
-    ensures { IfOk result (λ i. instr_view i ≡ list_instruction (type_view cel_type.now) no_typed) }
-{
     match cel_type {
-        CelType::List(items) => Ok(Instr::EmptyList(items.copy()?)),
-        CelType::Bool => Ok(Instr::EmptyList(CelType::Bool)),
-        CelType::Int => Ok(Instr::EmptyList(CelType::Int)),
-        CelType::Uint => Ok(Instr::EmptyList(CelType::Uint)),
-        CelType::Text => Ok(Instr::EmptyList(CelType::Text)),
-        CelType::Bytes => Ok(Instr::EmptyList(CelType::Bytes)),
-        CelType::Map(keys, values) => Ok(Instr::EmptyList(CelType::Map(*keys, values.clone()?))),
+        CelType::List(items) if elements.is_empty() => Ok(Instr::EmptyList(items.copy()?)),
+        _ => Ok(Instr::MakeList(elements.len() as u16)),
     }
 }
 
-/// The instruction of a map literal: it has the type of an empty map, or the number of pairs.
+/// The instruction of a map literal of this type. It has the types of keys and values if the map is empty, else
+/// the number of pairs.
 pub(crate) fn map_instr(cel_type: &CelType, pairs: &[TypedExpr<'_>]) -> Result<Instr, AllocError>
     requires { length pairs.now < 2 ^ 16 }
     ensures { IfOk result (λ i.
         instr_view i ≡ map_instruction (type_view cel_type.now) (exprs_view pairs.now)) }
 {
-    if pairs.is_empty() {
-        return empty_map(cel_type);
-    }
-    Ok(Instr::MakeMap((pairs.len() / 2) as u16))
-}
-
-fn empty_map(cel_type: &CelType) -> Result<Instr, AllocError>
-    ensures { IfOk result (λ i. instr_view i ≡ map_instruction (type_view cel_type.now) no_typed) }
-{
     match cel_type {
-        CelType::Map(keys, values) => Ok(Instr::EmptyMap(*keys, values.copy()?)),
-        CelType::Bool => Ok(Instr::EmptyMap(KeyType::Bool, CelType::Bool)),
-        CelType::Int => Ok(Instr::EmptyMap(KeyType::Bool, CelType::Int)),
-        CelType::Uint => Ok(Instr::EmptyMap(KeyType::Bool, CelType::Uint)),
-        CelType::Text => Ok(Instr::EmptyMap(KeyType::Bool, CelType::Text)),
-        CelType::Bytes => Ok(Instr::EmptyMap(KeyType::Bool, CelType::Bytes)),
-        CelType::List(items) => Ok(Instr::EmptyMap(KeyType::Bool, CelType::List(items.clone()?))),
+        CelType::Map(keys, values) if pairs.is_empty() => Ok(Instr::EmptyMap(
+            *keys,
+            values.copy()?,
+        )),
+        _ => Ok(Instr::MakeMap((pairs.len() / 2) as u16)),
     }
 }
 

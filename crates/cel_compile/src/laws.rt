@@ -12,7 +12,7 @@ ghost use Rattle.cel_types.specs.WellTyped.{IsWellTyped};
 ghost use Rattle.stack_machine.specs.Instructions.{Instruction};
 ghost use Rattle.stack_machine.specs.Machine.{NeverStuck};
 ghost use Rattle.stack_machine.specs.Typable.{Forward};
-ghost use Rattle.cel_compile.specs.Codes.{code_of, extent};
+ghost use Rattle.cel_compile.specs.Codes.{code_of};
 ghost use Rattle.cel_compile.specs.Slots.{HasFewLocals};
 ghost use Rattle.cel_compile.specs.Sound.{IsSound, RunsToMeaning};
 
@@ -38,14 +38,12 @@ pub fn compiled_code_is_never_stuck()
         → NeverStuck (code_of 0 0 e) request }
 {}
 
-/// The code of an expression has as many instructions as its extent. The code of an elaboration has fewer
-/// than two for each node of the expression. An expression that was read has at most 2,048 nodes, so its code
-/// has at most 4,095 instructions. If it is typed, at most 64 locals are in scope. So it is never too large
-/// for a code.
+/// The code of an elaboration has fewer than two instructions for each node of the expression, wherever it
+/// begins. An expression that was read has at most 2,048 nodes, so its code has at most 4,095 instructions. If
+/// it is typed, at most 64 locals are in scope. So it is never too large for a code.
 pub fn compiled_code_is_short()
-    ensures extent { (e : TypedTree) (p d : ℕ) → length (code_of p d e) ≡ extent e }
-    ensures short { (c : CelChecked) (e : TypedTree) → IsElaborated c e
-        → extent e < 2 * node_count c.tree }
+    ensures short { (c : CelChecked) (e : TypedTree) (p d : ℕ) → IsElaborated c e
+        → length (code_of p d e) < 2 * node_count c.tree }
     ensures room { (parts : ExprParts) (c : CelChecked) (e : TypedTree) → IsExprOf parts c
         → IsElaborated c e → (length (code_of 0 0 e) ≤ 65535) × HasFewLocals 0 e }
 {}

@@ -4,7 +4,7 @@ use Rattle.proto_wire.specs.Fields.{Wire}
 use Rattle.proto_wire.specs.Merge.{Merges}
 use Rattle.proto_wire.specs.Values.{payloads}
 use Rattle.proto_wire.proofs.Unique.{merges_unique}
-use Rattle.cel_tree.specs.Nodes.{Parts, EntryNode, Node, singles, if_there, entry_children, children, loop_at, loop_children, IsEntry, AreEntries, node_kinds, KindSays, MemberSays, InEntry, InKind, IsChild, IsNode, select_field, call_field, list_field, struct_field, loop_field}
+use Rattle.cel_tree.specs.Nodes.{Parts, EntryNode, Node, singles, if_there, entry_children, children, loop_at, loop_children, IsMapEntry, AreEntries, node_kinds, KindSays, MemberSays, InEntry, InKind, IsChild, IsNode, select_field, call_field, list_field, struct_field, loop_field}
 use Rattle.cel_tree.specs.Reading.{Never}
 use Rattle.cel_tree.specs.declared.node.NodeKind.{NodeKind}
 use Rattle.cel_tree.specs.declared.node.NodeKind.TheVariants as kinds
@@ -74,7 +74,7 @@ in_entries (p ∷ ps) (x ∷ es) child ((fs, message, says), are) here =
       ]
     ]
 
-of_entry : (p : List ℕ) (x : EntryNode) (es : List EntryNode) (own : List Wire) (child : Parts) → IsEntry p x
+of_entry : (p : List ℕ) (x : EntryNode) (es : List EntryNode) (own : List Wire) (child : Parts) → IsMapEntry p x
     → Merges (p ∷ []) own → InEntry own child → Contains (entry_children (x ∷ es)) child
 of_entry p x es own child (fs, message, says) merges inside =
     let P : List Wire → Type 0 = λ gs. InEntry gs child in

@@ -6,7 +6,7 @@ use Rattle.proto_wire.specs.Values.{bool_at, int64_at, bytes_at, payloads, has_f
 use Rattle.proto_wire.specs.declared.refusal.Refusal.{Refusal}
 use Rattle.proto_wire.specs.declared.refusal.Refusal.TheVariants.{BadText, Missing, Unsupported}
 use Rattle.cel_value.specs.Texts.{points_of}
-use Rattle.cel_tree.specs.Nodes.{EntryNode, Node, constant_node, ident_node, select_node, call_node, list_node, map_node, loop_node, ident_keys, IdentSays, IdentWrong, select_keys, SelectSays, SelectLacks, SelectWrong, call_keys, CallSays, CallWrong, list_keys, ListSays, ListWrong, key_members, entry_keys, EntrySays, EntryLacks, EntryWrong, optional, key_of_message, IsEntry, EntryFault, AreEntries, struct_keys, StructSays, StructWrong, bad_name, of_message, in_entry, loop_keys, NamesRead, PartsThere, loop_at, LoopSays, LacksPart, no_range, no_init, no_condition, no_step, no_result, LoopLacks, LoopWrong, bad_iter_var, bad_accu_var, bad_second_name, node_kinds, node_keys, KindSays, KindFault, MemberSays, MemberFails, NodeSays, IsNode, NodeFault, ident_field, select_field, call_field, list_field, entry_field, struct_field, loop_field, node_field}
+use Rattle.cel_tree.specs.Nodes.{EntryNode, Node, constant_node, ident_node, select_node, call_node, list_node, map_node, loop_node, ident_keys, IdentSays, IdentWrong, select_keys, SelectSays, SelectLacks, SelectWrong, call_keys, CallSays, CallWrong, list_keys, ListSays, ListWrong, key_members, entry_keys, EntrySays, EntryLacks, EntryWrong, optional, key_of_message, IsMapEntry, MapEntryFault, AreEntries, struct_keys, StructSays, StructWrong, bad_name, of_message, in_entry, loop_keys, NamesRead, PartsThere, loop_at, LoopSays, LacksPart, no_range, no_init, no_condition, no_step, no_result, LoopLacks, LoopWrong, bad_iter_var, bad_accu_var, bad_second_name, node_kinds, node_keys, KindSays, KindFault, MemberSays, MemberFails, NodeSays, IsNode, NodeFault, ident_field, select_field, call_field, list_field, entry_field, struct_field, loop_field, node_field}
 use Rattle.cel_tree.specs.Reading.{LacksNothing, Never, LacksMember, IsUnsupported, OneofFault}
 use Rattle.cel_tree.specs.steps.Values.{ValuesFault}
 use Rattle.cel_tree.specs.declared.node.NodeKind.{NodeKind}
@@ -117,18 +117,18 @@ entry_says_unique fs a b x y =
     let value : a.value ≡ b.value = x.value ∙ sym y.value in
     λ i. record { id = id i; key = key i; value = value i }
 
-entry_total : (payload : List ℕ) → ((entry : EntryNode) × IsEntry payload entry) ⊎ ((e : Refusal) × EntryFault payload e)
+entry_total : (payload : List ℕ) → ((entry : EntryNode) × IsMapEntry payload entry) ⊎ ((e : Refusal) × MapEntryFault payload e)
 entry_total payload = reads_total entry_keys EntrySays EntryLacks EntryWrong entry_says_total (payload ∷ [])
 
-entry_disjoint : (payload : List ℕ) (entry : EntryNode) (e : Refusal) → IsEntry payload entry → EntryFault payload e → ⊥
+entry_disjoint : (payload : List ℕ) (entry : EntryNode) (e : Refusal) → IsMapEntry payload entry → MapEntryFault payload e → ⊥
 entry_disjoint payload = reads_disjoint entry_keys EntrySays EntryLacks EntryWrong entry_says_disjoint (payload ∷ [])
 
-entry_unique : (payload : List ℕ) (a b : EntryNode) → IsEntry payload a → IsEntry payload b → a ≡ b
+entry_unique : (payload : List ℕ) (a b : EntryNode) → IsMapEntry payload a → IsMapEntry payload b → a ≡ b
 entry_unique payload = reads_unique entry_keys EntrySays entry_says_unique (payload ∷ [])
 
 entries_total : (payloads : List (List ℕ))
     → ((es : List EntryNode) × AreEntries payloads es)
-    ⊎ ((payload : List ℕ) × Contains payloads payload × (e : Refusal) × EntryFault payload e)
+    ⊎ ((payload : List ℕ) × Contains payloads payload × (e : Refusal) × MapEntryFault payload e)
 entries_total [] = inl ([], tt)
 entries_total (p ∷ ps) = elim (entry_total p) [
   | inr (e, bad) ↦ inr (p, contains_first p ps, e, bad)
@@ -139,11 +139,11 @@ entries_total (p ∷ ps) = elim (entry_total p) [
 ]
 
 entries_disjoint : (payloads : List (List ℕ)) (es : List EntryNode) (payload : List ℕ) (e : Refusal)
-    → AreEntries payloads es → Contains payloads payload → EntryFault payload e → ⊥
+    → AreEntries payloads es → Contains payloads payload → MapEntryFault payload e → ⊥
 entries_disjoint [] es payload e are here bad = let lt : here.0 < 0 = here.1 in absurd (omega arith)
 entries_disjoint (p ∷ ps) [] payload e are here bad = are
 entries_disjoint (p ∷ ps) (x ∷ es) payload e are here bad = elim (contains_cases p payload ps here) [
-  | inl same ↦ let P : List ℕ → Type 0 = λ q. EntryFault q e in entry_disjoint p x e are.0 (subst P (sym same) bad)
+  | inl same ↦ let P : List ℕ → Type 0 = λ q. MapEntryFault q e in entry_disjoint p x e are.0 (subst P (sym same) bad)
   | inr later ↦ entries_disjoint ps es payload e are.1 later bad
 ]
 

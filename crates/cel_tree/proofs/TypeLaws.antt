@@ -9,7 +9,7 @@ use Rattle.proto_wire.specs.declared.refusal.Refusal.TheVariants.{OutOfRange, To
 use Rattle.cel_tree.specs.Checked.{CelTypeEntry, dyn_type, unsupported_type}
 use Rattle.cel_tree.specs.Reading.{LacksNothing, OneofSays, Never, OneofFault}
 use Rattle.cel_tree.specs.steps.Values.{ValuesFault}
-use Rattle.cel_tree.specs.TypeEntries.{list_entry, map_entry, primitive_of, TypeNode, plain, list_of, map_of, type_kinds, type_keys, list_type_field, map_type_field, list_type_keys, map_type_keys, ListTypeSays, ListTypeWrong, MapTypeSays, MapTypeWrong, TypeSays, TypeFails, IsOfOtherKind, IsTypeNode, TypeNodeFault, Holds, IsTypeEntry, in_type, in_inner, TypeEntryFault}
+use Rattle.cel_tree.specs.TypeEntries.{list_entry, map_entry, primitive_of, TypeNode, plain, list_of, map_of, type_kinds, type_keys, list_type_field, map_type_field, list_type_keys, map_type_keys, ListTypeSays, ListTypeWrong, MapTypeSays, MapTypeWrong, TypeSays, TypeFails, IsOfOtherKind, IsTypeNode, TypeNodeFault, MeansEntry, IsTypeEntry, in_type, in_inner, TypeEntryFault}
 use Rattle.cel_tree.specs.steps.InnerTypes.{HoldsFault}
 use Rattle.cel_tree.specs.declared.type_node.TypeKind.{TypeKind}
 use Rattle.cel_tree.specs.declared.type_node.TypeKind.TheVariants as kinds
@@ -130,7 +130,7 @@ node_unique = reads_unique type_keys (OneofSays type_kinds IsOfOtherKind TypeSay
 
 module _ (Below : List (List ℕ) → CelTypeEntry → Type 0) (Fails : List (List ℕ) → Refusal → Type 0) where
   holds_total : ((parts : List (List ℕ)) → ((entry : CelTypeEntry) × Below parts entry) ⊎ ((e : Refusal) × Fails parts e))
-      → (node : TypeNode) → ((entry : CelTypeEntry) × Holds Below node entry) ⊎ ((e : Refusal) × HoldsFault Fails node e)
+      → (node : TypeNode) → ((entry : CelTypeEntry) × MeansEntry Below node entry) ⊎ ((e : Refusal) × HoldsFault Fails node e)
   holds_total total (plain own) = inl (own, refl)
   holds_total total (list_of elem) = elim (total elem) [
     | inl (item, is) ↦ inl (list_entry item, (item, is, refl))
@@ -145,7 +145,7 @@ module _ (Below : List (List ℕ) → CelTypeEntry → Type 0) (Fails : List (Li
   ]
 
   holds_disjoint : ((parts : List (List ℕ)) (entry : CelTypeEntry) (e : Refusal) → Below parts entry → Fails parts e → ⊥)
-      → (node : TypeNode) (entry : CelTypeEntry) (e : Refusal) → Holds Below node entry → HoldsFault Fails node e → ⊥
+      → (node : TypeNode) (entry : CelTypeEntry) (e : Refusal) → MeansEntry Below node entry → HoldsFault Fails node e → ⊥
   holds_disjoint disjoint (plain own) entry e holds bad = bad
   holds_disjoint disjoint (list_of elem) entry e (item, is, same) bad = disjoint elem item e is bad
   holds_disjoint disjoint (map_of key value) entry e (k, v, is, also, same) (inl bad) = disjoint key k e is bad
@@ -153,7 +153,7 @@ module _ (Below : List (List ℕ) → CelTypeEntry → Type 0) (Fails : List (Li
 
 module _ (Below : List (List ℕ) → CelTypeEntry → Type 0) where
   holds_unique : ((parts : List (List ℕ)) (a b : CelTypeEntry) → Below parts a → Below parts b → a ≡ b)
-      → (node : TypeNode) (a b : CelTypeEntry) → Holds Below node a → Holds Below node b → a ≡ b
+      → (node : TypeNode) (a b : CelTypeEntry) → MeansEntry Below node a → MeansEntry Below node b → a ≡ b
   holds_unique unique (plain own) a b x y = x ∙ sym y
   holds_unique unique (list_of elem) a b (i, is, same) (j, also, same') =
       same ∙ ap list_entry (unique elem i j is also) ∙ sym same'
@@ -187,6 +187,6 @@ pub type_unique : (depth : ℕ) (parts : List (List ℕ)) (a b : CelTypeEntry)
     → IsTypeEntry depth parts a → IsTypeEntry depth parts b → a ≡ b
 type_unique zero parts a b x y = absurd x
 type_unique (suc depth) parts a b (node, is, holds) (other, also, holds') =
-    let P : TypeNode → Type 0 = λ n. Holds (IsTypeEntry depth) n b in
+    let P : TypeNode → Type 0 = λ n. MeansEntry (IsTypeEntry depth) n b in
     holds_unique (IsTypeEntry depth) (type_unique depth) node a b holds
     (subst P (node_unique parts other node also is) holds')

@@ -2,12 +2,12 @@
 use Rattle.std.proofs.Common.{◌≡◌, ◌-◌, ◌<◌, ℕ, zero, suc, List, arith}
 use Rattle.proto_wire.specs.declared.refusal.Refusal.{Refusal}
 use Rattle.cel_tree.specs.Checked.{CelTypeEntry}
-use Rattle.cel_tree.specs.TypeEntries.{TypeNode, IsTypeNode, Holds, IsTypeEntry, TypeNodeFault, in_type, in_inner, TypeEntryFault}
+use Rattle.cel_tree.specs.TypeEntries.{TypeNode, IsTypeNode, MeansEntry, IsTypeEntry, TypeNodeFault, in_type, in_inner, TypeEntryFault}
 use Rattle.cel_tree.specs.steps.InnerTypes.{HoldsFault}
 use Rattle.cel_tree.proofs.InnerLaws.{inner_fault}
 
 pub type_found : (depth : ℕ) (parts : List (List ℕ)) (node : TypeNode) (entry : CelTypeEntry) → 0 < depth
-    → IsTypeNode parts node → Holds (IsTypeEntry (depth - 1)) node entry → IsTypeEntry depth parts entry
+    → IsTypeNode parts node → MeansEntry (IsTypeEntry (depth - 1)) node entry → IsTypeEntry depth parts entry
 type_found zero parts node entry more is holds = absurd (omega arith)
 type_found (suc depth) parts node entry more is holds =
     let less : suc depth - 1 ≡ depth = omega arith in (node, is, rw less at holds)

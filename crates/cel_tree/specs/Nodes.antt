@@ -86,7 +86,7 @@ children (loop_node p) = loop_children p
 abbrev pub ident_field : record { name : ℕ }
 ident_field = record { name = 1 }
 
--- all fields
+-- the keys of all fields of an Ident
 abbrev pub ident_keys : List Key
 ident_keys = len_key ident_field.name ∷ []
 
@@ -105,7 +105,7 @@ IdentWrong fs e = Utf8Fault (bytes_at ident_field.name fs) e
 abbrev pub select_field : record { operand : ℕ; field : ℕ; test_only : ℕ }
 select_field = record { operand = 1; field = 2; test_only = 3 }
 
--- all fields
+-- the keys of all fields of a Select
 abbrev pub select_keys : List Key
 select_keys = len_key select_field.operand ∷ len_key select_field.field
     ∷ varint_key select_field.test_only ∷ []
@@ -131,7 +131,7 @@ SelectWrong fs e = Utf8Fault (bytes_at select_field.field fs) e
 abbrev pub call_field : record { target : ℕ; function : ℕ; args : ℕ }
 call_field = record { target = 1; function = 2; args = 3 }
 
--- all fields
+-- the keys of all fields of a Call
 abbrev pub call_keys : List Key
 call_keys = len_key call_field.target ∷ len_key call_field.function ∷ len_key call_field.args ∷ []
 
@@ -151,7 +151,7 @@ CallWrong fs e = Utf8Fault (bytes_at call_field.function fs) e
 abbrev pub list_field : record { elements : ℕ; optional_indices : ℕ }
 list_field = record { elements = 1; optional_indices = 2 }
 
--- all fields
+-- the keys of all fields of a CreateList
 abbrev pub list_keys : List Key
 list_keys = len_key list_field.elements ∷ len_key list_field.optional_indices
     ∷ varint_key list_field.optional_indices ∷ []
@@ -175,7 +175,7 @@ entry_field = record { id = 1; field_key = 2; map_key = 3; value = 4; optional_e
 abbrev pub key_members : List Key
 key_members = len_key entry_field.field_key ∷ len_key entry_field.map_key ∷ []
 
--- all fields
+-- the keys of all fields of an Entry of a CreateStruct
 abbrev pub entry_keys : List Key
 entry_keys = varint_key entry_field.id ∷ len_key entry_field.field_key
     ∷ len_key entry_field.map_key ∷ len_key entry_field.value
@@ -201,20 +201,19 @@ pub data EntryWrong (fs : List Wire) (e : Refusal) : Type 0 where
       → e ≡ Unsupported → EntryWrong fs e
 
 -- the payload is an entry
-abbrev pub IsEntry : List ℕ → EntryNode → Type 0
-IsEntry payload entry = Reads entry_keys EntrySays (payload ∷ []) entry
+abbrev pub IsMapEntry : List ℕ → EntryNode → Type 0
+IsMapEntry payload entry = Reads entry_keys EntrySays (payload ∷ []) entry
 
 -- a fault of an entry's payload
-abbrev pub EntryFault : List ℕ → Refusal → Type 0
-EntryFault payload e = ReadFault entry_keys EntryLacks EntryWrong (payload ∷ []) e
+abbrev pub MapEntryFault : List ℕ → Refusal → Type 0
+MapEntryFault payload e = ReadFault entry_keys EntryLacks EntryWrong (payload ∷ []) e
 
 -- the payloads are these entries, in order
 abbrev pub AreEntries : List (List ℕ) → List EntryNode → Type 0
 AreEntries [] [] = Unit {0}
-AreEntries [] (entry ∷ entries) = ⊥
-AreEntries (payload ∷ payloads) [] = ⊥
 AreEntries (payload ∷ payloads) (entry ∷ entries) =
-    IsEntry payload entry × AreEntries payloads entries
+    IsMapEntry payload entry × AreEntries payloads entries
+AreEntries _ _ = ⊥
 
 -- ---- CreateStruct
 
@@ -222,7 +221,7 @@ AreEntries (payload ∷ payloads) (entry ∷ entries) =
 abbrev pub struct_field : record { message_name : ℕ; entries : ℕ }
 struct_field = record { message_name = 1; entries = 2 }
 
--- all fields
+-- the keys of all fields of a CreateStruct
 abbrev pub struct_keys : List Key
 struct_keys = len_key struct_field.message_name ∷ len_key struct_field.entries ∷ []
 
@@ -237,7 +236,7 @@ pub data StructWrong (fs : List Wire) (e : Refusal) : Type 0 where
   bad_name : Utf8Fault (bytes_at struct_field.message_name fs) e → StructWrong fs e
   of_message : bytes_at struct_field.message_name fs ≢ [] → e ≡ Unsupported → StructWrong fs e
   in_entry : (payload : List ℕ) → Contains (payloads struct_field.entries fs) payload
-      → EntryFault payload e → StructWrong fs e
+      → MapEntryFault payload e → StructWrong fs e
 
 -- ---- Comprehension
 
@@ -245,7 +244,7 @@ pub data StructWrong (fs : List Wire) (e : Refusal) : Type 0 where
 abbrev pub loop_field : record { iter_var : ℕ; iter_range : ℕ; accu_var : ℕ; accu_init : ℕ; loop_condition : ℕ; loop_step : ℕ; result : ℕ; iter_var2 : ℕ }
 loop_field = record { iter_var = 1; iter_range = 2; accu_var = 3; accu_init = 4; loop_condition = 5; loop_step = 6; result = 7; iter_var2 = 8 }
 
--- all fields
+-- the keys of all fields of a Comprehension
 abbrev pub loop_keys : List Key
 loop_keys = len_key loop_field.iter_var ∷ len_key loop_field.iter_range
     ∷ len_key loop_field.accu_var ∷ len_key loop_field.accu_init
@@ -321,7 +320,7 @@ node_kinds = (len_key node_field.const_expr, Some kinds.Constant)
 abbrev pub kind_keys : List Key
 kind_keys = keys_of node_kinds
 
--- all fields
+-- the keys of all fields of an Expr
 abbrev pub node_keys : List Key
 node_keys = varint_key node_field.id ∷ kind_keys
 
@@ -377,8 +376,6 @@ InEntry fs child = ((last_number key_members fs ≡ Some entry_field.map_key)
 
 -- the child is an expression in the fields of a member's message
 abbrev pub InKind : NodeKind → List Wire → Parts → Type 0
-InKind kinds.Constant fs child = ⊥
-InKind kinds.Ident fs child = ⊥
 InKind kinds.Select fs child = IsPart select_field.operand fs child
 InKind kinds.Call fs child = IsPart call_field.target fs child ⊎ IsElement call_field.args fs child
 InKind kinds.List fs child = IsElement list_field.elements fs child
@@ -389,6 +386,7 @@ InKind kinds.Comprehension fs child =
     IsPart loop_field.iter_range fs child ⊎ IsPart loop_field.accu_init fs child
     ⊎ IsPart loop_field.loop_condition fs child ⊎ IsPart loop_field.loop_step fs child
     ⊎ IsPart loop_field.result fs child
+InKind _ fs child = ⊥
 
 -- the child is an expression inside an Expr
 abbrev pub IsChild : Parts → Parts → Type 0

@@ -34,9 +34,8 @@ Makes _ _ _ _ = ⊥
 -- each message is the tree at its place
 abbrev pub AreTrees : (Parts → CelTree → Type 0) → List Parts → CelTrees → Type 0
 AreTrees Below [] no_trees = Unit {0}
-AreTrees Below [] (tree t ts) = ⊥
-AreTrees Below (child ∷ children) no_trees = ⊥
 AreTrees Below (child ∷ children) (tree t ts) = Below child t × AreTrees Below children ts
+AreTrees Below _ _ = ⊥
 
 -- the parts merge to a node, and each expression inside is a tree in `Below`, one level down
 pub record IsLevel (Below : Parts → CelTree → Type 0) (parts : Parts) (t : CelTree) : Type 0 where

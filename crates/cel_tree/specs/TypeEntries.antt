@@ -147,18 +147,18 @@ IsInner = StandsIn type_kinds InTypeKind
 -- ---- all levels; `Below` is the types one level down
 
 -- the type, whose types inside are in `Below`, is this entry
-abbrev pub Holds : (List (List ℕ) → CelTypeEntry → Type 0) → TypeNode → CelTypeEntry → Type 0
-Holds Below (plain own) entry = entry ≡ own
-Holds Below (list_of elem) entry =
+abbrev pub MeansEntry : (List (List ℕ) → CelTypeEntry → Type 0) → TypeNode → CelTypeEntry → Type 0
+MeansEntry Below (plain own) entry = entry ≡ own
+MeansEntry Below (list_of elem) entry =
     (item : CelTypeEntry) × Below elem item × (entry ≡ list_entry item)
-Holds Below (map_of key value) entry =
+MeansEntry Below (map_of key value) entry =
     (k v : CelTypeEntry) × Below key k × Below value v × (entry ≡ map_entry k v)
 
 -- the parts merge to a Type of at most `depth` levels, which means this entry
 abbrev pub IsTypeEntry : ℕ → List (List ℕ) → CelTypeEntry → Type 0
 IsTypeEntry zero parts entry = ⊥
 IsTypeEntry (suc depth) parts entry =
-    (node : TypeNode) × IsTypeNode parts node × Holds (IsTypeEntry depth) node entry
+    (node : TypeNode) × IsTypeNode parts node × MeansEntry (IsTypeEntry depth) node entry
 
 -- a fault of a Type's own message, or of a type inside; several faults are possible at once
 pub data TypeLevelFault (Below : List (List ℕ) → Refusal → Type 0) (parts : List (List ℕ))

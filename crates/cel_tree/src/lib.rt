@@ -3,6 +3,7 @@
 
 mod checked;
 mod constant;
+mod faulty;
 mod fields;
 mod id_map;
 pub mod laws;
@@ -20,5 +21,6 @@ mod type_entry;
 mod type_node;
 
 pub use checked::{Checked, Reference, ReferenceMap, TypeEntry, TypeMap};
+pub use faulty::{FaultyPart, faulty_expr, faulty_part};
 pub use message::{read_checked, read_checked_parts, read_unchecked_parts};
 pub use tree::{Comprehension, Constant, Tree, TreeEntry};

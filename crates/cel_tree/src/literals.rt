@@ -6,7 +6,7 @@ ghost use Rattle.proto_wire.specs.Merge.{parts_view};
 ghost use Rattle.proto_wire.specs.Refusal.{MemoryOr};
 ghost use Rattle.proto_wire.specs.Values.{has_field, bool_at, bytes_at, payloads};
 ghost use Rattle.proto_wire.specs.declared.refusal.Refusal.TheVariants.{Missing, Unsupported};
-ghost use Rattle.cel_tree.specs.Nodes.{list_field, list_keys, ListSays, ListWrong, entry_field, key_members, EntrySays, EntryLacks, EntryWrong, IsEntry, EntryFault, AreEntries, struct_field, struct_keys, StructSays, StructWrong};
+ghost use Rattle.cel_tree.specs.Nodes.{list_field, list_keys, ListSays, ListWrong, entry_field, key_members, EntrySays, EntryLacks, EntryWrong, IsMapEntry, MapEntryFault, AreEntries, struct_field, struct_keys, StructSays, StructWrong};
 ghost use Rattle.cel_tree.specs.Reading.{Reads, ReadFault, LacksNothing};
 ghost use Rattle.cel_tree.specs.steps.Values.{ValuesFault};
 ghost use Rattle.proto_wire.specs.Oneof.{last_number};
@@ -113,7 +113,7 @@ fn entries_of<'a>(alloc: Global, fields: &[Field<'a>]) -> Result<Vec<EntryNode<'
     ensures found { IfOk result (λ entries.
         AreEntries (payloads struct_field.entries (map field_view fields.now)) (entry_nodes_view entries.items)) }
     ensures fault { IfErr result (MemoryOr (λ e. (payload : List ℕ)
-        × Contains (payloads struct_field.entries (map field_view fields.now)) payload × EntryFault payload e)) }
+        × Contains (payloads struct_field.entries (map field_view fields.now)) payload × MapEntryFault payload e)) }
 {
     let payloads = payloads_of(alloc, fields, ENTRIES)?;
     read_entries(alloc, &payloads)
@@ -135,7 +135,7 @@ fn refuse_message(fields: &[Field<'_>]) -> Result<(), Refusal>
 fn read_entries<'a>(alloc: Global, payloads: &[&'a [u8]]) -> Result<Vec<EntryNode<'a>>, Refusal>
     ensures found { IfOk result (λ entries. AreEntries (parts_view payloads.now) (entry_nodes_view entries.items)) }
     ensures fault { IfErr result (MemoryOr (λ e.
-        (payload : List ℕ) × Contains (parts_view payloads.now) payload × EntryFault payload e)) }
+        (payload : List ℕ) × Contains (parts_view payloads.now) payload × MapEntryFault payload e)) }
 {
     let mut entries = Vec::new(alloc);
     for payload in payloads {
@@ -147,8 +147,8 @@ fn read_entries<'a>(alloc: Global, payloads: &[&'a [u8]]) -> Result<Vec<EntryNod
 
 /// Reads an Entry from its payload.
 fn read_entry<'a>(alloc: Global, payload: &'a [u8]) -> Result<EntryNode<'a>, Refusal>
-    ensures found { IfOk result (λ entry. IsEntry payload.now (entry_node_view entry)) }
-    ensures fault { IfErr result (MemoryOr (EntryFault payload.now)) }
+    ensures found { IfOk result (λ entry. IsMapEntry payload.now (entry_node_view entry)) }
+    ensures fault { IfErr result (MemoryOr (MapEntryFault payload.now)) }
 {
     let fields = read_message(alloc, &[payload], &ENTRY)?;
     entry_of(alloc, &fields)

@@ -23,15 +23,15 @@ use proto_wire::{Field, Key, Refusal, keys, payloads_of, read_message, require_p
 use std::alloc::Global;
 
 /// How many nodes a tree may have.
-const MOST_NODES: u32 = 2048;
+pub(crate) const MOST_NODES: u32 = 2048;
 
-const EXPR: u32 = 4;
+pub(crate) const EXPR: u32 = 4;
 
 const SOURCE_INFO: u32 = 5;
 
 const EXPR_VERSION: u32 = 6;
 
-static CHECKED: [Key; 5] = keys![
+pub(crate) static CHECKED: [Key; 5] = keys![
     Len REFERENCE_MAP, Len TYPE_MAP, Len EXPR, Len SOURCE_INFO, Len EXPR_VERSION
 ];
 
@@ -91,7 +91,7 @@ fn maps_of(alloc: Global, fields: &[Field<'_>]) -> Result<(TypeMap, ReferenceMap
 }
 
 /// The tree of the fields.
-fn tree_of(alloc: Global, fields: &[Field<'_>]) -> Result<Tree, Refusal>
+pub(crate) fn tree_of(alloc: Global, fields: &[Field<'_>]) -> Result<Tree, Refusal>
     ensures found { IfOk result (λ t. IsTree tree_depth (payloads checked_field.expr (map field_view fields.now)) (tree_view t)
         × (node_count (tree_view t) ≤ most_nodes)) }
     ensures fault { IfErr result (MemoryOr

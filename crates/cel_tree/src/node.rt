@@ -22,7 +22,7 @@ use proto_wire::{Field, Key, Payloads, Refusal, int64_at, keys, last_number, rea
 use std::alloc::Global;
 use std::rc::RcStr;
 
-const ID: u32 = 2;
+pub(crate) const ID: u32 = 2;
 
 const CONST_EXPR: u32 = 3;
 

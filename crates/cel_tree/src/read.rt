@@ -225,12 +225,23 @@ fn read_trees(
         × (left.new + trees_count (trees_view v.items) ≡ left.old)) }
     ensures fault { IfErr result (MemoryOr (SomeFails depth left.old (singles (parts_view payloads.now)))) }
 {
-    let mut trees = Vec::new(alloc);
+    let mut trees = no_trees(alloc, payloads.len(), *left)?;
     for payload in payloads {
         let tree = read_tree(alloc, &[*payload], depth, left)?;
         trees.push(tree)?;
     }
     Ok(trees)
+}
+
+/// An empty list, with room for `count` trees, but at most for the `left` nodes that may follow.
+fn no_trees(alloc: Global, count: usize, left: u32) -> Result<Vec<Tree>, AllocError>
+    ensures { IfOk result (λ v. v.items ≡ []) }
+{
+    let most = left as usize;
+    if count < most {
+        return Vec::with_capacity(alloc, count);
+    }
+    Vec::with_capacity(alloc, most)
 }
 
 /// Reads the keys and values of a map literal's entries.

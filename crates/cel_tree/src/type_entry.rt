@@ -4,7 +4,7 @@ ghost use Rattle.std.specs.Prelude.{◌≡◌, ◌⊎◌, IfOk, IfErr};
 ghost use Rattle.proto_wire.specs.Merge.{parts_view};
 ghost use Rattle.proto_wire.specs.Refusal.{MemoryOr};
 ghost use Rattle.cel_value.specs.Types.{type_view};
-ghost use Rattle.cel_tree.specs.TypeEntries.{list_of, map_of, list_entry, map_entry, Holds, IsTypeEntry, TypeEntryFault};
+ghost use Rattle.cel_tree.specs.TypeEntries.{list_of, map_of, list_entry, map_entry, MeansEntry, IsTypeEntry, TypeEntryFault};
 ghost use Rattle.cel_tree.specs.View.{type_entry_view};
 ghost use Rattle.cel_tree.specs.steps.InnerTypes.{HoldsFault};
 ghost use Rattle.cel_tree.specs.steps.NodeViews.{type_node_view};
@@ -31,7 +31,7 @@ pub(crate) fn read_type(alloc: Global, parts: &[&[u8]], depth: u32) -> Result<Ty
 #[cycle(type_entry)]
 fn read_inner(alloc: Global, node: TypeNode<'_>, depth: u32) -> Result<TypeEntry, Refusal>
     ensures found { IfOk result (λ entry.
-        Holds (IsTypeEntry depth) (type_node_view node.entry) (type_entry_view entry)) }
+        MeansEntry (IsTypeEntry depth) (type_node_view node.entry) (type_entry_view entry)) }
     ensures fault { IfErr result (MemoryOr (HoldsFault (TypeEntryFault depth) (type_node_view node.entry))) }
 {
     match node {
@@ -46,7 +46,7 @@ fn read_inner(alloc: Global, node: TypeNode<'_>, depth: u32) -> Result<TypeEntry
 #[inline(always)]
 fn read_list(alloc: Global, elem: &Payloads<'_>, depth: u32) -> Result<TypeEntry, Refusal>
     ensures found { IfOk result (λ entry.
-        Holds (IsTypeEntry depth) (list_of (parts_view elem.now.items)) (type_entry_view entry)) }
+        MeansEntry (IsTypeEntry depth) (list_of (parts_view elem.now.items)) (type_entry_view entry)) }
     ensures fault { IfErr result (MemoryOr (TypeEntryFault depth (parts_view elem.now.items))) }
 {
     let item = read_type(alloc, elem, depth)?;
@@ -62,7 +62,7 @@ fn read_map(
     value: &Payloads<'_>,
     depth: u32,
 ) -> Result<TypeEntry, Refusal>
-    ensures found { IfOk result (λ entry. Holds (IsTypeEntry depth)
+    ensures found { IfOk result (λ entry. MeansEntry (IsTypeEntry depth)
         (map_of (parts_view key.now.items) (parts_view value.now.items)) (type_entry_view entry)) }
     ensures fault { IfErr result (MemoryOr (λ e.
         TypeEntryFault depth (parts_view key.now.items) e ⊎ TypeEntryFault depth (parts_view value.now.items) e)) }

@@ -10,7 +10,7 @@ use Rattle.cel_tree.specs.Checked.{CelReference, CelTypeEntry, of_type, dyn_type
 use Rattle.cel_tree.specs.Tree.{CelTree, constant, ident, select, call, list_literal, map_literal, comprehension, CelTarget, no_target, target, CelTrees, no_trees, tree, CelTreeEntries, no_tree_entries, tree_entry}
 use Rattle.cel_types.specs.Names.{joined_name, root_of, turn_scope, variables_of}
 use Rattle.cel_types.specs.Typing.{EachAgrees, EntriesAgree, EntryAgrees, IsOver, Kinds, ListRule, MapRule, Maps, NameAgrees, PairsAgree, SelectAgrees, SelectRule, TargetAgrees, Types, TypesAll, TypesEach, TypesPairs, TypesTarget}
-use Rattle.cel_types.specs.TypingFaults.{ItemTypes, KeyTypes, SomeTypes, ElementsFault, EntryFault, IdentFault, ListFault, MapsFault, PairFault, PairsFault, SelectFault, SomeFault, TargetFault, TypeFault, CallsFault}
+use Rattle.cel_types.specs.TypingFaults.{ItemTypes, KeyTypes, SomeTypes, ElementsFault, NodeTypeFault, IdentFault, ListFault, MapsFault, PairFault, PairsFault, SelectFault, SomeFault, TargetFault, TypeFault, CallsFault}
 use Rattle.cel_types.specs.TypingFaults.{unsupported_kind, another_type, in_range, in_init, in_turn, in_result}
 use Rattle.cel_types.proofs.OneType.{OneAtMost, one_type, over_one}
 use Rattle.cel_types.proofs.Total.{ref_decided, same_type, type_total, typed_no_root}
@@ -20,7 +20,7 @@ abbrev pub Kept : Type 0 → (Refusal → Type 0) → Type 0
 Kept P Fault = P ⊎ ((e : Refusal) × Fault e)
 
 entry_kept : (entry : Option CelTypeEntry) (Has : ValueType → Type 0) (t : ValueType)
-    → OneAtMost Has → Has t → Kept (EntryAgrees entry Has) (EntryFault entry Has)
+    → OneAtMost Has → Has t → Kept (EntryAgrees entry Has) (NodeTypeFault entry Has)
 entry_kept None Has t one has = inl (λ u h. tt)
 entry_kept (Some dyn_type) Has t one has = inl (λ u h. tt)
 entry_kept (Some unsupported_type) Has t one has = inr (Unsupported, unsupported_kind refl refl)

@@ -13,12 +13,12 @@ use Rattle.cel_ops.specs.Attributes.{attribute_type}
 use Rattle.cel_types.specs.Attributes.{attribute_named}
 use Rattle.cel_types.specs.Names.{joined_name, root_of, turn_scope, variables_of}
 use Rattle.cel_types.specs.Typing.{CallRule, EachAgrees, EntriesAgree, EntryAgrees, IdentRule, IsList, IsMap, IsOver, Kinds, ListRule, LoopRule, MapRule, Maps, NameAgrees, PairsAgree, RefAgrees, SelectAgrees, SelectRule, TargetAgrees, TypeAgrees, TypeGiven, Types, TypesAll, TypesEach, TypesPairs, TypesTarget, has_target}
-use Rattle.cel_types.specs.TypingFaults.{AreGot, CallsFault, ElementsFault, EmptyFault, EntryFault, IdentFault, ItemTypes, KeyTypes, ListFault, LoopFault, MapsFault, PairFault, PairsFault, SaysNothing, SelectFault, SomeFault, SomeTypes, TargetFault, TypeFault}
-use Rattle.cel_types.specs.TypingFaults.{unsupported_kind, another_type, untold, of_another_kind, no_element_name, no_gathered_name, one_name, one_variable, second_gathered, no_elements, no_condition, no_step, in_range, in_init, in_turn, in_result}
+use Rattle.cel_types.specs.TypingFaults.{AreGot, CallsFault, ElementsFault, EmptyFault, NodeTypeFault, IdentFault, ItemTypes, KeyTypes, ListFault, LoopFault, MapsFault, PairFault, PairsFault, SaysNothing, SelectFault, SomeFault, SomeTypes, TargetFault, TypeFault}
+use Rattle.cel_types.specs.TypingFaults.{unsupported_kind, another_type, unstated, of_another_kind, no_element_name, no_accumulator_name, one_name, one_variable, second_accumulator, no_elements, no_condition, no_step, in_range, in_init, in_turn, in_result}
 use Rattle.cel_types.proofs.OneType.{OneAtMost, one_each, one_target, one_type, over_one}
 
 entry_apart : (entry : Option CelTypeEntry) (Has : ValueType → Type 0) (t : ValueType)
-    (e : Refusal) → Has t → EntryAgrees entry Has → EntryFault entry Has e → ⊥
+    (e : Refusal) → Has t → EntryAgrees entry Has → NodeTypeFault entry Has e → ⊥
 entry_apart entry Has t e has agrees (unsupported_kind is _) =
     subst (λ o. TypeAgrees o t) is (agrees t has)
 entry_apart entry Has t e has agrees (another_type s u other is differs _) =
@@ -32,7 +32,7 @@ told (Some (of_type s)) t given says = says
 
 empty_apart : (entry : Option CelTypeEntry) (IsKind : ValueType → Type 0) (t : ValueType)
     (e : Refusal) → TypeGiven entry t → IsKind t → EmptyFault entry IsKind e → ⊥
-empty_apart entry IsKind t e given kind (untold says _) = told entry t given says
+empty_apart entry IsKind t e given kind (unstated says _) = told entry t given says
 empty_apart entry IsKind t e given kind (of_another_kind s is never _) =
     never (subst IsKind (sym (subst (λ o. TypeGiven o t) is given)) kind)
 
@@ -170,10 +170,10 @@ module _ (x y acc : List ℕ) (Range Init : ValueType → Type 0)
       → LoopRule x y acc Range Init Condition Step Result t
       → LoopFault x y acc Range Init Condition Step InRange InInit InTurn InResult e → ⊥
   loop_apart t e rule (no_element_name is _) = rule.names.element is
-  loop_apart t e rule (no_gathered_name is _) = rule.names.gathered is
+  loop_apart t e rule (no_accumulator_name is _) = rule.names.gathered is
   loop_apart t e rule (one_name is _) = rule.names.differ is
   loop_apart t e rule (one_variable some is _) = rule.names.second is
-  loop_apart t e rule (second_gathered some is _) = rule.names.apart is
+  loop_apart t e rule (second_accumulator some is _) = rule.names.apart is
   loop_apart t e rule (no_elements s r never _) =
       never rule.each (subst (λ w. IsOver (variables_of y) w rule.each) (range rule.walked s rule.range r)
       rule.over)

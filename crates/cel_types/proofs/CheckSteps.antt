@@ -35,7 +35,7 @@ use Rattle.cel_types.specs.declared.checker.scope.Scope.{Scope, Empty, Local, th
 use Rattle.cel_types.specs.declared.typed.TypedExpr.{TypedExpr, the_lemmas as expr_lemmas}
 use Rattle.cel_types.specs.declared.typed.TypedExpr as exprs
 use Rattle.cel_types.specs.declared.typed.TypedLoop.{TypedLoop}
-use Rattle.cel_types.specs.steps.Kinds.{IsMapOf, NoMapOf, NotTold, in_turn}
+use Rattle.cel_types.specs.steps.Kinds.{IsMapOf, NoMapOf, NotStated, in_turn}
 use Rattle.cel_types.specs.steps.Scopes.{IsName, name_view, scope_view}
 
 pub view_empty : scope_view Empty ≡ []
@@ -229,7 +229,7 @@ short_map entry (x ∷ []) t few is = is
 short_map entry (x ∷ y ∷ es) t few is = absurd (omega (arith, few))
 
 pub short_fault : (entry : Option CelTypeEntry) (es : List TypedExpr) (e : Refusal) → length es < 2
-    → NotTold entry IsMap e → NoMapOf entry (kinds (exprs_view es)) e
+    → NotStated entry IsMap e → NoMapOf entry (kinds (exprs_view es)) e
 short_fault entry [] e few f = f
 short_fault entry (x ∷ []) e few f = f
 short_fault entry (x ∷ y ∷ es) e few f = absurd (omega (arith, few))

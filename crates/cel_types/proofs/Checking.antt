@@ -15,8 +15,8 @@ use Rattle.cel_value.specs.declared.cel_type.KeyType.TheVariants as keys
 use Rattle.cel_types.specs.Elaborated.{ElaboratesEach, ElaboratesPairs, ElaboratesTarget, TypedTree, TypedTrees, kind, kinds, no_typed, typed, typed_list, typed_loop, typed_map}
 use Rattle.cel_types.specs.Names.{bound, joined_name, root_of, turn_scope, variables_of}
 use Rattle.cel_types.specs.Typing.{EachAgrees, EntriesAgree, EntryAgrees, ListRule, MapRule, IsOver, Kinds, Maps, NamesDiffer, PairsAgree, TargetAgrees, TypeAgrees, Types, TypesAll, TypesEach, TypesPairs, TypesTarget, has_target, locals_in, locals_in_each, locals_in_entries}
-use Rattle.cel_types.specs.TypingFaults.{CallsFault, ElementsFault, EntryFault, ItemTypes, KeyTypes, PairFault, PairsFault, SelectFault, SomeFault, SomeTypes, TargetFault, TypeFault}
-use Rattle.cel_types.specs.TypingFaults.{unsupported_kind, another_type, no_element_name, no_gathered_name, one_name, one_variable, second_gathered, no_elements, no_condition, no_step, in_range, in_init, in_turn as faulty_turn, in_result}
+use Rattle.cel_types.specs.TypingFaults.{CallsFault, ElementsFault, NodeTypeFault, ItemTypes, KeyTypes, PairFault, PairsFault, SelectFault, SomeFault, SomeTypes, TargetFault, TypeFault}
+use Rattle.cel_types.specs.TypingFaults.{unsupported_kind, another_type, no_element_name, no_accumulator_name, one_name, one_variable, second_accumulator, no_elements, no_condition, no_step, in_range, in_init, in_turn as faulty_turn, in_result}
 use Rattle.cel_types.specs.View.{expr_view, typed_of}
 use Rattle.cel_types.specs.steps.ExprViews.{exprs_view}
 use Rattle.cel_types.specs.steps.Checks.{AreFound, InsideAgrees, IsAttribute, IsCalled, IsFound, IsNode, IsTarget, IsTurn, NamesFault, TurnFault, id_of}
@@ -56,13 +56,13 @@ pub entry_agrees : (entry : Option CelTypeEntry) (Has : ValueType → Type 0) (t
 entry_agrees entry Has t one has agrees u h = subst (TypeAgrees entry) (one t u has h) agrees
 
 pub entry_fault : (entry : Option CelTypeEntry) (Has : ValueType → Type 0) (t : ValueType)
-    (e : Refusal) → Has t → EntryFault entry (λ u. u ≡ t) e → EntryFault entry Has e
+    (e : Refusal) → Has t → NodeTypeFault entry (λ u. u ≡ t) e → NodeTypeFault entry Has e
 entry_fault entry Has t e has (unsupported_kind is err) = unsupported_kind is err
 entry_fault entry Has t e has (another_type s u is said differs err) =
     another_type s u (subst Has (sym is) has) said differs err
 
 pub node_fault : (m : Maps) (ks : Kinds) (t : CelTree) (s : ValueType) (e : Refusal)
-    → Types m ks t s → EntryFault (get m.types (id_of t)) (Types m ks t) e → TypeFault m ks t e
+    → Types m ks t s → NodeTypeFault (get m.types (id_of t)) (Types m ks t) e → TypeFault m ks t e
 node_fault m ks (constant id v) s e g f = inr f
 node_fault m ks (ident id name) s e g f = inr (typed_no_root name ks s g, f)
 node_fault m ks (select id operand field test_only) s e g f = inr f
@@ -96,7 +96,7 @@ node_found m ks t e node agrees =
 
 -- one whose type entry does not agree has a fault
 pub entry_wrong : (m : Maps) (ks : Kinds) (t : CelTree) (e : TypedTree) → IsNode m ks t e
-    → (d : Refusal) → EntryFault (get m.types (id_of t)) (λ u. u ≡ kind e) d → TypeFault m ks t d
+    → (d : Refusal) → NodeTypeFault (get m.types (id_of t)) (λ u. u ≡ kind e) d → TypeFault m ks t d
 entry_wrong m ks t e node d f =
     let has = types_of m ks t e node.0 in
     node_fault m ks t (kind e) d has
@@ -377,10 +377,10 @@ module _ (m : Maps) (ks : Kinds) (id : ℤ) (p : LoopParts) where
   pub names_bad : (e : Refusal) → NamesFault p.iter_var p.iter_var2 p.accu_var e
       → TypeFault m ks (loop_of id p) e
   names_bad e (inl (none, err)) = inl (no_element_name none err)
-  names_bad e (inr (inl (none, err))) = inl (no_gathered_name none err)
+  names_bad e (inr (inl (none, err))) = inl (no_accumulator_name none err)
   names_bad e (inr (inr (inl (same, err)))) = inl (one_name same err)
   names_bad e (inr (inr (inr (some, inl same, err)))) = inl (one_variable some same err)
-  names_bad e (inr (inr (inr (some, inr same, err)))) = inl (second_gathered some same err)
+  names_bad e (inr (inr (inr (some, inr same, err)))) = inl (second_accumulator some same err)
 
   pub range_bad : (e : Refusal) → TypeFault m ks p.iter_range e → TypeFault m ks (loop_of id p) e
   range_bad e f = inl (in_range f)

@@ -21,8 +21,8 @@ use Rattle.cel_ops.specs.Attributes.{attribute_type}
 use Rattle.cel_types.specs.Attributes.{attribute_named}
 use Rattle.cel_types.specs.Names.{bare_root, is_root, joined_name, local, root_of, turn_scope, variables_of}
 use Rattle.cel_types.specs.Typing.{CallRule, IdentRule, IsList, IsMap, IsOver, Kinds, ListRule, LoopRule, MapRule, Maps, NamesDiffer, RefAgrees, SelectRule, TypeGiven, Types, TypesAll, TypesEach, TypesPairs, TypesTarget, constant_type, field_type, has_target, name_type}
-use Rattle.cel_types.specs.TypingFaults.{CallsFault, ConstantFault, ElementsFault, EmptyFault, EntryFault, IdentFault, ItemTypes, KeyTypes, ListFault, LoopFault, MapsFault, PairFault, PairsFault, RefDiffers, SelectFault, SomeFault, SomeTypes, TargetFault, TypeFault}
-use Rattle.cel_types.specs.TypingFaults.{unsupported_kind, untold, of_another_kind, no_element_name, no_gathered_name, one_name, one_variable, second_gathered, no_elements, no_condition, no_step, in_range, in_init, in_turn, in_result}
+use Rattle.cel_types.specs.TypingFaults.{CallsFault, UnsupportedConstant, ElementsFault, EmptyFault, NodeTypeFault, IdentFault, ItemTypes, KeyTypes, ListFault, LoopFault, MapsFault, PairFault, PairsFault, RefDiffers, SelectFault, SomeFault, SomeTypes, TargetFault, TypeFault}
+use Rattle.cel_types.specs.TypingFaults.{unsupported_kind, unstated, of_another_kind, no_element_name, no_accumulator_name, one_name, one_variable, second_accumulator, no_elements, no_condition, no_step, in_range, in_init, in_turn, in_result}
 use Rattle.cel_types.specs.declared.typed.Variables.{Variables}
 use Rattle.cel_types.specs.declared.typed.Variables.TheVariants as variables
 
@@ -46,11 +46,11 @@ same_name a b = at (bytes_eq a b) refl
 
 -- ---- rules
 
-constant_total : (v : CelValue) → Decided (λ t. constant_type v ≡ Some t) (ConstantFault v)
+constant_total : (v : CelValue) → Decided (λ t. constant_type v ≡ Some t) (UnsupportedConstant v)
 constant_total v = at (constant_type v) refl
   where
     at : (o : Option ValueType) → constant_type v ≡ o
-        → Decided (λ t. constant_type v ≡ Some t) (ConstantFault v)
+        → Decided (λ t. constant_type v ≡ Some t) (UnsupportedConstant v)
     at None e = inr (Unsupported, (e, refl))
     at (Some t) e = inl (t, e)
 
@@ -126,9 +126,9 @@ call_decided name on Operands InOperands (inl (ts, h)) = elim (call_total name o
 empty_decided : (entry : Option CelTypeEntry) (IsKind : ValueType → Type 0)
     → ((t : ValueType) → IsKind t ⊎ (IsKind t → ⊥))
     → Decided (λ t. TypeGiven entry t × IsKind t)
-    (λ e. EmptyFault entry IsKind e ⊎ EntryFault entry (λ t. TypeGiven entry t × IsKind t) e)
-empty_decided None IsKind decide = inr (NeedsType, inl (untold tt refl))
-empty_decided (Some dyn_type) IsKind decide = inr (NeedsType, inl (untold tt refl))
+    (λ e. EmptyFault entry IsKind e ⊎ NodeTypeFault entry (λ t. TypeGiven entry t × IsKind t) e)
+empty_decided None IsKind decide = inr (NeedsType, inl (unstated tt refl))
+empty_decided (Some dyn_type) IsKind decide = inr (NeedsType, inl (unstated tt refl))
 empty_decided (Some unsupported_type) IsKind decide =
     inr (Unsupported, inr (unsupported_kind refl refl))
 empty_decided (Some (of_type s)) IsKind decide = elim (decide s) [
@@ -246,7 +246,7 @@ module _ (m : Maps) (ks : Kinds) where
       → ((us : List ValueType) × TypesEach m ks ts us) ⊎ ((e : Refusal) × SomeFault m ks ts e)
       → Decided (ListRule entry ts (TypesAll m ks ts))
       (λ e. ListFault entry ts (SomeTypes m ks ts) (SomeFault m ks ts) e
-      ⊎ EntryFault entry (ListRule entry ts (TypesAll m ks ts)) e)
+      ⊎ NodeTypeFault entry (ListRule entry ts (TypesAll m ks ts)) e)
   list_decided entry no_trees each = empty_decided entry IsList list_kind
   list_decided entry (tree t ts) (inr (e, f)) = inr (e, inl (ElementsFault.in_element f))
   list_decided entry (tree t ts) (inl ([], h)) = absurd h
@@ -260,7 +260,7 @@ module _ (m : Maps) (ks : Kinds) where
       → ((us : List ValueType) × TypesInTurn m ks es us) ⊎ ((e : Refusal) × PairFault m ks es e)
       → Decided (MapRule entry es (TypesPairs m ks es))
       (λ e. MapsFault entry es (KeyTypes m ks es) (ItemTypes m ks es) (PairFault m ks es) e
-      ⊎ EntryFault entry (MapRule entry es (TypesPairs m ks es)) e)
+      ⊎ NodeTypeFault entry (MapRule entry es (TypesPairs m ks es)) e)
   map_decided entry no_tree_entries each = empty_decided entry IsMap map_kind
   map_decided entry (tree_entry id key value es) (inr (e, f)) = inr (e, inl (PairsFault.in_entry f))
   map_decided entry (tree_entry id key value es) (inl ([], h)) = absurd h
@@ -352,10 +352,10 @@ module _ (x y acc : List ℕ) (Range Init : ValueType → Type 0)
   loop_total : Loop
   loop_total = elim (names_decided x y acc) [
     | inr (inl e) ↦ inr (Missing, no_element_name e refl)
-    | inr (inr (inl e)) ↦ inr (Missing, no_gathered_name e refl)
+    | inr (inr (inl e)) ↦ inr (Missing, no_accumulator_name e refl)
     | inr (inr (inr (inl e))) ↦ inr (OutOfRange, one_name e refl)
     | inr (inr (inr (inr (some, inl e)))) ↦ inr (OutOfRange, one_variable some e refl)
-    | inr (inr (inr (inr (some, inr e)))) ↦ inr (OutOfRange, second_gathered some e refl)
+    | inr (inr (inr (inr (some, inr e)))) ↦ inr (OutOfRange, second_accumulator some e refl)
     | inl names ↦ elim range [
       | inr (e, f) ↦ inr (e, in_range f)
       | inl (w, r) ↦ elim init [

@@ -20,7 +20,7 @@ use Rattle.cel_tree.specs.Tree.{CelTree, constant, ident, select, call, comprehe
 use Rattle.cel_overload.proofs.OneOverload.{unchosen}
 use Rattle.cel_overload.specs.Overloads.{IsCall}
 use Rattle.cel_types.specs.Typing.{EntriesAgree, EntryAgrees, IsTyped, Kinds, Maps, NamesDiffer, RefAgrees, TypeGiven, Types, TypesEach, locals_in}
-use Rattle.cel_types.specs.TypingFaults.{CallsFault, CheckFault, too_many_locals, ElementsFault, IdentFault, PairsFault, SaysNothing, SelectFault, TypeFault, another_type, of_another_kind, unsupported_kind, untold, no_element_name, no_elements, one_name, one_variable, second_gathered, in_init, in_range, in_result, in_turn, no_condition}
+use Rattle.cel_types.specs.TypingFaults.{CallsFault, CheckFault, too_many_locals, ElementsFault, IdentFault, PairsFault, SaysNothing, SelectFault, TypeFault, another_type, of_another_kind, unsupported_kind, unstated, no_element_name, no_elements, one_name, one_variable, second_accumulator, in_init, in_range, in_result, in_turn, no_condition}
 use Rattle.cel_types.specs.Elaborated.{Elaborates, no_typed, typed, typed_attribute, typed_call, typed_constant, typed_list, typed_local, typed_loop}
 use Rattle.cel_types.specs.Names.{turn_scope}
 use Rattle.cel_types.specs.declared.typed.Variables.TheVariants as variables
@@ -341,11 +341,11 @@ abbrev empty_list : CelTree
 empty_list = list_literal (pos 1) no_trees
 
 untold_list : TypeFault (with_types []) [] empty_list NeedsType
-untold_list = inl (untold (subst SaysNothing
+untold_list = inl (unstated (subst SaysNothing
     (sym (get-from_entries {X = CelTypeEntry} int_cmp_total [] (pos 1))) tt) refl)
 
 dyn_list : TypeFault (with_types ((pos 1, dyn_type) ∷ [])) [] empty_list NeedsType
-dyn_list = inl (untold (subst SaysNothing
+dyn_list = inl (unstated (subst SaysNothing
     (sym (get-from_entries int_cmp_total ((pos 1, dyn_type) ∷ []) (pos 1))) tt) refl)
 
 told_list : Types (with_types ((pos 1, of_type (list_type int_type)) ∷ [])) [] empty_list
@@ -477,8 +477,8 @@ two_are_bool = record {
 second_is_first : TypeFault (with_types []) [] (two_loop (codes "x")) OutOfRange
 second_is_first = inl (one_variable (λ e. cc) refl refl)
 
-second_is_gathered : TypeFault (with_types []) [] (two_loop (codes "y")) OutOfRange
-second_is_gathered = inl (second_gathered (λ e. cc) refl refl)
+second_is_accumulator : TypeFault (with_types []) [] (two_loop (codes "y")) OutOfRange
+second_is_accumulator = inl (second_accumulator (λ e. cc) refl refl)
 
 -- a name that is not given is 4, one name twice 5, a range of no list and no map 10
 

@@ -24,11 +24,11 @@ use Rattle.cel_types.specs.Typing.{IsList, IsMap, IsOver, Kinds, Maps, RefAgrees
 -- ---- entries
 
 -- a type entry is of an unsupported kind, or gives another type than the node's
-pub data EntryFault (entry : Option CelTypeEntry) (Has : ValueType → Type 0) (e : Refusal) : Type 0
+pub data NodeTypeFault (entry : Option CelTypeEntry) (Has : ValueType → Type 0) (e : Refusal) : Type 0
   where
-    unsupported_kind : entry ≡ Some unsupported_type → e ≡ Unsupported → EntryFault entry Has e
+    unsupported_kind : entry ≡ Some unsupported_type → e ≡ Unsupported → NodeTypeFault entry Has e
     another_type : (s t : ValueType) → Has t → entry ≡ Some (of_type s) → s ≢ t
-        → e ≡ BadTypeEntry → EntryFault entry Has e
+        → e ≡ BadTypeEntry → NodeTypeFault entry Has e
 
 -- a reference entry names another variable, or holds a value
 abbrev pub RefDiffers : Option CelReference → List ℕ → Type 0
@@ -43,15 +43,15 @@ SaysNothing (Some _) = ⊥
 -- a fault of an empty literal's entry: it gives no type, or a type of another kind
 pub data EmptyFault (entry : Option CelTypeEntry) (IsKind : ValueType → Type 0) (e : Refusal) : Type 0
   where
-    untold : SaysNothing entry → e ≡ NeedsType → EmptyFault entry IsKind e
+    unstated : SaysNothing entry → e ≡ NeedsType → EmptyFault entry IsKind e
     of_another_kind : (s : ValueType) → entry ≡ Some (of_type s) → (IsKind s → ⊥)
         → e ≡ BadTypeEntry → EmptyFault entry IsKind e
 
 -- ---- nodes
 
 -- the constant is of an unsupported kind
-abbrev pub ConstantFault : CelValue → Refusal → Type 0
-ConstantFault v e = (constant_type v ≡ None) × (e ≡ Unsupported)
+abbrev pub UnsupportedConstant : CelValue → Refusal → Type 0
+UnsupportedConstant v e = (constant_type v ≡ None) × (e ≡ Unsupported)
 
 -- a fault of an Ident: it is neither a local nor an attribute, or its reference entry differs
 pub data IdentFault (ref : Option CelReference) (ks : Kinds) (name : List ℕ) (e : Refusal) : Type 0
@@ -60,24 +60,20 @@ pub data IdentFault (ref : Option CelReference) (ks : Kinds) (name : List ℕ) (
     other_reference : (t : ValueType) → name_type name (local name ks) ≡ Some t
         → RefDiffers ref name → e ≡ BadReference → IdentFault ref ks name e
 
--- a fault of a Select. If its operand is a root: there is no such attribute, it is a test, or the
--- reference entry differs. Otherwise: the operand is not a map from texts, or has a fault itself
-pub data SelectFault (ref : Option CelReference) (root : Option (List ℕ))
-    (Operand : ValueType → Type 0) (InOperand : Refusal → Type 0) (field : List ℕ)
-    (test_only : Bool) (e : Refusal) : Type 0 where
-  unknown : (r : List ℕ) → root ≡ Some r → attribute_named (joined_name r field) ≡ None
-      → e ≡ UnknownName → SelectFault ref root Operand InOperand field test_only e
-  asked : (r : List ℕ) → root ≡ Some r → test_only ≡ true → e ≡ UnknownName
-      → SelectFault ref root Operand InOperand field test_only e
-  other_reference : (r : List ℕ) (t : ValueType) → root ≡ Some r → test_only ≡ false
-      → option_map attribute_type (attribute_named (joined_name r field)) ≡ Some t
-      → RefDiffers ref (joined_name r field) → e ≡ BadReference
-      → SelectFault ref root Operand InOperand field test_only e
-  no_names : (s : ValueType) → root ≡ None → Operand s
-      → ((t : ValueType) → s ≢ map_type keys.Text t) → e ≡ NoOverload
-      → SelectFault ref root Operand InOperand field test_only e
-  in_operand : root ≡ None → InOperand e
-      → SelectFault ref root Operand InOperand field test_only e
+module _ (ref : Option CelReference) (root : Option (List ℕ)) (Operand : ValueType → Type 0)
+    (InOperand : Refusal → Type 0) (field : List ℕ) (test_only : Bool) (e : Refusal) where
+  -- a fault of a Select. If its operand is a root: there is no such attribute, it is a test, or the
+  -- reference entry differs. Otherwise: the operand is not a map from texts, or has a fault itself
+  pub data SelectFault : Type 0 where
+    unknown : (r : List ℕ) → root ≡ Some r → attribute_named (joined_name r field) ≡ None
+        → e ≡ UnknownName → SelectFault
+    asked : (r : List ℕ) → root ≡ Some r → test_only ≡ true → e ≡ UnknownName → SelectFault
+    other_reference : (r : List ℕ) (t : ValueType) → root ≡ Some r → test_only ≡ false
+        → option_map attribute_type (attribute_named (joined_name r field)) ≡ Some t
+        → RefDiffers ref (joined_name r field) → e ≡ BadReference → SelectFault
+    no_names : (s : ValueType) → root ≡ None → Operand s → ((t : ValueType) → s ≢ map_type keys.Text t)
+        → e ≡ NoOverload → SelectFault
+    in_operand : root ≡ None → InOperand e → SelectFault
 
 -- a fault of a call: its function is not known, no overload takes the operands, or an operand has a
 -- fault
@@ -89,63 +85,49 @@ pub data CallsFault (name : List ℕ) (on : Bool) (Operands : List ValueType →
       → e ≡ NoOverload → CallsFault name on Operands InOperands e
   in_operand : InOperands e → CallsFault name on Operands InOperands e
 
--- a fault of a list literal's elements: two have different types, or one has a fault
-pub data ElementsFault (HasElement : ValueType → Type 0) (InElements : Refusal → Type 0)
-    (e : Refusal) : Type 0 where
-  two_types : (s t : ValueType) → HasElement s → HasElement t → s ≢ t → e ≡ NoOverload
-      → ElementsFault HasElement InElements e
-  in_element : InElements e → ElementsFault HasElement InElements e
+module _ (HasElement : ValueType → Type 0) (InElements : Refusal → Type 0) (e : Refusal) where
+  -- a fault of a list literal's elements: two have different types, or one has a fault
+  pub data ElementsFault : Type 0 where
+    two_types : (s t : ValueType) → HasElement s → HasElement t → s ≢ t → e ≡ NoOverload → ElementsFault
+    in_element : InElements e → ElementsFault
 
--- a fault of a map literal's entries: two keys or two values have different types. Or a key's type is
--- not a type of keys, or a part has a fault
-pub data PairsFault (HasKey HasValue : ValueType → Type 0) (InEntries : Refusal → Type 0)
-    (e : Refusal) : Type 0 where
-  two_key_types : (s t : ValueType) → HasKey s → HasKey t → s ≢ t → e ≡ NoOverload
-      → PairsFault HasKey HasValue InEntries e
-  two_value_types : (s t : ValueType) → HasValue s → HasValue t → s ≢ t → e ≡ NoOverload
-      → PairsFault HasKey HasValue InEntries e
-  no_key_type : (s : ValueType) → HasKey s → ((k : KeyType) → s ≢ type_of_key k)
-      → e ≡ NoOverload → PairsFault HasKey HasValue InEntries e
-  in_entry : InEntries e → PairsFault HasKey HasValue InEntries e
+module _ (HasKey HasValue : ValueType → Type 0) (InEntries : Refusal → Type 0) (e : Refusal) where
+  -- a fault of a map literal's entries: two keys or two values have different types. Or a key's type is
+  -- not a type of keys, or a part has a fault
+  pub data PairsFault : Type 0 where
+    two_key_types : (s t : ValueType) → HasKey s → HasKey t → s ≢ t → e ≡ NoOverload → PairsFault
+    two_value_types : (s t : ValueType) → HasValue s → HasValue t → s ≢ t → e ≡ NoOverload → PairsFault
+    no_key_type : (s : ValueType) → HasKey s → ((k : KeyType) → s ≢ type_of_key k)
+        → e ≡ NoOverload → PairsFault
+    in_entry : InEntries e → PairsFault
 
 -- the types of what the variables get from the range
 abbrev pub AreGot : Variables → (Range : ValueType → Type 0) → List ValueType → Type 0
-AreGot vars Range each = (walked : ValueType) × Range walked × IsOver vars walked each
+AreGot vars Range each = (range_type : ValueType) × Range range_type × IsOver vars range_type each
 
--- a fault of a comprehension: iter_var or accu_var is empty, two given names are the same, or the range has no
--- elements. Or the condition is not a bool, the step is not of the accumulator's type, or a part has a fault
-pub data LoopFault (x y acc : List ℕ) (Range Init : ValueType → Type 0)
+module _ (x y acc : List ℕ) (Range Init : ValueType → Type 0)
     (Condition Step : List ValueType → ValueType → ValueType → Type 0)
     (InRange InInit : Refusal → Type 0) (InTurn : List ValueType → ValueType → Refusal → Type 0)
-    (InResult : ValueType → Refusal → Type 0) (e : Refusal) : Type 0 where
-  no_element_name : x ≡ [] → e ≡ Missing
-      → LoopFault x y acc Range Init Condition Step InRange InInit InTurn InResult e
-  no_gathered_name : acc ≡ [] → e ≡ Missing
-      → LoopFault x y acc Range Init Condition Step InRange InInit InTurn InResult e
-  one_name : x ≡ acc → e ≡ OutOfRange
-      → LoopFault x y acc Range Init Condition Step InRange InInit InTurn InResult e
-  one_variable : y ≢ [] → x ≡ y → e ≡ OutOfRange
-      → LoopFault x y acc Range Init Condition Step InRange InInit InTurn InResult e
-  second_gathered : y ≢ [] → y ≡ acc → e ≡ OutOfRange
-      → LoopFault x y acc Range Init Condition Step InRange InInit InTurn InResult e
-  no_elements : (s : ValueType) → Range s
-      → ((each : List ValueType) → IsOver (variables_of y) s each → ⊥) → e ≡ NoOverload
-      → LoopFault x y acc Range Init Condition Step InRange InInit InTurn InResult e
-  no_condition : (each : List ValueType) (a t : ValueType) → AreGot (variables_of y) Range each → Init a
-      → Condition each a t → t ≢ bool_type → e ≡ NoOverload
-      → LoopFault x y acc Range Init Condition Step InRange InInit InTurn InResult e
-  no_step : (each : List ValueType) (a t : ValueType) → AreGot (variables_of y) Range each → Init a
-      → Step each a t → t ≢ a → e ≡ NoOverload
-      → LoopFault x y acc Range Init Condition Step InRange InInit InTurn InResult e
-  in_range : InRange e
-      → LoopFault x y acc Range Init Condition Step InRange InInit InTurn InResult e
-  in_init : InInit e
-      → LoopFault x y acc Range Init Condition Step InRange InInit InTurn InResult e
-  in_turn : (each : List ValueType) (a : ValueType) → AreGot (variables_of y) Range each → Init a
-      → InTurn each a e
-      → LoopFault x y acc Range Init Condition Step InRange InInit InTurn InResult e
-  in_result : (a : ValueType) → Init a → InResult a e
-      → LoopFault x y acc Range Init Condition Step InRange InInit InTurn InResult e
+    (InResult : ValueType → Refusal → Type 0) (e : Refusal) where
+  -- a fault of a comprehension: iter_var or accu_var is empty, two given names are the same, or the range has no
+  -- elements. Or the condition is not a bool, the step is not of the accumulator's type, or a part has a fault
+  pub data LoopFault : Type 0 where
+    no_element_name : x ≡ [] → e ≡ Missing → LoopFault
+    no_accumulator_name : acc ≡ [] → e ≡ Missing → LoopFault
+    one_name : x ≡ acc → e ≡ OutOfRange → LoopFault
+    one_variable : y ≢ [] → x ≡ y → e ≡ OutOfRange → LoopFault
+    second_accumulator : y ≢ [] → y ≡ acc → e ≡ OutOfRange → LoopFault
+    no_elements : (s : ValueType) → Range s → ((each : List ValueType) → IsOver (variables_of y) s each → ⊥)
+        → e ≡ NoOverload → LoopFault
+    no_condition : (each : List ValueType) (a t : ValueType) → AreGot (variables_of y) Range each → Init a
+        → Condition each a t → t ≢ bool_type → e ≡ NoOverload → LoopFault
+    no_step : (each : List ValueType) (a t : ValueType) → AreGot (variables_of y) Range each → Init a
+        → Step each a t → t ≢ a → e ≡ NoOverload → LoopFault
+    in_range : InRange e → LoopFault
+    in_init : InInit e → LoopFault
+    in_turn : (each : List ValueType) (a : ValueType) → AreGot (variables_of y) Range each → Init a
+        → InTurn each a e → LoopFault
+    in_result : (a : ValueType) → Init a → InResult a e → LoopFault
 
 -- ---- expressions
 
@@ -181,25 +163,25 @@ abbrev mutual
   -- a fault of the node, of its type entry, or of an expression inside
   pub TypeFault : Maps → Kinds → CelTree → Refusal → Type 0
   TypeFault m ks (constant id v) e =
-      ConstantFault v e ⊎ EntryFault (get m.types id) (Types m ks (constant id v)) e
+      UnsupportedConstant v e ⊎ NodeTypeFault (get m.types id) (Types m ks (constant id v)) e
   TypeFault m ks (ident id name) e = IdentFault (get m.refs id) ks name e
       ⊎ ((bare_root name ks ≡ false)
-      × EntryFault (get m.types id) (Types m ks (ident id name)) e)
+      × NodeTypeFault (get m.types id) (Types m ks (ident id name)) e)
   TypeFault m ks (select id operand field test_only) e =
       SelectFault (get m.refs id) (root_of operand ks) (Types m ks operand)
       (TypeFault m ks operand) field test_only e
-      ⊎ EntryFault (get m.types id) (Types m ks (select id operand field test_only)) e
+      ⊎ NodeTypeFault (get m.types id) (Types m ks (select id operand field test_only)) e
   TypeFault m ks (call id name on args) e =
       CallsFault name (has_target on) (TypesTarget m ks on (TypesEach m ks args))
       (λ d. TargetFault m ks on d ⊎ SomeFault m ks args d) e
-      ⊎ EntryFault (get m.types id) (Types m ks (call id name on args)) e
+      ⊎ NodeTypeFault (get m.types id) (Types m ks (call id name on args)) e
   TypeFault m ks (list_literal id elements) e =
       ListFault (get m.types id) elements (SomeTypes m ks elements) (SomeFault m ks elements) e
-      ⊎ EntryFault (get m.types id) (Types m ks (list_literal id elements)) e
+      ⊎ NodeTypeFault (get m.types id) (Types m ks (list_literal id elements)) e
   TypeFault m ks (map_literal id entries) e =
       MapsFault (get m.types id) entries (KeyTypes m ks entries) (ItemTypes m ks entries)
       (PairFault m ks entries) e
-      ⊎ EntryFault (get m.types id) (Types m ks (map_literal id entries)) e
+      ⊎ NodeTypeFault (get m.types id) (Types m ks (map_literal id entries)) e
   TypeFault m ks (comprehension id x y acc range init condition step result) e =
       LoopFault x y acc (Types m ks range) (Types m ks init)
       (λ each a. Types m (turn_scope x y acc each a ks) condition)
@@ -208,7 +190,7 @@ abbrev mutual
       (λ each a d. TypeFault m (turn_scope x y acc each a ks) condition d
       ⊎ TypeFault m (turn_scope x y acc each a ks) step d)
       (λ a. TypeFault m ((acc, a) ∷ ks) result) e
-      ⊎ EntryFault (get m.types id)
+      ⊎ NodeTypeFault (get m.types id)
       (Types m ks (comprehension id x y acc range init condition step result)) e
 
   -- a fault of a call's target, if there is one

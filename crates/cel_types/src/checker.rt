@@ -9,6 +9,7 @@ ghost use Rattle.proto_wire.specs.Refusal.{MemoryOr};
 
 mod calls;
 mod entries;
+mod faulty;
 mod kinds;
 mod literals;
 mod locals;
@@ -20,6 +21,7 @@ mod variables;
 
 use crate::typed::Typed;
 use cel_tree::Checked;
+pub use faulty::faulty_node;
 use locals::require_few_locals;
 use nodes::check_tree;
 use proto_wire::Refusal;

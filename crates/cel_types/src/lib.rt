@@ -5,6 +5,6 @@ mod checker;
 pub mod laws;
 mod typed;
 
-pub use checker::check;
 pub use checker::names::{attribute_named, is_root, joined_name};
+pub use checker::{check, faulty_node};
 pub use typed::{Typed, TypedExpr, TypedLoop, Variables};

@@ -12,7 +12,7 @@ use Rattle.cel_types.specs.declared.typed.Variables.{Variables}
 use Rattle.cel_value.specs.Types.{ValueType}
 use Rattle.cost_bound.specs.Costs.{cost_of, size_of}
 use Rattle.cost_bound.specs.Sizes.{Size}
-use Rattle.cost_bound.specs.steps.Memos.{MemoTree, nothing_known, known_as, more_than, MemoTrees, memo_at, part_at, Says, Holds, HoldsEach, HoldsInside, InTurns, IsSettled, IsTold, NamesOnly}
+use Rattle.cost_bound.specs.steps.Memos.{MemoTree, nothing_known, known_as, more_than, MemoTrees, memo_at, part_at, Says, MemoHolds, MemoHoldsEach, MemoHoldsInside, InTurns, IsSettled, IsTold, NamesOnly}
 use Rattle.cost_bound.specs.steps.Memos.{Remembers}
 use Rattle.cost_bound.specs.steps.Numbers.{capped}
 use Rattle.cost_bound.specs.steps.ScopeView.{Counted, sizes_among}
@@ -23,7 +23,7 @@ use Rattle.cost_bound.proofs.Locals.{as_many}
 -- where nothing is known of parts, that is true of them
 mutual
   alone_inside : (m : MemoTree) → ((i : ℕ) → part_at i m ≡ nothing_known) → (e : TypedTree) (l : LimitsValue)
-      (ss : List Size) → HoldsInside m e l ss
+      (ss : List Size) → MemoHoldsInside m e l ss
   alone_inside m h (typed_constant t v) l ss = tt
   alone_inside m h (typed_local t n) l ss = tt
   alone_inside m h (typed_attribute t a) l ss = tt
@@ -41,29 +41,29 @@ mutual
   )
 
   alone_each : (m : MemoTree) → ((i : ℕ) → part_at i m ≡ nothing_known) → (n : ℕ) (es : TypedTrees)
-      (l : LimitsValue) (ss : List Size) → HoldsEach m n es l ss
+      (l : LimitsValue) (ss : List Size) → MemoHoldsEach m n es l ss
   alone_each m h n no_typed l ss = tt
   alone_each m h n (typed e es) l ss =
       (rw (h n) (tt, alone_inside nothing_known (λ i. refl) e l ss), alone_each m h (suc n) es l ss)
 
 -- nothing is always true
 pub holds_nothing : (m : MemoTree) (e : TypedTree) (l : LimitsValue) (ss : List Size) → m ≡ nothing_known
-    → Holds m e l ss
+    → MemoHolds m e l ss
 holds_nothing m e l ss is = rw is (tt, alone_inside nothing_known (λ i. refl) e l ss)
 
 pub holds_known : (m : MemoTree) (s : Size) (c : ℕ) (e : TypedTree) (l : LimitsValue) (ss : List Size)
-    → m ≡ known_as s c → s ≡ size_of e l ss → c ≡ cost_of e l ss → Holds m e l ss
+    → m ≡ known_as s c → s ≡ size_of e l ss → c ≡ cost_of e l ss → MemoHolds m e l ss
 holds_known m s c e l ss is size cost =
     rw is ((size, cost), alone_inside (known_as s c) (λ i. refl) e l ss)
 
 pub holds_more : (m : MemoTree) (n : ℕ) (e : TypedTree) (l : LimitsValue) (ss : List Size)
-    → m ≡ more_than n → n < cost_of e l ss → Holds m e l ss
+    → m ≡ more_than n → n < cost_of e l ss → MemoHolds m e l ss
 holds_more m n e l ss is more = rw is (more, alone_inside (more_than n) (λ i. refl) e l ss)
 
 -- what holds of expressions one after the other holds of that at a place
 part_from : (m : MemoTree) (l : LimitsValue) (ss : List Size) (n : ℕ) (es : List TypedExpr) (i : ℕ)
     (x : TypedExpr) (j : ℕ) → i < length es → x ≡ get_or es i x → j ≡ n + i
-    → HoldsEach m n (exprs_view es) l ss → Holds (part_at j m) (expr_view x) l ss
+    → MemoHoldsEach m n (exprs_view es) l ss → MemoHolds (part_at j m) (expr_view x) l ss
 part_from m l ss n [] i x j within is e h = absurd (omega arith)
 part_from m l ss n (y ∷ ys) zero x j within is e h =
     let one : x ≡ y = is in
@@ -74,14 +74,14 @@ part_from m l ss n (y ∷ ys) (suc i) x j within is e h =
 
 pub part_holds : (m p : MemoTree) (l : LimitsValue) (ss : List Size) (es : List TypedExpr) (i : ℕ)
     (x : TypedExpr) → i < length es → x ≡ get_or es i x → p ≡ part_at i m
-    → HoldsEach m 0 (exprs_view es) l ss → Holds p (expr_view x) l ss
+    → MemoHoldsEach m 0 (exprs_view es) l ss → MemoHolds p (expr_view x) l ss
 part_holds m p l ss es i x within is e h = rw e (part_from m l ss 0 es i x i within is (omega arith) h)
 
 -- and the other way round
 each_from : (m : MemoTree) (l : LimitsValue) (ss : List Size) (n : ℕ) (es : List TypedExpr)
     → ((i : ℕ) (x : TypedExpr) (j : ℕ) → i < length es → x ≡ get_or es i x → j ≡ n + i
-    → Holds (part_at j m) (expr_view x) l ss)
-    → HoldsEach m n (exprs_view es) l ss
+    → MemoHolds (part_at j m) (expr_view x) l ss)
+    → MemoHoldsEach m n (exprs_view es) l ss
 each_from m l ss n [] h = tt
 each_from m l ss n (y ∷ ys) h = (
   h 0 y n (omega arith) refl (omega arith),
@@ -90,8 +90,8 @@ each_from m l ss n (y ∷ ys) h = (
 
 pub each_holds : (m : MemoTree) (ms : MemoTrees) (l : LimitsValue) (ss : List Size) (es : List TypedExpr)
     → ((i : ℕ) → part_at i m ≡ memo_at i ms)
-    → ((i : ℕ) (x : TypedExpr) → i < length es → x ≡ get_or es i x → Holds (memo_at i ms) (expr_view x) l ss)
-    → HoldsEach m 0 (exprs_view es) l ss
+    → ((i : ℕ) (x : TypedExpr) → i < length es → x ≡ get_or es i x → MemoHolds (memo_at i ms) (expr_view x) l ss)
+    → MemoHoldsEach m 0 (exprs_view es) l ss
 each_holds m ms l ss es at h = each_from m l ss 0 es (λ i x j within is e.
     let same : j ≡ i = omega arith in
     let part : part_at j m ≡ memo_at i ms = rw same (at i) in
@@ -100,9 +100,9 @@ each_holds m ms l ss es at h = each_from m l ss 0 es (λ i x j within is e.
 -- the parts so far, and one more
 pub more_parts : (es : List TypedExpr) (n p : ℕ) (y : TypedExpr) (old new : MemoTrees) (m : MemoTree)
     (l : LimitsValue) (ss : List Size) → p ≡ n → y ≡ get_or es n y → n < length es
-    → ((i : ℕ) → i < p → memo_at i new ≡ memo_at i old) → memo_at p new ≡ m → Holds m (expr_view y) l ss
-    → ((i : ℕ) (x : TypedExpr) → i < n → x ≡ get_or es i x → Holds (memo_at i old) (expr_view x) l ss)
-    → (i : ℕ) (x : TypedExpr) → i < n + 1 → x ≡ get_or es i x → Holds (memo_at i new) (expr_view x) l ss
+    → ((i : ℕ) → i < p → memo_at i new ≡ memo_at i old) → memo_at p new ≡ m → MemoHolds m (expr_view y) l ss
+    → ((i : ℕ) (x : TypedExpr) → i < n → x ≡ get_or es i x → MemoHolds (memo_at i old) (expr_view x) l ss)
+    → (i : ℕ) (x : TypedExpr) → i < n + 1 → x ≡ get_or es i x → MemoHolds (memo_at i new) (expr_view x) l ss
 more_parts es n p y old new m l ss place there within before at one all i x less is = elim (cases_lt i n) [
   | inl lower ↦ rw (before i (omega arith)) (all i x lower is)
   | inr high ↦
@@ -123,7 +123,7 @@ holds_in_turns k vars d e l a b only deep turns =
 
 pub told_in_turns : (k : ℕ) (vars : Variables) (d : ℕ) (e : TypedTree) (l : LimitsValue) (a b : List Size)
     (m : MemoTree) → NamesOnly (IsSettled k vars d) e → d ≡ length a → InTurns k vars a b
-    → IsTold m (size_of e l a) (cost_of e l a) → Holds m e l b
+    → IsTold m (size_of e l a) (cost_of e l a) → MemoHolds m e l b
 told_in_turns k vars d e l a b m only deep turns told =
     let same = holds_in_turns k vars d e l a b only deep turns in
     elim told [
@@ -133,16 +133,16 @@ told_in_turns k vars d e l a b m only deep turns told =
 
 -- what is known of a map that a name is looked up in
 pub field_holds : (m p : MemoTree) (t : ValueType) (e on : TypedTree) (name : List ℕ) (l : LimitsValue)
-    (ss : List Size) → e ≡ typed_field t on name → p ≡ part_at 0 m → Holds m e l ss → Holds p on l ss
+    (ss : List Size) → e ≡ typed_field t on name → p ≡ part_at 0 m → MemoHolds m e l ss → MemoHolds p on l ss
 field_holds m p t e on name l ss is part h = rw part (rw is at h).1
 
 pub has_holds : (m p : MemoTree) (t : ValueType) (e on : TypedTree) (name : List ℕ) (l : LimitsValue)
-    (ss : List Size) → e ≡ typed_has t on name → p ≡ part_at 0 m → Holds m e l ss → Holds p on l ss
+    (ss : List Size) → e ≡ typed_has t on name → p ≡ part_at 0 m → MemoHolds m e l ss → MemoHolds p on l ss
 has_holds m p t e on name l ss is part h = rw part (rw is at h).1
 
 -- what is remembered of the parts, at their places
 pub one_held : (m p : MemoTree) (ms : MemoTrees) (e : TypedTree) (l : LimitsValue) (ss : List Size) (i : ℕ)
-    → part_at i m ≡ memo_at i ms → memo_at i ms ≡ p → Holds p e l ss → Holds (part_at i m) e l ss
+    → part_at i m ≡ memo_at i ms → memo_at i ms ≡ p → MemoHolds p e l ss → MemoHolds (part_at i m) e l ss
 one_held m p ms e l ss i part at h = rw (part, at) h
 
 -- the locals of a turn: the variables, the innermost first, before the accumulator and those around
@@ -155,7 +155,7 @@ two_scopes value inside each keyed around ss is key outer = is ∙ key ∙ ap (�
 pub remembered_turns : (m : MemoTree) (e : TypedTree) (l : LimitsValue) (around : Around) (inside : List Size)
     (each : List Size) (any : Size) (cs : List Counted) → around.count ≡ capped (length cs)
     → length each ≡ variable_count around.variables → inside ≡ each ++ any ∷ sizes_among cs
-    → Remembers m e l around inside → (s : Size) → Holds m e l (each ++ s ∷ sizes_among cs)
+    → Remembers m e l around inside → (s : Size) → MemoHolds m e l (each ++ s ∷ sizes_among cs)
 remembered_turns m e l around inside each any cs counted many is h s =
     h (length (sizes_among cs)) (each ++ s ∷ sizes_among cs) (counted ∙ ap capped (sym (as_many cs)))
     (rw is (turns_alike around.variables each any s (sizes_among cs) many))
@@ -163,14 +163,14 @@ remembered_turns m e l around inside each any cs counted many is h s =
 -- and in each turn of a loop inside of it
 pub remembered_inside : (m : MemoTree) (e : TypedTree) (l : LimitsValue) (around : Around) (k : ℕ)
     (ss others inside : List Size) (any t : Size) → inside ≡ any ∷ ss → Remembers m e l around inside
-    → around.count ≡ capped k → InTurns k around.variables ss others → Holds m e l (t ∷ others)
+    → around.count ≡ capped k → InTurns k around.variables ss others → MemoHolds m e l (t ∷ others)
 remembered_inside m e l around k ss others inside any t is h counted turns =
     h k (t ∷ others) counted (rw is (turns_with k around.variables any t ss others turns))
 
 pub remembered_turned : (m : MemoTree) (e : TypedTree) (l : LimitsValue) (around : Around) (k : ℕ)
     (ss others inside : List Size) (more each : List Size) (any t : Size) → inside ≡ more ++ any ∷ ss
     → length more ≡ length each → Remembers m e l around inside → around.count ≡ capped k
-    → InTurns k around.variables ss others → Holds m e l (each ++ t ∷ others)
+    → InTurns k around.variables ss others → MemoHolds m e l (each ++ t ∷ others)
 remembered_turned m e l around k ss others inside more each any t is many h counted turns =
     h k (each ++ t ∷ others) counted
     (rw is (turns_with_all k around.variables more each (any ∷ ss) (t ∷ others) many
@@ -190,7 +190,7 @@ pub loop_remembered : (p : TypedParts) (t : ValueType) (l : LimitsValue) (around
     → Remembers r p.range l around ss → Remembers i p.init l around ss
     → Remembers c p.condition l around inner → Remembers s p.step l around inner
     → Remembers e p.result l around outer
-    → around.count ≡ capped k → InTurns k around.variables ss others → Holds m (loop_of t p) l others
+    → around.count ≡ capped k → InTurns k around.variables ss others → MemoHolds m (loop_of t p) l others
 loop_remembered p t l around k ss others outer inner more any m r i c s e one two three four five at silent a0 b1 a1
     b2 a2 b3 a3 b4 a4 isOuter isInner many hr hi hc hs he counted turns =
     let at0 : part_at 0 m ≡ r = at 0 ∙ b4 0 (omega arith) ∙ b3 0 (omega arith) ∙ b2 0 (omega arith)

@@ -614,11 +614,11 @@ one_count : (vs : CelValues) → length (one_each vs) ≡ item_count vs
 one_count no_items = refl
 one_count (item v vs) = let more = one_count vs in omega (arith, more)
 
-keys_fit : (es : CelEntries) (k v : Size) → EntriesFit es k v → EachFits (items.keys_of es) k
+keys_fit : (es : CelEntries) (k v : Size) → EntriesFit es k v → EachFits (items.key_items es) k
 keys_fit no_entries k v h = tt
 keys_fit (entry j w es) k v h = (key_value_fits j k h.0, keys_fit es k v h.2)
 
-key_count : (es : CelEntries) → item_count (items.keys_of es) ≡ entry_count es
+key_count : (es : CelEntries) → item_count (items.key_items es) ≡ entry_count es
 key_count no_entries = refl
 key_count (entry j w es) = let more = key_count es in omega (arith, more)
 
@@ -664,8 +664,8 @@ turns_within variables.One (map_of es) Flat h = absurd h
 turns_within variables.One (map_of es) (Text n) h = absurd h
 turns_within variables.One (map_of es) (Many n e) h = absurd h
 turns_within variables.One (map_of es) (Table n k v) h = (
-  omega (arith, h.0, key_count es, one_count (items.keys_of es)),
-  one_within_each (items.keys_of es) k (keys_fit es k v h.1),
+  omega (arith, h.0, key_count es, one_count (items.key_items es)),
+  one_within_each (items.key_items es) k (keys_fit es k v h.1),
 )
 turns_within variables.Two (list vs) Flat h = absurd h
 turns_within variables.Two (list vs) (Text n) h = absurd h

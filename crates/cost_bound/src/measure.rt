@@ -12,7 +12,7 @@ ghost use Rattle.cel_value.specs.Types.{ValueType};
 ghost use Rattle.cost_bound.specs.Costs.{call_cost, call_size, cost_of, costs_of, field_cost, grown, join_all, size_of, sizes_of, total, turns_cost};
 ghost use Rattle.cost_bound.specs.Sizes.{Size, join};
 ghost use Rattle.cost_bound.specs.steps.Measuring.{CostsMore, call_part, next_size, turn_cost};
-ghost use Rattle.cost_bound.specs.steps.Memos.{Holds, HoldsEach, Remembers, RemembersEach, Says, known_view, memo_view};
+ghost use Rattle.cost_bound.specs.steps.Memos.{MemoHolds, MemoHoldsEach, Remembers, RemembersEach, Says, known_view, memo_view};
 ghost use Rattle.cost_bound.specs.steps.ScopeView.{IsCounted, locals_view, scope_view};
 ghost use Rattle.cost_bound.specs.steps.SizeView.{size_view, sizes_view, variables_view};
 
@@ -52,7 +52,7 @@ pub(crate) fn measure(
     left: u64,
 ) -> Result<Measured, Refusal>
     requires counted { IsCounted (locals_view scope.now) }
-    requires holds { Holds (known_view memo) (expr_view expr.now) limits.now (scope_view scope.now) }
+    requires holds { MemoHolds (known_view memo) (expr_view expr.now) limits.now (scope_view scope.now) }
     ensures found { IfOk result (λ m.
         (size_view m.size ≡ size_of (expr_view expr.now) limits.now (scope_view scope.now))
         × (left ≡ cost_of (expr_view expr.now) limits.now (scope_view scope.now) + m.left)) }
@@ -136,7 +136,7 @@ fn measure_field(
     left: u64,
 ) -> Result<Measured, Refusal>
     requires counted { IsCounted (locals_view scope.now) }
-    requires holds { Holds (known_view memo) (expr_view map.now) limits.now (scope_view scope.now) }
+    requires holds { MemoHolds (known_view memo) (expr_view map.now) limits.now (scope_view scope.now) }
     ensures found { IfOk result (λ m.
         (size_view m.size ≡ size_of (expr_view map.now) limits.now (scope_view scope.now))
         × (left ≡ cost_of (expr_view map.now) limits.now (scope_view scope.now)
@@ -166,7 +166,7 @@ fn measure_each(
     left: u64,
 ) -> Result<MeasuredEach, Refusal>
     requires counted { IsCounted (locals_view scope.now) }
-    requires holds { HoldsEach (known_view memo) 0 (exprs_view exprs.now) limits.now (scope_view scope.now) }
+    requires holds { MemoHoldsEach (known_view memo) 0 (exprs_view exprs.now) limits.now (scope_view scope.now) }
     ensures found { IfOk result (λ m.
         (sizes_view m.sizes.items ≡ sizes_of (exprs_view exprs.now) limits.now (scope_view scope.now))
         × (left ≡ total (costs_of (exprs_view exprs.now) limits.now (scope_view scope.now)) + m.left)) }
@@ -197,7 +197,7 @@ fn measure_list(
     left: u64,
 ) -> Result<Measured, Refusal>
     requires counted { IsCounted (locals_view scope.now) }
-    requires holds { HoldsEach (known_view memo) 0 (exprs_view items.now) limits.now (scope_view scope.now) }
+    requires holds { MemoHoldsEach (known_view memo) 0 (exprs_view items.now) limits.now (scope_view scope.now) }
     ensures found { IfOk result (λ m.
         (size_view m.size ≡ join_all (sizes_of (exprs_view items.now) limits.now (scope_view scope.now)))
         × (left ≡ total (costs_of (exprs_view items.now) limits.now (scope_view scope.now)) + m.left)) }
@@ -241,7 +241,7 @@ fn measure_item(
     after: MeasuredItems,
 ) -> Result<MeasuredItems, Refusal>
     requires counted { IsCounted (locals_view scope.now) }
-    requires holds { Holds (known_view memo) (expr_view item.now) limits.now (scope_view scope.now) }
+    requires holds { MemoHolds (known_view memo) (expr_view item.now) limits.now (scope_view scope.now) }
     requires again { IsTrue again
         → (join (size_of (expr_view item.now) limits.now (scope_view scope.now)) (size_view after.size)
         ≡ size_view after.size)
@@ -280,7 +280,7 @@ fn measure_call(
     left: u64,
 ) -> Result<Measured, Refusal>
     requires counted { IsCounted (locals_view scope.now) }
-    requires holds { HoldsEach (known_view memo) 0 (exprs_view operands.now) limits.now (scope_view scope.now) }
+    requires holds { MemoHoldsEach (known_view memo) 0 (exprs_view operands.now) limits.now (scope_view scope.now) }
     ensures found { IfOk result (λ m. let es = exprs_view operands.now in
         let sizes = scope_view scope.now in
         (size_view m.size ≡ call_size overload (sizes_of es limits.now sizes))
@@ -315,7 +315,7 @@ fn measure_operands(
     left: u64,
 ) -> Result<Measured, Refusal>
     requires counted { IsCounted (locals_view scope.now) }
-    requires holds { HoldsEach (known_view memo) 0 (exprs_view operands.now) limits.now (scope_view scope.now) }
+    requires holds { MemoHoldsEach (known_view memo) 0 (exprs_view operands.now) limits.now (scope_view scope.now) }
     ensures found { let es = exprs_view operands.now in let sizes = scope_view scope.now in
         IfOk result (λ m. (size_view m.size ≡ call_size overload (sizes_of es limits.now sizes))
         × (left ≡ total (costs_of es limits.now sizes)
@@ -347,7 +347,7 @@ fn measure_pair(
     left: u64,
 ) -> Result<Measured, Refusal>
     requires counted { IsCounted (locals_view scope.now) }
-    requires holds { HoldsEach (known_view memo) 0 (exprs_view operands.now) limits.now (scope_view scope.now) }
+    requires holds { MemoHoldsEach (known_view memo) 0 (exprs_view operands.now) limits.now (scope_view scope.now) }
     requires two { length operands.now ≡ 2 }
     ensures found { let es = exprs_view operands.now in let sizes = scope_view scope.now in
         IfOk result (λ m. (size_view m.size ≡ call_size overload (sizes_of es limits.now sizes))
@@ -383,7 +383,7 @@ fn measure_conditional(
     left: u64,
 ) -> Result<Measured, Refusal>
     requires counted { IsCounted (locals_view scope.now) }
-    requires holds { HoldsEach (known_view memo) 0 (exprs_view operands.now) limits.now (scope_view scope.now) }
+    requires holds { MemoHoldsEach (known_view memo) 0 (exprs_view operands.now) limits.now (scope_view scope.now) }
     requires three { length operands.now ≡ 3 }
     ensures found { let es = exprs_view operands.now in let sizes = scope_view scope.now in
         IfOk result (λ m. (size_view m.size ≡ call_size Conditional (sizes_of es limits.now sizes))
@@ -430,7 +430,7 @@ fn measure_loop(
     left: u64,
 ) -> Result<Measured, Refusal>
     requires counted { IsCounted (locals_view scope.now) }
-    requires holds { (t : ValueType) → Holds (known_view memo) (loop_of t (parts_view parts.now))
+    requires holds { (t : ValueType) → MemoHolds (known_view memo) (loop_of t (parts_view parts.now))
         limits.now (scope_view scope.now) }
     ensures found { (t : ValueType) → IfOk result (λ m.
         (size_view m.size ≡ size_of (loop_of t (parts_view parts.now)) limits.now (scope_view scope.now))
@@ -505,9 +505,9 @@ fn measure_turns(
     left: u64,
 ) -> Result<Measured, Refusal>
     requires counted { IsCounted (locals_view scope.now) }
-    requires condition_holds { let p = parts_view parts.now in (s : Size) → Holds (memo_view condition.now)
+    requires condition_holds { let p = parts_view parts.now in (s : Size) → MemoHolds (memo_view condition.now)
         p.condition limits.now (variables_view each.now ++ s ∷ scope_view scope.now) }
-    requires step_holds { let p = parts_view parts.now in (s : Size) → Holds (memo_view step.now)
+    requires step_holds { let p = parts_view parts.now in (s : Size) → MemoHolds (memo_view step.now)
         p.step limits.now (variables_view each.now ++ s ∷ scope_view scope.now) }
     ensures found { IfOk result (λ m. let p = parts_view parts.now in
         let sizes = scope_view scope.now in let e = variables_view each.now in
@@ -557,9 +557,9 @@ fn measure_turn(
     left: u64,
 ) -> Result<Measured, Refusal>
     requires counted { IsCounted (locals_view scope.now) }
-    requires condition_holds { let p = parts_view parts.now in (s : Size) → Holds (memo_view condition.now)
+    requires condition_holds { let p = parts_view parts.now in (s : Size) → MemoHolds (memo_view condition.now)
         p.condition limits.now (variables_view each.now ++ s ∷ scope_view scope.now) }
-    requires step_holds { let p = parts_view parts.now in (s : Size) → Holds (memo_view step.now)
+    requires step_holds { let p = parts_view parts.now in (s : Size) → MemoHolds (memo_view step.now)
         p.step limits.now (variables_view each.now ++ s ∷ scope_view scope.now) }
     ensures found { IfOk result (λ m. let p = parts_view parts.now in
         let sizes = scope_view scope.now in let e = variables_view each.now in
@@ -606,7 +606,7 @@ fn remember(
     left: u64,
 ) -> Result<Remembered, Refusal>
     requires counted { IsCounted (locals_view scope.now) }
-    requires holds { Holds (known_view memo) (expr_view expr.now) limits.now (scope_view scope.now) }
+    requires holds { MemoHolds (known_view memo) (expr_view expr.now) limits.now (scope_view scope.now) }
     ensures found { IfOk result (λ r. Remembers (memo_view r.memo) (expr_view expr.now) limits.now
         around (scope_view scope.now)) }
     ensures fault { IfErr result (λ e. e ≡ Memory) }
@@ -682,7 +682,7 @@ fn remember_each(
     left: u64,
 ) -> Result<Remembered, Refusal>
     requires counted { IsCounted (locals_view scope.now) }
-    requires holds { HoldsEach (known_view memo) 0 (exprs_view exprs.now) limits.now (scope_view scope.now) }
+    requires holds { MemoHoldsEach (known_view memo) 0 (exprs_view exprs.now) limits.now (scope_view scope.now) }
     ensures found { IfOk result (λ r. ((size : Size) (cost : ℕ) → Says (memo_view r.memo) size cost)
         × RemembersEach (memo_view r.memo) (exprs_view exprs.now) limits.now around (scope_view scope.now)) }
     ensures fault { IfErr result (λ e. e ≡ Memory) }
@@ -718,7 +718,7 @@ fn remember_loop(
     left: u64,
 ) -> Result<Remembered, Refusal>
     requires counted { IsCounted (locals_view scope.now) }
-    requires holds { (t : ValueType) → Holds (known_view memo) (loop_of t (parts_view parts.now))
+    requires holds { (t : ValueType) → MemoHolds (known_view memo) (loop_of t (parts_view parts.now))
         limits.now (scope_view scope.now) }
     ensures found { (t : ValueType) → IfOk result (λ r. Remembers (memo_view r.memo)
         (loop_of t (parts_view parts.now)) limits.now around (scope_view scope.now)) }

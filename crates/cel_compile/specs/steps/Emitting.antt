@@ -7,7 +7,8 @@ use Rattle.cel_overload.specs.declared.overload.Overload.TheVariants as overload
 use Rattle.stack_machine.specs.Instructions.{Instruction, IfFalse, IfTrue, code_view}
 use Rattle.stack_machine.specs.declared.instr.Instr.{Instr}
 use Rattle.cel_compile.specs.declared.lengths.Lengths.{Lengths}
-use Rattle.cel_compile.specs.Codes.{code_of, codes_of, extent, extents}
+use Rattle.cel_compile.specs.Codes.{code_of, codes_of}
+use Rattle.cel_compile.specs.steps.Extents.{extent, extents}
 use Rattle.cel_compile.specs.Slots.{HasFewLocals, HaveFewLocals}
 use Rattle.cel_compile.specs.steps.Lengths.{EndsWith, all_lengths, lengths_of}
 

@@ -5,7 +5,7 @@ use Rattle.cel_ops.specs.declared.operation.Operation.TheVariants as operations
 use Rattle.cel_overload.specs.declared.overload.Overload.TheVariants as overloads
 use Rattle.cel_types.specs.Elaborated.{TypedTree, typed_constant, typed_local, typed_attribute, typed_field, typed_has, typed_call, typed_list, typed_map, typed_loop, TypedTrees, no_typed, typed}
 use Rattle.cel_compile.specs.declared.lengths.Lengths.{Lengths}
-use Rattle.cel_compile.specs.Codes.{extent, extents}
+use Rattle.cel_compile.specs.steps.Extents.{extent, extents}
 
 -- the lengths of an expression that jumps
 abbrev pub lengths_are : (whole last : ℕ) → Lengths

@@ -39,8 +39,8 @@ NotGiven entry e = (SaysNothing entry × (e ≡ NeedsType))
     ⊎ ((entry ≡ Some unsupported_type) × (e ≡ Unsupported))
 
 -- the entry of an empty literal has a fault, or gives an unsupported type
-abbrev pub NotTold : Option CelTypeEntry → (ValueType → Type 0) → Refusal → Type 0
-NotTold entry IsKind e = EmptyFault entry IsKind e
+abbrev pub NotStated : Option CelTypeEntry → (ValueType → Type 0) → Refusal → Type 0
+NotStated entry IsKind e = EmptyFault entry IsKind e
     ⊎ ((entry ≡ Some unsupported_type) × (e ≡ Unsupported))
 
 -- a list literal with elements of these types has the type
@@ -50,7 +50,7 @@ IsListOf entry (s ∷ ss) t = (in_turn s s ss ≡ true) × (t ≡ list_type s)
 
 -- the fault of a list literal with elements of these types
 abbrev pub NoListOf : Option CelTypeEntry → List ValueType → Refusal → Type 0
-NoListOf entry [] e = NotTold entry IsList e
+NoListOf entry [] e = NotStated entry IsList e
 NoListOf entry (s ∷ ss) e = (in_turn s s ss ≡ false) × (e ≡ NoOverload)
 
 -- a map literal with keys and values of these types, in turn, has the type. One type alone does not
@@ -63,8 +63,8 @@ IsMapOf entry (r ∷ s ∷ ss) t = (in_turn r s ss ≡ true) × (k : KeyType) ×
 
 -- the fault of a map literal with keys and values of these types, in turn
 abbrev pub NoMapOf : Option CelTypeEntry → List ValueType → Refusal → Type 0
-NoMapOf entry [] e = NotTold entry IsMap e
-NoMapOf entry (r ∷ []) e = NotTold entry IsMap e
+NoMapOf entry [] e = NotStated entry IsMap e
+NoMapOf entry (r ∷ []) e = NotStated entry IsMap e
 NoMapOf entry (r ∷ s ∷ ss) e =
     ((in_turn r s ss ≡ false) ⊎ ((k : KeyType) → r ≢ type_of_key k)) × (e ≡ NoOverload)
 

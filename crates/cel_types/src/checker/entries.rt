@@ -6,7 +6,7 @@ ghost use Rattle.cel_tree.specs.View.{name_view, reference_view, type_entry_view
 ghost use Rattle.cel_value.specs.Texts.{points_of};
 ghost use Rattle.cel_value.specs.Types.{type_view};
 ghost use Rattle.cel_types.specs.Typing.{RefAgrees, TypeAgrees, TypeGiven};
-ghost use Rattle.cel_types.specs.TypingFaults.{EntryFault, RefDiffers};
+ghost use Rattle.cel_types.specs.TypingFaults.{NodeTypeFault, RefDiffers};
 ghost use Rattle.cel_types.specs.steps.Kinds.{NotGiven};
 ghost use Rattle.proto_wire.specs.declared.refusal.Refusal.TheVariants.{BadReference};
 
@@ -19,7 +19,7 @@ use std::rc::RcStr;
 pub(super) fn require_type(entry: Option<&TypeEntry>, found: &CelType) -> Result<(), Refusal>
     ensures found { OnOk result (TypeAgrees (option_map (λ e. type_entry_view e.now) entry.entry)
         (type_view found.now)) }
-    ensures fault { IfErr result (EntryFault (option_map (λ e. type_entry_view e.now) entry.entry)
+    ensures fault { IfErr result (NodeTypeFault (option_map (λ e. type_entry_view e.now) entry.entry)
         (λ t. t ≡ type_view found.now)) }
 {
     match entry {
@@ -30,7 +30,7 @@ pub(super) fn require_type(entry: Option<&TypeEntry>, found: &CelType) -> Result
 
 fn require_said(entry: &TypeEntry, found: &CelType) -> Result<(), Refusal>
     ensures found { OnOk result (TypeAgrees (Some (type_entry_view entry.now)) (type_view found.now)) }
-    ensures fault { IfErr result (EntryFault (Some (type_entry_view entry.now)) (λ t. t ≡ type_view found.now)) }
+    ensures fault { IfErr result (NodeTypeFault (Some (type_entry_view entry.now)) (λ t. t ≡ type_view found.now)) }
 {
     match entry {
         TypeEntry::Dyn => Ok(()),

@@ -6,7 +6,7 @@ ghost use Rattle.cel_value.specs.Types.{type_view};
 ghost use Rattle.cel_types.specs.Elaborated.{kinds};
 ghost use Rattle.cel_types.specs.Typing.{IsList, IsMap, TypeGiven};
 ghost use Rattle.cel_types.specs.steps.ExprViews.{exprs_view};
-ghost use Rattle.cel_types.specs.steps.Kinds.{IsListOf, IsMapOf, NoListOf, NoMapOf, NotTold};
+ghost use Rattle.cel_types.specs.steps.Kinds.{IsListOf, IsMapOf, NoListOf, NoMapOf, NotStated};
 ghost use Rattle.proto_wire.specs.Refusal.{MemoryOr};
 
 use crate::checker::entries::type_given;
@@ -43,7 +43,7 @@ pub(super) fn list_type(
 fn empty_list(entry: Option<&TypeEntry>) -> Result<&CelType, Refusal>
     ensures found { IfOk result (λ t. TypeGiven (option_map (λ e. type_entry_view e.now) entry.entry)
         (type_view t.now) × IsList (type_view t.now)) }
-    ensures fault { IfErr result (NotTold (option_map (λ e. type_entry_view e.now) entry.entry) IsList) }
+    ensures fault { IfErr result (NotStated (option_map (λ e. type_entry_view e.now) entry.entry) IsList) }
 {
     let given = type_given(entry)?;
     require_list(given)?;
@@ -76,7 +76,7 @@ pub(super) fn map_type(
 fn empty_map(entry: Option<&TypeEntry>) -> Result<&CelType, Refusal>
     ensures found { IfOk result (λ t. TypeGiven (option_map (λ e. type_entry_view e.now) entry.entry)
         (type_view t.now) × IsMap (type_view t.now)) }
-    ensures fault { IfErr result (NotTold (option_map (λ e. type_entry_view e.now) entry.entry) IsMap) }
+    ensures fault { IfErr result (NotStated (option_map (λ e. type_entry_view e.now) entry.entry) IsMap) }
 {
     let given = type_given(entry)?;
     require_map(given)?;

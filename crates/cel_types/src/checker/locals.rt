@@ -14,7 +14,7 @@ use crate::typed::Variables;
 use cel_tree::{Comprehension, Tree, TreeEntry};
 use proto_wire::Refusal;
 
-const MOST_LOCALS: u8 = 64;
+pub(super) const MOST_LOCALS: u8 = 64;
 
 /// Refuses an expression if one of its nodes has too many locals in scope.
 pub(super) fn require_few_locals(tree: &Tree) -> Result<(), Refusal>
@@ -29,7 +29,7 @@ pub(super) fn require_few_locals(tree: &Tree) -> Result<(), Refusal>
 
 /// Whether no node has more than so many of the expression's own locals in scope.
 #[cycle(locals)]
-fn has_few(tree: &Tree, most: u8) -> bool
+pub(super) fn has_few(tree: &Tree, most: u8) -> bool
     ensures { result ≡ nat_lt (locals_in (tree_view tree.now)) (suc most) }
 {
     match tree {

@@ -50,7 +50,7 @@ pub(super) fn check_tree<'a>(
 }
 
 /// The id of an expression's node.
-fn id_of(tree: &Tree) -> i64
+pub(super) fn id_of(tree: &Tree) -> i64
     ensures { result ≡ id_of (tree_view tree.now) }
 {
     match tree {

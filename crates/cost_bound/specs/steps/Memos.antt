@@ -83,39 +83,39 @@ SaysAnd m e l sizes More = Says m (size_of e l sizes) (cost_of e l sizes) × Mor
 abbrev mutual
   -- what a memo states of an expression's parts is true. For a loop's condition, step and result it is
   -- true for all sizes of the accumulator and the variables
-  pub HoldsInside : MemoTree → TypedTree → LimitsValue → List Size → Type 0
-  HoldsInside m (typed_constant t v) l sizes = Unit {0}
-  HoldsInside m (typed_local t outside) l sizes = Unit {0}
-  HoldsInside m (typed_attribute t a) l sizes = Unit {0}
-  HoldsInside m (typed_field t on name) l sizes =
-      SaysAnd (part_at 0 m) on l sizes (HoldsInside (part_at 0 m) on l sizes)
-  HoldsInside m (typed_has t on name) l sizes =
-      SaysAnd (part_at 0 m) on l sizes (HoldsInside (part_at 0 m) on l sizes)
-  HoldsInside m (typed_call t o operands) l sizes = HoldsEach m 0 operands l sizes
-  HoldsInside m (typed_list t elements) l sizes = HoldsEach m 0 elements l sizes
-  HoldsInside m (typed_map t pairs) l sizes = HoldsEach m 0 pairs l sizes
-  HoldsInside m (typed_loop t vars range init condition step result) l sizes =
-      SaysAnd (part_at 0 m) range l sizes (HoldsInside (part_at 0 m) range l sizes)
-      × SaysAnd (part_at 1 m) init l sizes (HoldsInside (part_at 1 m) init l sizes)
+  pub MemoHoldsInside : MemoTree → TypedTree → LimitsValue → List Size → Type 0
+  MemoHoldsInside m (typed_constant t v) l sizes = Unit {0}
+  MemoHoldsInside m (typed_local t outside) l sizes = Unit {0}
+  MemoHoldsInside m (typed_attribute t a) l sizes = Unit {0}
+  MemoHoldsInside m (typed_field t on name) l sizes =
+      SaysAnd (part_at 0 m) on l sizes (MemoHoldsInside (part_at 0 m) on l sizes)
+  MemoHoldsInside m (typed_has t on name) l sizes =
+      SaysAnd (part_at 0 m) on l sizes (MemoHoldsInside (part_at 0 m) on l sizes)
+  MemoHoldsInside m (typed_call t o operands) l sizes = MemoHoldsEach m 0 operands l sizes
+  MemoHoldsInside m (typed_list t elements) l sizes = MemoHoldsEach m 0 elements l sizes
+  MemoHoldsInside m (typed_map t pairs) l sizes = MemoHoldsEach m 0 pairs l sizes
+  MemoHoldsInside m (typed_loop t vars range init condition step result) l sizes =
+      SaysAnd (part_at 0 m) range l sizes (MemoHoldsInside (part_at 0 m) range l sizes)
+      × SaysAnd (part_at 1 m) init l sizes (MemoHoldsInside (part_at 1 m) init l sizes)
       × ((s : Size) (each : List Size) → length each ≡ variable_count vars
       → SaysAnd (part_at 2 m) condition l (each ++ s ∷ sizes)
-      (HoldsInside (part_at 2 m) condition l (each ++ s ∷ sizes)))
+      (MemoHoldsInside (part_at 2 m) condition l (each ++ s ∷ sizes)))
       × ((s : Size) (each : List Size) → length each ≡ variable_count vars
       → SaysAnd (part_at 3 m) step l (each ++ s ∷ sizes)
-      (HoldsInside (part_at 3 m) step l (each ++ s ∷ sizes)))
+      (MemoHoldsInside (part_at 3 m) step l (each ++ s ∷ sizes)))
       × ((s : Size) → SaysAnd (part_at 4 m) result l (s ∷ sizes)
-      (HoldsInside (part_at 4 m) result l (s ∷ sizes)))
+      (MemoHoldsInside (part_at 4 m) result l (s ∷ sizes)))
 
   -- the same for parts in order; the first has this place
-  pub HoldsEach : MemoTree → ℕ → TypedTrees → LimitsValue → List Size → Type 0
-  HoldsEach m place no_typed l sizes = Unit {0}
-  HoldsEach m place (typed e es) l sizes =
-      SaysAnd (part_at place m) e l sizes (HoldsInside (part_at place m) e l sizes)
-      × HoldsEach m (suc place) es l sizes
+  pub MemoHoldsEach : MemoTree → ℕ → TypedTrees → LimitsValue → List Size → Type 0
+  MemoHoldsEach m place no_typed l sizes = Unit {0}
+  MemoHoldsEach m place (typed e es) l sizes =
+      SaysAnd (part_at place m) e l sizes (MemoHoldsInside (part_at place m) e l sizes)
+      × MemoHoldsEach m (suc place) es l sizes
 
 -- all that a memo states of an expression and of its parts is true
-abbrev pub Holds : MemoTree → TypedTree → LimitsValue → List Size → Type 0
-Holds m e l sizes = SaysAnd m e l sizes (HoldsInside m e l sizes)
+abbrev pub MemoHolds : MemoTree → TypedTree → LimitsValue → List Size → Type 0
+MemoHolds m e l sizes = SaysAnd m e l sizes (MemoHoldsInside m e l sizes)
 
 -- a local measures the same in each turn of a loop: one of the `around` locals outside of the loop, or one
 -- of its variables. These come after the accumulator
@@ -155,9 +155,9 @@ pub record InTurns (around : ℕ) (vars : Variables) (sizes others : List Size) 
 -- in every turn of the loop, what the memo states of an expression inside is true
 abbrev pub Remembers : MemoTree → TypedTree → LimitsValue → Around → List Size → Type 0
 Remembers m e l around sizes = (k : ℕ) (others : List Size) → around.count ≡ capped k
-    → InTurns k around.variables sizes others → Holds m e l others
+    → InTurns k around.variables sizes others → MemoHolds m e l others
 
 -- the same for expressions, in order
 abbrev pub RemembersEach : MemoTree → TypedTrees → LimitsValue → Around → List Size → Type 0
 RemembersEach m es l around sizes = (k : ℕ) (others : List Size) → around.count ≡ capped k
-    → InTurns k around.variables sizes others → HoldsEach m 0 es l others
+    → InTurns k around.variables sizes others → MemoHoldsEach m 0 es l others

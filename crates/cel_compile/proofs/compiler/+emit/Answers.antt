@@ -12,7 +12,7 @@ use Rattle.cel_types.specs.steps.ExprViews.{exprs_view, parts_view}
 use Rattle.cel_types.specs.declared.typed.TypedExpr as exprs
 use Rattle.stack_machine.specs.declared.instr.Instr.TheVariants as instrs
 use Rattle.cel_compile.specs.declared.lengths.Lengths.{Lengths}
-use Rattle.cel_compile.specs.Codes.{extent}
+use Rattle.cel_compile.specs.steps.Extents.{extent}
 use Rattle.cel_compile.specs.steps.Emitting.{Grows, GrowsAll, HasRoom}
 use Rattle.cel_compile.specs.steps.Lengths.{lengths_are, lengths_of}
 use Rattle.cel_compile.proofs.Built.{choice_built, choice_first, choice_jump, choice_room, choice_second, choice_test, choice_third, junction_built, junction_first, junction_last, junction_put, junction_room, junction_second, loop_room, next, one, takes_of, then}

@@ -3,7 +3,7 @@ use Rattle.cel_types.specs.View.{typed_view}
 use Rattle.stack_machine.specs.Instructions.{code_view}
 use Rattle.cel_compile.proofs.Forwards.{code_is_forward}
 use Rattle.cel_compile.proofs.Meaning.{code_means}
-use Rattle.cel_compile.proofs.Short.{room_alone}
+use Rattle.cel_compile.proofs.Short.{refused_length, room_alone}
 use Rattle.cel_compile.proofs.Unstuck.{code_never_stuck}
 use Rattle.cel_compile.proofs.Whole.{code_is_sound}
 use Rattle.cel_compile.proofs.compiler.compile.Goals as goal
@@ -30,6 +30,11 @@ returns-clause-lives c =
     MatchResult-weaker c.compile_whole.result c.compile_whole.ensures.found
     (λ code is request g valid. rw is (code_never_stuck (typed_view c.args.typed.now) request g valid))
     (λ e h. h)
+
+pub returns-clause-fault : goal.returns-clause-fault
+returns-clause-fault c =
+    MatchResult-weaker c.compile_whole.result c.compile_whole.ensures.fault
+    (λ code h. h) (λ e h. refused_length (typed_view c.args.typed.now) e h)
 
 pub returns-clause-room : goal.returns-clause-room
 returns-clause-room c =

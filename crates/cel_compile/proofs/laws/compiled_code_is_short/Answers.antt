@@ -1,9 +1,5 @@
-use Rattle.cel_compile.proofs.Placing.{extent_is}
 use Rattle.cel_compile.proofs.Short.{fitting_code, short_code}
 use Rattle.cel_compile.proofs.laws.compiled_code_is_short.Goals as goal
-
-pub returns-clause-extent : goal.returns-clause-extent
-returns-clause-extent c = extent_is
 
 pub returns-clause-short : goal.returns-clause-short
 returns-clause-short c = short_code

@@ -2,7 +2,7 @@ use Rattle.std.proofs.Common.{ℕ, List, [], get_or}
 use Rattle.std.specs.Prelude.{Contains}
 use Rattle.std.proofs.lemmas.List.{take_more}
 use Rattle.proto_wire.specs.Merge.{parts_view}
-use Rattle.cel_tree.specs.Nodes.{EntryFault}
+use Rattle.cel_tree.specs.Nodes.{MapEntryFault}
 use Rattle.cel_tree.proofs.Basics.{part_in}
 use Rattle.cel_tree.proofs.Entries.{entries_push}
 use Rattle.cel_tree.proofs.Readers.{exit_memory_or}
@@ -13,8 +13,8 @@ returns-in_err-entry-clause-fault c =
     let slices = c.args.payloads.now in
     let i = c.loop-payload.payload-index in
     let payload = get_or slices i (record { ref_ptr = (0, 0); now = [] }) in
-    exit_memory_or (EntryFault payload.now)
-    (λ e. (p : List ℕ) × Contains (parts_view slices) p × EntryFault p e)
+    exit_memory_or (MapEntryFault payload.now)
+    (λ e. (p : List ℕ) × Contains (parts_view slices) p × MapEntryFault p e)
     c.from_residual.result _ c.from_residual.ensures.1 c.in_err-entry.ensures.fault
     (λ e bad. (payload.now, part_in slices i (record { ref_ptr = (0, 0); now = [] }) c.loop-payload-test.true, bad))
 

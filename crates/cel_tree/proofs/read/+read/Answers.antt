@@ -114,7 +114,7 @@ read_trees-returns-in_err-tree-clause-fault t c =
     let so_far = c.loop-payload.invariant in
     exit_memory_or (TreeFails c.args.depth c.loop-payload.left ((get_or slices i d).now ∷ []))
     (SomeFails c.args.depth c.args.left.now (singles (parts_view slices)))
-    c.from_residual.result _ c.from_residual.ensures.1 c.in_err-tree.ensures.fault
+    c.from_residual-in_err-tree.result _ c.from_residual-in_err-tree.ensures.1 c.in_err-tree.ensures.fault
     (λ e bad. trees_fail c.args.depth slices i d (trees_view c.loop-payload.trees.items) c.loop-payload.left c.args.left.now e
     c.loop-payload-test.true so_far.0 so_far.1 bad)
 

@@ -5,7 +5,7 @@ use Rattle.cel_types.specs.declared.typed.TypedExpr.{TypedExpr}
 use Rattle.cost_bound.specs.Costs.{cost_of, costs_of, grown, join_all, sizes_of, total, turns_cost}
 use Rattle.cost_bound.specs.Sizes.{Size}
 use Rattle.cost_bound.specs.steps.Measuring.{next_size, turn_cost}
-use Rattle.cost_bound.specs.steps.Memos.{Holds, InTurns, memo_at, memos_view}
+use Rattle.cost_bound.specs.steps.Memos.{MemoHolds, InTurns, memo_at, memos_view}
 use Rattle.cost_bound.specs.steps.Numbers.{capped}
 use Rattle.cost_bound.specs.steps.ScopeView.{scope_view}
 use Rattle.cost_bound.specs.steps.SizeView.{size_view, sizes_view, variables_view}
@@ -40,7 +40,7 @@ invariant-remember_each-loop-expr l =
     × ((k : ℕ) (others : List Size) → l.around.count ≡ capped k
     → InTurns k l.around.variables (scope_view l.scope) others
     → (i : ℕ) (x : TypedExpr) → i < l.expr-index → x ≡ get_or l.exprs i x
-    → Holds (memo_at i (memos_view l.parts.items)) (expr_view x) l.limits others)
+    → MemoHolds (memo_at i (memos_view l.parts.items)) (expr_view x) l.limits others)
 
 abbrev pub invariant-measure_turns-loop-others : goal.invariant-measure_turns-loop-others
 invariant-measure_turns-loop-others l =
