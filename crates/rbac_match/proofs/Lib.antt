@@ -19,6 +19,8 @@ pub mod Tokens
 pub mod LeafLists
 pub mod NodeLists
 pub mod Loops
+mod CauseLists
+mod CauseLaws
 pub mod Adding
 pub mod Levels
 mod NeedLemmas

@@ -14,4 +14,5 @@ pub mod Rules
 pub mod Needs
 pub mod Tokens
 pub mod View
+pub mod Causes
 pub mod steps

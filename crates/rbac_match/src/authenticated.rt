@@ -11,9 +11,9 @@ use attributes::Conn;
 use proto_wire::{Key, Refusal, keys, payloads_of, read_message};
 use std::alloc::Global;
 
-const PRINCIPAL_NAME: u32 = 2;
+pub(crate) const PRINCIPAL_NAME: u32 = 2;
 
-static AUTHENTICATED: [Key; 1] = keys![Len PRINCIPAL_NAME];
+pub(crate) static AUTHENTICATED: [Key; 1] = keys![Len PRINCIPAL_NAME];
 
 /// Reads an Authenticated from its parts: the test of the peer's name, or `None` if every name is accepted.
 pub(crate) fn read_authenticated<'a>(

@@ -29,7 +29,7 @@ pub enum AddressSource {
 }
 
 impl AddressSource {
-    fn of(self, conn: &Conn) -> Option<Ip>
+    pub(crate) fn of(self, conn: &Conn) -> Option<Ip>
         ensures { result ≡ source_ip self (conn_view conn.now) }
     {
         match self {
@@ -40,16 +40,16 @@ impl AddressSource {
     }
 }
 
-const ADDRESS_PREFIX: u32 = 1;
+pub(crate) const ADDRESS_PREFIX: u32 = 1;
 
-const PREFIX_LEN: u32 = 2;
+pub(crate) const PREFIX_LEN: u32 = 2;
 
 /// The field of a UInt32Value's value.
 const VALUE: u32 = 1;
 
-static CIDR_RANGE: [Key; 2] = keys![Len ADDRESS_PREFIX, Len PREFIX_LEN];
+pub(crate) static CIDR_RANGE: [Key; 2] = keys![Len ADDRESS_PREFIX, Len PREFIX_LEN];
 
-static UINT32_VALUE: [Key; 1] = keys![Varint VALUE];
+pub(crate) static UINT32_VALUE: [Key; 1] = keys![Varint VALUE];
 
 /// Reads a range of addresses (`envoy.config.core.v3.CidrRange`) from its parts. `BadText`: the address is
 /// not UTF-8. `OutOfRange`: the text spells no address, or the address has fewer bits than the prefix. An
@@ -66,7 +66,7 @@ pub(crate) fn read_cidr(alloc: Global, parts: &[&[u8]]) -> Result<Cidr, Refusal>
 }
 
 /// The address in the fields of a range.
-fn address_prefix(fields: &[Field<'_>]) -> Result<Ip, Refusal>
+pub(crate) fn address_prefix(fields: &[Field<'_>]) -> Result<Ip, Refusal>
     ensures found { let text = bytes_at cidr_field.address_prefix (map field_view fields.now) in
         IfOk result (λ ip. IsUtf8 text × IsIpText text ip) }
     ensures fault { let text = bytes_at cidr_field.address_prefix (map field_view fields.now) in

@@ -67,34 +67,34 @@ pub(crate) enum HeaderMember {
     Matcher,
 }
 
-const NAME: u32 = 1;
+pub(crate) const NAME: u32 = 1;
 
-const EXACT_MATCH: u32 = 4;
+pub(crate) const EXACT_MATCH: u32 = 4;
 
-const RANGE_MATCH: u32 = 6;
+pub(crate) const RANGE_MATCH: u32 = 6;
 
 const PRESENT_MATCH: u32 = 7;
 
 const INVERT_MATCH: u32 = 8;
 
-const PREFIX_MATCH: u32 = 9;
+pub(crate) const PREFIX_MATCH: u32 = 9;
 
-const SUFFIX_MATCH: u32 = 10;
+pub(crate) const SUFFIX_MATCH: u32 = 10;
 
-const SAFE_REGEX_MATCH: u32 = 11;
+pub(crate) const SAFE_REGEX_MATCH: u32 = 11;
 
-const CONTAINS_MATCH: u32 = 12;
+pub(crate) const CONTAINS_MATCH: u32 = 12;
 
-const STRING_MATCH: u32 = 13;
+pub(crate) const STRING_MATCH: u32 = 13;
 
 const TREAT_MISSING_HEADER_AS_EMPTY: u32 = 14;
 
-static SPECIFIERS: [Key; 8] = keys![
+pub(crate) static SPECIFIERS: [Key; 8] = keys![
     Len EXACT_MATCH, Len RANGE_MATCH, Varint PRESENT_MATCH, Len PREFIX_MATCH, Len SUFFIX_MATCH,
     Len SAFE_REGEX_MATCH, Len CONTAINS_MATCH, Len STRING_MATCH
 ];
 
-static HEADER_MATCHER: [Key; 11] = keys![
+pub(crate) static HEADER_MATCHER: [Key; 11] = keys![
     Len NAME, Varint INVERT_MATCH, Varint TREAT_MISSING_HEADER_AS_EMPTY, Len EXACT_MATCH,
     Len RANGE_MATCH, Varint PRESENT_MATCH, Len PREFIX_MATCH, Len SUFFIX_MATCH,
     Len SAFE_REGEX_MATCH, Len CONTAINS_MATCH, Len STRING_MATCH
@@ -124,7 +124,7 @@ pub(crate) fn read_header_matcher<'a>(
 }
 
 /// The name as the message has it; it is not empty.
-fn header_name<'a>(fields: &[Field<'a>]) -> Result<&'a str, Refusal>
+pub(crate) fn header_name<'a>(fields: &[Field<'a>]) -> Result<&'a str, Refusal>
     ensures found { let bytes = bytes_at header_field.name (map field_view fields.now) in
         IfOk result (λ name. (name.now ≡ bytes) × IsUtf8 bytes × (bytes ≢ [])) }
     ensures fault { let bytes = bytes_at header_field.name (map field_view fields.now) in
@@ -138,7 +138,10 @@ fn header_name<'a>(fields: &[Field<'a>]) -> Result<&'a str, Refusal>
 }
 
 /// What the last member requires; without a member, the header must be present.
-fn read_specifier<'a>(alloc: Global, fields: &[Field<'a>]) -> Result<Specifier<'a>, Refusal>
+pub(crate) fn read_specifier<'a>(
+    alloc: Global,
+    fields: &[Field<'a>],
+) -> Result<Specifier<'a>, Refusal>
     ensures found { IfOk result (λ s. SaysSpecifier (map field_view fields.now) s) }
     ensures fault { let fs = map field_view fields.now in IfErr result (MemoryOr (λ e.
         (n : ℕ) × (last_number (keys_of specifiers) fs ≡ Some n)

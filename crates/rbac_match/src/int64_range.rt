@@ -14,8 +14,8 @@ use std::alloc::Global;
 /// The numbers from `start` on that are below `end`; none if `start` is not below `end`.
 #[derive(Clone, Copy, PartialEq, Eq, Debug)]
 pub struct Int64Range {
-    start: i64,
-    end: i64,
+    pub(crate) start: i64,
+    pub(crate) end: i64,
 }
 
 impl Int64Range {

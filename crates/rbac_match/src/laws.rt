@@ -4,15 +4,16 @@
 ghost use Rattle.std.specs.Prelude.{◌≡◌, ◌≢◌, ◌↔◌, ◌⊎◌, ◌<◌, ◌≤◌, ◌≤ℤ◌, ◌<ℤ◌, ◌+◌, ◌==◌, ◌||◌, ℕ, ℤ, pos, neg_ℤ, FitsSigned, Bool, true, false, not, List, [], ◌∷◌, ◌++◌, Option, Some, None, IsTrue, codes};
 ghost use Rattle.std.specs.Char.{to_ascii_lowercase};
 ghost use Rattle.std.specs.Int.{w64};
-ghost use Rattle.std.specs.List.{list_any};
+ghost use Rattle.std.specs.List.{AllByRecursion, list_any};
 ghost use Rattle.std.specs.Str.{str_to_ascii_lowercase};
 ghost use Rattle.std.specs.Str.Parse.{IsNumeral, signed_digits_value, without_leading_sign};
 ghost use Rattle.attributes.specs.Address.{Range, share_prefix};
 ghost use Rattle.attributes.specs.Request.{RequestValue, header_of};
 ghost use Rattle.attributes.specs.declared.address.Ip.{Ip};
 ghost use Rattle.proto_wire.specs.declared.refusal.Refusal.{Refusal};
+ghost use Rattle.rbac_match.specs.Causes.{IsCauseOf, IsSame, causes};
 ghost use Rattle.rbac_match.specs.Cidr.{source_ip};
-ghost use Rattle.rbac_match.specs.Formula.{Formulas};
+ghost use Rattle.rbac_match.specs.Formula.{Formula, Formulas, holds};
 ghost use Rattle.rbac_match.specs.Header.{HeaderTest, IsHeader, HeaderFault, specifier_holds};
 ghost use Rattle.rbac_match.specs.Int64Range.{int64_in, is_within, range_holds};
 ghost use Rattle.rbac_match.specs.Matcher.{matcher_holds};
@@ -232,4 +233,17 @@ pub fn a_port_range_is_two_comparisons()
 /// Decoding the tokens of rules gives these rules.
 pub fn tokens_are_their_rules()
     ensures { (rules : Formulas) → decode (tokens rules) ≡ rules }
+{}
+
+/// Each cause of a rule is a leaf at the end of its path in the rule. Its value, negated once for each `not` on
+/// the path, is the value of the rule.
+pub fn causes_are_leaves()
+    ensures { (request : RequestValue) (f : Formula)
+        → AllByRecursion (IsCauseOf request f) (causes request f) }
+{}
+
+/// The causes decide: a request for which they have the same values gives the rule the same value.
+pub fn causes_suffice()
+    ensures { (request other : RequestValue) (f : Formula)
+        → AllByRecursion (IsSame request other) (causes request f) → holds other f ≡ holds request f }
 {}

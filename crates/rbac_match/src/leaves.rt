@@ -117,6 +117,16 @@ impl Leaves {
         }
     }
 
+    /// The leaf at this place, and the pool that has its texts.
+    pub(crate) fn leaf(&self, place: u32) -> Option<(&Pool, &Leaf)>
+        ensures { IfSome result (λ found. GoodLeaf found.0.now found.1.now) }
+    {
+        match self.leaves.get(place as usize) {
+            Some(leaf) => Some((&self.pool, leaf)),
+            None => None,
+        }
+    }
+
     /// A start of the path of every request that passes the test at this place.
     pub(crate) fn path_start(&self, place: u32) -> &[u8]
         ensures { (r : RequestValue) → passes_at (slice_get self.now place) r ≡ true

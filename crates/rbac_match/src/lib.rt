@@ -3,7 +3,9 @@
 #![tactic(auto)]
 
 mod authenticated;
+mod causes;
 mod cidr;
+mod faulty;
 mod fields;
 mod header;
 mod int64_range;
@@ -23,11 +25,14 @@ mod read;
 mod rule;
 mod search;
 mod text;
+mod words;
 
+pub use causes::{Causes, rule_causes};
+pub use faulty::{path_in_rule, unknown_field};
 pub use fields::trailing_run;
 pub use keys::{AND, NOT, OR, RULES};
 pub use list::{RuleList, Rules};
 pub use matching::any_matches;
-pub use needs::{header_value, path_start};
+pub use needs::{header_name, header_value, path_start};
 pub use read::{RULE_DEPTH, read_rule, read_rules};
 pub use rule::Side;

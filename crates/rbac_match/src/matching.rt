@@ -24,7 +24,7 @@ pub fn any_matches(list: &RuleList, rules: Rules, request: &Request) -> bool
 /// inlined, so a loop over tests makes no call for each.
 #[cycle(matching)]
 #[inline(always)]
-fn node_matches(leaves: &Leaves, node: &Node, inside: &[Node], request: &Request) -> bool
+pub(crate) fn node_matches(leaves: &Leaves, node: &Node, inside: &[Node], request: &Request) -> bool
     ensures { result ≡ holds request.now (formula_in leaves.now node.now inside.now) }
 {
     match node {
@@ -62,7 +62,7 @@ fn first_matches(leaves: &Leaves, nodes: &[Node], request: &Request) -> bool
 /// Whether each rule of the nodes matches the request.
 #[cycle(matching)]
 #[inline(always)]
-fn all_match(leaves: &Leaves, nodes: &[Node], request: &Request) -> bool
+pub(crate) fn all_match(leaves: &Leaves, nodes: &[Node], request: &Request) -> bool
     ensures { result ≡ all_hold request.now (formulas_in leaves.now nodes.now) }
 {
     let mut rest = nodes;
@@ -79,7 +79,7 @@ fn all_match(leaves: &Leaves, nodes: &[Node], request: &Request) -> bool
 /// Whether at least one rule of the nodes matches the request.
 #[cycle(matching)]
 #[inline(always)]
-fn some_match(leaves: &Leaves, nodes: &[Node], request: &Request) -> bool
+pub(crate) fn some_match(leaves: &Leaves, nodes: &[Node], request: &Request) -> bool
     ensures { result ≡ some_hold request.now (formulas_in leaves.now nodes.now) }
 {
     let mut rest = nodes;

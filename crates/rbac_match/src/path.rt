@@ -9,9 +9,9 @@ use crate::text::{TextMatcher, read_text_matcher};
 use proto_wire::{Key, Refusal, keys, payloads_of, read_message, require_payload};
 use std::alloc::Global;
 
-const PATH: u32 = 1;
+pub(crate) const PATH: u32 = 1;
 
-static PATH_MATCHER: [Key; 1] = keys![Len PATH];
+pub(crate) static PATH_MATCHER: [Key; 1] = keys![Len PATH];
 
 /// Reads a PathMatcher from its parts. `Missing`: it has no path. It refuses a path as `read_text_matcher`
 /// does.

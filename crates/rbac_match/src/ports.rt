@@ -22,8 +22,8 @@ const PORTS: i32 = 65_536;
 /// Consecutive ports: `start` is the first, and `end` is the one after the last.
 #[derive(Clone, Copy, Debug)]
 pub struct PortRange {
-    start: u32,
-    end: u32,
+    pub(crate) start: u32,
+    pub(crate) end: u32,
 }
 
 impl Model for PortRange {

@@ -67,23 +67,23 @@ impl<'a> Model for TextMatcher<'a> {
     ghost invariant = { λ m. IsFilled m.pattern m.sought.now };
 }
 
-const EXACT: u32 = 1;
+pub(crate) const EXACT: u32 = 1;
 
-const PREFIX: u32 = 2;
+pub(crate) const PREFIX: u32 = 2;
 
-const SUFFIX: u32 = 3;
+pub(crate) const SUFFIX: u32 = 3;
 
-const SAFE_REGEX: u32 = 5;
+pub(crate) const SAFE_REGEX: u32 = 5;
 
 const IGNORE_CASE: u32 = 6;
 
-const CONTAINS: u32 = 7;
+pub(crate) const CONTAINS: u32 = 7;
 
-static STRING_MEMBERS: [Key; 5] = keys![
+pub(crate) static STRING_MEMBERS: [Key; 5] = keys![
     Len EXACT, Len PREFIX, Len SUFFIX, Len SAFE_REGEX, Len CONTAINS
 ];
 
-static STRING_MATCHER: [Key; 6] = keys![
+pub(crate) static STRING_MATCHER: [Key; 6] = keys![
     Varint IGNORE_CASE, Len EXACT, Len PREFIX, Len SUFFIX, Len SAFE_REGEX, Len CONTAINS
 ];
 
