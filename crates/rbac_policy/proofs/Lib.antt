@@ -14,3 +14,4 @@ pub mod StandardConditionFacts
 mod SieveLemmas
 mod PolicyNames
 mod ConditionParts
+mod SideCauses

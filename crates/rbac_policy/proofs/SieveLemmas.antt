@@ -16,7 +16,7 @@ use Rattle.rbac_policy.specs.declared.sieve.Need.{Need}
 use Rattle.rbac_policy.specs.declared.policy.NamedPolicy.{NamedPolicy}
 use Rattle.rbac_policy.specs.Named.{policy_view}
 use Rattle.rbac_policy.specs.steps.Runs.{Tells}
-use Rattle.rbac_policy.specs.steps.Sieve.{AreInOrder, AreNeeded, IsNeeded, IsRuledOut, Meets, mix, number_from, start_number, value_number, value_of}
+use Rattle.rbac_policy.specs.steps.Sieve.{AreInOrder, AreNeeded, IsNeeded, IsRuledOut, Meets, method_name, mix, number_from, start_number, value_number, value_of}
 
 same_or_other : (a b : ℕ) → (a ≡ b) ⊎ (a ≢ b)
 same_or_other zero zero = inl refl
@@ -123,22 +123,23 @@ not_met r ps needs most name i need are is unmet p at = elim (cases_Bool (sides_
   | inr fails ↦ fails
 ]
 
--- what a policy needs, by a start of its permissions and a value of its principals
+-- what a policy needs, by a start and the method of its permissions, and a value of its principals
 module _ (most : ℕ) (name : List ℕ) (p : Policy Program) (start : List ℕ) (need : Need) where
   pub need_is : NeedsStart p.permissions start → need.count ≤ length start → need.count ≤ most
       → need.start ≡ start_number (take need.count start)
       → ((r : RequestValue) → some_hold r p.principals ≡ true → need.value ≢ 0 → value_number (value_of r name) ≡ need.value)
+      → ((r : RequestValue) → some_hold r p.permissions ≡ true → need.method ≢ 0 → value_number (value_of r method_name) ≡ need.method)
       → (r : RequestValue) → sides_match r p ≡ true → Meets most name need r
-  need_is starts in_start in_most number value r sides =
+  need_is starts in_start in_most number value method r sides =
       let both = and_parts (some_hold r p.permissions) (some_hold r p.principals) sides in
       record {
         within = in_most;
         start = ap start_number (begins_first need.count start (url_path_of r.target) in_start (starts r both.0)) ∙ sym number;
         value = value r both.1;
+        method = method r both.0;
       }
 
 -- the number of the value that rules need of a header of this name
-pub value_is_needed : (fs : Formulas) (own name value : List ℕ) (number : ℕ) → NeedsValue fs own value → own ≡ name → number ≡ value_number value
+pub value_is_needed : (fs : Formulas) (name value : List ℕ) (number : ℕ) → NeedsValue fs name value → number ≡ value_number value
     → (r : RequestValue) → some_hold r fs ≡ true → value_number (value_of r name) ≡ number
-value_is_needed fs own name value number needs same is r some =
-    ap value_number (subst (λ n. value_of r n ≡ value) same (needs r some)) ∙ sym is
+value_is_needed fs name value number needs is r some = ap value_number (needs r some) ∙ sym is

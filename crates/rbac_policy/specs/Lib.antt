@@ -7,6 +7,7 @@ pub mod Message
 pub mod Fault
 pub mod Verdict
 pub mod Trials
+pub mod Causes
 pub mod Named
 pub mod Admitted
 pub mod Admission

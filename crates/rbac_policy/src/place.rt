@@ -2,22 +2,23 @@
 //! part that is named was read by itself and has the fault.
 
 use crate::admission::{read_action, refuse_audit_options};
-use crate::numbers::{CHECKED_CONDITION, PERMISSIONS, POLICIES, PRINCIPALS, RULES};
+use crate::keys::POLICY_KEYS;
+use crate::numbers::{PERMISSIONS, POLICIES, PRINCIPALS, RULES};
+use crate::place_in_condition::place_in_condition;
 use crate::policy::{read_condition, read_policy};
 use attributes::Limits;
-use proto_wire::{
-    Field, MapEntry, Refusal, has_payload, payloads_of, read_entries, read_fields, read_parts,
-};
+use proto_wire::{Field, MapEntry, Refusal, payloads_of, read_entries, read_fields, read_parts};
 use rbac_match::{
-    AND, NOT, OR, RULE_DEPTH, RULES as SET_RULES, RuleList, Side, read_rule, trailing_run,
+    AND, NOT, OR, RULE_DEPTH, RULES as SET_RULES, RuleList, Side, path_in_rule, read_rule,
+    trailing_run, unknown_field,
 };
 use smallvec::SmallVec;
 use std::alloc::Global;
 
 /// The part of the filter's message that has this fault, such as
-/// `policy "p": permissions[0].and_rules.rules[2]` or `policy "p": checked_condition`. Control characters of
-/// the name are escaped. `None` if no part can be named, as for `TooCostly`, which is a fault of several
-/// conditions together.
+/// `policy "p": permissions[0].and_rules.rules[2].header.name` or `policy "p": checked_condition.expr, node 5`.
+/// Control characters of the name are escaped. `None` if no part can be named, as for `TooCostly`, which is a
+/// fault of several conditions together.
 pub fn place_of(alloc: Global, bytes: &[u8], refusal: Refusal) -> Option<String> {
     if refusal == Refusal::TooCostly {
         return None;
@@ -76,34 +77,36 @@ fn part_of_rules(fields: &[Field<'_>], refusal: Refusal) -> Option<&'static str>
     None
 }
 
-/// This policy, and the part of it that has the fault: a rule, its condition, or the policy itself.
+/// This policy, and the part of it that has the fault: a rule, its condition, a field, or the policy itself.
 fn place_in_policy(alloc: Global, name: &str, parts: &[&[u8]], refusal: Refusal) -> Option<String> {
     match part_of_policy(alloc, parts, refusal) {
-        Some(part) => format!(in alloc; "policy {name:?}: {part}").ok(),
+        Some(part) => format!(in alloc; "policy {name:?}{part}").ok(),
         None => format!(in alloc; "policy {name:?}").ok(),
     }
 }
 
 fn part_of_policy(alloc: Global, parts: &[&[u8]], refusal: Refusal) -> Option<String> {
     let fields = read_parts(alloc, parts).ok()?;
-    if let Some(path) = path_in_side(alloc, Side::Permission, &fields, refusal) {
-        return Some(path);
+    if refusal == Refusal::UnknownField {
+        if let Some(number) = unknown_field(&fields, &POLICY_KEYS) {
+            return format!(in alloc; ", field {number}").ok();
+        }
     }
-    if let Some(path) = path_in_side(alloc, Side::Principal, &fields, refusal) {
-        return Some(path);
-    }
-    if is_condition_at_fault(alloc, &fields, refusal) {
-        return String::from_str(alloc, condition_name(&fields)).ok();
-    }
-    None
+    let part = named_part(alloc, &fields, refusal)?;
+    format!(in alloc; ": {part}").ok()
 }
 
-/// The name of the field that has the condition.
-fn condition_name(fields: &[Field<'_>]) -> &'static str {
-    if has_payload(fields, CHECKED_CONDITION) {
-        return "checked_condition";
+fn named_part(alloc: Global, fields: &[Field<'_>], refusal: Refusal) -> Option<String> {
+    if let Some(path) = path_in_side(alloc, Side::Permission, fields, refusal) {
+        return Some(path);
     }
-    "condition"
+    if let Some(path) = path_in_side(alloc, Side::Principal, fields, refusal) {
+        return Some(path);
+    }
+    if is_condition_at_fault(alloc, fields, refusal) {
+        return place_in_condition(alloc, fields, refusal);
+    }
+    None
 }
 
 /// Whether the condition of these fields has the fault.
@@ -111,7 +114,7 @@ fn is_condition_at_fault(alloc: Global, fields: &[Field<'_>], refusal: Refusal) 
     read_condition(alloc, fields, &Limits::largest(), NO_STEPS).err() == Some(refusal)
 }
 
-/// The path to the innermost rule of one side that has the fault.
+/// The path to the innermost part of one side's rules that has the fault.
 fn path_in_side(
     alloc: Global,
     side: Side,
@@ -138,12 +141,27 @@ fn path_in_rules(
     let mut path = format!(in alloc; "{name}[{index}]").ok()?;
     for depth in (0..RULE_DEPTH).rev() {
         let Some((step, inner)) = inner_at_fault(alloc, side, rule, depth, refusal) else {
-            return Some(path);
+            return with_field(alloc, path, side, rule, refusal);
         };
         path.push_str(step.as_str()).ok()?;
         rule = inner;
     }
     Some(path)
+}
+
+/// The path to a rule, and on to the field of it that has the fault. A rule of too many levels has no such field.
+fn with_field(
+    alloc: Global,
+    path: String,
+    side: Side,
+    rule: &[u8],
+    refusal: Refusal,
+) -> Option<String> {
+    if refusal == Refusal::TooLarge {
+        return Some(path);
+    }
+    let field = path_in_rule(alloc, side, rule, refusal)?;
+    format!(in alloc; "{path}{field}").ok()
 }
 
 /// The rules directly inside another rule: the step to them, and whether they are numbered.

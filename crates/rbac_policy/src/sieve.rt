@@ -12,7 +12,7 @@ ghost use Rattle.rbac_policy.specs.steps.Sieve.{AreNeeded, IsNeeded, IsProbe, Is
 
 use crate::policy::NamedPolicy;
 use attributes::Request;
-use rbac_match::{RuleList, Rules, header_value, path_start};
+use rbac_match::{RuleList, Rules, header_name, header_value, path_start};
 use std::alloc::{AllocError, Global};
 
 /// How many bytes of a path's start are used, at most.
@@ -24,13 +24,17 @@ const LAST: usize = 24;
 /// A filter with fewer policies has no sieve.
 const FEWEST: usize = 8;
 
-/// What every request has that a policy matches: numbers for the first `count` bytes of its path, and for a
-/// header's value. The value's number is 0 if no value is needed.
+/// The name of the header that has a request's method.
+const METHOD: &str = ":method";
+
+/// What every request has that a policy matches: numbers for the first `count` bytes of its path, for a
+/// header's value, and for its method. The number of a value or a method is 0 if none is needed.
 #[derive(Clone, Copy, Debug)]
 pub(crate) struct Need {
     count: usize,
     start: u64,
     value: u64,
+    method: u64,
 }
 
 /// What each policy of a filter needs, in order; empty if a sieve would save little. Starts have at most
@@ -48,6 +52,7 @@ pub(crate) struct Probe<'a> {
     needs: &'a [Need],
     starts: [u64; 65],
     value: u64,
+    method: u64,
 }
 
 impl Sieve {
@@ -60,7 +65,7 @@ impl Sieve {
         ensures { IfOk result (λ sieve. IsSieve sieve (map (policy_view list.now) policies.now)) }
     {
         let most = most_count(list, policies);
-        let name = String::from_str(alloc, header_name(list, policies))?;
+        let name = String::from_str(alloc, first_name(list, policies))?;
         if policies.len() < FEWEST {
             return Ok(Sieve {
                 most,
@@ -93,6 +98,7 @@ impl Sieve {
             needs: &self.needs,
             starts: starts_of(request.url_path().as_bytes(), self.most),
             value: value_seen(request, self.name.as_str()),
+            method: value_seen(request, METHOD),
         }
     }
 }
@@ -114,22 +120,30 @@ impl<'a> Probe<'a> {
     #[inline(always)]
     fn meets(&self, need: &Need) -> bool
         ensures { (most : ℕ) (name : List ℕ) (r : RequestValue)
-            → IsProbe most name self.now.starts self.now.value r → Meets most name need.now r
-            → result ≡ true }
+            → IsProbe most name self.now r → Meets most name need.now r → result ≡ true }
     {
         match self.starts.get(need.count) {
-            Some(start) => *start == need.start && self.has_value(need.value),
+            Some(start) => *start == need.start && self.has_values(need),
             None => true,
         }
     }
 
-    /// Whether the header's value may be the needed one.
+    /// Whether the header's value and the method may be the needed ones.
     #[inline(always)]
-    fn has_value(&self, value: u64) -> bool
-        ensures { (value ≡ 0) ⊎ (self.now.value ≡ value) → result ≡ true }
+    fn has_values(&self, need: &Need) -> bool
+        ensures { ((need.now.value ≡ 0) ⊎ (self.now.value ≡ need.now.value))
+            → ((need.now.method ≡ 0) ⊎ (self.now.method ≡ need.now.method)) → result ≡ true }
     {
-        value == 0 || value == self.value
+        is_seen(need.value, self.value) && is_seen(need.method, self.method)
     }
+}
+
+/// Whether no number is needed, or the needed number is the one that is seen.
+#[inline(always)]
+fn is_seen(needed: u64, seen: u64) -> bool
+    ensures { (needed ≡ 0) ⊎ (seen ≡ needed) → result ≡ true }
+{
+    needed == 0 || needed == seen
 }
 
 /// The number of bytes of the policies' longest start, up to the limit.
@@ -154,11 +168,13 @@ fn lesser(one: usize, other: usize) -> usize
     other
 }
 
-/// The first header whose value a policy needs.
-fn header_name<'a>(list: &'a RuleList, policies: &[NamedPolicy]) -> &'a str {
+/// The first header whose value the principals of a policy need.
+fn first_name<'a>(list: &'a RuleList, policies: &[NamedPolicy]) -> &'a str {
     for policy in policies {
-        if let Some((name, _)) = header_value(list, policy.principals) {
-            return name;
+        if let Some(name) = header_name(list, policy.principals) {
+            if header_value(list, policy.principals, name).is_some() {
+                return name;
+            }
         }
     }
     ""
@@ -186,7 +202,7 @@ fn needs_of(
 fn are_few(needs: &[Need]) -> bool {
     let mut count: usize = 0;
     for need in needs {
-        if need.count > 1 || need.value != 0 {
+        if need.count > 1 || need.value != 0 || need.method != 0 {
             count = count.saturating_add(1);
         }
     }
@@ -203,6 +219,7 @@ fn need_of(list: &RuleList, policy: &NamedPolicy, most: usize, name: &str) -> Ne
         count,
         start: number_from(1, &start[..count]),
         value: value_needed(list, policy.principals, name),
+        method: value_needed(list, policy.permissions, METHOD),
     }
 }
 
@@ -212,13 +229,8 @@ fn value_needed(list: &RuleList, rules: Rules, name: &str) -> u64
     ensures { (r : RequestValue) → some_hold r (rules_view list.now rules) ≡ true
         → result ≢ 0 → value_number (value_of r name.now) ≡ result }
 {
-    match header_value(list, rules) {
-        Some((own, value)) => {
-            if own == name {
-                return number_of_value(value);
-            }
-            0
-        }
+    match header_value(list, rules, name) {
+        Some(value) => number_of_value(value),
         None => 0,
     }
 }

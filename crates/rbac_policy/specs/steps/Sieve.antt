@@ -1,5 +1,5 @@
 -- What every request has that a policy matches, as numbers. With them a decision skips policies.
-use Rattle.std.specs.Prelude.{◌≡◌, ◌≢◌, ◌≤◌, ℕ, ◌+◌, ◌-◌, ◌*◌, ◌%◌, ◌^◌, true, false, List, [], ◌∷◌, length, take, drop, get_or, Some, slice_get, unwrap_or}
+use Rattle.std.specs.Prelude.{◌≡◌, ◌≢◌, ◌≤◌, ℕ, ◌+◌, ◌-◌, ◌*◌, ◌%◌, ◌^◌, true, false, List, [], ◌∷◌, codes, length, take, drop, get_or, Some, slice_get, unwrap_or}
 use Rattle.std.specs.String.{string_bytes}
 use Rattle.attributes.specs.Attributes.{url_path_of}
 use Rattle.attributes.specs.Request.{RequestValue, header_of}
@@ -31,12 +31,18 @@ value_number bytes = number_from (length bytes) (drop (length bytes - 24) bytes)
 abbrev pub value_of : RequestValue → List ℕ → List ℕ
 value_of r name = unwrap_or (header_of r name) []
 
+-- the name of the header that has a request's method
+abbrev pub method_name : List ℕ
+method_name = codes ":method"
+
 -- the request has what is needed: the first `count` bytes of its path, at most `most`, have the needed
--- number. If a value is needed, the value of the header of this name has the needed number
+-- number. If a value is needed, the value of the header of this name has the needed number. If a method is
+-- needed, the request's method has its number
 pub record Meets (most : ℕ) (name : List ℕ) (need : Need) (r : RequestValue) : Type 0 where
   pub within : need.count ≤ most
   pub start : start_number (take need.count (url_path_of r.target)) ≡ need.start
   pub value : need.value ≢ 0 → value_number (value_of r name) ≡ need.value
+  pub method : need.method ≢ 0 → value_number (value_of r method_name) ≡ need.method
 
 -- every request that the policy's sides match has what is needed
 abbrev pub IsNeeded : ℕ → List ℕ → Policy Program → Need → Type 0
@@ -59,15 +65,17 @@ AreInOrder most name (p ∷ ps) (need ∷ needs) =
 abbrev pub IsSieve : Sieve → List (Policy Program) → Type 0
 IsSieve sieve ps = AreNeeded sieve.most (string_bytes sieve.name) ps sieve.needs.items
 
--- the numbers of a request: those of its path's starts of up to `most` bytes, and that of the header's value
-pub record IsProbe (most : ℕ) (name : List ℕ) (starts : List ℕ) (value : ℕ) (r : RequestValue) : Type 0 where
+-- the numbers of a request: those of its path's starts of up to `most` bytes, of the header's value, and of the
+-- method
+pub record IsProbe (most : ℕ) (name : List ℕ) (probe : Probe) (r : RequestValue) : Type 0 where
   pub starts_are : (count : ℕ) → count ≤ most → count ≤ 64
-      → get_or starts count 0 ≡ start_number (take count (url_path_of r.target))
-  pub value_is : value ≡ value_number (value_of r name)
+      → get_or probe.starts count 0 ≡ start_number (take count (url_path_of r.target))
+  pub value_is : probe.value ≡ value_number (value_of r name)
+  pub method_is : probe.method ≡ value_number (value_of r method_name)
 
 -- the probe has the numbers of the request, and what the policies need
 abbrev pub Sieves : Probe → RequestValue → List (Policy Program) → Type 0
-Sieves probe r ps = (most : ℕ) × (name : List ℕ) × IsProbe most name probe.starts probe.value r
+Sieves probe r ps = (most : ℕ) × (name : List ℕ) × IsProbe most name probe r
     × AreNeeded most name ps probe.needs.now
 
 -- the sides of the policy of this number do not match

@@ -1,12 +1,11 @@
-use Rattle.std.proofs.Common.{arith, ◌≡◌, ◌<◌, ◌⊎◌, inl, inr, [], refl, subst}
+use Rattle.std.proofs.Common.{arith, ◌≡◌, ◌<◌, ◌⊎◌, inl, inr, [], length, refl, subst}
 use Rattle.cel_value.specs.Types.{bool_type}
 use Rattle.cel_types.specs.Elaborated.{TypedTree, kind}
 use Rattle.cel_types.specs.View.{typed_view}
 use Rattle.cost_bound.specs.Costs.{cost_of}
-use Rattle.cel_compile.specs.Codes.{code_of, extent}
+use Rattle.cel_compile.specs.Codes.{code_of}
 use Rattle.cel_compile.specs.Slots.{HasFewLocals}
 use Rattle.cel_compile.proofs.Forwards.{elaborated_code_is_forward}
-use Rattle.cel_compile.proofs.Placing.{extent_is}
 use Rattle.cel_compile.proofs.Short.{fitting_code}
 use Rattle.cel_tree.proofs.GoodConstantLaws.{expr_good}
 use Rattle.proto_wire.specs.declared.refusal.Refusal.TheVariants.{TooCostly, TooLarge}
@@ -39,11 +38,10 @@ returns-in_err-code-clause-fault c x elaborated =
     let e : TypedTree = typed_view c.args.typed.now in
     let room = fitting_code c.requires.0 c.requires.1 e c.requires.2 c.requires.3 in
     let short = room.0 in
-    let size = extent_is e 0 0 in
-    exit_memory_or (λ d. (d ≡ TooLarge) × ((65535 < extent e) ⊎ (HasFewLocals 0 e → ⊥))) (ExpressionFault x c.args.limits.now c.args.left)
+    exit_memory_or (λ d. (d ≡ TooLarge) × ((65535 < length (code_of 0 0 e)) ⊎ (HasFewLocals 0 e → ⊥))) (ExpressionFault x c.args.limits.now c.args.left)
     c.from_residual-in_err-code.result _ c.from_residual-in_err-code.ensures.1 c.in_err-code.ensures.fault
     (λ d bad. elim bad.1 [
-      | inl long ↦ absurd (omega (arith, short, size, long))
+      | inl long ↦ absurd (omega (arith, short, long))
       | inr many ↦ absurd (many room.1)
     ])
 

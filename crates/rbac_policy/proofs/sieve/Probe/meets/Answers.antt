@@ -4,4 +4,8 @@ use Rattle.rbac_policy.proofs.sieve.Probe.meets.Goals as goal
 
 pub returns-then-start-need : goal.returns-then-start-need
 returns-then-start-need c = λ most name r probe meets.
-    c.has_value.ensures (zero_or c.args.need.now.value c.args.self.now.value (λ nonzero. probe.value_is ∙ meets.value nonzero))
+    let need = c.args.need.now in
+    let seen = c.args.self.now in
+    c.has_values.ensures
+    (zero_or need.value seen.value (λ nonzero. probe.value_is ∙ meets.value nonzero))
+    (zero_or need.method seen.method (λ nonzero. probe.method_is ∙ meets.method nonzero))

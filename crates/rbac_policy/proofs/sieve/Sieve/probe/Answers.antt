@@ -13,6 +13,7 @@ returns c = λ ps sieve.
       record {
         starts_are = λ k le room. c.starts_of.ensures k le room ∙ ap (λ p. start_number (take k p)) path;
         value_is = c.value_seen.ensures ∙ ap (λ n. value_number (value_of c.args.request.now n)) name;
+        method_is = c.value_seen-2.ensures;
       },
       rw c.deref.ensures.value sieve,
     )
