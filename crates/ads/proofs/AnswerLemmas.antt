@@ -1,6 +1,6 @@
 -- The answers to messages, one after the other.
 use Rattle.std.proofs.Common.{◌≡◌, ◌≢◌, ◌⊎◌, inl, inr, ℕ, Bool, true, false, List, [], ◌∷◌, ◌++◌, not, true≢false, Option, Some, None, length, suc, refl, ap, sym, ◌∙◌, append_assoc, append-nil, option_map}
-use Rattle.std.specs.Prelude.{Result, Ok, Err, OnOk, MatchBool}
+use Rattle.std.specs.Prelude.{Result, Ok, Err, IfErr, IfOk, OnOk, MatchBool}
 use Rattle.std.specs.List.{AllZip}
 use Rattle.std.proofs.lemmas.List.{length-map}
 use Rattle.proto_wire.specs.Refusal.{MemoryOr}
@@ -21,6 +21,17 @@ use Rattle.ads.specs.steps.Drafts.{IsAnswered, IsNoResponse}
 pub not_memory : (F : Refusal → Type 0) (e : Refusal) → MemoryOr F e → e ≢ Refusal.Memory → F e
 not_memory F e (inl memory) not = absurd (not memory)
 not_memory F e (inr fault) not = fault
+
+-- what was read, apart from out of memory
+pub read_found : {T : Type 0} (P : T → Type 0) (read apart : Result T Refusal) (x : T) → apart ≡ read → apart ≡ Ok x
+    → IfOk read P → P x
+read_found P read apart x same is found = rw (← same, is) at found
+
+-- what was refused, apart from out of memory
+pub read_fault : {T : Type 0} (F : Refusal → Type 0) (read apart : Result T Refusal) (e : Refusal) → apart ≡ read
+    → apart ≢ Err Refusal.Memory → apart ≡ Err e → IfErr read (MemoryOr F) → F e
+read_fault F read apart e same other is fault =
+    not_memory F e (rw (← same, is) at fault) (λ memory. other (is ∙ ap Err memory))
 
 pub zip_length : {A B : Type 0} (R : A → B → Type 0) (xs : List A) (ys : List B) → AllZip R xs ys
     → length xs ≡ length ys

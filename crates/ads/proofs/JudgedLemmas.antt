@@ -1,10 +1,10 @@
 -- From what filters take of the extensions to what a response gives, or what refuses it.
 use Rattle.std.proofs.Common.{◌≡◌, Bool, true, false, ◌⊎◌, inl, inr, ℕ, Some, List, [], ◌∷◌, refl, sym, bytes_eq, true≢false}
-use Rattle.std.specs.Prelude.{Result, Ok, Err, IfOk, OnOk, if◌then◌else◌}
-use Rattle.std.specs.Result.{is_ok}
+use Rattle.std.specs.Prelude.{Option, Result, Ok, Err, IfOk, IfErr, if◌then◌else◌}
 use Rattle.std.specs.List.{AllZip}
-use Rattle.std.specs.declared.alloc.AllocError.{AllocError}
-use Rattle.std.proofs.lemmas.Result.{IfOk-weaker}
+use Rattle.std.specs.declared.alloc.Global.{Global}
+use Rattle.std.specs.declared.vec.Vec.{Vec}
+use Rattle.std.proofs.lemmas.Result.{IfErr-weaker, IfOk-weaker}
 use Rattle.std.proofs.lemmas.Slice.Eq.{bytes_eq-Decides}
 use Rattle.proto_wire.specs.declared.refusal.Refusal.{Refusal}
 use Rattle.xds_wire.specs.Discovery.{AnyMessage, ExtensionMessage, ResponseMessage}
@@ -18,10 +18,12 @@ use Rattle.rbac_policy.specs.declared.filter.Admitted.{Admitted}
 use Rattle.ads.specs.Config.{ConfigValue, FilterValue}
 use Rattle.ads.specs.steps.Taking.{filter_of}
 use Rattle.ads.specs.Answer.{Gives, HoldsFilter, HoldsSome, named, IsResource, IsNamed, IsRefusedFor, TwoOf, Refuses, doubled, refused, ExtensionIsRefused, HoldsFilterOf, IsAdmitting, extension_type}
-use Rattle.ads.specs.Views.{admitted_view}
-use Rattle.ads.specs.steps.Taking.{TakeFault, twice, bad, out_of_memory, IsTaken, IsJudged}
+use Rattle.ads.specs.Views.{admitted_view, policies_view}
+use Rattle.ads.specs.steps.Taking.{TakeFault, twice, bad, out_of_memory, IfRefused, IsJudged, given_of}
 use Rattle.ads.specs.declared.judging.Judged.{Judged}
 use Rattle.ads.specs.declared.judging.Judged.TheVariants as judged
+use Rattle.ads.specs.declared.refused.NotAccepted.{NotAccepted}
+use Rattle.ads.specs.declared.refused.NotAccepted.TheVariants as not_accepted
 use Rattle.ads.proofs.Lists.{some_or, some_weaker, some_with}
 
 -- the resource is an extension of this name, of which this holds
@@ -72,6 +74,11 @@ two_named n a b more (r ∷ rs) (x ∷ xs) (is, all) two =
         inl (here, some_weaker _ (IsNamed n) (λ any p. (p.0, p.1, p.2)) rs there)
     by false eq list rest some = inr (rest list)
 
+if_refused_weaker : (P Q : Refusal → Type 0) → ((e : Refusal) → P e → Q e) → (n : NotAccepted)
+    → IfRefused P n → IfRefused Q n
+if_refused_weaker P Q weaker (not_accepted.Refused e) p = weaker e p
+if_refused_weaker P Q weaker not_accepted.NoMemory p = tt
+
 module _ (c : ConfigValue) (response : ResponseMessage) (xs : List ExtensionMessage)
     (reads : AllZip IsResource response.resources xs) where
   -- why one filter takes nothing, told of the resources
@@ -103,20 +110,26 @@ module _ (c : ConfigValue) (response : ResponseMessage) (xs : List ExtensionMess
         ]
       ]
 
-  judged_by : response.type_url ≡ extension_type → (j : Judged) → IsTaken c.limits c.filters xs j
-      → IsJudged c response j
-  judged_by type_url (judged.Given given) gives = (type_url, xs, reads, gives)
-  judged_by type_url (judged.Refused e) fault = refuses_by type_url e fault
+  -- what the filters take of the extensions is what the response gives
+  pub given_from_taken : response.type_url ≡ extension_type → (r : Result (Vec (Option Admitted) Global) NotAccepted)
+      → IfOk r (λ given. AllZip (λ f. Gives c.limits f (named f.name xs)) c.filters (policies_view given.items))
+      → IfOk r (λ given. IsJudged c response (judged.Given given))
+  given_from_taken type_url r taken = IfOk-weaker r _ _ (λ given gives. (type_url, xs, reads, gives)) taken
 
-  -- what the filters take of the extensions of a response
-  pub judged_from_taken : response.type_url ≡ extension_type → (r : Result Judged AllocError)
-      → IfOk r (IsTaken c.limits c.filters xs) → IfOk r (IsJudged c response)
-  judged_from_taken type_url r taken = IfOk-weaker r _ _ (λ j is. judged_by type_url j is) taken
+  -- what the filters refuse is refused of the response
+  pub refused_from_taken : response.type_url ≡ extension_type → (r : Result (Vec (Option Admitted) Global) NotAccepted)
+      → IfErr r (IfRefused (λ e. SomeOf (λ f. TakeFault c.limits f xs e) c.filters))
+      → IfErr r (IfRefused (λ e. IsJudged c response (judged.Refused e)))
+  refused_from_taken type_url r taken =
+      IfErr-weaker r _ _ (if_refused_weaker _ _ (λ e fault. refuses_by type_url e fault)) taken
 
--- what holds where a call is right holds where it is no error
-pub on_right : (P : Type 0) (r : Result (Unit {0}) Refusal) → OnOk r P → is_ok r ≡ true → P
-on_right P (Ok x) p is = p
-on_right P (Err e) p is = absurd (true≢false (sym is))
+-- what is judged so is what the response gives, or its refusal
+pub judged_is : (c : ConfigValue) (response : ResponseMessage) (given : Result (Vec (Option Admitted) Global) NotAccepted)
+    → IfOk given (λ v. IsJudged c response (judged.Given v))
+    → IfErr given (IfRefused (λ e. IsJudged c response (judged.Refused e)))
+    → (j : Judged) → given ≡ given_of j → IsJudged c response j
+judged_is c response given found fault (judged.Given v) same = rw same at found
+judged_is c response given found fault (judged.Refused e) same = rw same at fault
 
 -- what is admitted is given to a filter of any name
 pub admitted_gives : (limits : LimitsValue) (budget : ℕ) (x : ExtensionMessage) (bytes : List ℕ)

@@ -1,7 +1,6 @@
 //! The answers to the messages of a stream, in order.
 
-ghost use Rattle.std.specs.Prelude.{◌≡◌, ◌≢◌, ◌++◌, ℕ, false, [], List, Option, length, IfOk, OnOk, MatchBool};
-ghost use Rattle.proto_wire.specs.declared.refusal.Refusal.TheVariants.{Memory};
+ghost use Rattle.std.specs.Prelude.{◌≡◌, ◌++◌, ℕ, false, [], List, Option, length, IfOk, OnOk, MatchBool};
 ghost use Rattle.xds_wire.specs.Discovery.{RequestMessage};
 ghost use Rattle.xds_wire.specs.View.{response_view};
 ghost use Rattle.ads.specs.Answer.{AdmittedValue, Answers};
@@ -11,8 +10,8 @@ ghost use Rattle.ads.specs.steps.Drafts.{AddsFrame, Covers, IsAnswered, IsNoResp
 use crate::accepted::Draft;
 use crate::config::Config;
 use crate::judging::{Judged, judge};
+use crate::refused::memory_apart;
 use crate::reply::{put_ack, put_nack};
-use proto_wire::Refusal;
 use std::alloc::{AllocError, Global};
 use xds_wire::{DiscoveryResponse, Frames, read_response};
 
@@ -56,25 +55,13 @@ fn answer(
         draft.new.replies.items (draft_view old draft.new))) }
     ensures covers { IfOk result (λ is_response. Covers (length config.now.filters) draft.new.given.items) }
 {
-    match read_response(alloc, message) {
+    match memory_apart(read_response(alloc, message))? {
         Ok(response) => {
             answer_response(alloc, config, draft, &response)?;
             Ok(true)
         }
-        Err(refusal) => {
-            if is_memory(refusal) {
-                return Err(AllocError);
-            }
-            Ok(false)
-        }
+        Err(_) => Ok(false),
     }
-}
-
-/// Whether the refusal is that memory ran out.
-pub(crate) fn is_memory(refusal: Refusal) -> bool
-    ensures { MatchBool result (refusal ≡ Memory) (refusal ≢ Memory) }
-{
-    matches!(refusal, Refusal::Memory)
 }
 
 /// Answers a response: accepts or refuses it, and appends the reply.

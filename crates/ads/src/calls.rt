@@ -1,6 +1,6 @@
 //! The calls on a client: its stream comes up, delivers bytes, and is lost.
 
-ghost use Rattle.std.specs.Prelude.{◌≡◌, ℕ, List, None, Some, [], IfOk, IfSome, OnOk, OnErr, MatchOption, is_some};
+ghost use Rattle.std.specs.Prelude.{◌≡◌, ℕ, List, None, Some, [], IfOk, IfSome, IsOk, OnOk, OnErr, MatchOption, is_some};
 ghost use Rattle.std.specs.List.{AllZip};
 ghost use Rattle.rbac_policy.specs.Admitted.{limits_view};
 ghost use Rattle.ads.specs.Views.{admitted_view, policies_view};
@@ -49,12 +49,13 @@ impl Client {
     /// The stream delivers bytes. Each response that they complete is answered, in order: it is accepted, or refused
     /// with the number of a refusal. That is `WrongType`, `BadWire`, `BadText`, `Missing`, `DuplicateResource` or one
     /// of `rbac_policy::admit`, which include `Memory`. A broken frame or a message that is not a response ends the
-    /// stream. Without a stream nothing is done. In these cases the result is `broken`. The only error is out of memory
-    /// outside of an admission; after it all is as before the call.
+    /// stream. Without a stream nothing is done, which takes no memory. In these cases the result is `broken`. The only
+    /// error is out of memory outside of an admission; after it all is as before the call.
     pub fn feed(&mut self, bytes: &[u8]) -> Result<Fed, AllocError>
         ensures found { IfOk result (λ fed. (versions : List (List ℕ))
             × Feeds (client_view self.old) bytes.now fed.replies.items fed.broken versions (client_view self.new)) }
         ensures config { (client_view self.new).config ≡ (client_view self.old).config }
+        ensures down { (client_view self.old).stream ≡ None → IsOk result }
         ensures fault { OnErr result (client_view self.new ≡ client_view self.old) }
     {
         let Some(stream) = &mut self.stream else {

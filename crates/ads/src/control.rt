@@ -1,6 +1,6 @@
 //! The control plane's end of the update stream.
 
-ghost use Rattle.std.specs.Prelude.{◌≡◌, ℕ, List, IfOk, OnErr};
+ghost use Rattle.std.specs.Prelude.{◌≡◌, ℕ, None, List, IfOk, IsOk, OnErr};
 
 use crate::client::Fed;
 use crate::serving::Served;
@@ -41,12 +41,13 @@ impl Control {
 
     /// The stream delivers bytes. Each request that they complete is served, in order. The stream ends at a broken
     /// frame and at a message that is not a request. It also ends at a response that is too long, or whose number does
-    /// not fit in 64 bits. From then on it is `broken`, and nothing is sent until it is `lost`. The only error is out
-    /// of memory; after it all is as before the call.
+    /// not fit in 64 bits. From then on it is `broken`, and nothing is sent until it is `lost`, which takes no memory.
+    /// The only error is out of memory; after it all is as before the call.
     pub fn feed(&mut self, bytes: &[u8]) -> Result<Fed, AllocError>
         ensures found { IfOk result (λ fed. (numbers : List ℕ)
             × ServesBytes (control_view self.old) bytes.now fed.replies.items fed.broken numbers
             (control_view self.new)) }
+        ensures broken { (control_view self.old).stream ≡ None → IsOk result }
         ensures fault { OnErr result (control_view self.new ≡ control_view self.old) }
     {
         let Some(stream) = &mut self.stream else {

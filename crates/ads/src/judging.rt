@@ -1,7 +1,7 @@
 //! The judging of a response, as a function of the response alone: the policies that it gives each filter, or the
 //! refusal.
 
-ghost use Rattle.std.specs.Prelude.{◌≡◌, ◌≢◌, ◌⊎◌, ℕ, Some, [], ◌∷◌, List, map, IfOk, IfErr, OnOk, MatchOption};
+ghost use Rattle.std.specs.Prelude.{◌≡◌, ◌≢◌, ◌⊎◌, ℕ, Some, Err, [], ◌∷◌, List, map, IfOk, IfErr, OnOk, OnErr, MatchOption};
 ghost use Rattle.std.specs.Option.{option_map};
 ghost use Rattle.std.specs.List.{AllZip};
 ghost use Rattle.proto_wire.specs.Refusal.{MemoryOr};
@@ -9,12 +9,13 @@ ghost use Rattle.proto_wire.specs.declared.refusal.Refusal.TheVariants.{Duplicat
 ghost use Rattle.xds_wire.specs.Envelope.{SomeOf};
 ghost use Rattle.xds_wire.specs.View.{any_view, extension_view, response_view};
 ghost use Rattle.ads.specs.Answer.{IsResource, ResourceFault, HoldsFilter, HoldsSome, ExtensionIsRefused, Gives, named, extension_type};
-ghost use Rattle.ads.specs.Views.{entries_view};
-ghost use Rattle.ads.specs.steps.Taking.{filter_of};
-ghost use Rattle.ads.specs.Views.{admitted_view};
-ghost use Rattle.ads.specs.steps.Taking.{IsDoubled, TakeFault, IsTaken, IsJudged};
+ghost use Rattle.ads.specs.Views.{admitted_view, entries_view, policies_view};
+ghost use Rattle.ads.specs.declared.judging.Judged.TheVariants.{Given, Refused};
+ghost use Rattle.ads.specs.declared.refused.NotAccepted.TheVariants.{NoMemory};
+ghost use Rattle.ads.specs.steps.Taking.{IfRefused, IsDoubled, TakeFault, IsJudged, filter_of, given_of};
 
 use crate::config::Config;
+use crate::refused::{NotAccepted, memory_apart};
 use attributes::Limits;
 use indexmap::IndexMap;
 use proto_wire::Refusal;
@@ -47,14 +48,33 @@ pub(crate) fn judge(
 ) -> Result<Judged, AllocError>
     ensures { IfOk result (IsJudged config.now (response_view response.now)) }
 {
-    if check_type(response.type_url).is_err() {
-        return Ok(Judged::Refused(Refusal::WrongType));
+    judgement(given_by(alloc, config, response))
+}
+
+/// The judgement, with exactly this refusal. The error is out of memory exactly if memory ran out outside of an
+/// admission.
+fn judgement(given: Result<Vec<Option<Admitted>>, NotAccepted>) -> Result<Judged, AllocError>
+    ensures found { IfOk result (λ judged. given ≡ given_of judged) }
+    ensures fault { OnErr result (given ≡ Err NoMemory) }
+{
+    match given {
+        Ok(given) => Ok(Judged::Given(given)),
+        Err(NotAccepted::Refused(refusal)) => Ok(Judged::Refused(refusal)),
+        Err(NotAccepted::NoMemory) => Err(AllocError),
     }
-    let extensions = match read_resources(alloc, &response.resources) {
-        Ok(extensions) => extensions,
-        Err(Refusal::Memory) => return Err(AllocError),
-        Err(refusal) => return Ok(Judged::Refused(refusal)),
-    };
+}
+
+/// The policies that a response gives each filter.
+fn given_by(
+    alloc: Global,
+    config: &Config,
+    response: &DiscoveryResponse<'_>,
+) -> Result<Vec<Option<Admitted>>, NotAccepted>
+    ensures found { IfOk result (λ given. IsJudged config.now (response_view response.now) (Given given)) }
+    ensures fault { IfErr result (IfRefused (λ e. IsJudged config.now (response_view response.now) (Refused e))) }
+{
+    check_type(response.type_url)?;
+    let extensions = memory_apart(read_resources(alloc, &response.resources))??;
     take_all(alloc, config.limits(), config.filters(), &extensions)
 }
 
@@ -107,24 +127,26 @@ fn require_name(extension: &TypedExtensionConfig<'_>) -> Result<(), Refusal>
     Ok(())
 }
 
-/// The policies that the extensions give each of the filters, or the refusal.
+/// The policies that the extensions give each of the filters.
 fn take_all(
     alloc: Global,
     limits: &Limits,
     filters: &IndexMap<String, u64>,
     extensions: &[TypedExtensionConfig<'_>],
-) -> Result<Judged, AllocError>
-    ensures { IfOk result
-        (IsTaken limits.now (entries_view filters.now.entries) (map extension_view extensions.now)) }
+) -> Result<Vec<Option<Admitted>>, NotAccepted>
+    ensures found { IfOk result (λ given. AllZip
+        (λ f. Gives limits.now f (named f.name (map extension_view extensions.now)))
+        (entries_view filters.now.entries) (policies_view given.items)) }
+    ensures fault { IfErr result (IfRefused (λ e.
+        SomeOf (λ f. TakeFault limits.now f (map extension_view extensions.now) e)
+        (entries_view filters.now.entries))) }
 {
     let mut given = Vec::new(alloc);
     for (name, budget) in filters {
-        match take(alloc, limits, name, *budget, extensions) {
-            Ok(policies) => given.push(policies)?,
-            Err(refusal) => return Ok(Judged::Refused(refusal)),
-        }
+        let policies = take(alloc, limits, name, *budget, extensions)?;
+        given.push(policies)?;
     }
-    Ok(Judged::Given(given))
+    Ok(given)
 }
 
 /// The policies that the extensions give the filter of this name.

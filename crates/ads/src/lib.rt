@@ -10,6 +10,7 @@ mod config;
 mod control;
 mod judging;
 pub mod laws;
+mod refused;
 mod reply;
 mod response;
 mod serving;

@@ -1,13 +1,15 @@
 //! The serving of the requests of a stream, in order.
 
-ghost use Rattle.std.specs.Prelude.{◌≡◌, ◌≢◌, ℕ, false, [], List, decimal, IfOk, MatchBool, MatchOption};
+ghost use Rattle.std.specs.Prelude.{◌≡◌, ◌≢◌, ◌≤◌, ◌<◌, ◌-◌, ◌^◌, ◌++◌, ℕ, false, [], List, length, decimal, IfOk, IsOk, MatchBool, MatchOption};
+ghost use Rattle.xds_wire.specs.Frames.{frame_of};
 ghost use Rattle.xds_wire.specs.View.{request_view, texts_view};
+ghost use Rattle.ads.specs.Client.{most_bytes};
 ghost use Rattle.ads.specs.Control.{AreServed, Sends, Advances, IsSnapshot, ResourceValue};
 ghost use Rattle.ads.specs.Views.{snapshot_view, snapshots_view, served_view};
 ghost use Rattle.ads.specs.steps.Serving.{IsKind, AddsReplies, IsServed, MessageIsServed};
 
-use crate::answer::is_memory;
 use crate::judging::EXTENSION_TYPE;
+use crate::refused::memory_apart;
 use crate::response::{decimal_text, response_bytes};
 use crate::snapshot::Snapshot;
 use crate::stream::MOST_BYTES;
@@ -70,14 +72,9 @@ fn serve(
     ensures { IfOk result (MessageIsServed (snapshots_view snapshots.now) message.now (served_view served.old)
         replies.old.items replies.new.items (served_view served.new)) }
 {
-    match read_request(alloc, message) {
+    match memory_apart(read_request(alloc, message))? {
         Ok(request) => serve_request(alloc, snapshots, served, replies, &request),
-        Err(refusal) => {
-            if is_memory(refusal) {
-                return Err(AllocError);
-            }
-            Ok(true)
-        }
+        Err(_) => Ok(true),
     }
 }
 
@@ -169,9 +166,10 @@ fn send(
     replies: &mut Vec<u8>,
     names: &[&str],
 ) -> Result<bool, AllocError>
-    ensures { IfOk result (λ ends. AddsReplies (λ added. Sends (snapshots_view snapshots.now)
+    ensures sent { IfOk result (λ ends. AddsReplies (λ added. Sends (snapshots_view snapshots.now)
         (texts_view names.now) (served_view served.old) added (served_view served.new) ends)
         replies.old.items replies.new.items) }
+    ensures too_many { 2 ^ 64 - 1 ≤ served.old.sent → IsOk result }
 {
     let Some(snapshot) = snapshot_at(snapshots, served.current) else {
         return Ok(false);
@@ -180,12 +178,26 @@ fn send(
         return Ok(true);
     };
     let message = response_bytes(alloc, snapshot, names, served.current, count)?;
+    if put_message(&message, replies)? {
+        return Ok(true);
+    }
+    served.sent = count;
+    served.last = Some(count);
+    Ok(false)
+}
+
+/// Appends the frame of a message, unless the message is too long. Returns whether it is; if it is, no memory is taken.
+fn put_message(message: &[u8], replies: &mut Vec<u8>) -> Result<bool, AllocError>
+    ensures found { IfOk result (λ is. MatchBool is
+        ((most_bytes < length message.now) × (replies.new.items ≡ replies.old.items))
+        ((length message.now ≤ most_bytes)
+        × (replies.new.items ≡ replies.old.items ++ frame_of message.now))) }
+    ensures too_long { most_bytes < length message.now → IsOk result }
+{
     if message.len() > MOST_BYTES {
         return Ok(true);
     }
-    write_frame(&message, replies)?;
-    served.sent = count;
-    served.last = Some(count);
+    write_frame(message, replies)?;
     Ok(false)
 }
 

@@ -18,7 +18,7 @@ use Rattle.http_front.specs.Head.{HeadValue, StartsHead, head_room}
 use Rattle.http_front.specs.Heads.{IsAtRest, Takes, closed, fed, passed, reading}
 use Rattle.http_front.specs.Rules.{IsBadLength, LinesFault, RuleFault, lines_of}
 use Rattle.http_front.specs.steps.Scans.{AreSeen, IsSeen}
-use Rattle.http_front.specs.steps.Turns.{IsNextTurn, IsTurn, IsTurnOf, IsTurnOfFirst, kept_of, passing}
+use Rattle.http_front.specs.steps.Turns.{IsNextTurn, IsTurn, IsTurnIn, IsTurnOf, IsTurnOfFirst, kept_of, passing}
 use Rattle.http_front.proofs.Rooms.{never_has_request_from_take, none_in_room, starts_head_from_take}
 
 -- a slice from a place on
@@ -129,6 +129,21 @@ module _ (limits : LimitsValue) (facts : Facts) (bytes : List ℕ) where
   endless_turn n room none long =
       let all : n ≡ head_room = omega (arith, room, long) in
       (refl, HasFault.endless (none_in_room bytes (rw all at none)) long refl, refl)
+
+  -- the turn of all, by that of as many bytes as a head may have
+  pub turn_in : (n : ℕ) (turn told : Turn) → n ≡ min (length bytes) head_room
+      → IsTurnOfFirst limits facts n bytes turn → IsTurnIn (length bytes) turn told
+      → IsTurn limits facts bytes told
+  turn_in n Rest Rest room is few =
+      let all : n ≡ length bytes = omega (arith, room, few) in
+      let half = rw (all, take_all (length bytes) bytes (omega arith)) at is in
+      record { none = half.0; hope = half.1; in_room = few }
+  turn_in n Rest (Close ask) room is told =
+      let same : ask ≡ asks.Fault TooLong = cc in
+      rw same (endless_turn n room is.0 told.0)
+  turn_in n Rest (Pass r count) room is told = absurd cc
+  turn_in n (Close ask) told room is same = rw same is
+  turn_in n (Pass r count) told room is same = rw same is
 
 module _ (limits : LimitsValue) (facts : Facts) where
   -- the first turn of what is kept

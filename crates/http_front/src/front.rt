@@ -138,20 +138,8 @@ impl Front {
         if self.goes_on() {
             return Ok(None);
         }
-        match self.turn()? {
-            Turn::Rest => {
-                self.is_tried = self.skip == 0;
-                Ok(None)
-            }
-            Turn::Close(ask) => {
-                self.close();
-                Ok(Some(ask))
-            }
-            Turn::Pass(request, count) => {
-                self.pass(count);
-                Ok(Some(Ask::Judge(request, false)))
-            }
-        }
+        let turn = self.turn()?;
+        Ok(self.take(turn))
     }
 
     /// Whether the connection closes after the asks that were taken.
@@ -198,6 +186,28 @@ impl Front {
             &self.conn,
             &self.bytes[self.at..],
         )
+    }
+
+    // Takes the first ask, if there is one.
+    #[inline(always)]
+    fn take(&mut self, turn: Turn) -> Option<Ask>
+        requires { IsNextTurn self.old.limits self.old.facts self.old.kept turn }
+        ensures { TakesNext self.old result self.new }
+    {
+        match turn {
+            Turn::Rest => {
+                self.is_tried = self.skip == 0;
+                None
+            }
+            Turn::Close(ask) => {
+                self.close();
+                Some(ask)
+            }
+            Turn::Pass(request, count) => {
+                self.pass(count);
+                Some(Ask::Judge(request, false))
+            }
+        }
     }
 
     // Forgets all bytes: nothing follows an ask that closes the connection.

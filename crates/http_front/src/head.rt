@@ -1,5 +1,5 @@
 //! A request head, borrowed from the bytes that it was read from.
-ghost use Rattle.std.specs.Prelude.{◌≡◌, ◌≤◌, ◌<◌, ◌^◌, ◌↔◌, ◌==◌, All, Any, IfNone, IfOk, IfSome, IsTrue, count_by, length};
+ghost use Rattle.std.specs.Prelude.{◌≡◌, ◌≤◌, ◌<◌, ◌^◌, ◌↔◌, ◌==◌, All, Any, IfNone, IfOk, IfSome, IsTrue, MatchBool, count_by, length};
 ghost use Rattle.std.specs.Bool.{OnFalse, OnTrue};
 ghost use Rattle.attributes.specs.Conn.{conn_view};
 ghost use Rattle.httparse.specs.Ascii.{line_feed};
@@ -135,7 +135,8 @@ impl<'a> Head<'a> {
     /// Whether the head has more fields than any request within the limits. This is tested before a request
     /// is made.
     pub(crate) fn exceeds(&self, limits: &Limits) -> bool
-        ensures { OnTrue result (limits.now.fields < length self.now.fields) }
+        ensures { MatchBool result (limits.now.fields < length self.now.fields)
+            (length self.now.fields ≤ limits.now.fields) }
     {
         self.fields.len() > limits.get(Limit::Fields)
     }

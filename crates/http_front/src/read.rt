@@ -1,9 +1,11 @@
 //! Reads what one head asks.
-ghost use Rattle.std.specs.Prelude.{◌≡◌, ◌==◌, IfNone, IfOk, count_by};
+ghost use Rattle.std.specs.Prelude.{◌≡◌, ◌<◌, ◌==◌, IfNone, IfOk, IsOk, count_by, length};
 ghost use Rattle.attributes.specs.Conn.{conn_view};
 ghost use Rattle.httparse.specs.Ascii.{line_feed};
+ghost use Rattle.http_front.specs.declared.fault.HeadFault.{HeadFault};
 ghost use Rattle.http_front.specs.Asks.{HasFault, HeadAsks, IfFault, IfJudge, IsUnfinished};
-ghost use Rattle.http_front.specs.steps.Asks.{IsAskOf};
+ghost use Rattle.http_front.specs.Rules.{RuleFault};
+ghost use Rattle.http_front.specs.steps.Asks.{IsAskIn, IsAskOf, IsAskWithin, IsNoHead};
 
 use crate::fault::HeadFault;
 use crate::head::{Head, Parsed, parse};
@@ -41,11 +43,26 @@ pub fn read_head(
 {
     let room = &bytes[..bytes.len().min(HEAD_ROOM)];
     let mut fields = vec![in alloc; EMPTY_HEADER_SPAN; line_feeds(room)]?;
-    match parse(room, &mut fields) {
+    ask_in(alloc, parse(room, &mut fields), bytes.len(), limits, conn)
+}
+
+/// The ask of what the parser gave for as many bytes as a head may have; `length` is the number of all bytes. Without
+/// a whole head no memory is taken.
+fn ask_in(
+    alloc: Global,
+    parsed: Parsed<'_>,
+    length: usize,
+    limits: &Limits,
+    conn: Conn,
+) -> Result<Option<HeadAsk>, AllocError>
+    ensures found { IfOk result (IsAskIn limits.now (conn_view conn) length parsed.entry) }
+    ensures sure { IsNoHead parsed.entry → IsOk result }
+{
+    match parsed {
         Parsed::Whole(head, _) => Ok(Some(ask_of(alloc, &head, limits, conn)?)),
         Parsed::Hopeless(part) => Ok(Some(HeadAsk::Fault(HeadFault::Malformed(part)))),
         Parsed::Unfinished => {
-            if bytes.len() > HEAD_ROOM {
+            if length > HEAD_ROOM {
                 Ok(Some(HeadAsk::Fault(HeadFault::TooLong)))
             } else {
                 Ok(None)
@@ -61,14 +78,16 @@ pub(crate) fn line_feeds(bytes: &[u8]) -> usize
     memchr_iter(b'\n', bytes).count()
 }
 
-/// The request or the fault of a whole head.
+/// The request or the fault of a whole head. No memory is taken for a head that breaks a rule or has too many fields.
 pub(crate) fn ask_of(
     alloc: Global,
     head: &Head<'_>,
     limits: &Limits,
     conn: Conn,
 ) -> Result<HeadAsk, AllocError>
-    ensures { IfOk result (IsAskOf limits.now (conn_view conn) head.now) }
+    ensures found { IfOk result (IsAskOf limits.now (conn_view conn) head.now) }
+    ensures broken { (fault : HeadFault) → RuleFault head.now fault → IsOk result }
+    ensures many { limits.now.fields < length head.now.fields → IsOk result }
 {
     if let Some(fault) = head.fault() {
         return Ok(HeadAsk::Fault(fault));
@@ -77,9 +96,17 @@ pub(crate) fn ask_of(
         return Ok(HeadAsk::Fault(HeadFault::OutsideLimits));
     }
     let request = head.to_request(alloc, conn)?;
+    Ok(ask_within(limits, request))
+}
+
+/// The ask for a request; a fault if the request is outside the limits.
+#[inline(always)]
+fn ask_within(limits: &Limits, request: Request) -> HeadAsk
+    ensures { IsAskWithin limits.now request result }
+{
     if limits.fits(&request) {
-        Ok(HeadAsk::Judge(request))
+        HeadAsk::Judge(request)
     } else {
-        Ok(HeadAsk::Fault(HeadFault::OutsideLimits))
+        HeadAsk::Fault(HeadFault::OutsideLimits)
     }
 }

@@ -1,8 +1,11 @@
 //! The first ask of some bytes.
-ghost use Rattle.std.specs.Prelude.{◌≡◌, ◌≤◌, IfOk, length};
-ghost use Rattle.attributes.specs.Conn.{conn_view};
+ghost use Rattle.std.specs.Prelude.{◌≡◌, ◌≤◌, ℕ, List, IfOk, IsOk, length, take};
+ghost use Rattle.attributes.specs.Conn.{Facts, conn_view};
+ghost use Rattle.attributes.specs.Limits.{LimitsValue};
 ghost use Rattle.http_front.specs.Head.{head_room};
-ghost use Rattle.http_front.specs.steps.Turns.{IsTurn, IsTurnOf, IsTurnOfFirst};
+ghost use Rattle.http_front.specs.steps.Asks.{IsAskOf, IsNoHead, KeepsRules};
+ghost use Rattle.http_front.specs.steps.Parsed.{IsParsed};
+ghost use Rattle.http_front.specs.steps.Turns.{IsParsedOf, IsTurn, IsTurnIn, IsTurnOf, IsTurnOfFirst};
 
 use crate::ask::Ask;
 use crate::fault::HeadFault;
@@ -55,15 +58,24 @@ fn turn_of_room(
 ) -> Result<Turn, AllocError>
     ensures { IfOk result (IsTurn limits.now (conn_view conn.now) bytes.now) }
 {
-    match turn_of_first(alloc, limits, conn, bytes, bytes.len().min(HEAD_ROOM))? {
+    let turn = turn_of_first(alloc, limits, conn, bytes, bytes.len().min(HEAD_ROOM))?;
+    Ok(turn_in_room(turn, bytes.len()))
+}
+
+// The turn of `count` bytes, by that of as many of them as a head may have.
+#[inline(always)]
+fn turn_in_room(turn: Turn, count: usize) -> Turn
+    ensures { IsTurnIn count turn result }
+{
+    match turn {
         Turn::Rest => {
-            if bytes.len() > HEAD_ROOM {
-                Ok(Turn::Close(Ask::Fault(HeadFault::TooLong)))
+            if count > HEAD_ROOM {
+                Turn::Close(Ask::Fault(HeadFault::TooLong))
             } else {
-                Ok(Turn::Rest)
+                Turn::Rest
             }
         }
-        turn => Ok(turn),
+        turn => turn,
     }
 }
 
@@ -80,7 +92,23 @@ fn turn_of_first(
 {
     let first = &bytes[..count];
     let mut fields = vec![in alloc; EMPTY_HEADER_SPAN; line_feeds(first)]?;
-    match parse(first, &mut fields) {
+    turn_of_parsed(alloc, limits, conn, parse(first, &mut fields), count)
+}
+
+// The first ask, if the parser gave this for `count` bytes. Without a whole head no memory is taken.
+fn turn_of_parsed(
+    alloc: Global,
+    limits: &Limits,
+    conn: &Conn,
+    parsed: Parsed<'_>,
+    count: usize,
+) -> Result<Turn, AllocError>
+    requires { IsParsedOf count parsed }
+    ensures found { IfOk result (λ turn. (bytes : List ℕ) → count ≤ length bytes
+        → IsParsed (take count bytes) parsed.entry → IsTurnOfFirst limits.now (conn_view conn.now) count bytes turn) }
+    ensures sure { IsNoHead parsed.entry → IsOk result }
+{
+    match parsed {
         Parsed::Whole(head, rest) => turn_of_head(alloc, limits, conn, &head, count - rest.len()),
         Parsed::Hopeless(part) => Ok(Turn::Close(Ask::Fault(HeadFault::Malformed(part)))),
         Parsed::Unfinished => Ok(Turn::Rest),
@@ -98,13 +126,25 @@ fn turn_of_head(
     requires { size ≤ 65536 }
     ensures { IfOk result (IsTurnOf limits.now (conn_view conn.now) head.now size) }
 {
-    match ask_of(alloc, head, limits, conn.copy()?)? {
-        HeadAsk::Fault(fault) => Ok(Turn::Close(Ask::Fault(fault))),
+    let ask = ask_of(alloc, head, limits, conn.copy()?)?;
+    Ok(turn_of_ask(ask, head, size))
+}
+
+// How the bytes continue after the ask of a whole head of this size.
+#[inline(always)]
+fn turn_of_ask(ask: HeadAsk, head: &Head<'_>, size: usize) -> Turn
+    requires size { size ≤ 65536 }
+    requires ask { KeepsRules head.now ask }
+    ensures { (limits : LimitsValue) (facts : Facts) → IsAskOf limits facts head.now ask
+        → IsTurnOf limits facts head.now size result }
+{
+    match ask {
+        HeadAsk::Fault(fault) => Turn::Close(Ask::Fault(fault)),
         HeadAsk::Judge(request) => {
             if head.closes() {
-                return Ok(Turn::Close(Ask::Judge(request, true)));
+                return Turn::Close(Ask::Judge(request, true));
             }
-            Ok(Turn::Pass(request, size as u64 + head.body()))
+            Turn::Pass(request, size as u64 + head.body())
         }
     }
 }

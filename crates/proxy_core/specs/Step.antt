@@ -20,7 +20,7 @@ use Rattle.proxy_core.specs.Run.{places}
 
 -- ---- policies as they are enforced
 
--- the enforced policies give the verdict of each written filter that may be enforced as them
+-- the verdict is that of every written filter that these enforced policies may have been made from
 abbrev pub DecidesAsWritten : RequestValue → AdmittedValue → VerdictValue → Type 0
 DecidesAsWritten r a v = (rules : Filter CelChecked) → IsAdmittedAs a.limits rules a.filter
     → IsVerdict (is_met r) r rules v.allowed v.matched

@@ -1,9 +1,11 @@
 -- What the code keeps of a connection, and its result for the first ask of some bytes.
-use Rattle.std.specs.Prelude.{◌≡◌, ℕ, ◌+◌, Bool, true, false, List, drop, take}
+use Rattle.std.specs.Prelude.{◌≡◌, ℕ, ◌+◌, ◌<◌, ◌≤◌, Bool, true, false, List, drop, length, take}
 use Rattle.attributes.specs.Conn.{Facts}
 use Rattle.attributes.specs.Limits.{LimitsValue}
 use Rattle.httparse.specs.Grammar.{HasNoRequest, MayBecomeRequest}
 use Rattle.http_front.specs.declared.ask.Ask.TheVariants as asks
+use Rattle.http_front.specs.declared.fault.HeadFault.TheVariants.{TooLong}
+use Rattle.http_front.specs.declared.head.Parsed.{Parsed}
 use Rattle.http_front.specs.declared.read.HeadAsk.TheVariants as head_asks
 use Rattle.http_front.specs.declared.turn.Turn.{Turn}
 use Rattle.http_front.specs.declared.turn.Turn.TheVariants.{Rest, Close, Pass}
@@ -11,9 +13,10 @@ use Rattle.http_front.specs.Asks.{IsUnfinished}
 use Rattle.http_front.specs.Bodies.{body_of}
 use Rattle.http_front.specs.Closing.{closes}
 use Rattle.http_front.specs.Front.{FrontValue}
-use Rattle.http_front.specs.Head.{HeadValue}
+use Rattle.http_front.specs.Head.{HeadValue, head_room}
 use Rattle.http_front.specs.Heads.{IsAtRest, Kept, Takes, closed, passed, reading}
 use Rattle.http_front.specs.steps.Asks.{IsAskOf}
+use Rattle.http_front.specs.steps.Parsed.{IsParsed}
 
 -- what the fields of a front mean
 abbrev pub kept_of : Bool → ℕ → ℕ → List ℕ → Kept
@@ -42,6 +45,17 @@ IsTurnOfFirst limits facts n bytes Rest = HasNoRequest (take n bytes) × MayBeco
 IsTurnOfFirst limits facts n bytes (Close ask) = Takes limits facts (reading 0 bytes) ask closed
 IsTurnOfFirst limits facts n bytes (Pass r count) =
     Takes limits facts (reading 0 bytes) (asks.Judge r false) (passed count bytes)
+
+-- this is the parser's result for the first `n` of some bytes, which are no more than a head may have
+abbrev pub IsParsedOf : ℕ → Parsed → Type 0
+IsParsedOf n parsed =
+    (bytes : List ℕ) × (n ≤ length bytes) × (n ≤ head_room) × IsParsed (take n bytes) parsed
+
+-- the turn of `n` bytes, by that of as many of them as a head may have. More bytes without a head are too long
+abbrev pub IsTurnIn : ℕ → Turn → Turn → Type 0
+IsTurnIn n Rest Rest = n ≤ head_room
+IsTurnIn n Rest turn = (head_room < n) × (turn ≡ Close (asks.Fault TooLong))
+IsTurnIn n turn result = result ≡ turn
 
 -- the turn is the ask of a whole head of this size
 abbrev pub IsTurnOf : LimitsValue → Facts → HeadValue → ℕ → Turn → Type 0

@@ -13,7 +13,7 @@ returns-in-First c =
     (served_view c.args.served.now) (served_view c.send.new.served) (texts_view c.deref.result.now)
     c.args.replies.now.items c.send.new.replies.items ends (ap texts_view c.deref.ensures.value)
     (rw c.in-First.is at c.in_ok-kind_of.ensures) sends)
-    c.send.ensures
+    c.send.ensures.sent
 
 pub returns-in-Ack : goal.returns-in-Ack
 returns-in-Ack c =

@@ -1,5 +1,7 @@
-use Rattle.http_front.proofs.Turning.{good_lengths}
+use Rattle.attributes.specs.Conn.{conn_view}
 use Rattle.http_front.proofs.turn.turn_of_head.Goals as goal
 
-pub body-requires : goal.body-requires
-body-requires c = good_lengths c.args.head.now (rw c.in-Judge.is at c.in_ok-fault.ensures).1
+pub returns : goal.returns
+returns c =
+    c.turn_of_ask.ensures c.args.limits.now (conn_view c.args.conn.now)
+    (rw c.in_ok-copy.ensures.same at c.in_ok-ask.ensures.found)

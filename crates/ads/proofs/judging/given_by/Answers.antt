@@ -1,0 +1,29 @@
+use Rattle.std.proofs.Common.{map}
+use Rattle.std.specs.List.{AllZip}
+use Rattle.xds_wire.specs.View.{any_view, extension_view, response_view}
+use Rattle.ads.specs.Answer.{IsResource}
+use Rattle.ads.proofs.AnswerLemmas.{read_found}
+use Rattle.ads.proofs.JudgedLemmas.{given_from_taken, refused_from_taken}
+use Rattle.ads.proofs.judging.given_by.Goals as goal
+
+pub returns-clause-found : goal.returns-clause-found
+returns-clause-found c =
+    let xs = c.in_ok-extensions.extensions in
+    let read = read_found (λ v. AllZip IsResource (map any_view c.deref.result.now) (map extension_view v.items))
+    c.read_resources.result c.in_ok-memory_apart.field-0 xs c.in_ok-memory_apart.ensures.found.0 c.in_ok-extensions.was
+    c.read_resources.ensures.found in
+    let reads = rw c.deref.ensures.value at read in
+    let taken = rw (c.limits.ensures, c.filters.ensures, c.deref-2.ensures.value) at c.take_all.ensures.found in
+    given_from_taken c.args.config.now (response_view c.args.response.now) (map extension_view xs.items) reads
+    c.in_ok-check_type.ensures.found c.take_all.result taken
+
+pub returns-clause-fault : goal.returns-clause-fault
+returns-clause-fault c =
+    let xs = c.in_ok-extensions.extensions in
+    let read = read_found (λ v. AllZip IsResource (map any_view c.deref.result.now) (map extension_view v.items))
+    c.read_resources.result c.in_ok-memory_apart.field-0 xs c.in_ok-memory_apart.ensures.found.0 c.in_ok-extensions.was
+    c.read_resources.ensures.found in
+    let reads = rw c.deref.ensures.value at read in
+    let taken = rw (c.limits.ensures, c.filters.ensures, c.deref-2.ensures.value) at c.take_all.ensures.fault in
+    refused_from_taken c.args.config.now (response_view c.args.response.now) (map extension_view xs.items) reads
+    c.in_ok-check_type.ensures.found c.take_all.result taken
