@@ -4,27 +4,32 @@ use Rattle.http_front.specs.declared.fault.HeadFault.{HeadFault}
 use Rattle.proto_wire.specs.declared.refusal.Refusal.{Refusal}
 use Rattle.rbac_policy.specs.declared.trials.Reason.{Reason}
 use Rattle.rbac_policy.specs.declared.trials.Reason.TheVariants.{NoPermission, NoPrincipal, Matches, ConditionFalse, ConditionFails, ConditionTrue}
+use Rattle.serde_json.specs.Data.{string}
 use Rattle.serde_json.specs.View.{items_of}
 use Rattle.serde_json.specs.Written.{has_float, items_have_float}
-use Rattle.rbacd.specs.Explain.{TrialValue, reason_json, trial_json}
+use Rattle.rbacd.specs.Explain.{ToldTrial, reason_json, trial_json}
 use Rattle.rbacd.specs.Json.{WhyValue, head_json, json_of, refused_json, verdict_json}
 use Rattle.rbacd.specs.declared.outcome.Outcome.{Outcome}
 use Rattle.rbacd.specs.declared.outcome.Outcome.TheVariants as outcomes
 
-reason_whole : (t : TrialValue) (reason : Reason) → has_float (reason_json t reason) ≡ false
-reason_whole t NoPermission = refl
-reason_whole t NoPrincipal = refl
-reason_whole t Matches = refl
-reason_whole t ConditionFalse = refl
-reason_whole t (ConditionFails e) = refl
-reason_whole t (ConditionTrue steps bound) = refl
+causes_whole : (causes : List (List ℕ)) → items_have_float (items_of (map string causes)) ≡ false
+causes_whole [] = refl
+causes_whole (cause ∷ causes) = rw (causes_whole causes) refl
 
-trials_whole : (told : List TrialValue) → items_have_float (items_of (map trial_json told)) ≡ false
+reason_whole : (t : ToldTrial) (reason : Reason) → has_float (reason_json t reason) ≡ false
+reason_whole t NoPermission = rw (causes_whole t.causes) refl
+reason_whole t NoPrincipal = rw (causes_whole t.causes) refl
+reason_whole t Matches = rw (causes_whole t.causes) refl
+reason_whole t ConditionFalse = rw (causes_whole t.causes) refl
+reason_whole t (ConditionFails e) = rw (causes_whole t.causes) refl
+reason_whole t (ConditionTrue steps bound) = rw (causes_whole t.causes) refl
+
+trials_whole : (told : List ToldTrial) → items_have_float (items_of (map trial_json told)) ≡ false
 trials_whole [] = refl
-trials_whole (t ∷ told) = rw (reason_whole t t.reason, trials_whole told) refl
+trials_whole (t ∷ told) = rw (reason_whole t t.trial.reason, trials_whole told) refl
 
 -- nor does that of a verdict
-verdict_whole : (word : List ℕ) (name : Option (List ℕ)) (matched : Option ℕ) (told : Option (List TrialValue))
+verdict_whole : (word : List ℕ) (name : Option (List ℕ)) (matched : Option ℕ) (told : Option (List ToldTrial))
     → has_float (verdict_json word name matched told) ≡ false
 verdict_whole word None None None = refl
 verdict_whole word None (Some number) None = refl
@@ -50,7 +55,7 @@ head_whole None place fault = refl
 head_whole (Some cause) place fault = refl
 
 -- nor that of any outcome
-pub outcome_whole : (name : Option (List ℕ)) (told : Option (List TrialValue)) (why : WhyValue) (outcome : Outcome)
+pub outcome_whole : (name : Option (List ℕ)) (told : Option (List ToldTrial)) (why : WhyValue) (outcome : Outcome)
     → has_float (json_of name told why outcome) ≡ false
 outcome_whole name told why (outcomes.Admitted policies bound) = refl
 outcome_whole name told why (outcomes.Allowed matched) = verdict_whole (codes "allow") name matched told

@@ -38,10 +38,20 @@ abbrev pub own_trial_view : OwnTrial → TrialValue
 own_trial_view trial =
     record { number = trial.number; name = string_bytes trial.name; reason = trial.reason }
 
+-- a trial as it is told, with the texts of its causes: the leaves of its rules that decide
+pub record ToldTrial : Type 0 where
+  pub trial : TrialValue
+  pub causes : List (List ℕ)
+
+-- what is told of a trial
+abbrev pub told_trial_view : OwnTrial → ToldTrial
+told_trial_view trial =
+    record { trial = own_trial_view trial; causes = map string_bytes trial.causes.items }
+
 -- the trials of an explanation, if it has trials
-abbrev pub told_in : Explanation → Option (List TrialValue)
+abbrev pub told_in : Explanation → Option (List ToldTrial)
 told_in explanations.Absent = None
-told_in (explanations.Trials trials) = Some (map own_trial_view trials.items)
+told_in (explanations.Trials trials) = Some (map told_trial_view trials.items)
 told_in (explanations.Untold cause) = None
 
 -- these are the policies that are tried for the request, in order
@@ -102,10 +112,18 @@ reason_text (ConditionTrue steps bound) =
 abbrev pub trial_line : TrialValue → List ℕ
 trial_line trial = decimal trial.number ++ 32 ∷ (quoted trial.name ++ codes ": " ++ reason_text trial.reason ++ 10 ∷ [])
 
+-- the line of a cause
+abbrev pub cause_line : List ℕ → List ℕ
+cause_line cause = 32 ∷ 32 ∷ (cause ++ 10 ∷ [])
+
+-- the line of a trial, followed by those of its causes
+abbrev pub trial_lines : ToldTrial → List ℕ
+trial_lines told = trial_line told.trial ++ flat_map cause_line told.causes
+
 -- a line, followed by the lines of the trials, if there are any to show
-abbrev pub with_trials : List ℕ → Option (List TrialValue) → List ℕ
+abbrev pub with_trials : List ℕ → Option (List ToldTrial) → List ℕ
 with_trials line None = line
-with_trials line (Some told) = line ++ flat_map trial_line told
+with_trials line (Some told) = line ++ flat_map trial_lines told
 
 -- the members `name`, `number` and `reason` of a trial's object, with this word as the reason, and then the rest
 abbrev pub trial_members : TrialValue → List ℕ → Members → Members
@@ -113,21 +131,29 @@ trial_members trial word rest = member (codes "name") (string trial.name)
     (member (codes "number") (number (unsigned trial.number))
     (member (codes "reason") (string word) rest))
 
+-- the array of the texts of causes
+abbrev pub causes_json : List (List ℕ) → Data
+causes_json causes = array (items_of (map string causes))
+
 -- the object of a trial that has this reason
-abbrev pub reason_json : TrialValue → Reason → Data
-reason_json trial (ConditionFails e) = object (member (codes "error") (string (error_name e))
-    (trial_members trial (codes "condition error") no_members))
-reason_json trial (ConditionTrue steps bound) =
-    object (member (codes "bound") (number (unsigned bound)) (trial_members trial (codes "condition true")
-    (member (codes "steps") (number (unsigned steps)) no_members)))
-reason_json trial reason = object (trial_members trial (reason_text reason) no_members)
+abbrev pub reason_json : ToldTrial → Reason → Data
+reason_json told (ConditionFails e) = object (member (codes "causes") (causes_json told.causes)
+    (member (codes "error") (string (error_name e))
+    (trial_members told.trial (codes "condition error") no_members)))
+reason_json told (ConditionTrue steps bound) =
+    object (member (codes "bound") (number (unsigned bound))
+    (member (codes "causes") (causes_json told.causes)
+    (trial_members told.trial (codes "condition true")
+    (member (codes "steps") (number (unsigned steps)) no_members))))
+reason_json told reason = object (member (codes "causes") (causes_json told.causes)
+    (trial_members told.trial (reason_text reason) no_members))
 
 -- the object of a trial
-abbrev pub trial_json : TrialValue → Data
-trial_json trial = reason_json trial trial.reason
+abbrev pub trial_json : ToldTrial → Data
+trial_json told = reason_json told told.trial.reason
 
 -- the member `trials`, if there are trials to show, and then the rest
-abbrev pub put_trials : Option (List TrialValue) → Members → Members
+abbrev pub put_trials : Option (List ToldTrial) → Members → Members
 put_trials None rest = rest
 put_trials (Some told) rest = member (codes "trials") (array (items_of (map trial_json told))) rest
 

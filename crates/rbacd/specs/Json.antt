@@ -5,7 +5,7 @@ use Rattle.http_front.specs.declared.fault.HeadFault.{HeadFault}
 use Rattle.proto_wire.specs.Refusal.{name_of, number_of}
 use Rattle.proto_wire.specs.declared.refusal.Refusal.{Refusal}
 use Rattle.serde_json.specs.Data.{Data, null, boolean, number, unsigned, string, object, member, no_members}
-use Rattle.rbacd.specs.Explain.{TrialValue, put_trials}
+use Rattle.rbacd.specs.Explain.{ToldTrial, put_trials}
 use Rattle.rbacd.specs.declared.json.Why.{Why}
 use Rattle.rbacd.specs.declared.outcome.Outcome.{Outcome}
 use Rattle.rbacd.specs.declared.outcome.Outcome.TheVariants as outcomes
@@ -40,7 +40,7 @@ abbrev pub untold : Why
 untold = record { cause = None; place = None }
 
 -- the object of a verdict: the name and the number of the policy that matched, and the trials, if there are any to show
-abbrev pub verdict_json : List ℕ → Option (List ℕ) → Option ℕ → Option (List TrialValue) → Data
+abbrev pub verdict_json : List ℕ → Option (List ℕ) → Option ℕ → Option (List ToldTrial) → Data
 verdict_json word name matched told = object (member (codes "name") (text_json name)
     (member (codes "policy") (matched_json matched)
     (put_trials told (member (codes "verdict") (string word) no_members))))
@@ -64,7 +64,7 @@ fault_json words cause =
 
 -- the object of an outcome. A verdict has the name of the policy that matched, and the trials, if there are any to
 -- show. A refusal or a head's fault has its cause
-abbrev pub json_of : Option (List ℕ) → Option (List TrialValue) → WhyValue → Outcome → Data
+abbrev pub json_of : Option (List ℕ) → Option (List ToldTrial) → WhyValue → Outcome → Data
 json_of name told why (outcomes.Admitted policies bound) = admitted_json policies bound
 json_of name told why (outcomes.Allowed matched) = verdict_json (codes "allow") name matched told
 json_of name told why (outcomes.Denied matched) = verdict_json (codes "deny") name matched told

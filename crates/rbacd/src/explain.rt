@@ -3,19 +3,25 @@ ghost use Rattle.std.specs.Prelude.{◌≡◌, ◌∷◌, ◌++◌, [], codes, I
 ghost use Rattle.std.specs.Fmt.{decimal};
 ghost use Rattle.std.specs.List.{flat_map};
 ghost use Rattle.rbacd.specs.steps.Printed.{less_told};
-ghost use Rattle.rbacd.specs.Explain.{escaped, is_hidden, own_trial_view, quoted, reason_text, trial_line, trial_view, untold_text};
+ghost use Rattle.rbacd.specs.Explain.{cause_line, escaped, is_hidden, own_trial_view, quoted, reason_text, told_trial_view, trial_line, trial_lines, trial_view, untold_text};
 
-use rbac_policy::{Reason, Trial};
+use attributes::Request;
+use rbac_policy::{Admitted, Reason, Trial};
 use stack_machine::RunError;
 use std::alloc::{AllocError, Global};
 use std::fmt;
 
-/// A policy that was tried: its number, its name, and why it matches or does not.
+/// How many causes of each side of a policy are told at most.
+const CAUSES: usize = 8;
+
+/// A policy that was tried: its number, its name, and why it matches or does not. The causes are the leaves of its
+/// rules that decide, in words.
 #[derive(Drop)]
 pub struct OwnTrial {
     pub number: usize,
     pub name: String,
     pub reason: Reason,
+    pub causes: Vec<String>,
 }
 
 /// The explanation of a verdict, if there is one.
@@ -42,42 +48,95 @@ impl Explanation {
     }
 }
 
-/// The trials, with copies of the names.
-pub(crate) fn own_trials(alloc: Global, trials: &[Trial<'_>]) -> Result<Vec<OwnTrial>, AllocError>
+/// The trials of the filter for the request, with copies of the names, and with their causes.
+pub(crate) fn own_trials(
+    alloc: Global,
+    admitted: &Admitted,
+    request: &Request,
+    trials: &[Trial<'_>],
+) -> Result<Vec<OwnTrial>, AllocError>
     ensures { IfOk result (λ own. map own_trial_view own.items ≡ map trial_view trials.now) }
 {
     let mut own = Vec::new(alloc);
     for trial in trials {
-        own.push(own_trial(alloc, trial)?)?;
+        own.push(own_trial(alloc, admitted, request, trial)?)?;
     }
     Ok(own)
 }
 
-/// The trial, with a copy of the name.
-fn own_trial(alloc: Global, trial: &Trial<'_>) -> Result<OwnTrial, AllocError>
+/// The trial, with a copy of the name, and with its causes.
+fn own_trial(
+    alloc: Global,
+    admitted: &Admitted,
+    request: &Request,
+    trial: &Trial<'_>,
+) -> Result<OwnTrial, AllocError>
     ensures { IfOk result (λ own. own_trial_view own ≡ trial_view trial.now) }
 {
     Ok(OwnTrial {
         number: trial.number,
         name: String::from_str(alloc, trial.name)?,
         reason: trial.reason,
+        causes: causes_of(alloc, admitted, request, trial.number)?,
     })
 }
 
-/// Appends a line for each of the trials.
+/// The leaves that decide whether the sides of the policy of this number match the request, in words.
+fn causes_of(
+    alloc: Global,
+    admitted: &Admitted,
+    request: &Request,
+    number: usize,
+) -> Result<Vec<String>, AllocError> {
+    match admitted.causes(number, request, CAUSES)? {
+        Some(causes) => causes.words(alloc, request),
+        None => Ok(Vec::new(alloc)),
+    }
+}
+
+/// Appends the lines of each of the trials.
 pub(crate) fn push_lines(
     alloc: Global,
     text: &mut String,
     trials: &[OwnTrial],
 ) -> Result<(), AllocError>
     ensures { OnOk result (string_bytes text.new
-        ≡ string_bytes text.old ++ flat_map trial_line (map own_trial_view trials.now)) }
+        ≡ string_bytes text.old ++ flat_map trial_lines (map told_trial_view trials.now)) }
 {
     for trial in trials {
-        let line = line_of_trial(alloc, trial)?;
-        text.push_str(line.as_str())?;
+        let lines = lines_of_trial(alloc, trial)?;
+        text.push_str(lines.as_str())?;
     }
     Ok(())
+}
+
+/// The line of a trial, followed by those of its causes.
+fn lines_of_trial(alloc: Global, trial: &OwnTrial) -> Result<String, AllocError>
+    ensures { IfOk result (λ lines. string_bytes lines ≡ trial_lines (told_trial_view trial.now)) }
+{
+    let mut lines = line_of_trial(alloc, trial)?;
+    push_causes(&mut lines, &trial.causes)?;
+    Ok(lines)
+}
+
+/// Appends a line for each of the causes.
+fn push_causes(text: &mut String, causes: &[String]) -> Result<(), AllocError>
+    ensures { OnOk result (string_bytes text.new
+        ≡ string_bytes text.old ++ flat_map cause_line (map string_bytes causes.now)) }
+{
+    for cause in causes {
+        push_cause(text, cause.as_str())?;
+    }
+    Ok(())
+}
+
+/// Appends the line of a cause.
+fn push_cause(text: &mut String, cause: &str) -> Result<(), AllocError>
+    ensures { OnOk result (string_bytes text.new ≡ string_bytes text.old ++ cause_line cause.now) }
+{
+    text.push_str("  ")?;
+    text.push_str(cause)?;
+    text.push_str("\n")
 }
 
 /// The line of a trial, such as `0 "p": condition false`.

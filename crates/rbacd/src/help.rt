@@ -46,10 +46,12 @@ With --explain a line follows for each policy that was tried, in order, up to th
   M \"p\": condition error E               its condition is this error, which is no match
   M \"p\": condition true steps N bound B  it matches, after N of the B steps that its condition may take
   M \"p\": match                           it matches, and has no condition
+Below it, each leaf of its rules that decides, at most 8 for its permissions and 8 for its principals:
+    permissions[0].and_rules.rules[1].header \"x-user\": exact \"alice\", is \"bob\"
 With --json the object has them as \"trials\":
-  {\"name\":\"p\",\"number\":M,\"reason\":\"permission\"}
-  {\"error\":\"E\",\"name\":\"p\",\"number\":M,\"reason\":\"condition error\"}
-  {\"bound\":B,\"name\":\"p\",\"number\":M,\"reason\":\"condition true\",\"steps\":N}
+  {\"causes\":[\"permissions[0].not_rule.any\"],\"name\":\"p\",\"number\":M,\"reason\":\"permission\"}
+  {\"causes\":[..],\"error\":\"E\",\"name\":\"p\",\"number\":M,\"reason\":\"condition error\"}
+  {\"bound\":B,\"causes\":[..],\"name\":\"p\",\"number\":M,\"reason\":\"condition true\",\"steps\":N}
 Where memory runs out for that, all of it is left out, and standard error says so; the verdict and the
 status stay. A refusal and a head's fault are not explained. Where the output breaks off, the
 lines may stand there in part; the status is 2 then, whatever they say.

@@ -1,9 +1,9 @@
 //! An outcome as a JSON value.
-ghost use Rattle.std.specs.Prelude.{◌≡◌, IfOk, None, Some, map, option_map, string_bytes};
-ghost use Rattle.serde_json.specs.Data.{array, no_members, object};
+ghost use Rattle.std.specs.Prelude.{◌≡◌, IfOk, None, Some, codes, map, option_map, string_bytes};
+ghost use Rattle.serde_json.specs.Data.{array, member, no_members, object};
 ghost use Rattle.serde_json.specs.View.{items_of, view};
 ghost use Rattle.rbac_policy.specs.declared.trials.Reason.TheVariants.{ConditionFails, ConditionTrue};
-ghost use Rattle.rbacd.specs.Explain.{own_trial_view, reason_json, told_in, trial_json, trial_members};
+ghost use Rattle.rbacd.specs.Explain.{causes_json, own_trial_view, reason_json, told_in, told_trial_view, trial_json, trial_members};
 ghost use Rattle.rbacd.specs.Json.{admitted_json, head_json, json_of, matched_json, text_json, refused_json, untold, verdict_json, why_view};
 
 use crate::explain::{Explanation, OwnTrial};
@@ -107,7 +107,7 @@ fn explained_value(
     trials: &[OwnTrial],
 ) -> Result<Value, AllocError>
     ensures { IfOk result (λ value. view value ≡ verdict_json word.now
-        (option_map string_bytes name.now) matched (Some (map own_trial_view trials.now))) }
+        (option_map string_bytes name.now) matched (Some (map told_trial_view trials.now))) }
 {
     let name = text_value(alloc, name)?;
     let trials = trials_value(alloc, trials)?;
@@ -117,7 +117,7 @@ fn explained_value(
 /// The array of the trials' objects.
 fn trials_value(alloc: Global, trials: &[OwnTrial]) -> Result<Value, AllocError>
     ensures { IfOk result (λ value. view value
-        ≡ array (items_of (map trial_json (map own_trial_view trials.now)))) }
+        ≡ array (items_of (map trial_json (map told_trial_view trials.now)))) }
 {
     let mut values = Vec::new(alloc);
     for trial in trials {
@@ -128,7 +128,7 @@ fn trials_value(alloc: Global, trials: &[OwnTrial]) -> Result<Value, AllocError>
 
 /// The object of a trial.
 fn trial_value(alloc: Global, trial: &OwnTrial) -> Result<Value, AllocError>
-    ensures { IfOk result (λ value. view value ≡ trial_json (own_trial_view trial.now)) }
+    ensures { IfOk result (λ value. view value ≡ trial_json (told_trial_view trial.now)) }
 {
     match trial.reason {
         Reason::NoPermission => reason_value(alloc, trial, "permission"),
@@ -143,17 +143,37 @@ fn trial_value(alloc: Global, trial: &OwnTrial) -> Result<Value, AllocError>
 /// The object of a trial whose reason is this word.
 fn reason_value(alloc: Global, trial: &OwnTrial, word: &str) -> Result<Value, AllocError>
     ensures { IfOk result (λ value. view value
-        ≡ object (trial_members (own_trial_view trial.now) word.now no_members)) }
+        ≡ object (member (codes "causes") (causes_json (told_trial_view trial.now).causes)
+        (trial_members (own_trial_view trial.now) word.now no_members))) }
 {
-    json!(in alloc; {"name": trial.name.as_str(), "number": trial.number, "reason": word})
+    let causes = causes_value(alloc, &trial.causes)?;
+    json!(in alloc; {
+        "causes": causes,
+        "name": trial.name.as_str(),
+        "number": trial.number,
+        "reason": word
+    })
+}
+
+/// The array of the causes' texts.
+fn causes_value(alloc: Global, causes: &[String]) -> Result<Value, AllocError>
+    ensures { IfOk result (λ value. view value ≡ causes_json (map string_bytes causes.now)) }
+{
+    let mut values = Vec::new(alloc);
+    for cause in causes {
+        values.push(Value::try_from_str(alloc, cause.as_str())?)?;
+    }
+    Ok(Value::Array(values))
 }
 
 /// The object of a trial whose condition fails with this error.
 fn fails_value(alloc: Global, trial: &OwnTrial, error: CelError) -> Result<Value, AllocError>
     ensures { IfOk result (λ value. view value
-        ≡ reason_json (own_trial_view trial.now) (ConditionFails error)) }
+        ≡ reason_json (told_trial_view trial.now) (ConditionFails error)) }
 {
+    let causes = causes_value(alloc, &trial.causes)?;
     json!(in alloc; {
+        "causes": causes,
         "error": error.name(),
         "name": trial.name.as_str(),
         "number": trial.number,
@@ -164,10 +184,12 @@ fn fails_value(alloc: Global, trial: &OwnTrial, error: CelError) -> Result<Value
 /// The object of a trial whose condition is true, after `steps` of at most `bound` steps.
 fn true_value(alloc: Global, trial: &OwnTrial, steps: u64, bound: u64) -> Result<Value, AllocError>
     ensures { IfOk result (λ value. view value
-        ≡ reason_json (own_trial_view trial.now) (ConditionTrue steps bound)) }
+        ≡ reason_json (told_trial_view trial.now) (ConditionTrue steps bound)) }
 {
+    let causes = causes_value(alloc, &trial.causes)?;
     json!(in alloc; {
         "bound": bound,
+        "causes": causes,
         "name": trial.name.as_str(),
         "number": trial.number,
         "reason": "condition true",

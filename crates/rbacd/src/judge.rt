@@ -316,7 +316,7 @@ fn explained(alloc: Global, admitted: &Admitted, request: &Request) -> Explanati
         Ok(trials) => trials,
         Err(cause) => return Explanation::Untold(cause),
     };
-    match own_trials(alloc, &trials) {
+    match own_trials(alloc, admitted, request, &trials) {
         Ok(own) => Explanation::Trials(own),
         Err(AllocError) => Explanation::Untold(RunError::Memory),
     }
