@@ -12,7 +12,7 @@ from .findings import Finding, are_refused
 from .forms.binary import filters_in
 from .messages import FILTER, Message, descriptor
 from .places import Mistake, Source
-from .placing import engine_place, place_in_file
+from .placing import engine_place, named_node, node_at, origin, place_in_file
 from .reader import read
 from .reading import Encoded, contents
 
@@ -80,9 +80,9 @@ def _bytes_report(file: str, name: str, data: bytes, budget: int) -> Tuple[Repor
     found = [
         Finding(note.number, f"byte {note.place}: {note.words}", None, note.path) for note in profile.notes(message)
     ]
-    if any("expr" in one.path for one in found):
+    if any(_is_in_condition(one) for one in found):
         lines = _lines_of_texts(file, data)
-        found = [_with_line(one, lines) for one in found]
+        found = [_with_origin(_with_line(one, lines), message) for one in found]
     found += too_costly(message, budget) + lint.notes(message, None)
     return Report(file, name, None, found, [], bounds_of(message), None, message), data
 
@@ -103,10 +103,23 @@ def _key(finding: Finding) -> tuple:
     return finding.path, finding.number, re.sub(r"^byte \d+: ", "", finding.words)
 
 
+def _is_in_condition(one: Finding) -> bool:
+    """Whether something is found in the tree of a condition."""
+    return "expr" in one.path or one.path[3:4] == ("condition",)
+
+
 def _with_line(one: Finding, texts: dict) -> Finding:
     """A finding of a condition with the line of its text."""
-    line = texts.get(_key(one)) if "expr" in one.path else None
+    line = texts.get(_key(one)) if _is_in_condition(one) else None
     return one if line is None else one._replace(words=f"{one.words}\n{line}")
+
+
+def _with_origin(one: Finding, message: Message) -> Finding:
+    """A finding of a condition with the place in the text that it was made of, where `source_info` has it."""
+    named = node_at(one.path, message) if _is_in_condition(one) else None
+    where = origin(named.condition.message, named.node.id) if named is not None else None
+    offset, colon, rest = one.words.partition(": ")
+    return one if where is None or not colon else one._replace(words=f"{offset}, {where}: {rest}")
 
 
 def _answered(report: Report, answer: engine.Admission) -> Report:
@@ -115,7 +128,9 @@ def _answered(report: Report, answer: engine.Admission) -> Report:
     if answer.number and not any(one.number == answer.number for one in findings):
         told = engine_place(answer.causes)
         place = place_in_file(told, report.message, report.encoding)
-        words = "the engine refuses this" + "".join(f": {cause.strip()}" for cause in answer.causes[:1])
+        named = named_node(told, report.message)
+        what = "this" if named is None else f"node {named.node.id}, {named.told()}"
+        words = f"the engine refuses {what}" + "".join(f": {cause.strip()}" for cause in answer.causes[:1])
         findings = [*findings, Finding(answer.number, words, place, told.path)]
     return report._replace(findings=findings, admission=answer)
 

@@ -81,9 +81,12 @@ def _tell_faults(encoding, node: yaml.ScalarNode, tree: Node, message: Message, 
         return
     faults = [fault for fault in typing_of(message, tree).faults if fault.number != UNSUPPORTED]
     faults += _odd_constants(tree)
-    paths = dict(node_paths(tree, path)) if faults else {}
+    if not faults:
+        return
+    paths, indices = dict(node_paths(tree, path)), spread(encoding.source, node)
     for fault in faults:
-        _tell(encoding, node, fault, paths[fault.node])
+        place = encoding.source.place_of(indices[fault.node.place])
+        encoding.findings.append(Finding(fault.number, fault.words, place, paths[fault.node]))
 
 
 def _take_dotted(encoding, pairs: dict) -> bool:
@@ -129,13 +132,6 @@ def _give_ids(encoding, tree: Node, node: Optional[yaml.Node]) -> None:
         if not isinstance(scalar, yaml.ScalarNode):
             raise encoding.mistake(scalar, "a number is expected here")
         part.id = encoding.scalar(field, scalar)
-
-
-def _tell(encoding, node: yaml.ScalarNode, fault: Fault, path: tuple) -> None:
-    """Keeps a fault with its place in the condition's text."""
-    index = spread(encoding.source, node)[fault.node.place]
-    place = encoding.source.place_of(index)
-    encoding.findings.append(Finding(fault.number, fault.words, place, path))
 
 
 def _odd_constants(tree: Node) -> List[Fault]:

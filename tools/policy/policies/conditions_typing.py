@@ -1,11 +1,15 @@
 """The types and the costs of conditions that stand in messages."""
+from functools import lru_cache
 from typing import Dict, List, NamedTuple, Optional
 
 from .cel.check import NO_KIND, References, TypeEntries, Typing, check
 from .cel.cost import TooMuch, cost
-from .cel.tree import Node
+from .cel.tree import Node, in_order
 from .messages import EXPR, Message
 from .trees import NoTree, message_tree, message_type
+
+# A condition of more nodes is refused, whatever it would cost.
+MOST_NODES = 2048
 
 
 def entries_of(checked: Message) -> TypeEntries:
@@ -80,8 +84,10 @@ class Bound(NamedTuple):
     condition: Optional[Condition]
 
 
+@lru_cache(maxsize=1)
 def bounds_of(message: Message) -> List[Bound]:
-    """The bounds of a filter's conditions that have a type, by ascending name of their policies."""
+    """The bounds of a filter's conditions that have a type, by ascending name of their policies; kept for the next call,
+    since several ask for those of one filter."""
     rules = message.get("rules")
     policies: Dict[str, Message] = dict(rules.get("policies") or []) if rules is not None and rules.is_whole else {}
     bounds = []
@@ -91,8 +97,10 @@ def bounds_of(message: Message) -> List[Bound]:
             bounds.append(Bound(name, 0, None))
             continue
         tree = condition.tree()
-        typing = None if tree is None else typing_of(condition.message, tree)
-        if tree is not None and typing is not None and typing.is_whole:
+        if tree is None or len(list(in_order(tree))) > MOST_NODES:
+            continue
+        typing = typing_of(condition.message, tree)
+        if typing.is_whole:
             bounds.append(Bound(name, _steps(tree, typing), condition))
     return bounds
 

@@ -16,6 +16,7 @@ from .messages import (
     CHECKED_EXPR,
     EXPR,
     FILTER,
+    POLICY,
     PREFIX,
     TYPE,
     WRAPPER,
@@ -40,7 +41,10 @@ WIRE_KEY = "@wire"
 TYPE_KEY = "@type"
 ORDER_KEY = "@oneofs"
 LAST = "last"
+MERGE_KEY = "<<"
 ROOT = ()
+# A list of so many parts has a line of progress of its own.
+LONG_LIST = 1000
 
 
 class Encoding:
@@ -181,6 +185,11 @@ class Encoding:
                     f"the engine does not know `{name}` of {label(kind)} and would refuse the filter{instead(reserved)}"
                 )
                 raise self.mistake(key, told)
+        if name == MERGE_KEY:
+            raise self.mistake(key, "merge keys are not read: write out what `<<` stands for, or use an alias alone")
+        if kind.full_name == FILTER and name in parts_by_name(descriptor(POLICY)):
+            told = f"`{name}` is a field of a policy, which is in a filter as `rules: {{policies: {{NAME: {{..}}}}}}`"
+            raise self.mistake(key, told)
         names = [field.name for field in kind.fields]
         near = difflib.get_close_matches(name, names, 1)
         hint = f"; do you mean `{near[0]}`?" if near else f"; it has {', '.join(names)}" if names else ""
@@ -195,7 +204,10 @@ class Encoding:
         if not isinstance(node, yaml.SequenceNode):
             raise self.mistake(node, f"a list is expected here, since `{field.name}` may hold several")
         parts: list = []
+        progress = Progress(f"encoding {field.name}", len(node.value)) if len(node.value) >= LONG_LIST else None
         for index, part in enumerate(node.value):
+            if progress is not None:
+                progress.step()
             try:
                 parts.append(self._one(field.field, part, path + (index,), depth))
             except Mistake as mistake:
@@ -286,7 +298,7 @@ class Encoding:
                 raise self.mistake(
                     key, "these bytes do not say what the fields beside them say: leave out one or the other"
                 )
-        message.wire = message.raw
+        message.wire = bytes(message.raw)
         return message
 
     def _beside_wire(

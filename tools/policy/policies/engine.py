@@ -59,14 +59,14 @@ def find(named: Optional[str] = None) -> pathlib.Path:
         found = shutil.which(asked)
         if found is None:
             raise NoEngine(f"{asked} is no program that can be run")
-        return pathlib.Path(found)
+        return pathlib.Path(found).absolute()
     for place in (TOP / "crates" / "rbacd" / "out" / "rbacd", INSTALLED):
         if os.access(place, os.X_OK):
             return place
     found = shutil.which("rbacd")
     if found is None or pathlib.Path(found).resolve() == TOP / "bin" / "rbacd":
         raise NoEngine("rbacd is not built: run bin/rbacd once, or name a program by --engine or RBACD")
-    return pathlib.Path(found)
+    return pathlib.Path(found).absolute()
 
 
 class Engine:

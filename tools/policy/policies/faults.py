@@ -23,6 +23,12 @@ from .trees import NoTree, message_tree, node_paths
 
 MISSING, OUT_OF_RANGE, UNSUPPORTED, BOTH_CONDITIONS, TOO_LARGE = 4, 5, 6, 7, 8
 MOST_POLICIES = 256
+NO_RULES = "a filter without rules, by which Envoy lets every request pass: write `rules`, or leave the filter out"
+TOO_MANY_POLICIES = f"more than {MOST_POLICIES} policies: join some by or_rules, or write several filters"
+NOT_ANY = "`any` is true or is not there: for none write `not_rule` or `not_id` around it"
+TESTS = "`exact`, `prefix`, `suffix` or `contains`"
+ANY_TEXT = " is in every text: for a header leave out the test, else write `any: true`"
+NO_ADDRESS = "this text is no address, such as 10.0.0.0 or 2001:db8::, whose length is in prefix_len"
 # A field (with the key of its entry, or none for the whole message), the offset of its bytes, the number, words.
 Finding = Tuple[Union[None, str, tuple], int, int, str]
 Check = Callable[[Message], Iterator[Finding]]
@@ -39,24 +45,24 @@ def _nothing(message: Message) -> Iterator[Finding]:
 
 def _filter(message: Message) -> Iterator[Finding]:
     if message.get("rules") is None:
-        yield None, message.start, MISSING, "a filter without rules"
+        yield None, message.start, MISSING, NO_RULES
 
 
 def _rules(message: Message) -> Iterator[Finding]:
     if not 0 <= message.scalar("action") <= 2:
-        yield "action", message.place_of("action"), OUT_OF_RANGE, "there is no such action"
+        yield "action", message.place_of("action"), OUT_OF_RANGE, "there is no such action: it is ALLOW, DENY or LOG"
     if len(message.get("policies") or []) > MOST_POLICIES:
-        yield None, message.start, TOO_LARGE, f"more than {MOST_POLICIES} policies"
+        yield None, message.start, TOO_LARGE, TOO_MANY_POLICIES
 
 
 def _policy(message: Message) -> Iterator[Finding]:
     for name in ("permissions", "principals"):
         if not message.get(name):
-            yield None, message.start, MISSING, f"a policy without {name}"
+            yield None, message.start, MISSING, f"a policy without {name}: `{name}: [{{any: true}}]` takes all"
     if message.get("condition") is None:
         return
     if message.get("checked_condition") is not None:
-        yield "condition", message.place_of("condition"), BOTH_CONDITIONS, "both conditions are there"
+        yield "condition", message.place_of("condition"), BOTH_CONDITIONS, "both conditions are there: leave out one"
     else:
         yield from _typed(message.get("condition"), message.get("condition"), ("condition",), {})
 
@@ -66,7 +72,7 @@ def _set(field: str) -> Check:
 
     def check(message: Message) -> Iterator[Finding]:
         if not message.get(field):
-            yield None, message.start, MISSING, f"a set without {field}"
+            yield None, message.start, MISSING, f"a set without {field}: write one, or leave out the set"
 
     return check
 
@@ -77,9 +83,9 @@ def _rule(oneof: str) -> Check:
     def check(message: Message) -> Iterator[Finding]:
         member = message.which(oneof)
         if member is None:
-            yield None, message.start, MISSING, "a rule without a member"
+            yield None, message.start, MISSING, "a rule without a member: write one, such as `any: true`"
         elif member == "any" and not message.get("any"):
-            yield member, message.place_of(member), OUT_OF_RANGE, "`any` is true or is not there"
+            yield member, message.place_of(member), OUT_OF_RANGE, NOT_ANY
         elif member == "destination_port" and message.get(member) > 65535:
             yield member, message.place_of(member), OUT_OF_RANGE, "a port is at most 65535"
         elif member == "destination_port_range" and message.get(member).is_whole:
@@ -93,14 +99,14 @@ def _rule(oneof: str) -> Check:
 def _matcher(message: Message) -> Iterator[Finding]:
     member = message.which("match_pattern")
     if member is None:
-        yield None, message.start, MISSING, "a matcher without a text"
+        yield None, message.start, MISSING, f"a matcher without a text: write {TESTS}"
     elif member in ("prefix", "suffix", "contains") and message.get(member) == "":
-        yield member, message.place_of(member), OUT_OF_RANGE, f"an empty {member}"
+        yield member, message.place_of(member), OUT_OF_RANGE, f"an empty {member}{ANY_TEXT}"
 
 
 def _path(message: Message) -> Iterator[Finding]:
     if message.get("path") is None:
-        yield None, message.start, MISSING, "a matcher without a path"
+        yield None, message.start, MISSING, f"a matcher without a path: write `path` with {TESTS}"
 
 
 def _header(message: Message) -> Iterator[Finding]:
@@ -108,7 +114,7 @@ def _header(message: Message) -> Iterator[Finding]:
         yield None, message.start, MISSING, "a header without a name"
     for member in ("prefix_match", "suffix_match", "contains_match"):
         if message.get(member) == "":
-            yield member, message.place_of(member), OUT_OF_RANGE, f"an empty {member}"
+            yield member, message.place_of(member), OUT_OF_RANGE, f"an empty {member}{ANY_TEXT}"
 
 
 def _cidr(message: Message) -> Iterator[Finding]:
@@ -117,10 +123,24 @@ def _cidr(message: Message) -> Iterator[Finding]:
     bits = _address_bits(message.scalar("address_prefix"))
     length = message.get("prefix_len")
     if bits is None:
+        field = "address_prefix" if "address_prefix" in message.values else None
         place = message.places.get("address_prefix", message.start)
-        yield None, place, OUT_OF_RANGE, "this text is no address"
+        yield field, place, OUT_OF_RANGE, _no_address(message.scalar("address_prefix"))
     elif length is not None and length.is_whole and length.scalar("value") > bits:
-        yield "prefix_len", message.place_of("prefix_len"), OUT_OF_RANGE, f"an address of {bits} bits"
+        words = f"such an address has {bits} bits: prefix_len is at most {bits}"
+        yield "prefix_len", message.place_of("prefix_len"), OUT_OF_RANGE, words
+
+
+def _no_address(text: str) -> str:
+    base, slash, length = text.partition("/")
+    if slash and length.isdigit() and _address_bits(base) is not None:
+        return f"this text is no address: write `address_prefix: {base}` and `prefix_len: {length}`"
+    return NO_ADDRESS
+
+
+def has_address(message: Message) -> bool:
+    """Whether a range of addresses begins with an address."""
+    return _address_bits(message.scalar("address_prefix")) is not None
 
 
 def _address_bits(text: str) -> Optional[int]:
@@ -135,7 +155,7 @@ def _address_bits(text: str) -> Optional[int]:
 
 def _checked(message: Message) -> Iterator[Finding]:
     if message.get("expr") is None:
-        yield None, message.start, MISSING, "a checked condition without a tree"
+        yield None, message.start, MISSING, "a checked condition without a tree: write `text`, or `expr`"
         return
     places = dict(zip([key for key, _ in message.get("type_map") or []], message.places.get("type_map", [])))
     yield from _typed(message, message.get("expr"), ("expr",), places)

@@ -4,15 +4,20 @@ from typing import Dict, Iterator, List, Optional, Tuple
 from .cel.attributes import attribute_name, parts_of
 from .cel.literals import literal_text
 from .cel.tree import Call, Comprehension, Const, Ident, Node, Select
+from .faults import has_address
 from .findings import NOTE, Finding
 from .conditions_typing import condition_of
-from .messages import Message
+from .messages import HEADER, Message
 from .placing import node_places
 from .writer import PLAIN
 
 CIDR = "envoy.config.core.v3.CidrRange"
 DENY = 1
 HEADERS = "request.headers"
+# Attributes that are headers, which a request may lack.
+OF_HEADERS = {"request.referer": "referer", "request.useragent": "user-agent", "request.id": "x-request-id"}
+HOST, AUTHORITY = "host", ":authority"
+READ = ("attribute", "index", "select")
 MEMBERSHIP = ("@in", "_in_", "in")
 COMPARISONS = ("_==_", "_!=_", "contains", "startsWith", "endsWith")
 # A node of a condition, and words.
@@ -24,7 +29,7 @@ def notes(message: Message, encoding) -> List[Finding]:
     rules = message.get("rules")
     if rules is None or not rules.is_whole:
         return []
-    found = list(_without_length(rules, ("rules",)))
+    found = [*_without_length(rules, ("rules",)), *_of_host(rules, ("rules",))]
     policies = dict(rules.get("policies") or [])
     found += _never_first(policies)
     found = [one if encoding is None else one._replace(place=encoding.place_of(one.path)) for one in found]
@@ -33,17 +38,32 @@ def notes(message: Message, encoding) -> List[Finding]:
     return found
 
 
-def _without_length(message: Message, path: tuple) -> Iterator[Finding]:
+def _without_length(rules: Message, path: tuple) -> Iterator[Finding]:
     """Ranges of addresses without a length, which hold every address of their family."""
-    if message.kind.full_name == CIDR and message.is_whole and message.get("prefix_len") is None:
-        address = message.scalar("address_prefix")
-        family, bits = ("IPv6", 128) if ":" in address else ("IPv4", 32)
-        words = f"without prefix_len every {family} address matches; for {address} alone write `prefix_len: {bits}`"
-        yield Finding(NOTE, words, None, path)
+    for where, message in _messages(rules, CIDR, path):
+        if message.get("prefix_len") is None and has_address(message):
+            address = message.scalar("address_prefix")
+            family, bits = ("IPv6", 128) if ":" in address else ("IPv4", 32)
+            words = f"without prefix_len every {family} address matches; for {address} alone write `prefix_len: {bits}`"
+            yield Finding(NOTE, words, None, where)
+
+
+def _of_host(rules: Message, path: tuple) -> Iterator[Finding]:
+    """Matchers of the header `host`, which no request has here."""
+    for where, message in _messages(rules, HEADER, path):
+        if message.scalar("name").lower() == HOST:
+            words = f"the Host line is the header {AUTHORITY} here, and no request has one named {HOST}"
+            yield Finding(NOTE, f"{words}: write `name: {AUTHORITY}`", None, where + ("name",))
+
+
+def _messages(message: Message, kind: str, path: tuple) -> Iterator[Tuple[tuple, Message]]:
+    """The whole messages of one kind in rules, each with its path."""
+    if message.kind.full_name == kind and message.is_whole:
+        yield path, message
     for name, value in message.values.items():
         for step, part in _parts(value):
             if isinstance(part, Message) and name not in ("checked_condition", "condition"):
-                yield from _without_length(part, path + (name,) + step)
+                yield from _messages(part, kind, path + (name,) + step)
 
 
 def _parts(value) -> Iterator[Tuple[tuple, object]]:
@@ -88,7 +108,7 @@ def _of_condition(policy: Message, is_deny: bool, path: tuple, encoding) -> List
     if condition is None or tree is None:
         return []
     path += condition.path
-    remarks = [*_upper_case(tree), *_upper_case_in_loops(tree, frozenset())]
+    remarks = [*_upper_case(tree), *_upper_case_in_loops(tree, frozenset()), *_host_key(tree)]
     remarks += _missing_headers(tree) if is_deny else []
     places = node_places(tree, path, encoding) if remarks else {}
     return [Finding(NOTE, words, places.get(node), path) for node, words in remarks]
@@ -101,7 +121,10 @@ def _walk(node: Node, scope: frozenset = frozenset()) -> Iterator[Tuple[Node, fr
 
 
 def _header_key(node: Node, scope: frozenset) -> Optional[Tuple[str, str]]:
-    """The name of a header that a node reads or asks for, and how: index, select, has or in."""
+    """The name of a header that a node reads or asks for, and how: attribute, index, select, has or in."""
+    attribute = OF_HEADERS.get(attribute_name(node, scope) or "")
+    if attribute is not None:
+        return attribute, "attribute"
     if isinstance(node, Select) and attribute_name(node.operand, scope) == HEADERS:
         return node.field, "has" if node.test_only else "select"
     if not isinstance(node, Call) or len(node.args) != 2:
@@ -120,9 +143,18 @@ def _upper_case(tree: Node) -> Iterator[Remark]:
     """Names of headers that none has, since all are in lower case."""
     for node, scope in _walk(tree):
         key = _header_key(node, scope)
-        if key is not None and key[0] != key[0].lower():
+        if key is not None and key[0] != key[0].lower() != HOST:
             name, lower = (literal_text("string", text) for text in (key[0], key[0].lower()))
             yield node, f"header names are in lower case here, so {name} is never there: write {lower}"
+
+
+def _host_key(tree: Node) -> Iterator[Remark]:
+    """Reads of the header `host`, which no request has here."""
+    for node, scope in _walk(tree):
+        key = _header_key(node, scope)
+        if key is not None and key[0].lower() == HOST:
+            words = f"the Host line is the header {AUTHORITY} here, and no request has one named {HOST}"
+            yield node, f"{words}: write request.host"
 
 
 def _upper_case_in_loops(node: Node, keys: frozenset) -> Iterator[Remark]:
@@ -153,7 +185,7 @@ def _missing_headers(tree: Node) -> Iterator[Remark]:
     keys = [(node, _header_key(node, scope)) for node, scope in _walk(tree)]
     asked = {key[0] for _, key in keys if key is not None and key[1] in ("has", "in")}
     for node, key in keys:
-        if key is not None and key[1] in ("index", "select") and key[0] not in asked and not key[0].startswith(":"):
+        if key is not None and key[1] in READ and key[0] not in asked and not key[0].startswith(":"):
             asked.add(key[0])
             name = literal_text("string", key[0].lower())
             yield node, (

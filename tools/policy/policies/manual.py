@@ -60,6 +60,8 @@ def page(parser: argparse.ArgumentParser) -> str:
                 ", ".join(f"\\fB{_escaped(option)}\\fR" for option in action.option_strings) + _takes(action),
             ]
             lines.append(_escaped((action.help or "") % {"default": action.default}))
+        if command.epilog:
+            lines += [".PP", ".nf", _escaped(command.epilog), ".fi"]
     lines += [".SH EXIT STATUS", _escaped(parser.epilog), ".SH ENVIRONMENT", ".TP", ".B RBACD", "The engine's program."]
     lines += [".SH EXAMPLES", ".nf", _escaped(EXAMPLES), ".fi", ".SH SEE ALSO", ".BR rbacd (1)"]
     return "\n".join(lines) + "\n"
@@ -78,7 +80,7 @@ def bash(parser: argparse.ArgumentParser) -> str:
             "_policy() {",
             '  local word="${COMP_WORDS[COMP_CWORD]}" options=""',
             '  if [ "$COMP_CWORD" -eq 1 ]; then',
-            f'    mapfile -t COMPREPLY < <(compgen -W "{names} --help" -- "$word")',
+            f'    mapfile -t COMPREPLY < <(compgen -W "{names} --help --version" -- "$word")',
             "    return",
             "  fi",
             '  case "${COMP_WORDS[1]}" in',

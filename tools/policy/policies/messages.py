@@ -2,7 +2,7 @@
 import pathlib
 import subprocess
 from functools import lru_cache
-from typing import Dict, Iterator, List, NamedTuple, Optional, Tuple
+from typing import Dict, Iterator, List, NamedTuple, Optional, Tuple, Union
 
 from google.protobuf import descriptor_pb2, descriptor_pool
 from google.protobuf.descriptor import Descriptor, FieldDescriptor
@@ -183,7 +183,7 @@ class Message:
         self.start = start
         self.places: Dict[str, object] = {}
         self.faults: List[Tuple[int, int, str]] = []
-        self.raw = b""
+        self.raw: Union[bytes, memoryview] = b""
         self.is_whole = True
 
     def get(self, name: str):

@@ -97,6 +97,9 @@ def finish() -> bool:
     try:
         sys.stdout.flush()
         return True
-    except OSError:
+    except BrokenPipeError:
         _drop(sys.stdout)
-        return False
+    except OSError as fault:
+        _drop(sys.stdout)
+        tell(f"policy: cannot write: {fault.strerror}")
+    return False

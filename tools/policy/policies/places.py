@@ -2,6 +2,7 @@
 
 A place is a line and a column, both counted from 0; people see them counted from 1.
 """
+import json
 import re
 from functools import cached_property
 from typing import Dict, List, Optional, Tuple
@@ -14,6 +15,12 @@ LINE_END = re.compile("\r\n|[\n\r\x85\u2028\u2029]")
 SURROGATES = re.compile(r"(?<!\\)((?:\\\\)*)\\u([dD][89abAB][0-9a-fA-F]{2})\\u([dD][c-fC-F][0-9a-fA-F]{2})")
 DEEPEST = 2000
 GREATEST_EXPANSION = 100_000
+# So much of a line is shown; what is left out is marked.
+WIDEST, CUT = 400, ".."
+CHARACTERS_OF_A_PART = 64
+OPEN = 0
+JSON_STRINGS = re.compile(r'"(?:[^"\\]|\\.)*"')
+NO_BRACKETS = re.compile(r"[^][{}]+")
 PROPERTIES = re.compile(r"(?:[&!]\S*\s+)*")
 SHORT_ESCAPES = {
     "0": "\0",
@@ -110,10 +117,11 @@ class Source:
     def tell(self, place: Place, message: str) -> str:
         """A message with the place, the line and a caret under the column."""
         line, column = place
-        shown = self.lines[line] if line < len(self.lines) else ""
+        whole = self.lines[line] if line < len(self.lines) else ""
+        shown, column = _around(whole, column)
         shown = "".join(character if character.isprintable() or character == "\t" else "\ufffd" for character in shown)
         before = "".join("\t" if character == "\t" else " " for character in shown[:column].ljust(column))
-        return f"{self.name}:{line + 1}:{column + 1}: {message}\n    {shown}\n    {before}^"
+        return f"{self.name}:{line + 1}:{place[1] + 1}: {message}\n    {shown}\n    {before}^"
 
     def mistake(self, place: Place, message: str) -> Mistake:
         """The mistake at a place."""
@@ -146,9 +154,13 @@ class Source:
 
     def _bound_expansion(self, document: yaml.Node) -> None:
         """Tells a document whose aliases make much more of it than is written, before anything walks it."""
-        written: Dict[int, int] = {}
-        expanded = _expand(document, written)
-        if expanded - len(written) > GREATEST_EXPANSION:
+        expansion = _Expansion()
+        try:
+            added = expansion.of(document) - expansion.written
+        except _Endless as fault:
+            told = "an alias inside of this names the whole of it, which has no end: write out what is meant"
+            raise self.mistake(start_of(fault.node), told) from None
+        if added > GREATEST_EXPANSION:
             told = f"the aliases here expand to more than {GREATEST_EXPANSION} parts: write them out, or leave some out"
             raise self.mistake(start_of(document), told)
 
@@ -164,6 +176,16 @@ class Source:
                 raise self.mistake(start_of(event), f"this is nested more than {DEEPEST} levels deep")
 
 
+def _around(line: str, column: int) -> Tuple[str, int]:
+    """A line as it is shown, and the column in that: of a long one the part around the column."""
+    if len(line) <= WIDEST:
+        return line, column
+    start = max(0, min(column - WIDEST // 2, len(line) - WIDEST))
+    before = f"{CUT} " if start else ""
+    behind = f" {CUT}" if start + WIDEST < len(line) else ""
+    return before + line[start : start + WIDEST] + behind, len(before) + column - start
+
+
 def _joined(pair: re.Match) -> str:
     """Two escapes of JSON as the one of YAML for the same character."""
     high, low = int(pair[2], 16), int(pair[3], 16)
@@ -173,9 +195,23 @@ def _joined(pair: re.Match) -> str:
 def may_be_deep(text: str) -> bool:
     """Whether a text could be nested deeper than 2,000 levels: brackets nest, and so do columns, at most twice each."""
     if text.count("[") + text.count("{") > DEEPEST // 2:
-        return True
+        return not _is_shallow_json(text)
     longest = max(map(len, text.splitlines()), default=0)
     return longest > DEEPEST // 4 and any(_levels(line) > DEEPEST // 4 for line in text.splitlines())
+
+
+def _is_shallow_json(text: str) -> bool:
+    """Whether a text is JSON of few levels: outside of its strings each bracket opens a level or closes one."""
+    if text.lstrip()[:1] not in ("{", "["):
+        return False
+    depth = most = 0
+    for bracket in NO_BRACKETS.sub("", JSON_STRINGS.sub("", text)):
+        depth += 1 if bracket in "[{" else -1
+        most = max(most, depth)
+    try:
+        return most <= DEEPEST // 2 and bool(json.loads(text))
+    except ValueError:
+        return False
 
 
 def _levels(line: str) -> int:
@@ -183,18 +219,38 @@ def _levels(line: str) -> int:
     return len(line) - len(line.lstrip()) + line.count("- ") + line.count("? ") + line.count(": ") + 1
 
 
-def _expand(node: yaml.Node, written: Dict[int, int]) -> int:
-    """How many nodes a node is with its aliases written out; `written` keeps that of each node."""
-    if id(node) in written:
-        return written[id(node)]
-    written[id(node)] = 1
-    parts = []
-    if isinstance(node, yaml.SequenceNode):
-        parts = node.value
-    elif isinstance(node, yaml.MappingNode):
-        parts = [part for pair in node.value for part in pair]
-    written[id(node)] = 1 + sum(_expand(part, written) for part in parts)
-    return written[id(node)]
+class _Endless(Exception):
+    """A node that is inside of itself."""
+
+    def __init__(self, node: yaml.Node):
+        super().__init__()
+        self.node = node
+
+
+class _Expansion:
+    """How large nodes are with their aliases written out: a part for each node, and one for each 64 characters."""
+
+    def __init__(self):
+        self.written = 0
+        self.known: Dict[int, int] = {}
+
+    def of(self, node: yaml.Node) -> int:
+        """The parts of a node; raises _Endless."""
+        if id(node) not in self.known:
+            self.known[id(node)] = OPEN
+            self.known[id(node)] = self._parts(node)
+        if self.known[id(node)] == OPEN:
+            raise _Endless(node)
+        return self.known[id(node)]
+
+    def _parts(self, node: yaml.Node) -> int:
+        own = 1 + (len(node.value) // CHARACTERS_OF_A_PART if isinstance(node, yaml.ScalarNode) else 0)
+        self.written += own
+        if isinstance(node, yaml.SequenceNode):
+            return own + sum(map(self.of, node.value))
+        if isinstance(node, yaml.MappingNode):
+            return own + sum(self.of(part) for pair in node.value for part in pair)
+        return own
 
 
 def start_of(node) -> Place:

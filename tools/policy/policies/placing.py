@@ -1,19 +1,28 @@
 """Places of a condition's nodes in the file that says it, and the place that the engine names below a refusal."""
 import re
-from typing import Dict, List, NamedTuple, Optional
+from functools import lru_cache
+from typing import Dict, Iterable, List, NamedTuple, Optional
 
 from .cel.mistake import TextMistake
 from .cel.parse import parse
-from .cel.tree import Node, in_order
-from .conditions_typing import condition_of
+from .cel.tree import Entry, Node, in_order
+from .cel.words import shown
+from .conditions_typing import Condition, condition_of
 from .messages import Message
 from .places import Place, spread
+from .trees import node_paths
 
-# `policy "p": permissions[0].and_rules.rules[2]: 5 OutOfRange`, and with a node's id behind the part.
+# `policy "p": permissions[0].and_rules.rules[2]: 5 OutOfRange`; a node's id or an unknown field's number is behind it.
 ENGINE_PLACE = re.compile(
-    r'\s*(?:policy "(?P<policy>(?:[^"\\]|\\.)*)": )?(?P<part>[a-z_@][\w.\[\]"@-]*)?'
-    r"(?:,? ?(?:node|id) (?P<node>-?\d+))?(?:: )?\d+ [A-Z]\w+\Z"
+    r'\s*(?:policy "(?P<policy>(?:[^"\\]|\\.)*)")?(?:(?::\ )?(?P<part>[a-z_@][\w.\[\]"@-]*))?'
+    r"(?:,? (?:node|id) (?P<node>-?\d+)|, field \d+)?: \d+ [A-Z]\w+\Z"
 )
+# How the engine writes characters of a policy's name.
+ESCAPE = re.compile(r"\\(?:u\{(?P<code>[0-9a-f]{1,6})\}|(?P<letter>.))")
+LETTERS = {"n": "\n", "r": "\r", "t": "\t", "0": "\0"}
+# The maps of a checked condition whose keys are ids of nodes.
+MAPS = ("type_map", "reference_map")
+UNNAMED = ("", "<input>")
 
 
 class EnginePlace(NamedTuple):
@@ -23,26 +32,36 @@ class EnginePlace(NamedTuple):
     node: Optional[int]
 
 
-def engine_place(causes: List[str]) -> EnginePlace:
+def engine_place(causes: Iterable[str]) -> EnginePlace:
     """The part that the engine names on standard error, or none."""
     for cause in causes:
         found = ENGINE_PLACE.match(cause)
         if found is None or (found["policy"] is None and not found["part"]):
             continue
-        steps = re.findall(r"[A-Za-z_@]\w*|\d+", found["part"] or "")
-        path = tuple(int(step) if step.isdigit() else step for step in steps)
+        steps = re.findall(r"[A-Za-z_@]\w*|-?\d+", found["part"] or "")
+        path = tuple(int(step) if step.lstrip("-").isdigit() else step for step in steps)
+        node = int(found["node"]) if found["node"] else None
+        if node is None and path[-2:-1] and path[-2] in MAPS:
+            node = path[-1]
         if found["policy"] is not None:
-            path = ("rules", "policies", re.sub(r"\\(.)", r"\1", found["policy"]), *path)
-        return EnginePlace(path, int(found["node"]) if found["node"] else None)
+            path = ("rules", "policies", ESCAPE.sub(_character, found["policy"]), *path)
+        return EnginePlace(path, node)
     return EnginePlace((), None)
 
 
+def _character(escape: re.Match) -> str:
+    if escape["code"]:
+        code = int(escape["code"], 16)
+        return chr(code) if code < 0x110000 else "\ufffd"
+    return LETTERS.get(escape["letter"], escape["letter"])
+
+
 def node_places(tree: Node, path: tuple, encoding) -> Dict[Node, Place]:
-    """The places of a condition's nodes: in its text, or all where its tree begins; none without a file of text."""
+    """The places of a condition's nodes: in its text, or in its tree; none without a file of text."""
     if encoding is None:
         return {}
     if path not in encoding.texts:
-        return dict.fromkeys(in_order(tree), encoding.place_of(path))
+        return {node: encoding.place_of(where) for node, where in node_paths(tree, path)}
     scalar, source = encoding.marks[path], encoding.source
     try:
         again = parse(scalar.value, encoding.texts[path])
@@ -52,17 +71,93 @@ def node_places(tree: Node, path: tuple, encoding) -> Dict[Node, Place]:
     return {node: source.place_of(indices[other.place]) for node, other in zip(in_order(tree), in_order(again))}
 
 
-def place_in_file(told: EnginePlace, message: Message, encoding) -> Optional[Place]:
+class Named(NamedTuple):
+    """A condition and one of its nodes."""
+
+    condition: Condition
+    tree: Node
+    node: Node
+    path: tuple
+
+    def told(self) -> str:
+        """The node as text, and where the text has it that the condition was made of, if `source_info` says so."""
+        where = origin(self.condition.message, self.node.id)
+        part = self.node.value if isinstance(self.node, Entry) else self.node
+        return shown(part) + (f", {where}" if where else "")
+
+
+def named_node(told: EnginePlace, message: Optional[Message]) -> Optional[Named]:
+    """The node that the engine names, or None."""
+    known = _known_at(told.path, message)
+    if known is None or told.node is None:
+        return None
+    found = (node for node in in_order(known.tree) if node.id == told.node)
+    return next((Named(known.condition, known.tree, node, known.path) for node in found), None)
+
+
+def node_at(path: tuple, message: Message) -> Optional[Named]:
+    """The innermost node of a condition on the way to a part, or None."""
+    known = _known_at(path, message)
+    if known is None:
+        return None
+    while len(path) > len(known.path) and path not in known.nodes:
+        path = path[:-1]
+    node = known.nodes.get(path)
+    return None if node is None else Named(known.condition, known.tree, node, known.path)
+
+
+class Known(NamedTuple):
+    """A condition with its tree, the path of that, and the nodes by their paths."""
+
+    condition: Condition
+    tree: Node
+    path: tuple
+    nodes: Dict[tuple, Node]
+
+
+def _known_at(path: tuple, message: Optional[Message]) -> Optional[Known]:
+    """The condition of the policy that a path leads into, or None."""
+    if message is None or path[:2] != ("rules", "policies") or len(path) < 3:
+        return None
+    return _known(message, path[2])
+
+
+@lru_cache(maxsize=2)
+def _known(message: Message, policy: str) -> Optional[Known]:
+    """The condition of a policy, kept for the next question about the same one."""
+    rules = message.get("rules")
+    policies = dict(rules.values.get("policies") or []) if rules is not None else {}
+    condition = condition_of(policies[policy]) if policy in policies else None
+    tree = condition.tree() if condition is not None else None
+    if condition is None or tree is None:
+        return None
+    path = ("rules", "policies", policy, *condition.path)
+    return Known(condition, tree, path, {where: node for node, where in node_paths(tree, path)})
+
+
+def origin(condition: Message, number: int) -> Optional[str]:
+    """Where a node is in the text that a checked condition was made of, by its `source_info`, or None."""
+    info = condition.get("source_info") if condition.get("expr") is not None else None
+    positions = dict(info.get("positions") or []) if info is not None else {}
+    if number not in positions:
+        return None
+    before = [start for start in info.get("line_offsets") or [] if 0 < start <= positions[number]]
+    column = positions[number] - max(before, default=0) + 1
+    if column < 1:
+        return None
+    name = info.scalar("location")
+    if name in UNNAMED or not name.isprintable():
+        return f"line {len(before) + 1}, column {column} of its text"
+    return f"{name}:{len(before) + 1}:{column}"
+
+
+def place_in_file(told: EnginePlace, message: Optional[Message], encoding) -> Optional[Place]:
     """The place in the file of what the engine names."""
     if encoding is None:
         return None
-    if told.node is not None and told.path[:2] == ("rules", "policies") and len(told.path) > 2:
-        policies = dict((message.get("rules") or message).values.get("policies") or [])
-        condition = condition_of(policies[told.path[2]]) if told.path[2] in policies else None
-        tree = condition.tree() if condition is not None else None
-        if condition is not None and tree is not None:
-            places = node_places(tree, (*told.path[:3], *condition.path), encoding)
-            for node, place in places.items():
-                if node.id == told.node:
-                    return place
+    if told.path[-2:-1] and told.path[-2] in MAPS and told.path in encoding.marks:
+        return encoding.place_of(told.path)
+    named = named_node(told, message)
+    if named is not None:
+        return node_places(named.tree, named.path, encoding).get(named.node, encoding.place_of(told.path))
     return encoding.place_of(told.path)

@@ -4,6 +4,7 @@ These are the faults of the messages themselves and of the types of conditions, 
 """
 from typing import Dict, List, NamedTuple
 
+from .conditions_typing import MOST_NODES
 from .faults import CHECKS, MISSING, TOO_LARGE, UNSUPPORTED, faults
 from .findings import NAMES
 from .instead import instead
@@ -44,7 +45,6 @@ SKIPPED_FIELDS = {
 SPECIAL = frozenset(
     field for fields in (UNSUPPORTED_FIELDS, SKIPPED_FIELDS) for names in fields.values() for field in names
 )
-MOST_NODES = 2048
 DEEPEST = {PERMISSION: ("rules", 32), PRINCIPAL: ("rules", 32), EXPR: ("nodes", 64), TYPE: ("types", 64)}
 
 

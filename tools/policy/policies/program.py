@@ -1,6 +1,7 @@
 """The command line."""
 import argparse
 import gc
+import pathlib
 import sys
 from typing import List, Optional
 
@@ -9,6 +10,7 @@ from .commands import check, decode, diff, encode, generate, test, wrap
 from .commands.common import UNUSABLE, MISTAKEN, tell_mistake
 from .places import Mistake
 
+HERE = pathlib.Path(__file__).resolve()
 DEEPEST_RECURSION = 20_000
 INTERRUPTED = 130
 COMMANDS = (check, test, diff, encode, decode, wrap, generate)
@@ -20,11 +22,20 @@ fails, a verdict that changes; 2 a mistake on the command line, a file that cann
 engine that is missing. Where the status is not 0, no bytes are written."""
 
 
+def version() -> str:
+    """The version of this checkout, or of what was installed."""
+    for folder in HERE.parents[1:4:2]:
+        if (folder / "VERSION").is_file():
+            return (folder / "VERSION").read_text(encoding="utf-8").split("\n")[0]
+    return "of no checkout"
+
+
 def parser_of_words() -> argparse.ArgumentParser:
     """The parser of the command line."""
     parser = argparse.ArgumentParser(
         prog="policy", description=DESCRIPTION, epilog=STATUSES, formatter_class=argparse.RawDescriptionHelpFormatter
     )
+    parser.add_argument("--version", action="version", version=f"policy {version()}")
     commands = parser.add_subparsers(dest="command", required=True, metavar="COMMAND")
     for command in COMMANDS:
         command.add(commands)

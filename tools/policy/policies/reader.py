@@ -13,12 +13,13 @@ from .writer import PLAIN, Writer
 
 BAD_WIRE, BAD_TEXT, UNKNOWN_FIELD, TOO_LARGE = 1, 2, 3, 8
 DEEPEST = 300
-Pieces = List[Tuple[int, bytes]]
+# Views of the bytes that are read, so that what is inside of messages is not copied for each of them.
+Pieces = List[Tuple[int, memoryview]]
 
 
 def read(kind: Descriptor, data: bytes, writer: Optional[Writer] = PLAIN) -> Message:
     """The message of some bytes; it keeps those of each part that the writer, if there is one, would not give back."""
-    message = _read(kind, [(0, data)], 1)
+    message = _read(kind, [(0, memoryview(data))], 1)
     if writer is not None:
         _keep_bytes(message, writer)
     return message
@@ -27,7 +28,7 @@ def read(kind: Descriptor, data: bytes, writer: Optional[Writer] = PLAIN) -> Mes
 def _read(kind: Descriptor, pieces: Pieces, depth: int) -> Message:
     """The message of payloads that stand one after the other, each whole fields by itself, `depth` levels down."""
     message = Message(kind, pieces[0][0])
-    message.raw = b"".join(data for _, data in pieces)
+    message.raw = pieces[0][1] if len(pieces) == 1 else b"".join(data for _, data in pieces)
     if depth > DEEPEST:
         return _unread(message, message.start, TOO_LARGE, f"nested more than {DEEPEST} messages deep, not read further")
     try:
@@ -43,7 +44,7 @@ def _keep_bytes(message: Message, writer: Writer) -> None:
     for part in message.parts():
         _keep_bytes(part, writer)
     if not message.is_whole or writer.spell(message, lambda part: part.raw) != message.raw:
-        message.wire = message.raw
+        message.wire = bytes(message.raw)
 
 
 def _unread(message: Message, place: int, number: int, why: str) -> Message:
@@ -140,7 +141,7 @@ def _take_map(message: Message, kind: Part, fields: List[Field], depth: int) -> 
         key = entry.scalar("key")
         value = entry.get("value")
         if value is None and value_type is not None:
-            value = _read(value_type, [(field.start, b"")], depth + 2)
+            value = _read(value_type, [(field.start, memoryview(b""))], depth + 2)
         pairs[key] = entry.scalar("value") if value is None else value
         places[key] = field.place
     message.values[kind.name] = list(pairs.items())

@@ -34,7 +34,7 @@ def contents(source: Source, budget: int = BUDGET, dotted: bool = False) -> Cont
     try:
         reading.read()
     except Mistake as mistake:
-        return Contents([], reading.findings, [mistake])
+        return Contents([], reading.findings, [mistake, *mistake.rest])
     filters, mistakes = [], []
     for form in reading.forms:
         try:

@@ -124,9 +124,11 @@ def _moved(source: Source, line: str, number: int) -> Node:
     """A line of JSON as a node whose place is in the whole file."""
     try:
         node = Source(source.name, line.encode()).compose()
-    except Mistake:
-        # told where it is in the file
-        return Source(source.name, b"\n" * number + line.encode()).compose()
+    except Mistake as mistake:
+        line_of_it, column = mistake.place or (0, 0)
+        raise source.mistake((number, len(line) if line_of_it else column), mistake.words) from None
+    if node is None:
+        raise source.mistake((number, 0), "a JSON object is expected on each line")
     _shift(node, number)
     return node
 

@@ -1,4 +1,5 @@
 """Tests of policies: files of them, what each expects, what the engine answers, and which policies they tried."""
+import json
 import os
 import re
 from typing import Dict, List, NamedTuple, Optional, Tuple
@@ -8,6 +9,7 @@ import yaml
 from . import engine
 from .bounds import BUDGET, GREATEST_BUDGET
 from .files import BYTES, is_binary, kind_of, name_of, policy_text, read_file, text_of_policy
+from .forms.binary import filters_in
 from .forms.envoy import Form, rewritten
 from .forms.nodes import Node, get, items, text_of
 from .places import Mistake, Source, start_of
@@ -18,6 +20,8 @@ FILE_FIELDS = ("policy", "filter", "budget", "facts", "tests")
 TEST_FIELDS = ("name", "policy", "filter", "budget", "request", "facts", "expect", "matched")
 EXPECTATION = re.compile(r"(allow|deny|steps|refused(?: (?:\d+ )?\w+)?|head (?:400|431|501))\Z")
 NONE = "none"
+# The members of a trial that its reason has already.
+TRIAL = ("name", "number", "reason", "error", "steps", "bound")
 
 
 class Subject(NamedTuple):
@@ -121,19 +125,22 @@ class TestFile:
 
 
 def filter_of_file(path: str, chosen: Optional[str] = None) -> bytes:
-    """The bytes of the filter of a file of any form, the one of that name where it holds several; raises Mistake."""
+    """The bytes of the filter of a file of any form, of that name where it holds some with names; raises Mistake."""
     data = read_file(path)
     if kind_of(data) == BYTES and is_binary(data):
-        return data
-    source = Source(name_of(path), text_of_policy(path, data))
-    held = contents(source)
-    if held.mistakes:
-        raise held.mistakes[0]
-    named = [one for one in held.filters if chosen in (None, one.name)]
+        held = filters_in(data)
+    else:
+        read = contents(Source(name_of(path), text_of_policy(path, data)))
+        if read.mistakes:
+            raise read.mistakes[0]
+        held = [(one.name, one.data) for one in read.filters]
+    alone = len(held) == 1 and not held[0][0]
+    named = [bytes_ for name, bytes_ in held if chosen in (None, name) or alone]
     if len(named) != 1:
-        known = ", ".join(one.name for one in held.filters)
-        raise Mistake(f"{source.name}: this file holds {len(held.filters)} filters: {known}; name one by `filter`")
-    return named[0].data
+        known = ", ".join(name for name, _ in held) or "none"
+        what = "no filter of that name is here" if chosen and not named else f"this file holds {len(held)} filters"
+        raise Mistake(f"{name_of(path)}: {what}: {known}; `filter` in a test or --filter of a command names one")
+    return named[0]
 
 
 def run_tests(tests: List[Test], asked: engine.Engine) -> List[Outcome]:
@@ -185,7 +192,8 @@ def _difference(test: Test, answer: dict) -> List[str]:
     wanted = test.expect + (f" by {quoted(test.matched)}" if test.matched is not None else "")
     came = told(answer) + (f" by {quoted(by)}" if "verdict" in answer else "")
     lines = [f"- {wanted}", f"+ {came}"]
-    lines += [f"    {quoted(trial['name'])}: {reason(trial)}" for trial in answer.get("trials", [])]
+    for trial in answer.get("trials", []):
+        lines += [f"    {quoted(trial['name'])}: {reason(trial)}", *(f"      {line}" for line in details(trial))]
     cause = answer.get("cause")
     return lines + [f"    {line.strip()}" for line in ([cause] if isinstance(cause, str) else cause or [])]
 
@@ -211,6 +219,13 @@ def reason(trial: dict) -> str:
         "match": "it matches",
     }
     return words.get(trial["reason"], trial["reason"])
+
+
+def details(trial: dict) -> List[str]:
+    """What the engine tells of a trial beside its reason, such as the leaves that failed."""
+    found = [value for name, value in sorted(trial.items()) if name not in TRIAL]
+    parts = [part for value in found if value is not None for part in (value if isinstance(value, list) else [value])]
+    return [part if isinstance(part, str) else json.dumps(part, ensure_ascii=False) for part in parts]
 
 
 class Coverage(NamedTuple):

@@ -21,6 +21,9 @@ WIRE_TYPES = {
 }
 GREATEST_NUMBER = 2**29 - 1
 SHORT = [bytes([value]) for value in range(128)]
+# A payload of more bytes is viewed and not copied, so that nested ones are not copied for each level; a view takes more
+# than a copy of fewer bytes.
+SMALL = 256
 
 
 class Broken(Exception):
@@ -33,16 +36,16 @@ class Broken(Exception):
 
 
 class Field(NamedTuple):
-    """One field: the offset of its tag, and of its payload; a varint's value or the payload's bytes."""
+    """One field: the offset of its tag, and of its payload; a varint's value or a view of the payload's bytes."""
 
     number: int
     wire_type: int
     place: int
     start: int
-    payload: Union[int, bytes]
+    payload: Union[int, memoryview]
 
 
-def read_fields(data: bytes, offset: int) -> List[Field]:
+def read_fields(data: memoryview, offset: int) -> List[Field]:
     """All fields of a payload whose first byte stands at an offset; raises Broken."""
     fields = []
     at = 0
@@ -55,13 +58,13 @@ def read_fields(data: bytes, offset: int) -> List[Field]:
             payload, end = _read_varint(data, start, offset)
         else:
             start, end = _payload_bounds(data, start, wire_type, offset)
-            payload = data[start:end]
+            payload = data[start:end] if end - start > SMALL else bytes(data[start:end])
         fields.append(Field(number, wire_type, offset + at, offset + start, payload))
         at = end
     return fields
 
 
-def _payload_bounds(data: bytes, at: int, wire_type: int, offset: int):
+def _payload_bounds(data: memoryview, at: int, wire_type: int, offset: int):
     start, length = at, {EIGHT_BYTES: 8, FOUR_BYTES: 4}.get(wire_type)
     if wire_type == LENGTH:
         length, start = _read_varint(data, at, offset)
@@ -72,7 +75,7 @@ def _payload_bounds(data: bytes, at: int, wire_type: int, offset: int):
     return start, start + length
 
 
-def _read_varint(data: bytes, at: int, offset: int):
+def _read_varint(data: memoryview, at: int, offset: int):
     """The number at a place, and the place behind it."""
     value = 0
     for index in range(10):
@@ -87,7 +90,7 @@ def _read_varint(data: bytes, at: int, offset: int):
     raise Broken(offset + at, "a number here is longer than 64 bits")
 
 
-def read_varints(data: bytes) -> List[int]:
+def read_varints(data: memoryview) -> List[int]:
     """The numbers of a packed list; raises Broken."""
     numbers = []
     at = 0
@@ -97,7 +100,7 @@ def read_varints(data: bytes) -> List[int]:
     return numbers
 
 
-def scalar_of(kind: int, payload: Union[int, bytes]):
+def scalar_of(kind: int, payload: Union[int, memoryview]):
     """The value of a field's payload by the field's type; UnicodeDecodeError where it is a text that is not UTF-8."""
     if kind == FieldDescriptor.TYPE_BOOL:
         return payload != 0
@@ -110,7 +113,9 @@ def scalar_of(kind: int, payload: Union[int, bytes]):
     if kind == FieldDescriptor.TYPE_DOUBLE:
         value = struct.unpack("<d", payload)[0]
         return math.nan if math.isnan(value) else value
-    return payload.decode() if kind == FieldDescriptor.TYPE_STRING else payload
+    if kind == FieldDescriptor.TYPE_STRING:
+        return str(payload, "utf-8")
+    return bytes(payload) if kind == FieldDescriptor.TYPE_BYTES else payload
 
 
 def _signed(value: int, bits: int) -> int:

@@ -42,10 +42,20 @@ def name_fault(names: List[str]) -> Optional[str]:
             return "a filter's name is empty: --name takes 1 to 256 bytes"
         if len(name.encode(errors="surrogateescape")) > LONGEST_NAME:
             return f"the filter's name {name[:32]}.. is longer than {LONGEST_NAME} bytes"
-        if any(0xD800 <= ord(character) <= 0xDFFF for character in name):
+        if not _is_text(name):
             return "a filter's name is not UTF-8"
         if names.count(name) > 1:
             return f"the name {name} is given twice: the engine refuses such a response (16 DuplicateResource)"
     if len(names) > MOST_FILTERS:
         return f"{len(names)} filters; the engine takes at most {MOST_FILTERS}"
     return None
+
+
+def text_fault(what: str, text: str) -> Optional[str]:
+    """What is wrong with a text of the command line, or None."""
+    return None if _is_text(text) else f"the {what} is not UTF-8"
+
+
+def _is_text(text: str) -> bool:
+    """Whether an argument is UTF-8: Python reads other bytes as surrogates."""
+    return not any(0xD800 <= ord(character) <= 0xDFFF for character in text)

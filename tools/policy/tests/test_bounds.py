@@ -9,10 +9,11 @@ import pathlib
 import re
 import subprocess
 import tempfile
+import time
 import unittest
 
 import cases
-from support import ENGINE, NO_ENGINE, TOP, condition, encoded
+from support import ENGINE, NO_ENGINE, TOP, condition, encoded, numbers
 
 CRATE = TOP / "crates" / "rbacd"
 UNPROVED = bool(os.environ.get("UNPROVED"))
@@ -157,3 +158,20 @@ class Bounds(unittest.TestCase):
 
     def test_each_tree_is_here(self):
         self.assertEqual(set(cases.TREES), set(BOUNDS) | set(REFUSALS))
+
+
+class Nested(unittest.TestCase):
+    """Conditions that are nested on purpose."""
+
+    def test_nested_loops(self):
+        """Loops in loops are typed and measured in a short time, whatever they may cost."""
+        nests = {"true": "[1].all(x, %s)", "k": "request.headers.map(k, %s)", "request.path": '[%s].filter(x, x != "")[0]'}
+        started = time.process_time()
+        for inner, around in nests.items():
+            text = inner
+            for _ in range(20):
+                text = around % text
+            ending = {"true": "", "k": ".size() == 1", "request.path": ' == "/"'}[inner]
+            with self.subTest(inner):
+                self.assertLessEqual(numbers(condition(text + ending)), {15})
+        self.assertLess(time.process_time() - started, 5)

@@ -1,8 +1,8 @@
 """Random texts of CEL: cel-go's own checked expressions up to ids, and no type where cel-go finds none.
 
-These run where a program `celcheck` that wraps cel-go is named by CELCHECK, or stands in GOPEERS/bin; CEL_GO_COUNT says
-how many texts of each spelling are compared. Loops of two variables need `celcheck30`, which wraps cel-go 0.30, or
-CELCHECK30.
+These run where CELCHECK names the program of `go/cel_check`, built with cel-go (Debian packages it as
+golang-github-google-cel-go-dev), or where that is GOPEERS/bin/celcheck. CEL_GO_COUNT says how many texts of each spelling
+are compared. Loops of two variables need cel-go 0.30 and its tag newcel: CELCHECK30, or GOPEERS/bin/celcheck30.
 """
 import json
 import os
@@ -11,10 +11,12 @@ import random
 import subprocess
 import unittest
 
+from policies.cel.attributes import TYPES
 from policies.cel.check import check
 from policies.cel.infer import types_of_empty
 from policies.cel.parse import parse
 from policies.cel.tree import ACCUMULATOR, NEW_ACCUMULATOR, in_order, rename_accumulators, shape
+from policies.cel.typetext import type_text
 from policies.messages import CHECKED_EXPR, descriptor
 from policies.reader import read
 from policies.trees import message_tree, message_type
@@ -167,8 +169,8 @@ class Compared(unittest.TestCase):
         for spelling, seed in (("ident", 3), ("select", 4)):
             maker = Maker(seed, two_variables)
             texts = [maker.text("bool") for _ in range(COUNT)]
-            options = ["two_var"] if two_variables else []
-            asked = [{"expr": text, "spelling": spelling, "options": options} for text in texts]
+            asked = [{"attributes": {name: type_text(kind) for name, kind in TYPES.items()}}]
+            asked += [{"expr": text, "spelling": spelling} for text in texts]
             lines = "".join(json.dumps(line) + "\n" for line in asked)
             ran = subprocess.run([program], input=lines, capture_output=True, text=True)
             self.assertEqual(ran.returncode, 0, ran.stderr)
@@ -201,7 +203,7 @@ class Compared(unittest.TestCase):
         return check(tree, entries, {})
 
 
-@unittest.skipUnless(PROGRAM.exists(), "cel-go's celcheck is not here")
+@unittest.skipUnless(PROGRAM.exists(), "CELCHECK names no program of go/cel_check")
 class Random(Compared):
     """The same texts by cel-go and by the tool."""
 
@@ -209,7 +211,7 @@ class Random(Compared):
         self.compare_all(PROGRAM, two_variables=False)
 
 
-@unittest.skipUnless(NEWER.exists(), "cel-go's celcheck30 is not here")
+@unittest.skipUnless(NEWER.exists(), "CELCHECK30 names no program of go/cel_check with cel-go 0.30")
 class TwoVariables(Compared):
     """The same with loops of two variables."""
 

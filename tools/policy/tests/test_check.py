@@ -7,6 +7,7 @@ import time
 import unittest
 import xml.etree.ElementTree
 
+from policies.wrap import response
 from support import ENGINE, NO_ENGINE, POLICY, TOP, condition, encoded
 from test_outputs import PROGRAM, Room
 
@@ -191,7 +192,10 @@ class WithEngine(Room):
                 "  - allow by none",
                 "  + deny by none",
                 '      "readers": its condition is false',
+                "        permissions[0].any",
+                "        principals[0].any",
                 '      "writers": no principal of it matches',
+                "        principals[0].remote_ip: 10.0.0.0/8, is 11.0.0.1",
                 "f.yaml: 2 of 2 policies matched",
                 "3 tests: 2 passed, 1 failed",
             ],
@@ -231,6 +235,13 @@ class WithEngine(Room):
         )
         self.file("bad.yaml", "rules: {action: 9}")
         self.assertEqual(self.run_it("diff", "old.yaml", "bad.yaml", "log.jsonl")[0], 2)
+        self.file("two.bin", response([("a", encoded(POLICY)), ("b", encoded(CONDITION))], "1", ""))
+        status, out, _ = self.run_it("diff", "--filter", "b", "old.yaml", "two.bin", "log.jsonl")
+        self.assertEqual((status, out), (0, b"3 requests: 0 changed, 3 the same\n"))
+        for words, told in (([], "this file holds 2 filters: a, b"), (["--filter", "c"], "no filter of that name")):
+            status, out, errors = self.run_it("diff", *words, "two.bin", "old.yaml", "log.jsonl")
+            self.assertEqual((status, out), (1, b""))
+            self.assertIn(f"two.bin: {told}", errors)
 
     def test_examples(self):
         folder = TOP / "examples" / "policies"
@@ -242,8 +253,36 @@ class WithEngine(Room):
         self.assertEqual((status, out.decode().splitlines()[-1]), (1, "3 requests: 2 changed, 1 the same"))
 
 
+EXPLAINING = """#!/bin/sh
+case "$*" in
+*--help*) echo --batch ;;
+check*) echo 'admitted: policies 2 bound 4150' ;;
+*) cat > /dev/null; echo '{"name":null,"policy":null,"verdict":"deny","trials":[
+{"name":"readers","number":0,"reason":"condition error","error":"NoSuchKey","at":"node 3"},
+{"name":"writers","number":1,"reason":"permission","causes":["permissions[0].header \\"x-user\\": exact \\"alice\\", is \\"bob\\"",{"a":1}]}]}' | tr -d '\\n'; echo ;;
+esac
+"""
+
+
 class WithoutEngine(Room):
     """Runs that ask none."""
+
+    def test_deep_reasons(self):
+        """What an engine tells of a trial is shown where a test fails, whatever its name."""
+        self.file("f.yaml", CONDITION)
+        self.file("engine", EXPLAINING)
+        (self.room / "engine").chmod(0o755)
+        text = "policy: f.yaml\ntests: [{name: t, request: {}, expect: allow}]"
+        status, out, errors = self.run_it("test", "--engine", "./engine", self.file("t.yaml", text))
+        self.assertEqual((status, errors), (1, ""))
+        self.assertIn(
+            '      "readers": its condition is the error NoSuchKey, which is no match\n'
+            "        node 3\n"
+            '      "writers": no permission of it matches\n'
+            '        permissions[0].header "x-user": exact "alice", is "bob"\n'
+            '        {"a": 1}\n',
+            out.decode(),
+        )
 
     def test_none(self):
         self.file("f.yaml", condition('request.method == "GET"'))
@@ -295,6 +334,31 @@ class WithoutEngine(Room):
         self.assertEqual(self.run_it("encode", "f.yaml", "-o", "f.bin")[0], 0)
         self.assertLess(_spent(before), 3.0 * slowness())
         self.assertGreater((self.room / "f.bin").stat().st_size, 1_000_000)
+
+    def test_thousand_tests(self):
+        """The tool's own part of a thousand tests, by an engine that answers at once, takes a part of two seconds."""
+        self.file("f.yaml", CONDITION)
+        answer = '{"name":"readers","policy":0,"trials":[{"name":"readers","number":0,"reason":"match"}],"verdict":"allow"}'
+        self.file("engine", EXPLAINING.split("*) cat")[0] + f"*) sed 's/.*/{answer}/' ;;\nesac\n")
+        (self.room / "engine").chmod(0o755)
+        tests = [{"request": {"path": f"/{number}"}, "expect": "allow"} for number in range(1000)]
+        self.file("t.json", json.dumps({"policy": "f.yaml", "tests": tests}))
+        before = os.times()
+        status, out, errors = self.run_it("test", "--engine", "./engine", "t.json")
+        self.assertEqual((status, errors), (0, ""), out)
+        self.assertEqual(out.decode().splitlines()[-1], "1000 tests: 1000 passed, 0 failed")
+        self.assertLess(_spent(before), 1.5 * slowness())
+
+    def test_many_faults(self):
+        """A condition with thousands of faults is read once, not once for each."""
+        self.file("f.yaml", condition(" || ".join(f"a{number} == 1" for number in range(2000))))
+        self.assertEqual(self.run_it("encode", "--even-if-refused", "f.yaml", "-o", "f.bin")[0], 0)
+        for name in ("f.yaml", "f.bin"):
+            before = os.times()
+            status, out, _ = self.run_it("check", "--without-engine", name)
+            self.assertEqual(status, 1)
+            self.assertIn(b" more of these are not shown", out)
+            self.assertLess(_spent(before), 6.0 * slowness())
 
     def test_progress(self):
         """A line on a terminal, and none elsewhere."""

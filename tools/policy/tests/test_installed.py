@@ -117,6 +117,35 @@ class Generated(Room):
     def test_zsh(self):
         (self.room / "_policy").write_bytes(self.run_it("generate", "zsh")[1])
         self.assertEqual(subprocess.run(["zsh", "-n", "_policy"], cwd=self.room).returncode, 0)
+        script = "autoload -Uz compinit && compinit -D -u && source ./_policy && whence -w _policy && echo $_comps[policy]"
+        ran = subprocess.run(["zsh", "-fc", script], capture_output=True, text=True, cwd=self.room)
+        self.assertEqual((ran.stdout, ran.stderr), ("_policy: function\n_policy\n", ""))
+
+    def test_installed_engine(self):
+        """The engine's manual page and completions are those of its own help."""
+        helps = TOP / "crates" / "rbacd" / "cases" / "help"
+        self.file("rbacd", f'#!/bin/sh\ncase "$1" in --help) cat {helps}/rbacd ;; *) cat "{helps}/$1" ;; esac\n')
+        (self.room / "rbacd").chmod(0o755)
+        prefix = self.room / "usr"
+        ran = subprocess.run([TOOL / "install", prefix, self.room / "rbacd"], capture_output=True, text=True)
+        self.assertEqual((ran.returncode, ran.stderr), (0, ""))
+        page = (prefix / "share/man/man1/rbacd.1").read_text()
+        for name in ("check", "judge", "check-config", "replay", "control", "proxy"):
+            self.assertIn(f".SH rbacd {name}\n", page)
+        self.assertIn("\\-\\-batch", page)
+        if shutil.which("man"):
+            ran = subprocess.run(["man", "--warnings", "-l", "-"], input=page, capture_output=True, text=True)
+            self.assertEqual((ran.returncode, ran.stderr), (0, ""))
+        completion = prefix / "share/bash-completion/completions/rbacd"
+        for words, wanted in (("rbacd ju", "judge"), ("rbacd judge --ba", "--batch"), ("rbacd --v", "--version")):
+            script = f'source {completion}; COMP_WORDS=({words}); COMP_CWORD={words.count(" ")}; _rbacd; echo "${{COMPREPLY[*]}}"'
+            ran = subprocess.run(["bash", "-c", script], capture_output=True, text=True, cwd=self.room)
+            self.assertEqual(ran.stdout.strip(), wanted, ran.stderr)
+        if shutil.which("zsh"):
+            zsh = prefix / "share/zsh/site-functions/_rbacd"
+            self.assertEqual(subprocess.run(["zsh", "-n", zsh]).returncode, 0)
+        ran = subprocess.run([TOOL / "install", "--remove", prefix], capture_output=True, text=True)
+        self.assertEqual((ran.returncode, [path for path in prefix.rglob("*") if not path.is_dir()]), (0, []))
 
     def test_installed(self):
         words = [str(ENGINE)] if ENGINE.exists() else []
@@ -125,6 +154,9 @@ class Generated(Room):
         program, settings = self.room / "usr" / "bin" / "policy", {
             key: value for key, value in os.environ.items() if key != "RBACD"
         }
+        wanted = (TOP / "VERSION").read_text().split("\n")[0]
+        for one in (program, TOOL / "policy"):
+            self.assertEqual(subprocess.run([one, "--version"], capture_output=True, text=True).stdout, f"policy {wanted}\n")
         self.file("f.yaml", condition('request.method == "GET"'))
         ran = subprocess.run([program, "encode", "f.yaml"], capture_output=True, cwd=self.room, env=settings)
         self.assertEqual(ran.stdout, encoded(condition('request.method == "GET"')))

@@ -5,7 +5,7 @@ from policies import lint
 from policies.places import Source
 from policies.reading import contents
 from policies.requests import request_log
-from support import POLICY, condition
+from support import POLICY, condition, told
 
 # A condition's text, and for each note its column in the text, counted from 1, and words.
 NOTES = [
@@ -15,6 +15,8 @@ NOTES = [
     ('request.headers.all(k, v, ["A"].exists(k, k == "A"))', []),
     ('["A"].all(x, x == "A") && {"A": 1}.all(k, v, k == "A")', []),
     ('request.headers.all(k, v, ["A"].exists(x, x == k || k == "B"))', [(55, 'and "B" is not: write "b"')]),
+    ('request.headers["Host"] == "a"', [(16, "no request has one named host: write request.host")]),
+    ('"host" in request.headers && request.host == "a"', [(8, "no request has one named host: write request.host")]),
     ('request.headers["X-A"] == "" || "X-B" in request.headers', [(16, 'write "x-a"'), (39, 'write "x-b"')]),
 ]
 
@@ -49,6 +51,41 @@ class Notes(unittest.TestCase):
         [(place, words)] = notes_of(text)
         self.assertEqual(place, (8, 40))
         self.assertIn("a request without the header a makes this an error", words)
+
+
+    def test_attributes_of_headers(self):
+        """Attributes that are headers are absent where these are."""
+        text = POLICY.replace("rules:", "rules:\n  action: DENY") + "      condition: {text: %s}\n"
+        for condition_text, wanted in [
+            ('request.useragent.contains("bot")', ["a request without the header user-agent makes this an error"]),
+            ('"user-agent" in request.headers && request.useragent.contains("bot")', []),
+            ('request.id == "" || request.referer == ""', ["the header x-request-id makes", "the header referer makes"]),
+            ('request.path == "/"', []),
+        ]:
+            with self.subTest(condition_text):
+                found = sorted(notes_of(text % f"'{condition_text}'"))
+                self.assertEqual(len(found), len(wanted))
+                for (_, words), part in zip(found, wanted):
+                    self.assertIn(part, words)
+
+    def test_host(self):
+        """No header is named host, whatever its letters."""
+        for name, count in (("Host", 1), ("host", 1), (":authority", 0), ("x-host", 0)):
+            with self.subTest(name):
+                text = POLICY.replace("any: true", f'header: {{name: "{name}", present_match: false}}', 1)
+                found = notes_of(text)
+                self.assertEqual(len(found), count)
+                for place, words in found:
+                    self.assertEqual(place, (4, 23))
+                    self.assertTrue(words.endswith("no request has one named host: write `name: :authority`"), words)
+
+
+    def test_lengths(self):
+        """An address with its length in the text has one message, which says how it is written."""
+        text = POLICY.replace("any: true", "destination_ip: {address_prefix: 10.0.0.0/8}", 1)
+        self.assertEqual(notes_of(text), [])
+        words = "this text is no address: write `address_prefix: 10.0.0.0` and `prefix_len: 8` (5 OutOfRange)"
+        self.assertEqual(told(text), [f"filter.yaml:5:42: {words}"])
 
 
 class Logs(unittest.TestCase):

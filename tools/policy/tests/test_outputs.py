@@ -7,8 +7,9 @@ import tempfile
 import time
 import unittest
 
+from policies.wire import LENGTH, tag, varint
 from policies.wrap import frame, response
-from support import POLICY, TOP, condition, encoded
+from support import POLICY, TOP, condition, encoded, field
 
 PROGRAM = TOP / "tools" / "policy" / "policy"
 CONDITION = TOP / "examples" / "condition.bin"
@@ -47,7 +48,7 @@ class Outputs(Room):
             ("$P decode %s >&-", 2, "policy: cannot write: standard output is closed\n"),
             ("$P decode %s > /dev/full", 2, "policy: cannot write: No space left on device\n"),
             ("$P decode %s --output /none/x", 2, "policy: cannot write /none/x: No such file or directory\n"),
-            ("$P --help > /dev/full", 2, ""),
+            ("$P --help > /dev/full", 2, "policy: cannot write: No space left on device\n"),
             ("$P --help | true; exit ${PIPESTATUS[0]}", None, ""),
             ("$P decode nothing 2>&-", 2, ""),
         ]:
@@ -101,9 +102,13 @@ class Inputs(Room):
         framed = frame(response([("a", data), ("b", data)], "1", "n"))
         status, out, _ = self.run_it("decode", self.file("w.bin", framed))
         self.assertEqual(status, 0)
-        told = "# these bytes are no filter, but hold filters: a, b; `policy check` reads them"
+        told = "# these bytes are no filter, but hold filters: a, b; --name shows one of them"
         self.assertTrue(out.decode().startswith(told), out)
         self.assertEqual(self.run_it("encode", "--even-if-refused", self.file("again.yaml", out))[1], framed)
+        status, out, _ = self.run_it("decode", "--name", "b", "w.bin")
+        self.assertEqual((status, out.decode()), (0, POLICY))
+        status, out, errors = self.run_it("decode", "--name", "c", "w.bin")
+        self.assertEqual((status, out, errors), (1, b"", "w.bin: no filter of the name c is here: a, b\n"))
 
     def test_json_escapes(self):
         text = '{"rules": {"policies": {"a\\/\\ud83d\\ude00\\\\ud83d": {"permissions": [{"any": true}], "principals": [{"any": true}]}}}}'
@@ -129,11 +134,14 @@ class Inputs(Room):
             (["--name", "f", "f.yaml"], 1, "this is YAML"),
             (["--name", "f", "noise"], 1, "noise: byte"),
             (["--name", "f", "empty"], 1, "this file is empty"),
-            (["--name", "f", "refused.bin"], 1, "there is no such action (5 OutOfRange)"),
+            (["--name", "f", "refused.bin"], 1, "there is no such action: it is ALLOW, DENY or LOG (5 OutOfRange)"),
             (["--even-if-refused", "--name", "f", "refused.bin"], 0, ""),
             (["--name", "f", "--name", "f", "f.bin", "f.bin"], 2, "the name f is given twice"),
             (["--name", "", "f.bin"], 2, "a filter's name is empty"),
             (["--name", "x" * 257, "f.bin"], 2, "longer than 256 bytes"),
+            (["--name", b"x\xff", "f.bin"], 2, "a filter's name is not UTF-8"),
+            (["--version", b"x\xff", "--name", "f", "f.bin"], 2, "the version is not UTF-8"),
+            (["--nonce", b"x\xff", "--name", "f", "f.bin"], 2, "the nonce is not UTF-8"),
             ([word for number in range(9) for word in ("--name", str(number))] + ["f.bin"] * 9, 2, "at most 8"),
         ]:
             with self.subTest(words):
@@ -150,6 +158,43 @@ class Inputs(Room):
         self.assertEqual((status, out), (1, b""))
         self.assertIn("bomb.yaml:1:1: the aliases here expand to more than 100000 parts", errors)
         self.assertLess(time.process_time() - started, 10)
+
+    def test_large_texts(self):
+        """A long text that many aliases name is bounded too."""
+        rules = ", ".join(["{url_path: {path: {exact: *a}}}"] * 1000)
+        text = "rules: {policies: {p: {permissions: [{url_path: {path: {exact: &a %s}}}, %s], principals: [{any: true}]}}}"
+        status, out, errors = self.run_it("encode", self.file("f.yaml", text % ("a" * 10_000, rules)))
+        self.assertEqual((status, out), (1, b""))
+        self.assertIn("f.yaml:1:1: the aliases here expand to more than 100000 parts", errors)
+
+    def test_deep_bytes(self):
+        """Bytes that are nested deep are not copied for each level."""
+        parts, size = [bytes.fromhex("18 01")], 2
+        for _ in range(100_000):
+            parts.append(tag(8, LENGTH) + varint(size))
+            size += len(parts[-1])
+        data = field(1, field(2, field(1, b"p") + field(2, field(1, b"".join(reversed(parts))))))
+        self.file("f.bin", data)
+        script = 'ulimit -v 400000; exec "$0" check --without-engine f.bin'
+        ran = subprocess.run(["bash", "-c", script, PROGRAM], capture_output=True, text=True, cwd=self.room)
+        self.assertEqual((ran.returncode, ran.stderr), (1, ""))
+        self.assertIn("rules are nested more than 32 deep (8 TooLarge)", ran.stdout)
+
+    def test_endless_aliases(self):
+        """An alias of what is around it has no end, and is told before anything walks it."""
+        for number, (text, place) in enumerate(
+            [
+                ("rules: {policies: {p: {permissions: [&a {and_rules: {rules: [*a, *a]}}]}}}", "1:38"),
+                ("- &a [*a, *a, *a]", "1:3"),
+                ("static_resources: &a {listeners: [*a, *a], b: [*a, *a], c: {d: *a, e: *a}}", "1:19"),
+                ("rules: {}\n---\n&a {a: *a}", "3:1"),
+            ]
+        ):
+            with self.subTest(text):
+                name = self.file(f"{number}.yaml", text)
+                status, out, errors = self.run_it("check", "--without-engine", name)
+                self.assertEqual((status, errors), (1, ""))
+                self.assertTrue(out.decode().startswith(f"{name}:{place}: an alias inside of this names the whole"), out)
 
     def test_aliases(self):
         text = "rules: {policies: {a: &a {permissions: [{any: true}], principals: [{any: true}]}, b: *a}}"

@@ -164,7 +164,8 @@ class Comments(unittest.TestCase):
     def test_place(self):
         """The comment stands before the part, with the offset of its tag."""
         text = decode(bytes.fromhex("0a 0f 12 0d 0a 01 70 12 08 0a 02 18 00 12 02 18 01"))
-        self.assertIn("      # byte 11: `any` is true or is not there (5 OutOfRange)\n      - any: false\n", text)
+        words = "`any` is true or is not there: for none write `not_rule` or `not_id` around it (5 OutOfRange)"
+        self.assertIn(f"      # byte 11: {words}\n      - any: false\n", text)
 
     def test_replaced_member(self):
         """What a later member of a oneof replaces is dropped, supported or not."""
@@ -192,7 +193,8 @@ class Notes(unittest.TestCase):
             [
                 "filter.yaml:10:24: the engine has no function matches: there are no regular expressions: write `==`, "
                 "`startsWith`, `endsWith`, `contains` or `in` (9 UnknownName)",
-                "filter.yaml:11:11: the engine has no variable x (9 UnknownName)",
+                "filter.yaml:11:11: the engine has no variable x; it has request, source, destination, connection; a text is "
+                "in quotes (9 UnknownName)",
                 "filter.yaml:12:15: note: the engine skips shadow_rules",
                 "filter.yaml:5:19: the engine does not support metadata: the engine has no metadata of other filters: let the "
                 "proxy put it into a header, and match the header (6 Unsupported)",

@@ -28,6 +28,7 @@ READ = {
     "https?": [Shape((("exact", "http"),)), Shape((("exact", "https"),))],
     r"www\.example\.com": [Shape((("exact", "www.example.com"),))],
     r"\Qa.b\E.*": [Shape((("prefix", "a.b"),))],
+    r"\Qa.b\Ec?": [Shape((("exact", "a.b"),)), Shape((("exact", "a.bc"),))],
 }
 BEYOND = {
     "a+": (0, "only `.` may be repeated"),
@@ -43,7 +44,14 @@ BEYOND = {
     "*a": (0, "there is nothing before"),
     "[0-9][0-9]": (10, "more than 64"),
     "a^b": (0, "in the middle"),
+    "a" * 100_000: (1024, "longer than 1024 characters"),
+    "a" * 65 + ".*" + "a" * 65: (0, "may overlap"),
+    r"\Qab\E?": (6, "the last character before"),
+    r"a\Q\E?": (5, "the last character before"),
+    r"\Qab\E{2}": (6, "the last character before"),
 }
+# What Python's expressions do not have.
+GO_LEAVES = ["\\Qab\\E", "\\Q.*\\E", "\\Q\\E", "\\Qb\\E?", "a{", "{a", "a}"]
 GO = """package main
 
 import (
@@ -71,14 +79,15 @@ func main() {
 class Maker:
     """Random expressions, and texts that are near them."""
 
-    def __init__(self, seed):
+    def __init__(self, seed, more_leaves=()):
         self.random = random.Random(seed)
+        self.leaves = ["a", "b", "/", "ab", "1", "\\.", "[ab]", "\\d", "[a-c]", "\\/", "[.]", *more_leaves]
 
     def expression(self, depth=0):
         """An expression, often one that is read."""
         choice = self.random.random()
         if depth > 3 or choice < 0.4:
-            return self.random.choice(["a", "b", "/", "ab", "1", "\\.", "[ab]", "\\d", "[a-c]", "\\/", "[.]"])
+            return self.random.choice(self.leaves)
         if choice < 0.6:
             return self.expression(depth + 1) + self.expression(depth + 1)
         if choice < 0.72:
@@ -139,9 +148,9 @@ class Regexes(unittest.TestCase):
             wanted = re.fullmatch(expression, subject) is not None
             self.assertEqual(matches(found, subject), wanted, (expression, subject, found))
 
-    @unittest.skipUnless(go_program(), "go is not at hand")
+    @unittest.skipUnless(go_program(), "go is not on the path: Debian packages it as golang-go")
     def test_go(self):
-        pairs = list(Maker(2).pairs(10_000))
+        pairs = list(Maker(2, GO_LEAVES).pairs(10_000))
         with tempfile.TemporaryDirectory() as room:
             (pathlib.Path(room) / "main.go").write_text(GO)
             settings = {

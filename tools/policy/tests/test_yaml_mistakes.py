@@ -1,7 +1,7 @@
 """Wrong YAML is refused at its place, with the line and a caret."""
 import unittest
 
-from policies.places import Mistake, Source
+from policies.places import WIDEST, Mistake, Source
 from support import POLICY, condition, encoded
 
 RULE = "rules: {policies: {p: {permissions: [%s], principals: [{any: true}]}}}"
@@ -37,6 +37,8 @@ WRONG = [
     ("rules: {policies: {p: {permissions: [any]}}}", 1, 38, "the fields of Permission"),
     ("rules: {policies: {p: {permissions: [~]}}}", 1, 38, "a value is expected"),
     ("rules: {policies: {p: {cel_config: {}}}}", 1, 24, "the engine does not know `cel_config`"),
+    (RULE % "{<<: {any: true}}", 1, 39, "merge keys are not read"),
+    ("permissions: [{any: true}]", 1, 1, "`permissions` is a field of a policy"),
     (RULE % "{any: yes}", 1, 44, "true or false is expected"),
     (RULE % '{any: "true"}', 1, 44, "true or false is expected"),
     (RULE % "{any: 1}", 1, 44, "true or false is expected"),
@@ -84,7 +86,8 @@ WRONG = [
     (POLICY + "      condition: {const_expr: {bytes_value: x}}\n", 8, 45, "in base64"),
     (POLICY + "      condition: {const_expr: {double_value: x}}\n", 8, 46, "a number is expected"),
     (POLICY + "      condition: {const_expr: {null_value: 1x}}\n", 8, 44, "one of these is expected: NULL_VALUE"),
-    ("rules: &r\n  policies: {p: {permissions: &s [{and_rules: {rules: *s}}]}}\n", 2, 35, "nested more than 300"),
+    ("rules: &r\n  policies: {p: {permissions: &s [{and_rules: {rules: *s}}]}}\n", 2, 31, "names the whole of it"),
+    (RULE % ("{not_rule: " * 300 + "{any: true}" + "}" * 300), 1, 3294, "nested more than 300"),
     ("[" * 3000, 1, 2001, "nested more than 2000"),
 ]
 
@@ -101,6 +104,8 @@ class Places(unittest.TestCase):
                 self.assertTrue(first.startswith(f"filter.yaml:{line}:{column}: "), first)
                 self.assertIn(words, first)
                 lines = text.split("\n")
+                if max(map(len, lines)) > WIDEST:
+                    continue
                 self.assertEqual(shown, "    " + (lines[line - 1] if line <= len(lines) else ""))
                 self.assertEqual(caret.replace("\t", " "), " " * (4 + column - 1) + "^")
 
@@ -115,3 +120,13 @@ class Places(unittest.TestCase):
                     Source("filter.yaml", data).compose()
                 first = str(caught.exception).split("\n")[0]
                 self.assertTrue(first.startswith(f"filter.yaml:{line}:{column}: {words}"), first)
+
+    def test_long_lines(self):
+        """Of a long line the part around the place is shown, with the caret below it."""
+        source = Source("f.json", ("x" * 5000 + "{" + "y" * 5000).encode())
+        for column, starts, ends in ((5000, ".. ", " .."), (0, "x", " .."), (10_000, ".. ", "y")):
+            first, shown, caret = source.tell((0, column), "words").split("\n")
+            self.assertEqual(first, f"f.json:1:{column + 1}: words")
+            self.assertTrue(shown[4:].startswith(starts) and shown.endswith(ends), shown)
+            self.assertLess(len(shown), 420)
+            self.assertEqual(shown[len(caret) - 1], {5000: "{", 0: "x", 10_000: "y"}[column])

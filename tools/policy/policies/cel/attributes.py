@@ -102,3 +102,13 @@ def _changed_entry(entry: Entry, scope: Scope, change: Callable[[Node, Scope], N
         entry.key = change(entry.key, scope)
     entry.value = change(entry.value, scope)
     return entry
+
+
+def free_names(node: Node) -> FrozenSet[str]:
+    """The names of the variables in a tree that no loop in it binds, those of roots and dotted ones included."""
+    if isinstance(node, Ident):
+        return frozenset([node.name])
+    names: set = set()
+    for part, bound in parts_of(node, frozenset()):
+        names |= free_names(part) - bound
+    return frozenset(names)

@@ -60,6 +60,8 @@ class _Checker:
         self.references = references
         self.types: Dict[Node, tuple] = {}
         self.starts: Dict[Node, str] = {}
+        # The tests of macros, which are typed before the step that they are in.
+        self.tests: Dict[Node, tuple] = {}
         self.faults: List[Fault] = []
         self.all_known = True
 
@@ -77,8 +79,14 @@ class _Checker:
 
     def type_of(self, node: Node, scope: dict, parent: Optional[Node]) -> Optional[tuple]:
         """The type of a node where loops bind these names, or None where it has none; its entry is compared."""
+        if node in self.tests:
+            return self.tests[node]
         if isinstance(node, Ident) and node.name in ROOTS and node.name not in scope:
             self.tell(node, UNKNOWN_NAME, words.bare_root(node.name, parent))
+            return None
+        dashed = words.dashed_header(parent) if isinstance(node, Ident) and node.name not in scope else None
+        if dashed is not None:
+            self.tell(node, UNKNOWN_NAME, dashed)
             return None
         kind = self._found(node, scope)
         is_empty = getattr(node, "elements", None) == [] or getattr(node, "entries", None) == []
@@ -253,7 +261,7 @@ class _Checker:
             self.tell(test, NO_OVERLOAD, f"{words.shown(test)} is {words.a(kind)}; {name} takes a test that is a bool")
         fits = kind == BOOL and len(self.faults) == before
         if fits:
-            del self.faults[before:]
+            self.tests[test] = BOOL
         return fits
 
     def _turn(self, loop: Comprehension, inside: dict, scope: dict, accumulator: Optional[tuple]) -> Optional[tuple]:

@@ -5,7 +5,7 @@ greatest budget is told as `TooMuch`, since its figure may be as long as one lik
 """
 from typing import Dict, NamedTuple, Tuple
 
-from .attributes import attribute_name
+from .attributes import attribute_name, free_names
 from .overloads import EQUALITY, LOGIC, MEMBERSHIP, ORDER, TEXT_TESTS
 from .tree import Call, Comprehension, Const, Ident, ListLiteral, Node, Select, StructLiteral
 
@@ -79,6 +79,9 @@ class _Measure:
     def __init__(self, types: Dict[Node, tuple], limits: Limits):
         self.types = types
         self.limits = limits
+        # What loops take and are of, by the sizes of the locals that they read.
+        self.loops: Dict[tuple, Tuple[int, tuple]] = {}
+        self.read: Dict[Node, Tuple[str, ...]] = {}
 
     def of(self, node: Node, scope: dict) -> Tuple[int, tuple]:
         """The cost and the size of a node."""
@@ -105,7 +108,16 @@ class _Measure:
             return self._list(node, scope)
         if isinstance(node, StructLiteral):
             return self._struct(node, scope)
-        return self._loop(node, scope)
+        return self._known_loop(node, scope)
+
+    def _known_loop(self, loop: Comprehension, scope: dict) -> Tuple[int, tuple]:
+        """The cost and the size of a loop, which is measured once for locals of the same sizes."""
+        if loop not in self.read:
+            self.read[loop] = tuple(sorted(free_names(loop)))
+        key = (loop, tuple(scope.get(name) for name in self.read[loop]))
+        if key not in self.loops:
+            self.loops[key] = self._loop(loop, scope)
+        return self.loops[key]
 
     def _list(self, node: ListLiteral, scope: dict) -> Tuple[int, tuple]:
         parts = [self.of(part, scope) for part in node.elements]

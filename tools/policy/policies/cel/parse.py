@@ -19,6 +19,8 @@ RESERVED = frozenset(
 )
 DEEPEST = 250
 WORDS_FOR_SIGNS = {"and": "&&", "or": "||", "not": "!", "is": "==", "eq": "==", "ne": "!=", "xor": "!="}
+WORDS_BEFORE = {"not": "!", "if": "test ? one : other"}
+WORD_BEFORE = re.compile(r"\b([a-z]+)\s*\Z")
 QUOTES = frozenset("\"'")
 NEGATIVE = "NEGATIVE_"
 # By it some readers end a comment and others do not.
@@ -68,6 +70,8 @@ def _character_fault(text: str, place: int) -> TextMistake:
     doubled = {"=": "==", "&": "&&", "|": "||"}
     if character in doubled:
         return TextMistake(place, f"`{character}` is no operator: write `{doubled[character]}`")
+    if character == "`":
+        return TextMistake(place, "a back quote has no meaning here; a text is in \" or '")
     return TextMistake(place, f"`{character}` has no meaning here")
 
 
@@ -78,6 +82,9 @@ def _token_fault(text: str, token: lark.Token) -> TextMistake:
     sign = WORDS_FOR_SIGNS.get(str(token).lower())
     if sign is not None:
         return TextMistake(token.start_pos, f"`{token}` is no operator: write `{sign}`")
+    before = WORD_BEFORE.search(text, 0, token.start_pos)
+    if before is not None and before[1] in WORDS_BEFORE:
+        return TextMistake(before.start(1), f"`{before[1]}` is no operator: write `{WORDS_BEFORE[before[1]]}`")
     return TextMistake(token.start_pos, f"`{_short(token)}` is not expected here")
 
 

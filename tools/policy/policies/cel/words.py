@@ -3,13 +3,14 @@ import difflib
 import re
 from typing import Iterable, List, Optional
 
-from .attributes import TYPES
+from .attributes import TYPES, attribute_name
 from .overloads import CALLED_BY_NAME, CONVERSIONS, EQUALITY, LOGIC, MEMBERSHIP, NEGATIONS, TEXT_TESTS
 from .printing import describe
-from .tree import BINARY, ROOTS, Call, Const, Node, Select
+from .tree import ACCUMULATOR, BINARY, NEW_ACCUMULATOR, ROOTS, Call, Const, Ident, Node, Select
 from .typetext import type_text
 
 LONGEST = 40
+HEADERS = "request.headers"
 SIGNS = {**{function: sign for sign, function in BINARY.items()}, "_in_": "in", "in": "in", "!_": "!", "-_": "-"}
 QUANTIFIERS = ("all", "exists", "exists_one")
 # How each macro with a target is written.
@@ -89,7 +90,21 @@ def unknown_variable(name: str, locals_in_scope: Iterable[str]) -> str:
     if any(attribute.endswith("." + name) for attribute in TYPES):
         whole = [attribute for attribute in TYPES if attribute.endswith("." + name)]
         return f"the engine has no variable {name}; do you mean `{whole[0]}`?"
-    return f"the engine has no variable {name}{near(name, [*locals_in_scope, *ROOTS])}"
+    known = [*(local for local in locals_in_scope if local not in (ACCUMULATOR, NEW_ACCUMULATOR)), *ROOTS]
+    hint = near(name, known) or "; a text is in quotes"
+    return f"the engine has no variable {name}; it has {', '.join(known)}{hint}"
+
+
+def dashed_header(difference: Optional[Node]) -> Optional[str]:
+    """What to tell of `x` in request.headers.a-x, which is a difference of the header `a` and a variable, or None."""
+    names: List[str] = []
+    while isinstance(difference, Call) and difference.function == "_-_" and isinstance(difference.args[1], Ident):
+        names.insert(0, difference.args[1].name)
+        difference = difference.args[0]
+    if not names or not isinstance(difference, Select) or attribute_name(difference.operand, frozenset()) != HEADERS:
+        return None
+    name = "-".join([difference.field, *names])
+    return f'`-` takes a number from another here: a header whose name has a dash is {HEADERS}["{name}"]'
 
 
 def bare_root(name: str, parent: Optional[Node]) -> str:

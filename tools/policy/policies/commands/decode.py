@@ -4,8 +4,9 @@ from typing import List
 
 from .. import output
 from ..decode import decode
-from ..files import filter_bytes
+from ..files import filter_bytes, name_of
 from ..forms.binary import filters_in
+from ..places import Mistake
 from ..yamltext import comment_lines
 from .common import DONE, add_output
 
@@ -17,11 +18,14 @@ def add(commands) -> None:
     parser = commands.add_parser(NAME, help="filter bytes to YAML", description="Writes the YAML of a filter.")
     parser.add_argument("file", metavar="FILE", help="the filter's bytes; `-` is standard input")
     add_output(parser)
+    parser.add_argument("--name", metavar="NAME", help="the filter to show of a response or an extension around it")
 
 
 def run(words: argparse.Namespace) -> int:
     """Writes the YAML."""
     data = filter_bytes(words.file)
+    if words.name is not None:
+        data = _named(name_of(words.file), data, words.name)
     lines = [line + "\n" for line in comment_lines(_around(data))]
     output.write("".join([*lines, decode(data)]).encode(), words.output)
     return DONE
@@ -33,4 +37,14 @@ def _around(data: bytes) -> List[str]:
     if held == [("", data)]:
         return []
     names = ", ".join(name for name, _ in held) or "none"
-    return [f"these bytes are no filter, but hold filters: {names}; `policy check` reads them"]
+    return [f"these bytes are no filter, but hold filters: {names}; --name shows one of them"]
+
+
+def _named(file: str, data: bytes, name: str) -> bytes:
+    """The bytes of the filter of that name inside of others; raises Mistake."""
+    held = filters_in(data)
+    found = [one for known, one in held if known == name]
+    if not found:
+        known = ", ".join(known for known, _ in held if known) or "none with a name"
+        raise Mistake(f"{file}: no filter of the name {name} is here: {known}")
+    return found[0]

@@ -26,6 +26,7 @@ def add(commands) -> None:
     parser.add_argument("requests", metavar="REQUESTS", help="a list of requests in YAML, or a JSON object a line")
     add_budget(parser)
     add_engine(parser)
+    parser.add_argument("--filter", metavar="NAME", help="the filter to take of a file that holds several")
     parser.add_argument("--policies", action="store_true", help="tell as well where another policy matches")
 
 
@@ -35,7 +36,7 @@ def run(words: argparse.Namespace) -> int:
     requests = [request for _, request, _ in log]
     try:
         with engine.Engine(engine.find(words.engine)) as asked:
-            both = [_decisions(asked, file, requests, words.budget) for file in (words.old, words.new)]
+            both = [_decisions(asked, file, requests, words) for file in (words.old, words.new)]
     except engine.NoEngine as fault:
         output.tell(f"policy: {fault}")
         return UNUSABLE
@@ -50,12 +51,12 @@ def run(words: argparse.Namespace) -> int:
     return MISTAKEN if changed else DONE
 
 
-def _decisions(asked: engine.Engine, file: str, requests: List[engine.Request], budget: int) -> List[dict]:
-    data = filter_of_file(file)
-    admission = asked.admission(data, budget)
+def _decisions(asked: engine.Engine, file: str, requests: list, words: argparse.Namespace) -> List[dict]:
+    data = filter_of_file(file, words.filter)
+    admission = asked.admission(data, words.budget)
     if admission.number:
         raise engine.NoEngine(f"{name_of(file)}: {admission.line}; `policy check` says why")
-    return asked.decisions(data, requests, budget)
+    return asked.decisions(data, requests, words.budget)
 
 
 def _words(answer: dict) -> str:

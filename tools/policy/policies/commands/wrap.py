@@ -8,7 +8,7 @@ from ..findings import NAMES, part_name
 from ..messages import FILTER, descriptor
 from ..places import Mistake
 from ..reader import read
-from ..wrap import GREATEST_MESSAGE, frame, name_fault, response
+from ..wrap import GREATEST_MESSAGE, frame, name_fault, response, text_fault
 from .common import DONE, UNUSABLE, add_output
 
 NAME = "wrap"
@@ -35,6 +35,7 @@ def run(words: argparse.Namespace) -> int:
     fault = name_fault(words.name)
     if len(words.name) != len(words.files):
         fault = f"{len(words.name)} names for {len(words.files)} files: each file takes one --name"
+    fault = fault or text_fault("version", words.version) or text_fault("nonce", words.nonce)
     if fault is not None:
         output.tell(f"policy: {fault}")
         return UNUSABLE

@@ -1,6 +1,6 @@
 """The filters that stand in a file: the filter itself, its rules alone, or any of Envoy's wrappings around it."""
 import re
-from typing import Iterator, List, NamedTuple, Optional, Sequence
+from typing import Iterator, List, NamedTuple, Optional, Sequence, Tuple
 
 import yaml
 
@@ -8,7 +8,7 @@ from ..findings import NOTE, Finding
 from ..messages import FILTER, PREFIX, RULES
 from ..places import Source, start_of
 from . import istio
-from .nodes import Node, get, items, mapping, names, pairs, text_of, without
+from .nodes import Node, camel, get, items, key_of, mapping, names, pairs, text_of, without
 from .rewrite import Rewriting
 
 TYPE = "@type"
@@ -18,6 +18,11 @@ PER_ROUTE = "envoy.extensions.filters.http.rbac.v3.RBACPerRoute"
 NETWORK = "envoy.extensions.filters.network.rbac.v3.RBAC"
 OLD = frozenset(["envoy.config.filter.http.rbac.v2.RBAC", "envoy.config.rbac.v2.RBAC"])
 STRUCTS = frozenset(["udpa.type.v1.TypedStruct", "xds.type.v3.TypedStruct"])
+WITH_MATCHER = "envoy.extensions.common.matching.v3.ExtensionWithMatcher"
+TURNED_OFF = "RBACPerRoute without `rbac` turns the filter off for a route"
+NOT_HERE = "this filter comes by config_discovery: check the DiscoveryResponse or the config dump that has its rules"
+OLD_CONFIG = "`config` is of the API's version 2: write `typed_config` with the filter's `@type`"
+PER_FILTER = "typed_per_filter_config"
 WRAPPINGS = frozenset(
     "name typed_config typedConfig http_filters httpFilters typed_per_filter_config typedPerFilterConfig rbac "
     "resources configs static_resources staticResources dynamic_resources listeners filter_chains filterChains "
@@ -40,6 +45,8 @@ class Reading:
         self.source = source
         self.findings: List[Finding] = []
         self.forms: List[Form] = []
+        # Filters that the file names and does not hold, each with the reason.
+        self.absent: List[Tuple[Node, str]] = []
 
     def read(self) -> None:
         """Reads the file; raises Mistake."""
@@ -51,29 +58,41 @@ class Reading:
             self.findings += translation.findings
         else:
             for document in documents or [None]:
-                self.forms += self._document(document)
+                self.forms += self._document(document, len(documents) > 1)
+            if not self.forms:
+                raise self.source.mistake(start_of(documents[0]), _other_object(documents[0]))
         self.forms = [rewritten(self.source, form) for form in self.forms]
 
     def _note(self, node: Node, words: str) -> None:
         self.findings.append(Finding(NOTE, words, start_of(node)))
 
-    def _document(self, node: Optional[Node]) -> List[Form]:
+    def _document(self, node: Optional[Node], is_one_of_several: bool) -> List[Form]:
         if not isinstance(node, (yaml.MappingNode, yaml.SequenceNode)):
             return [Form("", node)]
         direct = self._direct(node)
         if direct is not None:
             return [Form("", direct)]
         found = list(self._inside(node, ""))
-        if (
-            not found
-            and isinstance(node, yaml.MappingNode)
-            and TYPE not in names(node)
-            and not WRAPPINGS & set(names(node))
-        ):
-            return [Form("", node)]
         if not found:
-            raise self.source.mistake(start_of(node), f"no HTTP RBAC filter ({PREFIX}{FILTER}) is in this file")
+            return self._without(node, is_one_of_several)
+        for where, words in self.absent:
+            self._note(where, f"{words}: it is left out")
+        self.absent = []
         return _with_own_names(found)
+
+    def _without(self, node: Node, is_one_of_several: bool) -> List[Form]:
+        """What a document without any filter is: left out, a mistake, or a filter with mistakes of its own."""
+        fields = set(names(node))
+        if {"apiVersion", "kind"} <= fields and is_one_of_several:
+            self._note(node, _other_object(node) + ": it is left out")
+            return []
+        if {"apiVersion", "kind"} <= fields:
+            raise self.source.mistake(start_of(node), _other_object(node))
+        if self.absent:
+            raise self.source.mistake(start_of(self.absent[0][0]), f"{self.absent[0][1]}, and no other filter is here")
+        if isinstance(node, yaml.MappingNode) and TYPE not in fields and not WRAPPINGS & fields:
+            return [Form("", node)]
+        raise self.source.mistake(start_of(node), f"no HTTP RBAC filter ({PREFIX}{FILTER}) is in this file")
 
     def _direct(self, node: Optional[Node]) -> Optional[Node]:
         """The filter that a node is, by its type or its fields, or None."""
@@ -89,16 +108,14 @@ class Reading:
             return self._per_route(node)
         if kind in OLD:
             raise self.source.mistake(
-                start_of(node), "this is of the API's version 2, which Envoy no longer reads: write version 3"
+                start_of(node), f"this is of the API's version 2, which Envoy no longer reads: write {PREFIX}{FILTER}"
             )
         return None
 
     def _per_route(self, node: yaml.MappingNode) -> Node:
         inner = get(node, "rbac")
         if inner is None or not isinstance(inner, yaml.MappingNode):
-            raise self.source.mistake(
-                start_of(node), "RBACPerRoute without `rbac` turns the filter off for a route: nothing is enforced"
-            )
+            raise self.source.mistake(start_of(node), f"{TURNED_OFF}: nothing is enforced")
         self._note(node, "the filter of RBACPerRoute, read as a filter of its own; the engine knows no routes")
         return inner
 
@@ -108,20 +125,35 @@ class Reading:
             yield from self._inside(part, name)
         if not isinstance(node, yaml.MappingNode):
             return
-        own = text_of(get(node, "name")) or name
-        kind = _type_of(node)
+        own, kind = text_of(get(node, "name")) or name, _type_of(node)
         if kind == NETWORK:
-            self._note(node, "the network filter is left out: the engine judges HTTP requests alone")
-            return
-        if kind in STRUCTS and (text_of(get(node, "type_url")) or "").endswith((FILTER, PER_ROUTE)):
+            self._note(node, "the network filter is left out: rules that judge requests are in the HTTP filter")
+        elif kind in STRUCTS and (text_of(get(node, "type_url")) or "").endswith((FILTER, PER_ROUTE)):
             yield from self._struct(node, own)
-            return
-        direct = self._direct(node) if kind or "rules" in names(node) and own == RBAC_NAME else None
-        if direct is not None:
-            yield Form(own, direct)
-            return
+        elif kind == PER_ROUTE and get(node, "rbac") is None:
+            self.absent.append((node, TURNED_OFF))
+        elif kind or "rules" in names(node) and own == RBAC_NAME:
+            direct = self._direct(node)
+            yield from [Form(own, direct)] if direct is not None else self._around(node, own)
+        else:
+            yield from self._around(node, own)
+
+    def _around(self, node: yaml.MappingNode, own: str) -> Iterator[Form]:
+        """The filters in the fields of a node that is none itself."""
+        if own == RBAC_NAME and isinstance(get(node, "config"), yaml.MappingNode) and not _type_of(node):
+            raise self.source.mistake(start_of(key_of(node, "config")), OLD_CONFIG)
+        if own == RBAC_NAME and get(node, "config_discovery") is not None:
+            self.absent.append((node, NOT_HERE))
+        found: List[Form] = []
         for key, _, value in pairs(node):
-            yield from self._inside(value, own if key in WRAPPINGS else key)
+            for name, part in _named(key, value, own):
+                found += self._inside(part, name)
+        if found and text_of(get(node, "disabled")) == "true":
+            words = "a disabled filter is read as if it ran: Envoy runs it only where a route has settings for it"
+            self._note(key_of(node, "disabled"), words)
+        if found and _type_of(node) == WITH_MATCHER:
+            self._note(node, "the matcher around this filter is left out: here the filter judges every request")
+        yield from found
 
     def _struct(self, node: yaml.MappingNode, name: str) -> Iterator[Form]:
         value = get(node, "value")
@@ -129,6 +161,19 @@ class Reading:
             value = self._per_route(value) if isinstance(value, yaml.MappingNode) else None
         if value is not None:
             yield Form(name, without(value, TYPE))
+
+
+def _named(key: str, value: Node, own: str) -> List[Tuple[str, Node]]:
+    """The parts of a field, each with the name of the filter that it is of: settings of routes have names as keys."""
+    if key not in (PER_FILTER, camel(PER_FILTER)):
+        return [(own, value)]
+    return [(name, part) for name, _, part in pairs(value)]
+
+
+def _other_object(node: Node) -> str:
+    """What to tell of an object of Kubernetes that holds no filter."""
+    what = f"{text_of(get(node, 'kind'))} of {text_of(get(node, 'apiVersion'))}"
+    return f"this is a {what}, which holds no filter: an AuthorizationPolicy or an EnvoyFilter is expected"
 
 
 RBAC_NAME = "envoy.filters.http.rbac"

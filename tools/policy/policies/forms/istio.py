@@ -3,7 +3,7 @@
 A rule is a policy: each `to` is a permission, each `from` a principal, and each `when` stands in both or in one of them
 as its key says. All policies of one action for the same workload are one filter, since Istio joins them so.
 """
-from typing import Dict, List, Optional, Tuple
+from typing import Callable, Dict, List, Optional, Tuple
 
 import yaml
 
@@ -17,6 +17,7 @@ KIND = "AuthorizationPolicy"
 ACTIONS = {"ALLOW": "ALLOW", "DENY": "DENY", "AUDIT": "LOG"}
 SPEC_FIELDS = frozenset(["selector", "targetRef", "targetRefs", "action", "rules", "provider"])
 RULE_FIELDS = frozenset(["from", "to", "when"])
+DRY_RUN = "istio.io/dry-run"
 HEADER_KEY = "request.headers["
 
 
@@ -31,6 +32,7 @@ class Translation:
     def __init__(self, source: Source):
         self.source = source
         self.findings: List[Finding] = []
+        self.mistakes: List[Mistake] = []
 
     def mistake(self, node: Node, words: str) -> Mistake:
         """The mistake at a node."""
@@ -41,20 +43,34 @@ class Translation:
             self.findings.append(Finding(NOTE, words, start_of(node)))
 
     def filters(self, documents: List[Node]) -> List[Tuple[str, Node]]:
-        """The filters of a file's policies, DENY before ALLOW as Istio asks them, by name."""
+        """The filters of a file's policies, DENY before ALLOW as Istio asks them, by name; raises Mistake with all
+        mistakes of the file."""
         groups: Dict[tuple, list] = {}
         for document in documents:
-            if is_policy(document):
-                action, where = self._head(document)
-                groups.setdefault((action, where), []).append(document)
-            else:
+            if not is_policy(document):
                 self._note(document, "this is no AuthorizationPolicy, and left out")
+                continue
+            head = self._kept(self._head, document)
+            if head is not None:
+                groups.setdefault(head, []).append(document)
         wheres = {where for _, where in groups}
         found = []
         for action, where in sorted(groups, key=lambda group: (["DENY", "ALLOW", "LOG"].index(group[0]), group[1])):
             name = f"istio-{action.lower()}" + (f"-{where}" if len(wheres) > 1 else "")
             found.append((name, self._filter(action, groups[action, where])))
+        if self.mistakes:
+            first, *rest = sorted(self.mistakes, key=lambda mistake: mistake.place or (0, 0))
+            first.rest = rest
+            raise first
         return found
+
+    def _kept(self, make: Callable, node: Node):
+        """What is made of a node, or None where it has a mistake, which is kept."""
+        try:
+            return make(node)
+        except Mistake as mistake:
+            self.mistakes.append(mistake)
+            return None
 
     def _head(self, document: Node) -> Tuple[str, str]:
         """The action of a policy, and a text for the workloads it is for."""
@@ -64,6 +80,10 @@ class Translation:
                 raise self.mistake(
                     key, f"an AuthorizationPolicy has no field `{name}`: it has {', '.join(sorted(SPEC_FIELDS))}"
                 )
+        dry_run = get(get(get(document, "metadata"), "annotations"), DRY_RUN)
+        if text_of(dry_run) == "true":
+            told = "Istio does not enforce a policy with this annotation: leave out the annotation, or the policy"
+            raise self.mistake(dry_run, told)
         action = get(spec, "action")
         named = text_of(action) or "ALLOW"
         if named == "CUSTOM" or get(spec, "provider") is not None:
@@ -94,7 +114,7 @@ class Translation:
                 key = f"ns[{place}]-policy[{name}]-rule[{index}]"
                 if key in policies:
                     raise self.mistake(document, f"the policy {name} is here twice")
-                policies[key] = self._policy(rule)
+                policies[key] = self._kept(self._policy, rule)
             if not items(rules):
                 what = "no request passes by it" if action == "ALLOW" else "it never matches"
                 self._note(document, f"a policy of action {action} without rules: {what}")

@@ -16,6 +16,7 @@ INSTEAD = {
 }
 CONDITIONS_INSTEAD = {
     "request.auth": TOKENS,
+    "source.serviceAccount": 'write `source.principal` with "<trust domain>/ns/<namespace>/sa/<account>"',
     "experimental.envoy.filters": "the engine has no metadata of other filters; ask for a header instead",
 }
 

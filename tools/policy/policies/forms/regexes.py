@@ -6,6 +6,7 @@ is more than that is refused with its place in the expression.
 from typing import List, NamedTuple, Tuple, Union
 
 MOST_ALTERNATIVES = 64
+LONGEST = 1024
 SPECIAL = frozenset(".*+?()[]{}|^$\\")
 ESCAPES = {"t": "\t", "n": "\n", "r": "\r", "f": "\f", "v": "\v", "a": "\a"}
 DIGITS = "0123456789"
@@ -33,6 +34,8 @@ class Shape(NamedTuple):
 
 def shapes(expression: str) -> List[Shape]:
     """The alternatives of an expression; raises Untranslatable."""
+    if len(expression) > LONGEST:
+        raise Untranslatable(LONGEST, f"this is longer than {LONGEST} characters")
     reader = _Reader(expression)
     runs = reader.alternatives(0)
     if reader.at < len(expression):
@@ -132,6 +135,8 @@ class _Reader:
             end = self.expression.find("\\E", self.at)
             quoted = self.expression[self.at : end if end >= 0 else len(self.expression)]
             self.at = end + 2 if end >= 0 else len(self.expression)
+            if self.peek() and self.peek() in "*+?{":
+                raise Untranslatable(self.at, "this repeats the last character before `\\E` alone")
             return [tuple(quoted)]
         if letter == "d":
             return [(digit,) for digit in DIGITS]
@@ -231,6 +236,8 @@ def _around(before: str, after: str, wild: str) -> Shape:
     """The shape of a text, a wildcard and a text."""
     tests = ((PREFIX, before),) * bool(before) + ((SUFFIX, after),) * bool(after)
     excepted = [before + after] if wild == SOME else []
+    if min(len(before), len(after)) > MOST_ALTERNATIVES:
+        raise Untranslatable(0, f"two texts of more than {MOST_ALTERNATIVES} characters around a wildcard may overlap")
     for length in range(1, min(len(before), len(after)) + 1):
         if before.endswith(after[:length]):
             excepted.append(before + after[length:])

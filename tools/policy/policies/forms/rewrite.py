@@ -10,7 +10,9 @@ from .nodes import Node, camel, get, key_of, mapping, pairs, plain, sequence, te
 from .regexes import Shape, Untranslatable, shapes
 
 WITHOUT_MEANING = ("rules_stat_prefix", "track_per_rule_stats")
-MATCHERS_INSTEAD = "write `exact`, `prefix`, `suffix` or `contains`, or several of them under `or_rules` or `or_ids`"
+MATCHERS_INSTEAD = (
+    "write `exact`, `prefix`, `suffix` or `contains`, several under `or_rules` or `or_ids`, or a condition in CEL"
+)
 
 
 class Kind(NamedTuple):
