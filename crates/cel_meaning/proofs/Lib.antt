@@ -1,1 +1,3 @@
+pub mod OriginSteps
 pub mod PlainSteps
+mod OriginLaws

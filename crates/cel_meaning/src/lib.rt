@@ -1,5 +1,6 @@
 //! The meaning of expressions, computed: a plain and slow evaluator. It follows the definition of meaning: it walks the
-//! tree and looks names up. No crate uses it; tests compare the machine's results with it.
+//! tree and looks names up. No decision uses it: it finds the part of a condition that an error is from, and tests
+//! compare the machine's results with it.
 #![tactic(auto)]
 
 ghost use Rattle.std.specs.Prelude.{◌≡◌, [], IfOk, option_map};
@@ -11,15 +12,18 @@ mod binary;
 mod calls;
 mod elements;
 mod known;
+pub mod laws;
 mod leaves;
 mod literals;
 mod nodes;
+mod origin;
 mod unary;
 
 use attributes::Request;
 use cel_tree::Tree;
 use cel_value::Answer;
 use nodes::eval;
+pub use origin::origin_of_error;
 use std::alloc::{AllocError, Global};
 
 /// The answer of an expression for a request. `None` if a value is of a wrong kind or a name is not known; neither
