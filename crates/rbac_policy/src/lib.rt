@@ -2,6 +2,7 @@
 #![tactic(auto)]
 
 mod admission;
+mod budget;
 mod causes;
 mod condition;
 mod decide;
@@ -14,9 +15,12 @@ mod place_in_condition;
 mod policy;
 mod sieve;
 mod trials;
+mod written;
 
 pub use admission::admit;
+pub use budget::{OverBudget, over_budget};
 pub use causes::PolicyCauses;
 pub use filter::{Admitted, Verdict};
 pub use place::place_of;
 pub use trials::{Reason, Trial};
+pub use written::{WrittenCondition, written_condition};

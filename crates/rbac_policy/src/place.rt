@@ -2,6 +2,7 @@
 //! part that is named was read by itself and has the fault.
 
 use crate::admission::{read_action, refuse_audit_options};
+use crate::budget::over_budget;
 use crate::keys::POLICY_KEYS;
 use crate::numbers::{PERMISSIONS, POLICIES, PRINCIPALS, RULES};
 use crate::place_in_condition::place_in_condition;
@@ -17,11 +18,17 @@ use std::alloc::Global;
 
 /// The part of the filter's message that has this fault, such as
 /// `policy "p": permissions[0].and_rules.rules[2].header.name` or `policy "p": checked_condition.expr, node 5`.
-/// Control characters of the name are escaped. `None` if no part can be named, as for `TooCostly`, which is a
-/// fault of several conditions together.
-pub fn place_of(alloc: Global, bytes: &[u8], refusal: Refusal) -> Option<String> {
+/// Control characters of the name are escaped. For `TooCostly` it is the condition at which the budget is exceeded,
+/// for requests within the limits. `None` if no part can be named.
+pub fn place_of(
+    alloc: Global,
+    bytes: &[u8],
+    refusal: Refusal,
+    limits: &Limits,
+    budget: u64,
+) -> Option<String> {
     if refusal == Refusal::TooCostly {
-        return None;
+        return Some(over_budget(alloc, bytes, limits, budget)?.place);
     }
     let top = read_fields(alloc, bytes).ok()?;
     let rules = payloads_of(alloc, &top, RULES).ok()?;

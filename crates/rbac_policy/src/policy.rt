@@ -45,7 +45,7 @@ pub(crate) struct NamedPolicy {
 
 impl NamedPolicy {
     /// How many steps the policy's condition may take.
-    fn bound(&self) -> u64
+    pub(crate) fn bound(&self) -> u64
         ensures { result ≡ bound_of (option_map program_view self.now.condition) }
     {
         match &self.condition {
@@ -156,7 +156,7 @@ pub(crate) fn read_condition(
 }
 
 /// Whether there is a condition, checked or not.
-fn has_condition(fields: &[Field<'_>]) -> bool
+pub(crate) fn has_condition(fields: &[Field<'_>]) -> bool
     ensures { MatchBool result (ArePresent (condition_in (map field_view fields.now)))
         (ArePresent (condition_in (map field_view fields.now)) → ⊥) }
 {
@@ -167,7 +167,7 @@ fn has_condition(fields: &[Field<'_>]) -> bool
 }
 
 /// Reads the expression of the condition: a checked expression, or one without entries.
-fn read_expr(alloc: Global, fields: &[Field<'_>]) -> Result<Checked, Refusal>
+pub(crate) fn read_expr(alloc: Global, fields: &[Field<'_>]) -> Result<Checked, Refusal>
     ensures found { IfOk result (λ c. IsExprOf (condition_in (map field_view fields.now)) (checked_view c)) }
     ensures fault { IfErr result (MemoryOr (ExprFault (condition_in (map field_view fields.now)))) }
 {
