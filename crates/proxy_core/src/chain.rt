@@ -1,6 +1,6 @@
 //! The chain of filters.
 
-ghost use Rattle.std.specs.Prelude.{IfOk, MatchBool};
+ghost use Rattle.std.specs.Prelude.{IfOk, IsOk, MatchBool};
 ghost use Rattle.std.specs.List.{AllByRecursion};
 ghost use Rattle.ads.specs.Views.{policies_view};
 ghost use Rattle.proxy_core.specs.Chain.{IsUnready, Judges};
@@ -23,15 +23,16 @@ pub(crate) enum Tried {
 }
 
 /// The case of the answer to a request, and the matches of the filters that were tried. If a filter has no policies,
-/// none is tried.
+/// none is tried and no memory is taken.
 pub(crate) fn judged(
     alloc: Global,
     policies: &[Option<Admitted>],
     request: &Request,
 ) -> Result<(Case, Vec<Option<usize>>), AllocError>
     requires { AllByRecursion (CanDecide request.now) (policies_view policies.now) }
-    ensures { IfOk result (λ r. Judges DecidesAsWritten AsksAsWritten (policies_view policies.now)
+    ensures found { IfOk result (λ r. Judges DecidesAsWritten AsksAsWritten (policies_view policies.now)
         request.now r.0 r.1.items) }
+    ensures sure { IsUnready DecidesAsWritten AsksAsWritten (policies_view policies.now) → IsOk result }
 {
     if !is_ready(policies) {
         return Ok((Case::Unready, Vec::new(alloc)));

@@ -1,12 +1,12 @@
 //! The asks in the bytes of a connection, and the answers.
 
-ghost use Rattle.std.specs.Prelude.{◌≡◌, List, IfOk, OnOk};
+ghost use Rattle.std.specs.Prelude.{◌≡◌, List, IfOk, IsOk, OnOk};
 ghost use Rattle.ads.specs.Ends.{client_view};
 ghost use Rattle.http_front.specs.Answer.{reply_view};
 ghost use Rattle.http_front.specs.declared.ask.Ask.{Ask};
 ghost use Rattle.proxy_core.specs.Chain.{IsReplyTo};
 ghost use Rattle.proxy_core.specs.Step.{AreEnforced, AsksAsWritten, DecidesAsWritten, Hears};
-ghost use Rattle.proxy_core.specs.steps.Deciding.{AddsReply, AskInLimits};
+ghost use Rattle.proxy_core.specs.steps.Deciding.{AddsReply, AskInLimits, TriesNoFilter};
 
 use crate::chain::judged;
 use ads::Client;
@@ -52,11 +52,12 @@ fn answer_to(alloc: Global, client: &Client, ask: &Ask, out: &mut Vec<u8>) -> Re
     out.extend_from_slice(&bytes)
 }
 
-/// The answer to an ask.
+/// The answer to an ask. If no filter is tried, it takes no memory.
 fn reply_to(alloc: Global, client: &Client, ask: &Ask) -> Result<Reply, AllocError>
     requires { AskInLimits (client_view client.now).config.limits ask.now }
-    ensures { IfOk result (λ reply. IsReplyTo DecidesAsWritten AsksAsWritten
+    ensures found { IfOk result (λ reply. IsReplyTo DecidesAsWritten AsksAsWritten
         (client_view client.now).accepted ask.now (reply_view reply)) }
+    ensures sure { TriesNoFilter (client_view client.now).accepted ask.now → IsOk result }
 {
     match ask {
         Ask::Judge(request, closes) => {

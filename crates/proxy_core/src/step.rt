@@ -7,7 +7,7 @@ ghost use Rattle.http_front.specs.Front.{HasNoAsk, fed_front};
 ghost use Rattle.proxy_core.specs.Events.{ads_output, ads_up, event_view, http_output, no_output, output_view};
 ghost use Rattle.proxy_core.specs.Proxies.{proxy_view};
 ghost use Rattle.proxy_core.specs.Step.{OpensAt, StepsBy, TakesAds, TakesHttp, TakesNoMemory, front_at, new_proxy, with_conn};
-ghost use Rattle.proxy_core.specs.steps.Fronts.{IsOpenFor, KeepsAt};
+ghost use Rattle.proxy_core.specs.steps.Fronts.{IsOpenFor, KeepsAt, OpensNothing};
 
 use crate::event::{Event, Output};
 use crate::hearing::heard;
@@ -126,11 +126,13 @@ impl Proxy {
         Ok(Output::on_ads(self.alloc, fed.replies, fed.broken))
     }
 
-    /// A connection opens in place `k`; it is closed at once if its facts are outside the limits.
+    /// A connection opens in place `k`; it is closed at once if its facts are outside the limits. If it does not open, no
+    /// memory is taken.
     fn http_open(&mut self, k: u64, conn: &Conn) -> Result<Output, AllocError>
         ensures found { IfOk result (λ out.
             OpensAt (proxy_view self.old) k (conn_view conn.now) (output_view out) (proxy_view self.new)) }
         ensures fault { OnErr result (proxy_view self.new ≡ proxy_view self.old) }
+        ensures unfit { OpensNothing (proxy_view self.old) k (conn_view conn.now) → IsOk result }
     {
         if k >= PLACES {
             return Ok(Output::none(self.alloc));

@@ -9,7 +9,7 @@ use Rattle.ads.specs.Answer.{Accepted, AdmittedValue}
 use Rattle.http_front.specs.Answer.{ReplyValue, answer_of}
 use Rattle.http_front.specs.declared.ask.Ask.{Ask}
 use Rattle.http_front.specs.declared.ask.Ask.TheVariants.{Judge, Fault}
-use Rattle.proxy_core.specs.Chain.{Chain, ChainAsks, IsReplyTo, VerdictValue}
+use Rattle.proxy_core.specs.Chain.{Chain, ChainAsks, IsReplyTo, IsUnready, VerdictValue}
 use Rattle.proxy_core.specs.Step.{AsksAsWritten, DecidesAsWritten}
 use Rattle.proxy_core.specs.declared.chain.Tried.{Tried}
 use Rattle.proxy_core.specs.declared.chain.Tried.TheVariants as tried
@@ -30,6 +30,11 @@ IsTried r filters tried.NoMemory = ChainAsks DecidesAsWritten AsksAsWritten r fi
 abbrev pub AskInLimits : LimitsValue → Ask → Type 0
 AskInLimits limits (Judge r closes) = InLimits r limits
 AskInLimits limits (Fault fault) = ⊤
+
+-- no filter is tried for the ask: its head has a fault, or a filter has no policies
+abbrev pub TriesNoFilter : Accepted → Ask → Type 0
+TriesNoFilter accepted (Judge r closes) = IsUnready DecidesAsWritten AsksAsWritten accepted.policies
+TriesNoFilter accepted (Fault fault) = ⊤
 
 -- the answer to the ask is appended
 abbrev pub AddsReply : Accepted → Ask → List ℕ → List ℕ → Type 0

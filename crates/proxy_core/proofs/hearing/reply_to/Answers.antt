@@ -9,6 +9,6 @@ judged-requires c =
     rw c.policies.ensures.found (all_can_decide v.config.limits c.in-Judge.request v.config.filters v.accepted.policies
     c.policies.ensures.admitted (rw c.in-Judge.is at c.requires))
 
-pub returns-in_ok-case-in-Judge : goal.returns-in_ok-case-in-Judge
-returns-in_ok-case-in-Judge c = rw c.in-Judge.is
-    (rw c.policies.ensures.found at c.in_ok-case-in-Judge.ensures, c.generation.ensures, refl, rw c.method.ensures at c.eq.ensures)
+pub returns-in_ok-case-in-Judge-clause-found : goal.returns-in_ok-case-in-Judge-clause-found
+returns-in_ok-case-in-Judge-clause-found c = rw c.in-Judge.is
+    (rw c.policies.ensures.found at c.in_ok-case-in-Judge.ensures.found, c.generation.ensures, refl, rw c.method.ensures at c.eq.ensures)
