@@ -13,6 +13,7 @@ ghost use Rattle.rbacd.specs.steps.Batching.{IsAnsweredBy, IsReportAt, IsReportO
 ghost use Rattle.rbacd.specs.declared.lines.LineFault.TheVariants.{BadLine};
 
 use crate::bad_facts::cause_of_bad_value;
+use crate::explain::Explaining;
 use crate::facts::{FactsFault, conn_of};
 use crate::judge::{finding_of_ask, memory_line};
 use crate::lines::LineFault;
@@ -34,7 +35,9 @@ pub(crate) const BLOCK: usize = 65_536;
 /// What the heads of a batch are judged by.
 #[derive(Drop)]
 pub(crate) struct Basis {
-    /// The filter.
+    /// The bytes of the policy file.
+    pub(crate) policy: Vec<u8>,
+    /// The filter of the policy file.
     pub(crate) admitted: Admitted,
     /// The connection of a line without facts.
     pub(crate) conn: Conn,
@@ -229,7 +232,11 @@ fn report_of_head(
         (conn_view conn)) }
 {
     let found = read_head(alloc, head, basis.admitted.limits(), conn)?;
-    let finding = finding_of_ask(alloc, &basis.admitted, &found, basis.explain)?;
+    let explaining = Explaining {
+        asked: basis.explain,
+        policy: &basis.policy,
+    };
+    let finding = finding_of_ask(alloc, &basis.admitted, &found, explaining)?;
     let mut notes = Notes::new(alloc);
     notes.look_at_head(alloc, head, finding.outcome);
     let why = notes.why(alloc, finding.outcome);

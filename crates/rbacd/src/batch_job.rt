@@ -78,12 +78,13 @@ fn begin<F: Source>(
     let conn = conn_of(alloc, words.facts, files, notes)?;
     match admit(alloc, &bytes, &Limits::largest(), words.budget) {
         Ok(admitted) => Ok(Start::Ready(Basis {
+            policy: bytes,
             admitted,
             conn,
             explain: words.explain,
         })),
         Err(refusal) => {
-            notes.look_at_policy(alloc, &bytes, Outcome::Refused(refusal));
+            notes.look_at_policy(alloc, &bytes, words.budget, Outcome::Refused(refusal));
             Ok(Start::Refused(refusal))
         }
     }

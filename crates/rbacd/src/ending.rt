@@ -1,6 +1,7 @@
 //! The end of a job without a result: what is printed, and the status.
-ghost use Rattle.std.specs.Prelude.{◌≡◌, ◌⊎◌, ◌↔◌, IfOk, IsTrue, string_bytes};
+ghost use Rattle.std.specs.Prelude.{◌≡◌, ◌⊎◌, ◌↔◌, ◌++◌, IfOk, IsTrue, string_bytes};
 ghost use Rattle.std.specs.Io.{StartsWith};
+ghost use Rattle.rbacd.specs.Explain.{cause_line};
 ghost use Rattle.rbacd.specs.Outcome.{line_of};
 ghost use Rattle.rbacd.specs.Output.{Takes};
 ghost use Rattle.rbacd.specs.Run.{IsShown, LeavesFault, Prints, first_line};
@@ -98,7 +99,8 @@ pub(crate) fn text_of(alloc: Global, fault: &JobFault, notes: &Notes) -> Result<
 
 /// The text, with a line for the cause below.
 pub(crate) fn with_cause(alloc: Global, line: String, cause: &str) -> Result<String, AllocError>
-    ensures { IfOk result (λ text. StartsWith (string_bytes text) (string_bytes line)) }
+    ensures whole { IfOk result (λ text. string_bytes text ≡ string_bytes line ++ cause_line cause.now) }
+    ensures starts { IfOk result (λ text. StartsWith (string_bytes text) (string_bytes line)) }
 {
     let mut text = line;
     let cause = format!(in alloc; "  {cause}\n")?;

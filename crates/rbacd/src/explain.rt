@@ -5,6 +5,7 @@ ghost use Rattle.std.specs.List.{flat_map};
 ghost use Rattle.rbacd.specs.steps.Printed.{less_told};
 ghost use Rattle.rbacd.specs.Explain.{cause_line, escaped, is_hidden, own_trial_view, quoted, reason_text, told_trial_view, trial_line, trial_lines, trial_view, untold_text};
 
+use crate::error_place::place_of_error;
 use attributes::Request;
 use rbac_policy::{Admitted, Reason, Trial};
 use stack_machine::RunError;
@@ -14,8 +15,21 @@ use std::fmt;
 /// How many causes of each side of a policy are told at most.
 const CAUSES: usize = 8;
 
-/// A policy that was tried: its number, its name, and why it matches or does not. The causes are the leaves of its
-/// rules that decide, in words.
+/// The greatest bound of a filter's conditions, in steps, with which the part that an error is from is looked for. The
+/// search evaluates parts once for each level above them.
+const MOST_SEARCHED: u64 = 1_000_000;
+
+/// Whether a verdict is explained, and the bytes of the policy file, in which errors of conditions are placed.
+#[derive(Clone, Copy)]
+pub(crate) struct Explaining<'a> {
+    /// Whether an explanation was asked for.
+    pub(crate) asked: bool,
+    /// The bytes of the policy file.
+    pub(crate) policy: &'a [u8],
+}
+
+/// A policy that was tried: its number, its name, and why it matches or does not. The causes are in words: the leaves
+/// of its rules that decide, and the part of its condition that an error is from.
 #[derive(Drop)]
 pub struct OwnTrial {
     pub number: usize,
@@ -48,9 +62,11 @@ impl Explanation {
     }
 }
 
-/// The trials of the filter for the request, with copies of the names, and with their causes.
+/// The trials of the filter for the request, with copies of the names, and with their causes. The filter is that of
+/// the policy file with these bytes.
 pub(crate) fn own_trials(
     alloc: Global,
+    policy: &[u8],
     admitted: &Admitted,
     request: &Request,
     trials: &[Trial<'_>],
@@ -59,7 +75,7 @@ pub(crate) fn own_trials(
 {
     let mut own = Vec::new(alloc);
     for trial in trials {
-        own.push(own_trial(alloc, admitted, request, trial)?)?;
+        own.push(own_trial(alloc, policy, admitted, request, trial)?)?;
     }
     Ok(own)
 }
@@ -67,6 +83,7 @@ pub(crate) fn own_trials(
 /// The trial, with a copy of the name, and with its causes.
 fn own_trial(
     alloc: Global,
+    policy: &[u8],
     admitted: &Admitted,
     request: &Request,
     trial: &Trial<'_>,
@@ -77,21 +94,45 @@ fn own_trial(
         number: trial.number,
         name: String::from_str(alloc, trial.name)?,
         reason: trial.reason,
-        causes: causes_of(alloc, admitted, request, trial.number)?,
+        causes: causes_of(alloc, policy, admitted, request, trial)?,
     })
 }
 
-/// The leaves that decide whether the sides of the policy of this number match the request, in words.
+/// The leaves that decide whether the sides of the trial's policy match the request, in words. If its condition is an
+/// error, the part of the condition that the error is from follows.
 fn causes_of(
     alloc: Global,
+    policy: &[u8],
+    admitted: &Admitted,
+    request: &Request,
+    trial: &Trial<'_>,
+) -> Result<Vec<String>, AllocError> {
+    let mut words = match admitted.causes(trial.number, request, CAUSES)? {
+        Some(causes) => causes.words(alloc, request)?,
+        None => Vec::new(alloc),
+    };
+    if let Reason::ConditionFails(_) = trial.reason {
+        if let Some(place) = error_words(alloc, policy, admitted, request, trial.number)? {
+            words.push(place)?;
+        }
+    }
+    Ok(words)
+}
+
+/// The part of the condition of the policy of this number that its error is from, in words. It is not looked for in a
+/// filter whose conditions may take too long.
+fn error_words(
+    alloc: Global,
+    policy: &[u8],
     admitted: &Admitted,
     request: &Request,
     number: usize,
-) -> Result<Vec<String>, AllocError> {
-    match admitted.causes(number, request, CAUSES)? {
-        Some(causes) => causes.words(alloc, request),
-        None => Ok(Vec::new(alloc)),
+) -> Result<Option<String>, AllocError> {
+    if admitted.bound() > MOST_SEARCHED {
+        let words = "the part is not looked for: the conditions may take more than 1000000 steps";
+        return Ok(Some(String::from_str(alloc, words)?));
     }
+    place_of_error(alloc, policy, number, request)
 }
 
 /// Appends the lines of each of the trials.

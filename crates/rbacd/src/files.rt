@@ -1,7 +1,8 @@
 //! Sources of files, and destinations of logs.
-ghost use Rattle.std.specs.Prelude.{◌≡◌, ◌≤◌, ◌<◌, ◌⊎◌, ℕ, List, IfErr, IfOk, IfSome, length};
+ghost use Rattle.std.specs.Prelude.{◌≡◌, ◌≤◌, ◌<◌, ◌⊎◌, ℕ, Err, List, IfErr, IfOk, IfSome, length};
 ghost use Rattle.std.specs.declared.io.Error.{Error as IoError};
 ghost use Rattle.std.specs.IoError.{error_kind};
+ghost use Rattle.rbacd.specs.declared.files.WholeFault.{WholeFault};
 
 use std::alloc::Global;
 use std::fs::File;
@@ -42,7 +43,10 @@ impl Source for HostRuntime {
     ghost lacks = { λ _ _. ⊤ };
 
     fn read_file(&self, alloc: Global, path: &str) -> io::Result<Vec<u8>> {
-        read_whole(alloc, File::open(self, path)?)
+        match read_whole(alloc, File::open(self, path)?) {
+            Ok(bytes) => Ok(bytes),
+            Err(fault) => Err(fault.error()),
+        }
     }
 
     type Log = LogWriter;
@@ -80,15 +84,51 @@ impl Write for LogWriter {
     }
 }
 
+/// Why not all bytes of a file are read.
+#[derive(Drop)]
+pub(crate) enum WholeFault {
+    /// It has more than `MOST_FILE` bytes.
+    TooLong,
+    /// A read failed, for this cause.
+    Read(io::Error),
+}
+
+impl WholeFault {
+    /// The fault as an error of the input.
+    fn error(self) -> io::Error
+        ensures long { self ≡ WholeFault.TooLong → error_kind result ≡ ErrorKind.FileTooLarge }
+        ensures read { (cause : IoError) → self ≡ WholeFault.Read cause → result ≡ cause }
+    {
+        match self {
+            WholeFault::TooLong => {
+                io::Error::new(ErrorKind::FileTooLarge, "it is longer than 16 MiB")
+            }
+            WholeFault::Read(cause) => cause,
+        }
+    }
+}
+
+impl From<io::Error> for WholeFault {
+    ghost use Rattle.rbacd.specs.declared.files.WholeFault.TheVariants as whole_faults;
+
+    ghost from_gives = { λ cause fault. fault ≡ whole_faults.Read cause };
+
+    fn from(cause: io::Error) -> WholeFault {
+        WholeFault::Read(cause)
+    }
+}
+
 /// All bytes of a file of at most `MOST_FILE` bytes.
-pub(crate) fn read_whole<R: Read + Drop>(alloc: Global, file: R) -> io::Result<Vec<u8>>
+pub(crate) fn read_whole<R: Read + Drop>(alloc: Global, file: R) -> Result<Vec<u8>, WholeFault>
     ensures whole { IfOk result (λ v. IfSome (R.remaining file) (λ bytes. v.items ≡ bytes)) }
     ensures short { IfOk result (λ v. length v.items ≤ 16777216) }
+    ensures long { result ≡ Err WholeFault.TooLong
+        → IfSome (R.remaining file) (λ bytes. 16777216 < length bytes) }
 {
     let mut bytes = Vec::new(alloc);
     file.take(MOST_FILE + 1).read_to_end(&mut bytes)?;
     if bytes.len() as u64 > MOST_FILE {
-        return Err(io::Error::new(ErrorKind::FileTooLarge, "it is longer than 16 MiB"));
+        return Err(WholeFault::TooLong);
     }
     Ok(bytes)
 }

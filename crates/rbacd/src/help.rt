@@ -48,6 +48,8 @@ With --explain a line follows for each policy that was tried, in order, up to th
   M \"p\": match                           it matches, and has no condition
 Below it, each leaf of its rules that decides, at most 8 for its permissions and 8 for its principals:
     permissions[0].and_rules.rules[1].header \"x-user\": exact \"alice\", is \"bob\"
+And if its condition is an error, the part that the error is from:
+    checked_condition.expr, node 3: no key \"x-user\"
 With --json the object has them as \"trials\":
   {\"causes\":[\"permissions[0].not_rule.any\"],\"name\":\"p\",\"number\":M,\"reason\":\"permission\"}
   {\"causes\":[..],\"error\":\"E\",\"name\":\"p\",\"number\":M,\"reason\":\"condition error\"}

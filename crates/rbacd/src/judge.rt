@@ -17,7 +17,7 @@ ghost use Rattle.rbacd.specs.declared.outcome.Report.{Report};
 ghost use Rattle.rbacd.specs.Output.{BreaksOff};
 ghost use Rattle.rbacd.specs.steps.Judged.{IsAnswerTo, IsExplanationOf, IsNameOf, IsOutcomeOfAsk, IsOutcomeUnder, bare, report_with};
 
-use crate::explain::{Explanation, own_trials};
+use crate::explain::{Explaining, Explanation, own_trials};
 use crate::input::read_ask;
 use crate::json::Why;
 use crate::outcome::{Outcome, Report};
@@ -160,7 +160,13 @@ pub(crate) fn finding_of<R: Read + Drop>(
         × Admissible policy.now largest budget) }
 {
     match admit(alloc, policy, &Limits::largest(), budget) {
-        Ok(admitted) => memory_as_finding(head_finding(alloc, &admitted, conn, explain, input)),
+        Ok(admitted) => {
+            let explaining = Explaining {
+                asked: explain,
+                policy,
+            };
+            memory_as_finding(head_finding(alloc, &admitted, conn, explaining, input))
+        }
         Err(refusal) => Ok(Finding::bare(Outcome::Refused(refusal))),
     }
 }
@@ -184,7 +190,7 @@ fn head_finding<R: Read + Drop>(
     alloc: Global,
     admitted: &Admitted,
     conn: Conn,
-    explain: bool,
+    explaining: Explaining<'_>,
     input: R,
 ) -> io::Result<Finding>
     requires { limits_view admitted.now ≡ largest }
@@ -194,11 +200,11 @@ fn head_finding<R: Read + Drop>(
     ensures name { IfOk result (λ finding. IsNameOf (filter_view admitted.now) finding.outcome
         (option_map string_bytes finding.name)) }
     ensures given { IfOk result (λ finding.
-        IsGiven finding.explanation ↔ (IsTrue explain × IsDecision finding.outcome)) }
+        IsGiven finding.explanation ↔ (IsTrue explaining.entry.asked × IsDecision finding.outcome)) }
 {
     let mut input = input;
     let found = read_ask(alloc, admitted.limits(), conn, &mut input)?;
-    Ok(finding_of_ask(alloc, admitted, &found, explain)?)
+    Ok(finding_of_ask(alloc, admitted, &found, explaining)?)
 }
 
 /// The finding for what the bytes of an input ask.
@@ -206,7 +212,7 @@ pub(crate) fn finding_of_ask(
     alloc: Global,
     admitted: &Admitted,
     found: &Option<HeadAsk>,
-    explain: bool,
+    explaining: Explaining<'_>,
 ) -> Result<Finding, AllocError>
     requires { limits_view admitted.now ≡ largest }
     ensures outcome { IfOk result (λ finding.
@@ -216,11 +222,11 @@ pub(crate) fn finding_of_ask(
     ensures name { IfOk result (λ finding. IsNameOf (filter_view admitted.now) finding.outcome
         (option_map string_bytes finding.name)) }
     ensures given { IfOk result (λ finding.
-        IsGiven finding.explanation ↔ (IsTrue explain × IsDecision finding.outcome)) }
+        IsGiven finding.explanation ↔ (IsTrue explaining.entry.asked × IsDecision finding.outcome)) }
 {
     let outcome = outcome_of_ask(admitted, found);
     let name = name_of(alloc, admitted, outcome)?;
-    let explanation = explanation_of_ask(alloc, admitted, found, outcome, explain);
+    let explanation = explanation_of_ask(alloc, admitted, found, outcome, explaining);
     Ok(Finding {
         outcome,
         name,
@@ -290,24 +296,25 @@ fn explanation_of_ask(
     admitted: &Admitted,
     found: &Option<HeadAsk>,
     outcome: Outcome,
-    explain: bool,
+    explaining: Explaining<'_>,
 ) -> Explanation
     requires limits { limits_view admitted.now ≡ largest }
     requires asked { IsOutcomeOfAsk (filter_view admitted.now) found.now outcome }
     ensures found { IfJudge found.now
         (λ request. IsExplanationOf (filter_view admitted.now) request result) }
-    ensures given { IsGiven result ↔ (IsTrue explain × IsDecision outcome) }
+    ensures given { IsGiven result ↔ (IsTrue explaining.entry.asked × IsDecision outcome) }
 {
     match found {
-        Some(HeadAsk::Judge(request)) if explain && outcome.is_decision() => {
-            explained(alloc, admitted, request)
+        Some(HeadAsk::Judge(request)) if explaining.asked && outcome.is_decision() => {
+            explained(alloc, admitted, request, explaining.policy)
         }
         _ => Explanation::Absent,
     }
 }
 
-/// The explanation with the policies that are tried for the request.
-fn explained(alloc: Global, admitted: &Admitted, request: &Request) -> Explanation
+/// The explanation with the policies that are tried for the request. The filter is that of the policy file with these
+/// bytes.
+fn explained(alloc: Global, admitted: &Admitted, request: &Request, policy: &[u8]) -> Explanation
     requires { limits_view admitted.now ≡ largest }
     ensures found { IsExplanationOf (filter_view admitted.now) request.now result }
     ensures given { IsGiven result }
@@ -316,7 +323,7 @@ fn explained(alloc: Global, admitted: &Admitted, request: &Request) -> Explanati
         Ok(trials) => trials,
         Err(cause) => return Explanation::Untold(cause),
     };
-    match own_trials(alloc, admitted, request, &trials) {
+    match own_trials(alloc, policy, admitted, request, &trials) {
         Ok(own) => Explanation::Trials(own),
         Err(AllocError) => Explanation::Untold(RunError::Memory),
     }

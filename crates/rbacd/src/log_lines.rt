@@ -1,9 +1,8 @@
 //! The lines of a log, as JSON objects. No contract describes them.
 
-use crate::meanings::meaning_of;
+use crate::refused_part::RefusedPart;
 use ads::{Client, Config};
 use proto_wire::Refusal;
-use rbac_policy::place_of;
 use serde_json::{Value, json};
 use std::alloc::{AllocError, Global};
 use xds_wire::{DiscoveryResponse, read_extension, read_request, read_response};
@@ -111,15 +110,16 @@ fn refused_value(
     client: &Client,
 ) -> Result<Value, Refusal> {
     let fault = fault_in(alloc, response, reason, client.config());
+    let cause = fault.part.meaning(reason).to_string(alloc)?;
     Ok(json!(in alloc; {
         "update": "refused",
         "version": response.version_info,
         "nonce": response.nonce,
         "refused": reason.number(),
         "name": reason.name(),
-        "cause": meaning_of(reason),
+        "cause": cause,
         "filter": text_or_null(alloc, &fault.filter)?,
-        "place": text_or_null(alloc, &fault.place)?,
+        "place": text_or_null(alloc, &fault.part.place)?,
         "generation": client.generation()
     })?)
 }
@@ -132,22 +132,22 @@ fn text_or_null(alloc: Global, text: &Option<String>) -> Result<Value, AllocErro
     }
 }
 
-/// The place of a response's fault, as far as that is known.
+/// The part of a response that has a fault, as far as that is known.
 #[derive(Drop)]
-struct FaultPlace {
+struct ResponseFault {
     /// The name of the filter.
     filter: Option<String>,
     /// The part of the filter.
-    place: Option<String>,
+    part: RefusedPart,
 }
 
-/// The first configured filter of a response that has a part with this fault.
+/// The first configured filter of a response that has a part with this fault, under its own budget.
 fn fault_in(
     alloc: Global,
     response: &DiscoveryResponse<'_>,
     reason: Refusal,
     config: &Config,
-) -> FaultPlace {
+) -> ResponseFault {
     for resource in &response.resources {
         let Ok(extension) = read_extension(alloc, resource.value) else {
             continue;
@@ -155,19 +155,20 @@ fn fault_in(
         let Some(filter) = extension.typed_config else {
             continue;
         };
-        if config.filters().get_index_of(extension.name).is_none() {
+        let Some(budget) = config.filters().get(extension.name) else {
             continue;
-        }
-        if let Some(place) = place_of(alloc, filter.value, reason) {
-            return FaultPlace {
+        };
+        let part = RefusedPart::of(alloc, filter.value, reason, config.limits(), *budget);
+        if part.place.is_some() {
+            return ResponseFault {
                 filter: String::from_str(alloc, extension.name).ok(),
-                place: Some(place),
+                part,
             };
         }
     }
-    FaultPlace {
+    ResponseFault {
         filter: None,
-        place: None,
+        part: RefusedPart::unknown(),
     }
 }
 

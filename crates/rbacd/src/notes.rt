@@ -7,12 +7,13 @@
 use crate::bad_facts::cause_of_bad_facts;
 use crate::bad_heads::passed_limit;
 use crate::json::Why;
-use crate::meanings::{meaning_of, rule_of};
+use crate::meanings::rule_of;
 use crate::outcome::Outcome;
+use crate::refused_part::RefusedPart;
 use crate::telling::cause_of_bad_config;
+use attributes::Limits;
 use http_front::HeadFault;
 use proto_wire::{Payload, Reader, Refusal};
-use rbac_policy::place_of;
 use std::alloc::{AllocError, Global};
 use std::fmt;
 
@@ -21,8 +22,8 @@ use std::fmt;
 pub(crate) struct Notes {
     /// What a refused policy file looks like, if it is plainly no filter message.
     pub(crate) policy: Option<Likeness>,
-    /// The part of the policy file that has the fault, if it is known.
-    pub(crate) place: Option<String>,
+    /// The part of the policy file that has the fault.
+    pub(crate) part: RefusedPart,
     /// Why the facts file has no facts within the limits.
     pub(crate) facts: String,
     /// Why the configuration file has no configuration.
@@ -36,7 +37,7 @@ impl Notes {
     pub(crate) fn new(alloc: Global) -> Notes {
         Notes {
             policy: None,
-            place: None,
+            part: RefusedPart::unknown(),
             facts: String::new(alloc),
             config: String::new(alloc),
             head: None,
@@ -67,7 +68,7 @@ impl Notes {
         match outcome {
             Outcome::Refused(refusal) => Why {
                 cause: self.cause_of_refusal(alloc, refusal).ok(),
-                place: copy_of(alloc, &self.place),
+                place: copy_of(alloc, &self.part.place),
             },
             Outcome::Fault(fault) => Why {
                 cause: self.cause_of_fault(alloc, fault).ok(),
@@ -83,10 +84,10 @@ impl Notes {
 
     /// Why a policy file is refused, and what it looks like.
     fn cause_of_refusal(&self, alloc: Global, refusal: Refusal) -> Result<String, AllocError> {
-        let meaning = meaning_of(refusal);
+        let meaning = self.part.meaning(refusal);
         match self.policy {
             Some(likeness) => format!(in alloc; "{meaning}; the policy file looks like {likeness}"),
-            None => String::from_str(alloc, meaning),
+            None => format!(in alloc; "{meaning}"),
         }
     }
 
@@ -99,12 +100,18 @@ impl Notes {
         }
     }
 
-    /// Notes which part of a refused policy file has the fault. If no part has it, and the file's own fields may be
-    /// wrong, it notes what the file looks like.
-    pub(crate) fn look_at_policy(&mut self, alloc: Global, bytes: &[u8], outcome: Outcome) {
+    /// Notes which part of a policy file that is refused under this budget has the fault. If no part has it, and the
+    /// file's own fields may be wrong, it notes what the file looks like.
+    pub(crate) fn look_at_policy(
+        &mut self,
+        alloc: Global,
+        bytes: &[u8],
+        budget: u64,
+        outcome: Outcome,
+    ) {
         if let Outcome::Refused(refusal) = outcome {
-            self.place = place_of(alloc, bytes, refusal);
-            if self.place.is_none() && is_of_fields(refusal) {
+            self.part = RefusedPart::of(alloc, bytes, refusal, &Limits::largest(), budget);
+            if self.part.place.is_none() && is_of_fields(refusal) {
                 self.policy = likeness_of(bytes);
             }
         }

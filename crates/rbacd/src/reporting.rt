@@ -10,7 +10,7 @@ use crate::explain::{Explanation, untold_text};
 use crate::fault_json::end_in_json;
 use crate::job_fault::JobFault;
 use crate::judge::{Finding, print_report};
-use crate::meanings::{meaning_of, rule_of};
+use crate::meanings::rule_of;
 use crate::notes::Notes;
 use crate::outcome::{Outcome, Report};
 use crate::output::write_whole;
@@ -112,8 +112,8 @@ fn tell_head<E: Write>(fault: HeadFault, notes: &Notes, errors: &mut E) {
 
 /// Prints the meaning of the refusal, the part of the policy file that has the fault, and what the file looks like.
 fn tell_refusal<E: Write>(refusal: Refusal, notes: &Notes, errors: &mut E) {
-    let _ = writeln!(errors, "  {}", meaning_of(refusal));
-    if let Some(place) = &notes.place {
+    let _ = writeln!(errors, "  {}", notes.part.meaning(refusal));
+    if let Some(place) = &notes.part.place {
         let _ = writeln!(errors, "  {place}: {refusal}");
     }
     if let Some(likeness) = notes.policy {

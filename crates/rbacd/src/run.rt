@@ -211,7 +211,7 @@ fn check_file<F: Source>(
 {
     let bytes = read_file(alloc, files, policy)?;
     let outcome = check_of(alloc, &bytes, budget);
-    notes.look_at_policy(alloc, &bytes, outcome);
+    notes.look_at_policy(alloc, &bytes, budget, outcome);
     Ok(Finding::bare(outcome))
 }
 
@@ -243,7 +243,7 @@ fn judge_files<F: Source, R: Read + Drop>(
     };
     match finding_of(alloc, &bytes, budget, conn, explain, input) {
         Ok(finding) => {
-            notes.look_at_policy(alloc, &bytes, finding.outcome);
+            notes.look_at_policy(alloc, &bytes, budget, finding.outcome);
             notes.look_at_head(alloc, &kept, finding.outcome);
             Ok(finding)
         }

@@ -1,0 +1,151 @@
+//! The part of a condition that an error is from, in words for readers of an explanation. The part is found by
+//! `origin_of_error`, whose contract says which it is. No contract mentions the words.
+
+use attributes::Request;
+use cel_meaning::{evaluate_plainly, origin_of_error};
+use cel_tree::Tree;
+use cel_value::{Answer, Value};
+use proto_wire::Refusal;
+use rbac_policy::{WrittenCondition, written_condition};
+use std::alloc::{AllocError, Global};
+use std::rc::RcStr;
+
+/// How many characters of a text are told at most.
+const SHOWN: usize = 100;
+
+/// The innermost part of a condition that is an error for the request, such as
+/// `checked_condition.expr, node 7: no key "x-user"`. The condition is that of the policy of this number in the
+/// filter's message. `None`: it has none, or it is no error.
+pub(crate) fn place_of_error(
+    alloc: Global,
+    bytes: &[u8],
+    number: usize,
+    request: &Request,
+) -> Result<Option<String>, AllocError> {
+    match written_condition(alloc, bytes, number) {
+        Ok(Some(condition)) => place_in_condition(alloc, &condition, request),
+        Ok(None) => Ok(None),
+        Err(Refusal::Memory) => Err(AllocError),
+        Err(_) => Ok(None),
+    }
+}
+
+fn place_in_condition(
+    alloc: Global,
+    condition: &WrittenCondition,
+    request: &Request,
+) -> Result<Option<String>, AllocError> {
+    let name = match condition.is_checked {
+        true => "checked_condition.expr",
+        false => "condition",
+    };
+    match origin_of_error(alloc, &condition.checked.tree, request)? {
+        Some(part) => Ok(Some(part_text(alloc, name, part, request)?)),
+        None => Ok(None),
+    }
+}
+
+/// A part of a condition: its node, and what is wrong there. A node of the id 0 is not named.
+fn part_text(
+    alloc: Global,
+    name: &str,
+    part: &Tree,
+    request: &Request,
+) -> Result<String, AllocError> {
+    let words = words_of(alloc, part, request)?;
+    match id_of(part) {
+        0 => format!(in alloc; "{name}: {words}"),
+        id => format!(in alloc; "{name}, node {id}: {words}"),
+    }
+}
+
+/// The id of a node.
+fn id_of(tree: &Tree) -> i64 {
+    match tree {
+        Tree::Constant { id, .. } => *id,
+        Tree::Ident { id, .. } => *id,
+        Tree::Select { id, .. } => *id,
+        Tree::Call { id, .. } => *id,
+        Tree::List { id, .. } => *id,
+        Tree::Map { id, .. } => *id,
+        Tree::Comprehension { id, .. } => *id,
+    }
+}
+
+/// What is wrong at a part that is an error, though its operands are none.
+fn words_of(alloc: Global, part: &Tree, request: &Request) -> Result<String, AllocError> {
+    match part {
+        Tree::Constant { .. } | Tree::List { .. } => String::from_str(alloc, "an error"),
+        Tree::Ident { name, .. } => words_of_attribute(alloc, name),
+        Tree::Select { operand, field, .. } => words_of_select(alloc, operand, field),
+        Tree::Call { function, args, .. } => {
+            words_of_call(alloc, function.as_str(), args, request)
+        }
+        Tree::Map { .. } => String::from_str(alloc, "a map literal that repeats a key"),
+        Tree::Comprehension { parts, .. } => {
+            let variable = shown(alloc, parts.iter_var.as_str())?;
+            format!(in alloc; "the comprehension with the variable {variable}")
+        }
+    }
+}
+
+/// An attribute that the request lacks.
+fn words_of_attribute(alloc: Global, name: &RcStr) -> Result<String, AllocError> {
+    let name = name.as_str();
+    format!(in alloc; "no attribute {name}")
+}
+
+/// A Select that is an error: of an attribute that the request lacks, or of a key that a map lacks.
+fn words_of_select(alloc: Global, operand: &Tree, field: &RcStr) -> Result<String, AllocError> {
+    let field = field.as_str();
+    match operand {
+        Tree::Ident { name, .. } => {
+            let root = name.as_str();
+            format!(in alloc; "no attribute {root}.{field}")
+        }
+        _ => words_of_key(alloc, field),
+    }
+}
+
+/// A call that is an error: of a key or an item that is not there, or of another function.
+fn words_of_call(
+    alloc: Global,
+    function: &str,
+    args: &[Tree],
+    request: &Request,
+) -> Result<String, AllocError> {
+    if function == "_[_]" {
+        if let [_, key] = args {
+            return words_of_index(alloc, &evaluate_plainly(alloc, key, request)?);
+        }
+    }
+    format!(in alloc; "the call of {function}")
+}
+
+/// A key or an index that is not there.
+fn words_of_index(alloc: Global, key: &Option<Answer>) -> Result<String, AllocError> {
+    match key {
+        Some(Ok(Value::Text(text))) => words_of_key(alloc, text.as_str()),
+        Some(Ok(Value::Int(number))) => format!(in alloc; "no item or key {number}"),
+        Some(Ok(Value::Uint(number))) => format!(in alloc; "no key {number}u"),
+        Some(Ok(Value::Bool(truth))) => format!(in alloc; "no key {truth}"),
+        _ => String::from_str(alloc, "no such key"),
+    }
+}
+
+/// A key of a map that is not there.
+fn words_of_key(alloc: Global, key: &str) -> Result<String, AllocError> {
+    let key = shown(alloc, key)?;
+    format!(in alloc; "no key {key}")
+}
+
+/// The first characters of the text in quotes, and `..` if more follow.
+fn shown(alloc: Global, text: &str) -> Result<String, AllocError> {
+    match text.char_indices().nth(SHOWN) {
+        Some((end, _)) => {
+            let start = text.get(..end).unwrap_or("");
+            format!(in alloc; "{start:?}..")
+        }
+        None => format!(in alloc; "{text:?}"),
+    }
+}
