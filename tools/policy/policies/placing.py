@@ -87,12 +87,12 @@ class Named(NamedTuple):
 
 
 def named_node(told: EnginePlace, message: Optional[Message]) -> Optional[Named]:
-    """The node that the engine names, or None."""
+    """The node that the engine names, or None; also None if several nodes have its id."""
     known = _known_at(told.path, message)
     if known is None or told.node is None:
         return None
-    found = (node for node in in_order(known.tree) if node.id == told.node)
-    return next((Named(known.condition, known.tree, node, known.path) for node in found), None)
+    found = [node for node in in_order(known.tree) if node.id == told.node]
+    return Named(known.condition, known.tree, found[0], known.path) if len(found) == 1 else None
 
 
 def node_at(path: tuple, message: Message) -> Optional[Named]:

@@ -2,6 +2,7 @@
 import json
 import os
 import re
+from functools import lru_cache
 from typing import Dict, List, NamedTuple, Optional, Tuple
 
 import yaml
@@ -12,7 +13,10 @@ from .files import BYTES, is_binary, kind_of, name_of, policy_text, read_file, t
 from .forms.binary import filters_in
 from .forms.envoy import Form, rewritten
 from .forms.nodes import Node, get, items, text_of
+from .messages import FILTER, Message, descriptor
 from .places import Mistake, Source, start_of
+from .placing import EnginePlace, named_node
+from .reader import read
 from .reading import contents, encoded
 from .requests import Reader
 
@@ -22,6 +26,8 @@ EXPECTATION = re.compile(r"(allow|deny|steps|refused(?: (?:\d+ )?\w+)?|head (?:4
 NONE = "none"
 # The members of a trial that its reason has already.
 TRIAL = ("name", "number", "reason", "error", "steps", "bound")
+# The part of a condition that an error is from, as the engine tells it.
+ERROR_PLACE = re.compile(r"(?P<part>checked_condition\.expr|condition), node (?P<node>-?\d+): ")
 
 
 class Subject(NamedTuple):
@@ -193,9 +199,26 @@ def _difference(test: Test, answer: dict) -> List[str]:
     came = told(answer) + (f" by {quoted(by)}" if "verdict" in answer else "")
     lines = [f"- {wanted}", f"+ {came}"]
     for trial in answer.get("trials", []):
-        lines += [f"    {quoted(trial['name'])}: {reason(trial)}", *(f"      {line}" for line in details(trial))]
+        found = [_with_node(line, trial["name"], test.subject) for line in details(trial)]
+        lines += [f"    {quoted(trial['name'])}: {reason(trial)}", *(f"      {line}" for line in found)]
     cause = answer.get("cause")
     return lines + [f"    {line.strip()}" for line in ([cause] if isinstance(cause, str) else cause or [])]
+
+
+def _with_node(line: str, policy: str, subject: Subject) -> str:
+    """A line about a policy; if it names a node of the condition, with that node as text."""
+    found = ERROR_PLACE.match(line)
+    if found is None:
+        return line
+    place = EnginePlace(("rules", "policies", policy, *found["part"].split(".")), int(found["node"]))
+    named = named_node(place, _message_of(subject.data))
+    return line if named is None else f"{line} ({named.told()})"
+
+
+@lru_cache(maxsize=2)
+def _message_of(data: bytes) -> Message:
+    """The message of a filter's bytes, kept for the next line about the same one."""
+    return read(descriptor(FILTER), data, None)
 
 
 def matched_of(answer: dict) -> str:

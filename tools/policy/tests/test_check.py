@@ -203,6 +203,17 @@ class WithEngine(Room):
         [failure] = xml.etree.ElementTree.parse(self.room / "t.xml").getroot().iter("failure")
         self.assertIn("+ deny by none", failure.text)
 
+    def test_errors_of_conditions(self):
+        """The part that an error is from is told as text, as the branch of a choice is that was taken."""
+        choice = 'has(request.headers.a) ? request.headers["b"] == "c" : request.headers["d"] == "c"'
+        self.file("f.yaml", condition(choice))
+        text = "policy: f.yaml\ntests: [{name: t, request: {}, expect: allow}]"
+        status, out, _ = self.run_it("test", self.file("t.yaml", text))
+        self.assertEqual(status, 1)
+        self.assertRegex(
+            out.decode(), r'\n        checked_condition\.expr, node \d+: no key "d" \(request\.headers\["d"\]\)\n'
+        )
+
     def test_coverage(self):
         self.file("f.yaml", CONDITION)
         status, out, _ = self.run_it("test", "--covered", self.file("t.yaml", TESTS.split("- name: a writer")[0]))
@@ -258,7 +269,8 @@ case "$*" in
 *--help*) echo --batch ;;
 check*) echo 'admitted: policies 2 bound 4150' ;;
 *) cat > /dev/null; echo '{"name":null,"policy":null,"verdict":"deny","trials":[
-{"name":"readers","number":0,"reason":"condition error","error":"NoSuchKey","at":"node 3"},
+{"name":"readers","number":0,"reason":"condition error","error":"NoKey","at":"node 3",
+"causes":["checked_condition.expr, node 2: no key","checked_condition.expr, node 99: no key"]},
 {"name":"writers","number":1,"reason":"permission","causes":["permissions[0].header \\"x-user\\": exact \\"alice\\", is \\"bob\\"",{"a":1}]}]}' | tr -d '\\n'; echo ;;
 esac
 """
@@ -276,8 +288,10 @@ class WithoutEngine(Room):
         status, out, errors = self.run_it("test", "--engine", "./engine", self.file("t.yaml", text))
         self.assertEqual((status, errors), (1, ""))
         self.assertIn(
-            '      "readers": its condition is the error NoSuchKey, which is no match\n'
+            '      "readers": its condition is the error NoKey, which is no match\n'
             "        node 3\n"
+            "        checked_condition.expr, node 2: no key (request.method)\n"
+            "        checked_condition.expr, node 99: no key\n"
             '      "writers": no permission of it matches\n'
             '        permissions[0].header "x-user": exact "alice", is "bob"\n'
             '        {"a": 1}\n',
