@@ -40,8 +40,9 @@ by_condition (Some (value (bool false))) on_condition on_true on_false = on_fals
 by_condition _ on_condition on_true on_false = on_condition
 
 abbrev mutual
-  -- the innermost part that is an error, the leftmost first; none if the expression is no error. Of a comprehension only
-  -- the range is looked at, since the other parts have locals in scope
+  -- where an expression's error begins: from the whole inwards, the leftmost operand that is an error, as long as there is
+  -- one; none if the expression is no error. Errors that `&&` or `||` absorbs, or in a branch not taken, do not count. Of a
+  -- comprehension only the range is searched
   pub origin : RequestValue → CelTree → Option CelTree
   origin r (constant id v) = None
   origin r (ident id name) = from r (ident id name) None

@@ -6,13 +6,13 @@ ghost use Rattle.cel_tree.specs.Tree.{CelTree};
 ghost use Rattle.cel_types.specs.Meaning.{eval};
 ghost use Rattle.cel_meaning.specs.Origin.{is_error, origin};
 
-/// The part that an expression's error is from is the same error.
+/// The part that an expression's error is from evaluates to the same error.
 pub fn origin_is_the_error()
     ensures { (r : RequestValue) (t part : CelTree)
         → origin r t ≡ Some part → eval part r [] ≡ eval t r [] }
 {}
 
-/// That part is the innermost: in itself it is its own origin.
+/// That part is its own origin: the search in it finds it again.
 pub fn origin_is_innermost()
     ensures { (r : RequestValue) (t part : CelTree)
         → origin r t ≡ Some part → origin r part ≡ Some part }

@@ -19,9 +19,9 @@ use cel_value::{Answer, Value};
 use std::alloc::{AllocError, Global};
 use std::rc::RcStr;
 
-/// The innermost part of an expression that is an error for the request, the leftmost first. `None`: the expression is
-/// no error. Of a choice only the branch counts that its condition takes. Of a comprehension only the range is looked
-/// at, as the other parts have locals in scope.
+/// Where an expression's error begins: from the whole inwards, the leftmost operand that is an error for the request, as
+/// long as there is one. `None`: the expression is no error. Of a choice the branch that is taken is searched, or the
+/// condition if that is an error. Of a comprehension only the range is searched.
 #[cycle(origin)]
 pub fn origin_of_error<'t>(
     alloc: Global,

@@ -13,7 +13,7 @@ use std::rc::RcStr;
 /// How many characters of a text are told at most.
 const SHOWN: usize = 100;
 
-/// The innermost part of a condition that is an error for the request, such as
+/// Where the error of a condition begins for the request, such as
 /// `checked_condition.expr, node 7: no key "x-user"`. The condition is that of the policy of this number in the
 /// filter's message. `None`: it has none, or it is no error.
 pub(crate) fn place_of_error(
@@ -99,12 +99,17 @@ fn words_of_attribute(alloc: Global, name: &RcStr) -> Result<String, AllocError>
 fn words_of_select(alloc: Global, operand: &Tree, field: &RcStr) -> Result<String, AllocError> {
     let field = field.as_str();
     match operand {
-        Tree::Ident { name, .. } => {
+        Tree::Ident { name, .. } if is_root(name.as_str()) => {
             let root = name.as_str();
             format!(in alloc; "no attribute {root}.{field}")
         }
         _ => words_of_key(alloc, field),
     }
+}
+
+/// Whether the name of a variable is a root of attributes, as `request`. A dotted name is that of an attribute.
+fn is_root(name: &str) -> bool {
+    !name.as_bytes().contains(&b'.')
 }
 
 /// A call that is an error: of a key or an item that is not there, or of another function.
