@@ -1,8 +1,10 @@
 """Files as they are read: their bounds, and what they look like where they are not what is expected."""
 import base64
 import binascii
+import os
 import re
 import sys
+from typing import Optional
 
 from .places import Mistake
 
@@ -38,6 +40,12 @@ def read_file(name: str) -> bytes:
     if len(data) > GREATEST_FILE:
         raise Mistake(f"{name_of(name)}: a file has at most 16 MiB; split its policies over several filters")
     return data
+
+
+def real_path_below(path: str, root: str) -> Optional[str]:
+    """The real path of a file, all links followed, or None if that is not below a folder."""
+    real, top = os.path.realpath(path), os.path.realpath(root)
+    return real if os.path.commonpath([real, top]) == top else None
 
 
 def kind_of(data: bytes) -> str:

@@ -2,7 +2,7 @@
 import argparse
 from typing import Dict, List
 
-FILES = {"FILE", "OLD", "NEW", "REQUESTS", "PROGRAM"}
+FILES = {"FILE", "OLD", "NEW", "REQUESTS", "PROGRAM", "DIR"}
 EXAMPLES = """policy check service.yaml
 policy encode service.yaml --output service.bin
 policy test service.tests.yaml --junit report.xml

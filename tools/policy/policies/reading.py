@@ -21,11 +21,12 @@ class Encoded(NamedTuple):
 
 
 class Contents(NamedTuple):
-    """The filters of a file, and the notes and mistakes on the file itself."""
+    """The filters of a file, the notes and mistakes on the file itself, and whether it is known to hold a policy."""
 
     filters: List[Encoded]
     findings: List[Finding]
     mistakes: List[Mistake]
+    is_policy: bool
 
 
 def contents(source: Source, budget: int = BUDGET, dotted: bool = False) -> Contents:
@@ -34,14 +35,14 @@ def contents(source: Source, budget: int = BUDGET, dotted: bool = False) -> Cont
     try:
         reading.read()
     except Mistake as mistake:
-        return Contents([], reading.findings, [mistake, *mistake.rest])
+        return Contents([], reading.findings, [mistake, *mistake.rest], reading.is_policy)
     filters, mistakes = [], []
     for form in reading.forms:
         try:
             filters.append(encoded(source, form, budget, dotted))
         except Mistake as mistake:
             mistakes += [mistake, *mistake.rest]
-    return Contents(filters, reading.findings, mistakes)
+    return Contents(filters, reading.findings, mistakes, reading.is_policy)
 
 
 def encoded(source: Source, form: Form, budget: int, dotted: bool) -> Encoded:

@@ -9,7 +9,7 @@ import yaml
 
 from . import engine
 from .bounds import BUDGET, GREATEST_BUDGET
-from .files import BYTES, is_binary, kind_of, name_of, policy_text, read_file, text_of_policy
+from .files import BYTES, is_binary, kind_of, name_of, policy_text, read_file, real_path_below, text_of_policy
 from .forms.binary import filters_in
 from .forms.envoy import Form, rewritten
 from .forms.nodes import Node, get, items, text_of
@@ -58,11 +58,16 @@ class Outcome(NamedTuple):
     difference: List[str]
 
 
-class TestFile:
-    """One file of tests; raises Mistake."""
+class NoPolicy(Mistake):
+    """The mistake of a file that is not known to hold a policy; who did not name it himself sees no line of it."""
 
-    def __init__(self, name: str):
-        self.name = name
+
+class TestFile:
+    """One file of tests; raises Mistake. It reads policies below its own folder, or below `root`."""
+
+    def __init__(self, name: str, root: Optional[str] = None):
+        self.folder = os.path.dirname(name) if name != "-" else ""
+        self.root = root
         self.source = Source(name_of(name), policy_text(name))
         self.reader = Reader(self.source)
         self.subjects: Dict[tuple, Subject] = {}
@@ -123,23 +128,38 @@ class TestFile:
 
     def _file(self, node: Node, chosen: Optional[str], budget: int) -> Subject:
         name = self.reader.line(node, "a file's name")
-        path = os.path.join(os.path.dirname(self.name) if self.name != "-" else "", name)
+        path = os.path.join(self.folder, name)
         try:
-            return Subject(name, filter_of_file(path, chosen), budget)
+            return Subject(name, filter_in(path, self._bytes(node, path), chosen), budget)
+        except NoPolicy:
+            raise self.reader.mistake(node, f"{path} holds no policy: `policy check {path}` says why") from None
+
+    def _bytes(self, node: Node, path: str) -> bytes:
+        """The bytes of a file that a test names."""
+        real = real_path_below(path, self.root or self.folder or ".")
+        if real is None:
+            where = f"the folder {self.root}" if self.root else "the folder of this file"
+            raise self.reader.mistake(node, f"{path} is outside of {where}: --root names another folder")
+        if os.path.exists(real) and not os.path.isfile(real):
+            raise self.reader.mistake(node, f"{path} is no plain file")
+        try:
+            return read_file(real)
         except OSError as fault:
             raise self.reader.mistake(node, f"cannot read {path}: {fault.strerror}") from None
 
 
 def filter_of_file(path: str, chosen: Optional[str] = None) -> bytes:
-    """The bytes of the filter of a file of any form, of that name where it holds some with names; raises Mistake."""
-    data = read_file(path)
+    """The bytes of the filter of a file; raises Mistake and OSError."""
+    return filter_in(path, read_file(path), chosen)
+
+
+def filter_in(path: str, data: bytes, chosen: Optional[str] = None) -> bytes:
+    """The bytes of the filter in those of a file of any form, of that name where it holds some with names; raises
+    Mistake, and NoPolicy where the file may hold something else."""
     if kind_of(data) == BYTES and is_binary(data):
         held = filters_in(data)
     else:
-        read = contents(Source(name_of(path), text_of_policy(path, data)))
-        if read.mistakes:
-            raise read.mistakes[0]
-        held = [(one.name, one.data) for one in read.filters]
+        held = _filters_of_text(path, data)
     alone = len(held) == 1 and not held[0][0]
     named = [bytes_ for name, bytes_ in held if chosen in (None, name) or alone]
     if len(named) != 1:
@@ -147,6 +167,21 @@ def filter_of_file(path: str, chosen: Optional[str] = None) -> bytes:
         what = "no filter of that name is here" if chosen and not named else f"this file holds {len(held)} filters"
         raise Mistake(f"{name_of(path)}: {what}: {known}; `filter` in a test or --filter of a command names one")
     return named[0]
+
+
+def _filters_of_text(path: str, data: bytes) -> List[Tuple[str, bytes]]:
+    """The filters of a file of text, each with its name."""
+    try:
+        read = contents(Source(name_of(path), text_of_policy(path, data)))
+    except Mistake as mistake:
+        raise NoPolicy(str(mistake), mistake.place, mistake.words) from None
+    if read.mistakes:
+        first, *rest = read.mistakes
+        if not read.is_policy:
+            first = NoPolicy(str(first), first.place, first.words)
+        first.rest = rest
+        raise first
+    return [(one.name, one.data) for one in read.filters]
 
 
 def run_tests(tests: List[Test], asked: engine.Engine) -> List[Outcome]:

@@ -256,7 +256,8 @@ class WithEngine(Room):
 
     def test_examples(self):
         folder = TOP / "examples" / "policies"
-        status, out, _ = self.run_it("test", "--covered", str(folder / "condition.tests.yaml"))
+        words = ["--covered", "--root", str(TOP / "examples"), str(folder / "condition.tests.yaml")]
+        status, out, _ = self.run_it("test", *words)
         self.assertEqual((status, out.decode().splitlines()[-1]), (0, "4 tests: 4 passed, 0 failed"))
         self.assertEqual(self.run_it("check", str(folder / "istio.yaml"))[0], 0)
         condition_file, other = TOP / "examples" / "condition.yaml", TOP / "examples" / "any_any.bin"

@@ -1,12 +1,17 @@
 """What is written where an output fails, and what is told of files that are not what is expected."""
 import base64
+import contextlib
 import gzip
+import io
+import os
 import pathlib
 import subprocess
+import sys
 import tempfile
 import time
 import unittest
 
+from policies import program
 from policies.wire import LENGTH, tag, varint
 from policies.wrap import frame, response
 from support import POLICY, TOP, condition, encoded, field
@@ -32,6 +37,19 @@ class Room(unittest.TestCase):
         """One run: its status, output and errors."""
         ran = subprocess.run([PROGRAM, *words], capture_output=True, cwd=self.room)
         return ran.returncode, ran.stdout, ran.stderr.decode()
+
+    def run_here(self, *words, given=b""):
+        """The same in this process, which saves its start."""
+        out, errors = (io.TextIOWrapper(io.BytesIO(), write_through=True) for _ in range(2))
+        before, sys.stdin = (os.getcwd(), sys.stdin), io.TextIOWrapper(io.BytesIO(given))
+        os.chdir(self.room)
+        try:
+            with contextlib.redirect_stdout(out), contextlib.redirect_stderr(errors):
+                status = program.main(list(map(str, words)))
+        finally:
+            os.chdir(before[0])
+            sys.stdin = before[1]
+        return status, out.buffer.getvalue(), errors.buffer.getvalue().decode()
 
     def shell(self, text):
         """The status and the errors of a line of bash; `$P` is the tool."""

@@ -34,6 +34,8 @@ def add(commands) -> None:
     )
     parser.add_argument("files", nargs="+", metavar="FILE", help="a file of tests in YAML")
     add_engine(parser)
+    told = "the folder below which tests may name files (default: that of each file of tests)"
+    parser.add_argument("--root", metavar="DIR", help=told)
     parser.add_argument("--junit", metavar="FILE", help="write the outcomes as JUnit's XML too")
     parser.add_argument(
         "--covered", action="store_true", help="fail where a policy or a condition was not tried both ways"
@@ -42,7 +44,7 @@ def add(commands) -> None:
 
 def run(words: argparse.Namespace) -> int:
     """Runs the tests and prints what came of them."""
-    tests: List[Test] = [test for name in words.files for test in TestFile(name).tests()]
+    tests: List[Test] = [test for name in words.files for test in TestFile(name, words.root).tests()]
     try:
         with engine.Engine(engine.find(words.engine)) as asked:
             outcomes = run_tests(tests, asked)

@@ -47,12 +47,15 @@ class Reading:
         self.forms: List[Form] = []
         # Filters that the file names and does not hold, each with the reason.
         self.absent: List[Tuple[Node, str]] = []
+        # Whether the file is known to hold a policy, whatever mistakes it has.
+        self.is_policy = False
 
     def read(self) -> None:
         """Reads the file; raises Mistake."""
         documents = [node for node in self.source.documents()]
         policies = [node for document in documents for node in _listed(document)]
         if any(istio.is_policy(node) for node in policies):
+            self.is_policy = True
             translation = istio.Translation(self.source)
             self.forms = [Form(name, node) for name, node in translation.filters(policies)]
             self.findings += translation.findings
@@ -71,10 +74,12 @@ class Reading:
             return [Form("", node)]
         direct = self._direct(node)
         if direct is not None:
+            self.is_policy = True
             return [Form("", direct)]
         found = list(self._inside(node, ""))
         if not found:
             return self._without(node, is_one_of_several)
+        self.is_policy = True
         for where, words in self.absent:
             self._note(where, f"{words}: it is left out")
         self.absent = []
