@@ -1,4 +1,4 @@
-"""The budget of a filter, and what of it the conditions take."""
+"""The greatest filter, its budget, and what of that the conditions take."""
 from typing import List
 
 from .conditions_typing import Bound, bounds_of
@@ -8,6 +8,9 @@ from .messages import Message
 BUDGET = 1_000_000
 GREATEST_BUDGET = 100_000_000
 TOO_COSTLY = 15
+# As much as a message of the update stream has.
+GREATEST_FILTER = 1_048_576
+TOO_LONG = f"the filter has more than {GREATEST_FILTER} bytes, the most that a message of the update stream has"
 
 
 def too_costly(message: Message, budget: int) -> List[Finding]:

@@ -7,7 +7,7 @@ from .bounds import GREATEST_BUDGET, too_costly
 from .conditions_typing import Bound, bounds_of
 from .decode import decode
 from .encode import Encoding
-from .files import BYTES, is_binary, kind_of, name_of, read_file, text_of_policy
+from .files import BYTES, bounded, is_binary, kind_of, name_of, read_file, text_of_policy
 from .findings import Finding, are_refused
 from .forms.binary import filters_in
 from .messages import FILTER, Message, descriptor
@@ -58,7 +58,8 @@ def check_files(names: List[str], budget: int, asked: Optional[engine.Engine]) -
 def _reports(name: str, budget: int) -> List[Tuple[Report, Optional[bytes]]]:
     data = read_file(name)
     if kind_of(data) == BYTES and is_binary(data):
-        return [_bytes_report(name_of(name), one, bytes_, budget) for one, bytes_ in filters_in(data)]
+        held = filters_in(bounded(name, data))
+        return [_bytes_report(name_of(name), one, bytes_, budget) for one, bytes_ in held]
     source = Source(name_of(name), text_of_policy(name, data))
     held = contents(source, budget)
     reports = [_report(source, one, [] if index else held.findings) for index, one in enumerate(held.filters)]

@@ -11,6 +11,7 @@ import yaml
 from .cel.attributes import spellings
 from .cel.check import UNSUPPORTED, Fault
 from .cel.infer import types_of_empty
+from .cel.limits import is_within_limits
 from .cel.mistake import TextMistake
 from .cel.parse import parse
 from .cel.printing import text_of
@@ -23,10 +24,10 @@ from .cel.tree import (
     in_order,
     rename_accumulators,
 )
-from .conditions_typing import typing_of
+from .conditions_typing import tree_of, typing_of
 from .findings import Finding
 from .messages import CHECKED_EXPR, EXPR, Message, descriptor
-from .places import spread
+from .spelling import index_of, spread
 from .scalars import is_bool, is_text
 from .trees import NoTree, message_tree, node_paths, tree_message, type_message
 from .writer import PLAIN, Writer
@@ -45,47 +46,76 @@ def type_entries(tree: Node) -> list:
     return [(number, type_message(known[number])) for number in sorted(known)]
 
 
+class Written(NamedTuple):
+    """A condition that was given as text: the tree of the text, and the message that is made of it."""
+
+    tree: Node
+    message: Message
+
+
 def encode_text(encoding, kind, pairs: dict, path: tuple, depth: int) -> Message:
-    """The `CheckedExpr` or `Expr` of a condition given as text."""
+    """The `CheckedExpr` or `Expr` of a condition given as text; one that is given again is made once."""
     _, node = pairs.pop(TEXT_KEY)
     if not is_text(node):
         raise encoding.mistake(node, "a text of CEL is expected here; put it in quotes")
-    dotted = _take_dotted(encoding, pairs)
-    ids = _take_ids(encoding, pairs)
-    accumulator = _take_accumulator(encoding, pairs)
-    tree = rename_accumulators(_parse(encoding, node, dotted), ACCUMULATOR, accumulator)
-    _give_ids(encoding, tree, ids)
+    dotted, accumulator = _take_dotted(encoding, pairs), _take_accumulator(encoding, pairs)
+    ids = _take_ids(pairs)
+    beside = tuple(sorted((name, id(value)) for name, (_, value) in pairs.items()))
+    key = (kind.full_name, node.value, dotted, accumulator, id(ids), beside)
+    written = encoding.conditions.get(key)
+    if written is not None:
+        encoding.grow(node, len(written.message.wire))
+    else:
+        tree = rename_accumulators(_parse(encoding, node, dotted), ACCUMULATOR, accumulator)
+        _give_ids(encoding, tree, ids)
+        written = Written(tree, _message(encoding, kind, tree, pairs, path, depth))
+        written.message.wire = encoding.writer.write(written.message)
+        encoding.conditions[key] = written
+        encoding.grow(node, len(written.message.wire))
+    _keep_places(encoding, kind, node, written, path)
+    return written.message
+
+
+def _message(encoding, kind, tree: Node, pairs: dict, path: tuple, depth: int) -> Message:
+    """The message of a condition's tree, with the fields beside its text."""
     for name in ("expr",) if kind.full_name == CHECKED_EXPR else list(pairs):
         if name in pairs:
             raise encoding.mistake(pairs[name][0], f"`{name}` cannot be used together with `{TEXT_KEY}`")
     if kind.full_name == EXPR:
-        encoding.marks[path] = node
-        message = tree_message(tree)
-        if path[-1] == CONDITION:
-            encoding.texts[path] = dotted
-            _tell_faults(encoding, node, tree, message, path)
-        return message
-    encoding.marks[path + ("expr",)] = node
+        return tree_message(tree)
     message = encoding.fields(kind, pairs, path, depth)
     message.values["expr"] = tree_message(tree)
-    if "type_map" not in message.values:
+    if "type_map" not in message.values and is_within_limits(tree):
         message.values["type_map"] = type_entries(tree)
-    encoding.texts[path + ("expr",)] = dotted
-    _tell_faults(encoding, node, tree, message, path + ("expr",))
     return message
 
 
-def _tell_faults(encoding, node: yaml.ScalarNode, tree: Node, message: Message, path: tuple) -> None:
-    """Keeps the faults of a condition's text with their places in it; the path is that of its tree."""
-    if path[0] != "rules":
+def _keep_places(encoding, kind, node: yaml.ScalarNode, written: Written, path: tuple) -> None:
+    """Keeps where a condition's text is, and its faults, each once for a text in the file."""
+    is_checked = kind.full_name == CHECKED_EXPR
+    if is_checked:
+        path += ("expr",)
+    encoding.marks[path] = node
+    if path[0] != "rules" or not is_checked and path[-1] != CONDITION:
         return
-    faults = [fault for fault in typing_of(message, tree).faults if fault.number != UNSUPPORTED]
-    faults += _odd_constants(tree)
+    encoding.texts[path] = written.tree
+    if id(node) not in encoding.told_texts:
+        encoding.told_texts.add(id(node))
+        _tell_faults(encoding, node, written, path)
+
+
+def _tell_faults(encoding, node: yaml.ScalarNode, written: Written, path: tuple) -> None:
+    """Keeps the faults of a condition's text with their places in it; the path is that of its tree."""
+    typing, expr = typing_of(written.message), written.message.get("expr") or written.message
+    faults = [fault for fault in typing.faults if fault.number != UNSUPPORTED] if typing is not None else []
+    known = tree_of(expr)
+    faults += _odd_constants(known)
     if not faults:
         return
-    paths, indices = dict(node_paths(tree, path)), spread(encoding.source, node)
+    paths, indices = dict(node_paths(known, path)), spread(encoding.source, node)
+    in_text = {part: other.place for part, other in zip(in_order(known), in_order(written.tree))}
     for fault in faults:
-        place = encoding.source.place_of(indices[fault.node.place])
+        place = encoding.source.place_of(indices[in_text[fault.node]])
         encoding.findings.append(Finding(fault.number, fault.words, place, paths[fault.node]))
 
 
@@ -98,7 +128,7 @@ def _take_dotted(encoding, pairs: dict) -> bool:
     return node.value == "true"
 
 
-def _take_ids(encoding, pairs: dict) -> Optional[yaml.Node]:
+def _take_ids(pairs: dict) -> Optional[yaml.Node]:
     return pairs.pop(IDS_KEY)[1] if IDS_KEY in pairs else None
 
 
@@ -114,10 +144,13 @@ def _take_accumulator(encoding, pairs: dict) -> str:
 
 def _parse(encoding, node: yaml.ScalarNode, dotted: bool) -> Node:
     try:
+        if node.value in encoding.wrong_texts:
+            raise encoding.wrong_texts[node.value]
         return parse(node.value, dotted)
     except TextMistake as fault:
-        index = spread(encoding.source, node)[fault.place]
-        raise encoding.source.mistake(encoding.source.place_of(index), fault.message) from None
+        encoding.wrong_texts[node.value] = fault
+        index = index_of(encoding.source, node, fault.place)
+        raise encoding.source.mistake(encoding.source.place_of(index), fault.message, fault.number) from None
 
 
 def _give_ids(encoding, tree: Node, node: Optional[yaml.Node]) -> None:

@@ -1,15 +1,12 @@
-"""The types and the costs of conditions that stand in messages."""
-from functools import lru_cache
+"""The types and the costs of conditions in messages, each worked out once for a message."""
 from typing import Dict, List, NamedTuple, Optional
 
 from .cel.check import NO_KIND, References, TypeEntries, Typing, check
 from .cel.cost import TooMuch, cost
-from .cel.tree import Node, in_order
+from .cel.limits import is_within_limits
+from .cel.tree import Node
 from .messages import EXPR, Message
 from .trees import NoTree, message_tree, message_type
-
-# A condition of more nodes is refused, whatever it would cost.
-MOST_NODES = 2048
 
 
 def entries_of(checked: Message) -> TypeEntries:
@@ -46,11 +43,31 @@ def references_of(checked: Message) -> References:
     return {number: (part.scalar("name"), part.get("value") is not None) for number, part in entries}
 
 
-def typing_of(condition: Message, tree: Node) -> Typing:
-    """The types of a condition's tree and its faults; an unchecked condition has no entries."""
-    if condition.kind.full_name == EXPR:
+def typing_of(condition: Message) -> Optional[Typing]:
+    """The types of a condition's tree and its faults, or None where it has no tree that the engine would read."""
+    return condition.kept("typing", lambda: _typing(condition))
+
+
+def _typing(condition: Message) -> Optional[Typing]:
+    is_unchecked = condition.kind.full_name == EXPR
+    tree = tree_of(condition if is_unchecked else condition.get("expr"))
+    if tree is None or not is_within_limits(tree):
+        return None
+    if is_unchecked:
         return check(tree, None, {})
     return check(tree, entries_of(condition), references_of(condition))
+
+
+def tree_of(expr: Optional[Message]) -> Optional[Node]:
+    """The tree of an `Expr`, or None where it does not read."""
+    return None if expr is None else expr.kept("tree", lambda: _tree(expr))
+
+
+def _tree(expr: Message) -> Optional[Node]:
+    try:
+        return message_tree(expr)
+    except NoTree:
+        return None
 
 
 class Condition(NamedTuple):
@@ -62,10 +79,7 @@ class Condition(NamedTuple):
 
     def tree(self) -> Optional[Node]:
         """Its tree, or None where it does not read."""
-        try:
-            return message_tree(self.expr)
-        except NoTree:
-            return None
+        return tree_of(self.expr)
 
 
 def condition_of(policy: Message) -> Optional[Condition]:
@@ -84,10 +98,12 @@ class Bound(NamedTuple):
     condition: Optional[Condition]
 
 
-@lru_cache(maxsize=1)
 def bounds_of(message: Message) -> List[Bound]:
-    """The bounds of a filter's conditions that have a type, by ascending name of their policies; kept for the next call,
-    since several ask for those of one filter."""
+    """The bounds of a filter's conditions that have a type, by ascending name of their policies."""
+    return message.kept("bounds", lambda: _bounds(message))
+
+
+def _bounds(message: Message) -> List[Bound]:
     rules = message.get("rules")
     policies: Dict[str, Message] = dict(rules.get("policies") or []) if rules is not None and rules.is_whole else {}
     bounds = []
@@ -96,17 +112,19 @@ def bounds_of(message: Message) -> List[Bound]:
         if condition is None:
             bounds.append(Bound(name, 0, None))
             continue
-        tree = condition.tree()
-        if tree is None or len(list(in_order(tree))) > MOST_NODES:
-            continue
-        typing = typing_of(condition.message, tree)
-        if typing.is_whole:
-            bounds.append(Bound(name, _steps(tree, typing), condition))
+        typing = typing_of(condition.message)
+        if typing is not None and typing.is_whole:
+            bounds.append(Bound(name, _steps(condition, typing), condition))
     return bounds
 
 
-def _steps(tree: Node, typing: Typing) -> Optional[int]:
-    try:
-        return cost(tree, typing.types)
-    except TooMuch:
-        return None
+def _steps(condition: Condition, typing: Typing) -> Optional[int]:
+    """How many steps a condition may take, or None where that is above the greatest budget."""
+
+    def made() -> Optional[int]:
+        try:
+            return cost(condition.tree(), typing.types)
+        except TooMuch:
+            return None
+
+    return condition.message.kept("steps", made)

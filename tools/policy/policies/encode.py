@@ -1,11 +1,15 @@
 """YAML to messages: the proto3 JSON mapping, with the conditions' texts and the types' texts besides."""
 import difflib
-from typing import Dict, List, Optional, Tuple
+from typing import Dict, List, Optional, Set, Tuple
 
 import yaml
 from google.protobuf.descriptor import Descriptor, FieldDescriptor
 
 from . import bounds, conditions, profile
+from .bounds import GREATEST_FILTER, TOO_LONG
+from .cel.limits import MOST_NODES, TOO_LARGE, TOO_MANY_NODES
+from .cel.mistake import TextMistake
+from .cel.tree import Node
 from .cel.typetext import read_type
 from .faults import UNSUPPORTED
 from .findings import Finding
@@ -47,25 +51,48 @@ ROOT = ()
 LONG_LIST = 1000
 
 
-class Encoding:
-    """One file on its way to a message.
+class TooLong(Mistake):
+    """A filter that is longer than the engine takes, which is not read further."""
 
-    `marks` keeps the node of each part by its path, `texts` the paths of the trees that texts give with
-    whether their attributes are dotted, and `findings` what the engine refuses or skips.
+
+class Encoding:
+    """One file on its way to a message; if it is bounded, no further than the engine would take it.
+
+    `marks` keeps the node of each part by its path, `texts` the trees of conditions' texts by the paths of their
+    messages, and `findings` what the engine refuses or skips. `conditions` are the conditions that were made of texts.
     """
 
-    def __init__(self, source: Source, dotted: bool = False):
+    def __init__(self, source: Source, dotted: bool = False, is_bounded: bool = False):
         self.source = source
         self.dotted = dotted
+        self.is_bounded = is_bounded
+        # At least as many bytes are made so far, and so many nodes of the condition that is read.
+        self.size = 0
+        self.nodes = 0
         self.writer = PLAIN
         self.marks: Dict[tuple, yaml.Node] = {}
-        self.texts: Dict[tuple, bool] = {}
+        self.texts: Dict[tuple, Node] = {}
+        self.conditions: Dict[tuple, conditions.Written] = {}
+        self.told_texts: Set[int] = set()
+        self.wrong_texts: Dict[str, TextMistake] = {}
         self.findings: List[Finding] = []
         self.mistakes: List[Mistake] = []
 
-    def mistake(self, node, message: str) -> Mistake:
+    def mistake(self, node, message: str, number: int = 0) -> Mistake:
         """The mistake at the start of a node."""
-        return self.source.mistake(start_of(node), message)
+        return self.source.mistake(start_of(node), message, number)
+
+    def grow(self, node: yaml.Node, size: int) -> None:
+        """Counts bytes that a node makes; raises TooLong above the most that the engine takes."""
+        self.size += size
+        if self.is_bounded and self.size > GREATEST_FILTER:
+            raise TooLong(self.source.tell(start_of(node), TOO_LONG), start_of(node), TOO_LONG)
+
+    def keep(self, mistake: Mistake) -> None:
+        """Keeps a mistake, after which reading goes on."""
+        if isinstance(mistake, TooLong):
+            raise mistake
+        self.mistakes.append(mistake)
 
     def filter_of(self, node: Optional[yaml.Node]) -> Message:
         """The message of a filter's node; raises Mistake with all mistakes in it."""
@@ -77,8 +104,9 @@ class Encoding:
         except Mistake as mistake:
             self.mistakes.append(mistake)
         if self.mistakes:
-            self.mistakes[0].rest = self.mistakes[1:]
-            raise self.mistakes[0]
+            first, *rest = {(one.place, one.words): one for one in self.mistakes}.values()
+            first.rest = rest
+            raise first
         return message
 
     def _without_order(self, node: yaml.Node) -> yaml.Node:
@@ -137,6 +165,12 @@ class Encoding:
         self._check_type(kind, pairs)
         if name in (EXPR, CHECKED_EXPR) and conditions.TEXT_KEY in pairs:
             return conditions.encode_text(self, kind, pairs, path, depth)
+        if name == EXPR and self.is_bounded:
+            self.nodes = 1 if path[-1] in ("expr", conditions.CONDITION) else self.nodes + 1
+            if self.nodes == MOST_NODES + 1:
+                raise self.mistake(node, TOO_MANY_NODES, TOO_LARGE)
+            if self.nodes > MOST_NODES:
+                return Message(kind)
         return self.fields(kind, pairs, path, depth)
 
     def pairs(self, node: yaml.Node, kind: Descriptor, entries_of: str = "") -> Dict[str, tuple]:
@@ -171,7 +205,7 @@ class Encoding:
                     )
                 message.values[field.name] = self._value(field, node, path + (field.name,), depth)
             except Mistake as mistake:
-                self.mistakes.append(mistake)
+                self.keep(mistake)
         return message
 
     def _field(self, kind: Descriptor, name: str, key: yaml.Node) -> Part:
@@ -211,7 +245,7 @@ class Encoding:
             try:
                 parts.append(self._one(field.field, part, path + (index,), depth))
             except Mistake as mistake:
-                self.mistakes.append(mistake)
+                self.keep(mistake)
         return parts
 
     def _map(self, field: FieldDescriptor, node: yaml.Node, path: tuple, depth: int) -> list:
@@ -231,7 +265,7 @@ class Encoding:
                 self._check_indent(value_field, key, value)
                 entries[name] = self._one(value_field, value, path + (name,), depth + 1)
             except Mistake as mistake:
-                self.mistakes.append(mistake)
+                self.keep(mistake)
         return list(entries.items())
 
     def _check_indent(self, field: FieldDescriptor, key: yaml.Node, value: yaml.Node) -> None:
@@ -249,11 +283,14 @@ class Encoding:
         if is_absent(node) and not is_null(field):
             raise self.mistake(node, "a value is expected here")
         if is_message(field):
+            self.grow(node, 2)
             return self.message(field.message_type, node, path, depth + 1)
         self.marks[path] = node
         if not isinstance(node, yaml.ScalarNode):
             raise self.mistake(node, f"one value of `{field.name}` is expected here")
-        return self.scalar(field, node)
+        value = self.scalar(field, node)
+        self.grow(node, len(value) if isinstance(value, (str, bytes)) else 0)
+        return value
 
     def scalar(self, field: FieldDescriptor, node: yaml.ScalarNode):
         """The value of a scalar node by a field's type."""

@@ -1,7 +1,7 @@
 """The engine `rbacd` as processes: what it answers on a filter, and what it decides on requests.
 
 It is the program that `RBACD` names, the proved one of this checkout (`bin/rbacd` builds it), one that was installed
-beside this tool, or one on the path. Never is it built from here.
+beside this tool, one on the path, or the one of this checkout that is not proved. It is never built from here.
 """
 import concurrent.futures
 import json
@@ -17,8 +17,11 @@ from typing import Dict, List, NamedTuple, Optional
 from .files import STANDARD_INPUT
 
 TOP = pathlib.Path(__file__).resolve().parents[3]
+BUILT = TOP / "crates" / "rbacd" / "out" / "rbacd"
+# Compiled without a proof, by `bin/rbacd --unproved`.
+UNPROVED = BUILT.with_name("unproved")
 # Beside this tool where both are installed into one prefix.
-INSTALLED = TOP.parent / "bin" / "rbacd" if TOP.name == "lib" else TOP / "crates" / "rbacd" / "out" / "rbacd"
+INSTALLED = TOP.parent / "bin" / "rbacd" if TOP.name == "lib" else BUILT
 ADMITTED = re.compile(r"admitted: policies (\d+) bound (\d+)\s*\Z")
 REFUSED = re.compile(r"refused: (\d+) (\w+)\s*\Z")
 PATIENCE = 60
@@ -60,13 +63,18 @@ def find(named: Optional[str] = None) -> pathlib.Path:
         if found is None:
             raise NoEngine(f"{asked} is no program that can be run")
         return pathlib.Path(found).absolute()
-    for place in (TOP / "crates" / "rbacd" / "out" / "rbacd", INSTALLED):
+    for place in (BUILT, INSTALLED):
         if os.access(place, os.X_OK):
             return place
     found = shutil.which("rbacd")
-    if found is None or pathlib.Path(found).resolve() == TOP / "bin" / "rbacd":
-        raise NoEngine("rbacd is not built: run bin/rbacd once, or name a program by --engine or RBACD")
-    return pathlib.Path(found).absolute()
+    if found is not None and pathlib.Path(found).resolve() != TOP / "bin" / "rbacd":
+        return pathlib.Path(found).absolute()
+    if os.access(UNPROVED, os.X_OK):
+        return UNPROVED
+    raise NoEngine(
+        "rbacd is not built: run bin/rbacd once (`bin/rbacd --unproved` takes two minutes), or name a program by --engine "
+        "or RBACD"
+    )
 
 
 class Engine:

@@ -2,7 +2,7 @@
 import ipaddress
 from typing import Callable, Dict, Iterator, Optional, Tuple, Union
 
-from .conditions_typing import typing_of
+from .conditions_typing import tree_of, typing_of
 from .messages import (
     CHECKED_EXPR,
     CONSTANT,
@@ -19,7 +19,7 @@ from .messages import (
     name_of,
 )
 from .reader import BAD_TEXT
-from .trees import NoTree, message_tree, node_paths
+from .trees import node_paths
 
 MISSING, OUT_OF_RANGE, UNSUPPORTED, BOTH_CONDITIONS, TOO_LARGE = 4, 5, 6, 7, 8
 MOST_POLICIES = 256
@@ -163,13 +163,11 @@ def _checked(message: Message) -> Iterator[Finding]:
 
 def _typed(condition: Message, expr: Message, path: tuple, places: dict) -> Iterator[Finding]:
     """The faults of a condition's types: `path` leads to its tree, and `places` are those of its type entries."""
-    try:
-        tree = message_tree(expr)
-    except NoTree:
+    typing = typing_of(condition)
+    if typing is None or not typing.faults:
         return
-    faults_found = typing_of(condition, tree).faults
-    paths = dict(node_paths(tree, path)) if faults_found else {}
-    for fault in faults_found:
+    paths = dict(node_paths(tree_of(expr), path))
+    for fault in typing.faults:
         if fault.number == UNSUPPORTED:
             yield ("type_map", fault.entry), places.get(fault.entry, condition.start), fault.number, fault.words
         else:

@@ -6,7 +6,9 @@ import re
 import sys
 from typing import Optional
 
+from .bounds import GREATEST_FILTER
 from .places import Mistake
+from .wrap import HEAD
 
 GREATEST_FILE = 16 * 1024 * 1024
 STANDARD_INPUT = "standard input"
@@ -88,6 +90,13 @@ def _is_base64(text: str) -> bool:
         return bool(CONTROLS.search(base64.b64decode(joined, validate=True)))
     except binascii.Error:
         return False
+
+
+def bounded(name: str, data: bytes) -> bytes:
+    """The bytes of a filter or of what is around it, if the engine takes so many; else raises Mistake."""
+    if len(data) > GREATEST_FILTER + HEAD:
+        raise Mistake(f"{name_of(name)}: these are {len(data)} bytes; the engine takes at most {GREATEST_FILTER}")
+    return data
 
 
 def filter_bytes(name: str) -> bytes:

@@ -108,10 +108,15 @@ def _of_condition(policy: Message, is_deny: bool, path: tuple, encoding) -> List
     if condition is None or tree is None:
         return []
     path += condition.path
-    remarks = [*_upper_case(tree), *_upper_case_in_loops(tree, frozenset()), *_host_key(tree)]
-    remarks += _missing_headers(tree) if is_deny else []
+    remarks = condition.message.kept(f"remarks {is_deny}", lambda: _remarks(tree, is_deny))
     places = node_places(tree, path, encoding) if remarks else {}
     return [Finding(NOTE, words, places.get(node), path) for node, words in remarks]
+
+
+def _remarks(tree: Node, is_deny: bool) -> List[Remark]:
+    """The remarks on a condition."""
+    found = [*_upper_case(tree), *_upper_case_in_loops(tree, frozenset()), *_host_key(tree)]
+    return found + (list(_missing_headers(tree)) if is_deny else [])
 
 
 def _walk(node: Node, scope: frozenset = frozenset()) -> Iterator[Tuple[Node, frozenset]]:

@@ -2,7 +2,7 @@
 import pathlib
 import subprocess
 from functools import lru_cache
-from typing import Dict, Iterator, List, NamedTuple, Optional, Tuple, Union
+from typing import Callable, Dict, Iterator, List, NamedTuple, Optional, Tuple, Union
 
 from google.protobuf import descriptor_pb2, descriptor_pool
 from google.protobuf.descriptor import Descriptor, FieldDescriptor
@@ -174,7 +174,7 @@ class Message:
     fields.
     """
 
-    __slots__ = ("kind", "values", "wire", "start", "places", "faults", "raw", "is_whole")
+    __slots__ = ("kind", "values", "wire", "start", "places", "faults", "raw", "is_whole", "memo")
 
     def __init__(self, kind: Descriptor, start: int = 0):
         self.kind = kind
@@ -185,6 +185,15 @@ class Message:
         self.faults: List[Tuple[int, int, str]] = []
         self.raw: Union[bytes, memoryview] = b""
         self.is_whole = True
+        self.memo: Optional[Dict[str, object]] = None
+
+    def kept(self, name: str, make: Callable[[], object]):
+        """What is made of the message, once: it has to be whole by then, and stays as it is."""
+        if self.memo is None:
+            self.memo = {}
+        if name not in self.memo:
+            self.memo[name] = make()
+        return self.memo[name]
 
     def get(self, name: str):
         """The value of a field, or None where the field is absent."""

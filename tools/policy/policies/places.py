@@ -9,44 +9,41 @@ from typing import Dict, List, Optional, Tuple
 
 import yaml
 
+from .refusals import NAMES
+
 Place = Tuple[int, int]
 LINE_END = re.compile("\r\n|[\n\r\x85\u2028\u2029]")
 # A character beyond U+FFFF as JSON escapes it, which YAML does not take; an even number of backslashes stands before.
 SURROGATES = re.compile(r"(?<!\\)((?:\\\\)*)\\u([dD][89abAB][0-9a-fA-F]{2})\\u([dD][c-fC-F][0-9a-fA-F]{2})")
 DEEPEST = 2000
 GREATEST_EXPANSION = 100_000
+# A filter of 1 MiB has fewer.
+MOST_PARTS = 1_000_000
 # So much of a line is shown; what is left out is marked.
 WIDEST, CUT = 400, ".."
 CHARACTERS_OF_A_PART = 64
 OPEN = 0
 JSON_STRINGS = re.compile(r'"(?:[^"\\]|\\.)*"')
 NO_BRACKETS = re.compile(r"[^][{}]+")
-PROPERTIES = re.compile(r"(?:[&!]\S*\s+)*")
-SHORT_ESCAPES = {
-    "0": "\0",
-    "a": "\a",
-    "b": "\b",
-    "t": "\t",
-    "n": "\n",
-    "v": "\v",
-    "f": "\f",
-    "r": "\r",
-    "e": "\x1b",
-    "N": "\x85",
-    "_": "\xa0",
-    "L": "\u2028",
-    "P": "\u2029",
-}
-LONG_ESCAPES = {"x": 2, "u": 4, "U": 8}
+
+
+class TooMany(Exception):
+    """A file of more parts than are read."""
 
 
 class Loader(yaml.CSafeLoader):
-    """The safe loader, which asks what a plain scalar is once for each of its texts."""
+    """The safe loader, which asks what a plain scalar is once for each of its texts, and stops above a number of parts."""
 
-    known: Dict[str, str] = {}
+    def __init__(self, text: str):
+        super().__init__(text)
+        self.known: Dict[str, str] = {}
+        self.parts = 0
 
     def resolve(self, kind, value, implicit):
         """The tag of a node without one."""
+        self.parts += 1
+        if self.parts > MOST_PARTS:
+            raise TooMany()
         if kind is not yaml.ScalarNode or not implicit[0]:
             return super().resolve(kind, value, implicit)
         if value not in self.known:
@@ -63,13 +60,15 @@ class Loader(yaml.CSafeLoader):
 class Mistake(Exception):
     """A mistake of a file; its text names file, line and column and shows the line with a caret.
 
-    `place` and `words` are its parts, where it stands at a place; `rest` are further mistakes of the same file.
+    `place` and `words` are its parts, if it has a place; `rest` are further mistakes of the same file. `number` is that of
+    the engine's refusal, if the engine would refuse the filter for it.
     """
 
-    def __init__(self, text: str, place: Optional[Place] = None, words: str = ""):
+    def __init__(self, text: str, place: Optional[Place] = None, words: str = "", number: int = 0):
         super().__init__(text)
         self.place = place
         self.words = words or text
+        self.number = number
         self.rest: List[Mistake] = []
 
 
@@ -123,9 +122,10 @@ class Source:
         before = "".join("\t" if character == "\t" else " " for character in shown[:column].ljust(column))
         return f"{self.name}:{line + 1}:{place[1] + 1}: {message}\n    {shown}\n    {before}^"
 
-    def mistake(self, place: Place, message: str) -> Mistake:
-        """The mistake at a place."""
-        return Mistake(self.tell(place, message), place, message)
+    def mistake(self, place: Place, message: str, number: int = 0) -> Mistake:
+        """The mistake at a place; for a number of a refusal with that and its name."""
+        told = f"{message} ({number} {NAMES[number]})" if number else message
+        return Mistake(self.tell(place, told), place, message, number)
 
     def compose(self) -> Optional[yaml.Node]:
         """The file's one document, or None where it has none."""
@@ -144,6 +144,8 @@ class Source:
             mark = fault.problem_mark or fault.context_mark
             words = " ".join(part for part in (fault.context, fault.problem) if part)
             raise self.mistake((mark.line, mark.column) if mark else (0, 0), f"this is no YAML: {words}") from None
+        except TooMany:
+            raise Mistake(f"{self.name}: a file has at most {MOST_PARTS} keys and values") from None
         except yaml.reader.ReaderError as fault:
             place = self.place_of(min(fault.position or 0, len(self.text)))
             raise self.mistake(place, f"this is no YAML: {fault.reason}") from None
@@ -258,59 +260,3 @@ def start_of(node) -> Place:
     if node is None:
         return 0, 0
     return node.start_mark.line, node.start_mark.column
-
-
-def spread(source: Source, node: yaml.ScalarNode) -> List[int]:
-    """For each character of a scalar's value the index of the source's character that it comes from, then the end's.
-
-    White space, which YAML folds, stands directly behind what is before it.
-    """
-    start, end = (source.index_of((mark.line, mark.column)) for mark in (node.start_mark, node.end_mark))
-    units = _units(source.text, PROPERTIES.match(source.text, start, end).end(), end, node.style)
-    indices = []
-    at = 0
-    behind = units[0][1] if units else start
-    for character in node.value:
-        if character.isspace():
-            indices.append(behind)
-            behind += 1 if character == " " else 0
-            continue
-        while at < len(units) and units[at][0] != character:
-            at += 1
-        if at < len(units):
-            indices.append(units[at][1])
-            behind = units[at][2]
-            at += 1
-        else:
-            indices.append(behind)
-    return indices + [behind]
-
-
-def _units(text: str, start: int, end: int, style: Optional[str]) -> List[Tuple[str, int, int]]:
-    """The characters of a scalar that are no white space, each with the bounds of its spelling."""
-    if style in ("|", ">"):
-        start = next((match.end() for match in LINE_END.finditer(text, start, end)), end)
-    elif style in ("'", '"'):
-        start, end = start + 1, end - 1
-    units = []
-    while start < end:
-        character, length = text[start], 1
-        if style == '"' and character == "\\":
-            character, length = _escape(text, start)
-        elif style == "'" and character == "'":
-            length = 2
-        if character and not character.isspace():
-            units.append((character, start, start + length))
-        start += length
-    return units
-
-
-def _escape(text: str, start: int) -> Tuple[str, int]:
-    """The character that an escape in double quotes stands for, and the length of the escape."""
-    letter = text[start + 1]
-    if letter in LONG_ESCAPES:
-        length = LONG_ESCAPES[letter]
-        return chr(int(text[start + 2 : start + 2 + length], 16)), 2 + length
-    if LINE_END.match(letter):
-        return "", 2
-    return SHORT_ESCAPES.get(letter, letter), 2

@@ -3,13 +3,12 @@ import re
 from functools import lru_cache
 from typing import Dict, Iterable, List, NamedTuple, Optional
 
-from .cel.mistake import TextMistake
-from .cel.parse import parse
 from .cel.tree import Entry, Node, in_order
 from .cel.words import shown
 from .conditions_typing import Condition, condition_of
 from .messages import Message
-from .places import Place, spread
+from .places import Place
+from .spelling import spread
 from .trees import node_paths
 
 # `policy "p": permissions[0].and_rules.rules[2]: 5 OutOfRange`; a node's id or an unknown field's number is behind it.
@@ -62,13 +61,9 @@ def node_places(tree: Node, path: tuple, encoding) -> Dict[Node, Place]:
         return {}
     if path not in encoding.texts:
         return {node: encoding.place_of(where) for node, where in node_paths(tree, path)}
-    scalar, source = encoding.marks[path], encoding.source
-    try:
-        again = parse(scalar.value, encoding.texts[path])
-    except TextMistake:
-        return {}
+    scalar, source, written = encoding.marks[path], encoding.source, encoding.texts[path]
     indices = spread(source, scalar)
-    return {node: source.place_of(indices[other.place]) for node, other in zip(in_order(tree), in_order(again))}
+    return {node: source.place_of(indices[other.place]) for node, other in zip(in_order(tree), in_order(written))}
 
 
 class Named(NamedTuple):

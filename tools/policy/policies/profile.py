@@ -4,7 +4,7 @@ These are the faults of the messages themselves and of the types of conditions, 
 """
 from typing import Dict, List, NamedTuple
 
-from .conditions_typing import MOST_NODES
+from .cel.limits import MOST_LEVELS, MOST_NODES, TOO_MANY_NODES
 from .faults import CHECKS, MISSING, TOO_LARGE, UNSUPPORTED, faults
 from .findings import NAMES
 from .instead import instead
@@ -28,6 +28,7 @@ from .messages import (
 from .reader import BAD_TEXT, BAD_WIRE, UNKNOWN_FIELD
 
 SKIPPED = 0
+CONDITION = "condition"
 UNSUPPORTED_FIELDS = {
     RULES: ("audit_logging_options",),
     PERMISSION: ("metadata", "matcher"),
@@ -45,7 +46,7 @@ SKIPPED_FIELDS = {
 SPECIAL = frozenset(
     field for fields in (UNSUPPORTED_FIELDS, SKIPPED_FIELDS) for names in fields.values() for field in names
 )
-DEEPEST = {PERMISSION: ("rules", 32), PRINCIPAL: ("rules", 32), EXPR: ("nodes", 64), TYPE: ("types", 64)}
+DEEPEST = {PERMISSION: ("rules", 32), PRINCIPAL: ("rules", 32), EXPR: ("nodes", MOST_LEVELS), TYPE: ("types", 64)}
 
 
 class Note(NamedTuple):
@@ -70,10 +71,10 @@ def _steps(field) -> tuple:
     return () if field is None else field if isinstance(field, tuple) else (field,)
 
 
-def notes(message: Message, path: tuple = ()) -> List[Note]:
-    """All remarks on a filter."""
+def notes(message: Message) -> List[Note]:
+    """All remarks on a filter or on a condition; their paths begin there."""
     walk = _Walk()
-    walk.message(message, path, 0)
+    walk.message(message, (), int(name_of(message.kind) == EXPR))
     return walk.found
 
 
@@ -100,7 +101,7 @@ class _Walk:
         if name == EXPR:
             self.nodes += 1
             if self.nodes == MOST_NODES + 1:
-                self.tell(path, message.start, TOO_LARGE, f"the condition has more than {MOST_NODES} nodes")
+                self.tell(path, message.start, TOO_LARGE, TOO_MANY_NODES)
         known = parts_by_name(message.kind)
         for field in message.values if len(message.values) < 2 else _in_order(message, known):
             part = known[field]
@@ -142,15 +143,18 @@ class _Walk:
     def _part(self, part: Message, place: int, path: tuple, depth: int) -> None:
         """The remarks on a message in a message; the depth of rules, nodes and types counts on."""
         name = name_of(part.kind)
+        if name == CHECKED_EXPR or name == EXPR and path[-1] == CONDITION:
+            self.found += [note._replace(path=path + note.path) for note in part.kept("notes", lambda: notes(part))]
+            return
         if name in DEEPEST:
             what, most = DEEPEST[name]
-            if name == EXPR and path[-1] in ("expr", "condition"):
+            if name == EXPR and path[-1] == "expr":
                 self.nodes, depth = 0, 0
             if depth == most:
                 self.tell(path, place, TOO_LARGE, f"{what} are nested more than {most} deep")
                 return
             depth += 1
-        elif name in (POLICY, CHECKED_EXPR):
+        elif name == POLICY:
             depth = 0
         self.message(part, path, depth)
 

@@ -1,7 +1,7 @@
 """A file of any form, to the filters in it: their bytes, and what is found in them."""
 from typing import List, NamedTuple, Optional
 
-from .bounds import BUDGET
+from .bounds import BUDGET, GREATEST_FILTER, TOO_LONG
 from .encode import Encoding
 from .faults import UNSUPPORTED
 from .findings import Finding
@@ -47,11 +47,14 @@ def contents(source: Source, budget: int = BUDGET, dotted: bool = False) -> Cont
 
 def encoded(source: Source, form: Form, budget: int, dotted: bool) -> Encoded:
     """The filter of one form; raises Mistake."""
-    encoding = Encoding(source, dotted)
+    encoding = Encoding(source, dotted, is_bounded=True)
     message = encoding.filter_of(form.node)
+    data = encoding.writer.write(message)
+    if len(data) > GREATEST_FILTER:
+        raise encoding.mistake(form.node, TOO_LONG)
     encoding.find_faults(message, budget)
     findings = [*form.findings, *(found for found in encoding.findings if not _is_told(found, form))]
-    return Encoded(form.name, encoding.writer.write(message), message, findings, encoding)
+    return Encoded(form.name, data, message, findings, encoding)
 
 
 def _is_told(found: Finding, form: Form) -> bool:

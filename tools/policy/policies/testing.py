@@ -9,7 +9,17 @@ import yaml
 
 from . import engine
 from .bounds import BUDGET, GREATEST_BUDGET
-from .files import BYTES, is_binary, kind_of, name_of, policy_text, read_file, real_path_below, text_of_policy
+from .files import (
+    BYTES,
+    bounded,
+    is_binary,
+    kind_of,
+    name_of,
+    policy_text,
+    read_file,
+    real_path_below,
+    text_of_policy,
+)
 from .forms.binary import filters_in
 from .forms.envoy import Form, rewritten
 from .forms.nodes import Node, get, items, text_of
@@ -157,7 +167,7 @@ def filter_in(path: str, data: bytes, chosen: Optional[str] = None) -> bytes:
     """The bytes of the filter in those of a file of any form, of that name where it holds some with names; raises
     Mistake, and NoPolicy where the file may hold something else."""
     if kind_of(data) == BYTES and is_binary(data):
-        held = filters_in(data)
+        held = filters_in(bounded(path, data))
     else:
         held = _filters_of_text(path, data)
     alone = len(held) == 1 and not held[0][0]

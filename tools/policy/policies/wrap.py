@@ -4,7 +4,7 @@ from typing import List, Optional, Tuple
 from .messages import ANY, EXTENSION, FILTER, PREFIX, RESPONSE, Message, descriptor
 from .writer import PLAIN
 
-GREATEST_MESSAGE = 1_048_576
+HEAD = 5
 MOST_FILTERS = 8
 LONGEST_NAME = 256
 
@@ -31,8 +31,8 @@ def response(filters: List[Tuple[str, bytes]], version: str, nonce: str) -> byte
 
 
 def frame(message: bytes) -> bytes:
-    """A message of fewer than 2^32 bytes behind its five bytes: no compression, and the length."""
-    return bytes([0]) + len(message).to_bytes(4, "big") + message
+    """A message of fewer than 2^32 bytes after its head: no compression, and the length."""
+    return bytes([0]) + len(message).to_bytes(HEAD - 1, "big") + message
 
 
 def name_fault(names: List[str]) -> Optional[str]:

@@ -125,7 +125,7 @@ REFUSED = [
     (condition("true", "source_info: {macro_calls: {1: {}}}"), []),
     (condition(cases.nested(63)), []),
     (condition(cases.nested(64)), [8]),
-    (condition("[" + ", ".join(["1"] * 2046) + "] == x"), [8, 9]),
+    (condition("[" + ", ".join(["1"] * 2046) + "] == x"), [8]),
     (condition("size([" + ", ".join(["1"] * 2046) + "])"), [13]),
     ("rules: {}\nshadow_rules: {policies: {p: {}}}\nshadow_rules_stat_prefix: x", []),
     (many_policies(256), []),

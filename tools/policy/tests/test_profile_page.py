@@ -4,7 +4,7 @@ import unittest
 
 import cases
 from policies import profile
-from policies.bounds import BUDGET, GREATEST_BUDGET
+from policies.bounds import BUDGET, GREATEST_BUDGET, GREATEST_FILTER
 from policies.cel.attributes import TYPES
 from policies.cel.cost import Limits
 from policies.cel.typetext import type_text
@@ -12,7 +12,7 @@ from policies.engine import Engine
 from policies.files import GREATEST_FILE
 from policies.findings import NAMES
 from policies.messages import FILTER, descriptor
-from policies.places import CHARACTERS_OF_A_PART, GREATEST_EXPANSION
+from policies.places import CHARACTERS_OF_A_PART, GREATEST_EXPANSION, MOST_PARTS
 from policies.reader import read
 from support import ENGINE, NO_ENGINE, TOP, condition, encoded, numbers
 from test_profile import many_policies
@@ -125,7 +125,8 @@ class Page(unittest.TestCase):
         text = re.sub(r"\s+", " ", PAGE.read_text())
         limits = Limits()
         self.assertIn(f"names of {limits.name} bytes, values of {limits.value}, a method of {limits.method}", text)
-        self.assertIn(f"files of at most {GREATEST_FILE // 2**20} MiB", text)
+        self.assertIn(f"files of at most {GREATEST_FILE // 2**20} MiB with {MOST_PARTS} keys and values", text)
+        self.assertIn(f"filters of at most {GREATEST_FILTER} bytes", text)
         self.assertIn(f"YAML aliases may add at most {GREATEST_EXPANSION} parts to a file.", text)
         self.assertIn(f"Each node is a part, and so is each full {CHARACTERS_OF_A_PART} characters of its text.", text)
 

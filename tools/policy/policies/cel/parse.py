@@ -11,6 +11,7 @@ import lark
 from . import literals
 from .attributes import join_attributes
 from .expand import expand_call, expand_method
+from .limits import LONGEST_TEXT, MOST_NODES, MOST_WORDS, TOO_LARGE, TOO_MANY_NODES
 from .mistake import TextMistake
 from .tree import BINARY, Call, Const, Entry, Ident, ListLiteral, Node, Select, StructLiteral, number
 
@@ -25,6 +26,11 @@ QUOTES = frozenset("\"'")
 NEGATIVE = "NEGATIVE_"
 # By it some readers end a comment and others do not.
 LONE_RETURN = re.compile(r"\r(?!\n)")
+# Each of these makes a node at least; a name does too, except `has`.
+NODE_WORDS = frozenset(
+    "INT UINT FLOAT STRING BYTES TRUE FALSE NULL QUESTION OR AND LESS LESS_EQUAL GREATER GREATER_EQUAL EQUAL NOT_EQUAL "
+    "IN PLUS STAR SLASH PERCENT".split()
+)
 
 
 @lru_cache(maxsize=None)
@@ -51,6 +57,8 @@ def _syntax(text: str) -> lark.Tree:
     if lone is not None:
         words = "there is a lone carriage return here: end the line with a line feed, or write `\\r` in a text"
         raise TextMistake(lone.start(), words)
+    if len(text) > MOST_NODES:
+        _bound(text)
     try:
         return _grammar().parse(text).children[0]
     except lark.exceptions.UnexpectedCharacters as fault:
@@ -59,6 +67,23 @@ def _syntax(text: str) -> lark.Tree:
         if fault.token.type == "$END":
             raise TextMistake(len(text.rstrip()), "the text ends here, and more is expected") from None
         raise _token_fault(text, fault.token) from None
+
+
+def _bound(text: str) -> None:
+    """Refuses a text of more nodes than the engine takes before a tree is made of it, as far as its words tell."""
+    nodes = 0
+    try:
+        for count, token in enumerate(_grammar().lex(text[:LONGEST_TEXT]), 1):
+            nodes += token.type in NODE_WORDS or token.type == "NAME" and token != "has"
+            if nodes > MOST_NODES:
+                raise TextMistake(token.start_pos, TOO_MANY_NODES, TOO_LARGE)
+            if count > MOST_WORDS:
+                told = f"a condition's text has at most {MOST_WORDS} words and signs"
+                raise TextMistake(token.start_pos, told, TOO_LARGE)
+    except lark.exceptions.UnexpectedCharacters:
+        pass
+    if len(text) > LONGEST_TEXT:
+        raise TextMistake(LONGEST_TEXT, f"a condition's text has at most {LONGEST_TEXT} characters", TOO_LARGE)
 
 
 def _character_fault(text: str, place: int) -> TextMistake:

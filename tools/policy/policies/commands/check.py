@@ -8,16 +8,10 @@ from ..checking import Report, check_files
 from ..conditions_typing import Bound
 from ..bounds import figure
 from ..findings import NAMES, Finding, part_name
-from .common import DONE, MISTAKEN, MOST_TOLD, UNUSABLE, add_budget, in_order
+from .common import DONE, MISTAKEN, MOST_TOLD, UNUSABLE, add_budget, add_engine, engine_of, in_order
 
 NAME = "check"
 ALONE = "--without-engine"
-
-
-def add_engine(parser: argparse.ArgumentParser) -> None:
-    """Gives a command the options for the engine's program."""
-    words = "the engine's program (default: RBACD, the built rbacd of this checkout, or rbacd on the path)"
-    parser.add_argument("--engine", metavar="PROGRAM", help=words)
 
 
 def add(commands) -> None:
@@ -41,7 +35,7 @@ def run(words: argparse.Namespace) -> int:
         if words.without_engine:
             reports = check_files(words.files, words.budget, None)
         else:
-            with engine.Engine(engine.find(words.engine)) as asked:
+            with engine_of(words) as asked:
                 reports = check_files(words.files, words.budget, asked)
     except engine.NoEngine as fault:
         output.tell(f"policy: {fault} ({ALONE} answers without it)")
@@ -130,7 +124,8 @@ def _place_json(place: Optional[tuple]) -> dict:
 
 
 def _mistake_json(mistake) -> dict:
-    return {"kind": "mistake", "refused": None, "message": mistake.words, "part": None, **_place_json(mistake.place)}
+    place = _place_json(mistake.place)
+    return {"kind": "mistake", "refused": mistake.number or None, "message": mistake.words, "part": None, **place}
 
 
 def _finding_json(finding: Finding) -> dict:

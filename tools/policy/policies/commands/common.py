@@ -2,7 +2,7 @@
 import argparse
 from typing import Iterable, List
 
-from .. import output
+from .. import engine, output
 from ..bounds import BUDGET, GREATEST_BUDGET
 from ..findings import Finding
 from ..places import Mistake, Source
@@ -22,6 +22,20 @@ def add_budget(parser: argparse.ArgumentParser) -> None:
     """Gives a command the option for the budget."""
     words = f"what the conditions of a filter may cost together, in steps (default {BUDGET})"
     parser.add_argument("--budget", type=budget, default=BUDGET, metavar="N", help=words)
+
+
+def add_engine(parser: argparse.ArgumentParser) -> None:
+    """Gives a command the option for the engine's program."""
+    words = "the engine's program (default: RBACD, the built rbacd of this checkout, or rbacd on the path)"
+    parser.add_argument("--engine", metavar="PROGRAM", help=words)
+
+
+def engine_of(words: argparse.Namespace) -> engine.Engine:
+    """The engine to ask; a note says if it is not proved. Raises NoEngine."""
+    program = engine.find(words.engine)
+    if program == engine.UNPROVED:
+        output.tell(f"policy: note: {program} is not proved; bin/rbacd proves and builds the program")
+    return engine.Engine(program)
 
 
 def add_output(parser: argparse.ArgumentParser) -> None:

@@ -4,7 +4,7 @@ from typing import List
 
 from .. import output
 from ..decode import decode
-from ..files import filter_bytes, name_of
+from ..files import bounded, filter_bytes, name_of
 from ..forms.binary import filters_in
 from ..places import Mistake
 from ..yamltext import comment_lines
@@ -23,7 +23,7 @@ def add(commands) -> None:
 
 def run(words: argparse.Namespace) -> int:
     """Writes the YAML."""
-    data = filter_bytes(words.file)
+    data = bounded(words.file, filter_bytes(words.file))
     if words.name is not None:
         data = _named(name_of(words.file), data, words.name)
     lines = [line + "\n" for line in comment_lines(_around(data))]

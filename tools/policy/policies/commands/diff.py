@@ -7,8 +7,7 @@ from ..files import name_of, policy_text
 from ..places import Source
 from ..requests import request_log
 from ..testing import filter_of_file, matched_of, quoted, told
-from .check import add_engine
-from .common import DONE, MISTAKEN, UNUSABLE, add_budget
+from .common import DONE, MISTAKEN, UNUSABLE, add_budget, add_engine, engine_of
 
 NAME = "diff"
 
@@ -35,7 +34,7 @@ def run(words: argparse.Namespace) -> int:
     log = request_log(Source(name_of(words.requests), policy_text(words.requests)))
     requests = [request for _, request, _ in log]
     try:
-        with engine.Engine(engine.find(words.engine)) as asked:
+        with engine_of(words) as asked:
             both = [_decisions(asked, file, requests, words) for file in (words.old, words.new)]
     except engine.NoEngine as fault:
         output.tell(f"policy: {fault}")

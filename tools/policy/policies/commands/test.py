@@ -7,8 +7,7 @@ from ..checking import message_of
 from ..conditions_typing import condition_of
 from ..junit import document
 from ..testing import Coverage, Outcome, Test, TestFile, coverage, run_tests
-from .check import add_engine
-from .common import DONE, MISTAKEN, UNUSABLE
+from .common import DONE, MISTAKEN, UNUSABLE, add_engine, engine_of
 
 NAME = "test"
 FORM = """a file of tests:
@@ -46,7 +45,7 @@ def run(words: argparse.Namespace) -> int:
     """Runs the tests and prints what came of them."""
     tests: List[Test] = [test for name in words.files for test in TestFile(name, words.root).tests()]
     try:
-        with engine.Engine(engine.find(words.engine)) as asked:
+        with engine_of(words) as asked:
             outcomes = run_tests(tests, asked)
     except engine.NoEngine as fault:
         output.tell(f"policy: {fault}")

@@ -2,13 +2,13 @@
 import argparse
 
 from .. import output, profile
-from ..bounds import BUDGET, too_costly
-from ..files import filter_bytes, name_of
+from ..bounds import BUDGET, GREATEST_FILTER, too_costly
+from ..files import bounded, filter_bytes, name_of
 from ..findings import NAMES, part_name
 from ..messages import FILTER, descriptor
 from ..places import Mistake
 from ..reader import read
-from ..wrap import GREATEST_MESSAGE, frame, name_fault, response, text_fault
+from ..wrap import frame, name_fault, response, text_fault
 from .common import DONE, UNUSABLE, add_output
 
 NAME = "wrap"
@@ -41,8 +41,8 @@ def run(words: argparse.Namespace) -> int:
         return UNUSABLE
     filters = [(name, _filter(file, words.even_if_refused)) for name, file in zip(words.name, words.files)]
     message = response(filters, words.version, words.nonce)
-    if len(message) > GREATEST_MESSAGE and not words.even_if_refused:
-        raise Mistake(f"the response has {len(message)} bytes; the engine takes at most {GREATEST_MESSAGE}")
+    if len(message) > GREATEST_FILTER and not words.even_if_refused:
+        raise Mistake(f"the response has {len(message)} bytes; the engine takes at most {GREATEST_FILTER}")
     output.write(frame(message), words.output)
     return DONE
 
@@ -52,6 +52,7 @@ def _filter(file: str, even_if_refused: bool) -> bytes:
     data = filter_bytes(file)
     if even_if_refused:
         return data
+    bounded(file, data)
     message = read(descriptor(FILTER), data, None)
     for note in profile.notes(message):
         if note.number:

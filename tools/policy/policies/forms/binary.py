@@ -3,8 +3,7 @@ from typing import List, Tuple
 
 from ..messages import EXTENSION, FILTER, PREFIX, RESPONSE, Message, descriptor
 from ..reader import BAD_TEXT, BAD_WIRE, UNKNOWN_FIELD, read
-
-HEAD = 5
+from ..wrap import HEAD
 
 
 def filters_in(data: bytes) -> List[Tuple[str, bytes]]:

@@ -5,7 +5,8 @@ import yaml
 
 from ..faults import UNSUPPORTED
 from ..findings import NOTE, Finding
-from ..places import Source, spread, start_of
+from ..places import Source, start_of
+from ..spelling import index_of
 from .nodes import Node, camel, get, key_of, mapping, pairs, plain, sequence, text, text_of, without
 from .regexes import Shape, Untranslatable, shapes
 
@@ -100,7 +101,7 @@ class Rewriting:
         try:
             found = shapes(regex.value)
         except Untranslatable as fault:
-            index = spread(self.source, regex)[fault.place]
+            index = index_of(self.source, regex, fault.place)
             words = f"this regular expression is more than alternatives of texts: {fault.words}; {MATCHERS_INSTEAD}"
             self.findings.append(Finding(UNSUPPORTED, words, self.source.place_of(index)))
             return None
