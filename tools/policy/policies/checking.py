@@ -29,6 +29,8 @@ class Report(NamedTuple):
     admission: Optional[engine.Admission] = None
     message: Optional[Message] = None
     encoding: Optional[Encoding] = None
+    # Whether the file could not be read at all.
+    is_unread: bool = False
 
     def is_admitted(self) -> bool:
         """Whether the filter is admitted; the engine decides where it was asked."""
@@ -42,13 +44,16 @@ class Report(NamedTuple):
 
 
 def check_files(names: List[str], budget: int, asked: Optional[engine.Engine]) -> List[Report]:
-    """The reports on files, in order; raises OSError and NoEngine."""
+    """The reports on files, in order; raises NoEngine."""
     found: List[Tuple[Report, Optional[bytes]]] = []
     for name in names:
         try:
             found += _reports(name, budget)
         except Mistake as mistake:
             found.append((Report(name_of(name), "", None, [], [mistake], []), None))
+        except OSError as fault:
+            unread = Mistake(f"policy: cannot read {name_of(name)}: {fault.strerror}")
+            found.append((Report(name_of(name), "", None, [], [unread], [], is_unread=True), None))
     if asked is None:
         return [report for report, _ in found]
     answers = iter(asked.admissions([data for _, data in found if data is not None], budget))
@@ -62,17 +67,22 @@ def _reports(name: str, budget: int) -> List[Tuple[Report, Optional[bytes]]]:
         return [_bytes_report(name_of(name), one, bytes_, budget) for one, bytes_ in held]
     source = Source(name_of(name), text_of_policy(name, data))
     held = contents(source, budget)
-    reports = [_report(source, one, [] if index else held.findings) for index, one in enumerate(held.filters)]
-    if held.mistakes or not reports:
-        about = [] if reports else held.findings
-        reports.append((Report(source.name, "", source, about, held.mistakes, []), None))
+    reports: List[Tuple[Report, Optional[bytes]]] = []
+    about_file = held.findings
+    if held.own_mistakes or not held.filters:
+        reports.append((Report(source.name, "", source, about_file, held.own_mistakes, []), None))
+        about_file = []
+    for one in held.filters:
+        reports.append(_report(source, one, about_file))
+        about_file = []
     return reports
 
 
-def _report(source: Source, one: Encoded, about_file: List[Finding]) -> Tuple[Report, bytes]:
+def _report(source: Source, one: Encoded, about_file: List[Finding]) -> Tuple[Report, Optional[bytes]]:
     findings = about_file + one.findings + lint.notes(one.message, one.encoding)
-    bounds = bounds_of(one.message)
-    return Report(source.name, one.name, source, findings, [], bounds, None, one.message, one.encoding), one.data
+    bounds = [] if one.mistakes else bounds_of(one.message)
+    report = Report(source.name, one.name, source, findings, one.mistakes, bounds, None, one.message, one.encoding)
+    return report, None if one.mistakes else one.data
 
 
 def _bytes_report(file: str, name: str, data: bytes, budget: int) -> Tuple[Report, bytes]:

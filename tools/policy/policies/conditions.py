@@ -4,12 +4,12 @@ they are given.
 These keys stand in the place of `expr`. Without `ids` they run in the order of the text, from 1; without `type_map` the
 entries are those of the empty literals whose types are told. `accumulator` is the name that macros give theirs.
 """
-from typing import List, NamedTuple, Optional
+from typing import Callable, List, NamedTuple, Optional
 
 import yaml
 
 from .cel.attributes import spellings
-from .cel.check import UNSUPPORTED, Fault
+from .cel.check import BAD_REFERENCE, BAD_TYPE_ENTRY, NEEDS_TYPE, UNSUPPORTED, Fault
 from .cel.infer import types_of_empty
 from .cel.limits import is_within_limits
 from .cel.mistake import TextMistake
@@ -27,12 +27,15 @@ from .cel.tree import (
 from .conditions_typing import tree_of, typing_of
 from .findings import Finding
 from .messages import CHECKED_EXPR, EXPR, Message, descriptor
+from .places import Mistake
 from .spelling import index_of, spread
 from .scalars import is_bool, is_text
 from .trees import NoTree, message_tree, node_paths, tree_message, type_message
 from .writer import PLAIN, Writer
 
 CONDITION = "condition"
+# Faults that the maps beside a text may be the reason of.
+OF_MAPS = (UNSUPPORTED, BAD_TYPE_ENTRY, BAD_REFERENCE, NEEDS_TYPE)
 TEXT_KEY, IDS_KEY, DOTTED_KEY, ACCUMULATOR_KEY = "text", "ids", "dotted", "accumulator"
 ODD_CONSTANTS = {
     "double": "the profile has no doubles: write a whole number",
@@ -47,10 +50,12 @@ def type_entries(tree: Node) -> list:
 
 
 class Written(NamedTuple):
-    """A condition that was given as text: the tree of the text, and the message that is made of it."""
+    """A condition that was given as text: the tree of the text, the message that is made of it, and whether some of it has a
+    mistake."""
 
-    tree: Node
+    tree: Optional[Node]
     message: Message
+    is_partial: bool
 
 
 def encode_text(encoding, kind, pairs: dict, path: tuple, depth: int) -> Message:
@@ -58,41 +63,103 @@ def encode_text(encoding, kind, pairs: dict, path: tuple, depth: int) -> Message
     _, node = pairs.pop(TEXT_KEY)
     if not is_text(node):
         raise encoding.mistake(node, "a text of CEL is expected here; put it in quotes")
-    dotted, accumulator = _take_dotted(encoding, pairs), _take_accumulator(encoding, pairs)
-    ids = _take_ids(pairs)
     beside = tuple(sorted((name, id(value)) for name, (_, value) in pairs.items()))
-    key = (kind.full_name, node.value, dotted, accumulator, id(ids), beside)
+    key = (kind.full_name, node.value, encoding.dotted, beside)
     written = encoding.conditions.get(key)
-    if written is not None:
-        encoding.grow(node, len(written.message.wire))
-    else:
-        tree = rename_accumulators(_parse(encoding, node, dotted), ACCUMULATOR, accumulator)
-        _give_ids(encoding, tree, ids)
-        written = Written(tree, _message(encoding, kind, tree, pairs, path, depth))
+    if written is None:
+        written = encoding.conditions[key] = _Beside(encoding, kind, pairs, path).written(node, depth)
         written.message.wire = encoding.writer.write(written.message)
-        encoding.conditions[key] = written
-        encoding.grow(node, len(written.message.wire))
-    _keep_places(encoding, kind, node, written, path)
+    encoding.grow(node, len(written.message.wire))
+    if written.is_partial:
+        encoding.wrong.append(path + (TEXT_KEY,))
+    if written.tree is not None:
+        _keep_places(encoding, node, written, path)
     return written.message
 
 
-def _message(encoding, kind, tree: Node, pairs: dict, path: tuple, depth: int) -> Message:
-    """The message of a condition's tree, with the fields beside its text."""
-    for name in ("expr",) if kind.full_name == CHECKED_EXPR else list(pairs):
-        if name in pairs:
-            raise encoding.mistake(pairs[name][0], f"`{name}` cannot be used together with `{TEXT_KEY}`")
-    if kind.full_name == EXPR:
-        return tree_message(tree)
-    message = encoding.fields(kind, pairs, path, depth)
-    message.values["expr"] = tree_message(tree)
-    if "type_map" not in message.values and is_within_limits(tree):
-        message.values["type_map"] = type_entries(tree)
-    return message
+class _Beside:
+    """The fields beside the text of one condition; mistakes are kept."""
+
+    def __init__(self, encoding, kind, pairs: dict, path: tuple):
+        self.encoding = encoding
+        self.kind = kind
+        self.pairs = pairs
+        self.path = path
+
+    def written(self, node: yaml.ScalarNode, depth: int) -> Written:
+        """The condition of a text."""
+        before = len(self.encoding.mistakes)
+        dotted, accumulator, ids = self._dotted(), self._accumulator(), self.pairs.pop(IDS_KEY, None)
+        key = (node.value, dotted, accumulator)
+        tree = self.encoding.trees.get(key) if ids is None else None
+        if tree is None:
+            tree = self._tried(lambda: _parse(self.encoding, node, dotted, accumulator))
+        if tree is not None and ids is not None:
+            self._give_ids(tree, ids[1])
+        elif tree is not None:
+            self.encoding.trees[key] = tree
+        message = self._message(tree, depth)
+        return Written(tree, message, len(self.encoding.mistakes) > before)
+
+    def _tried(self, make: Callable):
+        """What is made, or None if there is a mistake, which is kept."""
+        try:
+            return make()
+        except Mistake as mistake:
+            self.encoding.keep(mistake, self.path + (TEXT_KEY,))
+            return None
+
+    def _tell(self, node: yaml.Node, words: str) -> None:
+        self.encoding.keep(self.encoding.mistake(node, words), self.path + (TEXT_KEY,))
+
+    def _message(self, tree: Optional[Node], depth: int) -> Message:
+        """The message of a condition's tree, with the fields beside its text."""
+        is_checked = self.kind.full_name == CHECKED_EXPR
+        for name in list(self.pairs):
+            if not is_checked or name == "expr":
+                self._tell(self.pairs.pop(name)[0], f"`{name}` cannot be used together with `{TEXT_KEY}`")
+        if not is_checked:
+            return Message(self.kind) if tree is None else tree_message(tree)
+        message = self.encoding.fields(self.kind, self.pairs, self.path, depth)
+        if tree is not None:
+            message.values["expr"] = tree_message(tree)
+            if "type_map" not in message.values and is_within_limits(tree):
+                message.values["type_map"] = type_entries(tree)
+        return message
+
+    def _dotted(self) -> bool:
+        if DOTTED_KEY not in self.pairs:
+            return self.encoding.dotted
+        _, node = self.pairs.pop(DOTTED_KEY)
+        if not is_bool(node):
+            self._tell(node, "true or false is expected")
+        return getattr(node, "value", "") == "true"
+
+    def _accumulator(self) -> str:
+        if ACCUMULATOR_KEY not in self.pairs:
+            return ACCUMULATOR
+        _, node = self.pairs.pop(ACCUMULATOR_KEY)
+        if is_text(node) and node.value in (ACCUMULATOR, NEW_ACCUMULATOR):
+            return node.value
+        names = f'"{NEW_ACCUMULATOR}" or {ACCUMULATOR}'
+        self._tell(node, f"the name of cel-go's accumulators is expected here: {names}")
+        return ACCUMULATOR
+
+    def _give_ids(self, tree: Node, node: yaml.Node) -> None:
+        """Gives the tree the ids of a list, in the order of the text."""
+        nodes = list(in_order(tree))
+        listed = node.value if isinstance(node, yaml.SequenceNode) else None
+        if listed is None or len(listed) != len(nodes):
+            self._tell(node, f"a list of {len(nodes)} numbers is expected here, one for each node of the tree")
+        field = descriptor(EXPR).fields_by_name["id"]
+        for part, scalar in zip(nodes, listed or []):
+            number = self._tried(lambda: self.encoding.number(field, scalar))
+            part.id = number or 0
 
 
-def _keep_places(encoding, kind, node: yaml.ScalarNode, written: Written, path: tuple) -> None:
+def _keep_places(encoding, node: yaml.ScalarNode, written: Written, path: tuple) -> None:
     """Keeps where a condition's text is, and its faults, each once for a text in the file."""
-    is_checked = kind.full_name == CHECKED_EXPR
+    is_checked = written.message.kind.full_name == CHECKED_EXPR
     if is_checked:
         path += ("expr",)
     encoding.marks[path] = node
@@ -106,8 +173,10 @@ def _keep_places(encoding, kind, node: yaml.ScalarNode, written: Written, path: 
 
 def _tell_faults(encoding, node: yaml.ScalarNode, written: Written, path: tuple) -> None:
     """Keeps the faults of a condition's text with their places in it; the path is that of its tree."""
-    typing, expr = typing_of(written.message), written.message.get("expr") or written.message
-    faults = [fault for fault in typing.faults if fault.number != UNSUPPORTED] if typing is not None else []
+    untold = OF_MAPS if written.is_partial else (UNSUPPORTED,)
+    is_unchecked = written.message.kind.full_name == EXPR
+    typing, expr = typing_of(written.message), written.message if is_unchecked else written.message.get("expr")
+    faults = [fault for fault in typing.faults if fault.number not in untold] if typing is not None else []
     known = tree_of(expr)
     faults += _odd_constants(known)
     if not faults:
@@ -119,52 +188,16 @@ def _tell_faults(encoding, node: yaml.ScalarNode, written: Written, path: tuple)
         encoding.findings.append(Finding(fault.number, fault.words, place, paths[fault.node]))
 
 
-def _take_dotted(encoding, pairs: dict) -> bool:
-    if DOTTED_KEY not in pairs:
-        return encoding.dotted
-    _, node = pairs.pop(DOTTED_KEY)
-    if not is_bool(node):
-        raise encoding.mistake(node, "true or false is expected")
-    return node.value == "true"
-
-
-def _take_ids(pairs: dict) -> Optional[yaml.Node]:
-    return pairs.pop(IDS_KEY)[1] if IDS_KEY in pairs else None
-
-
-def _take_accumulator(encoding, pairs: dict) -> str:
-    if ACCUMULATOR_KEY not in pairs:
-        return ACCUMULATOR
-    _, node = pairs.pop(ACCUMULATOR_KEY)
-    if not is_text(node) or node.value not in (ACCUMULATOR, NEW_ACCUMULATOR):
-        names = f'"{NEW_ACCUMULATOR}" or {ACCUMULATOR}'
-        raise encoding.mistake(node, f"the name of cel-go's accumulators is expected here: {names}")
-    return node.value
-
-
-def _parse(encoding, node: yaml.ScalarNode, dotted: bool) -> Node:
+def _parse(encoding, node: yaml.ScalarNode, dotted: bool, accumulator: str) -> Node:
+    """The tree of a condition's text; raises Mistake."""
     try:
         if node.value in encoding.wrong_texts:
             raise encoding.wrong_texts[node.value]
-        return parse(node.value, dotted)
+        return rename_accumulators(parse(node.value, dotted), ACCUMULATOR, accumulator)
     except TextMistake as fault:
         encoding.wrong_texts[node.value] = fault
         index = index_of(encoding.source, node, fault.place)
         raise encoding.source.mistake(encoding.source.place_of(index), fault.message, fault.number) from None
-
-
-def _give_ids(encoding, tree: Node, node: Optional[yaml.Node]) -> None:
-    """Gives the tree the ids of a list, in the order of the text."""
-    if node is None:
-        return
-    nodes = list(in_order(tree))
-    if not isinstance(node, yaml.SequenceNode) or len(node.value) != len(nodes):
-        raise encoding.mistake(node, f"a list of {len(nodes)} numbers is expected here, one for each node of the tree")
-    field = descriptor(EXPR).fields_by_name["id"]
-    for part, scalar in zip(nodes, node.value):
-        if not isinstance(scalar, yaml.ScalarNode):
-            raise encoding.mistake(scalar, "a number is expected here")
-        part.id = encoding.scalar(field, scalar)
 
 
 def _odd_constants(tree: Node) -> List[Fault]:

@@ -35,7 +35,7 @@ from .messages import (
     reserved_names,
 )
 from .output import Progress
-from .places import Mistake, Place, Source, start_of
+from .places import Mistake, Place, Source, start_of, together
 from .reader import DEEPEST, read
 from .scalars import Unfit, is_absent, is_text, read_key, read_scalar
 from .trees import type_message
@@ -59,7 +59,7 @@ class Encoding:
     """One file on its way to a message; if it is bounded, no further than the engine would take it.
 
     `marks` keeps the node of each part by its path, `texts` the trees of conditions' texts by the paths of their
-    messages, and `findings` what the engine refuses or skips. `conditions` are the conditions that were made of texts.
+    messages, and `findings` what the engine refuses or skips. `conditions` are what was made of texts, `trees` the texts'.
     """
 
     def __init__(self, source: Source, dotted: bool = False, is_bounded: bool = False):
@@ -73,10 +73,13 @@ class Encoding:
         self.marks: Dict[tuple, yaml.Node] = {}
         self.texts: Dict[tuple, Node] = {}
         self.conditions: Dict[tuple, conditions.Written] = {}
+        self.trees: Dict[tuple, Node] = {}
         self.told_texts: Set[int] = set()
         self.wrong_texts: Dict[str, TextMistake] = {}
         self.findings: List[Finding] = []
         self.mistakes: List[Mistake] = []
+        # The paths of the parts that have the mistakes.
+        self.wrong: List[tuple] = []
 
     def mistake(self, node, message: str, number: int = 0) -> Mistake:
         """The mistake at the start of a node."""
@@ -88,26 +91,24 @@ class Encoding:
         if self.is_bounded and self.size > GREATEST_FILTER:
             raise TooLong(self.source.tell(start_of(node), TOO_LONG), start_of(node), TOO_LONG)
 
-    def keep(self, mistake: Mistake) -> None:
-        """Keeps a mistake, after which reading goes on."""
+    def keep(self, mistake: Mistake, path: tuple) -> None:
+        """Keeps a mistake of a part, after which reading goes on."""
         if isinstance(mistake, TooLong):
             raise mistake
-        self.mistakes.append(mistake)
+        self.mistakes += [mistake, *mistake.rest]
+        self.wrong.append(path)
 
     def filter_of(self, node: Optional[yaml.Node]) -> Message:
-        """The message of a filter's node; raises Mistake with all mistakes in it."""
+        """The message of a filter's node, without the parts that have mistakes."""
         kind = descriptor(FILTER)
         if node is None or is_absent(node):
             return Message(kind)
         try:
-            message = self.message(kind, self._without_order(node), ROOT, 1)
+            return self.message(kind, self._without_order(node), ROOT, 1)
         except Mistake as mistake:
             self.mistakes.append(mistake)
-        if self.mistakes:
-            first, *rest = {(one.place, one.words): one for one in self.mistakes}.values()
-            first.rest = rest
-            raise first
-        return message
+            self.wrong.append(ROOT)
+            return Message(kind)
 
     def _without_order(self, node: yaml.Node) -> yaml.Node:
         """The file's mapping without the key that says in what order the fields of a message are written."""
@@ -128,10 +129,21 @@ class Encoding:
         told = {(found.path, found.number, found.words) for found in self.findings}
         for note in profile.notes(message):
             key = (note.path, note.number, note.words)
-            if key not in told and not self._is_told_constant(note.path, note.number):
+            if key not in told and not self._is_told_constant(note.path, note.number) and self._is_certain(note):
                 told.add(key)
                 self.findings.append(Finding(note.number, note.words, self.place_of(note.path), note.path))
-        self.findings += [self._placed(found) for found in bounds.too_costly(message, budget)]
+        if not self.mistakes:
+            self.findings += [self._placed(found) for found in bounds.too_costly(message, budget)]
+
+    def _is_certain(self, note: profile.Note) -> bool:
+        """Whether a remark holds whatever the parts with mistakes were to say."""
+        length = len(note.path)
+        for path in self.wrong:
+            if path == note.path[: len(path)]:
+                return False
+            if path[:length] == note.path and not (note.about and _is_other(path[length], note.about)):
+                return False
+        return True
 
     def _is_told_constant(self, path: tuple, number: int) -> bool:
         """Whether a part is a literal of a condition's text, which is told at its place in the text."""
@@ -205,7 +217,7 @@ class Encoding:
                     )
                 message.values[field.name] = self._value(field, node, path + (field.name,), depth)
             except Mistake as mistake:
-                self.keep(mistake)
+                self.keep(mistake, path + (name,))
         return message
 
     def _field(self, kind: Descriptor, name: str, key: yaml.Node) -> Part:
@@ -225,6 +237,8 @@ class Encoding:
             told = f"`{name}` is a field of a policy, which is in a filter as `rules: {{policies: {{NAME: {{..}}}}}}`"
             raise self.mistake(key, told)
         names = [field.name for field in kind.fields]
+        if kind.full_name in (EXPR, CHECKED_EXPR):
+            names.insert(0, conditions.TEXT_KEY)
         near = difflib.get_close_matches(name, names, 1)
         hint = f"; do you mean `{near[0]}`?" if near else f"; it has {', '.join(names)}" if names else ""
         raise self.mistake(key, f"{label(kind)} has no field `{name}`{hint}")
@@ -235,17 +249,21 @@ class Encoding:
             return self._map(field.field, node, path, depth)
         if not field.is_repeated:
             return self._one(field.field, node, path, depth)
+        listed = node.value
         if not isinstance(node, yaml.SequenceNode):
-            raise self.mistake(node, f"a list is expected here, since `{field.name}` may hold several")
+            told = f"a list is expected here, since `{field.name}` may hold several"
+            self.keep(self.mistake(node, told), path)
+            # what would be the only part has perhaps mistakes of its own
+            listed = [node] if isinstance(node, yaml.MappingNode) and field.is_message else []
         parts: list = []
-        progress = Progress(f"encoding {field.name}", len(node.value)) if len(node.value) >= LONG_LIST else None
-        for index, part in enumerate(node.value):
+        progress = Progress(f"encoding {field.name}", len(listed)) if len(listed) >= LONG_LIST else None
+        for index, part in enumerate(listed):
             if progress is not None:
                 progress.step()
             try:
                 parts.append(self._one(field.field, part, path + (index,), depth))
             except Mistake as mistake:
-                self.keep(mistake)
+                self.keep(mistake, path + (index,))
         return parts
 
     def _map(self, field: FieldDescriptor, node: yaml.Node, path: tuple, depth: int) -> list:
@@ -265,7 +283,7 @@ class Encoding:
                 self._check_indent(value_field, key, value)
                 entries[name] = self._one(value_field, value, path + (name,), depth + 1)
             except Mistake as mistake:
-                self.keep(mistake)
+                self.keep(mistake, path + (name,))
         return list(entries.items())
 
     def _check_indent(self, field: FieldDescriptor, key: yaml.Node, value: yaml.Node) -> None:
@@ -298,6 +316,12 @@ class Encoding:
             return read_scalar(field, node)
         except Unfit as why:
             raise self.mistake(node, str(why)) from None
+
+    def number(self, field: FieldDescriptor, node: yaml.Node):
+        """The value of a node that is to be a number."""
+        if not isinstance(node, yaml.ScalarNode):
+            raise self.mistake(node, "a number is expected here")
+        return self.scalar(field, node)
 
     def _short_form(self, kind: Descriptor, node: yaml.ScalarNode) -> Message:
         """A message that stands as a scalar: a wrapped number, or the text of a type."""
@@ -380,6 +404,12 @@ class Encoding:
         return message
 
 
+def _is_other(key: object, missing: str) -> bool:
+    """Whether a key of a policy is a field of it, and not the one that is missing."""
+    part = parts_by_name(descriptor(POLICY)).get(str(key))
+    return part is not None and part.name != missing
+
+
 def held_type(url: str) -> Optional[Descriptor]:
     """The message that a type's URL names, or None where we do not have it."""
     try:
@@ -392,5 +422,7 @@ def encode(source: Source, dotted: bool = False, budget: int = bounds.BUDGET) ->
     """The bytes of a file's filter, and what the engine will refuse or skip of it; raises Mistake."""
     encoding = Encoding(source, dotted)
     message = encoding.filter_of(source.compose())
+    if encoding.mistakes:
+        raise together(encoding.mistakes)
     encoding.find_faults(message, budget)
     return encoding.writer.write(message), encoding.findings

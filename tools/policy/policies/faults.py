@@ -1,6 +1,6 @@
 """The faults that the engine finds in single messages of a filter, with its numbers for them."""
 import ipaddress
-from typing import Callable, Dict, Iterator, Optional, Tuple, Union
+from typing import Callable, Dict, Iterator, NamedTuple, Optional, Tuple, Union
 
 from .conditions_typing import tree_of, typing_of
 from .messages import (
@@ -29,14 +29,27 @@ NOT_ANY = "`any` is true or is not there: for none write `not_rule` or `not_id` 
 TESTS = "`exact`, `prefix`, `suffix` or `contains`"
 ANY_TEXT = " is in every text: for a header leave out the test, else write `any: true`"
 NO_ADDRESS = "this text is no address, such as 10.0.0.0 or 2001:db8::, whose length is in prefix_len"
-# A field (with the key of its entry, or none for the whole message), the offset of its bytes, the number, words.
-Finding = Tuple[Union[None, str, tuple], int, int, str]
+
+
+class Fault(NamedTuple):
+    """A fault: its field (with the key of its entry, or none for the whole message), the offset of its bytes, the number,
+    words, and the name of the field that a policy lacks."""
+
+    field: Union[None, str, tuple]
+    place: int
+    number: int
+    words: str
+    about: str = ""
+
+
+# What a check finds: the members of a fault.
+Finding = Union[Tuple[Union[None, str, tuple], int, int, str], Fault]
 Check = Callable[[Message], Iterator[Finding]]
 
 
-def faults(message: Message) -> Iterator[Finding]:
+def faults(message: Message) -> Iterator[Fault]:
     """The faults of a message's own values."""
-    return CHECKS.get(name_of(message.kind), _nothing)(message)
+    return (Fault(*found) for found in CHECKS.get(name_of(message.kind), _nothing)(message))
 
 
 def _nothing(message: Message) -> Iterator[Finding]:
@@ -58,7 +71,8 @@ def _rules(message: Message) -> Iterator[Finding]:
 def _policy(message: Message) -> Iterator[Finding]:
     for name in ("permissions", "principals"):
         if not message.get(name):
-            yield None, message.start, MISSING, f"a policy without {name}: `{name}: [{{any: true}}]` takes all"
+            words = f"a policy without {name}: `{name}: [{{any: true}}]` takes all"
+            yield Fault(None, message.start, MISSING, words, name)
     if message.get("condition") is None:
         return
     if message.get("checked_condition") is not None:

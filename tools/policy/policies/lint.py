@@ -13,6 +13,7 @@ from .writer import PLAIN
 
 CIDR = "envoy.config.core.v3.CidrRange"
 DENY = 1
+POLICIES = ("rules", "policies")
 HEADERS = "request.headers"
 # Attributes that are headers, which a request may lack.
 OF_HEADERS = {"request.referer": "referer", "request.useragent": "user-agent", "request.id": "x-request-id"}
@@ -25,22 +26,29 @@ Remark = Tuple[Node, str]
 
 
 def notes(message: Message, encoding) -> List[Finding]:
-    """The notes on a filter; `encoding` knows the places of a text's parts, and is None for bytes."""
+    """The notes on a filter; `encoding` knows the places of a text's parts, and is None for bytes.
+
+    Of policies that have mistakes nothing is told.
+    """
     rules = message.get("rules")
     if rules is None or not rules.is_whole:
         return []
-    found = [*_without_length(rules, ("rules",)), *_of_host(rules, ("rules",))]
-    policies = dict(rules.get("policies") or [])
-    found += _never_first(policies)
+    wrong = [] if encoding is None else encoding.wrong
+    if any(path == POLICIES[: len(path)] for path in wrong):
+        return []
+    is_deny = rules.scalar("action") == DENY and ("rules", "action") not in wrong
+    left_out = {path[2] for path in wrong if path[:2] == POLICIES}
+    policies = {name: policy for name, policy in rules.get("policies") or [] if name not in left_out}
+    found = [*_without_length(policies), *_of_host(policies), *_never_first(policies)]
     found = [one if encoding is None else one._replace(place=encoding.place_of(one.path)) for one in found]
     for name, policy in policies.items():
-        found += _of_condition(policy, rules.scalar("action") == DENY, ("rules", "policies", name), encoding)
+        found += _of_condition(policy, is_deny, (*POLICIES, name), encoding)
     return found
 
 
-def _without_length(rules: Message, path: tuple) -> Iterator[Finding]:
+def _without_length(policies: Dict[str, Message]) -> Iterator[Finding]:
     """Ranges of addresses without a length, which hold every address of their family."""
-    for where, message in _messages(rules, CIDR, path):
+    for where, message in _of_policies(policies, CIDR):
         if message.get("prefix_len") is None and has_address(message):
             address = message.scalar("address_prefix")
             family, bits = ("IPv6", 128) if ":" in address else ("IPv4", 32)
@@ -48,12 +56,18 @@ def _without_length(rules: Message, path: tuple) -> Iterator[Finding]:
             yield Finding(NOTE, words, None, where)
 
 
-def _of_host(rules: Message, path: tuple) -> Iterator[Finding]:
+def _of_host(policies: Dict[str, Message]) -> Iterator[Finding]:
     """Matchers of the header `host`, which no request has here."""
-    for where, message in _messages(rules, HEADER, path):
+    for where, message in _of_policies(policies, HEADER):
         if message.scalar("name").lower() == HOST:
             words = f"the Host line is the header {AUTHORITY} here, and no request has one named {HOST}"
             yield Finding(NOTE, f"{words}: write `name: {AUTHORITY}`", None, where + ("name",))
+
+
+def _of_policies(policies: Dict[str, Message], kind: str) -> Iterator[Tuple[tuple, Message]]:
+    """The whole messages of one kind in policies, each with its path."""
+    for name, policy in policies.items():
+        yield from _messages(policy, kind, (*POLICIES, name))
 
 
 def _messages(message: Message, kind: str, path: tuple) -> Iterator[Tuple[tuple, Message]]:

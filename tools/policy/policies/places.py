@@ -136,10 +136,29 @@ class Source:
 
     def documents(self) -> List[yaml.Node]:
         """The file's documents."""
+        documents, mistake = self.readable()
+        if mistake is not None:
+            raise mistake
+        return documents
+
+    def readable(self) -> Tuple[List[yaml.Node], Optional[Mistake]]:
+        """The documents before a mistake, if there is one."""
+        documents: List[yaml.Node] = []
+        try:
+            self._compose(documents)
+        except Mistake as mistake:
+            return documents, mistake
+        return documents, None
+
+    def _compose(self, documents: List[yaml.Node]) -> None:
+        """Adds the file's documents to a list; raises Mistake."""
         try:
             if may_be_deep(self.text):
                 self._measure_depth()
-            documents = list(yaml.compose_all(self.text, Loader=Loader))
+            for document in yaml.compose_all(self.text, Loader=Loader):
+                if "*" in self.text:
+                    self._bound_expansion(document)
+                documents.append(document)
         except yaml.MarkedYAMLError as fault:
             mark = fault.problem_mark or fault.context_mark
             words = " ".join(part for part in (fault.context, fault.problem) if part)
@@ -149,10 +168,6 @@ class Source:
         except yaml.reader.ReaderError as fault:
             place = self.place_of(min(fault.position or 0, len(self.text)))
             raise self.mistake(place, f"this is no YAML: {fault.reason}") from None
-        if "*" in self.text:
-            for document in documents:
-                self._bound_expansion(document)
-        return documents
 
     def _bound_expansion(self, document: yaml.Node) -> None:
         """Tells a document whose aliases make much more of it than is written, before anything walks it."""
@@ -253,6 +268,14 @@ class _Expansion:
         if isinstance(node, yaml.MappingNode):
             return own + sum(self.of(part) for pair in node.value for part in pair)
         return own
+
+
+def together(mistakes: List[Mistake]) -> Mistake:
+    """The first of some mistakes in the order of their file, with the others, each once."""
+    ordered = sorted(mistakes, key=lambda mistake: mistake.place or (0, 0))
+    first, *rest = {(one.place, str(one)): one for one in ordered}.values()
+    first.rest = rest
+    return first
 
 
 def start_of(node) -> Place:

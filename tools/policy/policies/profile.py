@@ -50,12 +50,14 @@ DEEPEST = {PERMISSION: ("rules", 32), PRINCIPAL: ("rules", 32), EXPR: ("nodes", 
 
 
 class Note(NamedTuple):
-    """A remark on a part: its path, the offset of its bytes, the number of the refusal (0: skipped), and words."""
+    """A remark on a part: its path, the offset of its bytes, the number of the refusal (0: skipped), words, and the name of
+    the field that a policy lacks."""
 
     path: tuple
     place: int
     number: int
     words: str
+    about: str = ""
 
     def told(self) -> str:
         """The words with the refusal's number and name."""
@@ -85,9 +87,9 @@ class _Walk:
         self.nodes = 0
         self.found: List[Note] = []
 
-    def tell(self, path: tuple, place: int, number: int, words: str) -> None:
+    def tell(self, path: tuple, place: int, number: int, words: str, about: str = "") -> None:
         """Keeps a remark."""
-        self.found.append(Note(path, place, number, words))
+        self.found.append(Note(path, place, number, words, about))
 
     def message(self, message: Message, path: tuple, depth: int) -> None:
         """The remarks on a message, `depth` rules, nodes or types of its own kind deep."""
@@ -111,9 +113,9 @@ class _Walk:
     def _check(self, message: Message, path: tuple) -> None:
         """The faults of the message's own values."""
         fields_are_known = all(number not in (BAD_WIRE, BAD_TEXT, UNKNOWN_FIELD) for _, number, _ in message.faults)
-        for field, place, number, words in faults(message):
-            if number != MISSING or fields_are_known:
-                self.tell(path + _steps(field), place, number, words)
+        for fault in faults(message):
+            if fault.number != MISSING or fields_are_known:
+                self.tell(path + _steps(fault.field), fault.place, fault.number, fault.words, fault.about)
 
     def _field(self, message: Message, name: str, field: Part, path: tuple, depth: int) -> None:
         value, place = message.values[field.name], message.places.get(field.name, message.start)

@@ -1,5 +1,5 @@
 """A file of any form, to the filters in it: their bytes, and what is found in them."""
-from typing import List, NamedTuple, Optional
+from typing import List, NamedTuple
 
 from .bounds import BUDGET, GREATEST_FILTER, TOO_LONG
 from .encode import Encoding
@@ -11,13 +11,17 @@ from .places import Mistake, Source
 
 
 class Encoded(NamedTuple):
-    """A filter of a file: its name there, its bytes and message, what is found in it, and the parts' places."""
+    """A filter of a file: its name there, its bytes and message, what is found in it, and the parts' places.
+
+    If it has mistakes, the message is without the parts that have them, and there are no bytes.
+    """
 
     name: str
     data: bytes
     message: Message
     findings: List[Finding]
-    encoding: Optional[Encoding]
+    encoding: Encoding
+    mistakes: List[Mistake]
 
 
 class Contents(NamedTuple):
@@ -25,36 +29,34 @@ class Contents(NamedTuple):
 
     filters: List[Encoded]
     findings: List[Finding]
-    mistakes: List[Mistake]
+    own_mistakes: List[Mistake]
     is_policy: bool
+
+    @property
+    def mistakes(self) -> List[Mistake]:
+        """All mistakes, those of the file itself and those of its filters."""
+        return self.own_mistakes + [mistake for one in self.filters for mistake in one.mistakes]
 
 
 def contents(source: Source, budget: int = BUDGET, dotted: bool = False) -> Contents:
     """The filters of a file."""
     reading = Reading(source)
-    try:
-        reading.read()
-    except Mistake as mistake:
-        return Contents([], reading.findings, [mistake, *mistake.rest], reading.is_policy)
-    filters, mistakes = [], []
-    for form in reading.forms:
-        try:
-            filters.append(encoded(source, form, budget, dotted))
-        except Mistake as mistake:
-            mistakes += [mistake, *mistake.rest]
-    return Contents(filters, reading.findings, mistakes, reading.is_policy)
+    reading.read()
+    filters = [encoded(source, form, budget, dotted) for form in reading.forms]
+    return Contents(filters, reading.findings, reading.mistakes, reading.is_policy)
 
 
 def encoded(source: Source, form: Form, budget: int, dotted: bool) -> Encoded:
-    """The filter of one form; raises Mistake."""
+    """The filter of one form."""
     encoding = Encoding(source, dotted, is_bounded=True)
-    message = encoding.filter_of(form.node)
-    data = encoding.writer.write(message)
-    if len(data) > GREATEST_FILTER:
-        raise encoding.mistake(form.node, TOO_LONG)
+    message, data = encoding.filter_of(form.node), b""
+    if not encoding.mistakes:
+        data = encoding.writer.write(message)
+        if len(data) > GREATEST_FILTER:
+            encoding.mistakes.append(encoding.mistake(form.node, TOO_LONG))
     encoding.find_faults(message, budget)
     findings = [*form.findings, *(found for found in encoding.findings if not _is_told(found, form))]
-    return Encoded(form.name, data, message, findings, encoding)
+    return Encoded(form.name, data, message, findings, encoding, encoding.mistakes)
 
 
 def _is_told(found: Finding, form: Form) -> bool:

@@ -24,7 +24,7 @@ from .forms.binary import filters_in
 from .forms.envoy import Form, rewritten
 from .forms.nodes import Node, get, items, text_of
 from .messages import FILTER, Message, descriptor
-from .places import Mistake, Source, start_of
+from .places import Mistake, Source, start_of, together
 from .placing import EnginePlace, named_node
 from .reader import read
 from .reading import contents, encoded
@@ -134,6 +134,8 @@ class TestFile:
         if get(node, "rules") is None:
             raise self.reader.mistake(node, "a filter has `rules`")
         made = encoded(self.source, rewritten(self.source, Form("", node)), budget, False)
+        if made.mistakes:
+            raise together(made.mistakes)
         return Subject(f"the policy of {self.source.name}", made.data, budget)
 
     def _file(self, node: Node, chosen: Optional[str], budget: int) -> Subject:
@@ -186,11 +188,8 @@ def _filters_of_text(path: str, data: bytes) -> List[Tuple[str, bytes]]:
     except Mistake as mistake:
         raise NoPolicy(str(mistake), mistake.place, mistake.words) from None
     if read.mistakes:
-        first, *rest = read.mistakes
-        if not read.is_policy:
-            first = NoPolicy(str(first), first.place, first.words)
-        first.rest = rest
-        raise first
+        first = together(read.mistakes)
+        raise first if read.is_policy else NoPolicy(str(first), first.place, first.words)
     return [(one.name, one.data) for one in read.filters]
 
 

@@ -314,6 +314,19 @@ class WithoutEngine(Room):
         self.assertEqual(status, 1)
         self.assertIn(b"f.yaml: would be refused: 15 TooCostly", out)
 
+    def test_missing_files(self):
+        """A file that cannot be read hides no other one."""
+        self.file("f.yaml", POLICY)
+        self.file("g.yaml", "rules: {action: 7}\n---\nrules: [\n")
+        status, out, errors = self.run_here("check", "--without-engine", "none.yaml", "f.yaml", "g.yaml")
+        self.assertEqual((status, errors), (2, ""))
+        lines = [line for line in out.decode().splitlines() if not line.startswith("  ")]
+        wanted = ["policy: cannot read none.yaml: No such", "none.yaml: not read", "f.yaml: would be admitted"]
+        wanted += ["g.yaml:4:1: this is no YAML", "g.yaml: not read: 1 mistake"]
+        wanted += ["g.yaml:1:17: there is no such action", "g.yaml: would be refused: 5 OutOfRange"]
+        for line, beginning in zip(lines, wanted, strict=True):
+            self.assertTrue(line.startswith(beginning), lines)
+
     def test_unproved(self):
         """Where no proved program is here, the one that is not proved is asked, and a note says so."""
         self.file("f.yaml", POLICY)

@@ -1,4 +1,5 @@
 """Files as people have them, after Envoy's and Istio's documentation: admitted, or one message that tells what to change."""
+import re
 import unittest
 
 from policies.checking import check_files
@@ -57,7 +58,7 @@ ADMITTED = {
     ),
     "kubernetes.yaml": (["envoy.filters.http.rbac"], ["1:1: note: this is a Service of v1, which holds no filter"]),
 }
-# The message of each file that is not admitted, one for each mistake in it.
+# The messages of each file that is not admitted, one for each mistake in it, in the order of lines.
 TOLD = {
     "per_route_off.yaml": "3:5: RBACPerRoute without `rbac` turns the filter off for a route",
     "regex_beyond.yaml": "5:55: this regular expression is more than alternatives of texts: only `.` may be repeated",
@@ -77,9 +78,38 @@ TOLD = {
     "istio_accounts.yaml": "7:13: the condition source.serviceAccount: write `source.principal` with",
     "istio_mistakes.yaml": [
         "6:22: requestPrincipals: the engine reads no tokens",
+        "6:59: 10.0.0 is no block of addresses",
+        "6:67: ::/129 is no block of addresses",
         "7:23: `operation` has no field `port`: it has hosts, methods,",
+        "7:45: a port is a number from 1 to 65535, not 0",
+        "7:50: a port is a number from 1 to 65535, not http",
         "8:18: the condition request.auth.claims[a]: the engine reads no tokens",
-        "13:16: there is no action PERMIT: it is ALLOW, DENY or AUDIT",
+        "9:5: a rule has no field `then`: it has from, to, when",
+        "10:38: x is no block of addresses",
+        "15:8: an AuthorizationPolicy has no field `mtls`",
+        "15:28: there is no action PERMIT: it is ALLOW, DENY or AUDIT",
+    ],
+    "several_mistakes.yaml": [
+        "6:3: `config` is of the API's version 2",
+        "9:3: `config` is of the API's version 2",
+        "18:31: a port is at most 65535",
+    ],
+    "mistakes.yaml": [
+        "2:11: one of these is expected: ALLOW, DENY, LOG",
+        "5:20: a list is expected here, since `permissions` may hold several",
+        "5:26: true or false is expected",
+        "7:37: this text is no address: write `address_prefix: 10.0.0.0` and `prefix_len: 8` (5 OutOfRange)",
+        "8:45: source.port is an int; == has no overload for int and string: write 80 without quotes (10 NoOverload)",
+        "8:59: a list of 4 numbers is expected here, one for each node of the tree",
+        "8:60: a whole number from",
+        "8:66: a whole number from",
+        "8:78: true or false is expected",
+        "8:85: CheckedExpr has no field `typemap`; do you mean `type_map`?",
+        "11:7: Policy has no field `principles`; do you mean `principals`?",
+        "13:7: a policy without permissions: `permissions: [{any: true}]` takes all (4 Missing)",
+        "13:26: true or false is expected",
+        "14:26: CheckedExpr has no field `txt`; do you mean `text`?",
+        "16:40: a port is at most 65535 (5 OutOfRange)",
     ],
     "other_object.yaml": "1:1: this is a PeerAuthentication of security.istio.io/v1, which holds no filter: an Auth",
     "discovered.yaml": "2:3: this filter comes by config_discovery: check the DiscoveryResponse or the config dump",
@@ -122,8 +152,8 @@ class Kinds(unittest.TestCase):
             with self.subTest(name):
                 reports, lines = self.reports(name)
                 self.assertFalse(all(report.is_admitted() for report in reports), lines)
-                told = [line for line in lines if f"{name}:" in line and " note: " not in line]
-                self.assertEqual(len(told), len(wanted) + 1, told)
+                told = [line for line in lines if re.search(rf"{re.escape(name)}:\d+:\d+: (?!note)", line)]
+                self.assertEqual(len(told), len(wanted), told)
                 for line, beginning in zip(told, wanted):
                     self.assertTrue(line.startswith(f"{KINDS / name}:{beginning}"), told)
 

@@ -44,18 +44,17 @@ def run(words: argparse.Namespace) -> int:
     for report in reports:
         lines += [json.dumps(as_json(report, words.budget))] if words.json else as_text(report, words.budget)
     output.write("".join(line + "\n" for line in lines).encode(errors="replace"))
+    if any(report.is_unread for report in reports):
+        return UNUSABLE
     return DONE if all(report.is_admitted() for report in reports) else MISTAKEN
 
 
 def as_text(report: Report, budget: int) -> List[str]:
-    """A report as lines: faults, then the answer, then the bound of each policy."""
-    lines = [line for mistake in report.mistakes[:MOST_TOLD] for line in str(mistake).splitlines()]
-    ordered = in_order(report.findings)
-    for finding in ordered[:MOST_TOLD]:
-        lines += _finding_text(report, finding).splitlines()
-    hidden = max(0, len(report.mistakes) - MOST_TOLD) + max(0, len(ordered) - MOST_TOLD)
-    if hidden:
-        lines.append(f"{report.label()}: {hidden} more of these are not shown")
+    """A report as lines: mistakes and findings in the order of the file, then the answer, then the bound of each policy."""
+    told = in_order(report.mistakes, report.findings, lambda finding: _finding_text(report, finding))
+    lines = [line for text in told[:MOST_TOLD] for line in text.splitlines()]
+    if len(told) > MOST_TOLD:
+        lines.append(f"{report.label()}: {len(told) - MOST_TOLD} more of these are not shown")
     lines.append(f"{report.label()}: {answer_of(report, budget)}")
     if report.is_admitted():
         lines += ["  " + _bound_text(bound) for bound in report.bounds]
@@ -76,6 +75,8 @@ def _finding_text(report: Report, finding: Finding) -> str:
 
 def answer_of(report: Report, budget: int) -> str:
     """The line of a report that says admitted or refused."""
+    if report.is_unread:
+        return "not read"
     if report.mistakes:
         count = len(report.mistakes)
         return f"not read: {count} mistake{'s' if count > 1 else ''}"
@@ -97,7 +98,8 @@ def _bound_text(bound: Bound) -> str:
 def as_json(report: Report, budget: int) -> dict:
     """A report as one object."""
     findings = [_mistake_json(mistake) for mistake in report.mistakes]
-    findings += [_finding_json(finding) for finding in in_order(report.findings)]
+    findings += [_finding_json(finding) for finding in report.findings]
+    findings.sort(key=lambda one: (one["line"] or 0, one["column"] or 0))
     refusal = None if report.is_admitted() or report.admission is None else report.admission.number
     if refusal is None and not report.is_admitted():
         refusal = next((finding.number for finding in report.findings if finding.number), None)

@@ -1,6 +1,6 @@
 """What several commands share: statuses, numbers on the command line, and how findings are told."""
 import argparse
-from typing import Iterable, List
+from typing import Callable, Iterable, List
 
 from .. import engine, output
 from ..bounds import BUDGET, GREATEST_BUDGET
@@ -44,18 +44,20 @@ def add_output(parser: argparse.ArgumentParser) -> None:
     parser.add_argument("-o", "--output", default="-", metavar="FILE", help=words)
 
 
-def in_order(findings: Iterable[Finding]) -> List[Finding]:
-    """Findings in the order of the file."""
-    return sorted(findings, key=lambda finding: finding.place or (0, 0))
+def in_order(mistakes: Iterable[Mistake], findings: Iterable[Finding], text: Callable[[Finding], str]) -> List[str]:
+    """Mistakes and findings as texts in the order of their file, each once."""
+    told = [(mistake.place or (0, 0), str(mistake)) for mistake in mistakes]
+    told += [(finding.place or (0, 0), text(finding)) for finding in findings]
+    return list(dict.fromkeys(line for _, line in sorted(told, key=lambda one: one[0])))
 
 
-def tell_findings(source: Source, findings: Iterable[Finding]) -> None:
-    """Tells findings at their places, the first fifty of them."""
-    ordered = in_order(findings)
-    for finding in ordered[:MOST_TOLD]:
-        output.tell(source.tell(finding.place or (0, 0), finding.told()))
-    if len(ordered) > MOST_TOLD:
-        output.tell(f"{source.name}: {len(ordered) - MOST_TOLD} more of these are not shown")
+def tell_findings(source: Source, findings: Iterable[Finding], mistakes: Iterable[Mistake] = ()) -> None:
+    """Tells findings and mistakes at their places, the first fifty of them."""
+    texts = in_order(mistakes, findings, lambda finding: source.tell(finding.place or (0, 0), finding.told()))
+    for text in texts[:MOST_TOLD]:
+        output.tell(text)
+    if len(texts) > MOST_TOLD:
+        output.tell(f"{source.name}: {len(texts) - MOST_TOLD} more of these are not shown")
 
 
 def tell_mistake(mistake: Mistake) -> None:

@@ -42,9 +42,9 @@ def run(words: argparse.Namespace) -> int:
         return DONE
     held = contents(source, words.budget, words.dotted)
     if held.mistakes:
-        first, *rest = held.mistakes
-        first.rest = rest
-        raise first
+        findings = [finding for one in held.filters for finding in one.findings]
+        tell_findings(source, held.findings + findings, held.mistakes)
+        return MISTAKEN
     chosen = _chosen(source, held.filters, words.name)
     tell_findings(source, held.findings + chosen.findings)
     if are_refused(chosen.findings):

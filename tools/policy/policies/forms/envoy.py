@@ -6,7 +6,7 @@ import yaml
 
 from ..findings import NOTE, Finding
 from ..messages import FILTER, PREFIX, RULES
-from ..places import Source, start_of
+from ..places import Mistake, Source, start_of
 from . import istio
 from .nodes import Node, camel, get, items, key_of, mapping, names, pairs, text_of, without
 from .rewrite import Rewriting
@@ -39,11 +39,12 @@ class Form(NamedTuple):
 
 
 class Reading:
-    """The filters of one file, and the notes on how they were read."""
+    """The filters of one file, the notes on how they were read, and the mistakes of what could not be read."""
 
     def __init__(self, source: Source):
         self.source = source
         self.findings: List[Finding] = []
+        self.mistakes: List[Mistake] = []
         self.forms: List[Form] = []
         # Filters that the file names and does not hold, each with the reason.
         self.absent: List[Tuple[Node, str]] = []
@@ -51,20 +52,32 @@ class Reading:
         self.is_policy = False
 
     def read(self) -> None:
-        """Reads the file; raises Mistake."""
-        documents = [node for node in self.source.documents()]
+        """Reads the file."""
+        documents, mistake = self.source.readable()
+        if mistake is not None:
+            self.mistakes.append(mistake)
         policies = [node for document in documents for node in _listed(document)]
         if any(istio.is_policy(node) for node in policies):
-            self.is_policy = True
-            translation = istio.Translation(self.source)
-            self.forms = [Form(name, node) for name, node in translation.filters(policies)]
-            self.findings += translation.findings
-        else:
-            for document in documents or [None]:
-                self.forms += self._document(document, len(documents) > 1)
-            if not self.forms:
-                raise self.source.mistake(start_of(documents[0]), _other_object(documents[0]))
+            self._istio(policies)
+        elif documents or mistake is None:
+            self._documents(documents)
         self.forms = [rewritten(self.source, form) for form in self.forms]
+
+    def _istio(self, policies: List[Node]) -> None:
+        self.is_policy = True
+        translation = istio.Translation(self.source)
+        self.forms = [Form(name, node) for name, node in translation.filters(policies)]
+        self.findings += translation.findings
+        self.mistakes += translation.mistakes
+
+    def _documents(self, documents: List[Node]) -> None:
+        for document in documents or [None]:
+            try:
+                self.forms += self._document(document, len(documents) > 1)
+            except Mistake as mistake:
+                self.mistakes.append(mistake)
+        if not self.forms and not self.mistakes:
+            self.mistakes.append(self.source.mistake(start_of(documents[0]), _other_object(documents[0])))
 
     def _note(self, node: Node, words: str) -> None:
         self.findings.append(Finding(NOTE, words, start_of(node)))
@@ -76,7 +89,10 @@ class Reading:
         if direct is not None:
             self.is_policy = True
             return [Form("", direct)]
-        found = list(self._inside(node, ""))
+        before = len(self.mistakes)
+        found = self._inside(node, "")
+        if not found and len(self.mistakes) > before:
+            return []
         if not found:
             return self._without(node, is_one_of_several)
         self.is_policy = True
@@ -124,12 +140,17 @@ class Reading:
         self._note(node, "the filter of RBACPerRoute, read as a filter of its own; the engine knows no routes")
         return inner
 
-    def _inside(self, node: Optional[Node], name: str) -> Iterator[Form]:
-        """The filters inside a node, each with the name of what it stands in."""
-        for part in items(node):
-            yield from self._inside(part, name)
-        if not isinstance(node, yaml.MappingNode):
-            return
+    def _inside(self, node: Optional[Node], name: str) -> List[Form]:
+        """The filters inside a node, each with the name of what it is in; mistakes are kept."""
+        found = [form for part in items(node) for form in self._inside(part, name)]
+        if isinstance(node, yaml.MappingNode):
+            try:
+                found += self._in_mapping(node, name)
+            except Mistake as mistake:
+                self.mistakes.append(mistake)
+        return found
+
+    def _in_mapping(self, node: yaml.MappingNode, name: str) -> Iterator[Form]:
         own, kind = text_of(get(node, "name")) or name, _type_of(node)
         if kind == NETWORK:
             self._note(node, "the network filter is left out: rules that judge requests are in the HTTP filter")

@@ -19,6 +19,8 @@ SPEC_FIELDS = frozenset(["selector", "targetRef", "targetRefs", "action", "rules
 RULE_FIELDS = frozenset(["from", "to", "when"])
 DRY_RUN = "istio.io/dry-run"
 HEADER_KEY = "request.headers["
+# Istio asks the policies of one action after those of another.
+ORDER = ["DENY", "ALLOW", "LOG"]
 
 
 def is_policy(node: Optional[Node]) -> bool:
@@ -43,8 +45,7 @@ class Translation:
             self.findings.append(Finding(NOTE, words, start_of(node)))
 
     def filters(self, documents: List[Node]) -> List[Tuple[str, Node]]:
-        """The filters of a file's policies, DENY before ALLOW as Istio asks them, by name; raises Mistake with all
-        mistakes of the file."""
+        """The filters of a file's policies that have no mistakes, DENY before ALLOW as Istio asks them, by name."""
         groups: Dict[tuple, list] = {}
         for document in documents:
             if not is_policy(document):
@@ -55,17 +56,20 @@ class Translation:
                 groups.setdefault(head, []).append(document)
         wheres = {where for _, where in groups}
         found = []
-        for action, where in sorted(groups, key=lambda group: (["DENY", "ALLOW", "LOG"].index(group[0]), group[1])):
+        for action, where in sorted(groups, key=lambda group: (ORDER.index(group[0]), group[1])):
             name = f"istio-{action.lower()}" + (f"-{where}" if len(wheres) > 1 else "")
-            found.append((name, self._filter(action, groups[action, where])))
-        if self.mistakes:
-            first, *rest = sorted(self.mistakes, key=lambda mistake: mistake.place or (0, 0))
-            first.rest = rest
-            raise first
+            before = len(self.mistakes)
+            made = self._filter(action, groups[action, where])
+            if len(self.mistakes) == before:
+                found.append((name, made))
         return found
 
+    def tell(self, node: Node, words: str) -> None:
+        """Keeps a mistake at a node."""
+        self.mistakes.append(self.mistake(node, words))
+
     def _kept(self, make: Callable, node: Node):
-        """What is made of a node, or None where it has a mistake, which is kept."""
+        """What is made of a node, or None if it has a mistake, which is kept."""
         try:
             return make(node)
         except Mistake as mistake:
@@ -77,9 +81,8 @@ class Translation:
         spec = get(document, "spec")
         for name, key, _ in pairs(spec):
             if name not in SPEC_FIELDS:
-                raise self.mistake(
-                    key, f"an AuthorizationPolicy has no field `{name}`: it has {', '.join(sorted(SPEC_FIELDS))}"
-                )
+                known = ", ".join(sorted(SPEC_FIELDS))
+                self.tell(key, f"an AuthorizationPolicy has no field `{name}`: it has {known}")
         dry_run = get(get(get(document, "metadata"), "annotations"), DRY_RUN)
         if text_of(dry_run) == "true":
             told = "Istio does not enforce a policy with this annotation: leave out the annotation, or the policy"
@@ -109,12 +112,13 @@ class Translation:
             place, name = text_of(get(metadata, "namespace")) or "default", text_of(get(metadata, "name")) or "policy"
             rules = get(get(document, "spec"), "rules")
             if rules is not None and not isinstance(rules, yaml.SequenceNode):
-                raise self.mistake(rules, "a list of rules is expected here")
+                self.tell(rules, "a list of rules is expected here")
             for index, rule in enumerate(items(rules)):
                 key = f"ns[{place}]-policy[{name}]-rule[{index}]"
                 if key in policies:
-                    raise self.mistake(document, f"the policy {name} is here twice")
-                policies[key] = self._kept(self._policy, rule)
+                    self.tell(document, f"the policy {name} is here twice")
+                    break
+                policies[key] = self._policy(rule)
             if not items(rules):
                 what = "no request passes by it" if action == "ALLOW" else "it never matches"
                 self._note(document, f"a policy of action {action} without rules: {what}")
@@ -124,12 +128,12 @@ class Translation:
 
     def _policy(self, rule: Node) -> Node:
         self._known(rule, RULE_FIELDS, "a rule")
-        whens = [self._when(when) for when in items(get(rule, "when"))]
+        whens = [made for made in (self._kept(self._when, when) for when in items(get(rule, "when"))) if made is not None]
         permissions = [self._operation(get(part, "operation"), part) for part in items(get(rule, "to"))]
         principals = [self._source(get(part, "source"), part) for part in items(get(rule, "from"))]
         for name, found in (("to", permissions), ("from", principals)):
             if get(rule, name) is not None and not found:
-                raise self.mistake(get(rule, name), f"`{name}` is an empty list, which Istio refuses: leave it out")
+                self.tell(get(rule, name), f"`{name}` is an empty list, which Istio refuses: leave it out")
         both = (
             self._with_whens(permissions, [made for kind, made in whens if kind is PERMISSION], PERMISSION, rule),
             self._with_whens(principals, [made for kind, made in whens if kind is PRINCIPAL], PRINCIPAL, rule),
@@ -141,14 +145,19 @@ class Translation:
         made = [all_of(parts + whens or [everything(at)], kind, at) for parts in rules or [[]]]
         return sequence(made, at)
 
-    def _known(self, node: Optional[Node], fields, what: str) -> None:
+    def _known(self, node: Optional[Node], fields, what: str) -> List[Tuple[str, Node, Node]]:
+        """The entries of a mapping that are known; mistakes are kept."""
         if node is not None and not isinstance(node, yaml.MappingNode):
-            raise self.mistake(node, f"the fields of {what} are expected here, as `name: value`")
-        for name, key, _ in pairs(node):
+            self.tell(node, f"the fields of {what} are expected here, as `name: value`")
+        known = []
+        for name, key, value in pairs(node):
             if name in values.INSTEAD:
-                raise self.mistake(key, f"{name}: {values.INSTEAD[name]}")
-            if name not in fields:
-                raise self.mistake(key, f"{what} has no field `{name}`: it has {', '.join(sorted(fields))}")
+                self.tell(key, f"{name}: {values.INSTEAD[name]}")
+            elif name not in fields:
+                self.tell(key, f"{what} has no field `{name}`: it has {', '.join(sorted(fields))}")
+            else:
+                known.append((name, key, value))
+        return known
 
     def _operation(self, node: Optional[Node], at: Node) -> List[Node]:
         return self._fields(node, at, values.OPERATION, PERMISSION, "`operation`")
@@ -157,47 +166,49 @@ class Translation:
         return self._fields(node, at, values.SOURCE, PRINCIPAL, "`source`")
 
     def _fields(self, node: Optional[Node], at: Node, known: dict, kind: Kind, what: str) -> List[Node]:
-        """What the fields of a source or an operation ask for, all of which has to hold."""
+        """What the fields of a source or an operation ask for, all of which has to hold; mistakes are kept."""
         if node is None:
-            raise self.mistake(at, f"{what} is expected here")
+            self.tell(at, f"{what} is expected here")
         negated = {"not" + name[0].upper() + name[1:]: name for name in known}
-        self._known(node, set(known) | set(negated), what)
         made = []
-        for name, key, value in pairs(node):
-            make = known[negated.get(name, name)]
-            rule = any_of(self._each(value, make, key), kind, key)
-            made.append(negation(rule, kind, key) if name in negated else rule)
+        for name, key, value in self._known(node, set(known) | set(negated), what):
+            rules = self._each(value, known[negated.get(name, name)], key)
+            if rules:
+                rule = any_of(rules, kind, key)
+                made.append(negation(rule, kind, key) if name in negated else rule)
         return made
 
     def _each(self, node: Node, make, key: Node) -> List[Node]:
-        """A rule for each text of a list."""
+        """A rule for each text of a list; mistakes are kept."""
         if not items(node):
-            raise self.mistake(key, f"`{text_of(key)}` takes a list of texts, and not an empty one")
+            self.tell(key, f"`{text_of(key)}` takes a list of texts, and not an empty one")
         rules = []
         for part in items(node):
             value = text_of(part)
             if value is None or value == "":
-                raise self.mistake(part, "a text is expected here, and not an empty one")
+                self.tell(part, "a text is expected here, and not an empty one")
+                continue
             try:
                 rules.append(make(value, part))
             except values.Left as why:
-                raise self.mistake(part, str(why)) from None
+                self.tell(part, str(why))
         return rules
 
-    def _when(self, node: Node) -> Tuple[Kind, Node]:
-        """A condition: the side it stands on, and its rule."""
+    def _when(self, node: Node) -> Optional[Tuple[Kind, Node]]:
+        """A condition: the side it is on, and its rule; None if it has a mistake, which is kept."""
+        before = len(self.mistakes)
         self._known(node, {"key", "values", "notValues"}, "a condition")
         key = get(node, "key")
-        name = text_of(key) or ""
-        kind, make = self._condition(name, key if key is not None else node)
+        kind, make = self._condition(text_of(key) or "", key if key is not None else node)
         made = []
         for field in ("values", "notValues"):
             if get(node, field) is not None:
-                rule = any_of(self._each(get(node, field), make, key_of(node, field)), kind, node)
-                made.append(rule if field == "values" else negation(rule, kind, node))
+                rules = self._each(get(node, field), make, key_of(node, field))
+                rule = any_of(rules, kind, node) if rules else None
+                made.append(rule if field == "values" or rule is None else negation(rule, kind, node))
         if not made:
-            raise self.mistake(node, "a condition has `values` or `notValues`")
-        return kind, all_of(made, kind, node)
+            self.tell(node, "a condition has `values` or `notValues`")
+        return (kind, all_of(made, kind, node)) if len(self.mistakes) == before else None
 
     def _condition(self, name: str, at: Node):
         if name.startswith(HEADER_KEY) and name.endswith("]"):
