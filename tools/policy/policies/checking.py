@@ -137,15 +137,11 @@ def _answered(report: Report, answer: engine.Admission) -> Report:
     """The report with the engine's answer; a refusal that the tool did not find is told at the engine's place."""
     findings = report.findings
     if answer.number and not any(one.number == answer.number for one in findings):
-        told = engine_place(answer.causes)
+        told = engine_place(answer.answer.get("place"))
         place = place_in_file(told, report.message, report.encoding)
         named = named_node(told, report.message)
         what = "this" if named is None else f"node {named.node.id}, {named.told()}"
-        words = f"the engine refuses {what}" + "".join(f": {cause.strip()}" for cause in answer.causes[:1])
+        cause = answer.answer.get("cause")
+        words = f"the engine refuses {what}" + (f": {cause}" if cause else "")
         findings = [*findings, Finding(answer.number, words, place, told.path)]
     return report._replace(findings=findings, admission=answer)
-
-
-def message_of(data: bytes) -> Message:
-    """The message of a filter's bytes."""
-    return read(descriptor(FILTER), data, None)

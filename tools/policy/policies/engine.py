@@ -7,14 +7,11 @@ import concurrent.futures
 import json
 import os
 import pathlib
-import re
 import shutil
 import subprocess
 import tempfile
-from functools import lru_cache
-from typing import Dict, List, NamedTuple, Optional
-
-from .files import STANDARD_INPUT
+import threading
+from typing import Callable, Dict, Iterable, List, NamedTuple, Optional
 
 TOP = pathlib.Path(__file__).resolve().parents[3]
 BUILT = TOP / "crates" / "rbacd" / "out" / "rbacd"
@@ -22,16 +19,9 @@ BUILT = TOP / "crates" / "rbacd" / "out" / "rbacd"
 UNPROVED = BUILT.with_name("unproved")
 # Beside this tool where both are installed into one prefix.
 INSTALLED = TOP.parent / "bin" / "rbacd" if TOP.name == "lib" else BUILT
-ADMITTED = re.compile(r"admitted: policies (\d+) bound (\d+)\s*\Z")
-REFUSED = re.compile(r"refused: (\d+) (\w+)\s*\Z")
+# How many seconds an answer may take, and how many requests a second are judged at least.
 PATIENCE = 60
 REQUESTS_A_SECOND = 100
-# Runs the program on each head, under facts where there are some; a line behind each output says its status.
-RUN_EACH = """program=$1; shift
-while read -r head facts; do
-  if [ -n "$facts" ]; then "$program" "$@" --facts "$facts" < "$head"; else "$program" "$@" < "$head"; fi
-  echo "status $?"
-done"""
 AT_ONCE = max(2, os.cpu_count() or 2)
 
 
@@ -40,12 +30,26 @@ class NoEngine(Exception):
 
 
 class Admission(NamedTuple):
-    """The engine's answer on a filter: its line, the refusal's number (0 where admitted), the bound, and causes."""
+    """The engine's answer on a filter, an object of `check --json`."""
 
-    line: str
-    number: int
-    bound: int
-    causes: List[str]
+    answer: dict
+
+    @property
+    def number(self) -> int:
+        """The refusal's number, 0 if the filter is admitted."""
+        return self.answer.get("refused", 0)
+
+    @property
+    def bound(self) -> int:
+        """How many steps the conditions may take."""
+        return self.answer.get("bound", 0)
+
+    @property
+    def line(self) -> str:
+        """The answer as `check` prints it."""
+        if self.number:
+            return f"refused: {self.number} {self.answer['name']}"
+        return f"admitted: policies {self.answer['policies']} bound {self.bound}"
 
 
 class Request(NamedTuple):
@@ -84,6 +88,7 @@ class Engine:
         self.program = program
         self.room = tempfile.TemporaryDirectory(prefix="policy-")
         self.files: Dict[bytes, str] = {}
+        self.lock = threading.Lock()
 
     def __enter__(self) -> "Engine":
         return self
@@ -93,91 +98,61 @@ class Engine:
 
     def _file(self, data: bytes) -> str:
         """A file with these bytes."""
-        if data not in self.files:
-            path = os.path.join(self.room.name, str(len(self.files)))
-            with open(path, "wb") as file:
-                file.write(data)
-            self.files[data] = path
-        return self.files[data]
+        with self.lock:
+            if data not in self.files:
+                path = os.path.join(self.room.name, str(len(self.files)))
+                with open(path, "wb") as file:
+                    file.write(data)
+                self.files[data] = path
+            return self.files[data]
 
     def _run(self, words: List[str], given: bytes = b"", patience: int = PATIENCE) -> subprocess.CompletedProcess:
         try:
             return subprocess.run([self.program, *words], input=given, capture_output=True, timeout=patience)
-        except (OSError, subprocess.TimeoutExpired) as fault:
-            raise NoEngine(f"{self.program} does not answer: {fault}") from None
+        except OSError as fault:
+            raise NoEngine(f"{self.program} cannot be run: {fault.strerror}") from None
+        except subprocess.TimeoutExpired:
+            raise NoEngine(f"{self.program} does not answer within {patience} seconds") from None
+
+    def _object(self, line: str) -> dict:
+        """The object of a line that the engine printed."""
+        try:
+            answer = json.loads(line)
+        except ValueError:
+            answer = None
+        if not isinstance(answer, dict):
+            raise NoEngine(f"{self.program} printed {line[:200]!r}: is this rbacd?")
+        if "error" in answer and "line" not in answer:
+            raise NoEngine(f"{self.program}: {answer['error']}: {answer.get('cause')}")
+        return answer
 
     def admission(self, data: bytes, budget: int) -> Admission:
         """What the engine says of a filter."""
-        ran = self._run(["check", "--policy", self._file(data), "--budget", str(budget)])
-        line = ran.stdout.decode(errors="replace").strip()
-        causes = ran.stderr.decode(errors="replace").splitlines()
-        admitted, refused = ADMITTED.match(line), REFUSED.match(line)
-        if admitted is None and refused is None:
-            raise NoEngine(f"{self.program} printed {line!r} and {causes[:1]}: is this rbacd?")
-        return Admission(line, int(refused[1]) if refused else 0, int(admitted[2]) if admitted else 0, causes)
+        ran = self._run(["check", "--policy", self._file(data), "--budget", str(budget), "--json"])
+        answer = self._object(ran.stdout.decode(errors="replace").strip())
+        if not ("policies" in answer or "refused" in answer):
+            raise NoEngine(f"{self.program} answered {answer}: is this rbacd?")
+        return Admission(answer)
 
     def admissions(self, filters: List[bytes], budget: int) -> List[Admission]:
         """What the engine says of several filters, several at a time."""
-        for data in filters:
-            self._file(data)
-        return list(_in_parallel(lambda data: self.admission(data, budget), filters))
+        return list(in_parallel(lambda data: self.admission(data, budget), filters))
 
-    @lru_cache(maxsize=None)
-    def has_batch(self) -> bool:
-        """Whether one process judges many requests."""
-        return b"--batch" in self._run(["judge", "--help"]).stdout
-
-    def decisions(self, data: bytes, requests: List[Request], budget: int) -> List[dict]:
-        """What the engine decides on requests: the JSON object that `judge --json --explain` prints for each."""
-        words = ["judge", "--policy", self._file(data), "--budget", str(budget), "--json", "--explain"]
-        if self.has_batch():
-            return self._batch(words, requests)
-        size = max(1, -(-len(requests) // AT_ONCE))
-        parts = [requests[start : start + size] for start in range(0, len(requests), size)]
-        given = [self._lines(part) for part in parts]
-        judged = _in_parallel(lambda index: self._judged(words, parts[index], given[index]), range(len(parts)))
-        return [answer for answers in judged for answer in answers]
-
-    def _lines(self, requests: List[Request]) -> bytes:
-        """For each request a line with the files of its head and of its facts, if it has some."""
-        lines = []
-        for request in requests:
-            facts = self._file(_facts_text(request.facts)) if request.facts else ""
-            lines.append(f"{self._file(request.head)} {facts}\n")
-        return "".join(lines).encode()
-
-    def _judged(self, words: List[str], requests: List[Request], given: bytes) -> List[dict]:
-        """The answers to requests, one process of a shell running the program for each; those that are no verdict are
-        asked again for their cause."""
-        command = ["sh", "-c", RUN_EACH, "sh", str(self.program), *words]
-        ran = subprocess.run(command, input=given, stdout=subprocess.PIPE, stderr=subprocess.DEVNULL)
-        outs = re.split(r"^status \d+\n", ran.stdout.decode(errors="replace"), flags=re.MULTILINE)[:-1]
-        if len(outs) != len(requests):
-            raise NoEngine(f"{self.program} answered {len(outs)} of {len(requests)} requests")
-        return [self._verdict(out) or self._decision(words, request) for out, request in zip(outs, requests)]
-
-    def _verdict(self, out: str) -> Optional[dict]:
-        """The verdict that was printed, or None."""
-        try:
-            answer = json.loads(out)
-        except ValueError:
-            return None
-        return answer if "verdict" in answer else None
-
-    def _decision(self, words: List[str], request: Request) -> dict:
-        facts = ["--facts", self._file(_facts_text(request.facts))] if request.facts else []
-        return _answer(self._run(words + facts, request.head), request)
-
-    def _batch(self, words: List[str], requests: List[Request]) -> List[dict]:
-        """One process for all requests: a line of JSON each, in order."""
+    def decisions(self, data: bytes, requests: List[Request], budget: int, explain: bool = False) -> List[dict]:
+        """What the engine decides on requests, by one process: the object that `judge --json` prints for each."""
+        words = ["judge", "--policy", self._file(data), "--budget", str(budget), "--json", "--batch"]
+        words += ["--explain"] if explain else []
         given = "".join(map(_batch_line, requests)).encode()
-        ran = self._run(words + ["--batch"], given, PATIENCE + len(requests) // REQUESTS_A_SECOND)
+        ran = self._run(words, given, PATIENCE + len(requests) // REQUESTS_A_SECOND)
         lines = ran.stdout.decode(errors="replace").splitlines()
         if ran.returncode == 1:  # the filter is refused, which is told once
             lines = lines[:1] * len(requests)
         if len(lines) != len(requests):
-            raise NoEngine(f"{self.program} answered {len(lines)} of {len(requests)} requests: {_first(ran.stderr)}")
-        return [_batch_answer(line, self.program) for line in lines]
+            told = "; ".join(line.strip() for line in ran.stderr.decode(errors="replace").splitlines())
+            raise NoEngine(f"{self.program} answered {len(lines)} of {len(requests)} requests: {told}")
+        answers = map(self._object, lines)
+        # an object with a line's number says that the facts were bad
+        return [{"bad_facts": answer["cause"]} if "line" in answer else answer for answer in answers]
 
 
 def _batch_line(request: Request) -> str:
@@ -186,39 +161,7 @@ def _batch_line(request: Request) -> str:
     return json.dumps({"head": request.head.decode(), **facts}) + "\n"
 
 
-def _batch_answer(line: str, program: pathlib.Path) -> dict:
-    """The object of a line; one with a line's number says that the facts were bad."""
-    try:
-        answer = json.loads(line)
-    except ValueError:
-        raise NoEngine(f"{program} printed {line!r}: is this rbacd?") from None
-    return {"bad_facts": answer["cause"]} if "line" in answer else answer
-
-
-def _facts_text(facts: dict) -> bytes:
-    return json.dumps(facts).encode()
-
-
-def _answer(ran: subprocess.CompletedProcess, request: Request) -> dict:
-    """The object that was printed, or one that says what went wrong."""
-    if ran.returncode == 6:
-        return {"bad_facts": _first(ran.stderr)}
-    try:
-        answer = json.loads(ran.stdout)
-    except ValueError:
-        return {
-            "fault": _first(ran.stderr) or f"status {ran.returncode} for {len(request.head)} bytes of {STANDARD_INPUT}"
-        }
-    if "head" in answer and ran.stderr:
-        answer["cause"] = _first(ran.stderr)
-    return answer
-
-
-def _first(errors: bytes) -> str:
-    """The words of standard error on one line."""
-    return "; ".join(line.strip() for line in errors.decode(errors="replace").splitlines())
-
-
-def _in_parallel(work, given: list):
+def in_parallel(work: Callable, given: Iterable) -> Iterable:
+    """What is made of each, in order, several at a time."""
     with concurrent.futures.ThreadPoolExecutor(AT_ONCE) as pool:
         yield from pool.map(work, given)

@@ -1,8 +1,8 @@
 """Outcomes of tests as JUnit's XML, which services for continuous integration read."""
-from typing import Dict, List
+from typing import List
 from xml.sax.saxutils import escape, quoteattr
 
-from .testing import Outcome
+from .outcomes import FAILED, NOT_RUN, Outcome, by_file
 
 
 def _safe(text: str) -> str:
@@ -10,16 +10,19 @@ def _safe(text: str) -> str:
     return "".join(one if one in "\t\n" or (one >= " " and one not in "\ufffe\uffff") else "\ufffd" for one in text)
 
 
+def _counts(outcomes: List[Outcome]) -> str:
+    """The attributes that count outcomes."""
+    found = [outcome.status() for outcome in outcomes]
+    seconds = sum(outcome.seconds for outcome in outcomes)
+    counts = f'tests="{len(found)}" failures="{found.count(FAILED)}" errors="{found.count(NOT_RUN)}"'
+    return f'{counts} time="{seconds:.3f}"'
+
+
 def document(outcomes: List[Outcome]) -> str:
-    """The document of all tests, a suite for each file."""
-    files: Dict[str, List[Outcome]] = {}
-    for outcome in outcomes:
-        files.setdefault(outcome.test.file, []).append(outcome)
-    failed = sum(bool(outcome.difference) for outcome in outcomes)
-    lines = ['<?xml version="1.0" encoding="UTF-8"?>', f'<testsuites tests="{len(outcomes)}" failures="{failed}">']
-    for file, found in files.items():
-        failed = sum(bool(outcome.difference) for outcome in found)
-        lines.append(f'  <testsuite name={quoteattr(_safe(file))} tests="{len(found)}" failures="{failed}">')
+    """The document of all tests, a suite for each file; a test that was not run is an error."""
+    lines = ['<?xml version="1.0" encoding="UTF-8"?>', f"<testsuites {_counts(outcomes)}>"]
+    for file, found in by_file(outcomes):
+        lines.append(f"  <testsuite name={quoteattr(_safe(file))} {_counts(found)}>")
         lines += [line for outcome in found for line in _case(outcome)]
         lines.append("  </testsuite>")
     return "\n".join(lines + ["</testsuites>"]) + "\n"
@@ -27,11 +30,11 @@ def document(outcomes: List[Outcome]) -> str:
 
 def _case(outcome: Outcome) -> List[str]:
     test = outcome.test
-    head = (
-        f'    <testcase name={quoteattr(_safe(test.name))} classname={quoteattr(_safe(test.file))} line="{test.line}"'
-    )
+    head = f"    <testcase name={quoteattr(_safe(test.name))} classname={quoteattr(_safe(test.file))}"
+    head += f' line="{test.line}" time="{outcome.seconds:.3f}"'
     if not outcome.difference:
         return [head + "/>"]
-    message = quoteattr(_safe(" ".join(outcome.difference[:2])))
+    kind, shown = ("error", 1) if outcome.status() == NOT_RUN else ("failure", 2)
+    message = quoteattr(_safe(" ".join(outcome.difference[:shown])))
     text = escape(_safe("\n".join(outcome.difference)))
-    return [head + ">", f"      <failure message={message}>{text}</failure>", "    </testcase>"]
+    return [head + ">", f"      <{kind} message={message}>{text}</{kind}>", "    </testcase>"]

@@ -1,7 +1,7 @@
 """Places of a condition's nodes in the file that says it, and the place that the engine names below a refusal."""
 import re
 from functools import lru_cache
-from typing import Dict, Iterable, List, NamedTuple, Optional
+from typing import Dict, NamedTuple, Optional
 
 from .cel.tree import Entry, Node, in_order
 from .cel.words import shown
@@ -11,10 +11,10 @@ from .places import Place
 from .spelling import spread
 from .trees import node_paths
 
-# `policy "p": permissions[0].and_rules.rules[2]: 5 OutOfRange`; a node's id or an unknown field's number is behind it.
+# `policy "p": permissions[0].and_rules.rules[2]`; a node's id or an unknown field's number may be after it.
 ENGINE_PLACE = re.compile(
-    r'\s*(?:policy "(?P<policy>(?:[^"\\]|\\.)*)")?(?:(?::\ )?(?P<part>[a-z_@][\w.\[\]"@-]*))?'
-    r"(?:,? (?:node|id) (?P<node>-?\d+)|, field \d+)?: \d+ [A-Z]\w+\Z"
+    r'(?:policy "(?P<policy>(?:[^"\\]|\\.)*)")?(?:(?::\ )?(?P<part>[a-z_@][\w.\[\]"@-]*))?'
+    r"(?:, node (?P<node>-?\d+)|, field \d+)?\Z"
 )
 # How the engine writes characters of a policy's name.
 ESCAPE = re.compile(r"\\(?:u\{(?P<code>[0-9a-f]{1,6})\}|(?P<letter>.))")
@@ -31,21 +31,19 @@ class EnginePlace(NamedTuple):
     node: Optional[int]
 
 
-def engine_place(causes: Iterable[str]) -> EnginePlace:
-    """The part that the engine names on standard error, or none."""
-    for cause in causes:
-        found = ENGINE_PLACE.match(cause)
-        if found is None or (found["policy"] is None and not found["part"]):
-            continue
-        steps = re.findall(r"[A-Za-z_@]\w*|-?\d+", found["part"] or "")
-        path = tuple(int(step) if step.lstrip("-").isdigit() else step for step in steps)
-        node = int(found["node"]) if found["node"] else None
-        if node is None and path[-2:-1] and path[-2] in MAPS:
-            node = path[-1]
-        if found["policy"] is not None:
-            path = ("rules", "policies", ESCAPE.sub(_character, found["policy"]), *path)
-        return EnginePlace(path, node)
-    return EnginePlace((), None)
+def engine_place(place: Optional[str]) -> EnginePlace:
+    """The part that the engine names, or none."""
+    found = ENGINE_PLACE.match(place or "")
+    if found is None or (found["policy"] is None and not found["part"]):
+        return EnginePlace((), None)
+    steps = re.findall(r"[A-Za-z_@]\w*|-?\d+", found["part"] or "")
+    path = tuple(int(step) if step.lstrip("-").isdigit() else step for step in steps)
+    node = int(found["node"]) if found["node"] else None
+    if node is None and path[-2:-1] and path[-2] in MAPS:
+        node = path[-1]
+    if found["policy"] is not None:
+        path = ("rules", "policies", ESCAPE.sub(_character, found["policy"]), *path)
+    return EnginePlace(path, node)
 
 
 def _character(escape: re.Match) -> str:

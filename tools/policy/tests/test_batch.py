@@ -1,4 +1,4 @@
-"""Many requests by one process, where the engine's `judge` has `--batch`; a script stands for the engine here."""
+"""Many requests by one process of the engine, which is a script here."""
 import os
 import pathlib
 import sys
@@ -11,9 +11,6 @@ SCRIPT = """#!%s -S
 import json, os, sys
 with open(os.environ["CALLS"], "a") as calls:
     calls.write(" ".join(sys.argv[1:]) + "\\n")
-if "--help" in sys.argv:
-    print("rbacd judge --policy FILE [--batch]")
-    sys.exit()
 for number, line in enumerate(sys.stdin, 1):
     asked = json.loads(line)
     if set(asked) - {"head", "facts"} or not asked.get("facts", {"a": 1}):
@@ -53,8 +50,8 @@ class Batch(unittest.TestCase):
         self.assertEqual(answers[3], {"bad_facts": "unknown fact bad"})
         self.assertEqual(len(answers), 1001)
         calls = self.calls.read_text().splitlines()
-        self.assertEqual(len(calls), 2, "one process for all requests, after one that tells whether it can do so")
-        self.assertTrue(calls[1].endswith("--budget 40 --json --explain --batch"), calls[1])
+        self.assertEqual(len(calls), 1, "one process for all requests")
+        self.assertTrue(calls[0].endswith("--budget 40 --json --batch"), calls[0])
 
     def test_no_answer(self):
         for words in ("sys.exit(2)", "print('no JSON'); print(2 * '{}'); sys.exit()"):

@@ -179,7 +179,8 @@ class WithEngine(Room):
         status, out, errors = self.run_it("test", self.file("t.yaml", TESTS), "--junit", "t.xml")
         lines = out.decode().splitlines()
         self.assertEqual((status, errors), (0, ""), lines)
-        self.assertEqual(lines, ["f.yaml: 2 of 2 policies matched", "6 tests: 6 passed, 0 failed"])
+        self.assertEqual(lines[:-1], ["f.yaml: 2 of 2 policies matched"])
+        self.assertRegex(lines[-1], r"^6 tests in \d+\.\d s: 6 passed, 0 failed$")
         root = xml.etree.ElementTree.parse(self.room / "t.xml").getroot()
         self.assertEqual((root.get("tests"), root.get("failures")), ("6", "0"))
 
@@ -189,7 +190,7 @@ class WithEngine(Room):
         status, out, _ = self.run_it("test", "--covered", self.file("t.yaml", text), "--junit", "t.xml")
         self.assertEqual(status, 1)
         self.assertEqual(
-            out.decode().splitlines(),
+            out.decode().splitlines()[:-1],
             [
                 "t.yaml:12: failed: from outside",
                 "  - allow by none",
@@ -200,9 +201,9 @@ class WithEngine(Room):
                 '      "writers": no principal of it matches',
                 "        principals[0].remote_ip: 10.0.0.0/8, is 11.0.0.1",
                 "f.yaml: 2 of 2 policies matched",
-                "3 tests: 2 passed, 1 failed",
             ],
         )
+        self.assertTrue(out.endswith(b" s: 2 passed, 1 failed\n"), out)
         [failure] = xml.etree.ElementTree.parse(self.room / "t.xml").getroot().iter("failure")
         self.assertIn("+ deny by none", failure.text)
 
@@ -228,7 +229,8 @@ class WithEngine(Room):
         tests = [{"request": {"path": f"/{number}"}, "expect": "allow"} for number in range(200)]
         self.file("t.json", json.dumps({"policy": "f.yaml", "tests": tests}))
         status, out, _ = self.run_it("test", "t.json")
-        self.assertEqual((status, out.decode().splitlines()[-1]), (0, "200 tests: 200 passed, 0 failed"))
+        self.assertEqual(status, 0)
+        self.assertRegex(out.decode(), r"200 tests in \d+\.\d s: 200 passed, 0 failed\n$")
 
     def test_diff(self):
         self.file("old.yaml", CONDITION)
@@ -261,7 +263,8 @@ class WithEngine(Room):
         folder = TOP / "examples" / "policies"
         words = ["--covered", "--root", str(TOP / "examples"), str(folder / "condition.tests.yaml")]
         status, out, _ = self.run_it("test", *words)
-        self.assertEqual((status, out.decode().splitlines()[-1]), (0, "4 tests: 4 passed, 0 failed"))
+        self.assertEqual(status, 0)
+        self.assertRegex(out.decode(), r"4 tests in \d+\.\d s: 4 passed, 0 failed\n$")
         self.assertEqual(self.run_it("check", str(folder / "istio.yaml"))[0], 0)
         condition_file, other = TOP / "examples" / "condition.yaml", TOP / "examples" / "any_any.bin"
         status, out, _ = self.run_it("diff", str(condition_file), str(other), str(folder / "requests.jsonl"))
@@ -270,8 +273,7 @@ class WithEngine(Room):
 
 EXPLAINING = """#!/bin/sh
 case "$*" in
-*--help*) echo --batch ;;
-check*) echo 'admitted: policies 2 bound 4150' ;;
+check*) echo '{"admitted":true,"bound":4150,"policies":2}' ;;
 *) cat > /dev/null; echo '{"name":null,"policy":null,"verdict":"deny","trials":[
 {"name":"readers","number":0,"reason":"condition error","error":"NoKey","at":"node 3",
 "causes":["checked_condition.expr, node 2: no key","checked_condition.expr, node 99: no key"]},
@@ -356,24 +358,6 @@ class WithoutEngine(Room):
         self.assertIn(b"f.yaml:11:11: source.port is an int; == has no overload for int and string", out)
         self.assertIn(b"f.yaml:15:11: the engine has no function matches", out)
 
-    def test_mistakes_of_tests(self):
-        self.file("f.yaml", CONDITION)
-        for text, words in [
-            ("tests: []", "has a list `tests`"),
-            ("test: []", "has no field `test`"),
-            ("policy: f.yaml\ntests: [{request: {}}]", "t.yaml:2:9: a test has `expect`"),
-            ("policy: f.yaml\ntests: [{request: {}, expect: allowed}]", "t.yaml:2:31: `allowed` is no expectation"),
-            ("policy: f.yaml\ntests: [{expect: allow}]", "a test has a `request`"),
-            ("policy: g.yaml\ntests: [{request: {}, expect: allow}]", "t.yaml:1:9: cannot read g.yaml: No such file"),
-            ("tests: [{request: {}, expect: allow}]", "`policy` is expected"),
-            ("policy: f.yaml\ntests: [{request: {headers: [a]}, expect: allow}]", "headers are a mapping"),
-            ('policy: f.yaml\ntests: [{request: {path: "a\\nb"}, expect: allow}]', "a path is a text of one line"),
-        ]:
-            with self.subTest(text):
-                status, out, errors = self.run_it("test", self.file("t.yaml", text))
-                self.assertEqual((status, out), (1, b""))
-                self.assertIn(words, errors)
-
     def test_forty_thousand_rules(self):
         lines = ["rules:", "  policies:"]
         for policy in range(200):
@@ -398,7 +382,7 @@ class WithoutEngine(Room):
         before = os.times()
         status, out, errors = self.run_it("test", "--engine", "./engine", "t.json")
         self.assertEqual((status, errors), (0, ""), out)
-        self.assertEqual(out.decode().splitlines()[-1], "1000 tests: 1000 passed, 0 failed")
+        self.assertRegex(out.decode(), r"1000 tests in \d+\.\d s: 1000 passed, 0 failed\n$")
         self.assertLess(_spent(before), 1.5 * slowness())
 
     def test_many_faults(self):

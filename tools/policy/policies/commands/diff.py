@@ -6,7 +6,8 @@ from .. import engine, output
 from ..files import name_of, policy_text
 from ..places import Source
 from ..requests import request_log
-from ..testing import filter_of_file, matched_of, quoted, told
+from ..outcomes import matched_of, quoted, told
+from ..testfiles import filter_of_file
 from .common import DONE, MISTAKEN, UNUSABLE, add_budget, add_engine, engine_of
 
 NAME = "diff"
