@@ -86,7 +86,7 @@ def _report(source: Source, one: Encoded, about_file: List[Finding]) -> Tuple[Re
 
 
 def _bytes_report(file: str, name: str, data: bytes, budget: int) -> Tuple[Report, bytes]:
-    """The report on a filter in bytes; a condition's fault is told with the condition's text."""
+    """The report on a filter in bytes; a condition's fault has the condition's text."""
     message = read(descriptor(FILTER), data, None)
     found = [
         Finding(note.number, f"byte {note.place}: {note.words}", None, note.path) for note in profile.notes(message)
@@ -134,7 +134,7 @@ def _with_origin(one: Finding, message: Message) -> Finding:
 
 
 def _answered(report: Report, answer: engine.Admission) -> Report:
-    """The report with the engine's answer; a refusal that the tool did not find is told at the engine's place."""
+    """The report with the engine's answer; a refusal that the tool did not find has the engine's place."""
     findings = report.findings
     if answer.number and not any(one.number == answer.number for one in findings):
         told = engine_place(answer.answer.get("place"))

@@ -1,8 +1,8 @@
 """Conditions as texts of CEL: `text`, with `ids`, `dotted`, `accumulator` and the maps of types and references where
 they are given.
 
-These keys stand in the place of `expr`. Without `ids` they run in the order of the text, from 1; without `type_map` the
-entries are those of the empty literals whose types are told. `accumulator` is the name that macros give theirs.
+These keys are instead of `expr`. Without `ids` they run in the order of the text, from 1; without `type_map` the
+entries are those of the empty literals whose types the text tells. `accumulator` is the name that macros give theirs.
 """
 from typing import Callable, List, NamedTuple, Optional
 

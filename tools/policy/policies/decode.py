@@ -73,7 +73,7 @@ def _wire(message: Message) -> List[Pair]:
 
 
 def _shown(message: Message) -> List[FieldDescriptor]:
-    """The fields of a message that stand in its mapping, by ascending number."""
+    """The fields of a message that are in its mapping, by ascending number."""
     fields = sorted(message.kind.fields, key=lambda field: field.number)
     return [field for field in fields if field.name in message.values and not _is_default(field, message)]
 
@@ -88,7 +88,7 @@ def _is_default(field: FieldDescriptor, message: Message) -> bool:
 
 
 def _short_form(message: Message) -> Optional[str]:
-    """A message that stands as a scalar, or None."""
+    """A message that is written as a scalar, or None."""
     if message.kind.full_name == WRAPPER and message.wire is None:
         return str(message.scalar("value"))
     if message.kind.full_name == TYPE:
@@ -99,7 +99,7 @@ def _short_form(message: Message) -> Optional[str]:
 
 
 def _text(text: str):
-    """A text of one line in YAML: without quotes where it can stand so, in single quotes, or on a line of its own."""
+    """A text of one line in YAML: without quotes where it can be so, in single quotes, or on a line of its own."""
     if plain_line(text):
         return text
     return f"'{text}'" if "'" not in text else Block([text])
@@ -187,7 +187,7 @@ class _Decoding:
         return pairs + beside, remarks.own
 
     def _beside_text(self, message: Message, form: TextForm, remarks: Remarks) -> List[Pair]:
-        """The fields of a checked condition that stand beside its text."""
+        """The fields of a checked condition beside its text."""
         if message.kind.full_name == EXPR:
             return []
         fields = [field for field in _shown(message) if field.name not in ("expr", "type_map")]

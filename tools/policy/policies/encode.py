@@ -1,4 +1,4 @@
-"""YAML to messages: the proto3 JSON mapping, with the conditions' texts and the types' texts besides."""
+"""YAML to messages: the proto3 JSON mapping, and also texts of conditions and of types."""
 import difflib
 from typing import Dict, List, Optional, Set, Tuple
 
@@ -146,7 +146,7 @@ class Encoding:
         return True
 
     def _is_told_constant(self, path: tuple, number: int) -> bool:
-        """Whether a part is a literal of a condition's text, which is told at its place in the text."""
+        """Whether a part is a literal of a condition's text, which has its place in the text."""
         inside = any(path[:length] in self.texts for length in range(len(path)))
         return inside and number == UNSUPPORTED and path[-1] in ("null_value", "double_value")
 
@@ -154,7 +154,7 @@ class Encoding:
         return found._replace(place=self.place_of(found.path))
 
     def place_of(self, path: tuple) -> Place:
-        """The place of the part of the file that says a part of the filter, or what it stands in."""
+        """The place of the part of the file that says a part of the filter, or of what is around it."""
         while path not in self.marks and path:
             path = path[:-1]
         return start_of(self.marks[path]) if path in self.marks else (0, 0)
@@ -201,7 +201,7 @@ class Encoding:
         return pairs
 
     def fields(self, kind: Descriptor, pairs: Dict[str, tuple], path: tuple, depth: int) -> Message:
-        """The message whose fields stand as pairs."""
+        """The message whose fields are pairs."""
         message = Message(kind)
         for name, (key, node) in pairs.items():
             try:
@@ -232,7 +232,7 @@ class Encoding:
                 )
                 raise self.mistake(key, told)
         if name == MERGE_KEY:
-            raise self.mistake(key, "merge keys are not read: write out what `<<` stands for, or use an alias alone")
+            raise self.mistake(key, "merge keys are not read: write out what `<<` means, or use an alias alone")
         if kind.full_name == FILTER and name in parts_by_name(descriptor(POLICY)):
             told = f"`{name}` is a field of a policy, which is in a filter as `rules: {{policies: {{NAME: {{..}}}}}}`"
             raise self.mistake(key, told)
@@ -324,7 +324,7 @@ class Encoding:
         return self.scalar(field, node)
 
     def _short_form(self, kind: Descriptor, node: yaml.ScalarNode) -> Message:
-        """A message that stands as a scalar: a wrapped number, or the text of a type."""
+        """A message that is written as a scalar: a wrapped number, or the text of a type."""
         if kind.full_name == WRAPPER:
             message = Message(kind)
             message.values["value"] = self.scalar(kind.fields_by_name["value"], node)
@@ -389,7 +389,7 @@ class Encoding:
         return node.value
 
     def _any(self, kind: Descriptor, node: yaml.Node, pairs: Dict[str, tuple], path: tuple, depth: int) -> Message:
-        """A message of any type: `@type` names it, and its fields stand beside."""
+        """A message of any type: `@type` names it, and its fields are beside that."""
         message = Message(kind)
         if not pairs:
             return message

@@ -145,7 +145,7 @@ class Engine:
         given = "".join(map(_batch_line, requests)).encode()
         ran = self._run(words, given, PATIENCE + len(requests) // REQUESTS_A_SECOND)
         lines = ran.stdout.decode(errors="replace").splitlines()
-        if ran.returncode == 1:  # the filter is refused, which is told once
+        if ran.returncode == 1:  # the filter is refused, and one line says so
             lines = lines[:1] * len(requests)
         if len(lines) != len(requests):
             told = "; ".join(line.strip() for line in ran.stderr.decode(errors="replace").splitlines())

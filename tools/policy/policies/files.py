@@ -77,7 +77,7 @@ def _is_utf8(data: bytes) -> bool:
 
 
 def _is_utf16(data: bytes) -> bool:
-    """Whether bytes are a text in UTF-16 behind its mark, as far as its beginning tells."""
+    """Whether bytes are a text in UTF-16 after its mark, as far as its beginning tells."""
     text = data[:400].decode("utf-16", errors="replace")
     return all(character.isprintable() or character in "\t\r\n" for character in text[:-1])
 
@@ -111,7 +111,7 @@ def filter_bytes(name: str) -> bytes:
 def _instead(kind: str, name: str) -> str:
     """What a file is that is no filter's bytes, and what makes these of it."""
     if kind == EMPTY:
-        return "this file is empty; a command that fails leaves such a file behind `>` (use --output for that)"
+        return "this file is empty; a command that fails leaves such a file after `>` (use --output for that)"
     if kind == GZIP:
         return f"this is compressed by gzip; `gunzip < {name}` gives what it holds"
     if kind == UTF16:

@@ -5,7 +5,7 @@ INSTEAD = {
     "filter_state": "the engine has no filter state: let the proxy put it into a header, and match the header",
     "matcher": "matchers as extensions are left out: write `rules` with policies, or a condition in CEL",
     "shadow_matcher": "shadow rules are never enforced: leave it out",
-    "source_ip": "write direct_remote_ip (the peer's address) or remote_ip (behind a proxy)",
+    "source_ip": "write direct_remote_ip (the peer's address) or remote_ip (the client's address, if a proxy is between)",
     "safe_regex": "write `exact`, `prefix`, `suffix` or `contains`, or several of them under or_rules or or_ids",
     "safe_regex_match": "write `string_match` with `exact`, `prefix`, `suffix` or `contains`",
     "regex": "write `exact`, `prefix`, `suffix` or `contains`",
@@ -18,7 +18,7 @@ INSTEAD = {
     "track_per_rule_stats": "the engine keeps no statistics: leave it out",
     "null_value": "ask for a key with `in` or `has`",
     "double_value": "write a whole number",
-    "optional_indices": "write the elements that are there",
+    "optional_indices": "write the elements themselves",
     "field_key": "the engine makes no messages: write a map",
     "match_excluded": "write `not_rule` or `not_id`",
 }
@@ -51,5 +51,5 @@ def shape(label: str) -> str:
 
 
 def instead(name: str) -> str:
-    """The words for a field, behind a colon, or nothing."""
+    """The words for a field, after a colon, or nothing."""
     return f": {INSTEAD[name]}" if name in INSTEAD else ""

@@ -28,7 +28,7 @@ Remark = Tuple[Node, str]
 def notes(message: Message, encoding) -> List[Finding]:
     """The notes on a filter; `encoding` knows the places of a text's parts, and is None for bytes.
 
-    Of policies that have mistakes nothing is told.
+    Policies with mistakes have no notes.
     """
     rules = message.get("rules")
     if rules is None or not rules.is_whole:

@@ -151,7 +151,7 @@ def is_null(field: FieldDescriptor) -> bool:
 
 
 def has_presence(field: FieldDescriptor) -> bool:
-    """Whether a scalar field of the default value stands on the wire: that of a oneof does."""
+    """Whether a scalar field of the default value is on the wire: that of a oneof is."""
     return field.containing_oneof is not None
 
 
@@ -209,7 +209,7 @@ class Message:
         return self.places.get(name, self.start)
 
     def parts(self) -> Iterator["Message"]:
-        """The messages that stand in this one."""
+        """The messages in this one."""
         for value in self.values.values():
             for one in value if isinstance(value, list) else [value]:
                 part = one[1] if isinstance(one, tuple) else one
@@ -217,6 +217,6 @@ class Message:
                     yield part
 
     def which(self, oneof: str) -> Optional[str]:
-        """The name of a oneof's member that is there."""
+        """The name of a oneof's member that the message has."""
         members = _members(self.kind, oneof)
         return next((name for name in self.values if name in members), None)

@@ -163,7 +163,7 @@ def reason(trial: dict) -> str:
 
 
 def details(trial: dict) -> List[str]:
-    """What the engine tells of a trial beside its reason, such as the leaves that failed."""
+    """What the engine says of a trial beside its reason, such as the leaves that failed."""
     found = [value for name, value in sorted(trial.items()) if name not in TRIAL]
     parts = [part for value in found if value is not None for part in (value if isinstance(value, list) else [value])]
     return [part if isinstance(part, str) else json.dumps(part, ensure_ascii=False) for part in parts]

@@ -13,7 +13,7 @@ from .refusals import NAMES
 
 Place = Tuple[int, int]
 LINE_END = re.compile("\r\n|[\n\r\x85\u2028\u2029]")
-# A character beyond U+FFFF as JSON escapes it, which YAML does not take; an even number of backslashes stands before.
+# A character beyond U+FFFF as JSON escapes it, which YAML does not take; an even number of backslashes is before.
 SURROGATES = re.compile(r"(?<!\\)((?:\\\\)*)\\u([dD][89abAB][0-9a-fA-F]{2})\\u([dD][c-fC-F][0-9a-fA-F]{2})")
 DEEPEST = 2000
 GREATEST_EXPANSION = 100_000
@@ -199,8 +199,8 @@ def _around(line: str, column: int) -> Tuple[str, int]:
         return line, column
     start = max(0, min(column - WIDEST // 2, len(line) - WIDEST))
     before = f"{CUT} " if start else ""
-    behind = f" {CUT}" if start + WIDEST < len(line) else ""
-    return before + line[start : start + WIDEST] + behind, len(before) + column - start
+    after = f" {CUT}" if start + WIDEST < len(line) else ""
+    return before + line[start : start + WIDEST] + after, len(before) + column - start
 
 
 def _joined(pair: re.Match) -> str:

@@ -81,7 +81,7 @@ def notes(message: Message) -> List[Note]:
 
 
 class _Walk:
-    """A walk over a message; what it counts is that of the condition it stands in."""
+    """A walk over a message; what it counts is that of the condition around."""
 
     def __init__(self):
         self.nodes = 0

@@ -26,7 +26,7 @@ def read(kind: Descriptor, data: bytes, writer: Optional[Writer] = PLAIN) -> Mes
 
 
 def _read(kind: Descriptor, pieces: Pieces, depth: int) -> Message:
-    """The message of payloads that stand one after the other, each whole fields by itself, `depth` levels down."""
+    """The message of payloads in order, each whole fields by itself, `depth` levels down."""
     message = Message(kind, pieces[0][0])
     message.raw = pieces[0][1] if len(pieces) == 1 else b"".join(data for _, data in pieces)
     if depth > DEEPEST:
@@ -130,7 +130,7 @@ def _take_list(message: Message, kind: Part, fields: List[Field], depth: int) ->
 
 
 def _take_map(message: Message, kind: Part, fields: List[Field], depth: int) -> None:
-    """The last entry of a key counts, and stands where the key stood first; an entry with a fault is left out."""
+    """The last entry of a key counts, at the place of the first; an entry with a fault is left out."""
     pairs, places = {}, {}
     value_type = kind.message_type.fields_by_name["value"].message_type
     for field in fields:

@@ -1,4 +1,4 @@
-"""Comments by the parts of a message that they stand at."""
+"""Comments by the parts of a message that they are on."""
 from typing import Dict, Iterable, List
 
 from .profile import Note

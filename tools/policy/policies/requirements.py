@@ -1,4 +1,4 @@
-"""The Debian packages that the tool stands on, and which of them are missing."""
+"""The Debian packages that the tool needs, and which of them are missing."""
 import importlib.util
 import shutil
 from typing import List

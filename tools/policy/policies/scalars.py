@@ -1,6 +1,6 @@
 """Scalars in YAML by the proto3 JSON mapping, both ways.
 
-A text that YAML could take for something else has to stand in quotes, as Envoy would refuse it too.
+A text that YAML could take for something else has to be in quotes, as Envoy would refuse it too.
 """
 import base64
 import binascii

@@ -78,7 +78,7 @@ def _units(text: str, start: int, end: int, style: Optional[str]) -> Iterator[Tu
 
 
 def _escape(text: str, start: int) -> Tuple[str, int]:
-    """The character that an escape in double quotes stands for, and the length of the escape."""
+    """The character that an escape in double quotes means, and the length of the escape."""
     letter = text[start + 1]
     if letter in LONG_ESCAPES:
         length = LONG_ESCAPES[letter]

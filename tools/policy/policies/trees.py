@@ -13,7 +13,7 @@ class NoTree(Exception):
 
 
 def _part(name: str, values: dict) -> Message:
-    """A message with the values that are there."""
+    """A message with the values that are not None."""
     message = Message(descriptor(name))
     message.values = {key: value for key, value in values.items() if value is not None and value != []}
     return message

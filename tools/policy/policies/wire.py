@@ -46,7 +46,7 @@ class Field(NamedTuple):
 
 
 def read_fields(data: memoryview, offset: int) -> List[Field]:
-    """All fields of a payload whose first byte stands at an offset; raises Broken."""
+    """All fields of a payload whose first byte is at an offset; raises Broken."""
     fields = []
     at = 0
     while at < len(data):
@@ -76,7 +76,7 @@ def _payload_bounds(data: memoryview, at: int, wire_type: int, offset: int):
 
 
 def _read_varint(data: memoryview, at: int, offset: int):
-    """The number at a place, and the place behind it."""
+    """The number at a place, and the place after it."""
     value = 0
     for index in range(10):
         if at + index >= len(data):

@@ -1,6 +1,6 @@
 """Messages to bytes: fields in ascending order of number, defaults omitted.
 
-Go's encoder puts the members of oneofs behind the other fields; a writer can do so too.
+Go's encoder puts the members of oneofs after the other fields; a writer can do so too.
 """
 from typing import Callable, Dict
 

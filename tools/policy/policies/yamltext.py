@@ -6,7 +6,7 @@ from typing import List, NamedTuple, Union
 
 
 class Block(NamedTuple):
-    """A text that stands on lines of its own."""
+    """A text on lines of its own."""
 
     lines: List[str]
 
@@ -59,7 +59,7 @@ def _pair(pair: Pair) -> List[str]:
 
 
 def _part(part: Part) -> List[str]:
-    """A value of a list behind its dash; comments at its start go before the dash."""
+    """A value of a list after its dash; comments at its start go before the dash."""
     inner = lines_of(part.value)
     first = next((index for index, line in enumerate(inner) if not line.startswith("#")), 0)
     rest = [f"{'- ' if index == 0 else '  '}{line}" for index, line in enumerate(inner[first:])]

@@ -57,6 +57,16 @@ class Documents(unittest.TestCase):
             if name in ("check", "judge") and "--batch" not in line:
                 self.assertEqual(options(line), given - {"--batch"}, name)
 
+    def test_words(self):
+        """The tool's texts have none of the words that CONTRIBUTING bans."""
+        table = (TOP / "CONTRIBUTING.md").read_text(encoding="utf-8").partition("\n## Words\n")[2].partition("\n## ")[0]
+        words = [word for row in re.findall(r"^\| (`[^|]+`) \|", table, re.MULTILINE) for word in re.findall("`([^`]+)`", row)]
+        banned = re.compile("|".join(rf"(?<![\w-]){re.escape(word)}(?![\w-])" for word in words), re.IGNORECASE)
+        self.assertGreater(len(words), 20)
+        for path in sorted((TOP / "tools" / "policy" / "policies").glob("**/*.py")):
+            for number, line in enumerate(path.read_text(encoding="utf-8").splitlines(), 1):
+                self.assertIsNone(banned.search(line), f"{path}:{number}: {line.strip()}")
+
     def test_numbers(self):
         page = PAGES["docs/PROGRAM.md"]
         self.assertIn(f"1 to {GREATEST_BUDGET:,}, and {BUDGET:,} by default", page)

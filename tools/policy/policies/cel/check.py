@@ -1,6 +1,6 @@
 """The types of a condition's tree as the engine finds them, and each fault with its node.
 
-Beside a fault the node's type is not known, and nothing is told of what stands on it.
+A node with a fault has no type, and nothing more is said of the nodes around it.
 """
 from typing import Dict, Iterator, List, NamedTuple, Optional, Tuple
 
@@ -18,7 +18,7 @@ UNSUPPORTED, TOO_LARGE, UNKNOWN_NAME, NO_OVERLOAD, BAD_TYPE_ENTRY, BAD_REFERENCE
 )
 CONSTANTS = {"bool": BOOL, "int64": INT, "uint64": ("uint",), "string": STRING, "bytes": ("bytes",)}
 MOST_LOCALS = 64
-# In the place of a type entry that the engine does not support.
+# Instead of a type entry that the engine does not support.
 NO_KIND = ("unsupported",)
 TypeEntries = Dict[int, tuple]
 # By id: the name of a reference, and whether it holds a value.
@@ -197,7 +197,7 @@ class _Checker:
         return None if key is None or value is None else ("map", key, value)
 
     def _same(self, node: Node, parts: List[Node], scope: dict, what: str) -> Optional[tuple]:
-        """The one type of all parts; the first that has another one is told."""
+        """The one type of all parts; the first that has another one is a fault."""
         kinds = [self.type_of(part, scope, node) for part in parts]
         known = [(part, kind) for part, kind in zip(parts, kinds) if kind is not None]
         for part, kind in known[1:]:
@@ -251,7 +251,7 @@ class _Checker:
         return self._turn(loop, inside, scope, accumulator)
 
     def _tests_bool(self, name: str, test: Node, inside: dict, loop: Comprehension) -> bool:
-        """Whether the test of a macro is a bool; else that is told and nothing else of the loop."""
+        """Whether the test of a macro is a bool; else that is the loop's only fault."""
         if name in ("map", "filter") and isinstance(test, Ident) and not _is_known(test.name, inside):
             self.tell(test, UNKNOWN_NAME, words.second_variable(test.name, inside))
             return False

@@ -1,7 +1,7 @@
 """What a condition costs: the most steps that its code takes on any request within the limits.
 
 A size bounds a value: ("flat",), ("text", n), ("many", n, element) and ("table", n, key, value). A cost above the
-greatest budget is told as `TooMuch`, since its figure may be as long as one likes.
+greatest budget is `TooMuch`, since its figure may be as long as one likes.
 """
 from typing import Dict, NamedTuple, Tuple
 

@@ -6,7 +6,7 @@ from .tree import ACCUMULATOR, NEW_ACCUMULATOR, Comprehension, Ident, ListLitera
 
 
 class Folded(NamedTuple):
-    """A macro's name, its arguments behind the variables' names, and the first of them if it is a test."""
+    """A macro's name, its arguments after the variables' names, and the first of them if it is a test."""
 
     name: str
     arguments: list

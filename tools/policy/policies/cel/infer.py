@@ -1,4 +1,4 @@
-"""The types of empty literals, worked out from what stands around them.
+"""The types of empty literals, worked out from what is around them.
 
 An empty list or map has no element to tell its type; the other side of an operator, the branch beside it, the elements
 beside it or a loop over it may. Each function's operands and result are tied together as the function table does;
@@ -30,7 +30,7 @@ OPERANDS = {**dict.fromkeys(["contains", "startsWith", "endsWith", "bytes"], STR
 
 
 class Unknown:
-    """A type that is not known yet; it may come to stand for another."""
+    """A type that is not known yet; it may become another."""
 
     def __init__(self):
         self.stands_for = None

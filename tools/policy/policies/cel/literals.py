@@ -59,7 +59,7 @@ def string_value(token: str, place: int) -> str:
 
 
 def bytes_value(token: str, place: int) -> bytes:
-    """The value of a bytes literal with its `b` and its quotes: characters stand for their UTF-8."""
+    """The value of a bytes literal with its `b` and its quotes: characters mean their UTF-8."""
     body, start, raw = _unquote(token[1:])
     if raw or "\\" not in body:
         return body.encode()

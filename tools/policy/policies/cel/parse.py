@@ -101,7 +101,7 @@ def _character_fault(text: str, place: int) -> TextMistake:
 
 
 def _token_fault(text: str, token: lark.Token) -> TextMistake:
-    """The mistake where a word stands that cannot."""
+    """The mistake of a word that cannot be at its place."""
     if token[0] in QUOTES and _starts_triple(text, token.start_pos):
         return TextMistake(token.start_pos - 2, "these quotes are not closed")
     sign = WORDS_FOR_SIGNS.get(str(token).lower())
@@ -235,7 +235,7 @@ def balance(function: str, terms: list, places: list) -> Node:
 
 
 def _odd(function: str, signs: list, operand: Node) -> Node:
-    """An even number of signs stands for none, an odd number for one."""
+    """An even number of signs means none, an odd number means one."""
     return operand if len(signs) % 2 == 0 else Call(function, [operand], place=signs[0].start_pos)
 
 

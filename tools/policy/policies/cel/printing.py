@@ -46,12 +46,12 @@ def text_of(tree: Node, dotted: bool = False) -> Optional[str]:
 
 
 def describe(tree: Node) -> str:
-    """The tree as text for people; what no text of the language stands for is in angle brackets."""
+    """The tree as text for people; what has no text in the language is in angle brackets."""
     return _print(tree, CONDITIONAL)
 
 
 def _print(node: Node, level: int) -> str:
-    """The text of a node where a form of that level or a tighter one can stand."""
+    """The text of a node where a form of that level or a tighter one is allowed."""
     text, own = _form(node)
     return f"({text})" if own < level else text
 
@@ -114,13 +114,13 @@ def _terms(node: Node, function: str) -> list:
 
 
 def _signed(operand: Node) -> str:
-    """An operand behind `!` or `-`; a number stands in parentheses, since a sign would become its own."""
+    """An operand after `!` or `-`; a number is in parentheses, since a sign would become its own."""
     text = _print(operand, MEMBER)
     return f"({text})" if re.match(r"-|[.0-9]", text) else text
 
 
 def _operand(operand: Node) -> str:
-    """An operand before `.` or `[`; a number stands in parentheses."""
+    """An operand before `.` or `[`; a number is in parentheses."""
     text = _print(operand, MEMBER)
     return f"({text})" if isinstance(operand, Const) and re.match(r"-|[.0-9]", text) else text
 

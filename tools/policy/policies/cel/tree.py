@@ -118,7 +118,7 @@ INFIX = frozenset(BINARY.values()) | {"_[_]"}
 
 
 def is_infix(node: Node) -> bool:
-    """Whether a node is a call that stands between its two operands, or behind its first as an index does."""
+    """Whether a node is a call that is between its two operands, or after its first as an index is."""
     return isinstance(node, Call) and node.target is None and node.function in INFIX and len(node.args) == 2
 
 
@@ -135,8 +135,8 @@ def is_call(node: object, function: str, count: int) -> bool:
 def in_order(node: Node) -> Iterator[Node]:
     """The nodes and entries of a tree in the order of its text.
 
-    An operator stands where its sign does: an infix operator and `?` behind the first operand, a prefix operator and a
-    function before its arguments, `.` behind its operand, an entry between its key and its value. A loop stands behind
+    An operator is where its sign is: an infix operator and `?` after the first operand, a prefix operator and a
+    function before its arguments, `.` after its operand, an entry between its key and its value. A loop is after
     its range, before its other parts.
     """
     if isinstance(node, Select):

@@ -108,7 +108,7 @@ def dashed_header(difference: Optional[Node]) -> Optional[str]:
 
 
 def bare_root(name: str, parent: Optional[Node]) -> str:
-    """What to tell of a root that stands without a field."""
+    """What to tell of a root without a field."""
     field = parent.args[1].value if _is_indexed_by_text(parent) else None
     if field is not None and f"{name}.{field}" in TYPES:
         return f"`{name}` has no index: write `{name}.{field}`"

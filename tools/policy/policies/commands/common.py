@@ -1,4 +1,4 @@
-"""What several commands share: statuses, numbers on the command line, and how findings are told."""
+"""What several commands share: statuses, numbers on the command line, and how findings are printed."""
 import argparse
 from typing import Callable, Iterable, List
 

@@ -1,4 +1,4 @@
-"""The filters that stand in a file: the filter itself, its rules alone, or any of Envoy's wrappings around it."""
+"""The filters in a file: the filter itself, its rules alone, or any of Envoy's wrappings around it."""
 import re
 from typing import Iterator, List, NamedTuple, Optional, Sequence, Tuple
 
@@ -230,7 +230,7 @@ def _type_of(node: yaml.MappingNode) -> str:
 
 
 def _with_own_names(forms: List[Form]) -> List[Form]:
-    """The forms, names that occur again with a number behind them."""
+    """The forms, names that occur again with a number after them."""
     seen: dict = {}
     named = []
     for form in forms:

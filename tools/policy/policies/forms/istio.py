@@ -1,6 +1,6 @@
 """Istio's AuthorizationPolicy as filters, as Istio's own translation makes them.
 
-A rule is a policy: each `to` is a permission, each `from` a principal, and each `when` stands in both or in one of them
+A rule is a policy: each `to` is a permission, each `from` a principal, and each `when` is in both or in one of them
 as its key says. All policies of one action for the same workload are one filter, since Istio joins them so.
 """
 from typing import Callable, Dict, List, Optional, Tuple

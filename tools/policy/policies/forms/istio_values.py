@@ -26,7 +26,7 @@ class Left(Exception):
 
 
 def matcher(value: str, at: Node) -> Node:
-    """The matcher of a text with `*` before it or behind it; `*` alone is for the caller."""
+    """The matcher of a text with `*` before it or after it; `*` alone is for the caller."""
     if value.startswith("*"):
         return mapping({"suffix": text(value[1:], at)}, at)
     if value.endswith("*"):

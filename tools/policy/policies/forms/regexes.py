@@ -175,7 +175,7 @@ class _Reader:
         return found
 
     def _repeated(self, atom: List[Run], start: int) -> List[Run]:
-        """An atom with the sign behind it that repeats it."""
+        """An atom with the sign after it that repeats it."""
         sign = self.peek()
         if sign not in ("*", "+", "?"):
             if sign == "{" and self.expression[self.at + 1 : self.at + 2].isdigit():
@@ -219,7 +219,7 @@ def _shape(run: Run) -> Shape:
 
 
 def _are_at_the_ends(inner: list, ends: List[int]) -> bool:
-    """Whether the wildcards inside stand beside those around."""
+    """Whether the wildcards inside are beside those around."""
     texts = [index for index, part in enumerate(inner) if isinstance(part, str)]
     return not any(texts[0] < index < texts[-1] for index in ends)
 

@@ -78,7 +78,7 @@ class Rewriting:
         return self._leaf(changed, kind) if changed is node else changed
 
     def _source_ip(self, node: yaml.MappingNode) -> Node:
-        words = "source_ip is read as direct_remote_ip; behind the PROXY protocol write remote_ip, which heeds it"
+        words = "source_ip is read as direct_remote_ip; with the PROXY protocol write remote_ip, the client's address"
         self._note(key_of(node, "source_ip"), words)
         return mapping({"direct_remote_ip": get(node, "source_ip")}, node)
 
@@ -97,7 +97,7 @@ class Rewriting:
         return node
 
     def _shapes(self, regex: yaml.ScalarNode) -> Optional[List[Shape]]:
-        """The alternatives of an expression, which are noted, or None where it is more, which is told."""
+        """The alternatives of an expression, which are noted, or None where it is more, which is a finding."""
         try:
             found = shapes(regex.value)
         except Untranslatable as fault:
@@ -160,7 +160,7 @@ def everything(at: Node) -> Node:
 
 
 class Leaf(NamedTuple):
-    """A member that compares a text: where its regular expression stands, and the rule with a matcher instead."""
+    """A member that compares a text: where its regular expression is, and the rule with a matcher instead."""
 
     expression: Callable[[Node], Optional[Node]]
     with_matcher: Callable[[Node, Node], Node]
