@@ -1,5 +1,5 @@
 """Messages to YAML: what `encode` reads back as the same bytes, with the profile's remarks as comments."""
-from typing import List, Optional
+from typing import Iterable, List, Optional, Tuple
 
 from google.protobuf.descriptor import FieldDescriptor
 
@@ -36,15 +36,15 @@ from .yamltext import Block, Pair, Part, comment_lines, lines_of
 WIDTH = 32
 
 
-def decode(data: bytes) -> str:
-    """The YAML of a filter's bytes, in the order of fields in which more of them is plain."""
+def decode(data: bytes, comments: Iterable[Tuple[tuple, str]] = ()) -> str:
+    """The YAML of a filter's bytes, in the order of fields in which more of them is plain; with comments on its parts."""
     message, writer = read(descriptor(FILTER), data, PLAIN), PLAIN
     odd = _count_odd(message)
     if odd:
         other = read(descriptor(FILTER), data, ONEOFS_LAST)
         if _count_odd(other) < odd:
             message, writer = other, ONEOFS_LAST
-    remarks = remarks_of(notes(message))
+    remarks = remarks_of([*((note.path, note.text()) for note in notes(message)), *comments])
     pairs = _Decoding(writer).pairs(message, remarks)
     if writer is ONEOFS_LAST:
         words = "members of oneofs come after the other fields of a message, as Go's encoder puts them"

@@ -24,7 +24,10 @@ from .trees import node_paths
 MISSING, OUT_OF_RANGE, UNSUPPORTED, BOTH_CONDITIONS, TOO_LARGE = 4, 5, 6, 7, 8
 MOST_POLICIES = 256
 NO_RULES = "a filter without rules, by which Envoy lets every request pass: write `rules`, or leave the filter out"
-TOO_MANY_POLICIES = f"more than {MOST_POLICIES} policies: join some by or_rules, or write several filters"
+TOO_MANY_POLICIES = f"more than {MOST_POLICIES} policies: `policy join` joins those of equal principals or permissions"
+DENY = 1
+# Each filter of a chain has to let a request pass.
+OF_A_CHAIN = {True: "; or write several filters, which deny what one of them does", False: "; several filters are not the same"}
 NOT_ANY = "`any` is true or is not there: for none write `not_rule` or `not_id` around it"
 TESTS = "`exact`, `prefix`, `suffix` or `contains`"
 ANY_TEXT = " is in every text: for a header leave out the test, else write `any: true`"
@@ -65,7 +68,8 @@ def _rules(message: Message) -> Iterator[Finding]:
     if not 0 <= message.scalar("action") <= 2:
         yield "action", message.place_of("action"), OUT_OF_RANGE, "there is no such action: it is ALLOW, DENY or LOG"
     if len(message.get("policies") or []) > MOST_POLICIES:
-        yield None, message.start, TOO_LARGE, TOO_MANY_POLICIES
+        words = TOO_MANY_POLICIES + OF_A_CHAIN[message.scalar("action") == DENY]
+        yield None, message.start, TOO_LARGE, words
 
 
 def _policy(message: Message) -> Iterator[Finding]:

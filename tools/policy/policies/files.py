@@ -40,7 +40,7 @@ def read_file(name: str) -> bytes:
         with open(name, "rb") as file:
             data = file.read(GREATEST_FILE + 1)
     if len(data) > GREATEST_FILE:
-        raise Mistake(f"{name_of(name)}: a file has at most 16 MiB; split its policies over several filters")
+        raise Mistake(f"{name_of(name)}: a file has at most 16 MiB")
     return data
 
 

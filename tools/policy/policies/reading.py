@@ -1,5 +1,5 @@
 """A file of any form, to the filters in it: their bytes, and what is found in them."""
-from typing import List, NamedTuple
+from typing import List, NamedTuple, Optional
 
 from .bounds import BUDGET, GREATEST_FILTER, TOO_LONG
 from .encode import Encoding
@@ -63,3 +63,16 @@ def _is_told(found: Finding, form: Form) -> bool:
     """Whether a regular expression is refused for which the form already says what in it is too much."""
     is_regex = found.path[-1:] in (("safe_regex",), ("safe_regex_match",)) and found.number == UNSUPPORTED
     return is_regex and any(other.number == UNSUPPORTED for other in form.findings)
+
+
+def chosen(source: Source, filters: List[Encoded], name: Optional[str]) -> Encoded:
+    """The filter of that name, or the file's only one; raises Mistake."""
+    names = ", ".join(one.name for one in filters if one.name) or "one without a name"
+    if name is None and len(filters) == 1:
+        return filters[0]
+    if name is None:
+        raise Mistake(f"{source.name}: this file holds {len(filters)} filters; take one by --name: {names}")
+    found = [one for one in filters if one.name == name]
+    if not found:
+        raise Mistake(f"{source.name}: no filter of the name {name} is here: {names}")
+    return found[0]

@@ -1,7 +1,5 @@
 """Comments by the parts of a message that they are on."""
-from typing import Dict, Iterable, List
-
-from .profile import Note
+from typing import Dict, Iterable, List, Tuple
 
 
 class Remarks:
@@ -27,13 +25,13 @@ class Remarks:
 NONE = Remarks()
 
 
-def remarks_of(notes: Iterable[Note]) -> Remarks:
-    """Notes by their paths, each text once at its part."""
+def remarks_of(comments: Iterable[Tuple[tuple, str]]) -> Remarks:
+    """Comments by their paths, each text once at its part."""
     remarks = Remarks()
-    for note in notes:
+    for path, text in comments:
         here = remarks
-        for step in note.path:
+        for step in path:
             here = here.parts.setdefault(step, Remarks())
-        if note.text() not in here.own:
-            here.own.append(note.text())
+        if text not in here.own:
+            here.own.append(text)
     return remarks

@@ -6,7 +6,7 @@ from ..encode import encode
 from ..files import name_of, policy_text
 from ..findings import are_refused
 from ..places import Mistake, Source
-from ..reading import Encoded, contents
+from ..reading import chosen, contents
 from .common import DONE, MISTAKEN, add_budget, add_output, tell_findings
 
 NAME = "encode"
@@ -45,23 +45,10 @@ def run(words: argparse.Namespace) -> int:
         findings = [finding for one in held.filters for finding in one.findings]
         tell_findings(source, held.findings + findings, held.mistakes)
         return MISTAKEN
-    chosen = _chosen(source, held.filters, words.name)
-    tell_findings(source, held.findings + chosen.findings)
-    if are_refused(chosen.findings):
+    one = chosen(source, held.filters, words.name)
+    tell_findings(source, held.findings + one.findings)
+    if are_refused(one.findings):
         output.tell(f"policy: nothing is written, since the engine would refuse this filter ({FORCE} writes it)")
         return MISTAKEN
-    output.write(chosen.data, words.output)
+    output.write(one.data, words.output)
     return DONE
-
-
-def _chosen(source: Source, filters: list, name: str) -> Encoded:
-    """The filter of that name, or the file's only one; raises Mistake."""
-    names = ", ".join(one.name for one in filters if one.name) or "one without a name"
-    if name is None and len(filters) == 1:
-        return filters[0]
-    if name is None:
-        raise Mistake(f"{source.name}: this file holds {len(filters)} filters; take one by --name: {names}")
-    found = [one for one in filters if one.name == name]
-    if not found:
-        raise Mistake(f"{source.name}: no filter of the name {name} is here: {names}")
-    return found[0]
