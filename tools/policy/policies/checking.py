@@ -1,4 +1,5 @@
 """Checks of files: what the tool finds in each filter and what the engine answers, as one report a filter."""
+import os
 import re
 from typing import List, NamedTuple, Optional, Tuple
 
@@ -7,9 +8,10 @@ from .bounds import GREATEST_BUDGET, too_costly
 from .conditions_typing import Bound, bounds_of
 from .decode import decode
 from .encode import Encoding
-from .files import BYTES, bounded, is_binary, kind_of, name_of, read_file, text_of_policy
+from .files import BYTES, bounded, files_in, is_binary, kind_of, may_hold_policy, name_of, read_file, text_of_policy
 from .findings import Finding, are_refused
 from .forms.binary import filters_in
+from .lint.silencing import Silencing
 from .messages import FILTER, Message, descriptor
 from .places import Mistake, Source
 from .placing import engine_place, named_node, node_at, origin, place_in_file
@@ -29,8 +31,9 @@ class Report(NamedTuple):
     admission: Optional[engine.Admission] = None
     message: Optional[Message] = None
     encoding: Optional[Encoding] = None
-    # Whether the file could not be read at all.
+    # Whether the file could not be read at all, or holds no policy and is only in a folder of some.
     is_unread: bool = False
+    is_left_out: bool = False
 
     def is_admitted(self) -> bool:
         """Whether the filter is admitted; the engine decides where it was asked."""
@@ -47,21 +50,32 @@ def check_files(names: List[str], budget: int, asked: Optional[engine.Engine]) -
     """The reports on files, in order; raises NoEngine."""
     found: List[Tuple[Report, Optional[bytes]]] = []
     for name in names:
-        try:
-            found += _reports(name, budget)
-        except Mistake as mistake:
-            found.append((Report(name_of(name), "", None, [], [mistake], []), None))
-        except OSError as fault:
-            unread = Mistake(f"policy: cannot read {name_of(name)}: {fault.strerror}")
-            found.append((Report(name_of(name), "", None, [], [unread], [], is_unread=True), None))
+        if os.path.isdir(name):
+            for file in files_in(name):
+                found += _reports_or_mistakes(file, budget, is_of_folder=True)
+        else:
+            found += _reports_or_mistakes(name, budget)
     if asked is None:
         return [report for report, _ in found]
     answers = iter(asked.admissions([data for _, data in found if data is not None], budget))
     return [report if data is None else _answered(report, next(answers)) for report, data in found]
 
 
-def _reports(name: str, budget: int) -> List[Tuple[Report, Optional[bytes]]]:
-    data = read_file(name)
+def _reports_or_mistakes(name: str, budget: int, is_of_folder: bool = False) -> List[Tuple[Report, Optional[bytes]]]:
+    """The reports on one file; of one that a folder has beside policies, that it is left out."""
+    try:
+        data = read_file(name)
+        if is_of_folder and not is_binary(data) and not may_hold_policy(data):
+            return [(Report(name, "", None, [], [], [], is_left_out=True), None)]
+        return _reports(name, data, budget)
+    except Mistake as mistake:
+        return [(Report(name_of(name), "", None, [], [mistake], []), None)]
+    except OSError as fault:
+        unread = Mistake(f"policy: cannot read {name_of(name)}: {fault.strerror}")
+        return [(Report(name_of(name), "", None, [], [unread], [], is_unread=True), None)]
+
+
+def _reports(name: str, data: bytes, budget: int) -> List[Tuple[Report, Optional[bytes]]]:
     if kind_of(data) == BYTES and is_binary(data):
         held = filters_in(bounded(name, data))
         return [_bytes_report(name_of(name), one, bytes_, budget) for one, bytes_ in held]
@@ -72,14 +86,16 @@ def _reports(name: str, budget: int) -> List[Tuple[Report, Optional[bytes]]]:
     if held.own_mistakes or not held.filters:
         reports.append((Report(source.name, "", source, about_file, held.own_mistakes, []), None))
         about_file = []
-    for one in held.filters:
-        reports.append(_report(source, one, about_file))
+    silencing = Silencing(source)
+    for index, one in enumerate(held.filters, 1):
+        notes = silencing.kept(lint.notes(one.message, one.encoding))
+        notes += silencing.unused() if index == len(held.filters) and not held.mistakes else []
+        reports.append(_report(source, one, about_file + one.findings + notes))
         about_file = []
     return reports
 
 
-def _report(source: Source, one: Encoded, about_file: List[Finding]) -> Tuple[Report, Optional[bytes]]:
-    findings = about_file + one.findings + lint.notes(one.message, one.encoding)
+def _report(source: Source, one: Encoded, findings: List[Finding]) -> Tuple[Report, Optional[bytes]]:
     bounds = [] if one.mistakes else bounds_of(one.message)
     report = Report(source.name, one.name, source, findings, one.mistakes, bounds, None, one.message, one.encoding)
     return report, None if one.mistakes else one.data

@@ -4,7 +4,7 @@ import binascii
 import os
 import re
 import sys
-from typing import Optional
+from typing import List, Optional
 
 from .bounds import GREATEST_FILTER
 from .places import Mistake
@@ -12,6 +12,9 @@ from .wrap import HEAD
 
 GREATEST_FILE = 16 * 1024 * 1024
 STANDARD_INPUT = "standard input"
+ENDINGS = (".yaml", ".yml", ".json", ".bin", ".pb")
+WORDS = re.compile(rb"\b(?:rules|policies|permissions|principals|AuthorizationPolicy|allow_rules|deny_rules)\b|RBAC|rbac")
+OF_TESTS = re.compile(rb"^(?:tests:|\s*[{,]?\s*\"tests\"\s*:)", re.MULTILINE)
 CONTROLS = re.compile(rb"[\x00-\x08\x0b\x0c\x0e-\x1f\x7f]")
 JSON, YAML, HEX, BASE64, BYTES, EMPTY, GZIP, UTF16 = (
     "JSON",
@@ -48,6 +51,20 @@ def real_path_below(path: str, root: str) -> Optional[str]:
     """The real path of a file, all links followed, or None if that is not below a folder."""
     real, top = os.path.realpath(path), os.path.realpath(root)
     return real if os.path.commonpath([real, top]) == top else None
+
+
+def files_in(folder: str) -> List[str]:
+    """The files of a folder and of those in it that may hold policies, by their endings, in order; no hidden ones."""
+    found = []
+    for where, folders, names in os.walk(folder):
+        folders[:] = sorted(name for name in folders if not name.startswith("."))
+        found += [os.path.join(where, name) for name in sorted(names) if name.endswith(ENDINGS) and name[0] != "."]
+    return found
+
+
+def may_hold_policy(data: bytes) -> bool:
+    """Whether a file of a folder is worth a report: a policy's words are in it, and it is no file of tests."""
+    return WORDS.search(data) is not None and OF_TESTS.search(data) is None
 
 
 def kind_of(data: bytes) -> str:

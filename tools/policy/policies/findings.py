@@ -8,16 +8,20 @@ NOTE = 0
 
 
 class Finding(NamedTuple):
-    """A refusal's number (0 for a note), words, the place in the file, and the path of the part in the filter."""
+    """A refusal's number (0 for a note), words, the place in the file, the path of the part in the filter, and the name of a
+    note that a comment can silence."""
 
     number: int
     words: str
     place: Optional[Place]
     path: tuple = ()
+    lint: str = ""
 
     def told(self) -> str:
-        """The words, with the refusal's number and name or as a note."""
-        return f"{self.words} ({self.number} {NAMES[self.number]})" if self.number else f"note: {self.words}"
+        """The words, with the refusal's number and name, or as a note with its name."""
+        if self.number:
+            return f"{self.words} ({self.number} {NAMES[self.number]})"
+        return f"note: {self.words}" + (f" [{self.lint}]" if self.lint else "")
 
 
 def are_refused(findings: List[Finding]) -> bool:

@@ -30,7 +30,7 @@ LINT = """rules:
 """
 LINT_TOLD = [
     "f.yaml:6:32: note: without prefix_len every IPv4 address matches; for 10.0.0.1 alone write `prefix_len: 32`",
-    'f.yaml:8:30: note: header names are in lower case here, so "X-User" is never there: write "x-user"',
+    'f.yaml:8:30: note: header names are in lower case here, so no request has "X-User": write "x-user"',
     "f.yaml:8:30: note: a request without the header X-User makes this an error, which is no match, and DENY lets it through",
     'to deny it too write `!("x-b" in request.headers) || ..`, to let it through `"x-b" in request.headers && ..`',
     'f.yaml:10:8: note: policy "c" is never the first to match: "b" comes before it and matches every request',

@@ -4,7 +4,9 @@ import unittest
 
 from policies import manual
 from policies.bounds import BUDGET, GREATEST_BUDGET
+from policies.compare.candidates import MOST_COMBINATIONS, MOST_LEAVES
 from policies.findings import NAMES
+from policies.lint.names import MEANINGS
 from policies.program import STATUSES, parser_of_words
 from support import TOP
 
@@ -78,3 +80,13 @@ class Documents(unittest.TestCase):
             for number, name in re.findall(r"\b(\d+) ([A-Z][a-z]+[A-Z]\w+)", page):
                 if name in NAMES.values():
                     self.assertEqual(NAMES[int(number)], name)
+
+    def test_notes(self):
+        """PROGRAM lists each note by its name."""
+        table = PAGES["docs/PROGRAM.md"].partition("### Notes")[2].partition("\n### ")[0]
+        self.assertEqual(set(re.findall(r"^\| `([a-z-]+)` \|", table, re.MULTILINE)), set(MEANINGS))
+
+    def test_compared(self):
+        """PROGRAM has the numbers up to which `policy diff` tries all combinations."""
+        text = PAGES["docs/PROGRAM.md"]
+        self.assertIn(f"at most {MOST_LEAVES} different leaves, and at most {MOST_COMBINATIONS:,} requests", text)

@@ -2,10 +2,12 @@
 import unittest
 
 from policies import lint
+from policies.lint.names import MEANINGS
 from policies.places import Source
 from policies.reading import contents
 from policies.requests import request_log
 from support import POLICY, condition, told
+from test_outputs import Room
 
 # A condition's text, and for each note its column in the text, counted from 1, and words.
 NOTES = [
@@ -86,6 +88,191 @@ class Notes(unittest.TestCase):
         self.assertEqual(notes_of(text), [])
         words = "this text is no address: write `address_prefix: 10.0.0.0` and `prefix_len: 8` (5 OutOfRange)"
         self.assertEqual(told(text), [f"filter.yaml:5:42: {words}"])
+
+
+RULE = "rules: {action: %s, policies: {p: {permissions: [%s], principals: [{any: true}]}}}"
+# The action, a permission, and the names of its notes.
+RULES = [
+    ("ALLOW", "{url_path: {path: {exact: '/a?b'}}}", ["never-matches"]),
+    ("ALLOW", "{url_path: {path: {suffix: '#b'}}}", ["never-matches"]),
+    ("ALLOW", "{url_path: {path: {prefix: admin}}}", ["never-matches"]),
+    ("ALLOW", "{url_path: {path: {exact: ''}}}", ["never-matches"]),
+    ("ALLOW", "{url_path: {path: {contains: 'a b'}}}", ["never-matches"]),
+    ("ALLOW", "{url_path: {path: {contains: admin}}}", []),
+    ("ALLOW", "{header: {name: ':path', exact_match: '/a?b'}}", []),
+    ("ALLOW", "{header: {name: ':path', prefix_match: a}}", ["never-matches"]),
+    ("ALLOW", "{header: {name: ':method', exact_match: get}}", ["lower-case-method"]),
+    ("ALLOW", "{header: {name: ':method', string_match: {exact: get, ignore_case: true}}}", []),
+    ("ALLOW", "{header: {name: ':method', exact_match: GET}}", []),
+    ("ALLOW", "{header: {name: ':method', exact_match: list}}", []),
+    ("ALLOW", "{header: {name: ':method', exact_match: 'GET '}}", ["never-matches"]),
+    ("ALLOW", "{header: {name: ':method', prefix_match: AAAAAAAAAAAAAAAAAAAAAAAAAAAAAAAAA}}", ["never-matches"]),
+    ("ALLOW", "{header: {name: x-a, exact_match: ' a'}}", ["never-matches"]),
+    ("ALLOW", "{header: {name: x-a, suffix_match: 'a '}}", ["never-matches"]),
+    ("ALLOW", "{header: {name: x-a, contains_match: ' a '}}", []),
+    ("ALLOW", "{header: {name: 'x a', exact_match: a}}", ["never-matches"]),
+    ("ALLOW", "{header: {name: Transfer-Encoding}}", ["never-matches"]),
+    ("ALLOW", "{header: {name: content-length, exact_match: a}}", ["never-matches"]),
+    ("ALLOW", "{header: {name: Host}}", ["host-header"]),
+    ("ALLOW", "{header: {name: x-a, range_match: {start: 1, end: 1}}}", ["never-matches"]),
+    ("ALLOW", "{header: {name: x-a, range_match: {start: 1, end: 2}}}", []),
+    ("ALLOW", "{destination_ip: {address_prefix: 10.0.0.1}}", ["no-prefix-len"]),
+    ("ALLOW", "{destination_ip: {address_prefix: 10.0.0.1, prefix_len: 8}}", ["host-bits"]),
+    ("ALLOW", "{destination_ip: {address_prefix: 10.0.0.0, prefix_len: 8}}", []),
+    ("ALLOW", "{destination_ip: {address_prefix: '2001:DB8::', prefix_len: 32}}", []),
+    ("ALLOW", "{destination_ip: {address_prefix: '2001:db8::1', prefix_len: 32}}", ["host-bits"]),
+    ("ALLOW", "{and_rules: {rules: [{any: true}, {destination_port: 1}]}}", ["needless-rule"]),
+    ("ALLOW", "{or_rules: {rules: [{any: true}, {destination_port: 1}]}}", ["needless-rule"]),
+    ("ALLOW", "{any: true}, {destination_port: 1}", ["needless-rule"]),
+    ("ALLOW", "{requested_server_name: {exact: a}}", []),
+    ("ALLOW", "{url_path: {path: {prefix: /admin}}}", []),
+    ("ALLOW", "{not_rule: {url_path: {path: {prefix: /admin}}}}", ["other-paths"]),
+    ("ALLOW", "{not_rule: {url_path: {path: {prefix: /}}}}", []),
+    ("ALLOW", "{header: {name: ':path', prefix_match: /admin, invert_match: true}}", ["other-paths"]),
+    ("DENY", "{url_path: {path: {prefix: /admin}}}", ["other-paths"]),
+    ("DENY", "{url_path: {path: {prefix: /admin}}}, {url_path: {path: {exact: /b}}}", ["other-paths", "other-paths"]),
+    ("DENY", "{not_rule: {url_path: {path: {prefix: /admin}}}}", []),
+    ("DENY", "{url_path: {path: {suffix: /admin}}}", []),
+]
+# The action, a condition, and the names of its notes.
+CONDITIONS = [
+    ("ALLOW", "!request.path.startsWith('/admin')", ["other-paths"]),
+    ("ALLOW", "request.path.startsWith('/admin')", []),
+    ("ALLOW", "request.url_path != '/admin' && true", ["other-paths"]),
+    ("ALLOW", "!(request.url_path != '/admin')", []),
+    ("DENY", "true && (false || request.url_path == '/admin')", ["other-paths"]),
+    ("ALLOW", "request.method == 'get'", ["lower-case-method"]),
+    ("ALLOW", "request.method in ['GET', 'post']", ["lower-case-method"]),
+    ("ALLOW", "request.method == 'list' || 'get' == request.path", []),
+    ("ALLOW", "source.port == 80", []),
+    ("DENY", "source.port == 80 || source.port == 81", ["missing-in-deny"]),
+    ("DENY", "request.host == 'a'", ["missing-in-deny"]),
+    ("DENY", "request.headers['x-a'] == 'a'", ["missing-in-deny"]),
+    ("DENY", "request.method == 'PUT' && request.query == ''", []),
+]
+
+
+def names_of(text):
+    """The names of the notes on a filter's YAML, in the order of places."""
+    [held] = contents(Source("f.yaml", text.encode())).filters
+    found = lint.notes(held.message, held.encoding)
+    return [one.lint for one in sorted(found, key=lambda one: one.place)]
+
+
+class Names(unittest.TestCase):
+    """Each note by its name."""
+
+    def test_rules(self):
+        for action, rule, wanted in RULES:
+            with self.subTest(rule, action=action):
+                self.assertEqual(names_of(RULE % (action, rule)), wanted)
+
+    def test_conditions(self):
+        for action, text, wanted in CONDITIONS:
+            with self.subTest(text, action=action):
+                self.assertEqual(names_of(condition(text).replace("rules:", f"rules:\n  action: {action}")), wanted)
+
+    def test_shadowed(self):
+        one = "{permissions: [%s], principals: [%s]%s}"
+        for policies, wanted in [
+            ([("{any: true}", "{any: true}", ""), ("{destination_port: 1}", "{any: true}", "")], ["never-first"]),
+            ([("{any: true}", "{any: true}", ", condition: {text: 'true'}"), ("{destination_port: 1}", "{any: true}", "")], []),
+            ([("{destination_port: 1}, {destination_port: 2}", "{any: true}", ""), ("{destination_port: 2}", "{any: true}", "")], ["never-first"]),
+            ([("{destination_port: 1}", "{any: true}", ""), ("{destination_port: 1}, {destination_port: 2}", "{any: true}", "")], []),
+            ([("{destination_port: 1}", "{any: true}", ""), ("{destination_port: 1}", "{authenticated: {}}", "")], ["never-first"]),
+            ([("{destination_port: 1}", "{authenticated: {}}", ""), ("{destination_port: 1}", "{any: true}", "")], []),
+        ]:
+            rows = "".join(f"    p{number}: {one % each}\n" for number, each in enumerate(policies))
+            self.assertEqual(names_of("rules:\n  policies:\n" + rows), wanted)
+
+    def test_each_name_is_tested(self):
+        tested = {name for _, _, found in RULES + CONDITIONS for name in found} | {"never-first", "unused-ignore", "upper-case-header"}
+        self.assertEqual(tested, set(MEANINGS))
+
+
+SILENT = """rules:
+  action: DENY
+  policies:
+    a:   # policy: ignore other-paths, missing-in-deny
+      permissions:
+      - url_path: {path: {prefix: /admin}}
+      principals: [{any: true}]
+      checked_condition:
+        text: |-
+          source.port == 80 // # policy: ignore host-bits
+    # policy: ignore host-bits
+    b:
+      permissions:
+      - destination_ip: {address_prefix: 10.0.0.1, prefix_len: 8}
+      # policy: ignore no-prefix-len
+
+      # and a comment
+      - destination_ip: {address_prefix: 10.0.0.1}
+      principals: [{remote_ip: {address_prefix: 10.0.0.1}}]  # policy: ignore no-prefix-len
+    c:
+      permissions: [{any: true}]
+      principals:
+      - remote_ip: {address_prefix: 10.0.0.1}
+      - remote_ip: {address_prefix: 10.0.0.2}  # policy: ignore no-prefix-len,host-bits
+"""
+
+
+class Silenced(Room):
+    """Comments that silence notes."""
+
+    def notes(self, text):
+        """The notes that `check` prints of a file."""
+        status, out, errors = self.run_here("check", "--without-engine", self.file("f.yaml", text))
+        return [line.partition("note: ")[::2] for line in out.decode().splitlines() if " note: " in line]
+
+    def test_comments(self):
+        found = self.notes(SILENT)
+        self.assertEqual([place for place, _ in found], ["f.yaml:23:20: ", "f.yaml:24:48: "])
+        self.assertTrue(found[0][1].endswith("[no-prefix-len]"))
+        self.assertEqual(found[1][1], "there is no note host-bits here to silence [unused-ignore]")
+        found = self.notes(POLICY + "# policy: ignore nothing-like-that\n")
+        self.assertEqual([place for place, _ in found], ["f.yaml:8:1: "])
+        self.assertTrue(found[0][1].startswith("there is no note of the name nothing-like-that: they are no-prefix-len, "))
+
+    def test_texts(self):
+        """A text of YAML is no comment."""
+        text = RULE.replace("%s", "ALLOW", 1) % "{destination_ip: {address_prefix: 10.0.0.1}}"
+        silent = text + "\n# policy: ignore no-prefix-len"
+        self.assertEqual(len(self.notes(silent.replace("\n", " "))), 0)
+        quoted = text.replace("{p:", '{"p # policy: ignore no-prefix-len":')
+        self.assertEqual(len(self.notes(quoted)), 1)
+
+    def test_same(self):
+        """The spellings of paths are noted once for a filter."""
+        rules = ", ".join("{url_path: {path: {exact: /a%d}}}" % number for number in range(5))
+        [(place, words)] = self.notes(RULE % ("DENY", rules))
+        self.assertEqual(place, "f.yaml:1:78: ")
+        self.assertTrue(words.endswith("(4 more of these are in this filter) [other-paths]"), words)
+
+    def test_folders(self):
+        """Files of a folder that hold no policy are left out, and are named."""
+        for name, text in [
+            ("d/a.yaml", POLICY),
+            ("d/b/c.json", '{"rules": {}}'),
+            ("d/b/values.yaml", "replicas: 3\n"),
+            ("d/b/f.tests.yaml", "policy: ../a.yaml\ntests: [{request: {}, expect: allow}]\n"),
+            ("d/wrong.yaml", "rules: {action: 7}\n"),
+            ("d/notes.txt", "rules"),
+            ("d/.git/x.yaml", "rules: ["),
+        ]:
+            (self.room / name).parent.mkdir(parents=True, exist_ok=True)
+            self.file(name, text)
+        self.file("d/f.bin", bytes.fromhex("0a 00"))
+        status, out, errors = self.run_here("check", "--without-engine", "d")
+        self.assertEqual(status, 1)
+        self.assertEqual(errors, "policy: left out, since no policy is in them: d/b/f.tests.yaml, d/b/values.yaml\n")
+        told = [line.split(": ")[0] for line in out.decode().splitlines() if ": would be " in line]
+        self.assertEqual(told, ["d/a.yaml", "d/f.bin", "d/wrong.yaml", "d/b/c.json"])
+        status, out, errors = self.run_here("check", "--without-engine", "d/.git")
+        self.assertEqual(status, 1)
+        (self.room / "empty").mkdir()
+        told = (2, b"", "policy: there is no policy to check\n")
+        self.assertEqual(self.run_here("check", "--without-engine", "empty"), told)
 
 
 class Logs(unittest.TestCase):

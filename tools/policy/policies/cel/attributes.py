@@ -4,7 +4,8 @@ A root is `request`, `source`, `destination` or `connection` where no variable o
 """
 from typing import Callable, FrozenSet, Iterator, Optional, Tuple
 
-from .tree import ROOTS, Call, Comprehension, Entry, Ident, ListLiteral, Node, Select, StructLiteral
+from .overloads import MEMBERSHIP
+from .tree import ROOTS, Call, Comprehension, Const, Entry, Ident, ListLiteral, Node, Select, StructLiteral
 
 STRINGS = (
     "request.path request.url_path request.host request.scheme request.method request.referer request.useragent "
@@ -20,6 +21,9 @@ TYPES = {
     "connection.id": ("uint",),
     "request.headers": ("map", ("string",), ("string",)),
 }
+HEADERS = "request.headers"
+# Attributes that are headers, which a request may lack.
+OF_HEADERS = {"request.referer": "referer", "request.useragent": "user-agent", "request.id": "x-request-id"}
 Scope = FrozenSet[str]
 
 
@@ -32,6 +36,25 @@ def attribute_name(node: Node, scope: Scope) -> Optional[str]:
         root, dot, field = node.name.partition(".")
         return node.name if root in ROOTS and dot and field else None
     return None
+
+
+def header_key(node: Node, scope: Scope) -> Optional[Tuple[str, str]]:
+    """The name of a header that a node reads or asks for, and how: attribute, index, select, has or in."""
+    attribute = OF_HEADERS.get(attribute_name(node, scope) or "")
+    if attribute is not None:
+        return attribute, "attribute"
+    if isinstance(node, Select) and attribute_name(node.operand, scope) == HEADERS:
+        return node.field, "has" if node.test_only else "select"
+    if not isinstance(node, Call) or len(node.args) != 2:
+        return None
+    container, key, way = node.args[0], node.args[1], "index"
+    if node.function in MEMBERSHIP:
+        container, key, way = key, container, "in"
+    elif node.function != "_[_]":
+        return None
+    if attribute_name(container, scope) != HEADERS or not isinstance(key, Const) or key.kind != "string":
+        return None
+    return key.value, way
 
 
 def join_attributes(node: Node, scope: Scope = frozenset()) -> Node:

@@ -3,14 +3,13 @@ import difflib
 import re
 from typing import Iterable, List, Optional
 
-from .attributes import TYPES, attribute_name
+from .attributes import HEADERS, TYPES, attribute_name
 from .overloads import CALLED_BY_NAME, CONVERSIONS, EQUALITY, LOGIC, MEMBERSHIP, NEGATIONS, TEXT_TESTS
 from .printing import describe
 from .tree import ACCUMULATOR, BINARY, NEW_ACCUMULATOR, ROOTS, Call, Const, Ident, Node, Select
 from .typetext import type_text
 
 LONGEST = 40
-HEADERS = "request.headers"
 SIGNS = {**{function: sign for sign, function in BINARY.items()}, "_in_": "in", "in": "in", "!_": "!", "-_": "-"}
 QUANTIFIERS = ("all", "exists", "exists_one")
 # How each macro with a target is written.

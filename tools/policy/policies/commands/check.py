@@ -22,7 +22,8 @@ def add(commands) -> None:
         description="Checks files of any form (YAML, JSON, bytes; Envoy's wrappings, Istio's policies): tells each "
         "fault with line, field and token, asks the engine, and prints each filter's bound by policy.",
     )
-    parser.add_argument("files", nargs="+", metavar="FILE", help="a policy file; `-` is standard input")
+    told = "a policy file, or a folder of them; `-` is standard input"
+    parser.add_argument("files", nargs="+", metavar="FILE", help=told)
     add_budget(parser)
     add_engine(parser)
     parser.add_argument(ALONE, action="store_true", help="ask no engine; the answer is the tool's own")
@@ -39,6 +40,13 @@ def run(words: argparse.Namespace) -> int:
                 reports = check_files(words.files, words.budget, asked)
     except engine.NoEngine as fault:
         output.tell(f"policy: {fault} ({ALONE} answers without it)")
+        return UNUSABLE
+    left_out = [report.file for report in reports if report.is_left_out]
+    reports = [report for report in reports if not report.is_left_out]
+    if left_out:
+        output.tell(f"policy: left out, since no policy is in them: {', '.join(left_out)}")
+    if not reports:
+        output.tell("policy: there is no policy to check")
         return UNUSABLE
     lines: List[str] = []
     for report in reports:
@@ -136,6 +144,7 @@ def _finding_json(finding: Finding) -> dict:
     return {
         "kind": kind,
         "refused": finding.number or None,
+        "lint": finding.lint or None,
         "message": message,
         "part": part,
         **_place_json(finding.place),

@@ -1,0 +1,1 @@
+"""Two filters compared: the requests that their rules and conditions can tell apart."""

@@ -1,0 +1,82 @@
+"""Two filters judged on the same requests, and where they differ."""
+from typing import Dict, List, NamedTuple, Tuple
+
+from ..engine import Engine, Request, in_parallel
+from ..faults import MOST_POLICIES
+from ..messages import Message
+from ..outcomes import matched_of, message_of, told
+from ..writer import PLAIN
+from .drafts import Draft, weight
+
+# So many requests are one run of the engine.
+AT_ONCE = 5_000
+
+
+class Side(NamedTuple):
+    """One of the filters: what it is called, and its bytes; in parts of as many policies as the engine takes."""
+
+    name: str
+    parts: List[bytes]
+
+
+class Difference(NamedTuple):
+    """A request on which two filters differ, and what each answers."""
+
+    draft: Draft
+    old: dict
+    new: dict
+
+
+def side_of(name: str, data: bytes) -> Side:
+    """A filter, in parts if it has more policies than the engine takes: it matches if one of them does."""
+    message = message_of(data)
+    rules = message.get("rules")
+    policies = (rules.get("policies") or []) if rules is not None and rules.is_whole else []
+    if len(policies) <= MOST_POLICIES:
+        return Side(name, [data])
+    ordered = sorted(policies, key=lambda policy: policy[0].encode())
+    starts = range(0, len(ordered), MOST_POLICIES)
+    return Side(name, [_with_policies(message, ordered[start : start + MOST_POLICIES]) for start in starts])
+
+
+def _with_policies(message: Message, policies: list) -> bytes:
+    """The bytes of a filter with other policies."""
+    rules, made = message.get("rules"), Message(message.kind)
+    inner = Message(rules.kind)
+    inner.values = {**rules.values, "policies": policies}
+    made.values = {**message.values, "rules": inner}
+    return PLAIN.write(made)
+
+
+def decisions(asked: Engine, sides: List[Side], requests: List[Request], budget: int) -> List[List[dict]]:
+    """What each filter answers to each request."""
+    chunks = [requests[start : start + AT_ONCE] for start in range(0, len(requests), AT_ONCE)]
+    work = [(part, chunk) for side in sides for part in side.parts for chunk in chunks]
+    answered = iter(list(in_parallel(lambda one: asked.decisions(one[0], one[1], budget), work)))
+    found = []
+    for side in sides:
+        of_parts = [[answer for _ in chunks for answer in next(answered)] for _ in side.parts]
+        found.append([_joined(answers) for answers in zip(*of_parts)])
+    return found
+
+
+def _joined(answers: Tuple[dict, ...]) -> dict:
+    """The answer of a filter by those of its parts: that of the first part with a policy that matches."""
+    return next((answer for answer in answers if answer.get("name") is not None), answers[0])
+
+
+def differences(drafts: List[Draft], both: List[List[dict]], with_policies: bool) -> List[Difference]:
+    """The requests on which the answers differ: the verdict, or if it is asked, the policy that matches."""
+    found = []
+    for draft, old, new in zip(drafts, *both):
+        if told(old) != told(new) or with_policies and matched_of(old) != matched_of(new):
+            found.append(Difference(draft, old, new))
+    return found
+
+
+def plainest(found: List[Difference]) -> List[Difference]:
+    """The plainest request for each pair of answers, the plainest of all first."""
+    kinds: Dict[tuple, Difference] = {}
+    for one in sorted(found, key=lambda difference: weight(difference.draft)):
+        kinds.setdefault((told(one.old), matched_of(one.old), told(one.new), matched_of(one.new)), one)
+    return list(kinds.values())
