@@ -1,8 +1,9 @@
 """What to write instead of what the profile leaves out, and what messages look like, by Envoy's names."""
+OWN_HEADER = "let the proxy put it into a header that it removes from what clients send, and match the header"
 INSTEAD = {
-    "metadata": "the engine has no metadata of other filters: let the proxy put it into a header, and match the header",
-    "sourced_metadata": "the engine has no metadata of other filters: let the proxy put it into a header",
-    "filter_state": "the engine has no filter state: let the proxy put it into a header, and match the header",
+    "metadata": f"the engine has no metadata of other filters: {OWN_HEADER}",
+    "sourced_metadata": f"the engine has no metadata of other filters: {OWN_HEADER}",
+    "filter_state": f"the engine has no filter state: {OWN_HEADER}",
     "matcher": "matchers as extensions are left out: write `rules` with policies, or a condition in CEL",
     "shadow_matcher": "shadow rules are never enforced: leave it out",
     "source_ip": "write direct_remote_ip (the peer's address) or remote_ip (the client's address, if a proxy is between)",
@@ -12,7 +13,7 @@ INSTEAD = {
     "regex_match": "write `string_match` with `exact`, `prefix`, `suffix` or `contains`",
     "custom": "custom matchers are left out: write a member of the profile, or a condition in CEL",
     "uri_template": 'write `url_path` with a `prefix`, or a condition in CEL such as request.url_path.endsWith("/x")',
-    "audit_logging_options": "the engine writes no audit log: leave it out",
+    "audit_logging_options": "the engine writes no log: leave it out",
     "cel_config": "CEL has no options here: leave it out, and write no string function that it would allow",
     "rules_stat_prefix": "the engine keeps no statistics: leave it out",
     "track_per_rule_stats": "the engine keeps no statistics: leave it out",

@@ -160,14 +160,28 @@ class Source:
                     self._bound_expansion(document)
                 documents.append(document)
         except yaml.MarkedYAMLError as fault:
-            mark = fault.problem_mark or fault.context_mark
-            words = " ".join(part for part in (fault.context, fault.problem) if part)
-            raise self.mistake((mark.line, mark.column) if mark else (0, 0), f"this is no YAML: {words}") from None
+            raise self._syntax_mistake(fault) from None
         except TooMany:
             raise Mistake(f"{self.name}: a file has at most {MOST_PARTS} keys and values") from None
         except yaml.reader.ReaderError as fault:
             place = self.place_of(min(fault.position or 0, len(self.text)))
             raise self.mistake(place, f"this is no YAML: {fault.reason}") from None
+
+    def _syntax_mistake(self, fault: yaml.MarkedYAMLError) -> Mistake:
+        """What to tell of a text that is no YAML: of a tab and of a bracket that is not closed in words of their own."""
+        mark = fault.problem_mark or fault.context_mark
+        place = (mark.line, mark.column) if mark else (0, 0)
+        line = self.lines[place[0]] if place[0] < len(self.lines) else ""
+        if line[place[1] : place[1] + 1] == "\t" and not line[: place[1]].strip():
+            return self.mistake(place, "a tab is at the beginning of this line: indent it with spaces")
+        if fault.context_mark and "quoted scalar" in (fault.context or "") and "end of stream" in fault.problem:
+            return self.mistake((fault.context_mark.line, fault.context_mark.column), "these quotes are not closed")
+        bracket = _unclosed(self.text)
+        if bracket is not None:
+            closing = "]" if isinstance(bracket, yaml.FlowSequenceStartToken) else "}"
+            return self.mistake(start_of(bracket), f"this bracket is not closed: `{closing}` is missing")
+        words = " ".join(part for part in (fault.context, fault.problem) if part)
+        return self.mistake(place, f"this is no YAML: {words}")
 
     def _bound_expansion(self, document: yaml.Node) -> None:
         """Tells a document whose aliases make much more of it than is written, before anything walks it."""
@@ -201,6 +215,26 @@ def _around(line: str, column: int) -> Tuple[str, int]:
     before = f"{CUT} " if start else ""
     after = f" {CUT}" if start + WIDEST < len(line) else ""
     return before + line[start : start + WIDEST] + after, len(before) + column - start
+
+
+def _unclosed(text: str) -> Optional[yaml.Token]:
+    """The bracket that is not closed where the next bracket of its level or the end comes, if the words tell."""
+    starts: List[yaml.Token] = []
+    closes = {yaml.FlowSequenceEndToken: yaml.FlowSequenceStartToken, yaml.FlowMappingEndToken: yaml.FlowMappingStartToken}
+    try:
+        for token in yaml.scan(text, Loader=yaml.CSafeLoader):
+            if isinstance(token, tuple(closes.values())):
+                starts.append(token)
+            elif isinstance(token, tuple(closes)):
+                opening = closes[type(token)]
+                if not any(isinstance(start, opening) for start in starts):
+                    return None
+                if not isinstance(starts[-1], opening):
+                    return starts[-1]
+                starts.pop()
+    except yaml.MarkedYAMLError:
+        return None
+    return starts[-1] if starts else None
 
 
 def _joined(pair: re.Match) -> str:

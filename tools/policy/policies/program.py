@@ -42,6 +42,19 @@ def parser_of_words() -> argparse.ArgumentParser:
     return parser
 
 
+def words_of(arguments: Optional[List[str]]) -> argparse.Namespace:
+    """The words of the command line; files may be between options, as in `--name a a.bin --name b b.bin`."""
+    parser = parser_of_words()
+    words, rest = parser.parse_known_args(arguments)
+    options = [word for word in rest if word.startswith("-") and word != "-"]
+    if options or (rest and not hasattr(words, "files")):
+        parser.error("unrecognized arguments: " + " ".join(options or rest))
+    if rest:
+        words.files = [*words.files, *rest]
+    words.parser = parser
+    return words
+
+
 def main(arguments: Optional[List[str]] = None) -> int:
     """Runs one command and answers its status."""
     sys.setrecursionlimit(DEEPEST_RECURSION)
@@ -57,9 +70,7 @@ def main(arguments: Optional[List[str]] = None) -> int:
 
 
 def _run(arguments: Optional[List[str]]) -> int:
-    parser = parser_of_words()
-    words = parser.parse_args(arguments)
-    words.parser = parser
+    words = words_of(arguments)
     try:
         return next(command for command in COMMANDS if command.NAME == words.command).run(words)
     except Mistake as mistake:

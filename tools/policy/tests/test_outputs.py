@@ -167,6 +167,15 @@ class Inputs(Room):
                 self.assertEqual((found, bool(out)), (status, status == 0), errors)
                 self.assertIn(told, errors)
 
+    def test_wrap_pairs(self):
+        self.file("a.bin", encoded(POLICY))
+        self.file("b.bin", encoded("rules: {}"))
+        _, before, _ = self.run_it("wrap", "--version", "1", "--name", "a", "--name", "b", "a.bin", "b.bin")
+        status, pairs, errors = self.run_it("wrap", "--name", "a", "a.bin", "--name", "b", "b.bin", "--version", "1")
+        self.assertEqual((status, pairs), (0, before), errors)
+        status, _, errors = self.run_it("wrap", "--name", "a", "a.bin", "--nam", "b", "--wrong", "b.bin", "--version", "1")
+        self.assertEqual((status, "unrecognized arguments: --wrong\n" in errors), (2, True), errors)
+
     def test_alias_bomb(self):
         lines = ["a: &a [x, x, x, x, x, x, x, x, x, x]"]
         for before, name in zip("abcdefgh", "bcdefghi"):

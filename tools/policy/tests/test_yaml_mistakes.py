@@ -8,9 +8,13 @@ RULE = "rules: {policies: {p: {permissions: [%s], principals: [{any: true}]}}}"
 
 # A file, the line and column of its mistake counted from 1, and words of the message.
 WRONG = [
-    ("rules: [1", 2, 1, "this is no YAML"),
+    ("rules: [1", 1, 8, "this bracket is not closed: `]` is missing"),
+    ("rules:\n  policies: {p: {permissions: [1\n  action: DENY", 2, 31, "this bracket is not closed: `]` is missing"),
+    (RULE.replace("]}}}", "}}}") % "1", 1, 54, "this bracket is not closed: `]` is missing"),
+    ('rules: {a: "b}', 1, 12, "these quotes are not closed"),
     ("rules: {a: b: c}", 1, 13, "this is no YAML"),
-    ("\trules: {}", 1, 1, "this is no YAML"),
+    ("\trules: {}", 1, 1, "a tab is at the beginning of this line: indent it with spaces"),
+    ("rules:\n  action: DENY\n\tpolicies: {}", 3, 1, "a tab is at the beginning of this line: indent it with spaces"),
     ("rules: *nothing", 1, 8, "this is no YAML"),
     ("rules: {}\n---\nrules: {}", 3, 1, "one document"),
     ("[]", 1, 1, "the fields of the HTTP RBAC filter"),

@@ -7,6 +7,7 @@ from typing import Dict, Iterator, List, NamedTuple, Optional, Tuple
 from . import words
 from .attributes import TYPES, attribute_name, parts_of
 from .fold import fold
+from .nearest import NAMESPACES
 from .overloads import BOOL, CONVERSIONS, FUNCTIONS, INT, KEYS, STRING, has_shape, result_type
 from .tree import ROOTS, Call, Comprehension, Const, Ident, ListLiteral, Node, Select, StructLiteral
 from .typetext import type_text
@@ -153,6 +154,11 @@ class _Checker:
         return BOOL if node.test_only else kind[2]
 
     def _call(self, call: Call, scope: dict) -> Optional[tuple]:
+        namespace = call.target.name if isinstance(call.target, Ident) else ""
+        if namespace in NAMESPACES and namespace not in scope:
+            told = words.unknown_in_namespace(namespace, call.function)
+            self.tell(call.target, UNKNOWN_NAME, told)
+            return None
         if call.function not in FUNCTIONS:
             self.tell(call, UNKNOWN_NAME, words.unknown_function(call))
             if call.function not in words.MACROS and call.function not in words.MAKE_MAPS:

@@ -8,6 +8,7 @@ are calls too: their expansions would insert into a map.
 """
 from typing import Callable, List, NamedTuple, Optional
 
+from .attributes import attribute_name
 from .mistake import TextMistake
 from .tree import (
     ACCUMULATOR,
@@ -28,9 +29,19 @@ def expand_call(name: str, args: list) -> Optional[Node]:
     if name != "has" or len(args) != 1:
         return None
     field = args[0]
+    if isinstance(field, Call) and field.function == "_[_]":
+        told = "`has` takes a field of a value, such as `has(m.f)`: for a key in brackets write `key in m`"
+        raise TextMistake(_start(field), told + _key_in_map(*field.args))
     if not isinstance(field, Select) or field.test_only:
         raise TextMistake(_start(field), "`has` takes a field of a value, such as `has(m.f)`")
     return Select(field.operand, field.field, True, place=field.place)
+
+
+def _key_in_map(container: Node, key: Node) -> str:
+    """The test of a key written out, if container and key are plain, after a comma; or nothing."""
+    name = attribute_name(container, frozenset())
+    is_plain = name is not None and isinstance(key, Const) and key.kind == "string" and key.value.isprintable()
+    return f', as in `"{key.value}" in {name}`' if is_plain and '"' not in key.value else ""
 
 
 def expand_method(target: Node, name: str, args: list, place: int) -> Optional[Node]:

@@ -8,7 +8,7 @@ from typing import List, Optional
 
 import lark
 
-from . import literals
+from . import literals, nearest
 from .attributes import join_attributes
 from .expand import expand_call, expand_method
 from .limits import LONGEST_TEXT, MOST_NODES, MOST_WORDS, TOO_LARGE, TOO_MANY_NODES
@@ -107,6 +107,8 @@ def _token_fault(text: str, token: lark.Token) -> TextMistake:
     sign = WORDS_FOR_SIGNS.get(str(token).lower())
     if sign is not None:
         return TextMistake(token.start_pos, f"`{token}` is no operator: write `{sign}`")
+    if token == "?" and text[:token.start_pos].rstrip()[-1:] in (".", "["):
+        return TextMistake(token.start_pos, nearest.NO_OPTIONALS)
     before = WORD_BEFORE.search(text, 0, token.start_pos)
     if before is not None and before[1] in WORDS_BEFORE:
         return TextMistake(before.start(1), f"`{before[1]}` is no operator: write `{WORDS_BEFORE[before[1]]}`")

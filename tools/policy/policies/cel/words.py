@@ -3,6 +3,7 @@ import difflib
 import re
 from typing import Iterable, List, Optional
 
+from . import nearest
 from .attributes import HEADERS, TYPES, attribute_name
 from .overloads import CALLED_BY_NAME, CONVERSIONS, EQUALITY, LOGIC, MEMBERSHIP, NEGATIONS, TEXT_TESTS
 from .printing import describe
@@ -64,6 +65,9 @@ def near(name: str, names: Iterable[str]) -> str:
 def unknown_attribute(name: str) -> str:
     """What to tell of an attribute that is none of the profile's."""
     root, _, field = name.partition(".")
+    instead = nearest.of_attribute(name)
+    if instead is not None:
+        return f"the engine has no attribute {name}: {instead}"
     if name in ENVOY_ATTRIBUTES:
         return f"Envoy's attribute {name} is not in the profile; of `{root}` it has {_fields(root)}"
     if f"{root}.headers" in TYPES and field.lower() in ("header", "headers", "http_headers"):
@@ -142,10 +146,16 @@ def unknown_function(call: Call) -> str:
         )
     if name in MACROS:
         return f"`{name}` is written as {MACROS[name]}"
-    if name in INSTEAD_OF_FUNCTIONS:
-        return f"the engine has no function {name}: {INSTEAD_OF_FUNCTIONS[name]}"
+    instead = INSTEAD_OF_FUNCTIONS.get(name) or nearest.FUNCTIONS.get(name)
+    if instead is not None:
+        return f"the engine has no function {name}: {instead}"
     known = [*CALLED_BY_NAME, "has", *MACROS]
     return f"the engine has no function {name}; it has {', '.join(known)}{near(name, known)}"
+
+
+def unknown_in_namespace(namespace: str, function: str) -> str:
+    """What to tell of a function of one of CEL's extensions."""
+    return f"the engine has no function {namespace}.{function}: {nearest.NAMESPACES[namespace]}"
 
 
 def second_variable(name: str, locals_in_scope: Iterable[str]) -> str:

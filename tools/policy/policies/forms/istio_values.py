@@ -7,7 +7,10 @@ from .regexes import shapes
 from .rewrite import LEAVES, PERMISSION, PRINCIPAL, Kind, everything
 
 SPIFFE = "spiffe://"
-TOKENS = "the engine reads no tokens; let the proxy put the claim into a header and ask for that header"
+TOKENS = (
+    "the engine reads no tokens: let the proxy check the token and put the claim into a header, which it removes from "
+    "what clients send; ask for that header"
+)
 INSTEAD = {
     "requestPrincipals": TOKENS,
     "notRequestPrincipals": TOKENS,
@@ -17,7 +20,7 @@ INSTEAD = {
 CONDITIONS_INSTEAD = {
     "request.auth": TOKENS,
     "source.serviceAccount": 'write `source.principal` with "<trust domain>/ns/<namespace>/sa/<account>"',
-    "experimental.envoy.filters": "the engine has no metadata of other filters; ask for a header instead",
+    "experimental.envoy.filters": "the engine has no metadata of other filters; ask for a header that the proxy removes from what clients send",
 }
 
 
