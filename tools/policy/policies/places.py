@@ -155,6 +155,8 @@ class Source:
         try:
             if may_be_deep(self.text):
                 self._measure_depth()
+            if self.name.endswith(".json"):
+                self._check_json()
             for document in yaml.compose_all(self.text, Loader=Loader):
                 if "*" in self.text:
                     self._bound_expansion(document)
@@ -166,6 +168,17 @@ class Source:
         except yaml.reader.ReaderError as fault:
             place = self.place_of(min(fault.position or 0, len(self.text)))
             raise self.mistake(place, f"this is no YAML: {fault.reason}") from None
+
+    def _check_json(self) -> None:
+        """Tells where a file that is called JSON is YAML alone, by which other readers would refuse it."""
+        try:
+            json.loads(self.text.removeprefix("\ufeff"), parse_constant=_no_number)
+        except json.JSONDecodeError as fault:
+            told = f"this is no JSON: {fault.msg[:1].lower()}{fault.msg[1:]} (a file of YAML ends in .yaml)"
+            raise self.mistake(self.place_of(min(fault.pos, len(self.text))), told) from None
+        except _NoNumber as fault:
+            place = self.place_of(max(self.text.find(str(fault)), 0))
+            raise self.mistake(place, f"this is no JSON: {fault} is no number there") from None
 
     def _syntax_mistake(self, fault: yaml.MarkedYAMLError) -> Mistake:
         """What to tell of a text that is no YAML: of a tab and of a bracket that is not closed in words of their own."""
@@ -215,6 +228,14 @@ def _around(line: str, column: int) -> Tuple[str, int]:
     before = f"{CUT} " if start else ""
     after = f" {CUT}" if start + WIDEST < len(line) else ""
     return before + line[start : start + WIDEST] + after, len(before) + column - start
+
+
+class _NoNumber(Exception):
+    """A word that Python reads as a number of JSON, and JSON does not have."""
+
+
+def _no_number(word: str) -> None:
+    raise _NoNumber(word)
 
 
 def _unclosed(text: str) -> Optional[yaml.Token]:

@@ -6,14 +6,14 @@ import sys
 from typing import List, Optional
 
 from . import output
-from .commands import check, decode, diff, encode, generate, join, test, wrap
+from .commands import check, decode, diff, encode, fmt, generate, join, test, wrap
 from .commands.common import UNUSABLE, MISTAKEN, tell_mistake
 from .places import Mistake
 
 HERE = pathlib.Path(__file__).resolve()
 DEEPEST_RECURSION = 20_000
 INTERRUPTED = 130
-COMMANDS = (check, test, diff, join, encode, decode, wrap, generate)
+COMMANDS = (check, test, diff, join, fmt, encode, decode, wrap, generate)
 
 DESCRIPTION = """Envoy RBAC policies as YAML, with conditions as texts of CEL, to filter bytes and back.
 This tool is no part of what is proved: the engine reads every filter for itself."""

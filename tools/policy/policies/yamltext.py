@@ -6,9 +6,10 @@ from typing import List, NamedTuple, Union
 
 
 class Block(NamedTuple):
-    """A text on lines of its own."""
+    """A text on lines of its own, and what is before them: `|-` is without a line end behind the last, `|` with one."""
 
     lines: List[str]
+    head: str = "|-"
 
 
 class Pair(NamedTuple):
@@ -37,7 +38,7 @@ def lines_of(value: Union[str, list]) -> List[str]:
 
 def comment_lines(texts: List[str]) -> List[str]:
     """Comments as lines, with nothing in them that ends a line or is not shown."""
-    return ["# " + "".join(map(_shown, text)) for text in texts]
+    return [("# " + "".join(map(_shown, text))).rstrip() for text in texts]
 
 
 def _shown(character: str) -> str:
@@ -48,7 +49,7 @@ def _pair(pair: Pair) -> List[str]:
     head = comment_lines(pair.comments)
     value = pair.value
     if isinstance(value, Block):
-        return head + [f"{pair.key}: |-"] + [f"  {line}" for line in value.lines]
+        return head + [f"{pair.key}: {value.head}"] + [f"  {line}" if line else "" for line in value.lines]
     if isinstance(value, str):
         return head + [f"{pair.key}: {value}"]
     if not value:

@@ -1,4 +1,4 @@
-"""Files as people have them, after Envoy's and Istio's documentation: admitted, or one message that tells what to change."""
+"""Files as people have them, after Envoy's, Istio's and gRPC's documentation: admitted, or one message that tells what to change."""
 import re
 import unittest
 
@@ -56,6 +56,7 @@ ADMITTED = {
         ["envoy.filters.http.rbac"],
         ["14:9: note: RBACPerRoute without `rbac` turns the filter off for a route: it is left out"],
     ),
+    "grpc.json": (["authz-deny", "authz-allow"], ["14:3: note: audit_logging_options is left out"]),
     "kubernetes.yaml": (["envoy.filters.http.rbac"], ["1:1: note: this is a Service of v1, which holds no filter"]),
 }
 # The messages of each file that is not admitted, one for each mistake in it, in the order of lines.
@@ -115,6 +116,21 @@ TOLD = {
     "discovered.yaml": "2:3: this filter comes by config_discovery: check the DiscoveryResponse or the config dump",
     "old_config.yaml": "3:3: `config` is of the API's version 2: write `typed_config` with the filter's `@type`",
     "without_rules.yaml": "3:3: a filter without rules, by which Envoy lets every request pass: write `rules`",
+    "grpc_mistakes.yaml": [
+        "1:1: `allow_rules` is missing: gRPC wants one rule at least",
+        "4:3: a rule has no field `sourse`: it has name, source, request",
+        "5:29: gRPC takes no rule for the header :path",
+        "5:58: gRPC takes no rule for the header grpc-x",
+        "5:97: a header has no `values`",
+        "5:102: a header has no `key`",
+        "6:3: a rule has no `name`",
+        "6:20: a list of texts is expected here",
+        "6:33: a list of headers is expected here",
+        "7:10: the rule authz_one is here twice",
+        "7:37: a text is expected here",
+        "8:1: gRPC's authorization policy has no field `allow_rulez`",
+    ],
+    "not_json.json": "3:1: this is no JSON: expecting property name enclosed in double quotes (a file of YAML ends in .yaml)",
     "istio_template.yaml": "7:27: path templates are not in the profile: write a prefix",
 }
 

@@ -1,4 +1,4 @@
-"""The filters in a file: the filter itself, its rules alone, or any of Envoy's wrappings around it."""
+"""The filters in a file: the filter itself, its rules alone, Envoy's wrappings around it, or policies of Istio or gRPC."""
 import re
 from typing import Iterator, List, NamedTuple, Optional, Sequence, Tuple
 
@@ -7,7 +7,7 @@ import yaml
 from ..findings import NOTE, Finding
 from ..messages import FILTER, PREFIX, RULES
 from ..places import Mistake, Source, start_of
-from . import istio
+from . import grpc, istio
 from .nodes import Node, camel, get, items, key_of, mapping, names, pairs, text_of, without
 from .rewrite import Rewriting
 
@@ -59,6 +59,8 @@ class Reading:
         policies = [node for document in documents for node in _listed(document)]
         if any(istio.is_policy(node) for node in policies):
             self._istio(policies)
+        elif len(documents) == 1 and grpc.is_policy(documents[0]):
+            self._grpc(documents[0])
         elif documents or mistake is None:
             self._documents(documents)
         self.forms = [rewritten(self.source, form) for form in self.forms]
@@ -67,6 +69,13 @@ class Reading:
         self.is_policy = True
         translation = istio.Translation(self.source)
         self.forms = [Form(name, node) for name, node in translation.filters(policies)]
+        self.findings += translation.findings
+        self.mistakes += translation.mistakes
+
+    def _grpc(self, document: Node) -> None:
+        self.is_policy = True
+        translation = grpc.Translation(self.source)
+        self.forms = [Form(name, node) for name, node in translation.filters(document)]
         self.findings += translation.findings
         self.mistakes += translation.mistakes
 
