@@ -1,45 +1,8 @@
-"""The JSON Schema of a filter in YAML or JSON, for editors: what `policy encode` reads of a file that holds one."""
-from typing import List
-
-from .forms.nodes import camel
+"""The JSON Schema of a file of YAML or JSON, for editors: what `policy encode` reads."""
+from .schema_forms import chosen, definitions
+from .schema_parts import ANYTHING, FLAG, INT64, NOT_EMPTY, TEXT, has, message, one_of, ref, some
 
 DRAFT = "http://json-schema.org/draft-07/schema#"
-TEXT = {"type": "string"}
-NOT_EMPTY = {"type": "string", "minLength": 1}
-FLAG = {"type": "boolean"}
-INT64 = {"anyOf": [{"type": "integer"}, {"type": "string", "pattern": "^-?[0-9]+$"}]}
-ANYTHING = {"type": "object"}
-
-
-def ref(name: str) -> dict:
-    """The place of a definition."""
-    return {"$ref": f"#/definitions/{name}"}
-
-
-def some(of: dict) -> dict:
-    """A list that is not empty."""
-    return {"type": "array", "items": of, "minItems": 1}
-
-
-def message(about: str, fields: dict, wanted: List[str] = ()) -> dict:
-    """A message with these fields, by both spellings of their names."""
-    properties = {name: value for field, value in fields.items() for name in (field, camel(field))}
-    made = {"type": "object", "description": about, "properties": properties, "additionalProperties": False}
-    if wanted:
-        made["allOf"] = [_has(name) for name in wanted]
-    return made
-
-
-def _has(name: str) -> dict:
-    names = sorted({name, camel(name)})
-    return {"required": names} if len(names) == 1 else {"anyOf": [{"required": [one]} for one in names]}
-
-
-def one_of(about: str, members: dict, beside: dict = {}) -> dict:
-    """A message that has exactly one of some members."""
-    made = message(about, {**members, **beside})
-    made["oneOf"] = [_has(name) for name in members]
-    return made
 
 
 def _rule(about: str, kind: str, names: tuple, members: dict) -> dict:
@@ -124,7 +87,7 @@ def _policies() -> dict:
         "expr_version": TEXT,
     }
     condition = message("A condition: `text` in CEL, or the tree `expr`.", checked)
-    condition["oneOf"] = [_has("text"), _has("expr")]
+    condition["oneOf"] = [has("text"), has("expr")]
     policy = {
         "permissions": some(ref("Permission")),
         "principals": some(ref("Principal")),
@@ -149,7 +112,7 @@ def _policies() -> dict:
 
 
 def schema() -> dict:
-    """The schema of a filter."""
+    """The schema of a file."""
     skipped = {"shadow_rules": ANYTHING, "shadow_rules_stat_prefix": TEXT}
     whole = message(
         "Envoy's HTTP RBAC filter in the profile of the engine.",
@@ -158,7 +121,7 @@ def schema() -> dict:
     )
     return {
         "$schema": DRAFT,
-        "title": "HTTP RBAC filter",
-        **whole,
-        "definitions": {**_texts(), **_rules(), **_policies()},
+        "title": "HTTP RBAC filter, or a file with such filters",
+        **chosen(),
+        "definitions": {"Filter": whole, **_texts(), **_rules(), **_policies(), **definitions()},
     }

@@ -17,6 +17,9 @@ from test_outputs import Room
 TOOL = TOP / "tools" / "policy"
 # Filters that the schema takes, and those that it does not.
 TAKEN = [TOP / "examples" / "condition.yaml", TOOL / "examples" / "service.yaml", HERE / "kinds" / "regex.yaml"]
+TAKEN += [HERE / "kinds" / f"{name}.yaml" for name in ("envoy_rules", "per_route", "filter_entry", "filter_list", "bootstrap")]
+TAKEN += [HERE / "kinds" / f"{name}.yaml" for name in ("istio_allow", "istio_deny", "istio_whens", "extension", "response")]
+TAKEN += [HERE / "kinds" / "grpc.json", HERE / "kinds" / "config_dump.json"]
 NOT_TAKEN = [
     "rulez: {}",
     "rules: {policies: {p: {permissions: [{any: true}]}}}",
@@ -27,6 +30,14 @@ NOT_TAKEN = [
     "rules: {policies: {p: {permissions: [{header: {exact_match: a}}], principals: [{any: true}]}}}",
     "rules: {policies: {p: {permissions: [{url_path: {path: {prefix: ''}}}], principals: [{any: true}]}}}",
     "rules: {action: MAYBE}",
+    "policies: {p: {}}",
+    "rbac: {rulez: {}}",
+    "name: x\ntyped_config: {'@type': type.googleapis.com/envoy.extensions.filters.http.rbac.v3.RBAC, rulez: {}}",
+    "http_filters: [{typed_config: {'@type': t/envoy.extensions.filters.http.rbac.v3.RBAC, rules: {action: MAYBE}}}]",
+    "kind: AuthorizationPolicy\nspec: {action: MAYBE}",
+    "kind: AuthorizationPolicy\nspec: {rules: [{from: [{source: {ipBlock: [a]}}]}]}",
+    "name: a\nallow_rules: []",
+    "name: a\nallow_rules: [{name: b, source: {principal: [a]}}]",
 ]
 
 
@@ -40,8 +51,11 @@ class Schema:
         """Whether a value fits a part of the schema."""
         if "$ref" in part:
             return self.fits(value, self.whole["definitions"][part["$ref"].rsplit("/", 1)[1]])
-        tests = [self.has_type(value, part), "const" not in part or value is part["const"]]
+        tests = [self.has_type(value, part), "const" not in part or value is part["const"] or value == part["const"] != 1]
         tests.append("enum" not in part or value in part["enum"])
+        tests.append("not" not in part or not self.fits(value, part["not"]))
+        if "if" in part:
+            tests.append(self.fits(value, part.get("then" if self.fits(value, part["if"]) else "else", {})))
         tests += [self.fits(value, one) for one in part.get("allOf", [])]
         tests.append("anyOf" not in part or any(self.fits(value, one) for one in part["anyOf"]))
         tests.append("oneOf" not in part or sum(self.fits(value, one) for one in part["oneOf"]) == 1)
