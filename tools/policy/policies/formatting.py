@@ -27,7 +27,7 @@ def formatted(source: Source) -> str:
     """The file in the one layout; raises Mistake where it is no YAML, or where a part would change its meaning."""
     documents = source.documents()
     if source.name.endswith(".json"):
-        return json.dumps(json.loads(source.text.removeprefix("\ufeff")), indent=2, ensure_ascii=False) + "\n"
+        return json.dumps(json.loads(source.written.removeprefix("\ufeff")), indent=2, ensure_ascii=False) + "\n"
     _check_events(source)
     layout = _Layout(source, documents)
     made = BETWEEN.join("".join(line + "\n" for line in layout.lines(document)) for document in documents)

@@ -84,6 +84,7 @@ class Source:
             before = data[: fault.start].decode()
             raise self.mistake(self.place_of(len(before)), "this is not UTF-8") from None
 
+        self.written = self.text
         if self.text.lstrip()[:1] in ("{", "["):
             self.text = SURROGATES.sub(_joined, self.text)
 
@@ -172,10 +173,13 @@ class Source:
     def _check_json(self) -> None:
         """Tells where a file that is called JSON is YAML alone, by which other readers would refuse it."""
         try:
-            json.loads(self.text.removeprefix("\ufeff"), parse_constant=_no_number)
+            json.loads(self.written.removeprefix("\ufeff"), parse_constant=_no_number)
         except json.JSONDecodeError as fault:
+            bracket = _unclosed(self.text)
+            if bracket is not None:
+                raise self._unclosed_mistake(bracket) from None
             told = f"this is no JSON: {fault.msg[:1].lower()}{fault.msg[1:]} (a file of YAML ends in .yaml)"
-            raise self.mistake(self.place_of(min(fault.pos, len(self.text))), told) from None
+            raise self.mistake((fault.lineno - 1, fault.colno - 1), told) from None
         except _NoNumber as fault:
             place = self.place_of(max(self.text.find(str(fault)), 0))
             raise self.mistake(place, f"this is no JSON: {fault} is no number there") from None
@@ -191,10 +195,13 @@ class Source:
             return self.mistake((fault.context_mark.line, fault.context_mark.column), "these quotes are not closed")
         bracket = _unclosed(self.text)
         if bracket is not None:
-            closing = "]" if isinstance(bracket, yaml.FlowSequenceStartToken) else "}"
-            return self.mistake(start_of(bracket), f"this bracket is not closed: `{closing}` is missing")
+            return self._unclosed_mistake(bracket)
         words = " ".join(part for part in (fault.context, fault.problem) if part)
         return self.mistake(place, f"this is no YAML: {words}")
+
+    def _unclosed_mistake(self, bracket: yaml.Token) -> Mistake:
+        closing = "]" if isinstance(bracket, yaml.FlowSequenceStartToken) else "}"
+        return self.mistake(start_of(bracket), f"this bracket is not closed: `{closing}` is missing")
 
     def _bound_expansion(self, document: yaml.Node) -> None:
         """Tells a document whose aliases make much more of it than is written, before anything walks it."""

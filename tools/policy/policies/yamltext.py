@@ -6,7 +6,7 @@ from typing import List, NamedTuple, Union
 
 
 class Block(NamedTuple):
-    """A text on lines of its own, and what is before them: `|-` is without a line end behind the last, `|` with one."""
+    """A text on lines of its own, and what is before them: `|-` leaves out the last line end, `|` keeps it."""
 
     lines: List[str]
     head: str = "|-"

@@ -324,7 +324,7 @@ class WithoutEngine(Room):
         self.assertEqual((status, errors), (2, ""))
         lines = [line for line in out.decode().splitlines() if not line.startswith("  ")]
         wanted = ["policy: cannot read none.yaml: No such", "none.yaml: not read", "f.yaml: would be admitted"]
-        wanted += ["g.yaml:4:1: this is no YAML", "g.yaml: not read: 1 mistake"]
+        wanted += ["g.yaml:3:8: this bracket is not closed", "g.yaml: not read: 1 mistake"]
         wanted += ["g.yaml:1:17: there is no such action", "g.yaml: would be refused: 5 OutOfRange"]
         for line, beginning in zip(lines, wanted, strict=True):
             self.assertTrue(line.startswith(beginning), lines)

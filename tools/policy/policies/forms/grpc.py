@@ -125,7 +125,7 @@ class Translation:
 
 
 def _matched(value: str, at: Node, leaf: str, part: Node, kind: Kind, make: Callable[[Node], Node]) -> Node:
-    """The rule for a text: `*` is any that is not empty, `*` behind or before it a prefix or a suffix."""
+    """The rule for a text: `*` is any that is not empty, `a*` is a prefix and `*a` a suffix."""
     if value == "*":
         return LEAVES[leaf].rule(part, shapes(".+"), kind, at)
     if value.endswith("*"):
