@@ -109,7 +109,7 @@ def wanted():
         yield text, encoded(condition(text)), f"refused: {refusal}", ()
     for name, line in NAMED.items():
         yield name, encoded(named[name]), line, ()
-    yield "condition", encoded((TOP / "examples" / "condition.yaml").read_text()), "admitted: policies 1 bound 4150", ()
+    yield "condition", encoded((TOP / "examples" / "condition.yaml").read_text()), "admitted: policies 1 bound 8258", ()
     for budget, line in ((80, "admitted: policies 2 bound 80"), (79, "refused: 15 TooCostly")):
         yield f"two conditions, budget {budget}", encoded(TWO), line, ("--budget", str(budget))
     for budget, line in ((40, "admitted: policies 1 bound 40"), (39, "refused: 15 TooCostly")):

@@ -264,7 +264,7 @@ class WithEngine(Room):
         words = ["--covered", "--root", str(TOP / "examples"), str(folder / "condition.tests.yaml")]
         status, out, _ = self.run_it("test", *words)
         self.assertEqual(status, 0)
-        self.assertRegex(out.decode(), r"4 tests in \d+\.\d s: 4 passed, 0 failed\n$")
+        self.assertRegex(out.decode(), r"6 tests in \d+\.\d s: 6 passed, 0 failed\n$")
         self.assertEqual(self.run_it("check", str(folder / "istio.yaml"))[0], 0)
         condition_file, other = TOP / "examples" / "condition.yaml", TOP / "examples" / "any_any.bin"
         status, out, _ = self.run_it("diff", str(condition_file), str(other), str(folder / "requests.jsonl"))
