@@ -8,7 +8,7 @@ use Rattle.xds_wire.specs.declared.fault.FrameFault.{FrameFault}
 use Rattle.proto_wire.proofs.PayloadLemmas.{fronts_unique as fronts_one}
 
 -- one length, and the same bytes behind it
-heads_one : (m n : ℕ) (a b : List ℕ) → m < 2 ^ 32 → n < 2 ^ 32 → head_of m ++ a ≡ head_of n ++ b
+pub heads_one : (m n : ℕ) (a b : List ℕ) → m < 2 ^ 32 → n < 2 ^ 32 → head_of m ++ a ≡ head_of n ++ b
     → (m ≡ n) × (a ≡ b)
 heads_one m n a b x y whole =
     let size : to_be_bytes w32 m ≡ to_be_bytes w32 n = ap (λ t. take 4 (drop 1 t)) whole in (

@@ -1,10 +1,10 @@
 -- Bytes behind what is kept: whether they are still less than a frame.
-use Rattle.std.proofs.Common.{◌≡◌, inl, inr, ℕ, ◌-◌, ◌+◌, ◌<◌, ◌≤◌, List, ◌++◌, length, take, drop, ap, ◌∙◌, sym, arith, append_assoc, length-append}
+use Rattle.std.proofs.Common.{◌≡◌, inl, inr, ℕ, zero, suc, ◌-◌, ◌+◌, ◌<◌, ◌≤◌, List, [], ◌∷◌, ◌++◌, length, take, drop, ap, ◌∙◌, sym, arith, append_assoc, length-append}
 use Rattle.std.specs.Prelude.{true, false, nat_lt, MatchBool}
 use Rattle.std.proofs.lemmas.Bool.{cases_lt, lt-ltb, le-ltb}
 use Rattle.std.proofs.lemmas.List.{length-take-le, take-append-drop}
-use Rattle.xds_wire.specs.Frames.{head_of, IsLength, IsBeginning, part_of_message}
-use Rattle.xds_wire.proofs.OneCut.{begins_no_frame}
+use Rattle.xds_wire.specs.Frames.{head_of, frames_of, IsLength, IsBeginning, part_of_message, Cut, Tail}
+use Rattle.xds_wire.proofs.OneCut.{begins_no_frame, heads_one}
 
 -- fewer bytes than a message lacks
 fewer_begin : (max n : ℕ) (part bytes : List ℕ) → IsLength max n → length part < n
@@ -43,3 +43,43 @@ less_than_lacks max n part bytes fits short =
           let enough : n ≤ length part + length bytes = omega arith in
           rw more (enough_do_not max n part bytes fits short enough)
     ]
+
+-- ---- at most one frame
+
+pub take_at_most : (n : ℕ) (xs : List ℕ) → length (take n xs) ≤ n
+take_at_most zero xs = omega arith
+take_at_most (suc n) [] = omega arith
+take_at_most (suc n) (x ∷ xs) = let more = take_at_most n xs in omega (arith, more)
+
+-- a second frame does not fit in the bytes of one head
+pub one_of_head : (max : ℕ) (rest bytes : List ℕ) (messages : List (List ℕ)) (after : Tail)
+    → length rest + length bytes ≤ 5 → Cut (rest ++ bytes) max messages after → length messages ≤ 1
+one_of_head max rest bytes [] after few cut = omega arith
+one_of_head max rest bytes (m ∷ []) after few cut = omega arith
+one_of_head max rest bytes (m ∷ n ∷ messages) after few cut =
+    absurd (omega (
+      arith,
+      few,
+      length-append rest bytes,
+      ap length cut.whole,
+      length-append (m ++ frames_of (n ∷ messages)) cut.rest,
+      length-append m (frames_of (n ∷ messages)),
+    ))
+
+-- nor in what a message lacks
+pub one_of_data : (max n : ℕ) (part bytes : List ℕ) (messages : List (List ℕ)) (after : Tail) → IsLength max n
+    → length part + length bytes ≤ n → Cut (head_of n ++ part ++ bytes) max messages after → length messages ≤ 1
+one_of_data max n part bytes [] after fits few cut = omega arith
+one_of_data max n part bytes (m ∷ []) after fits few cut = omega arith
+one_of_data max n part bytes (m ∷ k ∷ messages) after fits few cut =
+    let behind : List ℕ = (m ++ frames_of (k ∷ messages)) ++ cut.rest in
+    let same = heads_one n (length m) (part ++ bytes) behind fits.0 cut.allowed.0.0 cut.whole in
+    absurd (omega (
+      arith,
+      few,
+      same.0,
+      ap length same.1,
+      length-append part bytes,
+      length-append (m ++ frames_of (k ∷ messages)) cut.rest,
+      length-append m (frames_of (k ∷ messages)),
+    ))

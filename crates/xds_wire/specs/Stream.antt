@@ -1,5 +1,5 @@
 -- What a reader of frames keeps of a stream, and what each call on it does.
-use Rattle.std.specs.Prelude.{◌≡◌, ℕ, Option, Some, None, List, [], ◌∷◌, ◌++◌}
+use Rattle.std.specs.Prelude.{◌≡◌, ◌≤◌, ℕ, Option, Some, None, List, [], ◌∷◌, ◌++◌, length}
 use Rattle.xds_wire.specs.Frames.{IsBeginning, Tail, unfinished, broken, Cut, error_of}
 use Rattle.xds_wire.specs.declared.fault.FrameError.{FrameError}
 
@@ -44,6 +44,11 @@ IsBrokenBy (broken fault) e = e ≡ error_of fault
 abbrev pub StaysPartial : ℕ → Tail → List ℕ → Type 0
 StaysPartial max (unfinished rest) bytes = IsBeginning max (rest ++ bytes)
 StaysPartial max (broken fault) bytes = ⊥
+
+-- with these bytes after the tail, at most one frame is complete
+abbrev pub CompletesOne : ℕ → Tail → List ℕ → Type 0
+CompletesOne max tail bytes =
+    (messages : List (List ℕ)) (after : Tail) → Resumes max tail bytes messages after → length messages ≤ 1
 
 -- a call on a reader: it feeds bytes, or asks for the next message, with this answer
 pub data Call : Type 0 where

@@ -1,14 +1,14 @@
 //! A stream of frames.
 
-ghost use Rattle.std.specs.Prelude.{◌≡◌, ◌⊎◌, ◌++◌, ◌+◌, ◌<◌, ◌^◌, length, IfOk, IfErr, OnOk, OnErr, MatchBool};
+ghost use Rattle.std.specs.Prelude.{◌≡◌, ◌⊎◌, ◌++◌, ◌+◌, ◌<◌, ◌≤◌, ◌^◌, ℕ, Err, List, length, IfOk, IfErr, OnOk, OnErr, MatchBool};
 ghost use Rattle.xds_wire.specs.Frames.{frame_of};
-ghost use Rattle.xds_wire.specs.Stream.{start, Feeds, Takes, IsUnfinished, IsBrokenBy, StaysPartial};
+ghost use Rattle.xds_wire.specs.Stream.{start, Feeds, Takes, IsUnfinished, IsBrokenBy, StaysPartial, CompletesOne};
 ghost use Rattle.xds_wire.specs.steps.Pieces.{tail_view, IsState};
 
 use crate::fault::FrameError;
 use crate::head::{HEAD, Head};
 use crate::message::Message;
-use crate::state::{State, copy_state, resume, stays_partial};
+use crate::state::{State, copy_state, lacks, resume, stays_partial};
 use std::alloc::{AllocError, Global};
 use std::collections::VecDeque;
 use std::marker::Model;
@@ -52,13 +52,14 @@ impl Frames {
     }
 
     /// Takes further bytes of the stream; their messages follow the earlier ones. `Compressed` is known at a frame's
-    /// first byte and `TooLong` at its fifth. The messages before such a frame stay, and every later call gives the
-    /// same error. After `Memory` all is as before the call.
+    /// first byte and `TooLong` at its fifth. The messages before such a frame stay. Every later call gives the same
+    /// error, and takes no memory. After `Memory` all is as before the call.
     pub fn feed(&mut self, bytes: &[u8]) -> Result<(), FrameError>
         ensures found { OnOk result
             (Feeds self.old bytes.now self.new × IsUnfinished self.new.tail) }
         ensures fault { IfErr result (λ e. ((e ≡ FrameError.Memory) × (self.new ≡ self.old))
             ⊎ (Feeds self.old bytes.now self.new × IsBrokenBy self.new.tail e)) }
+        ensures broken { (e : FrameError) → IsBrokenBy self.old.tail e → (result ≡ Err e) × (self.new ≡ self.old) }
     {
         let before = self.messages.len();
         if resume(&mut self.messages, &mut self.state, bytes, self.max).is_err() {
@@ -77,6 +78,16 @@ impl Frames {
             (StaysPartial self.now.max self.now.tail bytes.now → ⊥) }
     {
         stays_partial(&self.state, bytes, self.max)
+    }
+
+    /// How many bytes the head or the message that is incomplete lacks, at least 1. As many bytes complete at most one
+    /// message. It takes no memory.
+    pub fn lacks(&self) -> usize
+        ensures some { 0 < result }
+        ensures one { (bytes : List ℕ) → length bytes ≤ result
+            → CompletesOne self.now.max self.now.tail bytes }
+    {
+        lacks(&self.state)
     }
 
     /// The next complete message, in order, if there is one. It takes no memory.

@@ -1,8 +1,8 @@
 //! The state of a stream after its whole frames, and how further bytes change it.
 
-ghost use Rattle.std.specs.Prelude.{◌≡◌, ◌++◌, ◌+◌, ◌*◌, ◌<◌, ◌≤◌, ℕ, List, length, vec_len, IfOk, OnOk, OnErr, MatchBool};
-ghost use Rattle.xds_wire.specs.Frames.{head_of, IsLength, Cut};
-ghost use Rattle.xds_wire.specs.Stream.{Resumes, StaysPartial};
+ghost use Rattle.std.specs.Prelude.{◌≡◌, ◌++◌, ◌+◌, ◌*◌, ◌<◌, ◌≤◌, ℕ, List, length, vec_len, IfOk, IsOk, OnOk, OnErr, MatchBool};
+ghost use Rattle.xds_wire.specs.Frames.{broken, head_of, IsLength, Cut};
+ghost use Rattle.xds_wire.specs.Stream.{CompletesOne, Resumes, StaysPartial};
 ghost use Rattle.xds_wire.specs.steps.Pieces.{head_view, tail_view, IsState};
 
 use crate::cut::{Piece, cut_frame};
@@ -113,8 +113,23 @@ pub(crate) fn stays_partial(state: &State, bytes: &[u8], max: usize) -> bool
     }
 }
 
+/// How many bytes the head or the message that is incomplete lacks, at least 1. As many bytes complete at most one
+/// message. It takes no memory.
+pub(crate) fn lacks(state: &State) -> usize
+    requires { (max : ℕ) × IsState max state.now }
+    ensures some { 0 < result }
+    ensures one { (max : ℕ) (bytes : List ℕ) → IsState max state.now → length bytes ≤ result
+        → CompletesOne max (tail_view state.now) bytes }
+{
+    match state {
+        State::Broken(_) => 1,
+        State::Head(head) => HEAD - head.count,
+        State::Data(kept) => kept.length - kept.bytes.len(),
+    }
+}
+
 /// Cuts the bytes, after those that are kept. Adds their messages to the queue, and puts the rest into the state. If
-/// memory runs out, the state stays, and the queue begins with its earlier messages.
+/// memory runs out, the state stays, and the queue begins with its earlier messages. A broken stream takes no memory.
 pub(crate) fn resume(
     messages: &mut VecDeque<Message>,
     state: &mut State,
@@ -128,6 +143,7 @@ pub(crate) fn resume(
     ensures fault { OnErr result ((more : List (List ℕ))
         × (messages.new.items ≡ messages.old.items ++ more)
         × (tail_view state.new ≡ tail_view state.old) × IsState max state.new) }
+    ensures broken { (fault : FrameFault) → tail_view state.old ≡ broken fault → IsOk result }
 {
     match state {
         State::Broken(_) => {}
