@@ -12,7 +12,7 @@ use Rattle.proto_wire.specs.steps.Maps.{Held}
 use Rattle.proto_wire.proofs.MapOrder.{entries_from_entries}
 use Rattle.proto_wire.proofs.Unique.{merges_unique}
 use Rattle.rbac_policy.specs.Condition.{IsProgramOf, Program}
-use Rattle.rbac_policy.specs.Costs.{Costs, FilterCosts, PoliciesCost}
+use Rattle.rbac_policy.specs.Costs.{Costs, FilterCosts, PoliciesCost, PolicyCosts}
 use Rattle.rbac_policy.specs.Enforced.{Enforces, EnforcesPolicy, bound_of, bounds_of, total_bound}
 use Rattle.rbac_policy.specs.Fault.{SomeCost}
 use Rattle.rbac_policy.specs.Filter.{Filter, Policy}
@@ -179,17 +179,10 @@ module _ (limits : LimitsValue) where
 
   -- ---- what a filter costs
 
-  -- what is enforced of policies may take what they cost
-  policies_cost : (ps : List (List ℕ × Policy CelChecked)) (vs : List (List ℕ × Policy Program))
-      → Beside (EnforcesPolicy limits) ps vs → PoliciesCost limits ps (bounds_of vs)
-  policies_cost [] vs beside = rw beside refl
-  policies_cost (p ∷ ps) vs (v, others, is, rest, made) = rw made (
-    bound_of v.condition,
-    bounds_of others,
-    by p.1.condition v.condition is.condition,
-    policies_cost ps others rest,
-    refl,
-  )
+  -- what is enforced of a policy may take what it costs
+  pub policy_costs : (policy : Policy CelChecked) (v : Policy Program) → EnforcesPolicy limits policy v
+      → PolicyCosts limits policy (bound_of v.condition)
+  policy_costs policy v enforces = by policy.condition v.condition enforces.condition
     where
       by : (c : Option CelChecked) (q : Option Program) → MatchOption c (q ≡ None) (λ d. IsSomeAnd q (IsProgramOf limits d))
           → MatchOption c (bound_of q ≡ 0) (λ d. Costs limits d (bound_of q))
@@ -197,6 +190,18 @@ module _ (limits : LimitsValue) where
       by None (Some q) none = let clash : Some q ≡ None = none in cc
       by (Some c) None is = absurd is
       by (Some c) (Some q) is = program_costs limits c q is
+
+  -- what is enforced of policies may take what they cost
+  policies_cost : (ps : List (List ℕ × Policy CelChecked)) (vs : List (List ℕ × Policy Program))
+      → Beside (EnforcesPolicy limits) ps vs → PoliciesCost limits ps (bounds_of vs)
+  policies_cost [] vs beside = rw beside refl
+  policies_cost (p ∷ ps) vs (v, others, is, rest, made) = rw made (
+    bound_of v.condition,
+    bounds_of others,
+    policy_costs p.1 v is,
+    policies_cost ps others rest,
+    refl,
+  )
 
   -- so may what is enforced of a filter
   pub enforced_costs : (filter : Filter CelChecked) (enforced : Filter Program) → Enforces limits filter enforced

@@ -11,6 +11,7 @@ pub mod Uniqueness
 pub mod OneVerdict
 pub mod StandardFacts
 pub mod StandardConditionFacts
+mod BudgetLemmas
 mod SieveLemmas
 mod PolicyNames
 mod ConditionParts

@@ -11,4 +11,5 @@ pub mod Causes
 pub mod Named
 pub mod Admitted
 pub mod Admission
+pub mod Budget
 pub mod steps

@@ -6,7 +6,10 @@ ghost use Rattle.proto_wire.specs.declared.refusal.Refusal.{Refusal};
 ghost use Rattle.rbac_policy.specs.Admission.{Admissible, Admits, Fault};
 ghost use Rattle.attributes.specs.Request.{RequestValue};
 ghost use Rattle.cel_tree.specs.Checked.{CelChecked};
-ghost use Rattle.rbac_policy.specs.Condition.{Program};
+ghost use Rattle.cel_tree.specs.Message.{ExprParts, IsExprOf};
+ghost use Rattle.cel_value.specs.Types.{bool_type};
+ghost use Rattle.stack_machine.specs.Typable.{Forward};
+ghost use Rattle.rbac_policy.specs.Condition.{IsProgramOf, Program};
 ghost use Rattle.rbac_policy.specs.Costs.{FilterCosts};
 ghost use Rattle.rbac_policy.specs.Enforced.{Enforces, total_bound};
 ghost use Rattle.rbac_policy.specs.Filter.{Filter};
@@ -22,6 +25,12 @@ pub fn admission_disjoint()
 pub fn admission_total()
     ensures { (bytes : List ℕ) (limits : LimitsValue) (budget : ℕ)
         → Admissible bytes limits budget ⊎ ((e : Refusal) × Fault e bytes limits budget) }
+{}
+
+/// The code of each condition that can be read passes the verifier, which makes one pass.
+pub fn nothing_is_unverified()
+    ensures { (parts : ExprParts) (condition : CelChecked) (limits : LimitsValue) (program : Program)
+        → IsExprOf parts condition → IsProgramOf limits condition program → Forward program.code bool_type }
 {}
 
 /// Bytes are admitted as at most one filter, and at most one filter is enforced for them.
