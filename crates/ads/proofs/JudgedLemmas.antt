@@ -1,6 +1,7 @@
 -- From what filters take of the extensions to what a response gives, or what refuses it.
-use Rattle.std.proofs.Common.{◌≡◌, Bool, true, false, ◌⊎◌, inl, inr, ℕ, Some, List, [], ◌∷◌, refl, sym, bytes_eq, true≢false}
-use Rattle.std.specs.Prelude.{Option, Result, Ok, Err, IfOk, IfErr, if◌then◌else◌}
+use Rattle.std.proofs.Common.{◌≡◌, Bool, true, false, ◌⊎◌, inl, inr, ℕ, Some, List, [], ◌∷◌, refl, bytes_eq}
+use Rattle.std.specs.Prelude.{Option, Result, Ok, Err, IfOk, IfErr, OnErr, if◌then◌else◌}
+use Rattle.std.specs.declared.alloc.AllocError.{AllocError}
 use Rattle.std.specs.List.{AllZip}
 use Rattle.std.specs.declared.alloc.Global.{Global}
 use Rattle.std.specs.declared.vec.Vec.{Vec}
@@ -17,14 +18,14 @@ use Rattle.rbac_policy.specs.Admitted.{filter_view, limits_view}
 use Rattle.rbac_policy.specs.declared.filter.Admitted.{Admitted}
 use Rattle.ads.specs.Config.{ConfigValue, FilterValue}
 use Rattle.ads.specs.steps.Taking.{filter_of}
-use Rattle.ads.specs.Answer.{Gives, HoldsFilter, HoldsSome, named, IsResource, IsNamed, IsRefusedFor, TwoOf, Refuses, doubled, refused, ExtensionIsRefused, HoldsFilterOf, IsAdmitting, extension_type}
+use Rattle.ads.specs.Answer.{Gives, HoldsFilter, named, IsResource, IsNamed, IsRefusedFor, TwoOf, Refuses, doubled, refused, ExtensionIsRefused, FirstOf, HoldsFilterOf, IsAdmitting, RefusesNothing, extension_type}
 use Rattle.ads.specs.Views.{admitted_view, policies_view}
-use Rattle.ads.specs.steps.Taking.{TakeFault, twice, bad, out_of_memory, IfRefused, IsJudged, given_of}
+use Rattle.ads.specs.steps.Taking.{TakeFault, twice, bad, out_of_memory, MatchNotAccepted, RunsOut, taking, IsJudged, given_of}
 use Rattle.ads.specs.declared.judging.Judged.{Judged}
 use Rattle.ads.specs.declared.judging.Judged.TheVariants as judged
 use Rattle.ads.specs.declared.refused.NotAccepted.{NotAccepted}
 use Rattle.ads.specs.declared.refused.NotAccepted.TheVariants as not_accepted
-use Rattle.ads.proofs.Lists.{some_or, some_weaker, some_with}
+use Rattle.ads.proofs.Lists.{first_or, first_weaker, first_with, some_weaker, some_with}
 
 -- the resource is an extension of this name, of which this holds
 Holds : List ℕ → (ExtensionMessage → Type 0) → AnyMessage → Type 0
@@ -74,10 +75,10 @@ two_named n a b more (r ∷ rs) (x ∷ xs) (is, all) two =
         inl (here, some_weaker _ (IsNamed n) (λ any p. (p.0, p.1, p.2)) rs there)
     by false eq list rest some = inr (rest list)
 
-if_refused_weaker : (P Q : Refusal → Type 0) → ((e : Refusal) → P e → Q e) → (n : NotAccepted)
-    → IfRefused P n → IfRefused Q n
-if_refused_weaker P Q weaker (not_accepted.Refused e) p = weaker e p
-if_refused_weaker P Q weaker not_accepted.NoMemory p = tt
+not_accepted_weaker : (P Q : Refusal → Type 0) (M N : Type 0) → ((e : Refusal) → P e → Q e) → (M → N)
+    → (n : NotAccepted) → MatchNotAccepted P M n → MatchNotAccepted Q N n
+not_accepted_weaker P Q M N weaker less (not_accepted.Refused e) p = weaker e p
+not_accepted_weaker P Q M N weaker less not_accepted.NoMemory m = less m
 
 module _ (c : ConfigValue) (response : ResponseMessage) (xs : List ExtensionMessage)
     (reads : AllZip IsResource response.resources xs) where
@@ -85,27 +86,34 @@ module _ (c : ConfigValue) (response : ResponseMessage) (xs : List ExtensionMess
   abbrev OneFault : Refusal → FilterValue → Type 0
   OneFault e f = (TwoOf (IsNamed f.name) response.resources × (e ≡ Refusal.DuplicateResource))
       ⊎ (SomeOf (IsRefusedFor c.limits f e) response.resources
-      ⊎ (SomeOf (HoldsFilterOf f) response.resources × (e ≡ Refusal.Memory)))
+      ⊎ (((bytes : List ℕ) × HoldsFilterOf xs f bytes) × (e ≡ Refusal.Memory)))
 
   one_fault : (e : Refusal) (f : FilterValue) → TakeFault c.limits f xs e → OneFault e f
   one_fault e f (twice two eq) = inl (two_named f.name two.0 two.1 two.2 response.resources xs reads two.3, eq)
   one_fault e f (bad some) =
       inr (inl (some_named f.name (λ x. ExtensionIsRefused c.limits f x e) response.resources xs reads some))
-  one_fault e f (out_of_memory some eq) =
-      inr (inr (some_named f.name HoldsSome response.resources xs reads some, eq))
+  one_fault e f (out_of_memory bytes holds eq) = inr (inr ((bytes, holds), eq))
+
+  -- the filters before the first one refuse nothing
+  abbrev First : (FilterValue → Type 0) → Type 0
+  First P = FirstOf (RefusesNothing c.limits xs) P c.filters
 
   -- a filter that can take nothing is doubled or refused, or memory ran out
-  refuses_by : response.type_url ≡ extension_type → (e : Refusal)
-      → SomeOf (λ f. TakeFault c.limits f xs e) c.filters
+  refuses_by : response.type_url ≡ extension_type → (e : Refusal) → First (λ f. TakeFault c.limits f xs e)
       → ((e ≡ Refusal.Memory) × IsAdmitting c response) ⊎ Refuses c response e
-  refuses_by type_url e some =
-      elim (some_or (λ f. TwoOf (IsNamed f.name) response.resources × (e ≡ Refusal.DuplicateResource)) _ c.filters
-      (some_weaker _ (OneFault e) (one_fault e) c.filters some)) [
-        | inl two ↦ let told = some_with _ _ c.filters two in inr (doubled told.0 told.1)
-        | inr others ↦ elim (some_or (λ f. SomeOf (IsRefusedFor c.limits f e) response.resources) _ c.filters others) [
+  refuses_by type_url e first =
+      let Q : FilterValue → Type 0 = RefusesNothing c.limits xs in
+      let Two : FilterValue → Type 0 = λ f. TwoOf (IsNamed f.name) response.resources in
+      let Bad : FilterValue → Type 0 = λ f. SomeOf (IsRefusedFor c.limits f e) response.resources in
+      let Full : FilterValue → Type 0 = λ f. (bytes : List ℕ) × HoldsFilterOf xs f bytes in
+      elim (first_or Q (λ f. Two f × (e ≡ Refusal.DuplicateResource))
+      (λ f. Bad f ⊎ (Full f × (e ≡ Refusal.Memory))) c.filters
+      (first_weaker Q _ (OneFault e) (one_fault e) c.filters first)) [
+        | inl two ↦ let told = some_with Two _ c.filters two in inr (doubled told.0 told.1)
+        | inr others ↦ elim (first_or Q Bad (λ f. Full f × (e ≡ Refusal.Memory)) c.filters others) [
           | inl is ↦ inr (refused is)
           | inr full ↦
-              let told = some_with _ _ c.filters full in
+              let told = first_with Q Full _ c.filters full in
               inl (told.1, record { extensions = xs; type_url = type_url; reads = reads; asked = told.0 })
         ]
       ]
@@ -118,18 +126,28 @@ module _ (c : ConfigValue) (response : ResponseMessage) (xs : List ExtensionMess
 
   -- what the filters refuse is refused of the response
   pub refused_from_taken : response.type_url ≡ extension_type → (r : Result (Vec (Option Admitted) Global) NotAccepted)
-      → IfErr r (IfRefused (λ e. SomeOf (λ f. TakeFault c.limits f xs e) c.filters))
-      → IfErr r (IfRefused (λ e. IsJudged c response (judged.Refused e)))
+      → IfErr r (MatchNotAccepted (λ e. First (λ f. TakeFault c.limits f xs e))
+      (First (RefusesNothing c.limits xs)))
+      → IfErr r (MatchNotAccepted (λ e. IsJudged c response (judged.Refused e)) (RunsOut c response))
   refused_from_taken type_url r taken =
-      IfErr-weaker r _ _ (if_refused_weaker _ _ (λ e fault. refuses_by type_url e fault)) taken
+      IfErr-weaker r _ _ (not_accepted_weaker _ _ _ _ (λ e fault. refuses_by type_url e fault)
+      (λ first. taking xs type_url reads first)) taken
 
 -- what is judged so is what the response gives, or its refusal
 pub judged_is : (c : ConfigValue) (response : ResponseMessage) (given : Result (Vec (Option Admitted) Global) NotAccepted)
     → IfOk given (λ v. IsJudged c response (judged.Given v))
-    → IfErr given (IfRefused (λ e. IsJudged c response (judged.Refused e)))
+    → IfErr given (MatchNotAccepted (λ e. IsJudged c response (judged.Refused e)) (RunsOut c response))
     → (j : Judged) → given ≡ given_of j → IsJudged c response j
 judged_is c response given found fault (judged.Given v) same = rw same at found
 judged_is c response given found fault (judged.Refused e) same = rw same at fault
+
+-- memory ran out where no refusal was found
+pub runs_out : (c : ConfigValue) (response : ResponseMessage)
+    (given : Result (Vec (Option Admitted) Global) NotAccepted) (r : Result Judged AllocError)
+    → IfErr given (MatchNotAccepted (λ e. IsJudged c response (judged.Refused e)) (RunsOut c response))
+    → OnErr r (given ≡ Err not_accepted.NoMemory) → OnErr r (RunsOut c response)
+runs_out c response given (Ok j) fault same = tt
+runs_out c response given (Err e) fault same = rw same at fault
 
 -- what is admitted is given to a filter of any name
 pub admitted_gives : (limits : LimitsValue) (budget : ℕ) (x : ExtensionMessage) (bytes : List ℕ)

@@ -2,11 +2,11 @@
 use Rattle.std.proofs.Common.{◌≡◌, ℕ, zero, suc, ◌+◌, ◌<◌, ◌⊎◌, inl, inr, List, [], ◌∷◌, ◌++◌, length, map, take, get_or, arith}
 use Rattle.std.specs.List.{AllZip, AllByRecursion}
 use Rattle.std.proofs.lemmas.List.{map_more, map-append}
+use Rattle.std.proofs.lemmas.Result.{err_from_is_err_and}
 use Rattle.std.specs.Prelude.{Result, IfErr, IsErrAnd}
-use Rattle.proto_wire.specs.Refusal.{MemoryOr}
 use Rattle.proto_wire.specs.declared.refusal.Refusal.{Refusal}
-use Rattle.proto_wire.proofs.Exits.{exit_memory_or}
 use Rattle.xds_wire.specs.Envelope.{SomeOf}
+use Rattle.ads.specs.Answer.{FirstOf}
 pub use Rattle.xds_wire.proofs.Each.{zip_push}
 
 -- the element at a place is one of the elements
@@ -68,31 +68,67 @@ zip_more R seen view xs i d items now x within so_far is pushed =
     rw (pushed, map-append view items (x ∷ []), map_more seen xs i d within)
     (zip_push R (map seen (take i xs)) (map view items) (seen (get_or xs i d)) (view x) so_far is)
 
--- at a `?` on the reader of one element among others
-pub exit_each : {A B : Type 0} (P : B → Refusal → Type 0) (view : A → B) (xs : List A) (i : ℕ) (d : A)
-    → i < length xs → {T : Type 0} (r : Result T Refusal) (e : Refusal)
-    → IsErrAnd r (λ y. y ≡ e) → MemoryOr (P (view (get_or xs i d))) e
-    → IfErr r (MemoryOr (λ b. SomeOf (λ x. P x b) (map view xs)))
-exit_each P view xs i d within r e left fault =
-    exit_memory_or (P (view (get_or xs i d))) (λ b. SomeOf (λ x. P x b) (map view xs))
-    r e left fault (λ b bad. some_at (λ x. P x b) view xs i d within bad)
-
--- one between others
-pub some_middle : {A : Type 0} (P : A → Type 0) (xs : List A) (y : A) (ys : List A) → P y
-    → SomeOf P (xs ++ y ∷ ys)
-some_middle P [] y ys p = inl p
-some_middle P (x ∷ xs) y ys p = inr (some_middle P xs y ys p)
-
--- one of two properties holds of one of the elements
-pub some_or : {A : Type 0} (P Q : A → Type 0) (xs : List A) → SomeOf (λ x. P x ⊎ Q x) xs
-    → SomeOf P xs ⊎ SomeOf Q xs
-some_or P Q [] p = absurd p
-some_or P Q (x ∷ xs) (inl (inl p)) = inl (inl p)
-some_or P Q (x ∷ xs) (inl (inr q)) = inr (inl q)
-some_or P Q (x ∷ xs) (inr more) = elim (some_or P Q xs more) [
+-- one of two properties holds of the first element, or the one of some element
+pub first_or : {A : Type 0} (Q P R : A → Type 0) (xs : List A) → FirstOf Q (λ x. P x ⊎ R x) xs
+    → SomeOf P xs ⊎ FirstOf Q R xs
+first_or Q P R [] first = absurd first
+first_or Q P R (x ∷ xs) (inl (inl p)) = inl (inl p)
+first_or Q P R (x ∷ xs) (inl (inr r)) = inr (inl r)
+first_or Q P R (x ∷ xs) (inr (q, more)) = elim (first_or Q P R xs more) [
   | inl p ↦ inl (inr p)
-  | inr q ↦ inr (inr q)
+  | inr r ↦ inr (inr (q, r))
 ]
+
+-- the first element, by a weaker property
+pub first_weaker : {A : Type 0} (Q P R : A → Type 0) → ((x : A) → P x → R x) → (xs : List A)
+    → FirstOf Q P xs → FirstOf Q R xs
+first_weaker Q P R weaker [] first = absurd first
+first_weaker Q P R weaker (x ∷ xs) (inl p) = inl (weaker x p)
+first_weaker Q P R weaker (x ∷ xs) (inr (q, more)) = inr (q, first_weaker Q P R weaker xs more)
+
+-- the first element is one of them
+pub first_some : {A : Type 0} (Q P : A → Type 0) (xs : List A) → FirstOf Q P xs → SomeOf P xs
+first_some Q P [] first = absurd first
+first_some Q P (x ∷ xs) (inl p) = inl p
+first_some Q P (x ∷ xs) (inr (q, more)) = inr (first_some Q P xs more)
+
+-- what does not speak of the first element holds by itself
+pub first_with : {A : Type 0} (Q P : A → Type 0) (C : Type 0) (xs : List A) → FirstOf Q (λ x. P x × C) xs
+    → FirstOf Q P xs × C
+first_with Q P C [] first = absurd first
+first_with Q P C (x ∷ xs) (inl (p, is)) = (inl p, is)
+first_with Q P C (x ∷ xs) (inr (q, more)) =
+    let told = first_with Q P C xs more in (inr (q, told.0), told.1)
+
+-- the first element, between others
+pub first_middle : {A B : Type 0} (Q P : A → Type 0) (R : A → B → Type 0) → ((x : A) (y : B) → R x y → Q x)
+    → (xs : List A) (ys : List B) (x : A) (behind : List A) → AllZip R xs ys → P x
+    → FirstOf Q P (xs ++ x ∷ behind)
+first_middle Q P R tells [] ys x behind all p = inl p
+first_middle Q P R tells (other ∷ xs) [] x behind all p = absurd all
+first_middle Q P R tells (other ∷ xs) (y ∷ ys) x behind (is, all) p =
+    inr (tells other y is, first_middle Q P R tells xs ys x behind all p)
+
+-- the element at a place, where those before it were read
+first_at : {A B C D : Type 0} (R : B → D → Type 0) (P : B → Type 0) (seen : A → B) (view : C → D) (xs : List A)
+    (i : ℕ) (d : A) (items : List C)
+    → i < length xs → AllZip R (map seen (take i xs)) (map view items) → P (seen (get_or xs i d))
+    → FirstOf (λ x. (y : D) × R x y) P (map seen xs)
+first_at R P seen view [] i d items within all p = absurd (omega arith)
+first_at R P seen view (x ∷ xs) zero d items within all p = inl p
+first_at R P seen view (x ∷ xs) (suc i) d [] within all p = absurd all
+first_at R P seen view (x ∷ xs) (suc i) d (y ∷ ys) within (is, all) p =
+    inr ((view y, is), first_at R P seen view xs i d ys (omega arith) all p)
+
+-- at a `?` on the reader of one element, where those before it were read
+pub exit_first : {A B C D : Type 0} (R : B → D → Type 0) (F : B → Refusal → Type 0) (seen : A → B) (view : C → D)
+    (xs : List A) (i : ℕ) (d : A) (items : List C)
+    → i < length xs → AllZip R (map seen (take i xs)) (map view items)
+    → {T : Type 0} (r : Result T Refusal) (e : Refusal) → IsErrAnd r (λ y. y ≡ e) → F (seen (get_or xs i d)) e
+    → IfErr r (λ b. FirstOf (λ x. (y : D) × R x y) (λ x. F x b) (map seen xs))
+exit_first R F seen view xs i d items within all r e left fault =
+    let p = err_from_is_err_and r left in
+    rw (p.1, p.2) (first_at R (λ x. F x e) seen view xs i d items within all fault)
 
 -- what does not speak of the element holds by itself
 pub some_with : {A : Type 0} (P : A → Type 0) (Q : Type 0) (xs : List A) → SomeOf (λ x. P x × Q) xs

@@ -1,8 +1,8 @@
 -- The bytes behind a stream that is up.
-use Rattle.std.proofs.Common.{◌≡◌, ℕ, Bool, true, false, not, true≢false, Option, Some, None, List, [], ◌++◌, refl, ap, sym, ◌∙◌}
+use Rattle.std.proofs.Common.{◌≡◌, ◌≤◌, ℕ, Bool, true, false, not, true≢false, Option, Some, None, List, [], ◌++◌, length, refl, ap, sym, ◌∙◌}
 use Rattle.std.specs.Prelude.{is_none, is_some}
 use Rattle.xds_wire.specs.Frames.{IsBeginning, Tail, unfinished, broken, Cut}
-use Rattle.xds_wire.specs.Stream.{Kept, Resumes, Feeds, IsUnfinished, StaysPartial}
+use Rattle.xds_wire.specs.Stream.{Kept, Resumes, Feeds, IsUnfinished, StaysPartial, CompletesOne}
 use Rattle.xds_wire.proofs.OneCut.{cut_one}
 use Rattle.ads.specs.Answer.{Accepted}
 use Rattle.ads.specs.Client.{ClientValue, AreAnswered, Feeds as ClientFeeds, most_bytes, stream_after}
@@ -115,3 +115,9 @@ fed_stream old new rest bytes next messages versions tail ends replies given is_
       },
       told,
     )
+
+-- bytes that complete at most one frame
+pub one_known : (t : Tail) (bytes : List ℕ) (messages : List (List ℕ)) (after : Tail) → IsUnfinished t
+    → CompletesOne most_bytes t bytes → Cut (rest_of t ++ bytes) most_bytes messages after → length messages ≤ 1
+one_known (unfinished rest) bytes messages after up one cut = one messages after cut
+one_known (broken fault) bytes messages after up one cut = absurd up

@@ -1,5 +1,5 @@
 -- One filter more takes what the extensions give it.
-use Rattle.std.proofs.Common.{◌≡◌, ℕ, List, [], ◌∷◌, ◌++◌, map, ap, sym, ◌∙◌, append_assoc, Option, option_map}
+use Rattle.std.proofs.Common.{◌≡◌, inl, inr, refl, ℕ, List, [], ◌∷◌, ◌++◌, map, ap, sym, ◌∙◌, append_assoc, Option, option_map}
 use Rattle.std.specs.List.{AllZip}
 use Rattle.std.specs.Borrow.{Bor}
 use Rattle.std.specs.Map.Iter.{deref_pair}
@@ -8,17 +8,15 @@ use Rattle.std.specs.declared.string.String.{String}
 use Rattle.std.specs.declared.alloc.Global.{Global}
 use Rattle.std.proofs.lemmas.List.{map-append}
 use Rattle.attributes.specs.Limits.{LimitsValue}
-use Rattle.proto_wire.specs.declared.refusal.Refusal.{Refusal}
 use Rattle.xds_wire.specs.Discovery.{ExtensionMessage}
-use Rattle.xds_wire.specs.Envelope.{SomeOf}
+use Rattle.ads.specs.Config.{FilterValue}
 use Rattle.ads.specs.Views.{admitted_view}
 use Rattle.rbac_policy.specs.declared.filter.Admitted.{Admitted}
-use Rattle.ads.specs.Answer.{Gives, named}
+use Rattle.ads.specs.Answer.{AdmittedValue, FirstOf, Gives, RefusesNothing, named}
 use Rattle.ads.specs.Views.{entries_view, entry_view}
 use Rattle.ads.specs.steps.Taking.{filter_of}
 use Rattle.ads.specs.Views.{policies_view}
-use Rattle.ads.specs.steps.Taking.{TakeFault}
-use Rattle.ads.proofs.Lists.{zip_push, some_middle}
+use Rattle.ads.proofs.Lists.{zip_push, first_middle}
 
 Entry : Type 0
 Entry = String Global × ℕ
@@ -26,19 +24,36 @@ Entry = String Global × ℕ
 Lent : Type 0
 Lent = Bor (String Global) × Bor ℕ
 
+-- a filter that is given policies, or none without an extension, refuses nothing
+refuses_none : (limits : LimitsValue) (all : List ExtensionMessage) (f : FilterValue) (ys : List ExtensionMessage)
+    (given : Option AdmittedValue) → named f.name all ≡ ys → Gives limits f ys given
+    → RefusesNothing limits all f
+refuses_none limits all f [] given same gives = inl same
+refuses_none limits all f (x ∷ []) given same (bytes, policies, holds, (written, enforced, admits, limited), told) =
+    inr (bytes, (x, same, holds), (written, admits.admissible))
+refuses_none limits all f (x ∷ y ∷ ys) given same gives = absurd gives
+
+pub refuses_nothing : (limits : LimitsValue) (all : List ExtensionMessage) (f : FilterValue)
+    (given : Option AdmittedValue) → Gives limits f (named f.name all) given → RefusesNothing limits all f
+refuses_nothing limits all f given gives = refuses_none limits all f (named f.name all) given refl gives
+
 module _ (limits : LimitsValue) (xs : List ExtensionMessage) (yielded : List (Bor (String Global) × Bor ℕ))
     (rest after entries : List (String Global × ℕ)) (name : Bor (String Global)) (budget : Bor ℕ) (text : List ℕ)
     (whole : map deref_pair yielded ++ rest ≡ entries) (next : rest ≡ (name.now, budget.now) ∷ after)
     (same : text ≡ string_bytes name.now) where
-  -- the filter is refused
-  pub take_fault : (e : Refusal) → TakeFault limits (filter_of text budget.now) xs e
-      → SomeOf (λ f. TakeFault limits f xs e) (entries_view entries)
-  take_fault e fault =
+  -- the filter is the first of which this holds; those before it refuse nothing
+  pub first_here : (P : FilterValue → Type 0) (given : List (Option Admitted))
+      → AllZip (λ f. Gives limits f (named f.name xs)) (entries_view (map deref_pair yielded)) (policies_view given)
+      → P (filter_of text budget.now) → FirstOf (RefusesNothing limits xs) P (entries_view entries)
+  first_here P given so_far holds =
       let seen : entries_view entries ≡ entries_view (map deref_pair yielded)
       ++ filter_of (string_bytes name.now) budget.now ∷ entries_view after =
       ap entries_view (sym whole ∙ ap (λ ys. map deref_pair yielded ++ ys) next)
       ∙ map-append entry_view (map deref_pair yielded) ((name.now, budget.now) ∷ after) in
-      rw seen (some_middle (λ f. TakeFault limits f xs e) _ _ _ (rw same at fault))
+      let here : P (filter_of (string_bytes name.now) budget.now) = rw same at holds in
+      rw seen (first_middle (RefusesNothing limits xs) P (λ f. Gives limits f (named f.name xs))
+      (refuses_nothing limits xs) (entries_view (map deref_pair yielded)) (policies_view given)
+      (filter_of (string_bytes name.now) budget.now) (entries_view after) so_far here)
 
   -- the filter takes what the extensions give
   pub take_more : (given now : List (Option Admitted)) (o : Option Admitted)

@@ -11,7 +11,7 @@ use Rattle.xds_wire.specs.Envelope.{SomeOf}
 use Rattle.cel_tree.specs.Checked.{CelChecked}
 use Rattle.rbac_policy.specs.Condition.{Program}
 use Rattle.rbac_policy.specs.Filter.{Filter}
-use Rattle.rbac_policy.specs.Admission.{Admits, Fault}
+use Rattle.rbac_policy.specs.Admission.{Admissible, Admits, Fault}
 use Rattle.ads.specs.Config.{ConfigValue, FilterValue, names_of}
 
 -- the type URL of the resources
@@ -61,10 +61,6 @@ pub data ResourceFault (any : AnyMessage) (e : Refusal) : Type 0 where
 abbrev pub HoldsFilter : ExtensionMessage → List ℕ → Type 0
 HoldsFilter extension bytes =
     IsSomeAnd extension.typed_config (λ any. (any.type_url ≡ filter_type) × (any.value ≡ bytes))
-
--- the extension holds a filter's message
-abbrev pub HoldsSome : ExtensionMessage → Type 0
-HoldsSome extension = (bytes : List ℕ) × HoldsFilter extension bytes
 
 -- the reasons to refuse a filter's extension: it holds no filter's message, or that message is not admitted
 pub data ExtensionIsRefused (limits : LimitsValue) (f : FilterValue) (extension : ExtensionMessage) (e : Refusal)
@@ -144,18 +140,29 @@ status_of e = record { code = code_of e; message = codes "policy refused: " ++ d
 abbrev pub nack_of : {P : Type 0} → ConfigValue → AcceptedOf P → ResponseMessage → Refusal → RequestMessage
 nack_of c accepted response e = request_of c accepted.version None response.nonce (Some (status_of e))
 
--- the resource is an extension of the filter's name that holds a filter's message
-abbrev pub HoldsFilterOf : FilterValue → AnyMessage → Type 0
-HoldsFilterOf f any = (extension : ExtensionMessage) × IsResource any extension × (extension.name ≡ f.name)
-    × HoldsSome extension
+-- `P` holds of one of the elements, and `Q` of each before it
+abbrev pub FirstOf : {A : Type 0} → (A → Type 0) → (A → Type 0) → List A → Type 0
+FirstOf Q P [] = ⊥
+FirstOf Q P (x ∷ xs) = P x ⊎ (Q x × FirstOf Q P xs)
 
--- a filter of the response is judged: all types are right, each resource reads, and a resource of a configured name
--- holds a filter's message
+-- one extension has the filter's name, and it holds a filter's message, with these bytes
+abbrev pub HoldsFilterOf : List ExtensionMessage → FilterValue → List ℕ → Type 0
+HoldsFilterOf extensions f bytes = (extension : ExtensionMessage)
+    × (named f.name extensions ≡ extension ∷ []) × HoldsFilter extension bytes
+
+-- the filter refuses nothing: no extension has its name, or one does and holds an admissible filter's message
+abbrev pub RefusesNothing : LimitsValue → List ExtensionMessage → FilterValue → Type 0
+RefusesNothing limits extensions f = (named f.name extensions ≡ [])
+    ⊎ ((bytes : List ℕ) × HoldsFilterOf extensions f bytes × Admissible bytes limits f.budget)
+
+-- a filter of the response is judged: all types are right, each resource reads, and the filters before it refuse
+-- nothing. One extension has its name, and holds a filter's message
 pub record IsAdmitting (c : ConfigValue) (response : ResponseMessage) : Type 0 where
   pub extensions : List ExtensionMessage
   pub type_url : response.type_url ≡ extension_type
   pub reads : AllZip IsResource response.resources extensions
-  pub asked : SomeOf (λ f. SomeOf (HoldsFilterOf f) response.resources) c.filters
+  pub asked : FirstOf (RefusesNothing c.limits extensions)
+      (λ f. (bytes : List ℕ) × HoldsFilterOf extensions f bytes) c.filters
 
 -- answers to a response, if `IsGiven` says which policies the bytes of a filter give
 module _ {P : Type 0} (IsGiven : LimitsValue → FilterValue → List ℕ → P → Type 0) where

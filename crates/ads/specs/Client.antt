@@ -1,7 +1,7 @@
 -- A client of an update stream, and the effect of each call on it: xDS REST and gRPC protocol, "ACK and NACK". Frames
 -- are those of gRPC over HTTP/2, "Length-Prefixed-Message". That bytes arrive by calls, and the greatest length of a
 -- message, are this project's own.
-use Rattle.std.specs.Prelude.{◌≡◌, ℕ, ◌<◌, ◌^◌, Bool, true, false, Option, Some, None, ◌⊎◌, List, [], ◌∷◌, ◌++◌, length, is_none, bytes_eq, if◌then◌else◌}
+use Rattle.std.specs.Prelude.{◌≡◌, ℕ, ◌<◌, ◌≤◌, ◌^◌, Bool, true, false, Option, Some, None, ◌⊎◌, List, [], ◌∷◌, ◌++◌, length, is_none, bytes_eq, if◌then◌else◌}
 use Rattle.proto_wire.specs.declared.refusal.Refusal.{Refusal}
 use Rattle.attributes.specs.Limits.{LimitsValue}
 use Rattle.xds_wire.specs.Envelope.{SomeOf}
@@ -79,6 +79,11 @@ FeedsBy (Some rest) old bytes replies is_broken versions new =
 -- bytes arrive: the answers, whether no stream is up afterwards, the accepted versions, and the client after them
 abbrev pub Feeds : ClientValue → List ℕ → List ℕ → Bool → List (List ℕ) → ClientValue → Type 0
 Feeds old bytes replies is_broken versions new = FeedsBy old.stream old bytes replies is_broken versions new
+
+-- the bytes complete at most one message of the stream, if one is up
+abbrev pub CompletesOne : ClientValue → List ℕ → Type 0
+CompletesOne c bytes = (rest : List ℕ) (messages : List (List ℕ)) (tail : Tail) → c.stream ≡ Some rest
+    → Cut (rest ++ bytes) most_bytes messages tail → length messages ≤ 1
 
 -- the client without a stream
 abbrev pub stream_down : ClientValue → ClientValue

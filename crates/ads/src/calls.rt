@@ -1,6 +1,6 @@
 //! The calls on a client: its stream comes up, delivers bytes, and is lost.
 
-ghost use Rattle.std.specs.Prelude.{◌≡◌, ℕ, List, None, Some, [], IfOk, IfSome, IsOk, OnOk, OnErr, MatchOption, is_some};
+ghost use Rattle.std.specs.Prelude.{◌≡◌, ◌<◌, ◌≤◌, ℕ, List, length, None, Some, [], IfOk, IfSome, IsOk, OnOk, OnErr, MatchOption, is_some};
 ghost use Rattle.std.specs.List.{AllZip};
 ghost use Rattle.rbac_policy.specs.Admitted.{limits_view};
 ghost use Rattle.ads.specs.Views.{admitted_view, policies_view};
@@ -16,7 +16,7 @@ use rbac_policy::Admitted;
 use std::alloc::{AllocError, Global};
 
 impl Client {
-    ghost use Rattle.ads.specs.Client.{Feeds, WasAdmitted, WasAdmittedAs, new_client, policies_of, stream_down, stream_up};
+    ghost use Rattle.ads.specs.Client.{CompletesOne, Feeds, WasAdmitted, WasAdmittedAs, new_client, policies_of, stream_down, stream_up};
     ghost use Rattle.ads.specs.Ends.{client_view};
     /// A client that has accepted nothing, and whose stream is down. The only error is out of memory.
     pub fn new(alloc: Global, config: &Config) -> Result<Client, AllocError>
@@ -75,6 +75,18 @@ impl Client {
         self.stream = stream;
         let replies = self.accepted.commit(draft);
         Ok(Fed { replies, broken })
+    }
+
+    /// How many bytes of the stream complete at most one message, at least 1. If no more are fed at once, at most one
+    /// response is answered. It takes no memory.
+    pub fn lacks(&self) -> usize
+        ensures some { 0 < result }
+        ensures one { (bytes : List ℕ) → length bytes ≤ result → CompletesOne (client_view self.now) bytes }
+    {
+        match &self.stream {
+            Some(stream) => stream.lacks(),
+            None => 1,
+        }
     }
 
     /// The stream is lost, with its unfinished bytes. What was accepted stays. It takes no memory.

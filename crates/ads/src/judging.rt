@@ -4,15 +4,13 @@
 ghost use Rattle.std.specs.Prelude.{◌≡◌, ◌≢◌, ◌⊎◌, ℕ, Some, Err, [], ◌∷◌, List, map, IfOk, IfErr, OnOk, OnErr, MatchOption};
 ghost use Rattle.std.specs.Option.{option_map};
 ghost use Rattle.std.specs.List.{AllZip};
-ghost use Rattle.proto_wire.specs.Refusal.{MemoryOr};
 ghost use Rattle.proto_wire.specs.declared.refusal.Refusal.TheVariants.{DuplicateResource, Memory, Missing, WrongType};
-ghost use Rattle.xds_wire.specs.Envelope.{SomeOf};
 ghost use Rattle.xds_wire.specs.View.{any_view, extension_view, response_view};
-ghost use Rattle.ads.specs.Answer.{IsResource, ResourceFault, HoldsFilter, HoldsSome, ExtensionIsRefused, Gives, named, extension_type};
+ghost use Rattle.ads.specs.Answer.{IsResource, HoldsFilter, ExtensionIsRefused, FirstOf, Gives, RefusesNothing, named, extension_type};
 ghost use Rattle.ads.specs.Views.{admitted_view, entries_view, policies_view};
 ghost use Rattle.ads.specs.declared.judging.Judged.TheVariants.{Given, Refused};
 ghost use Rattle.ads.specs.declared.refused.NotAccepted.TheVariants.{NoMemory};
-ghost use Rattle.ads.specs.steps.Taking.{IfRefused, IsDoubled, TakeFault, IsJudged, filter_of, given_of};
+ghost use Rattle.ads.specs.steps.Taking.{HoldsSome, IsDoubled, MatchNotAccepted, ReadFault, Reads, RunsOut, TakeFault, IsJudged, filter_of, given_of};
 
 use crate::config::Config;
 use crate::refused::{NotAccepted, memory_apart};
@@ -40,13 +38,14 @@ pub(crate) enum Judged {
     Refused(Refusal),
 }
 
-/// Judges a response. The error means out of memory outside of an admission.
+/// Judges a response. The error means out of memory outside of an admission, where nothing that was read is refused.
 pub(crate) fn judge(
     alloc: Global,
     config: &Config,
     response: &DiscoveryResponse<'_>,
 ) -> Result<Judged, AllocError>
-    ensures { IfOk result (IsJudged config.now (response_view response.now)) }
+    ensures found { IfOk result (IsJudged config.now (response_view response.now)) }
+    ensures fault { OnErr result (RunsOut config.now (response_view response.now)) }
 {
     judgement(given_by(alloc, config, response))
 }
@@ -71,7 +70,9 @@ fn given_by(
     response: &DiscoveryResponse<'_>,
 ) -> Result<Vec<Option<Admitted>>, NotAccepted>
     ensures found { IfOk result (λ given. IsJudged config.now (response_view response.now) (Given given)) }
-    ensures fault { IfErr result (IfRefused (λ e. IsJudged config.now (response_view response.now) (Refused e))) }
+    ensures fault { IfErr result (MatchNotAccepted
+        (λ e. IsJudged config.now (response_view response.now) (Refused e))
+        (RunsOut config.now (response_view response.now))) }
 {
     check_type(response.type_url)?;
     let extensions = memory_apart(read_resources(alloc, &response.resources))??;
@@ -96,7 +97,7 @@ fn read_resources<'a>(
 ) -> Result<Vec<TypedExtensionConfig<'a>>, Refusal>
     ensures found { IfOk result (λ v.
         AllZip IsResource (map any_view resources.now) (map extension_view v.items)) }
-    ensures fault { IfErr result (MemoryOr (λ e. SomeOf (λ any. ResourceFault any e) (map any_view resources.now))) }
+    ensures fault { IfErr result (λ e. FirstOf Reads (λ any. ReadFault any e) (map any_view resources.now)) }
 {
     let mut extensions = Vec::new(alloc);
     for resource in resources {
@@ -108,7 +109,7 @@ fn read_resources<'a>(
 /// The resource as an extension; it has a name.
 fn read_resource<'a>(alloc: Global, resource: &Any<'a>) -> Result<TypedExtensionConfig<'a>, Refusal>
     ensures found { IfOk result (λ x. IsResource (any_view resource.now) (extension_view x)) }
-    ensures fault { IfErr result (MemoryOr (ResourceFault (any_view resource.now))) }
+    ensures fault { IfErr result (ReadFault (any_view resource.now)) }
 {
     check_type(resource.type_url)?;
     let extension = read_extension(alloc, resource.value)?;
@@ -137,8 +138,11 @@ fn take_all(
     ensures found { IfOk result (λ given. AllZip
         (λ f. Gives limits.now f (named f.name (map extension_view extensions.now)))
         (entries_view filters.now.entries) (policies_view given.items)) }
-    ensures fault { IfErr result (IfRefused (λ e.
-        SomeOf (λ f. TakeFault limits.now f (map extension_view extensions.now) e)
+    ensures fault { let xs = map extension_view extensions.now in
+        IfErr result (MatchNotAccepted
+        (λ e. FirstOf (RefusesNothing limits.now xs) (λ f. TakeFault limits.now f xs e)
+        (entries_view filters.now.entries))
+        (FirstOf (RefusesNothing limits.now xs) (RefusesNothing limits.now xs)
         (entries_view filters.now.entries))) }
 {
     let mut given = Vec::new(alloc);

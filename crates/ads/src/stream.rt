@@ -1,6 +1,6 @@
 //! A stream that is up, and the effects of its bytes.
 
-ghost use Rattle.std.specs.Prelude.{◌≡◌, ◌++◌, ℕ, false, [], List, Bool, length, IfOk, OnErr, MatchBool};
+ghost use Rattle.std.specs.Prelude.{◌≡◌, ◌<◌, ◌≤◌, ◌++◌, ℕ, false, [], List, Bool, length, IfOk, OnErr, MatchBool};
 ghost use Rattle.xds_wire.specs.Frames.{Cut, IsBeginning, Tail};
 ghost use Rattle.xds_wire.specs.Stream as wire;
 ghost use Rattle.ads.specs.Client.{AreAnswered, most_bytes, stream_after};
@@ -48,6 +48,15 @@ impl Stream {
         Stream {
             frames: Frames::new(alloc, MOST_BYTES),
         }
+    }
+
+    /// How many bytes complete at most one message, at least 1. It takes no memory.
+    pub(crate) fn lacks(&self) -> usize
+        ensures some { 0 < result }
+        ensures one { (bytes : List ℕ) (messages : List (List ℕ)) (tail : Tail) → length bytes ≤ result
+            → Cut (self.now ++ bytes) most_bytes messages tail → length messages ≤ 1 }
+    {
+        self.frames.lacks()
     }
 
     /// Takes the bytes if they complete no message and break no frame, and returns whether it took them. If it did not,

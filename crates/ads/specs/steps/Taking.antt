@@ -1,20 +1,32 @@
 -- What a filter takes from the extensions of a response (this project's own).
-use Rattle.std.specs.Prelude.{◌≡◌, ◌⊎◌, ⊤, ℕ, Option, Result, Ok, Err, List, ◌∷◌}
+use Rattle.std.specs.Prelude.{◌≡◌, ◌⊎◌, ℕ, Option, Result, Ok, Err, List, ◌∷◌}
 use Rattle.std.specs.List.{AllZip}
 use Rattle.std.specs.declared.alloc.Global.{Global}
 use Rattle.std.specs.declared.vec.Vec.{Vec}
 use Rattle.attributes.specs.Limits.{LimitsValue}
 use Rattle.proto_wire.specs.declared.refusal.Refusal.{Refusal}
-use Rattle.xds_wire.specs.Discovery.{ExtensionMessage, ResponseMessage}
+use Rattle.xds_wire.specs.Discovery.{AnyMessage, ExtensionMessage, ResponseMessage}
 use Rattle.xds_wire.specs.Envelope.{SomeOf}
 use Rattle.rbac_policy.specs.declared.filter.Admitted.{Admitted}
 use Rattle.ads.specs.Config.{FilterValue, ConfigValue}
-use Rattle.ads.specs.Answer.{HoldsSome, IsAdmitting, named, Gives, ExtensionIsRefused, IsResource, Refuses, extension_type}
+use Rattle.ads.specs.Answer.{ExtensionIsRefused, FirstOf, Gives, HoldsFilter, HoldsFilterOf, IsAdmitting, IsResource, named, Refuses, RefusesNothing, ResourceFault, extension_type}
 use Rattle.ads.specs.Views.{policies_view}
 use Rattle.ads.specs.declared.judging.Judged.{Judged}
 use Rattle.ads.specs.declared.judging.Judged.TheVariants as judged
 use Rattle.ads.specs.declared.refused.NotAccepted.{NotAccepted}
 use Rattle.ads.specs.declared.refused.NotAccepted.TheVariants as not_accepted
+
+-- the resource is an extension with a name
+abbrev pub Reads : AnyMessage → Type 0
+Reads any = (extension : ExtensionMessage) × IsResource any extension
+
+-- memory runs out while a resource of the right type is read, or the resource has this fault
+abbrev pub ReadFault : AnyMessage → Refusal → Type 0
+ReadFault any e = ((e ≡ Refusal.Memory) × (any.type_url ≡ extension_type)) ⊎ ResourceFault any e
+
+-- the extension holds a filter's message
+abbrev pub HoldsSome : ExtensionMessage → Type 0
+HoldsSome extension = (bytes : List ℕ) × HoldsFilter extension bytes
 
 -- at least two extensions have the name
 abbrev pub IsDoubled : List ℕ → List ExtensionMessage → Type 0
@@ -23,7 +35,7 @@ IsDoubled name xs = (x y : ExtensionMessage) × (more : List ExtensionMessage) �
 -- the reasons for which a filter refuses the extensions
 pub data TakeFault (limits : LimitsValue) (f : FilterValue) (xs : List ExtensionMessage) (e : Refusal) : Type 0 where
   twice : IsDoubled f.name xs → e ≡ Refusal.DuplicateResource → TakeFault limits f xs e
-  out_of_memory : SomeOf HoldsSome (named f.name xs) → e ≡ Refusal.Memory → TakeFault limits f xs e
+  out_of_memory : (bytes : List ℕ) → HoldsFilterOf xs f bytes → e ≡ Refusal.Memory → TakeFault limits f xs e
   bad : SomeOf (λ x. ExtensionIsRefused limits f x e) (named f.name xs) → TakeFault limits f xs e
 
 -- the policies that the response gives each filter, or the refusal
@@ -34,10 +46,19 @@ IsJudged c response (judged.Given given) =
     × AllZip (λ f. Gives c.limits f (named f.name extensions)) c.filters (policies_view given.items)
 IsJudged c response (judged.Refused e) = ((e ≡ Refusal.Memory) × IsAdmitting c response) ⊎ Refuses c response e
 
--- `P` holds of the refusal, if there is one
-abbrev pub IfRefused : (Refusal → Type 0) → NotAccepted → Type 0
-IfRefused P (not_accepted.Refused e) = P e
-IfRefused P not_accepted.NoMemory = ⊤
+-- `P` holds of the refusal, or `M` holds if memory ran out outside of an admission
+abbrev pub MatchNotAccepted : (Refusal → Type 0) → Type 0 → NotAccepted → Type 0
+MatchNotAccepted P M (not_accepted.Refused e) = P e
+MatchNotAccepted P M not_accepted.NoMemory = M
+
+-- where memory may run out outside of an admission: the response has the right type. Its resources read up to one of
+-- the right type, or all read and some filter, and each before it, refuses nothing
+pub data RunsOut (c : ConfigValue) (response : ResponseMessage) : Type 0 where
+  reading : response.type_url ≡ extension_type
+      → FirstOf Reads (λ any. any.type_url ≡ extension_type) response.resources → RunsOut c response
+  taking : (xs : List ExtensionMessage) → response.type_url ≡ extension_type
+      → AllZip IsResource response.resources xs
+      → FirstOf (RefusesNothing c.limits xs) (RefusesNothing c.limits xs) c.filters → RunsOut c response
 
 -- what is judged like this: what a response gives, or its refusal
 abbrev pub given_of : Judged → Result (Vec (Option Admitted) Global) NotAccepted

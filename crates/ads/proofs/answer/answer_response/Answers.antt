@@ -11,7 +11,7 @@ use Rattle.ads.proofs.answer.answer_response.Goals as goal
 pub accept-requires : goal.accept-requires
 accept-requires c =
     let is : IsJudged c.args.config.now (response_view c.args.response.now) (judged.Given c.in-Given.given) =
-    rw c.in-Given.is at c.in_ok-given.ensures in
+    rw c.in-Given.is at c.in_ok-given.ensures.found in
     let same : vec_len c.in-Given.given ≡ length c.args.config.now.filters =
     c.in-Given.given.ok.0 ∙ given_length _ c.args.config.now.filters c.in-Given.given.items is.3 in
     elim c.requires [ inl none ↦ inl none | inr all ↦ inr (all ∙ sym same) ]
@@ -19,14 +19,14 @@ accept-requires c =
 pub returns-in_ok-version-in-Given-clause-covers : goal.returns-in_ok-version-in-Given-clause-covers
 returns-in_ok-version-in-Given-clause-covers c =
     let is : IsJudged c.args.config.now (response_view c.args.response.now) (judged.Given c.in-Given.given) =
-    rw c.in-Given.is at c.in_ok-given.ensures in
+    rw c.in-Given.is at c.in_ok-given.ensures.found in
     inr (sym c.accept.new.self.given.ok.0 ∙ c.accept.ensures.length ∙ c.in-Given.given.ok.0
     ∙ given_length _ c.args.config.now.filters c.in-Given.given.items is.3)
 
 pub returns-in-Refused-clause-answered : goal.returns-in-Refused-clause-answered
 returns-in-Refused-clause-answered c =
     let is : IsJudged c.args.config.now (response_view c.args.response.now) (judged.Refused c.in-Refused.refusal) =
-    rw c.in-Refused.is at c.in_ok-given.ensures in
+    rw c.in-Refused.is at c.in_ok-given.ensures.found in
     on_ok_weaker c.put_nack.result _ _
     (λ added old. (
       nack_of c.args.config.now (draft_view old c.args.draft.now) (response_view c.args.response.now)

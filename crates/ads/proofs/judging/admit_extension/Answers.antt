@@ -4,8 +4,8 @@ use Rattle.proto_wire.specs.Refusal.{MemoryOr}
 use Rattle.proto_wire.specs.declared.refusal.Refusal.{Refusal}
 use Rattle.rbac_policy.specs.Admission.{Fault}
 use Rattle.xds_wire.specs.View.{extension_view}
-use Rattle.ads.specs.Answer.{ExtensionIsRefused, HoldsSome, not_admitted}
-use Rattle.ads.specs.steps.Taking.{filter_of}
+use Rattle.ads.specs.Answer.{ExtensionIsRefused, not_admitted}
+use Rattle.ads.specs.steps.Taking.{HoldsSome, filter_of}
 use Rattle.ads.proofs.JudgedLemmas.{admitted_gives}
 use Rattle.ads.proofs.judging.admit_extension.Goals as goal
 

@@ -9,6 +9,6 @@ returns-in_err-admitted-in-Some-clause-fault c =
     let left = err_from_is_err_and c.from_residual-in_err-admitted-in-Some.result
     c.from_residual-in_err-admitted-in-Some.ensures.1 in
     rw (left.1, left.2) (elim c.in_err-admitted-in-Some.ensures.fault [
-      | inl memory ↦ out_of_memory (rw one (inl memory.1)) memory.0
+      | inl memory ↦ out_of_memory memory.1.0 (_, one, memory.1.1) memory.0
       | inr refused ↦ bad (rw one (inl (refused c.args.name.now)))
     ])
