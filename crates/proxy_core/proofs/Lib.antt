@@ -1,8 +1,8 @@
 pub mod Places
+pub mod Heard
 pub mod Parts
 pub mod Standing
 pub mod Chains
-pub mod Heard
 pub mod Walk
 pub mod Runs
 pub mod Exactly
@@ -10,3 +10,5 @@ pub mod Safely
 pub mod Asked
 pub mod Acknowledged
 pub mod Whole
+pub mod Alone
+pub mod Tables

@@ -1,6 +1,7 @@
 -- Fronts are taken out of their places, and put into them.
 use Rattle.std.proofs.Common.{◌≡◌, ℕ, zero, suc, ◌<◌, ◌≤◌, Bool, true, false, Option, Some, None, List, [], ◌∷◌, length, get_or, set, refl, sym, ap, ◌∙◌, arith, if◌then◌else◌}
-use Rattle.std.specs.Prelude.{slice_get, Result, Ok, Err, OnErr, IfOk, MatchBool}
+use Rattle.proxy_core.specs.declared.told.Told.{Told}
+use Rattle.std.specs.Prelude.{is_none, slice_get, Result, Ok, Err, OnErr, IfOk, MatchBool}
 use Rattle.std.specs.declared.alloc.AllocError.{AllocError}
 use Rattle.std.specs.List.{AllByRecursion}
 use Rattle.std.proofs.Math.Logic.{∥∥₁_elim, ∥∥₁_prop}
@@ -8,10 +9,12 @@ use Rattle.std.proofs.Props.{props}
 use Rattle.std.proofs.lemmas.Grind.{merely}
 use Rattle.std.proofs.lemmas.List.{set-set}
 use Rattle.attributes.specs.Limits.{LimitsValue}
+use Rattle.ads.specs.Answer.{Accepted}
 use Rattle.http_front.specs.Front.{FrontValue, HasNoAsk, fed_front}
 use Rattle.http_front.specs.Heads.{Kept, reading, closed, fed, is_closed}
 use Rattle.proxy_core.specs.Events.{OutputValue, http_output, no_output}
-use Rattle.proxy_core.specs.Step.{ProxyValue, TakesHttp, front_at, front_in, with_conn}
+use Rattle.proxy_core.specs.Step.{ProxyValue, TellsBytes, TakesHttp, front_at, front_in, with_conn}
+use Rattle.proxy_core.proofs.Heard.{tells_takes}
 use Rattle.proxy_core.specs.steps.Fronts.{IsOpenFor, KeepsAt}
 
 -- ---- places
@@ -121,16 +124,37 @@ module _ (old mid new : ProxyValue) (k : ℕ) (left : mid ≡ with_conn old k No
     kept_not (Err e) same = kept_back f is (made ∙ ap (λ (x : FrontValue). with_conn mid k (Some x)) same)
 
 -- bytes that complete no ask are heard
+pub kept_told : (a : Accepted) (front : FrontValue) (bytes : List ℕ) → is_closed front.kept ≡ false
+    → HasNoAsk (fed_front front bytes) → TellsBytes a front bytes [] [] (Some (fed_front front bytes))
+kept_told a front bytes open' none = (
+  fed_front front bytes,
+  (refl, none, refl),
+  refl,
+  ap (λ (b : Bool). if b then None else Some (fed_front front bytes)) (sym (open_fed front.kept bytes open')),
+)
+
 pub keeps_heard : (old new : ProxyValue) (k : ℕ) (bytes : List ℕ) (out : OutputValue) → KeepsAt old k bytes new
     → out ≡ no_output → TakesHttp (front_at old k) old k bytes out new
 keeps_heard old new k bytes out (front, is, open', none, made) told =
-    let shut : is_closed (fed front.kept bytes) ≡ false = open_fed front.kept bytes open' in
     rw is (
       [],
-      fed_front front bytes,
-      [],
-      (refl, none, refl),
-      refl,
-      told ∙ ap (λ (b : Bool). http_output [] b) (sym shut),
-      made ∙ ap (λ (b : Bool). with_conn old k (if b then None else Some (fed_front front bytes))) (sym shut),
+      Some (fed_front front bytes),
+      tells_takes old.client.accepted front bytes [] [] (Some (fed_front front bytes))
+          (kept_told old.client.accepted front bytes open' none),
+      told,
+      made,
     )
+
+-- where a connection is open
+pub not_none : (old mid : ProxyValue) (k : ℕ) (f : FrontValue) → mid ≡ old → front_at mid k ≡ Some f
+    → front_at old k ≡ None → ⊥
+not_none old mid k f same is none =
+    let both : Some f ≡ None = sym is ∙ ap (λ (p : ProxyValue). front_at p k) same ∙ none in absurd cc
+
+-- bytes that were heard from a copy
+pub heard_http : (old mid new : ProxyValue) (k : ℕ) (bytes http : List ℕ) (front : FrontValue)
+    (after : Option FrontValue) (told : List Told) (out : OutputValue) → mid ≡ old → front_at mid k ≡ Some front
+    → TellsBytes mid.client.accepted front bytes told http after → out ≡ http_output http (is_none after)
+    → new ≡ with_conn mid k after → TakesHttp (front_at old k) old k bytes out new
+heard_http old mid new k bytes http front after told out same is tells put made =
+    rw (sym same) (rw is (http, after, tells_takes mid.client.accepted front bytes told http after tells, put, made))

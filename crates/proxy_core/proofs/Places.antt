@@ -2,7 +2,6 @@
 use Rattle.std.proofs.Common.{◌≡◌, ℕ, zero, suc, ◌<◌, ◌≤◌, Option, Some, None, List, [], ◌∷◌, length, set, refl, ap, arith}
 use Rattle.std.specs.Prelude.{slice_get}
 use Rattle.http_front.specs.Front.{FrontValue}
-use Rattle.std.specs.List.{AllByRecursion}
 use Rattle.proxy_core.specs.Step.{front_in, nobody}
 
 pub set_same : (xs : List (Option FrontValue)) (k : ℕ) (x : Option FrontValue) → k < length xs
@@ -37,11 +36,11 @@ past_none (y ∷ xs) zero far = absurd (omega arith)
 past_none (y ∷ xs) (suc k) far = past_none xs k (omega arith)
 
 -- at the start none is open
-pub all_none : (xs : List (Option FrontValue)) (k : ℕ) → AllByRecursion (λ x. x ≡ None) xs
-    → front_in (slice_get xs k) ≡ None
-all_none [] k all = refl
-all_none (y ∷ xs) zero (one, all) = one
-all_none (y ∷ xs) (suc k) (one, all) = all_none xs k all
+pub none_there : (n k : ℕ) → front_in (slice_get (nobody n) k) ≡ None
+none_there zero k = refl
+none_there (suc n) zero = refl
+none_there (suc n) (suc k) = none_there n k
 
-pub none_there : (k : ℕ) → front_in (slice_get nobody k) ≡ None
-none_there k = all_none nobody k (refl, (refl, (refl, (refl, (refl, (refl, (refl, (refl, tt))))))))
+pub nobody_length : (n : ℕ) → length (nobody n) ≡ n
+nobody_length zero = refl
+nobody_length (suc n) = ap (λ (m : ℕ). suc m) (nobody_length n)

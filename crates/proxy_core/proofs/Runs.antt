@@ -14,7 +14,7 @@ use Rattle.http_front.specs.Heads.{Heads, TakesAll, is_closed, reading}
 use Rattle.http_front.specs.declared.ask.Ask.{Ask}
 use Rattle.http_front.proofs.Resuming.{takes_resume}
 use Rattle.proxy_core.specs.Events.{EventValue, ads_up, ads_bytes, ads_lost, http_open, http_bytes, http_closed, OutputValue, no_output, ads_output, http_output}
-use Rattle.proxy_core.specs.Step.{CallsDo, EventCall, answered, no_memory, Hears, OpensAt, opened, unfit, nowhere, ProxyValue, StepsBy, TakesAds, TakesHttp, events_of, outputs_of, front_at, new_proxy, with_client, with_conn}
+use Rattle.proxy_core.specs.Step.{CallsDo, EventCall, answered, no_memory, Hears, OpensAt, in_place, nowhere, opened, unfit, ProxyValue, StepsBy, TakesAds, TakesHttp, events_of, outputs_of, front_at, new_proxy, with_client, with_conn}
 use Rattle.proxy_core.specs.Run as run
 use Rattle.proxy_core.specs.Run.{Acknowledged, AreExchanges, Connection, Exchange, Happens, IsHistory, Moment, UpdateStream, acknowledged_after, acknowledged_in, connection_in, connection_more, connection_then, events_in, is_of, outputs_in, places, stream_in, stream_more}
 use Rattle.proxy_core.proofs.Chains.{replies_stand}
@@ -243,39 +243,41 @@ added_closed c past old k known = record {
 
 added_opens : (c : ConfigValue) (past : List Moment) (old : ProxyValue) (k : ℕ) (facts : Facts) (out : OutputValue)
     (new : ProxyValue) → Known c past old → OpensAt old k facts out new → Added c past (http_open k facts) out new
-added_opens c past old k facts out new known (opened in' sound fits is made) = rw (is, made) (record {
-  exchanges = [];
-  asks = [];
-  happens = (no_output, run.fits in' sound (rw known.config at fits) refl, (refl, refl, refl));
-  known = put c past old (http_open k facts) no_output [] k (Some (new_front old.client.config.limits facts)) known refl
-      (λ j. refl)
-      (rw (
-        set_same old.conns k (Some (new_front old.client.config.limits facts)) (rw known.eight in'),
-        lt-ltb k places in',
-      ) (record {
-        limits = ap (λ (d : ConfigValue). d.limits) known.config;
-        facts = refl;
-        asks = refl;
-      }));
-})
-added_opens c past old k facts out new known (unfit in' not is made) = rw (is, made) (record {
-  exchanges = [];
-  asks = [];
-  happens = (http_output [] true, run.unfit in' (rw known.config at not) refl, (refl, refl, refl));
-  known = put c past old (http_open k facts) (http_output [] true) [] k None known refl (λ j. refl)
-      (rw (set_none old.conns k, lt-ltb k places in') tt);
-})
+added_opens c past old k facts out new known (in_place front in' (opened sound fits which) is made) =
+    rw (is ∙ ap (λ (o : Option FrontValue). http_output [] (is_none o)) which, made ∙ ap (with_conn old k) which) (record {
+      exchanges = [];
+      asks = [];
+      happens = (no_output, run.fits (rw known.eight at in') sound (rw known.config at fits) refl, (refl, refl, refl));
+      known = put c past old (http_open k facts) no_output [] k (Some (new_front old.client.config.limits facts)) known refl
+          (λ j. refl)
+          (rw (
+            set_same old.conns k (Some (new_front old.client.config.limits facts)) in',
+            lt-ltb k places (rw known.eight at in'),
+          ) (record {
+            limits = ap (λ (d : ConfigValue). d.limits) known.config;
+            facts = refl;
+            asks = refl;
+          }));
+    })
+added_opens c past old k facts out new known (in_place front in' (unfit not which) is made) =
+    rw (is ∙ ap (λ (o : Option FrontValue). http_output [] (is_none o)) which, made ∙ ap (with_conn old k) which) (record {
+      exchanges = [];
+      asks = [];
+      happens = (http_output [] true, run.unfit (rw known.eight at in') (rw known.config at not) refl, (refl, refl, refl));
+      known = put c past old (http_open k facts) (http_output [] true) [] k None known refl (λ j. refl)
+          (rw (set_none old.conns k, lt-ltb k places (rw known.eight at in')) tt);
+    })
 added_opens c past old k facts out new known (nowhere far is made) = rw (is, made) (record {
   exchanges = [];
   asks = [];
-  happens = (no_output, run.nowhere far refl, (refl, refl, refl));
+  happens = (no_output, run.nowhere (rw known.eight at far) refl, (refl, refl, refl));
   known = record {
     config = known.config;
     accepted = known.accepted;
     stream = known.stream;
     eight = known.eight;
     conns = conns_known c past old old (moment (http_open k facts) no_output [] []) k known.conns (λ j. refl)
-        (λ j other. refl) (rw (le-ltb k places far, past_none old.conns k (rw known.eight far)) tt);
+        (λ j other. refl) (rw (le-ltb k places (rw known.eight at far), past_none old.conns k far) tt);
   };
 })
 
@@ -298,6 +300,10 @@ connection_behind : (c : ConfigValue) (s : Connection) (after : FrontValue) (b :
 connection_behind c s after true known = tt
 connection_behind c s after false known = known
 
+none_if : (b : Bool) (f : FrontValue) → is_none (if b then None else Some f) ≡ b
+none_if true f = refl
+none_if false f = refl
+
 added_http : (s : Option Connection) (f : Option FrontValue) (c : ConfigValue) (past : List Moment) (old : ProxyValue)
     (k : ℕ) (bytes : List ℕ) (out : OutputValue) (new : ProxyValue) → Known c past old
     → connection_in k past ≡ s → front_at old k ≡ f → ConnectionKnown c s f
@@ -317,10 +323,14 @@ added_http None None c past old k bytes out new known none shut is (told, same) 
 })
 added_http None (Some f) c past old k bytes out new known none up is gives = absurd is
 added_http (Some s) None c past old k bytes out new known some shut is gives = absurd is
-added_http (Some s) (Some f) c past old k bytes out new known some up is (asks, after, http, hears, answers, told, made) =
+added_http (Some s) (Some f) c past old k bytes out new known some up is
+    (http, left, (asks, after, hears, answers, which), told, made) =
     let (whole, front) = front_behind c s f after bytes asks is hears in
     let conn : Option FrontValue = if is_closed after.kept then None else Some after in
-    rw (told, made) (record {
+    let told' : out ≡ http_output http (is_closed after.kept) =
+    told ∙ ap (λ (o : Option FrontValue). http_output http (is_none o)) which
+    ∙ ap (http_output http) (none_if (is_closed after.kept) after) in
+    rw (told', made ∙ ap (with_conn old k) which) (record {
       exchanges = [];
       asks = asks;
       happens = rw some (
@@ -392,7 +402,7 @@ start c = record {
   accepted = none_stands c;
   stream = tt;
   eight = refl;
-  conns = λ k. rw (none_there k) tt;
+  conns = λ k. rw (none_there places k) tt;
 }
 
 pub runs : (c : ConfigValue) (calls : List EventCall) (end : ProxyValue) → CallsDo (new_proxy c) calls end

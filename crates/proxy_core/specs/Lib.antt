@@ -2,6 +2,7 @@ pub mod Events
 pub mod Chain
 pub mod Run
 pub mod Step
+pub mod Worker
 pub mod Proxies
 pub mod Acknowledging
 pub mod Headline

@@ -1,7 +1,7 @@
 -- The effect of one event on a proxy, from the state that the proxy keeps (this project's own).
-use Rattle.std.specs.Prelude.{◌≡◌, ℕ, ◌<◌, ◌≤◌, Bool, true, false, Option, Some, None, List, [], ◌∷◌, slice_get, set, if◌then◌else◌, ⊤}
+use Rattle.std.specs.Prelude.{◌≡◌, ◌⊎◌, ℕ, zero, suc, length, is_none, ◌<◌, ◌≤◌, Bool, false, Option, Some, None, List, [], ◌∷◌, ◌++◌, map, slice_get, set, if◌then◌else◌, ⊤}
 use Rattle.attributes.specs.Conn.{AreFacts, Facts}
-use Rattle.attributes.specs.Limits.{FactsInLimits}
+use Rattle.attributes.specs.Limits.{FactsInLimits, LimitsValue}
 use Rattle.attributes.specs.Request.{RequestValue}
 use Rattle.cel_tree.specs.Checked.{CelChecked}
 use Rattle.rbac_policy.specs.Admission.{IsAdmittedAs}
@@ -11,10 +11,12 @@ use Rattle.rbac_policy.specs.Verdict.{IsVerdict, SomeAsked}
 use Rattle.ads.specs.Config.{ConfigValue}
 use Rattle.ads.specs.Answer.{Accepted, AdmittedValue, first_request}
 use Rattle.ads.specs.Client.{ClientValue, Feeds, IsFrameThen, new_client, stream_down, stream_up}
+use Rattle.http_front.specs.Answer.{answer_of, reply_view}
+use Rattle.proxy_core.specs.declared.told.Told.{Told}
 use Rattle.http_front.specs.Front.{FrontValue, HasNoAsk, fed_front, keeping, new_front}
 use Rattle.http_front.specs.Heads.{TakesAll, is_closed}
 use Rattle.http_front.specs.declared.ask.Ask.{Ask}
-use Rattle.proxy_core.specs.Chain.{AreRepliesTo, VerdictValue}
+use Rattle.proxy_core.specs.Chain.{AreRepliesTo, IsReplyTo, VerdictValue}
 use Rattle.proxy_core.specs.Events.{EventValue, ads_up, ads_bytes, ads_lost, http_open, http_bytes, http_closed, OutputValue, no_output, ads_output, http_output}
 use Rattle.proxy_core.specs.Run.{places}
 
@@ -41,13 +43,18 @@ pub record ProxyValue : Type 0 where
   pub client : ClientValue
   pub conns : List (Option FrontValue)
 
--- the eight places, with no connection open
-abbrev pub nobody : List (Option FrontValue)
-nobody = None ∷ None ∷ None ∷ None ∷ None ∷ None ∷ None ∷ None ∷ []
+-- so many places, with no connection open
+abbrev pub nobody : ℕ → List (Option FrontValue)
+nobody zero = []
+nobody (suc n) = None ∷ nobody n
+
+-- a proxy with so many places, to which nothing has happened
+abbrev pub new_with : ℕ → ConfigValue → ProxyValue
+new_with n c = record { client = new_client c; conns = nobody n }
 
 -- a proxy to which nothing has happened
 abbrev pub new_proxy : ConfigValue → ProxyValue
-new_proxy c = record { client = new_client c; conns = nobody }
+new_proxy c = new_with places c
 
 -- the proxy with another client
 abbrev pub with_client : ProxyValue → ClientValue → ProxyValue
@@ -73,26 +80,48 @@ TakesAds (Some rest) old bytes out new = (replies : List ℕ) × (is_broken : Bo
     × (client : ClientValue) × Feeds old.client bytes replies is_broken versions client
     × (out ≡ ads_output replies is_broken) × (new ≡ with_client old client)
 
--- a connection opens, and takes its place; it is closed if its facts are outside the limits
+-- a connection opens with these facts: its front; none if they are outside the limits
+pub data OpensFront (limits : LimitsValue) (facts : Facts) (front : Option FrontValue) : Type 0 where
+  opened : AreFacts facts → FactsInLimits facts limits → front ≡ Some (new_front limits facts)
+      → OpensFront limits facts front
+  unfit : (FactsInLimits facts limits → ⊥) → front ≡ None → OpensFront limits facts front
+
+-- a connection opens, and takes its place; it is closed if it has no front
 pub data OpensAt (old : ProxyValue) (k : ℕ) (facts : Facts) (out : OutputValue) (new : ProxyValue) : Type 0 where
-  opened : k < places → AreFacts facts → FactsInLimits facts old.client.config.limits → out ≡ no_output
-      → new ≡ with_conn old k (Some (new_front old.client.config.limits facts)) → OpensAt old k facts out new
-  unfit : k < places → (FactsInLimits facts old.client.config.limits → ⊥) → out ≡ http_output [] true
-      → new ≡ with_conn old k None → OpensAt old k facts out new
-  nowhere : places ≤ k → out ≡ no_output → new ≡ old → OpensAt old k facts out new
+  in_place : (front : Option FrontValue) → k < length old.conns → OpensFront old.client.config.limits facts front
+      → out ≡ http_output [] (is_none front) → new ≡ with_conn old k front → OpensAt old k facts out new
+  nowhere : length old.conns ≤ k → out ≡ no_output → new ≡ old → OpensAt old k facts out new
 
 -- the front after the bytes: all asks that they complete were taken
 abbrev pub Hears : FrontValue → List ℕ → List Ask → FrontValue → Type 0
 Hears front bytes asks after = TakesAll front.limits front.facts (fed_front front bytes).kept asks after.kept
     × HasNoAsk after × (after ≡ keeping front after.kept)
 
+-- each answer is one to its ask, and the bytes are the answers, in order
+abbrev pub AreTold : Accepted → List Told → List ℕ → Type 0
+AreTold accepted [] bytes = bytes ≡ []
+AreTold accepted (t ∷ told) bytes = (more : List ℕ)
+    × IsReplyTo DecidesAsWritten AsksAsWritten accepted t.ask (reply_view t.reply)
+    × (bytes ≡ answer_of (reply_view t.reply) ++ more) × AreTold accepted told more
+
+-- a front reads bytes: the asks that they complete with their answers, these as bytes, and the front after them; none if
+-- the connection closes behind the answers
+abbrev pub TellsBytes : Accepted → FrontValue → List ℕ → List Told → List ℕ → Option FrontValue → Type 0
+TellsBytes accepted front bytes told http after = (last : FrontValue) × Hears front bytes (map (λ t. t.ask) told) last
+    × AreTold accepted told http × (after ≡ (if is_closed last.kept then None else Some last))
+
+-- the same, whatever was told
+abbrev pub TakesBytes : Accepted → FrontValue → List ℕ → List ℕ → Option FrontValue → Type 0
+TakesBytes accepted front bytes http after =
+    (asks : List Ask) × (last : FrontValue) × Hears front bytes asks last
+    × AreEnforced accepted asks http × (after ≡ (if is_closed last.kept then None else Some last))
+
 -- bytes of a connection arrive: the front in its place reads them; if there is none, they are dropped
 abbrev pub TakesHttp : Option FrontValue → ProxyValue → ℕ → List ℕ → OutputValue → ProxyValue → Type 0
 TakesHttp None old k bytes out new = (out ≡ no_output) × (new ≡ old)
-TakesHttp (Some front) old k bytes out new = (asks : List Ask) × (after : FrontValue) × (http : List ℕ)
-    × Hears front bytes asks after × AreEnforced old.client.accepted asks http
-    × (out ≡ http_output http (is_closed after.kept))
-    × (new ≡ with_conn old k (if is_closed after.kept then None else Some after))
+TakesHttp (Some front) old k bytes out new = (http : List ℕ) × (after : Option FrontValue)
+    × TakesBytes old.client.accepted front bytes http after × (out ≡ http_output http (is_none after))
+    × (new ≡ with_conn old k after)
 
 -- the effect of an event: its output, and the proxy after it
 abbrev pub StepsBy : ProxyValue → EventValue → OutputValue → ProxyValue → Type 0
@@ -105,11 +134,14 @@ StepsBy old (http_open k facts) out new = OpensAt old k facts out new
 StepsBy old (http_bytes k bytes) out new = TakesHttp (front_at old k) old k bytes out new
 StepsBy old (http_closed k) out new = (out ≡ no_output) × (new ≡ with_conn old k None)
 
--- the events that take no memory: the update stream is lost, and a connection is closed
-abbrev pub TakesNoMemory : EventValue → Type 0
-TakesNoMemory ads_lost = ⊤
-TakesNoMemory (http_closed k) = ⊤
-TakesNoMemory _ = ⊥
+-- the event takes no memory: the stream is lost or is not up; the connection is closed, is not open, or does not open
+abbrev pub TakesNoMemory : ProxyValue → EventValue → Type 0
+TakesNoMemory p ads_up = ⊥
+TakesNoMemory p (ads_bytes bytes) = p.client.stream ≡ None
+TakesNoMemory p ads_lost = ⊤
+TakesNoMemory p (http_open k facts) = (length p.conns ≤ k) ⊎ (FactsInLimits facts p.client.config.limits → ⊥)
+TakesNoMemory p (http_bytes k bytes) = front_at p k ≡ None
+TakesNoMemory p (http_closed k) = ⊤
 
 -- ---- calls
 

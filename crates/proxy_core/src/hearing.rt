@@ -1,55 +1,100 @@
-//! The asks in the bytes of a connection, and the answers.
+//! The front of a connection, the asks in its bytes, and the answers.
 
-ghost use Rattle.std.specs.Prelude.{◌≡◌, List, IfOk, IsOk, OnOk};
+ghost use Rattle.std.specs.Prelude.{◌≡◌, ◌++◌, map, IfOk, IsOk};
+ghost use Rattle.attributes.specs.Conn.{conn_view};
+ghost use Rattle.attributes.specs.Limits.{FactsInLimits};
 ghost use Rattle.ads.specs.Ends.{client_view};
-ghost use Rattle.http_front.specs.Answer.{reply_view};
-ghost use Rattle.http_front.specs.declared.ask.Ask.{Ask};
+ghost use Rattle.http_front.specs.Answer.{answer_of, reply_view};
 ghost use Rattle.proxy_core.specs.Chain.{IsReplyTo};
-ghost use Rattle.proxy_core.specs.Step.{AreEnforced, AsksAsWritten, DecidesAsWritten, Hears};
-ghost use Rattle.proxy_core.specs.steps.Deciding.{AddsReply, AskInLimits, TriesNoFilter};
+ghost use Rattle.proxy_core.specs.Step.{AreTold, AsksAsWritten, DecidesAsWritten, Hears, OpensFront, TellsBytes};
+ghost use Rattle.proxy_core.specs.steps.Fronts.{IsOpenFor};
+ghost use Rattle.proxy_core.specs.steps.Deciding.{AskInLimits, TriesNoFilter};
 
 use crate::chain::judged;
+use crate::told::Told;
 use ads::Client;
+use attributes::Conn;
 use http_front::{Ask, Case, Front, Reply};
 use std::alloc::{AllocError, Global};
 
-/// A copy of the front that has read the bytes, and the answers to the asks that they complete. The given front stays
-/// as it is.
-pub(crate) fn heard(
+/// The front of a new connection with these facts; none if they are outside the limits. Then no memory is taken.
+pub(crate) fn opened(
     alloc: Global,
     client: &Client,
-    front: &Front,
-    bytes: &[u8],
-) -> Result<(Front, Vec<u8>), AllocError>
-    requires { front.now.limits ≡ (client_view client.now).config.limits }
-    ensures { IfOk result (λ r. (asks : List Ask) × Hears front.now bytes.now asks r.0
-        × AreEnforced (client_view client.now).accepted asks r.1.items) }
+    conn: &Conn,
+) -> Result<Option<Front>, AllocError>
+    ensures found { IfOk result
+        (OpensFront (client_view client.now).config.limits (conn_view conn.now)) }
+    ensures fits { IfOk result (IsOpenFor (client_view client.now).config.limits) }
+    ensures unfit { (FactsInLimits (conn_view conn.now) (client_view client.now).config.limits → ⊥)
+        → IsOk result }
 {
-    let mut front = front.copy()?;
+    let limits = *client.config().limits();
+    if !limits.fits_conn(conn) {
+        return Ok(None);
+    }
+    let front = Front::new(alloc, limits, conn.copy()?);
+    Ok(Some(front))
+}
+
+/// The answers to the asks that the bytes complete, and the front that has read them; none if the connection closes
+/// behind the answers. Also the asks with the answers.
+pub(crate) fn taken(
+    alloc: Global,
+    client: &Client,
+    front: Front,
+    bytes: &[u8],
+) -> Result<(Vec<u8>, Option<Front>, Vec<Told>), AllocError>
+    requires { front.limits ≡ (client_view client.now).config.limits }
+    ensures found { IfOk result (λ r.
+        TellsBytes (client_view client.now).accepted front bytes.now r.2.items r.0.items r.1) }
+    ensures fits { IfOk result (λ r. IsOpenFor (client_view client.now).config.limits r.1) }
+{
+    let (front, answers, told) = heard(alloc, client, front, bytes)?;
+    if front.is_closed() {
+        return Ok((answers, None, told));
+    }
+    Ok((answers, Some(front), told))
+}
+
+/// The front that has read the bytes, the answers to the asks that they complete, and the asks with the answers.
+fn heard(
+    alloc: Global,
+    client: &Client,
+    front: Front,
+    bytes: &[u8],
+) -> Result<(Front, Vec<u8>, Vec<Told>), AllocError>
+    requires { front.limits ≡ (client_view client.now).config.limits }
+    ensures { IfOk result (λ r. Hears front bytes.now (map (λ t. t.ask) r.2.items) r.0
+        × AreTold (client_view client.now).accepted r.2.items r.1.items) }
+{
+    let mut front = front;
     front.feed(bytes)?;
     let mut out = Vec::new(alloc);
+    let mut told = Vec::new(alloc);
     while let Some(ask) = front.next()? {
-        put_answer(alloc, client, ask, &mut out)?;
+        let reply = answer_to(alloc, client, &ask, &mut out)?;
+        told.push(Told { ask, reply })?;
     }
-    Ok((front, out))
+    Ok((front, out, told))
 }
 
-/// Appends the answer to an ask, and consumes the ask.
-fn put_answer(alloc: Global, client: &Client, ask: Ask, out: &mut Vec<u8>) -> Result<(), AllocError>
-    requires { AskInLimits (client_view client.now).config.limits ask }
-    ensures { OnOk result (AddsReply (client_view client.now).accepted ask out.old.items out.new.items) }
-{
-    answer_to(alloc, client, &ask, out)
-}
-
-/// Appends the answer to an ask.
-fn answer_to(alloc: Global, client: &Client, ask: &Ask, out: &mut Vec<u8>) -> Result<(), AllocError>
+/// Appends the answer to an ask, and returns it.
+fn answer_to(
+    alloc: Global,
+    client: &Client,
+    ask: &Ask,
+    out: &mut Vec<u8>,
+) -> Result<Reply, AllocError>
     requires { AskInLimits (client_view client.now).config.limits ask.now }
-    ensures { OnOk result (AddsReply (client_view client.now).accepted ask.now out.old.items out.new.items) }
+    ensures is { IfOk result (λ reply. IsReplyTo DecidesAsWritten AsksAsWritten
+        (client_view client.now).accepted ask.now (reply_view reply)) }
+    ensures put { IfOk result (λ reply. out.new.items ≡ out.old.items ++ answer_of (reply_view reply)) }
 {
     let reply = reply_to(alloc, client, ask)?;
     let bytes = Front::answer(alloc, &reply)?;
-    out.extend_from_slice(&bytes)
+    out.extend_from_slice(&bytes)?;
+    Ok(reply)
 }
 
 /// The answer to an ask. If no filter is tried, it takes no memory.

@@ -4,13 +4,13 @@ ghost use Rattle.std.specs.Prelude.{◌≡◌, ◌<◌, [], None, Some, false, t
 ghost use Rattle.attributes.specs.Conn.{conn_view};
 ghost use Rattle.ads.specs.Ends.{client_view};
 ghost use Rattle.http_front.specs.Front.{HasNoAsk, fed_front};
-ghost use Rattle.proxy_core.specs.Events.{ads_output, ads_up, event_view, http_output, no_output, output_view};
+ghost use Rattle.proxy_core.specs.Events.{ads_bytes, ads_output, ads_up, event_view, http_bytes, http_open, http_output, no_output, output_view};
 ghost use Rattle.proxy_core.specs.Proxies.{proxy_view};
 ghost use Rattle.proxy_core.specs.Step.{OpensAt, StepsBy, TakesAds, TakesHttp, TakesNoMemory, front_at, new_proxy, with_conn};
-ghost use Rattle.proxy_core.specs.steps.Fronts.{IsOpenFor, KeepsAt, OpensNothing};
+ghost use Rattle.proxy_core.specs.steps.Fronts.{IsOpenFor, KeepsAt};
 
 use crate::event::{Event, Output};
-use crate::hearing::heard;
+use crate::hearing::{opened, taken};
 use crate::proxy::Proxy;
 use ads::{Client, Config};
 use attributes::Conn;
@@ -80,12 +80,12 @@ impl Proxy {
 
     /// Takes an event, and returns what to send. Bytes and closes of a connection or stream that is not open do
     /// nothing. A request that is completed is judged by what was accepted in earlier events. After an error all is as
-    /// before the call. The loss of the update stream and the closing of a connection take no memory.
+    /// before the call. An event that only loses or closes takes no memory, and neither does one that does nothing.
     pub fn step(&mut self, event: Event<'_>) -> Result<Output, AllocError>
         ensures found { IfOk result (λ out.
             StepsBy (proxy_view self.old) (event_view event.entry) (output_view out) (proxy_view self.new)) }
         ensures fault { OnErr result (proxy_view self.new ≡ proxy_view self.old) }
-        ensures sure { TakesNoMemory (event_view event.entry) → IsOk result }
+        ensures sure { TakesNoMemory (proxy_view self.old) (event_view event.entry) → IsOk result }
     {
         match event {
             Event::AdsUp => self.ads_up(),
@@ -113,11 +113,12 @@ impl Proxy {
         Ok(Output::on_ads(self.alloc, ads, false))
     }
 
-    /// The update stream delivers bytes.
+    /// The update stream delivers bytes. If it is not up, no memory is taken.
     fn ads_bytes(&mut self, bytes: &[u8]) -> Result<Output, AllocError>
         ensures found { IfOk result (λ out. TakesAds (client_view self.old.client).stream (proxy_view self.old) bytes.now
             (output_view out) (proxy_view self.new)) }
         ensures fault { OnErr result (proxy_view self.new ≡ proxy_view self.old) }
+        ensures sure { TakesNoMemory (proxy_view self.old) (ads_bytes bytes.now) → IsOk result }
     {
         if !self.client.is_up() {
             return Ok(Output::none(self.alloc));
@@ -132,26 +133,23 @@ impl Proxy {
         ensures found { IfOk result (λ out.
             OpensAt (proxy_view self.old) k (conn_view conn.now) (output_view out) (proxy_view self.new)) }
         ensures fault { OnErr result (proxy_view self.new ≡ proxy_view self.old) }
-        ensures unfit { OpensNothing (proxy_view self.old) k (conn_view conn.now) → IsOk result }
+        ensures sure { TakesNoMemory (proxy_view self.old) (http_open k (conn_view conn.now)) → IsOk result }
     {
         if k >= PLACES {
             return Ok(Output::none(self.alloc));
         }
-        let limits = *self.client.config().limits();
-        if !limits.fits_conn(conn) {
-            self.put(k, None);
-            return Ok(Output::on_http(self.alloc, Vec::new(self.alloc), true));
-        }
-        let front = Front::new(self.alloc, limits, conn.copy()?);
-        self.put(k, Some(front));
-        Ok(Output::none(self.alloc))
+        let front = opened(self.alloc, &self.client, conn)?;
+        let http_close = front.is_none();
+        self.put(k, front);
+        Ok(Output::on_http(self.alloc, Vec::new(self.alloc), http_close))
     }
 
-    /// A connection delivers bytes.
+    /// A connection delivers bytes. If it is not open, no memory is taken.
     fn http_bytes(&mut self, k: u64, bytes: &[u8]) -> Result<Output, AllocError>
         ensures found { IfOk result (λ out. TakesHttp (front_at (proxy_view self.old) k) (proxy_view self.old) k bytes.now
             (output_view out) (proxy_view self.new)) }
         ensures fault { OnErr result (proxy_view self.new ≡ proxy_view self.old) }
+        ensures sure { TakesNoMemory (proxy_view self.old) (http_bytes k bytes.now) → IsOk result }
     {
         if self.keeps(k, bytes)? {
             return Ok(Output::none(self.alloc));
@@ -159,23 +157,21 @@ impl Proxy {
         let Some(front) = self.front(k) else {
             return Ok(Output::none(self.alloc));
         };
-        let (front, http) = heard(self.alloc, &self.client, front, bytes)?;
-        let http_close = front.is_closed();
-        if http_close {
-            self.put(k, None);
-        } else {
-            self.put(k, Some(front));
-        }
+        let front = front.copy()?;
+        let (http, front, _) = taken(self.alloc, &self.client, front, bytes)?;
+        let http_close = front.is_none();
+        self.put(k, front);
         Ok(Output::on_http(self.alloc, http, http_close))
     }
 
     /// Takes the bytes if the connection is open and they complete no ask, and returns whether it took them. If it did
-    /// not, and after an error, all is as before the call.
+    /// not, and after an error, all is as before the call. If the connection is not open, no memory is taken.
     fn keeps(&mut self, k: u64, bytes: &[u8]) -> Result<bool, AllocError>
         ensures kept { IfOk result (λ kept. MatchBool kept
             (KeepsAt (proxy_view self.old) k bytes.now (proxy_view self.new))
             (proxy_view self.new ≡ proxy_view self.old)) }
         ensures fault { OnErr result (proxy_view self.new ≡ proxy_view self.old) }
+        ensures sure { front_at (proxy_view self.old) k ≡ None → IsOk result }
     {
         let Some(mut front) = self.take(k) else {
             return Ok(false);
@@ -225,7 +221,7 @@ impl Proxy {
 
 /// Feeds a front the bytes if they complete no ask, and returns whether it did. If it did not, and after an error, all
 /// is as before the call.
-fn kept_by(front: &mut Front, bytes: &[u8]) -> Result<bool, AllocError>
+pub(crate) fn kept_by(front: &mut Front, bytes: &[u8]) -> Result<bool, AllocError>
     ensures kept { IfOk result (λ kept. MatchBool kept
         (HasNoAsk (fed_front front.old bytes.now) × (front.new ≡ fed_front front.old bytes.now))
         (front.new ≡ front.old)) }

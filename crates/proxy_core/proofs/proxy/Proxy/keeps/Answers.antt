@@ -1,7 +1,7 @@
-use Rattle.std.proofs.Common.{◌≡◌, sym, ◌∙◌, Some}
+use Rattle.std.proofs.Common.{◌≡◌, refl, sym, ◌∙◌, Some}
 use Rattle.proxy_core.specs.Proxies.{proxy_view}
 use Rattle.proxy_core.specs.Step.{front_at}
-use Rattle.proxy_core.proofs.Parts.{kept, kept_none, kept_not}
+use Rattle.proxy_core.proofs.Parts.{kept, kept_none, kept_not, not_none}
 use Rattle.proxy_core.proofs.proxy.Proxy.keeps.Goals as goal
 
 pub returns-in_default-clause-kept : goal.returns-in_default-clause-kept
@@ -24,3 +24,8 @@ returns-clause-fault c =
     kept_not (proxy_view c.args.self.now) (proxy_view c.take.new.self) (proxy_view c.put.new.self) c.args.k
     c.take.ensures.left c.in-Some.front c.kept_by-kept.new.front there c.in-Some.ensures.fits.1 c.put.ensures.put
     c.kept_by-kept.result c.kept_by-kept.ensures.fault
+
+pub returns-clause-sure : goal.returns-clause-sure
+returns-clause-sure c = λ none.
+    absurd (not_none (proxy_view c.args.self.now) (proxy_view c.args.self.now) c.args.k c.in-Some.front refl
+    (sym c.take.ensures.taken ∙ c.in-Some.is) none)
