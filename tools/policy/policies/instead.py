@@ -1,5 +1,5 @@
 """What to write instead of what the profile leaves out, and what messages look like, by Envoy's names."""
-OWN_HEADER = "let the proxy put it into a header that it removes from what clients send, and match the header"
+OWN_HEADER = "let the proxy put it into a header, which it removes from what clients send, and match the header"
 INSTEAD = {
     "metadata": f"the engine has no metadata of other filters: {OWN_HEADER}",
     "sourced_metadata": f"the engine has no metadata of other filters: {OWN_HEADER}",

@@ -197,7 +197,7 @@ class Notes(unittest.TestCase):
                 "in quotes (9 UnknownName)",
                 "filter.yaml:12:15: note: the engine skips shadow_rules",
                 "filter.yaml:5:19: the engine does not support metadata: the engine has no metadata of other filters: let the "
-                "proxy put it into a header that it removes from what clients send, and match the header (6 Unsupported)",
+                "proxy put it into a header, which it removes from what clients send, and match the header (6 Unsupported)",
             ],
         )
 
