@@ -1,0 +1,161 @@
+//! The bytes that wait to be sent on a stream.
+ghost use Rattle.std.specs.Prelude.{◌≡◌, ◌≢◌, ◌≤◌, ◌<◌, ◌↔◌, ◌⊎◌, ◌++◌, [], drop, length, vec_len, IsTrue, OnErr, OnOk};
+ghost use Rattle.rbac_serve.specs.Sending.{Sends};
+
+use std::alloc::{AllocError, Global};
+use std::io::{self, ErrorKind, Write};
+use std::marker::Model;
+
+/// How a write of waiting bytes ended.
+#[derive(Clone, Copy, PartialEq, Eq, Debug)]
+pub enum Sent {
+    /// No bytes wait any more.
+    All,
+    /// The stream took the first bytes of those that wait.
+    Part,
+    /// The stream takes none at present.
+    Blocked,
+    /// The stream takes no more.
+    Lost,
+}
+
+/// The bytes that wait to be sent on a stream. They are sent in the order in which they were put.
+#[derive(Drop)]
+pub struct Outbox {
+    bytes: Vec<u8>,
+    // how many of them were sent
+    sent: usize,
+}
+
+impl Model for Outbox {
+    ghost use Rattle.std.specs.Prelude.{◌≤◌, ℕ, List, drop, vec_len};
+
+    ghost Value = { List ℕ };
+
+    ghost view = { λ outbox. drop outbox.sent outbox.bytes.items };
+
+    ghost invariant = { λ outbox. outbox.sent ≤ vec_len outbox.bytes };
+}
+
+impl Outbox {
+    /// An outbox in which no bytes wait. It takes no memory.
+    pub fn new(alloc: Global) -> Outbox
+        ensures { result ≡ [] }
+    {
+        Outbox {
+            bytes: Vec::new(alloc),
+            sent: 0,
+        }
+    }
+
+    /// An outbox in which these bytes wait. It takes no memory.
+    pub fn of(bytes: Vec<u8>) -> Outbox
+        ensures { result ≡ bytes.items }
+    {
+        Outbox { bytes, sent: 0 }
+    }
+
+    /// How many bytes wait.
+    pub fn len(&self) -> usize
+        ensures { result ≡ length self.now }
+    {
+        self.bytes.len() - self.sent
+    }
+
+    /// Whether no bytes wait.
+    pub fn is_empty(&self) -> bool
+        ensures { IsTrue result ↔ (self.now ≡ []) }
+    {
+        self.len() == 0
+    }
+
+    /// Puts bytes after those that wait. After an error all is as before the call.
+    pub fn put(&mut self, bytes: &[u8]) -> Result<(), AllocError>
+        ensures whole { OnOk result (self.new ≡ self.old ++ bytes.now) }
+        ensures fault { OnErr result (self.new ≡ self.old) }
+    {
+        append(&mut self.bytes, &mut self.sent, bytes)
+    }
+
+    /// The same with bytes of the caller's, which are not copied if no others wait.
+    pub fn add(&mut self, bytes: Vec<u8>) -> Result<(), AllocError>
+        ensures whole { OnOk result (self.new ≡ self.old ++ bytes.items) }
+        ensures fault { OnErr result (self.new ≡ self.old) }
+    {
+        if self.is_empty() {
+            *self = Outbox::of(bytes);
+            return Ok(());
+        }
+        self.put(&bytes)
+    }
+
+    /// Forgets the bytes that wait. It takes no memory.
+    pub fn clear(&mut self)
+        ensures { self.new ≡ [] }
+    {
+        self.bytes.clear();
+        self.sent = 0;
+    }
+
+    /// Writes once, if bytes wait. What the stream took, and after it what waits, is what waited before.
+    pub fn send<W: Write>(&mut self, stream: &mut W) -> Sent
+        ensures order { Sends (W.contents stream.old) (W.contents stream.new) self.old self.new }
+        ensures all { (result ≡ Sent.All) ↔ (self.new ≡ []) }
+        ensures part { result ≡ Sent.Part → length self.new < length self.old }
+        ensures none { (result ≡ Sent.Blocked) ⊎ (result ≡ Sent.Lost) → self.new ≡ self.old }
+    {
+        let rest = &self.bytes[self.sent..];
+        if rest.is_empty() {
+            return Sent::All;
+        }
+        match stream.write(rest) {
+            Ok(0) => Sent::Lost,
+            Ok(count) => self.forget(count),
+            Err(error) => ended_by(&error),
+        }
+    }
+
+    /// The first bytes of those that wait were sent.
+    fn forget(&mut self, count: usize) -> Sent
+        requires { (0 < count) × (count ≤ length self.old) }
+        ensures left { self.new ≡ drop count self.old }
+        ensures is { ((result ≡ Sent.All) × (self.new ≡ []))
+            ⊎ ((result ≡ Sent.Part) × (self.new ≢ []) × (length self.new < length self.old)) }
+    {
+        self.sent += count;
+        if self.sent < self.bytes.len() {
+            return Sent::Part;
+        }
+        self.clear();
+        Sent::All
+    }
+}
+
+/// How a write ended that failed with this error.
+fn ended_by(error: &io::Error) -> Sent
+    ensures { (result ≡ Sent.Blocked) ⊎ (result ≡ Sent.Lost) }
+{
+    match error.kind() {
+        ErrorKind::WouldBlock | ErrorKind::Interrupted => Sent::Blocked,
+        _ => Sent::Lost,
+    }
+}
+
+/// Puts bytes after those from a place on. Once most of the earlier bytes were sent, these are dropped.
+fn append(bytes: &mut Vec<u8>, at: &mut usize, more: &[u8]) -> Result<(), AllocError>
+    requires { at.old ≤ vec_len bytes.old }
+    ensures within { at.new ≤ vec_len bytes.new }
+    ensures found { OnOk result (drop at.new bytes.new.items ≡ drop at.old bytes.old.items ++ more.now) }
+    ensures fault { OnErr result ((at.new ≡ at.old) × (bytes.new.items ≡ bytes.old.items)) }
+{
+    if *at <= bytes.len() / 2 {
+        return bytes.extend_from_slice(more);
+    }
+    let rest = &bytes[*at..];
+    let mut both = Vec::with_capacity(*bytes.allocator(), rest.len().saturating_add(more.len()))?;
+    both.extend_from_slice(rest)?;
+    both.extend_from_slice(more)?;
+    *bytes = both;
+    *at = 0;
+    Ok(())
+}

@@ -1,0 +1,60 @@
+//! What a server is set to.
+ghost use Rattle.std.specs.Prelude.{◌≡◌, ◌≤◌, ◌+◌, ◌*◌, ◌↔◌, IsSomeAnd, IsTrue, min};
+
+/// How a server is set. All times are in milliseconds.
+#[derive(Clone, Copy, Debug)]
+pub struct Settings {
+    /// How many bytes wait for a connection before its requests are no longer read.
+    pub pending: usize,
+    /// How long a request takes at most, from its first byte until it is complete.
+    pub head: u64,
+    /// How long a connection stays open that is not used.
+    pub idle: u64,
+    /// How long a stream may take none of the bytes that wait for it.
+    pub write: u64,
+    /// How long connections are served once the server is to end.
+    pub drain: u64,
+    /// How long to wait before the first connection to a control plane that was lost is tried again.
+    pub first_backoff: u64,
+    /// How long to wait at most before a further try.
+    pub greatest_backoff: u64,
+    /// How long the update stream is not read after a response was refused.
+    pub nack_pause: u64,
+    /// How long the first response of an update stream takes at most.
+    pub first_response: u64,
+}
+
+/// The time of a turn, with how the server is set.
+#[derive(Clone, Copy, Debug)]
+pub(crate) struct Moment {
+    pub(crate) settings: Settings,
+    /// The milliseconds since a fixed time.
+    pub(crate) now: u64,
+}
+
+/// Whether so much time has passed.
+pub(crate) fn has_passed(since: u64, time: u64, now: u64) -> bool
+    ensures { IsTrue result ↔ (since + time ≤ now) }
+{
+    since <= now && now - since >= time
+}
+
+/// Whether so much time has passed since a time, if there is one.
+pub(crate) fn passed_since(since: Option<u64>, time: u64, now: u64) -> bool
+    ensures { IsTrue result ↔ IsSomeAnd since (λ begun. begun + time ≤ now) }
+{
+    match since {
+        Some(begun) => has_passed(begun, time, now),
+        None => false,
+    }
+}
+
+/// The time to wait after one that was waited in vain: twice as long, up to the greatest.
+pub(crate) fn longer(wait: u64, greatest: u64) -> u64
+    ensures { result ≡ min (2 * wait) greatest }
+{
+    if wait > greatest / 2 {
+        return greatest;
+    }
+    2 * wait
+}
