@@ -173,7 +173,7 @@ class Mistakes(Room):
         self.file("none.yaml", "tests: []\npolcy: x\n")
         status, out, errors = self.ask("bad.yaml", "good.yaml", "none.yaml")
         self.assertEqual((status, out.decode().splitlines()[-1].split(": ")[1]), (1, "1 passed, 0 failed, 2 not run"))
-        for words in ["bad.yaml:2:1: this is no YAML", "none.yaml:1:8: a file of tests has a list", "none.yaml:2:1: a file"]:
+        for words in ["bad.yaml:1:8: this bracket is not closed", "none.yaml:1:8: a file of tests has a list", "none.yaml:2:1: a file"]:
             self.assertIn(words, errors)
         status, out, errors = self.ask("gone.yaml", "good.yaml", "--junit", "t.xml")
         self.assertEqual((status, errors), (2, "policy: cannot read gone.yaml: No such file or directory\n"))
