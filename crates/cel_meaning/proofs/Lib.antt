@@ -1,3 +1,5 @@
-pub mod OriginSteps
-pub mod PlainSteps
+mod FunctionErrors
+mod Good
+mod Meaning
 mod OriginLaws
+pub mod PlainSteps

@@ -1,376 +1,188 @@
--- Laws of the part that an error is from: it is the same error, and every error has such a part.
-use Rattle.std.proofs.Common.{◌≡◌, ℕ, Bool, true, false, cond, is_some, List, [], ◌∷◌, Option, Some, None, option_map, refl, sym, ap, ◌∙◌}
+-- The part at which an error begins is the same error, it is found again in itself, and every error has one.
+use Rattle.std.proofs.Common.{◌≡◌, ◌+◌, ℕ, Bool, true, false, is_some, List, [], ◌∷◌, map, Option, Some, None, option_map, refl, sym, ap, ◌∙◌}
 use Rattle.std.specs.Option.{option_and_then}
 use Rattle.attributes.specs.Request.{RequestValue}
-use Rattle.attributes.specs.declared.attribute.AttrId.{AttrId}
-use Rattle.cel_value.specs.Values.{CelAnswer, CelValue, CelValues, bool, fails, value}
+use Rattle.cel_value.specs.Values.{CelAnswer, bool, fails, list, value}
 use Rattle.cel_value.specs.declared.error.CelError.{CelError}
-use Rattle.cel_ops.specs.Attributes.{attribute, attribute_type}
-use Rattle.cel_ops.specs.Logic.{conjunction, disjunction, not_strictly_false}
-use Rattle.cel_ops.specs.Strict.{first_error, gather, gathered_after, strict_all}
-use Rattle.cel_ops.specs.declared.arithmetic.ArithmeticOp.TheVariants.{Add}
-use Rattle.cel_overload.specs.Answers.{conditional, function_answer, on_one, on_two}
+use Rattle.cel_ops.specs.Collections as collections
+use Rattle.cel_ops.specs.steps.Gathering.{some_error}
 use Rattle.cel_overload.specs.Functions.{function_named}
-use Rattle.cel_overload.specs.declared.function.Function.{Function}
-use Rattle.cel_overload.specs.declared.function.Function.TheVariants as functions
 use Rattle.cel_tree.specs.Tree.{CelTree, constant, ident, select, call, list_literal, map_literal, comprehension, CelTarget, no_target, target, CelTrees, no_trees, tree, CelTreeEntries, no_tree_entries, tree_entry}
-use Rattle.cel_types.specs.Attributes.{attribute_named}
-use Rattle.cel_types.specs.Meaning.{before, eval, eval_each, eval_entries, eval_target, over, select_answer}
-use Rattle.cel_types.specs.Names.{root_of, variables_of}
+use Rattle.cel_types.specs.Meaning.{call_answer, name_answer, select_answer, turns_of}
+use Rattle.cel_types.specs.Names.{local, root_of, variable_names, variables_of}
 use Rattle.cel_types.specs.declared.typed.Variables.{Variables}
-use Rattle.cel_types.proofs.Total.{typed_no_root}
-use Rattle.cel_meaning.specs.Origin.{by_condition, choice_origin, entries_origin, first, first_origin, from, from_inner, is_choice, is_error, origin, target_origin}
+use Rattle.cel_meaning.specs.Origin.{CelAround, CelPlace, CelPlaced, answers_of, bare, call_place, first_place, in_result, in_turn, place_of, placed, placed_before, placed_each, placed_entries, placed_fold, placed_over, placed_target, placed_turn, select_place, settled}
+use Rattle.cel_meaning.specs.Places.{is_error, place_around}
+use Rattle.cel_meaning.proofs.Meaning.{all_answers, answer_of, around_answers, local_answers}
+use Rattle.cel_meaning.proofs.Good.{AllFound, AllGood, IsGood, bare_answer, bare_around, bare_found, bare_local, bare_root_of, call_error, call_some, call_within, each_again, entries_again, first_some, literal_within, local_found, name_within, no_place, own_again, own_place, same_good, select_within, settled_good, target_again, turn_found, value_good, with_place}
 
--- ---- an expression has an origin if and only if it is an error
+-- ---- comprehensions
 
-from_some : (r : RequestValue) (t : CelTree) (inner : Option CelTree) → is_some (from r t inner) ≡ is_error (eval t r [])
-from_some r t inner = at (is_error (eval t r [])) inner
+abbrev Gives : RequestValue → Option CelPlaced → Type 0
+Gives r o = (a : CelPlaced) → o ≡ Some a → IsGood r a
+
+turn_good : (r : RequestValue) (condition step : Option CelPlaced) (next : CelPlaced → Option CelPlaced) (ended : Option CelPlaced)
+    → Gives r condition → Gives r step → ((a : CelPlaced) → IsGood r a → Gives r (next a)) → Gives r ended
+    → Gives r (placed_turn condition step next ended)
+turn_good r None step next ended on_condition on_step on_next on_ended a is = absurd cc
+turn_good r (Some (fails e, p)) step next ended on_condition on_step on_next on_ended a is = on_condition a is
+turn_good r (Some (value (bool true), p)) None next ended on_condition on_step on_next on_ended a is = absurd cc
+turn_good r (Some (value (bool true), p)) (Some b) next ended on_condition on_step on_next on_ended a is =
+    on_next b (on_step b refl) a is
+turn_good r (Some (value (bool false), p)) step next ended on_condition on_step on_next on_ended a is = on_ended a is
+turn_good r (Some (value _, p)) step next ended on_condition on_step on_next on_ended a is = absurd cc
+
+fold_good : (r : RequestValue) (condition step : ℕ → List CelAnswer → CelPlaced → Option CelPlaced)
+    (result : CelPlaced → Option CelPlaced)
+    → ((n : ℕ) (vs : List CelAnswer) (a : CelPlaced) → IsGood r a → Gives r (condition n vs a))
+    → ((n : ℕ) (vs : List CelAnswer) (a : CelPlaced) → IsGood r a → Gives r (step n vs a))
+    → ((a : CelPlaced) → IsGood r a → Gives r (result a))
+    → (turns : List (List CelAnswer)) (n : ℕ) (a : CelPlaced) → IsGood r a → Gives r (placed_fold condition step result n turns a)
+fold_good r condition step result on_condition on_step on_result [] n a good = on_result a good
+fold_good r condition step result on_condition on_step on_result (vs ∷ turns) n a good =
+    turn_good r (condition n vs a) (step n vs a) (placed_fold condition step result (n + 1) turns) (result a)
+    (on_condition n vs a good) (on_step n vs a good)
+    (fold_good r condition step result on_condition on_step on_result turns (n + 1)) (on_result a good)
+
+over_good : (r : RequestValue) (variables : Variables) (range : Option CelPlaced) (go : List (List CelAnswer) → Option CelPlaced)
+    → Gives r range → ((turns : List (List CelAnswer)) → Gives r (go turns)) → Gives r (placed_over variables range go)
+over_good r variables None go on_range on_go a is = absurd cc
+over_good r variables (Some (fails e, p)) go on_range on_go a is = on_range a is
+over_good r variables (Some (value v, p)) go on_range on_go a is = at (turns_of variables v) is
   where
-    at : (b : Bool) (inner : Option CelTree) → is_some (cond b (from_inner t inner) None) ≡ b
-    at false inner = refl
-    at true None = refl
-    at true (Some part) = refl
+    at : (o : Option (List (List CelAnswer))) → option_and_then go o ≡ Some a → IsGood r a
+    at None is = absurd cc
+    at (Some turns) is = on_go turns a is
 
-pub origin_some : (r : RequestValue) (t : CelTree) → is_some (origin r t) ≡ is_error (eval t r [])
-origin_some r (constant id v) = refl
-origin_some r (ident id name) = from_some r (ident id name) None
-origin_some r (select id operand name test_only) = from_some r (select id operand name test_only) (origin r operand)
-origin_some r (call id name on args) = from_some r (call id name on args)
-    (cond (is_choice (function_named name)) (choice_origin r args) (first (target_origin r on) (first_origin r args)))
-origin_some r (list_literal id elements) = from_some r (list_literal id elements) (first_origin r elements)
-origin_some r (map_literal id entries) = from_some r (map_literal id entries) (entries_origin r entries)
-origin_some r (comprehension id x y acc range init condition step result) =
-    from_some r (comprehension id x y acc range init condition step result) (origin r range)
-
-origin_error : (r : RequestValue) (t part : CelTree) → origin r t ≡ Some part → is_error (eval t r []) ≡ true
-origin_error r t part is = sym (origin_some r t) ∙ ap is_some is
-
--- ---- if a call of a function, not a choice, is an error and so is an operand, it is the error of the leftmost such operand
-
-one_error : (f : CelAnswer → Option CelAnswer)
-    → ((e : CelError) → is_error (f (fails e)) ≡ true → f (fails e) ≡ Some (fails e))
-    → (answers : List CelAnswer) (e : CelError) → gather answers ≡ first_error e
-    → is_error (on_one f answers) ≡ true → on_one f answers ≡ Some (fails e)
-one_error f passes [] e leftmost is = absurd cc
-one_error f passes (fails d ∷ []) e leftmost is =
-    let same : d ≡ e = cc in passes d is ∙ ap (λ d. Some (fails d)) same
-one_error f passes (value v ∷ []) e leftmost is = absurd cc
-one_error f passes (a ∷ b ∷ answers) e leftmost is = absurd cc
-
-two_error : (f : CelAnswer → CelAnswer → Option CelAnswer)
-    → ((e : CelError) (b : CelAnswer) → is_error (f (fails e) b) ≡ true → f (fails e) b ≡ Some (fails e))
-    → ((v : CelValue) (e : CelError) → is_error (f (value v) (fails e)) ≡ true → f (value v) (fails e) ≡ Some (fails e))
-    → (answers : List CelAnswer) (e : CelError) → gather answers ≡ first_error e
-    → is_error (on_two f answers) ≡ true → on_two f answers ≡ Some (fails e)
-two_error f left right [] e leftmost is = absurd cc
-two_error f left right (a ∷ []) e leftmost is = absurd cc
-two_error f left right (fails d ∷ b ∷ []) e leftmost is =
-    let same : d ≡ e = cc in left d b is ∙ ap (λ d. Some (fails d)) same
-two_error f left right (value v ∷ fails d ∷ []) e leftmost is =
-    let same : d ≡ e = cc in right v d is ∙ ap (λ d. Some (fails d)) same
-two_error f left right (value v ∷ value w ∷ []) e leftmost is = absurd cc
-two_error f left right (a ∷ b ∷ c ∷ answers) e leftmost is = absurd cc
-
-left_of_and : (e : CelError) (b : CelAnswer) → is_error (conjunction (fails e) b) ≡ true → conjunction (fails e) b ≡ Some (fails e)
-left_of_and e (fails d) is = refl
-left_of_and e (value (bool true)) is = refl
-left_of_and e (value (bool false)) is = absurd cc
-left_of_and e (value _) is = absurd cc
-
-right_of_and : (v : CelValue) (e : CelError) → is_error (conjunction (value v) (fails e)) ≡ true
-    → conjunction (value v) (fails e) ≡ Some (fails e)
-right_of_and (bool true) e is = refl
-right_of_and (bool false) e is = absurd cc
-right_of_and _ e is = absurd cc
-
-left_of_or : (e : CelError) (b : CelAnswer) → is_error (disjunction (fails e) b) ≡ true → disjunction (fails e) b ≡ Some (fails e)
-left_of_or e (fails d) is = refl
-left_of_or e (value (bool true)) is = absurd cc
-left_of_or e (value (bool false)) is = refl
-left_of_or e (value _) is = absurd cc
-
-right_of_or : (v : CelValue) (e : CelError) → is_error (disjunction (value v) (fails e)) ≡ true
-    → disjunction (value v) (fails e) ≡ Some (fails e)
-right_of_or (bool true) e is = absurd cc
-right_of_or (bool false) e is = refl
-right_of_or _ e is = absurd cc
-
-function_error : (f : Function) → is_choice (Some f) ≡ false → (answers : List CelAnswer) (e : CelError)
-    → gather answers ≡ first_error e → is_error (function_answer f answers) ≡ true
-    → function_answer f answers ≡ Some (fails e)
-function_error functions.And other = two_error conjunction left_of_and right_of_and
-function_error functions.Or other = two_error disjunction left_of_or right_of_or
-function_error functions.Not other = one_error _ (λ e is. refl)
-function_error functions.NotStrictlyFalse other = one_error not_strictly_false (λ e is. absurd cc)
-function_error functions.Conditional other = absurd cc
-function_error functions.Negate other = one_error _ (λ e is. refl)
-function_error functions.Size other = one_error _ (λ e is. refl)
-function_error functions.ToInt other = one_error _ (λ e is. refl)
-function_error functions.ToUint other = one_error _ (λ e is. refl)
-function_error functions.ToText other = one_error _ (λ e is. refl)
-function_error functions.ToBytes other = one_error _ (λ e is. refl)
-function_error (functions.Arithmetic Add) other = two_error _ (λ e b is. refl) (λ v e is. refl)
-function_error (functions.Arithmetic _) other = two_error _ (λ e b is. refl) (λ v e is. refl)
-function_error _ other = two_error _ (λ e b is. refl) (λ v e is. refl)
-
--- ---- parts of calls and of literals
-
--- the part is an error, the leftmost of these answers
-abbrev IsLeftmost : RequestValue → CelTree → List CelAnswer → Type 0
-IsLeftmost r part answers = (e : CelError) × (eval part r [] ≡ Some (fails e)) × (gather answers ≡ first_error e)
-
-before_leftmost : (r : RequestValue) (here rest : Option CelTree) (a : Option CelAnswer) (others : Option (List CelAnswer))
-    → is_some here ≡ is_error a
-    → ((part : CelTree) → here ≡ Some part → eval part r [] ≡ a)
-    → ((part : CelTree) (answers : List CelAnswer) → rest ≡ Some part → others ≡ Some answers → IsLeftmost r part answers)
-    → (part : CelTree) (answers : List CelAnswer) → first here rest ≡ Some part → before a others ≡ Some answers
-    → IsLeftmost r part answers
-before_leftmost r here rest None others some mine more part answers is have = absurd cc
-before_leftmost r here rest (Some a) None some mine more part answers is have = absurd cc
-before_leftmost r None rest (Some (fails e)) (Some after) some mine more part answers is have = absurd cc
-before_leftmost r None rest (Some (value v)) (Some after) some mine more part answers is have =
-    let whole : value v ∷ after ≡ answers = cc in
-    let found = more part after is refl in
-    (found.0, found.1, ap gather (sym whole) ∙ ap (gathered_after v) found.2)
-before_leftmost r (Some own) rest (Some (fails e)) (Some after) some mine more part answers is have =
-    let whole : fails e ∷ after ≡ answers = cc in
-    (e, mine part is, ap gather (sym whole))
-before_leftmost r (Some own) rest (Some (value v)) (Some after) some mine more part answers is have = absurd cc
-
-literal_error : (r : RequestValue) (part : CelTree) (make : CelValues → Option CelAnswer) (operands : Option (List CelAnswer))
-    → ((answers : List CelAnswer) → operands ≡ Some answers → IsLeftmost r part answers)
-    → is_error (option_and_then (λ answers. strict_all make (gather answers)) operands) ≡ true
-    → eval part r [] ≡ option_and_then (λ answers. strict_all make (gather answers)) operands
-literal_error r part make None leftmost is = absurd cc
-literal_error r part make (Some answers) leftmost is =
-    let found = leftmost answers refl in found.1 ∙ sym (ap (strict_all make) found.2)
-
--- the answer of a function, if there is one
-abbrev answer_of : Option Function → Option (List CelAnswer) → Option CelAnswer
-answer_of f operands = option_and_then (λ f. option_and_then (function_answer f) operands) f
-
-call_error : (r : RequestValue) (part : CelTree) (f : Option Function) (operands : Option (List CelAnswer)) (chosen other : Option CelTree)
-    → (chosen ≡ Some part → is_error (option_and_then conditional operands) ≡ true
-    → eval part r [] ≡ option_and_then conditional operands)
-    → ((answers : List CelAnswer) → other ≡ Some part → operands ≡ Some answers → IsLeftmost r part answers)
-    → cond (is_choice f) chosen other ≡ Some part
-    → is_error (answer_of f operands) ≡ true → eval part r [] ≡ answer_of f operands
-call_error r part None operands chosen other choice leftmost is error = absurd cc
-call_error r part (Some functions.Conditional) operands chosen other choice leftmost is error = choice is error
-call_error r part (Some f) None chosen other choice leftmost is error = absurd cc
-call_error r part (Some f) (Some answers) chosen other choice leftmost is error =
-    let found = leftmost answers is refl in
-    found.1 ∙ sym (function_error f refl answers found.0 found.2 error)
-
--- ---- parts of choices
-
--- no choice has four operands
-four_operands : (a b c d : Option CelAnswer)
-    → is_error (option_and_then conditional (before a (before b (before c (before d (Some [])))))) ≡ false
-four_operands None b c d = refl
-four_operands (Some a) None c d = refl
-four_operands (Some a) (Some b) None d = refl
-four_operands (Some a) (Some b) (Some c) None = refl
-four_operands (Some (value (bool true))) (Some b) (Some c) (Some d) = refl
-four_operands (Some (value (bool false))) (Some b) (Some c) (Some d) = refl
-four_operands (Some (value _)) (Some b) (Some c) (Some d) = refl
-four_operands (Some (fails e)) (Some b) (Some c) (Some d) = refl
-
-choice_error : (r : RequestValue) (part : CelTree) (condition a b : Option CelAnswer) (on_condition on_true on_false : Option CelTree)
-    → (on_condition ≡ Some part → eval part r [] ≡ condition)
-    → (on_true ≡ Some part → eval part r [] ≡ a) → (on_false ≡ Some part → eval part r [] ≡ b)
-    → by_condition condition on_condition on_true on_false ≡ Some part
-    → is_error (option_and_then conditional (before condition (before a (before b (Some []))))) ≡ true
-    → eval part r [] ≡ option_and_then conditional (before condition (before a (before b (Some []))))
-choice_error r part None a b on_condition on_true on_false own first second is error = absurd cc
-choice_error r part (Some condition) None b on_condition on_true on_false own first second is error = absurd cc
-choice_error r part (Some condition) (Some a) None on_condition on_true on_false own first second is error = absurd cc
-choice_error r part (Some (value (bool true))) (Some a) (Some b) on_condition on_true on_false own first second is error = first is
-choice_error r part (Some (value (bool false))) (Some a) (Some b) on_condition on_true on_false own first second is error = second is
-choice_error r part (Some (value _)) (Some a) (Some b) on_condition on_true on_false own first second is error = absurd cc
-choice_error r part (Some (fails e)) (Some a) (Some b) on_condition on_true on_false own first second is error = own is
-
--- ---- parts of Selects and of comprehensions
-
--- what is an error is no root
-error_no_root : (r : RequestValue) (t : CelTree) → is_error (eval t r []) ≡ true → root_of {A = CelAnswer} t [] ≡ None
-error_no_root r (ident id name) is = at (attribute_named name) refl is
-  where
-    at : (o : Option AttrId) → attribute_named name ≡ o → is_error (option_map (attribute r) o) ≡ true
-        → root_of {A = CelAnswer} (ident id name) [] ≡ None
-    at None named is = absurd cc
-    at (Some a) named is = ap (λ root. cond root (Some name) None)
-        (typed_no_root name [] (attribute_type a) (ap (option_map attribute_type) named))
-error_no_root r _ is = refl
-
-field_error : (r : RequestValue) (name : List ℕ) (test_only : Bool) (operand : Option CelAnswer) → is_error operand ≡ true
-    → operand ≡ select_answer r None operand name test_only
-field_error r name test_only None is = absurd cc
-field_error r name test_only (Some (value v)) is = absurd cc
-field_error r name false (Some (fails e)) is = refl
-field_error r name true (Some (fails e)) is = refl
-
-select_error : (r : RequestValue) (operand : CelTree) (name : List ℕ) (test_only : Bool) → is_error (eval operand r []) ≡ true
-    → eval operand r [] ≡ select_answer r (root_of {A = CelAnswer} operand []) (eval operand r []) name test_only
-select_error r operand name test_only is =
-    rw (error_no_root r operand is) (field_error r name test_only (eval operand r []) is)
-
-range_error : (variables : Variables) (range : Option CelAnswer) (go : List (List CelAnswer) → Option CelAnswer)
-    → is_error range ≡ true → range ≡ over variables range go
-range_error variables None go is = absurd cc
-range_error variables (Some (value v)) go is = absurd cc
-range_error variables (Some (fails e)) go is = refl
+then_good : (r : RequestValue) (f : CelPlaced → Option CelPlaced) → ((a : CelPlaced) → IsGood r a → Gives r (f a))
+    → (o : Option CelPlaced) → Gives r o → Gives r (option_and_then f o)
+then_good r f on_next None on a is = absurd cc
+then_good r f on_next (Some b) on a is = on_next b (on b refl) a is
 
 -- ---- expressions
 
-from_same : (r : RequestValue) (t part : CelTree) (inner : Option CelTree)
-    → ((p : CelTree) → inner ≡ Some p → is_error (eval t r []) ≡ true → eval p r [] ≡ eval t r [])
-    → from r t inner ≡ Some part → eval part r [] ≡ eval t r []
-from_same r t part inner same is = at (is_error (eval t r [])) refl inner same is
-  where
-    at : (b : Bool) → is_error (eval t r []) ≡ b → (inner : Option CelTree)
-        → ((p : CelTree) → inner ≡ Some p → is_error (eval t r []) ≡ true → eval p r [] ≡ eval t r [])
-        → cond b (from_inner t inner) None ≡ Some part → eval part r [] ≡ eval t r []
-    at false error inner same is = absurd cc
-    at true error None same is = let own : t ≡ part = cc in ap (λ t. eval t r []) (sym own)
-    at true error (Some p) same is = same part is error
+abbrev GiveAll : RequestValue → Option (List CelPlaced) → Type 0
+GiveAll r o = (os : List CelPlaced) → o ≡ Some os → AllGood r os
+
+before_good : (r : RequestValue) (a : Option CelPlaced) (rest : Option (List CelPlaced)) → Gives r a → GiveAll r rest
+    → GiveAll r (placed_before a rest)
+before_good r None rest on all os is = absurd cc
+before_good r (Some a) None on all os is = absurd cc
+before_good r (Some a) (Some rest) on all os is =
+    let same : os ≡ a ∷ rest = cc in rw same (on a refl, all rest refl)
+
+-- an expression of operands: if it is its own place, it is so again without the places of locals
+operands_own : (r : RequestValue) (t : CelTree) (c : CelAround) (answer : List CelAnswer → Option CelAnswer)
+    (place : List CelPlaced → Option CelPlace) (due : List CelAnswer → Bool)
+    → ((os : List CelPlaced) → AllGood r os → is_some (place os) ≡ due (map (λ a. a.0) os))
+    → (os : List CelPlaced) → AllGood r os → (again : Option (List CelPlaced)) → GiveAll r again
+    → all_answers again ≡ Some (map (λ a. a.0) os) → (e : CelError) → answer (map (λ a. a.0) os) ≡ Some (fails e)
+    → place os ≡ None
+    → option_and_then (λ os. settled t (bare_around c) (answer (map (λ a. a.0) os)) (place os)) again
+    ≡ own_place t c e (answers_of c.locals)
+operands_own r t c answer place due some os all None again_all same e error none = absurd cc
+operands_own r t c answer place due some os all (Some again) again_all same e error none =
+    let answers : map (λ a. a.0) again ≡ map (λ a. a.0) os = cc in
+    let no : due (map (λ a. a.0) os) ≡ false = sym (some os all) ∙ ap is_some none in
+    own_again t c (answer (map (λ a. a.0) again)) (place again) e (ap answer answers ∙ error)
+    (no_place (place again) (due (map (λ a. a.0) again)) (some again (again_all again refl)) (ap due answers ∙ no))
+
+operands_good : (r : RequestValue) (t : CelTree) (c : CelAround) (answer : List CelAnswer → Option CelAnswer)
+    (place : List CelPlaced → Option CelPlace) (due : List CelAnswer → Bool)
+    → ((os : List CelPlaced) → AllGood r os → is_some (place os) ≡ due (map (λ a. a.0) os))
+    → ((os : List CelPlaced) → AllGood r os → (e : CelError) (p : CelPlace) → answer (map (λ a. a.0) os) ≡ Some (fails e)
+    → place os ≡ Some p → placed r (place_around p) p.part ≡ with_place (fails e) (Some p))
+    → (os again : Option (List CelPlaced)) → GiveAll r os → GiveAll r again → all_answers again ≡ all_answers os
+    → placed r (bare_around c) t ≡ option_and_then (λ os. settled t (bare_around c) (answer (map (λ a. a.0) os)) (place os)) again
+    → Gives r (option_and_then (λ os. settled t c (answer (map (λ a. a.0) os)) (place os)) os)
+operands_good r t c answer place due some within None again all again_all same whole a is = absurd cc
+operands_good r t c answer place due some within (Some os) again all again_all same whole a is =
+    settled_good r t c (answer (map (λ a. a.0) os)) (place os)
+    (λ e error none. whole ∙ operands_own r t c answer place due some os (all os refl) again again_all same e error none)
+    (λ e p error found. within os (all os refl) e p error found) a is
+
+-- the place of the operand of a Select, again
+select_own : (r : RequestValue) (root again_root : Option (List ℕ)) (o again : Option CelPlaced) → again_root ≡ root
+    → answer_of again ≡ answer_of o → Gives r o → Gives r again → select_place root o ≡ None
+    → select_place again_root again ≡ None
+select_own r (Some root) again_root o again same_root same good again_good none = rw same_root refl
+select_own r None again_root None None same_root same good again_good none = rw same_root refl
+select_own r None again_root None (Some b) same_root same good again_good none = absurd cc
+select_own r None again_root (Some a) None same_root same good again_good none = absurd cc
+select_own r None again_root (Some a) (Some b) same_root same good again_good none =
+    let answers : b.0 ≡ a.0 = cc in
+    let no : is_error a.0 ≡ false = sym (good a refl).0 ∙ ap is_some none in
+    rw same_root (no_place b.1 (is_error b.0) (again_good b refl).0 (ap is_error answers ∙ no))
 
 mutual
-  pub origin_same : (r : RequestValue) (t part : CelTree) → origin r t ≡ Some part → eval part r [] ≡ eval t r []
-  origin_same r (constant id v) part is = absurd cc
-  origin_same r (ident id name) part is = from_same r (ident id name) part None (λ p none. absurd cc) is
-  origin_same r (select id operand name test_only) part is =
-      from_same r (select id operand name test_only) part (origin r operand)
-      (λ p inner error. origin_same r operand p inner
-      ∙ select_error r operand name test_only (origin_error r operand p inner)) is
-  origin_same r (call id name on args) part is =
-      from_same r (call id name on args) part
-      (cond (is_choice (function_named name)) (choice_origin r args) (first (target_origin r on) (first_origin r args)))
-      (λ p. call_error r p (function_named name) (eval_target on r [] (eval_each args r [])) (choice_origin r args)
-      (first (target_origin r on) (first_origin r args))
-      (choice_same r args on p)
-      (operands_leftmost r on (first_origin r args) (eval_each args r []) (each_leftmost r args) p)) is
-  origin_same r (list_literal id elements) part is =
-      from_same r (list_literal id elements) part (first_origin r elements)
-      (λ p inner. literal_error r p _ (eval_each elements r []) (λ answers. each_leftmost r elements p answers inner)) is
-  origin_same r (map_literal id entries) part is =
-      from_same r (map_literal id entries) part (entries_origin r entries)
-      (λ p inner. literal_error r p _ (eval_entries entries r []) (λ answers. entries_leftmost r entries p answers inner)) is
-  origin_same r (comprehension id x y acc range init condition step result) part is =
-      from_same r (comprehension id x y acc range init condition step result) part (origin r range)
-      (λ p inner error. origin_same r range p inner
-      ∙ range_error (variables_of y) (eval range r []) _ (origin_error r range p inner)) is
+  pub placed_good : (r : RequestValue) (c : CelAround) (t : CelTree) → AllFound r c.locals → Gives r (placed r c t)
+  placed_good r c (constant id v) all a is = same_good r (bare (value v)) a is (value_good r v)
+  placed_good r c (ident id name) all a is =
+      settled_good r (ident id name) c (name_answer r name (answer_of (local name c.locals))) (place_of (local name c.locals))
+      (λ e error none. own_again (ident id name) c (name_answer r name (answer_of (local name (bare_around c).locals)))
+      (place_of (local name (bare_around c).locals)) e
+      (ap (name_answer r name) (local_answers name (bare_around c).locals
+      ∙ (ap (local name) (around_answers (answers_of c.locals)) ∙ sym (local_answers name c.locals))) ∙ error)
+      (bare_local name (answers_of c.locals)))
+      (name_within r name (local name c.locals) (local_found r name c.locals all)) a is
+  placed_good r c (select id operand name test_only) all a is =
+      settled_good r (select id operand name test_only) c
+      (select_answer r (root_of operand c.locals) (answer_of (placed r c operand)) name test_only)
+      (select_place (root_of operand c.locals) (placed r c operand))
+      (λ e error none. own_again (select id operand name test_only) c
+      (select_answer r (root_of operand (bare_around c).locals) (answer_of (placed r (bare_around c) operand)) name test_only)
+      (select_place (root_of operand (bare_around c).locals) (placed r (bare_around c) operand)) e
+      (ap (λ root. select_answer r root (answer_of (placed r (bare_around c) operand)) name test_only) (bare_root_of operand c)
+      ∙ (ap (λ o. select_answer r (root_of operand c.locals) o name test_only) (bare_answer r c operand) ∙ error))
+      (select_own r (root_of operand c.locals) (root_of operand (bare_around c).locals) (placed r c operand) (placed r (bare_around c) operand)
+      (bare_root_of operand c) (bare_answer r c operand) (placed_good r c operand all)
+      (placed_good r (bare_around c) operand (bare_found r (answers_of c.locals))) none))
+      (select_within r (root_of operand c.locals) (placed r c operand) name test_only (placed_good r c operand all)) a is
+  placed_good r c (call id name on args) all a is =
+      operands_good r (call id name on args) c (λ answers. call_answer name (Some answers)) (call_place (function_named name))
+      (call_error (function_named name)) (call_some r (function_named name)) (call_within r (function_named name))
+      (placed_target r c on (placed_each r c args)) (placed_target r (bare_around c) on (placed_each r (bare_around c) args))
+      (target_good r c on all (placed_each r c args) (each_good r c args all))
+      (target_good r (bare_around c) on (bare_found r (answers_of c.locals)) (placed_each r (bare_around c) args)
+      (each_good r (bare_around c) args (bare_found r (answers_of c.locals))))
+      (target_again r c on (placed_each r (bare_around c) args) (placed_each r c args) (each_again r c args)) refl a is
+  placed_good r c (list_literal id elements) all a is =
+      operands_good r (list_literal id elements) c collections.list_literal first_place some_error (first_some r)
+      (literal_within r (λ vs. Some (value (list vs)))) (placed_each r c elements) (placed_each r (bare_around c) elements) (each_good r c elements all)
+      (each_good r (bare_around c) elements (bare_found r (answers_of c.locals))) (each_again r c elements) refl a is
+  placed_good r c (map_literal id entries) all a is =
+      operands_good r (map_literal id entries) c collections.map_literal first_place some_error (first_some r)
+      (literal_within r (λ vs. option_map collections.map_made_of (collections.written_entries vs))) (placed_entries r c entries) (placed_entries r (bare_around c) entries) (entries_good r c entries all)
+      (entries_good r (bare_around c) entries (bare_found r (answers_of c.locals))) (entries_again r c entries) refl a is
+  placed_good r c (comprehension id x y acc range init condition step result) all a is =
+      over_good r (variables_of y) (placed r c range)
+      (λ turns. option_and_then (placed_fold (λ n vs a. placed r (in_turn x y acc n vs a c) condition)
+      (λ n vs a. placed r (in_turn x y acc n vs a c) step) (λ a. placed r (in_result acc a c) result) 0 turns) (placed r c init))
+      (placed_good r c range all)
+      (λ turns. then_good r (placed_fold (λ n vs a. placed r (in_turn x y acc n vs a c) condition)
+      (λ n vs a. placed r (in_turn x y acc n vs a c) step) (λ a. placed r (in_result acc a c) result) 0 turns)
+      (fold_good r (λ n vs a. placed r (in_turn x y acc n vs a c) condition)
+      (λ n vs a. placed r (in_turn x y acc n vs a c) step) (λ a. placed r (in_result acc a c) result)
+      (λ n vs a good. placed_good r (in_turn x y acc n vs a c) condition
+      (turn_found r (variable_names x y) vs ((acc, a) ∷ c.locals) (good.1, all)))
+      (λ n vs a good. placed_good r (in_turn x y acc n vs a c) step
+      (turn_found r (variable_names x y) vs ((acc, a) ∷ c.locals) (good.1, all)))
+      (λ a good. placed_good r (in_result acc a c) result (good.1, all)) turns 0)
+      (placed r c init) (placed_good r c init all)) a is
 
-  operands_leftmost : (r : RequestValue) (on : CelTarget) (rest : Option CelTree) (others : Option (List CelAnswer))
-      → ((part : CelTree) (answers : List CelAnswer) → rest ≡ Some part → others ≡ Some answers → IsLeftmost r part answers)
-      → (part : CelTree) (answers : List CelAnswer) → first (target_origin r on) rest ≡ Some part
-      → eval_target on r [] others ≡ Some answers → IsLeftmost r part answers
-  operands_leftmost r no_target rest others more = more
-  operands_leftmost r (target t) rest others more =
-      before_leftmost r (origin r t) rest (eval t r []) others (origin_some r t) (origin_same r t) more
+  target_good : (r : RequestValue) (c : CelAround) (on : CelTarget) → AllFound r c.locals → (os : Option (List CelPlaced))
+      → GiveAll r os → GiveAll r (placed_target r c on os)
+  target_good r c no_target all os good = good
+  target_good r c (target t) all os good = before_good r (placed r c t) os (placed_good r c t all) good
 
-  each_leftmost : (r : RequestValue) (ts : CelTrees) (part : CelTree) (answers : List CelAnswer) → first_origin r ts ≡ Some part
-      → eval_each ts r [] ≡ Some answers → IsLeftmost r part answers
-  each_leftmost r no_trees part answers is have = absurd cc
-  each_leftmost r (tree t ts) part answers is have =
-      before_leftmost r (origin r t) (first_origin r ts) (eval t r []) (eval_each ts r []) (origin_some r t) (origin_same r t)
-      (each_leftmost r ts) part answers is have
+  each_good : (r : RequestValue) (c : CelAround) (ts : CelTrees) → AllFound r c.locals → GiveAll r (placed_each r c ts)
+  each_good r c no_trees all os is = let same : os ≡ [] = cc in rw same tt
+  each_good r c (tree t ts) all os is =
+      before_good r (placed r c t) (placed_each r c ts) (placed_good r c t all) (each_good r c ts all) os is
 
-  entries_leftmost : (r : RequestValue) (es : CelTreeEntries) (part : CelTree) (answers : List CelAnswer)
-      → entries_origin r es ≡ Some part → eval_entries es r [] ≡ Some answers → IsLeftmost r part answers
-  entries_leftmost r no_tree_entries part answers is have = absurd cc
-  entries_leftmost r (tree_entry id key v es) part answers is have =
-      before_leftmost r (origin r key) (first (origin r v) (entries_origin r es)) (eval key r [])
-      (before (eval v r []) (eval_entries es r [])) (origin_some r key) (origin_same r key)
-      (before_leftmost r (origin r v) (entries_origin r es) (eval v r []) (eval_entries es r []) (origin_some r v)
-      (origin_same r v) (entries_leftmost r es)) part answers is have
-
-  choice_same : (r : RequestValue) (args : CelTrees) (on : CelTarget) (part : CelTree) → choice_origin r args ≡ Some part
-      → is_error (option_and_then conditional (eval_target on r [] (eval_each args r []))) ≡ true
-      → eval part r [] ≡ option_and_then conditional (eval_target on r [] (eval_each args r []))
-  choice_same r (tree condition (tree a (tree b no_trees))) no_target part is error =
-      choice_error r part (eval condition r []) (eval a r []) (eval b r []) (origin r condition) (origin r a) (origin r b)
-      (origin_same r condition part) (origin_same r a part) (origin_same r b part) is error
-  choice_same r (tree condition (tree a (tree b no_trees))) (target t) part is error =
-      let none = four_operands (eval t r []) (eval condition r []) (eval a r []) (eval b r []) in
-      let clash : false ≡ true = sym none ∙ error in absurd cc
-  choice_same r _ on part is error = absurd cc
-
--- ---- the part has no inner part that is an error
-
-from_innermost : (r : RequestValue) (t part : CelTree) (inner : Option CelTree)
-    → ((p : CelTree) → inner ≡ Some p → origin r p ≡ Some p)
-    → from r t inner ≡ Some part → origin r t ≡ Some part → origin r part ≡ Some part
-from_innermost r t part inner within is own = at (is_error (eval t r [])) inner within is
-  where
-    at : (b : Bool) (inner : Option CelTree) → ((p : CelTree) → inner ≡ Some p → origin r p ≡ Some p)
-        → cond b (from_inner t inner) None ≡ Some part → origin r part ≡ Some part
-    at false inner within is = absurd cc
-    at true None within is = let same : t ≡ part = cc in ap (origin r) (sym same) ∙ own
-    at true (Some p) within is = within part is
-
-first_innermost : (r : RequestValue) (here rest : Option CelTree)
-    → ((p : CelTree) → here ≡ Some p → origin r p ≡ Some p) → ((p : CelTree) → rest ≡ Some p → origin r p ≡ Some p)
-    → (part : CelTree) → first here rest ≡ Some part → origin r part ≡ Some part
-first_innermost r None rest mine more part is = more part is
-first_innermost r (Some own) rest mine more part is = mine part is
-
-chosen_innermost : (r : RequestValue) (condition : Option CelAnswer) (on_condition on_true on_false : Option CelTree)
-    → ((p : CelTree) → on_condition ≡ Some p → origin r p ≡ Some p)
-    → ((p : CelTree) → on_true ≡ Some p → origin r p ≡ Some p) → ((p : CelTree) → on_false ≡ Some p → origin r p ≡ Some p)
-    → (part : CelTree) → by_condition condition on_condition on_true on_false ≡ Some part → origin r part ≡ Some part
-chosen_innermost r (Some (value (bool true))) on_condition on_true on_false own first second part is = first part is
-chosen_innermost r (Some (value (bool false))) on_condition on_true on_false own first second part is = second part is
-chosen_innermost r _ on_condition on_true on_false own first second part is = own part is
-
-either_innermost : (r : RequestValue) (b : Bool) (chosen other : Option CelTree)
-    → ((p : CelTree) → chosen ≡ Some p → origin r p ≡ Some p) → ((p : CelTree) → other ≡ Some p → origin r p ≡ Some p)
-    → (part : CelTree) → cond b chosen other ≡ Some part → origin r part ≡ Some part
-either_innermost r true chosen other on_chosen on_other part is = on_chosen part is
-either_innermost r false chosen other on_chosen on_other part is = on_other part is
-
-mutual
-  pub origin_innermost : (r : RequestValue) (t part : CelTree) → origin r t ≡ Some part → origin r part ≡ Some part
-  origin_innermost r (constant id v) part is = absurd cc
-  origin_innermost r (ident id name) part is =
-      from_innermost r (ident id name) part None (λ p none. absurd cc) is is
-  origin_innermost r (select id operand name test_only) part is =
-      from_innermost r (select id operand name test_only) part (origin r operand) (origin_innermost r operand) is is
-  origin_innermost r (call id name on args) part is =
-      from_innermost r (call id name on args) part
-      (cond (is_choice (function_named name)) (choice_origin r args) (first (target_origin r on) (first_origin r args)))
-      (either_innermost r (is_choice (function_named name)) (choice_origin r args)
-      (first (target_origin r on) (first_origin r args)) (choice_innermost r args)
-      (first_innermost r (target_origin r on) (first_origin r args) (target_innermost r on) (each_innermost r args))) is is
-  origin_innermost r (list_literal id elements) part is =
-      from_innermost r (list_literal id elements) part (first_origin r elements) (each_innermost r elements) is is
-  origin_innermost r (map_literal id entries) part is =
-      from_innermost r (map_literal id entries) part (entries_origin r entries) (entries_innermost r entries) is is
-  origin_innermost r (comprehension id x y acc range init condition step result) part is =
-      from_innermost r (comprehension id x y acc range init condition step result) part (origin r range)
-      (origin_innermost r range) is is
-
-  target_innermost : (r : RequestValue) (on : CelTarget) (part : CelTree) → target_origin r on ≡ Some part
-      → origin r part ≡ Some part
-  target_innermost r no_target part is = absurd cc
-  target_innermost r (target t) part is = origin_innermost r t part is
-
-  each_innermost : (r : RequestValue) (ts : CelTrees) (part : CelTree) → first_origin r ts ≡ Some part
-      → origin r part ≡ Some part
-  each_innermost r no_trees part is = absurd cc
-  each_innermost r (tree t ts) part is =
-      first_innermost r (origin r t) (first_origin r ts) (origin_innermost r t) (each_innermost r ts) part is
-
-  entries_innermost : (r : RequestValue) (es : CelTreeEntries) (part : CelTree) → entries_origin r es ≡ Some part
-      → origin r part ≡ Some part
-  entries_innermost r no_tree_entries part is = absurd cc
-  entries_innermost r (tree_entry id key v es) part is =
-      first_innermost r (origin r key) (first (origin r v) (entries_origin r es)) (origin_innermost r key)
-      (first_innermost r (origin r v) (entries_origin r es) (origin_innermost r v) (entries_innermost r es)) part is
-
-  choice_innermost : (r : RequestValue) (args : CelTrees) (part : CelTree) → choice_origin r args ≡ Some part
-      → origin r part ≡ Some part
-  choice_innermost r (tree condition (tree a (tree b no_trees))) part is =
-      chosen_innermost r (eval condition r []) (origin r condition) (origin r a) (origin r b)
-      (origin_innermost r condition) (origin_innermost r a) (origin_innermost r b) part is
-  choice_innermost r _ part is = absurd cc
+  entries_good : (r : RequestValue) (c : CelAround) (es : CelTreeEntries) → AllFound r c.locals
+      → GiveAll r (placed_entries r c es)
+  entries_good r c no_tree_entries all os is = let same : os ≡ [] = cc in rw same tt
+  entries_good r c (tree_entry id key v es) all os is =
+      before_good r (placed r c key) (placed_before (placed r c v) (placed_entries r c es)) (placed_good r c key all)
+      (before_good r (placed r c v) (placed_entries r c es) (placed_good r c v all) (entries_good r c es all)) os is

@@ -1,6 +1,6 @@
 -- What the single steps of the plain evaluator come to.
-use Rattle.std.proofs.Common.{◌≡◌, ◌<◌, ◌+◌, ◌&&◌, ℕ, IsTrue, true, false, List, [], ◌∷◌, ◌++◌, drop, length, get_or, map, Option, Some, None, option_map, is_some, refl, sym, ap, ◌∙◌}
-use Rattle.std.proofs.lemmas.List.{append_assoc, append-nil, drop_more}
+use Rattle.std.proofs.Common.{◌≡◌, ◌<◌, ◌+◌, ◌&&◌, ℕ, ℤ, IsTrue, true, false, List, [], ◌∷◌, ◌++◌, drop, length, get_or, map, Option, Some, None, option_map, is_some, refl, sym, ap, ◌∙◌}
+use Rattle.std.proofs.lemmas.List.{append_assoc, append-nil, drop_more, map-append}
 use Rattle.std.specs.FinMap.{entries, entries-from_sorted, from_sorted, is_sorted}
 use Rattle.std.specs.declared.alloc.Global.{Global}
 use Rattle.std.specs.declared.rc.RcStr.{RcStr}
@@ -11,7 +11,8 @@ use Rattle.cel_ops.specs.Attributes.{header_entries}
 use Rattle.cel_ops.specs.Collections.{entry_before, map_literal, written_entries}
 use Rattle.cel_ops.specs.steps.Gathering.{some_error}
 use Rattle.cel_ops.specs.Strict.{all_values, gather, gathered_after}
-use Rattle.cel_tree.specs.Tree.{CelTarget, no_target, target}
+use Rattle.cel_overload.specs.Functions.{function_named}
+use Rattle.cel_tree.specs.Tree.{CelTarget, CelTrees, call, no_target, target}
 use Rattle.cel_tree.specs.View.{LoopParts, tree_view}
 use Rattle.cel_tree.specs.steps.TreeViews.{tree_entries_view, trees_view}
 use Rattle.cel_tree.specs.declared.tree.Tree.{Tree}
@@ -19,16 +20,14 @@ use Rattle.cel_tree.specs.declared.tree.TreeEntry.{TreeEntry}
 use Rattle.cel_value.specs.Items.{item_at, joined_items}
 use Rattle.cel_value.specs.Keys.{key_of_value}
 use Rattle.cel_value.specs.Values.{CelKey, CelValue, CelValues, no_items, item, CelEntries, CelAnswer, fails, value}
-use Rattle.cel_value.specs.View.{pairs_view, value_view, values_view}
+use Rattle.cel_value.specs.View.{answer_view, pairs_view, value_view, values_view}
 use Rattle.cel_value.specs.declared.value.Value.{Value}
-use Rattle.std.specs.Option.{option_and_then}
-use Rattle.cel_overload.specs.Answers.{function_answer}
-use Rattle.cel_overload.specs.Functions.{function_named}
-use Rattle.cel_overload.specs.declared.function.Function.{Function}
-use Rattle.cel_types.specs.Meaning.{Locals, before, call_answer, eval, eval_each, eval_entries, eval_target, turn}
-use Rattle.cel_types.specs.Names.{turn_scope}
 use Rattle.cel_meaning.specs.declared.elements.Turn.{Turn}
-use Rattle.cel_meaning.specs.steps.Plain.{are_pairs, behind, turn_view, turns}
+use Rattle.cel_types.specs.Meaning.{call_answer}
+use Rattle.cel_meaning.specs.Origin.{CelAround, CelPlaced, call_place, in_result, placed, placed_before, placed_each, placed_entries, placed_target, placed_turn, settled}
+use Rattle.cel_meaning.specs.Places.{placed_view}
+use Rattle.cel_meaning.specs.declared.place.Placed.{Placed}
+use Rattle.cel_meaning.specs.steps.Plain.{are_pairs, behind, turn_around, turn_view, turns}
 use Rattle.cel_ops.proofs.Operands.{gather_error as erring}
 pub use Rattle.cel_value.proofs.Items.{ranged, is_ranged, at_ranged, joined_none, some_left}
 use Rattle.cel_ops.proofs.AttributeTypes.{seen_pairs}
@@ -82,16 +81,16 @@ no_more vs items at (item w rest, is) =
 -- ---- turns of a comprehension
 
 -- the turns that are left: the next one, and those behind it
-pub next_turn : (p : LoopParts) (request : RequestValue) (ls : Locals) (each : List Turn) (i : ℕ)
-    (t : Turn) (a : CelAnswer) → i < length each → t ≡ get_or each i t
-    → turns p request ls (map turn_view (drop i each)) a
-    ≡ turn (eval p.loop_condition request (turn_scope p.iter_var p.iter_var2 p.accu_var (turn_view t) a ls))
-    (eval p.loop_step request (turn_scope p.iter_var p.iter_var2 p.accu_var (turn_view t) a ls))
-    (turns p request ls (map turn_view (drop (i + 1) each)))
-    (eval p.result request ((p.accu_var, a) ∷ ls))
-next_turn p request ls each i t a within here =
+pub next_turn : (p : LoopParts) (r : RequestValue) (c : CelAround) (each : List Turn) (i : ℕ)
+    (t : Turn) (a : CelPlaced) → i < length each → t ≡ get_or each i t
+    → turns p r c i (map turn_view (drop i each)) a
+    ≡ placed_turn (placed r (turn_around p c i (turn_view t) a) p.loop_condition)
+    (placed r (turn_around p c i (turn_view t) a) p.loop_step)
+    (turns p r c (i + 1) (map turn_view (drop (i + 1) each)))
+    (placed r (in_result p.accu_var a c) p.result)
+next_turn p r c each i t a within here =
     let first : drop i each ≡ t ∷ drop (i + 1) each = rw (← here) at (drop_more each i t within) in
-    ap (λ ts. turns p request ls (map turn_view ts) a) first
+    ap (λ ts. turns p r c i (map turn_view ts) a) first
 
 -- ---- map literals
 
@@ -133,66 +132,77 @@ pairs_made answers none =
 
 -- ---- expressions one after the other
 
-pub behind_more : (answers : List CelAnswer) (a : CelAnswer) (o : Option (List CelAnswer))
-    → behind answers (before (Some a) o) ≡ behind (answers ++ a ∷ []) o
-behind_more answers a None = refl
-behind_more answers a (Some others) = ap Some (sym (append_assoc answers (a ∷ []) others))
+pub behind_more : (operands : List CelPlaced) (a : CelPlaced) (o : Option (List CelPlaced))
+    → behind operands (placed_before (Some a) o) ≡ behind (operands ++ a ∷ []) o
+behind_more operands a None = refl
+behind_more operands a (Some others) = ap Some (sym (append_assoc operands (a ∷ []) others))
 
-pub behind_end : (answers : List CelAnswer) → behind answers (Some []) ≡ Some answers
-behind_end answers = ap Some (append-nil answers)
+pub two_more : (operands : List Placed) (a b : Placed) (o : Option (List CelPlaced))
+    → behind (map placed_view operands) (placed_before (Some (placed_view a)) (placed_before (Some (placed_view b)) o))
+    ≡ behind (map placed_view ((operands ++ a ∷ []) ++ b ∷ [])) o
+two_more operands a b o =
+    behind_more (map placed_view operands) (placed_view a) (placed_before (Some (placed_view b)) o)
+    ∙ (behind_more (map placed_view operands ++ placed_view a ∷ []) (placed_view b) o
+    ∙ ap (λ l. behind l o) (sym (map-append placed_view (operands ++ a ∷ []) (b ∷ [])
+    ∙ ap (λ l. l ++ placed_view b ∷ []) (map-append placed_view operands (a ∷ [])))))
 
-pub behind_nothing : (o : Option (List CelAnswer)) → behind [] o ≡ o
+pub behind_end : (operands : List CelPlaced) → behind operands (Some []) ≡ Some operands
+behind_end operands = ap Some (append-nil operands)
+
+pub behind_nothing : (o : Option (List CelPlaced)) → behind [] o ≡ o
 behind_nothing None = refl
-behind_nothing (Some answers) = refl
+behind_nothing (Some operands) = refl
 
-before_one : (a : CelAnswer) (o : Option (List CelAnswer)) → before (Some a) o ≡ behind (a ∷ []) o
+pub before_one : (a : CelPlaced) (o : Option (List CelPlaced)) → placed_before (Some a) o ≡ behind (a ∷ []) o
 before_one a None = refl
-before_one a (Some answers) = refl
+before_one a (Some operands) = refl
 
--- what a target comes to stands before the other operands
-pub target_before : (t : CelTarget) (request : RequestValue) (ls : Locals) (answers : List CelAnswer)
-    → Some answers ≡ eval_target t request ls (Some []) → (o : Option (List CelAnswer))
-    → eval_target t request ls o ≡ behind answers o
-target_before no_target request ls answers is o =
-    let none : answers ≡ [] = cc in rw none (sym (behind_nothing o))
-target_before (target on) request ls answers is o = at (eval on request ls) is
-  where
-    at : (a : Option CelAnswer) → Some answers ≡ before a (Some []) → before a o ≡ behind answers o
-    at None some = absurd (let no : Some answers ≡ None = some in cc)
-    at (Some a) some = let one : answers ≡ a ∷ [] = cc in rw one (before_one a o)
+pub next_tree : (ts : List Tree) (i : ℕ) (d : Tree) (r : RequestValue) (c : CelAround)
+    → i < length ts → d ≡ get_or ts i d
+    → placed_each r c (trees_view (drop i ts))
+    ≡ placed_before (placed r c (tree_view d)) (placed_each r c (trees_view (drop (i + 1) ts)))
+next_tree ts i d r c within is =
+    ap (λ l. placed_each r c (trees_view l))
+    (drop_more ts i d within ∙ ap (λ t. t ∷ drop (i + 1) ts) (sym is))
 
--- one that comes to nothing leaves the call without an answer
-pub target_none : (t : CelTarget) (request : RequestValue) (ls : Locals)
-    → None ≡ eval_target t request ls (Some []) → (o : Option (List CelAnswer))
-    → eval_target t request ls o ≡ None
-target_none no_target request ls is o = absurd (let no : None ≡ Some [] = is in cc)
-target_none (target on) request ls is o = at (eval on request ls) is
+pub next_entry : (es : List TreeEntry) (i : ℕ) (d : TreeEntry) (r : RequestValue) (c : CelAround)
+    → i < length es → d ≡ get_or es i d
+    → placed_entries r c (tree_entries_view (drop i es))
+    ≡ placed_before (placed r c (tree_view d.key)) (placed_before (placed r c (tree_view d.value))
+    (placed_entries r c (tree_entries_view (drop (i + 1) es))))
+next_entry es i d r c within is =
+    ap (λ l. placed_entries r c (tree_entries_view l))
+    (drop_more es i d within ∙ ap (λ t. t ∷ drop (i + 1) es) (sym is))
+
+-- the operands of a call are its target's, and then the others
+pub target_before : (on : CelTarget) (r : RequestValue) (c : CelAround) (operands : List CelPlaced)
+    → Some operands ≡ placed_target r c on (Some []) → (o : Option (List CelPlaced))
+    → placed_target r c on o ≡ behind operands o
+target_before no_target r c operands is o =
+    let none : operands ≡ [] = cc in rw none (sym (behind_nothing o))
+target_before (target on) r c operands is o = at (placed r c on) is
   where
-    at : (a : Option CelAnswer) → None ≡ before a (Some []) → before a o ≡ None
+    at : (a : Option CelPlaced) → Some operands ≡ placed_before a (Some []) → placed_before a o ≡ behind operands o
+    at None some = absurd (let no : Some operands ≡ None = some in cc)
+    at (Some a) some = let one : operands ≡ a ∷ [] = cc in rw one (before_one a o)
+
+-- a target without a meaning leaves the call without one
+pub target_none : (on : CelTarget) (r : RequestValue) (c : CelAround)
+    → None ≡ placed_target r c on (Some []) → (o : Option (List CelPlaced)) → placed_target r c on o ≡ None
+target_none no_target r c is o = absurd (let no : None ≡ Some [] = is in cc)
+target_none (target on) r c is o = at (placed r c on) is
+  where
+    at : (a : Option CelPlaced) → None ≡ placed_before a (Some []) → placed_before a o ≡ None
     at None none = refl
     at (Some a) none = absurd (let no : None ≡ Some (a ∷ []) = none in cc)
 
--- a call of operands that come to nothing comes to nothing
-pub no_call : (name : List ℕ) → call_answer name None ≡ None
-no_call name = at (function_named name)
-  where
-    at : (f : Option Function) → option_and_then (λ g. option_and_then (function_answer g) None) f ≡ None
-    at None = refl
-    at (Some g) = refl
+-- an answer is seen the same with its place and without
+pub seen_answer : (found : Option Placed) → option_map (λ a. answer_view a.answer) found
+    ≡ option_map (λ a. a.0) (option_map placed_view found)
+seen_answer None = refl
+seen_answer (Some a) = refl
 
-pub next_tree : (ts : List Tree) (i : ℕ) (d : Tree) (request : RequestValue) (ls : Locals)
-    → i < length ts → d ≡ get_or ts i d
-    → eval_each (trees_view (drop i ts)) request ls
-    ≡ before (eval (tree_view d) request ls) (eval_each (trees_view (drop (i + 1) ts)) request ls)
-next_tree ts i d request ls within is =
-    ap (λ l. eval_each (trees_view l) request ls)
-    (drop_more ts i d within ∙ ap (λ t. t ∷ drop (i + 1) ts) (sym is))
-
-pub next_entry : (es : List TreeEntry) (i : ℕ) (d : TreeEntry) (request : RequestValue) (ls : Locals)
-    → i < length es → d ≡ get_or es i d
-    → eval_entries (tree_entries_view (drop i es)) request ls
-    ≡ before (eval (tree_view d.key) request ls) (before (eval (tree_view d.value) request ls)
-    (eval_entries (tree_entries_view (drop (i + 1) es)) request ls))
-next_entry es i d request ls within is =
-    ap (λ l. eval_entries (tree_entries_view l) request ls)
-    (drop_more es i d within ∙ ap (λ t. t ∷ drop (i + 1) es) (sym is))
+-- the answer of a call on these operands
+abbrev pub called : ℤ → (name : List ℕ) → CelTarget → CelTrees → CelAround → List CelPlaced → Option CelPlaced
+called id name on args c operands = settled (call id name on args) c (call_answer name (Some (map (λ a. a.0) operands)))
+    (call_place (function_named name) operands)

@@ -1,2 +1,3 @@
 pub mod Origin
+pub mod Places
 pub mod steps

@@ -7,10 +7,10 @@ ghost use Rattle.cel_tree.specs.View.{constant_view};
 ghost use Rattle.cel_value.specs.Texts.{points_of, text_view};
 ghost use Rattle.cel_value.specs.View.{answer_view, value_view};
 ghost use Rattle.cel_types.specs.Meaning.{attribute_answer, name_answer};
-ghost use Rattle.cel_types.specs.Names.{joined_name, local};
-ghost use Rattle.cel_meaning.specs.steps.Plain.{locals_view};
+ghost use Rattle.cel_types.specs.Names.{joined_name};
+ghost use Rattle.cel_meaning.specs.Places.{placed_view};
 
-use crate::known::find;
+use crate::place::Placed;
 use attributes::{AttrId, AttrValue, Request};
 use cel_tree::Constant;
 use cel_types::{attribute_named, joined_name};
@@ -31,17 +31,17 @@ pub(super) fn constant_value(constant: &Constant) -> Result<Value, AllocError>
     }
 }
 
-/// The answer of a name: of the innermost local of that name, or of the attribute.
+/// The answer of a name: of the local of that name, if there is one, or of the attribute.
 pub(super) fn name_answer(
     name: &RcStr,
     request: &Request,
-    known: &[(RcStr, Answer)],
+    local: Option<&Placed<'_>>,
 ) -> Result<Option<Answer>, AllocError>
     ensures { IfOk result (λ found. option_map answer_view found ≡ name_answer request.now (text_view name.now)
-        (local (text_view name.now) (locals_view known.now))) }
+        (option_map (λ a. a.0) (option_map (λ a. placed_view a.now) local.entry))) }
 {
-    match find(known, name) {
-        Some(answer) => Ok(Some(copy_answer(answer)?)),
+    match local {
+        Some(placed) => Ok(Some(copy_answer(&placed.answer)?)),
         None => attribute_answer(name.as_str(), request),
     }
 }

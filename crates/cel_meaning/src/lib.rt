@@ -1,13 +1,16 @@
 //! The meaning of expressions, computed: a plain and slow evaluator. It follows the definition of meaning: it walks the
-//! tree and looks names up. No decision uses it: it finds the part of a condition that an error is from, and tests
-//! compare the machine's results with it.
+//! tree and looks names up. With an error it finds where the error begins. No decision uses it: it explains errors of
+//! conditions, and tests compare the machine's results with it.
 #![tactic(auto)]
 
-ghost use Rattle.std.specs.Prelude.{◌≡◌, [], IfOk, option_map};
+ghost use Rattle.std.specs.Prelude.{◌≡◌, IfOk, option_map};
 ghost use Rattle.cel_tree.specs.View.{tree_view};
 ghost use Rattle.cel_value.specs.View.{answer_view};
 ghost use Rattle.cel_types.specs.Meaning.{eval};
+ghost use Rattle.cel_meaning.specs.Origin.{placed};
+ghost use Rattle.cel_meaning.specs.Places.{around, locals_view, placed_view};
 
+mod around;
 mod binary;
 mod calls;
 mod elements;
@@ -16,24 +19,57 @@ pub mod laws;
 mod leaves;
 mod literals;
 mod nodes;
-mod origin;
+mod place;
+mod stopped;
 mod unary;
 
+use crate::known::bare_locals;
+use around::Around;
 use attributes::Request;
 use cel_tree::Tree;
 use cel_value::Answer;
 use nodes::eval;
-pub use origin::origin_of_error;
-use std::alloc::{AllocError, Global};
+pub use place::{Place, Placed};
+use std::alloc::Global;
+use std::rc::RcStr;
+pub use stopped::Stopped;
 
-/// The answer of an expression for a request. `None` if a value is of a wrong kind or a name is not known; neither
-/// occurs in an expression that has a type.
-pub fn evaluate_plainly(
+/// The answer of an expression for a request and these locals, the innermost first. If it is an error, with where it
+/// begins. `None` if a value is of a wrong kind or a name is not known; neither occurs in an expression that has a type.
+/// It takes at most so many steps: for each part that is evaluated, one more than there are locals.
+pub fn evaluate_plainly<'t>(
     alloc: Global,
-    tree: &Tree,
+    tree: &'t Tree,
     request: &Request,
-) -> Result<Option<Answer>, AllocError>
-    ensures { IfOk result (λ found. option_map answer_view found ≡ eval (tree_view tree.now) request.now []) }
+    locals: &[(RcStr, Answer)],
+    most: u64,
+) -> Result<Option<Placed<'t>>, Stopped>
+    ensures meaning { IfOk result (λ found. option_map (λ a. answer_view a.answer) found
+        ≡ eval (tree_view tree.now) request.now (locals_view locals.now)) }
+    ensures place { IfOk result (λ found. option_map placed_view found
+        ≡ placed request.now (around (locals_view locals.now)) (tree_view tree.now)) }
 {
-    eval(alloc, tree, request, &[])
+    evaluate(alloc, tree, request, locals, most)
+}
+
+// The same, by its place alone.
+fn evaluate<'t>(
+    alloc: Global,
+    tree: &'t Tree,
+    request: &Request,
+    locals: &[(RcStr, Answer)],
+    most: u64,
+) -> Result<Option<Placed<'t>>, Stopped>
+    ensures { IfOk result (λ found. option_map placed_view found
+        ≡ placed request.now (around (locals_view locals.now)) (tree_view tree.now)) }
+{
+    let known = bare_locals(alloc, locals)?;
+    let outermost = Around {
+        alloc,
+        request,
+        turns: &[],
+        known: &known,
+    };
+    let mut left = most;
+    eval(&outermost, tree, &mut left)
 }

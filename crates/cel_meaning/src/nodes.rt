@@ -4,116 +4,136 @@ ghost use Rattle.std.specs.Prelude.{◌≡◌, [], ◌∷◌, IfOk, Option, Some
 ghost use Rattle.cel_tree.specs.View.{target_of, tree_view};
 ghost use Rattle.cel_tree.specs.steps.TreeViews.{boxed_view, loop_view, tree_entries_view, trees_view};
 ghost use Rattle.cel_value.specs.Texts.{text_view};
-ghost use Rattle.cel_value.specs.Values.{CelAnswer};
 ghost use Rattle.cel_value.specs.View.{answer_view};
-ghost use Rattle.cel_types.specs.Meaning.{eval, eval_each, eval_entries, eval_target, select_answer, turn};
-ghost use Rattle.cel_types.specs.Names.{root_of, turn_scope};
-ghost use Rattle.cel_meaning.specs.steps.Plain.{behind, locals_view, loop_answer, turn_view, turned, turns};
+ghost use Rattle.cel_types.specs.Meaning.{select_answer};
+ghost use Rattle.cel_types.specs.Names.{root_of};
+ghost use Rattle.cel_meaning.specs.Origin.{CelPlaced, in_result, placed, placed_each, placed_entries, placed_target, placed_turn, select_place};
+ghost use Rattle.cel_meaning.specs.Places.{placed_view};
+ghost use Rattle.cel_meaning.specs.steps.Plain.{around_view, loop_answer, shared_view, turn_view, turned, turns};
 
-use crate::calls::call;
+use crate::around::Around;
 use crate::elements::{Turn, turns_of};
 use crate::known::{bare_root, turn_scope, variables_of, with_local};
-use crate::leaves::{constant_value, field_answer, name_answer};
-use crate::literals::{list_of, map_of};
+use crate::leaves::{constant_value, field_answer};
+use crate::place::{Place, Placed, joined};
+use crate::stopped::{Stopped, spend};
 use crate::unary::{has_field, select_field};
-use attributes::Request;
 use cel_tree::{Comprehension, Tree, TreeEntry};
-use cel_value::{Answer, CelError, Value};
-use std::alloc::{AllocError, Global};
-use std::rc::RcStr;
+use cel_value::{Answer, Value};
+use std::rc::{Rc, RcStr};
+
+/// What a turn of a comprehension does.
+#[derive(Drop)]
+pub(super) enum Turned<'t> {
+    /// The loop continues with this accumulator.
+    Next(Placed<'t>),
+    /// The loop ends.
+    Ends,
+    /// The loop's answer is this error.
+    Fails(Placed<'t>),
+    /// A value is of a wrong kind, or a name is not known.
+    Nothing,
+}
 
 /// The answer of an expression.
 #[cycle(eval)]
-pub(super) fn eval(
-    alloc: Global,
-    tree: &Tree,
-    request: &Request,
-    known: &[(RcStr, Answer)],
-) -> Result<Option<Answer>, AllocError>
-    ensures { IfOk result (λ found. option_map answer_view found
-        ≡ eval (tree_view tree.now) request.now (locals_view known.now)) }
+pub(super) fn eval<'t>(
+    around: &Around<'_, 't>,
+    tree: &'t Tree,
+    left: &mut u64,
+) -> Result<Option<Placed<'t>>, Stopped>
+    ensures { IfOk result (λ found. option_map placed_view found
+        ≡ placed around.now.request.now (around_view around.now) (tree_view tree.now)) }
 {
+    spend(left, around.cost())?;
     match tree {
-        Tree::Constant { value, .. } => Ok(Some(Ok(constant_value(value)?))),
-        Tree::Ident { name, .. } => name_answer(name, request, known),
+        Tree::Constant { value, .. } => Ok(Some(Placed::of(constant_value(value)?))),
+        Tree::Ident { name, .. } => Ok(around.name(tree, name)?),
         Tree::Select {
             operand,
             field,
             test_only,
             ..
-        } => eval_select(alloc, operand, field, *test_only, request, known),
+        } => {
+            let (answer, inner) = eval_select(around, operand, field, *test_only, left)?;
+            Ok(around.settled(tree, answer, inner)?)
+        }
         Tree::Call {
             function,
             target,
             args,
             ..
-        } => match eval_target(alloc, target, request, known)? {
-            Some(first) => match eval_each(alloc, args, request, known, first)? {
-                Some(operands) => call(alloc, function.as_str(), &operands),
+        } => match eval_target(around, target, left)? {
+            Some(first) => match eval_each(around, args, left)? {
+                Some(others) => {
+                    let operands = joined(first, others)?;
+                    Ok(around.call(tree, function, &operands)?)
+                }
                 None => Ok(None),
             },
             None => Ok(None),
         },
         Tree::List { elements, .. } => {
-            match eval_each(alloc, elements, request, known, Vec::new(alloc))? {
-                Some(operands) => list_of(alloc, operands),
+            match eval_each(around, elements, left)? {
+                Some(operands) => Ok(around.list(tree, &operands)?),
                 None => Ok(None),
             }
         }
-        Tree::Map { entries, .. } => match eval_entries(alloc, entries, request, known)? {
-            Some(operands) => map_of(alloc, operands),
+        Tree::Map { entries, .. } => match eval_entries(around, entries, left)? {
+            Some(operands) => Ok(around.map(tree, &operands)?),
             None => Ok(None),
         },
-        Tree::Comprehension { parts, .. } => eval_loop(alloc, parts, request, known),
+        Tree::Comprehension { parts, .. } => eval_loop(around, parts, left),
     }
 }
 
-/// A Select: a root's attribute, or a test or value of a map at a name.
+/// A Select: a root's attribute, or a test or value of a map at a name; and the place of the map.
 #[cycle(eval)]
-fn eval_select(
-    alloc: Global,
-    operand: &Tree,
+fn eval_select<'t>(
+    around: &Around<'_, 't>,
+    operand: &'t Tree,
     field: &RcStr,
     test_only: bool,
-    request: &Request,
-    known: &[(RcStr, Answer)],
-) -> Result<Option<Answer>, AllocError>
-    ensures { let ls = locals_view known.now in IfOk result (λ found. option_map answer_view found
-        ≡ select_answer request.now (root_of (tree_view operand.now) ls)
-        (eval (tree_view operand.now) request.now ls) (text_view field.now) test_only) }
+    left: &mut u64,
+) -> Result<(Option<Answer>, Option<Rc<Place<'t>>>), Stopped>
+    ensures { let c = around_view around.now in let on = placed around.now.request.now c (tree_view operand.now) in
+        let root = root_of (tree_view operand.now) c.locals in
+        IfOk result (λ found. (option_map answer_view found.0 ≡ select_answer around.now.request.now root
+        (option_map (λ a. a.0) on) (text_view field.now) test_only)
+        × (shared_view found.1 ≡ select_place root on)) }
 {
-    if let Some(root) = bare_root(operand, known) {
+    if let Some(root) = bare_root(operand, around.known) {
         if test_only {
-            return Ok(None);
+            return Ok((None, None));
         }
-        return field_answer(alloc, root, field, request);
+        let answer = field_answer(around.alloc, root, field, around.request)?;
+        return Ok((answer, None));
     }
-    match eval(alloc, operand, request, known)? {
-        None => Ok(None),
-        Some(map) => {
+    match eval(around, operand, left)? {
+        None => Ok((None, None)),
+        Some(Placed { answer, place }) => {
             if test_only {
-                return Ok(has_field(field, &map));
+                return Ok((has_field(field, &answer), place));
             }
-            select_field(field, &map)
+            Ok((select_field(field, &answer)?, place))
         }
     }
 }
 
 /// The target of a call, if there is one.
 #[cycle(eval)]
-fn eval_target(
-    alloc: Global,
-    target: &Option<Box<Tree>>,
-    request: &Request,
-    known: &[(RcStr, Answer)],
-) -> Result<Option<Vec<Answer>>, AllocError>
-    ensures { IfOk result (λ found. option_map (λ v. map answer_view v.items) found
-        ≡ eval_target (target_of (boxed_view target.now)) request.now (locals_view known.now) (Some [])) }
+fn eval_target<'t>(
+    around: &Around<'_, 't>,
+    target: &'t Option<Box<Tree>>,
+    left: &mut u64,
+) -> Result<Option<Vec<Placed<'t>>>, Stopped>
+    ensures { IfOk result (λ found. option_map (λ v. map placed_view v.items) found
+        ≡ placed_target around.now.request.now (around_view around.now) (target_of (boxed_view target.now)) (Some [])) }
 {
-    let mut operands = Vec::new(alloc);
+    let mut operands = Vec::new(around.alloc);
     match target {
         None => Ok(Some(operands)),
-        Some(target) => match eval(alloc, target, request, known)? {
+        Some(target) => match eval(around, target, left)? {
             None => Ok(None),
             Some(answer) => {
                 operands.push(answer)?;
@@ -123,22 +143,19 @@ fn eval_target(
     }
 }
 
-/// Expressions in order; appends their answers.
+/// Expressions in order.
 #[cycle(eval)]
-fn eval_each(
-    alloc: Global,
-    trees: &[Tree],
-    request: &Request,
-    known: &[(RcStr, Answer)],
-    before: Vec<Answer>,
-) -> Result<Option<Vec<Answer>>, AllocError>
-    ensures { IfOk result (λ found. option_map (λ v. map answer_view v.items) found
-        ≡ behind (map answer_view before.items)
-        (eval_each (trees_view trees.now) request.now (locals_view known.now))) }
+fn eval_each<'t>(
+    around: &Around<'_, 't>,
+    trees: &'t [Tree],
+    left: &mut u64,
+) -> Result<Option<Vec<Placed<'t>>>, Stopped>
+    ensures { IfOk result (λ found. option_map (λ v. map placed_view v.items) found
+        ≡ placed_each around.now.request.now (around_view around.now) (trees_view trees.now)) }
 {
-    let mut answers = before;
+    let mut answers = Vec::new(around.alloc);
     for tree in trees {
-        match eval(alloc, tree, request, known)? {
+        match eval(around, tree, left)? {
             Some(answer) => answers.push(answer)?,
             None => return Ok(None),
         }
@@ -148,22 +165,21 @@ fn eval_each(
 
 /// Keys and values, in turn.
 #[cycle(eval)]
-fn eval_entries(
-    alloc: Global,
-    entries: &[TreeEntry],
-    request: &Request,
-    known: &[(RcStr, Answer)],
-) -> Result<Option<Vec<Answer>>, AllocError>
-    ensures { IfOk result (λ found. option_map (λ v. map answer_view v.items) found
-        ≡ eval_entries (tree_entries_view entries.now) request.now (locals_view known.now)) }
+fn eval_entries<'t>(
+    around: &Around<'_, 't>,
+    entries: &'t [TreeEntry],
+    left: &mut u64,
+) -> Result<Option<Vec<Placed<'t>>>, Stopped>
+    ensures { IfOk result (λ found. option_map (λ v. map placed_view v.items) found
+        ≡ placed_entries around.now.request.now (around_view around.now) (tree_entries_view entries.now)) }
 {
-    let mut answers = Vec::new(alloc);
+    let mut answers = Vec::new(around.alloc);
     for entry in entries {
-        match eval(alloc, &entry.key, request, known)? {
+        match eval(around, &entry.key, left)? {
             Some(key) => answers.push(key)?,
             None => return Ok(None),
         }
-        match eval(alloc, &entry.value, request, known)? {
+        match eval(around, &entry.value, left)? {
             Some(value) => answers.push(value)?,
             None => return Ok(None),
         }
@@ -173,99 +189,106 @@ fn eval_entries(
 
 /// A comprehension: its range, its initial value, and then its turns and its result.
 #[cycle(eval)]
-fn eval_loop(
-    alloc: Global,
-    parts: &Comprehension,
-    request: &Request,
-    known: &[(RcStr, Answer)],
-) -> Result<Option<Answer>, AllocError>
-    ensures { IfOk result (λ found. option_map answer_view found
-        ≡ loop_answer (loop_view parts.now) request.now (locals_view known.now)) }
+fn eval_loop<'t>(
+    around: &Around<'_, 't>,
+    parts: &'t Comprehension,
+    left: &mut u64,
+) -> Result<Option<Placed<'t>>, Stopped>
+    ensures { IfOk result (λ found. option_map placed_view found
+        ≡ loop_answer (loop_view parts.now) around.now.request.now (around_view around.now)) }
 {
-    let range = match eval(alloc, &parts.iter_range, request, known)? {
+    let range = match eval(around, &parts.iter_range, left)? {
         None => return Ok(None),
-        Some(Err(error)) => return Ok(Some(Err(error))),
-        Some(Ok(range)) => range,
+        Some(range) => range,
     };
-    let variables = variables_of(&parts.iter_var2);
-    let Some(turns) = turns_of(alloc, variables, &range)? else {
+    let turns = match &range.answer {
+        Err(_) => return Ok(Some(range)),
+        Ok(value) => turns_of(around.alloc, variables_of(&parts.iter_var2), value)?,
+    };
+    let Some(turns) = turns else {
         return Ok(None);
     };
-    match eval(alloc, &parts.accu_init, request, known)? {
+    match eval(around, &parts.accu_init, left)? {
         None => Ok(None),
-        Some(init) => eval_turns(alloc, parts, request, known, &turns, init),
+        Some(init) => eval_turns(around, parts, &turns, init, left),
     }
 }
 
-/// These turns of a comprehension, from this accumulator, and then its result.
+/// All turns of a comprehension, from this accumulator, and then its result.
 #[cycle(eval)]
-fn eval_turns(
-    alloc: Global,
-    parts: &Comprehension,
-    request: &Request,
-    known: &[(RcStr, Answer)],
+fn eval_turns<'t>(
+    around: &Around<'_, 't>,
+    parts: &'t Comprehension,
     each: &[Turn],
-    init: Answer,
-) -> Result<Option<Answer>, AllocError>
-    ensures { IfOk result (λ found. option_map answer_view found
-        ≡ turns (loop_view parts.now) request.now (locals_view known.now) (map turn_view each.now)
-        (answer_view init)) }
+    init: Placed<'t>,
+    left: &mut u64,
+) -> Result<Option<Placed<'t>>, Stopped>
+    ensures { IfOk result (λ found. option_map placed_view found
+        ≡ turns (loop_view parts.now) around.now.request.now (around_view around.now) 0 (map turn_view each.now)
+        (placed_view init.entry)) }
 {
     let mut gathered = init;
-    for turn in each {
-        match eval_turn(alloc, parts, request, known, turn, &gathered)? {
-            Some(Ok(Some(next))) => gathered = next,
-            Some(Ok(None)) => return eval_result(alloc, parts, request, known, &gathered),
-            Some(Err(error)) => return Ok(Some(Err(error))),
-            None => return Ok(None),
+    for number in 0..each.len() {
+        let known = turn_scope(around.alloc, parts, around.known, &each[number], &gathered)?;
+        let turns = around.turns_with(number)?;
+        let inner = Around {
+            turns: &turns,
+            known: &known,
+            ..*around
+        };
+        match eval_turn(&inner, parts, left)? {
+            Turned::Next(next) => gathered = next,
+            Turned::Ends => return eval_result(around, parts, &gathered, left),
+            Turned::Fails(error) => return Ok(Some(error)),
+            Turned::Nothing => return Ok(None),
         }
     }
-    eval_result(alloc, parts, request, known, &gathered)
+    eval_result(around, parts, &gathered, left)
 }
 
 /// The result of the last accumulator.
 #[cycle(eval)]
-fn eval_result(
-    alloc: Global,
-    parts: &Comprehension,
-    request: &Request,
-    known: &[(RcStr, Answer)],
-    gathered: &Answer,
-) -> Result<Option<Answer>, AllocError>
-    ensures { IfOk result (λ found. option_map answer_view found
-        ≡ eval (tree_view parts.now.result) request.now
-        ((text_view parts.now.accu_var, answer_view gathered.now) ∷ locals_view known.now)) }
+fn eval_result<'t>(
+    around: &Around<'_, 't>,
+    parts: &'t Comprehension,
+    gathered: &Placed<'t>,
+    left: &mut u64,
+) -> Result<Option<Placed<'t>>, Stopped>
+    ensures { IfOk result (λ found. option_map placed_view found ≡ placed around.now.request.now
+        (in_result (text_view parts.now.accu_var) (placed_view gathered.now) (around_view around.now))
+        (tree_view parts.now.result)) }
 {
-    let inner = with_local(alloc, known, &parts.accu_var, gathered)?;
-    eval(alloc, &parts.result, request, &inner)
+    let known = with_local(around.alloc, around.known, &parts.accu_var, gathered)?;
+    let inner = Around {
+        known: &known,
+        ..*around
+    };
+    eval(&inner, &parts.result, left)
 }
 
-/// One turn with this accumulator: the next accumulator, nothing if the loop ends, or the error that
-/// is the loop's answer. `None` if a value is of a wrong kind or a name is not known.
+/// One turn, with its variables and the accumulator around it.
 #[cycle(eval)]
-fn eval_turn(
-    alloc: Global,
-    parts: &Comprehension,
-    request: &Request,
-    known: &[(RcStr, Answer)],
-    bound: &Turn,
-    gathered: &Answer,
-) -> Result<Option<Result<Option<Answer>, CelError>>, AllocError>
-    ensures { let ls = turn_scope (text_view parts.now.iter_var) (text_view parts.now.iter_var2)
-        (text_view parts.now.accu_var) (turn_view bound.now) (answer_view gathered.now) (locals_view known.now) in
-        IfOk result (λ t. (next : CelAnswer → Option CelAnswer) (ended : Option CelAnswer)
-        → turn (eval (tree_view parts.now.loop_condition) request.now ls)
-        (eval (tree_view parts.now.loop_step) request.now ls) next ended ≡ turned t next ended) }
+fn eval_turn<'t>(
+    around: &Around<'_, 't>,
+    parts: &'t Comprehension,
+    left: &mut u64,
+) -> Result<Turned<'t>, Stopped>
+    ensures { let r = around.now.request.now in let c = around_view around.now in
+        IfOk result (λ t. (next : CelPlaced → Option CelPlaced) (ended : Option CelPlaced)
+        → placed_turn (placed r c (tree_view parts.now.loop_condition)) (placed r c (tree_view parts.now.loop_step))
+        next ended ≡ turned t next ended) }
 {
-    let both = turn_scope(alloc, parts, known, bound, gathered)?;
-    match eval(alloc, &parts.loop_condition, request, &both)? {
-        Some(Ok(Value::Bool(true))) => match eval(alloc, &parts.loop_step, request, &both)? {
-            Some(next) => Ok(Some(Ok(Some(next)))),
-            None => Ok(None),
+    let condition = match eval(around, &parts.loop_condition, left)? {
+        None => return Ok(Turned::Nothing),
+        Some(condition) => condition,
+    };
+    match &condition.answer {
+        Ok(Value::Bool(true)) => match eval(around, &parts.loop_step, left)? {
+            Some(next) => Ok(Turned::Next(next)),
+            None => Ok(Turned::Nothing),
         },
-        Some(Ok(Value::Bool(false))) => Ok(Some(Ok(None))),
-        Some(Ok(_)) => Ok(None),
-        Some(Err(error)) => Ok(Some(Err(error))),
-        None => Ok(None),
+        Ok(Value::Bool(false)) => Ok(Turned::Ends),
+        Ok(_) => Ok(Turned::Nothing),
+        Err(_) => Ok(Turned::Fails(condition)),
     }
 }

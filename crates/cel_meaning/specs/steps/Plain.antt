@@ -1,6 +1,7 @@
 -- The results of the plain evaluator's steps.
-use Rattle.std.specs.Prelude.{Bool, true, false, ◌&&◌, List, [], ◌∷◌, ◌++◌, Option, Some, None, Result, Ok, Err, is_some, map, option_map}
+use Rattle.std.specs.Prelude.{ℕ, Bool, true, false, ◌&&◌, List, [], ◌∷◌, ◌++◌, Option, Some, None, Result, is_some, map, option_map}
 use Rattle.std.specs.declared.alloc.Global.{Global}
+use Rattle.std.specs.declared.rc.Rc.{Rc}
 use Rattle.std.specs.declared.rc.RcStr.{RcStr}
 use Rattle.std.specs.Option.{option_and_then}
 use Rattle.attributes.specs.Request.{RequestValue}
@@ -11,17 +12,31 @@ use Rattle.cel_value.specs.Values.{CelAnswer, CelValue, fails, value}
 use Rattle.cel_value.specs.View.{answer_view, value_view}
 use Rattle.cel_value.specs.declared.error.CelError.{CelError}
 use Rattle.cel_value.specs.declared.value.Value.{Value}
-use Rattle.cel_types.specs.Meaning.{Locals, eval, fold, over}
-use Rattle.cel_types.specs.Names.{turn_scope, variables_of}
+use Rattle.cel_types.specs.Names.{Scope, variables_of}
+use Rattle.cel_meaning.specs.Origin.{CelAround, CelPlace, CelPlaced, in_result, in_turn, placed, placed_fold, placed_over}
+use Rattle.cel_meaning.specs.Places.{place_view, placed_view}
+use Rattle.cel_meaning.specs.declared.around.Around.{Around}
 use Rattle.cel_meaning.specs.declared.elements.Turn.{Turn}
+use Rattle.cel_meaning.specs.declared.nodes.Turned.{Turned}
+use Rattle.cel_meaning.specs.declared.nodes.Turned.TheVariants as outcomes
+use Rattle.cel_meaning.specs.declared.place.Place.{Place}
+use Rattle.cel_meaning.specs.declared.place.Placed.{Placed}
 
--- the names and answers of locals, the innermost first
-abbrev pub locals_view : List (RcStr Global × Result Value CelError) → Locals
-locals_view known = map (λ local. (text_view local.0, answer_view local.1)) known
+-- a place that may be shared, if there is one
+abbrev pub shared_view : Option (Rc Place Global) → Option CelPlace
+shared_view place = option_map (λ p. place_view p.value) place
+
+-- the names and placed answers of locals, the innermost first
+abbrev pub known_view : List (RcStr Global × Placed) → Scope CelPlaced
+known_view known = map (λ local. (text_view local.0, placed_view local.1)) known
+
+-- what is around a part
+abbrev pub around_view : Around → CelAround
+around_view a = record { turns = a.turns.now; locals = known_view a.known.now }
 
 -- answers after others
-abbrev pub behind : List CelAnswer → Option (List CelAnswer) → Option (List CelAnswer)
-behind before found = option_map (λ answers. before ++ answers) found
+abbrev pub behind : List CelPlaced → Option (List CelPlaced) → Option (List CelPlaced)
+behind before found = option_map (λ operands. before ++ operands) found
 
 -- whether the answer is a value of a key's kind
 abbrev pub is_key : CelAnswer → Bool
@@ -47,24 +62,25 @@ turn_view t = value (value_view t.value) ∷ keys_view t.key
 abbrev pub keyed_turns : List (CelAnswer × CelValue) → List (List CelAnswer)
 keyed_turns pairs = map (λ pair. value pair.1 ∷ pair.0 ∷ []) pairs
 
--- these turns of a comprehension, from this accumulator, and then its result
-abbrev pub turns : LoopParts → RequestValue → Locals → List (List CelAnswer) → CelAnswer
-    → Option CelAnswer
-turns p request ls each gathered =
-    fold (λ vs a. eval p.loop_condition request (turn_scope p.iter_var p.iter_var2 p.accu_var vs a ls))
-    (λ vs a. eval p.loop_step request (turn_scope p.iter_var p.iter_var2 p.accu_var vs a ls))
-    (λ a. eval p.result request ((p.accu_var, a) ∷ ls)) each gathered
+-- what is around a turn of this number of a comprehension
+abbrev pub turn_around : LoopParts → CelAround → ℕ → List CelAnswer → CelPlaced → CelAround
+turn_around p c n vs gathered = in_turn p.iter_var p.iter_var2 p.accu_var n vs gathered c
+
+-- the turns of a comprehension from this one on, from this accumulator, and then its result
+abbrev pub turns : LoopParts → RequestValue → CelAround → ℕ → List (List CelAnswer) → CelPlaced → Option CelPlaced
+turns p r c n each gathered =
+    placed_fold (λ n vs a. placed r (turn_around p c n vs a) p.loop_condition)
+    (λ n vs a. placed r (turn_around p c n vs a) p.loop_step)
+    (λ a. placed r (in_result p.accu_var a c) p.result) n each gathered
 
 -- the answer of a comprehension
-abbrev pub loop_answer : LoopParts → RequestValue → Locals → Option CelAnswer
-loop_answer p request ls = over (variables_of p.iter_var2) (eval p.iter_range request ls)
-    (λ each. option_and_then (turns p request ls each) (eval p.accu_init request ls))
+abbrev pub loop_answer : LoopParts → RequestValue → CelAround → Option CelPlaced
+loop_answer p r c = placed_over (variables_of p.iter_var2) (placed r c p.iter_range)
+    (λ each. option_and_then (turns p r c 0 each) (placed r c p.accu_init))
 
--- the loop's answer after one turn, which may continue with an answer, end the loop, fail, or have
--- no meaning
-abbrev pub turned : Option (Result (Option (Result Value CelError)) CelError)
-    → (CelAnswer → Option CelAnswer) → Option CelAnswer → Option CelAnswer
-turned (Some (Ok (Some a))) next ended = next (answer_view a)
-turned (Some (Ok None)) next ended = ended
-turned (Some (Err e)) next ended = Some (fails e)
-turned None next ended = None
+-- the loop's answer after one turn
+abbrev pub turned : Turned → (CelPlaced → Option CelPlaced) → Option CelPlaced → Option CelPlaced
+turned (outcomes.Next a) next ended = next (placed_view a)
+turned outcomes.Ends next ended = ended
+turned (outcomes.Fails a) next ended = Some (placed_view a)
+turned outcomes.Nothing next ended = None
