@@ -1,26 +1,32 @@
 -- One line more of a batch, and how a batch ends.
-use Rattle.std.proofs.Common.{◌≡◌, ◌≢◌, ◌⊎◌, ◌∙◌, inl, inr, ◌++◌, ◌+◌, true, Bool, ℕ, zero, suc, List, [], ◌∷◌, Option, Some, None, Result, Ok, Err, ap, ap₂, append_assoc, append-nil, arith, length, length-append, refl, subst, sym, string_bytes, option_map, take}
+use Rattle.std.proofs.Common.{◌≡◌, ◌≢◌, ◌⊎◌, ◌≤◌, ◌∙◌, inl, inr, ◌++◌, ◌+◌, codes, max, Ordering, Less, Equal, Greater, nat_cmp, true, Bool, ℕ, zero, suc, List, [], ◌∷◌, Option, Some, None, Result, Ok, Err, ap, ap₂, append_assoc, append-nil, arith, length, length-append, refl, subst, sym, string_bytes, option_map, take}
+use lib.Seq.{take-append-le}
 use Rattle.std.proofs.KnownBytes.{Appends-nil, Appends-trans}
+use Rattle.std.proofs.Math.Nat.{le-max_left, le-max_right}
 use Rattle.std.specs.Io.KnownBytes.{Appends}
-use Rattle.std.specs.Prelude.{IfErr, IfSome, IsUtf8, OnOk, if◌then◌else◌, is_ok}
-use Rattle.std.specs.declared.io.ErrorKind.{ErrorKind as IoKind}
+use Rattle.std.specs.Cmp.Lexicographic.{slice_cmp}
+use Rattle.std.specs.Ordering.{match_ordering}
+use Rattle.std.specs.Prelude.{IfErr, IfOk, IfSome, IsUtf8, OnErr, OnOk, if◌then◌else◌, is_ok}
 use Rattle.attributes.specs.Conn.{Facts}
 use Rattle.attributes.specs.Limits.{FactsInLimits, largest}
-use Rattle.serde_json.specs.Data.{Data}
+use Rattle.serde_json.specs.Data.{Data, Items, Members, array, boolean, depth, items_depth, member, members_depth, no_members, null, number, object, string}
+use Rattle.serde_json.specs.Find.{get, get_member}
+use Rattle.serde_json.specs.Written.{compact_text}
 use Rattle.serde_json.specs.Read.{read}
 use Rattle.rbac_policy.specs.Condition.{Program}
 use Rattle.rbac_policy.specs.Filter.{Filter}
 use Rattle.rbacd.proofs.ReplayLemmas.{end_of, read_at_end, read_more}
-use Rattle.rbacd.specs.Batches.{Answer, Answered, AreAnswers, HasNoHead, IsAnswer, IsBatch, IsCutShort, IsHead, IsHeadText, LeavesAnswers, answer_text, answers_text, judged}
-use Rattle.rbacd.specs.Output.{BreaksOff, Takes}
+use Rattle.rbacd.specs.Batches.{Answer, Answered, AreAnswers, HasNoHead, IsAnswer, IsBatch, IsCutShort, IsHead, IsHeadText, IsIdOf, IsTooLong, LeavesAnswers, answer_text, answers_text, bad, bad_json, judged, with_id}
+use Rattle.rbacd.specs.Outcome.{printed_of}
+use Rattle.rbacd.specs.Output.{BreaksOff}
 use Rattle.rbacd.specs.Replays.{AreLines, ReadsLine}
 use Rattle.rbacd.specs.steps.Replaying.{TurnFault}
 use Rattle.rbacd.specs.declared.replay.ReplayFault.{ReplayFault}
 use Rattle.rbacd.specs.declared.replay.ReplayFault.TheVariants as faults
-use Rattle.rbacd.specs.steps.Batching.{IsAnsweredBy, IsReportAt, IsReportUnder, LacksHead, OfPolicies}
+use Rattle.rbacd.specs.steps.Batching.{BreaksOutput, IsAnsweredBy, IsIdText, IsLineOf, IsPlainAnswer, LacksHead, OfPolicies}
+use Rattle.rbacd.specs.declared.head_lines.HeadLine.{HeadLine}
 use Rattle.rbacd.specs.declared.explain.Explanation.TheVariants as explanations
-use Rattle.rbacd.specs.declared.lines.LineFault.{LineFault}
-use Rattle.rbacd.specs.declared.lines.LineFault.TheVariants.{BadLine}
+use Rattle.rbacd.specs.steps.Printed.{without_memory}
 use Rattle.rbacd.specs.declared.outcome.Outcome.TheVariants as outcomes
 use Rattle.rbacd.specs.declared.outcome.Report.{Report}
 use Rattle.rbacd.specs.Json.{untold}
@@ -99,8 +105,7 @@ module _ (old now new : Option (List ℕ)) (done rest : List ℕ) (took : Append
   leaves_more (faults.Line n cause) left = left
   leaves_more (faults.Input cause) (other, all) = (other, Appends-trans old now new done rest took all)
   leaves_more (faults.Output cause) left = breaks_more left
-  leaves_more faults.Memory (inl all) = inl (Appends-trans old now new done rest took all)
-  leaves_more faults.Memory (inr part) = inr (breaks_more part)
+  leaves_more faults.Memory all = Appends-trans old now new done rest took all
 
 -- a fault ends the batch after some answers, of which `done` were written
 pub cut_short : (policy : List ℕ) (budget : ℕ) (absent : Facts) (explain : Bool) (input out between now new : Option (List ℕ))
@@ -116,15 +121,40 @@ cut_short policy budget absent explain input out between now new lines answers d
   printed = rw text (leaves_more out now new done rest took e left);
 }
 
--- where nothing was written
-pub nothing_taken : (out : Option (List ℕ)) (text : List ℕ) → Takes out out text
-nothing_taken out [] = inl (Appends-nil out)
-nothing_taken out (x ∷ text) = inr (0, omega arith, Appends-nil out)
+-- all that was collected was written
+pub written_all : {T E : Type 0} (r : Result T E) (out out_new : Option (List ℕ)) (old new : List ℕ)
+    → OnOk r (Appends out out_new old) → OnOk r (new ≡ [])
+    → OnOk r ((done : List ℕ) × (old ≡ done ++ new) × Appends out out_new done)
+written_all (Ok v) out out_new old new wrote none = (old, rw none (sym (append-nil old)), wrote)
+written_all (Err e) out out_new old new wrote none = tt
 
--- an input that is late is no want of memory
-pub not_memory : (kind : IoKind) → kind ≡ IoKind.TimedOut → ¬ (kind ≡ IoKind.OutOfMemory)
-not_memory kind late none =
-    let clash : IoKind.TimedOut ≡ IoKind.OutOfMemory = sym late ∙ none in cc
+-- an output that failed left a beginning of the answers
+pub leaves_broken : (out new : Option (List ℕ)) (text : List ℕ) (e : ReplayFault) → BreaksOutput out new text e
+    → LeavesAnswers out new text e
+leaves_broken out new text (faults.Line n cause) broken = absurd broken
+leaves_broken out new text (faults.Input cause) broken = absurd broken
+leaves_broken out new text (faults.Output cause) broken = broken
+leaves_broken out new text faults.Memory broken = absurd broken
+
+-- what broke off in the first of two texts broke off in both
+pub breaks_first : (out new : Option (List ℕ)) (text rest : List ℕ) (e : ReplayFault) → BreaksOutput out new text e
+    → BreaksOutput out new (text ++ rest) e
+breaks_first out new text rest (faults.Line n cause) broken = absurd broken
+breaks_first out new text rest (faults.Input cause) broken = absurd broken
+breaks_first out new text rest (faults.Output cause) (n, less, part) = (
+  n,
+  omega (arith, less, length-append text rest),
+  subst (Appends out new) (sym (take-append-le n text rest (omega (arith, less)))) part,
+)
+breaks_first out new text rest faults.Memory broken = absurd broken
+
+-- and what broke off in the second
+pub breaks_second : (out now new : Option (List ℕ)) (text rest : List ℕ) (e : ReplayFault) → Appends out now text
+    → BreaksOutput now new rest e → BreaksOutput out new (text ++ rest) e
+breaks_second out now new text rest (faults.Line n cause) took broken = absurd broken
+breaks_second out now new text rest (faults.Input cause) took broken = absurd broken
+breaks_second out now new text rest (faults.Output cause) took broken = breaks_more out now new text rest took broken
+breaks_second out now new text rest faults.Memory took broken = absurd broken
 
 -- where all was written, a fault of the input left it
 pub all_left : (out out_new : Option (List ℕ)) (text : List ℕ) (e : ReplayFault) → TurnFault e
@@ -132,7 +162,7 @@ pub all_left : (out out_new : Option (List ℕ)) (text : List ℕ) (e : ReplayFa
 all_left out out_new text (faults.Line n cause) turn all = absurd turn
 all_left out out_new text (faults.Input cause) turn all = (turn, all)
 all_left out out_new text (faults.Output cause) turn all = absurd turn
-all_left out out_new text faults.Memory turn all = inl all
+all_left out out_new text faults.Memory turn all = all
 
 -- the answers after one line more
 pub text_pushed : (answers : List Answer) (answer : Answer) (done pending own pending_now : List ℕ)
@@ -168,15 +198,24 @@ no_memory = record {
 
 -- that memory ran out answers any line
 pub answered_by_memory : (enforced : Filter Program) (explain : Bool) (absent : Facts) (n : ℕ) (line text : List ℕ)
-    → ((report : Report) → report.json ≡ true → text ≡ answer_text (judged (record report {
-      outcome = outcomes.Memory;
-      explanation = explanations.Absent;
-    }))) → IsAnsweredBy enforced explain absent n line text
+    → ((report : Report) → report.json ≡ true → text ≡ printed_of (without_memory report))
+    → IsAnsweredBy enforced explain absent n line text
 answered_by_memory enforced explain absent n line text prints = record {
-  answer = judged no_memory;
+  answer = judged None no_memory;
   same = prints no_memory refl;
-  right = λ policy budget filter admits. (refl, inl refl);
+  right = λ policy budget filter admits. (refl, inl (refl, refl));
 }
+
+-- an answer, or that memory ran out for it, answers the line
+pub answered_as : {T E : Type 0} (items : T → List ℕ) (r : Result T E) (enforced : Filter Program) (explain : Bool)
+    (absent : Facts) (n : ℕ) (found : HeadLine) (line text : List ℕ)
+    → IfOk r (λ v. (bytes : List ℕ) → IsLineOf found bytes → IsAnsweredBy enforced explain absent n bytes (items v))
+    → IfOk r (λ v. text ≡ items v)
+    → OnErr r ((report : Report) → report.json ≡ true → text ≡ printed_of (without_memory report))
+    → IsLineOf found line → IsAnsweredBy enforced explain absent n line text
+answered_as items (Ok v) enforced explain absent n found line text by same memory of = rw same (by line of)
+answered_as items (Err e) enforced explain absent n found line text by same memory of =
+    answered_by_memory enforced explain absent n line text memory
 
 -- the head of a text is that of its one value
 of_value : (absent : Facts) (line : List ℕ) (d : Data) (head : List ℕ) (facts : Facts) → read line ≡ Some d
@@ -196,25 +235,109 @@ no_head : (absent : Facts) (line : List ℕ) (d : Data) → IsUtf8 line → read
 no_head absent line d utf is (inl none) = inl (λ head facts told. none head facts (of_value absent line d head facts is told))
 no_head absent line d utf is (inr (head, facts, told, outside)) = inr (head, facts, (utf, (d, is, told)), outside)
 
--- what is no fault of the value is none of its text
-pub fault_of_value : {C : Type 0} (r : Result C LineFault) (absent : Facts) (line : List ℕ) (d : Data) → IsUtf8 line
-    → read line ≡ Some d → IfErr r (λ e. e ≡ BadLine → LacksHead absent d)
-    → IfErr r (λ e. e ≡ BadLine → HasNoHead absent line)
-fault_of_value (Ok c) absent line d utf is fault = fault
-fault_of_value (Err e) absent line d utf is fault = λ bad. no_head absent line d utf is (fault bad)
+-- the id of a line is that of its value
+id_of : (line : List ℕ) (d : Data) (told : Option (List ℕ)) → IsUtf8 line → read line ≡ Some d
+    → IsIdText (get (codes "id") d) told → IsIdOf line told
+id_of line d told utf is id = of (get (codes "id") d) told refl id
+  where
+    of : (found : Option Data) (told : Option (List ℕ)) → get (codes "id") d ≡ found → IsIdText found told → IsIdOf line told
+    of (Some value) (Some text) there id = (utf, (d, value, is, there, id))
+    of (Some value) None there id = absurd id
+    of None (Some text) there id = absurd id
+    of None None there id = λ other utf' is'.
+        let same : other ≡ d = cc (is, is') in
+        rw same there
 
--- the report on the value's head is that of each policy that is admitted as the filter
-pub report_under : (enforced : Filter Program) (explain : Bool) (absent : Facts) (line : List ℕ) (d : Data) (report : Report)
-    → IsUtf8 line → read line ≡ Some d → IsReportAt enforced explain absent d report
-    → IsReportUnder enforced explain absent line report
-report_under enforced explain absent line d report utf is at_value = (
-  at_value.is.json,
-  λ policy budget filter admits. record {
-    head = at_value.head;
-    facts = at_value.facts;
-    told = (utf, (d, is, at_value.told));
-    fits = at_value.fits;
-    found = at_value.is.under policy budget filter _ admits at_value.is.named;
-    given = at_value.is.given;
-  },
-)
+-- the answer to a value, with its id, is that to its line
+pub answered_at : (enforced : Filter Program) (explain : Bool) (absent : Facts) (n : ℕ) (line text plain : List ℕ) (d : Data)
+    (told : Option (List ℕ)) → IsUtf8 line → read line ≡ Some d → ¬ IsTooLong line
+    → IsPlainAnswer enforced explain absent d n plain → IsIdText (get (codes "id") d) told → text ≡ with_id told plain
+    → IsAnsweredBy enforced explain absent n line text
+answered_at enforced explain absent n line text plain d told utf is short (inl (report, at_value, prints)) id same = record {
+  answer = judged told report;
+  same = same ∙ ap (with_id told) prints;
+  right = λ policy budget filter admits. (
+    at_value.is.json,
+    inr (
+      id_of line d told utf is id,
+      record {
+        head = at_value.head;
+        facts = at_value.facts;
+        short = short;
+        told = (utf, (d, is, at_value.told));
+        fits = at_value.fits;
+        found = at_value.is.under policy budget filter _ admits at_value.is.named;
+        given = at_value.is.given;
+      },
+    ),
+  );
+}
+answered_at enforced explain absent n line text plain d told utf is short (inr (lacks, (cause, prints))) id same = record {
+  answer = bad told n cause;
+  same = same ∙ ap (with_id told) prints;
+  right = λ policy budget filter admits.
+      (refl, inr (short, id_of line d told utf is id, no_head absent line d utf is lacks));
+}
+
+-- what is no JSON text has neither head nor id
+pub answered_none_at : (enforced : Filter Program) (explain : Bool) (absent : Facts) (n : ℕ) (line text cause : List ℕ)
+    → (IsUtf8 line → read line ≡ None) → ¬ IsTooLong line → text ≡ compact_text (bad_json n cause) ++ 10 ∷ []
+    → IsAnsweredBy enforced explain absent n line text
+answered_none_at enforced explain absent n line text cause none short same = record {
+  answer = bad None n cause;
+  same = same;
+  right = λ policy budget filter admits. (
+    refl,
+    inr (
+      short,
+      (λ d utf is. let clash : Some d ≡ None = sym is ∙ none utf in cc),
+      inl (λ head facts told. of_none absent line head facts (none told.0) told),
+    ),
+  );
+}
+
+-- nor has a line that is too long
+pub answered_long : (enforced : Filter Program) (explain : Bool) (absent : Facts) (n : ℕ) (line text cause : List ℕ)
+    → IsTooLong line → text ≡ compact_text (bad_json n cause) ++ 10 ∷ [] → IsAnsweredBy enforced explain absent n line text
+answered_long enforced explain absent n line text cause long same = record {
+  answer = bad None n cause;
+  same = same;
+  right = λ policy budget filter admits. (refl, inl (long, refl));
+}
+
+-- a list that grew by four parts
+pub of_parts : {X : Type 0} (first second third last a b c d : List X) {none : List X} → none ≡ [] → first ≡ none ++ a
+    → second ≡ first ++ b → third ≡ second ++ c → last ≡ third ++ d → last ≡ a ++ b ++ (c ++ d)
+of_parts {X = X} first second third last a b c d empty is second_is third_is last_is =
+    let two : second ≡ a ++ b = second_is ∙ ap (λ (x : List X). x ++ b) (is ∙ ap (λ (x : List X). x ++ a) empty) in
+    let three : third ≡ (a ++ b) ++ c = third_is ∙ ap (λ (x : List X). x ++ c) two in
+    last_is ∙ ap (λ (x : List X). x ++ d) three ∙ append_assoc (a ++ b) c d
+
+-- a member is nested less deeply than its object
+member_depth : (k : List ℕ) (ms : Members) (v : Data) → get_member k ms ≡ Some v → depth v ≤ members_depth ms
+member_depth k no_members v is = absurd (let clash : None ≡ Some v = is in cc)
+member_depth k (member l e ms) v is = by (slice_cmp nat_cmp k l) (λ rest. member_depth k ms v rest) is
+  where
+    by : (o : Ordering) → (get_member k ms ≡ Some v → depth v ≤ members_depth ms)
+        → match_ordering o (get_member k ms) (Some e) (get_member k ms) ≡ Some v
+        → depth v ≤ max (depth e) (members_depth ms)
+    by Less below is = let within = below is in omega (arith, within, le-max_right (depth e) (members_depth ms))
+    by Equal below is =
+        let both : Some e ≡ Some v = is in
+        let same : e ≡ v = cc in
+        subst (λ x. depth x ≤ max (depth e) (members_depth ms)) same (le-max_left (depth e) (members_depth ms))
+    by Greater below is = let within = below is in omega (arith, within, le-max_right (depth e) (members_depth ms))
+
+pub get_depth : (k : List ℕ) (d v : Data) (most : ℕ) → get k d ≡ Some v → depth d ≤ most → depth v ≤ most
+get_depth k null v most is within = absurd (let clash : None ≡ Some v = is in cc)
+get_depth k (boolean b) v most is within = absurd (let clash : None ≡ Some v = is in cc)
+get_depth k (number n) v most is within = absurd (let clash : None ≡ Some v = is in cc)
+get_depth k (string s) v most is within = absurd (let clash : None ≡ Some v = is in cc)
+get_depth k (array ds) v most is within = absurd (let clash : None ≡ Some v = is in cc)
+get_depth k (object ms) v most is within = omega (arith, within, member_depth k ms v is)
+
+-- a member that is found is nested within a limit of its object
+pub id_within : {V : Type 0} (view : V → Data) (found : Option V) (d : Data) (k : List ℕ) (most : ℕ)
+    → option_map view found ≡ get k d → depth d ≤ most → IfSome found (λ v. depth (view v) ≤ most)
+id_within view None d k most is within = tt
+id_within view (Some v) d k most is within = get_depth k d (view v) most (sym is) within

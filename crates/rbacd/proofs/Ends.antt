@@ -11,6 +11,7 @@ use Rattle.rbacd.specs.Judging.{IsDecision}
 use Rattle.rbacd.specs.steps.Ending.{EndsResult}
 use Rattle.rbacd.specs.steps.Printed.{IsPrintedFor, less_told, told_with}
 use Rattle.rbacd.specs.Run.{ComesTo, EndsConfig, EndsControl, EndsProxy, EndsReplay, EndsReport, Finds, IsStoppedBy, LacksConfig, LeavesFault, LeavesObject, PrintsReport, Ran, StopsBy, StopsControl, StopsProxy}
+use Rattle.rbacd.specs.Rounds.{Link}
 use Rattle.rbacd.specs.Words.{AreMistaken, is_explained, is_json}
 use Rattle.rbacd.specs.steps.Judged.{MemoryOrStop, bare, report_with}
 use Rattle.rbacd.specs.declared.explain.Explanation.{Explanation}
@@ -160,11 +161,13 @@ module _ (holds : List ℕ → List ℕ → Type 0) (lacks : (List ℕ × IoErro
   end_of_replay path input fault told (inr lacking) (inl same) left = EndsReplay.lacking fault lacking (rw same at left)
   end_of_replay path input fault told stops (inr none) left = EndsReplay.memory (rw none at left)
 
+module _ (holds : List ℕ → List ℕ → Type 0) (lacks : (List ℕ × IoError) → Type 0)
+    (connects accepts : List ℕ → Option Link → Type 0) (out out_new errors errors_new : Option (List ℕ)) (status : ℕ) where
   -- where a control plane does not serve, that is told, or want of memory
   pub end_of_control : (words : ControlWords) (fault told : JobFault)
       → MemoryOrStop (StopsControl holds lacks words) fault
       → (told ≡ fault) ⊎ (told ≡ faults.Memory) → LeavesFault out out_new errors errors_new status told
-      → EndsControl holds lacks out out_new errors errors_new status words
+      → EndsControl holds lacks connects accepts out out_new errors errors_new status words
   end_of_control words fault told (inl none) (inl same) left = EndsControl.memory (rw (same, none) at left)
   end_of_control words fault told (inr stops) (inl same) left = EndsControl.stopped fault stops (rw same at left)
   end_of_control words fault told stops (inr none) left = EndsControl.memory (rw none at left)
@@ -172,7 +175,7 @@ module _ (holds : List ℕ → List ℕ → Type 0) (lacks : (List ℕ × IoErro
   -- where a proxy runs no round
   pub end_of_proxy : (words : ProxyWords) (fault told : JobFault) → MemoryOrStop (StopsProxy holds lacks words) fault
       → (told ≡ fault) ⊎ (told ≡ faults.Memory) → LeavesFault out out_new errors errors_new status told
-      → EndsProxy holds lacks out out_new errors errors_new status words
+      → EndsProxy holds lacks connects accepts out out_new errors errors_new status words
   end_of_proxy words fault told (inl none) (inl same) left = EndsProxy.memory (rw (same, none) at left)
   end_of_proxy words fault told (inr stops) (inl same) left = EndsProxy.stopped fault stops (rw same at left)
   end_of_proxy words fault told stops (inr none) left = EndsProxy.memory (rw none at left)
@@ -183,7 +186,7 @@ module _ (holds : List ℕ → List ℕ → Type 0) (lacks : (List ℕ × IoErro
       → (fault ≡ faults.Memory) ⊎ (fault ≡ faults.Words error)
       → (kind_of error ≡ kinds.OutOfMemory) ⊎ AreMistaken words (kind_of error)
       → (told ≡ fault) ⊎ (told ≡ faults.Memory) → LeavesFault out out_new errors errors_new status told
-      → Ran holds lacks input out out_new errors errors_new status words
+      → Ran holds lacks connects accepts input out out_new errors errors_new status words
   end_of_words input words error fault told memory either mistaken (inr none) left = Ran.memory (rw none at left)
   end_of_words input words error fault told memory (inl none) mistaken (inl same) left =
       Ran.memory (rw (same, none) at left)

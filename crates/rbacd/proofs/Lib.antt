@@ -4,6 +4,7 @@ mod Writing
 mod Ends
 mod JudgeLemmas
 mod FactLemmas
+mod HeadLines
 mod StandardFacts
 mod JsonLemmas
 mod ConfigurationLemmas

@@ -1,7 +1,8 @@
 -- One line more of a replay.
-use Rattle.std.proofs.Common.{◌≡◌, ◌≢◌, ◌⊎◌, inl, inr, ◌++◌, ◌+◌, ◌∙◌, ℕ, List, [], ◌∷◌, Option, Some, None, ap, append_assoc, append-nil, length, refl, sym}
+use Rattle.std.proofs.Common.{◌≡◌, ◌≢◌, ◌++◌, ◌+◌, ◌∙◌, ℕ, List, [], ◌∷◌, Option, Some, None, ap, append_assoc, append-nil, length, refl, sym}
 use Rattle.std.proofs.KnownBytes.{Appends-nil, Appends-trans}
 use Rattle.std.specs.Prelude.{IfSome}
+use Rattle.std.specs.declared.io.ErrorKind.{ErrorKind as IoKind}
 use Rattle.std.specs.Io.BufRead.{drop_through, take_through}
 use Rattle.std.specs.Io.KnownBytes.{Appends}
 use Rattle.xds_wire.proofs.Each.{zip_push}
@@ -11,7 +12,7 @@ use Rattle.rbacd.proofs.PumpLemmas.{calls_more}
 use Rattle.rbacd.specs.Replays.{AreLines, IsLineText, IsReplayed, ReadsLine, Replayed, StopsBy, answer_line, event_of, printed_of}
 use Rattle.rbacd.specs.declared.replay.ReplayFault.{ReplayFault}
 use Rattle.rbacd.specs.declared.replay.ReplayFault.TheVariants as faults
-use Rattle.rbacd.specs.steps.Replaying.{IsSomeLine, TurnStops}
+use Rattle.rbacd.specs.steps.Replaying.{IsSomeLine, TurnFault, TurnStops}
 
 -- one line more of the bytes
 lines_more : (bytes : List ℕ) (lines : List (List ℕ)) (left line : List ℕ) → AreLines bytes lines left → left ≢ []
@@ -105,12 +106,25 @@ replayed_end config input out lines calls after now next out_now so_far end = re
 pub stops_of : (config : ConfigValue) (input out : Option (List ℕ)) (e : ReplayFault) (number : ℕ) (line : List ℕ)
     (lines : List (List ℕ)) (input_then input_new out_then out_new : Option (List ℕ)) → ReadsLine input_then line input_new
     → number ≡ length lines + 1 → TurnStops number line out_then out_new e
-    → (e ≡ faults.Memory) ⊎ StopsBy config input out e lines input_then input_new out_then out_new
+    → StopsBy config input out e lines input_then input_new out_then out_new
 stops_of config input out (faults.Line n cause) number line lines input_then input_new out_then out_new reads count stops =
-    inr (stops.0 ∙ count, stops.1, (line, reads, stops.2))
+    (stops.0 ∙ count, stops.1, (line, reads, stops.2))
 stops_of config input out (faults.Input cause) number line lines input_then input_new out_then out_new reads count stops =
     absurd stops
 stops_of config input out (faults.Output cause) number line lines input_then input_new out_then out_new reads count stops =
-    inr stops
-stops_of config input out faults.Memory number line lines input_then input_new out_then out_new reads count stops =
-    inl refl
+    stops
+stops_of config input out faults.Memory number line lines input_then input_new out_then out_new reads count stops = stops
+
+-- what stops the reading of a line stops the replay
+pub turn_stops : (config : ConfigValue) (input out : Option (List ℕ)) (e : ReplayFault) (lines : List (List ℕ))
+    (input_then input_new out_then : Option (List ℕ)) → TurnFault e
+    → StopsBy config input out e lines input_then input_new out_then out_then
+turn_stops config input out (faults.Line n cause) lines input_then input_new out_then fault = absurd fault
+turn_stops config input out (faults.Input cause) lines input_then input_new out_then fault = (fault, refl)
+turn_stops config input out (faults.Output cause) lines input_then input_new out_then fault = absurd fault
+turn_stops config input out faults.Memory lines input_then input_new out_then fault = refl
+
+-- an input that is late is not out of memory
+pub not_memory : (kind : IoKind) → kind ≡ IoKind.TimedOut → ¬ (kind ≡ IoKind.OutOfMemory)
+not_memory kind late none =
+    let clash : IoKind.TimedOut ≡ IoKind.OutOfMemory = sym late ∙ none in cc

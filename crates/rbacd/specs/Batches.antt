@@ -1,6 +1,6 @@
 -- A batch: request heads as lines with JSON objects (RFC 8259 section 4), and the answer to each. The names are this
 -- project's own.
-use Rattle.std.specs.Prelude.{◌≡◌, ◌⊎◌, ◌↔◌, ◌≢◌, ◌++◌, ◌+◌, ⊤, ℕ, Bool, true, List, [], ◌∷◌, IfSome, IsTrue, IsUtf8, Option, Some, None, codes, option_map, string_bytes}
+use Rattle.std.specs.Prelude.{◌≡◌, ◌⊎◌, ◌↔◌, ◌≢◌, ◌<◌, ◌++◌, ◌+◌, ⊤, ℕ, Bool, true, List, [], ◌∷◌, IfSome, IsTrue, IsUtf8, Option, Some, None, codes, drop, length, option_map, string_bytes}
 use Rattle.std.specs.Io.KnownBytes.{Appends}
 use Rattle.std.specs.IoError.{error_kind}
 use Rattle.std.specs.List.{flat_map}
@@ -16,16 +16,20 @@ use Rattle.rbacd.specs.Facts.{AreFacts}
 use Rattle.rbacd.specs.Judging.{IsDecision, IsOutcomeOf}
 use Rattle.rbacd.specs.Members.{HasOnly}
 use Rattle.rbacd.specs.Outcome.{printed_of}
-use Rattle.rbacd.specs.Output.{BreaksOff, Takes}
+use Rattle.rbacd.specs.Output.{BreaksOff}
 use Rattle.rbacd.specs.Replays.{AreLines}
 use Rattle.rbacd.specs.declared.outcome.Outcome.TheVariants as outcomes
 use Rattle.rbacd.specs.declared.outcome.Report.{Report}
 use Rattle.rbacd.specs.declared.replay.ReplayFault.{ReplayFault}
 use Rattle.rbacd.specs.declared.replay.ReplayFault.TheVariants as faults
 
+-- the line has more than 1 MiB, its line feed included
+abbrev pub IsTooLong : List ℕ → Type 0
+IsTooLong line = 1048576 < length line
+
 -- the names of the members that the object of a line may have
 abbrev pub head_names : List (List ℕ)
-head_names = codes "head" ∷ codes "facts" ∷ []
+head_names = codes "head" ∷ codes "facts" ∷ codes "id" ∷ []
 
 -- the value means these facts; if there is no value, the facts are `absent`
 abbrev pub AreFactsOr : Facts → Option Data → Facts → Type 0
@@ -47,32 +51,46 @@ abbrev pub HasNoHead : Facts → List ℕ → Type 0
 HasNoHead absent line = ((head : List ℕ) (facts : Facts) → ¬ IsHeadText absent line head facts)
     ⊎ ((head : List ℕ) × (facts : Facts) × IsHeadText absent line head facts × ¬ FactsInLimits facts largest)
 
--- the answer to a line: the report on its head; or the number of a line that has none, with the cause
+-- the text of the member `id` of the line's object, read as JSON, is that member's value. There is no text if the line
+-- has no such member
+abbrev pub IsIdOf : List ℕ → Option (List ℕ) → Type 0
+IsIdOf line (Some text) = IsUtf8 line × ((d value : Data) × (read line ≡ Some d) × (get (codes "id") d ≡ Some value)
+    × (read text ≡ Some value))
+IsIdOf line None = (d : Data) → IsUtf8 line → read line ≡ Some d → get (codes "id") d ≡ None
+
+-- the answer to a line: the report on its head; or the number of a line that has none, with the cause. Both have the
+-- text of the line's id, if it has one
 pub data Answer : Type 0 where
-  judged : Report → Answer
-  bad : ℕ → List ℕ → Answer
+  judged : Option (List ℕ) → Report → Answer
+  bad : Option (List ℕ) → ℕ → List ℕ → Answer
 
 -- the object of a line that has no head
 abbrev pub bad_json : ℕ → List ℕ → Data
 bad_json n cause =
     object (member (codes "cause") (string cause) (member (codes "line") (number (unsigned n)) no_members))
 
+-- the text of an object, with the id as its first member
+abbrev pub with_id : Option (List ℕ) → List ℕ → List ℕ
+with_id None text = text
+with_id (Some id) text = codes "{\"id\":" ++ id ++ 44 ∷ drop 1 text
+
 -- the line that is printed for an answer
 abbrev pub answer_text : Answer → List ℕ
-answer_text (judged report) = printed_of report
-answer_text (bad n cause) = compact_text (bad_json n cause) ++ 10 ∷ []
+answer_text (judged id report) = with_id id (printed_of report)
+answer_text (bad id n cause) = with_id id (compact_text (bad_json n cause) ++ 10 ∷ [])
 
 -- the lines that are printed for answers, in order
 abbrev pub answers_text : List Answer → List ℕ
 answers_text = flat_map answer_text
 
--- what was printed of some answers when this fault ended a batch: all if the input failed, not all if the output did
+-- what was printed of some answers when this fault ended a batch: all if the input failed or memory ran out, not all if
+-- the output failed
 abbrev pub LeavesAnswers : Option (List ℕ) → Option (List ℕ) → List ℕ → ReplayFault → Type 0
 LeavesAnswers out out_new text (faults.Line n cause) = ⊥
 LeavesAnswers out out_new text (faults.Input cause) =
     (error_kind cause ≢ IoKind.OutOfMemory) × Appends out out_new text
 LeavesAnswers out out_new text (faults.Output cause) = BreaksOff out out_new text
-LeavesAnswers out out_new text faults.Memory = Takes out out_new text
+LeavesAnswers out out_new text faults.Memory = Appends out out_new text
 
 -- parameters: a policy, its budget, the facts of a line that has none, and whether verdicts are explained
 module _ (policy : List ℕ) (budget : ℕ) (absent : Facts) (explain : Bool) where
@@ -80,17 +98,19 @@ module _ (policy : List ℕ) (budget : ℕ) (absent : Facts) (explain : Bool) wh
   pub record IsReportOn (line : List ℕ) (report : Report) : Type 0 where
     pub head : List ℕ
     pub facts : Facts
+    pub short : ¬ IsTooLong line
     pub told : IsHeadText absent line head facts
     pub fits : FactsInLimits facts largest
     pub found : IsOutcomeOf policy budget facts head (option_map string_bytes report.name) report.explanation report.outcome
     pub given : IsGiven report.explanation ↔ (IsTrue explain × IsDecision report.outcome)
 
-  -- the answer to the line of this number. It is the report on the line's head, as JSON, or that memory ran out; or the
-  -- line has no head
+  -- the answer to the line of this number. It is the report on the line's head, as JSON, or that memory ran out. Or the
+  -- line is too long, or has no head
   abbrev pub IsAnswer : ℕ → List ℕ → Answer → Type 0
-  IsAnswer n line (judged report) =
-      (report.json ≡ true) × ((report.outcome ≡ outcomes.Memory) ⊎ IsReportOn line report)
-  IsAnswer n line (bad told cause) = (told ≡ n) × HasNoHead absent line
+  IsAnswer n line (judged id report) = (report.json ≡ true)
+      × (((id ≡ None) × (report.outcome ≡ outcomes.Memory)) ⊎ (IsIdOf line id × IsReportOn line report))
+  IsAnswer n line (bad id told cause) = (told ≡ n)
+      × ((IsTooLong line × (id ≡ None)) ⊎ ((¬ IsTooLong line) × IsIdOf line id × HasNoHead absent line))
 
   -- the answers to the lines, one for each, in order; the first line has the number `n`
   abbrev pub AreAnswers : ℕ → List (List ℕ) → List Answer → Type 0

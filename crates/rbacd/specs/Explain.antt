@@ -1,9 +1,8 @@
 -- The output of `judge --explain`: the policies that were tried, each with why it matches or does not. It is in words
 -- or in JSON objects (RFC 8259), whose members are in ascending order of their names.
-use Rattle.std.specs.Prelude.{◌≡◌, ⊤, ℕ, Bool, false, ◌==◌, ◌||◌, ◌&&◌, nat_le, if◌then◌else◌, List, [], ◌∷◌, ◌++◌, Option, Some, None, codes, map, string_bytes}
-use Rattle.std.specs.Char.{encode_utf8}
+use Rattle.std.specs.Prelude.{◌≡◌, ⊤, ℕ, ◌==◌, if◌then◌else◌, List, [], ◌∷◌, ◌++◌, Option, Some, None, codes, map, string_bytes}
 use Rattle.std.specs.FinMap.{entries}
-use Rattle.std.specs.Fmt.{decimal, digits}
+use Rattle.std.specs.Fmt.{decimal}
 use Rattle.std.specs.List.{flat_map}
 use Rattle.std.specs.Str.{chars}
 use Rattle.attributes.specs.Limits.{largest}
@@ -19,6 +18,7 @@ use Rattle.serde_json.specs.Data.{Data, number, unsigned, string, array, object,
 use Rattle.serde_json.specs.View.{items_of}
 use Rattle.stack_machine.specs.declared.error.RunError.{RunError}
 use Rattle.stack_machine.specs.declared.error.RunError.TheVariants as errors
+use Rattle.rbacd.specs.Shown.{shown_character}
 use Rattle.rbacd.specs.declared.explain.Explanation.{Explanation}
 use Rattle.rbacd.specs.declared.explain.Explanation.TheVariants as explanations
 use Rattle.rbacd.specs.declared.explain.OwnTrial.{OwnTrial}
@@ -76,13 +76,6 @@ IsGiven explanations.Absent = ⊥
 IsGiven (explanations.Trials trials) = ⊤
 IsGiven (explanations.Untold cause) = ⊤
 
--- the character is invisible, or moves its neighbours: a control, a character without width, or one that changes the
--- direction of text
-abbrev pub is_hidden : ℕ → Bool
-is_hidden c = nat_le c 0x1f || (nat_le 0x7f c && nat_le c 0x9f) || (c == 0x61c)
-    || (nat_le 0x200b c && nat_le c 0x200f) || (nat_le 0x2028 c && nat_le c 0x202e)
-    || (nat_le 0x2060 c && nat_le c 0x206f) || (c == 0xfeff)
-
 -- a character as it is written between quotes: as `\"`, `\\`, `\0`, `\t`, `\n`, `\r`, `\u{1b}` or itself
 abbrev pub escaped : ℕ → List ℕ
 escaped c =
@@ -92,8 +85,7 @@ escaped c =
     else (if c == 9 then 92 ∷ 116 ∷ []
     else (if c == 10 then 92 ∷ 110 ∷ []
     else (if c == 13 then 92 ∷ 114 ∷ []
-    else (if is_hidden c then 92 ∷ 117 ∷ 123 ∷ (digits 16 false c ++ 125 ∷ [])
-    else encode_utf8 c))))))
+    else shown_character c)))))
 
 -- the name in quotes
 abbrev pub quoted : List ℕ → List ℕ

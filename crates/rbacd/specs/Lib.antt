@@ -1,4 +1,5 @@
 pub mod Words
+pub mod Shown
 pub mod Explain
 pub mod Json
 pub mod Outcome

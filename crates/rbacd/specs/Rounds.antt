@@ -1,5 +1,5 @@
 -- The rounds of a proxy: in each round it hears its update stream, and serves one connection.
-use Rattle.std.specs.Prelude.{◌≡◌, ◌⊎◌, ℕ, zero, suc, Bool, true, false, List, Option, Some, None}
+use Rattle.std.specs.Prelude.{◌≡◌, ◌⊎◌, ℕ, zero, suc, Bool, true, false, List, Option, Some, None, Result, Ok, Err}
 use Rattle.attributes.specs.Conn.{Facts}
 use Rattle.proxy_core.specs.Step.{ProxyValue}
 use Rattle.rbacd.specs.Pumps.{EndsUpdates, Opens, Serves, TakesResponse}
@@ -33,26 +33,36 @@ pub record ComesUp (old new : ProxyValue) (link : Link) (after : Option Link) : 
   pub opens : Opens old between link.1 out is_up
   pub takes : TakesWhereUp is_up between new (link.0, out) after
 
+-- the ends of a stream that was opened or accepted; None if none was
+abbrev pub link_of : {R W E : Type 0} → (R → Option (List ℕ)) → (W → Option (List ℕ)) → Result (R × W) E → Option Link
+link_of remaining contents (Ok ends) = Some (remaining ends.0, contents ends.1)
+link_of remaining contents (Err e) = None
+
 -- the update stream in a round. If it is up, one response is taken; if it is not, it comes up first. If it cannot be
--- connected, it is lost
-pub data HearsUpdates (old new : ProxyValue) (before after : Option Link) : Type 0 where
-  up : (link : Link) → before ≡ Some link → TakesOne old new link after → HearsUpdates old new before after
-  connected : (link : Link) → before ≡ None → ComesUp old new link after → HearsUpdates old new before after
-  unreachable : before ≡ None → EndsUpdates old new false → after ≡ None → HearsUpdates old new before after
+-- connected, it is lost. `Connects` says which stream connecting gives, or that it gives none
+module _ (Connects : Option Link → Type 0) where
+  pub data HearsUpdates (old new : ProxyValue) (before after : Option Link) : Type 0 where
+    up : (link : Link) → before ≡ Some link → TakesOne old new link after → HearsUpdates old new before after
+    connected : (link : Link) → before ≡ None → Connects (Some link) → ComesUp old new link after
+        → HearsUpdates old new before after
+    unreachable : before ≡ None → Connects None → EndsUpdates old new false → after ≡ None
+        → HearsUpdates old new before after
 
--- one connection with these facts was served, or none was accepted
-abbrev pub ServesOne : Facts → ProxyValue → ProxyValue → Type 0
-ServesOne facts old new = (new ≡ old)
-    ⊎ ((input input_new out out_new : Option (List ℕ)) × Serves old new input input_new out out_new facts)
+-- one connection with these facts was served, or none was accepted. `Accepts` says which is accepted, or that none is
+abbrev pub ServesOne : (Option Link → Type 0) → Facts → ProxyValue → ProxyValue → Type 0
+ServesOne Accepts facts old new = (Accepts None × (new ≡ old))
+    ⊎ ((link : Link) × Accepts (Some link)
+    × ((input_new out_new : Option (List ℕ)) × Serves old new link.0 input_new link.1 out_new facts))
 
--- one round: the update stream first, then a connection
-pub record IsRound (facts : Facts) (old new : ProxyValue) (before after : Option Link) : Type 0 where
-  pub between : ProxyValue
-  pub hears : HearsUpdates old between before after
-  pub serves : ServesOne facts between new
+module _ (Connects Accepts : Option Link → Type 0) (facts : Facts) where
+  -- one round: the update stream first, then a connection
+  pub record IsRound (old new : ProxyValue) (before after : Option Link) : Type 0 where
+    pub between : ProxyValue
+    pub hears : HearsUpdates Connects old between before after
+    pub serves : ServesOne Accepts facts between new
 
--- this many rounds
-abbrev pub Rounds : Facts → ℕ → ProxyValue → ProxyValue → Option Link → Option Link → Type 0
-Rounds facts zero old new before after = (new ≡ old) × (after ≡ before)
-Rounds facts (suc rounds) old new before after = (next : ProxyValue) × (link : Option Link)
-    × IsRound facts old next before link × Rounds facts rounds next new link after
+  -- this many rounds
+  abbrev pub Rounds : ℕ → ProxyValue → ProxyValue → Option Link → Option Link → Type 0
+  Rounds zero old new before after = (new ≡ old) × (after ≡ before)
+  Rounds (suc rounds) old new before after = (next : ProxyValue) × (link : Option Link)
+      × IsRound old next before link × Rounds rounds next new link after

@@ -32,6 +32,7 @@ use Rattle.rbacd.specs.Json.{fault_json}
 use Rattle.rbacd.specs.Outcome.{line_of, printed_of, status_of}
 use Rattle.rbacd.specs.Output.{BreaksOff, Takes}
 use Rattle.rbacd.specs.Rounds.{Link, Rounds}
+use Rattle.rbacd.specs.Shown.{shown}
 use Rattle.rbacd.specs.Words.{AreMistaken, IsJobOf, is_explained, is_json}
 use Rattle.rbacd.specs.declared.explain.Explanation.{Explanation}
 use Rattle.rbacd.specs.declared.explain.Explanation.TheVariants as explanations
@@ -137,12 +138,12 @@ module _ (holds : Text → Text → Type 0) (lacks : (Text × IoError) → Type 
 -- the first line of a fault on standard error, if it has one
 abbrev pub first_line : JobFault → Text
 first_line (faults.Words error) = []
-first_line (faults.File path cause) = codes "cannot read " ++ string_bytes path ++ 10 ∷ []
+first_line (faults.File path cause) = codes "cannot read " ++ shown (string_bytes path) ++ 10 ∷ []
 first_line faults.Facts = codes "bad facts" ++ 10 ∷ []
 first_line faults.Config = codes "bad config" ++ 10 ∷ []
 first_line (faults.Input cause) = codes "cannot read standard input" ++ 10 ∷ []
-first_line (faults.Log path cause) = codes "cannot write " ++ string_bytes path ++ 10 ∷ []
-first_line (faults.Listen address cause) = codes "cannot listen " ++ string_bytes address ++ 10 ∷ []
+first_line (faults.Log path cause) = codes "cannot write " ++ shown (string_bytes path) ++ 10 ∷ []
+first_line (faults.Listen address cause) = codes "cannot listen " ++ shown (string_bytes address) ++ 10 ∷ []
 first_line faults.Memory = []
 
 -- the status of a fault
@@ -154,7 +155,7 @@ status_of_fault fault = 2
 
 -- the words of a fault that stops a job with a report
 abbrev pub fault_words : JobFault → Text
-fault_words (faults.File path cause) = codes "cannot read " ++ string_bytes path
+fault_words (faults.File path cause) = codes "cannot read " ++ shown (string_bytes path)
 fault_words faults.Facts = codes "bad facts"
 fault_words (faults.Input cause) = codes "cannot read standard input"
 fault_words fault = []
@@ -305,7 +306,7 @@ module _ (holds : Text → Text → Type 0) (lacks : (Text × IoError) → Type 
       whole : (c : ConfigValue) (input_new : Option Text) → IsConfigOf holds lacks path c
           → IsReplayed c input out input_new out_new → status ≡ 0 → errors_new ≡ errors → EndsReplay
       stopped : (c : ConfigValue) (input_new : Option Text) (fault : ReplayFault) → IsConfigOf holds lacks path c
-          → (fault ≡ replay_faults.Memory) ⊎ IsStopped c input out fault input_new out_new
+          → IsStopped c input out fault input_new out_new
           → LeavesReplay errors errors_new status fault → EndsReplay
       lacking : (fault : JobFault) → LacksConfig holds lacks path fault
           → LeavesFault out out_new errors errors_new status fault → EndsReplay
@@ -321,10 +322,11 @@ abbrev pub CannotLog : Option Text → JobFault → Type 0
 CannotLog log (faults.Log path cause) = log ≡ Some (string_bytes path)
 CannotLog log _ = ⊥
 
--- one stream of the control plane was served, or none was accepted
-abbrev pub ServesOneStream : ControlValue → ControlValue → Type 0
-ServesOneStream old new = (new ≡ old)
-    ⊎ ((input input_new out out_new : Option Text) × ServesStream old new input input_new out out_new)
+-- one stream of the control plane was served, or none was accepted. `Accepts` says which is accepted, or that none is
+abbrev pub ServesOneStream : (Option Link → Type 0) → ControlValue → ControlValue → Type 0
+ServesOneStream Accepts old new = (Accepts None × (new ≡ old))
+    ⊎ ((link : Link) × Accepts (Some link)
+    × ((input_new out_new : Option Text) × ServesStream old new link.0 input_new link.1 out_new))
 
 -- the line for the last acknowledged number
 abbrev pub acknowledged_line : Option ℕ → Text
@@ -348,15 +350,6 @@ module _ (holds : Text → Text → Type 0) (lacks : (Text × IoError) → Type 
   AreSnapshotsOf words snapshots =
       AllZip (IsSnapshotOf (string_bytes words.name)) (map string_bytes words.files.items) snapshots
 
-  -- a control plane, run as the command line says, served one stream, if one was accepted, and this number was the last
-  -- acknowledged
-  pub record IsServed (words : ControlWords) (acknowledged : Option ℕ) : Type 0 where
-    pub snapshots : List (List ResourceValue)
-    pub read : AreSnapshotsOf words snapshots
-    pub after : ControlValue
-    pub serves : ServesOneStream (new_control snapshots) after
-    pub number : acknowledged ≡ after.served.acknowledged
-
   -- the fault that stops a control plane. It reads the files first, then opens the log, and then listens
   pub data StopsControl (words : ControlWords) (fault : JobFault) : Type 0 where
     no_file : LacksFile (map string_bytes words.files.items) fault → StopsControl words fault
@@ -378,15 +371,6 @@ module _ (holds : Text → Text → Type 0) (lacks : (Text × IoError) → Type 
     pub conn : IsConnOf holds lacks (option_map string_bytes words.facts) facts
     pub fits : FactsInLimits facts c.limits
 
-  -- a proxy of this configuration and these facts ran its rounds; before them the update stream was down
-  pub record IsProxied (words : ProxyWords) : Type 0 where
-    pub c : ConfigValue
-    pub facts : Facts
-    pub set_up : IsSetUp words c facts
-    pub after : ProxyValue
-    pub link : Option Link
-    pub rounds : Rounds facts words.rounds (new_proxy c) after None link
-
   -- the fault that stops a proxy. It reads the configuration first, then the facts, then opens the log, and then
   -- listens
   pub data StopsProxy (words : ProxyWords) (fault : JobFault) : Type 0 where
@@ -398,23 +382,47 @@ module _ (holds : Text → Text → Type 0) (lacks : (Text × IoError) → Type 
     no_listener : (c : ConfigValue) (facts : Facts) → IsSetUp words c facts
         → CannotListen (string_bytes words.listen) fault → StopsProxy words fault
 
+-- parameters: a source of files, and sockets. `connects` says which stream connecting to an address gives, or that it
+-- gives none; `accepts` the same of a listener at an address
+module _ (holds : Text → Text → Type 0) (lacks : (Text × IoError) → Type 0)
+    (connects accepts : Text → Option Link → Type 0) where
+  -- a control plane, run as the command line says, served one stream, if one was accepted, and this number was the last
+  -- acknowledged
+  pub record IsServed (words : ControlWords) (acknowledged : Option ℕ) : Type 0 where
+    pub snapshots : List (List ResourceValue)
+    pub read : AreSnapshotsOf holds lacks words snapshots
+    pub after : ControlValue
+    pub serves : ServesOneStream (accepts (string_bytes words.listen)) (new_control snapshots) after
+    pub number : acknowledged ≡ after.served.acknowledged
+
+  -- a proxy of this configuration and these facts ran its rounds; before them the update stream was down
+  pub record IsProxied (words : ProxyWords) : Type 0 where
+    pub c : ConfigValue
+    pub facts : Facts
+    pub set_up : IsSetUp holds lacks words c facts
+    pub after : ProxyValue
+    pub link : Option Link
+    pub rounds : Rounds (connects (string_bytes words.control)) (accepts (string_bytes words.listen)) facts words.rounds
+        (new_proxy c) after None link
+
   module _ (out out_new errors errors_new : Option Text) (status : ℕ) where
     -- the end of a control plane: it prints the last acknowledged number, or the fault that stopped it
     pub data EndsControl (words : ControlWords) : Type 0 where
       served : (acknowledged : Option ℕ) → IsServed words acknowledged
           → Prints out out_new errors errors_new status 0 (acknowledged_line acknowledged) → EndsControl words
-      stopped : (fault : JobFault) → StopsControl words fault → LeavesFault out out_new errors errors_new status fault
+      stopped : (fault : JobFault) → StopsControl holds lacks words fault → LeavesFault out out_new errors errors_new status fault
           → EndsControl words
       memory : LeavesFault out out_new errors errors_new status faults.Memory → EndsControl words
 
     -- the end of a proxy: it prints nothing, or the fault that stopped it
     pub data EndsProxy (words : ProxyWords) : Type 0 where
       served : IsProxied words → status ≡ 0 → out_new ≡ out → errors_new ≡ errors → EndsProxy words
-      stopped : (fault : JobFault) → StopsProxy words fault → LeavesFault out out_new errors errors_new status fault
+      stopped : (fault : JobFault) → StopsProxy holds lacks words fault → LeavesFault out out_new errors errors_new status fault
           → EndsProxy words
       memory : LeavesFault out out_new errors errors_new status faults.Memory → EndsProxy words
 
-module _ (holds : Text → Text → Type 0) (lacks : (Text × IoError) → Type 0) (input : Option Text)
+module _ (holds : Text → Text → Type 0) (lacks : (Text × IoError) → Type 0)
+    (connects accepts : Text → Option Link → Type 0) (input : Option Text)
     (out out_new errors errors_new : Option Text) (status : ℕ) where
   -- the end of a job
   abbrev pub EndsJob : Job → Type 0
@@ -427,8 +435,8 @@ module _ (holds : Text → Text → Type 0) (lacks : (Text × IoError) → Type 
       EndsConfig holds lacks out out_new errors errors_new status (string_bytes config)
   EndsJob (Replay config) =
       EndsReplay holds lacks out out_new errors errors_new status (string_bytes config) input
-  EndsJob (Control words) = EndsControl holds lacks out out_new errors errors_new status words
-  EndsJob (Proxy words) = EndsProxy holds lacks out out_new errors errors_new status words
+  EndsJob (Control words) = EndsControl holds lacks connects accepts out out_new errors errors_new status words
+  EndsJob (Proxy words) = EndsProxy holds lacks connects accepts out out_new errors errors_new status words
 
   -- the words name a job, which ends in this way; or they are mistaken; or memory ran out before that was known
   pub data Ran (words : List Text) : Type 0 where

@@ -8,7 +8,7 @@ use std::alloc::{AllocError, Global};
 pub(crate) fn cause_of_bad_facts(alloc: Global, text: &[u8]) -> Result<String, AllocError> {
     let value = match Value::from_slice(alloc, text) {
         Ok(value) => value,
-        Err(error) => return format!(in alloc; "it is no JSON text: {error}"),
+        Err(error) => return format!(in alloc; "it is not a JSON text: {error}"),
     };
     match cause_of_bad_value(alloc, &value)? {
         Some(cause) => Ok(cause),
@@ -23,7 +23,7 @@ pub(crate) fn cause_of_bad_value(
 ) -> Result<Option<String>, AllocError> {
     match value.as_object() {
         Some(members) => cause_of_bad_members(alloc, value, members),
-        None => Ok(Some(String::from_str(alloc, "it is no JSON object")?)),
+        None => Ok(Some(String::from_str(alloc, "it is not a JSON object")?)),
     }
 }
 
@@ -37,7 +37,7 @@ fn cause_of_bad_members(
     for name in members.keys() {
         let name = name.as_str();
         let Some(fact) = Fact::named(name) else {
-            return Ok(Some(format!(in alloc; "no fact is named {name:?}")?));
+            return Ok(Some(format!(in alloc; "there is no fact {name:?}")?));
         };
         if let Some(kind) = kind_that_lacks(object, fact) {
             return Ok(Some(format!(in alloc; "the value of {name} is not {kind}")?));
@@ -45,7 +45,7 @@ fn cause_of_bad_members(
         let count = length_at(object, fact);
         if count > most {
             return Ok(Some(format!(in alloc;
-                "the value of {name} has {count} bytes, and may have {most}"
+                "the value of {name} has {count} bytes; it may have {most}"
             )?));
         }
     }

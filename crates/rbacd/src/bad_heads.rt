@@ -42,7 +42,7 @@ fn passed_by_fields(alloc: Global, fields: &[&[u8]]) -> Result<Option<String>, A
     );
     if count > most {
         return Ok(Some(format!(in alloc;
-            "there are {count} headers, :method, :path and :scheme among them, and may be {most}"
+            "there are {count} headers, counting :method, :path and :scheme; there may be {most}"
         )?));
     }
     for field in fields {
@@ -70,7 +70,7 @@ fn above(
     if count <= most {
         return Ok(None);
     }
-    Ok(Some(format!(in alloc; "{what} has {count} bytes, and may have {most}")?))
+    Ok(Some(format!(in alloc; "{what} has {count} bytes; it may have {most}")?))
 }
 
 /// The name of a field, which ends at a colon.

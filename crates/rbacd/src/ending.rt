@@ -11,6 +11,7 @@ use crate::job_fault::JobFault;
 use crate::notes::Notes;
 use crate::outcome::Outcome;
 use crate::output::write_whole;
+use crate::shown::{shown, shown_lines};
 use clap::error::ErrorKind as WordsKind;
 use std::alloc::{AllocError, Global};
 use std::io::{self, ErrorKind, Write};
@@ -61,8 +62,12 @@ pub(crate) fn text_of(alloc: Global, fault: &JobFault, notes: &Notes) -> Result<
     ensures { IfOk result (λ text. StartsWith (string_bytes text) (first_line fault.now)) }
 {
     match fault {
-        JobFault::Words(error) => error.to_string(alloc),
+        JobFault::Words(error) => {
+            let text = error.to_string(alloc)?;
+            shown_lines(alloc, text.as_str())
+        }
         JobFault::File(path, cause) => {
+            let path = shown(alloc, path.as_str())?;
             let cause = cause.to_string(alloc)?;
             with_cause(
                 alloc,
@@ -84,11 +89,13 @@ pub(crate) fn text_of(alloc: Global, fault: &JobFault, notes: &Notes) -> Result<
             with_cause(alloc, line, cause.as_str())
         }
         JobFault::Log(path, cause) => {
+            let path = shown(alloc, path.as_str())?;
             let cause = cause.to_string(alloc)?;
             let line = format!(in alloc; "cannot write {path}\n")?;
             with_cause(alloc, line, cause.as_str())
         }
         JobFault::Listen(address, cause) => {
+            let address = shown(alloc, address.as_str())?;
             let cause = cause.to_string(alloc)?;
             let line = format!(in alloc; "cannot listen {address}\n")?;
             with_cause(alloc, line, cause.as_str())

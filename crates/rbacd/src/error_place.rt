@@ -1,8 +1,8 @@
 //! The part of a condition that an error is from, in words for readers of an explanation. The part is found by
-//! `origin_of_error`, whose contract says which it is. No contract mentions the words.
+//! `evaluate_plainly`, whose contract says which it is. No contract mentions the words.
 
 use attributes::Request;
-use cel_meaning::{evaluate_plainly, origin_of_error};
+use cel_meaning::{Place, Placed, Stopped, evaluate_plainly};
 use cel_tree::Tree;
 use cel_value::{Answer, Value};
 use proto_wire::Refusal;
@@ -12,6 +12,9 @@ use std::rc::RcStr;
 
 /// How many characters of a text are told at most.
 const SHOWN: usize = 100;
+
+/// How many steps the search for the part takes at most.
+const MOST_STEPS: u64 = 10_000_000;
 
 /// Where the error of a condition begins for the request, such as
 /// `checked_condition.expr, node 7: no key "x-user"`. The condition is that of the policy of this number in the
@@ -39,24 +42,43 @@ fn place_in_condition(
         true => "checked_condition.expr",
         false => "condition",
     };
-    match origin_of_error(alloc, &condition.checked.tree, request)? {
-        Some(part) => Ok(Some(part_text(alloc, name, part, request)?)),
-        None => Ok(None),
+    match evaluate_plainly(alloc, &condition.checked.tree, request, &[], MOST_STEPS) {
+        Ok(Some(Placed { place, .. })) => match place {
+            Some(place) => Ok(Some(place_text(alloc, name, &place, request)?)),
+            None => Ok(None),
+        },
+        Ok(None) => Ok(None),
+        Err(Stopped::Memory) => Err(AllocError),
+        Err(Stopped::OutOfSteps) => {
+            let words = "the part is not found within 10000000 steps";
+            Ok(Some(String::from_str(alloc, words)?))
+        }
     }
 }
 
-/// A part of a condition: its node, and what is wrong there. A node of the id 0 is not named.
-fn part_text(
+/// A part of a condition: its node, the turns that it is in, and what is wrong there. A node of the id 0 is not named.
+fn place_text(
     alloc: Global,
     name: &str,
-    part: &Tree,
+    place: &Place<'_>,
     request: &Request,
 ) -> Result<String, AllocError> {
-    let words = words_of(alloc, part, request)?;
-    match id_of(part) {
-        0 => format!(in alloc; "{name}: {words}"),
-        id => format!(in alloc; "{name}, node {id}: {words}"),
+    let words = words_of(alloc, place, request)?;
+    let turns = turns_text(alloc, &place.turns)?;
+    match id_of(place.part) {
+        0 => format!(in alloc; "{name}{turns}: {words}"),
+        id => format!(in alloc; "{name}, node {id}{turns}: {words}"),
     }
+}
+
+/// The numbers of turns, those of the outermost comprehension first.
+fn turns_text(alloc: Global, turns: &[usize]) -> Result<String, AllocError> {
+    let mut text = String::new(alloc);
+    for number in turns.iter().rev() {
+        let turn = format!(in alloc; ", turn {number}")?;
+        text.push_str(turn.as_str())?;
+    }
+    Ok(text)
 }
 
 /// The id of a node.
@@ -73,13 +95,13 @@ fn id_of(tree: &Tree) -> i64 {
 }
 
 /// What is wrong at a part that is an error, though its operands are none.
-fn words_of(alloc: Global, part: &Tree, request: &Request) -> Result<String, AllocError> {
-    match part {
+fn words_of(alloc: Global, place: &Place<'_>, request: &Request) -> Result<String, AllocError> {
+    match place.part {
         Tree::Constant { .. } | Tree::List { .. } => String::from_str(alloc, "an error"),
         Tree::Ident { name, .. } => words_of_attribute(alloc, name),
         Tree::Select { operand, field, .. } => words_of_select(alloc, operand, field),
         Tree::Call { function, args, .. } => {
-            words_of_call(alloc, function.as_str(), args, request)
+            words_of_call(alloc, function.as_str(), args, place, request)
         }
         Tree::Map { .. } => String::from_str(alloc, "a map literal that repeats a key"),
         Tree::Comprehension { parts, .. } => {
@@ -117,23 +139,36 @@ fn words_of_call(
     alloc: Global,
     function: &str,
     args: &[Tree],
+    place: &Place<'_>,
     request: &Request,
 ) -> Result<String, AllocError> {
     if function == "_[_]" {
         if let [_, key] = args {
-            return words_of_index(alloc, &evaluate_plainly(alloc, key, request)?);
+            let key = evaluate_plainly(alloc, key, request, &place.locals, MOST_STEPS);
+            return words_of_index(alloc, &key);
         }
     }
     format!(in alloc; "the call of {function}")
 }
 
 /// A key or an index that is not there.
-fn words_of_index(alloc: Global, key: &Option<Answer>) -> Result<String, AllocError> {
+fn words_of_index(
+    alloc: Global,
+    key: &Result<Option<Placed<'_>>, Stopped>,
+) -> Result<String, AllocError> {
     match key {
-        Some(Ok(Value::Text(text))) => words_of_key(alloc, text.as_str()),
-        Some(Ok(Value::Int(number))) => format!(in alloc; "no item or key {number}"),
-        Some(Ok(Value::Uint(number))) => format!(in alloc; "no key {number}u"),
-        Some(Ok(Value::Bool(truth))) => format!(in alloc; "no key {truth}"),
+        Ok(Some(placed)) => words_of_answer(alloc, &placed.answer),
+        Ok(None) | Err(Stopped::OutOfSteps) => String::from_str(alloc, "no such key"),
+        Err(Stopped::Memory) => Err(AllocError),
+    }
+}
+
+fn words_of_answer(alloc: Global, key: &Answer) -> Result<String, AllocError> {
+    match key {
+        Ok(Value::Text(text)) => words_of_key(alloc, text.as_str()),
+        Ok(Value::Int(number)) => format!(in alloc; "no item or key {number}"),
+        Ok(Value::Uint(number)) => format!(in alloc; "no key {number}u"),
+        Ok(Value::Bool(truth)) => format!(in alloc; "no key {truth}"),
         _ => String::from_str(alloc, "no such key"),
     }
 }

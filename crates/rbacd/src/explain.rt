@@ -3,9 +3,10 @@ ghost use Rattle.std.specs.Prelude.{◌≡◌, ◌∷◌, ◌++◌, [], codes, I
 ghost use Rattle.std.specs.Fmt.{decimal};
 ghost use Rattle.std.specs.List.{flat_map};
 ghost use Rattle.rbacd.specs.steps.Printed.{less_told};
-ghost use Rattle.rbacd.specs.Explain.{cause_line, escaped, is_hidden, own_trial_view, quoted, reason_text, told_trial_view, trial_line, trial_lines, trial_view, untold_text};
+ghost use Rattle.rbacd.specs.Explain.{cause_line, escaped, own_trial_view, quoted, reason_text, told_trial_view, trial_line, trial_lines, trial_view, untold_text};
 
 use crate::error_place::place_of_error;
+use crate::shown::push_shown;
 use attributes::Request;
 use rbac_policy::{Admitted, Reason, Trial};
 use stack_machine::RunError;
@@ -14,10 +15,6 @@ use std::fmt;
 
 /// How many causes of each side of a policy are told at most.
 const CAUSES: usize = 8;
-
-/// The greatest bound of a filter's conditions, in steps, with which the part that an error is from is looked for. The
-/// search evaluates parts once for each level above them.
-const MOST_SEARCHED: u64 = 1_000_000;
 
 /// Whether a verdict is explained, and the bytes of the policy file, in which errors of conditions are placed.
 #[derive(Clone, Copy)]
@@ -32,9 +29,13 @@ pub(crate) struct Explaining<'a> {
 /// of its rules that decide, and the part of its condition that an error is from.
 #[derive(Drop)]
 pub struct OwnTrial {
+    /// Its number.
     pub number: usize,
+    /// Its name.
     pub name: String,
+    /// Why it matches or does not.
     pub reason: Reason,
+    /// The texts of the causes.
     pub causes: Vec<String>,
 }
 
@@ -112,27 +113,11 @@ fn causes_of(
         None => Vec::new(alloc),
     };
     if let Reason::ConditionFails(_) = trial.reason {
-        if let Some(place) = error_words(alloc, policy, admitted, request, trial.number)? {
+        if let Some(place) = place_of_error(alloc, policy, trial.number, request)? {
             words.push(place)?;
         }
     }
     Ok(words)
-}
-
-/// The part of the condition of the policy of this number that its error is from, in words. It is not looked for in a
-/// filter whose conditions may take too long.
-fn error_words(
-    alloc: Global,
-    policy: &[u8],
-    admitted: &Admitted,
-    request: &Request,
-    number: usize,
-) -> Result<Option<String>, AllocError> {
-    if admitted.bound() > MOST_SEARCHED {
-        let words = "the part is not looked for: the conditions may take more than 1000000 steps";
-        return Ok(Some(String::from_str(alloc, words)?));
-    }
-    place_of_error(alloc, policy, number, request)
 }
 
 /// Appends the lines of each of the trials.
@@ -252,25 +237,8 @@ fn push_escaped(alloc: Global, text: &mut String, c: char) -> Result<(), AllocEr
         '\t' => text.push_str("\\t"),
         '\n' => text.push_str("\\n"),
         '\r' => text.push_str("\\r"),
-        _ if is_hidden(c as u32) => {
-            let code = format!(in alloc; "\\u{{{:x}}}", c as u32)?;
-            text.push_str(code.as_str())
-        }
-        _ => text.push(c),
+        _ => push_shown(alloc, text, c),
     }
-}
-
-/// Whether the character with this code is invisible, or moves its neighbours.
-fn is_hidden(code: u32) -> bool
-    ensures { result ≡ is_hidden code }
-{
-    code <= 0x1f
-        || (0x7f <= code && code <= 0x9f)
-        || code == 0x61c
-        || (0x200b <= code && code <= 0x200f)
-        || (0x2028 <= code && code <= 0x202e)
-        || (0x2060 <= code && code <= 0x206f)
-        || code == 0xfeff
 }
 
 /// The text on standard error if the trials cannot be shown, for this cause.

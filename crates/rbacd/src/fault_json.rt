@@ -10,6 +10,7 @@ use crate::job_fault::JobFault;
 use crate::notes::Notes;
 use crate::outcome::Outcome;
 use crate::output::write_whole;
+use crate::shown::shown;
 use serde_json::{Value, json};
 use std::alloc::{AllocError, Global};
 use std::io::Write;
@@ -87,7 +88,10 @@ fn words_of(alloc: Global, fault: &JobFault) -> Result<String, AllocError>
     ensures { IfOk result (λ words. string_bytes words ≡ fault_words fault.now) }
 {
     match fault {
-        JobFault::File(path, _) => format!(in alloc; "cannot read {path}"),
+        JobFault::File(path, _) => {
+            let path = shown(alloc, path.as_str())?;
+            format!(in alloc; "cannot read {path}")
+        }
         JobFault::Facts => String::from_str(alloc, "bad facts"),
         JobFault::Input(_) => String::from_str(alloc, "cannot read standard input"),
         JobFault::Words(_)

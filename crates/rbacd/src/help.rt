@@ -8,10 +8,11 @@ pub(crate) const EXAMPLE: &str = "Example:
 pub(crate) const CHECK_HELP: &str = "The line on standard output, and the status:
   admitted: policies P bound B  0  the policy file is admitted: how many policies it has, and how many
                                    steps their conditions may take together
-  refused: N NAME               1  it is refused for this reason (5 for want of memory)
-With no line there, standard error has one: 2 for words, a file or an output that fails.
+  refused: N NAME               1  it is refused for this reason (5 if memory ran out)
+Without such a line, standard error says why. The status is then 2: the words are mistaken, or a file or the
+output fails.
 
-With --json the line is one of these objects; \"place\" is null where no part of a policy is at fault:
+With --json the line is one of these objects; \"place\" is null if no part of a policy has the fault:
   {\"admitted\":true,\"bound\":B,\"policies\":P}
   {\"cause\":\"why\",\"name\":\"NAME\",\"place\":\"policy \\\"p\\\": permissions[0]\",\"refused\":N}
   {\"cause\":\"why\",\"error\":\"cannot read FILE\"}
@@ -25,12 +26,13 @@ pub(crate) const JUDGE_HELP: &str = "The line on standard output, and the status
   allow M          0  the request passes; M is the number of the policy that matched, or -
   deny M           3  the request is refused
   deny steps       3  a condition took more steps than it may, so the request is refused
-  refused: N NAME  1  the policy file is refused for this reason (5 for want of memory)
+  refused: N NAME  1  the policy file is refused for this reason (5 if memory ran out)
   head: S          4  the head has a fault that S answers: 400, 431 or 501
   memory           5  memory ran out
-With no line there, standard error has one: 2 for words, a file or an output that fails, 6 for bad facts.
+Without such a line, standard error says why. The status is then 2 if the words are mistaken, or a file or the
+output fails, and 6 for bad facts.
 
-With --json the line is one of these objects; no policy matched where \"name\" and \"policy\" are null:
+With --json the line is one of these objects; \"name\" and \"policy\" are null if no policy matched:
   {\"name\":\"p\",\"policy\":M,\"verdict\":\"allow\"}
   {\"name\":\"p\",\"policy\":M,\"verdict\":\"deny\"}
   {\"out_of_steps\":true,\"verdict\":\"deny\"}
@@ -41,7 +43,7 @@ With --json the line is one of these objects; no policy matched where \"name\" a
 
 With --explain a line follows for each policy that was tried, in order, up to the one that matched:
   M \"p\": permission                      no permission of it matches
-  M \"p\": principal                       a permission matches, and no principal
+  M \"p\": principal                       a permission matches, but no principal
   M \"p\": condition false                 its condition is false
   M \"p\": condition error E               its condition is this error, which is no match
   M \"p\": condition true steps N bound B  it matches, after N of the B steps that its condition may take
@@ -54,21 +56,24 @@ With --json the object has them as \"trials\":
   {\"causes\":[\"permissions[0].not_rule.any\"],\"name\":\"p\",\"number\":M,\"reason\":\"permission\"}
   {\"causes\":[..],\"error\":\"E\",\"name\":\"p\",\"number\":M,\"reason\":\"condition error\"}
   {\"bound\":B,\"causes\":[..],\"name\":\"p\",\"number\":M,\"reason\":\"condition true\",\"steps\":N}
-Where memory runs out for that, all of it is left out, and standard error says so; the verdict and the
-status stay. A refusal and a head's fault are not explained. Where the output breaks off, the
-lines may stand there in part; the status is 2 then, whatever they say.
+If memory runs out for these lines, none is printed, and standard error says so; the verdict and the status
+do not change. A refusal and a head's fault are not explained. If the output fails, only a part of the lines
+may be printed, and the status is 2.
 
-With --batch each line of standard input is one of these objects; the facts are those of the line, of --facts,
-or the scheme http alone:
+With --batch each line of standard input is one of these objects, of at most 1048576 bytes with its line
+feed. The facts are those of the line, of --facts, or the scheme http alone:
   {\"head\":\"GET / HTTP/1.1\\r\\nHost: h\\r\\n\\r\\n\"}
   {\"head\":\"GET / HTTP/1.1\\r\\nHost: h\\r\\n\\r\\n\",\"facts\":{\"source.port\":443}}
-Each gives a line with the object that --json prints for its head. A line that is none of these is answered too;
-lines are counted from 1:
+For each line, the object that --json prints for its head is printed. A line without a head is answered with its
+number, counted from 1:
   {\"cause\":\"why\",\"line\":N}
+A line may have an \"id\", which is any JSON value. It is the first member of the answer, unless the line is
+too long or memory runs out for it:
+  {\"id\":7,\"name\":\"p\",\"policy\":M,\"verdict\":\"allow\"}
 Answers are written in blocks, and the last at the end of the input. The status is 0 if every line was answered,
-whatever the answers are, and else as above.
+whatever the answers are, and otherwise as above.
 
-The facts are one JSON object; each may be absent:
+The facts are one JSON object; each member may be absent:
   texts      source.address destination.address connection.requested_server_name connection.tls_version
              connection.subject_peer_certificate connection.dns_san_peer_certificate
              connection.uri_san_peer_certificate request.scheme
@@ -89,7 +94,8 @@ pub(crate) const CHECK_CONFIG_HELP: &str = "The lines on standard output, with s
   cluster \"c\"
   filter \"f\" budget 1000000
   limits fields 64 name 128 value 4096 method 32 target 4096 text 1024
-With no line there, standard error has two: 6 for a bad configuration, 2 for words or a file that fails.
+Without these lines, standard error says why. The status is then 6 for a bad configuration, and 2 if the words are
+mistaken or a file fails.
 
 A configuration is an object like this; each budget, the limits and each limit may be absent:
   {\"node\":\"n\",\"cluster\":\"c\",\"filters\":[{\"name\":\"f\",\"budget\":1000000}],\"limits\":{\"method\":32}}";
@@ -102,21 +108,21 @@ pub(crate) const REPLAY_HELP: &str = "Each line of standard input is one of thes
   {\"event\":\"http_open\",\"k\":0,\"facts\":{}}
   {\"event\":\"http_bytes\",\"k\":0,\"hex\":\"47\"}
   {\"event\":\"http_closed\",\"k\":0}
-Each gives a line of four words: the bytes for the update stream or -, open or close, and the same of the
-connection. The line is memory where memory ran out, and the proxy is then as it was.
+For each a line of four words is printed: the bytes for the update stream or -, open or close, and the same for
+the connection. If memory runs out for an event, its line is memory, and the proxy does not change.
 
-The status is 0 at the end of the input, 6 for a bad configuration or line, 5 where memory runs out
-elsewhere, 2 for words, a file or an output that fails.";
+The status is 0 at the end of the input, 6 for a bad configuration or line, 5 if memory runs out elsewhere, and
+2 if the words are mistaken, or a file, the input or the output fails.";
 
 /// The end of the help of `control`.
 pub(crate) const CONTROL_HELP: &str =
-    "It sends the first snapshot to the first client, and each other one after the answer to the one before. Where
+    "It sends the first snapshot to the first client, and each further one after the answer to the one before. When
 the client closes the stream, or the stream fails, it prints one line and ends with status 0:
-  acknowledged N     N is the number of the snapshot that was acknowledged last, from 1
-  acknowledged none  none was
+  acknowledged N     N is the number of the snapshot that was acknowledged last, counted from 1
+  acknowledged none  no snapshot was acknowledged
 
-The status is 2 for words, a file or an output that fails, and for an address at which it cannot listen. If
-memory runs out, except while it serves, it prints memory and ends with 5.
+The status is 2 if the words are mistaken, a file or the output fails, or it cannot listen at the address. If
+memory runs out, but not while it serves, it prints memory and ends with 5.
 
 With --log each line of that file is one of these objects:
   {\"nonce\":\"\",\"update\":\"asked\",\"version\":\"\"}
@@ -130,22 +136,22 @@ Example:
 /// The end of the help of `proxy`.
 pub(crate) const PROXY_HELP: &str =
     "In each round it connects the update stream if that is down, takes one response or the loss of the stream,
-and then serves one connection to its end. It judges the requests and answers them; it passes nothing on.
+and then serves one connection to its end. It judges the requests and answers them; it forwards nothing.
 A control plane that cannot be reached is a lost stream. Nothing is tried again in the same round.
 
-Standard output stays empty. The status is 0 after the last round, 6 for a bad configuration or bad facts,
-2 for words or a file that fails, and for an address at which it cannot listen. If memory runs out at the
-start, it prints memory and ends with 5.
+Standard output stays empty. The status is 0 after the last round, 6 for a bad configuration or bad facts, and
+2 if the words are mistaken, a file fails, or it cannot listen at the address. If memory runs out at the start,
+it prints memory and ends with 5.
 
-With --log each line of that file is one of these objects; \"filter\" and \"place\" are null where no part of
-a policy is at fault:
+With --log each line of that file is one of these objects; \"filter\" and \"place\" are null if no part of a
+policy has the fault:
   {\"stream\":\"up\"}  or unreachable, or lost
   {\"generation\":G,\"nonce\":\"1\",\"update\":\"acknowledged\",\"version\":\"1\"}
   {\"cause\":\"why\",\"filter\":\"f\",\"generation\":G,\"name\":\"NAME\",\"nonce\":\"2\",
    \"place\":\"policy \\\"p\\\": permissions[0]\",\"refused\":N,\"update\":\"refused\",\"version\":\"2\"}
   {\"connection\":K,\"end\":\"client\"}  the client closed connection K, or a read failed
   {\"connection\":K,\"end\":\"proxy\"}   the proxy closed it, or a write failed, or memory ran out
-G is how many responses were acknowledged so far.
+G is the number of responses that were acknowledged so far.
 
 Example:
   rbacd proxy --config config.json --control 127.0.0.1:18000 --listen 127.0.0.1:18080 --rounds 10";

@@ -32,17 +32,18 @@ use std::rc::RcStr;
 
 /// The result of checking or judging.
 #[derive(Drop)]
-pub(crate) struct Finding {
-    pub(crate) outcome: Outcome,
+pub struct Finding {
+    /// The outcome.
+    pub outcome: Outcome,
     /// The name of the policy that matched, if one did.
-    pub(crate) name: Option<String>,
+    pub name: Option<String>,
     /// Why a verdict is what it is, if that was asked for.
-    pub(crate) explanation: Explanation,
+    pub explanation: Explanation,
 }
 
 impl Finding {
     /// A finding with only an outcome.
-    pub(crate) fn bare(outcome: Outcome) -> Finding
+    pub fn bare(outcome: Outcome) -> Finding
         ensures { result ≡ bare outcome }
     {
         Finding {
@@ -53,7 +54,7 @@ impl Finding {
     }
 
     /// The report of the finding, to be printed as JSON or in words.
-    pub(crate) fn report(self, json: bool) -> Report
+    pub fn report(self, json: bool) -> Report
         ensures { result ≡ report_with json self }
     {
         Report {
@@ -66,8 +67,8 @@ impl Finding {
     }
 }
 
-/// The outcome of `check`.
-pub(crate) fn check_of(alloc: Global, policy: &[u8], budget: u64) -> Outcome
+/// Checks whether the bytes of a policy file are admitted under this budget.
+pub fn check(alloc: Global, policy: &[u8], budget: u64) -> Outcome
     ensures { IsCheckOf policy.now budget result }
 {
     match admit(alloc, policy, &Limits::largest(), budget) {
@@ -81,11 +82,7 @@ pub(crate) fn check_of(alloc: Global, policy: &[u8], budget: u64) -> Outcome
 
 /// Prints the report, and returns the report that was printed. If there is no memory for its trials, it is printed
 /// without them. If there is none for its line, the report that memory ran out is printed.
-pub(crate) fn print_report<W: Write>(
-    alloc: Global,
-    report: Report,
-    out: &mut W,
-) -> io::Result<Report>
+pub fn print_report<W: Write>(alloc: Global, report: Report, out: &mut W) -> io::Result<Report>
     ensures same { IfOk result (IsPrintedFor report) }
     ensures text { IfOk result (λ printed. Appends (W.contents out.old) (W.contents out.new)
         (printed_of printed)) }
@@ -136,14 +133,15 @@ pub(crate) fn memory_line(json: bool) -> &'static [u8]
 }
 
 /// A connection of which only the scheme `http` is known.
-pub(crate) fn plain_conn(alloc: Global) -> Result<Conn, AllocError>
+pub fn plain_conn(alloc: Global) -> Result<Conn, AllocError>
     ensures { IfOk result (λ conn. conn_view conn ≡ plain_facts) }
 {
     Ok(Conn::of_scheme(RcStr::from_str(alloc, "http")?))
 }
 
-/// The finding of `judge`. An error is one of the input, of another kind than out of memory.
-pub(crate) fn finding_of<R: Read + Drop>(
+/// Judges the head that the input begins with, by the bytes of a policy file under this budget, on a connection with
+/// these facts. An error is one of the input, of another kind than out of memory.
+pub fn judge<R: Read + Drop>(
     alloc: Global,
     policy: &[u8],
     budget: u64,

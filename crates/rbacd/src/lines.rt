@@ -310,13 +310,13 @@ fn end_text(closes: bool) -> &'static str
 pub(crate) fn cause_of_bad_line(alloc: Global, line: &[u8]) -> Result<String, AllocError> {
     let value = match Value::from_slice(alloc, line) {
         Ok(value) => value,
-        Err(error) => return format!(in alloc; "it is no JSON text: {error}"),
+        Err(error) => return format!(in alloc; "it is not a JSON text: {error}"),
     };
     let Ok(name) = str_at(&value, "event") else {
-        return String::from_str(alloc, "it is no JSON object with a text \"event\"");
+        return String::from_str(alloc, "it is not a JSON object with a text \"event\"");
     };
     let Some(kind) = EventKind::named(name) else {
-        return format!(in alloc; "no event is named {name:?}");
+        return format!(in alloc; "there is no event {name:?}");
     };
     cause_of_bad_parts(alloc, &value, kind)
 }
@@ -335,5 +335,5 @@ fn cause_of_bad_parts(alloc: Global, value: &Value, kind: EventKind) -> Result<S
             return Ok(cause);
         }
     }
-    format!(in alloc; "{name} lacks a member, or its hex is no text of hexadecimal pairs")
+    format!(in alloc; "{name} lacks a member, or its hex is not a text of hexadecimal pairs")
 }

@@ -52,8 +52,7 @@ pub fn replay<R: BufRead, W: Write>(
 ) -> Result<(), ReplayFault>
     ensures replayed { OnOk result (IsReplayed config (R.remaining input.old) (W.contents out.old)
         (R.remaining input.new) (W.contents out.new)) }
-    ensures stopped { IfErr result (λ fault. (fault ≡ Memory)
-        ⊎ IsStopped config (R.remaining input.old) (W.contents out.old) fault
+    ensures stopped { IfErr result (λ fault. IsStopped config (R.remaining input.old) (W.contents out.old) fault
         (R.remaining input.new) (W.contents out.new)) }
 {
     let mut proxy = Proxy::new(alloc, config)?;
@@ -67,10 +66,7 @@ pub fn replay<R: BufRead, W: Write>(
 }
 
 /// The next line of the input, with its line feed, if there is one.
-pub(crate) fn read_line<R: BufRead>(
-    alloc: Global,
-    input: &mut R,
-) -> Result<Option<Vec<u8>>, ReplayFault>
+fn read_line<R: BufRead>(alloc: Global, input: &mut R) -> Result<Option<Vec<u8>>, ReplayFault>
     ensures found { IfOk result (λ found.
         IsSomeLine (option_map (λ v. v.items) found) (R.remaining input.old) (R.remaining input.new)) }
     ensures fault { IfErr result (λ e. TurnFault e) }
@@ -84,7 +80,7 @@ pub(crate) fn read_line<R: BufRead>(
 }
 
 /// The fault of a replay whose input fails for this cause.
-fn input_fault(cause: io::Error) -> ReplayFault
+pub(crate) fn input_fault(cause: io::Error) -> ReplayFault
     ensures { TurnFault result }
 {
     if cause.kind() == ErrorKind::OutOfMemory {

@@ -119,7 +119,7 @@ fn tell_refusal<E: Write>(refusal: Refusal, notes: &Notes, errors: &mut E) {
     if let Some(likeness) = notes.policy {
         let _ = writeln!(
             errors,
-            "  the policy file looks like {likeness}; it has to be one binary message \
+            "  the policy file looks like {likeness}; it must be one binary message \
              envoy.extensions.filters.http.rbac.v3.RBAC"
         );
     }

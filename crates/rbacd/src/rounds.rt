@@ -1,8 +1,9 @@
 //! The rounds of a proxy: each takes one response of the update stream, and serves one connection.
-ghost use Rattle.std.specs.Prelude.{List, None, Option, Some, option_map, ℕ};
+ghost use Rattle.std.specs.Prelude.{◌≡◌, false, List, None, Option, Some, IfOk, OnErr, option_map, ℕ};
 ghost use Rattle.attributes.specs.Conn.{conn_view};
 ghost use Rattle.proxy_core.specs.Proxies.{proxy_view};
-ghost use Rattle.rbacd.specs.Rounds.{HearsUpdates, Link, Rounds, ServesOne, TakesOne};
+ghost use Rattle.rbacd.specs.Pumps.{EndsUpdates, Serves};
+ghost use Rattle.rbacd.specs.Rounds.{ComesUp, HearsUpdates, Link, Rounds, TakesOne, link_of};
 
 use crate::log::Log;
 use crate::log_lines::StreamEvent;
@@ -13,6 +14,12 @@ use std::io::{self, Read, Write};
 
 /// The source of a proxy's streams.
 pub trait Streams {
+    /// Opening an update stream gives this stream, or none.
+    ghost connects: { Self → Option Link → Type 0 };
+
+    /// Accepting a connection gives this stream, or none.
+    ghost accepts: { Self → Option Link → Type 0 };
+
     /// The end of a stream to read from.
     type Reader: Read + Drop;
 
@@ -20,10 +27,12 @@ pub trait Streams {
     type Writer: Write + Drop;
 
     /// Opens a new update stream.
-    fn connect(&mut self) -> io::Result<(Self::Reader, Self::Writer)>;
+    fn connect(&self) -> io::Result<(Self::Reader, Self::Writer)>
+        ensures { connects self.now (link_of Self.Reader.remaining Self.Writer.contents result) };
 
     /// Accepts the next connection.
-    fn accept(&mut self) -> io::Result<(Self::Reader, Self::Writer)>;
+    fn accept(&self) -> io::Result<(Self::Reader, Self::Writer)>
+        ensures { accepts self.now (link_of Self.Reader.remaining Self.Writer.contents result) };
 }
 
 /// Runs this many rounds. In each the update stream comes up, if it is down, and one response is taken, or the stream
@@ -32,12 +41,12 @@ pub trait Streams {
 pub fn serve_rounds<S: Streams, L: Write + Drop>(
     proxy: &mut Proxy,
     conn: &Conn,
-    streams: &mut S,
+    streams: &S,
     rounds: u64,
     log: &mut Log<L>,
 )
     ensures { (after : Option Link)
-        × Rounds (conn_view conn.now) rounds (proxy_view proxy.old) (proxy_view proxy.new) None after }
+        × Rounds (S.connects streams.now) (S.accepts streams.now) (conn_view conn.now) rounds (proxy_view proxy.old) (proxy_view proxy.new) None after }
 {
     let mut link = None;
     for _ in 0..rounds {
@@ -50,10 +59,10 @@ pub fn serve_rounds<S: Streams, L: Write + Drop>(
 fn hear_updates<S: Streams, L: Write + Drop>(
     proxy: &mut Proxy,
     link: Option<(S::Reader, S::Writer)>,
-    streams: &mut S,
+    streams: &S,
     log: &mut Log<L>,
 ) -> Option<(S::Reader, S::Writer)>
-    ensures { HearsUpdates (proxy_view proxy.old) (proxy_view proxy.new)
+    ensures { HearsUpdates (S.connects streams.now) (proxy_view proxy.old) (proxy_view proxy.new)
         (option_map (λ l. (S.Reader.remaining l.0, S.Writer.contents l.1)) link)
         (option_map (λ l. (S.Reader.remaining l.0, S.Writer.contents l.1)) result) }
 {
@@ -89,8 +98,11 @@ fn come_up<R: Read + Drop, W: Write + Drop, L: Write + Drop>(
     connected: io::Result<(R, W)>,
     log: &mut Log<L>,
 ) -> Option<(R, W)>
-    ensures { HearsUpdates (proxy_view proxy.old) (proxy_view proxy.new) None
-        (option_map (λ l. (R.remaining l.0, W.contents l.1)) result) }
+    ensures up { IfOk connected (λ ends. ComesUp (proxy_view proxy.old) (proxy_view proxy.new)
+        (R.remaining ends.0, W.contents ends.1)
+        (option_map (λ l. (R.remaining l.0, W.contents l.1)) result)) }
+    ensures lost { OnErr connected (EndsUpdates (proxy_view proxy.old) (proxy_view proxy.new) false
+        × (option_map {U = Link} (λ l. (R.remaining l.0, W.contents l.1)) result ≡ None)) }
 {
     match connected {
         Ok((reader, mut writer)) => match open_updates(proxy, &mut writer, log) {
@@ -118,7 +130,10 @@ fn serve_one<R: Read + Drop, W: Write + Drop, L: Write + Drop>(
     accepted: io::Result<(R, W)>,
     log: &mut Log<L>,
 )
-    ensures { ServesOne (conn_view conn.now) (proxy_view proxy.old) (proxy_view proxy.new) }
+    ensures served { IfOk accepted (λ ends. (input_new out_new : Option (List ℕ))
+        × Serves (proxy_view proxy.old) (proxy_view proxy.new) (R.remaining ends.0) input_new
+        (W.contents ends.1) out_new (conn_view conn.now)) }
+    ensures none { OnErr accepted (proxy_view proxy.new ≡ proxy_view proxy.old) }
 {
     if let Ok((mut reader, mut writer)) = accepted {
         serve_connection(proxy, conn, &mut reader, &mut writer, log);

@@ -12,7 +12,7 @@ use crate::batch_job::run_batch;
 use crate::ending::end_by;
 use crate::files::Source;
 use crate::job_fault::JobFault;
-use crate::judge::{Finding, check_of, finding_of};
+use crate::judge::{Finding, check, judge};
 use crate::notes::Notes;
 use crate::outcome::Report;
 use crate::reading::{conn_of, read_file};
@@ -20,16 +20,16 @@ use crate::recorded::Recorded;
 use crate::reporting::{end_result, report_of};
 use crate::serve::{run_control, run_proxy};
 use crate::settings::{check_config, replay_config};
+use crate::sockets::Sockets;
 use crate::words::{Job, read_words};
 use clap::error::ErrorKind as WordsKind;
 use std::alloc::Global;
 use std::convert::AsStr;
 use std::io::{BufRead, Read, Write};
-use std::net::Net;
 
 /// Runs the job that the words name; the first word is the program's own name. It reads the named files, and the input
 /// if the job has one, or serves at the named addresses. Prints the result, and returns the status.
-pub fn run<S: AsStr, F: Source + Net, R: BufRead + Drop, W: Write, E: Write>(
+pub fn run<S: AsStr, F: Source + Sockets, R: BufRead + Drop, W: Write, E: Write>(
     alloc: Global,
     words: &[S],
     files: &F,
@@ -37,7 +37,7 @@ pub fn run<S: AsStr, F: Source + Net, R: BufRead + Drop, W: Write, E: Write>(
     out: &mut W,
     errors: &mut E,
 ) -> u8
-    ensures { Ran (F.holds files.now) (F.lacks files.now) (R.remaining input)
+    ensures { Ran (F.holds files.now) (F.lacks files.now) (F.connects files.now) (F.accepts files.now) (R.remaining input)
         (W.contents out.old) (W.contents out.new) (E.contents errors.old) (E.contents errors.new) result
         (map S.text words.now) }
 {
@@ -59,7 +59,7 @@ fn words_fault(error: clap::Error) -> JobFault
 }
 
 /// Runs the job.
-fn run_named<F: Source + Net, R: BufRead + Drop, W: Write, E: Write>(
+fn run_named<F: Source + Sockets, R: BufRead + Drop, W: Write, E: Write>(
     alloc: Global,
     job: Job,
     files: &F,
@@ -67,7 +67,7 @@ fn run_named<F: Source + Net, R: BufRead + Drop, W: Write, E: Write>(
     out: &mut W,
     errors: &mut E,
 ) -> u8
-    ensures { EndsJob (F.holds files.now) (F.lacks files.now) (R.remaining input)
+    ensures { EndsJob (F.holds files.now) (F.lacks files.now) (F.connects files.now) (F.accepts files.now) (R.remaining input)
         (W.contents out.old) (W.contents out.new) (E.contents errors.old) (E.contents errors.new) result job }
 {
     match job {
@@ -210,7 +210,7 @@ fn check_file<F: Source>(
         (IsUnread (F.holds files.now) (F.lacks files.now) policy.now)) }
 {
     let bytes = read_file(alloc, files, policy)?;
-    let outcome = check_of(alloc, &bytes, budget);
+    let outcome = check(alloc, &bytes, budget);
     notes.look_at_policy(alloc, &bytes, budget, outcome);
     Ok(Finding::bare(outcome))
 }
@@ -241,7 +241,7 @@ fn judge_files<F: Source, R: Read + Drop>(
         input,
         kept: &mut kept,
     };
-    match finding_of(alloc, &bytes, budget, conn, explain, input) {
+    match judge(alloc, &bytes, budget, conn, explain, input) {
         Ok(finding) => {
             notes.look_at_policy(alloc, &bytes, budget, finding.outcome);
             notes.look_at_head(alloc, &kept, finding.outcome);

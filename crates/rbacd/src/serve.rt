@@ -1,11 +1,13 @@
 //! The jobs that serve over sockets: the control plane and the proxy.
-ghost use Rattle.std.specs.Prelude.{◌≡◌, IfErr, IfOk, OnOk, map, option_map, string_bytes};
+ghost use Rattle.std.specs.Prelude.{◌≡◌, List, Option, ℕ, IfErr, IfOk, OnErr, OnOk, map, option_map, string_bytes};
 ghost use Rattle.std.specs.List.{AllZip};
 ghost use Rattle.attributes.specs.Conn.{conn_view};
 ghost use Rattle.attributes.specs.Limits.{FactsInLimits};
 ghost use Rattle.ads.specs.Ends.{control_view};
 ghost use Rattle.ads.specs.Views.{snapshot_view, snapshots_view};
-ghost use Rattle.rbacd.specs.Run.{CannotListen, CannotLog, EndsControl, EndsProxy, IsConnOf, IsProxied, IsServed, IsSnapshotOf, IsUnread, LacksFile, LacksFit, ServesOneStream, StopsControl, StopsProxy, acknowledged_line};
+ghost use Rattle.rbacd.specs.ControlPump.{ServesStream};
+ghost use Rattle.rbacd.specs.Rounds.{Link};
+ghost use Rattle.rbacd.specs.Run.{CannotListen, CannotLog, EndsControl, EndsProxy, IsConnOf, IsProxied, IsServed, IsSnapshotOf, IsUnread, LacksFile, LacksFit, StopsControl, StopsProxy, acknowledged_line};
 ghost use Rattle.rbacd.specs.steps.Judged.{MemoryOrStop};
 
 use crate::ending::{end_by, end_by_memory, show};
@@ -17,23 +19,24 @@ use crate::pumps::serve_stream;
 use crate::reading::{conn_of, read_file};
 use crate::rounds::{Streams, serve_rounds};
 use crate::settings::config_file;
+use crate::sockets::{Listen, Sockets};
 use crate::words::{ControlWords, ProxyWords};
 use ads::{Control, Resource, Snapshot};
 use attributes::{Conn, Limits};
 use proxy_core::Proxy;
 use std::alloc::{AllocError, Global};
 use std::io::{self, Read, Write};
-use std::net::{Net, OpenListener, OpenStream, TcpListener, TcpStream};
 
 /// Serves one stream as a control plane, and prints the last acknowledged number. Returns the status.
-pub(crate) fn run_control<F: Source + Net, W: Write, E: Write>(
+pub(crate) fn run_control<F: Source + Sockets, W: Write, E: Write>(
     alloc: Global,
     words: &ControlWords,
     system: &F,
     out: &mut W,
     errors: &mut E,
 ) -> u8
-    ensures { EndsControl (F.holds system.now) (F.lacks system.now) (W.contents out.old) (W.contents out.new)
+    ensures { EndsControl (F.holds system.now) (F.lacks system.now)
+        (F.connects system.now) (F.accepts system.now) (W.contents out.old) (W.contents out.new)
         (E.contents errors.old) (E.contents errors.new) result words.now }
 {
     match acknowledged_by(alloc, words, system) {
@@ -46,19 +49,20 @@ pub(crate) fn run_control<F: Source + Net, W: Write, E: Write>(
 }
 
 /// Serves the stream of the first client to its end. Returns the number of the last acknowledged snapshot.
-fn acknowledged_by<F: Source + Net>(
+fn acknowledged_by<F: Source + Sockets>(
     alloc: Global,
     words: &ControlWords,
     system: &F,
 ) -> Result<Option<u64>, JobFault>
-    ensures found { IfOk result (IsServed (F.holds system.now) (F.lacks system.now) words.now) }
+    ensures found { IfOk result (IsServed (F.holds system.now) (F.lacks system.now)
+        (F.connects system.now) (F.accepts system.now) words.now) }
     ensures fault { IfErr result (MemoryOrStop (StopsControl (F.holds system.now) (F.lacks system.now) words.now)) }
 {
     let snapshots = snapshots_of(alloc, system, words.name.as_str(), &words.files)?;
     let mut log = log_of(alloc, system, &words.log)?;
     let listener = listen(alloc, system, words.listen.as_str())?;
     let mut control = Control::new(alloc, snapshots);
-    serve_accepted(&mut control, accept(&listener), &mut log);
+    serve_accepted(&mut control, listener.next_stream(), &mut log);
     Ok(control.acknowledged())
 }
 
@@ -117,27 +121,15 @@ fn log_of<F: Source>(
 }
 
 /// Listens at this address.
-fn listen<N: Net>(alloc: Global, net: &N, address: &str) -> Result<N::Listener, JobFault>
+fn listen<N: Sockets>(alloc: Global, sockets: &N, address: &str) -> Result<N::Listener, JobFault>
+    ensures found { IfOk result (λ listener. (link : Option Link)
+        → N.Listener.accepts listener link → N.accepts sockets.now address.now link) }
     ensures fault { IfErr result (MemoryOrStop (CannotListen address.now)) }
 {
-    match TcpListener::bind(net, address) {
+    match sockets.listen(address) {
         Ok(listener) => Ok(listener),
         Err(cause) => Err(JobFault::Listen(String::from_str(alloc, address)?, cause)),
     }
-}
-
-/// Accepts the next connection, with an end to read from and one to write to.
-fn accept<L: OpenListener>(listener: &L) -> io::Result<(L::Stream, L::Stream)>
-where
-    L::Stream: OpenStream,
-{
-    let (stream, _) = listener.accept()?;
-    both_ends(stream)
-}
-
-/// A stream as an end to read from and one to write to.
-fn both_ends<S: OpenStream + Drop>(stream: S) -> io::Result<(S, S)> {
-    Ok((stream.try_clone()?, stream))
 }
 
 /// Serves the stream to its end, if one was accepted.
@@ -146,7 +138,10 @@ fn serve_accepted<R: Read + Drop, W: Write + Drop, L: Write + Drop>(
     accepted: io::Result<(R, W)>,
     log: &mut Log<L>,
 )
-    ensures { ServesOneStream (control_view control.old) (control_view control.new) }
+    ensures served { IfOk accepted (λ ends. (input_new out_new : Option (List ℕ))
+        × ServesStream (control_view control.old) (control_view control.new) (R.remaining ends.0) input_new
+        (W.contents ends.1) out_new) }
+    ensures none { OnErr accepted (control_view control.new ≡ control_view control.old) }
 {
     if let Ok((mut reader, mut writer)) = accepted {
         serve_stream(control, &mut reader, &mut writer, log);
@@ -164,14 +159,15 @@ fn acknowledged_text(alloc: Global, acknowledged: Option<u64>) -> Result<String,
 }
 
 /// Runs the rounds of a proxy, and returns the status.
-pub(crate) fn run_proxy<F: Source + Net, W: Write, E: Write>(
+pub(crate) fn run_proxy<F: Source + Sockets, W: Write, E: Write>(
     alloc: Global,
     words: ProxyWords,
     system: &F,
     out: &mut W,
     errors: &mut E,
 ) -> u8
-    ensures { EndsProxy (F.holds system.now) (F.lacks system.now) (W.contents out.old) (W.contents out.new)
+    ensures { EndsProxy (F.holds system.now) (F.lacks system.now)
+        (F.connects system.now) (F.accepts system.now) (W.contents out.old) (W.contents out.new)
         (E.contents errors.old) (E.contents errors.new) result words }
 {
     let mut notes = Notes::new(alloc);
@@ -182,13 +178,14 @@ pub(crate) fn run_proxy<F: Source + Net, W: Write, E: Write>(
 }
 
 /// Runs the rounds of a proxy with this configuration and these addresses.
-fn run_rounds<F: Source + Net>(
+fn run_rounds<F: Source + Sockets>(
     alloc: Global,
     words: ProxyWords,
     system: &F,
     notes: &mut Notes,
 ) -> Result<(), JobFault>
-    ensures found { OnOk result (IsProxied (F.holds system.now) (F.lacks system.now) words) }
+    ensures found { OnOk result (IsProxied (F.holds system.now) (F.lacks system.now)
+        (F.connects system.now) (F.accepts system.now) words) }
     ensures fault { IfErr result (MemoryOrStop (StopsProxy (F.holds system.now) (F.lacks system.now) words)) }
 {
     let config = config_file(alloc, system, words.config.as_str(), notes)?;
@@ -196,12 +193,12 @@ fn run_rounds<F: Source + Net>(
     let mut log = log_of(alloc, system, &words.log)?;
     let listener = listen(alloc, system, words.listen.as_str())?;
     let mut proxy = Proxy::new(alloc, config)?;
-    let mut sockets = Sockets {
-        net: system,
+    let streams = SocketStreams {
+        sockets: system,
         control: words.control.as_str(),
         listener,
     };
-    serve_rounds(&mut proxy, &conn, &mut sockets, words.rounds, &mut log);
+    serve_rounds(&mut proxy, &conn, &streams, words.rounds, &mut log);
     Ok(())
 }
 
@@ -232,22 +229,27 @@ fn fitting_conn<F: Source>(
 
 /// The source of a proxy's streams: sockets.
 #[derive(Drop)]
-struct Sockets<'a, N: Net> {
-    net: &'a N,
+struct SocketStreams<'a, N: Sockets> {
+    sockets: &'a N,
+    /// The address of the control plane.
     control: &'a str,
     listener: N::Listener,
 }
 
-impl<'a, N: Net> Streams for Sockets<'a, N> {
+impl<'a, N: Sockets> Streams for SocketStreams<'a, N> {
+    ghost connects = { λ s. N.connects s.sockets.now s.control.now };
+
+    ghost accepts = { λ s. N.Listener.accepts s.listener };
+
     type Reader = N::Stream;
 
     type Writer = N::Stream;
 
-    fn connect(&mut self) -> io::Result<(N::Stream, N::Stream)> {
-        both_ends(TcpStream::connect(self.net, self.control)?)
+    fn connect(&self) -> io::Result<(N::Stream, N::Stream)> {
+        self.sockets.connect(self.control)
     }
 
-    fn accept(&mut self) -> io::Result<(N::Stream, N::Stream)> {
-        accept(&self.listener)
+    fn accept(&self) -> io::Result<(N::Stream, N::Stream)> {
+        self.listener.next_stream()
     }
 }

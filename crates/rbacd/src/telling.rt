@@ -41,7 +41,7 @@ fn limits_text(alloc: Global, limits: &Limits) -> Result<String, AllocError> {
 pub(crate) fn cause_of_bad_config(alloc: Global, text: &[u8]) -> Result<String, AllocError> {
     let value = match Value::from_slice(alloc, text) {
         Ok(value) => value,
-        Err(error) => return format!(in alloc; "it is no JSON text: {error}"),
+        Err(error) => return format!(in alloc; "it is not a JSON text: {error}"),
     };
     if let Some(cause) = cause_of_names(alloc, &value, &CONFIG_NAMES)? {
         return Ok(cause);
@@ -50,7 +50,7 @@ pub(crate) fn cause_of_bad_config(alloc: Global, text: &[u8]) -> Result<String, 
         match str_at(&value, name) {
             Ok(text) if text.len() <= 256 => {}
             Ok(_) => return format!(in alloc; "{name} has more than 256 bytes"),
-            Err(Misfit) => return format!(in alloc; "{name} is missing, or no text"),
+            Err(Misfit) => return format!(in alloc; "{name} is missing or not a text"),
         }
     }
     if let Some(cause) = cause_of_limits(alloc, &value)? {
@@ -58,7 +58,7 @@ pub(crate) fn cause_of_bad_config(alloc: Global, text: &[u8]) -> Result<String, 
     }
     match items_at(&value, "filters") {
         Ok(items) => cause_of_filters(alloc, items),
-        Err(Misfit) => String::from_str(alloc, "filters is missing, or no array"),
+        Err(Misfit) => String::from_str(alloc, "filters is missing or not an array"),
     }
 }
 
@@ -69,12 +69,12 @@ fn cause_of_names(
     names: &[&str],
 ) -> Result<Option<String>, AllocError> {
     let Some(members) = value.as_object() else {
-        return Ok(Some(String::from_str(alloc, "it is no JSON object")?));
+        return Ok(Some(String::from_str(alloc, "it is not a JSON object")?));
     };
     for name in members.keys() {
         let name = name.as_str();
         if !is_among(name, names) {
-            return Ok(Some(format!(in alloc; "no member is named {name:?}")?));
+            return Ok(Some(format!(in alloc; "there is no member {name:?}")?));
         }
     }
     Ok(None)
@@ -113,14 +113,14 @@ fn cause_of_limits(alloc: Global, value: &Value) -> Result<Option<String>, Alloc
 fn cause_of_filters(alloc: Global, items: &[Value]) -> Result<String, AllocError> {
     let count = items.len();
     if count == 0 || count > 8 {
-        return format!(in alloc; "there are {count} filters, and not 1 to 8");
+        return format!(in alloc; "there are {count} filters; there may be 1 to 8");
     }
     for (number, item) in items.iter().enumerate() {
         if let Some(cause) = cause_of_filter(alloc, item)? {
             return format!(in alloc; "filter {number}: {cause}");
         }
     }
-    String::from_str(alloc, "two filters have one name")
+    String::from_str(alloc, "two filters have the same name")
 }
 
 /// The fault of this filter, if it has one.

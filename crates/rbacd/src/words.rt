@@ -124,7 +124,8 @@ pub fn read_words<S: AsStr>(alloc: Global, words: &[S]) -> Result<Job, Error>
 fn number_fault(alloc: Global) -> Result<Error, AllocError>
     ensures { IfOk result (λ e. kind_of e ≡ ErrorKind.ValueValidation) }
 {
-    let fault = "a budget is a number from 1 to 100000000, and rounds are one from 0 to 1000000";
+    let fault =
+        "a budget is a number from 1 to 100000000, and rounds are a number from 0 to 1000000";
     command(alloc)?.error(ErrorKind::ValueValidation, fault)
 }
 

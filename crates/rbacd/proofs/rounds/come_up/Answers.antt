@@ -1,24 +1,9 @@
-use Rattle.std.proofs.Common.{None, refl}
-use Rattle.rbacd.specs.Rounds.{HearsUpdates}
+use Rattle.std.proofs.Common.{refl}
+use Rattle.rbacd.proofs.RoundLemmas.{comes_up}
 use Rattle.rbacd.proofs.rounds.come_up.Goals as goal
 
-pub returns-in-true : goal.returns-in-true
-returns-in-true g c = HearsUpdates.connected _ refl (record {
-  between = _;
-  out = _;
-  is_up = _;
-  opens = c.in-true.ensures;
-  takes = c.take_one.ensures;
-})
+pub returns-in-true-clause-up : goal.returns-in-true-clause-up
+returns-in-true-clause-up g c = rw c.in-Ok.is (comes_up _ _ _ _ _ _ _ _ c.in-true.ensures c.take_one.ensures)
 
-pub returns-in-false : goal.returns-in-false
-returns-in-false g c = HearsUpdates.connected (None, _) refl (record {
-  between = _;
-  out = _;
-  is_up = _;
-  opens = c.in-false.ensures;
-  takes = (refl, refl);
-})
-
-pub returns-in-Err : goal.returns-in-Err
-returns-in-Err g c = HearsUpdates.unreachable refl c.lose.ensures.told refl
+pub returns-in-false-clause-up : goal.returns-in-false-clause-up
+returns-in-false-clause-up g c = rw c.in-Ok.is (comes_up _ _ _ _ _ _ _ _ c.in-false.ensures (refl, refl))

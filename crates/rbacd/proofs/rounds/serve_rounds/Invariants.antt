@@ -6,5 +6,6 @@ use Rattle.rbacd.specs.Rounds.{Rounds}
 use Rattle.rbacd.proofs.rounds.serve_rounds.Given as goal
 
 abbrev pub invariant-loop : goal.invariant-loop
-invariant-loop g l = Rounds (conn_view l.fn.conn) l.counter (proxy_view l.fn.proxy) (proxy_view l.proxy) None
+invariant-loop g l = Rounds (g.S.Streams.connects l.streams) (g.S.Streams.accepts l.streams) (conn_view l.fn.conn)
+    l.counter (proxy_view l.fn.proxy) (proxy_view l.proxy) None
     (option_map (λ ends. (g.S.Reader.Read.remaining ends.0, g.S.Writer.Write.contents ends.1)) l.link)

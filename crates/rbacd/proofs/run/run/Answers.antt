@@ -9,4 +9,4 @@ pub returns-in-Err : goal.returns-in-Err
 returns-in-Err g c =
     let (told, same, left) = c.end_by.ensures in
     let fault = c.words_fault.ensures in
-    end_of_words _ _ _ _ _ _ _ _ _ c.in-Err.error c.words_fault.result told fault.memory fault.words c.in-Err.ensures.mistaken same left
+    end_of_words _ _ _ _ _ _ _ _ _ _ _ c.in-Err.error c.words_fault.result told fault.memory fault.words c.in-Err.ensures.mistaken same left

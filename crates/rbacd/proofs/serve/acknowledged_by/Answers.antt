@@ -1,6 +1,7 @@
 use Rattle.std.proofs.Common.{inl, inr}
 use Rattle.std.proofs.lemmas.Result.{err_from_is_err_and}
 use Rattle.rbacd.specs.Run.{StopsControl}
+use Rattle.rbacd.proofs.RoundLemmas.{stream_of}
 use Rattle.rbacd.proofs.serve.acknowledged_by.Goals as goal
 
 pub returns-in_err-snapshots-clause-fault : goal.returns-in_err-snapshots-clause-fault
@@ -34,6 +35,8 @@ returns-clause-found g c = record {
   snapshots = _;
   read = rw (c.as_str.ensures.value, c.deref.ensures.value) at c.in_ok-snapshots.ensures.found;
   after = _;
-  serves = rw c.new-control.ensures at c.serve_accepted.ensures;
+  serves = rw c.new-control.ensures at (stream_of (g.F.Stream.Read.remaining) (g.F.Stream.Write.contents) c.next_stream.result
+      _ _ _ _ (rw c.as_str-2.ensures.value at c.in_ok-listener.ensures.found) c.next_stream.ensures
+      c.serve_accepted.ensures.served c.serve_accepted.ensures.none);
   number = c.acknowledged.ensures;
 }

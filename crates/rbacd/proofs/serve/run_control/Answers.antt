@@ -12,4 +12,4 @@ returns-in-Err-acknowledged_text g c = EndsControl.memory c.end_by_memory.ensure
 pub returns-in-Err : goal.returns-in-Err
 returns-in-Err g c =
     let (told, same, left) = c.end_by.ensures in
-    end_of_control _ _ _ _ _ _ _ c.args.words.now c.in-Err.fault told c.in-Err.ensures.fault same left
+    end_of_control _ _ _ _ _ _ _ _ _ c.args.words.now c.in-Err.fault told c.in-Err.ensures.fault same left

@@ -1,6 +1,7 @@
-use Rattle.std.proofs.Common.{inl, inr}
+use Rattle.std.proofs.Common.{inl, inr, string_bytes, subst}
 use Rattle.std.proofs.lemmas.Result.{err_from_is_err_and}
 use Rattle.rbacd.specs.Run.{StopsProxy}
+use Rattle.rbacd.proofs.RoundLemmas.{rounds_at}
 use Rattle.rbacd.proofs.serve.run_rounds.Goals as goal
 
 pub returns-in_err-config-clause-fault : goal.returns-in_err-config-clause-fault
@@ -55,5 +56,9 @@ returns-clause-found g c = record {
   };
   after = _;
   link = c.serve_rounds.ensures.0;
-  rounds = rw c.in_ok-proxy.ensures at c.serve_rounds.ensures.1;
+  rounds = rw c.in_ok-proxy.ensures at (rounds_at _
+      (g.F.Sockets.connects c.args.system.now (string_bytes c.args.words.control)) _
+      (g.F.Sockets.accepts c.args.system.now (string_bytes c.args.words.listen)) _ _ _ _ _ _
+      (λ link given. subst (λ a. g.F.Sockets.connects c.args.system.now a link) c.as_str-3.ensures.value given)
+      (rw c.as_str-2.ensures.value at c.in_ok-listener.ensures.found) c.serve_rounds.ensures.1);
 }

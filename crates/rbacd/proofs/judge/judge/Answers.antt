@@ -1,6 +1,6 @@
 use Rattle.std.proofs.lemmas.Result.{IfErr-weaker}
 use Rattle.rbacd.proofs.JudgeLemmas.{found_under, given_under, some_bytes}
-use Rattle.rbacd.proofs.judge.finding_of.Goals as goal
+use Rattle.rbacd.proofs.judge.judge.Goals as goal
 
 pub returns-in-Ok-clause-found : goal.returns-in-Ok-clause-found
 returns-in-Ok-clause-found g c =

@@ -1,5 +1,5 @@
 use Rattle.rbac_policy.specs.Admitted.{filter_view}
-use Rattle.rbacd.proofs.judge.check_of.Goals as goal
+use Rattle.rbacd.proofs.judge.check.Goals as goal
 
 pub returns-in-Ok : goal.returns-in-Ok
 returns-in-Ok c =
