@@ -13,12 +13,22 @@ class CannotWrite(Exception):
     """Why an output takes no bytes; no words where its reader closed a pipe."""
 
 
+def visible(text: str) -> str:
+    """A text in which no character controls a terminal: those that are not shown are escaped, but line ends and tabs."""
+    return "".join(one if one.isprintable() or one in "\n\t" else _escaped(one) for one in text)
+
+
+def _escaped(character: str) -> str:
+    point = ord(character)
+    return f"\\x{point:02x}" if point < 256 else f"\\u{point:04x}" if point < 65536 else f"\\U{point:08x}"
+
+
 def tell(text: str) -> None:
     """Writes a line to standard error, as far as it takes one."""
     if sys.stderr is None:
         return
     try:
-        print(text, file=sys.stderr, flush=True)
+        print(visible(text), file=sys.stderr, flush=True)
     except OSError:
         _drop(sys.stderr)
 

@@ -167,6 +167,12 @@ class Inputs(Room):
                 self.assertEqual((found, bool(out)), (status, status == 0), errors)
                 self.assertIn(told, errors)
 
+    def test_names_of_files(self):
+        """What a name of a file holds cannot control a terminal."""
+        status, out, errors = self.run_it("encode", self.file("a\x1b[31m\u202e\x9b.yaml", "rules: ["))
+        self.assertEqual((status, out), (1, b""))
+        self.assertTrue(errors.startswith("a\\x1b[31m\\u202e\\x9b.yaml:1:8: this bracket is not closed"), errors)
+
     def test_wrap_pairs(self):
         self.file("a.bin", encoded(POLICY))
         self.file("b.bin", encoded("rules: {}"))

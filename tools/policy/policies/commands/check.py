@@ -51,7 +51,7 @@ def run(words: argparse.Namespace) -> int:
     lines: List[str] = []
     for report in reports:
         lines += [json.dumps(as_json(report, words.budget))] if words.json else as_text(report, words.budget)
-    output.write("".join(line + "\n" for line in lines).encode(errors="replace"))
+    output.write("".join(output.visible(line) + "\n" for line in lines).encode(errors="replace"))
     if any(report.is_unread for report in reports):
         return UNUSABLE
     return DONE if all(report.is_admitted() for report in reports) else MISTAKEN

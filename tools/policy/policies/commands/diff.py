@@ -49,7 +49,7 @@ def run(words: argparse.Namespace) -> int:
     except engine.NoEngine as fault:
         output.tell(f"policy: {fault}")
         return UNUSABLE
-    output.write("".join(line + "\n" for line in lines).encode(errors="replace"))
+    output.write("".join(output.visible(line) + "\n" for line in lines).encode(errors="replace"))
     return MISTAKEN if differ else DONE
 
 

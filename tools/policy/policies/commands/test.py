@@ -66,7 +66,7 @@ def run(words: argparse.Namespace) -> int:
     if words.junit:
         output.write(document(outcomes).encode(), words.junit)
     lines = _lines(outcomes, found, words, time.monotonic() - started)
-    output.write("".join(line + "\n" for line in lines).encode(errors="replace"))
+    output.write("".join(output.visible(line) + "\n" for line in lines).encode(errors="replace"))
     return _status(outcomes, found, words.covered)
 
 

@@ -16,6 +16,10 @@ DENY_RULES, ALLOW_RULES, LOGGING = "deny_rules", "allow_rules", "audit_logging_o
 POLICY_FIELDS = ("name", DENY_RULES, ALLOW_RULES, LOGGING)
 # The rules that come first are asked first.
 ACTIONS = {DENY_RULES: "DENY", ALLOW_RULES: "ALLOW"}
+ANY_NAME = "*"
+# A peer that has any name: what it lacks is an error, which `||` absorbs if another name is there.
+NAMES_OF_A_PEER = ("uri_san_peer_certificate", "dns_san_peer_certificate", "subject_peer_certificate")
+HAS_NAME = " || ".join(f'connection.{name} != ""' for name in NAMES_OF_A_PEER)
 HOP_BY_HOP = frozenset(
     "connection keep-alive proxy-authenticate proxy-authorization te trailer transfer-encoding upgrade".split()
 )
@@ -72,16 +76,24 @@ class Translation:
             name = f"{prefix}_{self._name(rule, 'a rule')}"
             if name in policies:
                 self.tell(get(rule, "name") or rule, f"the rule {name} is here twice: gRPC keeps the last of these alone")
-            permission, principal = self._request(rule), self._source(rule)
-            fields = {"permissions": sequence([permission], rule), "principals": sequence([principal], rule)}
+            names_of_peers = self._principals(rule)
+            fields = {
+                "permissions": sequence([self._request(rule)], rule),
+                "principals": sequence([_source(names_of_peers, rule)], rule),
+            }
+            if any(value == ANY_NAME for value, _ in names_of_peers):
+                fields["checked_condition"] = mapping({"text": text(HAS_NAME, rule)}, rule)
             policies[name] = mapping(fields, rule)
         return policies
 
-    def _source(self, rule: Node) -> Node:
+    def _principals(self, rule: Node) -> List[Tuple[str, Node]]:
+        """The names of peers that a rule asks for, each with its node; mistakes are kept."""
         self._known(get(rule, "source"), ("principals",), "a source")
-        listed = get(get(rule, "source"), "principals")
-        found = [_principal(value, at) for value, at in self._texts(listed)]
-        return any_of(found, PRINCIPAL, listed) if found else everything(rule)
+        found = self._texts(get(get(rule, "source"), "principals"))
+        for value, at in found:
+            if value == "":
+                self.tell(at, "the empty name is a peer without a name, which no matcher finds: name the peers that are meant")
+        return found
 
     def _request(self, rule: Node) -> Node:
         self._known(get(rule, "request"), ("paths", "headers"), "a request")
@@ -133,6 +145,15 @@ def _matched(value: str, at: Node, leaf: str, part: Node, kind: Kind, make: Call
     if value.startswith("*"):
         return make(mapping({"suffix": text(value[1:], at)}, at))
     return make(mapping({"exact": text(value, at)}, at))
+
+
+def _source(names_of_peers: List[Tuple[str, Node]], rule: Node) -> Node:
+    """The principal of a rule; one for any name needs the rule's condition too, since a matcher has a text."""
+    if not names_of_peers:
+        return everything(rule)
+    if any(value == ANY_NAME for value, _ in names_of_peers):
+        return mapping({"authenticated": mapping({}, rule)}, rule)
+    return any_of([_principal(value, at) for value, at in names_of_peers], PRINCIPAL, rule)
 
 
 def _principal(value: str, at: Node) -> Node:
